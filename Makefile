@@ -1,0 +1,40 @@
+# The two commands of the README. The toolchain is Rattle's kit, with its command rt on the PATH.
+.PHONY: run test bench refused-growths
+
+# Proves and builds the program; an empty script shows that it runs.
+BUILD = cd crates/ccnode && rt run -- play < /dev/null > ../../run.log 2>&1 || { cat ../../run.log; exit 1; }; rm -f ../../run.log
+
+# Builds the program, proves it on the way, and plays the script that ships with it.
+run:
+	@echo 'proving and building ccnode (minutes on the first run) ...'
+	@$(BUILD)
+	@echo '$$ ccnode play < crates/ccnode/stdin'
+	@./crates/ccnode/out/ccnode play < crates/ccnode/stdin
+
+# Proves every crate from nothing, tries the edits that must fail, and runs the tests and the program.
+test:
+	rt ci
+
+# Times single events, and a script of 10,000 lines over 16 nodes. It prints figures and fails nothing.
+bench:
+	@$(BUILD)
+	@./crates/ccnode/out/ccnode bench
+	@sh bench/largest_script.sh > largest_script.log
+	@echo 'a script of 10,000 lines over 16 nodes:'
+	@bash -c 'time ./crates/ccnode/out/ccnode play < largest_script.log | wc -lc'
+	@rm -f largest_script.log
+
+# Refuses the first growth of each test, then the second, up to the last: a test may then end with an error, never with a
+# fault. CRATES=cc_ops does one crate.
+CRATES = $(notdir $(wildcard crates/*))
+refused-growths:
+	@for crate in $(CRATES); do \
+	  if [ -f crates/$$crate/src/tests.rt ]; then \
+	    growth=1; \
+	    until (cd crates/$$crate && rt try --test --fail-alloc $$growth) > growths.log 2>&1; do \
+	      [ $$? -eq 101 ] || { cat growths.log; exit 1; }; \
+	      growth=$$((growth + 1)); \
+	    done; \
+	    echo "$$crate: $$((growth - 1)) growths refused"; \
+	  fi; \
+	done; rm -f growths.log

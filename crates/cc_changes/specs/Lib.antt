@@ -1,0 +1,4 @@
+pub mod IdTable
+pub mod ChangeSets
+pub mod Need
+pub mod ChangeLaws

@@ -1,0 +1,2 @@
+pub mod Churn
+pub mod Refusals

@@ -1,0 +1,76 @@
+-- Ids in order as a set: one more, and all of a list.
+use Rattle.std.proofs.Common.{◌≡◌, ℕ, suc, ◌+◌, ◌<◌, ◌≤◌, Bool, true, false, ◌||◌, List, ◌∷◌, map, length, get_or, drop, drop-cons, add-one, refl, sym, ap, ◌∙◌, arith}
+use Rattle.std.specs.Prelude.{nat_eq, ◌==◌}
+use Rattle.std.specs.List.{list_any, insert}
+use Rattle.std.specs.FinMap as table
+use Rattle.std.proofs.lemmas.Bool.{or_left, eqb-true, eqb-false}
+use Rattle.std.proofs.Math.ListN.{get_or-map}
+use Rattle.std.proofs.lemmas.List.{length-map}
+use Rattle.std.proofs.lemmas.List.Edits.{length-insert}
+use Rattle.cc_views.specs.MapLaws.{insert_there}
+use Rattle.cc_views.specs.NatSets as set
+use Rattle.cc_views.specs.NatSets.{NatSet, same_ids, contains-insert, contains-insert_all, len_within}
+use Rattle.cc_views.specs.Tables.{IsAt, IsGapFor, table_of, table_of-insert, rising-insert, get-at, len-table_of, len-insert_gap}
+use Rattle.cc_links.specs.KnownIds.{marked, AreKnown}
+
+module _ (ids : List ℕ) (known : AreKnown ids) (id i : ℕ) (s : NatSet) (view : table_of marked ids ≡ s) where
+  pub len_known : set.len s ≤ 256
+  len_known = omega (arith, len-table_of marked ids known.rising, known.fits, ap set.len view)
+
+  pub there_already : IsAt marked ids id i → s ≡ set.insert s id
+  there_already at = insert_there s id tt (sym (ap (λ (m : NatSet). table.get m id) view) ∙ get-at marked ids known.rising id i at id)
+
+  -- a new id is one more
+  pub one_more : IsGapFor marked ids id i → set.len (set.insert s id) ≡ length ids + 1
+  one_more gap = sym (ap (λ (m : NatSet). set.len (set.insert m id)) view) ∙ len-insert_gap marked ids id i gap tt known.rising
+
+  -- where not all places are taken
+  pub fits_one_more : (full : Bool) → IsGapFor marked ids id i → full ≡ (length ids == 256) → full ≡ false → set.len (set.insert s id) ≤ 256
+  fits_one_more full gap e f =
+      let apart : length ids ≡ 256 → ⊥ = eqb-false (length ids) 256 (sym e ∙ f) in
+      omega (arith, one_more gap, known.fits, apart)
+
+  -- where all are
+  pub one_too_many : (full : Bool) → IsGapFor marked ids id i → full ≡ (length ids == 256) → full ≡ true → set.len (set.insert s id) ≤ 256 → ⊥
+  one_too_many full gap e f fits =
+      let all : length ids ≡ 256 = eqb-true (length ids) 256 (sym e ∙ f) in
+      omega (arith, one_more gap, fits, all)
+
+  pub known_more : IsGapFor marked ids id i → set.len (set.insert s id) ≤ 256 → AreKnown (insert ids i id)
+  known_more gap fits = record {
+    rising = rising-insert marked ids id i gap id refl known.rising;
+    fits = omega (arith, length-insert ids i id gap.in_range, one_more gap, fits);
+  }
+
+  pub set_more : IsGapFor marked ids id i → table_of marked (insert ids i id) ≡ set.insert s id
+  set_more gap = table_of-insert marked ids id i gap id refl ∙ ap (λ (m : NatSet). set.insert m id) view
+
+or_swap : (a b c : Bool) → ((a || b) || c) ≡ (a || (b || c))
+or_swap true b c = refl
+or_swap false b c = refl
+
+-- an id that is inserted first is inserted
+pub insert_all-insert : (s : NatSet) (id : ℕ) (ids : List ℕ) → set.insert_all (set.insert s id) ids ≡ set.insert (set.insert_all s ids) id
+insert_all-insert s id ids = same_ids _ _ (λ q.
+    contains-insert_all (set.insert s id) ids q ∙ ap (λ b. b || list_any (nat_eq q) ids) (contains-insert s id q)
+    ∙ or_swap (nat_eq q id) (set.contains s q) (list_any (nat_eq q) ids)
+    ∙ sym (contains-insert (set.insert_all s ids) id q ∙ ap (λ b. nat_eq q id || b) (contains-insert_all s ids q)))
+
+pub len_insert_all : (s : NatSet) (ids : List ℕ) → set.len s ≤ set.len (set.insert_all s ids)
+len_insert_all s ids = len_within s (set.insert_all s ids) (λ q h. contains-insert_all s ids q ∙ or_left _ _ h)
+
+-- the next id that a loop takes; beyond the list it would read some other number
+pub next_number : (s all : NatSet) (ids : List ℕ) (i id other : ℕ) → i < length ids → id ≡ get_or ids i other → set.insert_all s (drop i ids) ≡ all
+    → set.insert_all (set.insert s id) (drop (i + 1) ids) ≡ all
+next_number s all ids i id other lt is h =
+    let front : drop i ids ≡ id ∷ drop (i + 1) ids = drop-cons ids i other lt ∙ ap (λ (q : ℕ). q ∷ drop (suc i) ids) (sym is) ∙ ap (λ (n : ℕ). id ∷ drop n ids) (sym (add-one i)) in
+    insert_all-insert s id (drop (i + 1) ids) ∙ sym (ap (set.insert_all s) front) ∙ h
+
+pub next_id : (s all : NatSet) (ids : List ℕ) (i id : ℕ) → i < length ids → id ≡ get_or ids i id → set.insert_all s (drop i ids) ≡ all → set.insert_all (set.insert s id) (drop (i + 1) ids) ≡ all
+next_id s all ids i id lt is h = next_number s all ids i id id lt is h
+
+-- the next row that a loop takes
+pub next_named : {Row : Type 0} (f : Row → ℕ) (s all : NatSet) (rows : List Row) (i : ℕ) (row : Row) → i < length rows → row ≡ get_or rows i row
+    → set.insert_all s (drop i (map f rows)) ≡ all → set.insert_all (set.insert s (f row)) (drop (i + 1) (map f rows)) ≡ all
+next_named f s all rows i row lt is h =
+    next_id s all (map f rows) i (f row) (omega (arith, lt, length-map rows f)) (ap f is ∙ sym (get_or-map f rows i row)) h

@@ -1,0 +1,54 @@
+-- The ids of links and of a message together, and how many they are.
+--     ids_of, marked                     the peers of links, as a set;  an id as an entry of a set
+--     peers_of-rows_of, insert_all-append    the peers of rows;  two lists of ids inserted
+--     len-add_all                        the links after a row for each of some ids are as many as those ids and the peers together
+use Rattle.std.proofs.Common.{◌≡◌, ℕ, ◌≤◌, ◌||◌, List, [], ◌∷◌, ◌++◌, map, length, refl, sym, ap, ◌∙◌, arith}
+use Rattle.std.specs.Prelude.{nat_eq}
+use Rattle.std.specs.List.{list_any}
+use Rattle.std.specs.FinMap as table
+use Rattle.std.proofs.Math.Bool.{or_comm}
+use Rattle.cc_views.specs.NatSets as set
+use Rattle.cc_views.specs.NatSets.{NatSet, IsWithin, len_within, contains-insert_all, contains-from_list, contains-keys}
+use Rattle.cc_views.specs.Tables.{IsRising}
+use Rattle.cc_links.specs.Links.{Link, Links, add_all}
+use Rattle.cc_links.specs.Rows.{row_of, rows_of, peers_of}
+use Rattle.cc_links.specs.LinkLaws.{contains-add_all}
+
+-- an id as an entry
+abbrev pub marked : ℕ → ℕ × Unit {0}
+marked q = (q, tt)
+
+-- ids in order, and no more than there is room for
+pub record AreKnown (ids : List ℕ) : Type 0 where
+  pub rising : IsRising marked ids
+  pub fits : length ids ≤ 256
+
+abbrev pub ids_of : Links → NatSet
+ids_of ls = set.from_list (table.keys ls)
+
+contains-ids_of : (ls : Links) (q : ℕ) → set.contains (ids_of ls) q ≡ table.contains_key ls q
+contains-ids_of ls q = contains-from_list (table.keys ls) q ∙ sym (contains-keys ls q)
+
+same_keys : (posts : ℕ) (ids : List ℕ) (ls : Links) (q : ℕ) → table.contains_key (add_all posts ids ls) q ≡ set.contains (set.insert_all (ids_of ls) ids) q
+same_keys posts ids ls q =
+    contains-add_all posts ids ls q ∙ or_comm (list_any (nat_eq q) ids) (table.contains_key ls q)
+    ∙ sym (contains-insert_all (ids_of ls) ids q ∙ ap (λ b. b || list_any (nat_eq q) ids) (contains-ids_of ls q))
+
+pub len-add_all : (posts : ℕ) (ids : List ℕ) (ls : Links) → table.len (add_all posts ids ls) ≡ set.len (set.insert_all (ids_of ls) ids)
+len-add_all posts ids ls =
+    let there : IsWithin (add_all posts ids ls) (set.insert_all (ids_of ls) ids) = λ q h. sym (same_keys posts ids ls q) ∙ h in
+    let back : IsWithin (set.insert_all (ids_of ls) ids) (add_all posts ids ls) = λ q h. same_keys posts ids ls q ∙ h in
+    omega (arith, len_within _ _ there, len_within _ _ back)
+
+peers_of_entries : (es : List (ℕ × Link)) → peers_of (map row_of es) ≡ map (λ e. e.0) es
+peers_of_entries [] = refl
+peers_of_entries (e ∷ es) = ap (λ (qs : List ℕ). e.0 ∷ qs) (peers_of_entries es)
+
+-- the peers of the rows are the peers of the links
+pub peers_of-rows_of : (ls : Links) → peers_of (rows_of ls) ≡ table.keys ls
+peers_of-rows_of ls = peers_of_entries (table.entries ls)
+
+-- to insert two lists is to insert the second, then the first
+pub insert_all-append : (s : NatSet) (xs ys : List ℕ) → set.insert_all s (xs ++ ys) ≡ set.insert_all (set.insert_all s ys) xs
+insert_all-append s [] ys = refl
+insert_all-append s (x ∷ xs) ys = ap (λ (t : NatSet). set.insert t x) (insert_all-append s xs ys)

@@ -1,0 +1,14 @@
+use std::error::Error;
+use std::fmt;
+
+/// The set has 32 members, and the one to be added isn't among them.
+#[derive(Clone, Copy, Debug, PartialEq, Eq)]
+pub struct SetFull;
+
+impl fmt::Display for SetFull {
+    fn fmt<W: fmt::Write>(&self, f: &mut fmt::Formatter<W>) -> fmt::Result {
+        write!(f, "the set is full")
+    }
+}
+
+impl Error for SetFull {}

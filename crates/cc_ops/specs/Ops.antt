@@ -1,0 +1,180 @@
+-- The client and the server of the store-collect object.
+--     Phase, Ops                   how far the pending operation has come; the view, the own value under its number, the tag and the phase
+--     after_ask me quorum a s      a new operation begins
+--     after_message me quorum m s  what a message makes of it
+--     post_of, first_post          what is posted in return, or as an operation begins
+--     reply_of                     what the client is told
+use Rattle.std.specs.Prelude.{◌==◌, ℕ, ◌+◌, ◌<◌, ◌≤◌, Bool, true, false, ◌&&◌, if◌then◌else◌, ⊤, []}
+use Rattle.std.specs.Prelude.{Option, Some, None}
+use Rattle.std.specs.Bool.{then_some}
+use Rattle.std.specs.FinMap as map
+use Rattle.cc_views.specs.NatSets as set
+use Rattle.cc_views.specs.Rows.{ViewMap, single}
+use Rattle.cc_views.specs.Merge.{merge}
+use Rattle.cc_views.specs.declared.value.Value.{Value}
+use Rattle.cc_wire.specs.declared.command.Command.{Command}
+use Rattle.cc_wire.specs.declared.message.Message.{Message}
+use Rattle.cc_wire.specs.declared.message.Message.TheVariants as message
+use Rattle.cc_ops.specs.declared.pending.Asked.{Asked}
+use Rattle.cc_ops.specs.declared.pending.Pending.{Pending}
+use Rattle.cc_ops.specs.declared.pending.Reply.{Reply}
+use Rattle.cc_ops.specs.Commands.{is_writing, written, answer_of}
+
+-- how far the client's operation has come; the last holds the view that is stored back
+pub data Phase : Type 0 where
+  Idle : Phase
+  Storing : (p : Pending) → Phase
+  Querying : (p : Pending) → Phase
+  StoringBack : (p : Pending) (seen : ViewMap) → Phase
+
+pub record Ops : Type 0 where
+  pub view : ViewMap
+  -- the own value, and how often it was written
+  pub number : ℕ
+  pub mine : Value
+  pub tag : ℕ
+  pub phase : Phase
+
+abbrev pub nothing_stored : Value
+nothing_stored = record { text = []; max = 0; flag = false; set = set.empty }
+
+-- nothing stored, and no operation pending
+abbrev pub nothing_done : Ops
+nothing_done = record { view = map.empty; number = 0; mine = nothing_stored; tag = 0; phase = Idle }
+
+abbrev pub is_idle : Phase → Bool
+is_idle Idle = true
+is_idle (Storing p) = false
+is_idle (Querying p) = false
+is_idle (StoringBack p seen) = false
+
+-- the view that is stored back
+abbrev pub seen_in : Phase → Option ViewMap
+seen_in Idle = None
+seen_in (Storing p) = None
+seen_in (Querying p) = None
+seen_in (StoringBack p seen) = Some seen
+
+abbrev pub begun : ℕ → Asked → Pending
+begun quorum asked = record { asked = asked; need = quorum; count = 0 }
+
+abbrev pub counted : Pending → Pending
+counted p = record p { count = p.count + 1 }
+
+-- whether one more answer is enough
+abbrev pub is_last : Pending → Bool
+is_last p = (p.count + 1) == p.need
+
+abbrev pub merged : ViewMap → Ops → Ops
+merged v s = record s { view = merge s.view v }
+
+-- the next round of messages, under a tag of its own
+abbrev pub next_round : Phase → Ops → Ops
+next_round phase s = record s { tag = s.tag + 1; phase = phase }
+
+-- the own value is written, under the next number
+abbrev pub with_written : Command → Ops → Ops
+with_written command s = record s { number = s.number + 1; mine = written command s.mine }
+
+-- the view has the own value under its number
+abbrev pub with_own_row : ℕ → Ops → Ops
+with_own_row me s = merged (single (record { node = me; number = s.number; value = s.mine })) s
+
+abbrev pub after_ask : ℕ → ℕ → Asked → Ops → Ops
+after_ask me quorum asked s =
+    if is_writing asked.command
+    then next_round (Storing (begun quorum asked)) (with_own_row me (with_written asked.command s))
+    else next_round (Querying (begun quorum asked)) s
+
+-- what an operation begins with
+abbrev pub first_post : ℕ → Asked → Ops → Message
+first_post me asked after =
+    if is_writing asked.command then message.Store after.view after.tag me else message.Query after.tag me
+
+-- whether an answer to q under this tag is to the pending round
+abbrev pub is_own : ℕ → ℕ → ℕ → Ops → Bool
+is_own me tag q s = (q == me) && (tag == s.tag)
+
+-- one more reply to the query: with the last one, what is seen by then is stored back
+abbrev pub after_reply : ℕ → ViewMap → Phase → Ops → Ops
+after_reply quorum v Idle s = s
+after_reply quorum v (Storing p) s = s
+after_reply quorum v (Querying p) s =
+    if is_last p
+    then next_round (StoringBack (begun quorum p.asked) (merge s.view v)) (merged v s)
+    else record (merged v s) { phase = Querying (counted p) }
+after_reply quorum v (StoringBack p seen) s = s
+
+-- one more acknowledgement of the store: with the last one the operation is done
+abbrev pub after_ack : Phase → Phase
+after_ack Idle = Idle
+after_ack (Storing p) = if is_last p then Idle else Storing (counted p)
+after_ack (Querying p) = Querying p
+after_ack (StoringBack p seen) = if is_last p then Idle else StoringBack (counted p) seen
+
+abbrev pub after_message : ℕ → ℕ → Message → Ops → Ops
+after_message me quorum (message.Enter q) s = s
+after_message me quorum (message.EnterEcho c v from_joined q) s = merged v s
+after_message me quorum (message.Join q) s = s
+after_message me quorum (message.JoinEcho q) s = s
+after_message me quorum (message.Leave q) s = s
+after_message me quorum (message.LeaveEcho q) s = s
+after_message me quorum (message.Query tag q) s = s
+after_message me quorum (message.QueryReply v tag q) s = if is_own me tag q s then after_reply quorum v s.phase s else s
+after_message me quorum (message.Store v tag q) s = merged v s
+after_message me quorum (message.StoreAck tag q) s = if is_own me tag q s then record s { phase = after_ack s.phase } else s
+
+-- whether a reply ends the query
+abbrev pub ends_query : Phase → Bool
+ends_query Idle = false
+ends_query (Storing p) = false
+ends_query (Querying p) = is_last p
+ends_query (StoringBack p seen) = false
+
+-- before and after are the states around the message. Only a node that has joined serves others
+abbrev pub post_of : ℕ → Bool → Message → Ops → Ops → Option Message
+post_of me is_joined (message.Enter q) before after = None
+post_of me is_joined (message.EnterEcho c v from_joined q) before after = None
+post_of me is_joined (message.Join q) before after = None
+post_of me is_joined (message.JoinEcho q) before after = None
+post_of me is_joined (message.Leave q) before after = None
+post_of me is_joined (message.LeaveEcho q) before after = None
+post_of me is_joined (message.Query tag q) before after = then_some is_joined (message.QueryReply after.view tag q)
+post_of me is_joined (message.QueryReply v tag q) before after =
+    then_some (is_own me tag q before && ends_query before.phase) (message.Store after.view after.tag me)
+post_of me is_joined (message.Store v tag q) before after = then_some is_joined (message.StoreAck tag q)
+post_of me is_joined (message.StoreAck tag q) before after = None
+
+-- the answer of an operation, read from that view
+abbrev pub told : Pending → ViewMap → Reply
+told p seen = record { session = p.asked.session; request = p.asked.request; answer = answer_of p.asked.command seen }
+
+-- what one more acknowledgement lets the client be told; a store reads no view
+abbrev pub reply_in : ViewMap → Phase → Option Reply
+reply_in view Idle = None
+reply_in view (Storing p) = then_some (is_last p) (told p view)
+reply_in view (Querying p) = None
+reply_in view (StoringBack p seen) = then_some (is_last p) (told p seen)
+
+abbrev pub reply_of : ℕ → Message → Ops → Option Reply
+reply_of me (message.Enter q) s = None
+reply_of me (message.EnterEcho c v from_joined q) s = None
+reply_of me (message.Join q) s = None
+reply_of me (message.JoinEcho q) s = None
+reply_of me (message.Leave q) s = None
+reply_of me (message.LeaveEcho q) s = None
+reply_of me (message.Query tag q) s = None
+reply_of me (message.QueryReply v tag q) s = None
+reply_of me (message.Store v tag q) s = None
+reply_of me (message.StoreAck tag q) s = if is_own me tag q s then reply_in s.view s.phase else None
+
+-- an operation waits for more answers than it has
+pub record IsWaiting (p : Pending) : Type 0 where
+  pub count : p.count < p.need
+  pub need : p.need ≤ 256
+
+abbrev pub CanCount : Phase → Type 0
+CanCount Idle = ⊤
+CanCount (Storing p) = IsWaiting p
+CanCount (Querying p) = IsWaiting p
+CanCount (StoringBack p seen) = IsWaiting p

@@ -1,0 +1,33 @@
+-- What an `Ops` keeps.
+--     phase_of stage seen      the phase, by its stage and the view that is stored back
+--     IsKept inside            the counters within their limits, and an operation that waits for more answers than it has
+use Rattle.std.specs.Prelude.{ℕ, ◌≤◌, ◌^◌, ⊤}
+use Rattle.cc_views.specs.Rows.{ViewMap}
+use Rattle.cc_ops.specs.declared.stage.Stage.{Stage}
+use Rattle.cc_ops.specs.declared.stage.Stage.TheVariants as stage
+use Rattle.cc_ops.specs.Ops.{Phase, Idle, Storing, Querying, StoringBack, IsWaiting}
+
+abbrev pub phase_of : Stage → ViewMap → Phase
+phase_of stage.Idle seen = Idle
+phase_of (stage.Storing p) seen = Storing p
+phase_of (stage.Querying p) seen = Querying p
+phase_of (stage.StoringBack p) seen = StoringBack p seen
+
+-- the phase without the view that is stored back
+abbrev pub stage_of : Phase → Stage
+stage_of Idle = stage.Idle
+stage_of (Storing p) = stage.Storing p
+stage_of (Querying p) = stage.Querying p
+stage_of (StoringBack p seen) = stage.StoringBack p
+
+-- an operation that is pending waits for more answers than it has
+abbrev pub HasWaiting : Stage → Type 0
+HasWaiting stage.Idle = ⊤
+HasWaiting (stage.Storing p) = IsWaiting p
+HasWaiting (stage.Querying p) = IsWaiting p
+HasWaiting (stage.StoringBack p) = IsWaiting p
+
+pub record IsKept (written rounds : ℕ) (at : Stage) : Type 0 where
+  pub number : written ≤ 2 ^ 62
+  pub tag : rounds ≤ 2 ^ 62
+  pub waits : HasWaiting at

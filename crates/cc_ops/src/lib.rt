@@ -1,0 +1,13 @@
+//! The client and the server of the store-collect object (CCC, client and server).
+#![tactic(auto)]
+
+mod ops;
+mod pending;
+mod stage;
+
+pub use ops::Ops;
+pub use pending::{Asked, Pending, Reply};
+pub use stage::Stage;
+
+#[cfg(test)]
+mod tests;

@@ -1,0 +1,171 @@
+ghost use Rattle.std.specs.Prelude.{◌≡◌, IfOk};
+ghost use Rattle.std.specs.FinMap as map;
+ghost use Rattle.cc_ops.specs.Ops as ops;
+ghost use Rattle.cc_wire.specs.declared.command.Command.TheVariants as command;
+ghost use Rattle.cc_wire.specs.declared.message.Message.TheVariants as message;
+
+use super::*;
+use cc_views::{NodeId, Row, Text, Value, View};
+use cc_wire::{Answer, Command, Message};
+use std::alloc::Global;
+use std::test::*;
+
+// The one member of its cluster, so that each round needs one answer.
+fn me() -> Result<NodeId, Fail>
+    ensures { IfOk result (λ id. id ≡ 1) }
+{
+    Ok(NodeId::new(1).ok_or("1 is an id")?)
+}
+
+fn first_request(command: Command) -> Asked
+    ensures { result ≡ record { session = 7; request = 1; command = command } }
+{
+    Asked {
+        session: 7,
+        request: 1,
+        command,
+    }
+}
+
+// A collect has begun.
+fn querying(alloc: Global) -> Result<Ops, Fail>
+    ensures { IfOk result (λ o. o ≡ ops.after_ask 1 1 (record { session = 7; request = 1; command = command.Collect }) ops.nothing_done) }
+{
+    let mut ops = Ops::new(alloc)?;
+    ops.ask(me()?, 1, &first_request(Command::Collect));
+    Ok(ops)
+}
+
+// The reply of a node that has seen nothing.
+fn empty_reply(alloc: Global) -> Result<Message, Fail>
+    ensures { IfOk result (λ m. m ≡ message.QueryReply map.empty 1 1) }
+{
+    Ok(Message::QueryReply {
+        view: View::new(alloc)?,
+        tag: 1,
+        node: me()?,
+    })
+}
+
+// What was seen, which is nothing, is stored back.
+fn storing_back(alloc: Global) -> Result<Ops, Fail> {
+    let mut ops = querying(alloc)?;
+    ops.apply(me()?, 1, &empty_reply(alloc)?);
+    Ok(ops)
+}
+
+// The name of a message of an operation, how many rows its view has, its tag and its node.
+fn said(message: &Message) -> (&'static str, usize, u64, u32) {
+    match message {
+        Message::Query { tag, node } => ("Query", 0, *tag, node.number()),
+        Message::QueryReply { view, tag, node } => {
+            ("QueryReply", view.rows().len(), *tag, node.number())
+        }
+        Message::Store { view, tag, node } => ("Store", view.rows().len(), *tag, node.number()),
+        Message::StoreAck { tag, node } => ("StoreAck", 0, *tag, node.number()),
+        _ => ("another", 0, 0, 0),
+    }
+}
+
+fn rows(message: &Message) -> &[Row] {
+    match message {
+        Message::Store { view, .. } => view.rows(),
+        _ => &[],
+    }
+}
+
+#[test]
+fn a_new_node_has_stored_nothing(rt: HostRuntime) -> Result<(), Fail> {
+    let ops = Ops::new(rt.alloc())?;
+    assert!(rt; ops.is_idle());
+    assert!(rt; ops.view().rows().is_empty());
+    assert_eq!(rt; (ops.number(), ops.tag()), (0, 0));
+    Ok(())
+}
+
+#[test]
+fn a_copy_waits_for_the_same(rt: HostRuntime) -> Result<(), Fail> {
+    let ops = querying(rt.alloc())?;
+    let copy = ops.copy(rt.alloc())?;
+    assert_eq!(rt; copy.tag(), 1);
+    assert_eq!(rt; copy.stage(), ops.stage());
+    assert!(rt; !copy.is_idle());
+    Ok(())
+}
+
+#[test]
+fn a_collect_begins_with_a_query(rt: HostRuntime) -> Result<(), Fail> {
+    let ops = Ops::new(rt.alloc())?;
+    let asked = first_request(Command::Collect);
+    let post = ops.first_post(rt.alloc(), me()?, 1, &asked)?;
+    assert_eq!(rt; said(&post), ("Query", 0, 1, 1));
+    Ok(())
+}
+
+#[test]
+fn a_store_begins_with_its_row(rt: HostRuntime) -> Result<(), Fail> {
+    let ops = Ops::new(rt.alloc())?;
+    let text = Text::new(b"a").ok_or("the text is short")?;
+    let asked = first_request(Command::Store(text));
+    let post = ops.first_post(rt.alloc(), me()?, 1, &asked)?;
+    assert_eq!(rt; said(&post), ("Store", 1, 1, 1));
+    let mut value = Value::empty();
+    value.text = text;
+    let row = Row {
+        node: me()?,
+        number: 1,
+        value,
+    };
+    assert_eq!(rt; rows(&post), [row].as_slice());
+    Ok(())
+}
+
+#[test]
+fn a_query_is_replied_to(rt: HostRuntime) -> Result<(), Fail> {
+    let ops = querying(rt.alloc())?;
+    let query = Message::Query {
+        tag: 1,
+        node: me()?,
+    };
+    let post = ops.post(rt.alloc(), me()?, 1, true, &query)?;
+    let reply = post.ok_or("a query is replied to")?;
+    assert_eq!(rt; said(&reply), ("QueryReply", 0, 1, 1));
+    Ok(())
+}
+
+#[test]
+fn what_was_seen_is_stored_back(rt: HostRuntime) -> Result<(), Fail> {
+    let ops = querying(rt.alloc())?;
+    let post = ops.post(rt.alloc(), me()?, 1, true, &empty_reply(rt.alloc())?)?;
+    let store = post.ok_or("the last reply is answered")?;
+    assert_eq!(rt; said(&store), ("Store", 0, 2, 1));
+    Ok(())
+}
+
+#[test]
+fn a_store_is_acknowledged(rt: HostRuntime) -> Result<(), Fail> {
+    let ops = Ops::new(rt.alloc())?;
+    let store = Message::Store {
+        view: View::new(rt.alloc())?,
+        tag: 2,
+        node: me()?,
+    };
+    let post = ops.post(rt.alloc(), me()?, 1, true, &store)?;
+    let acknowledgement = post.ok_or("a store is acknowledged")?;
+    assert_eq!(rt; said(&acknowledgement), ("StoreAck", 0, 2, 1));
+    Ok(())
+}
+
+#[test]
+fn a_collect_is_told_what_it_stored_back(rt: HostRuntime) -> Result<(), Fail> {
+    let ops = storing_back(rt.alloc())?;
+    let acknowledgement = Message::StoreAck {
+        tag: 2,
+        node: me()?,
+    };
+    let reply = ops.reply(rt.alloc(), me()?, &acknowledgement)?;
+    let told = reply.ok_or("the last acknowledgement ends it")?;
+    assert_eq!(rt; (told.session, told.request), (7, 1));
+    assert!(rt; matches!(&told.answer, Answer::Seen(view) if view.rows().is_empty()));
+    Ok(())
+}

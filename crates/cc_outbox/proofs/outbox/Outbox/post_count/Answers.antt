@@ -1,0 +1,9 @@
+use Rattle.std.proofs.Common.{◌-◌, length, arith, ap}
+use Rattle.std.specs.FinMap as map
+use Rattle.cc_outbox.specs.Outbox.{Outbox}
+use Rattle.cc_outbox.proofs.Edits.{len_posts}
+use Rattle.cc_outbox.proofs.outbox.Outbox.post_count.Goals as goal
+
+pub returns-clause-count : goal.returns-clause-count
+returns-clause-count c =
+    omega (arith, len_posts (c.self.inside.last - length c.self.inside.posts.items) c.self.inside.posts.items, ap (λ (o : Outbox). map.len o.posts) c.self.view_is, c.len.ensures, c.self.inside.posts.ok)

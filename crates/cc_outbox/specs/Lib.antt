@@ -1,0 +1,3 @@
+pub mod Outbox
+pub mod Rows
+pub mod OutboxLaws

@@ -1,0 +1,39 @@
+-- How an outbox is kept: the posts in the order of their numbers, and the answers as rows.
+use Rattle.std.specs.Prelude.{ℕ, ◌+◌, ◌-◌, ◌≤◌, List, [], ◌∷◌, length, map}
+use Rattle.std.specs.FinMap.{from_entries, entries}
+use Rattle.cc_views.specs.Tables.{IsTable, table_of}
+use Rattle.cc_wire.specs.declared.answer.Answer.{Answer}
+use Rattle.cc_wire.specs.declared.message.Message.{Message}
+use Rattle.cc_outbox.specs.declared.kept_answer.KeptAnswer.{KeptAnswer}
+use Rattle.cc_outbox.specs.Outbox.{Outbox}
+
+-- an answer under its session
+abbrev pub entry_of : KeptAnswer → ℕ × Answer
+entry_of kept = (kept.session, kept.answer)
+
+abbrev pub row_of : ℕ × Answer → KeptAnswer
+row_of e = record { session = e.0; answer = e.1 }
+
+-- the answers, by ascending session
+abbrev pub answers_of : Outbox → List KeptAnswer
+answers_of o = map row_of (entries o.answers)
+
+-- posts under the numbers that follow n
+abbrev pub numbered : ℕ → List Message → List (ℕ × Message)
+numbered n [] = []
+numbered n (m ∷ ms) = (n + 1, m) ∷ numbered (n + 1) ms
+
+-- the outbox of these posts, of which the last has number `last`, and of these answers
+abbrev pub outbox_of : ℕ → List Message → List KeptAnswer → Outbox
+outbox_of last posts answers = record {
+  last = last;
+  posts = from_entries (numbered (last - length posts) posts);
+  answers = table_of entry_of answers;
+}
+
+-- up to 512 posts and 256 answers, each with room for as many
+pub record IsKept (last : ℕ) (posts : List Message) (post_room : ℕ) (kept : List KeptAnswer) (answer_room : ℕ) : Type 0 where
+  pub numbers : length posts ≤ last
+  pub fits : length posts ≤ 512
+  pub room : 512 ≤ post_room
+  pub answers : IsTable entry_of 256 kept answer_room

@@ -1,0 +1,8 @@
+use cc_wire::Answer;
+
+/// The answer to the last request of a session.
+#[derive(Debug, Drop)]
+pub struct KeptAnswer {
+    pub session: u64,
+    pub answer: Answer,
+}

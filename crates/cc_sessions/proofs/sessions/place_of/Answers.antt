@@ -1,0 +1,10 @@
+use Rattle.std.proofs.Common.{rules}
+use Rattle.std.proofs.lemmas.List.Sorted.{answers_always}
+use Rattle.cc_views.specs.Tables.{searched}
+use Rattle.cc_sessions.specs.Rows.{entry_of}
+use Rattle.cc_sessions.proofs.sessions.place_of.Goals as goal
+
+pub returns : goal.returns
+returns c =
+    let facts = c.binary_search_by_key.ensures in
+    searched entry_of c.args.rows.now c.requires c.args.session _ facts.bound (facts.position (λ row. row.session) (answers_always _ _ _ (λ f a r g called. search rules)))

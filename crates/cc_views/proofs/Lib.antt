@@ -1,0 +1,6 @@
+pub mod Rooms
+pub mod NumberTables
+pub mod Places
+pub mod Absorbs
+pub mod Pushes
+pub mod Orders

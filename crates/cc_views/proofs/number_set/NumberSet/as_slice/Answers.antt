@@ -1,0 +1,5 @@
+use Rattle.cc_views.proofs.NumberTables.{items_are}
+use Rattle.cc_views.proofs.number_set.NumberSet.as_slice.Goals as goal
+
+pub returns-clause-numbers : goal.returns-clause-numbers
+returns-clause-numbers c = items_are _ _ _ c.self.invariant c.self.view_is

@@ -1,0 +1,14 @@
+pub mod Ascending
+pub mod Entries
+pub mod MapLaws
+pub mod Tables
+pub mod NatSets
+pub mod NatLists
+pub mod NatPlaces
+pub mod Room
+pub mod NumberTable
+pub mod Rows
+pub mod Merge
+pub mod MergeLaws
+pub mod Sizes
+pub mod Limits

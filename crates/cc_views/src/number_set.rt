@@ -1,0 +1,125 @@
+ghost use Rattle.std.specs.Prelude.{◌≡◌, ◌≤◌, ◌<◌, ◌==◌, [], ◌∷◌, ◌++◌, length};
+ghost use Rattle.std.proofs.Common.{rules};
+ghost use Rattle.std.specs.Cmp.Lexicographic.{pointwise};
+ghost use Rattle.std.specs.Cmp.Rules.{comparing};
+ghost use Rattle.std.specs.List.{AllByRecursion};
+ghost use Rattle.std.specs.Ordering.{on};
+ghost use Rattle.cc_views.specs.Ascending.{IsAscending};
+ghost use Rattle.cc_views.specs.NatPlaces.{IsPlaceOf};
+ghost use Rattle.cc_views.specs.NatSets as set;
+ghost use Rattle.cc_views.specs.NatSets.{items};
+
+use std::marker::Model;
+
+/// A set slot: up to 32 numbers.
+#[derive(Clone, Copy, Debug)]
+pub struct NumberSet {
+    // Ascending, and zero from `len` on.
+    numbers: [u32; NumberSet::MAX_LEN],
+    len: usize,
+}
+
+impl Model for NumberSet {
+    ghost use Rattle.std.specs.Prelude.{length, take};
+    ghost use Rattle.cc_views.specs.NatSets.{NatSet, set_code, from_list, items};
+    ghost use Rattle.cc_views.specs.Room.{filled};
+    ghost use Rattle.cc_views.specs.NumberTable.{IsNumberTable, table_of_items};
+
+    ghost Value = { NatSet };
+
+    ghost coded = { set_code };
+
+    ghost view = { λ s. from_list (take s.len s.numbers) };
+
+    ghost invariant = { λ s. IsNumberTable s.numbers s.len };
+
+    ghost inverse = { λ s. record { numbers = filled 32 (items s); len = length (items s) } };
+
+    ghost inverse_ok = { λ s h i. record { numbers = (table_of_items s.numbers s.len h).0 i; len = (table_of_items s.numbers s.len h).1 i } };
+}
+
+impl NumberSet {
+    /// How many numbers a set has at most (own choice).
+    pub const MAX_LEN: usize = 32;
+
+    /// A set of no numbers.
+    pub fn new() -> Self
+        ensures set { result ≡ set.empty }
+        ensures items { items result ≡ [] }
+        ensures len { set.len result ≡ 0 }
+    {
+        NumberSet {
+            numbers: [0; Self::MAX_LEN],
+            len: 0,
+        }
+    }
+
+    /// How many numbers there are.
+    pub fn len(&self) -> usize
+        ensures len { result ≡ set.len self.now }
+        ensures fits { result ≤ 32 }
+    {
+        self.as_slice().len()
+    }
+
+    /// The numbers, in ascending order.
+    pub fn as_slice(&self) -> &[u32]
+        ensures numbers { result.now ≡ items self.now }
+        ensures ascending { IsAscending result.now }
+        ensures fits { length result.now ≤ 32 }
+    {
+        &self.numbers[..self.len]
+    }
+
+    /// Whether the number is there.
+    pub fn contains(&self, number: u32) -> bool
+        ensures { result ≡ set.contains self.now number }
+    {
+        place_of(self.as_slice(), number).is_ok()
+    }
+
+    /// Adds a number above those that are there.
+    pub fn push(&mut self, number: u32)
+        requires room { set.len self.old < 32 }
+        requires above { AllByRecursion (λ n. n < number) (items self.old) }
+        ensures set { self.new ≡ set.insert self.old number }
+        ensures items { items self.new ≡ items self.old ++ number ∷ [] }
+    {
+        self.numbers[self.len] = number;
+        self.len += 1;
+    }
+
+    /// Adds a number, which changes nothing where it is there.
+    pub fn insert(&mut self, number: u32)
+        requires { set.len (set.insert self.old number) ≤ 32 }
+        ensures { self.new ≡ set.insert self.old number }
+    {
+        if let Err(at) = place_of(self.as_slice(), number) {
+            self.numbers.copy_within(at..self.len, at + 1);
+            self.numbers[at] = number;
+            self.len += 1;
+        }
+    }
+}
+
+// Where the number is, or where it would go.
+fn place_of(numbers: &[u32], number: u32) -> Result<usize, usize>
+    requires { IsAscending numbers.now }
+    ensures { IsPlaceOf numbers.now number result }
+{
+    numbers.binary_search(&number)
+}
+
+impl PartialEq for NumberSet {
+    ghost eq = { on items (pointwise ◌==◌) };
+
+    ghost laws = { Prim.search (comparing, rules) };
+
+    fn eq(&self, other: &NumberSet) -> bool {
+        self.as_slice() == other.as_slice()
+    }
+}
+
+impl Eq for NumberSet {
+    ghost laws = { Prim.search (comparing, rules) };
+}

@@ -1,0 +1,78 @@
+-- Events are read as they are spelled.
+use Rattle.std.proofs.Common.{◌≡◌, ℕ, cond, eqb, List, [], ◌∷◌, ◌++◌, Result, Ok, Err, refl, ap, ◌∙◌}
+use Rattle.std.specs.Prelude.{IfOk}
+use Rattle.cc_wire.specs.declared.fault.WireFault.{WireFault}
+use Rattle.cc_wire.specs.declared.event.Event.{Event}
+use Rattle.cc_wire.specs.declared.event.Event.TheVariants.{Enter, Leave, Deliver, Acked, Ask}
+use Rattle.cc_wire.specs.Reading.{Reading, via, Gives, byte_at, whole}
+use Rattle.cc_wire.specs.Events.{numbered_spelling, IsNumbered, numbered_at, delivery_spelling, IsDelivery, delivery_at, place_spelling, IsPlace, place_at, asked_spelling, IsAsked, asked_at, event_spelling, IsEvent, SpellsEvent, event_fields, event_at}
+use Rattle.cc_wire.proofs.Spelled.{IsBytes, bind_ok, Takes, Spelled, both, as_facts, byte_spelled, nothing_spelled, kind_or}
+use Rattle.cc_wire.proofs.Formats.{id_spelled, u64_spelled}
+use Rattle.cc_wire.proofs.MessageFormat.{message_spelled}
+use Rattle.cc_wire.proofs.CommandFormat.{command_spelled}
+use Rattle.cc_wire.proofs.Whole.{whole_takes, whole_again}
+
+pub numbered_spelled : Spelled numbered_at (λ f. IsNumbered f.0 f.1) (λ f. numbered_spelling f.0 f.1)
+numbered_spelled = as_facts (λ f. IsNumbered f.0 f.1)
+    (λ f h. record { is_id = h.0; number_fits = h.1 })
+    (λ f h. (h.is_id, h.number_fits))
+    (both id_spelled u64_spelled)
+
+pub delivery_spelled : Spelled delivery_at (λ f. IsDelivery f.0.0 f.0.1 f.1) (λ f. delivery_spelling f.0.0 f.0.1 f.1)
+delivery_spelled = as_facts (λ f. IsDelivery f.0.0 f.0.1 f.1)
+    (λ f h. record { numbered = h.0; message_fits = h.1 })
+    (λ f h. (h.numbered, h.message_fits))
+    (both numbered_spelled message_spelled)
+
+pub place_spelled : Spelled place_at (λ f. IsPlace f.0 f.1) (λ f. place_spelling f.0 f.1)
+place_spelled = as_facts (λ f. IsPlace f.0 f.1)
+    (λ f h. record { session_fits = h.0; request_fits = h.1 })
+    (λ f h. (h.session_fits, h.request_fits))
+    (both u64_spelled u64_spelled)
+
+pub asked_spelled : Spelled asked_at (λ f. IsAsked f.0.0 f.0.1 f.1) (λ f. asked_spelling f.0.0 f.0.1 f.1)
+asked_spelled = as_facts (λ f. IsAsked f.0.0 f.0.1 f.1)
+    (λ f h. record { place = h.0; command_fits = h.1 })
+    (λ f h. (h.place, h.command_fits))
+    (both place_spelled command_spelled)
+
+module _ (bytes after : List ℕ) (k : ℕ) (m : Event) (rest : List ℕ) (fits : IsBytes after) (front : Takes bytes (k ∷ []) after) where
+  abbrev case : {A : Type 0} {r : Reading A} {P : A → Type 0} {f : A → List ℕ} (spelled : Spelled r P f) (make : A → Event) (kind : ℕ)
+      → ((a : A) → P a → IsEvent (make a)) → ((a : A) → event_spelling (make a) ≡ kind ∷ f a)
+      → (other : Reading Event) → (other after ≡ Ok (m, rest) → Takes bytes (event_spelling m) rest × IsEvent m)
+      → (cond (eqb k kind) (via make r) other) after ≡ Ok (m, rest) → Takes bytes (event_spelling m) rest × IsEvent m
+  case = kind_or event_spelling IsEvent bytes after k m rest fits front
+
+  fields_take : event_fields k after ≡ Ok (m, rest) → Takes bytes (event_spelling m) rest × IsEvent m
+  fields_take =
+      case nothing_spelled (λ _. Enter) 1 (λ a h. h) (λ a. refl) _ (
+      case nothing_spelled (λ _. Leave) 2 (λ a h. h) (λ a. refl) _ (
+      case delivery_spelled (λ f. Deliver f.0.0 f.0.1 f.1) 3 (λ a h. h) (λ a. refl) _ (
+      case numbered_spelled (λ f. Acked f.0 f.1) 4 (λ a h. h) (λ a. refl) _ (
+      case asked_spelled (λ f. Ask f.0.0 f.0.1 f.1) 5 (λ a h. h) (λ a. refl) _ (
+      λ e. absurd cc)))))
+
+event_takes : (bytes : List ℕ) (m : Event) (rest : List ℕ) → IsBytes bytes → event_at bytes ≡ Ok (m, rest) → Takes bytes (event_spelling m) rest × IsEvent m
+unfolding event_at
+event_takes bytes m rest fits e =
+    let k = bind_ok (byte_at bytes) (λ kind. event_fields kind.0 kind.1) (m, rest) e in
+    let front = byte_spelled.takes bytes k.0.0 k.0.1 fits k.1 in
+    fields_take bytes k.0.1 k.0.0 m rest front.0.left front.0 k.2
+
+event_again : (m : Event) (rest : List ℕ) → IsEvent m → event_at (event_spelling m ++ rest) ≡ Ok (m, rest)
+unfolding event_at
+event_again Enter rest is = refl
+event_again Leave rest is = refl
+event_again (Deliver from number message) rest is = rw (delivery_spelled.again ((from, number), message) rest is) refl
+event_again (Acked peer number) rest is = rw (numbered_spelled.again (peer, number) rest is) refl
+event_again (Ask session request command) rest is = rw (asked_spelled.again ((session, request), command) rest is) refl
+
+pub event_spelled : Spelled event_at IsEvent event_spelling
+event_spelled = record { takes = event_takes; again = event_again }
+
+pub event_is_found : (bytes : List ℕ) (r : Result Event WireFault) → IsBytes bytes → Gives (λ m. m) r (whole event_at bytes) → IfOk r (SpellsEvent bytes)
+event_is_found bytes (Ok m) fits given = let t = whole_takes event_spelled bytes m fits given in record { lawful = t.0; spelled = t.1 }
+event_is_found bytes (Err e) fits given = tt
+
+pub event_is_only : (bytes : List ℕ) (m : Event) → SpellsEvent bytes m → whole event_at bytes ≡ Ok m
+event_is_only bytes m is = ap (whole event_at) is.spelled ∙ whole_again event_spelled m is.lawful

@@ -1,0 +1,319 @@
+-- Each format is read as it is spelled.
+use Rattle.std.proofs.Common.{◌≡◌, ℕ, zero, suc, ◌+◌, ◌^◌, ◌<◌, ◌≤◌, Bool, true, false, ltb, ◌&&◌, List, [], ◌∷◌, ◌++◌, length, Result, Ok, Err, refl, sym, ap, subst, ◌∙◌, arith}
+use Rattle.std.specs.Int.{w16, w32, w64, to_be_bytes}
+use Rattle.std.specs.List.{flat_map, AllByRecursion}
+use Rattle.std.specs.Ordering.{nat_cmp, is_lt}
+use Rattle.std.specs.FinMap as map
+use Rattle.std.specs.FinMap.Entries.{below_all}
+use Rattle.std.proofs.lemmas.Bool.{ltb-false, le-ltb}
+use Rattle.std.proofs.lemmas.Nat.{be_bytes_2, be_bytes_4, be_bytes_8, from_be_bytes-to_be_bytes_2, from_be_bytes-to_be_bytes_4, from_be_bytes-to_be_bytes_8}
+use Rattle.cc_views.specs.Ascending.{IsAscending}
+use Rattle.cc_views.specs.NatSets.{NatSet, from_list, items}
+use Rattle.cc_views.specs.NatLists.{items_ascending, items-from_list, from_list-items}
+use Rattle.cc_changes.specs.ChangeSets.{ChangeSets}
+use Rattle.cc_views.specs.declared.value.Value.{Value}
+use Rattle.cc_views.specs.declared.row.Row.{Row}
+use Rattle.cc_views.specs.Rows.{ViewMap, IsRising, entries_of, rows_of}
+use Rattle.cc_views.specs.Entries.{cmp_lt, lt_from_cmp, and_left, and_right, from_T}
+use Rattle.cc_views.proofs.Absorbs.{rows_back}
+use Rattle.cc_wire.specs.declared.fault.WireFault.{WireFault}
+use Rattle.cc_wire.specs.declared.fault.WireFault.TheVariants.{NotAscending, TooLarge}
+use Rattle.cc_wire.specs.Reading.{Reading, via, byte_at, number_at, limited, number_from, flag_with, flag_at, text_at, numbers_at, number_set_at, number_list_at, listed_at, value_with, value_at, row_with, row_at, row_list_at, view_with, view_at, id_set_at, changes_with, changes_at}
+use Rattle.cc_wire.specs.Spelling.{text_spelling, IsText, flag_spelling, number_spelling, number_set_spelling, IsNumberSet, value_spelling, IsValue, row_spelling, IsRow, view_spelling, IsView, SpellsView, number_list_spelling, IsNumberList, id_set_spelling, IsId, IsIdSet, changes_spelling, IsChanges}
+use Rattle.cc_wire.proofs.Spelled.{IsBytes, ok_is, Takes, Spelled, both, as_fields, as_facts, tested, counted, IsRun, items_spelled, byte_spelled, bytes_spelled, IsWide, number_spelled}
+use Rattle.std.specs.Prelude.{IfOk}
+use Rattle.cc_wire.specs.Reading.{Gives, whole}
+use Rattle.cc_wire.proofs.Whole.{whole_takes, whole_again}
+use Rattle.cc_wire.proofs.Views.{len-rows_of, view_of_rows, entries_of_rows}
+
+-- ---- numbers
+
+pub bytes_of_all : (bs : List ℕ) → AllByRecursion (λ b. b < 256) bs → IsBytes bs
+bytes_of_all [] all i = omega arith
+bytes_of_all (b ∷ bs) all zero = all.0
+bytes_of_all (b ∷ bs) all (suc i) = bytes_of_all bs all.1 i
+
+pub all_of_bytes : (bs : List ℕ) → IsBytes bs → AllByRecursion (λ b. b < 256) bs
+all_of_bytes [] fits = tt
+all_of_bytes (b ∷ bs) fits = (fits 0, all_of_bytes bs (λ i. fits (suc i)))
+
+pub wide16 : IsWide w16 (2 ^ 16)
+wide16 = record {
+  len = λ n. refl;
+  fit = λ n. bytes_of_all (to_be_bytes w16 n) (omega arith, (omega arith, tt));
+  back = λ bytes len fits. be_bytes_2 bytes _ len fits refl;
+  again = λ n lt. from_be_bytes-to_be_bytes_2 n lt;
+  below = λ bytes len fits. omega (arith, fits 0, fits 1);
+}
+
+pub wide32 : IsWide w32 (2 ^ 32)
+wide32 = record {
+  len = λ n. refl;
+  fit = λ n. bytes_of_all (to_be_bytes w32 n) (omega arith, (omega arith, (omega arith, (omega arith, tt))));
+  back = λ bytes len fits. be_bytes_4 bytes _ len fits refl;
+  again = λ n lt. from_be_bytes-to_be_bytes_4 n lt;
+  below = λ bytes len fits. omega (arith, fits 0, fits 1, fits 2, fits 3);
+}
+
+pub wide64 : IsWide w64 (2 ^ 64)
+wide64 = record {
+  len = λ n. refl;
+  fit = λ n. bytes_of_all (to_be_bytes w64 n) (omega arith, (omega arith, (omega arith, (omega arith, (omega arith, (omega arith, (omega arith, (omega arith, tt))))))));
+  back = λ bytes len fits. be_bytes_8 bytes _ len fits refl;
+  again = λ n lt. from_be_bytes-to_be_bytes_8 n lt;
+  below = λ bytes len fits. omega (arith, fits 0, fits 1, fits 2, fits 3, fits 4, fits 5, fits 6, fits 7);
+}
+
+pub u16_spelled : Spelled (number_at w16) (λ n. n < 2 ^ 16) (to_be_bytes w16)
+u16_spelled = number_spelled w16 (2 ^ 16) wide16
+
+pub u32_spelled : Spelled (number_at w32) (λ n. n < 2 ^ 32) (to_be_bytes w32)
+u32_spelled = number_spelled w32 (2 ^ 32) wide32
+
+pub u64_spelled : Spelled (number_at w64) (λ n. n < 2 ^ 64) (to_be_bytes w64)
+u64_spelled = number_spelled w64 (2 ^ 64) wide64
+
+pub limited_spelled : {r : Reading ℕ} {P : ℕ → Type 0} {f : ℕ → List ℕ} (limit : ℕ) → Spelled r P f → Spelled (limited limit r) (λ n. P n × (n ≤ limit)) f
+limited_spelled limit spelled = tested (λ n. ltb limit n) TooLarge (λ n. n ≤ limit) (λ n e. ltb-false _ _ e) (λ n le. le-ltb _ _ le) spelled
+
+pub from_spelled : (least : ℕ) → Spelled (number_from least) (λ n. (n < 2 ^ 32) × (least ≤ n)) (to_be_bytes w32)
+unfolding number_from
+from_spelled least = tested (λ n. ltb n least) NotAscending (λ n. least ≤ n) (λ n e. ltb-false _ _ e) (λ n le. le-ltb _ _ le) u32_spelled
+
+pub id_spelled : Spelled (number_from 1) IsId (to_be_bytes w32)
+id_spelled = as_facts IsId (λ n h. record { positive = h.1; fits = h.0 }) (λ n h. (h.fits, h.positive)) (from_spelled 1)
+
+-- ---- flags
+
+flag_takes : (byte : ℕ) (bytes : List ℕ) (x : Bool) (rest : List ℕ) → IsBytes bytes → flag_with (byte, bytes) ≡ Ok (x, rest) → Takes (byte ∷ bytes) (flag_spelling x) rest
+flag_takes zero bytes x rest fits e = subst (λ (y : Bool × List ℕ). Takes (0 ∷ bytes) (flag_spelling y.0) y.1) (ok_is (false, bytes) (x, rest) e) (record { parts = refl; left = fits })
+flag_takes (suc zero) bytes x rest fits e = subst (λ (y : Bool × List ℕ). Takes (1 ∷ bytes) (flag_spelling y.0) y.1) (ok_is (true, bytes) (x, rest) e) (record { parts = refl; left = fits })
+flag_takes (suc (suc byte)) bytes x rest fits e = absurd cc
+
+flag_take : (bytes : List ℕ) (x : Bool) (rest : List ℕ) → IsBytes bytes → flag_at bytes ≡ Ok (x, rest) → Takes bytes (flag_spelling x) rest × Unit {0}
+unfolding flag_at
+flag_take [] x rest fits e = absurd cc
+flag_take (byte ∷ bytes) x rest fits e = (flag_takes byte bytes x rest (λ i. fits (suc i)) e, tt)
+
+flag_again : (x : Bool) (rest : List ℕ) → flag_at (flag_spelling x ++ rest) ≡ Ok (x, rest)
+unfolding flag_at
+flag_again false rest = refl
+flag_again true rest = refl
+
+pub flag_spelled : Spelled flag_at (λ _. Unit {0}) flag_spelling
+flag_spelled = record { takes = flag_take; again = λ x rest fits. flag_again x rest }
+
+-- ---- texts
+
+pub text_spelled : Spelled text_at IsText text_spelling
+unfolding text_at
+text_spelled = as_facts IsText
+    (λ t h. record { fits = h.0.1; bytes = all_of_bytes t h.1 })
+    (λ t h. ((omega (arith, h.fits), h.fits), bytes_of_all t h.bytes))
+    (counted length (limited_spelled 64 byte_spelled) bytes_spelled)
+
+-- ---- sets
+
+above_weaker : {X : Type 0} (key : X → ℕ) (a b : ℕ) (xs : List X) → a ≤ b → AllByRecursion (λ x. b ≤ key x) xs → AllByRecursion (λ x. a ≤ key x) xs
+above_weaker key a b [] le all = tt
+above_weaker key a b (x ∷ xs) le all = (omega (arith, all.0), above_weaker key a b xs le all.1)
+
+above_of_run : {X : Type 0} (key : X → ℕ) (Q : X → Type 0) (least : ℕ) (xs : List X) → IsRun key Q least xs → AllByRecursion (λ x. least ≤ key x) xs
+above_of_run key Q least [] run = tt
+above_of_run key Q least (x ∷ xs) run = (run.0.1, above_weaker key least (key x + 1) xs (omega (arith, run.0.1)) (above_of_run key Q (key x + 1) xs run.1))
+
+facts_of_run : {X : Type 0} (key : X → ℕ) (Q : X → Type 0) (least : ℕ) (xs : List X) → IsRun key Q least xs → AllByRecursion Q xs
+facts_of_run key Q least [] run = tt
+facts_of_run key Q least (x ∷ xs) run = (run.0.0, facts_of_run key Q (key x + 1) xs run.1)
+
+next_le : (n : ℕ) (ns : List ℕ) → AllByRecursion (λ y. n + 1 ≤ y) ns → AllByRecursion (λ y. n < y) ns
+next_le n [] all = tt
+next_le n (y ∷ ns) all = (omega (arith, all.0), next_le n ns all.1)
+
+next_lt : (n : ℕ) (ns : List ℕ) → AllByRecursion (λ y. n < y) ns → AllByRecursion (λ y. n + 1 ≤ y) ns
+next_lt n [] all = tt
+next_lt n (y ∷ ns) all = (omega (arith, all.0), next_lt n ns all.1)
+
+ascending_of_run : (least : ℕ) (ns : List ℕ) → IsRun (λ n. n) (λ n. n < 2 ^ 32) least ns → IsAscending ns
+ascending_of_run least [] run = tt
+ascending_of_run least (n ∷ ns) run = (next_le n ns (above_of_run (λ n. n) (λ n. n < 2 ^ 32) (n + 1) ns run.1), ascending_of_run (n + 1) ns run.1)
+
+run_of_ascending : (least : ℕ) (ns : List ℕ) → AllByRecursion (λ n. least ≤ n) ns → IsAscending ns → AllByRecursion (λ n. n < 2 ^ 32) ns → IsRun (λ n. n) (λ n. n < 2 ^ 32) least ns
+run_of_ascending least [] above up all = tt
+run_of_ascending least (n ∷ ns) above up all = ((all.0, above.0), run_of_ascending (n + 1) ns (next_lt n ns up.0) up.1 all.1)
+
+from_zero : (ns : List ℕ) → AllByRecursion (λ n. 0 ≤ n) ns
+from_zero [] = tt
+from_zero (n ∷ ns) = (omega arith, from_zero ns)
+
+-- a count, and numbers that rise
+abbrev IsListed : (ℕ → Type 0) → ℕ → ℕ → List ℕ → Type 0
+IsListed P limit least ns = (P (length ns) × (length ns ≤ limit)) × IsRun (λ n. n) (λ n. n < 2 ^ 32) least ns
+
+listed_spelled : {count : Reading ℕ} {P : ℕ → Type 0} {c : ℕ → List ℕ} (limit least : ℕ) → Spelled count P c
+    → Spelled (listed_at count limit least) (IsListed P limit least) (λ ns. c (length ns) ++ flat_map number_spelling ns)
+unfolding listed_at
+listed_spelled limit least spelled = counted length (limited_spelled limit spelled) (λ n. items_spelled number_from (λ n. n) (λ n. n < 2 ^ 32) number_spelling from_spelled n least)
+
+pub number_set_spelled : Spelled number_set_at IsNumberSet number_set_spelling
+unfolding number_set_at
+number_set_spelled = as_facts IsNumberSet
+    (λ s h. record { fits = h.0.1; numbers = facts_of_run (λ n. n) (λ n. n < 2 ^ 32) 0 (items s) h.1 })
+    (λ s h. ((omega (arith, h.fits), h.fits), run_of_ascending 0 (items s) (from_zero (items s)) (items_ascending s) h.numbers))
+    (as_fields from_list items from_list-items (λ ns h. items-from_list ns (ascending_of_run 0 ns h.1)) (listed_spelled 32 0 byte_spelled))
+
+pub number_list_spelled : Spelled number_list_at IsNumberList number_list_spelling
+unfolding number_list_at
+number_list_spelled = as_facts IsNumberList
+    (λ s h. record { fits = h.0.1; numbers = facts_of_run (λ n. n) (λ n. n < 2 ^ 32) 0 (items s) h.1 })
+    (λ s h. ((omega (arith, h.fits), h.fits), run_of_ascending 0 (items s) (from_zero (items s)) (items_ascending s) h.numbers))
+    (as_fields from_list items from_list-items (λ ns h. items-from_list ns (ascending_of_run 0 ns h.1)) (listed_spelled 8192 0 u16_spelled))
+
+-- ---- values
+
+abbrev value_fields : Value → List ℕ × (ℕ × (Bool × NatSet))
+value_fields v = (v.text, (v.max, (v.flag, v.set)))
+
+pub value_spelled : Spelled value_at IsValue value_spelling
+unfolding value_at
+value_spelled = as_facts IsValue
+    (λ v h. record { text = h.0; max = h.1.0; set = h.1.1.1 })
+    (λ v h. (h.text, (h.max, (tt, h.set))))
+    (as_fields value_with value_fields (λ _. refl) (λ _ _. refl) (both text_spelled (both u64_spelled (both flag_spelled number_set_spelled))))
+
+-- ---- rows
+
+abbrev IsRowBody : Row → Type 0
+IsRowBody row = (row.node < 2 ^ 32) × ((row.number < 2 ^ 64) × IsValue row.value)
+
+abbrev row_fields : Row → ℕ × (ℕ × Value)
+row_fields row = (row.node, (row.number, row.value))
+
+pub row_spelled : (least : ℕ) → Spelled (row_at least) (λ row. IsRowBody row × (least ≤ row.node)) row_spelling
+unfolding row_at
+row_spelled least = as_facts (λ row. IsRowBody row × (least ≤ row.node))
+    (λ row h. ((h.0.0, h.1), h.0.1))
+    (λ row h. ((h.0.0, h.1), h.0.1))
+    (as_fields row_with row_fields (λ _. refl) (λ _ _. refl) (both (from_spelled least) (both u64_spelled value_spelled)))
+
+-- ---- views
+
+abbrev node_of : Row → ℕ
+node_of row = row.node
+
+both_true : (a b : Bool) → a ≡ true → b ≡ true → (a && b) ≡ true
+both_true true b p q = q
+both_true false b p q = absurd cc
+
+below_of_above : (n : ℕ) (rows : List Row) → AllByRecursion (λ r. n + 1 ≤ r.node) rows → below_all nat_cmp n (entries_of rows) ≡ true
+below_of_above n [] all = refl
+below_of_above n (r ∷ rows) all = both_true _ _ (ap is_lt (cmp_lt n r.node (omega (arith, all.0)))) (below_of_above n rows all.1)
+
+above_of_below : (n : ℕ) (rows : List Row) → below_all nat_cmp n (entries_of rows) ≡ true → AllByRecursion (λ r. n + 1 ≤ r.node) rows
+above_of_below n [] h = tt
+above_of_below n (r ∷ rows) h = (omega (arith, lt_from_cmp n r.node (and_left _ _ h)), above_of_below n rows (and_right _ _ h))
+
+rising_of_run : (least : ℕ) (rows : List Row) → IsRun node_of IsRowBody least rows → IsRising rows
+rising_of_run least [] run = refl
+rising_of_run least (r ∷ rows) run = both_true _ _ (below_of_above r.node rows (above_of_run node_of IsRowBody (r.node + 1) rows run.1)) (rising_of_run (r.node + 1) rows run.1)
+
+rows_of_run : (least : ℕ) (rows : List Row) → 1 ≤ least → IsRun node_of IsRowBody least rows → AllByRecursion IsRow rows
+rows_of_run least [] le run = tt
+rows_of_run least (r ∷ rows) le run =
+    (record { id = omega (arith, run.0.1); node = run.0.0.0; number = run.0.0.1.0; value = run.0.0.1.1 }, rows_of_run (r.node + 1) rows (omega arith) run.1)
+
+run_of_rows : (least : ℕ) (rows : List Row) → AllByRecursion (λ r. least ≤ r.node) rows → IsRising rows → AllByRecursion IsRow rows → IsRun node_of IsRowBody least rows
+run_of_rows least [] above rising all = tt
+run_of_rows least (r ∷ rows) above rising all =
+    (((all.0.node, (all.0.number, all.0.value)), above.0), run_of_rows (r.node + 1) rows (above_of_below r.node rows (and_left _ _ rising)) (and_right _ _ rising) all.1)
+
+ids_above : (rows : List Row) → AllByRecursion IsRow rows → AllByRecursion (λ r. 1 ≤ r.node) rows
+ids_above [] all = tt
+ids_above (r ∷ rows) all = (all.0.id, ids_above rows all.1)
+
+abbrev IsRowList : List Row → Type 0
+IsRowList rows = ((length rows < 2 ^ 16) × (length rows ≤ 256)) × IsRun node_of IsRowBody 1 rows
+
+row_list_spelled : Spelled row_list_at IsRowList (λ rows. to_be_bytes w16 (length rows) ++ flat_map row_spelling rows)
+unfolding row_list_at
+row_list_spelled = counted length (limited_spelled 256 u16_spelled) (λ n. items_spelled row_at node_of IsRowBody row_spelling row_spelled n 1)
+
+rising_rows_of : (v : ViewMap) → IsRising (rows_of v)
+rising_rows_of v = rw (entries_of_rows v) (from_T _ (map.entries_sorted v))
+
+pub view_spelled : Spelled view_at IsView view_spelling
+unfolding view_at
+view_spelled = record {
+  takes = λ bytes v rest fits e. let t = as_list.takes bytes v rest fits e in (subst (λ (n : ℕ). Takes bytes (to_be_bytes w16 n ++ flat_map row_spelling (rows_of v)) rest) (len-rows_of v) t.0, lawful v t.1);
+  again = λ v rest is. ap (λ (n : ℕ). view_at ((to_be_bytes w16 n ++ flat_map row_spelling (rows_of v)) ++ rest)) (sym (len-rows_of v)) ∙ as_list.again v rest (listed v is);
+}
+  where
+    as_list : Spelled (via view_with row_list_at) (λ v. IsRowList (rows_of v)) (λ v. to_be_bytes w16 (length (rows_of v)) ++ flat_map row_spelling (rows_of v))
+    as_list = as_fields view_with rows_of view_of_rows (λ rows is. sym (rows_back rows (rising_of_run 1 rows is.1))) row_list_spelled
+
+    lawful : (v : ViewMap) → IsRowList (rows_of v) → IsView v
+    lawful v is = record { fits = omega (arith, is.0.1, len-rows_of v); rows = rows_of_run 1 (rows_of v) (omega arith) is.1 }
+
+    listed : (v : ViewMap) → IsView v → IsRowList (rows_of v)
+    listed v is = ((omega (arith, is.fits, len-rows_of v), omega (arith, is.fits, len-rows_of v)), run_of_rows 1 (rows_of v) (ids_above (rows_of v) is.rows) (rising_rows_of v) is.rows)
+
+pub view_is_found : (bytes : List ℕ) (r : Result ViewMap WireFault) → IsBytes bytes → Gives (λ v. v) r (whole view_at bytes) → IfOk r (SpellsView bytes)
+view_is_found bytes (Ok v) fits given = let t = whole_takes view_spelled bytes v fits given in record { lawful = t.0; spelled = t.1 }
+view_is_found bytes (Err e) fits given = tt
+
+pub view_is_only : (bytes : List ℕ) (v : ViewMap) → SpellsView bytes v → whole view_at bytes ≡ Ok v
+view_is_only bytes v is = ap (whole view_at) is.spelled ∙ whole_again view_spelled v is.lawful
+
+-- ---- sets of ids
+
+ids_of_run : (least : ℕ) (ids : List ℕ) → 1 ≤ least → IsRun (λ n. n) (λ n. n < 2 ^ 32) least ids → AllByRecursion IsId ids
+ids_of_run least [] le run = tt
+ids_of_run least (id ∷ ids) le run = (record { positive = omega (arith, run.0.1); fits = run.0.0 }, ids_of_run (id + 1) ids (omega arith) run.1)
+
+positive_ids : (ids : List ℕ) → AllByRecursion IsId ids → AllByRecursion (λ n. 1 ≤ n) ids
+positive_ids [] all = tt
+positive_ids (id ∷ ids) all = (all.0.positive, positive_ids ids all.1)
+
+fitting_ids : (ids : List ℕ) → AllByRecursion IsId ids → AllByRecursion (λ n. n < 2 ^ 32) ids
+fitting_ids [] all = tt
+fitting_ids (id ∷ ids) all = (all.0.fits, fitting_ids ids all.1)
+
+pub id_set_spelled : Spelled id_set_at IsIdSet id_set_spelling
+unfolding id_set_at
+id_set_spelled = as_facts IsIdSet
+    (λ s h. record { fits = h.0.1; ids = ids_of_run 1 (items s) (omega arith) h.1 })
+    (λ s h. ((omega (arith, h.fits), h.fits), run_of_ascending 1 (items s) (positive_ids (items s) h.ids) (items_ascending s) (fitting_ids (items s) h.ids)))
+    (as_fields from_list items from_list-items (λ ids h. items-from_list ids (ascending_of_run 1 ids h.1)) (listed_spelled 256 1 u16_spelled))
+
+abbrev changes_fields : ChangeSets → NatSet × (NatSet × NatSet)
+changes_fields c = (c.entered, (c.joined, c.left))
+
+pub changes_spelled : Spelled changes_at IsChanges changes_spelling
+unfolding changes_at
+changes_spelled = as_facts IsChanges
+    (λ c h. record { entered = h.0; joined = h.1.0; left = h.1.1 })
+    (λ c h. (h.entered, (h.joined, h.left)))
+    (as_fields changes_with changes_fields (λ _. refl) (λ _ _. refl) (both id_set_spelled (both id_set_spelled id_set_spelled)))
+
+-- a count within its limit, and so many numbers
+listed_is_read : (count_at : Reading ℕ) (limit least : ℕ) (bytes : List ℕ) (count : ℕ) (after : List ℕ) (s : NatSet) (rest : List ℕ) → count_at bytes ≡ Ok (count, after) → count ≤ limit → numbers_at count least after ≡ Ok (items s, rest)
+    → via from_list (listed_at count_at limit least) bytes ≡ Ok (s, rest)
+unfolding listed_at
+listed_is_read count_at limit least bytes count after s rest counted le read =
+    let test : ltb limit count ≡ false = le-ltb limit count le in
+    rw (counted, test, read) (ap (λ (t : NatSet). Ok (t, rest)) (from_list-items s))
+
+pub number_set_is_read : (bytes : List ℕ) (count : ℕ) (after : List ℕ) (s : NatSet) (rest : List ℕ) → byte_at bytes ≡ Ok (count, after) → count ≤ 32 → numbers_at count 0 after ≡ Ok (items s, rest)
+    → number_set_at bytes ≡ Ok (s, rest)
+unfolding number_set_at
+number_set_is_read = listed_is_read byte_at 32 0
+
+pub number_list_is_read : (bytes : List ℕ) (count : ℕ) (after : List ℕ) (s : NatSet) (rest : List ℕ) → number_at w16 bytes ≡ Ok (count, after) → count ≤ 8192 → numbers_at count 0 after ≡ Ok (items s, rest)
+    → number_list_at bytes ≡ Ok (s, rest)
+unfolding number_list_at
+number_list_is_read = listed_is_read (number_at w16) 8192 0
+
+pub id_set_is_read : (bytes : List ℕ) (count : ℕ) (after : List ℕ) (s : NatSet) (rest : List ℕ) → number_at w16 bytes ≡ Ok (count, after) → count ≤ 256 → numbers_at count 1 after ≡ Ok (items s, rest)
+    → id_set_at bytes ≡ Ok (s, rest)
+unfolding id_set_at
+id_set_is_read = listed_is_read (number_at w16) 256 1

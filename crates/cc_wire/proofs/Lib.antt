@@ -1,0 +1,15 @@
+pub mod Items
+pub mod Views
+pub mod Spelled
+pub mod Writes
+pub mod Formats
+pub mod Whole
+pub mod MessageFormat
+pub mod CommandFormat
+pub mod AnswerFormat
+pub mod EventFormat
+pub mod Lengths
+pub mod FrameFormat
+pub mod Fronts
+pub mod Feeds
+pub mod StreamLaws

@@ -1,0 +1,52 @@
+-- Reading all of the bytes.
+use Rattle.std.proofs.Common.{◌≡◌, ℕ, Bool, true, false, cond, eqb, List, [], ◌++◌, length, Result, Ok, Err, refl, sym, ap, subst, ◌∙◌}
+use Rattle.std.proofs.lemmas.Bool.{eqb-true}
+use Rattle.std.proofs.lemmas.List.{append-nil, nil_from_length}
+use Rattle.cc_wire.specs.declared.fault.WireFault.{WireFault}
+use Rattle.cc_wire.specs.declared.fault.WireFault.TheVariants.{Short, BadKind, NotAscending, TooLarge, Trailing, NoMemory, Broken}
+use Rattle.cc_wire.specs.Reading.{◌>>=◌, Reading, Gives, TakesNoMemory, ended, whole}
+use Rattle.cc_wire.proofs.Spelled.{IsBytes, bind_ok, ok_is, Spelled}
+
+is_ended : (b : Bool) (u : Unit {0}) (d : WireFault) → cond b (Ok tt) (Err d) ≡ Ok u → b ≡ true
+is_ended true u d e = refl
+is_ended false u d e = absurd cc
+
+ended_ok : (rest : List ℕ) (u : Unit {0}) → ended rest ≡ Ok u → rest ≡ []
+unfolding ended
+ended_ok rest u e = nil_from_length rest (eqb-true _ _ (is_ended (eqb (length rest) 0) u Trailing e))
+
+module _ {X : Type 0} {read : Reading X} {Is : X → Type 0} {spelling : X → List ℕ} (spelled : Spelled read Is spelling) where
+  pub whole_takes : (bytes : List ℕ) (x : X) → IsBytes bytes → whole read bytes ≡ Ok x → Is x × (bytes ≡ spelling x)
+  unfolding whole
+  whole_takes bytes x fits e =
+      let a = bind_ok (read bytes) (λ a. ended a.1 >>= λ _. Ok a.0) x e in
+      let b = bind_ok (ended a.0.1) (λ _. Ok a.0.0) x a.2 in
+      let t = spelled.takes bytes a.0.0 a.0.1 fits a.1 in
+      let all : bytes ≡ spelling a.0.0 = t.0.parts ∙ ap (λ (r : List ℕ). spelling a.0.0 ++ r) (ended_ok a.0.1 b.0 b.1) ∙ append-nil (spelling a.0.0) in
+      subst (λ (y : X). Is y × (bytes ≡ spelling y)) (ok_is a.0.0 x b.2) (t.1, all)
+
+  pub whole_again : (x : X) → Is x → whole read (spelling x) ≡ Ok x
+  unfolding whole ended
+  whole_again x is =
+      let e : read (spelling x) ≡ Ok (x, []) = ap read (sym (append-nil (spelling x))) ∙ spelled.again x [] is in
+      rw e refl
+
+  -- no spelling begins another
+  pub one_spelling : (a b u w : List ℕ) (x y : X) → Is x → Is y → a ≡ spelling x → b ≡ spelling y → a ++ u ≡ b ++ w → (x ≡ y) × (a ≡ b)
+  one_spelling a b u w x y is-x is-y a-is b-is e =
+      let first : read (a ++ u) ≡ Ok (x, u) = ap (λ (t : List ℕ). read (t ++ u)) a-is ∙ spelled.again x u is-x in
+      let second : read (b ++ w) ≡ Ok (y, w) = ap (λ (t : List ℕ). read (t ++ w)) b-is ∙ spelled.again y w is-y in
+      let one : (x, u) ≡ (y, w) = ok_is (x, u) (y, w) (sym first ∙ ap read e ∙ second) in
+      let same : x ≡ y = ap (λ (p : X × List ℕ). p.0) one in
+      (same, a-is ∙ ap spelling same ∙ sym b-is)
+
+-- what takes no memory gives just what is read
+pub just_read : {X : Type 0} (r read : Result X WireFault) → TakesNoMemory r → Gives (λ x. x) r read → r ≡ read
+just_read (Ok x) read free given = sym given
+just_read (Err Short) read free given = sym given
+just_read (Err (BadKind k)) read free given = sym given
+just_read (Err NotAscending) read free given = sym given
+just_read (Err TooLarge) read free given = sym given
+just_read (Err Trailing) read free given = sym given
+just_read (Err NoMemory) read free given = absurd (free refl)
+just_read (Err Broken) read free given = sym given

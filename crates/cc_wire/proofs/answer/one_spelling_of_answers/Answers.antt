@@ -1,0 +1,6 @@
+use Rattle.cc_wire.proofs.AnswerFormat.{answer_spelled}
+use Rattle.cc_wire.proofs.Whole.{one_spelling}
+use Rattle.cc_wire.proofs.answer.one_spelling_of_answers.Goals as goal
+
+pub returns : goal.returns
+returns c = λ a b u w x y p q e. one_spelling answer_spelled a b u w x y p.lawful q.lawful p.spelled q.spelled e

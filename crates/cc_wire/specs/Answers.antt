@@ -1,0 +1,39 @@
+-- Answers as bytes: a kind, and then the field.
+use Rattle.std.specs.Prelude.{◌≡◌, ℕ, ◌<◌, ◌^◌, List, [], ◌∷◌, Err, ◌==◌, if◌then◌else◌}
+use Rattle.std.specs.Int.{w64, to_be_bytes}
+use Rattle.cc_wire.specs.declared.fault.WireFault.TheVariants.{BadKind}
+use Rattle.cc_wire.specs.declared.answer.Answer.{Answer}
+use Rattle.cc_wire.specs.declared.answer.Answer.TheVariants.{Stored, Seen, Max, Flag, Set}
+use Rattle.cc_wire.specs.Reading.{◌>>=◌, Reading, via, nothing_at, byte_at, number_at, flag_at, number_list_at, view_at}
+use Rattle.cc_wire.specs.Spelling.{flag_spelling, number_list_spelling, IsNumberList, view_spelling, IsView}
+
+abbrev pub answer_spelling : Answer → List ℕ
+answer_spelling Stored = 1 ∷ []
+answer_spelling (Seen view) = 2 ∷ view_spelling view
+answer_spelling (Max number) = 3 ∷ to_be_bytes w64 number
+answer_spelling (Flag flag) = 4 ∷ flag_spelling flag
+answer_spelling (Set numbers) = 5 ∷ number_list_spelling numbers
+
+abbrev pub IsAnswer : Answer → Type 0
+IsAnswer Stored = Unit {0}
+IsAnswer (Seen view) = IsView view
+IsAnswer (Max number) = number < 2 ^ 64
+IsAnswer (Flag flag) = Unit {0}
+IsAnswer (Set numbers) = IsNumberList numbers
+
+-- the bytes spell the answer
+pub record SpellsAnswer (bytes : List ℕ) (a : Answer) : Type 0 where
+  pub lawful : IsAnswer a
+  pub spelled : bytes ≡ answer_spelling a
+
+abbrev pub answer_fields : ℕ → Reading Answer
+answer_fields kind =
+    if kind == 1 then via (λ _. Stored) nothing_at
+    else (if kind == 2 then via (λ view. Seen view) view_at
+    else (if kind == 3 then via (λ number. Max number) (number_at w64)
+    else (if kind == 4 then via (λ flag. Flag flag) flag_at
+    else (if kind == 5 then via (λ numbers. Set numbers) number_list_at
+    else (λ bytes. Err (BadKind kind))))))
+
+unfoldable pub answer_at : Reading Answer
+answer_at bytes = byte_at bytes >>= λ kind. answer_fields kind.0 kind.1

@@ -1,0 +1,12 @@
+pub mod Reading
+pub mod Writing
+pub mod Spelling
+pub mod Messages
+pub mod Commands
+pub mod Answers
+pub mod Events
+pub mod Refusals
+pub mod Frames
+pub mod Sizes
+pub mod Held
+pub mod Streams

@@ -1,0 +1,229 @@
+//! Events: what happens to a node.
+
+ghost use Rattle.std.specs.Prelude.{◌≡◌, ◌≤◌, ◌+◌, ℕ, List, [], ◌++◌, length, IfOk, OnOk, OnErr, IsOk, Ok, vec_len};
+ghost use Rattle.std.specs.Vec.{vec_capacity};
+ghost use Rattle.cc_wire.specs.Writing.{Writes};
+ghost use Rattle.cc_wire.specs.Reading.{Gives, whole};
+ghost use Rattle.cc_wire.specs.Events.{numbered_spelling, IsNumbered, delivery_spelling, IsDelivery, asked_spelling, IsAsked, place_spelling, IsPlace, event_at, event_spelling, IsEvent, SpellsEvent};
+
+use crate::changes_bytes::put_id;
+use crate::command::{Command, put_command};
+use crate::fault::WireFault;
+use crate::message::{Message, put_message};
+use crate::reader::Reader;
+use crate::writer::{put_u8, put_u64};
+use cc_views::{NoMemory, NodeId};
+use std::alloc::{AllocError, Global};
+
+/// What happens to a node.
+#[derive(Debug, Drop)]
+pub enum Event {
+    /// The node enters the cluster.
+    Enter,
+    /// The node leaves the cluster for good.
+    Leave,
+    /// A message came over the link from a node, as the one with this number.
+    Deliver {
+        from: NodeId,
+        number: u64,
+        message: Message,
+    },
+    /// A node has what was sent to it up to this number.
+    Acked {
+        peer: NodeId,
+        number: u64,
+    },
+    /// A client asks for something: the request with this number in its session.
+    Ask {
+        session: u64,
+        request: u64,
+        command: Command,
+    },
+}
+
+impl Event {
+    /// The same event in memory of its own.
+    pub fn copy(&self, alloc: Global) -> Result<Self, NoMemory>
+        ensures { IfOk result (λ e. e ≡ self.now) }
+    {
+        match self {
+            Event::Enter => Ok(Event::Enter),
+            Event::Leave => Ok(Event::Leave),
+            Event::Deliver {
+                from,
+                number,
+                message,
+            } => Ok(Event::Deliver {
+                from: *from,
+                number: *number,
+                message: message.copy(alloc)?,
+            }),
+            Event::Acked { peer, number } => Ok(Event::Acked {
+                peer: *peer,
+                number: *number,
+            }),
+            Event::Ask {
+                session,
+                request,
+                command,
+            } => Ok(Event::Ask {
+                session: *session,
+                request: *request,
+                command: *command,
+            }),
+        }
+    }
+}
+
+impl<'a> Reader<'a> {
+    #[tactic(auto, unfolding(crate::specs::Events::event_at))]
+    pub(crate) fn event(&mut self, alloc: Global) -> Result<Event, WireFault>
+        ensures { Gives (λ x. (x, self.new)) result (event_at self.old) }
+    {
+        match self.u8()? {
+            1 => Ok(Event::Enter),
+            2 => Ok(Event::Leave),
+            3 => {
+                let from = self.id(1)?;
+                let number = self.u64()?;
+                let message = self.message(alloc)?;
+                Ok(Event::Deliver {
+                    from,
+                    number,
+                    message,
+                })
+            }
+            4 => {
+                let peer = self.id(1)?;
+                let number = self.u64()?;
+                Ok(Event::Acked { peer, number })
+            }
+            5 => {
+                let session = self.u64()?;
+                let request = self.u64()?;
+                let command = self.command()?;
+                Ok(Event::Ask {
+                    session,
+                    request,
+                    command,
+                })
+            }
+            kind => Err(WireFault::BadKind(kind)),
+        }
+    }
+}
+
+pub(crate) fn put_numbered(out: &mut Vec<u8>, node: NodeId, number: u64) -> Result<(), AllocError>
+    ensures writes { Writes out.old out.new (numbered_spelling node number) result }
+    ensures fits { OnOk result (IsNumbered node number) }
+{
+    put_id(out, node)?;
+    put_u64(out, number)
+}
+
+pub(crate) fn put_delivery(
+    out: &mut Vec<u8>,
+    from: NodeId,
+    number: u64,
+    message: &Message,
+) -> Result<(), AllocError>
+    ensures writes { Writes out.old out.new (delivery_spelling from number message.now) result }
+    ensures fits { OnOk result (IsDelivery from number message.now) }
+{
+    put_numbered(out, from, number)?;
+    put_message(out, message)
+}
+
+pub(crate) fn put_place(out: &mut Vec<u8>, session: u64, request: u64) -> Result<(), AllocError>
+    ensures writes { Writes out.old out.new (place_spelling session request) result }
+    ensures fits { IsPlace session request }
+{
+    put_u64(out, session)?;
+    put_u64(out, request)
+}
+
+pub(crate) fn put_asked(
+    out: &mut Vec<u8>,
+    session: u64,
+    request: u64,
+    command: &Command,
+) -> Result<(), AllocError>
+    ensures writes { Writes out.old out.new (asked_spelling session request command.now) result }
+    ensures fits { OnOk result (IsAsked session request command.now) }
+{
+    put_place(out, session, request)?;
+    put_command(out, command)
+}
+
+pub(crate) fn put_event(out: &mut Vec<u8>, event: &Event) -> Result<(), AllocError>
+    ensures writes { Writes out.old out.new (event_spelling event.now) result }
+    ensures fits { OnOk result (IsEvent event.now) }
+{
+    match event {
+        Event::Enter => put_u8(out, 1),
+        Event::Leave => put_u8(out, 2),
+        Event::Deliver {
+            from,
+            number,
+            message,
+        } => {
+            put_u8(out, 3)?;
+            put_delivery(out, *from, *number, message)
+        }
+        Event::Acked { peer, number } => {
+            put_u8(out, 4)?;
+            put_numbered(out, *peer, *number)
+        }
+        Event::Ask {
+            session,
+            request,
+            command,
+        } => {
+            put_u8(out, 5)?;
+            put_asked(out, *session, *request, command)
+        }
+    }
+}
+
+#[tactic(auto, unfolding(crate::specs::Reading::whole))]
+fn decode_all(alloc: Global, bytes: &[u8]) -> Result<Event, WireFault>
+    ensures { Gives (λ x. x) result (whole event_at bytes.now) }
+{
+    let mut reader = Reader::new(bytes);
+    let event = reader.event(alloc)?;
+    reader.end()?;
+    Ok(event)
+}
+
+/// The event that the bytes spell, all of the bytes.
+/// The fault is that of the first field, from left to right, that can't be read.
+pub fn decode_event(alloc: Global, bytes: &[u8]) -> Result<Event, WireFault>
+    // What is read is spelled so.
+    ensures found { IfOk result (λ x. SpellsEvent bytes.now x) }
+    // What is spelled so is read, unless memory runs out.
+    ensures only { (x : Event) → SpellsEvent bytes.now x → Gives (λ x. x) result (Ok x) }
+    // Which fault it is.
+    ensures exact { Gives (λ x. x) result (whole event_at bytes.now) }
+{
+    decode_all(alloc, bytes)
+}
+
+/// Appends the spelling of an event. On an `Err` nothing has changed.
+pub fn encode_event(event: &Event, out: &mut Vec<u8>) -> Result<(), NoMemory>
+    ensures spelled { OnOk result (SpellsEvent (event_spelling event.now) event.now) }
+    ensures ok { OnOk result (out.new.items ≡ out.old.items ++ event_spelling event.now) }
+    ensures err { OnErr result (out.new.items ≡ out.old.items) }
+    ensures room { vec_len out.old + length (event_spelling event.now) ≤ vec_capacity out.old → IsOk result }
+{
+    let start = out.len();
+    if put_event(out, event).is_err() {
+        out.truncate(start);
+        return Err(NoMemory);
+    }
+    Ok(())
+}
+
+/// Each event has one spelling, and none begins another.
+pub fn one_spelling_of_events()
+    ensures { (a b u w : List ℕ) (x y : Event) → SpellsEvent a x → SpellsEvent b y → a ++ u ≡ b ++ w → (x ≡ y) × (a ≡ b) }
+{}

@@ -1,0 +1,37 @@
+//! Messages, commands, answers, events and frames, and how these and views are spelled as bytes. The messages are those
+//! of CCC, and all formats are this project's own. Numbers are big-endian, and each value has one spelling.
+#![tactic(auto)]
+
+mod answer;
+mod changes_bytes;
+mod command;
+mod event;
+mod fault;
+mod frame;
+mod frame_reader;
+mod message;
+mod number_list;
+mod output;
+mod reader;
+mod refusal;
+mod rising;
+mod sizes;
+mod values;
+mod view_bytes;
+mod writer;
+
+pub use answer::{Answer, decode_answer, encode_answer, one_spelling_of_answers};
+pub use command::{Command, decode_command, encode_command, one_spelling_of_commands};
+pub use event::{Event, decode_event, encode_event, one_spelling_of_events};
+pub use fault::WireFault;
+pub use frame::{Frame, decode_frame, encode_frame, one_spelling_of_frames};
+pub use frame_reader::{Fed, FrameReader, feeds_any_cutting};
+pub use message::{Message, decode_message, encode_message, one_spelling_of_messages};
+pub use number_list::NumberList;
+pub use output::Output;
+pub use refusal::Refusal;
+pub use sizes::largest_sizes;
+pub use view_bytes::{decode_view, encode_view, one_spelling_of_views};
+
+#[cfg(test)]
+mod tests;

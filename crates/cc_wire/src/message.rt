@@ -1,0 +1,301 @@
+//! Messages between nodes.
+
+ghost use Rattle.std.specs.Prelude.{◌≡◌, ◌≤◌, ◌+◌, ℕ, List, [], ◌∷◌, ◌++◌, length, IfOk, OnOk, OnErr, IsOk, Ok, vec_len};
+ghost use Rattle.std.specs.Vec.{vec_capacity};
+ghost use Rattle.cc_wire.specs.Writing.{Writes};
+ghost use Rattle.cc_wire.specs.Reading.{Gives, whole};
+ghost use Rattle.cc_wire.specs.Messages.{message_at, message_spelling, IsMessage, SpellsMessage, call_spelling, IsCall, echo_spelling, IsEcho};
+ghost use Rattle.cc_wire.specs.Spelling.{view_spelling, IsView, number_spelling, IsId};
+
+use crate::changes_bytes::{put_changes, put_id};
+use crate::fault::WireFault;
+use crate::reader::Reader;
+use crate::writer::{put_flag, put_u8, put_u32, put_u64, put_view};
+use cc_changes::Changes;
+use cc_views::{NoMemory, NodeId, View};
+use std::alloc::{AllocError, Global};
+
+/// What nodes send to one another (CCC's messages). The node is the one that comes or goes, or that began the operation.
+#[derive(Debug, Drop)]
+pub enum Message {
+    /// The node enters.
+    Enter {
+        node: NodeId,
+    },
+    /// What the sender knows, for a node that enters, and whether the sender has joined.
+    EnterEcho {
+        changes: Changes,
+        view: View,
+        is_joined: bool,
+        node: NodeId,
+    },
+    /// The node has joined.
+    Join {
+        node: NodeId,
+    },
+    /// The sender heard that the node has joined.
+    JoinEcho {
+        node: NodeId,
+    },
+    /// The node leaves.
+    Leave {
+        node: NodeId,
+    },
+    /// The sender heard that the node leaves.
+    LeaveEcho {
+        node: NodeId,
+    },
+    /// Asks for the views of others. The tag tells the phases of the node's operations apart.
+    Query {
+        tag: u64,
+        node: NodeId,
+    },
+    /// The sender's view, for the query with this tag.
+    QueryReply {
+        view: View,
+        tag: u64,
+        node: NodeId,
+    },
+    /// A view to be merged by others.
+    Store {
+        view: View,
+        tag: u64,
+        node: NodeId,
+    },
+    /// The sender has merged the view with this tag.
+    StoreAck {
+        tag: u64,
+        node: NodeId,
+    },
+}
+
+impl Message {
+    /// The same message in memory of its own.
+    pub fn copy(&self, alloc: Global) -> Result<Self, NoMemory>
+        ensures { IfOk result (λ m. m ≡ self.now) }
+    {
+        match self {
+            Message::Enter { node } => Ok(Message::Enter { node: *node }),
+            Message::EnterEcho {
+                changes,
+                view,
+                is_joined,
+                node,
+            } => Ok(Message::EnterEcho {
+                changes: changes.copy(alloc)?,
+                view: view.copy(alloc)?,
+                is_joined: *is_joined,
+                node: *node,
+            }),
+            Message::Join { node } => Ok(Message::Join { node: *node }),
+            Message::JoinEcho { node } => Ok(Message::JoinEcho { node: *node }),
+            Message::Leave { node } => Ok(Message::Leave { node: *node }),
+            Message::LeaveEcho { node } => Ok(Message::LeaveEcho { node: *node }),
+            Message::Query { tag, node } => Ok(Message::Query {
+                tag: *tag,
+                node: *node,
+            }),
+            Message::QueryReply { view, tag, node } => Ok(Message::QueryReply {
+                view: view.copy(alloc)?,
+                tag: *tag,
+                node: *node,
+            }),
+            Message::Store { view, tag, node } => Ok(Message::Store {
+                view: view.copy(alloc)?,
+                tag: *tag,
+                node: *node,
+            }),
+            Message::StoreAck { tag, node } => Ok(Message::StoreAck {
+                tag: *tag,
+                node: *node,
+            }),
+        }
+    }
+}
+
+impl<'a> Reader<'a> {
+    #[tactic(auto, unfolding(crate::specs::Messages::message_at))]
+    pub(crate) fn message(&mut self, alloc: Global) -> Result<Message, WireFault>
+        ensures { Gives (λ x. (x, self.new)) result (message_at self.old) }
+    {
+        match self.u8()? {
+            1 => {
+                let node = self.id(1)?;
+                Ok(Message::Enter { node })
+            }
+            2 => {
+                let changes = self.changes(alloc)?;
+                let view = self.view(alloc)?;
+                let is_joined = self.flag()?;
+                let node = self.id(1)?;
+                Ok(Message::EnterEcho {
+                    changes,
+                    view,
+                    is_joined,
+                    node,
+                })
+            }
+            3 => {
+                let node = self.id(1)?;
+                Ok(Message::Join { node })
+            }
+            4 => {
+                let node = self.id(1)?;
+                Ok(Message::JoinEcho { node })
+            }
+            5 => {
+                let node = self.id(1)?;
+                Ok(Message::Leave { node })
+            }
+            6 => {
+                let node = self.id(1)?;
+                Ok(Message::LeaveEcho { node })
+            }
+            7 => {
+                let tag = self.u64()?;
+                let node = self.id(1)?;
+                Ok(Message::Query { tag, node })
+            }
+            8 => {
+                let view = self.view(alloc)?;
+                let tag = self.u64()?;
+                let node = self.id(1)?;
+                Ok(Message::QueryReply { view, tag, node })
+            }
+            9 => {
+                let view = self.view(alloc)?;
+                let tag = self.u64()?;
+                let node = self.id(1)?;
+                Ok(Message::Store { view, tag, node })
+            }
+            10 => {
+                let tag = self.u64()?;
+                let node = self.id(1)?;
+                Ok(Message::StoreAck { tag, node })
+            }
+            kind => Err(WireFault::BadKind(kind)),
+        }
+    }
+}
+
+#[tactic(auto, unfolding(crate::specs::Reading::whole))]
+fn decode_all(alloc: Global, bytes: &[u8]) -> Result<Message, WireFault>
+    ensures { Gives (λ m. m) result (whole message_at bytes.now) }
+{
+    let mut reader = Reader::new(bytes);
+    let message = reader.message(alloc)?;
+    reader.end()?;
+    Ok(message)
+}
+
+/// The message that the bytes spell, all of the bytes.
+/// The fault is that of the first field, from left to right, that can't be read.
+pub fn decode_message(alloc: Global, bytes: &[u8]) -> Result<Message, WireFault>
+    // What is read is spelled so.
+    ensures found { IfOk result (λ m. SpellsMessage bytes.now m) }
+    // What is spelled so is read, unless memory runs out.
+    ensures only { (m : Message) → SpellsMessage bytes.now m → Gives (λ m. m) result (Ok m) }
+    // Which fault it is.
+    ensures exact { Gives (λ m. m) result (whole message_at bytes.now) }
+{
+    decode_all(alloc, bytes)
+}
+
+fn put_call(out: &mut Vec<u8>, tag: u64, node: NodeId) -> Result<(), AllocError>
+    ensures writes { Writes out.old out.new (call_spelling tag node) result }
+    ensures fits { IsCall tag node }
+{
+    put_u64(out, tag)?;
+    put_u32(out, node.number())
+}
+
+fn put_view_call(out: &mut Vec<u8>, view: &View, tag: u64, node: NodeId) -> Result<(), AllocError>
+    ensures writes { Writes out.old out.new (view_spelling view.now ++ call_spelling tag node) result }
+    ensures fits { OnOk result (IsView view.now × IsCall tag node) }
+{
+    put_view(out, view)?;
+    put_call(out, tag, node)
+}
+
+fn put_echo(
+    out: &mut Vec<u8>,
+    changes: &Changes,
+    view: &View,
+    is_joined: bool,
+    node: NodeId,
+) -> Result<(), AllocError>
+    ensures writes { Writes out.old out.new (echo_spelling changes.now view.now is_joined node) result }
+    ensures fits { OnOk result (IsEcho changes.now view.now node) }
+{
+    put_changes(out, changes)?;
+    put_view(out, view)?;
+    put_flag(out, is_joined)?;
+    put_id(out, node)
+}
+
+// A kind that has a node alone.
+fn put_news(out: &mut Vec<u8>, kind: u8, node: NodeId) -> Result<(), AllocError>
+    ensures writes { Writes out.old out.new (kind ∷ number_spelling node) result }
+    ensures fits { OnOk result (IsId node) }
+{
+    put_u8(out, kind)?;
+    put_id(out, node)
+}
+
+pub(crate) fn put_message(out: &mut Vec<u8>, message: &Message) -> Result<(), AllocError>
+    ensures writes { Writes out.old out.new (message_spelling message.now) result }
+    ensures fits { OnOk result (IsMessage message.now) }
+{
+    match message {
+        Message::Enter { node } => put_news(out, 1, *node),
+        Message::EnterEcho {
+            changes,
+            view,
+            is_joined,
+            node,
+        } => {
+            put_u8(out, 2)?;
+            put_echo(out, changes, view, *is_joined, *node)
+        }
+        Message::Join { node } => put_news(out, 3, *node),
+        Message::JoinEcho { node } => put_news(out, 4, *node),
+        Message::Leave { node } => put_news(out, 5, *node),
+        Message::LeaveEcho { node } => put_news(out, 6, *node),
+        Message::Query { tag, node } => {
+            put_u8(out, 7)?;
+            put_call(out, *tag, *node)
+        }
+        Message::QueryReply { view, tag, node } => {
+            put_u8(out, 8)?;
+            put_view_call(out, view, *tag, *node)
+        }
+        Message::Store { view, tag, node } => {
+            put_u8(out, 9)?;
+            put_view_call(out, view, *tag, *node)
+        }
+        Message::StoreAck { tag, node } => {
+            put_u8(out, 10)?;
+            put_call(out, *tag, *node)
+        }
+    }
+}
+
+/// Appends the spelling of a message. On an `Err` nothing has changed.
+pub fn encode_message(message: &Message, out: &mut Vec<u8>) -> Result<(), NoMemory>
+    ensures spelled { OnOk result (SpellsMessage (message_spelling message.now) message.now) }
+    ensures ok { OnOk result (out.new.items ≡ out.old.items ++ message_spelling message.now) }
+    ensures err { OnErr result (out.new.items ≡ out.old.items) }
+    ensures room { vec_len out.old + length (message_spelling message.now) ≤ vec_capacity out.old → IsOk result }
+{
+    let start = out.len();
+    if put_message(out, message).is_err() {
+        out.truncate(start);
+        return Err(NoMemory);
+    }
+    Ok(())
+}
+
+/// Each message has one spelling, and none begins another.
+pub fn one_spelling_of_messages()
+    ensures { (a b u w : List ℕ) (x y : Message) → SpellsMessage a x → SpellsMessage b y → a ++ u ≡ b ++ w → (x ≡ y) × (a ≡ b) }
+{}

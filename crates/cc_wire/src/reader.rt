@@ -1,0 +1,128 @@
+//! Reading fields from left to right.
+
+ghost use Rattle.std.specs.Prelude.{◌≡◌, ◌≤◌, IfOk, length};
+ghost use Rattle.std.specs.Int.{w16, w32, w64};
+ghost use Rattle.cc_wire.specs.Reading.{Gives, TakesNoMemory, byte_at, bytes_at, number_at, number_from, flag_at, ended};
+
+use crate::fault::WireFault;
+use cc_views::NodeId;
+use std::marker::Model;
+
+/// What is left of some bytes. After an `Err` that is unspecified.
+#[derive(Drop)]
+pub(crate) struct Reader<'a> {
+    rest: &'a [u8],
+}
+
+impl<'a> Model for Reader<'a> {
+    ghost use Rattle.std.specs.Prelude.{ℕ, List};
+
+    ghost Value = { List ℕ };
+
+    ghost view = { λ r. r.rest.now };
+}
+
+impl<'a> Reader<'a> {
+    pub(crate) fn new(bytes: &'a [u8]) -> Self
+        ensures { result ≡ bytes.now }
+    {
+        Reader { rest: bytes }
+    }
+
+    pub(crate) fn u8(&mut self) -> Result<u8, WireFault>
+        ensures exact { Gives (λ x. (x, self.new)) result (byte_at self.old) }
+        ensures free { TakesNoMemory result }
+    {
+        match self.rest {
+            [] => Err(WireFault::Short),
+            [byte, rest @ ..] => {
+                self.rest = rest;
+                Ok(*byte)
+            }
+        }
+    }
+
+    /// The next `count` bytes.
+    pub(crate) fn bytes(&mut self, count: usize) -> Result<&'a [u8], WireFault>
+        ensures exact { Gives (λ x. (x.now, self.new)) result (bytes_at count self.old) }
+        ensures free { TakesNoMemory result }
+        ensures len { IfOk result (λ x. length x.now ≡ count) }
+    {
+        let bytes = self.rest;
+        if bytes.len() < count {
+            return Err(WireFault::Short);
+        }
+        let (front, rest) = bytes.split_at(count);
+        self.rest = rest;
+        Ok(front)
+    }
+
+    pub(crate) fn u16(&mut self) -> Result<u16, WireFault>
+        ensures { Gives (λ x. (x, self.new)) result (number_at w16 self.old) }
+    {
+        let b = self.bytes(2)?;
+        Ok(u16::from_be_bytes([b[0], b[1]]))
+    }
+
+    pub(crate) fn u32(&mut self) -> Result<u32, WireFault>
+        ensures exact { Gives (λ x. (x, self.new)) result (number_at w32 self.old) }
+        ensures free { TakesNoMemory result }
+    {
+        let b = self.bytes(4)?;
+        Ok(u32::from_be_bytes([b[0], b[1], b[2], b[3]]))
+    }
+
+    pub(crate) fn u64(&mut self) -> Result<u64, WireFault>
+        ensures exact { Gives (λ x. (x, self.new)) result (number_at w64 self.old) }
+        ensures free { TakesNoMemory result }
+    {
+        let b = self.bytes(8)?;
+        Ok(u64::from_be_bytes([b[0], b[1], b[2], b[3], b[4], b[5], b[6], b[7]]))
+    }
+
+    /// A number of an ascending list, which is at least `least`.
+    #[tactic(auto, unfolding(crate::specs::Reading::number_from))]
+    pub(crate) fn u32_from(&mut self, least: u64) -> Result<u32, WireFault>
+        ensures exact { Gives (λ x. (x, self.new)) result (number_from least self.old) }
+        ensures least { IfOk result (λ x. least ≤ x) }
+    {
+        let number = self.u32()?;
+        if u64::from(number) < least {
+            return Err(WireFault::NotAscending);
+        }
+        Ok(number)
+    }
+
+    pub(crate) fn id(&mut self, least: u64) -> Result<NodeId, WireFault>
+        requires { 1 ≤ least }
+        ensures exact { Gives (λ x. (x, self.new)) result (number_from least self.old) }
+        ensures least { IfOk result (λ id. least ≤ id) }
+    {
+        let number = self.u32_from(least)?;
+        Ok(NodeId::new(number).unwrap())
+    }
+
+    #[tactic(auto, unfolding(crate::specs::Reading::flag_at))]
+    pub(crate) fn flag(&mut self) -> Result<bool, WireFault>
+        ensures { Gives (λ x. (x, self.new)) result (flag_at self.old) }
+    {
+        match self.u8()? {
+            0 => Ok(false),
+            1 => Ok(true),
+            byte => Err(WireFault::BadKind(byte)),
+        }
+    }
+
+    /// Wants no byte after a value.
+    #[tactic(auto, unfolding(crate::specs::Reading::ended))]
+    pub(crate) fn end(&self) -> Result<(), WireFault>
+        ensures exact { Gives (λ _. tt) result (ended self.now) }
+        ensures free { TakesNoMemory result }
+    {
+        if self.rest.is_empty() {
+            Ok(())
+        } else {
+            Err(WireFault::Trailing)
+        }
+    }
+}
