@@ -1,0 +1,92 @@
+-- What one event does to the view and to the own value.
+--     view_grows               the view only grows
+--     own_number, own_value    the own number counts the writes, and the own value is as the commands made it
+--     .._along                 the same along a list of events
+use Rattle.std.proofs.Common.{◌≡◌, ℕ, ◌+◌, Bool, true, false, List, [], ◌∷◌, refl, sym, ap, ◌∙◌, add-zero, add_assoc}
+use Rattle.std.specs.Prelude.{if◌then◌else◌}
+use Rattle.std.specs.List.{sum_by}
+use Rattle.std.proofs.lemmas.List.Sums.{sum_by-cons}
+use Rattle.cc_views.specs.Rows.{ViewMap}
+use Rattle.cc_views.specs.Merge.{IsAtMost}
+use Rattle.cc_views.specs.MergeLaws.{at_most_same, at_most_merge, at_most_trans}
+use Rattle.cc_wire.specs.declared.event.Event.{Event}
+use Rattle.cc_wire.specs.declared.event.Event.TheVariants as event
+use Rattle.cc_wire.specs.declared.message.Message.{Message}
+use Rattle.cc_wire.specs.declared.message.Message.TheVariants as message
+use Rattle.cc_ops.specs.declared.pending.Asked.{Asked}
+use Rattle.cc_ops.specs.Commands.{is_writing}
+use Rattle.cc_ops.specs.Ops.{Ops, Phase, Idle, Storing, Querying, StoringBack, after_ask, after_reply, after_message}
+use Rattle.cc_ops.specs.OwnLaws.{message_keeps, ask_number, ask_mine}
+use Rattle.cc_node.specs.Core.{Core, quorum, next}
+use Rattle.cc_node.specs.Node.{Node, step, after}
+use Rattle.cc_node.specs.Writes.{writes, mine_after, mine_along}
+
+-- one of two states, of which each has at least the view
+either_grows : (b : Bool) (v : ViewMap) (s t : Ops) → IsAtMost v s.view → IsAtMost v t.view → IsAtMost v (if b then s else t).view
+either_grows true v s t h k = h
+either_grows false v s t h k = k
+
+reply_grows : (quorum : ℕ) (v : ViewMap) (phase : Phase) (s : Ops) → IsAtMost s.view (after_reply quorum v phase s).view
+reply_grows quorum v Idle s = at_most_same s.view
+reply_grows quorum v (Storing p) s = at_most_same s.view
+reply_grows quorum v (Querying p) s = either_grows _ s.view _ _ (at_most_merge s.view v) (at_most_merge s.view v)
+reply_grows quorum v (StoringBack p seen) s = at_most_same s.view
+
+message_grows : (me quorum : ℕ) (m : Message) (s : Ops) → IsAtMost s.view (after_message me quorum m s).view
+message_grows me quorum (message.Enter q) s = at_most_same s.view
+message_grows me quorum (message.EnterEcho c v j q) s = at_most_merge s.view v
+message_grows me quorum (message.Join q) s = at_most_same s.view
+message_grows me quorum (message.JoinEcho q) s = at_most_same s.view
+message_grows me quorum (message.Leave q) s = at_most_same s.view
+message_grows me quorum (message.LeaveEcho q) s = at_most_same s.view
+message_grows me quorum (message.Query tag q) s = at_most_same s.view
+message_grows me quorum (message.QueryReply v tag q) s = either_grows _ s.view _ _ (reply_grows quorum v s.phase s) (at_most_same s.view)
+message_grows me quorum (message.Store v tag q) s = at_most_merge s.view v
+message_grows me quorum (message.StoreAck tag q) s = either_grows _ s.view _ _ (at_most_same s.view) (at_most_same s.view)
+
+ask_grows : (me quorum : ℕ) (a : Asked) (s : Ops) → IsAtMost s.view (after_ask me quorum a s).view
+ask_grows me quorum a s = either_grows (is_writing a.command) s.view _ _ (at_most_merge s.view _) (at_most_same s.view)
+
+pub view_grows : (c : Core) (e : Event) → IsAtMost c.ops.view (next c e).ops.view
+unfolding next
+view_grows c event.Enter = at_most_same c.ops.view
+view_grows c event.Leave = at_most_same c.ops.view
+view_grows c (event.Deliver from n m) = message_grows c.me _ m c.ops
+view_grows c (event.Acked peer n) = at_most_same c.ops.view
+view_grows c (event.Ask s r command) = ask_grows c.me _ _ c.ops
+
+pub own_number : (c : Core) (e : Event) → (next c e).ops.number ≡ c.ops.number + writes e
+unfolding next
+own_number c event.Enter = sym (add-zero c.ops.number)
+own_number c event.Leave = sym (add-zero c.ops.number)
+own_number c (event.Deliver from n m) = (message_keeps c.me _ m c.ops).number ∙ sym (add-zero c.ops.number)
+own_number c (event.Acked peer n) = sym (add-zero c.ops.number)
+own_number c (event.Ask s r command) = ask_number c.me _ _ c.ops
+
+pub own_value : (c : Core) (e : Event) → (next c e).ops.mine ≡ mine_after e c.ops.mine
+unfolding next
+own_value c event.Enter = refl
+own_value c event.Leave = refl
+own_value c (event.Deliver from n m) = (message_keeps c.me _ m c.ops).mine
+own_value c (event.Acked peer n) = refl
+own_value c (event.Ask s r k) = ask_mine c.me (quorum c) (record { session = s; request = r; command = k }) c.ops
+
+-- ---- along a list of events
+
+pub view_grows_along : (n : Node) (es : List Event) → IsAtMost n.core.ops.view (after n es).core.ops.view
+unfolding step
+view_grows_along n [] = at_most_same n.core.ops.view
+view_grows_along n (e ∷ es) =
+    at_most_trans n.core.ops.view (next n.core e).ops.view (after (step n e) es).core.ops.view (view_grows n.core e) (view_grows_along (step n e) es)
+
+pub own_number_along : (n : Node) (es : List Event) → (after n es).core.ops.number ≡ n.core.ops.number + sum_by writes es
+unfolding step
+own_number_along n [] = sym (add-zero n.core.ops.number)
+own_number_along n (e ∷ es) =
+    own_number_along (step n e) es ∙ ap (λ k. k + sum_by writes es) (own_number n.core e)
+    ∙ add_assoc n.core.ops.number (writes e) (sum_by writes es) ∙ sym (ap (λ k. n.core.ops.number + k) (sum_by-cons writes e es))
+
+pub own_value_along : (n : Node) (es : List Event) → (after n es).core.ops.mine ≡ mine_along n.core.ops.mine es
+unfolding step
+own_value_along n [] = refl
+own_value_along n (e ∷ es) = own_value_along (step n e) es ∙ ap (λ v. mine_along v es) (own_value n.core e)

@@ -1,0 +1,273 @@
+-- Whoever a message names has a link, so whoever a node comes to know has one, and no quorum is more than can be known.
+--     AllListed, message_known           each id of a list has a link;  so each id of a message has one
+--     KeepsChurn, message_churn          what coming and going keeps
+--     left_stays                         who left has left for good
+--     KeepsOps, message_ops, ask_ops     what the client and the server keep
+use Rattle.std.proofs.Common.{◌≡◌, ℕ, ◌+◌, ◌<◌, ◌≤◌, Bool, true, false, cond, ◌&&◌, nat_eq, List, [], ◌∷◌, ◌++◌, refl, sym, ap, ◌∙◌, inl, inr, arith}
+use Rattle.std.specs.Prelude.{IsTrue, Some, ◌==◌}
+use Rattle.std.specs.List.{list_any}
+use Rattle.std.specs.Ordering.{nat_cmp}
+use Rattle.std.specs.FinMap as table
+use Rattle.std.specs.FinMap.{FinMap}
+use Rattle.std.proofs.lemmas.Bool.{cond_both, eq-eqb, eqb-false, or_cases, or_left, or_right}
+use Rattle.std.proofs.lemmas.List.Folds.{list_any-append}
+use Rattle.cc_views.specs.NatSets as set
+use Rattle.cc_views.specs.NatSets.{NatSet, IsWithin, contains-keys, contains-union, contains-insert, len_within, get-insert_key}
+use Rattle.cc_views.specs.Rows.{Pair, ViewMap, single}
+use Rattle.cc_views.specs.Merge.{merge}
+use Rattle.cc_views.specs.MergeLaws.{merge_within}
+use Rattle.cc_views.specs.MapLaws.{within_insert, insert_within, empty_within}
+use Rattle.cc_changes.specs.ChangeSets.{ChangeSets, present, members, add_enter, add_join, add_leave, union}
+use Rattle.cc_changes.specs.ChangeLaws.{IsAmong, enter_among, join_among, leave_among, union_among, present_within, members_within, need_within}
+use Rattle.cc_changes.specs.Need.{IsShare, needed}
+use Rattle.cc_changes.specs.declared.fraction.Fraction.{Fraction}
+use Rattle.cc_wire.specs.declared.message.Message.{Message}
+use Rattle.cc_wire.specs.declared.message.Message.TheVariants as message
+use Rattle.cc_churn.specs.Churn as churn
+use Rattle.cc_churn.specs.Churn.{Churn}
+use Rattle.cc_ops.specs.Commands.{is_writing}
+use Rattle.cc_ops.specs.Ops as ops
+use Rattle.cc_ops.specs.Ops.{Ops, Phase, Idle, Storing, Querying, StoringBack}
+use Rattle.cc_ops.specs.declared.pending.Asked.{Asked}
+use Rattle.cc_ops.specs.declared.pending.Pending.{Pending}
+use Rattle.cc_links.specs.Links.{Links}
+use Rattle.cc_sessions.specs.Sessions.{Requests}
+use Rattle.cc_node.specs.Core.{ids_of}
+use Rattle.cc_node.specs.Refusals.{known_limit}
+use Rattle.cc_node.specs.Lawful.{IsKnown, IsPendingIn, IsPhaseOf}
+
+pub same_number : (n : ℕ) → nat_eq n n ≡ true
+same_number n = eq-eqb n n refl
+
+-- ---- the ids of a message
+
+abbrev pub AllListed : Links → List ℕ → Type 0
+AllListed ls qs = (q : ℕ) → list_any (nat_eq q) qs ≡ true → IsKnown ls q
+
+first_listed : (ls : Links) (xs ys : List ℕ) → AllListed ls (xs ++ ys) → AllListed ls xs
+first_listed ls xs ys h q k = h q (list_any-append (nat_eq q) xs ys ∙ or_left _ _ k)
+
+second_listed : (ls : Links) (xs ys : List ℕ) → AllListed ls (xs ++ ys) → AllListed ls ys
+second_listed ls xs ys h q k = h q (list_any-append (nat_eq q) xs ys ∙ or_right _ _ k)
+
+head_listed : (ls : Links) (x : ℕ) (xs : List ℕ) → AllListed ls (x ∷ xs) → IsKnown ls x
+head_listed ls x xs h = h x (or_left _ _ (same_number x))
+
+pub tail_listed : (ls : Links) (x : ℕ) (xs : List ℕ) → AllListed ls (x ∷ xs) → AllListed ls xs
+tail_listed ls x xs h q k = h q (or_right _ _ k)
+
+keys_listed : {X : Type 0} (ls : Links) (m : FinMap nat_cmp X) → AllListed ls (table.keys m) → IsWithin m ls
+keys_listed ls m h q k = h q (sym (contains-keys m q) ∙ k)
+
+abbrev pub MessageKnown : Links → Message → Type 0
+MessageKnown ls (message.Enter q) = IsKnown ls q
+MessageKnown ls (message.EnterEcho c v from_joined q) = IsAmong c ls × IsWithin v ls
+MessageKnown ls (message.Join q) = IsKnown ls q
+MessageKnown ls (message.JoinEcho q) = IsKnown ls q
+MessageKnown ls (message.Leave q) = IsKnown ls q
+MessageKnown ls (message.LeaveEcho q) = IsKnown ls q
+MessageKnown ls (message.Query tag q) = IsKnown ls q
+MessageKnown ls (message.QueryReply v tag q) = IsWithin v ls
+MessageKnown ls (message.Store v tag q) = IsWithin v ls
+MessageKnown ls (message.StoreAck tag q) = IsKnown ls q
+
+pub message_known : (ls : Links) (m : Message) → AllListed ls (ids_of m) → MessageKnown ls m
+message_known ls (message.Enter q) h = head_listed ls q [] h
+message_known ls (message.EnterEcho c v j q) h =
+    let e = set.items c.entered in
+    let k = set.items c.joined in
+    let l = set.items c.left in
+    let three = first_listed ls (q ∷ e ++ k ++ l) (table.keys v) h in
+    let two = first_listed ls (q ∷ e ++ k) l three in (
+      record {
+        entered = keys_listed ls c.entered (tail_listed ls q e (first_listed ls (q ∷ e) k two));
+        joined = keys_listed ls c.joined (second_listed ls (q ∷ e) k two);
+        left = keys_listed ls c.left (second_listed ls (q ∷ e ++ k) l three);
+      },
+      keys_listed ls v (second_listed ls (q ∷ e ++ k ++ l) (table.keys v) h),
+    )
+message_known ls (message.Join q) h = head_listed ls q [] h
+message_known ls (message.JoinEcho q) h = head_listed ls q [] h
+message_known ls (message.Leave q) h = head_listed ls q [] h
+message_known ls (message.LeaveEcho q) h = head_listed ls q [] h
+message_known ls (message.Query tag q) h = head_listed ls q [] h
+message_known ls (message.QueryReply v tag q) h = keys_listed ls v (tail_listed ls q (table.keys v) h)
+message_known ls (message.Store v tag q) h = keys_listed ls v (tail_listed ls q (table.keys v) h)
+message_known ls (message.StoreAck tag q) h = head_listed ls q [] h
+
+-- ---- changes
+
+union_within : {X : Type 0} (s t : NatSet) (m : FinMap nat_cmp X) → IsWithin s m → IsWithin t m → IsWithin (set.union s t) m
+union_within s t m h k q j =
+    elim (or_cases (set.contains s q) (set.contains t q) (sym (contains-union s t q) ∙ j)) as (λ _. IsTrue (table.contains_key m q)) [ inl e ↦ h q e | inr e ↦ k q e ]
+
+first_in_union : (s t : NatSet) → IsWithin s (set.union s t)
+first_in_union s t q h = contains-union s t q ∙ or_left _ _ h
+
+second_in_union : (s t : NatSet) → IsWithin t (set.union s t)
+second_in_union s t q h = contains-union s t q ∙ or_right _ _ h
+
+pub among_more : (ls ms : Links) (c : ChangeSets) → IsWithin ls ms → IsAmong c ls → IsAmong c ms
+among_more ls ms c more h = record { entered = λ q k. more q (h.entered q k); joined = λ q k. more q (h.joined q k); left = λ q k. more q (h.left q k) }
+
+-- whoever changes name has a link, and who joined has entered
+pub record KeepsChanges (ls : Links) (c : ChangeSets) : Type 0 where
+  pub known : IsAmong c ls
+  pub joined : IsWithin c.joined c.entered
+
+pub enter_changes : (ls : Links) (c : ChangeSets) (q : ℕ) → IsKnown ls q → KeepsChanges ls c → KeepsChanges ls (add_enter c q)
+enter_changes ls c q k h = record { known = enter_among ls c h.known q k; joined = λ x j. within_insert c.entered q tt x (h.joined x j) }
+
+join_changes : (ls : Links) (c : ChangeSets) (q : ℕ) → IsKnown ls q → KeepsChanges ls c → KeepsChanges ls (add_join c q)
+join_changes ls c q k h = record {
+  known = join_among ls c h.known q k;
+  joined = insert_within c.joined (set.insert c.entered q) q tt (λ x j. within_insert c.entered q tt x (h.joined x j))
+      (contains-insert c.entered q q ∙ or_left _ _ (same_number q));
+}
+
+pub leave_changes : (ls : Links) (c : ChangeSets) (q : ℕ) → IsKnown ls q → KeepsChanges ls c → KeepsChanges ls (add_leave c q)
+leave_changes ls c q k h = record { known = leave_among ls c h.known q k; joined = h.joined }
+
+union_changes : (ls : Links) (c d : ChangeSets) → IsAmong d ls → KeepsChanges ls c → KeepsChanges ls (union c d)
+union_changes ls c d k h = record {
+  known = union_among ls c h.known d k;
+  joined = union_within c.joined d.joined (set.union c.entered (set.union d.entered d.joined))
+      (λ q j. first_in_union c.entered (set.union d.entered d.joined) q (h.joined q j))
+      (λ q j. second_in_union c.entered (set.union d.entered d.joined) q (second_in_union d.entered d.joined q j));
+}
+
+pub record KeepsChurn (ls : Links) (s : Churn) : Type 0 where
+  pub changes : KeepsChanges ls s.changes
+  pub need : s.need ≤ known_limit
+
+present_fits : (ls : Links) (c : ChangeSets) → IsAmong c ls → table.len ls ≤ known_limit → set.len (present c) ≤ known_limit
+present_fits ls c h k = let a = len_within (present c) ls (present_within ls c h) in omega arith
+
+pub members_fit : (ls : Links) (c : ChangeSets) → IsAmong c ls → table.len ls ≤ known_limit → set.len (members c) ≤ known_limit
+members_fit ls c h k = let a = len_within (members c) ls (members_within ls c h) in omega arith
+
+need_churn : (ls : Links) (gamma : Fraction) (j : Bool) (s : Churn) → IsShare gamma → table.len ls ≤ known_limit → KeepsChurn ls s → KeepsChurn ls (churn.with_need gamma j s)
+need_churn ls gamma j s share few h =
+    cond_both (j && (s.need == 0)) (record s { need = needed gamma (set.len (present s.changes)) }) s (KeepsChurn ls)
+    (λ _. record { changes = h.changes; need = need_within gamma (set.len (present s.changes)) known_limit share (present_fits ls s.changes h.changes.known few) (omega arith) })
+    (λ _. h)
+
+joined_churn : (ls : Links) (me : ℕ) (s : Churn) → IsKnown ls me → KeepsChurn ls s → KeepsChurn ls (churn.joined_if_answered me s)
+joined_churn ls me s k h =
+    cond_both (churn.is_answered s) (record s { changes = add_join s.changes me }) s (KeepsChurn ls)
+    (λ _. record { changes = join_changes ls s.changes me k h.changes; need = h.need }) (λ _. h)
+
+pub message_churn : (ls : Links) (me : ℕ) (gamma : Fraction) (m : Message) (s : Churn) → IsShare gamma → table.len ls ≤ known_limit → IsKnown ls me → MessageKnown ls m
+    → KeepsChurn ls s → KeepsChurn ls (churn.after_message me gamma m s)
+message_churn ls me gamma (message.Enter q) s share few own k h = record { changes = enter_changes ls s.changes q k h.changes; need = h.need }
+message_churn ls me gamma (message.EnterEcho c v j q) s share few own k h =
+    let t = churn.united c s in
+    let u : KeepsChurn ls t = record { changes = union_changes ls s.changes c k.0 h.changes; need = h.need } in
+    let n = need_churn ls gamma j t share few u in
+    cond_both (churn.counts_for me q t) (churn.echoed me gamma j t) t (KeepsChurn ls)
+    (λ _. joined_churn ls me (churn.with_echo (churn.with_need gamma j t)) own (record { changes = n.changes; need = n.need })) (λ _. u)
+message_churn ls me gamma (message.Join q) s share few own k h = record { changes = join_changes ls s.changes q k h.changes; need = h.need }
+message_churn ls me gamma (message.JoinEcho q) s share few own k h = record { changes = join_changes ls s.changes q k h.changes; need = h.need }
+message_churn ls me gamma (message.Leave q) s share few own k h = record { changes = leave_changes ls s.changes q k h.changes; need = h.need }
+message_churn ls me gamma (message.LeaveEcho q) s share few own k h = record { changes = leave_changes ls s.changes q k h.changes; need = h.need }
+message_churn ls me gamma (message.Query tag q) s share few own k h = h
+message_churn ls me gamma (message.QueryReply v tag q) s share few own k h = h
+message_churn ls me gamma (message.Store v tag q) s share few own k h = h
+message_churn ls me gamma (message.StoreAck tag q) s share few own k h = h
+
+-- who left has left for good
+pub left_stays : (me : ℕ) (gamma : Fraction) (m : Message) (s : Churn) → IsWithin s.changes.left (churn.after_message me gamma m s).changes.left
+left_stays me gamma (message.Enter q) s x h = h
+left_stays me gamma (message.EnterEcho c v j q) s x h =
+    let t = churn.united c s in
+    let l = set.union s.changes.left c.left in
+    let here : IsTrue (set.contains l x) = first_in_union s.changes.left c.left x h in
+    let P : Churn → Type 0 = λ u. IsTrue (set.contains u.changes.left x) in
+    let n : P (churn.with_need gamma j t) = cond_both (j && (t.need == 0)) (record t { need = needed gamma (set.len (present t.changes)) }) t P (λ _. here) (λ _. here) in
+    let w = churn.with_echo (churn.with_need gamma j t) in
+    cond_both (churn.counts_for me q t) (churn.joined_if_answered me w) t P
+    (λ _. cond_both (churn.is_answered w) (record w { changes = add_join w.changes me }) w P (λ _. n) (λ _. n)) (λ _. here)
+left_stays me gamma (message.Join q) s x h = h
+left_stays me gamma (message.JoinEcho q) s x h = h
+left_stays me gamma (message.Leave q) s x h = within_insert s.changes.left q tt x h
+left_stays me gamma (message.LeaveEcho q) s x h = within_insert s.changes.left q tt x h
+left_stays me gamma (message.Query tag q) s x h = h
+left_stays me gamma (message.QueryReply v tag q) s x h = h
+left_stays me gamma (message.Store v tag q) s x h = h
+left_stays me gamma (message.StoreAck tag q) s x h = h
+
+-- ---- views and phases
+
+phase_more : (ls ms : Links) (ss : Requests) (p : Phase) → IsWithin ls ms → IsPhaseOf ls ss p → IsPhaseOf ms ss p
+phase_more ls ms ss Idle more h = tt
+phase_more ls ms ss (Storing p) more h = h
+phase_more ls ms ss (Querying p) more h = h
+phase_more ls ms ss (StoringBack p seen) more h = (h.0, h.1, λ q k. more q (h.2 q k))
+
+pub record KeepsOps (ls : Links) (ss : Requests) (s : Ops) : Type 0 where
+  pub view : IsWithin s.view ls
+  pub phase : IsPhaseOf ls ss s.phase
+
+pub ops_more : (ls ms : Links) (ss : Requests) (s : Ops) → IsWithin ls ms → KeepsOps ls ss s → KeepsOps ms ss s
+ops_more ls ms ss s more h = record { view = λ q k. more q (h.view q k); phase = phase_more ls ms ss s.phase more h.phase }
+
+counted_more : (ss : Requests) (p : Pending) → ops.is_last p ≡ false → IsPendingIn ss p → IsPendingIn ss (ops.counted p)
+counted_more ss p last h = record {
+  session = h.session;
+  need = h.need;
+  count = let apart : p.count + 1 ≡ p.need → ⊥ = eqb-false (p.count + 1) p.need last in omega (arith, h.count, apart);
+}
+
+reply_ops : (ls : Links) (ss : Requests) (quorum : ℕ) (v : ViewMap) (phase : Phase) (s : Ops) → 0 < quorum → quorum ≤ known_limit → IsWithin v ls
+    → KeepsOps ls ss s → IsPhaseOf ls ss phase → KeepsOps ls ss (ops.after_reply quorum v phase s)
+reply_ops ls ss quorum v Idle s some few k h i = h
+reply_ops ls ss quorum v (Storing p) s some few k h i = h
+reply_ops ls ss quorum v (Querying p) s some few k h i =
+    let all : IsWithin (merge s.view v) ls = merge_within s.view v ls h.view k in
+    cond_both (ops.is_last p)
+    (ops.next_round (StoringBack (ops.begun quorum p.asked) (merge s.view v)) (ops.merged v s))
+    (record (ops.merged v s) { phase = Querying (ops.counted p) })
+    (KeepsOps ls ss)
+    (λ _. record { view = all; phase = (record { session = i.0.session; need = few; count = some }, i.1, all) })
+    (λ last. record { view = all; phase = (counted_more ss p last i.0, i.1) })
+reply_ops ls ss quorum v (StoringBack p seen) s some few k h i = h
+
+ack_phase : (ls : Links) (ss : Requests) (phase : Phase) → IsPhaseOf ls ss phase → IsPhaseOf ls ss (ops.after_ack phase)
+ack_phase ls ss Idle h = tt
+ack_phase ls ss (Storing p) h = cond_both (ops.is_last p) Idle (Storing (ops.counted p)) (IsPhaseOf ls ss) (λ _. tt) (λ last. (counted_more ss p last h.0, h.1))
+ack_phase ls ss (Querying p) h = h
+ack_phase ls ss (StoringBack p seen) h =
+    cond_both (ops.is_last p) Idle (StoringBack (ops.counted p) seen) (IsPhaseOf ls ss) (λ _. tt) (λ last. (counted_more ss p last h.0, h.1, h.2))
+
+pub message_ops : (ls : Links) (ss : Requests) (me quorum : ℕ) (m : Message) (s : Ops) → 0 < quorum → quorum ≤ known_limit → MessageKnown ls m
+    → KeepsOps ls ss s → KeepsOps ls ss (ops.after_message me quorum m s)
+message_ops ls ss me quorum (message.Enter q) s some few k h = h
+message_ops ls ss me quorum (message.EnterEcho c v j q) s some few k h = record { view = merge_within s.view v ls h.view k.1; phase = h.phase }
+message_ops ls ss me quorum (message.Join q) s some few k h = h
+message_ops ls ss me quorum (message.JoinEcho q) s some few k h = h
+message_ops ls ss me quorum (message.Leave q) s some few k h = h
+message_ops ls ss me quorum (message.LeaveEcho q) s some few k h = h
+message_ops ls ss me quorum (message.Query tag q) s some few k h = h
+message_ops ls ss me quorum (message.QueryReply v tag q) s some few k h =
+    cond_both (ops.is_own me tag q s) (ops.after_reply quorum v s.phase s) s (KeepsOps ls ss) (λ _. reply_ops ls ss quorum v s.phase s some few k h h.phase) (λ _. h)
+message_ops ls ss me quorum (message.Store v tag q) s some few k h = record { view = merge_within s.view v ls h.view k; phase = h.phase }
+message_ops ls ss me quorum (message.StoreAck tag q) s some few k h =
+    cond_both (ops.is_own me tag q s) (record s { phase = ops.after_ack s.phase }) s (KeepsOps ls ss)
+    (λ _. record { view = h.view; phase = ack_phase ls ss s.phase h.phase }) (λ _. h)
+
+pub ask_ops : (ls : Links) (ss : Requests) (me quorum : ℕ) (a : Asked) (s : Ops) → 0 < quorum → quorum ≤ known_limit → IsKnown ls me
+    → KeepsOps ls ss s → KeepsOps ls (table.insert ss a.session a.request) (ops.after_ask me quorum a s)
+ask_ops ls ss me quorum a s some few own h =
+    let now = table.insert ss a.session a.request in
+    let pending : IsPendingIn now (ops.begun quorum a) = record {
+      session = get-insert_key ss a.session a.request a.session ∙ ap (λ b. cond b (Some a.request) (table.get ss a.session)) (same_number a.session);
+      need = few;
+      count = some;
+    } in
+    let w = ops.with_own_row me (ops.with_written a.command s) in
+    cond_both (is_writing a.command) (ops.next_round (Storing (ops.begun quorum a)) w) (ops.next_round (Querying (ops.begun quorum a)) s) (KeepsOps ls now)
+    (λ writes. record {
+      view = merge_within s.view (single (record { node = me; number = s.number + 1; value = w.mine })) ls h.view (insert_within table.empty ls me (s.number + 1, w.mine) (empty_within Pair ls) own);
+      phase = (pending, writes);
+    })
+    (λ reads. record { view = h.view; phase = (pending, reads) })

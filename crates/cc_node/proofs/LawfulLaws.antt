@@ -1,0 +1,431 @@
+-- An event that isn't refused leaves a lawful node lawful.
+--     next_core, step_lawful        the core, and the node
+--     lowest_next                   lowest doesn't fall
+--     links_go_on, left_grows       no link is lost or falls back, and who left has left for good
+use Rattle.std.proofs.Common.{◌≡◌, ℕ, ◌+◌, ◌<◌, ◌≤◌, Bool, true, false, cond, not, ◌||◌, ◌&&◌, nat_eq, nat_lt, List, [], ◌∷◌, refl, sym, ap, subst, ◌∙◌, inl, inr, arith}
+use Rattle.std.specs.Prelude.{Option, Some, None, IfSome, IsTrue, is_some, ◌==◌}
+use Rattle.std.specs.Option.{option_len, option_map_or, unwrap_or}
+use Rattle.std.specs.List.{list_any}
+use Rattle.std.specs.FinMap as table
+use Rattle.std.proofs.lemmas.Bool.{cond_both, or_parts, or_left, and_cases, eqb-false, ltb-false, leb-false}
+use Rattle.std.proofs.lemmas.Bool.Decides.{eqb_tells}
+use Rattle.cc_views.specs.NatSets as set
+use Rattle.cc_views.specs.NatSets.{IsWithin, get-insert_key}
+use Rattle.cc_views.specs.MapLaws.{all_insert, within_insert}
+use Rattle.cc_views.specs.Rows.{ViewMap}
+use Rattle.cc_views.specs.Merge.{merge}
+use Rattle.cc_views.specs.Limits.{counter_limit}
+use Rattle.cc_views.specs.declared.value.Value.{Value}
+use Rattle.cc_changes.specs.declared.fraction.Fraction.{Fraction}
+use Rattle.cc_changes.specs.ChangeSets.{add_join, present}
+use Rattle.cc_changes.specs.ChangeLaws.{need_within, need_positive}
+use Rattle.cc_changes.specs.Need.{needed}
+use Rattle.cc_wire.specs.declared.command.Command.{Command}
+use Rattle.cc_wire.specs.declared.command.Command.TheVariants as command
+use Rattle.cc_wire.specs.declared.event.Event.{Event}
+use Rattle.cc_wire.specs.declared.event.Event.TheVariants as event
+use Rattle.cc_wire.specs.declared.message.Message.{Message}
+use Rattle.cc_wire.specs.declared.message.Message.TheVariants as message
+use Rattle.cc_churn.specs.Churn as churn
+use Rattle.cc_churn.specs.Churn.{Churn}
+use Rattle.cc_ops.specs.Commands.{is_writing, written, finds_no_room, set_limit}
+use Rattle.cc_ops.specs.Ops as ops
+use Rattle.cc_ops.specs.Ops.{Ops, Phase, Idle, Storing, Querying, StoringBack}
+use Rattle.cc_ops.specs.declared.pending.Asked.{Asked}
+use Rattle.cc_links.specs.Links.{Link, Links, new_link, with_row, add_absent, add_all, hear, ack, heard_from, IsLinkWithin, LinksWithin}
+use Rattle.cc_links.specs.LinkLaws.{LinksGoOn, go_same, go_then, add_all_goes, hear_goes, ack_goes, go_within, lowest_within, lowest_grows, links_more_posts, add_all_links, hear_links, ack_links, contains-add_all, hear_len, ack_len}
+use Rattle.cc_sessions.specs.Sessions.{Requests, last_request, begin_fits}
+use Rattle.cc_node.specs.Core.{Core, quorum, ids_of, next, post, reply, lowest}
+use Rattle.cc_node.specs.Writes.{writes}
+use Rattle.cc_node.specs.Refusals.{known_limit, decides}
+use Rattle.cc_node.specs.Node.{Node, step}
+use Rattle.cc_node.specs.Lawful.{CountsWithin, KeepsAnswers, IsLawfulCore, IsLawfulNode}
+use Rattle.cc_node.proofs.CoreLaws.{own_number, own_value}
+use Rattle.cc_node.proofs.KnownLaws.{same_number, AllListed, tail_listed, MessageKnown, message_known, among_more, KeepsChanges, enter_changes, leave_changes, KeepsChurn, members_fit, message_churn, left_stays, KeepsOps, ops_more, message_ops, ask_ops}
+use Rattle.cc_node.proofs.KeptLaws.{step_posts, posted, message_answers, ask_answers}
+use Rattle.cc_node.proofs.RefusalLaws.{Fits, takes_enter, takes_leave, takes_delivery, takes_ack, takes_ask, takes_any, stays_within, none_overruns}
+
+-- ---- counters rise by one at most
+
+writes_one : (e : Event) → writes e ≤ 1
+writes_one event.Enter = omega arith
+writes_one event.Leave = omega arith
+writes_one (event.Deliver from n m) = omega arith
+writes_one (event.Acked peer n) = omega arith
+writes_one (event.Ask s r command) = cond_both (is_writing command) 1 0 (λ n. n ≤ 1) (λ _. omega arith) (λ _. omega arith)
+
+one_post : (p : Option Message) → option_len p ≤ 1
+one_post None = omega arith
+one_post (Some m) = omega arith
+
+reply_tag : (quorum : ℕ) (v : ViewMap) (phase : Phase) (s : Ops) → (ops.after_reply quorum v phase s).tag ≤ s.tag + 1
+reply_tag quorum v Idle s = omega arith
+reply_tag quorum v (Storing p) s = omega arith
+reply_tag quorum v (Querying p) s =
+    cond_both (ops.is_last p)
+    (ops.next_round (StoringBack (ops.begun quorum p.asked) (merge s.view v)) (ops.merged v s))
+    (record (ops.merged v s) { phase = Querying (ops.counted p) }) (λ t. t.tag ≤ s.tag + 1) (λ _. omega arith) (λ _. omega arith)
+reply_tag quorum v (StoringBack p seen) s = omega arith
+
+message_tag : (me quorum : ℕ) (m : Message) (s : Ops) → (ops.after_message me quorum m s).tag ≤ s.tag + 1
+message_tag me quorum (message.Enter q) s = omega arith
+message_tag me quorum (message.EnterEcho c v j q) s = omega arith
+message_tag me quorum (message.Join q) s = omega arith
+message_tag me quorum (message.JoinEcho q) s = omega arith
+message_tag me quorum (message.Leave q) s = omega arith
+message_tag me quorum (message.LeaveEcho q) s = omega arith
+message_tag me quorum (message.Query tag q) s = omega arith
+message_tag me quorum (message.QueryReply v tag q) s =
+    cond_both (ops.is_own me tag q s) (ops.after_reply quorum v s.phase s) s (λ t. t.tag ≤ s.tag + 1) (λ _. reply_tag quorum v s.phase s) (λ _. omega arith)
+message_tag me quorum (message.Store v tag q) s = omega arith
+message_tag me quorum (message.StoreAck tag q) s =
+    cond_both (ops.is_own me tag q s) (record s { phase = ops.after_ack s.phase }) s (λ t. t.tag ≤ s.tag + 1) (λ _. omega arith) (λ _. omega arith)
+
+tag_next : (c : Core) (e : Event) → (next c e).ops.tag ≤ c.ops.tag + 1
+unfolding next
+tag_next c event.Enter = omega arith
+tag_next c event.Leave = omega arith
+tag_next c (event.Deliver from n m) = message_tag c.me (quorum c) m c.ops
+tag_next c (event.Acked peer n) = omega arith
+tag_next c (event.Ask s r command) =
+    let a : Asked = record { session = s; request = r; command = command } in
+    cond_both (is_writing command) (ops.next_round (Storing (ops.begun (quorum c) a)) (ops.with_own_row c.me (ops.with_written command c.ops)))
+    (ops.next_round (Querying (ops.begun (quorum c) a)) c.ops) (λ t. t.tag ≤ c.ops.tag + 1) (λ _. omega arith) (λ _. omega arith)
+
+message_echoes : (me : ℕ) (gamma : Fraction) (m : Message) (s : Churn) → (churn.after_message me gamma m s).echoes ≤ s.echoes + 1
+message_echoes me gamma (message.Enter q) s = omega arith
+message_echoes me gamma (message.EnterEcho c v j q) s =
+    let t = churn.united c s in
+    let P : Churn → Type 0 = λ u. u.echoes ≤ s.echoes + 1 in
+    let u = churn.with_need gamma j t in
+    let n : u.echoes ≡ s.echoes = cond_both (j && (t.need == 0)) (record t { need = needed gamma (set.len (present t.changes)) }) t (λ k. k.echoes ≡ s.echoes) (λ _. refl) (λ _. refl) in
+    let w = churn.with_echo u in
+    cond_both (churn.counts_for me q t) (churn.joined_if_answered me w) t P
+    (λ _. cond_both (churn.is_answered w) (record w { changes = add_join w.changes me }) w P (λ _. omega (arith, n)) (λ _. omega (arith, n))) (λ _. omega arith)
+message_echoes me gamma (message.Join q) s = omega arith
+message_echoes me gamma (message.JoinEcho q) s = omega arith
+message_echoes me gamma (message.Leave q) s = omega arith
+message_echoes me gamma (message.LeaveEcho q) s = omega arith
+message_echoes me gamma (message.Query tag q) s = omega arith
+message_echoes me gamma (message.QueryReply v tag q) s = omega arith
+message_echoes me gamma (message.Store v tag q) s = omega arith
+message_echoes me gamma (message.StoreAck tag q) s = omega arith
+
+echoes_next : (c : Core) (e : Event) → (next c e).churn.echoes ≤ c.churn.echoes + 1
+unfolding next
+echoes_next c event.Enter = omega arith
+echoes_next c event.Leave = omega arith
+echoes_next c (event.Deliver from n m) = message_echoes c.me c.gamma m c.churn
+echoes_next c (event.Acked peer n) = omega arith
+echoes_next c (event.Ask s r command) = omega arith
+
+posts_next : (c : Core) (e : Event) → (next c e).posts ≤ c.posts + 1
+unfolding next
+posts_next c e = let one = one_post (post c e) in omega arith
+
+counts_next : (c : Core) (e : Event) → Fits c e → CountsWithin c → CountsWithin (next c e)
+counts_next c e fits h =
+    let none = none_overruns c (next c e) e fits.counts in
+    let up : (next c e).ops.number ≤ c.ops.number + 1 = omega (arith, own_number c e, writes_one e) in
+    record {
+      number = stays_within counter_limit c.ops.number (next c e).ops.number none.number h.number up;
+      tag = stays_within counter_limit c.ops.tag (next c e).ops.tag none.tag h.tag (tag_next c e);
+      posts = stays_within counter_limit c.posts (next c e).posts none.posts h.posts (posts_next c e);
+      echoes = stays_within counter_limit c.churn.echoes (next c e).churn.echoes none.echoes h.echoes (echoes_next c e);
+    }
+
+-- ---- a delivery
+
+add_heard : (posts peer q : ℕ) (o : Option Link) (ls : Links) → table.get ls peer ≡ o → heard_from q (add_absent posts peer o ls) ≡ heard_from q ls
+add_heard posts peer q (Some l) ls e = refl
+add_heard posts peer q None ls e =
+    ap (λ o. option_map_or (λ l. l.heard) o 0) (get-insert_key ls peer (new_link posts) q)
+    ∙ elim (eqb_tells q peer) as (λ _. option_map_or (λ l. l.heard) (cond (nat_eq q peer) (Some (new_link posts)) (table.get ls q)) 0 ≡ heard_from q ls) [
+      | inl t ↦ ap (λ b. option_map_or (λ l. l.heard) (cond b (Some (new_link posts)) (table.get ls q)) 0) t.0
+          ∙ sym (ap (λ o. option_map_or (λ (l : Link). l.heard) o 0) (ap (table.get ls) t.1 ∙ e))
+      | inr t ↦ ap (λ b. option_map_or (λ l. l.heard) (cond b (Some (new_link posts)) (table.get ls q)) 0) t.0
+    ]
+
+pub add_all_heard : (posts : ℕ) (peers : List ℕ) (ls : Links) (q : ℕ) → heard_from q (add_all posts peers ls) ≡ heard_from q ls
+add_all_heard posts [] ls q = refl
+add_all_heard posts (p ∷ ps) ls q = add_heard posts p q (table.get (add_all posts ps ls) p) (add_all posts ps ls) refl ∙ add_all_heard posts ps ls q
+
+heard_now_of : (from n : ℕ) (ls : Links) (o : Option Link) → table.get ls from ≡ o → is_some o ≡ true → heard_from from (hear from n ls) ≡ n
+heard_now_of from n ls None e h = cc
+heard_now_of from n ls (Some l) e h =
+    ap (λ o. option_map_or (λ (k : Link). k.heard) (table.get (with_row from (λ l. record l { heard = n }) o ls) from) 0) e
+    ∙ ap (λ o. option_map_or (λ (k : Link). k.heard) o 0) (get-insert_key ls from (record l { heard = n }) from ∙ ap (λ b. cond b (Some (record l { heard = n })) (table.get ls from)) (same_number from))
+
+heard_within : (o : Option Link) (posts : ℕ) → IfSome o (IsLinkWithin posts) → option_map_or (λ l. l.heard) o 0 ≤ counter_limit
+heard_within None posts h = omega arith
+heard_within (Some l) posts h = h.2
+
+pub hears_now : (c : Core) (from n : ℕ) (m : Message) → heard_from from (hear from n (add_all c.posts (from ∷ ids_of m) c.links)) ≡ n
+hears_now c from n m =
+    let ls = add_all c.posts (from ∷ ids_of m) c.links in
+    let there : is_some (table.get ls from) ≡ true = contains-add_all c.posts (from ∷ ids_of m) c.links from ∙ ap (λ b. (b || list_any (nat_eq from) (ids_of m)) || table.contains_key c.links from) (same_number from) in
+    heard_now_of from n ls (table.get ls from) refl there
+
+-- what is heard now stays within the limit
+heard_fits : (c : Core) (from n : ℕ) (m : Message) → decides c (event.Deliver from n m) ≡ None → IsLawfulCore c → n ≤ counter_limit
+unfolding next
+heard_fits c from n m d h =
+    let takes = takes_delivery c from n m d in
+    let e = event.Deliver from n m in
+    let ls = add_all c.posts (from ∷ ids_of m) c.links in
+    let now : heard_from from (hear from n ls) ≡ n = hears_now c from n m in
+    let none = none_overruns c (next c e) e takes.fits.counts in
+    stays_within counter_limit (heard_from from c.links) n
+    (subst (λ k. ((heard_from from c.links == counter_limit) && nat_lt (heard_from from c.links) k) ≡ false) now none.row)
+    (heard_within (table.get c.links from) c.posts (h.links from)) (ltb-false _ _ takes.next)
+
+pub quorum_fits : (c : Core) → IsLawfulCore c → quorum c ≤ known_limit
+quorum_fits c h = need_within c.beta _ known_limit h.beta (members_fit c.links c.churn.changes h.changes h.link_count) (omega arith)
+
+abbrev linked : Core → ℕ → Message → Links
+linked c from m = add_all c.posts (from ∷ ids_of m) c.links
+
+linked_goes : (c : Core) (from n : ℕ) (m : Message) → decides c (event.Deliver from n m) ≡ None → LinksGoOn c.posts c.links (hear from n (linked c from m))
+linked_goes c from n m d =
+    let takes = takes_delivery c from n m d in
+    let ls = linked c from m in
+    let above : heard_from from c.links < n = leb-false _ _ takes.new in
+    go_then c.posts c.links ls (hear from n ls) (add_all_goes c.posts (from ∷ ids_of m) c.links)
+    (hear_goes c.posts from n ls (omega (arith, above, add_all_heard c.posts (from ∷ ids_of m) c.links from)))
+
+all_linked : (c : Core) (from n : ℕ) (m : Message) → decides c (event.Deliver from n m) ≡ None → AllListed (hear from n (linked c from m)) (from ∷ ids_of m)
+all_linked c from n m d q h =
+    let takes = takes_delivery c from n m d in
+    let ls = linked c from m in
+    let above : heard_from from c.links < n = leb-false _ _ takes.new in
+    go_within c.posts ls (hear from n ls) (hear_goes c.posts from n ls (omega (arith, above, add_all_heard c.posts (from ∷ ids_of m) c.links from))) q
+    (contains-add_all c.posts (from ∷ ids_of m) c.links q ∙ or_left _ _ h)
+
+-- ---- the core after each event
+
+changes_of : (c : Core) → IsLawfulCore c → KeepsChanges c.links c.churn.changes
+changes_of c h = record { known = h.changes; joined = h.joined }
+
+enter_core : (c : Core) → decides c event.Enter ≡ None → IsLawfulCore c → IsLawfulCore (next c event.Enter)
+unfolding next
+enter_core c d h =
+    let k = enter_changes c.links c.churn.changes c.me h.me (changes_of c h) in
+    record {
+      beta = h.beta;
+      gamma = h.gamma;
+      me = h.me;
+      changes = k.known;
+      view = h.view;
+      link_count = h.link_count;
+      joined = k.joined;
+      links = links_more_posts c.posts (c.posts + 1) c.links (omega arith) h.links;
+      phase = h.phase;
+      sessions = h.sessions;
+      session_count = h.session_count;
+      counts = counts_next c event.Enter (takes_enter c d) h.counts;
+      need = h.need;
+      set = h.set;
+    }
+
+leave_core : (c : Core) → decides c event.Leave ≡ None → IsLawfulCore c → IsLawfulCore (next c event.Leave)
+unfolding next
+leave_core c d h =
+    let k = leave_changes c.links c.churn.changes c.me h.me (changes_of c h) in
+    record {
+      beta = h.beta;
+      gamma = h.gamma;
+      me = h.me;
+      changes = k.known;
+      view = h.view;
+      link_count = h.link_count;
+      joined = k.joined;
+      links = links_more_posts c.posts (c.posts + 1) c.links (omega arith) h.links;
+      phase = h.phase;
+      sessions = h.sessions;
+      session_count = h.session_count;
+      counts = counts_next c event.Leave (takes_leave c d) h.counts;
+      need = h.need;
+      set = h.set;
+    }
+
+ack_core : (c : Core) (peer n : ℕ) → decides c (event.Acked peer n) ≡ None → IsLawfulCore c → IsLawfulCore (next c (event.Acked peer n))
+unfolding next
+ack_core c peer n d h =
+    let takes = takes_ack c peer n d in
+    let ls = ack peer n c.links in
+    let more : IsWithin c.links ls = go_within c.posts c.links ls (ack_goes c.posts peer n c.links takes.awaited) in
+    let o : KeepsOps ls c.sessions c.ops = ops_more c.links ls c.sessions c.ops more (record { view = h.view; phase = h.phase }) in
+    let len : table.len ls ≤ table.len c.links = ack_len peer n c.links in
+    let few = h.link_count in
+    record {
+      beta = h.beta;
+      gamma = h.gamma;
+      me = more c.me h.me;
+      changes = among_more c.links ls c.churn.changes more h.changes;
+      view = o.view;
+      link_count = omega arith;
+      joined = h.joined;
+      links = links_more_posts c.posts (c.posts + 0) ls (omega arith) (ack_links c.posts peer n c.links takes.awaited h.links);
+      phase = o.phase;
+      sessions = h.sessions;
+      session_count = h.session_count;
+      counts = counts_next c (event.Acked peer n) takes.fits h.counts;
+      need = h.need;
+      set = h.set;
+    }
+
+own_set : (c : Core) (e : Event) (v : Value) → (next c e).ops.mine ≡ v → set.len v.set ≤ set_limit → set.len (next c e).ops.mine.set ≤ set_limit
+own_set c e v same h = subst (λ x. set.len x.set ≤ set_limit) (sym same) h
+
+deliver_core : (c : Core) (from n : ℕ) (m : Message) → decides c (event.Deliver from n m) ≡ None → IsLawfulCore c → IsLawfulCore (next c (event.Deliver from n m))
+unfolding next
+deliver_core c from n m d h =
+    let e = event.Deliver from n m in
+    let takes = takes_delivery c from n m d in
+    let ls = hear from n (linked c from m) in
+    let more : IsWithin c.links ls = go_within c.posts c.links ls (linked_goes c from n m d) in
+    let named : MessageKnown ls m = message_known ls m (tail_listed ls from (ids_of m) (all_linked c from n m d)) in
+    let most : table.len (linked c from m) ≤ known_limit = ltb-false _ _ takes.nodes in
+    let few : table.len ls ≤ known_limit = omega (arith, hear_len from n (linked c from m), most) in
+    let own : IsTrue (table.contains_key ls c.me) = more c.me h.me in
+    let k : KeepsChurn ls (churn.after_message c.me c.gamma m c.churn) = message_churn ls c.me c.gamma m c.churn h.gamma few own named
+    (record { changes = record { known = among_more c.links ls c.churn.changes more h.changes; joined = h.joined }; need = h.need }) in
+    let o : KeepsOps ls c.sessions (ops.after_message c.me (quorum c) m c.ops) =
+    message_ops ls c.sessions c.me (quorum c) m c.ops (need_positive c.beta _) (quorum_fits c h) named
+    (ops_more c.links ls c.sessions c.ops more (record { view = h.view; phase = h.phase })) in
+    record {
+      beta = h.beta;
+      gamma = h.gamma;
+      me = own;
+      changes = k.changes.known;
+      view = o.view;
+      link_count = few;
+      joined = k.changes.joined;
+      links = links_more_posts c.posts (c.posts + option_len (post c e)) ls (omega arith)
+          (hear_links c.posts from n (linked c from m) (heard_fits c from n m d h) (add_all_links c.posts (from ∷ ids_of m) c.links h.links));
+      phase = o.phase;
+      sessions = h.sessions;
+      session_count = h.session_count;
+      counts = counts_next c e takes.fits h.counts;
+      need = k.need;
+      set = own_set c e c.ops.mine (own_value c e) h.set;
+    }
+
+-- ---- an ask
+
+more_members : (s k : ℕ) (b : Bool) → ((s == set_limit) && not b) ≡ false → s ≤ set_limit → k ≡ cond b s (s + 1) → k ≤ set_limit
+more_members s k true h a e = omega arith
+more_members s k false h a e =
+    elim (and_cases (s == set_limit) true h) as (λ _. k ≤ set_limit) [
+      | inl t ↦ let apart : s ≡ set_limit → ⊥ = eqb-false s set_limit t in omega (arith, apart)
+      | inr t ↦ cc
+    ]
+
+pub written_set : (k : Command) (mine : Value) → finds_no_room mine k ≡ false → set.len mine.set ≤ set_limit → set.len (written k mine).set ≤ set_limit
+written_set (command.Store text) mine e h = h
+written_set command.Collect mine e h = h
+written_set (command.WriteMax x) mine e h = h
+written_set command.ReadMax mine e h = h
+written_set command.SetFlag mine e h = h
+written_set command.ReadFlag mine e h = h
+written_set (command.AddMember x) mine e h =
+    more_members (set.len mine.set) (set.len (set.insert mine.set x)) (set.contains mine.set x) e h (set.len-insert mine.set x)
+written_set command.ReadSet mine e h = h
+
+pub last_within : (o : Option ℕ) → IfSome o (λ last. (0 < last) × (last ≤ counter_limit)) → unwrap_or o 0 ≤ counter_limit
+last_within None h = omega arith
+last_within (Some l) h = h.1
+
+pub request_now : (ss : Requests) (s r : ℕ) → unwrap_or (table.get (table.insert ss s r) s) 0 ≡ r
+request_now ss s r = ap (λ o. unwrap_or o 0) (get-insert_key ss s r s ∙ ap (λ b. cond b (Some r) (table.get ss s)) (same_number s))
+
+request_fits : (c : Core) (s r : ℕ) (k : Command) → decides c (event.Ask s r k) ≡ None → IsLawfulCore c → (0 < r) × (r ≤ counter_limit)
+unfolding next
+request_fits c s r k d h =
+    let takes = takes_ask c s r k d in
+    let e = event.Ask s r k in
+    let none = none_overruns c (next c e) e takes.fits.counts in
+    let zero : r ≡ 0 → ⊥ = eqb-false r 0 (or_parts (nat_lt r (last_request c.sessions s)) (r == 0) takes.new).1 in (
+      omega (arith, zero),
+      stays_within counter_limit (last_request c.sessions s) r
+          (subst (λ n. ((last_request c.sessions s == counter_limit) && nat_lt (last_request c.sessions s) n) ≡ false) (request_now c.sessions s r) none.row)
+          (last_within (table.get c.sessions s) (h.sessions s)) (ltb-false _ _ takes.next),
+    )
+
+ask_core : (c : Core) (s r : ℕ) (k : Command) → decides c (event.Ask s r k) ≡ None → IsLawfulCore c → IsLawfulCore (next c (event.Ask s r k))
+unfolding next
+ask_core c s r k d h =
+    let takes = takes_ask c s r k d in
+    let e = event.Ask s r k in
+    let a : Asked = record { session = s; request = r; command = k } in
+    let o : KeepsOps c.links (table.insert c.sessions s r) (ops.after_ask c.me (quorum c) a c.ops) =
+    ask_ops c.links c.sessions c.me (quorum c) a c.ops (need_positive c.beta _) (quorum_fits c h) h.me (record { view = h.view; phase = h.phase }) in
+    record {
+      beta = h.beta;
+      gamma = h.gamma;
+      me = h.me;
+      changes = h.changes;
+      view = o.view;
+      link_count = h.link_count;
+      joined = h.joined;
+      links = links_more_posts c.posts (c.posts + 1) c.links (omega arith) h.links;
+      phase = o.phase;
+      sessions = all_insert (λ _ last. (0 < last) × (last ≤ counter_limit)) c.sessions s r h.sessions (request_fits c s r k d h);
+      session_count = begin_fits c.sessions s r takes.sessions h.session_count;
+      counts = counts_next c e takes.fits h.counts;
+      need = h.need;
+      set = own_set c e (written k c.ops.mine) (own_value c e) (written_set k c.ops.mine takes.room h.set);
+    }
+
+pub next_core : (c : Core) (e : Event) → decides c e ≡ None → IsLawfulCore c → IsLawfulCore (next c e)
+next_core c event.Enter d h = enter_core c d h
+next_core c event.Leave d h = leave_core c d h
+next_core c (event.Deliver from n m) d h = deliver_core c from n m d h
+next_core c (event.Acked peer n) d h = ack_core c peer n d h
+next_core c (event.Ask s r k) d h = ask_core c s r k d h
+
+-- ---- the node
+
+pub links_go_on : (c : Core) (e : Event) → decides c e ≡ None → LinksGoOn c.posts c.links (next c e).links
+unfolding next
+links_go_on c event.Enter d = go_same c.posts c.links
+links_go_on c event.Leave d = go_same c.posts c.links
+links_go_on c (event.Deliver from n m) d = linked_goes c from n m d
+links_go_on c (event.Acked peer n) d = ack_goes c.posts peer n c.links (takes_ack c peer n d).awaited
+links_go_on c (event.Ask s r k) d = go_same c.posts c.links
+
+pub left_grows : (c : Core) (e : Event) → IsWithin c.churn.changes.left (next c e).churn.changes.left
+unfolding next
+left_grows c event.Enter q h = h
+left_grows c event.Leave q h = within_insert c.churn.changes.left c.me tt q h
+left_grows c (event.Deliver from n m) q h = left_stays c.me c.gamma m c.churn q h
+left_grows c (event.Acked peer n) q h = h
+left_grows c (event.Ask s r k) q h = h
+
+pub lowest_next : (c : Core) (e : Event) → decides c e ≡ None → LinksWithin c.posts c.links → lowest c ≤ lowest (next c e)
+unfolding next
+lowest_next c e d h =
+    lowest_grows c.churn.changes.left (next c e).churn.changes.left c.posts (c.posts + option_len (post c e)) c.links (next c e).links
+    (left_grows c e) (links_go_on c e d) h (omega arith)
+
+step_answers : (n : Node) (e : Event) → IsLawfulNode n → KeepsAnswers (next n.core e).sessions (next n.core e).ops.phase (step n e).outbox.answers
+unfolding step next
+step_answers n event.Enter h = h.answers
+step_answers n event.Leave h = h.answers
+step_answers n (event.Deliver from k m) h =
+    let c = n.core in
+    let e = event.Deliver from k m in
+    posted c.sessions (ops.after_message c.me (quorum c) m c.ops).phase (post c e) (ops.reply_of c.me m c.ops) n.outbox
+    (message_answers c.links c.sessions c.me (quorum c) m c.ops n.outbox h.core.phase h.answers)
+step_answers n (event.Acked peer k) h = h.answers
+step_answers n (event.Ask s r k) h =
+    let c = n.core in
+    ask_answers c.sessions c.me (quorum c) (record { session = s; request = r; command = k }) c.ops c.ops.phase n.outbox.answers h.answers
+
+pub step_lawful : (n : Node) (e : Event) → decides n.core e ≡ None → IsLawfulNode n → IsLawfulNode (step n e)
+unfolding step next
+step_lawful n e d h =
+    let c = n.core in
+    let kept = step_posts (lowest c) (lowest (next c e)) c.posts e (post c e) (reply c e) n.outbox (record { last = h.last; kept = h.posts })
+    (lowest_next c e d h.core.links) (lowest_within c.churn.changes.left c.posts c.links h.core.links) (takes_any c e d).posts in
+    record { core = next_core c e d h.core; last = kept.last; posts = kept.kept; answers = step_answers n e h }

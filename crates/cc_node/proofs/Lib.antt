@@ -1,0 +1,12 @@
+pub mod CoreLaws
+pub mod Deciding
+pub mod Effects
+pub mod FreshLaws
+pub mod KeptLaws
+pub mod KnownLaws
+pub mod LawfulLaws
+pub mod LineLaws
+pub mod Named
+pub mod Openings
+pub mod RefusalLaws
+pub mod StandingLaws

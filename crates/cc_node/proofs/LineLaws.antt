@@ -1,0 +1,469 @@
+-- No output is made twice: on each link numbers rise, and in each session requests do.
+--     IsPast                what was put out before, so far as the state tells: all that is made from now on follows it
+--     outputs_follow        the outputs of an event follow what is past
+--     outputs_past          they are past after it;  past_stays: and what is past stays past
+--     outputs_rise          they follow one another
+--     outputs_follow_each_other, no_output_twice     so do all outputs along a list
+--     standing_followed     and they follow all that stood before it
+use Rattle.std.proofs.Common.{◌≡◌, ◌≢◌, ℕ, ◌+◌, ◌-◌, ◌<◌, ◌≤◌, Bool, true, false, cond, not, List, [], ◌∷◌, ◌++◌, refl, sym, ap, subst, ◌∙◌, inl, inr, arith}
+use Rattle.std.specs.Prelude.{Option, Some, None, IfSome, T, is_some, ⊤, ◌==◌, nat_lt, if◌then◌else◌}
+use Rattle.std.specs.Bool.{then_some}
+use Rattle.std.specs.Option.{option_len, option_map_or, unwrap_or}
+use Rattle.std.specs.List.{All, AllByRecursion, AllPairs}
+use Rattle.std.specs.Ordering.{nat_cmp, is_lt}
+use Rattle.std.specs.FinMap as table
+use Rattle.std.specs.FinMap.{is_sorted}
+use Rattle.std.specs.FinMap.Entries.{below_all}
+use Rattle.std.proofs.lemmas.Bool.{cond_both, and_cases, eqb-false, ltb-false, leb-false, or_parts}
+use Rattle.std.proofs.lemmas.Bool.Decides.{eqb_tells, nat_tests}
+use Rattle.std.proofs.lemmas.List.Elements.{All-from_recursion}
+use Rattle.std.proofs.lemmas.List.Kept.{AllPairs-cons}
+use Rattle.cc_views.specs.NatSets as set
+use Rattle.cc_views.specs.NatSets.{NatSet, get-insert_key, lt_both}
+use Rattle.cc_views.specs.MapLaws.{all_entries}
+use Rattle.cc_views.specs.Rows.{ViewMap}
+use Rattle.cc_wire.specs.declared.command.Command.{Command}
+use Rattle.cc_wire.specs.declared.event.Event.{Event}
+use Rattle.cc_wire.specs.declared.event.Event.TheVariants as event
+use Rattle.cc_wire.specs.declared.message.Message.{Message}
+use Rattle.cc_wire.specs.declared.message.Message.TheVariants as message
+use Rattle.cc_wire.specs.declared.output.Output.{Output}
+use Rattle.cc_wire.specs.declared.output.Output.TheVariants as output
+use Rattle.cc_ops.specs.Ops as ops
+use Rattle.cc_ops.specs.Ops.{Ops, Phase, Idle, Storing, Querying, StoringBack}
+use Rattle.cc_ops.specs.declared.pending.Reply.{Reply}
+use Rattle.cc_links.specs.Links.{Link, Links, heard_from, live, IsLinkWithin}
+use Rattle.cc_links.specs.LinkLaws.{LinkGoesOn, get-live}
+use Rattle.cc_sessions.specs.Sessions.{Requests, last_request, is_repeat, is_stale}
+use Rattle.cc_node.specs.declared.made.LinkAck.{LinkAck}
+use Rattle.cc_node.specs.Core as core
+use Rattle.cc_node.specs.Core.{Core, quorum, next, post, reply, outputs, sends, send_post, send_ack, send_reply, live_links}
+use Rattle.cc_node.specs.Refusals.{decides}
+use Rattle.cc_node.specs.Node.{Node, step, line, Stands, IsLawful}
+use Rattle.cc_node.specs.Lines.{Follows}
+use Rattle.cc_node.specs.Lawful.{IsPhaseOf, pending_session, IsLawfulCore, IsLawfulNode}
+use Rattle.cc_node.proofs.KeptLaws.{same_some, reply_pending, ask_pending}
+use Rattle.cc_node.proofs.LawfulLaws.{links_go_on, hears_now, request_now, step_lawful}
+use Rattle.cc_node.proofs.RefusalLaws.{takes_delivery, takes_ask}
+
+-- ---- lists
+
+abbrev EachRises : List Output → Type 0
+EachRises [] = ⊤
+EachRises (x ∷ xs) = AllByRecursion (Follows x) xs × EachRises xs
+
+abbrev AllFollow : List Output → List Output → Type 0
+AllFollow xs ys = AllByRecursion (λ x. AllByRecursion (Follows x) ys) xs
+
+all_both : {X : Type 0} (P : X → Type 0) (xs ys : List X) → AllByRecursion P xs → AllByRecursion P ys → AllByRecursion P (xs ++ ys)
+all_both P [] ys h k = k
+all_both P (x ∷ xs) ys h k = (h.0, all_both P xs ys h.1 k)
+
+rises_both : (xs ys : List Output) → EachRises xs → EachRises ys → AllFollow xs ys → EachRises (xs ++ ys)
+rises_both [] ys h k f = k
+rises_both (x ∷ xs) ys h k f = (all_both (Follows x) xs ys h.0 f.0, rises_both xs ys h.1 k f.1)
+
+all_map : {X : Type 0} (P Q : X → Type 0) → ((x : X) → P x → Q x) → (xs : List X) → AllByRecursion P xs → AllByRecursion Q xs
+all_map P Q f [] h = tt
+all_map P Q f (x ∷ xs) h = (f x h.0, all_map P Q f xs h.1)
+
+pairs_rise : (xs : List Output) → EachRises xs → AllPairs Follows xs
+pairs_rise [] h = λ i j d below inside. absurd (omega arith)
+pairs_rise (x ∷ xs) h = AllPairs-cons Follows x xs (All-from_recursion (Follows x) xs h.0) (pairs_rise xs h.1)
+
+no_less : (n : ℕ) → n < n → ⊥
+no_less n h = omega arith
+
+follows_apart : (x y : Output) → Follows x y → x ≢ y
+follows_apart (output.Send p n m) y h e = no_less n (subst (Follows (output.Send p n m)) (sym e) h refl)
+follows_apart (output.Ack p n) y h e = no_less n (subst (Follows (output.Ack p n)) (sym e) h refl)
+follows_apart (output.Reply s r a) y h e = no_less r (subst (Follows (output.Reply s r a)) (sym e) h refl)
+
+-- ---- what is past
+
+record IsSent (ls : Links) (posts to number : ℕ) : Type 0 where
+  link : Link
+  there : table.get ls to ≡ Some link
+  posted : number ≤ posts - link.start
+
+record IsAnswered (ss : Requests) (phase : Phase) (s request : ℕ) : Type 0 where
+  begun : request ≤ last_request ss s
+  ended : pending_session phase ≡ Some s → request < last_request ss s
+
+abbrev IsPast : Core → Output → Type 0
+IsPast c (output.Send to number m) = IsSent c.links c.posts to number
+IsPast c (output.Ack to number) = number ≤ heard_from to c.links
+IsPast c (output.Reply s request a) = IsAnswered c.sessions c.ops.phase s request
+
+-- ---- sends
+
+-- a link is there still, and starts where it did
+record GoesOn (from : ℕ) (o : Option Link) : Type 0 where
+  link : Link
+  there : o ≡ Some link
+  start : link.start ≡ from
+
+goes_on : (posts : ℕ) (o o' : Option Link) (l : Link) → LinkGoesOn posts o o' → o ≡ Some l → GoesOn l.start o'
+goes_on posts None o' l goes e = cc
+goes_on posts (Some m) None l goes e = absurd goes
+goes_on posts (Some m) (Some k) l goes e = record { link = k; there = refl; start = goes.0 ∙ ap (λ (x : Link). x.start) (same_some m l e) }
+
+if_more : {X : Type 0} (o : Option X) (P Q : X → Type 0) → ((x : X) → P x → Q x) → IfSome o P → IfSome o Q
+if_more None P Q f h = tt
+if_more (Some x) P Q f h = f x h
+
+at_some : {X : Type 0} (P : X → Type 0) (o : Option X) (x : X) → o ≡ Some x → IfSome o P → P x
+at_some P o x e h = subst (λ u. IfSome u P) e h
+
+either_live : (b : Bool) (o : Option Link) → IfSome (cond b o None) (λ l. o ≡ Some l)
+either_live true None = tt
+either_live true (Some l) = refl
+either_live false o = tt
+
+live_there : (left : NatSet) (ls : Links) (q : ℕ) → IfSome (table.get (live left ls) q) (λ l. table.get ls q ≡ Some l)
+live_there left ls q = subst (λ o. IfSome o (λ l. table.get ls q ≡ Some l)) (sym (get-live left ls q)) (either_live (not (set.contains left q)) (table.get ls q))
+
+each_send : (P : Output → Type 0) (n : ℕ) (m : Message) (rows : List (ℕ × Link)) → AllByRecursion (λ row. P (output.Send row.0 (n - row.1.start) m)) rows → AllByRecursion P (sends n m rows)
+each_send P n m [] h = tt
+each_send P n m (row ∷ rows) h = (h.0, each_send P n m rows h.1)
+
+-- what holds for the post on each link holds of all that is sent
+each_post : (P : Output → Type 0) (c : Core) (p : Option Message)
+    → ((m : Message) → p ≡ Some m → (q : ℕ) (l : Link) → table.get c.links q ≡ Some l → P (output.Send q (c.posts - l.start) m)) → AllByRecursion P (send_post c p)
+each_post P c None h = tt
+each_post P c (Some m) h =
+    let rows = table.entries (live_links c) in
+    each_send P c.posts m rows (all_entries (λ q l. P (output.Send q (c.posts - l.start) m)) rows (table.entries_sorted (live_links c))
+    (λ q. subst (λ o. IfSome o (λ l. P (output.Send q (c.posts - l.start) m))) (table.get-entries (live_links c) q)
+    (if_more (table.get (live_links c) q) (λ l. table.get c.links q ≡ Some l) (λ l. P (output.Send q (c.posts - l.start) m)) (h m refl q) (live_there c.churn.changes.left c.links q))))
+
+numbered_above : (number posts after start : ℕ) → number ≤ posts - start → start ≤ posts → after ≡ posts + 1 → number < after - start
+numbered_above number posts after start h k e = omega arith
+
+sends_follow : (c : Core) (e : Event) (x : Output) → decides c e ≡ None → IsLawfulCore c → IsPast c x → AllByRecursion (Follows x) (send_post (next c e) (post c e))
+unfolding next
+sends_follow c e (output.Send to number k) d h past =
+    each_post (Follows (output.Send to number k)) (next c e) (post c e) (λ m made q l there same.
+    let on = goes_on c.posts (table.get c.links to) (table.get (next c e).links to) past.link (links_go_on c e d to) past.there in
+    let link : on.link ≡ l = same_some on.link l (sym on.there ∙ ap (table.get (next c e).links) same ∙ there) in
+    let start : past.link.start ≡ l.start = sym on.start ∙ ap (λ (x : Link). x.start) link in
+    let within : IsLinkWithin c.posts past.link = at_some (IsLinkWithin c.posts) (table.get c.links to) past.link past.there (h.links to) in
+    let count : (next c e).posts ≡ c.posts + 1 = ap (λ p. c.posts + option_len p) made in
+    subst (λ s. number < (next c e).posts - s) start (numbered_above number c.posts (next c e).posts past.link.start past.posted within.0 count))
+sends_follow c e (output.Ack to number) d h past = each_post (Follows (output.Ack to number)) (next c e) (post c e) (λ m made q l there. tt)
+sends_follow c e (output.Reply s request a) d h past = each_post (Follows (output.Reply s request a)) (next c e) (post c e) (λ m made q l there. tt)
+
+later_past : (number posts after start : ℕ) → number ≤ posts - start → posts ≤ after → number ≤ after - start
+later_past number posts after start h k = omega arith
+
+sent_stays : (c : Core) (e : Event) (to number : ℕ) → decides c e ≡ None → IsSent c.links c.posts to number → IsSent (next c e).links (next c e).posts to number
+unfolding next
+sent_stays c e to number d past =
+    let on = goes_on c.posts (table.get c.links to) (table.get (next c e).links to) past.link (links_go_on c e d to) past.there in
+    record {
+      link = on.link;
+      there = on.there;
+      posted = subst (λ s. number ≤ (next c e).posts - s) (sym on.start) (later_past number c.posts (next c e).posts past.link.start past.posted (omega arith));
+    }
+
+before : (x y : ℕ) → T (is_lt (nat_cmp x y)) → x < y
+before x y h = grind (arith, nat_tests)
+
+-- peers rise, so no two sends of one post are on one link
+below : (x : ℕ) (rows : List (ℕ × Link)) → T (below_all nat_cmp x rows) → AllByRecursion (λ row. x < row.0) rows
+below x [] h = tt
+below x (row ∷ rows) h = let both = lt_both _ _ h in (before x row.0 both.0, below x rows both.1)
+
+sends_rise : (n : ℕ) (m : Message) (rows : List (ℕ × Link)) → T (is_sorted nat_cmp rows) → EachRises (sends n m rows)
+sends_rise n m [] h = tt
+sends_rise n m (row ∷ rows) h =
+    let both = lt_both _ _ h in
+    let x = output.Send row.0 (n - row.1.start) m in (
+      each_send (Follows x) n m rows
+          (all_map (λ r. row.0 < r.0) (λ r. Follows x (output.Send r.0 (n - r.1.start) m)) (λ r lt same. absurd (omega (arith, lt, same))) rows (below row.0 rows both.0)),
+      sends_rise n m rows both.1,
+    )
+
+post_rises : (c : Core) (p : Option Message) → EachRises (send_post c p)
+post_rises c None = tt
+post_rises c (Some m) = sends_rise c.posts m (table.entries (live_links c)) (table.entries_sorted (live_links c))
+
+-- ---- acknowledgements
+
+heard_goes : (posts : ℕ) (o o' : Option Link) → LinkGoesOn posts o o' → option_map_or (λ (l : Link). l.heard) o 0 ≤ option_map_or (λ (l : Link). l.heard) o' 0
+heard_goes posts None o' goes = omega arith
+heard_goes posts (Some l) None goes = absurd goes
+heard_goes posts (Some l) (Some k) goes = goes.2
+
+ack_follows : (c : Core) (e : Event) (x : Output) → decides c e ≡ None → IsPast c x → AllByRecursion (Follows x) (send_ack (core.ack e))
+ack_follows c event.Enter x d past = tt
+ack_follows c event.Leave x d past = tt
+ack_follows c (event.Acked peer n) x d past = tt
+ack_follows c (event.Ask s r k) x d past = tt
+ack_follows c (event.Deliver from n m) (output.Send to number k) d past = (tt, tt)
+ack_follows c (event.Deliver from n m) (output.Reply s request a) d past = (tt, tt)
+ack_follows c (event.Deliver from n m) (output.Ack to number) d past =
+    let above : heard_from from c.links < n = leb-false _ _ (takes_delivery c from n m d).new in
+    (λ same. let old : number ≤ heard_from from c.links = subst (λ (q : ℕ). number ≤ heard_from q c.links) same past in omega arith, tt)
+
+ack_past : (c : Core) (e : Event) → AllByRecursion (IsPast (next c e)) (send_ack (core.ack e))
+unfolding next
+ack_past c event.Enter = tt
+ack_past c event.Leave = tt
+ack_past c (event.Acked peer n) = tt
+ack_past c (event.Ask s r k) = tt
+ack_past c (event.Deliver from n m) = (subst (λ k. k ≤ heard_from from (next c (event.Deliver from n m)).links) (hears_now c from n m) (omega arith), tt)
+
+-- ---- replies
+
+-- a reply ends the pending operation, which was asked for by its session's last request
+record Ends (ss : Requests) (before after : Phase) (r : Reply) : Type 0 where
+  last : table.get ss r.session ≡ Some r.request
+  pending : pending_session before ≡ Some r.session
+  done : pending_session after ≡ None
+
+ack_ends : (ls : Links) (ss : Requests) (v : ViewMap) (phase : Phase) → IsPhaseOf ls ss phase → IfSome (ops.reply_in v phase) (Ends ss phase (ops.after_ack phase))
+ack_ends ls ss v Idle h = tt
+ack_ends ls ss v (Storing p) h =
+    elim (ops.is_last p) as (λ b. IfSome (then_some b (ops.told p v)) (Ends ss (Storing p) (if b then Idle else Storing (ops.counted p)))) [
+      | true ↦ record { last = h.0.session; pending = refl; done = refl }
+      | false ↦ tt
+    ]
+ack_ends ls ss v (Querying p) h = tt
+ack_ends ls ss v (StoringBack p seen) h =
+    elim (ops.is_last p) as (λ b. IfSome (then_some b (ops.told p seen)) (Ends ss (StoringBack p seen) (if b then Idle else StoringBack (ops.counted p) seen))) [
+      | true ↦ record { last = h.0.session; pending = refl; done = refl }
+      | false ↦ tt
+    ]
+
+reply_ends : (ls : Links) (ss : Requests) (me quorum : ℕ) (m : Message) (s : Ops) → IsPhaseOf ls ss s.phase → IfSome (ops.reply_of me m s) (Ends ss s.phase (ops.after_message me quorum m s).phase)
+reply_ends ls ss me quorum (message.Enter q) s h = tt
+reply_ends ls ss me quorum (message.EnterEcho c v j q) s h = tt
+reply_ends ls ss me quorum (message.Join q) s h = tt
+reply_ends ls ss me quorum (message.JoinEcho q) s h = tt
+reply_ends ls ss me quorum (message.Leave q) s h = tt
+reply_ends ls ss me quorum (message.LeaveEcho q) s h = tt
+reply_ends ls ss me quorum (message.Query tag q) s h = tt
+reply_ends ls ss me quorum (message.QueryReply v tag q) s h = tt
+reply_ends ls ss me quorum (message.Store v tag q) s h = tt
+reply_ends ls ss me quorum (message.StoreAck tag q) s h =
+    elim (ops.is_own me tag q s)
+    as (λ b. IfSome (if b then ops.reply_in s.view s.phase else None) (Ends ss s.phase (if b then record s { phase = ops.after_ack s.phase } else s).phase)) [
+      | true ↦ ack_ends ls ss s.view s.phase h
+      | false ↦ tt
+    ]
+
+each_reply : (P : Output → Type 0) (r : Option Reply) → IfSome r (λ r. P (output.Reply r.session r.request r.answer)) → AllByRecursion P (send_reply r)
+each_reply P None h = tt
+each_reply P (Some r) h = (h, tt)
+
+last_is : (ss : Requests) (s r : ℕ) → table.get ss s ≡ Some r → last_request ss s ≡ r
+last_is ss s r e = ap (λ o. unwrap_or o 0) e
+
+request_below : (ss : Requests) (before after : Phase) (s request : ℕ) (r : Reply) → IsAnswered ss before s request → Ends ss before after r → s ≡ r.session → request < r.request
+request_below ss before after s request r past ends same =
+    let less : request < last_request ss s = past.ended (ends.pending ∙ ap Some (sym same)) in
+    let last : last_request ss s ≡ r.request = ap (last_request ss) same ∙ last_is ss r.session r.request ends.last in
+    subst (λ n. request < n) last less
+
+reply_follows : (c : Core) (e : Event) (x : Output) → IsLawfulCore c → IsPast c x → AllByRecursion (Follows x) (send_reply (reply c e))
+reply_follows c event.Enter x h past = tt
+reply_follows c event.Leave x h past = tt
+reply_follows c (event.Acked peer n) x h past = tt
+reply_follows c (event.Ask s r k) x h past = tt
+reply_follows c (event.Deliver from n m) (output.Send to number k) h past =
+    each_reply (Follows (output.Send to number k)) (ops.reply_of c.me m c.ops) (if_more (ops.reply_of c.me m c.ops) (Ends c.sessions c.ops.phase (ops.after_message c.me (quorum c) m c.ops).phase) (λ r. ⊤) (λ r ends. tt) (reply_ends c.links c.sessions c.me (quorum c) m c.ops h.phase))
+reply_follows c (event.Deliver from n m) (output.Ack to number) h past =
+    each_reply (Follows (output.Ack to number)) (ops.reply_of c.me m c.ops) (if_more (ops.reply_of c.me m c.ops) (Ends c.sessions c.ops.phase (ops.after_message c.me (quorum c) m c.ops).phase) (λ r. ⊤) (λ r ends. tt) (reply_ends c.links c.sessions c.me (quorum c) m c.ops h.phase))
+reply_follows c (event.Deliver from n m) (output.Reply s request a) h past =
+    let after = (ops.after_message c.me (quorum c) m c.ops).phase in
+    each_reply (Follows (output.Reply s request a)) (ops.reply_of c.me m c.ops) (if_more (ops.reply_of c.me m c.ops) (Ends c.sessions c.ops.phase after) (λ r. s ≡ r.session → request < r.request)
+    (λ r ends same. request_below c.sessions c.ops.phase after s request r past ends same) (reply_ends c.links c.sessions c.me (quorum c) m c.ops h.phase))
+
+none_pending : (s : ℕ) (o : Option ℕ) → o ≡ None → o ≡ Some s → ⊥
+none_pending s o e t = cc
+
+reply_past : (c : Core) (e : Event) → IsLawfulCore c → AllByRecursion (IsPast (next c e)) (send_reply (reply c e))
+unfolding next
+reply_past c event.Enter h = tt
+reply_past c event.Leave h = tt
+reply_past c (event.Acked peer n) h = tt
+reply_past c (event.Ask s r k) h = tt
+reply_past c (event.Deliver from n m) h =
+    let after = (ops.after_message c.me (quorum c) m c.ops).phase in
+    each_reply (IsPast (next c (event.Deliver from n m))) (ops.reply_of c.me m c.ops) (if_more (ops.reply_of c.me m c.ops) (Ends c.sessions c.ops.phase after)
+    (λ r. IsAnswered c.sessions after r.session r.request)
+    (λ r ends. record {
+      begun = subst (λ k. r.request ≤ k) (sym (last_is c.sessions r.session r.request ends.last)) (omega arith);
+      ended = λ t. absurd (none_pending r.session (pending_session after) ends.done t);
+    })
+    (reply_ends c.links c.sessions c.me (quorum c) m c.ops h.phase))
+
+ack_pending : (phase : Phase) (x : ℕ) → pending_session (ops.after_ack phase) ≡ Some x → pending_session phase ≡ Some x
+ack_pending Idle x e = e
+ack_pending (Storing p) x e =
+    cond_both (ops.is_last p) Idle (Storing (ops.counted p)) (λ t. pending_session t ≡ Some x → pending_session (Storing p) ≡ Some x) (λ _ t. cc) (λ _ t. t) e
+ack_pending (Querying p) x e = e
+ack_pending (StoringBack p seen) x e =
+    cond_both (ops.is_last p) Idle (StoringBack (ops.counted p) seen) (λ t. pending_session t ≡ Some x → pending_session (StoringBack p seen) ≡ Some x) (λ _ t. cc) (λ _ t. t) e
+
+-- a message begins no operation
+message_pending : (me quorum : ℕ) (m : Message) (s : Ops) (x : ℕ) → pending_session (ops.after_message me quorum m s).phase ≡ Some x → pending_session s.phase ≡ Some x
+message_pending me quorum (message.Enter q) s x e = e
+message_pending me quorum (message.EnterEcho c v j q) s x e = e
+message_pending me quorum (message.Join q) s x e = e
+message_pending me quorum (message.JoinEcho q) s x e = e
+message_pending me quorum (message.Leave q) s x e = e
+message_pending me quorum (message.LeaveEcho q) s x e = e
+message_pending me quorum (message.Query tag q) s x e = e
+message_pending me quorum (message.QueryReply v tag q) s x e =
+    cond_both (ops.is_own me tag q s) (ops.after_reply quorum v s.phase s) s (λ t. pending_session t.phase ≡ Some x → pending_session s.phase ≡ Some x)
+    (λ _ t. sym (reply_pending quorum v s.phase s refl) ∙ t) (λ _ t. t) e
+message_pending me quorum (message.Store v tag q) s x e = e
+message_pending me quorum (message.StoreAck tag q) s x e =
+    cond_both (ops.is_own me tag q s) (record s { phase = ops.after_ack s.phase }) s (λ t. pending_session t.phase ≡ Some x → pending_session s.phase ≡ Some x)
+    (λ _ t. ack_pending s.phase x t) (λ _ t. t) e
+
+last_none : (o : Option ℕ) → is_some o ≡ false → unwrap_or o 0 ≡ 0
+last_none None e = refl
+last_none (Some r) e = cc
+
+-- a request that is taken is above its session's last one
+request_rises : (ss : Requests) (s r : ℕ) → is_repeat ss s r ≡ false → is_stale ss s r ≡ false → last_request ss s < r
+request_rises ss s r fresh new =
+    let parts = or_parts (nat_lt r (last_request ss s)) (r == 0) new in
+    let up : last_request ss s ≤ r = ltb-false r (last_request ss s) parts.0 in
+    elim (and_cases (table.contains_key ss s) (r == last_request ss s) fresh) as (λ _. last_request ss s < r) [
+      | inl e ↦
+          let none : last_request ss s ≡ 0 = last_none (table.get ss s) e in
+          let some : r ≡ 0 → ⊥ = eqb-false r 0 parts.1 in
+          omega (arith, some)
+      | inr e ↦ let apart : r ≡ last_request ss s → ⊥ = eqb-false r (last_request ss s) e in omega (arith, apart)
+    ]
+
+answered_asked : (c : Core) (y r : ℕ) (k : Command) (s request : ℕ) → decides c (event.Ask y r k) ≡ None → IsAnswered c.sessions c.ops.phase s request
+    → IsAnswered (next c (event.Ask y r k)).sessions (next c (event.Ask y r k)).ops.phase s request
+unfolding next
+answered_asked c y r k s request d past =
+    let e = event.Ask y r k in
+    let takes = takes_ask c y r k d in
+    let above : last_request c.sessions y < r = request_rises c.sessions y r takes.repeat takes.new in
+    let old : request ≤ last_request c.sessions s = past.begun in
+    let pending : pending_session (next c e).ops.phase ≡ Some y = ask_pending c.me (quorum c) (record { session = y; request = r; command = k }) c.ops in
+    elim (eqb_tells s y) as (λ _. IsAnswered (next c e).sessions (next c e).ops.phase s request) [
+      | inl t ↦
+          let now : last_request (next c e).sessions s ≡ r = ap (last_request (next c e).sessions) t.1 ∙ request_now c.sessions y r in
+          let was : last_request c.sessions s ≡ last_request c.sessions y = ap (last_request c.sessions) t.1 in
+          record { begun = omega arith; ended = λ _. omega arith }
+      | inr t ↦
+          let same : last_request (next c e).sessions s ≡ last_request c.sessions s =
+          ap (λ o. unwrap_or o 0) (get-insert_key c.sessions y r s ∙ ap (λ b. cond b (Some r) (table.get c.sessions s)) t.0) in
+          record { begun = omega arith; ended = λ now. absurd (t.1 (same_some s y (sym now ∙ pending))) }
+    ]
+
+answered_stays : (c : Core) (e : Event) (s request : ℕ) → decides c e ≡ None → IsAnswered c.sessions c.ops.phase s request
+    → IsAnswered (next c e).sessions (next c e).ops.phase s request
+unfolding next
+answered_stays c event.Enter s request d past = past
+answered_stays c event.Leave s request d past = past
+answered_stays c (event.Acked peer n) s request d past = past
+answered_stays c (event.Deliver from n m) s request d past = record { begun = past.begun; ended = λ t. past.ended (message_pending c.me (quorum c) m c.ops s t) }
+answered_stays c (event.Ask y r k) s request d past = answered_asked c y r k s request d past
+
+-- ---- all outputs of an event
+
+outputs_follow : (c : Core) (e : Event) (x : Output) → decides c e ≡ None → IsLawfulCore c → IsPast c x → AllByRecursion (Follows x) (outputs c e)
+outputs_follow c e x d h past =
+    all_both (Follows x) (send_ack (core.ack e) ++ send_post (next c e) (post c e)) (send_reply (reply c e))
+    (all_both (Follows x) (send_ack (core.ack e)) (send_post (next c e) (post c e)) (ack_follows c e x d past) (sends_follow c e x d h past))
+    (reply_follows c e x h past)
+
+outputs_past : (c : Core) (e : Event) → IsLawfulCore c → AllByRecursion (IsPast (next c e)) (outputs c e)
+outputs_past c e h =
+    all_both (IsPast (next c e)) (send_ack (core.ack e) ++ send_post (next c e) (post c e)) (send_reply (reply c e))
+    (all_both (IsPast (next c e)) (send_ack (core.ack e)) (send_post (next c e) (post c e)) (ack_past c e)
+    (each_post (IsPast (next c e)) (next c e) (post c e) (λ m made q l there. record { link = l; there = there; posted = omega arith })))
+    (reply_past c e h)
+
+past_stays : (c : Core) (e : Event) (x : Output) → decides c e ≡ None → IsPast c x → IsPast (next c e) x
+past_stays c e (output.Send to number m) d past = sent_stays c e to number d past
+past_stays c e (output.Ack to number) d past =
+    let up : heard_from to c.links ≤ heard_from to (next c e).links = heard_goes c.posts (table.get c.links to) (table.get (next c e).links to) (links_go_on c e d to) in omega (arith, past)
+past_stays c e (output.Reply s request a) d past = answered_stays c e s request d past
+
+ack_then : (c : Core) (k : Option LinkAck) (p : Option Message) → AllFollow (send_ack k) (send_post c p)
+ack_then c None p = tt
+ack_then c (Some k) p = (each_post (Follows (output.Ack k.to k.number)) c p (λ m made q l there. tt), tt)
+
+ack_rises : (k : Option LinkAck) → EachRises (send_ack k)
+ack_rises None = tt
+ack_rises (Some k) = (tt, tt)
+
+reply_rises : (r : Option Reply) → EachRises (send_reply r)
+reply_rises None = tt
+reply_rises (Some r) = (tt, tt)
+
+acks_reply : (k : Option LinkAck) (r : Option Reply) → AllFollow (send_ack k) (send_reply r)
+acks_reply None r = tt
+acks_reply (Some k) None = (tt, tt)
+acks_reply (Some k) (Some r) = ((tt, tt), tt)
+
+send_reply_follows : (q n : ℕ) (m : Message) (r : Option Reply) → AllByRecursion (Follows (output.Send q n m)) (send_reply r)
+send_reply_follows q n m None = tt
+send_reply_follows q n m (Some r) = (tt, tt)
+
+then_reply : (c : Core) (k : Option LinkAck) (p : Option Message) (r : Option Reply) → AllFollow (send_ack k ++ send_post c p) (send_reply r)
+then_reply c k p r =
+    all_both (λ x. AllByRecursion (Follows x) (send_reply r)) (send_ack k) (send_post c p) (acks_reply k r)
+    (each_post (λ x. AllByRecursion (Follows x) (send_reply r)) c p (λ m made q l there. send_reply_follows q (c.posts - l.start) m r))
+
+outputs_rise : (c : Core) (e : Event) → EachRises (outputs c e)
+outputs_rise c e =
+    let a = send_ack (core.ack e) in
+    let p = send_post (next c e) (post c e) in
+    rises_both (a ++ p) (send_reply (reply c e)) (rises_both a p (ack_rises (core.ack e)) (post_rises (next c e) (post c e)) (ack_then (next c e) (core.ack e) (post c e)))
+    (reply_rises (reply c e)) (then_reply (next c e) (core.ack e) (post c e) (reply c e))
+
+-- ---- along a list
+
+line_follows : (n : Node) (es : List Event) (x : Output) → IsLawfulNode n → IsLawful n es → IsPast n.core x → AllByRecursion (Follows x) (line n es)
+unfolding step
+line_follows n [] x h d past = tt
+line_follows n (e ∷ es) x h d past =
+    all_both (Follows x) (outputs n.core e) (line (step n e) es) (outputs_follow n.core e x d.0 h.core past)
+    (line_follows (step n e) es x (step_lawful n e d.0 h) d.1 (past_stays n.core e x d.0 past))
+
+line_rises : (n : Node) (es : List Event) → IsLawfulNode n → IsLawful n es → EachRises (line n es)
+unfolding step
+line_rises n [] h d = tt
+line_rises n (e ∷ es) h d =
+    let next_lawful = step_lawful n e d.0 h in
+    rises_both (outputs n.core e) (line (step n e) es) (outputs_rise n.core e) (line_rises (step n e) es next_lawful d.1)
+    (all_map (IsPast (next n.core e)) (λ x. AllByRecursion (Follows x) (line (step n e) es)) (λ x past. line_follows (step n e) es x next_lawful d.1 past)
+    (outputs n.core e) (outputs_past n.core e h.core))
+
+-- what stands was put out before
+standing_past : (n : Node) (o : Output) → IsLawfulNode n → Stands n o → IsPast n.core o
+standing_past n (output.Send to wire m) h s =
+    let c = n.core in
+    let old : s.0 ≤ c.posts = (h.posts.within s.0 (ap is_some s.2)).1 in
+    record {
+      link = s.1;
+      there = at_some (λ l. table.get c.links to ≡ Some l) (table.get (live_links c) to) s.1 s.3 (live_there c.churn.changes.left c.links to);
+      posted = omega (arith, old, s.4.is_number);
+    }
+standing_past n (output.Ack to heard) h s =
+    let now : heard_from to n.core.links ≡ heard = ap (λ o. option_map_or (λ (l : Link). l.heard) o 0) s.1 ∙ s.2 in omega (arith, now)
+standing_past n (output.Reply x r a) h s = record {
+  begun = omega (arith, last_is n.core.sessions x r s.1);
+  ended = λ t. absurd ((h.answers x (ap is_some s.0)).1 t);
+}
+
+pub outputs_follow_each_other : (n : Node) (es : List Event) → IsLawfulNode n → IsLawful n es → AllPairs Follows (line n es)
+outputs_follow_each_other n es h d = pairs_rise (line n es) (line_rises n es h d)
+
+pub no_output_twice : (n : Node) (es : List Event) → IsLawfulNode n → IsLawful n es → AllPairs (λ x y. x ≢ y) (line n es)
+no_output_twice n es h d i j o before inside = follows_apart _ _ (outputs_follow_each_other n es h d i j o before inside)
+
+pub standing_followed : (n : Node) (es : List Event) (o : Output) → IsLawfulNode n → IsLawful n es → Stands n o → All (Follows o) (line n es)
+standing_followed n es o h d s = All-from_recursion (Follows o) (line n es) (line_follows n es o h d (standing_past n o h s))

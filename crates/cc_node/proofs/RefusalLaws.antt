@@ -1,0 +1,145 @@
+-- What is known of an event that isn't refused.
+--     takes_delivery, takes_ack, takes_ask     what each check that passed says
+--     takes_any                                no post is too many, and no counter goes past its limit
+--     stays_within, none_overruns              a counter that isn't spent stays within its limit
+use Rattle.std.proofs.Common.{◌≡◌, ℕ, ◌+◌, ◌-◌, ◌≤◌, Bool, true, false, not, ◌&&◌, nat_lt, nat_le, List, [], ◌∷◌, refl, inl, inr, arith}
+use Rattle.std.specs.Prelude.{Option, Some, None, is_some, ◌==◌}
+use Rattle.std.specs.Option.{option_map_or}
+use Rattle.std.specs.Bool.{then_some}
+use Rattle.std.specs.List.{AllByRecursion}
+use Rattle.std.specs.FinMap as table
+use Rattle.std.proofs.lemmas.Bool.{or_parts, and_cases, eqb-false, ltb-false}
+use Rattle.cc_views.specs.Limits.{overruns}
+use Rattle.cc_wire.specs.declared.command.Command.{Command}
+use Rattle.cc_wire.specs.declared.event.Event.{Event}
+use Rattle.cc_wire.specs.declared.event.Event.TheVariants as event
+use Rattle.cc_wire.specs.declared.message.Message.{Message}
+use Rattle.cc_wire.specs.declared.refusal.Refusal.{Refusal}
+use Rattle.cc_wire.specs.declared.refusal.Refusal.TheVariants as refusal
+use Rattle.cc_wire.specs.Refusals.{first_of}
+use Rattle.cc_ops.specs.Commands.{finds_no_room}
+use Rattle.cc_ops.specs.Ops.{Phase, Idle, Storing, Querying, StoringBack, is_idle}
+use Rattle.cc_links.specs.Links.{heard_from, awaits_ack}
+use Rattle.cc_sessions.specs.Sessions as requests
+use Rattle.cc_sessions.specs.Sessions.{last_request, is_stale, is_skip}
+use Rattle.cc_node.specs.Core.{Core, next, post, lowest, with_links}
+use Rattle.cc_node.specs.Refusals.{known_limit, post_limit, any_overruns, row_overruns, reasons, decides}
+
+all_none : (rs : List (Option Refusal)) → first_of rs ≡ None → AllByRecursion (λ r. r ≡ None) rs
+all_none [] h = tt
+all_none (None ∷ rs) h = (refl, all_none rs h)
+all_none (Some r ∷ rs) h = cc
+
+-- a reason that doesn't hold
+fails : (r : Refusal) (b : Bool) → then_some b r ≡ None → b ≡ false
+fails r true h = cc
+fails r false h = refl
+
+-- neither a post too many, nor a counter past its limit
+pub record Fits (c : Core) (e : Event) : Type 0 where
+  pub posts : (is_some (post c e) && ((c.posts - lowest c) == post_limit)) ≡ false
+  pub counts : any_overruns c (next c e) e ≡ false
+
+pub record TakesDelivery (c : Core) (from n : ℕ) (m : Message) : Type 0 where
+  pub new : nat_le n (heard_from from c.links) ≡ false
+  pub next : nat_lt (heard_from from c.links + 1) n ≡ false
+  pub nodes : nat_lt known_limit (table.len (with_links from m c).links) ≡ false
+  pub fits : Fits c (event.Deliver from n m)
+
+pub record TakesAck (c : Core) (peer n : ℕ) : Type 0 where
+  pub awaited : not (option_map_or (awaits_ack c.posts n) (table.get c.links peer) false) ≡ false
+  pub fits : Fits c (event.Acked peer n)
+
+pub record TakesAsk (c : Core) (s r : ℕ) (command : Command) : Type 0 where
+  pub sessions : requests.finds_no_room c.sessions s ≡ false
+  pub repeat : requests.is_repeat c.sessions s r ≡ false
+  pub new : is_stale c.sessions s r ≡ false
+  pub next : is_skip c.sessions s r ≡ false
+  pub idle : not (is_idle c.ops.phase) ≡ false
+  pub room : finds_no_room c.ops.mine command ≡ false
+  pub fits : Fits c (event.Ask s r command)
+
+pub takes_enter : (c : Core) → decides c event.Enter ≡ None → Fits c event.Enter
+unfolding decides
+takes_enter c h =
+    let e = event.Enter in
+    let all = (all_none (reasons c e) h).1.1 in
+    record { posts = fails refusal.OutboxFull _ all.0; counts = fails refusal.Spent _ all.1.0 }
+
+pub takes_leave : (c : Core) → decides c event.Leave ≡ None → Fits c event.Leave
+unfolding decides
+takes_leave c h =
+    let e = event.Leave in
+    let all = (all_none (reasons c e) h).1.1 in
+    record { posts = fails refusal.OutboxFull _ all.0; counts = fails refusal.Spent _ all.1.0 }
+
+pub takes_delivery : (c : Core) (from n : ℕ) (m : Message) → decides c (event.Deliver from n m) ≡ None → TakesDelivery c from n m
+unfolding decides
+takes_delivery c from n m h =
+    let e = event.Deliver from n m in
+    let all = (all_none (reasons c e) h).1.1 in
+    record {
+      new = fails (refusal.Old (heard_from from c.links)) _ all.0;
+      next = fails (refusal.Gap (heard_from from c.links)) _ all.1.0;
+      nodes = fails refusal.TooManyNodes _ all.1.1.0;
+      fits = record { posts = fails refusal.OutboxFull _ all.1.1.1.0; counts = fails refusal.Spent _ all.1.1.1.1.0 };
+    }
+
+pub takes_ack : (c : Core) (peer n : ℕ) → decides c (event.Acked peer n) ≡ None → TakesAck c peer n
+unfolding decides
+takes_ack c peer n h =
+    let e = event.Acked peer n in
+    let all = all_none (reasons c e) h in
+    record { awaited = fails refusal.NothingToAck _ all.0; fits = record { posts = refl; counts = fails refusal.Spent _ all.1.0 } }
+
+pub takes_ask : (c : Core) (s r : ℕ) (command : Command) → decides c (event.Ask s r command) ≡ None → TakesAsk c s r command
+unfolding decides
+takes_ask c s r command h =
+    let e = event.Ask s r command in
+    let all = (all_none (reasons c e) h).1.1.1 in
+    let rest = all.1.1 in
+    record {
+      sessions = fails refusal.TooManySessions _ all.0;
+      repeat = fails refusal.Repeat _ all.1.0;
+      new = fails (refusal.Stale (last_request c.sessions s)) _ rest.0;
+      next = fails (refusal.Skip (last_request c.sessions s)) _ rest.1.0;
+      idle = fails refusal.Busy _ rest.1.1.0;
+      room = fails refusal.SetFull _ rest.1.1.1.0;
+      fits = record { posts = fails refusal.OutboxFull _ rest.1.1.1.1.0; counts = fails refusal.Spent _ rest.1.1.1.1.1.0 };
+    }
+
+pub takes_any : (c : Core) (e : Event) → decides c e ≡ None → Fits c e
+takes_any c event.Enter h = takes_enter c h
+takes_any c event.Leave h = takes_leave c h
+takes_any c (event.Deliver from n m) h = (takes_delivery c from n m h).fits
+takes_any c (event.Acked peer n) h = (takes_ack c peer n h).fits
+takes_any c (event.Ask s r command) h = (takes_ask c s r command h).fits
+
+-- a counter that may not pass its limit
+pub stays_within : (limit before after : ℕ) → ((before == limit) && nat_lt before after) ≡ false → before ≤ limit → after ≤ before + 1 → after ≤ limit
+stays_within limit before after h a b =
+    elim (and_cases (before == limit) (nat_lt before after) h) as (λ _. after ≤ limit) [
+      | inl e ↦ let apart : before ≡ limit → ⊥ = eqb-false before limit e in omega (arith, apart)
+      | inr e ↦ let down : after ≤ before = ltb-false before after e in omega arith
+    ]
+
+pub record NoneOverruns (c d : Core) (e : Event) : Type 0 where
+  pub number : overruns c.ops.number d.ops.number ≡ false
+  pub tag : overruns c.ops.tag d.ops.tag ≡ false
+  pub posts : overruns c.posts d.posts ≡ false
+  pub echoes : overruns c.churn.echoes d.churn.echoes ≡ false
+  pub row : row_overruns c d e ≡ false
+
+pub none_overruns : (c d : Core) (e : Event) → any_overruns c d e ≡ false → NoneOverruns c d e
+none_overruns c d e h =
+    let a = or_parts _ _ h in
+    let b = or_parts _ _ a.0 in
+    let k = or_parts _ _ b.0 in
+    let l = or_parts _ _ k.0 in
+    record { number = l.0; tag = l.1; posts = k.1; echoes = b.1; row = a.1 }
+
+pub phase_idle : (p : Phase) → not (is_idle p) ≡ false → p ≡ Idle
+phase_idle Idle h = refl
+phase_idle (Storing p) h = cc
+phase_idle (Querying p) h = cc
+phase_idle (StoringBack p seen) h = cc

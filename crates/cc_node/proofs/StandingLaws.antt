@@ -1,0 +1,305 @@
+-- What a node may put out again stood at the start, or was made since.
+--     standing_made
+use Rattle.std.proofs.Common.{◌≡◌, ℕ, ◌+◌, ◌-◌, ◌<◌, ◌≤◌, ◌⊎◌, Bool, true, false, cond, not, nat_eq, nat_lt, List, [], ◌∷◌, ◌++◌, refl, sym, ap, subst, ◌∙◌, inl, inr, arith}
+use Rattle.std.specs.Prelude.{Option, Some, None, IfSome, is_some}
+use Rattle.std.specs.Bool.{then_some}
+use Rattle.std.specs.Option.{option_len, option_map_or}
+use Rattle.std.specs.List.{Contains}
+use Rattle.std.specs.Ordering.{nat_cmp}
+use Rattle.std.specs.Cmp.{nat_cmp_total, unsigned_tied}
+use Rattle.std.specs.FinMap as table
+use Rattle.std.specs.FinMap.{FinMap, find, nat_cmp-IsAntisymmetric}
+use Rattle.std.proofs.lemmas.Bool.{eqb-true}
+use Rattle.std.proofs.lemmas.Bool.Decides.{eqb_tells}
+use Rattle.std.proofs.lemmas.List.Elements.{Contains-append_left, Contains-append_right}
+use Rattle.cc_views.specs.NatSets as set
+use Rattle.cc_views.specs.NatSets.{get-insert_key}
+use Rattle.cc_views.specs.Rows.{ViewMap}
+use Rattle.cc_wire.specs.declared.answer.Answer.{Answer}
+use Rattle.cc_wire.specs.declared.event.Event.{Event}
+use Rattle.cc_wire.specs.declared.event.Event.TheVariants as event
+use Rattle.cc_wire.specs.declared.message.Message.{Message}
+use Rattle.cc_wire.specs.declared.message.Message.TheVariants as message
+use Rattle.cc_wire.specs.declared.output.Output.{Output}
+use Rattle.cc_wire.specs.declared.output.Output.TheVariants as output
+use Rattle.cc_ops.specs.Ops as ops
+use Rattle.cc_ops.specs.Ops.{Ops, Phase, Idle, Storing, Querying, StoringBack}
+use Rattle.cc_ops.specs.declared.pending.Reply.{Reply}
+use Rattle.cc_links.specs.Links.{Link, Links, with_row, add_all, hear, heard_from}
+use Rattle.cc_links.specs.LinkLaws.{LinkGoesOn, get-live}
+use Rattle.cc_sessions.specs.Sessions.{Requests}
+use Rattle.cc_outbox.specs.Outbox.{Outbox}
+use Rattle.cc_node.specs.Core as core
+use Rattle.cc_node.specs.Core.{ids_of, next, post, reply, outputs, sends, send_post, send_ack, send_reply, lowest, live_links}
+use Rattle.cc_node.specs.Refusals.{decides}
+use Rattle.cc_node.specs.Node.{Node, step, after, line, keep, add, forget_asked, Stands, MayBeOut, IsLawful}
+use Rattle.cc_node.specs.Lawful.{IsPhaseOf, IsLawfulNode}
+use Rattle.cc_node.proofs.KeptLaws.{same_some}
+use Rattle.cc_node.proofs.LawfulLaws.{links_go_on, left_grows, add_all_heard, hears_now, step_lawful}
+
+contains_head : {X : Type 0} (x : X) (xs : List X) → Contains (x ∷ xs) x
+contains_head x xs = Contains-append_left (x ∷ []) xs x (0, omega arith, refl)
+
+contains_tail : {X : Type 0} (x y : X) (xs : List X) → Contains xs y → Contains (x ∷ xs) y
+contains_tail x y xs h = Contains-append_right (x ∷ []) xs y h
+
+-- ---- posts
+
+sends_contain : (n : ℕ) (m : Message) (rows : List (ℕ × Link)) (q : ℕ) (l : Link) → find nat_cmp q rows ≡ Some l → Contains (sends n m rows) (output.Send q (n - l.start) m)
+sends_contain n m [] q l e = cc
+sends_contain n m (row ∷ rows) q l e =
+    elim (nat_eq q row.0) as (λ b. nat_eq q row.0 ≡ b → Contains (sends n m (row ∷ rows)) (output.Send q (n - l.start) m)) [
+      | true ↦ λ t.
+          let found : Some row.1 ≡ Some l = ap (λ b. cond b (Some row.1) (find nat_cmp q rows)) (sym (unsigned_tied q row.0 ∙ t)) ∙ e in
+          let here : output.Send row.0 (n - row.1.start) m ≡ output.Send q (n - l.start) m =
+          ap (λ k. output.Send k (n - row.1.start) m) (sym (eqb-true q row.0 t)) ∙ ap (λ (k : Link). output.Send q (n - k.start) m) (same_some row.1 l found) in
+          subst (Contains (sends n m (row ∷ rows))) here (contains_head (output.Send row.0 (n - row.1.start) m) (sends n m rows))
+      | false ↦ λ t.
+          contains_tail (output.Send row.0 (n - row.1.start) m) (output.Send q (n - l.start) m) (sends n m rows)
+          (sends_contain n m rows q l (ap (λ b. cond b (Some row.1) (find nat_cmp q rows)) (sym (unsigned_tied q row.0 ∙ t)) ∙ e))
+    ] refl
+
+only_some : {X : Type 0} (b : Bool) (o : Option X) (x : X) → cond b o None ≡ Some x → o ≡ Some x
+only_some true o x e = e
+only_some false o x e = cc
+
+posts_keep : (r : Option Reply) (o : Outbox) → (keep r o).posts ≡ o.posts
+posts_keep None o = refl
+posts_keep (Some r) o = refl
+
+posts_forget : (e : Event) (o : Outbox) → (forget_asked e o).posts ≡ o.posts
+posts_forget event.Enter o = refl
+posts_forget event.Leave o = refl
+posts_forget (event.Deliver from n m) o = refl
+posts_forget (event.Acked peer n) o = refl
+posts_forget (event.Ask s r command) o = refl
+
+last_forget : (e : Event) (o : Outbox) → (forget_asked e o).last ≡ o.last
+last_forget event.Enter o = refl
+last_forget event.Leave o = refl
+last_forget (event.Deliver from n m) o = refl
+last_forget (event.Acked peer n) o = refl
+last_forget (event.Ask s r command) o = refl
+
+kept_or_new : (p : Option Message) (o : Outbox) (number : ℕ) (m : Message) → table.get (add p o).posts number ≡ Some m
+    → (table.get o.posts number ≡ Some m) ⊎ ((number ≡ o.last + 1) × (p ≡ Some m))
+kept_or_new None o number m e = inl e
+kept_or_new (Some x) o number m e =
+    let k = o.last + 1 in
+    elim (nat_eq number k) as (λ b. nat_eq number k ≡ b → (table.get o.posts number ≡ Some m) ⊎ ((number ≡ k) × (Some x ≡ Some m))) [
+      | true ↦ λ t. inr (eqb-true number k t, ap (λ b. cond b (Some x) (table.get o.posts number)) (sym t) ∙ sym (get-insert_key o.posts k x number) ∙ e)
+      | false ↦ λ t. inl (ap (λ b. cond b (Some x) (table.get o.posts number)) (sym t) ∙ sym (get-insert_key o.posts k x number) ∙ e)
+    ] refl
+
+-- what is kept above a number
+get-above : (low : ℕ) (posts : FinMap nat_cmp Message) (q : ℕ) → table.get (table.retain_keys posts (λ k. nat_lt low k)) q ≡ cond (nat_lt low q) (table.get posts q) None
+get-above low posts q = table.get-retain_keys posts (λ k. nat_lt low k) q (λ x tied. ap (nat_lt low) (sym (nat_cmp-IsAntisymmetric q x tied)))
+
+-- a live link that starts below an old post was live already, and no more was acknowledged on it
+record WasLive (b : Bool) (o : Option Link) (m : Link) : Type 0 where
+  link : Link
+  live : cond (not b) o None ≡ Some link
+  start : link.start ≡ m.start
+  acked : link.acked ≤ m.acked
+
+went_on : (posts number : ℕ) (o o' : Option Link) (m : Link) → LinkGoesOn posts o o' → number ≤ posts → o' ≡ Some m → m.start < number → WasLive false o m
+went_on posts number o None m goes old e above = cc
+went_on posts number None (Some k) m goes old e above =
+    let same : k.start ≡ m.start = ap (λ (l : Link). l.start) (same_some k m e) in absurd (omega (arith, goes))
+went_on posts number (Some l) (Some k) m goes old e above =
+    let same : k.start ≡ m.start = ap (λ (l : Link). l.start) (same_some k m e) in
+    let acks : k.acked ≡ m.acked = ap (λ (l : Link). l.acked) (same_some k m e) in
+    record { link = l; live = refl; start = omega (arith, goes.0); acked = omega (arith, goes.1) }
+
+was_live : (posts number : ℕ) (b b' : Bool) (o o' : Option Link) (m : Link) → (b ≡ true → b' ≡ true) → LinkGoesOn posts o o' → number ≤ posts
+    → cond (not b') o' None ≡ Some m → m.start < number → WasLive b o m
+was_live posts number b true o o' m grows goes old e above = cc
+was_live posts number true false o o' m grows goes old e above = let no : false ≡ true = grows refl in cc
+was_live posts number false false o o' m grows goes old e above = went_on posts number o o' m goes old e above
+
+step_send : (n : Node) (e : Event) (to wire : ℕ) (m : Message) → decides n.core e ≡ None → IsLawfulNode n → Stands (step n e) (output.Send to wire m)
+    → Stands n (output.Send to wire m) ⊎ Contains (outputs n.core e) (output.Send to wire m)
+unfolding step next
+step_send n e to wire m d h s =
+    let c = n.core in
+    let number = s.0 in
+    let l = s.1 in
+    let live : cond (not (set.contains (next c e).churn.changes.left to)) (table.get (next c e).links to) None ≡ Some l =
+    sym (get-live (next c e).churn.changes.left (next c e).links to) ∙ s.3 in
+    let added = add (post c e) (forget_asked e n.outbox) in
+    let kept : table.get added.posts number ≡ Some m =
+    ap (λ p. table.get p number) (sym (posts_keep (reply c e) added))
+    ∙ only_some (nat_lt (lowest (next c e)) number) (table.get (keep (reply c e) added).posts number) m (sym (get-above (lowest (next c e)) (keep (reply c e) added).posts number) ∙ s.2) in
+    elim (kept_or_new (post c e) (forget_asked e n.outbox) number m kept)
+    as (λ _. Stands n (output.Send to wire m) ⊎ Contains (outputs n.core e) (output.Send to wire m)) [
+      | inl old ↦
+          let was : table.get n.outbox.posts number ≡ Some m = ap (λ p. table.get p number) (sym (posts_forget e n.outbox)) ∙ old in
+          let early : number ≤ c.posts = (h.posts.within number (ap is_some was)).1 in
+          let w = was_live c.posts number (set.contains c.churn.changes.left to) (set.contains (next c e).churn.changes.left to) (table.get c.links to) (table.get (next c e).links to) l
+          (left_grows c e to) (links_go_on c e d to) early live s.4.above in
+          inl (
+            number,
+            w.link,
+            was,
+            get-live c.churn.changes.left c.links to ∙ w.live,
+            record {
+              above = omega (arith, w.start, s.4.above);
+              unacked = omega (arith, w.acked, s.4.unacked);
+              is_number = s.4.is_number ∙ ap (λ k. number - k) (sym w.start);
+            },
+          )
+      | inr new ↦
+          let sent : Contains (sends (next c e).posts m (table.entries (live_links (next c e)))) (output.Send to ((next c e).posts - l.start) m) =
+          sends_contain (next c e).posts m (table.entries (live_links (next c e))) to l (sym (table.get-entries (live_links (next c e)) to) ∙ s.3) in
+          let made : number ≡ c.posts + 1 = new.0 ∙ ap (λ k. k + 1) (last_forget e n.outbox ∙ h.last) in
+          let count : (next c e).posts ≡ number = ap (λ p. c.posts + option_len p) new.1 ∙ sym made in
+          let is : output.Send to ((next c e).posts - l.start) m ≡ output.Send to wire m = ap (λ k. output.Send to (k - l.start) m) count ∙ ap (λ k. output.Send to k m) (sym s.4.is_number) in
+          let here : Contains (send_post (next c e) (post c e)) (output.Send to wire m) =
+          subst (λ p. Contains (send_post (next c e) p) (output.Send to wire m)) (sym new.1)
+          (subst (Contains (sends (next c e).posts m (table.entries (live_links (next c e))))) is sent) in
+          inr (Contains-append_left (send_ack (core.ack e) ++ send_post (next c e) (post c e)) (send_reply (reply c e)) _
+          (Contains-append_right (send_ack (core.ack e)) (send_post (next c e) (post c e)) _ here))
+    ]
+
+-- ---- acknowledgements
+
+of_heard : (o : Option Link) (heard : ℕ) → option_map_or (λ l. l.heard) o 0 ≡ heard → 0 < heard → (l : Link) × (o ≡ Some l) × (l.heard ≡ heard) × (0 < heard)
+of_heard None heard e h = absurd (omega (arith, e))
+of_heard (Some l) heard e h = (l, refl, e, h)
+
+row_heard : (q peer : ℕ) (change : Link → Link) (o : Option Link) (ls : Links) → table.get ls peer ≡ o → nat_eq q peer ≡ false → heard_from q (with_row peer change o ls) ≡ heard_from q ls
+row_heard q peer change None ls e apart = refl
+row_heard q peer change (Some l) ls e apart =
+    ap (λ o. option_map_or (λ (k : Link). k.heard) o 0) (get-insert_key ls peer (change l) q ∙ ap (λ b. cond b (Some (change l)) (table.get ls q)) apart)
+
+ack_heard_of : (q peer n : ℕ) (o : Option Link) (ls : Links) → table.get ls peer ≡ o → heard_from q (with_row peer (λ l. record l { acked = n }) o ls) ≡ heard_from q ls
+ack_heard_of q peer n None ls e = refl
+ack_heard_of q peer n (Some l) ls e =
+    elim (eqb_tells q peer) as (λ _. heard_from q (table.insert ls peer (record l { acked = n })) ≡ heard_from q ls) [
+      | inl t ↦
+          ap (λ o. option_map_or (λ (k : Link). k.heard) o 0) (get-insert_key ls peer (record l { acked = n }) q ∙ ap (λ b. cond b (Some (record l { acked = n })) (table.get ls q)) t.0)
+          ∙ sym (ap (λ o. option_map_or (λ (k : Link). k.heard) o 0) (ap (table.get ls) t.1 ∙ e))
+      | inr t ↦ ap (λ o. option_map_or (λ (k : Link). k.heard) o 0) (get-insert_key ls peer (record l { acked = n }) q ∙ ap (λ b. cond b (Some (record l { acked = n })) (table.get ls q)) t.0)
+    ]
+
+step_ack : (n : Node) (e : Event) (to heard : ℕ) → Stands (step n e) (output.Ack to heard) → Stands n (output.Ack to heard) ⊎ Contains (outputs n.core e) (output.Ack to heard)
+unfolding step next
+step_ack n event.Enter to heard s = inl s
+step_ack n event.Leave to heard s = inl s
+step_ack n (event.Deliver from k m) to heard s =
+    let c = n.core in
+    let e = event.Deliver from k m in
+    let ls = add_all c.posts (from ∷ ids_of m) c.links in
+    let now : heard_from to (hear from k ls) ≡ heard = ap (λ o. option_map_or (λ (l : Link). l.heard) o 0) s.1 ∙ s.2 in
+    elim (eqb_tells to from) as (λ _. Stands n (output.Ack to heard) ⊎ Contains (outputs n.core e) (output.Ack to heard)) [
+      | inl t ↦
+          let number : k ≡ heard = sym (hears_now c from k m) ∙ ap (λ q. heard_from q (hear from k ls)) (sym t.1) ∙ now in
+          let is : output.Ack from k ≡ output.Ack to heard = ap (λ q. output.Ack q k) (sym t.1) ∙ ap (λ q. output.Ack to q) number in
+          inr (Contains-append_left (send_ack (core.ack e) ++ send_post (next c e) (post c e)) (send_reply (reply c e)) _
+          (Contains-append_left (send_ack (core.ack e)) (send_post (next c e) (post c e)) _ (subst (Contains (output.Ack from k ∷ [])) is (contains_head (output.Ack from k) []))))
+      | inr t ↦ inl (of_heard (table.get c.links to) heard
+          (sym (row_heard to from (λ l. record l { heard = k }) (table.get ls from) ls refl t.0 ∙ add_all_heard c.posts (from ∷ ids_of m) c.links to) ∙ now) s.3)
+    ]
+step_ack n (event.Acked peer k) to heard s =
+    let c = n.core in
+    inl (of_heard (table.get c.links to) heard
+    (sym (ack_heard_of to peer k (table.get c.links peer) c.links refl) ∙ ap (λ o. option_map_or (λ (l : Link). l.heard) o 0) s.1 ∙ s.2) s.3)
+step_ack n (event.Ask x r k) to heard s = inl s
+
+-- ---- answers
+
+either_some : {X : Type 0} (Q : X → Type 0) (b : Bool) (x y : Option X) → IfSome x Q → IfSome y Q → IfSome (cond b x y) Q
+either_some Q true x y h k = h
+either_some Q false x y h k = k
+
+if_then : {X : Type 0} (Q : X → Type 0) (b : Bool) (x : X) → Q x → IfSome (then_some b x) Q
+if_then Q true x h = h
+if_then Q false x h = tt
+
+abbrev IsLast : Requests → Reply → Type 0
+IsLast ss r = table.get ss r.session ≡ Some r.request
+
+reply_in_last : (ls : Links) (ss : Requests) (v : ViewMap) (phase : Phase) → IsPhaseOf ls ss phase → IfSome (ops.reply_in v phase) (IsLast ss)
+reply_in_last ls ss v Idle h = tt
+reply_in_last ls ss v (Storing p) h = if_then (IsLast ss) (ops.is_last p) (ops.told p v) h.0.session
+reply_in_last ls ss v (Querying p) h = tt
+reply_in_last ls ss v (StoringBack p seen) h = if_then (IsLast ss) (ops.is_last p) (ops.told p seen) h.0.session
+
+reply_last : (ls : Links) (ss : Requests) (me : ℕ) (m : Message) (s : Ops) → IsPhaseOf ls ss s.phase → IfSome (ops.reply_of me m s) (IsLast ss)
+reply_last ls ss me (message.Enter q) s h = tt
+reply_last ls ss me (message.EnterEcho c v j q) s h = tt
+reply_last ls ss me (message.Join q) s h = tt
+reply_last ls ss me (message.JoinEcho q) s h = tt
+reply_last ls ss me (message.Leave q) s h = tt
+reply_last ls ss me (message.LeaveEcho q) s h = tt
+reply_last ls ss me (message.Query tag q) s h = tt
+reply_last ls ss me (message.QueryReply v tag q) s h = tt
+reply_last ls ss me (message.Store v tag q) s h = tt
+reply_last ls ss me (message.StoreAck tag q) s h =
+    either_some (IsLast ss) (ops.is_own me tag q s) (ops.reply_in s.view s.phase) None (reply_in_last ls ss s.view s.phase h) tt
+
+answers_add : (p : Option Message) (r : Option Reply) (o : Outbox) → (keep r (add p o)).answers ≡ (keep r o).answers
+answers_add None r o = refl
+answers_add (Some m) None o = refl
+answers_add (Some m) (Some r) o = refl
+
+kept_or_told : (ss : Requests) (r : Option Reply) (o : Outbox) (x q : ℕ) (a : Answer) → IfSome r (IsLast ss) → table.get (keep r o).answers x ≡ Some a → table.get ss x ≡ Some q
+    → (table.get o.answers x ≡ Some a) ⊎ Contains (send_reply r) (output.Reply x q a)
+kept_or_told ss None o x q a h e f = inl e
+kept_or_told ss (Some r) o x q a h e f =
+    elim (eqb_tells x r.session) as (λ _. (table.get o.answers x ≡ Some a) ⊎ Contains (send_reply (Some r)) (output.Reply x q a)) [
+      | inl t ↦
+          let answer : r.answer ≡ a = same_some r.answer a (ap (λ b. cond b (Some r.answer) (table.get o.answers x)) (sym t.0) ∙ sym (get-insert_key o.answers r.session r.answer x) ∙ e) in
+          let request : r.request ≡ q = same_some r.request q (sym h ∙ ap (table.get ss) (sym t.1) ∙ f) in
+          let is : output.Reply r.session r.request r.answer ≡ output.Reply x q a =
+          ap (λ k. output.Reply k r.request r.answer) (sym t.1) ∙ ap (λ k. output.Reply x k r.answer) request ∙ ap (λ k. output.Reply x q k) answer in
+          inr (subst (Contains (send_reply (Some r))) is (contains_head (output.Reply r.session r.request r.answer) []))
+      | inr t ↦ inl (ap (λ b. cond b (Some r.answer) (table.get o.answers x)) (sym t.0) ∙ sym (get-insert_key o.answers r.session r.answer x) ∙ e)
+    ]
+
+get-remove_key : {X : Type 0} (m : FinMap nat_cmp X) (k q : ℕ) → table.get (table.remove m k) q ≡ cond (nat_eq q k) None (table.get m q)
+get-remove_key m k q = table.get-remove nat_cmp_total m k q ∙ ap (λ b. cond b None (table.get m q)) (unsigned_tied q k)
+
+step_reply : (n : Node) (e : Event) (x q : ℕ) (a : Answer) → IsLawfulNode n → Stands (step n e) (output.Reply x q a)
+    → Stands n (output.Reply x q a) ⊎ Contains (outputs n.core e) (output.Reply x q a)
+unfolding step next
+step_reply n event.Enter x q a h s = inl s
+step_reply n event.Leave x q a h s = inl s
+step_reply n (event.Deliver from k m) x q a h s =
+    let c = n.core in
+    let e = event.Deliver from k m in
+    elim (kept_or_told c.sessions (reply c e) n.outbox x q a (reply_last c.links c.sessions c.me m c.ops h.core.phase)
+    (ap (λ o. table.get o x) (sym (answers_add (post c e) (reply c e) n.outbox)) ∙ s.0) s.1)
+    as (λ _. Stands n (output.Reply x q a) ⊎ Contains (outputs n.core e) (output.Reply x q a)) [
+      | inl old ↦ inl (old, s.1)
+      | inr new ↦ inr (Contains-append_right (send_ack (core.ack e) ++ send_post (next c e) (post c e)) (send_reply (reply c e)) _ new)
+    ]
+step_reply n (event.Acked peer k) x q a h s = inl s
+step_reply n (event.Ask y r k) x q a h s =
+    let c = n.core in
+    elim (nat_eq x y) as (λ b. nat_eq x y ≡ b → Stands n (output.Reply x q a) ⊎ Contains (outputs n.core (event.Ask y r k)) (output.Reply x q a)) [
+      | true ↦ λ t.
+          let gone : None ≡ Some a = ap (λ b. cond b None (table.get n.outbox.answers x)) (sym t) ∙ sym (get-remove_key n.outbox.answers y x) ∙ s.0 in cc
+      | false ↦ λ t. inl (
+        ap (λ b. cond b None (table.get n.outbox.answers x)) (sym t) ∙ sym (get-remove_key n.outbox.answers y x) ∙ s.0,
+        ap (λ b. cond b (Some r) (table.get c.sessions x)) (sym t) ∙ sym (get-insert_key c.sessions y r x) ∙ s.1,
+      )
+    ] refl
+
+-- ---- along a list
+
+step_stands : (n : Node) (e : Event) (o : Output) → decides n.core e ≡ None → IsLawfulNode n → Stands (step n e) o → Stands n o ⊎ Contains (outputs n.core e) o
+step_stands n e (output.Send to wire m) d h s = step_send n e to wire m d h s
+step_stands n e (output.Ack to heard) d h s = step_ack n e to heard s
+step_stands n e (output.Reply x q a) d h s = step_reply n e x q a h s
+
+pub standing_made : (n : Node) (es : List Event) (o : Output) → IsLawfulNode n → IsLawful n es → Stands (after n es) o → MayBeOut n es o
+standing_made n [] o h d s = inl s
+standing_made n (e ∷ es) o h d s =
+    elim (standing_made (step n e) es o (step_lawful n e d.0 h) d.1 s) as (λ _. MayBeOut n (e ∷ es) o) [
+      | inl stands ↦ elim (step_stands n e o d.0 h stands) as (λ _. MayBeOut n (e ∷ es) o) [
+        | inl old ↦ inl old
+        | inr made ↦ inr (Contains-append_left (outputs n.core e) (line (step n e) es) o made)
+      ]
+      | inr later ↦ inr (Contains-append_right (outputs n.core e) (line (step n e) es) o later)
+    ]

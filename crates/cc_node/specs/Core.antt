@@ -1,0 +1,139 @@
+-- The core of a node, and what one event makes of it and puts out.
+--     Core            the plain state
+--     next C e        the state after an event
+--     made C e        the acknowledgement, the post and the answer that it makes
+--     outputs C e     what is put out for it, in order
+use Rattle.std.specs.Prelude.{ℕ, ◌+◌, ◌-◌, List, [], ◌∷◌, ◌++◌, map, Option, Some, None}
+use Rattle.std.specs.Option.{option_len, option_or}
+use Rattle.std.specs.FinMap as table
+use Rattle.cc_views.specs.NatSets as set
+use Rattle.cc_changes.specs.declared.fraction.Fraction.{Fraction}
+use Rattle.cc_wire.specs.declared.event.Event.{Event}
+use Rattle.cc_wire.specs.declared.event.Event.TheVariants as event
+use Rattle.cc_wire.specs.declared.message.Message.{Message}
+use Rattle.cc_wire.specs.declared.message.Message.TheVariants as message
+use Rattle.cc_wire.specs.declared.output.Output.{Output}
+use Rattle.cc_wire.specs.declared.output.Output.TheVariants as output
+use Rattle.cc_churn.specs.Churn as churn
+use Rattle.cc_ops.specs.Ops as ops
+use Rattle.cc_links.specs.Links as links
+use Rattle.cc_links.specs.Links.{Link, Links}
+use Rattle.cc_sessions.specs.Sessions.{Requests}
+use Rattle.cc_ops.specs.declared.pending.Reply.{Reply}
+use Rattle.cc_node.specs.declared.made.LinkAck.{LinkAck}
+use Rattle.cc_node.specs.declared.made.Made.{Made}
+
+pub record Core : Type 0 where
+  pub me : ℕ
+  pub beta : Fraction
+  pub gamma : Fraction
+  pub churn : churn.Churn
+  pub ops : ops.Ops
+  -- how many posts were ever made
+  pub posts : ℕ
+  pub links : Links
+  -- of each session the last request
+  pub sessions : Requests
+
+-- how many answers an operation needs that begins now
+abbrev pub quorum : Core → ℕ
+quorum c = churn.quorum c.beta c.churn
+
+-- every node that a message names
+abbrev pub ids_of : Message → List ℕ
+ids_of (message.Enter q) = q ∷ []
+ids_of (message.EnterEcho c v from_joined q) = q ∷ set.items c.entered ++ set.items c.joined ++ set.items c.left ++ table.keys v
+ids_of (message.Join q) = q ∷ []
+ids_of (message.JoinEcho q) = q ∷ []
+ids_of (message.Leave q) = q ∷ []
+ids_of (message.LeaveEcho q) = q ∷ []
+ids_of (message.Query tag q) = q ∷ []
+ids_of (message.QueryReply v tag q) = q ∷ table.keys v
+ids_of (message.Store v tag q) = q ∷ table.keys v
+ids_of (message.StoreAck tag q) = q ∷ []
+
+-- who is known after this message from that peer
+abbrev pub with_links : ℕ → Message → Core → Core
+with_links from m c = record c { links = links.add_all c.posts (from ∷ ids_of m) c.links }
+
+abbrev pub with_heard : ℕ → ℕ → Core → Core
+with_heard from n c = record c { links = links.hear from n c.links }
+
+abbrev pub with_message : Message → Core → Core
+with_message m c = record c {
+  churn = churn.after_message c.me c.gamma m c.churn;
+  ops = ops.after_message c.me (quorum c) m c.ops;
+}
+
+-- the state after an event, its post not yet counted
+abbrev pub handled : Core → Event → Core
+handled c event.Enter = record c { churn = churn.with_entered c.me c.churn }
+handled c event.Leave = record c { churn = churn.with_left c.me c.churn }
+handled c (event.Deliver from n m) = with_message m (with_heard from n (with_links from m c))
+handled c (event.Acked peer n) = record c { links = links.ack peer n c.links }
+handled c (event.Ask s r command) = record c {
+  ops = ops.after_ask c.me (quorum c) (record { session = s; request = r; command = command }) c.ops;
+  sessions = table.insert c.sessions s r;
+}
+
+-- what a message is answered with
+abbrev pub post_to : Message → Core → Core → Option Message
+post_to m before after =
+    option_or (churn.post_of after.me after.ops.view m before.churn after.churn)
+    (ops.post_of after.me (churn.has_joined after.me after.churn) m before.ops after.ops)
+
+-- the post of an event: the state after it is told, up to the count of posts
+abbrev pub post : Core → Event → Option Message
+post c event.Enter = Some (message.Enter c.me)
+post c event.Leave = Some (message.Leave c.me)
+post c (event.Deliver from n m) = post_to m c (handled c (event.Deliver from n m))
+post c (event.Acked peer n) = None
+post c (event.Ask s r command) =
+    Some (ops.first_post c.me (record { session = s; request = r; command = command }) (handled c (event.Ask s r command)).ops)
+
+unfoldable pub next : Core → Event → Core
+next c e = record (handled c e) { posts = c.posts + option_len (post c e) }
+
+-- the acknowledgement of a delivery
+abbrev pub ack : Event → Option LinkAck
+ack event.Enter = None
+ack event.Leave = None
+ack (event.Deliver from n m) = Some (record { to = from; number = n })
+ack (event.Acked peer n) = None
+ack (event.Ask s r command) = None
+
+abbrev pub reply : Core → Event → Option Reply
+reply c event.Enter = None
+reply c event.Leave = None
+reply c (event.Deliver from n m) = ops.reply_of c.me m c.ops
+reply c (event.Acked peer n) = None
+reply c (event.Ask s r command) = None
+
+abbrev pub made : Core → Event → Made
+made c e = record { ack = ack e; post = post c e; answer = reply c e }
+
+abbrev pub live_links : Core → Links
+live_links c = links.live c.churn.changes.left c.links
+
+-- every post up to it is acknowledged on each live link
+abbrev pub lowest : Core → ℕ
+lowest c = links.lowest c.churn.changes.left c.posts c.links
+
+-- post number n on each link of a table, by ascending peer
+abbrev pub sends : ℕ → Message → List (ℕ × Link) → List Output
+sends n m rows = map (λ row. output.Send row.0 (n - row.1.start) m) rows
+
+abbrev pub send_post : Core → Option Message → List Output
+send_post after None = []
+send_post after (Some m) = sends after.posts m (table.entries (live_links after))
+
+abbrev pub send_ack : Option LinkAck → List Output
+send_ack None = []
+send_ack (Some a) = output.Ack a.to a.number ∷ []
+
+abbrev pub send_reply : Option Reply → List Output
+send_reply None = []
+send_reply (Some r) = output.Reply r.session r.request r.answer ∷ []
+
+abbrev pub outputs : Core → Event → List Output
+outputs c e = send_ack (ack e) ++ send_post (next c e) (post c e) ++ send_reply (reply c e)

@@ -1,0 +1,9 @@
+pub mod Core
+pub mod Refusals
+pub mod Node
+pub mod Lawful
+pub mod Opening
+pub mod Codes
+pub mod Writes
+pub mod Known
+pub mod Lines

@@ -1,0 +1,77 @@
+-- A node: its core, and what it keeps to put out again. Whole histories of events.
+--     step N e         the node after an event
+--     after N es       after a list of events
+--     line N es        all that is put out along the list
+--     Stands N o       what a node may put out again
+--     IsLawful N es    no event of the list is refused
+use Rattle.std.specs.Prelude.{◌≡◌, ℕ, ◌-◌, ◌<◌, ◌⊎◌, List, [], ◌∷◌, ◌++◌, Option, Some, None}
+use Rattle.std.specs.List.{Contains}
+use Rattle.std.specs.FinMap as table
+use Rattle.cc_wire.specs.declared.event.Event.{Event}
+use Rattle.cc_wire.specs.declared.event.Event.TheVariants as event
+use Rattle.cc_wire.specs.declared.message.Message.{Message}
+use Rattle.cc_wire.specs.declared.output.Output.{Output}
+use Rattle.cc_wire.specs.declared.output.Output.TheVariants as output
+use Rattle.cc_links.specs.Links.{Link}
+use Rattle.cc_outbox.specs.Outbox as kept
+use Rattle.cc_outbox.specs.Outbox.{Outbox, trim, forget}
+use Rattle.cc_ops.specs.declared.pending.Reply.{Reply}
+use Rattle.cc_node.specs.Core.{Core, next, post, reply, outputs, lowest, live_links}
+use Rattle.cc_node.specs.Refusals.{decides}
+
+pub record Node : Type 0 where
+  pub core : Core
+  pub outbox : Outbox
+
+-- the answer of an event, where it has one, is kept for its session
+abbrev pub keep : Option Reply → Outbox → Outbox
+keep None o = o
+keep (Some r) o = kept.keep r.session r.answer o
+
+-- the post of an event, where it has one, is kept under the next number
+abbrev pub add : Option Message → Outbox → Outbox
+add None o = o
+add (Some m) o = kept.add m o
+
+-- beginning a request forgets the session's kept answer
+abbrev pub forget_asked : Event → Outbox → Outbox
+forget_asked event.Enter o = o
+forget_asked event.Leave o = o
+forget_asked (event.Deliver from n m) o = o
+forget_asked (event.Acked peer n) o = o
+forget_asked (event.Ask s r command) o = forget s o
+
+unfoldable pub step : Node → Event → Node
+step n e = record {
+  core = next n.core e;
+  outbox = trim (lowest (next n.core e))
+      (keep (reply n.core e) (add (post n.core e) (forget_asked e n.outbox)));
+}
+
+abbrev pub after : Node → List Event → Node
+after n [] = n
+after n (e ∷ es) = after (step n e) es
+
+abbrev pub line : Node → List Event → List Output
+line n [] = []
+line n (e ∷ es) = outputs n.core e ++ line (step n e) es
+
+-- a kept post on a link that hasn't acknowledged it
+pub record ResendsOn (l : Link) (number wire : ℕ) : Type 0 where
+  pub above : l.start < number
+  pub unacked : l.acked < wire
+  pub is_number : wire ≡ number - l.start
+
+abbrev pub Stands : Node → Output → Type 0
+Stands n (output.Send to wire m) =
+    (number : ℕ) × (l : Link) × (table.get n.outbox.posts number ≡ Some m) × (table.get (live_links n.core) to ≡ Some l) × ResendsOn l number wire
+Stands n (output.Ack to heard) = (l : Link) × (table.get n.core.links to ≡ Some l) × (l.heard ≡ heard) × (0 < heard)
+Stands n (output.Reply s r a) = (table.get n.outbox.answers s ≡ Some a) × (table.get n.core.sessions s ≡ Some r)
+
+-- all that may have been put out by the end of a list
+abbrev pub MayBeOut : Node → List Event → Output → Type 0
+MayBeOut n es o = Stands n o ⊎ Contains (line n es) o
+
+abbrev pub IsLawful : Node → List Event → Type 0
+IsLawful n [] = Unit {0}
+IsLawful n (e ∷ es) = (decides n.core e ≡ None) × IsLawful (step n e) es

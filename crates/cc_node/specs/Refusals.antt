@@ -1,0 +1,110 @@
+-- When an event is refused, and why: of the reasons that hold, the first in the order given here.
+use Rattle.std.specs.Prelude.{◌==◌, ℕ, ◌+◌, ◌-◌, Bool, false, ◌&&◌, ◌||◌, not, nat_lt, nat_le, List, [], ◌∷◌, Option, Some, None, is_some, Result, Ok, Err}
+use Rattle.std.specs.Option.{option_map_or}
+use Rattle.std.specs.Bool.{then_some}
+use Rattle.std.specs.FinMap as table
+use Rattle.cc_views.specs.Limits.{overruns}
+use Rattle.cc_wire.specs.declared.command.Command.{Command}
+use Rattle.cc_wire.specs.declared.event.Event.{Event}
+use Rattle.cc_wire.specs.declared.event.Event.TheVariants as event
+use Rattle.cc_wire.specs.declared.message.Message.{Message}
+use Rattle.cc_wire.specs.declared.refusal.Refusal.{Refusal}
+use Rattle.cc_wire.specs.declared.refusal.Refusal.TheVariants as refusal
+use Rattle.cc_wire.specs.Refusals.{first_of}
+use Rattle.cc_churn.specs.Refusals as coming
+use Rattle.cc_ops.specs.Refusals as pending
+use Rattle.cc_links.specs.Links as links
+use Rattle.cc_sessions.specs.Sessions as sessions
+use Rattle.cc_sessions.specs.Sessions.{last_request}
+use Rattle.cc_node.specs.Core.{Core, next, post, lowest, with_links}
+
+-- how many nodes are known, and how many posts kept, at most
+abbrev pub known_limit : ℕ
+known_limit = 256
+
+abbrev pub post_limit : ℕ
+post_limit = 512
+
+abbrev pub left : Core → Option Refusal
+left c = coming.left c.me c.churn
+
+abbrev pub not_entered : Core → Option Refusal
+not_entered c = coming.not_entered c.me c.churn
+
+abbrev pub already_entered : Core → Option Refusal
+already_entered c = coming.already_entered c.me c.churn
+
+abbrev pub not_joined : Core → Option Refusal
+not_joined c = coming.not_joined c.me c.churn
+
+abbrev pub old : Core → ℕ → ℕ → Option Refusal
+old c from n = let heard = links.heard_from from c.links in then_some (nat_le n heard) (refusal.Old heard)
+
+abbrev pub gap : Core → ℕ → ℕ → Option Refusal
+gap c from n = let heard = links.heard_from from c.links in then_some (nat_lt (heard + 1) n) (refusal.Gap heard)
+
+abbrev pub nothing_to_ack : Core → ℕ → ℕ → Option Refusal
+nothing_to_ack c peer n = then_some (not (option_map_or (links.awaits_ack c.posts n) (table.get c.links peer) false)) refusal.NothingToAck
+
+abbrev pub too_many_nodes : Core → ℕ → Message → Option Refusal
+too_many_nodes c from m = then_some (nat_lt known_limit (table.len (with_links from m c).links)) refusal.TooManyNodes
+
+abbrev pub too_many_sessions : Core → ℕ → Option Refusal
+too_many_sessions c s = then_some (sessions.finds_no_room c.sessions s) refusal.TooManySessions
+
+abbrev pub repeat : Core → ℕ → ℕ → Option Refusal
+repeat c s r = then_some (sessions.is_repeat c.sessions s r) refusal.Repeat
+
+abbrev pub stale : Core → ℕ → ℕ → Option Refusal
+stale c s r = then_some (sessions.is_stale c.sessions s r) (refusal.Stale (last_request c.sessions s))
+
+abbrev pub skip : Core → ℕ → ℕ → Option Refusal
+skip c s r = then_some (sessions.is_skip c.sessions s r) (refusal.Skip (last_request c.sessions s))
+
+abbrev pub busy : Core → Option Refusal
+busy c = pending.busy c.ops
+
+abbrev pub set_full : Core → Command → Option Refusal
+set_full c command = pending.set_full command c.ops
+
+-- a post that would be one too many to keep
+abbrev pub outbox_full : Core → Event → Option Refusal
+outbox_full c e = then_some (is_some (post c e) && ((c.posts - lowest c) == post_limit)) refusal.OutboxFull
+
+-- of the tables only the row that the event is about can change
+abbrev pub row_overruns : Core → Core → Event → Bool
+row_overruns c d event.Enter = false
+row_overruns c d event.Leave = false
+row_overruns c d (event.Deliver from n m) = overruns (links.heard_from from c.links) (links.heard_from from d.links)
+row_overruns c d (event.Acked peer n) = false
+row_overruns c d (event.Ask s r command) = overruns (last_request c.sessions s) (last_request d.sessions s)
+
+abbrev pub any_overruns : Core → Core → Event → Bool
+any_overruns c d e =
+    overruns c.ops.number d.ops.number || overruns c.ops.tag d.ops.tag || overruns c.posts d.posts
+    || overruns c.churn.echoes d.churn.echoes || row_overruns c d e
+
+abbrev pub spent : Core → Event → Option Refusal
+spent c e = then_some (any_overruns c (next c e) e) refusal.Spent
+
+-- the reasons that may apply to an event, in the order in which they are looked at
+abbrev pub reasons : Core → Event → List (Option Refusal)
+reasons c event.Enter = left c ∷ already_entered c ∷ outbox_full c event.Enter ∷ spent c event.Enter ∷ []
+reasons c event.Leave = left c ∷ not_entered c ∷ outbox_full c event.Leave ∷ spent c event.Leave ∷ []
+reasons c (event.Deliver from n m) =
+    let e = event.Deliver from n m in
+    left c ∷ not_entered c ∷ old c from n ∷ gap c from n ∷ too_many_nodes c from m ∷ outbox_full c e ∷ spent c e ∷ []
+reasons c (event.Acked peer n) = nothing_to_ack c peer n ∷ spent c (event.Acked peer n) ∷ []
+reasons c (event.Ask s r command) =
+    let e = event.Ask s r command in
+    left c ∷ not_entered c ∷ not_joined c ∷ too_many_sessions c s ∷ repeat c s r ∷ stale c s r ∷ skip c s r
+    ∷ busy c ∷ set_full c command ∷ outbox_full c e ∷ spent c e ∷ []
+
+-- none, or the reason for which an event is refused
+unfoldable pub decides : Core → Event → Option Refusal
+decides c e = first_of (reasons c e)
+
+-- the answer of a decision
+abbrev pub decided : Option Refusal → Result (Unit {0}) Refusal
+decided None = Ok tt
+decided (Some reason) = Err reason

@@ -1,0 +1,48 @@
+//! The laws of a node's histories. Each is a function with an empty body, whose contract is the law.
+
+ghost use Rattle.std.specs.Prelude.{◌≡◌, ◌≢◌, ◌+◌, List, None};
+ghost use Rattle.std.specs.List.{All, AllPairs, sum_by};
+ghost use Rattle.cc_views.specs.Merge.{IsAtMost};
+ghost use Rattle.cc_wire.specs.declared.event.Event.{Event};
+ghost use Rattle.cc_wire.specs.declared.output.Output.{Output};
+ghost use Rattle.cc_node.specs.Core.{Core, next};
+ghost use Rattle.cc_node.specs.Node.{Node, step, after, line, Stands, MayBeOut, IsLawful};
+ghost use Rattle.cc_node.specs.Refusals.{decides};
+ghost use Rattle.cc_node.specs.Lawful.{IsLawfulNode};
+ghost use Rattle.cc_node.specs.Opening.{Opening, IsOpening, fresh};
+ghost use Rattle.cc_node.specs.Lines.{Follows};
+ghost use Rattle.cc_node.specs.Writes.{writes, mine_after, mine_along};
+
+/// A node begins lawful, and no event that isn't refused makes it unlawful.
+pub fn lawful_kept()
+    ensures fresh { (o : Opening) → IsOpening o → IsLawfulNode (fresh o) }
+    ensures step { (n : Node) (e : Event) → decides n.core e ≡ None → IsLawfulNode n → IsLawfulNode (step n e) }
+    ensures after { (n : Node) (es : List Event) → IsLawful n es → IsLawfulNode n → IsLawfulNode (after n es) }
+{}
+
+/// No event makes the view smaller, nor does any list of events.
+pub fn view_only_grows()
+    ensures event { (c : Core) (e : Event) → IsAtMost c.ops.view (next c e).ops.view }
+    ensures after { (n : Node) (es : List Event) → IsAtMost n.core.ops.view (after n es).core.ops.view }
+{}
+
+/// The own number counts the asks that write the own value, and nothing but their commands changes that value.
+pub fn own_number_counts_writes()
+    ensures number { (c : Core) (e : Event) → (next c e).ops.number ≡ c.ops.number + writes e }
+    ensures value { (c : Core) (e : Event) → (next c e).ops.mine ≡ mine_after e c.ops.mine }
+    ensures number_after { (n : Node) (es : List Event) → (after n es).core.ops.number ≡ n.core.ops.number + sum_by writes es }
+    ensures value_after { (n : Node) (es : List Event) → (after n es).core.ops.mine ≡ mine_along n.core.ops.mine es }
+{}
+
+/// What a node may put out again stood at the start, or was made for an event since.
+pub fn standing_made()
+    ensures { (n : Node) (es : List Event) (o : Output) → IsLawfulNode n → IsLawful n es → Stands (after n es) o → MayBeOut n es o }
+{}
+
+/// On each link the numbers of what is sent rise, as do those that are acknowledged, and in each session the requests that
+/// are answered; they begin above all that stood at the start. So no two events of a history make the same output.
+pub fn no_output_twice()
+    ensures rising { (n : Node) (es : List Event) → IsLawfulNode n → IsLawful n es → AllPairs Follows (line n es) }
+    ensures since { (n : Node) (es : List Event) (o : Output) → IsLawfulNode n → IsLawful n es → Stands n o → All (Follows o) (line n es) }
+    ensures apart { (n : Node) (es : List Event) → IsLawfulNode n → IsLawful n es → AllPairs (λ x y. x ≢ y) (line n es) }
+{}

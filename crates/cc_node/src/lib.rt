@@ -1,0 +1,20 @@
+//! The state of a node, and what each event makes of it.
+#![tactic(auto)]
+
+mod laws;
+mod made;
+mod named_nodes;
+mod node;
+mod node_core;
+mod opening;
+
+pub use laws::{
+    lawful_kept, no_output_twice, own_number_counts_writes, standing_made, view_only_grows,
+};
+pub use made::{LinkAck, Made};
+pub use node::Node;
+pub use node_core::Core;
+pub use opening::{Fresh, Opening};
+
+#[cfg(test)]
+mod tests;

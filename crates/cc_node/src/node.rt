@@ -1,0 +1,165 @@
+//! A node: its core, and what it keeps to put out again.
+
+ghost use Rattle.std.specs.Prelude.{◌≡◌, ◌≤◌, ◌<◌, ◌^◌, None, IfOk, OnOk, IsErrOf, IsTrue, is_some};
+ghost use Rattle.std.specs.FinMap as table;
+ghost use Rattle.cc_churn.specs.Churn as churn;
+ghost use Rattle.cc_links.specs.Links as links;
+ghost use Rattle.cc_ops.specs.Stages.{stage_of};
+ghost use Rattle.cc_node.specs.declared.opening.Fresh.TheVariants as faults;
+ghost use Rattle.cc_node.specs.Core as machine;
+ghost use Rattle.cc_node.specs.Node.{step, add, keep, forget_asked};
+ghost use Rattle.cc_node.specs.Opening.{told, fresh, IsOpening};
+ghost use Rattle.cc_node.specs.Refusals.{decides};
+
+use crate::made::Made;
+use crate::node_core::Core;
+use crate::opening::{Fresh, Opening};
+use cc_ops::{Reply, Stage};
+use cc_outbox::Outbox;
+use cc_views::{NodeId, View};
+use cc_wire::{Event, Message};
+use std::alloc::Global;
+use std::marker::Model;
+
+/// A core, and the posts and answers that may have to be put out again.
+#[derive(Debug, Drop)]
+pub struct Node {
+    core: Core,
+    outbox: Outbox,
+}
+
+impl Model for Node {
+    ghost use Rattle.cc_node.specs.Node.{Node as State};
+    ghost use Rattle.cc_node.specs.Codes.{node_code};
+    ghost use Rattle.cc_node.specs.Lawful.{IsLawfulNode};
+
+    ghost Value = { State };
+
+    ghost coded = { node_code };
+
+    ghost view = { λ a. record { core = a.core; outbox = a.outbox } };
+
+    ghost invariant = { λ a. IsLawfulNode (record { core = a.core; outbox = a.outbox }) };
+}
+
+impl Node {
+    /// A node that begins as the opening says: a member of the first hour, or an entrant. BadOpening where no node can
+    /// begin so; else the only error is a refused growth.
+    pub fn fresh(alloc: Global, opening: &Opening<'_>) -> Result<Self, Fresh>
+        ensures node { IfOk result (λ n. n ≡ fresh (told opening.now)) }
+        ensures good { OnOk result (IsOpening (told opening.now)) }
+        ensures bad { IsErrOf result faults.BadOpening → IsOpening (told opening.now) → ⊥ }
+        ensures memory { IsErrOf result faults.NoMemory → IsOpening (told opening.now) }
+    {
+        if !opening.is_good() {
+            return Err(Fresh::BadOpening);
+        }
+        let core = Core::begun(alloc, opening)?;
+        let outbox = Outbox::new(alloc)?;
+        Ok(Node { core, outbox })
+    }
+
+    /// Its state, up to what it keeps to put out again.
+    pub fn core(&self) -> &Core
+        ensures { result.now ≡ self.now.core }
+    {
+        &self.core
+    }
+
+    /// What it keeps to put out again.
+    pub fn outbox(&self) -> &Outbox
+        ensures { result.now ≡ self.now.outbox }
+    {
+        &self.outbox
+    }
+
+    /// Its own name.
+    pub fn me(&self) -> NodeId
+        ensures { result ≡ self.now.core.me }
+    {
+        self.core.me()
+    }
+
+    /// What each node stored last, as far as this node has seen.
+    pub fn view(&self) -> &View
+        ensures { result.now ≡ self.now.core.ops.view }
+    {
+        self.core.view()
+    }
+
+    /// The last message that came from a node, 0 for none.
+    pub fn heard(&self, from: NodeId) -> u64
+        ensures { result ≡ links.heard_from from self.now.core.links }
+    {
+        self.core.heard(from)
+    }
+
+    /// How many posts are kept.
+    pub fn kept(&self) -> usize
+        ensures { result ≡ table.len self.now.outbox.posts }
+    {
+        self.outbox.post_count()
+    }
+
+    /// Whether the node has joined.
+    pub fn is_joined(&self) -> bool
+        ensures { result ≡ churn.has_joined self.now.core.me self.now.core.churn }
+    {
+        self.core.is_joined()
+    }
+
+    /// How far the pending operation has come.
+    pub fn phase(&self) -> Stage
+        ensures { result ≡ stage_of self.now.core.ops.phase }
+    {
+        self.core.phase()
+    }
+
+    /// Takes in an event, which isn't refused, and what it made: the post is added to the kept ones, the answer kept for
+    /// its session, and what every live link has acknowledged is dropped. It takes no memory.
+    pub fn settle(&mut self, event: Event, made: Made)
+        requires accepted { decides self.old.core event ≡ None }
+        requires made { made ≡ machine.made self.old.core event }
+        ensures { self.new ≡ step self.old event }
+    {
+        forget_asked(&mut self.outbox, &event);
+        let Made { post, answer, .. } = made;
+        keep_post(&mut self.outbox, post);
+        keep_answer(&mut self.outbox, answer);
+        self.core.apply(&event);
+        self.outbox.trim(self.core.lowest());
+    }
+}
+
+// Beginning a request forgets the session's kept answer.
+fn forget_asked(outbox: &mut Outbox, event: &Event)
+    ensures { outbox.new ≡ forget_asked event.now outbox.old }
+{
+    match event {
+        Event::Ask { session, .. } => outbox.forget(*session),
+        Event::Enter | Event::Leave | Event::Deliver { .. } | Event::Acked { .. } => {}
+    }
+}
+
+// The post of an event, where it has one, is kept under the next number.
+fn keep_post(outbox: &mut Outbox, post: Option<Message>)
+    requires room { IsTrue (is_some post) → table.len outbox.old.posts < 512 }
+    requires number { outbox.old.last ≤ 2 ^ 62 }
+    ensures { outbox.new ≡ add post outbox.old }
+{
+    match post {
+        Some(post) => outbox.add(post),
+        None => {}
+    }
+}
+
+// The answer of an event, where it has one, is kept for its session.
+fn keep_answer(outbox: &mut Outbox, answer: Option<Reply>)
+    requires { table.len (keep answer outbox.old).answers ≤ 256 }
+    ensures { outbox.new ≡ keep answer outbox.old }
+{
+    match answer {
+        Some(reply) => outbox.keep(reply.session, reply.answer),
+        None => {}
+    }
+}

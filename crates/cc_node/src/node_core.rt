@@ -1,0 +1,522 @@
+//! The core of a node: a composition of its parts.
+
+ghost use Rattle.std.specs.Prelude.{◌≡◌, ◌+◌, ◌-◌, ◌≤◌, ◌==◌, ◌&&◌, [], ◌∷◌, Bool, None, OnOk, IfOk, is_some, slice_get, ℕ};
+ghost use Rattle.std.specs.Bool.{then_some};
+ghost use Rattle.std.specs.FinMap as table;
+ghost use Rattle.cc_views.specs.Limits.{counter_limit};
+ghost use Rattle.cc_churn.specs.Churn as churn;
+ghost use Rattle.cc_links.specs.Links as links;
+ghost use Rattle.cc_links.specs.Rows.{rows_of};
+ghost use Rattle.cc_ops.specs.Stages.{stage_of};
+ghost use Rattle.cc_wire.specs.Refusals.{first_of};
+ghost use Rattle.cc_wire.specs.declared.event.Event.TheVariants as event;
+ghost use Rattle.cc_wire.specs.declared.refusal.Refusal.TheVariants as refusal;
+ghost use Rattle.cc_node.specs.Core as machine;
+ghost use Rattle.cc_node.specs.Opening.{told, fresh, IsOpening};
+ghost use Rattle.cc_node.specs.Refusals as reasons;
+ghost use Rattle.cc_node.specs.Refusals.{decides, decided, post_limit};
+
+use crate::made::{LinkAck, Made};
+use crate::named_nodes::{link_named, mark_named};
+use crate::opening::Opening;
+use cc_changes::Fraction;
+use cc_churn::Churn;
+use cc_links::{KnownIds, LinkRow, Links};
+use cc_ops::{Asked, Ops, Stage};
+use cc_sessions::{Checked, Sessions};
+use cc_views::{NoMemory, NodeId, View};
+use cc_wire::{Command, Event, Message, Refusal};
+use std::alloc::Global;
+use std::marker::Model;
+
+// How far a counter goes.
+const COUNTER_LIMIT: u64 = 1 << 62;
+
+// How many posts are kept at most.
+const POST_LIMIT: u64 = 512;
+
+/// The state of a node, up to what it keeps to put out again.
+#[derive(Debug, Drop)]
+pub struct Core {
+    me: NodeId,
+    beta: Fraction,
+    gamma: Fraction,
+    churn: Churn,
+    ops: Ops,
+    // How many posts were ever made.
+    posts: u64,
+    links: Links,
+    sessions: Sessions,
+}
+
+impl Model for Core {
+    ghost use Rattle.cc_node.specs.Core.{Core as State};
+    ghost use Rattle.cc_node.specs.Codes.{core_code};
+    ghost use Rattle.cc_node.specs.Lawful.{IsLawfulCore};
+
+    ghost Value = { State };
+
+    ghost coded = { core_code };
+
+    ghost view = { λ a. record { me = a.me; beta = a.beta; gamma = a.gamma; churn = a.churn; ops = a.ops; posts = a.posts; links = a.links; sessions = a.sessions } };
+
+    ghost invariant = { λ a. IsLawfulCore (record { me = a.me; beta = a.beta; gamma = a.gamma; churn = a.churn; ops = a.ops; posts = a.posts; links = a.links; sessions = a.sessions }) };
+}
+
+impl Core {
+    // The core of a node that begins so.
+    pub(crate) fn begun(alloc: Global, opening: &Opening<'_>) -> Result<Self, NoMemory>
+        requires { IsOpening (told opening.now) }
+        ensures { IfOk result (λ c. c ≡ (fresh (told opening.now)).core) }
+    {
+        Ok(Core {
+            me: NodeId::new(opening.me).unwrap(),
+            beta: opening.beta,
+            gamma: opening.gamma,
+            churn: Churn::from_parts(opening.changes(alloc)?, 0, 0),
+            ops: Ops::new(alloc)?,
+            posts: 0,
+            links: opening.links(alloc)?,
+            sessions: Sessions::new(alloc)?,
+        })
+    }
+
+    /// The same in memory of its own. The only error is a refused growth.
+    pub fn copy(&self, alloc: Global) -> Result<Self, NoMemory>
+        ensures { IfOk result (λ c. c ≡ self.now) }
+    {
+        Ok(Core {
+            me: self.me,
+            beta: self.beta,
+            gamma: self.gamma,
+            churn: self.churn.copy(alloc)?,
+            ops: self.ops.copy(alloc)?,
+            posts: self.posts,
+            links: self.links.copy(alloc)?,
+            sessions: self.sessions.copy(alloc)?,
+        })
+    }
+
+    /// Its own name.
+    pub fn me(&self) -> NodeId
+        ensures { result ≡ self.now.me }
+    {
+        self.me
+    }
+
+    /// What each node stored last, as far as this node has seen.
+    pub fn view(&self) -> &View
+        ensures { result.now ≡ self.now.ops.view }
+    {
+        self.ops.view()
+    }
+
+    /// How far the pending operation has come.
+    pub fn phase(&self) -> Stage
+        ensures { result ≡ stage_of self.now.ops.phase }
+    {
+        self.ops.stage()
+    }
+
+    /// Whether the node has joined.
+    pub fn is_joined(&self) -> bool
+        ensures { result ≡ churn.has_joined self.now.me self.now.churn }
+    {
+        self.churn.has_joined(self.me)
+    }
+
+    /// How many posts were ever made.
+    pub fn posts(&self) -> u64
+        ensures { result ≡ self.now.posts }
+    {
+        self.posts
+    }
+
+    /// The last message that came from a node, 0 for none.
+    pub fn heard(&self, from: NodeId) -> u64
+        ensures { result ≡ links.heard_from from self.now.links }
+    {
+        self.links.heard(from)
+    }
+
+    /// The links, by ascending peer.
+    pub fn links(&self) -> &Links
+        ensures { result.now ≡ self.now.links }
+    {
+        &self.links
+    }
+
+    /// The link of the `i`-th peer in ascending order.
+    pub fn link(&self, i: usize) -> Option<LinkRow>
+        ensures { result ≡ slice_get (rows_of self.now.links) i }
+    {
+        self.links.rows().get(i).copied()
+    }
+
+    /// Whether the peer has a link and hasn't left.
+    pub fn is_live(&self, peer: NodeId) -> bool
+        ensures { result ≡ table.contains_key (machine.live_links self.now) peer }
+    {
+        self.links.get(peer).is_some() && !self.churn.has_left(peer)
+    }
+
+    /// The last post that every live link has acknowledged, and the last of all posts where no link is live. The posts
+    /// above it are kept.
+    pub fn lowest(&self) -> u64
+        ensures { result ≡ machine.lowest self.now }
+    {
+        self.links
+            .lowest_needed(self.churn.changes().left(), self.posts)
+    }
+
+    // How many answers an operation needs that begins now.
+    fn quorum(&self) -> u64
+        ensures { result ≡ machine.quorum self.now }
+    {
+        self.churn.quorum(self.beta)
+    }
+
+    /// Why the event is refused, if it is. It changes nothing.
+    pub fn decide(&self, event: &Event) -> Result<(), Refusal>
+        ensures exact { result ≡ decided (decides self.now event.now) }
+        ensures accepted { OnOk result (decides self.now event.now ≡ None) }
+    {
+        match self.refuse(event) {
+            Some(refusal) => Err(refusal),
+            None => Ok(()),
+        }
+    }
+
+    fn refuse(&self, event: &Event) -> Option<Refusal>
+        ensures { result ≡ decides self.now event.now }
+    {
+        match event {
+            Event::Enter => self.refuse_enter(),
+            Event::Leave => self.refuse_leave(),
+            Event::Deliver {
+                from,
+                number,
+                message,
+            } => self.refuse_delivery(*from, *number, message),
+            Event::Acked { peer, number } => self.refuse_ack(*peer, *number),
+            Event::Ask {
+                session,
+                request,
+                command,
+            } => self.refuse_ask(*session, *request, command),
+        }
+    }
+
+    fn refuse_enter(&self) -> Option<Refusal>
+        ensures { result ≡ decides self.now event.Enter }
+    {
+        if let Some(refusal) = self.churn.decide_enter(self.me) {
+            return Some(refusal);
+        }
+        self.refuse_post()
+    }
+
+    fn refuse_leave(&self) -> Option<Refusal>
+        ensures { result ≡ decides self.now event.Leave }
+    {
+        if let Some(refusal) = self.churn.decide_leave(self.me) {
+            return Some(refusal);
+        }
+        self.refuse_post()
+    }
+
+    // Why one post more can't be made, if it can't.
+    fn refuse_post(&self) -> Option<Refusal>
+        ensures { result ≡ first_of (then_some ((self.now.posts - machine.lowest self.now) == post_limit) refusal.OutboxFull ∷ then_some (self.now.posts == counter_limit) refusal.Spent ∷ []) }
+    {
+        if self.is_outbox_full() {
+            return Some(Refusal::OutboxFull);
+        }
+        (self.posts == COUNTER_LIMIT).then_some(Refusal::Spent)
+    }
+
+    // Whether as many posts are kept as may be.
+    fn is_outbox_full(&self) -> bool
+        ensures { result ≡ ((self.now.posts - machine.lowest self.now) == post_limit) }
+    {
+        self.posts - self.lowest() == POST_LIMIT
+    }
+
+    fn refuse_delivery(&self, from: NodeId, number: u64, message: &Message) -> Option<Refusal>
+        ensures { result ≡ decides self.now (event.Deliver from number message.now) }
+    {
+        if let Some(refusal) = self.churn.decide_delivery(self.me) {
+            return Some(refusal);
+        }
+        if let Some(refusal) = self.refuse_number(from, number) {
+            return Some(refusal);
+        }
+        if self.knows_too_many(from, message) {
+            return Some(Refusal::TooManyNodes);
+        }
+        let makes_post = self.makes_post(message);
+        if self.has_no_room(makes_post) {
+            return Some(Refusal::OutboxFull);
+        }
+        self.delivery_is_spent(from, message, makes_post)
+            .then_some(Refusal::Spent)
+    }
+
+    // Whether there is a post, and as many are kept as may be.
+    fn has_no_room(&self, makes_post: bool) -> bool
+        ensures { result ≡ (makes_post && ((self.now.posts - machine.lowest self.now) == post_limit)) }
+    {
+        makes_post && self.is_outbox_full()
+    }
+
+    // Why the number isn't the next one of its link, if it isn't.
+    fn refuse_number(&self, from: NodeId, number: u64) -> Option<Refusal>
+        ensures { result ≡ first_of (reasons.old self.now from number ∷ reasons.gap self.now from number ∷ []) }
+    {
+        let heard = self.heard(from);
+        if number <= heard {
+            return Some(Refusal::Old(heard));
+        }
+        (number - heard > 1).then_some(Refusal::Gap(heard))
+    }
+
+    // Whether the sender, the nodes that the message names and the known ones are too many together.
+    fn knows_too_many(&self, from: NodeId, message: &Message) -> bool
+        ensures { then_some result refusal.TooManyNodes ≡ reasons.too_many_nodes self.now from message.now }
+    {
+        let mut known = KnownIds::new();
+        if !known.add_peers(self.links.rows()) {
+            return true;
+        }
+        if !mark_named(&mut known, message) {
+            return true;
+        }
+        !known.add(from)
+    }
+
+    // Whether the message is answered with a post.
+    fn makes_post(&self, message: &Message) -> bool
+        ensures { (from n : ℕ) → result ≡ is_some (machine.post self.now (event.Deliver from n message.now)) }
+    {
+        self.churn.makes_post(self.me, self.gamma, message)
+            || self.ops.makes_post(self.me, self.is_joined(), message)
+    }
+
+    // Whether a counter stands at its limit that the message, the next on its link, would raise.
+    fn delivery_is_spent(&self, from: NodeId, message: &Message, makes_post: bool) -> bool
+        requires { (n : ℕ) → makes_post ≡ is_some (machine.post self.now (event.Deliver from n message.now)) }
+        ensures { (n : ℕ) → n ≡ links.heard_from from self.now.links + 1
+            → result ≡ reasons.any_overruns self.now (machine.next self.now (event.Deliver from n message.now)) (event.Deliver from n message.now) }
+    {
+        if self.ops.is_spent(self.me, self.quorum(), message) {
+            return true;
+        }
+        if self.posts_are_spent(makes_post) {
+            return true;
+        }
+        if self.churn.is_spent(self.me, self.gamma, message) {
+            return true;
+        }
+        self.heard(from) == COUNTER_LIMIT
+    }
+
+    // Whether there is a post, and the count of posts stands at its limit.
+    fn posts_are_spent(&self, makes_post: bool) -> bool
+        ensures { result ≡ (makes_post && (self.now.posts == counter_limit)) }
+    {
+        makes_post && self.posts == COUNTER_LIMIT
+    }
+
+    fn refuse_ack(&self, peer: NodeId, number: u64) -> Option<Refusal>
+        ensures { result ≡ decides self.now (event.Acked peer number) }
+    {
+        let is_awaited = self.links.awaits_ack(peer, number, self.posts);
+        (!is_awaited).then_some(Refusal::NothingToAck)
+    }
+
+    fn refuse_ask(&self, session: u64, request: u64, command: &Command) -> Option<Refusal>
+        ensures { result ≡ decides self.now (event.Ask session request command.now) }
+    {
+        if let Some(refusal) = self.churn.decide_ask(self.me) {
+            return Some(refusal);
+        }
+        if let Some(refusal) = self.refuse_request(session, request) {
+            return Some(refusal);
+        }
+        if let Some(refusal) = self.ops.decide_ask(command) {
+            return Some(refusal);
+        }
+        if self.is_outbox_full() {
+            return Some(Refusal::OutboxFull);
+        }
+        self.ask_is_spent(request, command)
+            .then_some(Refusal::Spent)
+    }
+
+    // Why the request isn't the next one of its session, if it isn't.
+    fn refuse_request(&self, session: u64, request: u64) -> Option<Refusal>
+        ensures { result ≡ first_of (reasons.too_many_sessions self.now session ∷ reasons.repeat self.now session request
+            ∷ reasons.stale self.now session request ∷ reasons.skip self.now session request ∷ []) }
+    {
+        match self.sessions.check(session, request) {
+            Checked::Full => Some(Refusal::TooManySessions),
+            Checked::Repeat => Some(Refusal::Repeat),
+            Checked::Stale(last) => Some(Refusal::Stale(last)),
+            Checked::Skip(last) => Some(Refusal::Skip(last)),
+            Checked::Fresh => None,
+        }
+    }
+
+    // Whether a counter stands at its limit that the ask, the next of its session, would raise.
+    fn ask_is_spent(&self, request: u64, command: &Command) -> bool
+        ensures { (s : ℕ) → first_of (reasons.stale self.now s request ∷ reasons.skip self.now s request ∷ []) ≡ None
+            → result ≡ reasons.any_overruns self.now (machine.next self.now (event.Ask s request command.now)) (event.Ask s request command.now) }
+    {
+        if self.ops.ask_is_spent(command) {
+            return true;
+        }
+        if self.posts == COUNTER_LIMIT {
+            return true;
+        }
+        request > COUNTER_LIMIT
+    }
+
+    /// What the event makes, which isn't refused: the acknowledgement, the post and the answer. The only error is a
+    /// refused growth.
+    pub fn made(&self, alloc: Global, event: &Event) -> Result<Made, NoMemory>
+        requires { decides self.now event.now ≡ None }
+        ensures { IfOk result (λ m. m ≡ machine.made self.now event.now) }
+    {
+        match event {
+            Event::Enter => Ok(Made::posted(Message::Enter { node: self.me })),
+            Event::Leave => Ok(Made::posted(Message::Leave { node: self.me })),
+            Event::Deliver {
+                from,
+                number,
+                message,
+            } => self.made_of_delivery(alloc, *from, *number, message),
+            Event::Acked { .. } => Ok(Made::nothing()),
+            Event::Ask {
+                session,
+                request,
+                command,
+            } => self.made_of_ask(alloc, *session, *request, command),
+        }
+    }
+
+    fn made_of_delivery(
+        &self,
+        alloc: Global,
+        from: NodeId,
+        number: u64,
+        message: &Message,
+    ) -> Result<Made, NoMemory>
+        requires { decides self.now (event.Deliver from number message.now) ≡ None }
+        ensures { IfOk result (λ m. m ≡ machine.made self.now (event.Deliver from number message.now)) }
+    {
+        let churned = self
+            .churn
+            .post(alloc, self.me, self.gamma, self.ops.view(), message)?;
+        let served = self
+            .ops
+            .post(alloc, self.me, self.quorum(), self.is_joined(), message)?;
+        let answer = self.ops.reply(alloc, self.me, message)?;
+        Ok(Made {
+            ack: Some(LinkAck { to: from, number }),
+            post: churned.or(served),
+            answer,
+        })
+    }
+
+    fn made_of_ask(
+        &self,
+        alloc: Global,
+        session: u64,
+        request: u64,
+        command: &Command,
+    ) -> Result<Made, NoMemory>
+        requires { decides self.now (event.Ask session request command.now) ≡ None }
+        ensures { IfOk result (λ m. m ≡ machine.made self.now (event.Ask session request command.now)) }
+    {
+        let asked = Asked {
+            session,
+            request,
+            command: *command,
+        };
+        let post = self.ops.first_post(alloc, self.me, self.quorum(), &asked)?;
+        Ok(Made::posted(post))
+    }
+
+    /// Takes in the event, which isn't refused. It takes no memory.
+    pub fn apply(&mut self, event: &Event)
+        requires { decides self.old event.now ≡ None }
+        ensures { self.new ≡ machine.next self.old event.now }
+    {
+        match event {
+            Event::Enter => self.enter(),
+            Event::Leave => self.leave(),
+            Event::Deliver {
+                from,
+                number,
+                message,
+            } => self.deliver(*from, *number, message),
+            Event::Acked { peer, number } => self.acknowledge(*peer, *number),
+            Event::Ask {
+                session,
+                request,
+                command,
+            } => self.ask(*session, *request, command),
+        }
+    }
+
+    fn enter(&mut self)
+        requires { decides self.old event.Enter ≡ None }
+        ensures { self.new ≡ machine.next self.old event.Enter }
+    {
+        self.churn.enter(self.me);
+        self.posts += 1;
+    }
+
+    fn leave(&mut self)
+        requires { decides self.old event.Leave ≡ None }
+        ensures { self.new ≡ machine.next self.old event.Leave }
+    {
+        self.churn.leave(self.me);
+        self.posts += 1;
+    }
+
+    fn deliver(&mut self, from: NodeId, number: u64, message: &Message)
+        requires { decides self.old (event.Deliver from number message.now) ≡ None }
+        ensures { self.new ≡ machine.next self.old (event.Deliver from number message.now) }
+    {
+        let made = u64::from(self.makes_post(message));
+        let quorum = self.quorum();
+        link_named(&mut self.links, message, self.posts);
+        self.links.add(from, self.posts);
+        self.links.hear(from, number);
+        self.churn.apply(self.me, self.gamma, message);
+        self.ops.apply(self.me, quorum, message);
+        self.posts += made;
+    }
+
+    fn acknowledge(&mut self, peer: NodeId, number: u64)
+        requires { decides self.old (event.Acked peer number) ≡ None }
+        ensures { self.new ≡ machine.next self.old (event.Acked peer number) }
+    {
+        self.links.ack(peer, number);
+    }
+
+    fn ask(&mut self, session: u64, request: u64, command: &Command)
+        requires { decides self.old (event.Ask session request command.now) ≡ None }
+        ensures { self.new ≡ machine.next self.old (event.Ask session request command.now) }
+    {
+        let asked = Asked {
+            session,
+            request,
+            command: *command,
+        };
+        self.ops.ask(self.me, self.churn.quorum(self.beta), &asked);
+        self.sessions.begin(session, request);
+        self.posts += 1;
+    }
+}

@@ -1,0 +1,197 @@
+//! How a node begins.
+
+ghost use Rattle.std.specs.Prelude.{◌≡◌, ◌≤◌, ◌↔◌, ◌⊎◌, [], IfOk, IsTrue};
+ghost use Rattle.std.specs.List.{Contains};
+ghost use Rattle.std.specs.List.Sorted.{IsStrictlyIncreasing};
+ghost use Rattle.std.specs.FinMap as table;
+ghost use Rattle.cc_views.specs.NatSets as set;
+ghost use Rattle.cc_links.specs.Links as links;
+ghost use Rattle.cc_node.specs.Opening.{told, ids_of, IsOpening};
+ghost use Rattle.cc_node.specs.declared.opening.Fresh.TheVariants as faults;
+
+use cc_changes::{Changes, Fraction, IdSet};
+use cc_links::{KnownIds, Links};
+use cc_views::{NoMemory, NodeId};
+use std::alloc::Global;
+use std::error::Error;
+use std::fmt;
+
+/// What a node is told of itself and of others. Ids are numbers from 1 on.
+#[derive(Clone, Copy, Debug)]
+pub struct Opening<'a> {
+    pub me: u32,
+
+    /// The members at the start, `me` among them, ascending. Empty for a node that enters later.
+    pub initial: &'a [u32],
+
+    /// Whom else it can reach, ascending, `me` not among them.
+    pub contacts: &'a [u32],
+
+    /// The share of the members whose answers an operation waits for.
+    pub beta: Fraction,
+
+    /// The share of those present whose echoes an entering node waits for.
+    pub gamma: Fraction,
+}
+
+impl Opening<'_> {
+    // Whether a node can begin so; needs no memory.
+    pub(crate) fn is_good(&self) -> bool
+        ensures { IsTrue result ↔ IsOpening (told self.now) }
+    {
+        if !self.beta.is_share() {
+            return false;
+        }
+        if !self.gamma.is_share() {
+            return false;
+        }
+        if !is_ascending(self.initial) {
+            return false;
+        }
+        if !is_ascending(self.contacts) {
+            return false;
+        }
+        if !self.begins_right() {
+            return false;
+        }
+        if self.contacts.contains(&self.me) {
+            return false;
+        }
+        if self.names_zero() {
+            return false;
+        }
+        self.names_few()
+    }
+
+    // Whether the node is one of the members at the start, if there are any.
+    fn begins_right(&self) -> bool
+        ensures { IsTrue result ↔ ((self.now.initial.now ≡ []) ⊎ Contains self.now.initial.now self.now.me) }
+    {
+        self.initial.is_empty() || self.initial.contains(&self.me)
+    }
+
+    // A link to each node that it names.
+    pub(crate) fn links(&self, alloc: Global) -> Result<Links, NoMemory>
+        requires ids { ¬ (Contains (ids_of (told self.now)) 0) }
+        requires few { set.len (set.from_list (ids_of (told self.now))) ≤ 256 }
+        ensures { IfOk result (λ ls. ls ≡ links.add_all 0 (ids_of (told self.now)) table.empty) }
+    {
+        let mut peers = Links::new(alloc)?;
+        link_numbers(&mut peers, self.contacts);
+        link_numbers(&mut peers, self.initial);
+        peers.add(NodeId::new(self.me).unwrap(), 0);
+        Ok(peers)
+    }
+
+    // The members of the first hour entered and joined.
+    pub(crate) fn changes(&self, alloc: Global) -> Result<Changes, NoMemory>
+        requires ids { ¬ (Contains (ids_of (told self.now)) 0) }
+        requires few { set.len (set.from_list (ids_of (told self.now))) ≤ 256 }
+        ensures { IfOk result (λ c. c ≡ record { entered = set.from_list self.now.initial.now; joined = set.from_list self.now.initial.now; left = set.empty }) }
+    {
+        let entered = id_set(alloc, self.initial)?;
+        let joined = entered.copy(alloc)?;
+        let left = IdSet::new(alloc)?;
+        Ok(Changes::from_sets(entered, joined, left))
+    }
+
+    // Whether one of the ids is 0.
+    fn names_zero(&self) -> bool
+        ensures { IsTrue result ↔ Contains (ids_of (told self.now)) 0 }
+    {
+        if self.me == 0 {
+            return true;
+        }
+        if has_zero(self.initial) {
+            return true;
+        }
+        has_zero(self.contacts)
+    }
+
+    // Whether at most 256 ids are different.
+    fn names_few(&self) -> bool
+        requires { ¬ (Contains (ids_of (told self.now)) 0) }
+        ensures { IsTrue result ↔ (set.len (set.from_list (ids_of (told self.now))) ≤ 256) }
+    {
+        let mut known = KnownIds::new();
+        if !known.add_numbers(self.contacts) {
+            return false;
+        }
+        if !known.add_numbers(self.initial) {
+            return false;
+        }
+        known.add(NodeId::new(self.me).unwrap())
+    }
+}
+
+fn has_zero(numbers: &[u32]) -> bool
+    ensures { IsTrue result ↔ Contains numbers.now 0 }
+{
+    numbers.contains(&0)
+}
+
+fn is_ascending(numbers: &[u32]) -> bool
+    ensures { IsTrue result ↔ IsStrictlyIncreasing numbers.now }
+{
+    numbers.windows(2).all(|pair| pair[0] < pair[1])
+}
+
+// Gives each of the peers a link.
+fn link_numbers(peers: &mut Links, numbers: &[u32])
+    requires ids { ¬ (Contains numbers.now 0) }
+    requires few { table.len (links.add_all 0 numbers.now peers.old) ≤ 256 }
+    ensures { peers.new ≡ links.add_all 0 numbers.now peers.old }
+{
+    for number in numbers {
+        peers.add(NodeId::new(*number).unwrap(), 0);
+    }
+}
+
+// The set of these ids.
+fn id_set(alloc: Global, numbers: &[u32]) -> Result<IdSet, NoMemory>
+    requires ids { ¬ (Contains numbers.now 0) }
+    requires few { set.len (set.from_list numbers.now) ≤ 256 }
+    ensures { IfOk result (λ s. s ≡ set.from_list numbers.now) }
+{
+    let mut ids = IdSet::new(alloc)?;
+    insert_numbers(&mut ids, numbers);
+    Ok(ids)
+}
+
+fn insert_numbers(ids: &mut IdSet, numbers: &[u32])
+    requires ids { ¬ (Contains numbers.now 0) }
+    requires few { set.len (set.insert_all ids.old numbers.now) ≤ 256 }
+    ensures { ids.new ≡ set.insert_all ids.old numbers.now }
+{
+    for number in numbers {
+        ids.insert(NodeId::new(*number).unwrap());
+    }
+}
+
+/// Why no node begins so.
+#[derive(Clone, Copy, Debug, PartialEq, Eq)]
+pub enum Fresh {
+    /// An id, a list or a fraction is out of its bounds.
+    BadOpening,
+    /// A growth was refused.
+    NoMemory,
+}
+
+impl fmt::Display for Fresh {
+    fn fmt<W: fmt::Write>(&self, f: &mut fmt::Formatter<W>) -> fmt::Result {
+        match self {
+            Fresh::BadOpening => write!(f, "BadOpening"),
+            Fresh::NoMemory => write!(f, "NoMemory"),
+        }
+    }
+}
+
+impl Error for Fresh {}
+
+impl From<NoMemory> for Fresh {
+    ghost from_gives = { λ _ e. e ≡ faults.NoMemory };
+
+    fn from(_e: NoMemory) -> Fresh {
+        Fresh::NoMemory
+    }
+}
