@@ -1,0 +1,216 @@
+//! A cluster in memory.
+
+use crate::delivery::{Delivery, Waiting};
+use crate::play_fault::PlayFault;
+use crate::script::Line;
+use crate::station::{Outcome, Station};
+use cc_changes::Fraction;
+use cc_node::{Fresh, Opening};
+use cc_views::NodeId;
+use cc_wire::Event;
+use std::alloc::{AllocFailed, Global};
+use std::io::Write;
+
+const MAX_NODES: usize = 16;
+
+const FOUR_FIFTHS: Fraction = Fraction { num: 4, den: 5 };
+
+/// Whether a line could be played.
+#[derive(Clone, Copy, Debug, PartialEq, Eq)]
+pub enum Played {
+    Good,
+    Bad,
+}
+
+/// Nodes in the order in which they were made, and the fractions of the next one.
+#[derive(Drop)]
+pub struct Cluster {
+    stations: Vec<Station>,
+    beta: Fraction,
+    gamma: Fraction,
+}
+
+impl Cluster {
+    pub fn new(alloc: Global) -> Self {
+        Cluster {
+            stations: Vec::new(alloc),
+            beta: FOUR_FIFTHS,
+            gamma: FOUR_FIFTHS,
+        }
+    }
+
+    /// Plays one line, and prints what comes of it. Nothing is printed for a bad one.
+    pub fn play<W: Write>(
+        &mut self,
+        alloc: Global,
+        line: Line,
+        output: &mut W,
+    ) -> Result<Played, PlayFault> {
+        match line {
+            Line::Fractions { beta, gamma } => {
+                self.beta = beta;
+                self.gamma = gamma;
+                Ok(Played::Good)
+            }
+            Line::Member { id, initial } => self.add(alloc, id, &initial, &[]),
+            Line::Entrant { id, contacts } => self.add(alloc, id, &[], &contacts),
+            Line::Event { node, event } => match self.station_mut(node) {
+                Some(station) => {
+                    station.take(alloc, event, output)?;
+                    Ok(Played::Good)
+                }
+                None => Ok(Played::Bad),
+            },
+            Line::Carry(delivery) => self.carry(alloc, delivery, output),
+            Line::CarryAll { limit } => {
+                self.carry_all(alloc, limit, output)?;
+                Ok(Played::Good)
+            }
+        }
+    }
+
+    fn station(&self, id: u32) -> Option<&Station> {
+        self.stations
+            .iter()
+            .find(|station| station.id().number() == id)
+    }
+
+    fn station_mut(&mut self, id: u32) -> Option<&mut Station> {
+        self.stations
+            .iter_mut()
+            .find(|station| station.id().number() == id)
+    }
+
+    fn add(
+        &mut self,
+        alloc: Global,
+        id: u32,
+        initial: &[u32],
+        contacts: &[u32],
+    ) -> Result<Played, PlayFault> {
+        if self.stations.len() >= MAX_NODES || self.station(id).is_some() {
+            return Ok(Played::Bad);
+        }
+        let opening = Opening {
+            me: id,
+            initial,
+            contacts,
+            beta: self.beta,
+            gamma: self.gamma,
+        };
+        match Station::new(alloc, &opening) {
+            Ok(station) => {
+                self.stations.push(station)?;
+                Ok(Played::Good)
+            }
+            Err(Fresh::BadOpening) => Ok(Played::Bad),
+            Err(Fresh::NoMemory) => Err(PlayFault::NoMemory),
+        }
+    }
+
+    fn carry<W: Write>(
+        &mut self,
+        alloc: Global,
+        delivery: Delivery,
+        output: &mut W,
+    ) -> Result<Played, PlayFault> {
+        if self.deliver(alloc, delivery, output)?.is_none() {
+            let Delivery { to, from, number } = delivery;
+            writeln!(output, "nothing {from} {to} {number}")?;
+        }
+        Ok(Played::Good)
+    }
+
+    // Delivers a message. None where it wasn't sent, or there is no such receiver.
+    fn deliver<W: Write>(
+        &mut self,
+        alloc: Global,
+        delivery: Delivery,
+        output: &mut W,
+    ) -> Result<Option<Outcome>, PlayFault> {
+        let Some(event) = self.delivered(alloc, delivery)? else {
+            return Ok(None);
+        };
+        let Some(receiver) = self.station_mut(delivery.to) else {
+            return Ok(None);
+        };
+        receiver.take(alloc, event, output).map(Some)
+    }
+
+    // The event at the receiver.
+    fn delivered(&self, alloc: Global, delivery: Delivery) -> Result<Option<Event>, PlayFault> {
+        let Some(sender) = self.station(delivery.from) else {
+            return Ok(None);
+        };
+        let Some(to) = NodeId::new(delivery.to) else {
+            return Ok(None);
+        };
+        let Some(message) = sender.message(alloc, to, delivery.number)? else {
+            return Ok(None);
+        };
+        Ok(Some(Event::Deliver {
+            from: sender.id(),
+            number: delivery.number,
+            message,
+        }))
+    }
+
+    // Delivers the first of the next messages of all links, up to so many times. One that is refused is left out from
+    // then on.
+    fn carry_all<W: Write>(
+        &mut self,
+        alloc: Global,
+        limit: u64,
+        output: &mut W,
+    ) -> Result<(), PlayFault> {
+        let mut waiting = Waiting::new(alloc);
+        for sender in &self.stations {
+            self.note_next_from(sender.id().number(), &mut waiting)?;
+        }
+        for _ in 0..limit {
+            let Some(delivery) = waiting.take_first() else {
+                break;
+            };
+            let Delivery { to, from, .. } = delivery;
+            match self.deliver(alloc, delivery, output)? {
+                Some(Outcome::Accepted) => {}
+                Some(Outcome::Sent) => self.note_next_from(to, &mut waiting)?,
+                Some(Outcome::Refused) | None => waiting.refuse(delivery)?,
+            }
+            self.note_next(from, to, &mut waiting)?;
+        }
+        Ok(())
+    }
+
+    fn note_next_from(
+        &self,
+        from: u32,
+        waiting: &mut Waiting,
+    ) -> Result<(), AllocFailed<Delivery>> {
+        for receiver in &self.stations {
+            self.note_next(from, receiver.id().number(), waiting)?;
+        }
+        Ok(())
+    }
+
+    // Notes the next message of a link, if it was sent.
+    fn note_next(
+        &self,
+        from: u32,
+        to: u32,
+        waiting: &mut Waiting,
+    ) -> Result<(), AllocFailed<Delivery>> {
+        if let Some(number) = self.next_number(from, to) {
+            waiting.add(Delivery { to, from, number })?;
+        }
+        Ok(())
+    }
+
+    // The number of a link's next message, if it was sent.
+    fn next_number(&self, from: u32, to: u32) -> Option<u64> {
+        let sender = self.station(from)?;
+        let receiver = self.station(to)?;
+        let number = receiver.next_from(sender.id())?;
+        sender.has_sent(receiver.id(), number).then_some(number)
+    }
+}

@@ -1,0 +1,168 @@
+//! The lines of a script.
+
+use crate::delivery::Delivery;
+use cc_changes::Fraction;
+use cc_views::{NodeId, Text};
+use cc_wire::{Command, Event};
+use std::alloc::{AllocError, Global};
+
+/// What one line asks for.
+#[derive(Debug, Drop)]
+pub enum Line {
+    /// The fractions of the nodes that are made after it.
+    Fractions { beta: Fraction, gamma: Fraction },
+    /// Makes a member, one of these.
+    Member { id: u32, initial: Vec<u32> },
+    /// Makes an entrant that can reach these.
+    Entrant { id: u32, contacts: Vec<u32> },
+    /// An event at a node.
+    Event { node: u32, event: Event },
+    /// Delivers a message.
+    Carry(Delivery),
+    /// Delivers so many messages, each the next one of its link.
+    CarryAll { limit: u64 },
+}
+
+/// The line that these bytes are, without their newline. None for a line of any other form.
+pub fn parse(alloc: Global, bytes: &[u8]) -> Result<Option<Line>, AllocError> {
+    let Ok(text) = std::str::from_utf8(bytes) else {
+        return Ok(None);
+    };
+    let words: Vec<&str> = text.split(' ').collect(alloc)?;
+    match words.as_slice() {
+        ["fractions", beta, gamma] => Ok(fractions(beta, gamma)),
+        ["member", id, "of", list] => member(alloc, id, list),
+        ["entrant", id, "via", list] => entrant(alloc, id, list),
+        ["enter", node] => Ok(event_at(node, Some(Event::Enter))),
+        ["leave", node] => Ok(event_at(node, Some(Event::Leave))),
+        ["ask", node, session, request, command @ ..] => {
+            Ok(event_at(node, ask(session, request, command)))
+        }
+        ["carry", from, to, number] => Ok(carry(from, to, number)),
+        ["acked", node, peer, number] => Ok(event_at(node, acked(peer, number))),
+        ["all", limit] => Ok(carry_all(limit)),
+        _ => Ok(None),
+    }
+}
+
+fn fractions(beta: &str, gamma: &str) -> Option<Line> {
+    Some(Line::Fractions {
+        beta: fraction(beta)?,
+        gamma: fraction(gamma)?,
+    })
+}
+
+fn member(alloc: Global, id: &str, list: &str) -> Result<Option<Line>, AllocError> {
+    let Some(id) = small_number(id) else {
+        return Ok(None);
+    };
+    match ids(alloc, list)? {
+        Some(initial) => Ok(Some(Line::Member { id, initial })),
+        None => Ok(None),
+    }
+}
+
+fn entrant(alloc: Global, id: &str, list: &str) -> Result<Option<Line>, AllocError> {
+    let Some(id) = small_number(id) else {
+        return Ok(None);
+    };
+    match ids(alloc, list)? {
+        Some(contacts) => Ok(Some(Line::Entrant { id, contacts })),
+        None => Ok(None),
+    }
+}
+
+fn event_at(node: &str, event: Option<Event>) -> Option<Line> {
+    Some(Line::Event {
+        node: small_number(node)?,
+        event: event?,
+    })
+}
+
+fn ask(session: &str, request: &str, words: &[&str]) -> Option<Event> {
+    Some(Event::Ask {
+        session: number(session)?,
+        request: number(request)?,
+        command: command(words)?,
+    })
+}
+
+fn acked(peer: &str, n: &str) -> Option<Event> {
+    Some(Event::Acked {
+        peer: NodeId::new(small_number(peer)?)?,
+        number: number(n)?,
+    })
+}
+
+fn carry(from: &str, to: &str, n: &str) -> Option<Line> {
+    Some(Line::Carry(Delivery {
+        to: small_number(to)?,
+        from: small_number(from)?,
+        number: number(n)?,
+    }))
+}
+
+fn carry_all(limit: &str) -> Option<Line> {
+    Some(Line::CarryAll {
+        limit: number(limit)?,
+    })
+}
+
+fn command(words: &[&str]) -> Option<Command> {
+    match words {
+        ["store", word] => Some(Command::Store(stored_text(word)?)),
+        ["collect"] => Some(Command::Collect),
+        ["max", n] => Some(Command::WriteMax(number(n)?)),
+        ["readmax"] => Some(Command::ReadMax),
+        ["flag"] => Some(Command::SetFlag),
+        ["readflag"] => Some(Command::ReadFlag),
+        ["add", n] => Some(Command::AddMember(small_number(n)?)),
+        ["readset"] => Some(Command::ReadSet),
+        _ => None,
+    }
+}
+
+// A word of 1 to 64 visible ASCII characters.
+fn stored_text(word: &str) -> Option<Text> {
+    let bytes = word.as_bytes();
+    let is_visible = bytes.iter().all(|byte| byte.is_ascii_graphic());
+    if bytes.is_empty() || !is_visible {
+        return None;
+    }
+    Text::new(bytes)
+}
+
+// Two numbers with a slash between them. Whether it is a share of the whole is up to the node that it is for.
+fn fraction(word: &str) -> Option<Fraction> {
+    let (num, den) = word.split_once('/')?;
+    Some(Fraction {
+        num: small_number(num)?,
+        den: small_number(den)?,
+    })
+}
+
+// Ids joined by commas.
+fn ids(alloc: Global, list: &str) -> Result<Option<Vec<u32>>, AllocError> {
+    let mut ids = Vec::new(alloc);
+    for word in list.split(',') {
+        match small_number(word) {
+            Some(id) => ids.push(id)?,
+            None => return Ok(None),
+        }
+    }
+    Ok(Some(ids))
+}
+
+fn small_number(word: &str) -> Option<u32> {
+    u32::try_from(number(word)?).ok()
+}
+
+// Plain decimal digits, without leading zeros.
+fn number(word: &str) -> Option<u64> {
+    let digits = word.as_bytes();
+    let is_plain = digits.iter().all(|digit| digit.is_ascii_digit());
+    if !is_plain || (digits.len() > 1 && digits.first() == Some(&b'0')) {
+        return None;
+    }
+    word.parse().ok()
+}

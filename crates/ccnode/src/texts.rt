@@ -1,0 +1,183 @@
+//! How views, messages and answers are printed.
+
+use cc_changes::Changes;
+use cc_views::{NodeId, Text, Value, View};
+use cc_wire::{Answer, Message};
+use std::fmt;
+
+/// Letters, digits, `.`, `_` and `-` as they are, every other byte as `%` and two hexadecimal digits.
+#[derive(Clone, Copy)]
+struct PrintedText<'a>(&'a Text);
+
+impl fmt::Display for PrintedText<'_> {
+    fn fmt<W: fmt::Write>(&self, f: &mut fmt::Formatter<W>) -> fmt::Result {
+        let text = self.0;
+        for byte in text.as_bytes() {
+            let byte = *byte;
+            if byte.is_ascii_alphanumeric() || matches!(byte, b'.' | b'_' | b'-') {
+                write!(f, "{}", byte as char)?;
+            } else {
+                write!(f, "%{byte:02x}")?;
+            }
+        }
+        Ok(())
+    }
+}
+
+/// `TEXT/MAX/FLAG/SET`.
+#[derive(Clone, Copy)]
+struct PrintedValue<'a>(&'a Value);
+
+impl fmt::Display for PrintedValue<'_> {
+    fn fmt<W: fmt::Write>(&self, f: &mut fmt::Formatter<W>) -> fmt::Result {
+        let value = self.0;
+        let text = PrintedText(&value.text);
+        let max = value.max;
+        let flag = u8::from(value.flag);
+        write!(f, "{text}/{max}/{flag}/")?;
+        print_joined(f, value.set.as_slice(), '+')
+    }
+}
+
+/// `[NODE:NUMBER=VALUE,..]`.
+#[derive(Clone, Copy)]
+pub struct PrintedView<'a>(pub &'a View);
+
+impl fmt::Display for PrintedView<'_> {
+    fn fmt<W: fmt::Write>(&self, f: &mut fmt::Formatter<W>) -> fmt::Result {
+        let view = self.0;
+        write!(f, "[")?;
+        for (i, row) in view.rows().iter().enumerate() {
+            if i > 0 {
+                write!(f, ",")?;
+            }
+            let node = row.node.number();
+            let number = row.number;
+            let value = PrintedValue(&row.value);
+            write!(f, "{node}:{number}={value}")?;
+        }
+        write!(f, "]")
+    }
+}
+
+/// `[ID,..]`.
+#[derive(Clone, Copy)]
+struct PrintedIds<'a>(&'a [NodeId]);
+
+impl fmt::Display for PrintedIds<'_> {
+    fn fmt<W: fmt::Write>(&self, f: &mut fmt::Formatter<W>) -> fmt::Result {
+        write!(f, "[")?;
+        for (i, id) in self.0.iter().enumerate() {
+            if i > 0 {
+                write!(f, ",")?;
+            }
+            let number = id.number();
+            write!(f, "{number}")?;
+        }
+        write!(f, "]")
+    }
+}
+
+fn print_joined<W: fmt::Write>(
+    f: &mut fmt::Formatter<W>,
+    numbers: &[u32],
+    between: char,
+) -> fmt::Result {
+    for (i, number) in numbers.iter().enumerate() {
+        if i > 0 {
+            write!(f, "{between}")?;
+        }
+        write!(f, "{number}")?;
+    }
+    Ok(())
+}
+
+/// The message's name, and its fields in the order of its format.
+#[derive(Clone, Copy)]
+pub struct PrintedMessage<'a>(pub &'a Message);
+
+impl fmt::Display for PrintedMessage<'_> {
+    fn fmt<W: fmt::Write>(&self, f: &mut fmt::Formatter<W>) -> fmt::Result {
+        match self.0 {
+            Message::Enter { node } => print_news(f, "Enter", *node),
+            Message::EnterEcho {
+                changes,
+                view,
+                is_joined,
+                node,
+            } => print_echo(f, changes, view, *is_joined, *node),
+            Message::Join { node } => print_news(f, "Join", *node),
+            Message::JoinEcho { node } => print_news(f, "JoinEcho", *node),
+            Message::Leave { node } => print_news(f, "Leave", *node),
+            Message::LeaveEcho { node } => print_news(f, "LeaveEcho", *node),
+            Message::Query { tag, node } => {
+                let node = node.number();
+                write!(f, "Query {tag} {node}")
+            }
+            Message::QueryReply { view, tag, node } => {
+                let view = PrintedView(view);
+                let node = node.number();
+                write!(f, "QueryReply {view} {tag} {node}")
+            }
+            Message::Store { view, tag, node } => {
+                let view = PrintedView(view);
+                let node = node.number();
+                write!(f, "Store {view} {tag} {node}")
+            }
+            Message::StoreAck { tag, node } => {
+                let node = node.number();
+                write!(f, "StoreAck {tag} {node}")
+            }
+        }
+    }
+}
+
+fn print_news<W: fmt::Write>(f: &mut fmt::Formatter<W>, name: &str, node: NodeId) -> fmt::Result {
+    let node = node.number();
+    write!(f, "{name} {node}")
+}
+
+fn print_echo<W: fmt::Write>(
+    f: &mut fmt::Formatter<W>,
+    changes: &Changes,
+    view: &View,
+    is_joined: bool,
+    node: NodeId,
+) -> fmt::Result {
+    let entered = PrintedIds(changes.entered());
+    let joined = PrintedIds(changes.joined());
+    let left = PrintedIds(changes.left());
+    let view = PrintedView(view);
+    let flag = u8::from(is_joined);
+    let node = node.number();
+    write!(
+        f,
+        "EnterEcho {entered} {joined} {left} {view} {flag} {node}"
+    )
+}
+
+/// `Stored`, `Seen VIEW`, `Max N`, `Flag 0`, `Flag 1` or `Set [N,..]`.
+#[derive(Clone, Copy)]
+pub struct PrintedAnswer<'a>(pub &'a Answer);
+
+impl fmt::Display for PrintedAnswer<'_> {
+    fn fmt<W: fmt::Write>(&self, f: &mut fmt::Formatter<W>) -> fmt::Result {
+        match self.0 {
+            Answer::Stored => write!(f, "Stored"),
+            Answer::Seen(view) => {
+                let view = PrintedView(view);
+                write!(f, "Seen {view}")
+            }
+            Answer::Max(max) => write!(f, "Max {max}"),
+            Answer::Flag(flag) => {
+                let flag = u8::from(*flag);
+                write!(f, "Flag {flag}")
+            }
+            Answer::Set(members) => {
+                write!(f, "Set [")?;
+                print_joined(f, members.as_slice(), ',')?;
+                write!(f, "]")
+            }
+        }
+    }
+}
