@@ -81,6 +81,17 @@ fn a_member_begins(rt: HostRuntime) -> Result<(), Fail> {
     Ok(())
 }
 
+#[test]
+fn faults_print_their_names(rt: HostRuntime) -> Result<(), Fail> {
+    let bad = Fresh::BadOpening;
+    let text = format!(in rt.alloc(); "{bad}")?;
+    assert_eq!(rt; text.as_str(), "BadOpening");
+    let full = Fresh::NoMemory;
+    let text = format!(in rt.alloc(); "{full}")?;
+    assert_eq!(rt; text.as_str(), "NoMemory");
+    Ok(())
+}
+
 fn ask(request: u64, command: Command) -> Event {
     Event::Ask {
         session: 7,
