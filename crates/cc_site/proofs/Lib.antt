@@ -1,0 +1,6 @@
+pub mod Spliced
+pub mod Recorded
+pub mod Overlay
+pub mod Flags
+pub mod Images
+pub mod Bytes

@@ -1,0 +1,11 @@
+pub mod Sides
+pub mod SideLaws
+pub mod FrontLaws
+pub mod Moments
+pub mod Record
+pub mod RecordLaws
+pub mod Disks
+pub mod Image
+pub mod Fuse
+pub mod Kept
+pub mod Memory

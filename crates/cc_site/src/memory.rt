@@ -1,0 +1,272 @@
+//! A site in memory, which keeps a record of its disk calls and its first outputs.
+
+ghost use Rattle.std.specs.Prelude.{◌≡◌, ◌⊎◌, ◌↔◌, ◌+◌, ◌%◌, ◌^◌, ◌≤◌, ◌<◌, ◌++◌, [], ◌∷◌, length, Option, Some, IsTrue, is_err, IsSome, IfSome, IfOk, ⊤};
+ghost use Rattle.std.specs.Vec.{vec_capacity};
+ghost use Rattle.cc_wire.specs.declared.output.Output.{Output};
+ghost use Rattle.cc_site.specs.declared.site.Side.{Side};
+ghost use Rattle.cc_site.specs.Fuse.{MayBurn};
+ghost use Rattle.cc_site.specs.Kept.{kept, lost_after};
+ghost use Rattle.cc_site.specs.Moments.{CountsFault};
+ghost use Rattle.cc_site.specs.Sides.{MayLeave};
+ghost use Rattle.cc_site.specs.Image.{IsChosen};
+ghost use Rattle.cc_site.specs.Record.{file, state_now, AreBytes, Since, ToldFits, FirmFits};
+ghost use Rattle.cc_site.specs.Disks.{bytes_of};
+
+use crate::disk::Disk;
+use crate::fuse::{Burn, Fuse};
+use crate::image::{Choice, filled, laid, shortened};
+use crate::record::Step;
+use crate::site::{Call, DeviceFault, Side, Site};
+use cc_views::{NoMemory, NodeId};
+use cc_wire::{Answer, Message, Output};
+use std::alloc::{AllocError, Global};
+
+/// A site in memory. It is honest, and it tells its outputs as long as none was lost (own choice).
+///
+/// A disk call whose growth is refused is a device failure. A write or a cut that fails leaves its range touched; only
+/// where the record can't grow by that call itself, it leaves all as it was.
+#[derive(Drop)]
+pub struct MemorySite {
+    alloc: Global,
+    disk: Disk,
+    outputs: Vec<Output>,
+    reserve: usize,
+    lost: u64,
+    calls: u64,
+    failures: u64,
+    fuse: Option<Fuse>,
+    ghost room: { reserve ≤ vec_capacity outputs },
+    ghost told_fits: { ToldFits disk.steps.items outputs.items },
+    ghost firm_fits: { FirmFits (bytes_of disk) disk.steps.items },
+    ghost are_bytes: { (side : Side) → AreBytes (bytes_of disk side) },
+}
+
+impl MemorySite {
+    ghost use Rattle.cc_site.specs.Memory.{memory_state, memory_outputs, IsFresh};
+
+    /// Two empty sides, and room for so many outputs. NoMemory where a growth was refused.
+    pub fn new(alloc: Global, reserve: usize) -> Result<MemorySite, NoMemory>
+        ensures fresh { IfOk result (λ site. IsFresh site reserve) }
+        ensures empty { IfOk result (λ site. (side : Side) → (memory_state site side).bytes ≡ []) }
+    {
+        MemorySite::holding(alloc, Vec::new(alloc), Vec::new(alloc), reserve)
+    }
+
+    // These sides, all of them on the disk.
+    fn holding(
+        alloc: Global,
+        a: Vec<u8>,
+        b: Vec<u8>,
+        reserve: usize,
+    ) -> Result<MemorySite, NoMemory>
+        ensures fresh { IfOk result (λ site. IsFresh site reserve) }
+        ensures bytes { IfOk result (λ site. (site.disk.a.items ≡ a.items) × (site.disk.b.items ≡ b.items)) }
+    {
+        let outputs = Vec::with_capacity(alloc, reserve)?;
+        Ok(MemorySite {
+            alloc,
+            disk: Disk::holding(alloc, a, b),
+            outputs,
+            reserve,
+            lost: 0,
+            calls: 0,
+            failures: 0,
+            fuse: None,
+        })
+    }
+
+    /// The site after a crash now: what the crash may change is as chosen, nothing of it is touched, and no output was
+    /// put. It has the same reserve, and no fuse. NoMemory where a growth was refused.
+    pub fn image(&self, alloc: Global, choice: &Choice) -> Result<MemorySite, NoMemory>
+        ensures fresh { IfOk result (λ image. IsFresh image self.now.reserve) }
+        ensures chosen { IfOk result (λ image. IsChosen choice.now (memory_state self.now) (λ side. (memory_state image side).bytes)) }
+        ensures possible { IfOk result (λ image. (side : Side) → MayLeave (memory_state self.now side) (memory_state image side).bytes) }
+    {
+        let (a, b) = chosen(alloc, &self.disk.a, &self.disk.b, &self.disk.steps, choice)?;
+        MemorySite::holding(alloc, a, b, self.reserve)
+    }
+
+    /// The first outputs, the first of them first: as many as there was room for.
+    pub fn outputs(&self) -> &[Output]
+        ensures { result.now ≡ memory_outputs self.now }
+    {
+        &self.outputs
+    }
+
+    /// How many outputs were not kept, for want of room or of memory. It stops at the greatest u64.
+    pub fn lost(&self) -> u64
+        ensures { result ≡ self.now.lost }
+    {
+        self.lost
+    }
+
+    /// The disk call of this number, from 0 on since the site was made, fails: it alone, or with all later ones. It
+    /// takes the place of an earlier fuse.
+    pub fn fuse(&mut self, at: u64, burn: Burn)
+        ensures { self.new ≡ record self.old { fuse = Some (record { at = at; burn = burn }) } }
+    {
+        self.fuse = Some(Fuse { at, burn });
+    }
+}
+
+// The bytes of both sides after a crash.
+fn chosen(
+    alloc: Global,
+    a: &[u8],
+    b: &[u8],
+    steps: &[Step],
+    choice: &Choice,
+) -> Result<(Vec<u8>, Vec<u8>), AllocError>
+    ensures { IfOk result (λ r. IsChosen choice.now (state_now (file a.now b.now) steps.now) (file r.0.items r.1.items)) }
+{
+    match choice {
+        Choice::Read => Ok((a.to_vec(alloc)?, b.to_vec(alloc)?)),
+        Choice::Fill(byte) => {
+            let in_a = filled(alloc, a, steps, Side::A, *byte)?;
+            let in_b = filled(alloc, b, steps, Side::B, *byte)?;
+            Ok((in_a, in_b))
+        }
+        Choice::Bytes(new) => {
+            let (in_a, used) = laid(alloc, a, steps, Side::A, new)?;
+            let (in_b, _) = laid(alloc, b, steps, Side::B, &new[used..])?;
+            Ok((in_a, in_b))
+        }
+        Choice::Short => {
+            let in_a = shortened(alloc, a, steps, Side::A)?;
+            let in_b = shortened(alloc, b, steps, Side::B)?;
+            Ok((in_a, in_b))
+        }
+    }
+}
+
+// Counts a disk call, and answers whether a fuse fails it.
+fn burns(calls: &mut u64, fuse: &Option<Fuse>) -> bool
+    ensures calls { calls.new ≡ (calls.old + 1) % 2 ^ 64 }
+    ensures burns { IsTrue result ↔ MayBurn fuse.now calls.old }
+{
+    let number = *calls;
+    *calls = number.wrapping_add(1);
+    match fuse {
+        None => false,
+        Some(fuse) => fuse.burns(number),
+    }
+}
+
+// Where a disk call fails, counts that and names the call.
+fn count(fails: bool, failures: &mut u64, side: Side, call: Call) -> Result<(), DeviceFault>
+    ensures outcome { is_err result ≡ fails }
+    ensures fault { CountsFault failures.old failures.new side call result }
+{
+    if fails {
+        *failures = failures.wrapping_add(1);
+        return Err(DeviceFault { side, call });
+    }
+    Ok(())
+}
+
+// Keeps an output behind the earlier ones, where there is one and it is within the reserve. Else it is lost.
+fn keep(outputs: &mut Vec<Output>, reserve: usize, lost: &mut u64, output: Option<Output>)
+    requires room { reserve ≤ vec_capacity outputs.old }
+    ensures outputs { outputs.new.items ≡ kept reserve outputs.old.items output }
+    ensures lost { lost.new ≡ lost_after reserve outputs.old.items output lost.old }
+    ensures tells { lost.new ≡ 0 → (lost.old ≡ 0) × IfSome output (λ o. outputs.new.items ≡ outputs.old.items ++ o ∷ []) × IsSome output }
+    ensures cases { (outputs.new.items ≡ outputs.old.items) ⊎ ((o : Output) × (outputs.new.items ≡ outputs.old.items ++ o ∷ [])) }
+    ensures room { reserve ≤ vec_capacity outputs.new }
+{
+    let within = outputs.len() < reserve;
+    match output {
+        Some(output) if within => outputs.push(output).unwrap(),
+        _ => *lost = lost.saturating_add(1),
+    }
+}
+
+impl Site for MemorySite {
+    ghost use Rattle.cc_site.specs.Memory.{memory_state};
+    ghost use Rattle.cc_site.specs.RecordLaws.{since_now, now_only, may_read_now};
+
+    ghost honest = { λ _. ⊤ };
+
+    ghost tells = { λ m. m.lost ≡ 0 };
+
+    ghost state = { λ m. memory_state m };
+
+    ghost sent = { λ m. m.outputs.items };
+
+    ghost moment = { λ m. length m.disk.steps.items + length m.outputs.items };
+
+    ghost left_since = { λ m t left told. Since (bytes_of m.disk) m.disk.steps.items m.outputs.items t left told };
+
+    ghost failures = { λ m. m.failures };
+
+    ghost may_read = { λ m _ side. may_read_now (bytes_of m.disk) m.disk.steps.items m.firm_fits side };
+
+    ghost are_bytes = { λ m _ side place. m.are_bytes side place };
+
+    ghost counts_now = { λ m _ t left told le possible. since_now (bytes_of m.disk) m.disk.steps.items m.outputs.items m.told_fits t left told le possible };
+
+    ghost only_now = { λ m _ left told since. now_only (bytes_of m.disk) m.disk.steps.items m.outputs.items left told since };
+
+    fn length(&mut self, side: Side) -> Result<u64, DeviceFault> {
+        let fails = burns(&mut self.calls, &self.fuse);
+        count(fails, &mut self.failures, side, Call::Length)?;
+        Ok(self.disk.bytes(side).len() as u64)
+    }
+
+    fn read(&mut self, side: Side, place: u64, into: &mut [u8]) -> Result<(), DeviceFault> {
+        let fails = burns(&mut self.calls, &self.fuse);
+        count(fails, &mut self.failures, side, Call::Read)?;
+        let place = place as usize;
+        into.copy_from_slice(&self.disk.bytes(side)[place..place + into.len()]);
+        Ok(())
+    }
+
+    fn write_at(&mut self, side: Side, place: u64, bytes: &[u8]) -> Result<(), DeviceFault> {
+        let fails = burns(&mut self.calls, &self.fuse);
+        let told = self.outputs.len();
+        let outcome = self.disk.write(fails, told, side, place as usize, bytes);
+        count(outcome.is_err(), &mut self.failures, side, Call::Write)
+    }
+
+    fn cut(&mut self, side: Side, len: u64) -> Result<(), DeviceFault> {
+        let fails = burns(&mut self.calls, &self.fuse);
+        let told = self.outputs.len();
+        let outcome = self.disk.cut(fails, told, side, len as usize);
+        count(outcome.is_err(), &mut self.failures, side, Call::Cut)
+    }
+
+    fn sync(&mut self, side: Side) -> Result<(), DeviceFault> {
+        let fails = burns(&mut self.calls, &self.fuse);
+        let told = self.outputs.len();
+        let outcome = self.disk.sync(fails, told, side);
+        count(outcome.is_err(), &mut self.failures, side, Call::Sync)
+    }
+
+    fn send(&mut self, to: NodeId, number: u64, message: &Message) {
+        let output = match message.copy(self.alloc) {
+            Ok(message) => Some(Output::Send {
+                to,
+                number,
+                message,
+            }),
+            Err(_) => None,
+        };
+        keep(&mut self.outputs, self.reserve, &mut self.lost, output);
+    }
+
+    fn ack(&mut self, to: NodeId, number: u64) {
+        let output = Some(Output::Ack { to, number });
+        keep(&mut self.outputs, self.reserve, &mut self.lost, output);
+    }
+
+    fn reply(&mut self, session: u64, request: u64, answer: &Answer) {
+        let output = match answer.copy(self.alloc) {
+            Ok(answer) => Some(Output::Reply {
+                session,
+                request,
+                answer,
+            }),
+            Err(_) => None,
+        };
+        keep(&mut self.outputs, self.reserve, &mut self.lost, output);
+    }
+}
