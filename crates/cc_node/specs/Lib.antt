@@ -7,3 +7,9 @@ pub mod Codes
 pub mod Writes
 pub mod Known
 pub mod Lines
+pub mod States
+pub mod Sides
+pub mod Good
+pub mod Histories
+pub mod Fronts
+pub mod GoodLaws
