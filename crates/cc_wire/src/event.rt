@@ -142,7 +142,8 @@ pub(crate) fn put_place(out: &mut Vec<u8>, session: u64, request: u64) -> Result
     put_u64(out, request)
 }
 
-pub(crate) fn put_asked(
+/// Appends a command under its session and its request. On an `Err` a part may stand at the end.
+pub fn put_asked(
     out: &mut Vec<u8>,
     session: u64,
     request: u64,
@@ -214,6 +215,7 @@ pub fn encode_event(event: &Event, out: &mut Vec<u8>) -> Result<(), NoMemory>
     ensures ok { OnOk result (out.new.items ≡ out.old.items ++ event_spelling event.now) }
     ensures err { OnErr result (out.new.items ≡ out.old.items) }
     ensures room { vec_len out.old + length (event_spelling event.now) ≤ vec_capacity out.old → IsOk result }
+    ensures grows { vec_capacity out.old ≤ vec_capacity out.new }
 {
     let start = out.len();
     if put_event(out, event).is_err() {

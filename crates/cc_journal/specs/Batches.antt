@@ -1,0 +1,21 @@
+-- Batches: lists of entries, each an event and what it makes.
+--     events_in           the events of some entries
+--     AreLawful           no event of them is refused, and each made part is that of its event
+--     batch_bytes         their record, and the closed gate of the next one
+use Rattle.std.specs.Prelude.{◌≡◌, ℕ, ⊤, List, [], ◌∷◌, ◌++◌, map, None}
+use Rattle.cc_wire.specs.declared.event.Event.{Event}
+use Rattle.cc_node.specs.Core.{made}
+use Rattle.cc_node.specs.Node.{Node, step}
+use Rattle.cc_node.specs.Refusals.{decides}
+use Rattle.cc_node.specs.Sides.{record_spelling}
+use Rattle.cc_journal.specs.declared.entry.Entry.{Entry}
+
+abbrev pub events_in : List Entry → List Event
+events_in entries = map (λ entry. entry.event) entries
+
+abbrev pub AreLawful : Node → List Entry → Type 0
+AreLawful n [] = ⊤
+AreLawful n (entry ∷ entries) = (decides n.core entry.event ≡ None) × (entry.made ≡ made n.core entry.event) × AreLawful (step n entry.event) entries
+
+abbrev pub batch_bytes : List Entry → List ℕ
+batch_bytes entries = record_spelling (events_in entries) ++ 0 ∷ []

@@ -1,0 +1,4 @@
+pub mod Batches
+pub mod Journals
+pub mod Codes
+pub mod Scanning

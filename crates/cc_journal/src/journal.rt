@@ -1,0 +1,201 @@
+//! A record is written behind a closed gate and made sure of; then the gate is opened, and made sure of.
+
+ghost use Rattle.std.specs.Prelude.{◌≡◌, ◌↔◌, ◌≤◌, ◌<◌, ◌+◌, ◌^◌, ◌++◌, ◌∷◌, [], length, List, ℕ, OnOk, OnErr, IfOk, MatchResult, slice_index_or};
+ghost use Rattle.std.specs.Vec.{vec_capacity};
+ghost use Rattle.cc_wire.specs.declared.event.Event.{Event};
+ghost use Rattle.cc_wire.specs.Events.{IsEvent};
+ghost use Rattle.cc_site.specs.Moments.{EachMoment, Rose};
+ghost use Rattle.cc_node.specs.Node.{Node, after, IsLawful};
+ghost use Rattle.cc_node.specs.Sides.{StandsBehind, SpellsBatch};
+ghost use Rattle.cc_journal.specs.Batches.{events_in, batch_bytes};
+ghost use Rattle.cc_journal.specs.Journals.{Position, IsGood, IsAtRest};
+
+use crate::batch::Batch;
+use crate::record::put_record;
+use cc_site::{DeviceFault, Side, Site, write_durably};
+use cc_views::NoMemory;
+use std::alloc::Global;
+use std::marker::Model;
+
+/// The byte of an open gate (own choice); every other byte is a closed one.
+pub const OPEN_GATE: u8 = 0xA5;
+
+/// A batch that is written, and not made sure of yet. It can be neither dropped nor copied: `Journal::append` takes it.
+pub struct Flight {
+    batch: Batch,
+    // How many bytes its record and the gate behind that have.
+    size: u64,
+}
+
+impl Model for Flight {
+    ghost use Rattle.std.specs.Prelude.{List};
+    ghost use Rattle.cc_journal.specs.declared.entry.Entry.{Entry as EntryValue};
+    ghost use Rattle.cc_journal.specs.Codes.{entries_code};
+    ghost use Rattle.cc_journal.specs.Journals.{IsWritten};
+
+    ghost Value = { List EntryValue };
+
+    ghost coded = { entries_code };
+
+    ghost view = { λ f. f.batch };
+
+    ghost invariant = { λ f. IsWritten f.batch f.size };
+}
+
+/// A durable batch, whose outputs are owed. It can be neither dropped nor copied.
+pub struct Landed {
+    batch: Batch,
+}
+
+impl Model for Landed {
+    ghost use Rattle.std.specs.Prelude.{List};
+    ghost use Rattle.cc_journal.specs.declared.entry.Entry.{Entry as EntryValue};
+    ghost use Rattle.cc_journal.specs.Codes.{entries_code};
+
+    ghost Value = { List EntryValue };
+
+    ghost coded = { entries_code };
+
+    ghost view = { λ l. l.batch };
+}
+
+impl Landed {
+    /// The batch, whose outputs the caller takes upon itself.
+    pub fn into_batch(self) -> Batch
+        ensures { result ≡ self }
+    {
+        let Landed { batch } = self;
+        batch
+    }
+}
+
+/// A disk call failed, and the batch is given up.
+#[derive(Clone, Copy, Debug, PartialEq, Eq)]
+pub struct Forfeit {
+    pub fault: DeviceFault,
+}
+
+impl From<DeviceFault> for Forfeit {
+    ghost from_gives = { λ fault forfeit. forfeit ≡ record { fault = fault } };
+
+    fn from(fault: DeviceFault) -> Self {
+        Forfeit { fault }
+    }
+}
+
+/// Where the next record of a side goes: behind the closed gate that ends its records. It has the room of one record,
+/// so that neither `write` nor `append` takes memory.
+#[derive(Drop)]
+pub struct Journal {
+    side: Side,
+    place: u64,
+    text: Vec<u8>,
+    event: Vec<u8>,
+}
+
+impl Model for Journal {
+    ghost use Rattle.std.specs.Prelude.{◌≤◌};
+    ghost use Rattle.std.specs.Vec.{vec_capacity};
+    ghost use Rattle.cc_journal.specs.Codes.{position_code};
+    ghost use Rattle.cc_journal.specs.Journals.{Position as Place, HasRoom};
+
+    ghost Value = { Place };
+
+    ghost coded = { position_code };
+
+    ghost view = { λ j. record { side = j.side; place = j.place } };
+
+    ghost invariant = { λ j. HasRoom (vec_capacity j.text) (vec_capacity j.event) };
+}
+
+impl Journal {
+    // How many bytes a record and its gate have at most, and an event.
+    const RECORD_ROOM: usize = 262_149;
+
+    const EVENT_ROOM: usize = 58_139;
+
+    /// A journal of that side, whose next record goes behind the closed gate at `place`. NoMemory where a growth was
+    /// refused.
+    pub fn new(alloc: Global, side: Side, place: u64) -> Result<Self, NoMemory>
+        ensures { IfOk result (λ j. j ≡ record { side = side; place = place }) }
+    {
+        let text = Vec::with_capacity(alloc, Self::RECORD_ROOM)?;
+        let event = Vec::with_capacity(alloc, Self::EVENT_ROOM)?;
+        Ok(Journal {
+            side,
+            place,
+            text,
+            event,
+        })
+    }
+
+    /// The side in use.
+    pub fn side(&self) -> Side
+        ensures { result ≡ self.now.side }
+    {
+        self.side
+    }
+
+    /// The place of the closed gate that ends the records, in bytes from 0.
+    pub fn place(&self) -> u64
+        ensures { result ≡ self.now.place }
+    {
+        self.place
+    }
+
+    /// Writes the batch's record, and a closed gate, behind the closed gate that ends the records, without a sync. Until
+    /// `append` opens that gate the record doesn't count, so a crash leaves what was there.
+    pub fn write<S: Site>(&mut self, site: &mut S, batch: Batch) -> Result<Flight, Forfeit>
+        requires within { S.honest site.old → self.old.place + 1 ≤ length (S.state site.old self.old.side).bytes }
+        requires room { self.old.place < 2 ^ 61 }
+        requires some { 1 ≤ length batch }
+        ensures same { self.new ≡ self.old }
+        ensures flight { IfOk result (λ flight. flight ≡ batch) }
+        ensures honest { S.honest site.old ↔ S.honest site.new }
+        ensures tells { (S.tells site.old ↔ S.tells site.new) × (S.sent site.new ≡ S.sent site.old) }
+        ensures every_moment { S.honest site.old → (generation : ℕ) (start : Node) (events : List Event) (opening : ℕ)
+            → IsAtRest (S.state site.old) (S.sent site.old) self.old generation start events opening
+            → EachMoment S.moment S.left_since site.old site.new (IsGood start (events ++ events_in batch) (length events) opening) }
+        ensures at_rest { S.honest site.old → (generation : ℕ) (start : Node) (events : List Event) (opening : ℕ)
+            → IsAtRest (S.state site.old) (S.sent site.old) self.old generation start events opening
+            → IsAtRest (S.state site.new) (S.sent site.new) self.old generation start events opening }
+        ensures within { S.honest site.old → OnOk result (self.old.place + 1 ≤ length (S.state site.new self.old.side).bytes) }
+        ensures behind { S.honest site.old → OnOk result (StandsBehind (S.state site.new self.old.side).bytes self.old.place (batch_bytes batch)) }
+        ensures fault { MatchResult result (λ _. S.failures site.new ≡ S.failures site.old) (λ forfeit. Rose (S.failures site.old) (S.failures site.new)) }
+    {
+        let entry = &batch.entries()[0];
+        put_record(&mut self.text, &mut self.event, &entry.event);
+        let size = self.text.len() as u64;
+        site.write_at(self.side, self.place + 1, &self.text)?;
+        Ok(Flight { batch, size })
+    }
+
+    /// Makes sure of the record, opens its gate, and makes sure of that: then the batch is durable. The flight is the
+    /// last one that this journal wrote, and nothing else went to the side since.
+    pub fn append<S: Site>(&mut self, site: &mut S, flight: Flight) -> Result<Landed, Forfeit>
+        requires within { S.honest site.old → self.old.place + 1 ≤ length (S.state site.old self.old.side).bytes }
+        requires room { self.old.place < 2 ^ 61 }
+        ensures landed { IfOk result (λ landed. landed ≡ flight) }
+        ensures ok { OnOk result (self.new ≡ record { side = self.old.side; place = self.old.place + length (batch_bytes flight) }) }
+        ensures err { OnErr result (self.new ≡ self.old) }
+        ensures honest { S.honest site.old ↔ S.honest site.new }
+        ensures tells { (S.tells site.old ↔ S.tells site.new) × (S.sent site.new ≡ S.sent site.old) }
+        ensures every_moment { S.honest site.old → (generation : ℕ) (start : Node) (events : List Event) (opening : ℕ)
+            → IsAtRest (S.state site.old) (S.sent site.old) self.old generation start events opening
+            → IsLawful (after start events) (events_in flight)
+            → StandsBehind (S.state site.old self.old.side).bytes self.old.place (batch_bytes flight)
+            → EachMoment S.moment S.left_since site.old site.new (IsGood start (events ++ events_in flight) (length events) opening) }
+        ensures at_rest { S.honest site.old → (generation : ℕ) (start : Node) (events : List Event) (opening : ℕ)
+            → IsAtRest (S.state site.old) (S.sent site.old) self.old generation start events opening
+            → IsLawful (after start events) (events_in flight)
+            → StandsBehind (S.state site.old self.old.side).bytes self.old.place (batch_bytes flight)
+            → OnOk result (IsAtRest (S.state site.new) (S.sent site.new) self.new generation start (events ++ events_in flight) opening) }
+        ensures fault { MatchResult result (λ _. S.failures site.new ≡ S.failures site.old) (λ forfeit. Rose (S.failures site.old) (S.failures site.new)) }
+    {
+        let Flight { batch, size } = flight;
+        site.sync(self.side)?;
+        write_durably(site, self.side, self.place, &[OPEN_GATE])?;
+        self.place += size;
+        Ok(Landed { batch })
+    }
+}

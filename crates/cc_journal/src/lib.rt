@@ -1,0 +1,12 @@
+//! Batches of events and the records that make them durable, each behind a gate.
+#![tactic(auto)]
+
+mod batch;
+mod entry;
+mod journal;
+mod record;
+
+pub use batch::Batch;
+pub use entry::Entry;
+pub use journal::{Flight, Forfeit, Journal, Landed, OPEN_GATE};
+pub use record::CLOSED_GATE;

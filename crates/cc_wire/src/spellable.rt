@@ -1,0 +1,179 @@
+//! Every event has a spelling. These functions change nothing and answer nothing: their contracts are what they are for.
+
+ghost use Rattle.std.specs.List.{AllByRecursion};
+ghost use Rattle.std.specs.Prelude.{◌<◌, ◌^◌};
+ghost use Rattle.cc_wire.specs.Spelling.{IsText, IsNumberSet, IsValue, IsRow, IsView, IsId, IsChanges};
+ghost use Rattle.cc_wire.specs.Messages.{IsMessage, IsCall};
+ghost use Rattle.cc_wire.specs.Commands.{IsCommand};
+ghost use Rattle.cc_wire.specs.Events.{IsEvent, event_spelling, SpellsEvent};
+
+use crate::command::Command;
+use crate::event::Event;
+use crate::message::Message;
+use cc_changes::Changes;
+use cc_views::{NodeId, NumberSet, Row, Text, Value, View};
+
+fn number_fits(number: u64)
+    ensures { number < 2 ^ 64 }
+{}
+
+fn small_number_fits(number: u32)
+    ensures { number < 2 ^ 32 }
+{}
+
+fn bytes_fit(bytes: &[u8])
+    ensures { AllByRecursion (λ b. b < 256) bytes.now }
+{}
+
+fn small_numbers_fit(numbers: &[u32])
+    ensures { AllByRecursion (λ n. n < 2 ^ 32) numbers.now }
+{}
+
+fn text_is_spellable(text: &Text)
+    ensures { IsText text.now }
+{
+    bytes_fit(text.as_bytes());
+}
+
+fn set_is_spellable(set: &NumberSet)
+    ensures { IsNumberSet set.now }
+{
+    small_numbers_fit(set.as_slice());
+}
+
+fn value_is_spellable(value: &Value)
+    ensures { IsValue value.now }
+{
+    text_is_spellable(&value.text);
+    number_fits(value.max);
+    set_is_spellable(&value.set);
+}
+
+fn row_is_spellable(row: &Row)
+    ensures { IsRow row.now }
+{
+    id_is_spellable(row.node);
+    number_fits(row.number);
+    value_is_spellable(&row.value);
+}
+
+fn rows_are_spellable(rows: &[Row])
+    ensures { AllByRecursion IsRow rows.now }
+{
+    for row in rows {
+        row_is_spellable(row);
+    }
+}
+
+fn view_is_spellable(view: &View)
+    ensures { IsView view.now }
+{
+    rows_are_spellable(view.rows());
+}
+
+fn id_is_spellable(id: NodeId)
+    ensures { IsId id }
+{
+    let _ = id.number();
+}
+
+fn ids_are_spellable(ids: &[NodeId])
+    ensures { AllByRecursion IsId ids.now }
+{
+    for id in ids {
+        id_is_spellable(*id);
+    }
+}
+
+fn changes_are_spellable(changes: &Changes)
+    ensures { IsChanges changes.now }
+{
+    ids_are_spellable(changes.entered());
+    ids_are_spellable(changes.joined());
+    ids_are_spellable(changes.left());
+}
+
+fn command_is_spellable(command: &Command)
+    ensures { IsCommand command.now }
+{
+    match command {
+        Command::Store(text) => text_is_spellable(text),
+        Command::WriteMax(number) => number_fits(*number),
+        Command::AddMember(number) => small_number_fits(*number),
+        Command::Collect
+        | Command::ReadMax
+        | Command::SetFlag
+        | Command::ReadFlag
+        | Command::ReadSet => {}
+    }
+}
+
+fn call_is_spellable(tag: u64, node: NodeId)
+    ensures { IsCall tag node }
+{
+    number_fits(tag);
+    id_is_spellable(node);
+}
+
+fn message_is_spellable(message: &Message)
+    ensures { IsMessage message.now }
+{
+    match message {
+        Message::Enter { node }
+        | Message::Join { node }
+        | Message::JoinEcho { node }
+        | Message::Leave { node }
+        | Message::LeaveEcho { node } => id_is_spellable(*node),
+        Message::EnterEcho {
+            changes,
+            view,
+            node,
+            ..
+        } => {
+            changes_are_spellable(changes);
+            view_is_spellable(view);
+            id_is_spellable(*node);
+        }
+        Message::Query { tag, node } => call_is_spellable(*tag, *node),
+        Message::QueryReply { view, tag, node } => {
+            view_is_spellable(view);
+            call_is_spellable(*tag, *node);
+        }
+        Message::Store { view, tag, node } => {
+            view_is_spellable(view);
+            call_is_spellable(*tag, *node);
+        }
+        Message::StoreAck { tag, node } => call_is_spellable(*tag, *node),
+    }
+}
+
+/// Every event has a spelling.
+pub fn event_is_spellable(event: &Event)
+    ensures { SpellsEvent (event_spelling event.now) event.now }
+{
+    match event {
+        Event::Enter | Event::Leave => {}
+        Event::Deliver {
+            from,
+            number,
+            message,
+        } => {
+            id_is_spellable(*from);
+            number_fits(*number);
+            message_is_spellable(message);
+        }
+        Event::Acked { peer, number } => {
+            id_is_spellable(*peer);
+            number_fits(*number);
+        }
+        Event::Ask {
+            session,
+            request,
+            command,
+        } => {
+            number_fits(*session);
+            number_fits(*request);
+            command_is_spellable(command);
+        }
+    }
+}
