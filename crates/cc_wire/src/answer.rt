@@ -44,8 +44,9 @@ impl Answer {
 }
 
 impl<'a> Reader<'a> {
+    /// An answer: its kind, and the field of that. BadKind for a kind that no answer has.
     #[tactic(auto, unfolding(crate::specs::Answers::answer_at))]
-    pub(crate) fn answer(&mut self, alloc: Global) -> Result<Answer, WireFault>
+    pub fn answer(&mut self, alloc: Global) -> Result<Answer, WireFault>
         ensures { Gives (λ x. (x, self.new)) result (answer_at self.old) }
     {
         match self.u8()? {
@@ -71,7 +72,8 @@ impl<'a> Reader<'a> {
     }
 }
 
-pub(crate) fn put_answer(out: &mut Vec<u8>, answer: &Answer) -> Result<(), AllocError>
+/// Appends an answer, as `Reader::answer` reads it. On an `Err` a part may stand at the end.
+pub fn put_answer(out: &mut Vec<u8>, answer: &Answer) -> Result<(), AllocError>
     ensures writes { Writes out.old out.new (answer_spelling answer.now) result }
     ensures fits { OnOk result (IsAnswer answer.now) }
 {

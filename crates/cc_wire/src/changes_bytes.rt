@@ -28,8 +28,9 @@ impl<'a> Reader<'a> {
         Ok(set)
     }
 
+    /// Who entered, joined and left: three lists of ids. TooLarge above 256, NotAscending where ids don't rise from 1 on.
     #[tactic(auto, unfolding(crate::specs::Reading::changes_at))]
-    pub(crate) fn changes(&mut self, alloc: Global) -> Result<Changes, WireFault>
+    pub fn changes(&mut self, alloc: Global) -> Result<Changes, WireFault>
         ensures { Gives (λ x. (x, self.new)) result (changes_at self.old) }
     {
         let entered = self.id_set(alloc)?;
@@ -49,7 +50,8 @@ fn put_each_id(out: &mut Vec<u8>, ids: &[NodeId]) -> Result<(), AllocError>
     Ok(())
 }
 
-pub(crate) fn put_id(out: &mut Vec<u8>, id: NodeId) -> Result<(), AllocError>
+/// Appends a node's id, in four bytes. On an `Err` a part of them may stand at the end.
+pub fn put_id(out: &mut Vec<u8>, id: NodeId) -> Result<(), AllocError>
     ensures writes { Writes out.old out.new (number_spelling id) result }
     ensures fits { OnOk result (IsId id) }
 {
@@ -65,7 +67,8 @@ fn put_ids(out: &mut Vec<u8>, ids: &[NodeId]) -> Result<(), AllocError>
     put_each_id(out, ids)
 }
 
-pub(crate) fn put_changes(out: &mut Vec<u8>, changes: &Changes) -> Result<(), AllocError>
+/// Appends who entered, joined and left, as `Reader::changes` reads it. On an `Err` a part may stand at the end.
+pub fn put_changes(out: &mut Vec<u8>, changes: &Changes) -> Result<(), AllocError>
     ensures writes { Writes out.old out.new (changes_spelling changes.now) result }
     ensures fits { OnOk result (IsChanges changes.now) }
 {

@@ -34,8 +34,9 @@ pub enum Command {
 }
 
 impl<'a> Reader<'a> {
+    /// A command: its kind, and the field of that. BadKind for a kind that no command has. It takes no memory.
     #[tactic(auto, unfolding(crate::specs::Commands::command_at))]
-    pub(crate) fn command(&mut self) -> Result<Command, WireFault>
+    pub fn command(&mut self) -> Result<Command, WireFault>
         ensures exact { Gives (λ x. (x, self.new)) result (command_at self.old) }
         ensures free { TakesNoMemory result }
     {

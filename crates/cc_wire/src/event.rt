@@ -142,7 +142,8 @@ pub(crate) fn put_place(out: &mut Vec<u8>, session: u64, request: u64) -> Result
     put_u64(out, request)
 }
 
-pub(crate) fn put_asked(
+/// Appends a command under its session and its request. On an `Err` a part may stand at the end.
+pub fn put_asked(
     out: &mut Vec<u8>,
     session: u64,
     request: u64,

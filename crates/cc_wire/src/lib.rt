@@ -20,18 +20,21 @@ mod values;
 mod view_bytes;
 mod writer;
 
-pub use answer::{Answer, decode_answer, encode_answer, one_spelling_of_answers};
+pub use answer::{Answer, decode_answer, encode_answer, one_spelling_of_answers, put_answer};
+pub use changes_bytes::{put_changes, put_id};
 pub use command::{Command, decode_command, encode_command, one_spelling_of_commands};
-pub use event::{Event, decode_event, encode_event, one_spelling_of_events};
+pub use event::{Event, decode_event, encode_event, one_spelling_of_events, put_asked};
 pub use fault::WireFault;
 pub use frame::{Frame, decode_frame, encode_frame, one_spelling_of_frames};
 pub use frame_reader::{Fed, FrameReader, feeds_any_cutting};
-pub use message::{Message, decode_message, encode_message, one_spelling_of_messages};
+pub use message::{Message, decode_message, encode_message, one_spelling_of_messages, put_message};
 pub use number_list::NumberList;
 pub use output::Output;
+pub use reader::Reader;
 pub use refusal::Refusal;
 pub use sizes::largest_sizes;
 pub use view_bytes::{decode_view, encode_view, one_spelling_of_views};
+pub use writer::{put_u8, put_u16, put_u32, put_u64, put_value, put_view};
 
 #[cfg(test)]
 mod tests;

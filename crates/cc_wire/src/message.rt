@@ -114,8 +114,9 @@ impl Message {
 }
 
 impl<'a> Reader<'a> {
+    /// A message: its kind, and the fields of that. BadKind for a kind that no message has.
     #[tactic(auto, unfolding(crate::specs::Messages::message_at))]
-    pub(crate) fn message(&mut self, alloc: Global) -> Result<Message, WireFault>
+    pub fn message(&mut self, alloc: Global) -> Result<Message, WireFault>
         ensures { Gives (λ x. (x, self.new)) result (message_at self.old) }
     {
         match self.u8()? {
@@ -242,7 +243,8 @@ fn put_news(out: &mut Vec<u8>, kind: u8, node: NodeId) -> Result<(), AllocError>
     put_id(out, node)
 }
 
-pub(crate) fn put_message(out: &mut Vec<u8>, message: &Message) -> Result<(), AllocError>
+/// Appends a message, as `Reader::message` reads it. On an `Err` a part may stand at the end.
+pub fn put_message(out: &mut Vec<u8>, message: &Message) -> Result<(), AllocError>
     ensures writes { Writes out.old out.new (message_spelling message.now) result }
     ensures fits { OnOk result (IsMessage message.now) }
 {

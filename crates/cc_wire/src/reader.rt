@@ -8,9 +8,12 @@ use crate::fault::WireFault;
 use cc_views::NodeId;
 use std::marker::Model;
 
-/// What is left of some bytes. After an `Err` that is unspecified.
+/// Some bytes, of which fields are read one after the other: seen as what is left. Numbers are big-endian. The formats of
+/// fields are this project's own, and each answers what is wrong with the field that stands next: Short where the
+/// bytes end inside it, else what its own call names, and NoMemory where a growth was refused. After an `Err` it is
+/// unspecified what is left.
 #[derive(Drop)]
-pub(crate) struct Reader<'a> {
+pub struct Reader<'a> {
     rest: &'a [u8],
 }
 
@@ -23,13 +26,15 @@ impl<'a> Model for Reader<'a> {
 }
 
 impl<'a> Reader<'a> {
-    pub(crate) fn new(bytes: &'a [u8]) -> Self
+    /// With all of the bytes left.
+    pub fn new(bytes: &'a [u8]) -> Self
         ensures { result ≡ bytes.now }
     {
         Reader { rest: bytes }
     }
 
-    pub(crate) fn u8(&mut self) -> Result<u8, WireFault>
+    /// A byte.
+    pub fn u8(&mut self) -> Result<u8, WireFault>
         ensures exact { Gives (λ x. (x, self.new)) result (byte_at self.old) }
         ensures free { TakesNoMemory result }
     {
@@ -57,14 +62,16 @@ impl<'a> Reader<'a> {
         Ok(front)
     }
 
-    pub(crate) fn u16(&mut self) -> Result<u16, WireFault>
+    /// A number of two bytes.
+    pub fn u16(&mut self) -> Result<u16, WireFault>
         ensures { Gives (λ x. (x, self.new)) result (number_at w16 self.old) }
     {
         let b = self.bytes(2)?;
         Ok(u16::from_be_bytes([b[0], b[1]]))
     }
 
-    pub(crate) fn u32(&mut self) -> Result<u32, WireFault>
+    /// A number of four bytes.
+    pub fn u32(&mut self) -> Result<u32, WireFault>
         ensures exact { Gives (λ x. (x, self.new)) result (number_at w32 self.old) }
         ensures free { TakesNoMemory result }
     {
@@ -72,7 +79,8 @@ impl<'a> Reader<'a> {
         Ok(u32::from_be_bytes([b[0], b[1], b[2], b[3]]))
     }
 
-    pub(crate) fn u64(&mut self) -> Result<u64, WireFault>
+    /// A number of eight bytes.
+    pub fn u64(&mut self) -> Result<u64, WireFault>
         ensures exact { Gives (λ x. (x, self.new)) result (number_at w64 self.old) }
         ensures free { TakesNoMemory result }
     {
@@ -93,7 +101,8 @@ impl<'a> Reader<'a> {
         Ok(number)
     }
 
-    pub(crate) fn id(&mut self, least: u64) -> Result<NodeId, WireFault>
+    /// A node's id in four bytes, at least `least`. NotAscending where it is below.
+    pub fn id(&mut self, least: u64) -> Result<NodeId, WireFault>
         requires { 1 ≤ least }
         ensures exact { Gives (λ x. (x, self.new)) result (number_from least self.old) }
         ensures least { IfOk result (λ id. least ≤ id) }
@@ -113,9 +122,9 @@ impl<'a> Reader<'a> {
         }
     }
 
-    /// Wants no byte after a value.
+    /// Wants no byte to be left. Trailing where there is one.
     #[tactic(auto, unfolding(crate::specs::Reading::ended))]
-    pub(crate) fn end(&self) -> Result<(), WireFault>
+    pub fn end(&self) -> Result<(), WireFault>
         ensures exact { Gives (λ _. tt) result (ended self.now) }
         ensures free { TakesNoMemory result }
     {

@@ -33,8 +33,10 @@ impl<'a> Reader<'a> {
         Ok(set)
     }
 
+    /// A value: its text, maximum, flag and set. TooLarge for a text or a set above its limit, BadKind for a flag above
+    /// 1, NotAscending for a set that doesn't rise.
     #[tactic(auto, unfolding(crate::specs::Reading::value_at))]
-    pub(crate) fn value(&mut self) -> Result<Value, WireFault>
+    pub fn value(&mut self) -> Result<Value, WireFault>
         ensures { Gives (λ x. (x, self.new)) result (value_at self.old) }
     {
         let text = self.text()?;

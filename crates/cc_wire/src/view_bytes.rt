@@ -45,8 +45,10 @@ impl<'a> Reader<'a> {
         Ok(())
     }
 
+    /// A view: a count, and so many rows. TooLarge above 256, NotAscending where the nodes don't rise, and the faults of a
+    /// row's value.
     #[tactic(auto, unfolding(crate::specs::Reading::view_at, crate::specs::Reading::row_list_at))]
-    pub(crate) fn view(&mut self, alloc: Global) -> Result<View, WireFault>
+    pub fn view(&mut self, alloc: Global) -> Result<View, WireFault>
         ensures { Gives (λ x. (x, self.new)) result (view_at self.old) }
     {
         let count = self.u16()?;

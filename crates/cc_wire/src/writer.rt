@@ -1,4 +1,4 @@
-//! Writing fields at the end of a vector.
+//! Writing fields at the end of a vector: each is spelled as `Reader` reads it.
 
 ghost use Rattle.std.specs.Prelude.{◌≡◌, ◌≤◌, ◌<◌, ◌+◌, ◌∷◌, [], ◌++◌, length, take, OnOk, OnErr, IsOk, vec_len};
 ghost use Rattle.std.specs.Int.{w16, w32, w64, to_be_bytes};
@@ -17,7 +17,8 @@ pub(crate) fn put_bytes(out: &mut Vec<u8>, bytes: &[u8]) -> Result<(), AllocErro
     out.extend_from_slice(bytes)
 }
 
-pub(crate) fn put_u16(out: &mut Vec<u8>, number: u16) -> Result<(), AllocError>
+/// Appends a number in two bytes. On an `Err` a part of them may stand at the end.
+pub fn put_u16(out: &mut Vec<u8>, number: u16) -> Result<(), AllocError>
     ensures { Writes out.old out.new (to_be_bytes w16 number) result }
 {
     let mut bytes = [0; 2];
@@ -25,7 +26,8 @@ pub(crate) fn put_u16(out: &mut Vec<u8>, number: u16) -> Result<(), AllocError>
     out.extend_from_slice(&bytes)
 }
 
-pub(crate) fn put_u32(out: &mut Vec<u8>, number: u32) -> Result<(), AllocError>
+/// Appends a number in four bytes. On an `Err` a part of them may stand at the end.
+pub fn put_u32(out: &mut Vec<u8>, number: u32) -> Result<(), AllocError>
     ensures { Writes out.old out.new (to_be_bytes w32 number) result }
 {
     let mut bytes = [0; 4];
@@ -33,7 +35,8 @@ pub(crate) fn put_u32(out: &mut Vec<u8>, number: u32) -> Result<(), AllocError>
     out.extend_from_slice(&bytes)
 }
 
-pub(crate) fn put_u64(out: &mut Vec<u8>, number: u64) -> Result<(), AllocError>
+/// Appends a number in eight bytes. On an `Err` a part of them may stand at the end.
+pub fn put_u64(out: &mut Vec<u8>, number: u64) -> Result<(), AllocError>
     ensures { Writes out.old out.new (to_be_bytes w64 number) result }
 {
     let mut bytes = [0; 8];
@@ -41,7 +44,8 @@ pub(crate) fn put_u64(out: &mut Vec<u8>, number: u64) -> Result<(), AllocError>
     out.extend_from_slice(&bytes)
 }
 
-pub(crate) fn put_u8(out: &mut Vec<u8>, byte: u8) -> Result<(), AllocError>
+/// Appends a byte.
+pub fn put_u8(out: &mut Vec<u8>, byte: u8) -> Result<(), AllocError>
     ensures { Writes out.old out.new (byte ∷ []) result }
 {
     out.extend_from_slice(&[byte])
@@ -80,7 +84,8 @@ fn put_number_set(out: &mut Vec<u8>, set: &NumberSet) -> Result<(), AllocError>
     put_numbers(out, numbers)
 }
 
-pub(crate) fn put_value(out: &mut Vec<u8>, value: &Value) -> Result<(), AllocError>
+/// Appends a value: its text, maximum, flag and set. On an `Err` a part may stand at the end.
+pub fn put_value(out: &mut Vec<u8>, value: &Value) -> Result<(), AllocError>
     ensures writes { Writes out.old out.new (value_spelling value.now) result }
     ensures fits { OnOk result (IsValue value.now) }
 {
@@ -109,7 +114,8 @@ fn put_rows(out: &mut Vec<u8>, rows: &[Row]) -> Result<(), AllocError>
     Ok(())
 }
 
-pub(crate) fn put_view(out: &mut Vec<u8>, view: &View) -> Result<(), AllocError>
+/// Appends a view: how many rows, and the rows. On an `Err` a part may stand at the end.
+pub fn put_view(out: &mut Vec<u8>, view: &View) -> Result<(), AllocError>
     ensures writes { Writes out.old out.new (view_spelling view.now) result }
     ensures fits { OnOk result (IsView view.now) }
 {
