@@ -118,7 +118,7 @@ above_weaker : {X : Type 0} (key : X → ℕ) (a b : ℕ) (xs : List X) → a �
 above_weaker key a b [] le all = tt
 above_weaker key a b (x ∷ xs) le all = (omega (arith, all.0), above_weaker key a b xs le all.1)
 
-above_of_run : {X : Type 0} (key : X → ℕ) (Q : X → Type 0) (least : ℕ) (xs : List X) → IsRun key Q least xs → AllByRecursion (λ x. least ≤ key x) xs
+pub above_of_run : {X : Type 0} (key : X → ℕ) (Q : X → Type 0) (least : ℕ) (xs : List X) → IsRun key Q least xs → AllByRecursion (λ x. least ≤ key x) xs
 above_of_run key Q least [] run = tt
 above_of_run key Q least (x ∷ xs) run = (run.0.1, above_weaker key least (key x + 1) xs (omega (arith, run.0.1)) (above_of_run key Q (key x + 1) xs run.1))
 

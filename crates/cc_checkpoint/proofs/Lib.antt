@@ -1,0 +1,2 @@
+pub mod StateFormat
+pub mod NodeStates
