@@ -1,2 +1,4 @@
 pub mod StateFormat
 pub mod NodeStates
+pub mod ChoosingLaws
+pub mod HeadLaws

@@ -1,0 +1,121 @@
+//! Which side is in use, and the state that it holds.
+
+ghost use Rattle.std.specs.Prelude.{◌≡◌, ◌↔◌, ◌≤◌, ◌<◌, ◌+◌, length, vec_len, take, drop, ℕ, OnOk, IfOk, IfErr, MatchResult};
+ghost use Rattle.cc_site.specs.declared.site.Side.TheVariants.{A, B};
+ghost use Rattle.cc_site.specs.Reads.{OnlyReads};
+ghost use Rattle.cc_checkpoint.specs.declared.fault.OpenFault.TheVariants as faults;
+ghost use Rattle.cc_checkpoint.specs.Faults.{Answers, CountsDevice};
+ghost use Rattle.cc_checkpoint.specs.Choosing.{generation_in, greater, chosen};
+
+use crate::fault::OpenFault;
+use cc_site::{DeviceFault, Side, Site};
+
+/// The byte of an open gate (own choice).
+const OPEN_GATE: u8 = 0xA5;
+
+/// The side in use, and its generation.
+#[derive(Clone, Copy, Debug, PartialEq, Eq)]
+pub struct InUse {
+    pub side: Side,
+    pub generation: u64,
+}
+
+// How long a side is.
+pub(crate) fn length_of<S: Site>(site: &mut S, side: Side) -> Result<u64, OpenFault>
+    ensures value { S.honest site.old → IfOk result (λ n. n ≡ length (S.state site.old side).bytes) }
+    ensures device { IfErr result (λ e. (fault : DeviceFault) × (e ≡ faults.Device fault)) }
+    ensures reads { OnlyReads S.honest S.tells S.state S.sent S.moment S.left_since site.old site.new }
+    ensures fault { CountsDevice (S.failures site.old) (S.failures site.new) result }
+{
+    Ok(site.length(side)?)
+}
+
+// Reads what lies from a place on.
+pub(crate) fn read_into<S: Site>(
+    site: &mut S,
+    side: Side,
+    place: u64,
+    into: &mut [u8],
+) -> Result<(), OpenFault>
+    requires { S.honest site.old → place + length into.old ≤ length (S.state site.old side).bytes }
+    ensures value { S.honest site.old → OnOk result (into.new ≡ take (length into.old) (drop place (S.state site.old side).bytes)) }
+    ensures device { IfErr result (λ e. (fault : DeviceFault) × (e ≡ faults.Device fault)) }
+    ensures reads { OnlyReads S.honest S.tells S.state S.sent S.moment S.left_since site.old site.new }
+    ensures fault { CountsDevice (S.failures site.old) (S.failures site.new) result }
+{
+    Ok(site.read(side, place, into)?)
+}
+
+// The generation of a side, where it is armed.
+#[tactic(auto, unfolding(crate::specs::Choosing::generation_in))]
+fn generation<S: Site>(site: &mut S, side: Side) -> Result<Option<u64>, OpenFault>
+    ensures exact { S.honest site.old → Answers (λ o. o) result (generation_in side (S.state site.old side).bytes) }
+    ensures reads { OnlyReads S.honest S.tells S.state S.sent S.moment S.left_since site.old site.new }
+    ensures fault { CountsDevice (S.failures site.old) (S.failures site.new) result }
+{
+    let len = length_of(site, side)?;
+    if len == 0 {
+        return Ok(None);
+    }
+    let mut gate = [0];
+    read_into(site, side, 0, &mut gate)?;
+    if gate[0] != OPEN_GATE {
+        return Ok(None);
+    }
+    if len < 9 {
+        return Err(OpenFault::Damaged(side, 1));
+    }
+    let mut number = [0; 8];
+    read_into(site, side, 1, &mut number)?;
+    match u64::from_be_bytes(number) {
+        0 => Err(OpenFault::Damaged(side, 1)),
+        generation => Ok(Some(generation)),
+    }
+}
+
+// The side with the greater generation.
+#[tactic(auto, unfolding(crate::specs::Choosing::greater))]
+fn greater_of(first: Option<u64>, second: Option<u64>) -> Result<InUse, OpenFault>
+    ensures exact { result ≡ greater first second }
+    ensures fault { (failures : ℕ) → CountsDevice failures failures result }
+{
+    match (first, second) {
+        (None, None) => Err(OpenFault::NotFormatted),
+        (Some(generation), None) => Ok(InUse {
+            side: Side::A,
+            generation,
+        }),
+        (None, Some(generation)) => Ok(InUse {
+            side: Side::B,
+            generation,
+        }),
+        (Some(a), Some(b)) => {
+            if a == b {
+                Err(OpenFault::Damaged(Side::B, 1))
+            } else if a < b {
+                Ok(InUse {
+                    side: Side::B,
+                    generation: b,
+                })
+            } else {
+                Ok(InUse {
+                    side: Side::A,
+                    generation: a,
+                })
+            }
+        }
+    }
+}
+
+/// Finds the side in use: the armed one with the greater generation. NotFormatted where no side is armed, Damaged at place
+/// 1 where an armed side has no generation (the first of them), or the second one has that of the first (own choice).
+#[tactic(auto, unfolding(crate::specs::Choosing::chosen))]
+pub fn choose<S: Site>(site: &mut S) -> Result<InUse, OpenFault>
+    ensures exact { S.honest site.old → Answers (λ used. used) result (chosen (S.state site.old A).bytes (S.state site.old B).bytes) }
+    ensures reads { OnlyReads S.honest S.tells S.state S.sent S.moment S.left_since site.old site.new }
+    ensures fault { CountsDevice (S.failures site.old) (S.failures site.new) result }
+{
+    let first = generation(site, Side::A)?;
+    let second = generation(site, Side::B)?;
+    greater_of(first, second)
+}
