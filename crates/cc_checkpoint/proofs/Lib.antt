@@ -1,2 +1,3 @@
 pub mod StateFormat
 pub mod NodeStates
+pub mod TableWrites

@@ -2,5 +2,6 @@
 #![tactic(auto)]
 
 mod laws;
+mod state_writer;
 
 pub use laws::{one_spelling_of_nodes, one_spelling_of_states};
