@@ -7,3 +7,4 @@ pub mod Codes
 pub mod Writes
 pub mod Known
 pub mod Lines
+pub mod Parts

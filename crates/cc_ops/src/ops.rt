@@ -3,6 +3,7 @@
 ghost use Rattle.std.specs.Prelude.{◌≡◌, ℕ, ◌+◌, ◌≤◌, ◌<◌, ◌^◌, ◌||◌, [], ◌∷◌, IfOk, IsFalse, is_some};
 ghost use Rattle.std.specs.Option.{option_map};
 ghost use Rattle.std.specs.FinMap.{len};
+ghost use Rattle.cc_views.specs.NatSets as set;
 ghost use Rattle.cc_views.specs.Rows.{ViewMap, single};
 ghost use Rattle.cc_views.specs.Merge.{merge};
 ghost use Rattle.cc_objects.specs.Objects as objects;
@@ -68,6 +69,31 @@ impl Ops {
         })
     }
 
+    /// These parts, and `seen` is what is stored back, where the stage says that something is; it has its room from the
+    /// start. For a decoder of states (own choice).
+    pub fn from_parts(
+        view: View,
+        number: u64,
+        mine: Value,
+        tag: u64,
+        stage: Stage,
+        seen: View,
+    ) -> Self
+        requires number { number ≤ 2 ^ 62 }
+        requires tag { tag ≤ 2 ^ 62 }
+        requires waits { HasWaiting stage }
+        ensures { result ≡ record { view = view; number = number; mine = mine; tag = tag; phase = phase_of stage seen } }
+    {
+        Ops {
+            view,
+            number,
+            mine,
+            tag,
+            stage,
+            seen,
+        }
+    }
+
     /// The same in memory of its own. The only error is a refused growth.
     pub fn copy(&self, alloc: Global) -> Result<Self, NoMemory>
         ensures { IfOk result (λ o. o ≡ self.now) }
@@ -99,8 +125,11 @@ impl Ops {
 
     /// What the node has stored itself.
     pub fn mine(&self) -> &Value
-        ensures { result.now ≡ self.now.mine }
+        ensures mine { result.now ≡ self.now.mine }
+        ensures few { set.len result.now.set ≤ 32 }
     {
+        // The proof then knows how many numbers there are at most.
+        let _count = self.mine.set.len();
         &self.mine
     }
 
@@ -112,9 +141,10 @@ impl Ops {
         self.tag
     }
 
-    /// The pending operation.
+    /// The pending operation, which waits for more answers than it has.
     pub fn stage(&self) -> Stage
-        ensures { result ≡ stage_of self.now.phase }
+        ensures stage { result ≡ stage_of self.now.phase }
+        ensures waits { HasWaiting result }
     {
         self.stage
     }
@@ -418,7 +448,8 @@ impl Ops {
     }
 }
 
-fn is_writing(command: &Command) -> bool
+/// Whether the command writes, and doesn't read.
+pub fn is_writing(command: &Command) -> bool
     ensures { result ≡ commands.is_writing command.now }
 {
     match command {
