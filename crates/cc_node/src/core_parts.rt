@@ -1,6 +1,6 @@
 //! The parts of a core, and whether they make a lawful one.
 
-ghost use Rattle.std.specs.Prelude.{◌≡◌, ◌≤◌, ◌↔◌, Some, IsTrue};
+ghost use Rattle.std.specs.Prelude.{◌≡◌, ◌≤◌, ◌↔◌, Some, IsTrue, IsFalse};
 ghost use Rattle.std.specs.List.{list_all};
 ghost use Rattle.std.specs.FinMap as table;
 ghost use Rattle.cc_views.specs.NatSets as set;
@@ -9,6 +9,7 @@ ghost use Rattle.cc_views.specs.Rows.{ViewMap};
 ghost use Rattle.cc_changes.specs.ChangeLaws.{IsAmong};
 ghost use Rattle.cc_links.specs.Links.{LinksWithin};
 ghost use Rattle.cc_links.specs.Rows.{link_of};
+ghost use Rattle.cc_ops.specs.Commands.{is_writing, set_limit};
 ghost use Rattle.cc_ops.specs.Ops.{IsWaiting, seen_in};
 ghost use Rattle.cc_sessions.specs.Sessions.{session_limit};
 ghost use Rattle.cc_node.specs.Lawful.{CountsWithin, IsLawfulCore, IsPendingIn, IsPhaseOf, SessionsWithin};
@@ -21,7 +22,7 @@ use cc_churn::Churn;
 use cc_links::{LinkRow, Links};
 use cc_ops::{Ops, Pending, Stage, is_writing};
 use cc_sessions::{SessionRow, Sessions};
-use cc_views::{NodeId, Row, View};
+use cc_views::{NodeId, NumberSet, Row, View};
 
 // How many nodes are known at most.
 const MAX_KNOWN: u64 = 256;
@@ -80,17 +81,30 @@ impl CoreParts {
         if !phase_fits(&self.links, &self.sessions, &self.ops) {
             return false;
         }
-        self.counts_fit()
-    }
-
-    // Whether the counts that no part bounds by itself are within their limits.
-    fn counts_fit(&self) -> bool
-        ensures { IsTrue result ↔ (CountsWithin (core_of self.now) × (self.now.churn.need ≤ known_limit)) }
-    {
-        if self.posts > COUNTER_LIMIT {
+        if !self.counts_fit() {
             return false;
         }
-        self.churn.need() <= MAX_KNOWN
+        self.sizes_fit()
+    }
+
+    // Whether no counter is past its limit.
+    fn counts_fit(&self) -> bool
+        ensures { IsTrue result ↔ CountsWithin (core_of self.now) }
+    {
+        let counters = [
+            self.posts,
+            self.ops.number(),
+            self.ops.tag(),
+            self.churn.echoes(),
+        ];
+        counters.iter().all(|counter| *counter <= COUNTER_LIMIT)
+    }
+
+    // Whether the need of the own entering is of known nodes, and the own set has its room.
+    fn sizes_fit(&self) -> bool
+        ensures { IsTrue result ↔ ((self.now.churn.need ≤ known_limit) × (set.len self.now.ops.mine.set ≤ set_limit)) }
+    {
+        self.churn.need() <= MAX_KNOWN && self.ops.mine().set.len() <= NumberSet::MAX_LEN
     }
 }
 
@@ -190,15 +204,19 @@ fn phase_fits(links: &Links, sessions: &Sessions, ops: &Ops) -> bool
         Stage::Storing(pending) => {
             is_last_request(sessions, &pending) && is_writing(&pending.asked.command)
         }
-        Stage::Querying(pending) => {
-            is_last_request(sessions, &pending) && !is_writing(&pending.asked.command)
-        }
+        Stage::Querying(pending) => is_last_read(sessions, &pending),
         Stage::StoringBack(pending) => {
-            is_last_request(sessions, &pending)
-                && !is_writing(&pending.asked.command)
-                && knows_seen(links, ops)
+            is_last_read(sessions, &pending) && knows_seen(links, ops)
         }
     }
+}
+
+// Whether the operation is a read, and of its session's last request.
+fn is_last_read(sessions: &Sessions, pending: &Pending) -> bool
+    requires { IsWaiting pending.now }
+    ensures { IsTrue result ↔ (IsPendingIn sessions.now pending.now × IsFalse (is_writing pending.now.asked.command)) }
+{
+    is_last_request(sessions, pending) && !is_writing(&pending.asked.command)
 }
 
 // Whether the operation is of its session's last request.

@@ -3,7 +3,6 @@
 ghost use Rattle.std.specs.Prelude.{◌≡◌, ℕ, ◌+◌, ◌≤◌, ◌<◌, ◌^◌, ◌||◌, [], ◌∷◌, IfOk, IsFalse, is_some};
 ghost use Rattle.std.specs.Option.{option_map};
 ghost use Rattle.std.specs.FinMap.{len};
-ghost use Rattle.cc_views.specs.NatSets as set;
 ghost use Rattle.cc_views.specs.Rows.{ViewMap, single};
 ghost use Rattle.cc_views.specs.Merge.{merge};
 ghost use Rattle.cc_objects.specs.Objects as objects;
@@ -125,11 +124,8 @@ impl Ops {
 
     /// What the node has stored itself.
     pub fn mine(&self) -> &Value
-        ensures mine { result.now ≡ self.now.mine }
-        ensures few { set.len result.now.set ≤ 32 }
+        ensures { result.now ≡ self.now.mine }
     {
-        // The proof then knows how many numbers there are at most.
-        let _count = self.mine.set.len();
         &self.mine
     }
 
