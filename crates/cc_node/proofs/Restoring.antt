@@ -2,8 +2,9 @@
 --     entries_pass                       a test of each entry, and what then holds at each key
 --     ids_within, view_within, answers_within     rows that all name a key of another table
 --     links_pass, sessions_pass          rows within their bounds
-use Rattle.std.proofs.Common.{◌≡◌, ℕ, ◌-◌, ◌<◌, ◌≤◌, Bool, true, ◌&&◌, List, [], ◌∷◌, map, refl, sym, ap, subst, ◌∙◌}
-use Rattle.std.specs.Prelude.{◌↔◌, Option, Some, None, IfSome, IsTrue, is_some, nat_le, nat_lt}
+--     has_answer, answers_kept, answers_free       which answers are kept
+use Rattle.std.proofs.Common.{◌≡◌, ℕ, ◌-◌, ◌<◌, ◌≤◌, Bool, true, false, not, ◌&&◌, List, [], ◌∷◌, map, refl, sym, ap, subst, ◌∙◌}
+use Rattle.std.specs.Prelude.{◌↔◌, Option, Some, None, IfSome, IsTrue, is_some, option_map}
 use Rattle.std.specs.List.{list_all, AllByRecursion}
 use Rattle.std.specs.Ordering.{nat_cmp}
 use Rattle.std.specs.FinMap as table
@@ -27,7 +28,8 @@ use Rattle.cc_sessions.specs.declared.session_row.SessionRow.{SessionRow}
 use Rattle.cc_outbox.specs.Outbox.{Outbox}
 use Rattle.cc_outbox.specs.Rows as kept
 use Rattle.cc_outbox.specs.declared.kept_answer.KeptAnswer.{KeptAnswer}
-use Rattle.cc_node.specs.Lawful.{SessionsWithin}
+use Rattle.cc_ops.specs.Ops.{Phase}
+use Rattle.cc_node.specs.Lawful.{SessionsWithin, KeepsAnswers, pending_session}
 use Rattle.cc_node.specs.Parts.{is_link_within, is_request_within}
 
 list_all-map : {X Y : Type 0} (p : Y → Bool) (f : X → Y) (xs : List X) → list_all p (map f xs) ≡ list_all (λ x. p (f x)) xs
@@ -118,3 +120,40 @@ sessions_pass ss =
       λ h s. if_some_more (table.get ss s) (λ last. IsTrue (is_request_within last)) (λ last. (0 < last) × (last ≤ counter_limit)) request_passes (pass.0 h s),
       λ h. pass.1 (λ s. if_some_more (table.get ss s) (λ last. (0 < last) × (last ≤ counter_limit)) (λ last. IsTrue (is_request_within last)) request_passed (h s)),
     )
+
+-- ---- kept answers
+
+found_in : {X Y : Type 0} (f : Y → X) (r : Option Y) (o : Option X) → option_map f r ≡ o → is_some o ≡ is_some r
+found_in f None o e = sym (ap is_some e)
+found_in f (Some y) o e = sym (ap is_some e)
+
+-- whether an answer is found is whether one is kept
+pub has_answer : {Y : Type 0} (f : Y → Answer) (r : Option Y) (m : FinMap nat_cmp Answer) (s : ℕ) → option_map f r ≡ table.get m s → table.contains_key m s ≡ is_some r
+has_answer f r m s e = found_in f r (table.get m s) e
+
+same_session : (pending : Option ℕ) (s q : ℕ) → pending ≡ Some s → pending ≡ Some q → s ≡ q
+same_session pending s q a b = cc
+
+kept_apart : (b gone : Bool) → b ≡ not gone → gone ≡ true → b ≡ true → ⊥
+kept_apart b true e h k = cc
+kept_apart b false e h k = cc
+
+apart_kept : (b gone : Bool) → b ≡ not gone → (b ≡ true → ⊥) → gone ≡ true
+apart_kept b true e h = refl
+apart_kept b false e h = absurd (h e)
+
+-- where an operation pends, its session has no kept answer
+pub answers_kept : (ss : Requests) (phase : Phase) (m : FinMap nat_cmp Answer) (s : ℕ) (gone : Bool) → IsWithin m ss → pending_session phase ≡ Some s → table.contains_key m s ≡ not gone
+    → IsTrue gone ↔ KeepsAnswers ss phase m
+answers_kept ss phase m s gone within pends is = (
+  λ h q there. (
+    within q there,
+    λ pends_there. kept_apart (table.contains_key m s) gone is h
+        (ap (table.contains_key m) (same_session (pending_session phase) s q pends pends_there) ∙ there),
+  ),
+  λ keeps. apart_kept (table.contains_key m s) gone is (λ there. (keeps s there).1 pends),
+)
+
+-- where none pends, each session may have one
+pub answers_free : (ss : Requests) (phase : Phase) (m : FinMap nat_cmp Answer) → IsWithin m ss → pending_session phase ≡ None → KeepsAnswers ss phase m
+answers_free ss phase m within none q there = (within q there, λ pends. let both : None ≡ Some q = sym none ∙ pends in absurd cc)

@@ -21,8 +21,7 @@ returns c =
     let test = λ (q : ℕ). table.contains_key c.args.links.now q in
     let entered = c.knows_all.ensures ∙ ap (list_all test) c.entered.ensures.ids in
     let joined = c.knows_all-2.ensures ∙ ap (list_all test) c.joined.ensures.ids in
-    let left = c.knows_all-3.ensures ∙ ap (list_all test) c.left.ensures.ids in
-    (
+    let left = c.knows_all-3.ensures ∙ ap (list_all test) c.left.ensures.ids in (
       λ h. record {
         entered = (ids_within c.args.changes.now.entered c.args.links.now).0 (sym entered ∙ c.if-not-knows_all.false);
         joined = (ids_within c.args.changes.now.joined c.args.links.now).0 (sym joined ∙ c.if-not-knows_all-2.false);

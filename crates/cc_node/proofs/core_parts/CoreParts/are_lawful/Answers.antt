@@ -1,13 +1,11 @@
 use Rattle.std.proofs.Common.{sym, subst, ◌∙◌}
-use Rattle.std.specs.Prelude.{IsTrue}
 use Rattle.cc_changes.specs.ChangeLaws.{IsAmong}
 use Rattle.cc_views.specs.NatSets.{IsWithin}
 use Rattle.cc_node.proofs.core_parts.CoreParts.are_lawful.Goals as goal
 
 pub returns : goal.returns
 returns c =
-    let p = c.args.self.now in
-    (
+    let p = c.args.self.now in (
       λ h. let sizes = c.sizes_fit.ensures.0 h in record {
         beta = c.is_share.ensures.0 c.if-not-is_share.false;
         gamma = c.is_share-2.ensures.0 c.if-not-is_share-2.false;
