@@ -8,3 +8,4 @@ pub mod Writes
 pub mod Known
 pub mod Lines
 pub mod States
+pub mod Parts
