@@ -1,7 +1,13 @@
 //! The states of a node as bytes. The format is this project's own.
 #![tactic(auto)]
 
+mod fault;
+mod fields;
 mod laws;
+mod state;
+mod state_reader;
 mod state_writer;
 
+pub use fault::StateFault;
 pub use laws::{one_spelling_of_nodes, one_spelling_of_states};
+pub use state::encode_state;
