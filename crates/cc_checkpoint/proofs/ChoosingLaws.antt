@@ -9,8 +9,8 @@ use Rattle.cc_site.specs.Sides.{other}
 use Rattle.cc_site.specs.Moments.{Contents}
 use Rattle.cc_node.specs.Sides.{OPEN, IsArmed, generation_of, Yields}
 use Rattle.cc_checkpoint.specs.declared.choosing.InUse.{InUse}
-use Rattle.cc_checkpoint.specs.declared.fault.OpenFault.{OpenFault}
-use Rattle.cc_checkpoint.specs.declared.fault.OpenFault.TheVariants.{Damaged}
+use Rattle.cc_checkpoint.specs.declared.open_fault.OpenFault.{OpenFault}
+use Rattle.cc_checkpoint.specs.declared.open_fault.OpenFault.TheVariants.{Damaged}
 use Rattle.cc_checkpoint.specs.Faults.{◌>>=◌}
 use Rattle.cc_checkpoint.specs.Choosing.{generation_in, in_use, greater, chosen}
 

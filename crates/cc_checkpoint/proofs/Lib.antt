@@ -2,3 +2,4 @@ pub mod StateFormat
 pub mod NodeStates
 pub mod ChoosingLaws
 pub mod HeadLaws
+pub mod TableWrites

@@ -1,18 +1,18 @@
 -- The node of a state, and the state of a node.
-use Rattle.std.proofs.Common.{◌≡◌, ℕ, ◌+◌, ◌-◌, ◌<◌, ◌≤◌, true, List, [], ◌∷◌, ◌++◌, length, map, Some, None, refl, sym, ap, subst, ◌∙◌, arith}
+use Rattle.std.proofs.Common.{◌≡◌, ℕ, ◌+◌, ◌-◌, ◌<◌, ◌≤◌, true, List, [], ◌∷◌, ◌++◌, length, map, get_or, take, Some, None, refl, sym, ap, subst, ◌∙◌, arith}
 use Rattle.std.specs.Prelude.{Option, IfSome, IsTrue, is_some}
 use Rattle.std.specs.List.{AllByRecursion}
 use Rattle.std.specs.Ordering.{nat_cmp}
 use Rattle.std.specs.FinMap as table
 use Rattle.std.specs.FinMap.{FinMap, is_sorted}
-use Rattle.std.specs.FinMap.Entries.{below_all}
-use Rattle.std.proofs.lemmas.List.{length-map}
+use Rattle.std.specs.FinMap.Entries.{below_all, find}
+use Rattle.std.proofs.lemmas.List.{length-map, take_all}
 use Rattle.cc_views.specs.Entries.{lt_from_cmp, and_left, and_right, from_T, entries_back}
 use Rattle.cc_views.specs.MapLaws.{all_entries}
 use Rattle.cc_wire.specs.declared.message.Message.{Message}
 use Rattle.cc_outbox.specs.OutboxLaws.{KeepsPosts}
 use Rattle.cc_outbox.specs.Rows.{numbered}
-use Rattle.cc_outbox.proofs.Numbers.{sorted_numbered}
+use Rattle.cc_outbox.proofs.Numbers.{sorted_numbered, find_numbered}
 use Rattle.cc_node.specs.Core.{lowest}
 use Rattle.cc_node.specs.Node.{Node}
 use Rattle.cc_node.specs.Lawful.{IsLawfulNode}
@@ -99,3 +99,29 @@ pub one_spelling_of_node : (a b u w : List ℕ) (x y : Node) → SpellsNode a x 
 one_spelling_of_node a b u w x y p q e =
     let one = one_spelling_of_state a b u w (state_of x) (state_of y) p.state q.state e in
     (sym (node_of-state_of x p.lawful) ∙ ap node_of one.0 ∙ node_of-state_of y q.lawful, one.1)
+
+-- ---- kept posts in turn
+
+some_is : {X : Type 0} (x y : X) → Some x ≡ Some y → x ≡ y
+some_is x y e = cc
+
+-- the i-th of the kept posts, by its number
+pub post_at : (last count : ℕ) (kept : FinMap nat_cmp Message) → KeepsPosts (last - count) last kept → count ≡ table.len kept
+    → (i number : ℕ) (m : Message) → number ≡ last - count + i + 1 → i < count → Some m ≡ table.get kept number → (i < length (table.values kept)) × (m ≡ get_or (table.values kept) i m)
+post_at last count kept is few i number m at lt found =
+    let many : length (table.values kept) ≡ table.len kept = length-map (table.entries kept) (λ e. e.1) ∙ sym (table.len-entries kept) in
+    let inside : i < length (table.values kept) = omega (arith, many, few, lt) in
+    let start = last - length (table.values kept) in
+    let place : number ≡ start + i + 1 = omega (arith, many, few, at) in
+    let read : table.get kept number ≡ find nat_cmp number (numbered start (table.values kept)) =
+    table.get-entries kept number ∙ ap (find nat_cmp number) (entries_numbered (last - count) last kept is) in
+    (inside, some_is m (get_or (table.values kept) i m) (found ∙ read ∙ find_numbered start (table.values kept) i number m inside place))
+
+-- behind the last of them there is none
+pub all_posts : (last count : ℕ) (kept : FinMap nat_cmp Message) → KeepsPosts (last - count) last kept → count ≡ table.len kept
+    → (i : ℕ) → last - (last - count) ≤ i → take i (table.values kept) ≡ table.values kept
+all_posts last count kept is few i past =
+    take_all i (table.values kept) (omega (arith, past, is.count, length-map (table.entries kept) (λ (e : ℕ × Message). e.1), table.len-entries kept))
+
+pub length-values : {X : Type 0} (m : FinMap nat_cmp X) → length (table.values m) ≡ table.len m
+length-values m = length-map (table.entries m) (λ e. e.1) ∙ sym (table.len-entries m)

@@ -96,16 +96,16 @@ phase_spelled = record { takes = phase_takes; again = phase_again }
 
 -- ---- the second part
 
-abbrev work_fields : Work → ViewMap × (ℕ × (Value × (ℕ × (ℕ × (ℕ × Phase)))))
-work_fields w = (w.view, (w.number, (w.mine, (w.tag, (w.echoes, (w.need, w.phase))))))
+abbrev work_fields : Work → (ViewMap × (ℕ × (Value × ℕ))) × ((ℕ × ℕ) × Phase)
+work_fields w = ((w.view, (w.number, (w.mine, w.tag))), ((w.echoes, w.need), w.phase))
 
 pub work_spelled : Spelled work_at IsWork work_spelling
 unfolding work_at
 work_spelled = as_facts IsWork
-    (λ w h. record { view = h.0; number = h.1.0; mine = h.1.1.0; tag = h.1.1.1.0; echoes = h.1.1.1.1.0; need = h.1.1.1.1.1.0; phase = h.1.1.1.1.1.1 })
-    (λ w h. (h.view, (h.number, (h.mine, (h.tag, (h.echoes, (h.need, h.phase)))))))
+    (λ w h. record { view = h.0.0; number = h.0.1.0; mine = h.0.1.1.0; tag = h.0.1.1.1; echoes = h.1.0.0; need = h.1.0.1; phase = h.1.1 })
+    (λ w h. ((h.view, (h.number, (h.mine, h.tag))), ((h.echoes, h.need), h.phase)))
     (as_fields work_with work_fields (λ _. refl) (λ _ _. refl)
-    (both view_spelled (both u64_spelled (both value_spelled (both u64_spelled (both u64_spelled (both u16_spelled phase_spelled)))))))
+    (both (both view_spelled (both u64_spelled (both value_spelled u64_spelled))) (both (both u64_spelled u16_spelled) phase_spelled)))
 
 -- ---- tables
 

@@ -6,8 +6,8 @@ use Rattle.cc_site.specs.declared.site.Side.{Side}
 use Rattle.cc_site.specs.declared.site.Side.TheVariants.{A, B}
 use Rattle.cc_node.specs.Sides.{OPEN, generation_of}
 use Rattle.cc_checkpoint.specs.declared.choosing.InUse.{InUse}
-use Rattle.cc_checkpoint.specs.declared.fault.OpenFault.{OpenFault}
-use Rattle.cc_checkpoint.specs.declared.fault.OpenFault.TheVariants.{NotFormatted, Damaged}
+use Rattle.cc_checkpoint.specs.declared.open_fault.OpenFault.{OpenFault}
+use Rattle.cc_checkpoint.specs.declared.open_fault.OpenFault.TheVariants.{NotFormatted, Damaged}
 use Rattle.cc_checkpoint.specs.Faults.{◌>>=◌}
 
 unfoldable pub generation_in : Side → List ℕ → Result (Option ℕ) OpenFault

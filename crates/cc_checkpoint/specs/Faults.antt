@@ -4,8 +4,8 @@
 --     FaultRose, CountsDevice    a device fault is told where the count of failures rose, and only there
 use Rattle.std.specs.Prelude.{◌≡◌, ℕ, Result, Ok, Err, MatchResult}
 use Rattle.cc_site.specs.Moments.{Rose}
-use Rattle.cc_checkpoint.specs.declared.fault.OpenFault.{OpenFault}
-use Rattle.cc_checkpoint.specs.declared.fault.OpenFault.TheVariants.{NotFormatted, Damaged, Version, Device, NoMemory}
+use Rattle.cc_checkpoint.specs.declared.open_fault.OpenFault.{OpenFault}
+use Rattle.cc_checkpoint.specs.declared.open_fault.OpenFault.TheVariants.{NotFormatted, Damaged, Version, Device, NoMemory}
 
 infixl 10 ◌>>=◌
 abbrev pub ◌>>=◌ : {A B : Type 0} → Result A OpenFault → (A → Result B OpenFault) → Result B OpenFault

@@ -8,8 +8,8 @@ use Rattle.cc_site.specs.declared.site.Side.{Side}
 use Rattle.cc_node.specs.Node.{Node}
 use Rattle.cc_node.specs.Sides.{VERSION}
 use Rattle.cc_node.specs.States.{SpellsNode}
-use Rattle.cc_checkpoint.specs.declared.fault.OpenFault.{OpenFault}
-use Rattle.cc_checkpoint.specs.declared.fault.OpenFault.TheVariants.{NotFormatted, Damaged, Version, Device, NoMemory}
+use Rattle.cc_checkpoint.specs.declared.open_fault.OpenFault.{OpenFault}
+use Rattle.cc_checkpoint.specs.declared.open_fault.OpenFault.TheVariants.{NotFormatted, Damaged, Version, Device, NoMemory}
 
 abbrev pub size_of : List ℕ → ℕ
 size_of bytes = from_be_bytes w32 (take 4 (drop 10 bytes))

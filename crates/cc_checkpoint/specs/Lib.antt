@@ -1,3 +1,4 @@
 pub mod Choosing
 pub mod Heads
 pub mod Faults
+pub mod Fields

@@ -3,11 +3,11 @@
 ghost use Rattle.std.specs.Prelude.{◌≡◌, ◌↔◌, ◌≤◌, ◌<◌, ◌+◌, length, vec_len, take, drop, ℕ, OnOk, IfOk, IfErr, MatchResult};
 ghost use Rattle.cc_site.specs.declared.site.Side.TheVariants.{A, B};
 ghost use Rattle.cc_site.specs.Reads.{OnlyReads};
-ghost use Rattle.cc_checkpoint.specs.declared.fault.OpenFault.TheVariants as faults;
+ghost use Rattle.cc_checkpoint.specs.declared.open_fault.OpenFault.TheVariants as faults;
 ghost use Rattle.cc_checkpoint.specs.Faults.{Answers, CountsDevice};
 ghost use Rattle.cc_checkpoint.specs.Choosing.{generation_in, greater, chosen};
 
-use crate::fault::OpenFault;
+use crate::open_fault::OpenFault;
 use cc_site::{DeviceFault, Side, Site};
 
 /// The byte of an open gate (own choice).

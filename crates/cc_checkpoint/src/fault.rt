@@ -1,38 +1,46 @@
-//! Why two sides can't be opened.
+//! Why bytes are no node's state.
 
 ghost use Rattle.std.specs.Prelude.{◌≡◌};
-ghost use Rattle.cc_checkpoint.specs.declared.fault.OpenFault.TheVariants as faults;
+ghost use Rattle.cc_wire.specs.declared.fault.WireFault.TheVariants as wire;
+ghost use Rattle.cc_checkpoint.specs.declared.fault.StateFault.TheVariants as faults;
 
-use cc_site::{DeviceFault, Side};
 use cc_views::NoMemory;
+use cc_wire::WireFault;
+use std::error::Error;
+use std::fmt;
 
-/// Why two sides can't be opened. Places are in bytes from the start of the side.
+/// Why bytes are no node's state.
 #[derive(Clone, Copy, Debug, PartialEq, Eq)]
-pub enum OpenFault {
-    /// No side is armed.
-    NotFormatted,
-    /// What stands at this place isn't what has to stand there.
-    Damaged(Side, u64),
-    /// The side in use has a version that isn't known.
-    Version(u8),
-    /// A disk call failed.
-    Device(DeviceFault),
-    /// A growth was refused.
-    NoMemory,
+pub enum StateFault {
+    /// They spell no state: the first thing that keeps them from being read, or that a growth was refused.
+    Wire(WireFault),
+    /// They spell a state in which no node can be.
+    Unlawful,
 }
 
-impl From<DeviceFault> for OpenFault {
-    ghost from_gives = { λ fault open_fault. open_fault ≡ faults.Device fault };
-
-    fn from(fault: DeviceFault) -> Self {
-        OpenFault::Device(fault)
+impl fmt::Display for StateFault {
+    fn fmt<W: fmt::Write>(&self, f: &mut fmt::Formatter<W>) -> fmt::Result {
+        match self {
+            StateFault::Wire(fault) => write!(f, "{fault}"),
+            StateFault::Unlawful => write!(f, "no node can be in that state"),
+        }
     }
 }
 
-impl From<NoMemory> for OpenFault {
-    ghost from_gives = { λ _ fault. fault ≡ faults.NoMemory };
+impl Error for StateFault {}
 
-    fn from(_: NoMemory) -> Self {
-        OpenFault::NoMemory
+impl From<WireFault> for StateFault {
+    ghost from_gives = { λ fault e. e ≡ faults.Wire fault };
+
+    fn from(fault: WireFault) -> StateFault {
+        StateFault::Wire(fault)
+    }
+}
+
+impl From<NoMemory> for StateFault {
+    ghost from_gives = { λ _ e. e ≡ faults.Wire wire.NoMemory };
+
+    fn from(_e: NoMemory) -> StateFault {
+        StateFault::Wire(WireFault::NoMemory)
     }
 }

@@ -1,10 +1,17 @@
-//! The states of a node as bytes. The format is this project's own.
+//! The states of a node as bytes, and the two sides that hold them. The formats are this project's own.
 #![tactic(auto)]
 
 mod choosing;
 mod fault;
+mod fields;
 mod laws;
+mod open_fault;
+mod state;
+mod state_reader;
+mod state_writer;
 
 pub use choosing::{InUse, choose};
-pub use fault::OpenFault;
+pub use fault::StateFault;
 pub use laws::{one_spelling_of_nodes, one_spelling_of_states};
+pub use open_fault::OpenFault;
+pub use state::encode_state;

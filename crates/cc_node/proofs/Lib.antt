@@ -10,3 +10,5 @@ pub mod Named
 pub mod Openings
 pub mod RefusalLaws
 pub mod StandingLaws
+mod Restoring
+mod Phases

@@ -13,3 +13,4 @@ pub mod Good
 pub mod Histories
 pub mod Fronts
 pub mod GoodLaws
+pub mod Parts

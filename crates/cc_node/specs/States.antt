@@ -117,14 +117,11 @@ pending_with f = record { asked = record { session = f.0.0.0; request = f.0.0.1;
 unfoldable pub pending_at : Reading Pending
 pending_at = via pending_with (asked_at ⊗ number_at w16 ⊗ number_at w16)
 
-abbrev pub stored_back_spelling : Pending → ViewMap → List ℕ
-stored_back_spelling p seen = pending_spelling p ++ view_spelling seen
-
 abbrev pub phase_spelling : Phase → List ℕ
 phase_spelling Idle = 0 ∷ []
 phase_spelling (Storing p) = 1 ∷ pending_spelling p
 phase_spelling (Querying p) = 2 ∷ pending_spelling p
-phase_spelling (StoringBack p seen) = 3 ∷ stored_back_spelling p seen
+phase_spelling (StoringBack p seen) = 3 ∷ (pending_spelling p ++ view_spelling seen)
 
 abbrev pub IsPhase : Phase → Type 0
 IsPhase Idle = Unit {0}
@@ -145,11 +142,16 @@ phase_at bytes = byte_at bytes >>= λ kind. phase_fields kind.0 kind.1
 
 -- ---- the second part
 
+-- the view, the own value under its number, and the tag
+abbrev pub stored_spelling : ViewMap → ℕ → Value → ℕ → List ℕ
+stored_spelling view number mine tag = view_spelling view ++ (to_be_bytes w64 number ++ (value_spelling mine ++ to_be_bytes w64 tag))
+
+-- how many echoes came, and how many are needed
+abbrev pub entering_spelling : ℕ → ℕ → List ℕ
+entering_spelling echoes need = to_be_bytes w64 echoes ++ to_be_bytes w16 need
+
 abbrev pub work_spelling : Work → List ℕ
-work_spelling w =
-    view_spelling w.view
-    ++ (to_be_bytes w64 w.number
-    ++ (value_spelling w.mine ++ (to_be_bytes w64 w.tag ++ (to_be_bytes w64 w.echoes ++ (to_be_bytes w16 w.need ++ phase_spelling w.phase)))))
+work_spelling w = stored_spelling w.view w.number w.mine w.tag ++ (entering_spelling w.echoes w.need ++ phase_spelling w.phase)
 
 pub record IsWork (w : Work) : Type 0 where
   pub view : IsView w.view
@@ -160,11 +162,17 @@ pub record IsWork (w : Work) : Type 0 where
   pub need : w.need < 2 ^ 16
   pub phase : IsPhase w.phase
 
-abbrev pub work_with : ViewMap × (ℕ × (Value × (ℕ × (ℕ × (ℕ × Phase))))) → Work
-work_with f = record { view = f.0; number = f.1.0; mine = f.1.1.0; tag = f.1.1.1.0; echoes = f.1.1.1.1.0; need = f.1.1.1.1.1.0; phase = f.1.1.1.1.1.1 }
+abbrev pub stored_at : Reading (ViewMap × (ℕ × (Value × ℕ)))
+stored_at = view_at ⊗ number_at w64 ⊗ value_at ⊗ number_at w64
+
+abbrev pub entering_at : Reading (ℕ × ℕ)
+entering_at = number_at w64 ⊗ number_at w16
+
+abbrev pub work_with : (ViewMap × (ℕ × (Value × ℕ))) × ((ℕ × ℕ) × Phase) → Work
+work_with f = record { view = f.0.0; number = f.0.1.0; mine = f.0.1.1.0; tag = f.0.1.1.1; echoes = f.1.0.0; need = f.1.0.1; phase = f.1.1 }
 
 unfoldable pub work_at : Reading Work
-work_at = via work_with (view_at ⊗ number_at w64 ⊗ value_at ⊗ number_at w64 ⊗ number_at w64 ⊗ number_at w16 ⊗ phase_at)
+work_at = via work_with (stored_at ⊗ entering_at ⊗ phase_at)
 
 -- ---- tables: a count, and rows whose keys rise
 

@@ -1,6 +1,7 @@
 //! The state of a node, and what each event makes of it.
 #![tactic(auto)]
 
+mod core_parts;
 mod laws;
 mod made;
 mod named_nodes;
@@ -8,6 +9,7 @@ mod node;
 mod node_core;
 mod opening;
 
+pub use core_parts::CoreParts;
 pub use laws::{
     lawful_kept, no_output_twice, own_number_counts_writes, standing_made, view_only_grows,
 };

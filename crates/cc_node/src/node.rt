@@ -1,21 +1,27 @@
 //! A node: its core, and what it keeps to put out again.
 
-ghost use Rattle.std.specs.Prelude.{◌≡◌, ◌≤◌, ◌<◌, ◌^◌, None, IfOk, OnOk, IsErrOf, IsTrue, is_some};
+ghost use Rattle.std.specs.Prelude.{◌≡◌, ◌≤◌, ◌<◌, ◌^◌, ◌↔◌, None, IfOk, IfSome, OnOk, IsErrOf, IsTrue, is_some};
+ghost use Rattle.std.specs.List.{list_all};
 ghost use Rattle.std.specs.FinMap as table;
 ghost use Rattle.cc_churn.specs.Churn as churn;
 ghost use Rattle.cc_links.specs.Links as links;
 ghost use Rattle.cc_ops.specs.Stages.{stage_of};
+ghost use Rattle.cc_outbox.specs.OutboxLaws.{KeepsPosts};
 ghost use Rattle.cc_node.specs.declared.opening.Fresh.TheVariants as faults;
 ghost use Rattle.cc_node.specs.Core as machine;
+ghost use Rattle.cc_node.specs.Lawful.{IsLawfulNode, KeepsAnswers, pending_session};
 ghost use Rattle.cc_node.specs.Node.{step, add, keep, forget_asked};
 ghost use Rattle.cc_node.specs.Opening.{told, fresh, IsOpening};
+ghost use Rattle.cc_node.specs.Parts.{core_of};
 ghost use Rattle.cc_node.specs.Refusals.{decides};
 
+use crate::core_parts::CoreParts;
 use crate::made::Made;
 use crate::node_core::Core;
 use crate::opening::{Fresh, Opening};
-use cc_ops::{Reply, Stage};
-use cc_outbox::Outbox;
+use cc_ops::{Ops, Reply, Stage};
+use cc_outbox::{KeptAnswer, Outbox};
+use cc_sessions::Sessions;
 use cc_views::{NodeId, View};
 use cc_wire::{Event, Message};
 use std::alloc::Global;
@@ -59,9 +65,29 @@ impl Node {
         Ok(Node { core, outbox })
     }
 
-    /// Its state, up to what it keeps to put out again.
+    /// The node of a stored state: its core in parts, and what it keeps to put out again. None where that is no state
+    /// that a node can be in (own choice). It takes no memory.
+    pub fn restored(parts: CoreParts, outbox: Outbox) -> Option<Self>
+        ensures lawful { IsTrue (is_some result) ↔ IsLawfulNode (record { core = core_of parts; outbox = outbox }) }
+        ensures node { IfSome result (λ n. n ≡ record { core = core_of parts; outbox = outbox }) }
+    {
+        let core = Core::restored(parts)?;
+        if outbox.last() != core.posts() {
+            return None;
+        }
+        if !keeps_posts(&outbox, core.lowest()) {
+            return None;
+        }
+        if !keeps_answers(&outbox, core.sessions(), core.ops()) {
+            return None;
+        }
+        Some(Node { core, outbox })
+    }
+
+    /// Its state, up to what it keeps to put out again. A node is always one that can be.
     pub fn core(&self) -> &Core
-        ensures { result.now ≡ self.now.core }
+        ensures core { result.now ≡ self.now.core }
+        ensures lawful { IsLawfulNode self.now }
     {
         &self.core
     }
@@ -128,6 +154,47 @@ impl Node {
         keep_answer(&mut self.outbox, answer);
         self.core.apply(&event);
         self.outbox.trim(self.core.lowest());
+    }
+}
+
+// Whether just the posts above number `lowest` are kept.
+fn keeps_posts(outbox: &Outbox, lowest: u64) -> bool
+    requires { lowest ≤ outbox.now.last }
+    ensures { IsTrue result ↔ KeepsPosts lowest outbox.now.last outbox.now.posts }
+{
+    outbox.post_count() as u64 == outbox.last() - lowest
+}
+
+// Whether the kept answers are of sessions that have a request, and not of the one whose request is pending.
+fn keeps_answers(outbox: &Outbox, sessions: &Sessions, ops: &Ops) -> bool
+    ensures { IsTrue result ↔ KeepsAnswers sessions.now ops.now.phase outbox.now.answers }
+{
+    if !have_requests(outbox.answers(), sessions) {
+        return false;
+    }
+    match pending_session(ops) {
+        Some(session) => outbox.answer(session).is_none(),
+        None => true,
+    }
+}
+
+fn have_requests(answers: &[KeptAnswer], sessions: &Sessions) -> bool
+    ensures { result ≡ list_all (λ kept. table.contains_key sessions.now kept.session) answers.now }
+{
+    answers
+        .iter()
+        .all(|kept| sessions.finish(kept.session).is_some())
+}
+
+fn pending_session(ops: &Ops) -> Option<u64>
+    ensures { result ≡ pending_session ops.now.phase }
+{
+    let stage = ops.stage();
+    match stage {
+        Stage::Idle => None,
+        Stage::Storing(pending) | Stage::Querying(pending) | Stage::StoringBack(pending) => Some(
+            pending.asked.session,
+        ),
     }
 }
 

@@ -1,6 +1,6 @@
 //! The core of a node: a composition of its parts.
 
-ghost use Rattle.std.specs.Prelude.{◌≡◌, ◌+◌, ◌-◌, ◌≤◌, ◌==◌, ◌&&◌, [], ◌∷◌, Bool, None, OnOk, IfOk, is_some, slice_get, ℕ};
+ghost use Rattle.std.specs.Prelude.{◌≡◌, ◌+◌, ◌-◌, ◌≤◌, ◌==◌, ◌&&◌, ◌↔◌, [], ◌∷◌, Bool, None, OnOk, IfOk, IfSome, IsTrue, is_some, slice_get, ℕ};
 ghost use Rattle.std.specs.Bool.{then_some};
 ghost use Rattle.std.specs.FinMap as table;
 ghost use Rattle.cc_views.specs.Limits.{counter_limit};
@@ -12,10 +12,13 @@ ghost use Rattle.cc_wire.specs.Refusals.{first_of};
 ghost use Rattle.cc_wire.specs.declared.event.Event.TheVariants as event;
 ghost use Rattle.cc_wire.specs.declared.refusal.Refusal.TheVariants as refusal;
 ghost use Rattle.cc_node.specs.Core as machine;
+ghost use Rattle.cc_node.specs.Lawful.{IsLawfulCore};
 ghost use Rattle.cc_node.specs.Opening.{told, fresh, IsOpening};
+ghost use Rattle.cc_node.specs.Parts.{core_of};
 ghost use Rattle.cc_node.specs.Refusals as reasons;
 ghost use Rattle.cc_node.specs.Refusals.{decides, decided, post_limit};
 
+use crate::core_parts::CoreParts;
 use crate::made::{LinkAck, Made};
 use crate::named_nodes::{link_named, mark_named};
 use crate::opening::Opening;
@@ -30,7 +33,7 @@ use std::alloc::Global;
 use std::marker::Model;
 
 // How far a counter goes.
-const COUNTER_LIMIT: u64 = 1 << 62;
+pub(crate) const COUNTER_LIMIT: u64 = 1 << 62;
 
 // How many posts are kept at most.
 const POST_LIMIT: u64 = 512;
@@ -81,6 +84,26 @@ impl Core {
         })
     }
 
+    // The core of these parts. None where they make no lawful one.
+    pub(crate) fn restored(parts: CoreParts) -> Option<Self>
+        ensures lawful { IsTrue (is_some result) ↔ IsLawfulCore (core_of parts) }
+        ensures core { IfSome result (λ c. c ≡ core_of parts) }
+    {
+        if !parts.are_lawful() {
+            return None;
+        }
+        Some(Core {
+            me: parts.me,
+            beta: parts.beta,
+            gamma: parts.gamma,
+            churn: parts.churn,
+            ops: parts.ops,
+            posts: parts.posts,
+            links: parts.links,
+            sessions: parts.sessions,
+        })
+    }
+
     /// The same in memory of its own. The only error is a refused growth.
     pub fn copy(&self, alloc: Global) -> Result<Self, NoMemory>
         ensures { IfOk result (λ c. c ≡ self.now) }
@@ -102,6 +125,34 @@ impl Core {
         ensures { result ≡ self.now.me }
     {
         self.me
+    }
+
+    /// The share of the members whose answers an operation waits for.
+    pub fn beta(&self) -> Fraction
+        ensures { result ≡ self.now.beta }
+    {
+        self.beta
+    }
+
+    /// The share of those present whose echoes an entering node waits for.
+    pub fn gamma(&self) -> Fraction
+        ensures { result ≡ self.now.gamma }
+    {
+        self.gamma
+    }
+
+    /// Who entered, joined and left, and how far the own entering has come.
+    pub fn churn(&self) -> &Churn
+        ensures { result.now ≡ self.now.churn }
+    {
+        &self.churn
+    }
+
+    /// The view, the own value and the pending operation.
+    pub fn ops(&self) -> &Ops
+        ensures { result.now ≡ self.now.ops }
+    {
+        &self.ops
     }
 
     /// What each node stored last, as far as this node has seen.
@@ -144,6 +195,13 @@ impl Core {
         ensures { result.now ≡ self.now.links }
     {
         &self.links
+    }
+
+    /// The last request of each session.
+    pub fn sessions(&self) -> &Sessions
+        ensures { result.now ≡ self.now.sessions }
+    {
+        &self.sessions
     }
 
     /// The link of the `i`-th peer in ascending order.

@@ -5,7 +5,7 @@ mod ops;
 mod pending;
 mod stage;
 
-pub use ops::Ops;
+pub use ops::{Ops, is_writing};
 pub use pending::{Asked, Pending, Reply};
 pub use stage::Stage;
 

@@ -68,6 +68,31 @@ impl Ops {
         })
     }
 
+    /// These parts, and `seen` is what is stored back, where the stage says that something is; it has its room from the
+    /// start. For a decoder of states (own choice).
+    pub fn from_parts(
+        view: View,
+        number: u64,
+        mine: Value,
+        tag: u64,
+        stage: Stage,
+        seen: View,
+    ) -> Self
+        requires number { number ≤ 2 ^ 62 }
+        requires tag { tag ≤ 2 ^ 62 }
+        requires waits { HasWaiting stage }
+        ensures { result ≡ record { view = view; number = number; mine = mine; tag = tag; phase = phase_of stage seen } }
+    {
+        Ops {
+            view,
+            number,
+            mine,
+            tag,
+            stage,
+            seen,
+        }
+    }
+
     /// The same in memory of its own. The only error is a refused growth.
     pub fn copy(&self, alloc: Global) -> Result<Self, NoMemory>
         ensures { IfOk result (λ o. o ≡ self.now) }
@@ -112,9 +137,10 @@ impl Ops {
         self.tag
     }
 
-    /// The pending operation.
+    /// The pending operation, which waits for more answers than it has.
     pub fn stage(&self) -> Stage
-        ensures { result ≡ stage_of self.now.phase }
+        ensures stage { result ≡ stage_of self.now.phase }
+        ensures waits { HasWaiting result }
     {
         self.stage
     }
@@ -418,7 +444,8 @@ impl Ops {
     }
 }
 
-fn is_writing(command: &Command) -> bool
+/// Whether the command writes, and doesn't read.
+pub fn is_writing(command: &Command) -> bool
     ensures { result ≡ commands.is_writing command.now }
 {
     match command {

@@ -1,5 +1,6 @@
 -- Which posts an outbox keeps: just those above a number, up to the last one.
 --     KeepsPosts                         that, and that there is room for them
+--     make_posts                         that it needs no more than the keys, and room
 --     keeps_none, keeps_add, keeps_trim  of no posts, after one more, and after the posts up to a higher number are dropped
 --     room_for_post                      where fewer than 512 are kept, one more fits
 --     len_between                        how many keys a map has that has just those between two numbers
@@ -61,7 +62,7 @@ len_between (suc d) low high m e within all =
 
 -- ---- posts
 
-make_posts : (low posts : ℕ) (kept : FinMap nat_cmp Message) → AllWithin low posts kept → HasAll low posts kept → posts - low ≤ post_limit → KeepsPosts low posts kept
+pub make_posts : (low posts : ℕ) (kept : FinMap nat_cmp Message) → AllWithin low posts kept → HasAll low posts kept → posts - low ≤ post_limit → KeepsPosts low posts kept
 make_posts low posts kept within all room =
     let count : table.len kept ≡ posts - low = len_between (posts - low) low posts kept refl within all in
     record { within = within; all = all; count = count; room = omega arith }

@@ -4,6 +4,7 @@ ghost use Rattle.std.specs.VecDeque.{deque_capacity};
 ghost use Rattle.std.specs.FinMap as map;
 ghost use Rattle.cc_views.specs.Tables.{IsRising, IsPlaceOf};
 ghost use Rattle.cc_outbox.specs.Outbox as outbox;
+ghost use Rattle.cc_outbox.specs.OutboxLaws.{KeepsPosts};
 ghost use Rattle.cc_outbox.specs.Rows.{entry_of, answers_of};
 
 use crate::kept_answer::KeptAnswer;
@@ -100,10 +101,18 @@ impl Outbox {
         self.posts.get((number - dropped - 1) as usize)
     }
 
-    /// How many posts are kept.
+    /// The number of the last post that was made.
+    pub fn last(&self) -> u64
+        ensures { result ≡ self.now.last }
+    {
+        self.last
+    }
+
+    /// How many posts are kept, which are the last ones.
     pub fn post_count(&self) -> usize
         ensures count { result ≡ map.len self.now.posts }
         ensures fits { result ≤ 512 }
+        ensures last { KeepsPosts (self.now.last - result) self.now.last self.now.posts }
     {
         self.posts.len()
     }

@@ -1,0 +1,34 @@
+-- The state that fields are, as they are read.
+use Rattle.cc_views.specs.Tables.{table_of}
+use Rattle.cc_links.specs.Rows as links
+use Rattle.cc_sessions.specs.Rows as sessions
+use Rattle.cc_outbox.specs.Rows as answers
+use Rattle.cc_ops.specs.Ops.{Phase}
+use Rattle.cc_ops.specs.Stages.{phase_of}
+use Rattle.cc_node.specs.States as states
+use Rattle.cc_checkpoint.specs.declared.fields.Membership.{Membership}
+use Rattle.cc_checkpoint.specs.declared.fields.Round.{Round}
+use Rattle.cc_checkpoint.specs.declared.fields.Work.{Work}
+use Rattle.cc_checkpoint.specs.declared.fields.Tables.{Tables}
+use Rattle.cc_checkpoint.specs.declared.fields.Fields.{Fields}
+
+abbrev pub membership_in : Membership → states.Membership
+membership_in m = record { me = m.me; beta = m.beta; gamma = m.gamma; changes = m.changes }
+
+abbrev pub phase_in : Round → Phase
+phase_in r = phase_of r.stage r.seen
+
+abbrev pub work_in : Work → states.Work
+work_in w = record { view = w.view; number = w.number; mine = w.mine; tag = w.tag; echoes = w.echoes; need = w.need; phase = phase_in w.round }
+
+abbrev pub tables_in : Tables → states.Tables
+tables_in t = record {
+  posts = t.posts;
+  links = table_of links.entry_of t.links.items;
+  sessions = table_of sessions.entry_of t.sessions.items;
+  kept = t.kept.items;
+  answers = table_of answers.entry_of t.answers.items;
+}
+
+abbrev pub state_in : Fields → states.State
+state_in f = record { membership = membership_in f.membership; work = work_in f.work; tables = tables_in f.tables }

@@ -1,0 +1,51 @@
+//! The fields of a state, as they are read.
+
+use cc_changes::{Changes, Fraction};
+use cc_links::LinkRow;
+use cc_ops::Stage;
+use cc_outbox::KeptAnswer;
+use cc_sessions::SessionRow;
+use cc_views::{NodeId, Value, View};
+use cc_wire::Message;
+
+#[derive(Debug, Drop)]
+pub(crate) struct Membership {
+    pub me: NodeId,
+    pub beta: Fraction,
+    pub gamma: Fraction,
+    pub changes: Changes,
+}
+
+/// How far the pending operation has come, and what it stores back; where it stores nothing back, a view without rows.
+#[derive(Debug, Drop)]
+pub(crate) struct Round {
+    pub stage: Stage,
+    pub seen: View,
+}
+
+#[derive(Debug, Drop)]
+pub(crate) struct Work {
+    pub view: View,
+    pub number: u64,
+    pub mine: Value,
+    pub tag: u64,
+    pub echoes: u64,
+    pub need: u16,
+    pub round: Round,
+}
+
+#[derive(Debug, Drop)]
+pub(crate) struct Tables {
+    pub posts: u64,
+    pub links: Vec<LinkRow>,
+    pub sessions: Vec<SessionRow>,
+    pub kept: Vec<Message>,
+    pub answers: Vec<KeptAnswer>,
+}
+
+#[derive(Debug, Drop)]
+pub(crate) struct Fields {
+    pub membership: Membership,
+    pub work: Work,
+    pub tables: Tables,
+}

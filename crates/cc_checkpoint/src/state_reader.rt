@@ -1,0 +1,170 @@
+//! Reading a node's state, part by part.
+
+ghost use Rattle.std.specs.Prelude.{◌≡◌, ◌≤◌, map, IfOk};
+ghost use Rattle.cc_views.specs.Tables.{IsRising, table_of};
+ghost use Rattle.cc_wire.specs.Reading.{Gives, TakesNoMemory};
+ghost use Rattle.cc_links.specs.Rows as links;
+ghost use Rattle.cc_sessions.specs.Rows as sessions;
+ghost use Rattle.cc_outbox.specs.Rows as answers;
+ghost use Rattle.cc_node.specs.States.{fraction_at, membership_at, pending_at, phase_at, work_at, rows_at, row_list_at, table_at, link_at, session_from, session_at, kept_answer_at, posts_at, kept_at, most_rows, tables_at, state_at};
+ghost use Rattle.cc_checkpoint.specs.Fields.{membership_in, phase_in, work_in, tables_in, state_in};
+
+use crate::fields::{Fields, Membership, Round, Tables, Work};
+use cc_changes::Fraction;
+use cc_links::LinkRow;
+use cc_ops::{Asked, Pending, Stage};
+use cc_outbox::KeptAnswer;
+use cc_sessions::SessionRow;
+use cc_views::View;
+use cc_wire::{Message, Reader, WireFault};
+use std::alloc::Global;
+
+#[tactic(auto, unfolding(cc_node::specs::States::fraction_at))]
+fn read_fraction(reader: &mut Reader<'_>) -> Result<Fraction, WireFault>
+    ensures { Gives (λ x. (x, reader.new)) result (fraction_at reader.old) }
+{
+    let num = reader.u32()?;
+    let den = reader.u32()?;
+    Ok(Fraction { num, den })
+}
+
+#[tactic(auto, unfolding(cc_node::specs::States::membership_at))]
+fn read_membership(alloc: Global, reader: &mut Reader<'_>) -> Result<Membership, WireFault>
+    ensures { Gives (λ x. (membership_in x, reader.new)) result (membership_at reader.old) }
+{
+    let me = reader.id(1)?;
+    let beta = read_fraction(reader)?;
+    let gamma = read_fraction(reader)?;
+    let changes = reader.changes(alloc)?;
+    Ok(Membership {
+        me,
+        beta,
+        gamma,
+        changes,
+    })
+}
+
+#[tactic(auto, unfolding(cc_node::specs::States::pending_at))]
+fn read_pending(reader: &mut Reader<'_>) -> Result<Pending, WireFault>
+    ensures { Gives (λ x. (x, reader.new)) result (pending_at reader.old) }
+{
+    let session = reader.u64()?;
+    let request = reader.u64()?;
+    let command = reader.command()?;
+    let need = reader.u16()?;
+    let count = reader.u16()?;
+    Ok(Pending {
+        asked: Asked {
+            session,
+            request,
+            command,
+        },
+        need: u64::from(need),
+        count: u64::from(count),
+    })
+}
+
+#[tactic(auto, unfolding(cc_node::specs::States::phase_at))]
+fn read_round(alloc: Global, reader: &mut Reader<'_>) -> Result<Round, WireFault>
+    ensures { Gives (λ x. (phase_in x, reader.new)) result (phase_at reader.old) }
+{
+    match reader.u8()? {
+        0 => {
+            let stage = Stage::Idle;
+            let seen = View::new(alloc)?;
+            Ok(Round { stage, seen })
+        }
+        1 => {
+            let stage = Stage::Storing(read_pending(reader)?);
+            let seen = View::new(alloc)?;
+            Ok(Round { stage, seen })
+        }
+        2 => {
+            let stage = Stage::Querying(read_pending(reader)?);
+            let seen = View::new(alloc)?;
+            Ok(Round { stage, seen })
+        }
+        3 => {
+            let stage = Stage::StoringBack(read_pending(reader)?);
+            let seen = reader.view(alloc)?;
+            Ok(Round { stage, seen })
+        }
+        kind => Err(WireFault::BadKind(kind)),
+    }
+}
+
+#[tactic(auto, unfolding(cc_node::specs::States::work_at))]
+fn read_work(alloc: Global, reader: &mut Reader<'_>) -> Result<Work, WireFault>
+    ensures { Gives (λ x. (work_in x, reader.new)) result (work_at reader.old) }
+{
+    let view = reader.view(alloc)?;
+    let number = reader.u64()?;
+    let mine = reader.value()?;
+    let tag = reader.u64()?;
+    let echoes = reader.u64()?;
+    let need = reader.u16()?;
+    let round = read_round(alloc, reader)?;
+    Ok(Work {
+        view,
+        number,
+        mine,
+        tag,
+        echoes,
+        need,
+        round,
+    })
+}
+
+#[tactic(auto, unfolding(cc_node::specs::States::link_at))]
+fn read_link(reader: &mut Reader<'_>, least: u64) -> Result<LinkRow, WireFault>
+    requires { 1 ≤ least }
+    ensures exact { Gives (λ x. (links.entry_of x, reader.new)) result (link_at least reader.old) }
+    ensures least { IfOk result (λ row. least ≤ row.peer) }
+{
+    let peer = reader.id(least)?;
+    let start = reader.u64()?;
+    let acked = reader.u64()?;
+    let heard = reader.u64()?;
+    Ok(LinkRow {
+        peer,
+        start,
+        acked,
+        heard,
+    })
+}
+
+#[tactic(auto, unfolding(cc_node::specs::States::session_from))]
+fn read_session_id(reader: &mut Reader<'_>, least: u128) -> Result<u64, WireFault>
+    ensures exact { Gives (λ x. (x, reader.new)) result (session_from least reader.old) }
+    ensures least { IfOk result (λ session. least ≤ session) }
+{
+    let session = reader.u64()?;
+    if u128::from(session) < least {
+        return Err(WireFault::NotAscending);
+    }
+    Ok(session)
+}
+
+#[tactic(auto, unfolding(cc_node::specs::States::session_at))]
+fn read_session(reader: &mut Reader<'_>, least: u128) -> Result<SessionRow, WireFault>
+    ensures exact { Gives (λ x. (sessions.entry_of x, reader.new)) result (session_at least reader.old) }
+    ensures least { IfOk result (λ row. least ≤ row.session) }
+{
+    let session = read_session_id(reader, least)?;
+    let last = reader.u64()?;
+    Ok(SessionRow { session, last })
+}
+
+#[tactic(auto, unfolding(cc_node::specs::States::kept_answer_at))]
+fn read_kept_answer(
+    alloc: Global,
+    reader: &mut Reader<'_>,
+    least: u128,
+) -> Result<KeptAnswer, WireFault>
+    ensures exact { Gives (λ x. (answers.entry_of x, reader.new)) result (kept_answer_at least reader.old) }
+    ensures least { IfOk result (λ kept. least ≤ kept.session) }
+{
+    let session = read_session_id(reader, least)?;
+    let answer = reader.answer(alloc)?;
+    Ok(KeptAnswer { session, answer })
+}

@@ -1,0 +1,20 @@
+use Rattle.std.proofs.Common.{sym, ap, ◌∙◌, arith, length}
+use Rattle.std.specs.List.{list_all}
+use Rattle.std.specs.FinMap as table
+use Rattle.std.proofs.lemmas.List.{length-map}
+use Rattle.cc_links.specs.Rows.{link_of, row_of}
+use Rattle.cc_links.specs.declared.link_row.LinkRow.{LinkRow}
+use Rattle.cc_node.specs.Parts.{is_link_within}
+use Rattle.cc_node.proofs.Restoring.{links_pass}
+use Rattle.cc_node.proofs.core_parts.links_fit.Goals as goal
+
+pub returns-clause-fit : goal.returns-clause-fit
+returns-clause-fit c =
+    let same = c.rows_fit.ensures ∙ ap (list_all (λ (row : LinkRow). is_link_within c.args.posts (link_of row))) c.rows.ensures.rows in
+    let pass = links_pass c.args.posts c.args.links.now in
+    (λ h. pass.0 (sym same ∙ h), λ h. same ∙ pass.1 h)
+
+pub returns-clause-few : goal.returns-clause-few
+returns-clause-few c =
+    let ls = c.args.links.now in
+    omega (arith, table.len-entries ls, length-map (table.entries ls) row_of, ap length c.rows.ensures.rows, c.rows.ensures.fits)

@@ -1,0 +1,241 @@
+//! The parts of a core, and whether they make a lawful one.
+
+ghost use Rattle.std.specs.Prelude.{◌≡◌, ◌≤◌, ◌↔◌, Some, IsTrue, IsFalse};
+ghost use Rattle.std.specs.List.{list_all};
+ghost use Rattle.std.specs.FinMap as table;
+ghost use Rattle.cc_views.specs.NatSets as set;
+ghost use Rattle.cc_views.specs.NatSets.{IsWithin};
+ghost use Rattle.cc_views.specs.Rows.{ViewMap};
+ghost use Rattle.cc_changes.specs.ChangeLaws.{IsAmong};
+ghost use Rattle.cc_links.specs.Links.{LinksWithin};
+ghost use Rattle.cc_links.specs.Rows.{link_of};
+ghost use Rattle.cc_ops.specs.Commands.{is_writing, set_limit};
+ghost use Rattle.cc_ops.specs.Ops.{IsWaiting, seen_in};
+ghost use Rattle.cc_sessions.specs.Sessions.{session_limit};
+ghost use Rattle.cc_node.specs.Lawful.{CountsWithin, IsLawfulCore, IsPendingIn, IsPhaseOf, SessionsWithin};
+ghost use Rattle.cc_node.specs.Parts.{core_of, is_link_within, is_request_within};
+ghost use Rattle.cc_node.specs.Refusals.{known_limit};
+
+use crate::node_core::COUNTER_LIMIT;
+use cc_changes::{Changes, Fraction};
+use cc_churn::Churn;
+use cc_links::{LinkRow, Links};
+use cc_ops::{Ops, Pending, Stage, is_writing};
+use cc_sessions::{SessionRow, Sessions};
+use cc_views::{NodeId, NumberSet, Row, View};
+
+// How many nodes are known at most.
+const MAX_KNOWN: u64 = 256;
+
+/// What a core is put together from (own choice): the state of a node, up to what it keeps to put out again. Not all
+/// parts make a lawful core.
+#[derive(Debug, Drop)]
+pub struct CoreParts {
+    /// Its own name.
+    pub me: NodeId,
+    /// The share of the members whose answers an operation waits for.
+    pub beta: Fraction,
+    /// The share of those present whose echoes an entering node waits for.
+    pub gamma: Fraction,
+    /// Who entered, joined and left.
+    pub churn: Churn,
+    /// The view, the own value and the pending operation.
+    pub ops: Ops,
+    /// How many posts were ever made.
+    pub posts: u64,
+    /// The links to all known nodes, the own one among them.
+    pub links: Links,
+    /// The last request of each session.
+    pub sessions: Sessions,
+}
+
+impl CoreParts {
+    // Whether they make a lawful core; needs no memory.
+    pub(crate) fn are_lawful(&self) -> bool
+        ensures { IsTrue result ↔ IsLawfulCore (core_of self.now) }
+    {
+        if !self.beta.is_share() {
+            return false;
+        }
+        if !self.gamma.is_share() {
+            return false;
+        }
+        if !is_known(&self.links, self.me) {
+            return false;
+        }
+        if !knows_changes(&self.links, self.churn.changes()) {
+            return false;
+        }
+        if !knows_view(&self.links, self.ops.view()) {
+            return false;
+        }
+        if !have_entered(self.churn.changes()) {
+            return false;
+        }
+        if !links_fit(&self.links, self.posts) {
+            return false;
+        }
+        if !sessions_fit(&self.sessions) {
+            return false;
+        }
+        if !phase_fits(&self.links, &self.sessions, &self.ops) {
+            return false;
+        }
+        if !self.counts_fit() {
+            return false;
+        }
+        self.sizes_fit()
+    }
+
+    // Whether no counter is past its limit.
+    fn counts_fit(&self) -> bool
+        ensures { IsTrue result ↔ CountsWithin (core_of self.now) }
+    {
+        let counters = [
+            self.posts,
+            self.ops.number(),
+            self.ops.tag(),
+            self.churn.echoes(),
+        ];
+        counters.iter().all(|counter| *counter <= COUNTER_LIMIT)
+    }
+
+    // Whether the need of the own entering is of known nodes, and the own set has its room.
+    fn sizes_fit(&self) -> bool
+        ensures { IsTrue result ↔ ((self.now.churn.need ≤ known_limit) × (set.len self.now.ops.mine.set ≤ set_limit)) }
+    {
+        self.churn.need() <= MAX_KNOWN && self.ops.mine().set.len() <= NumberSet::MAX_LEN
+    }
+}
+
+fn is_known(links: &Links, id: NodeId) -> bool
+    ensures { result ≡ table.contains_key links.now id }
+{
+    links.get(id).is_some()
+}
+
+// Whether each node of the changes is known.
+fn knows_changes(links: &Links, changes: &Changes) -> bool
+    ensures { IsTrue result ↔ IsAmong changes.now links.now }
+{
+    if !knows_all(links, changes.entered()) {
+        return false;
+    }
+    if !knows_all(links, changes.joined()) {
+        return false;
+    }
+    knows_all(links, changes.left())
+}
+
+fn knows_all(links: &Links, ids: &[NodeId]) -> bool
+    ensures { result ≡ list_all (λ q. table.contains_key links.now q) ids.now }
+{
+    ids.iter().all(|id| is_known(links, *id))
+}
+
+// Whether each node of the view is known.
+fn knows_view(links: &Links, view: &View) -> bool
+    ensures { IsTrue result ↔ IsWithin view.now links.now }
+{
+    knows_rows(links, view.rows())
+}
+
+fn knows_rows(links: &Links, rows: &[Row]) -> bool
+    ensures { result ≡ list_all (λ row. table.contains_key links.now row.node) rows.now }
+{
+    rows.iter().all(|row| is_known(links, row.node))
+}
+
+// Whether who joined has also entered.
+fn have_entered(changes: &Changes) -> bool
+    ensures { IsTrue result ↔ IsWithin changes.now.joined changes.now.entered }
+{
+    all_entered(changes.joined(), changes)
+}
+
+fn all_entered(ids: &[NodeId], changes: &Changes) -> bool
+    ensures { result ≡ list_all (λ q. set.contains changes.now.entered q) ids.now }
+{
+    ids.iter().all(|id| changes.has_entered(*id))
+}
+
+// Whether no link goes beyond the posts that were made, or the limit of counters. There are never too many links.
+fn links_fit(links: &Links, posts: u64) -> bool
+    ensures fit { IsTrue result ↔ LinksWithin posts links.now }
+    ensures few { table.len links.now ≤ known_limit }
+{
+    rows_fit(links.rows(), posts)
+}
+
+fn rows_fit(rows: &[LinkRow], posts: u64) -> bool
+    ensures { result ≡ list_all (λ row. is_link_within posts (link_of row)) rows.now }
+{
+    rows.iter().all(|row| row_fits(row, posts))
+}
+
+fn row_fits(row: &LinkRow, posts: u64) -> bool
+    ensures { result ≡ is_link_within posts (link_of row.now) }
+{
+    row.start <= posts && row.acked <= posts - row.start && row.heard <= COUNTER_LIMIT
+}
+
+// Whether each session's last request is one that it can have. There are never too many sessions.
+fn sessions_fit(sessions: &Sessions) -> bool
+    ensures fit { IsTrue result ↔ SessionsWithin sessions.now }
+    ensures few { table.len sessions.now ≤ session_limit }
+{
+    requests_fit(sessions.rows())
+}
+
+fn requests_fit(rows: &[SessionRow]) -> bool
+    ensures { result ≡ list_all (λ row. is_request_within row.last) rows.now }
+{
+    rows.iter()
+        .all(|row| 0 < row.last && row.last <= COUNTER_LIMIT)
+}
+
+// Whether the pending operation is of its session's last request, and in a round that its command has.
+fn phase_fits(links: &Links, sessions: &Sessions, ops: &Ops) -> bool
+    ensures { IsTrue result ↔ IsPhaseOf links.now sessions.now ops.now.phase }
+{
+    let stage = ops.stage();
+    match stage {
+        Stage::Idle => true,
+        Stage::Storing(pending) => {
+            is_last_request(sessions, &pending) && is_writing(&pending.asked.command)
+        }
+        Stage::Querying(pending) => is_last_read(sessions, &pending),
+        Stage::StoringBack(pending) => {
+            is_last_read(sessions, &pending) && knows_seen(links, ops)
+        }
+    }
+}
+
+// Whether the operation is a read, and of its session's last request.
+fn is_last_read(sessions: &Sessions, pending: &Pending) -> bool
+    requires { IsWaiting pending.now }
+    ensures { IsTrue result ↔ (IsPendingIn sessions.now pending.now × IsFalse (is_writing pending.now.asked.command)) }
+{
+    is_last_request(sessions, pending) && !is_writing(&pending.asked.command)
+}
+
+// Whether the operation is of its session's last request.
+fn is_last_request(sessions: &Sessions, pending: &Pending) -> bool
+    requires { IsWaiting pending.now }
+    ensures { IsTrue result ↔ IsPendingIn sessions.now pending.now }
+{
+    match sessions.finish(pending.asked.session) {
+        Some(last) => last == pending.asked.request,
+        None => false,
+    }
+}
+
+// Whether each node of the view that is stored back is known.
+fn knows_seen(links: &Links, ops: &Ops) -> bool
+    ensures { (seen : ViewMap) → seen_in ops.now.phase ≡ Some seen → IsTrue result ↔ IsWithin seen links.now }
+{
+    match ops.seen() {
+        Some(seen) => knows_view(links, seen),
+        None => true,
+    }
+}
