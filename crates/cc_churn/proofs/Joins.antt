@@ -1,8 +1,8 @@
 -- With which echo a node joins.
-use Rattle.std.proofs.Common.{◌≡◌, ℕ, arith, Bool, true, false, cond, not, ◌||◌, ◌&&◌, refl, sym, ap, ◌∙◌}
+use Rattle.std.proofs.Common.{◌≡◌, ℕ, Bool, true, false, cond, not, ◌||◌, ◌&&◌, refl, sym, ap, ◌∙◌}
 use Rattle.std.proofs.Math.Bool.{and-true, and-false}
 use Rattle.std.proofs.lemmas.Bool.{eq-eqb}
-use Rattle.std.specs.Prelude.{◌==◌, is_some, nat_eq}
+use Rattle.std.specs.Prelude.{◌==◌, is_some}
 use Rattle.std.specs.Bool.{then_some}
 use Rattle.cc_views.specs.NatSets.{contains-insert}
 use Rattle.cc_changes.specs.ChangeSets.{ChangeSets, add_join}

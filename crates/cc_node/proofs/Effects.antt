@@ -22,7 +22,7 @@ use Rattle.cc_wire.specs.declared.command.Command.{Command}
 use Rattle.cc_wire.specs.declared.event.Event.{Event}
 use Rattle.cc_wire.specs.declared.event.Event.TheVariants as event
 use Rattle.cc_wire.specs.declared.message.Message.{Message}
-use Rattle.cc_outbox.specs.Outbox.{Outbox, post_limit}
+use Rattle.cc_outbox.specs.Outbox.{post_limit}
 use Rattle.cc_outbox.specs.OutboxLaws.{room_for_post}
 use Rattle.cc_node.specs.Core.{Core, next, post, reply, quorum, ids_of, lowest}
 use Rattle.cc_node.specs.Node.{Node, step, add, keep, forget_asked}
