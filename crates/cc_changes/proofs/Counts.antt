@@ -7,7 +7,7 @@ use Rattle.cc_views.specs.NatLists.{len-items, items-difference, len-union_parts
 use Rattle.cc_changes.specs.ChangeSets as changes
 use Rattle.cc_changes.specs.ChangeSets.{ChangeSets}
 
-filter_alike : (p r : ℕ → Bool) → ((q : ℕ) → p q ≡ r q) → (qs : List ℕ) → filter p qs ≡ filter r qs
+pub filter_alike : (p r : ℕ → Bool) → ((q : ℕ) → p q ≡ r q) → (qs : List ℕ) → filter p qs ≡ filter r qs
 filter_alike p r same [] = refl
 filter_alike p r same (q ∷ qs) = ap (λ b. cond b (q ∷ filter p qs) (filter p qs)) (same q) ∙ ap (λ (t : List ℕ). cond (r q) (q ∷ t) t) (filter_alike p r same qs)
 

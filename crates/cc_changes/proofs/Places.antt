@@ -1,22 +1,18 @@
 -- The ids of a set as an ascending list.
-use Rattle.std.proofs.Common.{◌≡◌, ℕ, zero, suc, ◌+◌, ◌<◌, ◌≤◌, Bool, true, false, cond, not, ◌||◌, List, [], ◌∷◌, ◌++◌, length, get_or, take, refl, sym, ap, ◌∙◌, arith}
+use Rattle.std.proofs.Common.{◌≡◌, ℕ, zero, suc, ◌+◌, ◌<◌, ◌≤◌, Bool, true, false, not, ◌||◌, List, [], ◌∷◌, ◌++◌, length, get_or, take, refl, sym, ap, ◌∙◌, arith}
 use Rattle.std.specs.Prelude.{nat_eq}
 use Rattle.std.specs.List.{list_any, filter, count_by}
 use Rattle.std.proofs.lemmas.List.{take_more}
 use Rattle.std.proofs.lemmas.List.Sums.{length-filter, count_by-le-length}
 use Rattle.cc_views.specs.Ascending.{IsAscending}
 use Rattle.cc_views.specs.NatSets as set
-use Rattle.cc_views.specs.NatSets.{NatSet, contains-from_list, contains-insert, contains-insert_all, contains-union, len-insert, same_ids, len_within, IsWithin}
+use Rattle.cc_views.specs.NatSets.{NatSet, or_swap, contains-from_list, contains-insert, contains-insert_all, contains-union, len-insert, same_ids, len_within, IsWithin}
 use Rattle.cc_views.specs.NatLists.{len-from_list, items-from_list, len-difference}
 use Rattle.cc_views.specs.NatPlaces.{any_push}
 use Rattle.cc_changes.specs.IdTable.{IsIdTable}
+use Rattle.cc_changes.proofs.Counts.{filter_alike}
 
 -- ---- the ids of a list, one after the other
-
-or_swap : (a b c : Bool) → (a || (b || c)) ≡ (b || (a || c))
-or_swap true true c = refl
-or_swap true false c = refl
-or_swap false b c = refl
 
 pub next_one : (s : NatSet) (others : List ℕ) (i id : ℕ) → i < length others → id ≡ get_or others i id
     → set.insert (set.insert_all s (take i others)) id ≡ set.insert_all s (take (i + 1) others)
@@ -59,10 +55,6 @@ pub outside : (ids : List ℕ) (s other : NatSet) → IsAscending ids → set.fr
 outside ids s other h is =
     let known : ids ≡ set.items s = sym (items-from_list ids h) ∙ ap set.items is in
     length-filter (λ q. not (set.contains other q)) ids ∙ ap (count_by (λ q. not (set.contains other q))) known ∙ sym (len-difference s other)
-
-filter_alike : (p r : ℕ → Bool) → ((q : ℕ) → p q ≡ r q) → (qs : List ℕ) → filter p qs ≡ filter r qs
-filter_alike p r same [] = refl
-filter_alike p r same (q ∷ qs) = ap (λ b. cond b (q ∷ filter p qs) (filter p qs)) (same q) ∙ ap (λ (t : List ℕ). cond (r q) (q ∷ t) t) (filter_alike p r same qs)
 
 pub outside_both : (ids : List ℕ) (s one other : NatSet) → IsAscending ids → set.from_list ids ≡ s
     → length (filter (λ q. not (set.contains one q || set.contains other q)) ids) ≡ set.len (set.difference s (set.union one other))

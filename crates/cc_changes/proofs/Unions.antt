@@ -1,14 +1,11 @@
 -- The union of changes, set by set.
-use Rattle.std.proofs.Common.{◌≡◌, ℕ, ◌+◌, ◌≤◌, Bool, true, false, ◌||◌, refl, sym, ap, ◌∙◌, arith}
+use Rattle.std.proofs.Common.{◌≡◌, ℕ, ◌+◌, ◌≤◌, sym, ap, ◌∙◌, arith}
+use Rattle.std.proofs.lemmas.Bool.{or_left}
 use Rattle.cc_views.specs.NatSets as set
 use Rattle.cc_views.specs.NatSets.{NatSet, contains-union, len-empty, len_insert_at_most, len_within, IsWithin}
 use Rattle.cc_views.specs.NatLists.{union_assoc, len-union_parts}
 use Rattle.cc_changes.specs.ChangeSets as changes
 use Rattle.cc_changes.specs.ChangeSets.{ChangeSets, FitsRoom}
-
-or_left : (a b : Bool) → a ≡ true → (a || b) ≡ true
-or_left true b h = refl
-or_left false b h = absurd cc
 
 pub first_fits : (s t u : NatSet) → set.len (set.union (set.union s t) u) ≤ 256 → set.len (set.union s t) ≤ 256
 first_fits s t u fits =

@@ -4,7 +4,7 @@
 --     fits_among                                         each set has at most as many ids as the table
 --     need_within, need_positive                         a share of a count is no more than the count, and at least 1
 --     present_within, members_within                     who is present, or a member, is a key of the table
-use Rattle.std.proofs.Common.{◌≡◌, ℕ, ◌+◌, ◌*◌, ◌<◌, ◌≤◌, Bool, true, false, ◌||◌, nat_eq, sym, ap, subst, ◌∙◌, arith, add-mul, one-mul, mul_comm, mul-le-mul_right, lt_of_mul-lt-mul_right}
+use Rattle.std.proofs.Common.{◌≡◌, ℕ, ◌+◌, ◌*◌, ◌<◌, ◌≤◌, nat_eq, sym, ap, subst, ◌∙◌, arith, add-mul, one-mul, mul_comm, mul-le-mul_right, lt_of_mul-lt-mul_right}
 use Rattle.std.specs.Prelude.{IsTrue, max}
 use Rattle.std.specs.Int.{div_ceil}
 use Rattle.std.specs.Ordering.{nat_cmp}
@@ -12,16 +12,13 @@ use Rattle.std.specs.FinMap as table
 use Rattle.std.specs.FinMap.{FinMap}
 use Rattle.std.proofs.lemmas.Bool.{eqb-true}
 use Rattle.std.proofs.lemmas.Grind.{div_ceil_times}
+use Rattle.cc_views.specs.MergeLaws.{either_true}
 use Rattle.cc_views.specs.NatSets as set
 use Rattle.cc_views.specs.NatSets.{NatSet, IsWithin, contains-insert, contains-union, difference_within, len_within}
 use Rattle.cc_changes.specs.declared.fraction.Fraction.{Fraction}
 use Rattle.cc_changes.specs.ChangeSets as changes
 use Rattle.cc_changes.specs.ChangeSets.{ChangeSets, FitsRoom}
 use Rattle.cc_changes.specs.Need.{IsShare, needed}
-
-either_true : (a b : Bool) (P : Type 0) → (a ≡ true → P) → (b ≡ true → P) → (a || b) ≡ true → P
-either_true true b P h k e = h e
-either_true false b P h k e = k e
 
 module _ {X : Type 0} (ids : FinMap nat_cmp X) where
   within_inserted : (s : NatSet) (q : ℕ) → IsWithin s ids → IsTrue (table.contains_key ids q) → IsWithin (set.insert s q) ids

@@ -9,13 +9,10 @@ ghost use Rattle.cc_churn.specs.Refusals.{left, already_entered, not_entered, no
 ghost use Rattle.cc_wire.specs.Refusals.{first_of};
 
 use cc_changes::{Changes, Fraction, need};
-use cc_views::{NoMemory, NodeId, View};
+use cc_views::{COUNTER_LIMIT, NoMemory, NodeId, View};
 use cc_wire::{Message, Refusal};
 use std::alloc::Global;
 use std::marker::Model;
-
-// How far a counter goes.
-const COUNTER_LIMIT: u64 = 1 << 62;
 
 /// Who entered, joined and left, as far as a node knows, and the echoes to its own Enter (CCC, churn management).
 #[derive(Debug, Drop)]
@@ -198,6 +195,7 @@ impl Churn {
 
     /// What a message is answered with: an Enter, a Join and a Leave with an echo, and the echo with which `me` joins
     /// with its Join; `view` is what the node has seen (CCC, churn management). The only error is a refused growth.
+    #[tactic(auto, using(crate::proofs::Joins::join_posted))]
     pub fn post(
         &self,
         alloc: Global,
@@ -209,7 +207,6 @@ impl Churn {
         requires positive { 0 < gamma.num }
         requires share { gamma.num ≤ gamma.den }
         requires fits { FitsRoom (churn.after_message me gamma message.now self.now).changes }
-        requires echoes { (churn.after_message me gamma message.now self.now).echoes ≤ 2 ^ 62 }
         ensures { IfOk result (λ p. p ≡ churn.post_of me view.now message.now self.now (churn.after_message me gamma message.now self.now)) }
     {
         match message {
@@ -225,10 +222,13 @@ impl Churn {
                     node: *node,
                 }))
             }
-            Message::EnterEcho { changes, .. } => {
-                let mut after = self.copy(alloc)?;
-                after.apply(me, gamma, message);
-                if !self.knows_join(me, changes) && after.has_joined(me) {
+            Message::EnterEcho {
+                changes,
+                is_joined,
+                node,
+                ..
+            } => {
+                if *node == me && self.joins_by(me, gamma, changes, *is_joined) {
                     return Ok(Some(Message::Join { node: me }));
                 }
                 Ok(None)

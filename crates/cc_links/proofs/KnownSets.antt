@@ -3,6 +3,7 @@ use Rattle.std.proofs.Common.{◌≡◌, ℕ, suc, ◌+◌, ◌<◌, ◌≤◌, 
 use Rattle.std.specs.Prelude.{nat_eq, ◌==◌}
 use Rattle.std.specs.List.{list_any, insert}
 use Rattle.std.specs.FinMap as table
+use Rattle.std.proofs.Math.Bool.{or_assoc}
 use Rattle.std.proofs.lemmas.Bool.{or_left, eqb-true, eqb-false}
 use Rattle.std.proofs.Math.ListN.{get_or-map}
 use Rattle.std.proofs.lemmas.List.{length-map}
@@ -45,15 +46,11 @@ module _ (ids : List ℕ) (known : AreKnown ids) (id i : ℕ) (s : NatSet) (view
   pub set_more : IsGapFor marked ids id i → table_of marked (insert ids i id) ≡ set.insert s id
   set_more gap = table_of-insert marked ids id i gap id refl ∙ ap (λ (m : NatSet). set.insert m id) view
 
-or_swap : (a b c : Bool) → ((a || b) || c) ≡ (a || (b || c))
-or_swap true b c = refl
-or_swap false b c = refl
-
 -- an id that is inserted first is inserted
 pub insert_all-insert : (s : NatSet) (id : ℕ) (ids : List ℕ) → set.insert_all (set.insert s id) ids ≡ set.insert (set.insert_all s ids) id
 insert_all-insert s id ids = same_ids _ _ (λ q.
     contains-insert_all (set.insert s id) ids q ∙ ap (λ b. b || list_any (nat_eq q) ids) (contains-insert s id q)
-    ∙ or_swap (nat_eq q id) (set.contains s q) (list_any (nat_eq q) ids)
+    ∙ or_assoc (nat_eq q id) (set.contains s q) (list_any (nat_eq q) ids)
     ∙ sym (contains-insert (set.insert_all s ids) id q ∙ ap (λ b. nat_eq q id || b) (contains-insert_all s ids q)))
 
 pub len_insert_all : (s : NatSet) (ids : List ℕ) → set.len s ≤ set.len (set.insert_all s ids)

@@ -13,6 +13,7 @@ use Rattle.std.specs.Ordering.{nat_cmp}
 use Rattle.std.specs.Cmp.{nat_cmp_total}
 use Rattle.std.specs.FinMap as table
 use Rattle.std.specs.FinMap.{FinMap, nat_cmp-IsAntisymmetric}
+use Rattle.std.proofs.Math.Bool.{or_assoc}
 use Rattle.std.proofs.lemmas.Bool.{and_parts, not-false, ltb-true, leb-true, or_right}
 use Rattle.std.proofs.lemmas.Bool.Decides.{eqb_tells}
 use Rattle.cc_views.specs.NatSets as set
@@ -214,15 +215,11 @@ contains-add_absent : (posts peer q : ℕ) (o : Option Link) (ls : Links) → ta
 contains-add_absent posts peer q None ls e = contains-insert_key ls peer (new_link posts) q
 contains-add_absent posts peer q (Some l) ls e = absent_or_there ls peer q l e
 
-or_assoc : (a b c : Bool) → (a || (b || c)) ≡ ((a || b) || c)
-or_assoc true b c = refl
-or_assoc false b c = refl
-
 pub contains-add_all : (posts : ℕ) (peers : List ℕ) (ls : Links) (q : ℕ) → table.contains_key (add_all posts peers ls) q ≡ (list_any (nat_eq q) peers || table.contains_key ls q)
 contains-add_all posts [] ls q = refl
 contains-add_all posts (p ∷ ps) ls q =
     contains-add_absent posts p q (table.get (add_all posts ps ls) p) (add_all posts ps ls) refl
-    ∙ ap (λ b. nat_eq q p || b) (contains-add_all posts ps ls q) ∙ or_assoc (nat_eq q p) (list_any (nat_eq q) ps) _
+    ∙ ap (λ b. nat_eq q p || b) (contains-add_all posts ps ls q) ∙ sym (or_assoc (nat_eq q p) (list_any (nat_eq q) ps) _)
 
 -- no row is added where a row is changed
 row_within : (peer : ℕ) (change : Link → Link) (o : Option Link) (ls : Links) → table.get ls peer ≡ o → IsWithin (with_row peer change o ls) ls

@@ -4,6 +4,7 @@ use Rattle.std.specs.Prelude.{Option, Some, None, is_some, ◌==◌}
 use Rattle.std.specs.Option.{option_len, option_or}
 use Rattle.std.specs.Bool.{then_some}
 use Rattle.std.proofs.lemmas.Bool.Decides.{eqb_tells}
+use Rattle.std.proofs.Math.Bool.{and-false, and-true, or-false}
 use Rattle.std.proofs.lemmas.Bool.{leb-false, ltb-false, lt-ltb, le-ltb, or_parts}
 use Rattle.cc_views.specs.Limits.{counter_limit, overruns}
 use Rattle.cc_wire.specs.declared.event.Event.{Event}
@@ -20,7 +21,8 @@ use Rattle.cc_links.specs.Links.{heard_from, hear, add_all}
 use Rattle.cc_sessions.specs.Sessions.{last_request, is_stale, is_skip, is_repeat, finds_no_room}
 use Rattle.cc_wire.specs.declared.command.Command.{Command}
 use Rattle.cc_node.specs.Core.{Core, next, post, quorum, ids_of, lowest}
-use Rattle.cc_node.specs.Refusals.{any_overruns, spent, decides, left, not_entered, already_entered, not_joined, old, gap, too_many_nodes, nothing_to_ack, too_many_sessions, repeat, stale, skip, busy, set_full, outbox_full, post_limit}
+use Rattle.cc_outbox.specs.Outbox.{post_limit}
+use Rattle.cc_node.specs.Refusals.{any_overruns, spent, decides, left, not_entered, already_entered, not_joined, old, gap, too_many_nodes, nothing_to_ack, too_many_sessions, repeat, stale, skip, busy, set_full, outbox_full}
 use Rattle.cc_node.proofs.Effects.{asked_of}
 use Rattle.cc_node.proofs.LawfulLaws.{hears_now, request_now}
 
@@ -46,26 +48,14 @@ less_itself n = le-ltb n n (omega arith)
 less_next : (n : ℕ) → nat_lt n (n + 1) ≡ true
 less_next n = lt-ltb n (n + 1) (omega arith)
 
-and_false : (b : Bool) → (b && false) ≡ false
-and_false true = refl
-and_false false = refl
-
-and_true : (b : Bool) → (b && true) ≡ b
-and_true true = refl
-and_true false = refl
-
-or_false : (b : Bool) → (b || false) ≡ b
-or_false true = refl
-or_false false = refl
-
 pub stays : (n : ℕ) → overruns n n ≡ false
-stays n = ap (λ b. (n == counter_limit) && b) (less_itself n) ∙ and_false (n == counter_limit)
+stays n = ap (λ b. (n == counter_limit) && b) (less_itself n) ∙ and-false (n == counter_limit)
 
 pub stays_at : (n m : ℕ) → m ≡ n → overruns n m ≡ false
 stays_at n m e = ap (overruns n) e ∙ stays n
 
 pub rises : (n : ℕ) → overruns n (n + 1) ≡ (n == counter_limit)
-rises n = ap (λ b. (n == counter_limit) && b) (less_next n) ∙ and_true (n == counter_limit)
+rises n = ap (λ b. (n == counter_limit) && b) (less_next n) ∙ and-true (n == counter_limit)
 
 pub rises_with : {X : Type 0} (n : ℕ) (o : Option X) → overruns n (n + option_len o) ≡ (is_some o && (n == counter_limit))
 rises_with n None = stays_at n (n + 0) (omega arith)
@@ -142,13 +132,13 @@ pub spent_enter : (c : Core) → spent c event.Enter ≡ then_some (c.posts == c
 unfolding next
 spent_enter c = ap (λ b. then_some b refusal.Spent)
     (any_of _ _ _ _ _ false false (c.posts == counter_limit) false false (stays c.ops.number) (stays c.ops.tag) (rises c.posts) (stays c.churn.echoes) refl
-    ∙ or_false _ ∙ or_false _)
+    ∙ or-false _ ∙ or-false _)
 
 pub spent_leave : (c : Core) → spent c event.Leave ≡ then_some (c.posts == counter_limit) refusal.Spent
 unfolding next
 spent_leave c = ap (λ b. then_some b refusal.Spent)
     (any_of _ _ _ _ _ false false (c.posts == counter_limit) false false (stays c.ops.number) (stays c.ops.tag) (rises c.posts) (stays c.churn.echoes) refl
-    ∙ or_false _ ∙ or_false _)
+    ∙ or-false _ ∙ or-false _)
 
 pub spent_ack : (c : Core) (peer n : ℕ) → spent c (event.Acked peer n) ≡ None
 unfolding next
@@ -188,7 +178,7 @@ spent_ask c s r k e h =
     let tag = overruns c.ops.tag (ops.after_ask c.me (quorum c) (asked_of s r k) c.ops).tag in
     any_of number tag _ _ _ number tag _ false _ refl refl (rises c.posts) (stays c.churn.echoes)
     (ap (overruns (last_request c.sessions s)) (request_now c.sessions s r) ∙ last_or_next (last_request c.sessions s) r e h)
-    ∙ ap (λ b. b || nat_lt counter_limit r) (or_false _)
+    ∙ ap (λ b. b || nat_lt counter_limit r) (or-false _)
 
 -- ---- of the reasons, the first
 

@@ -22,12 +22,13 @@ use Rattle.cc_wire.specs.declared.command.Command.{Command}
 use Rattle.cc_wire.specs.declared.event.Event.{Event}
 use Rattle.cc_wire.specs.declared.event.Event.TheVariants as event
 use Rattle.cc_wire.specs.declared.message.Message.{Message}
-use Rattle.cc_outbox.specs.Outbox.{Outbox}
+use Rattle.cc_outbox.specs.Outbox.{post_limit}
 use Rattle.cc_outbox.specs.OutboxLaws.{room_for_post}
 use Rattle.cc_node.specs.Core.{Core, next, post, reply, quorum, ids_of, lowest}
 use Rattle.cc_node.specs.Node.{Node, step, add, keep, forget_asked}
 use Rattle.cc_node.specs.Lawful.{IsLawfulCore, IsLawfulNode}
-use Rattle.cc_node.specs.Refusals.{decides, known_limit, post_limit}
+use Rattle.cc_node.specs.Refusals.{decides, known_limit}
+use Rattle.cc_node.proofs.KeptLaws.{posts_forget}
 use Rattle.cc_node.proofs.LawfulLaws.{next_core, quorum_fits, step_lawful}
 use Rattle.cc_node.proofs.RefusalLaws.{takes_delivery, takes_ask, takes_any}
 
@@ -152,13 +153,6 @@ byte_is false n false e h = e
 
 -- ---- the outbox
 
-same_posts : (e : Event) (o : Outbox) → (forget_asked e o).posts ≡ o.posts
-same_posts event.Enter o = refl
-same_posts event.Leave o = refl
-same_posts (event.Deliver from n m) o = refl
-same_posts (event.Acked peer n) o = refl
-same_posts (event.Ask s r k) o = refl
-
 both_false : (a b : Bool) → (a && b) ≡ false → IsTrue a → b ≡ false
 both_false true b h k = h
 both_false false b h k = cc
@@ -169,7 +163,7 @@ post_room n e none h makes =
     let c = n.core in
     let free = both_false (is_some (post c e)) ((c.posts - lowest c) == post_limit) (takes_any c e none).posts makes in
     let room : table.len n.outbox.posts < post_limit = room_for_post (lowest c) c.posts n.outbox.posts h.posts free in
-    omega (arith, room, ap table.len (same_posts e n.outbox))
+    omega (arith, room, ap table.len (posts_forget e n.outbox))
 
 answers_fit : (n : Node) → IsLawfulNode n → table.len n.outbox.answers ≤ 256
 answers_fit n h = omega (arith, len_within n.outbox.answers n.core.sessions (λ s there. (h.answers s there).0), h.core.session_count)

@@ -27,10 +27,9 @@ use Rattle.cc_ops.specs.declared.pending.Pending.{Pending}
 use Rattle.cc_ops.specs.declared.pending.Reply.{Reply}
 use Rattle.cc_links.specs.Links.{Links}
 use Rattle.cc_sessions.specs.Sessions.{Requests}
-use Rattle.cc_outbox.specs.Outbox.{Outbox, trim}
+use Rattle.cc_outbox.specs.Outbox.{Outbox, post_limit, trim}
 use Rattle.cc_outbox.specs.OutboxLaws.{KeepsPosts, keeps_add, keeps_trim, room_for_post}
 use Rattle.cc_node.specs.Node.{add, keep, forget_asked}
-use Rattle.cc_node.specs.Refusals.{post_limit}
 use Rattle.cc_node.specs.Lawful.{IsPendingIn, IsPhaseOf, pending_session, KeepsAnswers}
 
 -- ---- posts
@@ -54,6 +53,14 @@ trimmed low high posts o h up = record {
   last = h.last;
   kept = subst (λ n. KeepsPosts high n (trim high o).posts) h.last (keeps_trim low high o (subst (λ n. KeepsPosts low n o.posts) (sym h.last) h.kept) up);
 }
+
+-- the answer of a session is no post
+pub posts_forget : (e : Event) (o : Outbox) → (forget_asked e o).posts ≡ o.posts
+posts_forget event.Enter o = refl
+posts_forget event.Leave o = refl
+posts_forget (event.Deliver from n m) o = refl
+posts_forget (event.Acked peer n) o = refl
+posts_forget (event.Ask s r command) o = refl
 
 forgotten : (low posts : ℕ) (e : Event) (o : Outbox) → KeepsTo low posts o → KeepsTo low posts (forget_asked e o)
 forgotten low posts event.Enter o h = h

@@ -6,16 +6,17 @@
 use Rattle.std.proofs.Common.{◌≡◌, ℕ, ◌≤◌, Bool, true, false, not, nat_lt, List, [], ◌∷◌, ◌++◌, map, refl, sym, ap, ◌∙◌, arith}
 use Rattle.std.specs.Prelude.{◌↔◌, IsTrue}
 use Rattle.std.specs.FinMap as table
-use Rattle.std.proofs.lemmas.Bool.{or_left, le-ltb, lt-ltb}
+use Rattle.std.proofs.lemmas.Bool.{le-ltb, lt-ltb}
 use Rattle.std.proofs.lemmas.List.{append_assoc}
 use Rattle.cc_views.specs.NatSets as set
-use Rattle.cc_views.specs.NatSets.{NatSet, contains-insert_all, len_within}
+use Rattle.cc_views.specs.NatSets.{NatSet}
 use Rattle.cc_views.specs.Rows.{Pair, ViewMap, rows_of, row_of}
 use Rattle.cc_changes.specs.ChangeSets.{ChangeSets}
 use Rattle.cc_links.specs.Links.{Links, add, add_all}
 use Rattle.cc_links.specs.LinkLaws.{add_all-append, len_add_all}
 use Rattle.cc_links.specs.KnownIds.{insert_all-append, len-add_all}
 use Rattle.cc_links.specs.Rows.{nodes_of}
+use Rattle.cc_links.proofs.KnownSets.{len_insert_all}
 use Rattle.cc_wire.specs.declared.message.Message.{Message}
 use Rattle.cc_wire.specs.declared.message.Message.TheVariants as message
 use Rattle.cc_node.specs.Core.{ids_of}
@@ -76,9 +77,6 @@ pub view_room : (posts : ℕ) (ls : Links) (v : ViewMap) (q : ℕ) → table.len
 view_room posts ls v q h = omega (arith, len_add_all posts (q ∷ []) (add_all posts (table.keys v) ls), h)
 
 -- ---- known ids
-
-len_insert_all : (s : NatSet) (ids : List ℕ) → set.len s ≤ set.len (set.insert_all s ids)
-len_insert_all s ids = len_within s (set.insert_all s ids) (λ q h. contains-insert_all s ids q ∙ or_left _ _ h)
 
 -- where the first ids don't fit, neither do these and others
 pub marks_too_many : (s t : NatSet) (xs ys : List ℕ) (b : Bool) → b ≡ false → Marks s xs b t → Marks s (ys ++ xs) false t

@@ -18,12 +18,13 @@ use Rattle.cc_wire.specs.declared.refusal.Refusal.{Refusal}
 use Rattle.cc_wire.specs.declared.refusal.Refusal.TheVariants as refusal
 use Rattle.cc_wire.specs.Refusals.{first_of}
 use Rattle.cc_ops.specs.Commands.{finds_no_room}
-use Rattle.cc_ops.specs.Ops.{Phase, Idle, Storing, Querying, StoringBack, is_idle}
+use Rattle.cc_ops.specs.Ops.{is_idle}
 use Rattle.cc_links.specs.Links.{heard_from, awaits_ack}
 use Rattle.cc_sessions.specs.Sessions as requests
 use Rattle.cc_sessions.specs.Sessions.{last_request, is_stale, is_skip}
 use Rattle.cc_node.specs.Core.{Core, next, post, lowest, with_links}
-use Rattle.cc_node.specs.Refusals.{known_limit, post_limit, any_overruns, row_overruns, reasons, decides}
+use Rattle.cc_outbox.specs.Outbox.{post_limit}
+use Rattle.cc_node.specs.Refusals.{known_limit, any_overruns, row_overruns, reasons, decides}
 
 all_none : (rs : List (Option Refusal)) → first_of rs ≡ None → AllByRecursion (λ r. r ≡ None) rs
 all_none [] h = tt
@@ -137,9 +138,3 @@ none_overruns c d e h =
     let k = or_parts _ _ b.0 in
     let l = or_parts _ _ k.0 in
     record { number = l.0; tag = l.1; posts = k.1; echoes = b.1; row = a.1 }
-
-pub phase_idle : (p : Phase) → not (is_idle p) ≡ false → p ≡ Idle
-phase_idle Idle h = refl
-phase_idle (Storing p) h = cc
-phase_idle (Querying p) h = cc
-phase_idle (StoringBack p seen) h = cc

@@ -34,7 +34,7 @@ use Rattle.cc_node.specs.Core.{ids_of, next, post, reply, outputs, sends, send_p
 use Rattle.cc_node.specs.Refusals.{decides}
 use Rattle.cc_node.specs.Node.{Node, step, after, line, keep, add, forget_asked, Stands, MayBeOut, IsLawful}
 use Rattle.cc_node.specs.Lawful.{IsPhaseOf, IsLawfulNode}
-use Rattle.cc_node.proofs.KeptLaws.{same_some}
+use Rattle.cc_node.proofs.KeptLaws.{same_some, posts_forget}
 use Rattle.cc_node.proofs.LawfulLaws.{links_go_on, left_grows, add_all_heard, hears_now, step_lawful}
 
 contains_head : {X : Type 0} (x : X) (xs : List X) → Contains (x ∷ xs) x
@@ -66,13 +66,6 @@ only_some false o x e = cc
 posts_keep : (r : Option Reply) (o : Outbox) → (keep r o).posts ≡ o.posts
 posts_keep None o = refl
 posts_keep (Some r) o = refl
-
-posts_forget : (e : Event) (o : Outbox) → (forget_asked e o).posts ≡ o.posts
-posts_forget event.Enter o = refl
-posts_forget event.Leave o = refl
-posts_forget (event.Deliver from n m) o = refl
-posts_forget (event.Acked peer n) o = refl
-posts_forget (event.Ask s r command) o = refl
 
 last_forget : (e : Event) (o : Outbox) → (forget_asked e o).last ≡ o.last
 last_forget event.Enter o = refl

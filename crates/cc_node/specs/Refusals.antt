@@ -14,16 +14,14 @@ use Rattle.cc_wire.specs.Refusals.{first_of}
 use Rattle.cc_churn.specs.Refusals as coming
 use Rattle.cc_ops.specs.Refusals as pending
 use Rattle.cc_links.specs.Links as links
+use Rattle.cc_outbox.specs.Outbox.{post_limit}
 use Rattle.cc_sessions.specs.Sessions as sessions
 use Rattle.cc_sessions.specs.Sessions.{last_request}
 use Rattle.cc_node.specs.Core.{Core, next, post, lowest, with_links}
 
--- how many nodes are known, and how many posts kept, at most
+-- how many nodes are known at most
 abbrev pub known_limit : ℕ
 known_limit = 256
-
-abbrev pub post_limit : ℕ
-post_limit = 512
 
 abbrev pub left : Core → Option Refusal
 left c = coming.left c.me c.churn

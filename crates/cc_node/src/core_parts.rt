@@ -16,13 +16,12 @@ ghost use Rattle.cc_node.specs.Lawful.{CountsWithin, IsLawfulCore, IsPendingIn, 
 ghost use Rattle.cc_node.specs.Parts.{core_of, is_link_within, is_request_within};
 ghost use Rattle.cc_node.specs.Refusals.{known_limit};
 
-use crate::node_core::COUNTER_LIMIT;
 use cc_changes::{Changes, Fraction};
 use cc_churn::Churn;
 use cc_links::{LinkRow, Links};
 use cc_ops::{Ops, Pending, Stage, is_writing};
 use cc_sessions::{SessionRow, Sessions};
-use cc_views::{NodeId, NumberSet, Row, View};
+use cc_views::{COUNTER_LIMIT, NodeId, NumberSet, Row, View};
 
 // How many nodes are known at most.
 const MAX_KNOWN: u64 = 256;

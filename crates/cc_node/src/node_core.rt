@@ -8,6 +8,7 @@ ghost use Rattle.cc_churn.specs.Churn as churn;
 ghost use Rattle.cc_links.specs.Links as links;
 ghost use Rattle.cc_links.specs.Rows.{rows_of};
 ghost use Rattle.cc_ops.specs.Stages.{stage_of};
+ghost use Rattle.cc_outbox.specs.Outbox.{post_limit};
 ghost use Rattle.cc_wire.specs.Refusals.{first_of};
 ghost use Rattle.cc_wire.specs.declared.event.Event.TheVariants as event;
 ghost use Rattle.cc_wire.specs.declared.refusal.Refusal.TheVariants as refusal;
@@ -16,7 +17,7 @@ ghost use Rattle.cc_node.specs.Lawful.{IsLawfulCore};
 ghost use Rattle.cc_node.specs.Opening.{told, fresh, IsOpening};
 ghost use Rattle.cc_node.specs.Parts.{core_of};
 ghost use Rattle.cc_node.specs.Refusals as reasons;
-ghost use Rattle.cc_node.specs.Refusals.{decides, decided, post_limit};
+ghost use Rattle.cc_node.specs.Refusals.{decides, decided};
 
 use crate::core_parts::CoreParts;
 use crate::made::{LinkAck, Made};
@@ -26,17 +27,12 @@ use cc_changes::Fraction;
 use cc_churn::Churn;
 use cc_links::{KnownIds, LinkRow, Links};
 use cc_ops::{Asked, Ops, Stage};
+use cc_outbox::Outbox;
 use cc_sessions::{Checked, Sessions};
-use cc_views::{NoMemory, NodeId, View};
+use cc_views::{COUNTER_LIMIT, NoMemory, NodeId, View};
 use cc_wire::{Command, Event, Message, Refusal};
 use std::alloc::Global;
 use std::marker::Model;
-
-// How far a counter goes.
-pub(crate) const COUNTER_LIMIT: u64 = 1 << 62;
-
-// How many posts are kept at most.
-const POST_LIMIT: u64 = 512;
 
 /// The state of a node, up to what it keeps to put out again.
 #[derive(Debug, Drop)]
@@ -297,7 +293,7 @@ impl Core {
     fn is_outbox_full(&self) -> bool
         ensures { result ≡ ((self.now.posts - machine.lowest self.now) == post_limit) }
     {
-        self.posts - self.lowest() == POST_LIMIT
+        self.posts - self.lowest() == Outbox::MAX_POSTS as u64
     }
 
     fn refuse_delivery(&self, from: NodeId, number: u64, message: &Message) -> Option<Refusal>

@@ -10,6 +10,7 @@ use Rattle.std.specs.Option.{unwrap_or}
 use Rattle.std.specs.Ordering.{nat_cmp}
 use Rattle.std.proofs.lemmas.List.Sorted.{list_any-IsPermutation}
 use Rattle.std.proofs.lemmas.List.Kept.{Contains-dedup_nat, Contains-from_dedup, AllPairs-from_increasing}
+use Rattle.std.proofs.Math.Bool.{or_assoc}
 use Rattle.std.proofs.lemmas.Bool.{eqb-true}
 use Rattle.std.proofs.lemmas.Map.Keys.{IsStrictlyIncreasing-dedup}
 use Rattle.std.proofs.lemmas.Map.Views.{Contains-from_any, list_any-from_Contains}
@@ -19,10 +20,6 @@ use Rattle.cc_views.specs.NatSets.{contains, from_list, items, contains-empty, c
 use Rattle.cc_views.specs.NatLists.{items-from_list}
 use Rattle.cc_views.specs.Rows.{ViewMap, row_of, rows_of}
 use Rattle.cc_objects.specs.Objects.{greatest, union_all}
-
-or_assoc : (a b c : Bool) → ((a || b) || c) ≡ (a || (b || c))
-or_assoc true b c = refl
-or_assoc false b c = refl
 
 any_append : (q : ℕ) (ns ms : List ℕ) → list_any (nat_eq q) (ns ++ ms) ≡ (list_any (nat_eq q) ns || list_any (nat_eq q) ms)
 any_append q [] ms = refl

@@ -4,7 +4,7 @@
 --     after_message me quorum m s  what a message makes of it
 --     post_of, first_post          what is posted in return, or as an operation begins
 --     reply_of                     what the client is told
-use Rattle.std.specs.Prelude.{◌==◌, ℕ, ◌+◌, ◌<◌, ◌≤◌, Bool, true, false, ◌&&◌, if◌then◌else◌, ⊤, []}
+use Rattle.std.specs.Prelude.{◌==◌, ℕ, ◌+◌, ◌<◌, ◌≤◌, Bool, true, false, ◌&&◌, if◌then◌else◌, []}
 use Rattle.std.specs.Prelude.{Option, Some, None}
 use Rattle.std.specs.Bool.{then_some}
 use Rattle.std.specs.FinMap as map
@@ -172,9 +172,3 @@ reply_of me (message.StoreAck tag q) s = if is_own me tag q s then reply_in s.vi
 pub record IsWaiting (p : Pending) : Type 0 where
   pub count : p.count < p.need
   pub need : p.need ≤ 256
-
-abbrev pub CanCount : Phase → Type 0
-CanCount Idle = ⊤
-CanCount (Storing p) = IsWaiting p
-CanCount (Querying p) = IsWaiting p
-CanCount (StoringBack p seen) = IsWaiting p

@@ -19,13 +19,10 @@ ghost use Rattle.std.specs.Bool.{then_some};
 use crate::pending::{Asked, Pending, Reply};
 use crate::stage::Stage;
 use cc_objects::{add_member, flag_of, max_of, set_flag, set_of, write_max, write_text};
-use cc_views::{NoMemory, NodeId, NumberSet, Row, Value, View};
+use cc_views::{COUNTER_LIMIT, NoMemory, NodeId, NumberSet, Row, Value, View};
 use cc_wire::{Answer, Command, Message, NumberList, Refusal};
 use std::alloc::Global;
 use std::marker::Model;
-
-// How far a counter goes.
-const COUNTER_LIMIT: u64 = 1 << 62;
 
 /// The view, the own value under its number, and the pending operation (CCC, client and server).
 #[derive(Debug, Drop)]

@@ -1,24 +1,20 @@
 -- Posts under consecutive numbers: their order, what is found under a number, one post more, and the posts above a number.
-use Rattle.std.proofs.Common.{◌≡◌, ℕ, zero, suc, ◌+◌, ◌-◌, ◌<◌, ◌≤◌, Bool, true, false, ◌&&◌, List, [], ◌∷◌, ◌++◌, length, get_or, drop, Option, Some, None, refl, sym, ap, ◌∙◌, inl, inr, arith}
+use Rattle.std.proofs.Common.{◌≡◌, ℕ, zero, suc, ◌+◌, ◌-◌, ◌<◌, ◌≤◌, true, false, List, [], ◌∷◌, ◌++◌, length, get_or, drop, Option, Some, None, refl, sym, ap, ◌∙◌, inl, inr, arith}
 use Rattle.std.specs.Prelude.{min, nat_lt, IsSome, IfSome, ◌↔◌, option_map}
 use Rattle.std.specs.Ordering.{nat_cmp, is_lt}
 use Rattle.std.specs.FinMap.Entries.{find, where_key, below_all, is_sorted}
-use Rattle.std.proofs.lemmas.Bool.{cases_lt, lt-ltb, le-ltb}
+use Rattle.std.proofs.lemmas.Bool.{and_from, cases_lt, lt-ltb, le-ltb}
 use Rattle.cc_views.specs.Entries.{cmp_lt, cmp_eq, cmp_gt, find_below}
 use Rattle.cc_wire.specs.declared.message.Message.{Message}
 use Rattle.cc_outbox.specs.Rows.{numbered}
 
-both : (a b : Bool) → a ≡ true → b ≡ true → (a && b) ≡ true
-both true b p q = q
-both false b p q = absurd cc
-
 below_numbered : (k n : ℕ) (ms : List Message) → k ≤ n → below_all nat_cmp k (numbered n ms) ≡ true
 below_numbered k n [] le = refl
-below_numbered k n (m ∷ ms) le = both _ _ (ap is_lt (cmp_lt k (n + 1) (omega arith))) (below_numbered k (n + 1) ms (omega arith))
+below_numbered k n (m ∷ ms) le = and_from _ _ (ap is_lt (cmp_lt k (n + 1) (omega arith))) (below_numbered k (n + 1) ms (omega arith))
 
 pub sorted_numbered : (n : ℕ) (ms : List Message) → is_sorted nat_cmp (numbered n ms) ≡ true
 sorted_numbered n [] = refl
-sorted_numbered n (m ∷ ms) = both _ _ (below_numbered (n + 1) (n + 1) ms (omega arith)) (sorted_numbered (n + 1) ms)
+sorted_numbered n (m ∷ ms) = and_from _ _ (below_numbered (n + 1) (n + 1) ms (omega arith)) (sorted_numbered (n + 1) ms)
 
 pub length-numbered : (n : ℕ) (ms : List Message) → length (numbered n ms) ≡ length ms
 length-numbered n [] = refl

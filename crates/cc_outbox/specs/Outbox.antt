@@ -1,4 +1,5 @@
 -- What may have to be put out again: the posts that some live link has not acknowledged, by number, and the last answer of each session.
+--     post_limit                         how many posts are kept at most
 --     Outbox, outbox_code                both, and the number of the last post;  the code of an outbox
 --     starting_after                     an outbox whose first post will have the next number
 --     add, trim                          one post more;  the posts up to a number dropped
@@ -12,6 +13,9 @@ use Rattle.cc_wire.specs.declared.answer.Answer.{Answer}
 use Rattle.cc_wire.specs.contracts.answer.Answer as answer
 use Rattle.cc_wire.specs.declared.message.Message.{Message}
 use Rattle.cc_wire.specs.contracts.message.Message as message
+
+abbrev pub post_limit : ℕ
+post_limit = 512
 
 pub record Outbox : Type 0 where
   -- the number of the last post that was made

@@ -5,7 +5,7 @@ use Rattle.cc_views.specs.Tables.{IsTable, table_of}
 use Rattle.cc_wire.specs.declared.answer.Answer.{Answer}
 use Rattle.cc_wire.specs.declared.message.Message.{Message}
 use Rattle.cc_outbox.specs.declared.kept_answer.KeptAnswer.{KeptAnswer}
-use Rattle.cc_outbox.specs.Outbox.{Outbox}
+use Rattle.cc_outbox.specs.Outbox.{Outbox, post_limit}
 
 -- an answer under its session
 abbrev pub entry_of : KeptAnswer → ℕ × Answer
@@ -34,6 +34,6 @@ outbox_of last posts answers = record {
 -- up to 512 posts and 256 answers, each with room for as many
 pub record IsKept (last : ℕ) (posts : List Message) (post_room : ℕ) (kept : List KeptAnswer) (answer_room : ℕ) : Type 0 where
   pub numbers : length posts ≤ last
-  pub fits : length posts ≤ 512
-  pub room : 512 ≤ post_room
+  pub fits : length posts ≤ post_limit
+  pub room : post_limit ≤ post_room
   pub answers : IsTable entry_of 256 kept answer_room

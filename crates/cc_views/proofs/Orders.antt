@@ -7,10 +7,10 @@ use Rattle.std.specs.Ordering.{nat_cmp, is_eq}
 use Rattle.std.specs.Cmp.{ranked}
 use Rattle.std.specs.FinMap as map
 use Rattle.std.specs.FinMap.Entries.{find, is_sorted}
-use Rattle.std.proofs.lemmas.Bool.{leb-true, le-leb}
+use Rattle.std.proofs.lemmas.Bool.{and_from, leb-true, le-leb}
 use Rattle.cc_views.specs.declared.row.Row.{Row}
 use Rattle.cc_views.specs.Ascending.{IsAscending}
-use Rattle.cc_views.specs.Entries.{and_left, and_right, and_both, cmp_eq, find_below}
+use Rattle.cc_views.specs.Entries.{and_left, and_right, cmp_eq, find_below}
 use Rattle.cc_views.specs.NatLists.{ascending_of_sorted}
 use Rattle.cc_views.specs.Rows.{Pair, ViewMap, entries_of}
 use Rattle.cc_views.specs.Merge.{IsKept, IsAtMost, has_at_least, keeps}
@@ -55,7 +55,7 @@ rows_by_kept (row ∷ rows) w rising h =
     let here : cond (is_eq (nat_cmp row.node row.node)) (Some pair) (find nat_cmp row.node (entries_of rows)) ≡ Some pair =
     ap (λ r. cond (is_eq r) (Some pair) (find nat_cmp row.node (entries_of rows))) (cmp_eq row.node row.node refl) in
     let first : IsKept (Some pair) (map.get w row.node) = subst (λ (o : Option Pair). IsKept o (map.get w row.node)) here (h row.node) in
-    and_both _ _ (test_by_kept pair (map.get w row.node) first) (rows_by_kept rows w (and_right _ _ rising) (λ q. kept_of_more row rows w rising q (h q)))
+    and_from _ _ (test_by_kept pair (map.get w row.node) first) (rows_by_kept rows w (and_right _ _ rising) (λ q. kept_of_more row rows w rising q (h q)))
 
 -- the test of all rows tells whether their view is at most the other
 pub all_kept_is_at_most : (rows : List Row) (v w : ViewMap) (b : Bool) → is_sorted nat_cmp (entries_of rows) ≡ true → map.from_entries {R = nat_cmp} (entries_of rows) ≡ v

@@ -5,10 +5,11 @@ use Rattle.std.specs.Ordering.{nat_cmp, is_lt}
 use Rattle.std.specs.Cmp.{nat_cmp_total}
 use Rattle.std.specs.FinMap as map
 use Rattle.std.specs.FinMap.Entries.{find, below_all}
+use Rattle.std.proofs.lemmas.Bool.{and_from}
 use Rattle.std.proofs.lemmas.List.{map_push}
 use Rattle.cc_views.specs.declared.row.Row.{Row}
 use Rattle.cc_views.specs.Rows.{ViewMap, entry_of, entries_of, rows_of, IsRising}
-use Rattle.cc_views.specs.Entries.{cmp_gt, cmp_lt, and_left, and_right, and_both}
+use Rattle.cc_views.specs.Entries.{cmp_gt, cmp_lt, and_left, and_right}
 use Rattle.cc_views.proofs.Absorbs.{rows_back}
 
 abbrev pub IsAboveAll : Row → List Row → Type 0
@@ -18,12 +19,12 @@ entries_push : (rows : List Row) (row : Row) → entries_of (rows ++ row ∷ [])
 entries_push rows row = map_push entry_of rows row
 
 below_push : (k : ℕ) (rows : List Row) (row : Row) → below_all nat_cmp k (entries_of rows) ≡ true → k < row.node → below_all nat_cmp k (entries_of (rows ++ row ∷ [])) ≡ true
-below_push k [] row h lt = and_both _ _ (ap is_lt (cmp_lt k row.node lt)) refl
-below_push k (r ∷ rows) row h lt = and_both _ _ (and_left _ _ h) (below_push k rows row (and_right _ _ h) lt)
+below_push k [] row h lt = and_from _ _ (ap is_lt (cmp_lt k row.node lt)) refl
+below_push k (r ∷ rows) row h lt = and_from _ _ (and_left _ _ h) (below_push k rows row (and_right _ _ h) lt)
 
 pub rising_push : (rows : List Row) (row : Row) → IsRising rows → IsAboveAll row rows → IsRising (rows ++ row ∷ [])
 rising_push [] row h above = refl
-rising_push (r ∷ rows) row h above = and_both _ _ (below_push r.node rows row (and_left _ _ h) above.0) (rising_push rows row (and_right _ _ h) above.1)
+rising_push (r ∷ rows) row h above = and_from _ _ (below_push r.node rows row (and_left _ _ h) above.0) (rising_push rows row (and_right _ _ h) above.1)
 
 find_above : (rows : List Row) (row : Row) → IsAboveAll row rows → find nat_cmp row.node (entries_of rows) ≡ None
 find_above [] row above = refl

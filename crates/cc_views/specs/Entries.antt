@@ -33,10 +33,6 @@ pub and_right : (a b : Bool) → (a && b) ≡ true → b ≡ true
 and_right true b e = e
 and_right false b e = absurd cc
 
-pub and_both : (a b : Bool) → a ≡ true → b ≡ true → (a && b) ≡ true
-and_both true b p q = q
-and_both false b p q = absurd cc
-
 pub to_T : (b : Bool) → b ≡ true → T b
 to_T b e = subst T (sym e) tt
 

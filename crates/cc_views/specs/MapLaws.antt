@@ -4,7 +4,7 @@
 --     all_entries, all_values            what holds at each key, as what holds of each entry or each value in turn, and back
 --     remove_absent, insert_there        to remove a key that is not there, or to insert what is there
 --     len_insert                         one key more at most
-use Rattle.std.proofs.Common.{◌≡◌, ℕ, ◌+◌, ◌≤◌, Bool, true, false, cond, nat_eq, List, [], ◌∷◌, map, refl, sym, ap, subst, ◌∙◌, inl, inr, arith}
+use Rattle.std.proofs.Common.{◌≡◌, ℕ, ◌+◌, ◌≤◌, Bool, true, false, cond, nat_eq, List, [], ◌∷◌, map, refl, sym, ap, subst, ◌∙◌, inl, inr}
 use Rattle.std.specs.Prelude.{Option, Some, None, IfSome, IsTrue, T, is_some}
 use Rattle.std.specs.List.{AllByRecursion}
 use Rattle.std.specs.Ordering.{nat_cmp, eq_by_cmp}
@@ -13,7 +13,7 @@ use Rattle.std.specs.FinMap as table
 use Rattle.std.specs.FinMap.{FinMap, nat_cmp-IsAntisymmetric, is_sorted, find}
 use Rattle.std.proofs.lemmas.Bool.{eq-eqb, eqb-true, or_cases, or_right}
 use Rattle.std.proofs.lemmas.Bool.Decides.{eqb_tells}
-use Rattle.cc_views.specs.NatSets.{IsWithin, get-insert_key, contains-insert_key, apart, lt_both}
+use Rattle.cc_views.specs.NatSets.{IsWithin, get-insert_key, contains-insert_key, apart, lt_both, one_at_most}
 
 pub all_insert : {X : Type 0} (Q : ℕ → X → Type 0) (m : FinMap nat_cmp X) (k : ℕ) (v : X)
     → ((q : ℕ) → IfSome (table.get m q) (Q q)) → Q k v → (q : ℕ) → IfSome (table.get (table.insert m k v) q) (Q q)
@@ -101,10 +101,6 @@ pub remove_absent : {X : Type 0} (m : FinMap nat_cmp X) (k : ℕ) → table.get 
 remove_absent m k none = sym (table.same_map nat_cmp_total nat_cmp-IsAntisymmetric (table.remove m k) m (λ q.
     table.get-remove nat_cmp_total m k q
     ∙ same_without (eq_by_cmp nat_cmp q k) (table.get m q) (λ tied. ap (table.get m) (eqb-true q k (sym (unsigned_tied q k) ∙ tied)) ∙ none)))
-
-one_at_most : (b : Bool) (n m : ℕ) → m ≡ cond b n (n + 1) → m ≤ n + 1
-one_at_most true n m e = omega arith
-one_at_most false n m e = omega arith
 
 -- one key more at most
 pub len_insert : {X : Type 0} (m : FinMap nat_cmp X) (k : ℕ) (v : X) → table.len (table.insert m k v) ≤ table.len m + 1

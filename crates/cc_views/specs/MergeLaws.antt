@@ -205,7 +205,7 @@ merge_is_no_larger v w =
 pub merge_row_is_no_larger : (v : ViewMap) (row : Row) → map.len (merge v (single row)) ≤ map.len v + 1
 merge_row_is_no_larger v row = omega (arith, merge_is_no_larger v (single row), len-from_entries (entry_of row ∷ []))
 
-either_true : (a b : Bool) (P : Type 0) → (a ≡ true → P) → (b ≡ true → P) → (a || b) ≡ true → P
+pub either_true : (a b : Bool) (P : Type 0) → (a ≡ true → P) → (b ≡ true → P) → (a || b) ≡ true → P
 either_true true b P h k e = h refl
 either_true false b P h k e = k e
 

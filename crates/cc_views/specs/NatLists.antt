@@ -3,20 +3,21 @@
 --     contains-items, len-items                              what it contains, and how many, by that list
 --     len-union, len-union_parts, len-difference             a union's and a difference's size, by counts over the items of one side
 --     len-from_entries                                       a map has no more keys than the entries that it is made of
-use Rattle.std.specs.Prelude.{◌≡◌, ℕ, suc, ◌+◌, ◌<◌, ◌≤◌, Bool, true, false, cond, not, ◌&&◌, ◌||◌, List, [], ◌∷◌, map, length, nat_eq}
+use Rattle.std.specs.Prelude.{◌≡◌, ℕ, ◌+◌, ◌<◌, ◌≤◌, Bool, true, false, cond, not, ◌&&◌, ◌||◌, List, [], ◌∷◌, map, length, nat_eq}
 use Rattle.std.specs.List.{AllByRecursion, list_any, filter, count_by}
 use Rattle.std.specs.Ordering.{nat_cmp, is_lt}
-use Rattle.std.specs.Cmp.{nat_cmp_total}
 use Rattle.std.specs.FinMap as table
 use Rattle.std.specs.FinMap.{is_sorted}
 use Rattle.std.specs.FinMap.Entries.{below_all}
 use Rattle.std.proofs.Common.{refl, sym, ap, ◌∙◌, arith}
-use Rattle.std.proofs.lemmas.Bool.{eqb-true}
+use Rattle.std.proofs.Math.Bool.{or_assoc, and-false}
+use Rattle.std.proofs.lemmas.Bool.{and_from, eqb-true}
 use Rattle.std.proofs.lemmas.Bool.Decides.{nat_tests}
 use Rattle.std.proofs.lemmas.List.{length-map}
 use Rattle.std.proofs.lemmas.List.Sums.{length-filter}
 use Rattle.cc_views.specs.Ascending.{IsAscending}
-use Rattle.cc_views.specs.Entries.{cmp_lt, and_left, and_right, and_both, from_T, lt_from_cmp, entries_back}
+use Rattle.cc_views.specs.Entries.{cmp_lt, and_left, and_right, from_T, lt_from_cmp, entries_back}
+use Rattle.cc_views.specs.MapLaws.{len_insert}
 use Rattle.cc_views.specs.NatSets.{NatSet, contains, insert, insert_all, from_list, items, len, union, difference, contains-keys, contains-from_list, contains-insert_all, contains-union, contains-difference, len-insert, same_ids}
 
 module _ {X : Type 0} where
@@ -34,11 +35,11 @@ marked qs = map (λ q. (q, tt)) qs
 
 below_of_above : (k : ℕ) (qs : List ℕ) → AllByRecursion (λ q. k < q) qs → below_all nat_cmp k (marked qs) ≡ true
 below_of_above k [] h = refl
-below_of_above k (q ∷ qs) h = and_both _ _ (ap is_lt (cmp_lt k q h.0)) (below_of_above k qs h.1)
+below_of_above k (q ∷ qs) h = and_from _ _ (ap is_lt (cmp_lt k q h.0)) (below_of_above k qs h.1)
 
 pub sorted_of_ascending : (qs : List ℕ) → IsAscending qs → is_sorted nat_cmp (marked qs) ≡ true
 sorted_of_ascending [] h = refl
-sorted_of_ascending (q ∷ qs) h = and_both _ _ (below_of_above q qs h.0) (sorted_of_ascending qs h.1)
+sorted_of_ascending (q ∷ qs) h = and_from _ _ (below_of_above q qs h.0) (sorted_of_ascending qs h.1)
 
 pub as_entries : (qs : List ℕ) → from_list qs ≡ table.from_entries {R = nat_cmp} (marked qs)
 as_entries [] = refl
@@ -100,10 +101,6 @@ len-union s t = len-insert_all s (items t) (items_ascending t)
 
 -- ---- a part of a list
 
-and_false : (a : Bool) → (a && false) ≡ false
-and_false true = refl
-and_false false = refl
-
 module _ (p : ℕ → Bool) where
   all_filter : (P : ℕ → Type 0) (qs : List ℕ) → AllByRecursion P qs → AllByRecursion P (filter p qs)
   all_filter P [] h = tt
@@ -117,7 +114,7 @@ module _ (p : ℕ → Bool) where
   with_it q k ks e rest true is = rw e (sym is ∙ ap p (sym (eqb-true q k e)))
   with_it q k ks e rest false is =
       let none : p q ≡ false = ap p (eqb-true q k e) ∙ is in
-      rest ∙ ap (λ (b : Bool). list_any (nat_eq q) ks && b) none ∙ and_false (list_any (nat_eq q) ks) ∙ sym none
+      rest ∙ ap (λ (b : Bool). list_any (nat_eq q) ks && b) none ∙ and-false (list_any (nat_eq q) ks) ∙ sym none
 
   without_it : (q k : ℕ) (ks : List ℕ) → nat_eq q k ≡ false → list_any (nat_eq q) (filter p ks) ≡ (list_any (nat_eq q) ks && p q) → (b : Bool) → list_any (nat_eq q) (cond b (k ∷ filter p ks) (filter p ks)) ≡ (list_any (nat_eq q) ks && p q)
   without_it q k ks e rest true = rw e rest
@@ -146,20 +143,12 @@ len-difference s t = len-items (difference s t) ∙ ap length (items-difference 
 pub len-union_parts : (s t : NatSet) → len (union s t) ≡ len s + len (difference t s)
 len-union_parts s t = len-union s t ∙ ap (λ (n : ℕ). len s + n) (sym (len-difference t s))
 
-or_assoc : (a b c : Bool) → (a || (b || c)) ≡ ((a || b) || c)
-or_assoc true b c = refl
-or_assoc false b c = refl
-
 pub union_assoc : (s t u : NatSet) → union s (union t u) ≡ union (union s t) u
 union_assoc s t u = same_ids (union s (union t u)) (union (union s t) u) (λ q.
     contains-union s (union t u) q ∙ ap (λ (b : Bool). contains s q || b) (contains-union t u q)
-    ∙ or_assoc (contains s q) (contains t q) (contains u q)
+    ∙ sym (or_assoc (contains s q) (contains t q) (contains u q))
     ∙ sym (contains-union (union s t) u q ∙ ap (λ (b : Bool). b || contains u q) (contains-union s t q)))
-
-one_at_most : (b : Bool) (n m k : ℕ) → m ≡ cond b n (n + 1) → n ≤ k → m ≤ suc k
-one_at_most true n m k e le = omega arith
-one_at_most false n m k e le = omega arith
 
 pub len-from_entries : {X : Type 0} (es : List (ℕ × X)) → table.len (table.from_entries {R = nat_cmp} es) ≤ length es
 len-from_entries {X} [] = omega (arith, table.len-empty nat_cmp X)
-len-from_entries (e ∷ es) = one_at_most _ _ _ _ (table.len-insert nat_cmp_total (table.from_entries es) e.0 e.1) (len-from_entries es)
+len-from_entries (e ∷ es) = omega (arith, len_insert (table.from_entries es) e.0 e.1, len-from_entries es)

@@ -14,7 +14,7 @@ use Rattle.std.proofs.lemmas.Bool.Decides.{nat_tests}
 use Rattle.std.proofs.lemmas.Cmp.{ranked}
 use Rattle.cc_views.specs.Ascending.{IsAscending}
 use Rattle.cc_views.specs.NatSets as set
-use Rattle.cc_views.specs.NatSets.{contains-from_list, contains-insert, len-insert, same_ids}
+use Rattle.cc_views.specs.NatSets.{or_swap, contains-from_list, contains-insert, len-insert, same_ids}
 use Rattle.cc_views.specs.NatLists.{len-from_list, not_above}
 
 -- the number is at place i
@@ -61,11 +61,6 @@ module _ (ns : List ℕ) (ascending : IsAscending ns) (n : ℕ) where
 or_true : (a : Bool) → (a || true) ≡ true
 or_true true = refl
 or_true false = refl
-
-or_swap : (a b c : Bool) → (a || (b || c)) ≡ (b || (a || c))
-or_swap true true c = refl
-or_swap true false c = refl
-or_swap false b c = refl
 
 pub is_there : (ns : List ℕ) (n i : ℕ) → IsAt ns n i → list_any (nat_eq n) ns ≡ true
 is_there [] n i at = absurd (omega (arith, at.in_range))

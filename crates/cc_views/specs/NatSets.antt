@@ -4,6 +4,7 @@
 --     IsWithin m n                   each key of m is one of n, for sets and for maps alike
 --     contains-.., len-..            what `contains` answers, and how long sets are
 --     len_within                     what is within another is no longer
+--     or_swap, one_at_most           of tests, and of a count that grows by one or by none
 use Rattle.std.specs.Prelude.{◌≡◌, ℕ, ◌+◌, ◌-◌, ◌≤◌, ◌<◌, Bool, true, false, cond, not, ◌&&◌, ◌||◌, T, IsTrue, List, [], ◌∷◌, length, is_some, nat_eq}
 use Rattle.std.specs.Prelude.{Option, Some, None}
 use Rattle.std.specs.List.{list_any}
@@ -15,6 +16,7 @@ use Rattle.std.specs.FinMap as table
 use Rattle.std.specs.FinMap.{FinMap, nat_cmp-IsAntisymmetric, is_sorted, find}
 use Rattle.std.specs.FinMap.Entries.{below_all}
 use Rattle.std.proofs.Common.{suc, refl, sym, ap, subst, ◌∙◌, arith, inl, inr}
+use Rattle.std.proofs.Math.Bool.{or-false}
 use Rattle.std.proofs.lemmas.Bool.{and_parts, eq-eqb, eqb-true}
 use Rattle.std.proofs.lemmas.Bool.Decides.{eqb_tells, nat_tests}
 
@@ -100,17 +102,13 @@ contains-empty q = ap is_some (table.get-empty nat_cmp q)
 pub contains-insert : (s : NatSet) (k q : ℕ) → contains (insert s k) q ≡ (nat_eq q k || contains s q)
 contains-insert s k q = contains-insert_key s k tt q
 
-or_swap : (a b c : Bool) → (a || (b || c)) ≡ (b || (a || c))
+pub or_swap : (a b c : Bool) → (a || (b || c)) ≡ (b || (a || c))
 or_swap true true c = refl
 or_swap true false c = refl
 or_swap false b c = refl
 
-or_false : (a : Bool) → a ≡ (a || false)
-or_false true = refl
-or_false false = refl
-
 pub contains-insert_all : (s : NatSet) (qs : List ℕ) (q : ℕ) → contains (insert_all s qs) q ≡ (contains s q || list_any (nat_eq q) qs)
-contains-insert_all s [] q = or_false (contains s q)
+contains-insert_all s [] q = sym (or-false (contains s q))
 contains-insert_all s (k ∷ ks) q =
     contains-insert (insert_all s ks) k q ∙ ap (λ b. nat_eq q k || b) (contains-insert_all s ks q) ∙ or_swap (nat_eq q k) (contains s q) _
 
@@ -131,7 +129,7 @@ len-empty = table.len-empty nat_cmp (Unit {0})
 pub len-insert : (s : NatSet) (k : ℕ) → len (insert s k) ≡ cond (contains s k) (len s) (len s + 1)
 len-insert s k = table.len-insert nat_cmp_total s k tt
 
-one_at_most : (b : Bool) (m n : ℕ) → n ≡ cond b m (m + 1) → n ≤ m + 1
+pub one_at_most : (b : Bool) (m n : ℕ) → n ≡ cond b m (m + 1) → n ≤ m + 1
 one_at_most true m n e = omega arith
 one_at_most false m n e = omega arith
 

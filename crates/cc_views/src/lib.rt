@@ -1,6 +1,7 @@
 //! Values of nodes, and views: what each node stored last (CCC, views and their merge).
 #![tactic(auto)]
 
+mod limits;
 mod no_memory;
 mod node_id;
 mod number_set;
@@ -9,6 +10,7 @@ mod text;
 mod value;
 mod view;
 
+pub use limits::{COUNTER_LIMIT, limit_of_counters};
 pub use no_memory::NoMemory;
 pub use node_id::NodeId;
 pub use number_set::NumberSet;

@@ -1,11 +1,11 @@
 -- Each format is read as it is spelled.
-use Rattle.std.proofs.Common.{◌≡◌, ℕ, zero, suc, ◌+◌, ◌^◌, ◌<◌, ◌≤◌, Bool, true, false, ltb, ◌&&◌, List, [], ◌∷◌, ◌++◌, length, Result, Ok, Err, refl, sym, ap, subst, ◌∙◌, arith}
+use Rattle.std.proofs.Common.{◌≡◌, ℕ, zero, suc, ◌+◌, ◌^◌, ◌<◌, ◌≤◌, Bool, true, false, ltb, List, [], ◌∷◌, ◌++◌, length, Result, Ok, Err, refl, sym, ap, subst, ◌∙◌, arith}
 use Rattle.std.specs.Int.{w16, w32, w64, to_be_bytes}
 use Rattle.std.specs.List.{flat_map, AllByRecursion}
 use Rattle.std.specs.Ordering.{nat_cmp, is_lt}
 use Rattle.std.specs.FinMap as map
 use Rattle.std.specs.FinMap.Entries.{below_all}
-use Rattle.std.proofs.lemmas.Bool.{ltb-false, le-ltb}
+use Rattle.std.proofs.lemmas.Bool.{and_from, ltb-false, le-ltb}
 use Rattle.std.proofs.lemmas.Nat.{be_bytes_2, be_bytes_4, be_bytes_8, from_be_bytes-to_be_bytes_2, from_be_bytes-to_be_bytes_4, from_be_bytes-to_be_bytes_8}
 use Rattle.cc_views.specs.Ascending.{IsAscending}
 use Rattle.cc_views.specs.NatSets.{NatSet, from_list, items}
@@ -183,15 +183,15 @@ value_spelled = as_facts IsValue
 
 -- ---- rows
 
-abbrev IsRowBody : Row → Type 0
-IsRowBody row = (row.node < 2 ^ 32) × ((row.number < 2 ^ 64) × IsValue row.value)
+abbrev HasRowFields : Row → Type 0
+HasRowFields row = (row.node < 2 ^ 32) × ((row.number < 2 ^ 64) × IsValue row.value)
 
 abbrev row_fields : Row → ℕ × (ℕ × Value)
 row_fields row = (row.node, (row.number, row.value))
 
-pub row_spelled : (least : ℕ) → Spelled (row_at least) (λ row. IsRowBody row × (least ≤ row.node)) row_spelling
+pub row_spelled : (least : ℕ) → Spelled (row_at least) (λ row. HasRowFields row × (least ≤ row.node)) row_spelling
 unfolding row_at
-row_spelled least = as_facts (λ row. IsRowBody row × (least ≤ row.node))
+row_spelled least = as_facts (λ row. HasRowFields row × (least ≤ row.node))
     (λ row h. ((h.0.0, h.1), h.0.1))
     (λ row h. ((h.0.0, h.1), h.0.1))
     (as_fields row_with row_fields (λ _. refl) (λ _ _. refl) (both (from_spelled least) (both u64_spelled value_spelled)))
@@ -201,28 +201,24 @@ row_spelled least = as_facts (λ row. IsRowBody row × (least ≤ row.node))
 abbrev node_of : Row → ℕ
 node_of row = row.node
 
-both_true : (a b : Bool) → a ≡ true → b ≡ true → (a && b) ≡ true
-both_true true b p q = q
-both_true false b p q = absurd cc
-
 below_of_above : (n : ℕ) (rows : List Row) → AllByRecursion (λ r. n + 1 ≤ r.node) rows → below_all nat_cmp n (entries_of rows) ≡ true
 below_of_above n [] all = refl
-below_of_above n (r ∷ rows) all = both_true _ _ (ap is_lt (cmp_lt n r.node (omega (arith, all.0)))) (below_of_above n rows all.1)
+below_of_above n (r ∷ rows) all = and_from _ _ (ap is_lt (cmp_lt n r.node (omega (arith, all.0)))) (below_of_above n rows all.1)
 
 above_of_below : (n : ℕ) (rows : List Row) → below_all nat_cmp n (entries_of rows) ≡ true → AllByRecursion (λ r. n + 1 ≤ r.node) rows
 above_of_below n [] h = tt
 above_of_below n (r ∷ rows) h = (omega (arith, lt_from_cmp n r.node (and_left _ _ h)), above_of_below n rows (and_right _ _ h))
 
-rising_of_run : (least : ℕ) (rows : List Row) → IsRun node_of IsRowBody least rows → IsRising rows
+rising_of_run : (least : ℕ) (rows : List Row) → IsRun node_of HasRowFields least rows → IsRising rows
 rising_of_run least [] run = refl
-rising_of_run least (r ∷ rows) run = both_true _ _ (below_of_above r.node rows (above_of_run node_of IsRowBody (r.node + 1) rows run.1)) (rising_of_run (r.node + 1) rows run.1)
+rising_of_run least (r ∷ rows) run = and_from _ _ (below_of_above r.node rows (above_of_run node_of HasRowFields (r.node + 1) rows run.1)) (rising_of_run (r.node + 1) rows run.1)
 
-rows_of_run : (least : ℕ) (rows : List Row) → 1 ≤ least → IsRun node_of IsRowBody least rows → AllByRecursion IsRow rows
+rows_of_run : (least : ℕ) (rows : List Row) → 1 ≤ least → IsRun node_of HasRowFields least rows → AllByRecursion IsRow rows
 rows_of_run least [] le run = tt
 rows_of_run least (r ∷ rows) le run =
     (record { id = omega (arith, run.0.1); node = run.0.0.0; number = run.0.0.1.0; value = run.0.0.1.1 }, rows_of_run (r.node + 1) rows (omega arith) run.1)
 
-run_of_rows : (least : ℕ) (rows : List Row) → AllByRecursion (λ r. least ≤ r.node) rows → IsRising rows → AllByRecursion IsRow rows → IsRun node_of IsRowBody least rows
+run_of_rows : (least : ℕ) (rows : List Row) → AllByRecursion (λ r. least ≤ r.node) rows → IsRising rows → AllByRecursion IsRow rows → IsRun node_of HasRowFields least rows
 run_of_rows least [] above rising all = tt
 run_of_rows least (r ∷ rows) above rising all =
     (((all.0.node, (all.0.number, all.0.value)), above.0), run_of_rows (r.node + 1) rows (above_of_below r.node rows (and_left _ _ rising)) (and_right _ _ rising) all.1)
@@ -232,11 +228,11 @@ ids_above [] all = tt
 ids_above (r ∷ rows) all = (all.0.id, ids_above rows all.1)
 
 abbrev IsRowList : List Row → Type 0
-IsRowList rows = ((length rows < 2 ^ 16) × (length rows ≤ 256)) × IsRun node_of IsRowBody 1 rows
+IsRowList rows = ((length rows < 2 ^ 16) × (length rows ≤ 256)) × IsRun node_of HasRowFields 1 rows
 
 row_list_spelled : Spelled row_list_at IsRowList (λ rows. to_be_bytes w16 (length rows) ++ flat_map row_spelling rows)
 unfolding row_list_at
-row_list_spelled = counted length (limited_spelled 256 u16_spelled) (λ n. items_spelled row_at node_of IsRowBody row_spelling row_spelled n 1)
+row_list_spelled = counted length (limited_spelled 256 u16_spelled) (λ n. items_spelled row_at node_of HasRowFields row_spelling row_spelled n 1)
 
 rising_rows_of : (v : ViewMap) → IsRising (rows_of v)
 rising_rows_of v = rw (entries_of_rows v) (from_T _ (map.entries_sorted v))

@@ -22,15 +22,6 @@ post-requires-clause-fits c =
     let room = delivery_room a c.args.from c.args.number m none c.self.invariant in
     room.changes
 
-pub post-requires-clause-echoes : goal.post-requires-clause-echoes
-post-requires-clause-echoes c =
-    let a = the_view c.self.inside in
-    let m = c.args.message.now in
-    let e = event.Deliver c.args.from c.args.number m in
-    let none = subst (λ (s : Core). decides s e ≡ None) (sym c.self.view_is) c.requires in
-    let room = delivery_room a c.args.from c.args.number m none c.self.invariant in
-    room.echoes
-
 pub post-requires-2-clause-fits : goal.post-requires-2-clause-fits
 post-requires-2-clause-fits c =
     let a = the_view c.self.inside in

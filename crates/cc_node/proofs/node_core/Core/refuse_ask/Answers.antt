@@ -5,7 +5,8 @@ use Rattle.cc_wire.specs.declared.event.Event.TheVariants as event
 use Rattle.cc_wire.specs.declared.refusal.Refusal.TheVariants as refusal
 use Rattle.cc_wire.specs.Refusals.{first_of}
 use Rattle.cc_node.specs.Core.{Core, next, lowest}
-use Rattle.cc_node.specs.Refusals.{decides, any_overruns, post_limit, too_many_sessions, repeat, stale, skip, outbox_full, spent}
+use Rattle.cc_outbox.specs.Outbox.{post_limit}
+use Rattle.cc_node.specs.Refusals.{decides, any_overruns, too_many_sessions, repeat, stale, skip, outbox_full, spent}
 use Rattle.cc_node.specs.contracts.node_core.Core.{the_view}
 use Rattle.cc_node.proofs.Deciding.{ask_refused, request_refused, operation_refused, ask_rest, is_next, first_holds, first_passes, first_alone}
 use Rattle.cc_node.proofs.node_core.Core.refuse_ask.Goals as goal

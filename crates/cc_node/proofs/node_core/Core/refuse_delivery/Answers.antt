@@ -6,7 +6,8 @@ use Rattle.cc_wire.specs.declared.event.Event.TheVariants as event
 use Rattle.cc_wire.specs.declared.refusal.Refusal.TheVariants as refusal
 use Rattle.cc_wire.specs.Refusals.{first_of}
 use Rattle.cc_node.specs.Core.{Core, next, post, lowest}
-use Rattle.cc_node.specs.Refusals.{decides, any_overruns, post_limit, old, gap, too_many_nodes, outbox_full, spent}
+use Rattle.cc_outbox.specs.Outbox.{post_limit}
+use Rattle.cc_node.specs.Refusals.{decides, any_overruns, old, gap, too_many_nodes, outbox_full, spent}
 use Rattle.cc_node.specs.contracts.node_core.Core.{the_view}
 use Rattle.cc_node.proofs.Deciding.{delivery_refused, number_refused, delivery_rest, first_holds, first_passes, first_alone, next_number}
 use Rattle.cc_node.proofs.node_core.Core.refuse_delivery.Goals as goal
