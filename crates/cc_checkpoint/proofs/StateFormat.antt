@@ -6,11 +6,11 @@ use Rattle.std.specs.Ordering.{nat_cmp, is_lt}
 use Rattle.std.specs.FinMap as table
 use Rattle.std.specs.FinMap.{FinMap, is_sorted}
 use Rattle.std.specs.FinMap.Entries.{below_all}
-use Rattle.std.proofs.lemmas.Bool.{ltb-false, le-ltb}
+use Rattle.std.proofs.lemmas.Bool.{ltb-false, le-ltb, and_from}
 use Rattle.std.proofs.lemmas.List.Concat.{flat_map-cons}
 use Rattle.cc_views.specs.Rows.{ViewMap}
 use Rattle.cc_views.specs.declared.value.Value.{Value}
-use Rattle.cc_views.specs.Entries.{cmp_lt, lt_from_cmp, and_left, and_right, and_both, from_T, entries_back}
+use Rattle.cc_views.specs.Entries.{cmp_lt, lt_from_cmp, and_left, and_right, from_T, entries_back}
 use Rattle.cc_changes.specs.ChangeSets.{ChangeSets}
 use Rattle.cc_changes.specs.declared.fraction.Fraction.{Fraction}
 use Rattle.cc_wire.specs.declared.fault.WireFault.TheVariants.{NotAscending}
@@ -114,7 +114,7 @@ entries_again m = table.same_entries_map _ _ (entries_back (table.entries m) (fr
 
 below_of_above : {X : Type 0} (n : ℕ) (es : List (ℕ × X)) → AllByRecursion (λ e. n + 1 ≤ e.0) es → below_all nat_cmp n es ≡ true
 below_of_above n [] all = refl
-below_of_above n (e ∷ es) all = and_both _ _ (ap is_lt (cmp_lt n e.0 (omega (arith, all.0)))) (below_of_above n es all.1)
+below_of_above n (e ∷ es) all = and_from _ _ (ap is_lt (cmp_lt n e.0 (omega (arith, all.0)))) (below_of_above n es all.1)
 
 above_of_below : {X : Type 0} (n : ℕ) (es : List (ℕ × X)) → below_all nat_cmp n es ≡ true → AllByRecursion (λ e. n + 1 ≤ e.0) es
 above_of_below n [] h = tt
@@ -125,7 +125,7 @@ module _ {X : Type 0} (row : ℕ → Reading (ℕ × X)) (Body Is : ℕ × X →
     (to : (e : ℕ × X) → Body e → base ≤ e.0 → Is e) (from : (e : ℕ × X) → Is e → Body e × (base ≤ e.0)) where
   sorted_of_run : (least : ℕ) (es : List (ℕ × X)) → IsRun (λ e. e.0) Body least es → is_sorted nat_cmp es ≡ true
   sorted_of_run least [] run = refl
-  sorted_of_run least (e ∷ es) run = and_both _ _ (below_of_above e.0 es (above_of_run (λ e. e.0) Body (e.0 + 1) es run.1)) (sorted_of_run (e.0 + 1) es run.1)
+  sorted_of_run least (e ∷ es) run = and_from _ _ (below_of_above e.0 es (above_of_run (λ e. e.0) Body (e.0 + 1) es run.1)) (sorted_of_run (e.0 + 1) es run.1)
 
   all_of_run : (least : ℕ) (es : List (ℕ × X)) → base ≤ least → IsRun (λ e. e.0) Body least es → AllByRecursion Is es
   all_of_run least [] le run = tt

@@ -2,3 +2,4 @@ pub mod Choosing
 pub mod Heads
 pub mod Faults
 pub mod Fields
+pub mod Images

@@ -4,6 +4,7 @@
 mod choosing;
 mod fault;
 mod fields;
+mod image;
 mod laws;
 mod open_fault;
 mod state;
@@ -12,6 +13,7 @@ mod state_writer;
 
 pub use choosing::{InUse, choose};
 pub use fault::StateFault;
+pub use image::{VERSION, encode_image};
 pub use laws::{one_spelling_of_nodes, one_spelling_of_states};
 pub use open_fault::OpenFault;
 pub use state::encode_state;

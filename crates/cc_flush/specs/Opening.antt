@@ -1,0 +1,36 @@
+-- Why a site can't be opened.
+--     OpenFails       the fault that the reading rules name for these contents
+use Rattle.std.specs.Prelude.{◌≡◌, ◌⊎◌, ◌≤◌, ◌-◌, ℕ, List, drop, Ok, Err}
+use Rattle.cc_site.specs.declared.site.Side.{Side}
+use Rattle.cc_site.specs.declared.site.Side.TheVariants.{A, B}
+use Rattle.cc_site.specs.Moments.{Contents}
+use Rattle.cc_node.specs.Node.{Node}
+use Rattle.cc_checkpoint.specs.declared.choosing.InUse.{InUse}
+use Rattle.cc_checkpoint.specs.declared.open_fault.OpenFault.{OpenFault}
+use Rattle.cc_checkpoint.specs.declared.open_fault.OpenFault.TheVariants.{NotFormatted, Damaged, Version, Device, NoMemory}
+use Rattle.cc_checkpoint.specs.Choosing.{chosen}
+use Rattle.cc_checkpoint.specs.Heads.{HeadAt, HeadFails}
+use Rattle.cc_journal.specs.Scanning.{StopsAt}
+
+-- no gate, or no record that the node takes, stands at this place of the side
+abbrev pub RecordsFail : Side → List ℕ → Node → ℕ → OpenFault → Type 0
+RecordsFail side bytes node first (Damaged on place) = (on ≡ side) × (first ≤ place) × StopsAt (drop first bytes) node (place - first)
+RecordsFail side bytes node first NotFormatted = ⊥
+RecordsFail side bytes node first (Version version) = ⊥
+RecordsFail side bytes node first (Device fault) = ⊥
+RecordsFail side bytes node first NoMemory = ⊥
+
+-- the side in use has no head, or records behind its head that fail
+abbrev pub SideFails : Side → List ℕ → OpenFault → Type 0
+SideFails side bytes fault = HeadFails side bytes fault ⊎ ((node : Node) × (first : ℕ) × HeadAt bytes node first × RecordsFail side bytes node first fault)
+
+-- no side is in use, or the one that is fails; a device fault and want of memory may come in place of any other
+abbrev pub ReadingFails : Contents → OpenFault → Type 0
+ReadingFails left fault = (chosen (left A) (left B) ≡ Err fault) ⊎ ((used : InUse) × (chosen (left A) (left B) ≡ Ok used) × SideFails used.side (left used.side) fault)
+
+abbrev pub OpenFails : Contents → OpenFault → Type 0
+OpenFails left NotFormatted = ReadingFails left NotFormatted
+OpenFails left (Damaged side place) = ReadingFails left (Damaged side place)
+OpenFails left (Version version) = ReadingFails left (Version version)
+OpenFails left (Device fault) = Unit {0}
+OpenFails left NoMemory = Unit {0}

@@ -1,0 +1,131 @@
+//! Two sides that begin to keep a node.
+
+ghost use Rattle.std.specs.Prelude.{◌≡◌, ◌↔◌, ◌⊎◌, ◌∷◌, [], ◌≤◌, length, true, false, IfOk, OnOk, IsTrue, MatchResult, IsErrOf, IfErr};
+ghost use Rattle.cc_site.specs.declared.site.Side.TheVariants.{A, B};
+ghost use Rattle.cc_site.specs.Sides.{other};
+ghost use Rattle.cc_site.specs.Moments.{Rose};
+ghost use Rattle.cc_site.specs.Reads.{OnlyReads};
+ghost use Rattle.cc_node.specs.Opening.{told, fresh, IsOpening};
+ghost use Rattle.cc_node.specs.Sides.{OPEN, IsArmed};
+ghost use Rattle.cc_checkpoint.specs.Images.{SpellsImage};
+ghost use Rattle.cc_journal.specs.Journals.{IsAtRest};
+ghost use Rattle.cc_flush.specs.declared.format.FormatFault.TheVariants as faults;
+ghost use Rattle.cc_flush.specs.Formatting.{durable, of_fresh, FormatRose};
+
+use crate::back::Back;
+use cc_checkpoint::encode_image;
+use cc_journal::{CLOSED_GATE, OPEN_GATE};
+use cc_node::{Fresh, Node, Opening};
+use cc_site::{DeviceFault, Side, Site, cut_durably, write_durably};
+use cc_views::NoMemory;
+use std::alloc::Global;
+
+/// Why two sides weren't formatted.
+#[derive(Clone, Copy, Debug, PartialEq, Eq)]
+pub enum FormatFault {
+    /// No node can begin so.
+    BadOpening,
+    /// A growth was refused.
+    NoMemory,
+    /// A disk call failed.
+    Device(DeviceFault),
+    /// A side is armed.
+    AlreadyFormatted,
+}
+
+impl From<Fresh> for FormatFault {
+    ghost from_gives = { λ fault format_fault. format_fault ≡ of_fresh fault };
+
+    fn from(fault: Fresh) -> Self {
+        match fault {
+            Fresh::BadOpening => FormatFault::BadOpening,
+            Fresh::NoMemory => FormatFault::NoMemory,
+        }
+    }
+}
+
+impl From<NoMemory> for FormatFault {
+    ghost from_gives = { λ _ fault. fault ≡ faults.NoMemory };
+
+    fn from(_: NoMemory) -> Self {
+        FormatFault::NoMemory
+    }
+}
+
+// Whether the gate of a side reads open.
+fn is_armed<S: Site>(site: &mut S, side: Side) -> Result<bool, DeviceFault>
+    ensures exact { S.honest site.old → IfOk result (λ armed. IsTrue armed ↔ IsArmed (S.state site.old side).bytes) }
+    ensures reads { OnlyReads S.honest S.tells S.state S.sent S.moment S.left_since site.old site.new }
+    ensures fault { MatchResult result (λ _. S.failures site.new ≡ S.failures site.old) (λ _. Rose (S.failures site.old) (S.failures site.new)) }
+{
+    if site.length(side)? == 0 {
+        return Ok(false);
+    }
+    let mut gate = [CLOSED_GATE];
+    site.read(side, 0, &mut gate)?;
+    Ok(gate[0] == OPEN_GATE)
+}
+
+// Whether the gate of either side reads open.
+fn is_formatted<S: Site>(site: &mut S) -> Result<bool, DeviceFault>
+    ensures exact { S.honest site.old → IfOk result (λ armed. IsTrue armed ↔ (IsArmed (S.state site.old A).bytes ⊎ IsArmed (S.state site.old B).bytes)) }
+    ensures reads { OnlyReads S.honest S.tells S.state S.sent S.moment S.left_since site.old site.new }
+    ensures fault { MatchResult result (λ _. S.failures site.new ≡ S.failures site.old) (λ _. Rose (S.failures site.old) (S.failures site.new)) }
+{
+    if is_armed(site, Side::A)? {
+        return Ok(true);
+    }
+    is_armed(site, Side::B)
+}
+
+// Leaves a side as one closed byte.
+fn clear<S: Site>(site: &mut S, side: Side) -> Result<(), DeviceFault>
+    ensures honest { S.honest site.old ↔ S.honest site.new }
+    ensures tells { (S.tells site.old ↔ S.tells site.new) × (S.sent site.new ≡ S.sent site.old) }
+    ensures value { S.honest site.old → OnOk result (S.state site.new side ≡ durable (0 ∷ [])) }
+    ensures other_side { S.honest site.old → S.state site.new (other side) ≡ S.state site.old (other side) }
+    ensures fault { MatchResult result (λ _. S.failures site.new ≡ S.failures site.old) (λ _. Rose (S.failures site.old) (S.failures site.new)) }
+{
+    cut_durably(site, side, 0)?;
+    write_durably(site, side, 0, &[CLOSED_GATE])?;
+    Ok(())
+}
+
+// Puts an image behind the closed gate of a side that has nothing else, and opens the gate.
+fn fill_and_arm<S: Site>(site: &mut S, side: Side, image: &[u8]) -> Result<(), DeviceFault>
+    requires { S.honest site.old → S.state site.old side ≡ durable (0 ∷ []) }
+    ensures honest { S.honest site.old ↔ S.honest site.new }
+    ensures tells { (S.tells site.old ↔ S.tells site.new) × (S.sent site.new ≡ S.sent site.old) }
+    ensures value { S.honest site.old → OnOk result (S.state site.new side ≡ durable (OPEN ∷ image.now)) }
+    ensures other_side { S.honest site.old → S.state site.new (other side) ≡ S.state site.old (other side) }
+    ensures fault { MatchResult result (λ _. S.failures site.new ≡ S.failures site.old) (λ _. Rose (S.failures site.old) (S.failures site.new)) }
+{
+    write_durably(site, side, 1, image)?;
+    write_durably(site, side, 0, &[OPEN_GATE])?;
+    Ok(())
+}
+
+// Lays the image on side A behind an open gate, and one closed byte on side B.
+fn lay_out<S: Site>(site: &mut S, image: &[u8]) -> Result<(), DeviceFault>
+    ensures honest { S.honest site.old ↔ S.honest site.new }
+    ensures tells { (S.tells site.old ↔ S.tells site.new) × (S.sent site.new ≡ S.sent site.old) }
+    ensures first { S.honest site.old → OnOk result (S.state site.new A ≡ durable (OPEN ∷ image.now)) }
+    ensures second { S.honest site.old → OnOk result (S.state site.new B ≡ durable (0 ∷ [])) }
+    ensures fault { MatchResult result (λ _. S.failures site.new ≡ S.failures site.old) (λ _. Rose (S.failures site.old) (S.failures site.new)) }
+{
+    clear(site, Side::B)?;
+    clear(site, Side::A)?;
+    fill_and_arm(site, Side::A, image)
+}
+
+// What stands behind the gate of a side that begins to keep the node.
+fn first_image(alloc: Global, opening: &Opening<'_>) -> Result<Vec<u8>, FormatFault>
+    ensures image { IfOk result (λ image. SpellsImage image.items 1 (fresh (told opening.now))) }
+    ensures good { OnOk result (IsOpening (told opening.now)) }
+    ensures bad { IsErrOf result faults.BadOpening → IsOpening (told opening.now) → ⊥ }
+    ensures memory { IsErrOf result faults.NoMemory → IsOpening (told opening.now) }
+    ensures only { IfErr result (λ fault. (fault ≡ faults.BadOpening) ⊎ (fault ≡ faults.NoMemory)) }
+{
+    let node = Node::fresh(alloc, opening)?;
+    Ok(encode_image(alloc, 1, &node)?)
+}

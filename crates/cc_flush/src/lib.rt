@@ -1,0 +1,10 @@
+//! A node that is kept on the two sides of a site, and what it puts out once that is durable.
+#![tactic(auto)]
+
+mod back;
+mod flusher;
+mod format;
+
+pub use back::Back;
+pub use flusher::{Failed, Flusher};
+pub use format::FormatFault;
