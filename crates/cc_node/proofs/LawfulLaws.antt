@@ -17,7 +17,7 @@ use Rattle.cc_views.specs.Merge.{merge}
 use Rattle.cc_views.specs.Limits.{counter_limit}
 use Rattle.cc_views.specs.declared.value.Value.{Value}
 use Rattle.cc_changes.specs.declared.fraction.Fraction.{Fraction}
-use Rattle.cc_changes.specs.ChangeSets.{add_join, present}
+use Rattle.cc_changes.specs.ChangeSets.{ChangeSets, add_enter, add_join, add_leave, present}
 use Rattle.cc_changes.specs.ChangeLaws.{need_within, need_positive}
 use Rattle.cc_changes.specs.Need.{needed}
 use Rattle.cc_wire.specs.declared.command.Command.{Command}
@@ -206,47 +206,38 @@ all_linked c from n m d q h =
 changes_of : (c : Core) → IsLawfulCore c → KeepsChanges c.links c.churn.changes
 changes_of c h = record { known = h.changes; joined = h.joined }
 
+-- other changes, and one post more
+changed_core : (c : Core) (known : ChangeSets) → KeepsChanges c.links known
+    → CountsWithin (record c { churn = record c.churn { changes = known }; posts = c.posts + 1 }) → IsLawfulCore c
+    → IsLawfulCore (record c { churn = record c.churn { changes = known }; posts = c.posts + 1 })
+changed_core c known k counts h = record {
+  beta = h.beta;
+  gamma = h.gamma;
+  me = h.me;
+  changes = k.known;
+  view = h.view;
+  link_count = h.link_count;
+  joined = k.joined;
+  links = links_more_posts c.posts (c.posts + 1) c.links (omega arith) h.links;
+  phase = h.phase;
+  sessions = h.sessions;
+  session_count = h.session_count;
+  counts = counts;
+  need = h.need;
+  set = h.set;
+}
+
 enter_core : (c : Core) → decides c event.Enter ≡ None → IsLawfulCore c → IsLawfulCore (next c event.Enter)
 unfolding next
 enter_core c d h =
-    let k = enter_changes c.links c.churn.changes c.me h.me (changes_of c h) in
-    record {
-      beta = h.beta;
-      gamma = h.gamma;
-      me = h.me;
-      changes = k.known;
-      view = h.view;
-      link_count = h.link_count;
-      joined = k.joined;
-      links = links_more_posts c.posts (c.posts + 1) c.links (omega arith) h.links;
-      phase = h.phase;
-      sessions = h.sessions;
-      session_count = h.session_count;
-      counts = counts_next c event.Enter (takes_enter c d) h.counts;
-      need = h.need;
-      set = h.set;
-    }
+    changed_core c (add_enter c.churn.changes c.me) (enter_changes c.links c.churn.changes c.me h.me (changes_of c h))
+    (counts_next c event.Enter (takes_enter c d) h.counts) h
 
 leave_core : (c : Core) → decides c event.Leave ≡ None → IsLawfulCore c → IsLawfulCore (next c event.Leave)
 unfolding next
 leave_core c d h =
-    let k = leave_changes c.links c.churn.changes c.me h.me (changes_of c h) in
-    record {
-      beta = h.beta;
-      gamma = h.gamma;
-      me = h.me;
-      changes = k.known;
-      view = h.view;
-      link_count = h.link_count;
-      joined = k.joined;
-      links = links_more_posts c.posts (c.posts + 1) c.links (omega arith) h.links;
-      phase = h.phase;
-      sessions = h.sessions;
-      session_count = h.session_count;
-      counts = counts_next c event.Leave (takes_leave c d) h.counts;
-      need = h.need;
-      set = h.set;
-    }
+    changed_core c (add_leave c.churn.changes c.me) (leave_changes c.links c.churn.changes c.me h.me (changes_of c h))
+    (counts_next c event.Leave (takes_leave c d) h.counts) h
 
 ack_core : (c : Core) (peer n : ℕ) → decides c (event.Acked peer n) ≡ None → IsLawfulCore c → IsLawfulCore (next c (event.Acked peer n))
 unfolding next

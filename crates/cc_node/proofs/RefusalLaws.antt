@@ -24,7 +24,7 @@ use Rattle.cc_sessions.specs.Sessions as requests
 use Rattle.cc_sessions.specs.Sessions.{last_request, is_stale, is_skip}
 use Rattle.cc_node.specs.Core.{Core, next, post, lowest, with_links}
 use Rattle.cc_outbox.specs.Outbox.{post_limit}
-use Rattle.cc_node.specs.Refusals.{known_limit, any_overruns, row_overruns, reasons, decides}
+use Rattle.cc_node.specs.Refusals.{known_limit, left, already_entered, not_entered, outbox_full, spent, any_overruns, row_overruns, reasons, decides}
 
 all_none : (rs : List (Option Refusal)) → first_of rs ≡ None → AllByRecursion (λ r. r ≡ None) rs
 all_none [] h = tt
@@ -60,19 +60,19 @@ pub record TakesAsk (c : Core) (s r : ℕ) (command : Command) : Type 0 where
   pub room : finds_no_room c.ops.mine command ≡ false
   pub fits : Fits c (event.Ask s r command)
 
+-- where none of two reasons, of a full outbox and of a spent counter holds
+fits_after : (c : Core) (e : Event) (a b : Option Refusal) → first_of (a ∷ b ∷ outbox_full c e ∷ spent c e ∷ []) ≡ None → Fits c e
+fits_after c e a b h =
+    let all = (all_none (a ∷ b ∷ outbox_full c e ∷ spent c e ∷ []) h).1.1 in
+    record { posts = fails refusal.OutboxFull _ all.0; counts = fails refusal.Spent _ all.1.0 }
+
 pub takes_enter : (c : Core) → decides c event.Enter ≡ None → Fits c event.Enter
 unfolding decides
-takes_enter c h =
-    let e = event.Enter in
-    let all = (all_none (reasons c e) h).1.1 in
-    record { posts = fails refusal.OutboxFull _ all.0; counts = fails refusal.Spent _ all.1.0 }
+takes_enter c h = fits_after c event.Enter (left c) (already_entered c) h
 
 pub takes_leave : (c : Core) → decides c event.Leave ≡ None → Fits c event.Leave
 unfolding decides
-takes_leave c h =
-    let e = event.Leave in
-    let all = (all_none (reasons c e) h).1.1 in
-    record { posts = fails refusal.OutboxFull _ all.0; counts = fails refusal.Spent _ all.1.0 }
+takes_leave c h = fits_after c event.Leave (left c) (not_entered c) h
 
 pub takes_delivery : (c : Core) (from n : ℕ) (m : Message) → decides c (event.Deliver from n m) ≡ None → TakesDelivery c from n m
 unfolding decides

@@ -92,22 +92,6 @@ module _ (old piece new : List ℕ) (used : ℕ) (t : TopsUp old piece used new)
   pub fails_given : (e : WireFault) → Fails e (front_of new) → Fails e (fed (Some old) piece)
   fails_given e = fails_along e (front_of new) (fed (Some old) piece) front_refused
 
--- the fault of what is held and the piece is that of the feed
-fed_refused : (old piece : List ℕ) (e : WireFault) → front_of (old ++ piece) ≡ Err e → fed (Some old) piece ≡ Err e
-fed_refused old piece e h =
-    elim (is_partial (old ++ piece)) as (λ b. cond b (Ok None) (frame_at (old ++ piece) >>= λ f. Ok (Some f.0)) ≡ Err e → cond b (Ok (record { used = length piece; frame = None })) (given_of piece (frame_at (old ++ piece))) ≡ Err e) [
-      | true ↦ λ g. absurd cc
-      | false ↦ λ g. by_read (frame_at (old ++ piece)) g
-    ] h
-  where
-    by_read : (r : Result (Frame × List ℕ) WireFault) → (r >>= λ f. Ok (Some f.0)) ≡ Err e → given_of piece r ≡ Err e
-    by_read (Ok x) g = absurd cc
-    by_read (Err d) g = cc
-
--- or want of memory
-pub fails_fed : (old piece : List ℕ) (e : WireFault) → Fails e (front_of (old ++ piece)) → Fails e (fed (Some old) piece)
-fails_fed old piece e = fails_along e (front_of (old ++ piece)) (fed (Some old) piece) (fed_refused old piece)
-
 -- nothing is partial
 pub nothing_partial : IsTrue (is_partial [])
 unfolding is_partial frame_length

@@ -304,11 +304,6 @@ pub number_set_is_read : (bytes : List ℕ) (count : ℕ) (after : List ℕ) (s 
 unfolding number_set_at
 number_set_is_read = listed_is_read byte_at 32 0
 
-pub number_list_is_read : (bytes : List ℕ) (count : ℕ) (after : List ℕ) (s : NatSet) (rest : List ℕ) → number_at w16 bytes ≡ Ok (count, after) → count ≤ 8192 → numbers_at count 0 after ≡ Ok (items s, rest)
-    → number_list_at bytes ≡ Ok (s, rest)
-unfolding number_list_at
-number_list_is_read = listed_is_read (number_at w16) 8192 0
-
 pub id_set_is_read : (bytes : List ℕ) (count : ℕ) (after : List ℕ) (s : NatSet) (rest : List ℕ) → number_at w16 bytes ≡ Ok (count, after) → count ≤ 256 → numbers_at count 1 after ≡ Ok (items s, rest)
     → id_set_at bytes ≡ Ok (s, rest)
 unfolding id_set_at

@@ -22,9 +22,6 @@ entries_of_rows v = entries_are (map.entries v)
 pub view_of_rows : (v : ViewMap) → map.from_entries {R = nat_cmp} (entries_of (rows_of v)) ≡ v
 view_of_rows v = ap (map.from_entries {R = nat_cmp}) (entries_are (map.entries v)) ∙ map.same_entries_map _ _ (entries_back (map.entries v) (from_T _ (map.entries_sorted v)))
 
-pub no_rows : rows_of map.empty ≡ []
-no_rows = nil_from_length _ (len-rows_of map.empty ∙ map.len-empty nat_cmp Pair)
-
 -- a count within its limit, and so many rows
 pub view_is_read : (bytes : List ℕ) (count : ℕ) (after : List ℕ) (v : ViewMap) (rest : List ℕ) → number_at w16 bytes ≡ Ok (count, after) → count ≤ 256 → rows_at count 1 after ≡ Ok (rows_of v, rest)
     → view_at bytes ≡ Ok (v, rest)
