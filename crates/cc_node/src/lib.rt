@@ -19,4 +19,6 @@ pub use node_core::Core;
 pub use opening::{Fresh, Opening};
 
 #[cfg(test)]
+mod restored_tests;
+#[cfg(test)]
 mod tests;

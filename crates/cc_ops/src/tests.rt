@@ -84,6 +84,38 @@ fn a_new_node_has_stored_nothing(rt: HostRuntime) -> Result<(), Fail> {
 }
 
 #[test]
+fn parts_are_put_together(rt: HostRuntime) -> Result<(), Fail> {
+    let stage = Stage::StoringBack(Pending {
+        asked: first_request(Command::Collect),
+        need: 2,
+        count: 1,
+    });
+    let view = View::new(rt.alloc())?;
+    let seen = View::new(rt.alloc())?;
+    let ops = Ops::from_parts(view, 3, Value::empty(), 5, stage, seen);
+    assert_eq!(rt; (ops.number(), ops.tag()), (3, 5));
+    assert_eq!(rt; ops.stage(), stage);
+    assert!(rt; ops.seen().is_some());
+    Ok(())
+}
+
+#[test]
+fn a_command_writes_or_reads(rt: HostRuntime) {
+    for (command, writes) in [
+        (Command::Store(Text::empty()), true),
+        (Command::Collect, false),
+        (Command::WriteMax(1), true),
+        (Command::ReadMax, false),
+        (Command::SetFlag, true),
+        (Command::ReadFlag, false),
+        (Command::AddMember(1), true),
+        (Command::ReadSet, false),
+    ] {
+        assert_eq!(rt; is_writing(&command), writes);
+    }
+}
+
+#[test]
 fn a_copy_waits_for_the_same(rt: HostRuntime) -> Result<(), Fail> {
     let ops = querying(rt.alloc())?;
     let copy = ops.copy(rt.alloc())?;

@@ -30,6 +30,7 @@ fn two_posts(alloc: Global) -> Result<Outbox, Fail> {
 fn posts_are_found_by_number(rt: HostRuntime) -> Result<(), Fail> {
     let outbox = two_posts(rt.alloc())?;
     assert_eq!(rt; outbox.post_count(), 2);
+    assert_eq!(rt; outbox.last(), 6);
     assert_eq!(rt; named(outbox.post(4)), 0);
     assert_eq!(rt; named(outbox.post(5)), 50);
     assert_eq!(rt; named(outbox.post(6)), 60);

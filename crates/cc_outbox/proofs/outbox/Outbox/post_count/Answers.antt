@@ -1,4 +1,4 @@
-use Rattle.std.proofs.Common.{◌≡◌, ℕ, ◌-◌, length, arith, ap, sym, subst, ◌∙◌}
+use Rattle.std.proofs.Common.{◌≡◌, ℕ, ◌-◌, length, arith, ap, sym, subst}
 use Rattle.std.specs.FinMap as map
 use Rattle.cc_outbox.specs.Outbox.{Outbox}
 use Rattle.cc_outbox.specs.OutboxLaws.{KeepsPosts}
