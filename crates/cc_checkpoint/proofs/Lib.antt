@@ -1,3 +1,4 @@
 pub mod StateFormat
 pub mod NodeStates
 pub mod TableWrites
+pub mod TableReads

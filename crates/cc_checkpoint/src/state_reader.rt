@@ -168,3 +168,64 @@ fn read_kept_answer(
     let answer = reader.answer(alloc)?;
     Ok(KeptAnswer { session, answer })
 }
+
+fn read_links(alloc: Global, reader: &mut Reader<'_>, count: u16) -> Result<Vec<LinkRow>, WireFault>
+    ensures exact { Gives (λ rows. (map links.entry_of rows.items, reader.new)) result (rows_at link_at count 1 reader.old) }
+    ensures rising { IfOk result (λ rows. IsRising links.entry_of rows.items) }
+{
+    let mut rows = Vec::with_capacity(alloc, usize::from(count))?;
+    let mut least = 1;
+    for _ in 0..count {
+        let row = read_link(reader, least)?;
+        least = u64::from(row.peer.number()) + 1;
+        rows.push(row).unwrap();
+    }
+    Ok(rows)
+}
+
+fn read_sessions(
+    alloc: Global,
+    reader: &mut Reader<'_>,
+    count: u16,
+) -> Result<Vec<SessionRow>, WireFault>
+    ensures exact { Gives (λ rows. (map sessions.entry_of rows.items, reader.new)) result (rows_at session_at count 0 reader.old) }
+    ensures rising { IfOk result (λ rows. IsRising sessions.entry_of rows.items) }
+{
+    let mut rows = Vec::with_capacity(alloc, usize::from(count))?;
+    let mut least = 0;
+    for _ in 0..count {
+        let row = read_session(reader, least)?;
+        least = u128::from(row.session) + 1;
+        rows.push(row).unwrap();
+    }
+    Ok(rows)
+}
+
+fn read_kept_answers(
+    alloc: Global,
+    reader: &mut Reader<'_>,
+    count: u16,
+) -> Result<Vec<KeptAnswer>, WireFault>
+    ensures exact { Gives (λ rows. (map answers.entry_of rows.items, reader.new)) result (rows_at kept_answer_at count 0 reader.old) }
+    ensures rising { IfOk result (λ rows. IsRising answers.entry_of rows.items) }
+{
+    let mut rows = Vec::with_capacity(alloc, usize::from(count))?;
+    let mut least = 0;
+    for _ in 0..count {
+        let kept = read_kept_answer(alloc, reader, least)?;
+        least = u128::from(kept.session) + 1;
+        rows.push(kept).unwrap();
+    }
+    Ok(rows)
+}
+
+fn read_posts(alloc: Global, reader: &mut Reader<'_>, count: u16) -> Result<Vec<Message>, WireFault>
+    ensures { Gives (λ posts. (posts.items, reader.new)) result (posts_at count reader.old) }
+{
+    let mut posts = Vec::with_capacity(alloc, usize::from(count))?;
+    for _ in 0..count {
+        let post = reader.message(alloc)?;
+        posts.push(post).unwrap();
+    }
+    Ok(posts)
+}
