@@ -6,8 +6,8 @@ use Rattle.cc_wire.proofs.Items.{ends, is_done}
 use Rattle.cc_checkpoint.proofs.TableReads.{posts_go_on}
 use Rattle.cc_checkpoint.proofs.state_reader.read_posts.Goals as goal
 
-pub returns-in_err-post : goal.returns-in_err-post
-returns-in_err-post c =
+pub returns-in_err-post-clause-exact : goal.returns-in_err-post-clause-exact
+returns-in_err-post-clause-exact c =
     let p = err_from_is_err_and c.from_residual-in_err-post.result c.from_residual-in_err-post.ensures.1 in
     rw (p.1, p.2) (ends (λ _. message_at) (λ _. 0) _ c.loop.posts.items c.args.count c.loop.counter 0 c.loop.reader _ c.loop-test.true c.in_err-post.ensures c.loop.invariant.so_far)
 
@@ -22,5 +22,5 @@ loop-preserved c =
       room = omega (arith, c.push.ensures.capacity, c.loop.invariant.room);
     })
 
-pub returns : goal.returns
-returns c = is_done (λ _. message_at) (λ _. 0) c.loop.posts.items c.args.count c.loop.counter 0 c.loop.reader _ c.loop-test.false c.loop.invariant.so_far
+pub returns-clause-exact : goal.returns-clause-exact
+returns-clause-exact c = is_done (λ _. message_at) (λ _. 0) c.loop.posts.items c.args.count c.loop.counter 0 c.loop.reader _ c.loop-test.false c.loop.invariant.so_far
