@@ -3,3 +3,4 @@ pub mod NodeStates
 pub mod ChoosingLaws
 pub mod HeadLaws
 pub mod TableWrites
+pub mod TableReads

@@ -1,5 +1,8 @@
 -- The state that fields are, as they are read.
-use Rattle.cc_views.specs.Tables.{table_of}
+--     state_in f      the state of all fields
+--     AreRead t       what holds of tables that were read: keys rise, and there are as many rows as may be
+use Rattle.std.specs.Prelude.{◌≤◌, length}
+use Rattle.cc_views.specs.Tables.{IsRising, table_of}
 use Rattle.cc_links.specs.Rows as links
 use Rattle.cc_sessions.specs.Rows as sessions
 use Rattle.cc_outbox.specs.Rows as answers
@@ -32,3 +35,11 @@ tables_in t = record {
 
 abbrev pub state_in : Fields → states.State
 state_in f = record { membership = membership_in f.membership; work = work_in f.work; tables = tables_in f.tables }
+
+-- keys rise, and the counts that are limited are within their limits
+pub record AreRead (t : Tables) : Type 0 where
+  pub links : IsRising links.entry_of t.links.items
+  pub sessions : IsRising sessions.entry_of t.sessions.items
+  pub session_count : length t.sessions.items ≤ 256
+  pub kept_count : length t.kept.items ≤ 512
+  pub answers : IsRising answers.entry_of t.answers.items

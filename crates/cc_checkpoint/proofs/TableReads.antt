@@ -1,0 +1,49 @@
+-- Rows are read one after the other, as a loop does.
+use Rattle.std.proofs.Common.{◌≡◌, ℕ, zero, suc, ◌+◌, ◌-◌, ◌<◌, true, List, [], ◌∷◌, ◌++◌, length, map, Result, Ok, Err, refl, sym, ap, subst, ◌∙◌, arith}
+use Rattle.std.specs.List.{AllByRecursion}
+use Rattle.std.specs.Ordering.{nat_cmp, is_lt}
+use Rattle.std.specs.FinMap.Entries.{below_all, is_sorted}
+use Rattle.std.proofs.lemmas.List.{map-append}
+use Rattle.cc_views.specs.Entries.{cmp_lt, and_left, and_right, and_both}
+use Rattle.cc_views.specs.Tables.{IsRising}
+use Rattle.cc_wire.specs.declared.fault.WireFault.{WireFault}
+use Rattle.cc_wire.specs.declared.message.Message.{Message}
+use Rattle.cc_wire.specs.Messages.{message_at}
+use Rattle.cc_wire.specs.Reading.{Reading, items_at}
+use Rattle.cc_wire.proofs.Items.{with_front, goes_on}
+use Rattle.cc_node.specs.States.{rows_at, posts_at}
+
+module _ {X Row : Type 0} (entry : Row → ℕ × X) where
+  below_push : (k : ℕ) (rows : List Row) (row : Row) → below_all nat_cmp k (map entry rows) ≡ true → k < (entry row).0 → below_all nat_cmp k (map entry (rows ++ row ∷ [])) ≡ true
+  below_push k [] row below lt = and_both _ _ (ap is_lt (cmp_lt k (entry row).0 lt)) refl
+  below_push k (r ∷ rows) row below lt = and_both _ _ (and_left _ _ below) (below_push k rows row (and_right _ _ below) lt)
+
+  -- a row whose key is above all may follow
+  pub rising_push : (rows : List Row) (row : Row) → IsRising entry rows → AllByRecursion (λ r. (entry r).0 < (entry row).0) rows → IsRising entry (rows ++ row ∷ [])
+  rising_push [] row rising all = refl
+  rising_push (r ∷ rows) row rising all =
+      and_both _ _ (below_push (entry r).0 rows row (and_left _ _ rising) all.0) (rising_push rows row (and_right _ _ rising) all.1)
+
+  pub rows_go_on : (item : ℕ → Reading (ℕ × X)) (rows : List Row) (count i least : ℕ) (bytes : List ℕ) (row : Row) (after : List ℕ) (total : Result (List (ℕ × X) × List ℕ) WireFault)
+      → i < count → item least bytes ≡ Ok (entry row, after) → with_front (map entry rows) (rows_at item (count - i) least bytes) ≡ total
+      → with_front (map entry (rows ++ row ∷ [])) (rows_at item (count - (i + 1)) ((entry row).0 + 1) after) ≡ total
+  rows_go_on item rows count i least bytes row after total lt read so_far =
+      ap (λ (front : List (ℕ × X)). with_front front (rows_at item (count - (i + 1)) ((entry row).0 + 1) after)) (map-append entry rows (row ∷ []))
+      ∙ goes_on item (λ e. e.0) (map entry rows) count i least bytes (entry row) after total lt read so_far
+
+-- ---- messages in any order
+
+abbrev many_at : {X : Type 0} → Reading X → ℕ → ℕ → Reading (List X)
+many_at read count least = items_at (λ _. read) (λ _. 0) count least
+
+any_least : {X : Type 0} (read : Reading X) (count : ℕ) (bytes : List ℕ) → many_at read count 0 bytes ≡ many_at read count 1 bytes
+unfolding items_at
+any_least read zero bytes = refl
+any_least read (suc count) bytes = refl
+
+pub posts_go_on : (posts : List Message) (count i : ℕ) (bytes : List ℕ) (post : Message) (after : List ℕ) (total : Result (List Message × List ℕ) WireFault)
+    → i < count → message_at bytes ≡ Ok (post, after) → with_front posts (posts_at (count - i) bytes) ≡ total
+    → with_front (posts ++ post ∷ []) (posts_at (count - (i + 1)) after) ≡ total
+posts_go_on posts count i bytes post after total lt read so_far =
+    ap (with_front (posts ++ post ∷ [])) (any_least message_at (count - (i + 1)) after)
+    ∙ goes_on (λ _. message_at) (λ _. 0) posts count i 0 bytes post after total lt read so_far
