@@ -4,3 +4,5 @@ pub mod ChoosingLaws
 pub mod HeadLaws
 pub mod TableWrites
 pub mod TableReads
+pub mod StateLengths
+mod Imaged

@@ -2,8 +2,8 @@
 --     image_spelling      generation, version, length, state, and the closed gate of the first record
 --     SpellsImage         the bytes are that, of the one spelling of the node's state
 --     image_holds         with an open gate before it, the side holds the node
-use Rattle.std.specs.Prelude.{◌≡◌, ◌≢◌, ℕ, ◌+◌, ◌≤◌, ◌<◌, ◌^◌, List, [], ◌∷◌, ◌++◌, length}
-use Rattle.std.proofs.Common.{refl, sym, ◌∙◌, ap, arith, length-append}
+use Rattle.std.specs.Prelude.{◌≡◌, ◌≢◌, ℕ, List, [], ◌∷◌, ◌++◌, length}
+use Rattle.std.proofs.Common.{refl, sym, ap, arith, length-append}
 use Rattle.std.proofs.lemmas.List.{append-nil}
 use Rattle.std.specs.Int.{to_be_bytes, w32, w64}
 use Rattle.cc_node.specs.Node.{Node}

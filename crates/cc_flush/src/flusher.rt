@@ -16,7 +16,7 @@ pub struct Failed {
 }
 
 /// A node that is kept on the two sides of a site. Nothing leaves it before the event that made it is durable.
-pub struct Flusher<S> {
+pub struct Flusher<S: Site> {
     site: S,
     node: Node,
     journal: Journal,
