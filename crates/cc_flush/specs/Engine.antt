@@ -2,7 +2,7 @@
 --     Engine              its site, the node as it is durable, where the next record goes, and the fault that ended it
 --     IsSound             what every engine keeps: the side in use reaches past its closed gate
 --     room_limit          below so many bytes of the side in use there is room for a record
-use Rattle.std.specs.Prelude.{◌≡◌, ◌≤◌, ℕ, ◌+◌, ◌^◌, List, length, Option, None, refl}
+use Rattle.std.specs.Prelude.{◌≡◌, ◌≤◌, ℕ, ◌+◌, ◌^◌, length, Option, None, refl}
 use Rattle.std.specs.Coded.{Coded, code_by, coded×, coded_ℕ, coded_option}
 use Rattle.cc_site.specs.declared.site.Side.{Side}
 use Rattle.cc_site.specs.declared.site.DeviceFault.{DeviceFault}

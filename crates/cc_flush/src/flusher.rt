@@ -75,9 +75,14 @@ impl<S: Site> Flusher<S> {
     pub fn close(self) -> S
         ensures { result ≡ self.site }
     {
-        let Flusher { site, node, journal, .. } = self;
-        drop(node);
-        drop(journal);
+        let Flusher {
+            site,
+            node: _,
+            journal: _,
+            generation: _,
+            used: _,
+            failed: _,
+        } = self;
         site
     }
 }
