@@ -1,1 +1,1 @@
-
+mod Formatted

@@ -3,8 +3,8 @@
 
 mod back;
 mod flusher;
-mod format;
+mod formatting;
 
 pub use back::Back;
 pub use flusher::{Failed, Flusher};
-pub use format::FormatFault;
+pub use formatting::{FormatFault, format};

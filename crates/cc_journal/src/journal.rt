@@ -1,6 +1,6 @@
 //! A record is written behind a closed gate and made sure of; then the gate is opened, and made sure of.
 
-ghost use Rattle.std.specs.Prelude.{◌≡◌, ◌↔◌, ◌≤◌, ◌<◌, ◌+◌, ◌^◌, ◌++◌, ◌∷◌, [], length, List, ℕ, OnOk, OnErr, IfOk, MatchResult, slice_index_or};
+ghost use Rattle.std.specs.Prelude.{max, ◌≡◌, ◌↔◌, ◌≤◌, ◌<◌, ◌+◌, ◌^◌, ◌++◌, ◌∷◌, [], length, List, ℕ, OnOk, OnErr, IfOk, MatchResult, slice_index_or};
 ghost use Rattle.std.specs.Vec.{vec_capacity};
 ghost use Rattle.cc_wire.specs.declared.event.Event.{Event};
 ghost use Rattle.cc_wire.specs.Events.{IsEvent};
@@ -161,6 +161,7 @@ impl Journal {
             → IsAtRest (S.state site.new) (S.sent site.new) self.old generation start events opening }
         ensures within { S.honest site.old → OnOk result (self.old.place + 1 ≤ length (S.state site.new self.old.side).bytes) }
         ensures behind { S.honest site.old → OnOk result (StandsBehind (S.state site.new self.old.side).bytes self.old.place (batch_bytes batch)) }
+        ensures length { S.honest site.old → OnOk result (length (S.state site.new self.old.side).bytes ≡ max (length (S.state site.old self.old.side).bytes) (self.old.place + 1 + length (batch_bytes batch))) }
         ensures fault { MatchResult result (λ _. S.failures site.new ≡ S.failures site.old) (λ forfeit. Rose (S.failures site.old) (S.failures site.new)) }
     {
         let entry = &batch.entries()[0];
@@ -190,6 +191,7 @@ impl Journal {
             → IsLawful (after start events) (events_in flight)
             → StandsBehind (S.state site.old self.old.side).bytes self.old.place (batch_bytes flight)
             → OnOk result (IsAtRest (S.state site.new) (S.sent site.new) self.new generation start (events ++ events_in flight) opening) }
+        ensures length { S.honest site.old → OnOk result (length (S.state site.new self.old.side).bytes ≡ length (S.state site.old self.old.side).bytes) }
         ensures fault { MatchResult result (λ _. S.failures site.new ≡ S.failures site.old) (λ forfeit. Rose (S.failures site.old) (S.failures site.new)) }
     {
         let Flight { batch, size } = flight;

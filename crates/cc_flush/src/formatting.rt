@@ -1,16 +1,17 @@
 //! Two sides that begin to keep a node.
 
-ghost use Rattle.std.specs.Prelude.{◌≡◌, ◌↔◌, ◌⊎◌, ◌∷◌, [], ◌≤◌, length, true, false, IfOk, OnOk, IsTrue, MatchResult, IsErrOf, IfErr};
+ghost use Rattle.std.specs.Prelude.{ℕ, ◌≡◌, ◌↔◌, ◌⊎◌, ◌∷◌, [], ◌≤◌, length, true, false, IfOk, OnOk, IsTrue, MatchResult, IsErrOf, IfErr};
 ghost use Rattle.cc_site.specs.declared.site.Side.TheVariants.{A, B};
 ghost use Rattle.cc_site.specs.Sides.{other};
 ghost use Rattle.cc_site.specs.Moments.{Rose};
 ghost use Rattle.cc_site.specs.Reads.{OnlyReads};
+ghost use Rattle.cc_node.specs.Node.{Node as NodeState};
 ghost use Rattle.cc_node.specs.Opening.{told, fresh, IsOpening};
 ghost use Rattle.cc_node.specs.Sides.{OPEN, IsArmed};
 ghost use Rattle.cc_checkpoint.specs.Images.{SpellsImage};
 ghost use Rattle.cc_journal.specs.Journals.{IsAtRest};
-ghost use Rattle.cc_flush.specs.declared.format.FormatFault.TheVariants as faults;
-ghost use Rattle.cc_flush.specs.Formatting.{durable, of_fresh, FormatRose};
+ghost use Rattle.cc_flush.specs.declared.formatting.FormatFault.TheVariants as faults;
+ghost use Rattle.cc_flush.specs.Formatting.{durable, of_fresh, FormatRose, KeepsOutlet, FormatFails};
 
 use crate::back::Back;
 use cc_checkpoint::encode_image;
@@ -41,6 +42,14 @@ impl From<Fresh> for FormatFault {
             Fresh::BadOpening => FormatFault::BadOpening,
             Fresh::NoMemory => FormatFault::NoMemory,
         }
+    }
+}
+
+impl From<DeviceFault> for FormatFault {
+    ghost from_gives = { λ fault format_fault. format_fault ≡ faults.Device fault };
+
+    fn from(fault: DeviceFault) -> Self {
+        FormatFault::Device(fault)
     }
 }
 
@@ -128,4 +137,52 @@ fn first_image(alloc: Global, opening: &Opening<'_>) -> Result<Vec<u8>, FormatFa
 {
     let node = Node::fresh(alloc, opening)?;
     Ok(encode_image(alloc, 1, &node)?)
+}
+
+// Lays the image out, unless a side is armed.
+fn format_sides<S: Site>(site: &mut S, image: &[u8]) -> Result<(), FormatFault>
+    ensures honest { S.honest site.old ↔ S.honest site.new }
+    ensures tells { (S.tells site.old ↔ S.tells site.new) × (S.sent site.new ≡ S.sent site.old) }
+    ensures at_rest { S.honest site.old → (node : NodeState) → SpellsImage image.now 1 node
+        → OnOk result (IsAtRest (S.state site.new) (S.sent site.new) (record { side = A; place = length image.now }) 1 node [] (length (S.sent site.new))) }
+    ensures second { S.honest site.old → OnOk result (S.state site.new B ≡ durable (0 ∷ [])) }
+    ensures unarmed { S.honest site.old → OnOk result (¬ (IsArmed (S.state site.old A).bytes) × ¬ (IsArmed (S.state site.old B).bytes)) }
+    ensures already { S.honest site.old → IsErrOf result faults.AlreadyFormatted
+        → (IsArmed (S.state site.old A).bytes ⊎ IsArmed (S.state site.old B).bytes) × (S.state site.new ≡ S.state site.old) }
+    ensures only { IfErr result (λ fault. (fault ≡ faults.AlreadyFormatted) ⊎ ((device : DeviceFault) × (fault ≡ faults.Device device))) }
+    ensures fault { MatchResult result (λ _. S.failures site.new ≡ S.failures site.old) (FormatRose (S.failures site.old) (S.failures site.new)) }
+{
+    if is_formatted(site)? {
+        return Err(FormatFault::AlreadyFormatted);
+    }
+    lay_out(site, image)?;
+    Ok(())
+}
+
+/// Makes two sides that aren't armed keep the node that begins as the opening says, under generation 1 on side A. The
+/// faults come in the order BadOpening, NoMemory, Device and AlreadyFormatted, but Device where it is met. What a crash
+/// within the call leaves is not told: both sides are then to be emptied and formatted again. After a Device fault it may
+/// be tried again.
+pub fn format<S: Site>(
+    alloc: Global,
+    site: S,
+    opening: &Opening<'_>,
+) -> Result<S, Back<S, FormatFault>>
+    ensures outlet { MatchResult result (KeepsOutlet S.honest S.tells S.sent site) (λ b. KeepsOutlet S.honest S.tells S.sent site b.site) }
+    ensures at_rest { S.honest site → IfOk result (λ s. (place : ℕ) × IsAtRest (S.state s) (S.sent s) (record { side = A; place = place }) 1 (fresh (told opening.now)) [] (length (S.sent s))) }
+    ensures second { S.honest site → IfOk result (λ s. S.state s B ≡ durable (0 ∷ [])) }
+    ensures unarmed { S.honest site → OnOk result (¬ (IsArmed (S.state site A).bytes) × ¬ (IsArmed (S.state site B).bytes)) }
+    ensures good { OnOk result (IsOpening (told opening.now)) }
+    ensures faults { IfErr result (λ b. FormatFails S.honest S.state (IsOpening (told opening.now)) site b.site b.fault) }
+    ensures count { MatchResult result (λ s. S.failures s ≡ S.failures site) (λ b. FormatRose (S.failures site) (S.failures b.site) b.fault) }
+{
+    let image = match first_image(alloc, opening) {
+        Ok(image) => image,
+        Err(fault) => return Err(Back { site, fault }),
+    };
+    let mut site = site;
+    match format_sides(&mut site, &image) {
+        Ok(()) => Ok(site),
+        Err(fault) => Err(Back { site, fault }),
+    }
 }

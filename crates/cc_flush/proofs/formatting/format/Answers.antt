@@ -1,0 +1,23 @@
+use Rattle.std.proofs.Common.{length, inl, inr, sym, subst, ap, Result, Err}
+use Rattle.cc_flush.specs.declared.formatting.FormatFault.{FormatFault}
+use Rattle.cc_node.specs.Opening.{told, fresh, IsOpening}
+use Rattle.cc_checkpoint.specs.Images.{SpellsImage}
+use Rattle.cc_flush.specs.Formatting.{FormatFails}
+use Rattle.cc_flush.proofs.formatting.format.Goals as goal
+
+abbrev the_err : FormatFault → Result (Unit {0}) FormatFault
+the_err fault = Err fault
+
+pub returns-in-Ok-format_sides-clause-at_rest : goal.returns-in-Ok-format_sides-clause-at_rest
+returns-in-Ok-format_sides-clause-at_rest g c honest =
+    let node = fresh (told c.args.opening.now) in
+    (length c.deref.result.now, c.in-Ok-format_sides.ensures.at_rest honest node (subst (λ l. SpellsImage l 1 node) (sym c.deref.ensures.value) c.in-Ok.ensures.image))
+
+pub returns-clause-faults : goal.returns-clause-faults
+returns-clause-faults g c =
+    let s = g.S.Site in
+    let opening = IsOpening (told c.args.opening.now) in
+    elim (c.in-Err-format_sides.ensures.only) [
+      | inl is ↦ subst (λ f. FormatFails s.honest s.state opening c.args.site c.format_sides.new.site f) (sym is) (c.in-Ok.ensures.good, λ honest. c.in-Err-format_sides.ensures.already honest (ap the_err is))
+      | inr device ↦ subst (λ f. FormatFails s.honest s.state opening c.args.site c.format_sides.new.site f) (sym device.1) c.in-Ok.ensures.good
+    ]
