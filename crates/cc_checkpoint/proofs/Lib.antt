@@ -2,3 +2,4 @@ pub mod StateFormat
 pub mod NodeStates
 pub mod TableWrites
 pub mod TableReads
+pub mod Restored

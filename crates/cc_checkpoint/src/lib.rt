@@ -4,6 +4,7 @@
 mod fault;
 mod fields;
 mod laws;
+mod restore;
 mod state;
 mod state_reader;
 mod state_writer;
