@@ -3,3 +3,4 @@ pub mod NodeStates
 pub mod TableWrites
 pub mod TableReads
 pub mod Restored
+pub mod LawfulFields
