@@ -4,3 +4,4 @@ pub mod TableWrites
 pub mod TableReads
 pub mod Restored
 pub mod LawfulFields
+pub mod Decoded

@@ -11,4 +11,4 @@ mod state_writer;
 
 pub use fault::StateFault;
 pub use laws::{one_spelling_of_nodes, one_spelling_of_states};
-pub use state::encode_state;
+pub use state::{decode_state, encode_state};
