@@ -6,3 +6,6 @@ pub mod TableWrites
 pub mod TableReads
 pub mod StateLengths
 mod Imaged
+pub mod Restored
+pub mod LawfulFields
+pub mod Decoded

@@ -1,13 +1,15 @@
 -- The state that fields are, as they are read.
 --     state_in f      the state of all fields
 --     AreRead t       what holds of tables that were read: keys rise, and there are as many rows as may be
+--     CanBuild f      whether the parts of a node can be made of them
 use Rattle.std.specs.Prelude.{◌≤◌, length}
+use Rattle.cc_views.specs.Limits.{counter_limit}
 use Rattle.cc_views.specs.Tables.{IsRising, table_of}
 use Rattle.cc_links.specs.Rows as links
 use Rattle.cc_sessions.specs.Rows as sessions
 use Rattle.cc_outbox.specs.Rows as answers
 use Rattle.cc_ops.specs.Ops.{Phase}
-use Rattle.cc_ops.specs.Stages.{phase_of}
+use Rattle.cc_ops.specs.Stages.{phase_of, HasWaiting}
 use Rattle.cc_node.specs.States as states
 use Rattle.cc_checkpoint.specs.declared.fields.Membership.{Membership}
 use Rattle.cc_checkpoint.specs.declared.fields.Round.{Round}
@@ -43,3 +45,13 @@ pub record AreRead (t : Tables) : Type 0 where
   pub session_count : length t.sessions.items ≤ 256
   pub kept_count : length t.kept.items ≤ 512
   pub answers : IsRising answers.entry_of t.answers.items
+
+-- the parts of a node can be made of the fields
+pub record CanBuild (f : Fields) : Type 0 where
+  pub links : length f.tables.links.items ≤ 256
+  pub answers : length f.tables.answers.items ≤ 256
+  pub kept : length f.tables.kept.items ≤ f.tables.posts
+  pub number : f.work.number ≤ counter_limit
+  pub tag : f.work.tag ≤ counter_limit
+  pub echoes : f.work.echoes ≤ counter_limit
+  pub waits : HasWaiting f.work.round.stage

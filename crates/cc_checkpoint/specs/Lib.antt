@@ -3,3 +3,4 @@ pub mod Heads
 pub mod Faults
 pub mod Fields
 pub mod Images
+pub mod Decoding

@@ -3,17 +3,20 @@
 
 mod choosing;
 mod fault;
+mod head;
 mod fields;
 mod image;
 mod laws;
 mod open_fault;
+mod restore;
 mod state;
 mod state_reader;
 mod state_writer;
 
 pub use choosing::{InUse, choose};
 pub use fault::StateFault;
+pub use head::read_state;
 pub use image::{VERSION, encode_image};
 pub use laws::{one_spelling_of_nodes, one_spelling_of_states};
 pub use open_fault::OpenFault;
-pub use state::encode_state;
+pub use state::{decode_state, encode_state};

@@ -1,12 +1,19 @@
 //! States of nodes as bytes.
 
-ghost use Rattle.std.specs.Prelude.{◌≡◌, ◌≤◌, ◌+◌, ◌++◌, length, OnOk, OnErr, IsOk, vec_len};
+ghost use Rattle.std.specs.Prelude.{◌≡◌, ◌≤◌, ◌+◌, ◌++◌, length, OnOk, OnErr, Ok, Err, IsOk, vec_len};
 ghost use Rattle.std.specs.Vec.{vec_capacity};
+ghost use Rattle.cc_node.specs.Node as machine;
 ghost use Rattle.cc_node.specs.States.{SpellsNode, state_spelling, state_of};
+ghost use Rattle.cc_checkpoint.specs.Decoding.{Decodes, Is, SpellsUnlawful};
+ghost use Rattle.cc_checkpoint.specs.declared.fault.StateFault.TheVariants as faults;
 
+use crate::fault::StateFault;
+use crate::restore::restore;
+use crate::state_reader::read_all;
 use crate::state_writer::put_state;
 use cc_node::Node;
 use cc_views::NoMemory;
+use std::alloc::Global;
 
 /// Appends the spelling of a node's state. On an `Err` nothing has changed.
 pub fn encode_state(node: &Node, out: &mut Vec<u8>) -> Result<(), NoMemory>
@@ -21,4 +28,25 @@ pub fn encode_state(node: &Node, out: &mut Vec<u8>) -> Result<(), NoMemory>
         return Err(NoMemory);
     }
     Ok(())
+}
+
+fn decode_all(alloc: Global, bytes: &[u8]) -> Result<Node, StateFault>
+    ensures { Decodes bytes.now result }
+{
+    let fields = read_all(alloc, bytes)?;
+    let node = restore(alloc, fields)?;
+    node.ok_or(StateFault::Unlawful)
+}
+
+/// The node whose state the bytes spell, all of the bytes. A fault of the wire is that of the first field, from left to
+/// right, that can't be read; Unlawful comes where all can be read, and no node can be in that state (own choice).
+pub fn decode_state(alloc: Global, bytes: &[u8]) -> Result<Node, StateFault>
+    // What each answer tells of the bytes.
+    ensures answer { Decodes bytes.now result }
+    // A node whose state is spelled so is found, unless memory runs out.
+    ensures only { (n : machine.Node) → SpellsNode bytes.now n → Is result (Ok n) }
+    // So is it told where no node can be in the state that is spelled so.
+    ensures unlawful { SpellsUnlawful bytes.now → Is result (Err faults.Unlawful) }
+{
+    decode_all(alloc, bytes)
 }

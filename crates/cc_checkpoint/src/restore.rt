@@ -1,0 +1,181 @@
+//! A node out of the fields of its state.
+
+ghost use Rattle.std.specs.Prelude.{◌≡◌, ◌+◌, ◌-◌, ◌≤◌, ◌<◌, ◌^◌, ◌↔◌, length, IfOk, IfSome, IsTrue, is_some};
+ghost use Rattle.std.specs.FinMap as table;
+ghost use Rattle.cc_views.specs.Tables.{IsRising, table_of};
+ghost use Rattle.cc_links.specs.Rows as links;
+ghost use Rattle.cc_sessions.specs.Rows as sessions;
+ghost use Rattle.cc_outbox.specs.Rows as kept_rows;
+ghost use Rattle.cc_ops.specs.Stages.{HasWaiting};
+ghost use Rattle.cc_node.specs.Lawful.{IsLawfulNode};
+ghost use Rattle.cc_node.specs.States.{numbered_to, node_of};
+ghost use Rattle.cc_checkpoint.specs.Fields.{phase_in, state_in, AreRead, CanBuild};
+
+use crate::fields::{Fields, Membership, Round, Tables, Work};
+use cc_churn::Churn;
+use cc_links::{LinkRow, Links};
+use cc_node::{CoreParts, Node};
+use cc_ops::{Ops, Stage};
+use cc_outbox::{KeptAnswer, Outbox};
+use cc_sessions::{SessionRow, Sessions};
+use cc_views::NoMemory;
+use cc_wire::Message;
+use std::alloc::Global;
+
+// How far a counter goes.
+const COUNTER_LIMIT: u64 = 1 << 62;
+
+// How many answers an operation needs at most.
+const MAX_NEED: u64 = 256;
+
+// Whether a pending operation waits for more answers than it has, as many as there can be at most.
+fn has_waiting(stage: Stage) -> bool
+    ensures { IsTrue result ↔ HasWaiting stage }
+{
+    match stage {
+        Stage::Idle => true,
+        Stage::Storing(pending) | Stage::Querying(pending) | Stage::StoringBack(pending) => {
+            pending.count < pending.need && pending.need <= MAX_NEED
+        }
+    }
+}
+
+// Whether the parts of a node can be made of the fields, as they can of those of each lawful state.
+fn can_build(fields: &Fields) -> bool
+    ensures { IsTrue result ↔ CanBuild fields.now }
+{
+    let tables = &fields.tables;
+    if tables.links.len() > Links::MAX_ROWS {
+        return false;
+    }
+    if tables.answers.len() > Outbox::MAX_ANSWERS {
+        return false;
+    }
+    if tables.kept.len() as u64 > tables.posts {
+        return false;
+    }
+    let work = &fields.work;
+    if work.number > COUNTER_LIMIT {
+        return false;
+    }
+    if work.tag > COUNTER_LIMIT {
+        return false;
+    }
+    if work.echoes > COUNTER_LIMIT {
+        return false;
+    }
+    has_waiting(work.round.stage)
+}
+
+fn links_of(alloc: Global, rows: Vec<LinkRow>) -> Result<Links, NoMemory>
+    requires rising { IsRising links.entry_of rows.items }
+    requires few { length rows.items ≤ 256 }
+    ensures { IfOk result (λ l. l ≡ table_of links.entry_of rows.items) }
+{
+    let mut links = Links::new(alloc)?;
+    for row in rows {
+        links.insert(row);
+    }
+    Ok(links)
+}
+
+fn sessions_of(alloc: Global, rows: Vec<SessionRow>) -> Result<Sessions, NoMemory>
+    requires rising { IsRising sessions.entry_of rows.items }
+    requires few { length rows.items ≤ 256 }
+    ensures { IfOk result (λ s. s ≡ table_of sessions.entry_of rows.items) }
+{
+    let mut sessions = Sessions::new(alloc)?;
+    for row in rows {
+        sessions.begin(row.session, row.last);
+    }
+    Ok(sessions)
+}
+
+// The posts that have the numbers up to `posts`.
+fn kept_up_to(alloc: Global, posts: u64, kept: Vec<Message>) -> Result<Outbox, NoMemory>
+    requires few { length kept.items ≤ 512 }
+    requires numbers { length kept.items ≤ posts }
+    ensures { IfOk result (λ o. o ≡ record { last = posts; posts = numbered_to posts kept.items; answers = table.empty }) }
+{
+    let dropped = posts - kept.len() as u64;
+    let mut outbox = Outbox::starting_after(alloc, dropped)?;
+    for post in kept {
+        outbox.add(post);
+    }
+    Ok(outbox)
+}
+
+fn keep_answers(outbox: &mut Outbox, answers: Vec<KeptAnswer>)
+    requires rising { IsRising kept_rows.entry_of answers.items }
+    requires few { length answers.items ≤ 256 }
+    requires none { outbox.old.answers ≡ table.empty }
+    ensures { outbox.new ≡ record { last = outbox.old.last; posts = outbox.old.posts; answers = table_of kept_rows.entry_of answers.items } }
+{
+    for kept in answers {
+        outbox.keep(kept.session, kept.answer);
+    }
+}
+
+fn ops_of(work: Work) -> Ops
+    requires number { work.number ≤ 2 ^ 62 }
+    requires tag { work.tag ≤ 2 ^ 62 }
+    requires waits { HasWaiting work.round.stage }
+    ensures { result ≡ record { view = work.view; number = work.number; mine = work.mine; tag = work.tag; phase = phase_in work.round } }
+{
+    let Work {
+        view,
+        number,
+        mine,
+        tag,
+        round,
+        ..
+    } = work;
+    let Round { stage, seen } = round;
+    Ops::from_parts(view, number, mine, tag, stage, seen)
+}
+
+/// The node whose state the fields are. None where no node can be in that state.
+pub(crate) fn restore(alloc: Global, fields: Fields) -> Result<Option<Node>, NoMemory>
+    requires { AreRead fields.tables }
+    ensures lawful { IfOk result (λ node. IsTrue (is_some node) ↔ IsLawfulNode (node_of (state_in fields))) }
+    ensures node { IfOk result (λ node. IfSome node (λ n. n ≡ node_of (state_in fields))) }
+{
+    if !can_build(&fields) {
+        return Ok(None);
+    }
+    let Fields {
+        membership,
+        work,
+        tables,
+    } = fields;
+    let Membership {
+        me,
+        beta,
+        gamma,
+        changes,
+    } = membership;
+    let churn = Churn::from_parts(changes, work.echoes, u64::from(work.need));
+    let ops = ops_of(work);
+    let Tables {
+        posts,
+        links,
+        sessions,
+        kept,
+        answers,
+    } = tables;
+    let links = links_of(alloc, links)?;
+    let sessions = sessions_of(alloc, sessions)?;
+    let mut outbox = kept_up_to(alloc, posts, kept)?;
+    keep_answers(&mut outbox, answers);
+    let parts = CoreParts {
+        me,
+        beta,
+        gamma,
+        churn,
+        ops,
+        posts,
+        links,
+        sessions,
+    };
+    Ok(Node::restored(parts, outbox))
+}
