@@ -1,25 +1,26 @@
 -- Tables made of rows in order, and what each lawful state lets build.
-use Rattle.std.proofs.Common.{◌≡◌, ℕ, ◌+◌, ◌-◌, ◌<◌, ◌≤◌, Bool, true, false, ◌&&◌, not, nat_eq, List, [], ◌∷◌, ◌++◌, length, map, Some, None, refl, sym, ap, subst, ◌∙◌, append_assoc, arith}
-use Rattle.std.specs.Prelude.{IsTrue, IsFalse, ◌==◌}
-use Rattle.std.specs.Ordering.{nat_cmp, is_lt}
+use Rattle.std.proofs.Common.{◌≡◌, ℕ, ◌<◌, ◌≤◌, Bool, true, false, ◌&&◌, List, [], ◌∷◌, ◌++◌, length, map, None, refl, sym, ap, subst, ◌∙◌, append_assoc, arith}
+use Rattle.std.specs.Prelude.{IsFalse, ◌==◌}
+use Rattle.std.specs.Ordering.{nat_cmp}
 use Rattle.std.specs.Cmp.{nat_cmp_total}
 use Rattle.std.specs.FinMap as table
-use Rattle.std.specs.FinMap.{FinMap, nat_cmp-IsAntisymmetric}
+use Rattle.std.specs.FinMap.{nat_cmp-IsAntisymmetric}
 use Rattle.std.specs.FinMap.Entries.{below_all, find}
 use Rattle.std.proofs.lemmas.Bool.{ne_eqb}
 use Rattle.std.proofs.lemmas.List.{map-append, length-append, nil_from_length, append-nil}
-use Rattle.cc_views.specs.Entries.{cmp_lt, cmp_gt, lt_from_cmp, and_left, and_right, and_both}
+use Rattle.std.proofs.lemmas.Bool.{and_from}
+use Rattle.cc_views.specs.Entries.{cmp_gt, lt_from_cmp, and_left, and_right}
 use Rattle.cc_views.specs.MapLaws.{len_insert}
 use Rattle.cc_views.specs.Tables.{IsRising, table_of, len-table_of}
 
 module _ {X Row : Type 0} (entry : Row → ℕ × X) where
   below_front : (k : ℕ) (front rest : List Row) → below_all nat_cmp k (map entry (front ++ rest)) ≡ true → below_all nat_cmp k (map entry front) ≡ true
   below_front k [] rest below = refl
-  below_front k (r ∷ front) rest below = and_both _ _ (and_left _ _ below) (below_front k front rest (and_right _ _ below))
+  below_front k (r ∷ front) rest below = and_from _ _ (and_left _ _ below) (below_front k front rest (and_right _ _ below))
 
   rising_front : (front rest : List Row) → IsRising entry (front ++ rest) → IsRising entry front
   rising_front [] rest rising = refl
-  rising_front (r ∷ front) rest rising = and_both _ _ (below_front (entry r).0 front rest (and_left _ _ rising)) (rising_front front rest (and_right _ _ rising))
+  rising_front (r ∷ front) rest rising = and_from _ _ (below_front (entry r).0 front rest (and_left _ _ rising)) (rising_front front rest (and_right _ _ rising))
 
   above_front : (k : ℕ) (front : List Row) (row : Row) (rest : List Row) → below_all nat_cmp k (map entry (front ++ row ∷ rest)) ≡ true → k < (entry row).0
   above_front k [] row rest below = lt_from_cmp k (entry row).0 (and_left _ _ below)

@@ -2,7 +2,8 @@
 --     size_of, state_of      the length that is told, and so many bytes
 --     HeadAt                 a node's state stands there, up to the gate at this place
 --     HeadFails              there is none, for this reason
-use Rattle.std.specs.Prelude.{◌≡◌, ◌≢◌, ◌⊎◌, ℕ, ◌+◌, ◌<◌, ◌≤◌, List, length, take, drop, slice_index}
+--     StateFound             what decoding a state tells
+use Rattle.std.specs.Prelude.{◌≡◌, ◌≢◌, ◌⊎◌, ℕ, ◌+◌, ◌<◌, ◌≤◌, List, length, take, drop, slice_index, Option, Some, None, Result, Ok, Err}
 use Rattle.std.specs.Int.{from_be_bytes, w32}
 use Rattle.cc_site.specs.declared.site.Side.{Side}
 use Rattle.cc_node.specs.Node.{Node}
@@ -44,3 +45,9 @@ HeadFails side bytes (Version version) = (10 ≤ length bytes) × (slice_index b
 HeadFails side bytes NotFormatted = ⊥
 HeadFails side bytes (Device fault) = Unit {0}
 HeadFails side bytes NoMemory = Unit {0}
+
+-- a node of that state is found, or there is none; only memory may be wanting
+abbrev pub StateFound : List ℕ → Result (Option Node) OpenFault → Type 0
+StateFound bytes (Ok (Some node)) = SpellsNode bytes node
+StateFound bytes (Ok None) = (node : Node) → SpellsNode bytes node → ⊥
+StateFound bytes (Err fault) = fault ≡ NoMemory

@@ -3,8 +3,8 @@
 
 mod choosing;
 mod fault;
-mod head;
 mod fields;
+mod head;
 mod image;
 mod laws;
 mod open_fault;

@@ -5,6 +5,7 @@ ghost use Rattle.cc_checkpoint.specs.declared.open_fault.OpenFault.TheVariants a
 
 use cc_site::{DeviceFault, Side};
 use cc_views::NoMemory;
+use std::alloc::AllocError;
 
 /// Why two sides can't be opened. Places are in bytes from the start of the side.
 #[derive(Clone, Copy, Debug, PartialEq, Eq)]
@@ -33,6 +34,14 @@ impl From<NoMemory> for OpenFault {
     ghost from_gives = { λ _ fault. fault ≡ faults.NoMemory };
 
     fn from(_: NoMemory) -> Self {
+        OpenFault::NoMemory
+    }
+}
+
+impl From<AllocError> for OpenFault {
+    ghost from_gives = { λ _ fault. fault ≡ faults.NoMemory };
+
+    fn from(_: AllocError) -> Self {
         OpenFault::NoMemory
     }
 }
