@@ -2,6 +2,7 @@
 #![tactic(auto)]
 
 mod back;
+mod committing;
 mod flusher;
 mod formatting;
 

@@ -1,0 +1,40 @@
+//! A batch is made durable.
+
+ghost use Rattle.std.specs.Prelude.{max, ◌≡◌, ◌↔◌, ◌≤◌, ◌<◌, ◌+◌, ◌^◌, ◌++◌, length, List, ℕ, OnOk, OnErr, IfOk, MatchResult};
+ghost use Rattle.cc_wire.specs.declared.event.Event.{Event};
+ghost use Rattle.cc_site.specs.Moments.{EachMoment, Rose};
+ghost use Rattle.cc_node.specs.Node.{Node, after, IsLawful};
+ghost use Rattle.cc_journal.specs.Batches.{events_in, batch_bytes};
+ghost use Rattle.cc_journal.specs.Journals.{IsGood, IsAtRest};
+
+use cc_journal::{Batch, Forfeit, Journal, Landed};
+use cc_site::Site;
+
+// Writes a batch, makes sure of it, and lets it count.
+pub(crate) fn make_durable<S: Site>(
+    journal: &mut Journal,
+    site: &mut S,
+    batch: Batch,
+) -> Result<Landed, Forfeit>
+    requires within { S.honest site.old → journal.old.place + 1 ≤ length (S.state site.old journal.old.side).bytes }
+    requires room { journal.old.place < 2 ^ 61 }
+    requires some { 1 ≤ length batch }
+    ensures landed { IfOk result (λ landed. landed ≡ batch) }
+    ensures ok { OnOk result (journal.new ≡ record { side = journal.old.side; place = journal.old.place + length (batch_bytes batch) }) }
+    ensures err { OnErr result (journal.new ≡ journal.old) }
+    ensures honest { S.honest site.old ↔ S.honest site.new }
+    ensures tells { (S.tells site.old ↔ S.tells site.new) × (S.sent site.new ≡ S.sent site.old) }
+    ensures every_moment { S.honest site.old → (generation : ℕ) (start : Node) (events : List Event) (opening : ℕ)
+        → IsAtRest (S.state site.old) (S.sent site.old) journal.old generation start events opening
+        → IsLawful (after start events) (events_in batch)
+        → EachMoment S.moment S.left_since site.old site.new (IsGood start (events ++ events_in batch) (length events) opening) }
+    ensures at_rest { S.honest site.old → (generation : ℕ) (start : Node) (events : List Event) (opening : ℕ)
+        → IsAtRest (S.state site.old) (S.sent site.old) journal.old generation start events opening
+        → IsLawful (after start events) (events_in batch)
+        → OnOk result (IsAtRest (S.state site.new) (S.sent site.new) journal.new generation start (events ++ events_in batch) opening) }
+    ensures length { S.honest site.old → OnOk result (length (S.state site.new journal.old.side).bytes ≡ max (length (S.state site.old journal.old.side).bytes) (journal.old.place + 1 + length (batch_bytes batch))) }
+    ensures fault { MatchResult result (λ _. S.failures site.new ≡ S.failures site.old) (λ _. Rose (S.failures site.old) (S.failures site.new)) }
+{
+    let flight = journal.write(site, batch)?;
+    journal.append(site, flight)
+}
