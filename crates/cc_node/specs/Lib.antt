@@ -12,4 +12,5 @@ pub mod Sides
 pub mod Good
 pub mod Histories
 pub mod Fronts
+pub mod RecordLaws
 pub mod GoodLaws
