@@ -1,3 +1,4 @@
 mod Records
 mod Rests
 mod Steps
+mod EventReading

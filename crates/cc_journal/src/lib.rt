@@ -3,6 +3,7 @@
 
 mod batch;
 mod entry;
+mod events;
 mod journal;
 mod record;
 
