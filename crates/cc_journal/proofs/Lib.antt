@@ -2,3 +2,6 @@ mod Records
 mod Rests
 mod Steps
 mod EventReading
+mod BodyReading
+mod RecordReading
+mod Scans

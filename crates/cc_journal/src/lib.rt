@@ -6,8 +6,10 @@ mod entry;
 mod events;
 mod journal;
 mod record;
+mod scanning;
 
 pub use batch::Batch;
 pub use entry::Entry;
 pub use journal::{Flight, Forfeit, Journal, Landed, OPEN_GATE};
 pub use record::CLOSED_GATE;
+pub use scanning::{ScanFault, Scanned, scan};
