@@ -5,3 +5,4 @@ mod EventReading
 mod BodyReading
 mod RecordReading
 mod Scans
+mod ScanLaws
