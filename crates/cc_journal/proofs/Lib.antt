@@ -1,3 +1,8 @@
 mod Records
 mod Rests
 mod Steps
+mod EventReading
+mod BodyReading
+mod RecordReading
+mod Scans
+mod ScanLaws

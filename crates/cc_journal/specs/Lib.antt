@@ -2,3 +2,4 @@ pub mod Batches
 pub mod Journals
 pub mod Codes
 pub mod Scanning
+pub mod Reading

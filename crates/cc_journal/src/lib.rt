@@ -3,10 +3,15 @@
 
 mod batch;
 mod entry;
+mod events;
 mod journal;
+mod laws;
 mod record;
+mod scanning;
 
 pub use batch::Batch;
 pub use entry::Entry;
 pub use journal::{Flight, Forfeit, Journal, Landed, OPEN_GATE};
+pub use laws::scans_once;
 pub use record::CLOSED_GATE;
+pub use scanning::{ScanFault, Scanned, scan};

@@ -1,5 +1,5 @@
 -- What the bytes of a side hold after a change behind its closed gate, at that gate, or at its first byte.
---     front_more                                     one record more
+--     records_push, events_push, front_more          one record more
 --     holds_within, holds_kept                       the closed gate is within, and what is behind it has no meaning
 --     holds_closed, holds_opened                     another closed byte at the gate;  an open one, over a record
 --     one_byte, generation_held, held_armed          a content that differs in one byte;  the first nine bytes
@@ -12,7 +12,8 @@ use Rattle.cc_node.specs.Node.{Node, after, IsLawful}
 use Rattle.cc_node.specs.Sides.{OPEN, VERSION, IsArmed, generation_of, SpellsRecord, SpellsRecords, SpellsBatch, StandsBehind, events_of, IsFront, Holds}
 use Rattle.cc_node.specs.Histories.{after-append, IsLawful-append}
 
-records_push : (bytes : List ℕ) (batches : List (List Event)) (body : List ℕ) (batch : List Event) → SpellsRecords bytes batches → SpellsRecord body batch
+-- one batch more
+pub records_push : (bytes : List ℕ) (batches : List (List Event)) (body : List ℕ) (batch : List Event) → SpellsRecords bytes batches → SpellsRecord body batch
     → SpellsRecords (bytes ++ OPEN ∷ body) (batches ++ batch ∷ [])
 records_push bytes [] body batch none spelled =
     (body, [], ap (λ (l : List ℕ). l ++ OPEN ∷ body) none ∙ ap (λ (l : List ℕ). OPEN ∷ l) (sym (append-nil body)), spelled, refl)
@@ -24,7 +25,7 @@ records_push bytes (first ∷ batches) body batch some spelled = (
   records_push some.1 batches body batch some.4 spelled,
 )
 
-events_push : (batches : List (List Event)) (batch : List Event) → events_of (batches ++ batch ∷ []) ≡ events_of batches ++ batch
+pub events_push : (batches : List (List Event)) (batch : List Event) → events_of (batches ++ batch ∷ []) ≡ events_of batches ++ batch
 events_push [] batch = append-nil batch
 events_push (first ∷ batches) batch =
     ap (λ (l : List Event). first ++ l) (events_push batches batch) ∙ sym (append_assoc first (events_of batches) batch)

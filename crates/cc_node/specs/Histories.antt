@@ -1,5 +1,6 @@
 -- Events after events.
---     after-append, line-append, IsLawful-append     a list of events in two parts
+--     after-append, line-append                      a list of events in two parts
+--     IsLawful-append, lawful_parts                  it is lawful where both parts are
 --     made_more                                      what was made in a prefix was made
 use Rattle.std.proofs.Common.{◌≡◌, inl, inr, List, [], ◌∷◌, ◌++◌, refl, sym, ◌∙◌, ap, subst}
 use Rattle.std.specs.List.{Contains}
@@ -22,6 +23,10 @@ line-append n (x ∷ xs) ys =
 pub IsLawful-append : (n : Node) (xs ys : List Event) → IsLawful n xs → IsLawful (after n xs) ys → IsLawful n (xs ++ ys)
 IsLawful-append n [] ys first second = second
 IsLawful-append n (x ∷ xs) ys first second = (first.0, IsLawful-append (step n x) xs ys first.1 second)
+
+pub lawful_parts : (n : Node) (xs ys : List Event) → IsLawful n (xs ++ ys) → IsLawful n xs × IsLawful (after n xs) ys
+lawful_parts n [] ys all = (tt, all)
+lawful_parts n (x ∷ xs) ys all = let rest = lawful_parts (step n x) xs ys all.1 in ((all.0, rest.0), rest.1)
 
 pub made_more : (n : Node) (xs ys : List Event) (output : Output) → MayBeOut n xs output → MayBeOut n (xs ++ ys) output
 made_more n xs ys output (inl stood) = inl stood

@@ -12,5 +12,6 @@ pub mod Sides
 pub mod Good
 pub mod Histories
 pub mod Fronts
+pub mod RecordLaws
 pub mod GoodLaws
 pub mod Parts

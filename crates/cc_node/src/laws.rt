@@ -1,6 +1,6 @@
 //! The laws of a node's histories. Each is a function with an empty body, whose contract is the law.
 
-ghost use Rattle.std.specs.Prelude.{◌≡◌, ◌≢◌, ◌+◌, List, None};
+ghost use Rattle.std.specs.Prelude.{◌≡◌, ◌≢◌, ◌+◌, ◌++◌, ℕ, List, None};
 ghost use Rattle.std.specs.List.{All, AllPairs, sum_by};
 ghost use Rattle.cc_views.specs.Merge.{IsAtMost};
 ghost use Rattle.cc_wire.specs.declared.event.Event.{Event};
@@ -8,6 +8,7 @@ ghost use Rattle.cc_wire.specs.declared.output.Output.{Output};
 ghost use Rattle.cc_node.specs.Core.{Core, next};
 ghost use Rattle.cc_node.specs.Node.{Node, step, after, line, Stands, MayBeOut, IsLawful};
 ghost use Rattle.cc_node.specs.Refusals.{decides};
+ghost use Rattle.cc_node.specs.Sides.{SpellsRecord};
 ghost use Rattle.cc_node.specs.Lawful.{IsLawfulNode};
 ghost use Rattle.cc_node.specs.Opening.{Opening, IsOpening, fresh};
 ghost use Rattle.cc_node.specs.Lines.{Follows};
@@ -45,4 +46,9 @@ pub fn no_output_twice()
     ensures rising { (n : Node) (es : List Event) → IsLawfulNode n → IsLawful n es → AllPairs Follows (line n es) }
     ensures since { (n : Node) (es : List Event) (o : Output) → IsLawfulNode n → IsLawful n es → Stands n o → All (Follows o) (line n es) }
     ensures apart { (n : Node) (es : List Event) → IsLawfulNode n → IsLawful n es → AllPairs (λ x y. x ≢ y) (line n es) }
+{}
+
+/// Each record has one spelling, and none begins another.
+pub fn one_spelling_of_records()
+    ensures { (a b u w : List ℕ) (x y : List Event) → SpellsRecord a x → SpellsRecord b y → a ++ u ≡ b ++ w → (x ≡ y) × (a ≡ b) }
 {}

@@ -11,7 +11,8 @@ mod opening;
 
 pub use core_parts::CoreParts;
 pub use laws::{
-    lawful_kept, no_output_twice, own_number_counts_writes, standing_made, view_only_grows,
+    lawful_kept, no_output_twice, one_spelling_of_records, own_number_counts_writes, standing_made,
+    view_only_grows,
 };
 pub use made::{LinkAck, Made};
 pub use node::Node;

@@ -1,0 +1,140 @@
+-- A scan goes on from record to record.
+use Rattle.std.proofs.Common.{◌≡◌, ◌≢◌, inl, inr, ℕ, ◌+◌, ◌-◌, ◌≤◌, List, [], ◌∷◌, ◌++◌, length, drop, refl, sym, ◌∙◌, ap, subst, arith, length-append}
+use Rattle.std.proofs.lemmas.List.{append_assoc, append-nil, drop_at, drop-drop, drop_all}
+use Rattle.cc_wire.specs.declared.event.Event.{Event}
+use Rattle.cc_node.specs.Node.{Node, after, IsLawful}
+use Rattle.cc_node.specs.Histories.{after-append, IsLawful-append}
+use Rattle.cc_node.specs.Sides.{OPEN, SpellsRecords, events_of}
+use Rattle.cc_node.specs.Fronts.{records_push, events_push}
+use Rattle.cc_journal.specs.Scanning.{ScansTo, StopsAt, NoRecord}
+use Rattle.cc_journal.specs.Reading.{RecordLeads, IsOpened, IsShut, IsStopped}
+
+-- records of lawful events begin the bytes: so many bytes with their gates, so many records and events
+pub record SoFar (bytes : List ℕ) (start node : Node) (size records events : ℕ) : Type 0 where
+  pub front : List ℕ
+  pub rest : List ℕ
+  pub batches : List (List Event)
+  pub parts : bytes ≡ front ++ rest
+  pub at_size : length front ≡ size
+  pub spelled : SpellsRecords front batches
+  pub lawful : IsLawful start (events_of batches)
+  pub leads_to : node ≡ after start (events_of batches)
+  pub record_count : records ≡ length batches
+  pub event_count : events ≡ length (events_of batches)
+
+pub none_so_far : (bytes : List ℕ) (start : Node) → SoFar bytes start start 0 0 0
+none_so_far bytes start = record {
+  front = [];
+  rest = bytes;
+  batches = [];
+  parts = refl;
+  at_size = refl;
+  spelled = refl;
+  lawful = tt;
+  leads_to = refl;
+  record_count = refl;
+  event_count = refl;
+}
+
+module _ (bytes : List ℕ) (start node : Node) (size records events : ℕ) (so_far : SoFar bytes start node size records events) where
+  rest_is : drop size bytes ≡ so_far.rest
+  rest_is = ap (λ (l : List ℕ). drop size l) so_far.parts ∙ drop_at so_far.front so_far.rest size so_far.at_size
+
+  -- one record more
+  pub one_more : (behind : List ℕ) (next : Node) (more count : ℕ) → drop size bytes ≡ OPEN ∷ behind → RecordLeads behind node next more count → SoFar bytes start next (size + (1 + more)) (records + 1) (events + count)
+  one_more behind next more count opened leads =
+      let batch = leads.events in
+      let pushed : events_of (so_far.batches ++ batch ∷ []) ≡ events_of so_far.batches ++ batch = events_push so_far.batches batch in
+      record {
+        front = so_far.front ++ OPEN ∷ leads.body;
+        rest = leads.rest;
+        batches = so_far.batches ++ batch ∷ [];
+        parts = so_far.parts ∙ ap (λ (l : List ℕ). so_far.front ++ l) (sym rest_is ∙ opened ∙ ap (λ (l : List ℕ). OPEN ∷ l) leads.parts)
+            ∙ sym (append_assoc so_far.front (OPEN ∷ leads.body) leads.rest);
+        at_size = omega (arith, length-append so_far.front (OPEN ∷ leads.body), so_far.at_size, leads.at_size);
+        spelled = records_push so_far.front so_far.batches leads.body batch so_far.spelled leads.spelled;
+        lawful = subst (λ (l : List Event). IsLawful start l) (sym pushed) (IsLawful-append start (events_of so_far.batches) batch so_far.lawful (subst (λ (n : Node). IsLawful n batch) so_far.leads_to leads.leads.lawful));
+        leads_to = leads.leads.leads_to ∙ ap (λ (n : Node). after n batch) so_far.leads_to ∙ sym (after-append start (events_of so_far.batches) batch) ∙ ap (λ (l : List Event). after start l) (sym pushed);
+        record_count = omega (arith, length-append so_far.batches (batch ∷ []), so_far.record_count);
+        event_count = omega (arith, ap length pushed, length-append (events_of so_far.batches) batch, so_far.event_count, leads.leads.event_count);
+      }
+
+  -- a closed gate
+  pub scanned : (gate : ℕ) (rest : List ℕ) → drop size bytes ≡ gate ∷ rest → gate ≢ OPEN → ScansTo bytes start node size records events
+  scanned gate rest shut closed = record {
+    front = so_far.front;
+    gate = gate;
+    rest = rest;
+    batches = so_far.batches;
+    parts = so_far.parts ∙ ap (λ (l : List ℕ). so_far.front ++ l) (sym rest_is ∙ shut);
+    closed = closed;
+    at_size = so_far.at_size;
+    spelled = so_far.spelled;
+    lawful = so_far.lawful;
+    leads_to = so_far.leads_to;
+    record_count = so_far.record_count;
+    event_count = so_far.event_count;
+  }
+
+  -- the end
+  pub ended : drop size bytes ≡ [] → StopsAt bytes start size
+  ended none = record {
+    front = so_far.front;
+    rest = so_far.rest;
+    batches = so_far.batches;
+    parts = so_far.parts;
+    spelled = so_far.spelled;
+    lawful = so_far.lawful;
+    stop = inl (sym rest_is ∙ none, sym so_far.at_size);
+  }
+
+  -- an open gate, and no record
+  pub stopped : (behind : List ℕ) → drop size bytes ≡ OPEN ∷ behind → NoRecord behind node → StopsAt bytes start (size + 1)
+  stopped behind opened none = record {
+    front = so_far.front;
+    rest = so_far.rest;
+    batches = so_far.batches;
+    parts = so_far.parts;
+    spelled = so_far.spelled;
+    lawful = so_far.lawful;
+    stop = inr (behind, sym rest_is ∙ opened, ap (λ (n : ℕ). n + 1) (sym so_far.at_size), subst (λ (n : Node). NoRecord behind n) so_far.leads_to none);
+  }
+
+-- ---- places of the side
+
+-- behind a place, as behind an earlier one
+pub from_earlier : (bytes : List ℕ) (start place : ℕ) → start ≤ place → drop (place - start) (drop start bytes) ≡ drop place bytes
+from_earlier bytes start place le =
+    let whole : start + (place - start) ≡ place = omega (arith, le) in
+    drop-drop (place - start) start bytes ∙ ap (λ (n : ℕ). drop n bytes) whole
+
+pub behind_place : (bytes : List ℕ) (place : ℕ) → drop 1 (drop place bytes) ≡ drop (place + 1) bytes
+behind_place bytes place = drop-drop 1 place bytes
+
+module _ (bytes : List ℕ) (from place : ℕ) (start node : Node) (records events : ℕ) (onward : from ≤ place) (so_far : SoFar (drop from bytes) start node (place - from) records events) where
+  pub goes_on : (next : Node) (more count : ℕ) → IsOpened (drop place bytes) → RecordLeads (drop (place + 1) bytes) node next more count → SoFar (drop from bytes) start next (place + (1 + more) - from) (records + 1) (events + count)
+  goes_on next more count opened leads =
+      let further : place - from + (1 + more) ≡ place + (1 + more) - from = omega (arith, onward) in
+      subst (λ (n : ℕ). SoFar (drop from bytes) start next n (records + 1) (events + count)) further
+      (one_more (drop from bytes) start node (place - from) records events so_far (drop 1 (drop place bytes)) next more count
+      (from_earlier bytes from place onward ∙ opened)
+      (subst (λ (l : List ℕ). RecordLeads l node next more count) (sym (behind_place bytes place)) leads))
+
+  pub ends_shut : IsShut (drop place bytes) → ScansTo (drop from bytes) start node (place - from) records events
+  ends_shut shut = scanned (drop from bytes) start node (place - from) records events so_far shut.0 (drop 1 (drop place bytes)) (from_earlier bytes from place onward ∙ shut.1) shut.2
+
+  pub stops_behind : IsOpened (drop place bytes) → NoRecord (drop (place + 1) bytes) node → IsStopped bytes from start (place + 1)
+  stops_behind opened none =
+      let further : place - from + 1 ≡ place + 1 - from = omega (arith, onward) in
+      record {
+        onward = omega (arith, onward);
+        stops = subst (λ (n : ℕ). StopsAt (drop from bytes) start n) further
+            (stopped (drop from bytes) start node (place - from) records events so_far (drop 1 (drop place bytes)) (from_earlier bytes from place onward ∙ opened)
+            (subst (λ (l : List ℕ). NoRecord l node) (sym (behind_place bytes place)) none));
+      }
+
+  pub stops_past : length bytes ≤ place → IsStopped bytes from start place
+  stops_past past = record {
+    onward = onward;
+    stops = ended (drop from bytes) start node (place - from) records events so_far (from_earlier bytes from place onward ∙ drop_all place bytes past);
+  }

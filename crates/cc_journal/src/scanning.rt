@@ -1,0 +1,227 @@
+//! The records of a side are read again, from a gate on.
+
+ghost use Rattle.std.specs.Prelude.{◌≡◌, ◌≤◌, ◌<◌, ◌+◌, length, take, drop, vec_len, OnOk, IfOk, IfErr, MatchBool};
+ghost use Rattle.cc_journal.specs.declared.scanning.ScanFault.TheVariants as faults;
+ghost use Rattle.cc_journal.specs.Scanning.{NoRecord};
+ghost use Rattle.cc_journal.specs.Reading.{RecordLeads, BodyStands, NoBody, IsOpened, IsShut, IsScanned, IsStopped, IfDamaged, CountsDevice};
+ghost use Rattle.cc_site.specs.Reads.{OnlyReads};
+
+use crate::events::take_events;
+use crate::journal::{Journal, OPEN_GATE};
+use cc_node::Node;
+use cc_site::{DeviceFault, Side, Site};
+use cc_views::NoMemory;
+use std::alloc::{AllocError, Global};
+
+// How many bytes a record has at most behind its length.
+const RECORD_LIMIT: u32 = 262_144;
+
+/// What the records of a side hold.
+#[derive(Drop)]
+pub struct Scanned {
+    /// Where the next record goes: behind the closed gate that ends the records.
+    pub journal: Journal,
+    /// The node that they lead to.
+    pub node: Node,
+    /// How many records there are, and how many events in them.
+    pub records: u64,
+    pub events: u64,
+}
+
+/// Why the records of a side can't be read.
+#[derive(Clone, Copy, Debug, PartialEq, Eq)]
+pub enum ScanFault {
+    /// What stands at this place, in bytes from the start of the side, isn't what has to stand there: behind an open gate
+    /// the length of a record whose events the node takes, and behind a record a gate.
+    Damaged(u64),
+    /// A disk call failed.
+    Device(DeviceFault),
+    /// A growth was refused.
+    NoMemory,
+}
+
+impl From<DeviceFault> for ScanFault {
+    ghost from_gives = { λ fault scan_fault. scan_fault ≡ faults.Device fault };
+
+    fn from(fault: DeviceFault) -> Self {
+        ScanFault::Device(fault)
+    }
+}
+
+impl From<NoMemory> for ScanFault {
+    ghost from_gives = { λ _ fault. fault ≡ faults.NoMemory };
+
+    fn from(_e: NoMemory) -> Self {
+        ScanFault::NoMemory
+    }
+}
+
+impl From<AllocError> for ScanFault {
+    ghost from_gives = { λ _ fault. fault ≡ faults.NoMemory };
+
+    fn from(_e: AllocError) -> Self {
+        ScanFault::NoMemory
+    }
+}
+
+// How many bytes a record has, and how many events.
+#[derive(Clone, Copy)]
+struct Taken {
+    size: u64,
+    events: u64,
+}
+
+// How long a side is.
+fn length_of<S: Site>(site: &mut S, side: Side) -> Result<u64, ScanFault>
+    ensures value { S.honest site.old → IfOk result (λ n. n ≡ length (S.state site.old side).bytes) }
+    ensures device { IfErr result (IfDamaged (λ _. ⊥)) }
+    ensures reads { OnlyReads S.honest S.tells S.state S.sent S.moment S.left_since site.old site.new }
+    ensures fault { CountsDevice side (S.failures site.old) (S.failures site.new) result }
+{
+    Ok(site.length(side)?)
+}
+
+// Reads what lies from a place on.
+fn read_into<S: Site>(
+    site: &mut S,
+    side: Side,
+    place: u64,
+    into: &mut [u8],
+) -> Result<(), ScanFault>
+    requires { S.honest site.old → place + length into.old ≤ length (S.state site.old side).bytes }
+    ensures value { S.honest site.old → OnOk result (into.new ≡ take (length into.old) (drop place (S.state site.old side).bytes)) }
+    ensures device { IfErr result (IfDamaged (λ _. ⊥)) }
+    ensures reads { OnlyReads S.honest S.tells S.state S.sent S.moment S.left_since site.old site.new }
+    ensures fault { CountsDevice side (S.failures site.old) (S.failures site.new) result }
+{
+    Ok(site.read(side, place, into)?)
+}
+
+// Reads as much as the buffer holds.
+fn read_to<S: Site>(
+    site: &mut S,
+    side: Side,
+    place: u64,
+    into: &mut Vec<u8>,
+) -> Result<(), ScanFault>
+    requires { S.honest site.old → place + vec_len into.old ≤ length (S.state site.old side).bytes }
+    ensures value { S.honest site.old → OnOk result (into.new.items ≡ take (vec_len into.old) (drop place (S.state site.old side).bytes)) }
+    ensures len { vec_len into.new ≡ vec_len into.old }
+    ensures device { IfErr result (IfDamaged (λ _. ⊥)) }
+    ensures reads { OnlyReads S.honest S.tells S.state S.sent S.moment S.left_since site.old site.new }
+    ensures fault { CountsDevice side (S.failures site.old) (S.failures site.new) result }
+{
+    read_into(site, side, place, into.as_mut_slice())
+}
+
+// Whether the gate at a place is open.
+fn gate_is_open<S: Site>(site: &mut S, side: Side, place: u64) -> Result<bool, ScanFault>
+    requires { S.honest site.old → place < length (S.state site.old side).bytes }
+    ensures value { S.honest site.old → IfOk result (λ is_open. MatchBool is_open (IsOpened (drop place (S.state site.old side).bytes)) (IsShut (drop place (S.state site.old side).bytes))) }
+    ensures device { IfErr result (IfDamaged (λ _. ⊥)) }
+    ensures reads { OnlyReads S.honest S.tells S.state S.sent S.moment S.left_since site.old site.new }
+    ensures fault { CountsDevice side (S.failures site.old) (S.failures site.new) result }
+{
+    let mut gate = [0];
+    read_into(site, side, place, &mut gate)?;
+    Ok(gate[0] == OPEN_GATE)
+}
+
+// Reads what stands behind the length of the record at a place, of a side that is so long.
+fn read_body<S: Site>(
+    site: &mut S,
+    side: Side,
+    place: u64,
+    len: u64,
+    body: &mut Vec<u8>,
+) -> Result<(), ScanFault>
+    requires within { place ≤ len }
+    requires len { S.honest site.old → len ≡ length (S.state site.old side).bytes }
+    ensures found { S.honest site.old → OnOk result (BodyStands (drop place (S.state site.old side).bytes) body.new.items) }
+    ensures damaged { S.honest site.old → IfErr result (IfDamaged (λ p. (p ≡ place) × NoBody (drop place (S.state site.old side).bytes))) }
+    ensures within { OnOk result (place + 4 + vec_len body.new ≤ len) }
+    ensures reads { OnlyReads S.honest S.tells S.state S.sent S.moment S.left_since site.old site.new }
+    ensures fault { CountsDevice side (S.failures site.old) (S.failures site.new) result }
+{
+    if len - place < 4 {
+        return Err(ScanFault::Damaged(place));
+    }
+    let mut number = [0; 4];
+    read_into(site, side, place, &mut number)?;
+    let size = u32::from_be_bytes(number);
+    if size > RECORD_LIMIT {
+        return Err(ScanFault::Damaged(place));
+    }
+    if len - place - 4 < u64::from(size) {
+        return Err(ScanFault::Damaged(place));
+    }
+    body.resize(size as usize, 0)?;
+    read_to(site, side, place + 4, body)
+}
+
+// Reads the record at a place, of a side that is so long, and takes its events in.
+fn read_record<S: Site>(
+    alloc: Global,
+    site: &mut S,
+    side: Side,
+    place: u64,
+    len: u64,
+    body: &mut Vec<u8>,
+    node: &mut Node,
+) -> Result<Taken, ScanFault>
+    requires within { place ≤ len }
+    requires len { S.honest site.old → len ≡ length (S.state site.old side).bytes }
+    ensures found { S.honest site.old → IfOk result (λ taken. RecordLeads (drop place (S.state site.old side).bytes) node.old node.new taken.size taken.events) }
+    ensures damaged { S.honest site.old → IfErr result (IfDamaged (λ p. (p ≡ place) × NoRecord (drop place (S.state site.old side).bytes) node.old)) }
+    ensures within { IfOk result (λ taken. place + taken.size ≤ len) }
+    ensures few { IfOk result (λ taken. taken.events ≤ taken.size) }
+    ensures reads { OnlyReads S.honest S.tells S.state S.sent S.moment S.left_since site.old site.new }
+    ensures fault { CountsDevice side (S.failures site.old) (S.failures site.new) result }
+{
+    read_body(site, side, place, len, body)?;
+    let Some(events) = take_events(alloc, node, body)? else {
+        return Err(ScanFault::Damaged(place));
+    };
+    Ok(Taken {
+        size: 4 + body.len() as u64,
+        events,
+    })
+}
+
+/// Reads the records of a side from the gate at `place` on, in bytes from 0, and takes their events in, up to a closed
+/// gate. On an `Err` the node is given up.
+pub fn scan<S: Site>(
+    alloc: Global,
+    site: &mut S,
+    side: Side,
+    place: u64,
+    node: Node,
+) -> Result<Scanned, ScanFault>
+    ensures scanned { S.honest site.old → IfOk result (IsScanned (S.state site.old side).bytes side place node) }
+    ensures damaged { S.honest site.old → IfErr result (IfDamaged (IsStopped (S.state site.old side).bytes place node)) }
+    ensures reads { OnlyReads S.honest S.tells S.state S.sent S.moment S.left_since site.old site.new }
+    ensures fault { CountsDevice side (S.failures site.old) (S.failures site.new) result }
+{
+    let len = length_of(site, side)?;
+    let mut body = Vec::with_capacity(alloc, RECORD_LIMIT as usize)?;
+    let mut node = node;
+    let mut place = place;
+    let mut records = 0;
+    let mut events = 0;
+    while place < len {
+        if !gate_is_open(site, side, place)? {
+            let journal = Journal::new(alloc, side, place)?;
+            return Ok(Scanned {
+                journal,
+                node,
+                records,
+                events,
+            });
+        }
+        let taken = read_record(alloc, site, side, place + 1, len, &mut body, &mut node)?;
+        place += 1 + taken.size;
+        records += 1;
+        events += taken.events;
+    }
+    Err(ScanFault::Damaged(place))
+}
