@@ -23,9 +23,6 @@ use cc_ops::{Ops, Pending, Stage, is_writing};
 use cc_sessions::{SessionRow, Sessions};
 use cc_views::{COUNTER_LIMIT, NodeId, NumberSet, Row, View};
 
-// How many nodes are known at most.
-const MAX_KNOWN: u64 = 256;
-
 /// What a core is put together from (own choice): the state of a node, up to what it keeps to put out again. Not all
 /// parts make a lawful core.
 #[derive(Debug, Drop)]
@@ -99,11 +96,14 @@ impl CoreParts {
         counters.iter().all(|counter| *counter <= COUNTER_LIMIT)
     }
 
-    // Whether the need of the own entering is of known nodes, and the own set has its room.
+    // Whether no more echoes are needed than nodes are known at most, and the own set has its room.
     fn sizes_fit(&self) -> bool
         ensures { IsTrue result ↔ ((self.now.churn.need ≤ known_limit) × (set.len self.now.ops.mine.set ≤ set_limit)) }
     {
-        self.churn.need() <= MAX_KNOWN && self.ops.mine().set.len() <= NumberSet::MAX_LEN
+        if self.churn.need() > Links::MAX_ROWS as u64 {
+            return false;
+        }
+        self.ops.mine().set.len() <= NumberSet::MAX_LEN
     }
 }
 

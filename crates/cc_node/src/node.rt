@@ -192,9 +192,9 @@ fn pending_session(ops: &Ops) -> Option<u64>
     let stage = ops.stage();
     match stage {
         Stage::Idle => None,
-        Stage::Storing(pending) | Stage::Querying(pending) | Stage::StoringBack(pending) => Some(
-            pending.asked.session,
-        ),
+        Stage::Storing(pending) => Some(pending.asked.session),
+        Stage::Querying(pending) => Some(pending.asked.session),
+        Stage::StoringBack(pending) => Some(pending.asked.session),
     }
 }
 

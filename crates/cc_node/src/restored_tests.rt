@@ -1,6 +1,6 @@
 //! States that a node can be restored from, and states with one flaw.
-ghost use Rattle.std.specs.Prelude.{◌≤◌, IfOk};
-ghost use Rattle.std.specs.FinMap as table;
+ghost use Rattle.cc_ops.specs.Ops.{IsWaiting};
+ghost use Rattle.cc_ops.specs.Stages.{HasWaiting};
 
 use super::*;
 use cc_changes::{Changes, Fraction, IdSet};
@@ -16,66 +16,14 @@ use std::test::*;
 
 const FOUR_FIFTHS: Fraction = Fraction { num: 4, den: 5 };
 
-// The round of the pending operation, which is request 1 of session 7.
-#[derive(Clone, Copy)]
-enum Round {
-    Idle,
-    Storing(Command),
-    Querying(Command),
-    StoringBack(Command),
-}
-
-// What a state is made of. Node 0 stands for none, session 0 too.
-#[derive(Clone, Copy)]
-struct Draft {
-    me: u32,
-    beta: Fraction,
-    gamma: Fraction,
-    entered: u32,
-    joined: u32,
-    left: u32,
-    need: u64,
-    viewed: u32,
-    round: Round,
-    seen: u32,
-    posts: u64,
-    // Of the link of node 1 to itself, its only one.
-    start: u64,
-    acked: u64,
-    heard: u64,
-    // The last request of session 7.
-    request: u64,
-    dropped: u64,
-    keeps_post: bool,
-    answered: u64,
-}
-
-// Node 1 alone, which has posted once and waits for its own acknowledgement.
-const LAWFUL: Draft = Draft {
-    me: 1,
-    beta: FOUR_FIFTHS,
-    gamma: FOUR_FIFTHS,
-    entered: 1,
-    joined: 1,
-    left: 0,
-    need: 0,
-    viewed: 1,
-    round: Round::Storing(Command::SetFlag),
-    seen: 0,
-    posts: 1,
-    start: 0,
-    acked: 0,
-    heard: 0,
-    request: 1,
-    dropped: 0,
-    keeps_post: true,
-    answered: 0,
-};
+// Past the limit of counters.
+const PAST: u64 = (1 << 62) + 1;
 
 fn id(number: u32) -> Result<NodeId, Fail> {
     Ok(NodeId::new(number).ok_or("an id is at least 1")?)
 }
 
+// The set of one id, and of none for 0.
 fn ids(alloc: Global, number: u32) -> Result<IdSet, Fail> {
     let mut set = IdSet::new(alloc)?;
     if number > 0 {
@@ -84,27 +32,28 @@ fn ids(alloc: Global, number: u32) -> Result<IdSet, Fail> {
     Ok(set)
 }
 
-fn churn(alloc: Global, draft: Draft) -> Result<Churn, Fail> {
-    let entered = ids(alloc, draft.entered)?;
-    let joined = ids(alloc, draft.joined)?;
-    let left = ids(alloc, draft.left)?;
-    let changes = Changes::from_sets(entered, joined, left);
-    Ok(Churn::from_parts(changes, 0, draft.need))
+fn churn(alloc: Global, entered: u32, joined: u32, left: u32) -> Result<Churn, Fail> {
+    let entered = ids(alloc, entered)?;
+    let joined = ids(alloc, joined)?;
+    let left = ids(alloc, left)?;
+    Ok(Churn::from_parts(Changes::from_sets(entered, joined, left), 0, 0))
 }
 
+// The view of one node.
 fn view(alloc: Global, node: u32) -> Result<View, Fail> {
     let mut view = View::new(alloc)?;
-    if node > 0 {
-        view.push(Row {
-            node: id(node)?,
-            number: 1,
-            value: Value::empty(),
-        });
-    }
+    view.push(Row {
+        node: id(node)?,
+        number: 1,
+        value: Value::empty(),
+    });
     Ok(view)
 }
 
-fn pending(command: Command) -> Pending {
+// Request 1 of session 7.
+fn pending(command: Command) -> Pending
+    ensures { IsWaiting result }
+{
     Pending {
         asked: Asked {
             session: 7,
@@ -116,256 +65,217 @@ fn pending(command: Command) -> Pending {
     }
 }
 
-fn stage(round: Round) -> Stage {
-    match round {
-        Round::Idle => Stage::Idle,
-        Round::Storing(command) => Stage::Storing(pending(command)),
-        Round::Querying(command) => Stage::Querying(pending(command)),
-        Round::StoringBack(command) => Stage::StoringBack(pending(command)),
-    }
+// With a view of one node, and another of one node to be stored back.
+fn ops(alloc: Global, node: u32, stage: Stage, seen: u32) -> Result<Ops, Fail>
+    requires { HasWaiting stage }
+{
+    let known = view(alloc, node)?;
+    let seen = view(alloc, seen)?;
+    Ok(Ops::from_parts(known, 1, Value::empty(), 1, stage, seen))
 }
 
-fn ops(alloc: Global, draft: Draft) -> Result<Ops, Fail> {
-    let known = view(alloc, draft.viewed)?;
-    let seen = view(alloc, draft.seen)?;
-    Ok(Ops::from_parts(known, 1, Value::empty(), 1, stage(draft.round), seen))
-}
-
+// The link of node 1 to itself.
 #[tactic(auto, using(cc_views::specs::MapLaws::len_insert))]
-fn links(alloc: Global, draft: Draft) -> Result<Links, Fail> {
+fn links(alloc: Global, start: u64, acked: u64, heard: u64) -> Result<Links, Fail> {
     let mut links = Links::new(alloc)?;
     links.insert(LinkRow {
         peer: id(1)?,
-        start: draft.start,
-        acked: draft.acked,
-        heard: draft.heard,
+        start,
+        acked,
+        heard,
     });
     Ok(links)
 }
 
-fn sessions(alloc: Global, draft: Draft) -> Result<Sessions, Fail> {
+// Session 7 with this last request.
+fn sessions(alloc: Global, last: u64) -> Result<Sessions, Fail> {
     let mut sessions = Sessions::new(alloc)?;
-    sessions.begin(7, draft.request);
+    sessions.begin(7, last);
     Ok(sessions)
 }
 
+// The outbox of one post, after so many that were dropped.
 #[tactic(auto, using(cc_views::specs::MapLaws::len_insert))]
-fn outbox(alloc: Global, draft: Draft) -> Result<Outbox, Fail> {
-    let mut outbox = Outbox::starting_after(alloc, draft.dropped)?;
-    if draft.keeps_post && draft.dropped < 9 {
-        outbox.add(Message::Join { node: id(1)? });
-    }
-    if draft.answered > 0 {
-        outbox.keep(draft.answered, Answer::Stored);
-    }
+fn outbox(alloc: Global, dropped: u8) -> Result<Outbox, Fail> {
+    let mut outbox = Outbox::starting_after(alloc, u64::from(dropped))?;
+    outbox.add(Message::Join { node: id(1)? });
     Ok(outbox)
 }
 
-fn restored(alloc: Global, draft: Draft) -> Result<Option<Node>, Fail> {
-    let parts = CoreParts {
-        me: id(draft.me)?,
-        beta: draft.beta,
-        gamma: draft.gamma,
-        churn: churn(alloc, draft)?,
-        ops: ops(alloc, draft)?,
-        posts: draft.posts,
-        links: links(alloc, draft)?,
-        sessions: sessions(alloc, draft)?,
-    };
-    Ok(Node::restored(parts, outbox(alloc, draft)?))
+// The outbox of one post, and of an answer.
+#[tactic(auto, using(cc_views::specs::MapLaws::len_insert))]
+fn answered(alloc: Global, session: u64) -> Result<Outbox, Fail> {
+    let mut outbox = Outbox::new(alloc)?;
+    outbox.add(Message::Join { node: id(1)? });
+    outbox.keep(session, Answer::Stored);
+    Ok(outbox)
 }
 
-// How many of the drafts a node is restored from.
-fn count_restored(alloc: Global, drafts: &[Draft]) -> Result<usize, Fail> {
-    let mut count = 0;
-    for draft in drafts {
-        if restored(alloc, *draft)?.is_some() {
-            count += 1;
-        }
-    }
-    Ok(count)
+// Node 1 alone, which has posted once and waits for its own acknowledgement.
+fn parts(alloc: Global) -> Result<CoreParts, Fail> {
+    Ok(CoreParts {
+        me: id(1)?,
+        beta: FOUR_FIFTHS,
+        gamma: FOUR_FIFTHS,
+        churn: churn(alloc, 1, 1, 0)?,
+        ops: ops(alloc, 1, Stage::Storing(pending(Command::SetFlag)), 1)?,
+        posts: 1,
+        links: links(alloc, 0, 0, 0)?,
+        sessions: sessions(alloc, 1)?,
+    })
+}
+
+// The same with an operation in this round.
+fn in_round(alloc: Global, stage: Stage, seen: u32) -> Result<CoreParts, Fail>
+    requires { HasWaiting stage }
+{
+    let mut parts = parts(alloc)?;
+    parts.ops = ops(alloc, 1, stage, seen)?;
+    Ok(parts)
+}
+
+fn with_churn(alloc: Global, entered: u32, joined: u32, left: u32) -> Result<CoreParts, Fail> {
+    let mut parts = parts(alloc)?;
+    parts.churn = churn(alloc, entered, joined, left)?;
+    Ok(parts)
+}
+
+fn with_link(alloc: Global, start: u64, acked: u64, heard: u64) -> Result<CoreParts, Fail> {
+    let mut parts = parts(alloc)?;
+    parts.links = links(alloc, start, acked, heard)?;
+    Ok(parts)
+}
+
+fn with_request(alloc: Global, last: u64) -> Result<CoreParts, Fail> {
+    let mut parts = in_round(alloc, Stage::Idle, 1)?;
+    parts.sessions = sessions(alloc, last)?;
+    Ok(parts)
+}
+
+// Whether a node is restored that keeps post 1 and no answer.
+fn is_restored(alloc: Global, parts: CoreParts) -> Result<bool, Fail> {
+    let outbox = outbox(alloc, 0)?;
+    Ok(Node::restored(parts, outbox).is_some())
 }
 
 #[test]
 fn a_lawful_state_is_restored(rt: HostRuntime) -> Result<(), Fail> {
-    let node = restored(rt.alloc(), LAWFUL)?.ok_or("the state is lawful")?;
+    let restored = Node::restored(parts(rt.alloc())?, outbox(rt.alloc(), 0)?);
+    let node = restored.ok_or("the state is lawful")?;
     let core = node.core();
-    assert_eq!(rt; (core.beta(), core.gamma()), (FOUR_FIFTHS, FOUR_FIFTHS));
+    assert_eq!(rt; core.beta(), FOUR_FIFTHS);
+    assert_eq!(rt; core.gamma(), FOUR_FIFTHS);
     assert!(rt; core.churn().has_joined(core.me()));
-    assert_eq!(rt; core.ops().stage(), stage(LAWFUL.round));
+    assert_eq!(rt; core.ops().number(), 1);
     assert_eq!(rt; core.sessions().finish(7), Some(1));
-    assert_eq!(rt; (node.outbox().last(), node.kept()), (1, 1));
+    assert_eq!(rt; node.outbox().last(), 1);
     Ok(())
 }
 
 #[test]
 fn each_round_is_restored(rt: HostRuntime) -> Result<(), Fail> {
-    let lawful = [
-        Draft {
-            round: Round::Idle,
-            answered: 7,
-            ..LAWFUL
-        },
-        Draft {
-            round: Round::Querying(Command::Collect),
-            ..LAWFUL
-        },
-        Draft {
-            round: Round::StoringBack(Command::Collect),
-            seen: 1,
-            ..LAWFUL
-        },
-    ];
-    assert_eq!(rt; count_restored(rt.alloc(), &lawful)?, 3);
+    let idle = in_round(rt.alloc(), Stage::Idle, 1)?;
+    assert!(rt; is_restored(rt.alloc(), idle)?);
+    let querying = Stage::Querying(pending(Command::Collect));
+    let querying = in_round(rt.alloc(), querying, 1)?;
+    assert!(rt; is_restored(rt.alloc(), querying)?);
+    let storing_back = Stage::StoringBack(pending(Command::Collect));
+    let storing_back = in_round(rt.alloc(), storing_back, 1)?;
+    assert!(rt; is_restored(rt.alloc(), storing_back)?);
     Ok(())
 }
 
 #[test]
 fn a_share_is_above_0_and_at_most_1(rt: HostRuntime) -> Result<(), Fail> {
-    let nothing = Fraction { num: 0, den: 5 };
-    let beyond = Fraction { num: 6, den: 5 };
-    let flawed = [
-        Draft {
-            beta: nothing,
-            ..LAWFUL
-        },
-        Draft {
-            gamma: beyond,
-            ..LAWFUL
-        },
-    ];
-    assert_eq!(rt; count_restored(rt.alloc(), &flawed)?, 0);
+    let mut nothing = parts(rt.alloc())?;
+    nothing.beta = Fraction { num: 0, den: 5 };
+    assert!(rt; !is_restored(rt.alloc(), nothing)?);
+    let mut beyond = parts(rt.alloc())?;
+    beyond.gamma = Fraction { num: 6, den: 5 };
+    assert!(rt; !is_restored(rt.alloc(), beyond)?);
     Ok(())
 }
 
 #[test]
-fn each_node_of_a_state_is_known(rt: HostRuntime) -> Result<(), Fail> {
-    let flawed = [
-        Draft { me: 2, ..LAWFUL },
-        Draft {
-            entered: 2,
-            joined: 0,
-            ..LAWFUL
-        },
-        Draft {
-            joined: 2,
-            ..LAWFUL
-        },
-        Draft { left: 2, ..LAWFUL },
-        Draft {
-            viewed: 2,
-            ..LAWFUL
-        },
-        Draft {
-            round: Round::StoringBack(Command::Collect),
-            seen: 2,
-            ..LAWFUL
-        },
-    ];
-    assert_eq!(rt; count_restored(rt.alloc(), &flawed)?, 0);
+fn a_node_knows_itself_and_whom_it_has_seen(rt: HostRuntime) -> Result<(), Fail> {
+    let mut other = parts(rt.alloc())?;
+    other.me = id(2)?;
+    assert!(rt; !is_restored(rt.alloc(), other)?);
+    let mut seeing = parts(rt.alloc())?;
+    seeing.ops = ops(rt.alloc(), 2, Stage::Idle, 1)?;
+    assert!(rt; !is_restored(rt.alloc(), seeing)?);
+    let storing_back = Stage::StoringBack(pending(Command::Collect));
+    let storing_back = in_round(rt.alloc(), storing_back, 2)?;
+    assert!(rt; !is_restored(rt.alloc(), storing_back)?);
     Ok(())
 }
 
 #[test]
-fn who_joined_has_entered(rt: HostRuntime) -> Result<(), Fail> {
-    let flawed = Draft {
-        entered: 0,
-        ..LAWFUL
-    };
-    assert!(rt; restored(rt.alloc(), flawed)?.is_none());
+fn who_comes_and_goes_is_known_and_has_entered(rt: HostRuntime) -> Result<(), Fail> {
+    for (entered, joined, left) in [(2, 0, 0), (1, 2, 0), (1, 1, 2), (0, 1, 0)] {
+        let parts = with_churn(rt.alloc(), entered, joined, left)?;
+        assert!(rt; !is_restored(rt.alloc(), parts)?);
+    }
     Ok(())
 }
 
 #[test]
-fn links_and_counts_are_within_their_limits(rt: HostRuntime) -> Result<(), Fail> {
-    let past = (1 << 62) + 1;
-    let flawed = [
-        Draft { start: 2, ..LAWFUL },
-        Draft { acked: 2, ..LAWFUL },
-        Draft {
-            heard: past,
-            ..LAWFUL
-        },
-        Draft {
-            round: Round::Idle,
-            request: 0,
-            ..LAWFUL
-        },
-        Draft {
-            round: Round::Idle,
-            request: past,
-            ..LAWFUL
-        },
-        Draft {
-            posts: past,
-            start: past,
-            dropped: past,
-            keeps_post: false,
-            ..LAWFUL
-        },
-        Draft {
-            need: 257,
-            ..LAWFUL
-        },
-    ];
-    assert_eq!(rt; count_restored(rt.alloc(), &flawed)?, 0);
+fn links_and_sessions_are_within_their_bounds(rt: HostRuntime) -> Result<(), Fail> {
+    for (start, acked, heard) in [(2, 0, 0), (0, 2, 0), (0, 0, PAST)] {
+        let parts = with_link(rt.alloc(), start, acked, heard)?;
+        assert!(rt; !is_restored(rt.alloc(), parts)?);
+    }
+    for last in [0, PAST] {
+        let parts = with_request(rt.alloc(), last)?;
+        assert!(rt; !is_restored(rt.alloc(), parts)?);
+    }
     Ok(())
 }
 
 #[test]
-fn the_pending_request_is_the_last_of_its_session(rt: HostRuntime) -> Result<(), Fail> {
-    let flawed = [
-        Draft {
-            request: 2,
-            ..LAWFUL
-        },
-        Draft {
-            round: Round::Storing(Command::Collect),
-            ..LAWFUL
-        },
-        Draft {
-            round: Round::Querying(Command::SetFlag),
-            ..LAWFUL
-        },
-        Draft {
-            round: Round::StoringBack(Command::SetFlag),
-            ..LAWFUL
-        },
-    ];
-    assert_eq!(rt; count_restored(rt.alloc(), &flawed)?, 0);
+fn counts_are_within_their_limits(rt: HostRuntime) -> Result<(), Fail> {
+    let mut needing = parts(rt.alloc())?;
+    needing.churn = Churn::from_parts(Changes::new(rt.alloc())?, 0, 257);
+    assert!(rt; !is_restored(rt.alloc(), needing)?);
+    let mut posting = with_link(rt.alloc(), PAST, 0, 0)?;
+    posting.posts = PAST;
+    let dropped = Outbox::starting_after(rt.alloc(), PAST)?;
+    assert!(rt; Node::restored(posting, dropped).is_none());
+    Ok(())
+}
+
+#[test]
+fn the_last_request_pends_in_a_round_of_its_own(rt: HostRuntime) -> Result<(), Fail> {
+    let reading = Stage::Storing(pending(Command::Collect));
+    let reading = in_round(rt.alloc(), reading, 1)?;
+    assert!(rt; !is_restored(rt.alloc(), reading)?);
+    let writing = Stage::Querying(pending(Command::SetFlag));
+    let writing = in_round(rt.alloc(), writing, 1)?;
+    assert!(rt; !is_restored(rt.alloc(), writing)?);
+    let mut earlier = parts(rt.alloc())?;
+    earlier.sessions = sessions(rt.alloc(), 2)?;
+    assert!(rt; !is_restored(rt.alloc(), earlier)?);
     Ok(())
 }
 
 #[test]
 fn just_the_posts_not_acknowledged_are_kept(rt: HostRuntime) -> Result<(), Fail> {
-    let flawed = [
-        Draft {
-            dropped: 1,
-            ..LAWFUL
-        },
-        Draft {
-            dropped: 1,
-            keeps_post: false,
-            ..LAWFUL
-        },
-        Draft { acked: 1, ..LAWFUL },
-    ];
-    assert_eq!(rt; count_restored(rt.alloc(), &flawed)?, 0);
+    let later = outbox(rt.alloc(), 1)?;
+    assert!(rt; Node::restored(parts(rt.alloc())?, later).is_none());
+    let dropped = Outbox::starting_after(rt.alloc(), 1)?;
+    assert!(rt; Node::restored(parts(rt.alloc())?, dropped).is_none());
+    let acknowledged = with_link(rt.alloc(), 0, 1, 0)?;
+    assert!(rt; !is_restored(rt.alloc(), acknowledged)?);
     Ok(())
 }
 
 #[test]
 fn answers_are_of_requests_that_are_done(rt: HostRuntime) -> Result<(), Fail> {
-    let flawed = [
-        Draft {
-            answered: 7,
-            ..LAWFUL
-        },
-        Draft {
-            answered: 8,
-            ..LAWFUL
-        },
-    ];
-    assert_eq!(rt; count_restored(rt.alloc(), &flawed)?, 0);
+    let idle = in_round(rt.alloc(), Stage::Idle, 1)?;
+    assert!(rt; Node::restored(idle, answered(rt.alloc(), 7)?).is_some());
+    let idle = in_round(rt.alloc(), Stage::Idle, 1)?;
+    assert!(rt; Node::restored(idle, answered(rt.alloc(), 8)?).is_none());
+    let pending = parts(rt.alloc())?;
+    assert!(rt; Node::restored(pending, answered(rt.alloc(), 7)?).is_none());
     Ok(())
 }
