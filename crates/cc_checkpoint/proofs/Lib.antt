@@ -5,3 +5,4 @@ pub mod TableReads
 pub mod Restored
 pub mod LawfulFields
 pub mod Decoded
+pub mod StateLengths

@@ -10,5 +10,7 @@ mod state_reader;
 mod state_writer;
 
 pub use fault::StateFault;
-pub use laws::{one_spelling_of_nodes, one_spelling_of_states};
+pub use laws::{
+    largest_node, lawful_states_are_of_nodes, one_spelling_of_nodes, one_spelling_of_states,
+};
 pub use state::{decode_state, encode_state};

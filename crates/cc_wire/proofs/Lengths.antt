@@ -85,7 +85,7 @@ length-id_set : (s : NatSet) → IsIdSet s → length (id_set_spelling s) ≤ 10
 length-id_set s is = omega (arith, is.fits, length-listed (items s))
 
 -- three sets of ids
-length-changes : (c : ChangeSets) → IsChanges c → length (changes_spelling c) ≤ 3078
+pub length-changes : (c : ChangeSets) → IsChanges c → length (changes_spelling c) ≤ 3078
 length-changes c is =
     omega (
       arith,
