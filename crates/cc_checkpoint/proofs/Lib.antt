@@ -9,3 +9,4 @@ mod Imaged
 pub mod Restored
 pub mod LawfulFields
 pub mod Decoded
+pub mod StateLengths

@@ -17,6 +17,8 @@ pub use choosing::{InUse, choose};
 pub use fault::StateFault;
 pub use head::read_state;
 pub use image::{VERSION, encode_image};
-pub use laws::{one_spelling_of_nodes, one_spelling_of_states};
+pub use laws::{
+    largest_node, lawful_states_are_of_nodes, one_spelling_of_nodes, one_spelling_of_states,
+};
 pub use open_fault::OpenFault;
 pub use state::{decode_state, encode_state};
