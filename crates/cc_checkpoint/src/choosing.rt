@@ -20,8 +20,8 @@ pub struct InUse {
     pub generation: u64,
 }
 
-// How long a side is.
-pub(crate) fn length_of<S: Site>(site: &mut S, side: Side) -> Result<u64, OpenFault>
+/// How long a side is, in bytes, for a call that answers why two sides can't be opened.
+pub fn length_of<S: Site>(site: &mut S, side: Side) -> Result<u64, OpenFault>
     ensures value { S.honest site.old → IfOk result (λ n. n ≡ length (S.state site.old side).bytes) }
     ensures device { IfErr result (λ e. (fault : DeviceFault) × (e ≡ faults.Device fault)) }
     ensures reads { OnlyReads S.honest S.tells S.state S.sent S.moment S.left_since site.old site.new }

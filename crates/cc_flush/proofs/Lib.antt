@@ -1,1 +1,2 @@
 mod Formatted
+mod FoundSides

@@ -1,16 +1,40 @@
--- Why a site can't be opened.
+-- What opening a site finds, and why it can't be opened.
+--     IsFound         the contents stand for a node, whose next record goes there
+--     of_scan         a fault of the records of a side, as one of the site
+--     IsReadingFault  a fault that the contents are the reason of
 --     OpenFails       the fault that the reading rules name for these contents
-use Rattle.std.specs.Prelude.{◌≡◌, ◌⊎◌, ◌≤◌, ◌-◌, ℕ, List, drop, Ok, Err}
+use Rattle.std.specs.Prelude.{⊤, length, ◌≡◌, ◌⊎◌, ◌≤◌, ◌-◌, ℕ, List, drop, Ok, Err}
 use Rattle.cc_site.specs.declared.site.Side.{Side}
 use Rattle.cc_site.specs.declared.site.Side.TheVariants.{A, B}
+use Rattle.cc_site.specs.Sides.{other}
 use Rattle.cc_site.specs.Moments.{Contents}
+use Rattle.cc_node.specs.Sides.{StandsAt}
 use Rattle.cc_node.specs.Node.{Node}
 use Rattle.cc_checkpoint.specs.declared.choosing.InUse.{InUse}
 use Rattle.cc_checkpoint.specs.declared.open_fault.OpenFault.{OpenFault}
 use Rattle.cc_checkpoint.specs.declared.open_fault.OpenFault.TheVariants.{NotFormatted, Damaged, Version, Device, NoMemory}
 use Rattle.cc_checkpoint.specs.Choosing.{chosen}
 use Rattle.cc_checkpoint.specs.Heads.{HeadAt, HeadFails}
+use Rattle.cc_journal.specs.declared.scanning.ScanFault.{ScanFault}
+use Rattle.cc_journal.specs.declared.scanning.ScanFault.TheVariants as scans
+use Rattle.cc_journal.specs.Journals.{Position}
 use Rattle.cc_journal.specs.Scanning.{StopsAt}
+
+pub record IsFound (left : Contents) (node : Node) (at : Position) (generation used : ℕ) : Type 0 where
+  pub stands : StandsAt (left at.side) (left (other at.side)) generation at.place node
+  pub length : used ≡ length (left at.side)
+
+abbrev pub of_scan : Side → ScanFault → OpenFault
+of_scan side (scans.Damaged place) = Damaged side place
+of_scan side (scans.Device fault) = Device fault
+of_scan side scans.NoMemory = NoMemory
+
+abbrev pub IsReadingFault : OpenFault → Type 0
+IsReadingFault NotFormatted = ⊤
+IsReadingFault (Damaged side place) = ⊤
+IsReadingFault (Version version) = ⊤
+IsReadingFault (Device fault) = ⊥
+IsReadingFault NoMemory = ⊥
 
 -- no gate, or no record that the node takes, stands at this place of the side
 abbrev pub RecordsFail : Side → List ℕ → Node → ℕ → OpenFault → Type 0
@@ -29,8 +53,4 @@ abbrev pub ReadingFails : Contents → OpenFault → Type 0
 ReadingFails left fault = (chosen (left A) (left B) ≡ Err fault) ⊎ ((used : InUse) × (chosen (left A) (left B) ≡ Ok used) × SideFails used.side (left used.side) fault)
 
 abbrev pub OpenFails : Contents → OpenFault → Type 0
-OpenFails left NotFormatted = ReadingFails left NotFormatted
-OpenFails left (Damaged side place) = ReadingFails left (Damaged side place)
-OpenFails left (Version version) = ReadingFails left (Version version)
-OpenFails left (Device fault) = Unit {0}
-OpenFails left NoMemory = Unit {0}
+OpenFails left fault = IsReadingFault fault → ReadingFails left fault

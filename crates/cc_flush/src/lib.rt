@@ -5,6 +5,7 @@ mod back;
 mod committing;
 mod flusher;
 mod formatting;
+mod opening;
 
 pub use back::Back;
 pub use flusher::{Failed, Flusher};

@@ -1,6 +1,6 @@
 use Rattle.std.proofs.Common.{◌≡◌, ◌<◌, ◌^◌, ◌++◌, List, ℕ, length, sym, ◌∙◌, ap, subst, arith}
 use Rattle.cc_node.specs.Node.{Node}
-use Rattle.cc_node.specs.States.{state_of, state_spelling}
+use Rattle.cc_node.specs.States.{SpellsNode, state_of, state_spelling}
 use Rattle.cc_checkpoint.specs.Images.{SpellsImage, image_spelling}
 use Rattle.cc_checkpoint.proofs.StateLengths.{length-node}
 use Rattle.cc_checkpoint.proofs.Imaged.{image_spelled}

@@ -1,0 +1,80 @@
+-- What reading two sides found stands there, and opening them leaves it so.
+use Rattle.std.proofs.Common.{◌≡◌, inl, inr, ℕ, ◌+◌, ◌-◌, ◌≤◌, List, [], ◌∷◌, ◌++◌, length, drop, Result, Ok, Err, refl, sym, ◌∙◌, ap, subst, arith, length-append}
+use Rattle.std.specs.Prelude.{IfOk, IfErr}
+use Rattle.std.proofs.lemmas.List.{append_assoc}
+use Rattle.cc_wire.proofs.Spelled.{IsBytes}
+use Rattle.cc_wire.specs.declared.output.Output.{Output}
+use Rattle.cc_site.specs.declared.site.Side.{Side}
+use Rattle.cc_site.specs.declared.site.Side.TheVariants.{A, B}
+use Rattle.cc_site.specs.Sides.{SideState, MayLeave, other, settled}
+use Rattle.cc_site.specs.SideLaws.{settled_only}
+use Rattle.cc_site.specs.Moments.{Contents, Possible}
+use Rattle.cc_node.specs.Node.{Node}
+use Rattle.cc_node.specs.Sides.{OPEN, IsFront, Holds, StandsAt}
+use Rattle.cc_checkpoint.specs.declared.choosing.InUse.{InUse}
+use Rattle.cc_checkpoint.specs.declared.open_fault.OpenFault.{OpenFault}
+use Rattle.cc_checkpoint.specs.Choosing.{chosen}
+use Rattle.cc_checkpoint.specs.Heads.{HeadAt}
+use Rattle.cc_checkpoint.proofs.ChoosingLaws.{chosen_takes}
+use Rattle.cc_checkpoint.proofs.HeadLaws.{head_spelled}
+use Rattle.cc_journal.specs.Journals.{Position, IsAtRest}
+use Rattle.cc_journal.specs.Scanning.{ScansTo}
+use Rattle.cc_flush.specs.Opening.{IsFound}
+use Rattle.cc_flush.proofs.Formatted.{none_made}
+
+module _ (left : Contents) (used : InUse) (start node : Node) (first size records events : ℕ) (bytes : (side : Side) → IsBytes (left side)) (chose : chosen (left A) (left B) ≡ Ok used) (at_head : HeadAt (left used.side) start first)
+    (scans : ScansTo (drop first (left used.side)) start node size records events) where
+  pub held : StandsAt (left used.side) (left (other used.side)) used.generation (first + size) node
+  held =
+      let in_use = chosen_takes left used chose in
+      let head = head_spelled (left used.side) used.generation start first (bytes used.side) in_use.armed in_use.from_one in_use.is at_head in
+      record {
+        holds = record {
+          front = head.head ++ scans.front;
+          gate = scans.gate;
+          rest = scans.rest;
+          parts = head.parts ∙ ap (λ (l : List ℕ). head.head ++ l) scans.parts ∙ sym (append_assoc head.head scans.front (scans.gate ∷ scans.rest));
+          closed = scans.closed;
+          at_place = length-append head.head scans.front ∙ omega (arith, head.size, scans.at_size);
+          is_front = record {
+            start = start;
+            batches = scans.batches;
+            head = head.head;
+            records = scans.front;
+            parts = refl;
+            head_spelled = head.spelled;
+            records_spelled = scans.spelled;
+            lawful = scans.lawful;
+            leads_to = scans.leads_to;
+          };
+        };
+        yields = in_use.yields;
+      }
+
+pub found_stands : (left : Contents) (used : InUse) (start node : Node) (first records events : ℕ) (at : Position) → ((side : Side) → IsBytes (left side)) → chosen (left A) (left B) ≡ Ok used → HeadAt (left used.side) start first
+    → at.side ≡ used.side → first ≤ at.place → ScansTo (drop first (left used.side)) start node (at.place - first) records events → StandsAt (left at.side) (left (other at.side)) used.generation at.place node
+found_stands left used start node first records events at bytes chose head same onward scans =
+    subst (λ (s : Side). StandsAt (left s) (left (other s)) used.generation at.place node) (sym same)
+    (subst (λ (n : ℕ). StandsAt (left used.side) (left (other used.side)) used.generation n node) place (held left used start node first (at.place - first) records events bytes chose head scans))
+  where
+    place : first + (at.place - first) ≡ at.place
+    place = omega (arith, onward)
+
+pub same_bytes : (mid old : Side → SideState) → mid A ≡ settled (old A) → mid B ≡ settled (old B) → (side : Side) → (mid side).bytes ≡ (old side).bytes
+same_bytes mid old a b A = ap (λ (t : SideState). t.bytes) a
+same_bytes mid old a b B = ap (λ (t : SideState). t.bytes) b
+
+only_these : (mid old : Side → SideState) → mid A ≡ settled (old A) → mid B ≡ settled (old B) → (side : Side) (c : List ℕ) → MayLeave (mid side) c → c ≡ (old side).bytes
+only_these mid old a b A c may = settled_only (old A) c (subst (λ (t : SideState). MayLeave t c) a may)
+only_these mid old a b B c may = settled_only (old B) c (subst (λ (t : SideState). MayLeave t c) b may)
+
+pub opened_rests : (old mid new : Side → SideState) (sent : List Output) (node : Node) (at : Position) (generation : ℕ) → mid A ≡ settled (old A) → mid B ≡ settled (old B) → new ≡ mid → ((side : Side) → 1 ≤ length (old side).bytes)
+    → StandsAt (old at.side).bytes (old (other at.side)).bytes generation at.place node → IsAtRest new sent at generation node [] (length sent)
+opened_rests old mid new sent node at generation a b same there stands left told possible = record {
+  other_there = subst (λ (l : List ℕ). 1 ≤ length l) (sym (now (other at.side))) (there (other at.side));
+  stands = subst (λ (l : List ℕ). StandsAt l (left (other at.side)) generation at.place node) (sym (now at.side)) (subst (λ (l : List ℕ). StandsAt (old at.side).bytes l generation at.place node) (sym (now (other at.side))) stands);
+  made = none_made node sent told possible.outlet;
+}
+  where
+    now : (side : Side) → left side ≡ (old side).bytes
+    now side = only_these mid old a b side (left side) (subst (λ (t : Side → SideState). MayLeave (t side) (left side)) same (possible.each side))

@@ -1,0 +1,107 @@
+//! What two sides keep is found again.
+
+ghost use Rattle.std.specs.Prelude.{◌≡◌, ◌↔◌, ◌≤◌, [], length, OnOk, IfOk, IfErr, MatchResult, ℕ};
+ghost use Rattle.cc_site.specs.declared.site.Side.{Side as SideValue};
+ghost use Rattle.cc_site.specs.declared.site.Side.TheVariants.{A, B};
+ghost use Rattle.cc_site.specs.Sides.{settled};
+ghost use Rattle.cc_site.specs.Moments.{Elapses, EachMoment, Possible, Nothing};
+ghost use Rattle.cc_site.specs.Reads.{OnlyReads, bytes_of};
+ghost use Rattle.cc_checkpoint.specs.declared.open_fault.OpenFault.TheVariants as faults;
+ghost use Rattle.cc_checkpoint.specs.Faults.{CountsDevice};
+ghost use Rattle.cc_journal.specs.Journals.{IsAtRest};
+ghost use Rattle.cc_journal.specs.Reading.{IsScanned};
+ghost use Rattle.cc_flush.specs.Opening.{IsFound, IsReadingFault, OpenFails, RecordsFail, of_scan};
+
+use cc_checkpoint::{InUse, OpenFault, choose, length_of, read_state};
+use cc_journal::{Journal, ScanFault, Scanned, scan};
+use cc_node::Node;
+use cc_site::{DeviceFault, Side, Site};
+use std::alloc::Global;
+
+// What two sides hold: the node, where its next record goes, under which generation, and how long the side in use is.
+#[derive(Drop)]
+pub(crate) struct Found {
+    pub node: Node,
+    pub journal: Journal,
+    pub generation: u64,
+    pub used: u64,
+}
+
+// Makes sure of both sides.
+fn settle_sides<S: Site>(site: &mut S) -> Result<(), OpenFault>
+    ensures honest { S.honest site.old ↔ S.honest site.new }
+    ensures tells { (S.tells site.old ↔ S.tells site.new) × (S.sent site.new ≡ S.sent site.old) }
+    ensures value { S.honest site.old → OnOk result ((S.state site.new A ≡ settled (S.state site.old A)) × (S.state site.new B ≡ settled (S.state site.old B))) }
+    ensures time { S.honest site.old → Elapses (S.moment site.old) (S.moment site.new) (S.left_since site.old) (S.left_since site.new) Nothing }
+    ensures device { IfErr result (λ e. (fault : DeviceFault) × (e ≡ faults.Device fault)) }
+    ensures fault { CountsDevice (S.failures site.old) (S.failures site.new) result }
+{
+    site.sync(Side::A)?;
+    site.sync(Side::B)?;
+    Ok(())
+}
+
+// A fault of the records of a side, as one of the site.
+fn of_scan(side: Side, fault: ScanFault) -> OpenFault
+    ensures { result ≡ of_scan side fault }
+{
+    match fault {
+        ScanFault::Damaged(place) => OpenFault::Damaged(side, place),
+        ScanFault::Device(fault) => OpenFault::Device(fault),
+        ScanFault::NoMemory => OpenFault::NoMemory,
+    }
+}
+
+// Reads the records of a side from the gate at `first` on.
+fn read_records<S: Site>(
+    alloc: Global,
+    site: &mut S,
+    side: Side,
+    first: u64,
+    node: Node,
+) -> Result<Scanned, OpenFault>
+    ensures scanned { S.honest site.old → IfOk result (IsScanned (S.state site.old side).bytes side first node) }
+    ensures failed { S.honest site.old → IfErr result (λ fault. IsReadingFault fault → RecordsFail side (S.state site.old side).bytes node first fault) }
+    ensures reads { OnlyReads S.honest S.tells S.state S.sent S.moment S.left_since site.old site.new }
+    ensures fault { CountsDevice (S.failures site.old) (S.failures site.new) result }
+{
+    match scan(alloc, site, side, first, node) {
+        Ok(scanned) => Ok(scanned),
+        Err(fault) => Err(of_scan(side, fault)),
+    }
+}
+
+// Reads what both sides hold.
+fn read_sides<S: Site>(alloc: Global, site: &mut S) -> Result<Found, OpenFault>
+    ensures found { S.honest site.old → IfOk result (λ found. IsFound (bytes_of S.state site.old) found.node found.journal found.generation found.used) }
+    ensures failed { S.honest site.old → IfErr result (OpenFails (bytes_of S.state site.old)) }
+    ensures reads { OnlyReads S.honest S.tells S.state S.sent S.moment S.left_since site.old site.new }
+    ensures fault { CountsDevice (S.failures site.old) (S.failures site.new) result }
+{
+    let InUse { side, generation } = choose(site)?;
+    let (start, first) = read_state(alloc, site, side)?;
+    let Scanned { journal, node, .. } = read_records(alloc, site, side, first, start)?;
+    let used = length_of(site, side)?;
+    Ok(Found {
+        node,
+        journal,
+        generation,
+        used,
+    })
+}
+
+// Makes sure of both sides, and reads what they hold. It writes nothing.
+pub(crate) fn open_sides<S: Site>(alloc: Global, site: &mut S) -> Result<Found, OpenFault>
+    ensures honest { S.honest site.old ↔ S.honest site.new }
+    ensures tells { (S.tells site.old ↔ S.tells site.new) × (S.sent site.new ≡ S.sent site.old) }
+    ensures found { S.honest site.old → IfOk result (λ found. IsFound (bytes_of S.state site.old) found.node found.journal found.generation found.used) }
+    ensures failed { S.honest site.old → IfErr result (OpenFails (bytes_of S.state site.old)) }
+    ensures every_moment { S.honest site.old → EachMoment S.moment S.left_since site.old site.new (Possible (S.state site.old) (S.sent site.old)) }
+    ensures same_bytes { S.honest site.old → OnOk result ((side : SideValue) → (S.state site.new side).bytes ≡ (S.state site.old side).bytes) }
+    ensures at_rest { S.honest site.old → ((side : SideValue) → 1 ≤ length (S.state site.old side).bytes)
+        → IfOk result (λ found. IsAtRest (S.state site.new) (S.sent site.new) found.journal found.generation found.node [] (length (S.sent site.new))) }
+    ensures fault { CountsDevice (S.failures site.old) (S.failures site.new) result }
+{
+    settle_sides(site)?;
+    read_sides(alloc, site)
+}
