@@ -1,1 +1,3 @@
-
+mod EventOutputs
+mod LinkSends
+mod Puts

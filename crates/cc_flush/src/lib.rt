@@ -4,6 +4,7 @@
 mod back;
 mod flusher;
 mod format;
+mod outlet;
 
 pub use back::Back;
 pub use flusher::{Failed, Flusher};
