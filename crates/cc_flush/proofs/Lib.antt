@@ -1,3 +1,4 @@
 mod EventOutputs
 mod LinkSends
+pub mod Putting
 mod Puts

@@ -1,3 +1,3 @@
 mod Records
-mod Rests
+pub mod Rests
 mod Steps
