@@ -1,7 +1,7 @@
 -- What a node keeps of the post and the answer of an event that it took in.
 --     post_kept       the post is kept, where a live link is there to be sent it
 --     answer_kept     the answer is kept
-use Rattle.std.proofs.Common.{◌≡◌, ℕ, ◌+◌, ◌<◌, ◌≤◌, Bool, true, false, cond, not, nat_eq, nat_lt, List, [], ◌∷◌, refl, sym, ap, subst, ◌∙◌, arith}
+use Rattle.std.proofs.Common.{◌≡◌, ℕ, ◌+◌, ◌≤◌, Bool, true, false, cond, not, List, [], ◌∷◌, refl, sym, ap, subst, ◌∙◌, arith}
 use Rattle.std.specs.Prelude.{Option, Some, None, IfSome}
 use Rattle.std.specs.Option.{option_len}
 use Rattle.std.specs.List.{AllByRecursion}
@@ -14,9 +14,8 @@ use Rattle.cc_wire.specs.declared.event.Event.{Event}
 use Rattle.cc_wire.specs.declared.event.Event.TheVariants as event
 use Rattle.cc_wire.specs.declared.message.Message.{Message}
 use Rattle.cc_ops.specs.declared.pending.Reply.{Reply}
-use Rattle.cc_links.specs.Links.{Link, Links, with_row, add_all, hear, live, reach, ReachesWithin, LinksWithin}
+use Rattle.cc_links.specs.Links.{Link, Links, with_row, add_all, reach, ReachesWithin, LinksWithin}
 use Rattle.cc_links.specs.LinkLaws.{get-live, lowest_below, reaches_within, add_all_links}
-use Rattle.cc_outbox.specs.Outbox.{Outbox}
 use Rattle.cc_node.specs.Core.{Core, ids_of, next, post, reply, sends, send_post, lowest, live_links}
 use Rattle.cc_node.specs.Node.{Node, step, keep, add, forget_asked}
 use Rattle.cc_node.specs.Lawful.{IsLawfulNode}
