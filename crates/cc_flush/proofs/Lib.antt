@@ -1,2 +1,6 @@
 mod Formatted
 mod FoundSides
+mod EventOutputs
+mod LinkSends
+pub mod Putting
+mod Puts

@@ -1,3 +1,4 @@
 pub mod Engine
 pub mod Opening
 pub mod Formatting
+pub mod Outlet

@@ -6,6 +6,7 @@ mod committing;
 mod flusher;
 mod formatting;
 mod opening;
+mod outlet;
 
 pub use back::Back;
 pub use flusher::{Failed, Flusher};

@@ -1,5 +1,5 @@
 mod Records
-mod Rests
+pub mod Rests
 mod Steps
 mod EventReading
 mod BodyReading

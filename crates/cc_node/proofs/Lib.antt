@@ -3,6 +3,7 @@ pub mod Deciding
 pub mod Effects
 pub mod FreshLaws
 pub mod KeptLaws
+pub mod KeptOutputs
 pub mod KnownLaws
 pub mod LawfulLaws
 pub mod LineLaws

@@ -1,5 +1,7 @@
 -- What a node may put out again stood at the start, or was made since.
 --     standing_made
+--     posts_keep, last_forget     an answer is no post, and to forget one makes none
+--     get-above                   the posts above a number
 use Rattle.std.proofs.Common.{◌≡◌, ℕ, ◌+◌, ◌-◌, ◌<◌, ◌≤◌, ◌⊎◌, Bool, true, false, cond, not, nat_eq, nat_lt, List, [], ◌∷◌, ◌++◌, refl, sym, ap, subst, ◌∙◌, inl, inr, arith}
 use Rattle.std.specs.Prelude.{Option, Some, None, IfSome, is_some}
 use Rattle.std.specs.Bool.{then_some}
@@ -63,11 +65,11 @@ only_some : {X : Type 0} (b : Bool) (o : Option X) (x : X) → cond b o None ≡
 only_some true o x e = e
 only_some false o x e = cc
 
-posts_keep : (r : Option Reply) (o : Outbox) → (keep r o).posts ≡ o.posts
+pub posts_keep : (r : Option Reply) (o : Outbox) → (keep r o).posts ≡ o.posts
 posts_keep None o = refl
 posts_keep (Some r) o = refl
 
-last_forget : (e : Event) (o : Outbox) → (forget_asked e o).last ≡ o.last
+pub last_forget : (e : Event) (o : Outbox) → (forget_asked e o).last ≡ o.last
 last_forget event.Enter o = refl
 last_forget event.Leave o = refl
 last_forget (event.Deliver from n m) o = refl
@@ -85,7 +87,7 @@ kept_or_new (Some x) o number m e =
     ] refl
 
 -- what is kept above a number
-get-above : (low : ℕ) (posts : FinMap nat_cmp Message) (q : ℕ) → table.get (table.retain_keys posts (λ k. nat_lt low k)) q ≡ cond (nat_lt low q) (table.get posts q) None
+pub get-above : (low : ℕ) (posts : FinMap nat_cmp Message) (q : ℕ) → table.get (table.retain_keys posts (λ k. nat_lt low k)) q ≡ cond (nat_lt low q) (table.get posts q) None
 get-above low posts q = table.get-retain_keys posts (λ k. nat_lt low k) q (λ x tied. ap (nat_lt low) (sym (nat_cmp-IsAntisymmetric q x tied)))
 
 -- a live link that starts below an old post was live already, and no more was acknowledged on it

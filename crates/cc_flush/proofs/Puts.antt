@@ -1,0 +1,91 @@
+-- Runs of calls that put outputs.
+--     puts_none, puts_both           a run of no call;  a run after another
+--     HasPut, put_none, put_more     of some outputs, what isn't left has been put
+use Rattle.std.proofs.Common.{◌≡◌, ℕ, List, [], ◌++◌, refl, sym, ◌∙◌, ap, subst}
+use Rattle.std.proofs.lemmas.List.{append_assoc, append-nil}
+use Rattle.cc_wire.specs.declared.output.Output.{Output}
+use Rattle.cc_site.specs.declared.site.Side.{Side}
+use Rattle.cc_site.specs.Sides.{SideState, MayLeave}
+use Rattle.cc_site.specs.Moments.{Contents, Possible, started, joined, weaker}
+use Rattle.cc_flush.specs.Outlet.{IsPutting, Puts}
+
+-- nothing has been put yet
+pub putting_none : (state : Side → SideState) (sent all : List Output) (left : Contents) (told : List Output) → Possible state sent left told → IsPutting state sent all left told
+putting_none state sent all left told possible = record {
+  each = possible.each;
+  put = [];
+  rest = all;
+  parts = refl;
+  outlet = possible.outlet ∙ sym (append-nil sent);
+}
+
+-- while the first are put, others are to come
+putting_first : (state : Side → SideState) (sent xs ys : List Output) (left : Contents) (told : List Output) → IsPutting state sent xs left told → IsPutting state sent (xs ++ ys) left told
+putting_first state sent xs ys left told putting = record {
+  each = putting.each;
+  put = putting.put;
+  rest = putting.rest ++ ys;
+  parts = ap (λ (l : List Output). l ++ ys) putting.parts ∙ append_assoc putting.put putting.rest ys;
+  outlet = putting.outlet;
+}
+
+-- while the others are put, the first have been
+putting_then : (old mid : Side → SideState) (sent now xs ys : List Output) → mid ≡ old → now ≡ sent ++ xs → (left : Contents) (told : List Output) → IsPutting mid now ys left told → IsPutting old sent (xs ++ ys) left told
+putting_then old mid sent now xs ys same more left told putting = record {
+  each = λ side. subst (λ (t : Side → SideState). MayLeave (t side) (left side)) same (putting.each side);
+  put = xs ++ putting.put;
+  rest = putting.rest;
+  parts = ap (λ (l : List Output). xs ++ l) putting.parts ∙ sym (append_assoc xs putting.put putting.rest);
+  outlet = putting.outlet ∙ ap (λ (l : List Output). l ++ putting.put) more ∙ append_assoc sent xs putting.put;
+}
+
+module _ {D : Type 0} (honest tells : D → Type 0) (state : D → Side → SideState) (sent : D → List Output) (moment : D → ℕ) (left_since : D → ℕ → Contents → List Output → Type 0) (failures : D → ℕ) where
+  abbrev Run : List Output → D → D → Type 0
+  Run = Puts honest tells state sent moment left_since failures
+
+  pub puts_none : (site : D) → (honest site → (left : Contents) (told : List Output) → left_since site (moment site) left told → Possible (state site) (sent site) left told) → Run [] site site
+  puts_none site only = record {
+    same_honest = (λ h. h, λ h. h);
+    same_state = λ _. refl;
+    told = λ t. (t, sym (append-nil (sent site)));
+    moments = λ h _. started moment left_since site (IsPutting (state site) (sent site) []) (λ left told since. putting_none (state site) (sent site) [] left told (only h left told since));
+    same_failures = refl;
+  }
+
+  pub puts_both : (old mid new : D) (xs ys : List Output) → Run xs old mid → Run ys mid new → Run (xs ++ ys) old new
+  puts_both old mid new xs ys first then = record {
+    same_honest = (λ h. then.same_honest.0 (first.same_honest.0 h), λ h. first.same_honest.1 (then.same_honest.1 h));
+    same_state = λ h. then.same_state (first.same_honest.0 h) ∙ first.same_state h;
+    told = λ t.
+        let after = then.told t in
+        let before = first.told after.0 in
+        (before.0, after.1 ∙ ap (λ (l : List Output). l ++ ys) before.1 ∙ append_assoc (sent old) xs ys);
+    moments = λ h t.
+        let after = then.told t in
+        joined moment left_since old mid new (IsPutting (state old) (sent old) (xs ++ ys))
+        (weaker moment left_since old mid (IsPutting (state old) (sent old) xs) (IsPutting (state old) (sent old) (xs ++ ys)) (first.moments h after.0)
+        (putting_first (state old) (sent old) xs ys))
+        (weaker moment left_since mid new (IsPutting (state mid) (sent mid) ys) (IsPutting (state old) (sent old) (xs ++ ys)) (then.moments (first.same_honest.0 h) t)
+        (putting_then (state old) (state mid) (sent old) (sent mid) xs ys (first.same_state h) (first.told after.0).1));
+    same_failures = then.same_failures ∙ first.same_failures;
+  }
+
+  -- of all, what isn't left has been put
+  pub record HasPut (old now : D) (all left : List Output) : Type 0 where
+    pub front : List Output
+    pub puts : Run front old now
+    pub parts : all ≡ front ++ left
+
+  pub put_none : (site : D) (all : List Output) → (honest site → (left : Contents) (told : List Output) → left_since site (moment site) left told → Possible (state site) (sent site) left told) → HasPut site site all all
+  put_none site all only = record { front = []; puts = puts_none site only; parts = refl }
+
+  pub put_more : (old now new : D) (all left first rest : List Output) → HasPut old now all left → left ≡ first ++ rest → Run first now new → HasPut old new all rest
+  put_more old now new all left first rest put split run = record {
+    front = put.front ++ first;
+    puts = puts_both old now new put.front first put.puts run;
+    parts = put.parts ∙ ap (λ (l : List Output). put.front ++ l) split ∙ sym (append_assoc put.front first rest);
+  }
+
+  pub put_all : (old now : D) (all outputs left : List Output) → HasPut old now all left → all ≡ outputs → left ≡ [] → Run outputs old now
+  put_all old now all outputs left put is none =
+      subst (λ (l : List Output). Run l old now) (sym (put.parts ∙ ap (λ (l : List Output). put.front ++ l) none ∙ append-nil put.front) ∙ is) put.puts

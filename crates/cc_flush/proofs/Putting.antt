@@ -1,0 +1,69 @@
+-- While the outputs of durable events are put, the site is good and rests.
+--     putting_rests, putting_good      at each moment
+--     put_last                         at the last one
+--     puts_good, puts_rest             along a run of calls, and after it
+--     line_of_one                      the outputs of one event
+use Rattle.std.proofs.Common.{◌≡◌, ◌⊎◌, inr, ⊎_elim, ℕ, zero, suc, List, [], ◌∷◌, ◌++◌, length, take, drop, refl, sym, ◌∙◌, ap, subst, arith, take-append-drop}
+use Rattle.std.specs.List.{Contains}
+use Rattle.std.proofs.lemmas.List.{append-nil}
+use Rattle.std.proofs.lemmas.List.Elements.{Contains-append_cases, Contains-append_left, Contains-append_right}
+use Rattle.cc_wire.specs.declared.event.Event.{Event}
+use Rattle.cc_wire.specs.declared.output.Output.{Output}
+use Rattle.cc_site.specs.declared.site.Side.{Side}
+use Rattle.cc_site.specs.Sides.{SideState, MayLeave}
+use Rattle.cc_site.specs.Moments.{Contents, Possible, EachMoment, weaker}
+use Rattle.cc_node.specs.Core.{outputs}
+use Rattle.cc_node.specs.Node.{Node, after, line}
+use Rattle.cc_node.specs.Histories.{line-append}
+use Rattle.cc_journal.specs.Journals.{Position, IsGood, Rests, IsAtRest}
+use Rattle.cc_journal.proofs.Rests.{rests_whole_good}
+use Rattle.cc_flush.specs.Outlet.{IsPutting, Puts}
+
+contains_drop : (n : ℕ) (ys : List Output) (output : Output) → Contains (drop n ys) output → Contains ys output
+contains_drop n ys output has = subst (λ (l : List Output). Contains l output) (take-append-drop n ys) (Contains-append_right (take n ys) (drop n ys) output has)
+
+contains_past : (n : ℕ) (xs ys : List Output) (output : Output) → Contains (drop n (xs ++ ys)) output → Contains (drop n xs) output ⊎ Contains ys output
+contains_past zero xs ys output has = Contains-append_cases xs ys output has
+contains_past (suc n) [] ys output has = inr (contains_drop (suc n) ys output has)
+contains_past (suc n) (x ∷ xs) ys output has = contains_past n xs ys output has
+
+pub line_of_one : (n : Node) (e : Event) → line n (e ∷ []) ≡ outputs n.core e
+line_of_one n e = append-nil (outputs n.core e)
+
+-- the journal rests with all events, and the node is that before the last of them
+module _ (at : Position) (generation : ℕ) (start node : Node) (before events : List Event) (opening : ℕ) (is : node ≡ after start before) where
+  module _ (state : Side → SideState) (sent : List Output) (rest : IsAtRest state sent at generation start (before ++ events) opening) where
+    pub putting_rests : (left : Contents) (told : List Output) → IsPutting state sent (line node events) left told → Rests at generation start (before ++ events) opening left told
+    putting_rests left told putting =
+        let was = rest left sent (record { each = putting.each; outlet = refl }) in
+        let all : line start (before ++ events) ≡ line start before ++ (putting.put ++ putting.rest) =
+        line-append start before events ∙ ap (λ (n : Node). line start before ++ line n events) (sym is) ∙ ap (λ (l : List Output). line start before ++ l) putting.parts in
+        record {
+          other_there = was.other_there;
+          stands = was.stands;
+          made = λ output has. ⊎_elim (was.made output)
+              (λ new. inr (subst (λ (l : List Output). Contains l output) (sym all) (Contains-append_right (line start before) (putting.put ++ putting.rest) output (Contains-append_left putting.put putting.rest output new))))
+              (contains_past opening sent putting.put output (subst (λ (l : List Output). Contains (drop opening l) output) putting.outlet has));
+        }
+
+    pub putting_good : (left : Contents) (told : List Output) → IsPutting state sent (line node events) left told → IsGood start (before ++ events) (length (before ++ events)) opening left told
+    putting_good left told putting = rests_whole_good at generation start (before ++ events) opening (length (before ++ events)) left told (omega arith) (putting_rests left told putting)
+
+  module _ {D : Type 0} (honest tells : D → Type 0) (state : D → Side → SideState) (sent : D → List Output) (moment : D → ℕ) (left_since : D → ℕ → Contents → List Output → Type 0) (failures : D → ℕ) (old new : D)
+      (puts : Puts honest tells state sent moment left_since failures (line node events) old new) (is_honest : honest old) (is_told : tells new) (rest : IsAtRest (state old) (sent old) at generation start (before ++ events) opening) where
+    -- all outputs have been put
+    put_last : (left : Contents) (told : List Output) → Possible (state new) (sent new) left told → IsPutting (state old) (sent old) (line node events) left told
+    put_last left told possible = record {
+      each = λ side. subst (λ (t : Side → SideState). MayLeave (t side) (left side)) (puts.same_state is_honest) (possible.each side);
+      put = line node events;
+      rest = [];
+      parts = sym (append-nil (line node events));
+      outlet = possible.outlet ∙ (puts.told is_told).1;
+    }
+
+    pub puts_good : EachMoment moment left_since old new (IsGood start (before ++ events) (length (before ++ events)) opening)
+    puts_good = weaker moment left_since old new (IsPutting (state old) (sent old) (line node events)) (IsGood start (before ++ events) (length (before ++ events)) opening) (puts.moments is_honest is_told)
+        (putting_good (state old) (sent old) rest)
+
+    pub puts_rest : IsAtRest (state new) (sent new) at generation start (before ++ events) opening
+    puts_rest left told possible = putting_rests (state old) (sent old) rest left told (put_last left told possible)

@@ -1,0 +1,12 @@
+use Rattle.std.proofs.Common.{drop}
+use Rattle.cc_flush.proofs.LinkSends.{row_sends, AllStart}
+use Rattle.cc_flush.proofs.Puts.{HasPut}
+use Rattle.cc_flush.proofs.outlet.put_on_links.Given as goal
+
+abbrev pub invariant-loop-row : goal.invariant-loop-row
+invariant-loop-row g l =
+    let s = g.S.Site in
+    record {
+      start : AllStart l.core.posts (drop l.row-index l.rows);
+      put : HasPut s.honest s.tells s.state s.sent s.moment s.left_since s.failures l.fn.site l.site (row_sends l.core l.post l.rows) (row_sends l.core l.post (drop l.row-index l.rows));
+    }

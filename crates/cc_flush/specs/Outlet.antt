@@ -1,0 +1,49 @@
+-- What is put to an outlet.
+--     IsPutting           the sides are as they were, and the outlet has got the first of these outputs
+--     Puts                a run of calls that puts these outputs, and does nothing else
+--     on_link             the last post on a link, unless its peer has left
+--     request_of          which request of its session a reply answers
+--     new_post            the last post of a node, where more than so many were made
+--     kept_reply          the answer that is kept for a request's session
+use Rattle.std.specs.Prelude.{◌≡◌, ◌↔◌, ℕ, ◌-◌, List, [], ◌∷◌, ◌++◌, Option, Some, None, option_map, nat_lt, if◌then◌else◌}
+use Rattle.std.specs.FinMap as table
+use Rattle.cc_views.specs.NatSets as set
+use Rattle.cc_links.specs.declared.link_row.LinkRow.{LinkRow}
+use Rattle.cc_wire.specs.declared.output.Output.TheVariants as output
+use Rattle.cc_node.specs.Core.{Core}
+use Rattle.cc_wire.specs.declared.message.Message.{Message}
+use Rattle.cc_wire.specs.declared.output.Output.{Output}
+use Rattle.cc_ops.specs.declared.pending.Reply.{Reply}
+use Rattle.cc_outbox.specs.Outbox.{Outbox}
+use Rattle.cc_node.specs.Node.{Node}
+use Rattle.cc_site.specs.declared.site.Side.{Side}
+use Rattle.cc_site.specs.Sides.{SideState, MayLeave}
+use Rattle.cc_site.specs.Moments.{Contents, EachMoment}
+use Rattle.cc_flush.specs.declared.outlet.Answered.{Answered}
+
+pub record IsPutting (state : Side → SideState) (sent more : List Output) (left : Contents) (told : List Output) : Type 0 where
+  pub each : (side : Side) → MayLeave (state side) (left side)
+  pub put : List Output
+  pub rest : List Output
+  pub parts : more ≡ put ++ rest
+  pub outlet : told ≡ sent ++ put
+
+pub record Puts {D : Type 0} (honest tells : D → Type 0) (state : D → Side → SideState) (sent : D → List Output) (moment : D → ℕ) (left_since : D → ℕ → Contents → List Output → Type 0) (failures : D → ℕ) (outputs : List Output) (old new : D) : Type 0 where
+  pub same_honest : honest old ↔ honest new
+  pub same_state : honest old → state new ≡ state old
+  pub told : tells new → tells old × (sent new ≡ sent old ++ outputs)
+  pub moments : honest old → tells new → EachMoment moment left_since old new (IsPutting (state old) (sent old) outputs)
+  pub same_failures : failures new ≡ failures old
+
+abbrev pub on_link : Core → Message → LinkRow → List Output
+on_link c m row = if set.contains c.churn.changes.left row.peer then [] else output.Send row.peer (c.posts - row.start) m ∷ []
+
+abbrev pub request_of : Reply → Answered
+request_of reply = record { session = reply.session; request = reply.request }
+
+abbrev pub new_post : ℕ → Node → Option Message
+new_post before n = if nat_lt before n.core.posts then table.get n.outbox.posts n.core.posts else None
+
+abbrev pub kept_reply : Option Answered → Outbox → Option Reply
+kept_reply None o = None
+kept_reply (Some answered) o = option_map (λ answer. record { session = answered.session; request = answered.request; answer = answer }) (table.get o.answers answered.session)

@@ -1,0 +1,109 @@
+//! The outputs of a durable event are put to the site.
+
+ghost use Rattle.std.specs.Prelude.{◌≡◌, ◌≤◌, ◌∷◌, [], Some, option_map};
+ghost use Rattle.cc_links.specs.Links.{LinksWithin};
+ghost use Rattle.cc_node.specs.Core.{send_ack, send_post, send_reply, outputs};
+ghost use Rattle.cc_node.specs.Node.{step};
+ghost use Rattle.cc_journal.specs.Batches.{AreLawful};
+ghost use Rattle.cc_flush.specs.Outlet.{Puts, request_of, new_post, kept_reply, on_link};
+
+use cc_journal::Entry;
+use cc_links::LinkRow;
+use cc_node::{Core, LinkAck, Made, Node};
+use cc_outbox::Outbox;
+use cc_site::Site;
+use cc_wire::Message;
+
+// Which request of its session an event answers. The answer is kept in the outbox.
+#[derive(Clone, Copy)]
+struct Answered {
+    session: u64,
+    request: u64,
+}
+
+/// Takes an accepted event into the node, and puts its outputs: the acknowledgement, the post on each live link by
+/// ascending peer, the reply.
+pub(crate) fn put_entry<S: Site>(node: &mut Node, site: &mut S, entry: Entry)
+    requires { AreLawful node.old (entry ∷ []) }
+    ensures node { node.new ≡ step node.old entry.event }
+    ensures puts { Puts S.honest S.tells S.state S.sent S.moment S.left_since S.failures (outputs node.old.core entry.event) site.old site.new }
+{
+    let Entry { event, made } = entry;
+    let ack = made.ack;
+    let answered = answered_by(&made);
+    let posts = node.core().posts();
+    node.settle(event, made);
+    put_ack(site, ack);
+    put_post(site, node, posts);
+    put_reply(site, node.outbox(), answered);
+}
+
+fn answered_by(made: &Made) -> Option<Answered>
+    ensures { result ≡ option_map request_of made.now.answer }
+{
+    let reply = made.answer.as_ref()?;
+    Some(Answered {
+        session: reply.session,
+        request: reply.request,
+    })
+}
+
+fn put_ack<S: Site>(site: &mut S, ack: Option<LinkAck>)
+    ensures { Puts S.honest S.tells S.state S.sent S.moment S.left_since S.failures (send_ack ack) site.old site.new }
+{
+    if let Some(ack) = ack {
+        site.ack(ack.to, ack.number);
+    }
+}
+
+// Puts the last post on each live link, where the node has made more posts than so many.
+fn put_post<S: Site>(site: &mut S, node: &Node, before: u64)
+    ensures { Puts S.honest S.tells S.state S.sent S.moment S.left_since S.failures (send_post node.now.core (new_post before node.now)) site.old site.new }
+{
+    if let Some(post) = new_post(node, before) {
+        put_on_links(site, node.core(), post);
+    }
+}
+
+// The last post, where there are more than so many. None too for a post that no live link needed, which isn't kept.
+fn new_post(node: &Node, before: u64) -> Option<&Message>
+    ensures { option_map (λ m. m.now) result ≡ new_post before node.now }
+{
+    let posts = node.core().posts();
+    if before < posts {
+        node.outbox().post(posts)
+    } else {
+        None
+    }
+}
+
+fn put_on_links<S: Site>(site: &mut S, core: &Core, post: &Message)
+    requires { LinksWithin core.now.posts core.now.links }
+    ensures { Puts S.honest S.tells S.state S.sent S.moment S.left_since S.failures (send_post core.now (Some post.now)) site.old site.new }
+{
+    let rows = core.links().rows();
+    for row in rows {
+        put_on_link(site, core, row, post);
+    }
+}
+
+// Puts the last post on a link, unless its peer has left.
+fn put_on_link<S: Site>(site: &mut S, core: &Core, row: &LinkRow, post: &Message)
+    requires { row.now.start ≤ core.now.posts }
+    ensures { Puts S.honest S.tells S.state S.sent S.moment S.left_since S.failures (on_link core.now post.now row.now) site.old site.new }
+{
+    if !core.churn().has_left(row.peer) {
+        site.send(row.peer, core.posts() - row.start, post);
+    }
+}
+
+fn put_reply<S: Site>(site: &mut S, outbox: &Outbox, answered: Option<Answered>)
+    ensures { Puts S.honest S.tells S.state S.sent S.moment S.left_since S.failures (send_reply (kept_reply answered outbox.now)) site.old site.new }
+{
+    let Some(answered) = answered else {
+        return;
+    };
+    if let Some(answer) = outbox.answer(answered.session) {
+        site.reply(answered.session, answered.request, answer);
+    }
+}

@@ -1,0 +1,99 @@
+-- What a node keeps of the post and the answer of an event that it took in.
+--     post_kept       the post is kept, where a live link is there to be sent it
+--     answer_kept     the answer is kept
+use Rattle.std.proofs.Common.{◌≡◌, ℕ, ◌+◌, ◌≤◌, Bool, true, false, cond, not, List, [], ◌∷◌, refl, sym, ap, subst, ◌∙◌, arith}
+use Rattle.std.specs.Prelude.{Option, Some, None, IfSome}
+use Rattle.std.specs.Option.{option_len}
+use Rattle.std.specs.List.{AllByRecursion}
+use Rattle.std.specs.FinMap as table
+use Rattle.std.proofs.lemmas.Bool.{eq-eqb, lt-ltb}
+use Rattle.cc_views.specs.NatSets as set
+use Rattle.cc_views.specs.NatSets.{get-insert_key}
+use Rattle.cc_views.specs.MapLaws.{all_insert, all_entries}
+use Rattle.cc_wire.specs.declared.event.Event.{Event}
+use Rattle.cc_wire.specs.declared.event.Event.TheVariants as event
+use Rattle.cc_wire.specs.declared.message.Message.{Message}
+use Rattle.cc_ops.specs.declared.pending.Reply.{Reply}
+use Rattle.cc_links.specs.Links.{Link, Links, with_row, add_all, reach, ReachesWithin, LinksWithin}
+use Rattle.cc_links.specs.LinkLaws.{get-live, lowest_below, reaches_within, add_all_links}
+use Rattle.cc_node.specs.Core.{Core, ids_of, next, post, reply, sends, send_post, lowest, live_links}
+use Rattle.cc_node.specs.Node.{Node, step, keep, add, forget_asked}
+use Rattle.cc_node.specs.Lawful.{IsLawfulNode}
+use Rattle.cc_node.proofs.KnownLaws.{same_number}
+use Rattle.cc_node.proofs.StandingLaws.{posts_keep, last_forget, get-above}
+
+-- ---- no link is acknowledged beyond the posts before
+
+reaches_row : (posts peer : ℕ) (change : Link → Link) (o : Option Link) (ls : Links) → ReachesWithin posts ls → IfSome o (λ l. reach (change l) ≤ posts) → ReachesWithin posts (with_row peer change o ls)
+reaches_row posts peer change None ls h k = h
+reaches_row posts peer change (Some l) ls h k = all_insert (λ _ m. reach m ≤ posts) ls peer (change l) h k
+
+-- but by an acknowledgement, which makes no post
+reaches_before : (c : Core) (e : Event) (m : Message) → post c e ≡ Some m → LinksWithin c.posts c.links → ReachesWithin c.posts (next c e).links
+unfolding next
+reaches_before c event.Enter m made h = reaches_within c.posts c.links h
+reaches_before c event.Leave m made h = reaches_within c.posts c.links h
+reaches_before c (event.Deliver from n k) m made h =
+    let ls = add_all c.posts (from ∷ ids_of k) c.links in
+    let known = reaches_within c.posts ls (add_all_links c.posts (from ∷ ids_of k) c.links h) in
+    reaches_row c.posts from (λ l. record l { heard = n }) (table.get ls from) ls known (known from)
+reaches_before c (event.Acked peer n) m made h = cc
+reaches_before c (event.Ask s r k) m made h = reaches_within c.posts c.links h
+
+only_live : (b : Bool) (posts : ℕ) (o : Option Link) → IfSome o (λ l. reach l ≤ posts) → IfSome (cond b o None) (λ l. reach l ≤ posts)
+only_live true posts o h = h
+only_live false posts o h = tt
+
+-- ---- the post
+
+no_link : (c : Core) (m : Message) (kept : Option Message) → table.entries (live_links c) ≡ [] → send_post c kept ≡ send_post c (Some m)
+no_link c m None none = sym (ap (sends c.posts m) none)
+no_link c m (Some k) none = ap (sends c.posts k) none ∙ sym (ap (sends c.posts m) none)
+
+-- where there is a live link, what was acknowledged on each of them is at most what was on that one
+either_sent : (c : Core) (m : Message) (low posts : ℕ) (kept : Option Message) (rows : List (ℕ × Link)) → table.entries (live_links c) ≡ rows
+    → AllByRecursion (λ (row : ℕ × Link). low ≤ reach row.1) rows → AllByRecursion (λ (row : ℕ × Link). reach row.1 ≤ posts) rows
+    → (low ≤ posts → kept ≡ Some m) → send_post c kept ≡ send_post c (Some m)
+either_sent c m low posts kept [] are h k is = no_link c m kept are
+either_sent c m low posts kept (row ∷ rows) are h k is = ap (send_post c) (is (omega (arith, h.0, k.0)))
+
+post_there : (n : Node) (e : Event) (m : Message) → post n.core e ≡ Some m → IsLawfulNode n → lowest (next n.core e) ≤ n.core.posts → table.get (step n e).outbox.posts (next n.core e).posts ≡ Some m
+unfolding step next
+post_there n e m made h low =
+    let c = n.core in
+    let o = forget_asked e n.outbox in
+    let number = (next c e).posts in
+    let more : number ≡ c.posts + 1 = ap (λ p. c.posts + option_len p) made in
+    let is : number ≡ o.last + 1 = more ∙ ap (λ (k : ℕ). k + 1) (sym (last_forget e n.outbox ∙ h.last)) in
+    let kept = (keep (reply c e) (add (post c e) o)).posts in
+    get-above (lowest (next c e)) kept number
+    ∙ ap (λ b. cond b (table.get kept number) None) (lt-ltb (lowest (next c e)) number (omega (arith, low, more)))
+    ∙ ap (λ p. table.get p number) (posts_keep (reply c e) (add (post c e) o))
+    ∙ ap (λ p. table.get (add p o).posts number) made
+    ∙ get-insert_key o.posts (o.last + 1) m number
+    ∙ ap (λ b. cond b (Some m) (table.get o.posts number)) (eq-eqb number (o.last + 1) is)
+
+-- the post that a node has kept under the last number goes to the links that it was made for
+pub post_kept : (n : Node) (e : Event) (m : Message) → post n.core e ≡ Some m → IsLawfulNode n
+    → send_post (next n.core e) (table.get (step n e).outbox.posts (next n.core e).posts) ≡ send_post (next n.core e) (Some m)
+post_kept n e m made h =
+    let c = next n.core e in
+    let left = c.churn.changes.left in
+    let rows = table.entries (live_links c) in
+    let sorted = table.entries_sorted (live_links c) in
+    either_sent c m (lowest c) n.core.posts (table.get (step n e).outbox.posts c.posts) rows refl
+    (all_entries (λ q l. lowest c ≤ reach l) rows sorted (λ q. subst (λ o. IfSome o (λ l. lowest c ≤ reach l)) (table.get-entries (live_links c) q) (lowest_below left c.posts c.links q)))
+    (all_entries (λ q l. reach l ≤ n.core.posts) rows sorted (λ q.
+    subst (λ o. IfSome o (λ l. reach l ≤ n.core.posts)) (sym (get-live left c.links q) ∙ table.get-entries (live_links c) q)
+    (only_live (not (set.contains left q)) n.core.posts (table.get c.links q) (reaches_before n.core e m made h.core.links q))))
+    (post_there n e m made h)
+
+-- ---- the answer
+
+pub answer_kept : (n : Node) (e : Event) (r : Reply) → reply n.core e ≡ Some r → table.get (step n e).outbox.answers r.session ≡ Some r.answer
+unfolding step
+answer_kept n e r made =
+    let o = add (post n.core e) (forget_asked e n.outbox) in
+    ap (λ a. table.get (keep a o).answers r.session) made
+    ∙ get-insert_key o.answers r.session r.answer r.session
+    ∙ ap (λ b. cond b (Some r.answer) (table.get o.answers r.session)) (same_number r.session)
