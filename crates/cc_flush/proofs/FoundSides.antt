@@ -8,9 +8,9 @@ use Rattle.cc_site.specs.declared.site.Side.{Side}
 use Rattle.cc_site.specs.declared.site.Side.TheVariants.{A, B}
 use Rattle.cc_site.specs.Sides.{SideState, MayLeave, other, settled}
 use Rattle.cc_site.specs.SideLaws.{settled_only}
-use Rattle.cc_site.specs.Moments.{Contents, Possible}
+use Rattle.cc_site.specs.Moments.{Contents}
 use Rattle.cc_node.specs.Node.{Node}
-use Rattle.cc_node.specs.Sides.{OPEN, IsFront, Holds, StandsAt}
+use Rattle.cc_node.specs.Sides.{StandsAt}
 use Rattle.cc_checkpoint.specs.declared.choosing.InUse.{InUse}
 use Rattle.cc_checkpoint.specs.declared.open_fault.OpenFault.{OpenFault}
 use Rattle.cc_checkpoint.specs.Choosing.{chosen}
@@ -19,7 +19,8 @@ use Rattle.cc_checkpoint.proofs.ChoosingLaws.{chosen_takes}
 use Rattle.cc_checkpoint.proofs.HeadLaws.{head_spelled}
 use Rattle.cc_journal.specs.Journals.{Position, IsAtRest}
 use Rattle.cc_journal.specs.Scanning.{ScansTo}
-use Rattle.cc_flush.specs.Opening.{IsFound}
+use Rattle.cc_flush.specs.declared.opening.Found.{Found}
+use Rattle.cc_flush.specs.Opening.{IsFound, SideFails, ReadingFails, OpenFails}
 use Rattle.cc_flush.proofs.Formatted.{none_made}
 
 module _ (left : Contents) (used : InUse) (start node : Node) (first size records events : ℕ) (bytes : (side : Side) → IsBytes (left side)) (chose : chosen (left A) (left B) ≡ Ok used) (at_head : HeadAt (left used.side) start first)
@@ -78,3 +79,31 @@ opened_rests old mid new sent node at generation a b same there stands left told
   where
     now : (side : Side) → left side ≡ (old side).bytes
     now side = only_these mid old a b side (left side) (subst (λ (t : Side → SideState). MayLeave (t side) (left side)) same (possible.each side))
+
+-- the same of contents that are the same on each side
+pub same_found : (mid old : Contents) (node : Node) (at : Position) (generation used : ℕ) → ((side : Side) → mid side ≡ old side) → IsFound mid node at generation used → IsFound old node at generation used
+same_found mid old node at generation used same found = record {
+  stands = subst (λ (l : List ℕ). StandsAt l (old (other at.side)) generation at.place node) (same at.side) (subst (λ (l : List ℕ). StandsAt (mid at.side) l generation at.place node) (same (other at.side)) found.stands);
+  length = found.length ∙ ap length (same at.side);
+}
+
+same_side_fails : (mid old : Contents) (side : Side) (fault : OpenFault) → ((side : Side) → mid side ≡ old side) → SideFails side (mid side) fault → SideFails side (old side) fault
+same_side_fails mid old side fault same fails = subst (λ (l : List ℕ). SideFails side l fault) (same side) fails
+
+same_chosen : (mid old : Contents) → ((side : Side) → mid side ≡ old side) → chosen (old A) (old B) ≡ chosen (mid A) (mid B)
+same_chosen mid old same = ap (λ (l : List ℕ). chosen l (old B)) (sym (same A)) ∙ ap (λ (l : List ℕ). chosen (mid A) l) (sym (same B))
+
+same_reading : (mid old : Contents) (fault : OpenFault) → ((side : Side) → mid side ≡ old side) → ReadingFails mid fault → ReadingFails old fault
+same_reading mid old fault same (inl none) = inl (same_chosen mid old same ∙ none)
+same_reading mid old fault same (inr some) = inr (some.0, same_chosen mid old same ∙ some.1, same_side_fails mid old some.0.side fault same some.2)
+
+pub same_fails : (mid old : Contents) (result : Result Found OpenFault) → ((side : Side) → mid side ≡ old side) → IfErr result (OpenFails mid) → IfErr result (OpenFails old)
+same_fails mid old (Ok found) same fails = tt
+same_fails mid old (Err fault) same fails = λ is. same_reading mid old fault same (fails is)
+
+pub if_found : (result : Result Found OpenFault) (old mid new : Side → SideState) (sent : List Output) → mid A ≡ settled (old A) → mid B ≡ settled (old B) → new ≡ mid → ((side : Side) → 1 ≤ length (old side).bytes)
+    → IfOk result (λ found. IsFound (λ side. (mid side).bytes) found.node found.journal found.generation found.used) → IfOk result (λ found. IsAtRest new sent found.journal found.generation found.node [] (length sent))
+if_found (Ok found) old mid new sent a b same there is =
+    opened_rests old mid new sent found.node found.journal found.generation a b same there
+    (same_found (λ side. (mid side).bytes) (λ side. (old side).bytes) found.node found.journal found.generation found.used (same_bytes mid old a b) is).stands
+if_found (Err fault) old mid new sent a b same there is = tt

@@ -4,3 +4,4 @@ mod EventOutputs
 mod LinkSends
 pub mod Putting
 mod Puts
+mod Committed

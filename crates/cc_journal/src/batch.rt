@@ -1,6 +1,6 @@
 //! Entries that become durable together.
 
-ghost use Rattle.std.specs.Prelude.{◌≡◌, ◌≤◌, ◌++◌, ◌∷◌, [], ◌↔◌, length, OnOk, OnErr, IfErr, IsOk};
+ghost use Rattle.std.specs.Prelude.{IfSome, None, ◌≡◌, ◌≤◌, ◌++◌, ◌∷◌, [], ◌↔◌, length, OnOk, OnErr, IfErr, IsOk};
 
 use crate::entry::Entry;
 use arrayvec::ArrayVec;
@@ -49,6 +49,14 @@ impl Batch {
         }
         self.entries.push(entry);
         Ok(())
+    }
+
+    /// Takes the last entry out. None where there is none.
+    pub fn pop(&mut self) -> Option<Entry>
+        ensures some { IfSome result (λ entry. self.old ≡ self.new ++ entry ∷ []) }
+        ensures none { result ≡ None → (self.old ≡ []) × (self.new ≡ []) }
+    {
+        self.entries.pop()
     }
 
     /// How many entries there are.

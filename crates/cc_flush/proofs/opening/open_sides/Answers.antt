@@ -1,0 +1,35 @@
+use Rattle.cc_site.specs.Reads.{bytes_of}
+use Rattle.cc_site.specs.Moments.{Possible, started, rests}
+use Rattle.cc_flush.proofs.FoundSides.{same_bytes, same_fails, if_found}
+use Rattle.cc_flush.proofs.opening.open_sides.Goals as goal
+
+pub returns-clause-failed : goal.returns-clause-failed
+returns-clause-failed g c honest =
+    let s = g.S.Site in
+    let old = c.args.site.now in
+    let mid = c.settle_sides.new.site in
+    let h = c.settle_sides.ensures.honest.0 honest in
+    let value = c.in_ok-settle_sides.ensures.value honest in
+    same_fails (bytes_of s.state mid) (bytes_of s.state old) c.read_sides.result (same_bytes (s.state mid) (s.state old) value.0 value.1) (c.read_sides.ensures.failed h)
+
+pub returns-clause-every_moment : goal.returns-clause-every_moment
+returns-clause-every_moment g c honest =
+    let s = g.S.Site in
+    let old = c.args.site.now in
+    let mid = c.settle_sides.new.site in
+    let new = c.read_sides.new.site in
+    let h = c.settle_sides.ensures.honest.0 honest in
+    let P = Possible (s.state old) (s.sent old) in
+    rests s.moment s.left_since old mid new P
+    (rests s.moment s.left_since old old mid P (started s.moment s.left_since old P (g.met.S.Site.only_now old honest)) (c.settle_sides.ensures.time honest))
+    (c.read_sides.ensures.reads.no_moment h)
+
+pub returns-clause-at_rest : goal.returns-clause-at_rest
+returns-clause-at_rest g c honest there =
+    let s = g.S.Site in
+    let old = c.args.site.now in
+    let mid = c.settle_sides.new.site in
+    let new = c.read_sides.new.site in
+    let h = c.settle_sides.ensures.honest.0 honest in
+    let value = c.in_ok-settle_sides.ensures.value honest in
+    if_found c.read_sides.result (s.state old) (s.state mid) (s.state new) (s.sent new) value.0 value.1 (c.read_sides.ensures.reads.keeps_state h) there (c.read_sides.ensures.found h)
