@@ -1,4 +1,4 @@
 mod EventOutputs
 mod LinkSends
-pub mod Putting
+mod Putting
 mod Puts
