@@ -2,6 +2,6 @@ mod Formatted
 mod FoundSides
 mod EventOutputs
 mod LinkSends
-pub mod Putting
+mod Putting
 mod Puts
 mod Committed

@@ -1,9 +1,8 @@
 -- While the outputs of durable events are put, the site is good and rests.
 --     putting_rests, putting_good      at each moment
---     put_last                         at the last one
 --     puts_good, puts_rest             along a run of calls, and after it
---     line_of_one                      the outputs of one event
-use Rattle.std.proofs.Common.{◌≡◌, ◌⊎◌, inr, ⊎_elim, ℕ, zero, suc, List, [], ◌∷◌, ◌++◌, length, take, drop, refl, sym, ◌∙◌, ap, subst, arith, take-append-drop}
+--     line_of_one, puts_line           for one event
+use Rattle.std.proofs.Common.{◌≡◌, ◌⊎◌, inr, ⊎_elim, ℕ, zero, suc, ◌≤◌, List, [], ◌∷◌, ◌++◌, length, take, drop, refl, sym, ◌∙◌, ap, subst, take-append-drop}
 use Rattle.std.specs.List.{Contains}
 use Rattle.std.proofs.lemmas.List.{append-nil}
 use Rattle.std.proofs.lemmas.List.Elements.{Contains-append_cases, Contains-append_left, Contains-append_right}
@@ -27,9 +26,6 @@ contains_past zero xs ys output has = Contains-append_cases xs ys output has
 contains_past (suc n) [] ys output has = inr (contains_drop (suc n) ys output has)
 contains_past (suc n) (x ∷ xs) ys output has = contains_past n xs ys output has
 
-pub line_of_one : (n : Node) (e : Event) → line n (e ∷ []) ≡ outputs n.core e
-line_of_one n e = append-nil (outputs n.core e)
-
 -- the journal rests with all events, and the node is that before the last of them
 module _ (at : Position) (generation : ℕ) (start node : Node) (before events : List Event) (opening : ℕ) (is : node ≡ after start before) where
   module _ (state : Side → SideState) (sent : List Output) (rest : IsAtRest state sent at generation start (before ++ events) opening) where
@@ -46,8 +42,8 @@ module _ (at : Position) (generation : ℕ) (start node : Node) (before events :
               (contains_past opening sent putting.put output (subst (λ (l : List Output). Contains (drop opening l) output) putting.outlet has));
         }
 
-    pub putting_good : (left : Contents) (told : List Output) → IsPutting state sent (line node events) left told → IsGood start (before ++ events) (length (before ++ events)) opening left told
-    putting_good left told putting = rests_whole_good at generation start (before ++ events) opening (length (before ++ events)) left told (omega arith) (putting_rests left told putting)
+    pub putting_good : (durable : ℕ) → durable ≤ length (before ++ events) → (left : Contents) (told : List Output) → IsPutting state sent (line node events) left told → IsGood start (before ++ events) durable opening left told
+    putting_good durable least left told putting = rests_whole_good at generation start (before ++ events) opening durable left told least (putting_rests left told putting)
 
   module _ {D : Type 0} (honest tells : D → Type 0) (state : D → Side → SideState) (sent : D → List Output) (moment : D → ℕ) (left_since : D → ℕ → Contents → List Output → Type 0) (failures : D → ℕ) (old new : D)
       (puts : Puts honest tells state sent moment left_since failures (line node events) old new) (is_honest : honest old) (is_told : tells new) (rest : IsAtRest (state old) (sent old) at generation start (before ++ events) opening) where
@@ -61,9 +57,17 @@ module _ (at : Position) (generation : ℕ) (start node : Node) (before events :
       outlet = possible.outlet ∙ (puts.told is_told).1;
     }
 
-    pub puts_good : EachMoment moment left_since old new (IsGood start (before ++ events) (length (before ++ events)) opening)
-    puts_good = weaker moment left_since old new (IsPutting (state old) (sent old) (line node events)) (IsGood start (before ++ events) (length (before ++ events)) opening) (puts.moments is_honest is_told)
-        (putting_good (state old) (sent old) rest)
+    pub puts_good : (durable : ℕ) → durable ≤ length (before ++ events) → EachMoment moment left_since old new (IsGood start (before ++ events) durable opening)
+    puts_good durable least = weaker moment left_since old new (IsPutting (state old) (sent old) (line node events)) (IsGood start (before ++ events) durable opening) (puts.moments is_honest is_told)
+        (putting_good (state old) (sent old) rest durable least)
 
     pub puts_rest : IsAtRest (state new) (sent new) at generation start (before ++ events) opening
     puts_rest left told possible = putting_rests (state old) (sent old) rest left told (put_last left told possible)
+
+pub line_of_one : (n : Node) (e : Event) → line n (e ∷ []) ≡ outputs n.core e
+line_of_one n e = append-nil (outputs n.core e)
+
+pub puts_line : {D : Type 0} (honest tells : D → Type 0) (state : D → Side → SideState) (sent : D → List Output) (moment : D → ℕ) (left_since : D → ℕ → Contents → List Output → Type 0) (failures : D → ℕ) (n : Node) (e : Event) (old new : D)
+    → Puts honest tells state sent moment left_since failures (outputs n.core e) old new → Puts honest tells state sent moment left_since failures (line n (e ∷ [])) old new
+puts_line honest tells state sent moment left_since failures n e old new puts =
+    subst (λ (l : List Output). Puts honest tells state sent moment left_since failures l old new) (sym (line_of_one n e)) puts
