@@ -1,10 +1,10 @@
 -- Gates, and what stands behind the length of a record, are read as they stand.
-use Rattle.std.proofs.Common.{◌≡◌, ◌≢◌, inl, inr, ℕ, ◌+◌, ◌-◌, ◌<◌, ◌≤◌, ◌^◌, Bool, true, false, eqb, List, [], ◌∷◌, ◌++◌, length, take, drop, get_or, refl, sym, ◌∙◌, ap, subst, arith, length-append, take-append-drop}
+use Rattle.std.proofs.Common.{◌≡◌, inl, inr, ℕ, ◌-◌, ◌<◌, ◌≤◌, ◌^◌, eqb, List, ◌∷◌, ◌++◌, length, take, drop, get_or, sym, ◌∙◌, ap, subst, arith, length-append, take-append-drop}
 use Rattle.std.specs.Prelude.{MatchBool}
 use Rattle.std.specs.Int.{to_be_bytes, from_be_bytes, w32}
 use Rattle.std.proofs.lemmas.Bool.{cases_Bool, eqb-true, eqb-false}
 use Rattle.std.proofs.lemmas.Nat.{from_be_bytes-to_be_bytes_4}
-use Rattle.std.proofs.lemmas.List.{append_assoc, take_at, get_or-take, length-take, length-drop}
+use Rattle.std.proofs.lemmas.List.{append_assoc, get_or-take, length-take, length-drop}
 use Rattle.cc_wire.proofs.Spelled.{IsBytes}
 use Rattle.cc_node.specs.Sides.{OPEN}
 use Rattle.cc_journal.specs.Reading.{BodyStands, NoBody, IsOpened, IsShut}

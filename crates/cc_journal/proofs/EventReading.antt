@@ -1,14 +1,14 @@
 -- Events behind their sizes are read as they are spelled.
-use Rattle.std.proofs.Common.{◌≡◌, ℕ, zero, suc, ◌+◌, ◌<◌, ◌≤◌, ◌^◌, List, [], ◌∷◌, ◌++◌, length, take, drop, get_or, refl, sym, ◌∙◌, ap, subst, arith, length-append, take-append-drop}
+use Rattle.std.proofs.Common.{◌≡◌, ℕ, ◌+◌, ◌<◌, ◌≤◌, ◌^◌, List, [], ◌∷◌, ◌++◌, length, take, drop, get_or, refl, sym, ◌∙◌, ap, arith, length-append, take-append-drop}
 use Rattle.std.specs.Int.{to_be_bytes, from_be_bytes, w32}
 use Rattle.std.specs.List.{flat_map, AllByRecursion}
 use Rattle.std.proofs.lemmas.Nat.{from_be_bytes-to_be_bytes_4, be_bytes_4}
-use Rattle.std.proofs.lemmas.List.{append_assoc, append-nil, take_at, drop_at, length-take, length-drop, drop-drop, nil_from_length}
+use Rattle.std.proofs.lemmas.List.{append_assoc, append-nil, take_at, length-take, length-drop, drop-drop, nil_from_length}
 use Rattle.cc_wire.specs.declared.event.Event.{Event}
 use Rattle.cc_wire.specs.Events.{event_spelling, IsEvent, SpellsEvent}
 use Rattle.cc_wire.proofs.Lengths.{length-event}
 use Rattle.cc_wire.proofs.Spelled.{IsBytes}
-use Rattle.cc_node.specs.Sides.{sized_spelling, events_spelling}
+use Rattle.cc_node.specs.Sides.{sized_spelling}
 use Rattle.cc_node.specs.RecordLaws.{one_sized, one_run}
 use Rattle.cc_journal.specs.Reading.{SpellsEvents, BeginsWith, NoEvent}
 

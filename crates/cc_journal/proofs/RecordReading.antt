@@ -1,14 +1,14 @@
 -- A record is its length and the events behind it.
-use Rattle.std.proofs.Common.{◌≡◌, ℕ, ◌+◌, ◌≤◌, List, [], ◌∷◌, ◌++◌, length, take, drop, refl, sym, ◌∙◌, ap, subst, arith, length-append}
+use Rattle.std.proofs.Common.{◌≡◌, ℕ, ◌+◌, ◌≤◌, List, [], ◌∷◌, ◌++◌, length, take, refl, sym, ◌∙◌, ap, arith, length-append}
 use Rattle.std.specs.Int.{to_be_bytes, from_be_bytes, w32}
 use Rattle.std.specs.List.{flat_map}
-use Rattle.std.proofs.lemmas.List.{append_assoc, take_at}
+use Rattle.std.proofs.lemmas.List.{take_at}
 use Rattle.cc_wire.specs.declared.event.Event.{Event}
 use Rattle.cc_wire.specs.Events.{event_spelling}
 use Rattle.cc_node.specs.Node.{Node}
 use Rattle.cc_node.specs.Sides.{sized_spelling, events_spelling, record_spelling, SpellsRecord}
 use Rattle.cc_journal.specs.Scanning.{NoRecord}
-use Rattle.cc_journal.specs.Reading.{SpellsEvents, BytesLead, LeadNowhere, RecordLeads, BodyStands, NoBody, IfDamaged}
+use Rattle.cc_journal.specs.Reading.{BytesLead, LeadNowhere, RecordLeads, BodyStands, NoBody, IfDamaged}
 use Rattle.cc_journal.specs.declared.scanning.ScanFault.{ScanFault}
 use Rattle.cc_journal.specs.declared.scanning.ScanFault.TheVariants.{Damaged, Device, NoMemory}
 use Rattle.cc_journal.proofs.BodyReading.{shape}

@@ -1,5 +1,5 @@
 -- Bytes are scanned in one way.
-use Rattle.std.proofs.Common.{◌≡◌, ◌≢◌, ◌⊎◌, inl, inr, ℕ, ◌+◌, List, [], ◌∷◌, ◌++◌, length, drop, get_or, refl, sym, ◌∙◌, ap}
+use Rattle.std.proofs.Common.{◌≡◌, ◌≢◌, ◌⊎◌, inl, inr, ℕ, ◌+◌, List, [], ◌∷◌, ◌++◌, length, drop, get_or, sym, ◌∙◌, ap}
 use Rattle.cc_wire.specs.declared.event.Event.{Event}
 use Rattle.cc_node.specs.Node.{Node, after}
 use Rattle.cc_node.specs.Sides.{OPEN, events_of}

@@ -1,6 +1,6 @@
 -- A scan goes on from record to record.
 use Rattle.std.proofs.Common.{◌≡◌, ◌≢◌, inl, inr, ℕ, ◌+◌, ◌-◌, ◌≤◌, List, [], ◌∷◌, ◌++◌, length, drop, refl, sym, ◌∙◌, ap, subst, arith, length-append}
-use Rattle.std.proofs.lemmas.List.{append_assoc, append-nil, drop_at, drop-drop, drop_all}
+use Rattle.std.proofs.lemmas.List.{append_assoc, drop_at, drop-drop, drop_all}
 use Rattle.cc_wire.specs.declared.event.Event.{Event}
 use Rattle.cc_node.specs.Node.{Node, after, IsLawful}
 use Rattle.cc_node.specs.Histories.{after-append, IsLawful-append}

@@ -15,7 +15,9 @@ pub struct Entry {
 
 impl Default for Entry {
     /// An Enter that makes nothing (own choice): it fills the places that a batch doesn't use.
-    fn default() -> Self {
+    fn default() -> Self
+        ensures { result ≡ record { event = event.Enter; made = record { ack = None; post = None; answer = None } } }
+    {
         Entry {
             event: Event::Enter,
             made: Made {

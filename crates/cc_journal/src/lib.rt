@@ -15,3 +15,6 @@ pub use journal::{Flight, Forfeit, Journal, Landed, OPEN_GATE};
 pub use laws::scans_once;
 pub use record::CLOSED_GATE;
 pub use scanning::{ScanFault, Scanned, scan};
+
+#[cfg(test)]
+mod tests;

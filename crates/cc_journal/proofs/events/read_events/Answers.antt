@@ -1,4 +1,4 @@
-use Rattle.std.proofs.Common.{◌≡◌, ℕ, ◌+◌, ◌-◌, ◌<◌, ◌≤◌, List, length, take, drop, get_or, subst, arith}
+use Rattle.std.proofs.Common.{◌-◌, length, take, drop, get_or, subst, arith}
 use Rattle.std.proofs.lemmas.List.{length-drop, take_all}
 use Rattle.std.proofs.lemmas.Option.{MatchOption-at_none}
 use Rattle.cc_journal.specs.Reading.{NoEvent}

@@ -1,4 +1,4 @@
-use Rattle.std.proofs.Common.{◌≡◌, ℕ, ◌<◌, ◌≤◌, List, length, take, drop, arith}
+use Rattle.std.proofs.Common.{drop, arith}
 use Rattle.std.proofs.lemmas.List.{length-drop}
 use Rattle.cc_journal.proofs.BodyReading.{gate_read}
 use Rattle.cc_journal.proofs.scanning.gate_is_open.Goals as goal

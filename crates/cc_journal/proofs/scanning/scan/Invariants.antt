@@ -1,4 +1,4 @@
-use Rattle.std.proofs.Common.{◌≡◌, ◌+◌, ◌-◌, ◌≤◌, length, drop}
+use Rattle.std.proofs.Common.{◌≡◌, ◌-◌, ◌≤◌, length, drop}
 use Rattle.cc_site.specs.Reads.{OnlyReads}
 use Rattle.cc_journal.proofs.Scans.{SoFar}
 use Rattle.cc_journal.proofs.scanning.scan.Given as goal
