@@ -220,11 +220,16 @@ fn who_comes_and_goes_is_known_and_has_entered(rt: HostRuntime) -> Result<(), Fa
 }
 
 #[test]
-fn links_and_sessions_are_within_their_bounds(rt: HostRuntime) -> Result<(), Fail> {
+fn links_are_within_their_bounds(rt: HostRuntime) -> Result<(), Fail> {
     for (start, acked, heard) in [(2, 0, 0), (0, 2, 0), (0, 0, PAST)] {
         let parts = with_link(rt.alloc(), start, acked, heard)?;
         assert!(rt; !is_restored(rt.alloc(), parts)?);
     }
+    Ok(())
+}
+
+#[test]
+fn requests_are_within_their_bounds(rt: HostRuntime) -> Result<(), Fail> {
     for last in [0, PAST] {
         let parts = with_request(rt.alloc(), last)?;
         assert!(rt; !is_restored(rt.alloc(), parts)?);
