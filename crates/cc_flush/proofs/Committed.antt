@@ -1,7 +1,6 @@
 -- One event is committed.
 --     one_is               a list of one entry has that entry
 --     lawful_one           an entry that its node takes is a lawful event
---     fewer_durable        what is good stays so for fewer durable events
 use Rattle.std.proofs.Common.{◌≡◌, ℕ, List, [], ◌∷◌, ◌++◌, length, subst, arith, length-append}
 use Rattle.cc_wire.specs.declared.event.Event.{Event}
 use Rattle.cc_wire.specs.declared.output.Output.{Output}
@@ -16,14 +15,3 @@ one_is a b same = cc
 
 pub lawful_one : (node start : Node) (events : List Event) (entry : Entry) → node ≡ after start events → AreLawful node (entry ∷ []) → IsLawful (after start events) (events_in (entry ∷ []))
 lawful_one node start events entry is lawful = subst (λ (n : Node). IsLawful n (entry.event ∷ [])) is (lawful.0, tt)
-
-pub fewer_durable : (start : Node) (events more : List Event) (opening : ℕ) (left : Contents) (told : List Output) → IsGood start (events ++ more) (length (events ++ more)) opening left told → IsGood start (events ++ more) (length events) opening left told
-fewer_durable start events more opening left told good = record {
-  a_there = good.a_there;
-  b_there = good.b_there;
-  prefix = good.prefix;
-  has_durable = omega (arith, good.has_durable, length-append events more);
-  within = good.within;
-  stands = good.stands;
-  made = good.made;
-}

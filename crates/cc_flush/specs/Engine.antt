@@ -1,6 +1,6 @@
 -- An engine: a node kept on the two sides of a site.
 --     Engine              its site, the node as it is durable, where the next record goes, and the fault that ended it
---     IsSound             what every engine keeps: the side in use reaches past its closed gate
+--     IsSound             what every engine keeps: the closed gate lies within the side in use
 --     room_limit          below so many bytes of the side in use there is room for a record
 use Rattle.std.specs.Prelude.{◌≡◌, ◌≤◌, ℕ, ◌+◌, ◌^◌, length, Option, None, refl}
 use Rattle.std.specs.Coded.{Coded, code_by, coded×, coded_ℕ, coded_option}
@@ -31,8 +31,9 @@ engine_code {D} site_code =
     (λ p. record { site = p.0; twin = p.1.0; at = p.1.1.0; generation = p.1.1.1.0; used = p.1.1.1.1.0; failed = p.1.1.1.1.1 }) (λ _. refl)
 
 pub record IsSound {D : Type 0} (honest : D → Type 0) (state : D → Side → SideState) (site : D) (at : Position) (used : ℕ) (failed : Option DeviceFault) : Type 0 where
-  pub reaches : at.place + 1 ≤ used
-  pub length : honest site → failed ≡ None → used ≡ length (state site at.side).bytes
+  pub reaches : at.place ≤ used
+  pub within : honest site → failed ≡ None → at.place + 1 ≤ length (state site at.side).bytes
+  pub is_length : honest site → failed ≡ None → used ≡ length (state site at.side).bytes
 
 abbrev pub room_limit : ℕ
 room_limit = 2 ^ 61

@@ -36,6 +36,7 @@ pub(crate) fn make_durable<S: Site>(
         → IsLawful (after start events) (events_in batch)
         → OnOk result (IsAtRest (S.state site.new) (S.sent site.new) journal.new generation start (events ++ events_in batch) opening) }
     ensures length { S.honest site.old → OnOk result (length (S.state site.new journal.old.side).bytes ≡ max (length (S.state site.old journal.old.side).bytes) (journal.old.place + 1 + length (batch_bytes batch))) }
+    ensures short { OnOk result (length (batch_bytes batch) ≤ 262149) }
     ensures fault { MatchResult result (λ _. S.failures site.new ≡ S.failures site.old) (λ _. Rose (S.failures site.old) (S.failures site.new)) }
 {
     let flight = journal.write(site, batch)?;
@@ -67,6 +68,7 @@ pub(crate) fn put_durably<S: Site>(
         → IsAtRest (S.state site.old) (S.sent site.old) journal.old generation start events opening
         → OnOk result (IsAtRest (S.state site.new) (S.sent site.new) journal.new generation start (events ++ entry.event ∷ []) opening) }
     ensures length { S.honest site.old → OnOk result (length (S.state site.new journal.old.side).bytes ≡ max (length (S.state site.old journal.old.side).bytes) (journal.old.place + 1 + length (batch_bytes (entry ∷ [])))) }
+    ensures short { OnOk result (length (batch_bytes (entry ∷ [])) ≤ 262149) }
     ensures fault { MatchResult result (λ _. S.failures site.new ≡ S.failures site.old) (λ _. Rose (S.failures site.old) (S.failures site.new)) }
 {
     let landed = make_durable(journal, site, batch_of(entry))?;

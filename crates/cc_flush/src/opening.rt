@@ -74,6 +74,7 @@ fn read_records<S: Site>(
 // Reads what both sides hold.
 fn read_sides<S: Site>(alloc: Global, site: &mut S) -> Result<Found, OpenFault>
     ensures found { S.honest site.old → IfOk result (λ found. IsFound (bytes_of S.state site.old) found.node found.journal found.generation found.used) }
+    ensures reaches { IfOk result (λ found. found.journal.place ≤ found.used) }
     ensures failed { S.honest site.old → IfErr result (OpenFails (bytes_of S.state site.old)) }
     ensures reads { OnlyReads S.honest S.tells S.state S.sent S.moment S.left_since site.old site.new }
     ensures fault { CountsDevice (S.failures site.old) (S.failures site.new) result }
@@ -81,7 +82,7 @@ fn read_sides<S: Site>(alloc: Global, site: &mut S) -> Result<Found, OpenFault>
     let InUse { side, generation } = choose(site)?;
     let (start, first) = read_state(alloc, site, side)?;
     let Scanned { journal, node, .. } = read_records(alloc, site, side, first, start)?;
-    let used = length_of(site, side)?;
+    let used = length_of(site, side)?.max(journal.place());
     Ok(Found {
         node,
         journal,
@@ -95,6 +96,7 @@ pub(crate) fn open_sides<S: Site>(alloc: Global, site: &mut S) -> Result<Found, 
     ensures honest { S.honest site.old ↔ S.honest site.new }
     ensures tells { (S.tells site.old ↔ S.tells site.new) × (S.sent site.new ≡ S.sent site.old) }
     ensures found { S.honest site.old → IfOk result (λ found. IsFound (bytes_of S.state site.old) found.node found.journal found.generation found.used) }
+    ensures reaches { IfOk result (λ found. found.journal.place ≤ found.used) }
     ensures failed { S.honest site.old → IfErr result (OpenFails (bytes_of S.state site.old)) }
     ensures every_moment { S.honest site.old → EachMoment S.moment S.left_since site.old site.new (Possible (S.state site.old) (S.sent site.old)) }
     ensures same_bytes { S.honest site.old → OnOk result ((side : SideValue) → (S.state site.new side).bytes ≡ (S.state site.old side).bytes) }

@@ -192,6 +192,7 @@ impl Journal {
             → StandsBehind (S.state site.old self.old.side).bytes self.old.place (batch_bytes flight)
             → OnOk result (IsAtRest (S.state site.new) (S.sent site.new) self.new generation start (events ++ events_in flight) opening) }
         ensures length { S.honest site.old → OnOk result (length (S.state site.new self.old.side).bytes ≡ length (S.state site.old self.old.side).bytes) }
+        ensures short { OnOk result (length (batch_bytes flight) ≤ 262149) }
         ensures fault { MatchResult result (λ _. S.failures site.new ≡ S.failures site.old) (λ forfeit. Rose (S.failures site.old) (S.failures site.new)) }
     {
         let Flight { batch, size } = flight;

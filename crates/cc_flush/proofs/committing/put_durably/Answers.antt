@@ -1,11 +1,11 @@
-use Rattle.std.proofs.Common.{◌∙◌, ◌∷◌, [], ◌++◌, length, sym, ap, subst}
-use Rattle.cc_site.specs.Moments.{EachMoment, joined, weaker}
+use Rattle.std.proofs.Common.{arith, length-append, ◌∙◌, ◌∷◌, [], ◌++◌, length, sym, ap, subst}
+use Rattle.cc_site.specs.Moments.{EachMoment, joined}
 use Rattle.cc_node.specs.Core.{outputs}
 use Rattle.cc_node.specs.Node.{after, IsLawful}
 use Rattle.cc_journal.specs.Batches.{events_in}
 use Rattle.cc_journal.specs.Journals.{IsGood, IsAtRest}
 use Rattle.cc_flush.specs.Outlet.{Puts}
-use Rattle.cc_flush.proofs.Committed.{one_is, lawful_one, fewer_durable}
+use Rattle.cc_flush.proofs.Committed.{one_is, lawful_one}
 use Rattle.cc_flush.proofs.Putting.{line_of_one, puts_good, puts_rest}
 use Rattle.cc_flush.proofs.committing.put_durably.Goals as goal
 
@@ -36,9 +36,8 @@ returns-clause-every_moment g c honest tells generation start events opening is 
     (c.in_ok-landed.ensures.at_rest honest generation start events opening rest lawful) in
     let same = one_is c.only_entry.result entry (sym c.only_entry.ensures ∙ c.in_ok-landed.ensures.landed ∙ batch) in
     let puts = subst (λ o. Puts s.honest s.tells s.state s.sent s.moment s.left_since s.failures o mid new) (ap (λ e. outputs node.core e.event) same ∙ sym (line_of_one node event)) c.put_entry.ensures.puts in
-    let good = puts_good c.make_durable.new.journal generation start node events (event ∷ []) opening is s.honest s.tells s.state s.sent s.moment s.left_since s.failures mid new puts (c.make_durable.ensures.honest.0 honest) tells at_rest in
-    joined s.moment s.left_since old mid new (IsGood start (events ++ event ∷ []) (length events) opening) durable
-    (weaker s.moment s.left_since mid new (IsGood start (events ++ event ∷ []) (length (events ++ event ∷ [])) opening) (IsGood start (events ++ event ∷ []) (length events) opening) good (fewer_durable start events (event ∷ []) opening))
+    let put = puts_good c.make_durable.new.journal generation start node events (event ∷ []) opening is s.honest s.tells s.state s.sent s.moment s.left_since s.failures mid new puts (c.make_durable.ensures.honest.0 honest) tells at_rest (length events) (omega (arith, length-append events (event ∷ []))) in
+    joined s.moment s.left_since old mid new (IsGood start (events ++ event ∷ []) (length events) opening) durable put
 
 pub returns-clause-at_rest : goal.returns-clause-at_rest
 returns-clause-at_rest g c honest tells generation start events opening is rest =

@@ -40,7 +40,7 @@ returns-clause-found g c honest =
     let scanned = subst (λ st. IsScanned (st used.side).bytes used.side c.in_ok-start.first c.in_ok-start.start found) same2 (c.in_ok-journal.ensures.scanned h2) in
     record {
       stands = found_stands (bytes_of s.state old) used c.in_ok-start.start found.node c.in_ok-start.first found.records found.events found.journal (g.met.S.Site.are_bytes old honest) (c.in_ok-side.ensures.exact honest) head scanned.same_side scanned.onward scanned.scans;
-      length = c.in_ok-used.ensures.value h3 ∙ ap (λ st. length (st used.side).bytes) same3 ∙ ap (λ side. length (s.state old side).bytes) (sym scanned.same_side);
+      length = the_used ∙ ap (λ side. length (s.state old side).bytes) (sym scanned.same_side);
     }
 
 pub returns-in_err-used-clause-reads : goal.returns-in_err-used-clause-reads

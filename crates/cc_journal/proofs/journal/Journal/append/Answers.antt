@@ -1,4 +1,4 @@
-use Rattle.std.proofs.Common.{◌+◌, ◌++◌, length, sym, subst, ap, ◌∙◌, arith}
+use Rattle.std.proofs.Common.{◌≤◌, ◌+◌, ◌++◌, length, sym, subst, ap, ◌∙◌, arith}
 use Rattle.cc_site.specs.Moments.{joined}
 use Rattle.cc_node.specs.Sides.{StandsBehind, SpellsBatch}
 use Rattle.cc_journal.specs.Batches.{events_in, batch_bytes}
@@ -76,3 +76,6 @@ returns-clause-at_rest g c honest generation start events opening rest lawful st
     subst (λ n. IsAtRest (s.state new) (s.sent new) (record { side = c.self.inside.side; place = c.self.inside.place + n }) generation start (events ++ events_in batch) opening) size_is
     (gate_rest s.moment s.left_since s.state s.sent mid new at (s.state old at.side) generation start events opening rest_mid (c.in_ok-sync.ensures.value honest) (g.met.S.Site.may_read mid honest_mid) (batch_bytes batch) (events_in batch) spelled lawful standing_at
     (c.in_ok-write_durably.ensures.value honest_mid) (c.write_durably.ensures.other_side honest_mid) (c.write_durably.ensures.tells.1))
+
+pub returns-clause-short : goal.returns-clause-short
+returns-clause-short g c = subst (λ b. length (batch_bytes b) ≤ 262149) c.flight.view_is (length_batch c.flight.inside.batch c.flight.invariant.spelled)
