@@ -1,14 +1,11 @@
 -- One event is committed.
 --     one_is               a list of one entry has that entry
 --     lawful_one           an entry that its node takes is a lawful event
-use Rattle.std.proofs.Common.{◌≡◌, ℕ, List, [], ◌∷◌, ◌++◌, length, subst, arith, length-append}
+use Rattle.std.proofs.Common.{◌≡◌, List, [], ◌∷◌, subst}
 use Rattle.cc_wire.specs.declared.event.Event.{Event}
-use Rattle.cc_wire.specs.declared.output.Output.{Output}
-use Rattle.cc_site.specs.Moments.{Contents}
 use Rattle.cc_node.specs.Node.{Node, after, IsLawful}
 use Rattle.cc_journal.specs.declared.entry.Entry.{Entry}
 use Rattle.cc_journal.specs.Batches.{AreLawful, events_in}
-use Rattle.cc_journal.specs.Journals.{IsGood}
 
 pub one_is : (a b : Entry) → a ∷ [] ≡ b ∷ [] → a ≡ b
 one_is a b same = cc

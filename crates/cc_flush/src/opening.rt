@@ -1,6 +1,6 @@
 //! What two sides keep is found again.
 
-ghost use Rattle.std.specs.Prelude.{◌≡◌, ◌↔◌, ◌≤◌, [], length, OnOk, IfOk, IfErr, MatchResult, ℕ};
+ghost use Rattle.std.specs.Prelude.{max, ◌≡◌, ◌↔◌, ◌≤◌, [], length, OnOk, IfOk, IfErr, MatchResult, ℕ};
 ghost use Rattle.cc_site.specs.declared.site.Side.{Side as SideValue};
 ghost use Rattle.cc_site.specs.declared.site.Side.TheVariants.{A, B};
 ghost use Rattle.cc_site.specs.Sides.{settled};
@@ -71,6 +71,12 @@ fn read_records<S: Site>(
     }
 }
 
+fn greatest(m: u64, n: u64) -> u64
+    ensures { result ≡ max m n }
+{
+    m.max(n)
+}
+
 // Reads what both sides hold.
 fn read_sides<S: Site>(alloc: Global, site: &mut S) -> Result<Found, OpenFault>
     ensures found { S.honest site.old → IfOk result (λ found. IsFound (bytes_of S.state site.old) found.node found.journal found.generation found.used) }
@@ -82,7 +88,8 @@ fn read_sides<S: Site>(alloc: Global, site: &mut S) -> Result<Found, OpenFault>
     let InUse { side, generation } = choose(site)?;
     let (start, first) = read_state(alloc, site, side)?;
     let Scanned { journal, node, .. } = read_records(alloc, site, side, first, start)?;
-    let used = length_of(site, side)?.max(journal.place());
+    let len = length_of(site, side)?;
+    let used = greatest(len, journal.place());
     Ok(Found {
         node,
         journal,

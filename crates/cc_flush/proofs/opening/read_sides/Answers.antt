@@ -1,4 +1,4 @@
-use Rattle.std.proofs.Common.{◌∙◌, inr, length, sym, ap, subst}
+use Rattle.std.proofs.Common.{◌∙◌, inr, length, sym, ap, subst, ℕ, ◌≤◌, max, arith, ◌≡◌}
 use Rattle.std.proofs.lemmas.Result.{err_from_is_err_and}
 use Rattle.cc_site.specs.Reads.{bytes_of, reads_then}
 use Rattle.cc_checkpoint.specs.Heads.{HeadAt}
@@ -6,6 +6,9 @@ use Rattle.cc_journal.specs.Reading.{IsScanned}
 use Rattle.cc_flush.specs.Opening.{RecordsFail}
 use Rattle.cc_flush.proofs.FoundSides.{found_stands}
 use Rattle.cc_flush.proofs.opening.read_sides.Goals as goal
+
+furthest : (m n : ℕ) → n ≤ m → max m n ≡ m
+furthest m n le = omega (arith, le)
 
 pub returns-in_err-journal-clause-failed : goal.returns-in_err-journal-clause-failed
 returns-in_err-journal-clause-failed g c honest =
@@ -18,8 +21,16 @@ returns-in_err-journal-clause-failed g c honest =
     let same2 = read.keeps_state h1 ∙ same1 in
     let head = subst (λ st. HeadAt (st used.side).bytes c.in_ok-start.start c.in_ok-start.first) same1 (c.in_ok-start.ensures.exact h1) in
     let p = err_from_is_err_and c.from_residual-in_err-journal.result c.from_residual-in_err-journal.ensures.1 in
-    rw (p.1, p.2) (λ is. inr (used, c.in_ok-side.ensures.exact honest, inr (c.in_ok-start.start, c.in_ok-start.first, head,
-    subst (λ st. RecordsFail used.side (st used.side).bytes c.in_ok-start.start c.in_ok-start.first c.in_err-journal.field-0.0) same2 (c.in_err-journal.ensures.failed (read.keeps_honesty.0 h1) is))))
+    rw (p.1, p.2) (λ is. inr (
+      used,
+      c.in_ok-side.ensures.exact honest,
+      inr (
+        c.in_ok-start.start,
+        c.in_ok-start.first,
+        head,
+        subst (λ st. RecordsFail used.side (st used.side).bytes c.in_ok-start.start c.in_ok-start.first c.in_err-journal.field-0.0) same2 (c.in_err-journal.ensures.failed (read.keeps_honesty.0 h1) is),
+      ),
+    ))
 
 pub returns-clause-found : goal.returns-clause-found
 returns-clause-found g c honest =
@@ -38,13 +49,14 @@ returns-clause-found g c honest =
     let found = c.in_ok-journal.field-0 in
     let head = subst (λ st. HeadAt (st used.side).bytes c.in_ok-start.start c.in_ok-start.first) same1 (c.in_ok-start.ensures.exact h1) in
     let scanned = subst (λ st. IsScanned (st used.side).bytes used.side c.in_ok-start.first c.in_ok-start.start found) same2 (c.in_ok-journal.ensures.scanned h2) in
+    let len_is = c.in_ok-len.ensures.value h3 ∙ ap (λ st. length (st used.side).bytes) same3 in
     record {
       stands = found_stands (bytes_of s.state old) used c.in_ok-start.start found.node c.in_ok-start.first found.records found.events found.journal (g.met.S.Site.are_bytes old honest) (c.in_ok-side.ensures.exact honest) head scanned.same_side scanned.onward scanned.scans;
-      length = the_used ∙ ap (λ side. length (s.state old side).bytes) (sym scanned.same_side);
+      length = c.greatest-used.ensures ∙ furthest c.in_ok-len.len c.place.result (omega (arith, len_is, scanned.within, c.place.ensures, ap (λ p. p.place) c.journal.view_is)) ∙ len_is ∙ ap (λ side. length (s.state old side).bytes) (sym scanned.same_side);
     }
 
-pub returns-in_err-used-clause-reads : goal.returns-in_err-used-clause-reads
-returns-in_err-used-clause-reads g c =
+pub returns-in_err-len-clause-reads : goal.returns-in_err-len-clause-reads
+returns-in_err-len-clause-reads g c =
     let s = g.S.Site in
     let old = c.args.site.now in
     let first = c.choose.new.site in

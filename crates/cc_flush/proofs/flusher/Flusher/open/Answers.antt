@@ -1,5 +1,4 @@
-use Rattle.std.proofs.Common.{◌≡◌, ◌≤◌, ◌+◌, ◌∙◌, length, sym, ap, subst}
-use Rattle.cc_site.specs.Sides.{other}
+use Rattle.std.proofs.Common.{◌≤◌, ◌+◌, ◌∙◌, length, sym, ap, subst}
 use Rattle.cc_node.specs.Fronts.{holds_within}
 use Rattle.cc_flush.proofs.flusher.Flusher.open.Goals as goal
 
