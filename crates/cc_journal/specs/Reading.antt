@@ -5,7 +5,8 @@
 --     RecordLeads             the same by the record that begins the bytes
 --     BodyStands, NoBody      what a record's length says stands behind it;  nothing does
 --     IsOpened, IsShut        an open gate, a closed one
---     Scanned, IfDamaged      what a scan found;  what it tells by a place
+--     IsScanned, IsStopped    what a scan found;  where it stopped
+--     IfDamaged               what a fault tells by its place
 --     CountsDevice            the count of failures, and the fault that is told
 use Rattle.std.specs.Prelude.{◌≡◌, ◌≢◌, ◌⊎◌, ⊤, ℕ, ◌+◌, ◌-◌, ◌≤◌, List, ◌∷◌, ◌++◌, length, drop, Result, MatchResult}
 use Rattle.std.specs.Int.{to_be_bytes, w32}

@@ -189,7 +189,8 @@ fn read_record<S: Site>(
 }
 
 /// Reads the records of a side from the gate at `place` on, in bytes from 0, and takes their events in, up to a closed
-/// gate. On an `Err` the node is given up.
+/// gate (own choice). Damaged where no gate or no record stands that has to, Device where a disk call failed, and NoMemory
+/// where a growth was refused; then the node is given up.
 pub fn scan<S: Site>(
     alloc: Global,
     site: &mut S,
