@@ -14,3 +14,6 @@ pub use laws::{
     largest_node, lawful_states_are_of_nodes, one_spelling_of_nodes, one_spelling_of_states,
 };
 pub use state::{decode_state, encode_state};
+
+#[cfg(test)]
+mod tests;
