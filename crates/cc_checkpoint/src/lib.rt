@@ -22,3 +22,6 @@ pub use laws::{
 };
 pub use open_fault::OpenFault;
 pub use state::{decode_state, encode_state};
+
+#[cfg(test)]
+mod tests;
