@@ -1,5 +1,5 @@
 -- What a decoder of states answers is what the bytes are.
-use Rattle.std.proofs.Common.{◌≡◌, ℕ, List, [], ◌++◌, false, Some, None, Result, Ok, Err, refl, sym, ap, subst, ◌∙◌}
+use Rattle.std.proofs.Common.{◌≡◌, ℕ, List, [], false, Some, None, Result, Ok, Err, refl, sym, ap, subst, ◌∙◌}
 use Rattle.std.specs.Prelude.{◌↔◌, Option, IfSome, IsTrue, is_some}
 use Rattle.std.specs.Option.{ok_or}
 use Rattle.cc_wire.specs.declared.fault.WireFault.{WireFault}
@@ -9,7 +9,7 @@ use Rattle.cc_wire.proofs.Spelled.{IsBytes}
 use Rattle.cc_wire.proofs.Whole.{whole_takes, whole_again}
 use Rattle.cc_node.specs.Node.{Node}
 use Rattle.cc_node.specs.Lawful.{IsLawfulNode}
-use Rattle.cc_node.specs.States.{State, SpellsState, SpellsNode, state_at, state_spelling, node_of, state_of}
+use Rattle.cc_node.specs.States.{State, SpellsState, SpellsNode, state_at, node_of, state_of}
 use Rattle.cc_checkpoint.specs.declared.fault.StateFault.{StateFault}
 use Rattle.cc_checkpoint.specs.declared.fault.StateFault.TheVariants.{Wire, Unlawful}
 use Rattle.cc_checkpoint.specs.Decoding.{SpellsUnlawful, Decodes, Is}

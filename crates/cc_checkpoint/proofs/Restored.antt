@@ -1,14 +1,14 @@
 -- Tables made of rows in order, and what each lawful state lets build.
-use Rattle.std.proofs.Common.{◌≡◌, ℕ, ◌+◌, ◌-◌, ◌<◌, ◌≤◌, Bool, true, false, ◌&&◌, not, nat_eq, List, [], ◌∷◌, ◌++◌, length, map, Some, None, refl, sym, ap, subst, ◌∙◌, append_assoc, arith}
-use Rattle.std.specs.Prelude.{IsTrue, IsFalse, ◌==◌}
-use Rattle.std.specs.Ordering.{nat_cmp, is_lt}
+use Rattle.std.proofs.Common.{◌≡◌, ℕ, ◌<◌, ◌≤◌, Bool, true, false, ◌&&◌, List, [], ◌∷◌, ◌++◌, length, map, None, refl, sym, ap, subst, ◌∙◌, append_assoc, arith}
+use Rattle.std.specs.Prelude.{IsFalse, ◌==◌}
+use Rattle.std.specs.Ordering.{nat_cmp}
 use Rattle.std.specs.Cmp.{nat_cmp_total}
 use Rattle.std.specs.FinMap as table
-use Rattle.std.specs.FinMap.{FinMap, nat_cmp-IsAntisymmetric}
+use Rattle.std.specs.FinMap.{nat_cmp-IsAntisymmetric}
 use Rattle.std.specs.FinMap.Entries.{below_all, find}
 use Rattle.std.proofs.lemmas.Bool.{ne_eqb}
 use Rattle.std.proofs.lemmas.List.{map-append, length-append, nil_from_length, append-nil}
-use Rattle.cc_views.specs.Entries.{cmp_lt, cmp_gt, lt_from_cmp, and_left, and_right, and_both}
+use Rattle.cc_views.specs.Entries.{cmp_gt, lt_from_cmp, and_left, and_right, and_both}
 use Rattle.cc_views.specs.MapLaws.{len_insert}
 use Rattle.cc_views.specs.Tables.{IsRising, table_of, len-table_of}
 

@@ -1,9 +1,8 @@
-use Rattle.std.proofs.Common.{◌≡◌, ◌<◌, ◌+◌, ◌-◌, ◌++◌, ◌∷◌, [], ℕ, List, length, ap, sym, ◌∙◌, refl, arith}
-use Rattle.std.specs.FinMap as table
+use Rattle.std.proofs.Common.{◌≡◌, ◌<◌, ◌+◌, ◌-◌, ◌++◌, ◌∷◌, [], ℕ, List, length, ap, sym, ◌∙◌, arith}
 use Rattle.std.proofs.lemmas.List.{length-append}
 use Rattle.cc_wire.specs.declared.message.Message.{Message}
 use Rattle.cc_outbox.specs.Outbox.{add}
-use Rattle.cc_outbox.specs.Rows.{numbered, outbox_of}
+use Rattle.cc_outbox.specs.Rows.{outbox_of}
 use Rattle.cc_outbox.proofs.Edits.{len_posts, outbox_of-add}
 use Rattle.cc_checkpoint.proofs.Restored.{moved_on, all_came}
 use Rattle.cc_checkpoint.proofs.restore.kept_up_to.Goals as goal

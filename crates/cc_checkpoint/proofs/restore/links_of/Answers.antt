@@ -1,4 +1,4 @@
-use Rattle.std.proofs.Common.{◌≡◌, ◌++◌, ◌∷◌, [], List, ap, sym, ◌∙◌, refl, arith}
+use Rattle.std.proofs.Common.{◌≡◌, ◌++◌, ◌∷◌, List, ap, sym, ◌∙◌, arith}
 use Rattle.cc_views.specs.Tables.{table_of}
 use Rattle.cc_links.specs.declared.link_row.LinkRow.{LinkRow}
 use Rattle.cc_links.specs.Rows.{entry_of}

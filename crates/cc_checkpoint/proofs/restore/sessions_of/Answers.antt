@@ -1,4 +1,4 @@
-use Rattle.std.proofs.Common.{◌≡◌, ◌++◌, ◌∷◌, [], List, ap, sym, ◌∙◌, refl, not, length, arith}
+use Rattle.std.proofs.Common.{◌≡◌, ◌++◌, ◌∷◌, List, ap, sym, ◌∙◌, not, length, arith}
 use Rattle.std.specs.FinMap as table
 use Rattle.std.proofs.lemmas.List.{length-append}
 use Rattle.cc_views.specs.Tables.{table_of}

@@ -1,7 +1,5 @@
 use Rattle.std.proofs.Common.{◌≡◌, ◌-◌, ◌≤◌, length}
 use Rattle.std.specs.Vec.{vec_capacity}
-use Rattle.cc_wire.specs.Messages.{message_at}
-use Rattle.cc_wire.specs.Reading.{items_at}
 use Rattle.cc_wire.proofs.Items.{with_front}
 use Rattle.cc_node.specs.States.{posts_at}
 use Rattle.cc_checkpoint.proofs.state_reader.read_posts.Given as goal
