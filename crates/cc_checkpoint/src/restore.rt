@@ -1,6 +1,6 @@
 //! A node out of the fields of its state.
 
-ghost use Rattle.std.specs.Prelude.{◌≡◌, ◌+◌, ◌-◌, ◌≤◌, ◌<◌, ◌^◌, ◌↔◌, length, IfOk, IfSome, IsTrue, is_some};
+ghost use Rattle.std.specs.Prelude.{◌≡◌, ◌-◌, ◌≤◌, ◌<◌, ◌^◌, ◌↔◌, length, IfOk, IfSome, IsTrue, is_some};
 ghost use Rattle.std.specs.FinMap as table;
 ghost use Rattle.cc_views.specs.Tables.{IsRising, table_of};
 ghost use Rattle.cc_links.specs.Rows as links;
