@@ -1,15 +1,13 @@
 -- How long the spelling of a node's state is at most.
-use Rattle.std.proofs.Common.{◌≡◌, ℕ, ◌+◌, ◌*◌, ◌≤◌, List, ◌∷◌, ◌++◌, length, arith, ap}
-use Rattle.std.specs.Int.{w16, w32, w64, to_be_bytes}
-use Rattle.std.specs.List.{flat_map, AllByRecursion}
+use Rattle.std.proofs.Common.{ℕ, ◌+◌, ◌*◌, ◌≤◌, List, ◌++◌, length, arith, ap}
+use Rattle.std.specs.Int.{w64, to_be_bytes}
+use Rattle.std.specs.List.{AllByRecursion}
 use Rattle.std.specs.Ordering.{nat_cmp}
 use Rattle.std.specs.FinMap as table
 use Rattle.std.specs.FinMap.{FinMap}
 use Rattle.std.proofs.lemmas.List.{length-append}
-use Rattle.cc_changes.specs.declared.fraction.Fraction.{Fraction}
-use Rattle.cc_wire.specs.Spelling.{value_spelling, view_spelling, changes_spelling}
+use Rattle.cc_wire.specs.Spelling.{value_spelling, view_spelling}
 use Rattle.cc_wire.specs.Messages.{message_spelling, IsMessage}
-use Rattle.cc_wire.specs.Answers.{answer_spelling}
 use Rattle.cc_wire.specs.Events.{asked_spelling}
 use Rattle.cc_wire.specs.declared.answer.Answer.{Answer}
 use Rattle.cc_wire.specs.declared.message.Message.{Message}
@@ -18,7 +16,7 @@ use Rattle.cc_links.specs.Links.{Link}
 use Rattle.cc_ops.specs.declared.pending.Pending.{Pending}
 use Rattle.cc_ops.specs.Ops.{Phase, Idle, Storing, Querying, StoringBack}
 use Rattle.cc_node.specs.Node.{Node}
-use Rattle.cc_node.specs.States.{Membership, Work, Tables, fraction_spelling, membership_spelling, IsMembership, counts_spelling, pending_spelling, IsPending, phase_spelling, IsPhase, stored_spelling, entering_spelling, work_spelling, IsWork, table_spelling, link_spelling, IsLink, session_spelling, IsSession, kept_answer_spelling, IsKeptAnswer, kept_spelling, IsKeptPosts, tables_spelling, IsTables, state_spelling, SpellsNode, state_of}
+use Rattle.cc_node.specs.States.{Membership, Work, Tables, membership_spelling, IsMembership, counts_spelling, pending_spelling, IsPending, phase_spelling, IsPhase, stored_spelling, entering_spelling, work_spelling, IsWork, table_spelling, link_spelling, IsLink, session_spelling, IsSession, kept_answer_spelling, IsKeptAnswer, kept_spelling, IsKeptPosts, tables_spelling, IsTables, SpellsNode, state_of}
 use Rattle.cc_checkpoint.proofs.LawfulFields.{answers_within}
 
 length-membership : (m : Membership) → IsMembership m → length (membership_spelling m) ≤ 3098

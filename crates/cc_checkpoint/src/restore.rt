@@ -1,6 +1,6 @@
 //! A node out of the fields of its state.
 
-ghost use Rattle.std.specs.Prelude.{◌≡◌, ◌+◌, ◌-◌, ◌≤◌, ◌<◌, ◌^◌, ◌↔◌, length, IfOk, IfSome, IsTrue, is_some};
+ghost use Rattle.std.specs.Prelude.{◌≡◌, ◌-◌, ◌≤◌, ◌<◌, ◌^◌, ◌↔◌, length, IfOk, IfSome, IsTrue, is_some};
 ghost use Rattle.std.specs.FinMap as table;
 ghost use Rattle.cc_views.specs.Tables.{IsRising, table_of};
 ghost use Rattle.cc_links.specs.Rows as links;
@@ -18,12 +18,9 @@ use cc_node::{CoreParts, Node};
 use cc_ops::{Ops, Stage};
 use cc_outbox::{KeptAnswer, Outbox};
 use cc_sessions::{SessionRow, Sessions};
-use cc_views::NoMemory;
+use cc_views::{COUNTER_LIMIT, NoMemory};
 use cc_wire::Message;
 use std::alloc::Global;
-
-// How far a counter goes.
-const COUNTER_LIMIT: u64 = 1 << 62;
 
 // How many answers an operation needs at most.
 const MAX_NEED: u64 = 256;

@@ -1,7 +1,6 @@
 //! Writing a node's state at the end of a vector, part by part.
 
-ghost use Rattle.std.specs.Prelude.{◌≡◌, ◌≤◌, ◌<◌, ◌^◌, ◌++◌, ◌∷◌, length, map, OnOk};
-ghost use Rattle.std.specs.Int.{w16, w64, to_be_bytes};
+ghost use Rattle.std.specs.Prelude.{◌<◌, ◌^◌, ◌++◌, ◌∷◌, OnOk};
 ghost use Rattle.std.specs.List.{flat_map, AllByRecursion};
 ghost use Rattle.std.specs.FinMap as table;
 ghost use Rattle.cc_wire.specs.Writing.{Writes};
@@ -11,8 +10,8 @@ ghost use Rattle.cc_links.specs.Rows as links;
 ghost use Rattle.cc_sessions.specs.Rows as sessions;
 ghost use Rattle.cc_outbox.specs.Rows as answers;
 ghost use Rattle.cc_node.specs.Lawful.{IsLawfulNode};
-ghost use Rattle.cc_node.specs.States.{State, fraction_spelling, IsFraction, membership_spelling, IsMembership, membership_of, counts_spelling, pending_spelling, IsPending, phase_spelling, IsPhase, stored_spelling, entering_spelling, work_spelling, IsWork, work_of};
-ghost use Rattle.cc_node.specs.States.{table_spelling, IsTableOf, link_spelling, IsLink, session_spelling, IsSession, kept_answer_spelling, IsKeptAnswer, kept_spelling, IsKeptPosts, most_rows, tables_spelling, IsTables, tables_of, state_spelling, IsState, state_of};
+ghost use Rattle.cc_node.specs.States.{fraction_spelling, IsFraction, membership_spelling, IsMembership, membership_of, counts_spelling, pending_spelling, IsPending, phase_spelling, IsPhase, stored_spelling, entering_spelling};
+ghost use Rattle.cc_node.specs.States.{table_spelling, IsTableOf, link_spelling, IsLink, session_spelling, IsSession, kept_answer_spelling, IsKeptAnswer, kept_spelling, IsKeptPosts, tables_spelling, IsTables, tables_of, state_spelling, IsState, state_of};
 
 use cc_changes::{Changes, Fraction};
 use cc_churn::Churn;
