@@ -5,3 +5,4 @@ mod LinkSends
 mod Putting
 mod Puts
 mod Committed
+mod OneNode

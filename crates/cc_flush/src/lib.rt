@@ -5,9 +5,11 @@ mod back;
 mod committing;
 mod flusher;
 mod formatting;
+mod laws;
 mod opening;
 mod outlet;
 
 pub use back::Back;
 pub use flusher::{Failed, Flusher};
 pub use formatting::{FormatFault, format};
+pub use laws::{good_for_more, one_node, rests_with_all, shut_side};

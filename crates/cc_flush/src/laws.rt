@@ -1,0 +1,43 @@
+//! Laws of what two sides stand for. Each is a function whose contract is the law.
+
+ghost use Rattle.std.specs.Prelude.{◌≡◌, ◌↔◌, ◌≤◌, ◌++◌, ℕ, List, length};
+ghost use Rattle.cc_wire.specs.declared.event.Event.{Event};
+ghost use Rattle.cc_wire.specs.declared.output.Output.{Output};
+ghost use Rattle.cc_node.specs.Node.{Node, after};
+ghost use Rattle.cc_node.specs.Sides.{IsArmed, StandsAt, StandsIn, Stands};
+ghost use Rattle.cc_node.specs.Good.{IsGoodAt, RestsAt};
+
+use cc_checkpoint::one_spelling_of_nodes;
+use cc_journal::scans_once;
+
+/// Two sides stand for at most one node: on one side, under one generation, up to one gate.
+pub fn one_node()
+    ensures node { (a b : List ℕ) (n m : Node) → Stands a b n → Stands a b m → n ≡ m }
+    ensures place { (a b : List ℕ) (generation-n generation-m place-n place-m : ℕ) (n m : Node)
+        → StandsAt a b generation-n place-n n → StandsAt a b generation-m place-m m
+        → (generation-n ≡ generation-m) × (place-n ≡ place-m) × (n ≡ m) }
+    ensures side { (a b : List ℕ) (n m : Node) → StandsIn a b n → StandsIn b a m → ⊥ }
+{
+    one_spelling_of_nodes();
+    scans_once();
+}
+
+/// What lies behind the closed gate of a side has no part in what is good.
+pub fn shut_side()
+    ensures { (a b changed : List ℕ) → ¬ (IsArmed a) → ¬ (IsArmed changed) → (start : Node) (events : List Event) (durable opening : ℕ) (told : List Output)
+        → 1 ≤ length changed → IsGoodAt start events durable opening a b told → IsGoodAt start events durable opening changed b told }
+{}
+
+/// A moment that is good stays so for more events, and for fewer durable ones.
+pub fn good_for_more()
+    ensures { (start : Node) (events more : List Event) (durable less opening : ℕ) (a b : List ℕ) (told : List Output)
+        → less ≤ durable → IsGoodAt start events durable opening a b told → IsGoodAt start (events ++ more) less opening a b told }
+{}
+
+/// A side rests with all events just where the moment is good with all of them durable, and the side holds the node after
+/// them up to that gate.
+pub fn rests_with_all()
+    ensures { (generation place : ℕ) (start : Node) (events : List Event) (opening : ℕ) (a b : List ℕ) (told : List Output)
+        → RestsAt generation place start events opening a b told
+        ↔ (IsGoodAt start events (length events) opening a b told × StandsAt a b generation place (after start events)) }
+{}
