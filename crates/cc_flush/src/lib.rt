@@ -11,3 +11,6 @@ mod outlet;
 pub use back::Back;
 pub use flusher::{Failed, Flusher};
 pub use formatting::{FormatFault, format};
+
+#[cfg(test)]
+mod tests;
