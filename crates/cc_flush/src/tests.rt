@@ -81,7 +81,7 @@ fn entered(alloc: Global, site: MemorySite) -> Result<(MemorySite, Option<Device
     Ok((site, outcome?))
 }
 
-fn contents(alloc: Global, site: &mut MemorySite, side: Side) -> Result<Vec<u8>, Fail> {
+fn contents<S: Site>(alloc: Global, site: &mut S, side: Side) -> Result<Vec<u8>, Fail> {
     let length = site.length(side).or(Err("the length can't be read"))?;
     let mut bytes = vec![in alloc; 0; length as usize]?;
     site.read(side, 0, &mut bytes).or(Err("the read failed"))?;
@@ -89,7 +89,7 @@ fn contents(alloc: Global, site: &mut MemorySite, side: Side) -> Result<Vec<u8>,
 }
 
 // Writes behind the state of entrant 4, or over what is there.
-fn keep(site: &mut MemorySite, bytes: &[u8]) -> Result<(), Fail> {
+fn keep<S: Site>(site: &mut S, bytes: &[u8]) -> Result<(), Fail> {
     let length = site.length(Side::A).or(Err("the length can't be read"))?;
     if length < 152 {
         return Err("the side is too short")?;
