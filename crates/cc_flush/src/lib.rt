@@ -13,3 +13,6 @@ pub use back::Back;
 pub use flusher::{Failed, Flusher};
 pub use formatting::{FormatFault, format};
 pub use laws::{good_for_more, one_node, rests_with_all, shut_side};
+
+#[cfg(test)]
+mod tests;
