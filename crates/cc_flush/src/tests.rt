@@ -18,7 +18,7 @@ fn formatted(
     me: u32,
     initial: &[u32],
     contacts: &[u32],
-) -> Result<MemorySite, FormatFault> {
+) -> Result<MemorySite, Back<MemorySite, FormatFault>> {
     let share = Fraction { num: 4, den: 5 };
     let opening = Opening {
         me,
@@ -27,15 +27,23 @@ fn formatted(
         beta: share,
         gamma: share,
     };
-    match format(alloc, site, &opening) {
+    format(alloc, site, &opening)
+}
+
+// Formats a site for entrant 4 with contact 1.
+fn begun(alloc: Global, site: MemorySite) -> Result<MemorySite, FormatFault> {
+    match formatted(alloc, site, 4, &[], &[1]) {
         Ok(site) => Ok(site),
         Err(Back { site: _, fault }) => Err(fault),
     }
 }
 
-// Formats a site for entrant 4 with contact 1.
-fn begun(alloc: Global, site: MemorySite) -> Result<MemorySite, FormatFault> {
-    formatted(alloc, site, 4, &[], &[1])
+// Formats it so twice, whether or not that fails at first.
+fn begun_again(alloc: Global, site: MemorySite) -> Result<MemorySite, FormatFault> {
+    match formatted(alloc, site, 4, &[], &[1]) {
+        Ok(site) => begun(alloc, site),
+        Err(Back { site, fault: _ }) => begun(alloc, site),
+    }
 }
 
 fn entrant(alloc: Global) -> Result<MemorySite, Fail> {
@@ -122,18 +130,26 @@ fn an_entrant_is_formatted(rt: HostRuntime) -> Result<(), Fail> {
 #[test]
 fn a_member_is_formatted(rt: HostRuntime) -> Result<(), Fail> {
     let alloc = rt.alloc();
-    let mut site = formatted(alloc, MemorySite::new(alloc, 0)?, 1, &[1], &[])?;
-    let a = contents(alloc, &mut site, Side::A)?;
-    assert_eq!(rt; a.len(), 133);
-    Ok(())
+    match formatted(alloc, MemorySite::new(alloc, 0)?, 1, &[1], &[]) {
+        Ok(mut site) => {
+            assert_eq!(rt; site.length(Side::A), Ok(133));
+            assert_eq!(rt; site.length(Side::B), Ok(1));
+            Ok(())
+        }
+        Err(Back { site: _, fault }) => Err(fault)?,
+    }
 }
 
 #[test]
 fn a_node_without_a_name_is_not_formatted(rt: HostRuntime) -> Result<(), Fail> {
     let alloc = rt.alloc();
-    let fault = formatted(alloc, MemorySite::new(alloc, 0)?, 0, &[], &[1]).err();
-    assert_eq!(rt; fault, Some(FormatFault::BadOpening));
-    Ok(())
+    match formatted(alloc, MemorySite::new(alloc, 0)?, 0, &[], &[1]) {
+        Ok(_) => Err("it is formatted")?,
+        Err(Back { site: _, fault }) => {
+            assert_eq!(rt; fault, FormatFault::BadOpening);
+            Ok(())
+        }
+    }
 }
 
 #[test]
@@ -324,6 +340,19 @@ fn each_call_of_formatting_may_fail(rt: HostRuntime) -> Result<(), Fail> {
     Ok(())
 }
 
+// Only the last sync comes after the gate is open.
+#[test]
+fn formatting_may_be_tried_again(rt: HostRuntime) -> Result<(), Fail> {
+    let alloc = rt.alloc();
+    for at in 0..13 {
+        let site = begun_again(alloc, failing(alloc, at)?)?;
+        assert_eq!(rt; posts(alloc, site), Ok(0));
+    }
+    let fault = begun_again(alloc, failing(alloc, 13)?).err();
+    assert_eq!(rt; fault, Some(FormatFault::AlreadyFormatted));
+    Ok(())
+}
+
 // Entrant 4, and the disk call with that number fails, from its opening on.
 fn opened_failing(alloc: Global, at: u64) -> Result<MemorySite, Fail> {
     let mut site = entrant(alloc)?.image(alloc, &Choice::Read)?;
@@ -384,9 +413,8 @@ fn each_call_of_an_enter_may_fail(rt: HostRuntime) -> Result<(), Fail> {
     Ok(())
 }
 
-// How many posts there are after a crash, by what it leaves of an Enter of which that disk call fails.
-fn left(alloc: Global, at: u64, choice: &Choice) -> Result<u64, Fail> {
-    let (site, _) = entered(alloc, opened_failing(alloc, at)?)?;
+// How many posts there are after a crash that leaves this.
+fn left(alloc: Global, site: &MemorySite, choice: &Choice) -> Result<u64, Fail> {
     Ok(posts(alloc, site.image(alloc, choice)?)?)
 }
 
@@ -401,11 +429,12 @@ fn a_crash_leaves_an_enter_or_nothing_of_it(rt: HostRuntime) -> Result<(), Fail>
         (16, [0, 0, 1, 0, 0]),
         (17, [1, 0, 1, 0, 1]),
     ] {
-        assert_eq!(rt; left(alloc, at, &Choice::Read)?, read);
-        assert_eq!(rt; left(alloc, at, &Choice::Fill(0))?, zeros);
-        assert_eq!(rt; left(alloc, at, &Choice::Fill(0xA5))?, gates);
-        assert_eq!(rt; left(alloc, at, &Choice::Fill(0xFF))?, ones);
-        assert_eq!(rt; left(alloc, at, &Choice::Short)?, short);
+        let (site, _) = entered(alloc, opened_failing(alloc, at)?)?;
+        assert_eq!(rt; left(alloc, &site, &Choice::Read)?, read);
+        assert_eq!(rt; left(alloc, &site, &Choice::Fill(0))?, zeros);
+        assert_eq!(rt; left(alloc, &site, &Choice::Fill(0xA5))?, gates);
+        assert_eq!(rt; left(alloc, &site, &Choice::Fill(0xFF))?, ones);
+        assert_eq!(rt; left(alloc, &site, &Choice::Short)?, short);
     }
     Ok(())
 }
