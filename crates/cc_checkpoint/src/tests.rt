@@ -281,7 +281,7 @@ fn storing_back(alloc: Global) -> Result<(Node, Option<Message>), Fail> {
 fn a_pending_collect_is_stored(rt: HostRuntime) -> Result<(), Fail> {
     let (node, _) = storing_back(rt.alloc())?;
     let bytes = encoded(rt.alloc(), &node)?;
-    // Request 1 of session 7, a collect that needs one answer, and an empty view.
+    // The first request of session 7, a collect that needs one answer, and an empty view.
     let phase = [
         3, 0, 0, 0, 0, 0, 0, 0, 7, 0, 0, 0, 0, 0, 0, 0, 1, 2, 0, 1, 0, 0, 0, 0,
     ];

@@ -50,7 +50,7 @@ fn view(alloc: Global, node: u32) -> Result<View, Fail> {
     Ok(view)
 }
 
-// Request 1 of session 7.
+// The first request of session 7.
 fn pending(command: Command) -> Pending
     ensures { IsWaiting result }
 {
