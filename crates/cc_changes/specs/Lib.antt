@@ -1,4 +1,3 @@
-pub mod IdTable
 pub mod ChangeSets
 pub mod Need
 pub mod ChangeLaws

@@ -5,8 +5,8 @@ ghost use Rattle.std.specs.List.{AllByRecursion, filter};
 ghost use Rattle.std.specs.Vec.{vec_capacity};
 ghost use Rattle.cc_views.specs.Ascending.{IsAscending};
 ghost use Rattle.cc_views.specs.NatSets as set;
-ghost use Rattle.cc_views.specs.NatSets.{items};
-ghost use Rattle.cc_views.specs.NatPlaces.{IsPlaceOf};
+ghost use Rattle.cc_views.specs.NatSets.{marked, items};
+ghost use Rattle.cc_views.specs.Tables.{IsRising, IsTable, IsPlaceOf, table_of};
 
 use cc_views::{NoMemory, NodeId};
 use std::alloc::Global;
@@ -20,16 +20,16 @@ pub struct IdSet {
 
 impl Model for IdSet {
     ghost use Rattle.std.specs.Vec.{vec_capacity};
-    ghost use Rattle.cc_views.specs.NatSets.{NatSet, set_code, from_list};
-    ghost use Rattle.cc_changes.specs.IdTable.{IsIdTable};
+    ghost use Rattle.cc_views.specs.NatSets.{NatSet, set_code, marked};
+    ghost use Rattle.cc_views.specs.Tables.{IsTable, table_of};
 
     ghost Value = { NatSet };
 
     ghost coded = { set_code };
 
-    ghost view = { λ s. from_list s.ids.items };
+    ghost view = { λ s. table_of marked s.ids.items };
 
-    ghost invariant = { λ s. IsIdTable s.ids.items (vec_capacity s.ids) };
+    ghost invariant = { λ s. IsTable marked 256 s.ids.items (vec_capacity s.ids) };
 }
 
 impl IdSet {
@@ -137,19 +137,17 @@ fn count_outside_both(ids: &[NodeId], one: &IdSet, other: &IdSet) -> usize
 
 // Where the id is, or where it would go.
 fn place_of(ids: &[NodeId], id: NodeId) -> Result<usize, usize>
-    requires { IsAscending ids.now }
-    ensures { IsPlaceOf ids.now id result }
+    requires { IsRising marked ids.now }
+    ensures { IsPlaceOf marked ids.now id result }
 {
     ids.binary_search_by_key(&id.number(), |other| other.number())
 }
 
 fn insert_one(ids: &mut Vec<NodeId>, id: NodeId)
-    requires ascending { IsAscending ids.old.items }
-    requires room { 256 ≤ vec_capacity ids.old }
-    requires fits { set.len (set.insert (set.from_list ids.old.items) id) ≤ 256 }
-    ensures ascending { IsAscending ids.new.items }
-    ensures ids { set.from_list ids.new.items ≡ set.insert (set.from_list ids.old.items) id }
-    ensures room { 256 ≤ vec_capacity ids.new }
+    requires table { IsTable marked 256 ids.old.items (vec_capacity ids.old) }
+    requires fits { set.len (set.insert (table_of marked ids.old.items) id) ≤ 256 }
+    ensures table { IsTable marked 256 ids.new.items (vec_capacity ids.new) }
+    ensures ids { table_of marked ids.new.items ≡ set.insert (table_of marked ids.old.items) id }
 {
     if let Err(at) = place_of(ids, id) {
         ids.insert(at, id).unwrap();
@@ -157,12 +155,10 @@ fn insert_one(ids: &mut Vec<NodeId>, id: NodeId)
 }
 
 fn insert_all(ids: &mut Vec<NodeId>, others: &[NodeId])
-    requires ascending { IsAscending ids.old.items }
-    requires room { 256 ≤ vec_capacity ids.old }
-    requires fits { set.len (set.insert_all (set.from_list ids.old.items) others.now) ≤ 256 }
-    ensures ascending { IsAscending ids.new.items }
-    ensures ids { set.from_list ids.new.items ≡ set.insert_all (set.from_list ids.old.items) others.now }
-    ensures room { 256 ≤ vec_capacity ids.new }
+    requires table { IsTable marked 256 ids.old.items (vec_capacity ids.old) }
+    requires fits { set.len (set.insert_all (table_of marked ids.old.items) others.now) ≤ 256 }
+    ensures table { IsTable marked 256 ids.new.items (vec_capacity ids.new) }
+    ensures ids { table_of marked ids.new.items ≡ set.insert_all (table_of marked ids.old.items) others.now }
 {
     for id in others {
         insert_one(ids, *id);

@@ -1,16 +1,15 @@
 -- States are read as they are spelled.
-use Rattle.std.proofs.Common.{◌≡◌, ℕ, zero, suc, ◌+◌, ◌<◌, ◌≤◌, ◌^◌, nat_lt, cond, eqb, true, List, [], ◌∷◌, ◌++◌, length, Ok, refl, sym, ap, subst, ◌∙◌, append_assoc, arith}
+use Rattle.std.proofs.Common.{◌≡◌, ℕ, zero, suc, ◌+◌, ◌<◌, ◌≤◌, ◌^◌, nat_lt, cond, eqb, List, [], ◌∷◌, ◌++◌, length, Ok, refl, sym, ap, subst, ◌∙◌, append_assoc, arith}
 use Rattle.std.specs.Int.{w16, w64, to_be_bytes}
 use Rattle.std.specs.List.{flat_map, AllByRecursion}
-use Rattle.std.specs.Ordering.{nat_cmp, is_lt}
+use Rattle.std.specs.Ordering.{nat_cmp}
 use Rattle.std.specs.FinMap as table
-use Rattle.std.specs.FinMap.{FinMap, is_sorted}
-use Rattle.std.specs.FinMap.Entries.{below_all}
-use Rattle.std.proofs.lemmas.Bool.{ltb-false, le-ltb, and_from}
+use Rattle.std.specs.FinMap.{FinMap}
+use Rattle.std.proofs.lemmas.Bool.{ltb-false, le-ltb}
 use Rattle.std.proofs.lemmas.List.Concat.{flat_map-cons}
 use Rattle.cc_views.specs.Rows.{ViewMap}
 use Rattle.cc_views.specs.declared.value.Value.{Value}
-use Rattle.cc_views.specs.Entries.{cmp_lt, lt_from_cmp, and_left, and_right, from_T, entries_back}
+use Rattle.cc_views.specs.Entries.{from_T, ascending_of_sorted, sorted_of_ascending, entries_back}
 use Rattle.cc_changes.specs.ChangeSets.{ChangeSets}
 use Rattle.cc_changes.specs.declared.fraction.Fraction.{Fraction}
 use Rattle.cc_wire.specs.declared.fault.WireFault.TheVariants.{NotAscending}
@@ -23,7 +22,7 @@ use Rattle.cc_ops.specs.Ops.{Phase, Idle, Storing, Querying, StoringBack}
 use Rattle.cc_links.specs.Links.{Link, Links}
 use Rattle.cc_sessions.specs.Sessions.{Requests}
 use Rattle.cc_wire.proofs.Spelled.{IsBytes, bind_ok, ok_is, Takes, Takes-then, Spelled, both, as_fields, as_facts, tested, counted, IsRun, items_spelled, byte_spelled, nothing_spelled, kind_or}
-use Rattle.cc_wire.proofs.Formats.{above_of_run, u16_spelled, u32_spelled, u64_spelled, limited_spelled, from_spelled, id_spelled, value_spelled, view_spelled, changes_spelled}
+use Rattle.cc_wire.proofs.Formats.{ascending_of_run, run_of_ascending, u16_spelled, u32_spelled, u64_spelled, limited_spelled, from_spelled, id_spelled, value_spelled, view_spelled, changes_spelled}
 use Rattle.cc_wire.proofs.MessageFormat.{message_spelled}
 use Rattle.cc_wire.proofs.AnswerFormat.{answer_spelled}
 use Rattle.cc_wire.proofs.EventFormat.{asked_spelled}
@@ -112,29 +111,16 @@ work_spelled = as_facts IsWork
 pub entries_again : {X : Type 0} (m : FinMap nat_cmp X) → table.from_entries (table.entries m) ≡ m
 entries_again m = table.same_entries_map _ _ (entries_back (table.entries m) (from_T _ (table.entries_sorted m)))
 
-below_of_above : {X : Type 0} (n : ℕ) (es : List (ℕ × X)) → AllByRecursion (λ e. n + 1 ≤ e.0) es → below_all nat_cmp n es ≡ true
-below_of_above n [] all = refl
-below_of_above n (e ∷ es) all = and_from _ _ (ap is_lt (cmp_lt n e.0 (omega (arith, all.0)))) (below_of_above n es all.1)
-
-above_of_below : {X : Type 0} (n : ℕ) (es : List (ℕ × X)) → below_all nat_cmp n es ≡ true → AllByRecursion (λ e. n + 1 ≤ e.0) es
-above_of_below n [] h = tt
-above_of_below n (e ∷ es) h = (omega (arith, lt_from_cmp n e.0 (and_left _ _ h)), above_of_below n es (and_right _ _ h))
-
 module _ {X : Type 0} (row : ℕ → Reading (ℕ × X)) (Body Is : ℕ × X → Type 0) (f : ℕ × X → List ℕ) (base : ℕ)
     (each : (least : ℕ) → Spelled (row least) (λ e. Body e × (least ≤ e.0)) f)
     (to : (e : ℕ × X) → Body e → base ≤ e.0 → Is e) (from : (e : ℕ × X) → Is e → Body e × (base ≤ e.0)) where
-  sorted_of_run : (least : ℕ) (es : List (ℕ × X)) → IsRun (λ e. e.0) Body least es → is_sorted nat_cmp es ≡ true
-  sorted_of_run least [] run = refl
-  sorted_of_run least (e ∷ es) run = and_from _ _ (below_of_above e.0 es (above_of_run (λ e. e.0) Body (e.0 + 1) es run.1)) (sorted_of_run (e.0 + 1) es run.1)
-
   all_of_run : (least : ℕ) (es : List (ℕ × X)) → base ≤ least → IsRun (λ e. e.0) Body least es → AllByRecursion Is es
   all_of_run least [] le run = tt
   all_of_run least (e ∷ es) le run = (to e run.0.0 (omega (arith, le, run.0.1)), all_of_run (e.0 + 1) es (omega (arith, le, run.0.1)) run.1)
 
-  run_of_all : (least : ℕ) (es : List (ℕ × X)) → AllByRecursion (λ e. least ≤ e.0) es → is_sorted nat_cmp es ≡ true → AllByRecursion Is es → IsRun (λ e. e.0) Body least es
-  run_of_all least [] above sorted all = tt
-  run_of_all least (e ∷ es) above sorted all =
-      (((from e all.0).0, above.0), run_of_all (e.0 + 1) es (above_of_below e.0 es (and_left _ _ sorted)) (and_right _ _ sorted) all.1)
+  bodies : (es : List (ℕ × X)) → AllByRecursion Is es → AllByRecursion Body es
+  bodies [] all = tt
+  bodies (e ∷ es) all = ((from e all.0).0, bodies es all.1)
 
   from_base : (es : List (ℕ × X)) → AllByRecursion Is es → AllByRecursion (λ e. base ≤ e.0) es
   from_base [] all = tt
@@ -154,7 +140,7 @@ module _ {X : Type 0} (row : ℕ → Reading (ℕ × X)) (Body Is : ℕ × X →
   }
     where
       as_list : Spelled (table_at row limit base) (λ m. IsList limit (table.entries m)) (λ m. to_be_bytes w16 (length (table.entries m)) ++ flat_map f (table.entries m))
-      as_list = as_fields table.from_entries table.entries entries_again (λ es is. entries_back es (sorted_of_run base es is.1)) (list_spelled limit)
+      as_list = as_fields table.from_entries table.entries entries_again (λ es is. entries_back es (sorted_of_ascending es (ascending_of_run (λ e. e.0) Body base es is.1))) (list_spelled limit)
 
       lawful : (m : FinMap nat_cmp X) → IsList limit (table.entries m) → IsTableOf Is limit m
       lawful m is = record { fits = omega (arith, is.0.1, table.len-entries m); rows = all_of_run base (table.entries m) (omega arith) is.1 }
@@ -162,7 +148,8 @@ module _ {X : Type 0} (row : ℕ → Reading (ℕ × X)) (Body Is : ℕ × X →
       listed : (m : FinMap nat_cmp X) → IsTableOf Is limit m → IsList limit (table.entries m)
       listed m is = (
         (omega (arith, is.fits, small, table.len-entries m), omega (arith, is.fits, table.len-entries m)),
-        run_of_all base (table.entries m) (from_base (table.entries m) is.rows) (from_T _ (table.entries_sorted m)) is.rows,
+        run_of_ascending (λ e. e.0) Body base (table.entries m) (from_base (table.entries m) is.rows) (ascending_of_sorted (table.entries m) (from_T _ (table.entries_sorted m)))
+            (bodies (table.entries m) is.rows),
       )
 
 -- ---- links

@@ -1,12 +1,6 @@
 -- Rows are read one after the other, as a loop does.
-use Rattle.std.proofs.Common.{◌≡◌, ℕ, zero, suc, ◌+◌, ◌-◌, ◌<◌, true, List, [], ◌∷◌, ◌++◌, map, Result, Ok, refl, ap, ◌∙◌}
-use Rattle.std.specs.List.{AllByRecursion}
-use Rattle.std.specs.Ordering.{nat_cmp, is_lt}
-use Rattle.std.specs.FinMap.Entries.{below_all}
-use Rattle.std.proofs.lemmas.Bool.{and_from}
+use Rattle.std.proofs.Common.{◌≡◌, ℕ, zero, suc, ◌+◌, ◌-◌, ◌<◌, List, [], ◌∷◌, ◌++◌, map, Result, Ok, refl, ap, ◌∙◌}
 use Rattle.std.proofs.lemmas.List.{map-append}
-use Rattle.cc_views.specs.Entries.{cmp_lt, and_left, and_right}
-use Rattle.cc_views.specs.Tables.{IsRising}
 use Rattle.cc_wire.specs.declared.fault.WireFault.{WireFault}
 use Rattle.cc_wire.specs.declared.message.Message.{Message}
 use Rattle.cc_wire.specs.Messages.{message_at}
@@ -15,16 +9,6 @@ use Rattle.cc_wire.proofs.Items.{with_front, goes_on}
 use Rattle.cc_node.specs.States.{rows_at, posts_at}
 
 module _ {X Row : Type 0} (entry : Row → ℕ × X) where
-  below_push : (k : ℕ) (rows : List Row) (row : Row) → below_all nat_cmp k (map entry rows) ≡ true → k < (entry row).0 → below_all nat_cmp k (map entry (rows ++ row ∷ [])) ≡ true
-  below_push k [] row below lt = and_from _ _ (ap is_lt (cmp_lt k (entry row).0 lt)) refl
-  below_push k (r ∷ rows) row below lt = and_from _ _ (and_left _ _ below) (below_push k rows row (and_right _ _ below) lt)
-
-  -- a row whose key is above all may follow
-  pub rising_push : (rows : List Row) (row : Row) → IsRising entry rows → AllByRecursion (λ r. (entry r).0 < (entry row).0) rows → IsRising entry (rows ++ row ∷ [])
-  rising_push [] row rising all = refl
-  rising_push (r ∷ rows) row rising all =
-      and_from _ _ (below_push (entry r).0 rows row (and_left _ _ rising) all.0) (rising_push rows row (and_right _ _ rising) all.1)
-
   pub rows_go_on : (item : ℕ → Reading (ℕ × X)) (rows : List Row) (count i least : ℕ) (bytes : List ℕ) (row : Row) (after : List ℕ) (total : Result (List (ℕ × X) × List ℕ) WireFault)
       → i < count → item least bytes ≡ Ok (entry row, after) → with_front (map entry rows) (rows_at item (count - i) least bytes) ≡ total
       → with_front (map entry (rows ++ row ∷ [])) (rows_at item (count - (i + 1)) ((entry row).0 + 1) after) ≡ total

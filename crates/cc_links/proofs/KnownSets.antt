@@ -1,25 +1,23 @@
 -- Ids in order as a set: one more, and all of a list.
-use Rattle.std.proofs.Common.{◌≡◌, ℕ, suc, ◌+◌, ◌<◌, ◌≤◌, Bool, true, false, ◌||◌, List, ◌∷◌, map, length, get_or, drop, drop-cons, add-one, refl, sym, ap, ◌∙◌, arith}
-use Rattle.std.specs.Prelude.{nat_eq, ◌==◌}
-use Rattle.std.specs.List.{list_any, insert}
-use Rattle.std.specs.FinMap as table
-use Rattle.std.proofs.Math.Bool.{or_assoc}
+use Rattle.std.proofs.Common.{◌≡◌, ℕ, suc, ◌+◌, ◌<◌, ◌≤◌, Bool, true, false, List, ◌∷◌, map, length, get_or, drop, drop-cons, add-one, refl, sym, ap, ◌∙◌, arith}
+use Rattle.std.specs.Prelude.{◌==◌}
+use Rattle.std.specs.List.{insert}
 use Rattle.std.proofs.lemmas.Bool.{or_left, eqb-true, eqb-false}
 use Rattle.std.proofs.Math.ListN.{get_or-map}
 use Rattle.std.proofs.lemmas.List.{length-map}
 use Rattle.std.proofs.lemmas.List.Edits.{length-insert}
-use Rattle.cc_views.specs.MapLaws.{insert_there}
+use Rattle.cc_views.specs.NatLists.{held}
 use Rattle.cc_views.specs.NatSets as set
-use Rattle.cc_views.specs.NatSets.{NatSet, same_ids, contains-insert, contains-insert_all, len_within}
-use Rattle.cc_views.specs.Tables.{IsAt, IsGapFor, table_of, table_of-insert, rising-insert, get-at, len-table_of, len-insert_gap}
-use Rattle.cc_links.specs.KnownIds.{marked, AreKnown}
+use Rattle.cc_views.specs.NatSets.{NatSet, marked, contains-insert_all, insert_all-insert, len_within}
+use Rattle.cc_views.specs.Tables.{IsAt, IsGapFor, table_of, table_of-insert, rising-insert, len-table_of, len-insert_gap}
+use Rattle.cc_links.specs.KnownIds.{AreKnown}
 
 module _ (ids : List ℕ) (known : AreKnown ids) (id i : ℕ) (s : NatSet) (view : table_of marked ids ≡ s) where
   pub len_known : set.len s ≤ 256
   len_known = omega (arith, len-table_of marked ids known.rising, known.fits, ap set.len view)
 
   pub there_already : IsAt marked ids id i → s ≡ set.insert s id
-  there_already at = insert_there s id tt (sym (ap (λ (m : NatSet). table.get m id) view) ∙ get-at marked ids known.rising id i at id)
+  there_already at = sym view ∙ held ids id i known.rising at ∙ ap (λ (m : NatSet). set.insert m id) view
 
   -- a new id is one more
   pub one_more : IsGapFor marked ids id i → set.len (set.insert s id) ≡ length ids + 1
@@ -45,13 +43,6 @@ module _ (ids : List ℕ) (known : AreKnown ids) (id i : ℕ) (s : NatSet) (view
 
   pub set_more : IsGapFor marked ids id i → table_of marked (insert ids i id) ≡ set.insert s id
   set_more gap = table_of-insert marked ids id i gap id refl ∙ ap (λ (m : NatSet). set.insert m id) view
-
--- an id that is inserted first is inserted
-pub insert_all-insert : (s : NatSet) (id : ℕ) (ids : List ℕ) → set.insert_all (set.insert s id) ids ≡ set.insert (set.insert_all s ids) id
-insert_all-insert s id ids = same_ids _ _ (λ q.
-    contains-insert_all (set.insert s id) ids q ∙ ap (λ b. b || list_any (nat_eq q) ids) (contains-insert s id q)
-    ∙ or_assoc (nat_eq q id) (set.contains s q) (list_any (nat_eq q) ids)
-    ∙ sym (contains-insert (set.insert_all s ids) id q ∙ ap (λ b. nat_eq q id || b) (contains-insert_all s ids q)))
 
 pub len_insert_all : (s : NatSet) (ids : List ℕ) → set.len s ≤ set.len (set.insert_all s ids)
 len_insert_all s ids = len_within s (set.insert_all s ids) (λ q h. contains-insert_all s ids q ∙ or_left _ _ h)

@@ -1,22 +1,18 @@
 -- The ids of links and of a message together, and how many they are.
---     ids_of, marked                     the peers of links, as a set;  an id as an entry of a set
---     peers_of-rows_of, insert_all-append    the peers of rows;  two lists of ids inserted
---     len-add_all                        the links after a row for each of some ids are as many as those ids and the peers together
-use Rattle.std.proofs.Common.{◌≡◌, ℕ, ◌≤◌, ◌||◌, List, [], ◌∷◌, ◌++◌, map, length, refl, sym, ap, ◌∙◌, arith}
+--     ids_of               the peers of links, as a set
+--     peers_of-rows_of     the peers of rows
+--     len-add_all          the links after a row for each of some ids are as many as those ids and the peers together
+use Rattle.std.proofs.Common.{◌≡◌, ℕ, ◌≤◌, ◌||◌, List, [], ◌∷◌, map, length, refl, sym, ap, ◌∙◌, arith}
 use Rattle.std.specs.Prelude.{nat_eq}
 use Rattle.std.specs.List.{list_any}
 use Rattle.std.specs.FinMap as table
 use Rattle.std.proofs.Math.Bool.{or_comm}
 use Rattle.cc_views.specs.NatSets as set
-use Rattle.cc_views.specs.NatSets.{NatSet, IsWithin, len_within, contains-insert_all, contains-from_list, contains-keys}
+use Rattle.cc_views.specs.NatSets.{NatSet, marked, IsWithin, len_within, contains-insert_all, contains-from_list, contains-keys}
 use Rattle.cc_views.specs.Tables.{IsRising}
 use Rattle.cc_links.specs.Links.{Link, Links, add_all}
 use Rattle.cc_links.specs.Rows.{row_of, rows_of, peers_of}
 use Rattle.cc_links.specs.LinkLaws.{contains-add_all}
-
--- an id as an entry
-abbrev pub marked : ℕ → ℕ × Unit {0}
-marked q = (q, tt)
 
 -- ids in order, and no more than there is room for
 pub record AreKnown (ids : List ℕ) : Type 0 where
@@ -47,8 +43,3 @@ peers_of_entries (e ∷ es) = ap (λ (qs : List ℕ). e.0 ∷ qs) (peers_of_entr
 -- the peers of the rows are the peers of the links
 pub peers_of-rows_of : (ls : Links) → peers_of (rows_of ls) ≡ table.keys ls
 peers_of-rows_of ls = peers_of_entries (table.entries ls)
-
--- to insert two lists is to insert the second, then the first
-pub insert_all-append : (s : NatSet) (xs ys : List ℕ) → set.insert_all s (xs ++ ys) ≡ set.insert_all (set.insert_all s ys) xs
-insert_all-append s [] ys = refl
-insert_all-append s (x ∷ xs) ys = ap (λ (t : NatSet). set.insert t x) (insert_all-append s xs ys)

@@ -2,8 +2,8 @@
 ghost use Rattle.std.specs.Prelude.{◌≡◌, ◌≤◌, ◌↔◌, IsTrue, IsFalse};
 ghost use Rattle.std.specs.List.{Contains};
 ghost use Rattle.cc_views.specs.NatSets as set;
+ghost use Rattle.cc_views.specs.NatSets.{marked};
 ghost use Rattle.cc_views.specs.Tables.{IsRising, IsPlaceOf};
-ghost use Rattle.cc_links.specs.KnownIds.{marked};
 ghost use Rattle.cc_links.specs.Rows.{nodes_of, peers_of};
 
 use crate::link_row::LinkRow;
@@ -19,9 +19,9 @@ pub struct KnownIds {
 }
 
 impl Model for KnownIds {
-    ghost use Rattle.cc_views.specs.NatSets.{NatSet, set_code};
+    ghost use Rattle.cc_views.specs.NatSets.{NatSet, set_code, marked};
     ghost use Rattle.cc_views.specs.Tables.{table_of};
-    ghost use Rattle.cc_links.specs.KnownIds.{marked, AreKnown};
+    ghost use Rattle.cc_links.specs.KnownIds.{AreKnown};
 
     ghost Value = { NatSet };
 

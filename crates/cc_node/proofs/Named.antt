@@ -9,12 +9,12 @@ use Rattle.std.specs.FinMap as table
 use Rattle.std.proofs.lemmas.Bool.{le-ltb, lt-ltb}
 use Rattle.std.proofs.lemmas.List.{append_assoc}
 use Rattle.cc_views.specs.NatSets as set
-use Rattle.cc_views.specs.NatSets.{NatSet}
+use Rattle.cc_views.specs.NatSets.{NatSet, insert_all-append}
 use Rattle.cc_views.specs.Rows.{Pair, ViewMap, rows_of, row_of}
 use Rattle.cc_changes.specs.ChangeSets.{ChangeSets}
 use Rattle.cc_links.specs.Links.{Links, add, add_all}
 use Rattle.cc_links.specs.LinkLaws.{add_all-append, len_add_all}
-use Rattle.cc_links.specs.KnownIds.{insert_all-append, len-add_all}
+use Rattle.cc_links.specs.KnownIds.{len-add_all}
 use Rattle.cc_links.specs.Rows.{nodes_of}
 use Rattle.cc_links.proofs.KnownSets.{len_insert_all}
 use Rattle.cc_wire.specs.declared.message.Message.{Message}

@@ -1,6 +1,5 @@
 -- To absorb the rows of one view after another is to merge the views.
-use Rattle.std.proofs.Common.{◌≡◌, ℕ, ◌+◌, ◌≤◌, Bool, true, false, cond, ◌<◌, List, [], ◌∷◌, map as list_map, length, get_or, drop, drop-cons, add-one, suc, Option, Some, None, refl, sym, ap, subst, ◌∙◌, arith}
-use Rattle.std.proofs.lemmas.List.{length-map}
+use Rattle.std.proofs.Common.{◌≡◌, ℕ, ◌+◌, ◌≤◌, Bool, true, false, cond, ◌<◌, List, [], ◌∷◌, length, get_or, drop, drop-cons, add-one, suc, Option, Some, None, refl, sym, ap, subst, ◌∙◌, arith}
 use Rattle.std.specs.declared.cmp.Ordering.TheVariants.{Less, Equal, Greater}
 use Rattle.std.specs.Ordering.{nat_cmp, is_eq, eq_by_cmp}
 use Rattle.std.specs.Cmp.{ranked, nat_cmp_total}
@@ -10,6 +9,7 @@ use Rattle.cc_views.specs.declared.row.Row.{Row}
 use Rattle.cc_views.specs.Rows.{Pair, ViewMap, entry_of, row_of, entries_of, rows_of, newest, absorbed, absorbed_all}
 use Rattle.cc_views.specs.Merge.{merged, merge}
 use Rattle.cc_views.specs.MergeLaws.{get-merge}
+use Rattle.cc_views.specs.Tables.{IsRising, table_of, rows-table_of, get-table_of}
 use Rattle.cc_views.specs.Entries.{and_left, and_right, to_T, from_T, find_below, entries_back}
 
 -- what a view has of a node after one more row
@@ -62,10 +62,6 @@ find-absorbed_all (row ∷ rows) es q h =
       | Greater ↦ λ _ e. rest ∙ ap (λ x. merged x (find nat_cmp q (entries_of rows))) e
     ] refl here
 
-rows_are : (rows : List Row) → list_map row_of (entries_of rows) ≡ rows
-rows_are [] = refl
-rows_are (row ∷ rows) = ap (λ (t : List Row). row ∷ t) (rows_are rows)
-
 -- the rows of one absorbed by another make the merge
 pub merge_of_absorbed : (left right : List Row) → is_sorted nat_cmp (entries_of right) ≡ true
     → map.from_entries {R = nat_cmp} (absorbed_all (entries_of left) right) ≡ merge (map.from_entries (entries_of left)) (map.from_entries (entries_of right))
@@ -77,12 +73,8 @@ merge_of_absorbed left right h = map.same_map nat_cmp_total map.nat_cmp-IsAntisy
     ∙ ap (merged (find nat_cmp q (entries_of left))) (map.get-from_entries nat_cmp_total (entries_of right) q)))
 
 -- a map of rows in order has those rows
-pub rows_back : (rows : List Row) → is_sorted nat_cmp (entries_of rows) ≡ true → rows ≡ rows_of (map.from_entries (entries_of rows))
-rows_back rows h = sym (rows_are rows) ∙ ap (list_map row_of) (sym (entries_back (entries_of rows) h))
-
--- and as many
-pub len_back : (rows : List Row) → is_sorted nat_cmp (entries_of rows) ≡ true → map.len (map.from_entries {R = nat_cmp} (entries_of rows)) ≡ length rows
-len_back rows h = map.len-entries _ ∙ ap length (entries_back (entries_of rows) h) ∙ length-map rows entry_of
+pub rows_back : (rows : List Row) → IsRising entry_of rows → rows ≡ rows_of (table_of entry_of rows)
+rows_back rows h = sym (rows-table_of entry_of row_of (λ _. refl) rows h)
 
 -- one row more of a list, as a loop takes it
 pub step : (es : List (ℕ × Pair)) (rows : List Row) (i : ℕ) (row : Row) (total : List (ℕ × Pair)) → i < length rows → row ≡ get_or rows i row
@@ -98,7 +90,7 @@ step_fits es rows row i total rising lt is so_far fits =
 
 -- what the map that the rows make has of a node
 pub get_of_rows : (rows : List Row) (node : ℕ) (v : ViewMap) → map.from_entries {R = nat_cmp} (entries_of rows) ≡ v → find nat_cmp node (entries_of rows) ≡ map.get v node
-get_of_rows rows node v is = sym (map.get-from_entries nat_cmp_total (entries_of rows) node) ∙ ap (λ (w : ViewMap). map.get w node) is
+get_of_rows rows node v is = sym (get-table_of entry_of rows node) ∙ ap (λ (w : ViewMap). map.get w node) is
 
 -- a merge that fits takes no more rows than it has
 pub merge_fits : (left right : List Row) (v w : ViewMap) → is_sorted nat_cmp (entries_of left) ≡ true → is_sorted nat_cmp (entries_of right) ≡ true

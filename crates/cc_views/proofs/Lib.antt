@@ -2,5 +2,4 @@ pub mod Rooms
 pub mod NumberTables
 pub mod Places
 pub mod Absorbs
-pub mod Pushes
 pub mod Orders

@@ -1,5 +1,5 @@
 -- A view is at most another where each of its rows passes the test.
-use Rattle.std.proofs.Common.{◌≡◌, ℕ, Bool, true, cond, List, [], ◌∷◌, map as list_map, Option, Some, None, refl, sym, ap, subst, ◌∙◌}
+use Rattle.std.proofs.Common.{◌≡◌, ℕ, Bool, true, cond, List, [], ◌∷◌, Option, Some, None, refl, sym, ap, subst, ◌∙◌}
 use Rattle.std.specs.Prelude.{IsTrue, ◌↔◌}
 use Rattle.std.specs.List.{list_all}
 use Rattle.std.specs.declared.cmp.Ordering.TheVariants.{Less, Equal, Greater}
@@ -9,9 +9,7 @@ use Rattle.std.specs.FinMap as map
 use Rattle.std.specs.FinMap.Entries.{find, is_sorted}
 use Rattle.std.proofs.lemmas.Bool.{and_from, leb-true, le-leb}
 use Rattle.cc_views.specs.declared.row.Row.{Row}
-use Rattle.cc_views.specs.Ascending.{IsAscending}
 use Rattle.cc_views.specs.Entries.{and_left, and_right, cmp_eq, find_below}
-use Rattle.cc_views.specs.NatLists.{ascending_of_sorted}
 use Rattle.cc_views.specs.Rows.{Pair, ViewMap, entries_of}
 use Rattle.cc_views.specs.Merge.{IsKept, IsAtMost, has_at_least, keeps}
 use Rattle.cc_views.proofs.Absorbs.{get_of_rows}
@@ -64,10 +62,3 @@ all_kept_is_at_most rows v w b rising is tested = (
   λ yes q. subst (λ (o : Option Pair). IsKept o (map.get w q)) (get_of_rows rows q v is) (kept_by_rows rows w (sym tested ∙ yes) q),
   λ at_most. tested ∙ rows_by_kept rows w rising (λ q. subst (λ (o : Option Pair). IsKept o (map.get w q)) (sym (get_of_rows rows q v is)) (at_most q)),
 )
-
-nodes_are : (rows : List Row) → list_map (λ (e : ℕ × Pair). e.0) (entries_of rows) ≡ list_map (λ (row : Row). row.node) rows
-nodes_are [] = refl
-nodes_are (row ∷ rows) = ap (λ (t : List ℕ). row.node ∷ t) (nodes_are rows)
-
-pub nodes_ascend : (rows : List Row) → is_sorted nat_cmp (entries_of rows) ≡ true → IsAscending (list_map (λ (row : Row). row.node) rows)
-nodes_ascend rows rising = subst IsAscending (nodes_are rows) (ascending_of_sorted (entries_of rows) rising)

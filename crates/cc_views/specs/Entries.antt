@@ -1,6 +1,7 @@
 -- Entries whose keys rise: an edit at a place is a `put`, and a map of such entries has them as its entries.
-use Rattle.std.proofs.Common.{◌≡◌, ℕ, zero, suc, ◌<◌, ◌≤◌, Bool, true, false, ◌&&◌, T, List, [], ◌∷◌, length, get_or, set, Some, None, refl, sym, ap, subst, ◌∙◌, arith, inl, inr}
-use Rattle.std.specs.List.{insert}
+use Rattle.std.proofs.Common.{◌≡◌, ℕ, zero, suc, ◌<◌, ◌≤◌, Bool, true, false, ◌&&◌, T, List, [], ◌∷◌, map as list_map, length, get_or, set, Some, None, refl, sym, ap, subst, ◌∙◌, arith, inl, inr}
+use Rattle.std.specs.List.{AllByRecursion, insert}
+use Rattle.std.proofs.lemmas.Bool.{and_from}
 use Rattle.std.proofs.lemmas.List.{nil_from_length}
 use Rattle.std.specs.Prelude.{◌⊎◌}
 use Rattle.std.specs.declared.cmp.Ordering.TheVariants.{Less, Equal, Greater}
@@ -8,6 +9,7 @@ use Rattle.std.specs.Ordering.{nat_cmp, is_lt}
 use Rattle.std.specs.Cmp.{ranked, nat_cmp_is, nat_cmp_total}
 use Rattle.std.specs.FinMap as map
 use Rattle.std.specs.FinMap.Entries.{find, put, below_all, is_sorted}
+use Rattle.cc_views.specs.Ascending.{IsAscending}
 
 pub cmp_lt : (a b : ℕ) → a < b → nat_cmp a b ≡ Less
 cmp_lt a b h = sym (nat_cmp_is a b Less h)
@@ -41,6 +43,23 @@ from_T true h = refl
 from_T false h = absurd h
 
 module _ {X : Type 0} where
+  above_of_below : (k : ℕ) (es : List (ℕ × X)) → below_all nat_cmp k es ≡ true → AllByRecursion (λ q. k < q) (list_map (λ e. e.0) es)
+  above_of_below k [] h = tt
+  above_of_below k (e ∷ es) h = (lt_from_cmp k e.0 (and_left _ _ h), above_of_below k es (and_right _ _ h))
+
+  below_of_above : (k : ℕ) (es : List (ℕ × X)) → AllByRecursion (λ q. k < q) (list_map (λ e. e.0) es) → below_all nat_cmp k es ≡ true
+  below_of_above k [] h = refl
+  below_of_above k (e ∷ es) h = and_from _ _ (ap is_lt (cmp_lt k e.0 h.0)) (below_of_above k es h.1)
+
+  -- keys rise where, as numbers, they ascend
+  pub ascending_of_sorted : (es : List (ℕ × X)) → is_sorted nat_cmp es ≡ true → IsAscending (list_map (λ e. e.0) es)
+  ascending_of_sorted [] h = tt
+  ascending_of_sorted (e ∷ es) h = (above_of_below e.0 es (and_left _ _ h), ascending_of_sorted es (and_right _ _ h))
+
+  pub sorted_of_ascending : (es : List (ℕ × X)) → IsAscending (list_map (λ e. e.0) es) → is_sorted nat_cmp es ≡ true
+  sorted_of_ascending [] h = refl
+  sorted_of_ascending (e ∷ es) h = and_from _ _ (below_of_above e.0 es h.0) (sorted_of_ascending es h.1)
+
   -- the first key is below each later one
   pub below_at : (k : ℕ) (es : List (ℕ × X)) → below_all nat_cmp k es ≡ true → (i : ℕ) (d : ℕ × X) → i < length es → k < (get_or es i d).0
   below_at k [] h i d lt = absurd (omega arith)

@@ -4,7 +4,6 @@ pub mod MapLaws
 pub mod Tables
 pub mod NatSets
 pub mod NatLists
-pub mod NatPlaces
 pub mod Room
 pub mod NumberTable
 pub mod Rows

@@ -1,12 +1,12 @@
 -- Laws of `merge` and of `IsAtMost`, from what a merge has at each node.
---     get-merge, contains-merge, get-single              what a merge, and a view of one row, have of a node
+--     get-merge, contains-merge                          what a merge has of a node
 --     merge_comm, merge_assoc, merge_same                merging joins
 --     at_most_merge, merged_at_most                      and loses nothing
 --     at_most_same, at_most_trans, same_view             views are in order by it; when two views are one
---     some_merged, each_merged                           what holds of each pair of both sides holds of each of the merge
---     merge_is_no_larger, merge_row_is_no_larger, len_merge_within                        how many nodes a merge has at most
+--     merge_is_no_larger, merge_row_is_no_larger         how many nodes a merge has at most
+--     len_merge_within                                   and where each node of both is among some ids
 use Rattle.std.proofs.Common.{◌≡◌, ◌≢◌, ◌⊎◌, ℕ, ◌+◌, ◌≤◌, Bool, true, false, cond, ◌||◌, nat_eq, List, [], ◌∷◌, ◌++◌, map as list_map, Option, Some, None, refl, sym, ap, subst, ◌∙◌, inl, inr, arith}
-use Rattle.std.specs.Prelude.{nat_lt, is_some, IsTrue, IfSome}
+use Rattle.std.specs.Prelude.{nat_lt, is_some, IsTrue}
 use Rattle.std.specs.Ordering.{nat_cmp, is_eq}
 use Rattle.std.specs.declared.cmp.Ordering.TheVariants.{Less, Equal, Greater}
 use Rattle.std.specs.Cmp.{ranked, nat_cmp_total}
@@ -17,7 +17,7 @@ use Rattle.std.proofs.lemmas.Bool.{ltb-true, ltb-false}
 use Rattle.std.proofs.lemmas.Bool.Decides.{eqb_tells, nat_tests}
 use Rattle.std.proofs.lemmas.List.{length-append, length-map}
 use Rattle.cc_views.specs.declared.row.Row.{Row}
-use Rattle.cc_views.specs.NatSets.{IsWithin, len_within, get-insert_key}
+use Rattle.cc_views.specs.NatSets.{IsWithin, len_within}
 use Rattle.cc_views.specs.NatLists.{len-from_entries}
 use Rattle.cc_views.specs.Rows.{Pair, ViewMap, entry_of, single}
 use Rattle.cc_views.specs.Merge.{merged, newer_or_left, merge, MergesAtEachNode, IsKept, IsAtMost, AgreeAt, Agree}
@@ -49,9 +49,6 @@ find_over w (e ∷ es) q =
 pub get-merge : MergesAtEachNode
 unfolding merge
 get-merge v w q = map.get-from_entries nat_cmp_total (over_each w (map.entries v) ++ map.entries w) q ∙ find_over w (map.entries v) q ∙ ap (λ x. merged x (map.get w q)) (sym (map.get-entries v q))
-
-pub get-single : (row : Row) (q : ℕ) → map.get (single row) q ≡ cond (nat_eq q row.node) (Some (row.number, row.value)) None
-get-single row q = get-insert_key map.empty row.node (row.number, row.value) q ∙ ap (cond (nat_eq q row.node) (Some (row.number, row.value))) (map.get-empty nat_cmp q)
 
 is_some-merged : (a b : Option Pair) → is_some (merged a b) ≡ (is_some a || is_some b)
 is_some-merged None None = refl
@@ -175,21 +172,6 @@ at_most_same v q = kept_itself (map.get v q)
 
 pub at_most_trans : (u v w : ViewMap) → IsAtMost u v → IsAtMost v w → IsAtMost u w
 at_most_trans u v w h k q = kept_on (map.get u q) (map.get v q) (map.get w q) (h q) (k q)
-
--- ---- what holds of each pair
-
-either_some : (Q : Pair → Type 0) (b : Bool) (x y : Pair) → Q x → Q y → Q (cond b x y)
-either_some Q true x y h k = h
-either_some Q false x y h k = k
-
-pub some_merged : (Q : Pair → Type 0) (a b : Option Pair) → IfSome a Q → IfSome b Q → IfSome (merged a b) Q
-some_merged Q None None h k = tt
-some_merged Q None (Some q) h k = k
-some_merged Q (Some p) None h k = h
-some_merged Q (Some p) (Some q) h k = either_some Q (nat_lt p.0 q.0) q p k h
-
-pub each_merged : (Q : ℕ → Pair → Type 0) (v w : ViewMap) → ((q : ℕ) → IfSome (map.get v q) (Q q)) → ((q : ℕ) → IfSome (map.get w q) (Q q)) → (q : ℕ) → IfSome (map.get (merge v w) q) (Q q)
-each_merged Q v w h k q = subst (λ o. IfSome o (Q q)) (sym (get-merge v w q)) (some_merged (Q q) (map.get v q) (map.get w q) (h q) (k q))
 
 -- ---- sizes
 

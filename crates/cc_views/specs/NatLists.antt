@@ -1,73 +1,66 @@
 -- Sets of ids as ascending lists, and how many ids they have.
+--     rising_of_ascending, as_table, items-table_of          an ascending list is a table of marked numbers
+--     held, push_ascending                                   a number that is there, and one above all
 --     items_ascending, items-from_list, from_list-items      a set is its ascending list of items
---     contains-items, len-items                              what it contains, and how many, by that list
+--     len-items                                              how many it has, by that list
 --     len-union, len-union_parts, len-difference             a union's and a difference's size, by counts over the items of one side
 --     len-from_entries                                       a map has no more keys than the entries that it is made of
-use Rattle.std.specs.Prelude.{◌≡◌, ℕ, ◌+◌, ◌<◌, ◌≤◌, Bool, true, false, cond, not, ◌&&◌, ◌||◌, List, [], ◌∷◌, map, length, nat_eq}
+use Rattle.std.specs.Prelude.{◌≡◌, ℕ, ◌+◌, ◌<◌, ◌≤◌, Bool, true, false, cond, not, ◌&&◌, ◌||◌, List, [], ◌∷◌, ◌++◌, map, length, nat_eq}
 use Rattle.std.specs.List.{AllByRecursion, list_any, filter, count_by}
-use Rattle.std.specs.Ordering.{nat_cmp, is_lt}
+use Rattle.std.specs.Ordering.{nat_cmp}
 use Rattle.std.specs.FinMap as table
-use Rattle.std.specs.FinMap.{is_sorted}
-use Rattle.std.specs.FinMap.Entries.{below_all}
-use Rattle.std.proofs.Common.{refl, sym, ap, ◌∙◌, arith}
+use Rattle.std.proofs.Common.{refl, sym, ap, subst, ◌∙◌, arith}
 use Rattle.std.proofs.Math.Bool.{or_assoc, and-false}
-use Rattle.std.proofs.lemmas.Bool.{and_from, eqb-true}
+use Rattle.std.proofs.lemmas.Bool.{eqb-true}
 use Rattle.std.proofs.lemmas.Bool.Decides.{nat_tests}
 use Rattle.std.proofs.lemmas.List.{length-map}
 use Rattle.std.proofs.lemmas.List.Sums.{length-filter}
 use Rattle.cc_views.specs.Ascending.{IsAscending}
-use Rattle.cc_views.specs.Entries.{cmp_lt, and_left, and_right, from_T, lt_from_cmp, entries_back}
-use Rattle.cc_views.specs.MapLaws.{len_insert}
-use Rattle.cc_views.specs.NatSets.{NatSet, contains, insert, insert_all, from_list, items, len, union, difference, contains-keys, contains-from_list, contains-insert_all, contains-union, contains-difference, len-insert, same_ids}
+use Rattle.cc_views.specs.Entries.{from_T, ascending_of_sorted, sorted_of_ascending}
+use Rattle.cc_views.specs.MapLaws.{len_insert, insert_there}
+use Rattle.cc_views.specs.Tables.{IsRising, IsAt, table_of, entries-table_of, get-at, rising-push}
+use Rattle.cc_views.specs.NatSets.{NatSet, marked, contains, insert, insert_all, from_list, items, len, union, difference, contains-keys, contains-from_list, contains-insert_all, contains-union, contains-difference, len-insert, same_ids}
 
-module _ {X : Type 0} where
-  above_of_below : (k : ℕ) (es : List (ℕ × X)) → below_all nat_cmp k es ≡ true → AllByRecursion (λ q. k < q) (map (λ e. e.0) es)
-  above_of_below k [] h = tt
-  above_of_below k (e ∷ es) h = (lt_from_cmp k e.0 (and_left _ _ h), above_of_below k es (and_right _ _ h))
-
-  pub ascending_of_sorted : (es : List (ℕ × X)) → is_sorted nat_cmp es ≡ true → IsAscending (map (λ e. e.0) es)
-  ascending_of_sorted [] h = tt
-  ascending_of_sorted (e ∷ es) h = (above_of_below e.0 es (and_left _ _ h), ascending_of_sorted es (and_right _ _ h))
-
--- a number as an entry
-abbrev pub marked : List ℕ → List (ℕ × Unit {0})
-marked qs = map (λ q. (q, tt)) qs
-
-below_of_above : (k : ℕ) (qs : List ℕ) → AllByRecursion (λ q. k < q) qs → below_all nat_cmp k (marked qs) ≡ true
-below_of_above k [] h = refl
-below_of_above k (q ∷ qs) h = and_from _ _ (ap is_lt (cmp_lt k q h.0)) (below_of_above k qs h.1)
-
-pub sorted_of_ascending : (qs : List ℕ) → IsAscending qs → is_sorted nat_cmp (marked qs) ≡ true
-sorted_of_ascending [] h = refl
-sorted_of_ascending (q ∷ qs) h = and_from _ _ (below_of_above q qs h.0) (sorted_of_ascending qs h.1)
-
-pub as_entries : (qs : List ℕ) → from_list qs ≡ table.from_entries {R = nat_cmp} (marked qs)
-as_entries [] = refl
-as_entries (q ∷ qs) = ap (λ (s : NatSet). insert s q) (as_entries qs)
-
-unmarked : (qs : List ℕ) → map (λ e. e.0) (marked qs) ≡ qs
+unmarked : (qs : List ℕ) → map (λ e. e.0) (map marked qs) ≡ qs
 unmarked [] = refl
 unmarked (q ∷ qs) = ap (λ (t : List ℕ). q ∷ t) (unmarked qs)
+
+-- numbers that ascend are rows that rise
+pub rising_of_ascending : (qs : List ℕ) → IsAscending qs → IsRising marked qs
+rising_of_ascending qs h = sorted_of_ascending (map marked qs) (subst IsAscending (sym (unmarked qs)) h)
+
+pub ascending_of_rising : (qs : List ℕ) → IsRising marked qs → IsAscending qs
+ascending_of_rising qs h = subst IsAscending (unmarked qs) (ascending_of_sorted (map marked qs) h)
+
+-- and their set is the map that the rows keep
+pub as_table : (qs : List ℕ) → from_list qs ≡ table_of marked qs
+as_table [] = refl
+as_table (q ∷ qs) = ap (λ (s : NatSet). insert s q) (as_table qs)
+
+pub items-table_of : (qs : List ℕ) → IsRising marked qs → items (table_of marked qs) ≡ qs
+items-table_of qs h = ap (map (λ (e : ℕ × Unit {0}). e.0)) (entries-table_of marked qs h) ∙ unmarked qs
+
+-- a number that is there is not added
+pub held : (qs : List ℕ) (q i : ℕ) → IsRising marked qs → IsAt marked qs q i → table_of marked qs ≡ insert (table_of marked qs) q
+held qs q i h at = insert_there (table_of marked qs) q tt (get-at marked qs h q i at q)
+
+-- a number above all goes to the end
+pub push_ascending : (qs : List ℕ) (q : ℕ) → IsAscending qs → AllByRecursion (λ n. n < q) qs → IsAscending (qs ++ q ∷ [])
+push_ascending qs q h above = ascending_of_rising (qs ++ q ∷ []) (rising-push marked qs q (rising_of_ascending qs h) above)
 
 pub items_ascending : (s : NatSet) → IsAscending (items s)
 items_ascending s = ascending_of_sorted (table.entries s) (from_T _ (table.entries_sorted s))
 
 -- a set of ids in order has them as its items
 pub items-from_list : (qs : List ℕ) → IsAscending qs → items (from_list qs) ≡ qs
-items-from_list qs h = ap items (as_entries qs) ∙ ap (map (λ (e : ℕ × Unit {0}). e.0)) (entries_back (marked qs) (sorted_of_ascending qs h)) ∙ unmarked qs
+items-from_list qs h = ap items (as_table qs) ∙ items-table_of qs (rising_of_ascending qs h)
 
 -- and a set is the set of its items
 pub from_list-items : (s : NatSet) → from_list (items s) ≡ s
 from_list-items s = same_ids (from_list (items s)) s (λ q. contains-from_list (items s) q ∙ sym (contains-keys s q))
 
-pub contains-items : (s : NatSet) (q : ℕ) → contains s q ≡ list_any (nat_eq q) (items s)
-contains-items s q = contains-keys s q
-
 pub len-items : (s : NatSet) → len s ≡ length (items s)
 len-items s = table.len-entries s ∙ sym (length-map (table.entries s) (λ e. e.0))
-
-pub len-from_list : (qs : List ℕ) → IsAscending qs → len (from_list qs) ≡ length qs
-len-from_list qs h = len-items (from_list qs) ∙ ap length (items-from_list qs h)
 
 -- ---- counts
 

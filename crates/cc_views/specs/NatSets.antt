@@ -1,11 +1,12 @@
 -- Finite sets of ids: maps with nothing at each key, whose items ascend and can be counted.
---     NatSet                          the type;  set_code its code
+--     NatSet                          the type;  set_code its code;  marked a number as an entry
 --     empty, insert, from_list, union, difference, contains, len, items      as Rust's `BTreeSet`
 --     IsWithin m n                   each key of m is one of n, for sets and for maps alike
 --     contains-.., len-..            what `contains` answers, and how long sets are
 --     len_within                     what is within another is no longer
+--     insert_all-..                  lists of ids that are inserted one after the other
 --     or_swap, one_at_most           of tests, and of a count that grows by one or by none
-use Rattle.std.specs.Prelude.{◌≡◌, ℕ, ◌+◌, ◌-◌, ◌≤◌, ◌<◌, Bool, true, false, cond, not, ◌&&◌, ◌||◌, T, IsTrue, List, [], ◌∷◌, length, is_some, nat_eq}
+use Rattle.std.specs.Prelude.{◌≡◌, ℕ, ◌+◌, ◌-◌, ◌≤◌, ◌<◌, Bool, true, false, cond, not, ◌&&◌, ◌||◌, T, IsTrue, List, [], ◌∷◌, ◌++◌, length, is_some, nat_eq}
 use Rattle.std.specs.Prelude.{Option, Some, None}
 use Rattle.std.specs.List.{list_any}
 use Rattle.std.specs.Ordering.{nat_cmp, eq_by_cmp, is_lt}
@@ -16,7 +17,7 @@ use Rattle.std.specs.FinMap as table
 use Rattle.std.specs.FinMap.{FinMap, nat_cmp-IsAntisymmetric, is_sorted, find}
 use Rattle.std.specs.FinMap.Entries.{below_all}
 use Rattle.std.proofs.Common.{suc, refl, sym, ap, subst, ◌∙◌, arith, inl, inr}
-use Rattle.std.proofs.Math.Bool.{or-false}
+use Rattle.std.proofs.Math.Bool.{or_assoc, or-false}
 use Rattle.std.proofs.lemmas.Bool.{and_parts, eq-eqb, eqb-true}
 use Rattle.std.proofs.lemmas.Bool.Decides.{eqb_tells, nat_tests}
 
@@ -25,6 +26,10 @@ NatSet = FinMap nat_cmp (Unit {0})
 
 abbrev pub set_code : Coded NatSet
 set_code = std_set.code coded_ℕ
+
+-- a number as an entry
+abbrev pub marked : ℕ → ℕ × Unit {0}
+marked q = (q, tt)
 
 abbrev pub empty : NatSet
 empty = table.empty
@@ -136,10 +141,6 @@ one_at_most false m n e = omega arith
 pub len_insert_at_most : (s : NatSet) (k : ℕ) → len (insert s k) ≤ len s + 1
 len_insert_at_most s k = one_at_most (contains s k) (len s) (len (insert s k)) (len-insert s k)
 
--- each item is below all that follow it
-pub items_ascend : (s : NatSet) → T (is_sorted nat_cmp (table.entries s))
-items_ascend s = table.entries_sorted s
-
 marks : (x y : Option (Unit {0})) → is_some x ≡ is_some y → x ≡ y
 marks None None e = refl
 marks None (Some u) e = cc
@@ -149,6 +150,18 @@ marks (Some u) (Some w) e = refl
 -- two sets with the same items are one
 pub same_ids : (s t : NatSet) → ((q : ℕ) → contains s q ≡ contains t q) → s ≡ t
 same_ids s t h = table.same_map nat_cmp_total nat_cmp-IsAntisymmetric s t (λ q. marks (table.get s q) (table.get t q) (h q))
+
+-- to insert two lists is to insert the second, then the first
+pub insert_all-append : (s : NatSet) (xs ys : List ℕ) → insert_all s (xs ++ ys) ≡ insert_all (insert_all s ys) xs
+insert_all-append s [] ys = refl
+insert_all-append s (x ∷ xs) ys = ap (λ (t : NatSet). insert t x) (insert_all-append s xs ys)
+
+-- an id that is inserted first is inserted
+pub insert_all-insert : (s : NatSet) (id : ℕ) (ids : List ℕ) → insert_all (insert s id) ids ≡ insert (insert_all s ids) id
+insert_all-insert s id ids = same_ids _ _ (λ q.
+    contains-insert_all (insert s id) ids q ∙ ap (λ b. b || list_any (nat_eq q) ids) (contains-insert s id q)
+    ∙ or_assoc (nat_eq q id) (contains s q) (list_any (nat_eq q) ids)
+    ∙ sym (contains-insert (insert_all s ids) id q ∙ ap (λ b. nat_eq q id || b) (contains-insert_all s ids q)))
 
 -- ---- counting
 

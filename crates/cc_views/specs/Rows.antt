@@ -1,9 +1,9 @@
 -- A view as a finite map from nodes to pairs of a number and a value, and the rows that keep it.
-use Rattle.std.specs.Prelude.{◌≡◌, ℕ, ◌<◌, ◌≤◌, List, [], ◌∷◌, map, length, Option, Some, None, IsTrue, Result, Ok, Err, nat_lt, if◌then◌else◌, slice_index_or, Bool}
+use Rattle.std.specs.Prelude.{ℕ, List, [], ◌∷◌, map, Option, Some, None, nat_lt, if◌then◌else◌, Bool}
 use Rattle.std.specs.Ordering.{nat_cmp}
 use Rattle.std.specs.Coded.{Coded, code_by, coded×, coded_ℕ, coded_bool, coded_list}
 use Rattle.std.proofs.Common.{refl}
-use Rattle.std.specs.FinMap.{FinMap, code, entries, from_entries, find, put, is_sorted}
+use Rattle.std.specs.FinMap.{FinMap, code, entries, from_entries, find, put}
 use Rattle.cc_views.specs.NatSets.{NatSet, set_code}
 use Rattle.cc_views.specs.declared.value.Value.{Value}
 use Rattle.cc_views.specs.declared.row.Row.{Row}
@@ -40,16 +40,6 @@ rows_of v = map row_of (entries v)
 abbrev pub single : Row → ViewMap
 single row = from_entries (entry_of row ∷ [])
 
--- each row's node is above the one before it
-abbrev pub IsRising : List Row → Type 0
-IsRising rows = IsTrue (is_sorted nat_cmp (entries_of rows))
-
--- what a view keeps: rows in order, and room for 256
-pub record IsTable (rows : List Row) (capacity : ℕ) : Type 0 where
-  pub rising : IsRising rows
-  pub fits : length rows ≤ 256
-  pub room : 256 ≤ capacity
-
 -- of two pairs of one node the right one where its number is greater, else the left one
 abbrev pub newer : Pair → Pair → Pair
 newer left right = if nat_lt left.0 right.0 then right else left
@@ -65,18 +55,3 @@ absorbed es row = put nat_cmp row.node (newest (find nat_cmp row.node es) (row.n
 abbrev pub absorbed_all : List (ℕ × Pair) → List Row → List (ℕ × Pair)
 absorbed_all es [] = es
 absorbed_all es (row ∷ rows) = absorbed_all (absorbed es row) rows
-
--- the row at place i is that of the node
-pub record IsAt (rows : List Row) (node i : ℕ) : Type 0 where
-  pub in_range : i < length rows
-  pub has_node : (d : Row) → (slice_index_or rows i d).node ≡ node
-
--- the row of the node would go to place i
-pub record IsGapFor (rows : List Row) (node i : ℕ) : Type 0 where
-  pub in_range : i ≤ length rows
-  pub below : (j : ℕ) (d : Row) → j < i → (slice_index_or rows j d).node < node
-  pub above : (j : ℕ) (d : Row) → i ≤ j → j < length rows → node < (slice_index_or rows j d).node
-
-abbrev pub IsPlaceOf : List Row → ℕ → Result ℕ ℕ → Type 0
-IsPlaceOf rows node (Ok i) = IsAt rows node i
-IsPlaceOf rows node (Err i) = IsGapFor rows node i

@@ -2,25 +2,29 @@
 --     table_of                     the map that rows keep
 --     IsRising, IsTable            that keys rise from row to row;  and that the rows fit a room that is there
 --     IsAt, IsGapFor, IsPlaceOf    the place of a key's row, or where it would go, as a binary search answers it
---     table_of-.., rising-..       what an edit at such a place makes of the map, and that the keys rise still
+--     searched, found              that it answers that, and so whether the key is there
+--     put_.., table_of-.., rising-..   what an edit at such a place makes of the entries and of the map, and that the keys rise still
 --     get-.., len-.., entries-..   look-ups, size and entries of the map by the rows
-use Rattle.std.proofs.Common.{◌≡◌, ℕ, zero, suc, ◌+◌, ◌<◌, ◌≤◌, Bool, true, false, cond, not, List, [], ◌∷◌, map, length, get_or, set, Option, Some, None, Result, Ok, Err, refl, sym, ap, subst, ◌∙◌, arith, inl, inr}
-use Rattle.std.specs.Prelude.{IsTrue, ◌⊎◌, is_some}
-use Rattle.std.specs.List.{insert, remove}
+--     keys_ascend, rising_of_keys  keys that rise, as numbers that ascend
+--     .._table                     that a table stays one
+use Rattle.std.proofs.Common.{◌≡◌, ℕ, zero, suc, ◌+◌, ◌<◌, ◌≤◌, Bool, true, false, cond, not, List, [], ◌∷◌, ◌++◌, map, length, get_or, set, Option, Some, None, Result, Ok, Err, refl, sym, ap, subst, ◌∙◌, arith, inl, inr}
+use Rattle.std.specs.Prelude.{IsTrue, ◌⊎◌, is_ok, is_some}
+use Rattle.std.specs.List.{AllByRecursion, insert, remove}
 use Rattle.std.specs.List.Sorted.{IsSearchInRange, IsBinarySearchResult, IsNonDecreasingBy}
 use Rattle.std.specs.declared.cmp.Ordering.TheVariants.{Equal}
-use Rattle.std.specs.Ordering.{nat_cmp, ordering_index, eq_by_cmp}
+use Rattle.std.specs.Ordering.{nat_cmp, ordering_index, eq_by_cmp, is_lt}
 use Rattle.std.specs.Cmp.{nat_cmp_total, eq_by_cmp_equiv}
 use Rattle.std.specs.FinMap as finite
 use Rattle.std.specs.FinMap.{FinMap, nat_cmp-IsAntisymmetric}
 use Rattle.std.specs.FinMap.Entries.{find, put, where_key, below_all, is_sorted, is_sorted-put, is_sorted-where_key, find-put, find-where_key}
 use Rattle.std.proofs.Math.ListN.{get_or-map}
-use Rattle.std.proofs.lemmas.Bool.{cases_lt}
+use Rattle.std.proofs.lemmas.Bool.{and_from, cases_lt}
 use Rattle.std.proofs.lemmas.Bool.Decides.{nat_tests}
 use Rattle.std.proofs.lemmas.Cmp.{ranked}
-use Rattle.std.proofs.lemmas.List.{length-map, length-set, map-set}
+use Rattle.std.proofs.lemmas.List.{length-append, length-map, length-set, map-set, map_push}
 use Rattle.std.proofs.lemmas.List.Edits.{length-insert, length-remove}
-use Rattle.cc_views.specs.Entries.{cmp_lt, cmp_eq, cmp_gt, and_left, and_right, to_T, from_T, lt_from_cmp, below_at, rises, put_at, put_gap, find_at, find_none, entries_back}
+use Rattle.cc_views.specs.Ascending.{IsAscending}
+use Rattle.cc_views.specs.Entries.{cmp_lt, cmp_eq, cmp_gt, and_left, and_right, to_T, from_T, lt_from_cmp, ascending_of_sorted, sorted_of_ascending, below_at, rises, put_at, put_gap, find_at, find_none, entries_back}
 
 -- keys rise from row to row
 abbrev pub IsRising : {Row X : Type 0} → (Row → ℕ × X) → List Row → Type 0
@@ -78,10 +82,13 @@ module _ {Row X : Type 0} (entry : Row → ℕ × X) (rows : List Row) where
     key_at : (d : Row) → (get_or (map entry rows) i (entry d)).0 ≡ key
     key_at d = ap (λ (e : ℕ × X). e.0) (entry_at i d) ∙ at.has_key d
 
-    pub get-at : (d : Row) → finite.get (table_of entry rows) key ≡ Some (entry (get_or rows i d)).1
-    get-at d = get-table_of key ∙ find_at (map entry rows) i key (entry d) rising in_entries (key_at d) ∙ ap (λ (e : ℕ × X). Some e.1) (entry_at i d)
+    pub find-at : (d : Row) → find nat_cmp key (map entry rows) ≡ Some (entry (get_or rows i d)).1
+    find-at d = find_at (map entry rows) i key (entry d) rising in_entries (key_at d) ∙ ap (λ (e : ℕ × X). Some e.1) (entry_at i d)
 
-    put_set : (row : Row) → (entry row).0 ≡ key → map entry (set rows i row) ≡ put nat_cmp key (entry row).1 (map entry rows)
+    pub get-at : (d : Row) → finite.get (table_of entry rows) key ≡ Some (entry (get_or rows i d)).1
+    get-at d = get-table_of key ∙ find-at d
+
+    pub put_set : (row : Row) → (entry row).0 ≡ key → map entry (set rows i row) ≡ put nat_cmp key (entry row).1 (map entry rows)
     put_set row is =
         map-set entry rows i row ∙ ap (λ (k : ℕ). set (map entry rows) i (k, (entry row).1)) is
         ∙ put_at (map entry rows) i key (entry row).1 (entry row) rising in_entries (key_at row)
@@ -103,19 +110,22 @@ module _ {Row X : Type 0} (entry : Row → ℕ × X) (rows : List Row) where
           | inr r ↦ inr (rw (entry_at j d) (gap.above j d r (omega (arith, lt, length-map rows entry))))
         ]
 
-    pub get-gap : finite.get (table_of entry rows) key ≡ None
-    get-gap = get-table_of key ∙ none_of rows refl
+    pub find-gap : find nat_cmp key (map entry rows) ≡ None
+    find-gap = none_of rows refl
       where
         none_of : (rs : List Row) → rs ≡ rows → find nat_cmp key (map entry rows) ≡ None
         none_of [] is = subst (λ (rs : List Row). find nat_cmp key (map entry rs) ≡ None) is refl
         none_of (d ∷ rs) is = none_there d
+
+    pub get-gap : finite.get (table_of entry rows) key ≡ None
+    get-gap = get-table_of key ∙ find-gap
 
     map_insert : (rs : List Row) (j : ℕ) (row : Row) → map entry (insert rs j row) ≡ insert (map entry rs) j (entry row)
     map_insert rs zero row = refl
     map_insert [] (suc j) row = refl
     map_insert (r ∷ rs) (suc j) row = ap (λ (t : List (ℕ × X)). entry r ∷ t) (map_insert rs j row)
 
-    put_insert : (row : Row) → (entry row).0 ≡ key → map entry (insert rows i row) ≡ put nat_cmp key (entry row).1 (map entry rows)
+    pub put_insert : (row : Row) → (entry row).0 ≡ key → map entry (insert rows i row) ≡ put nat_cmp key (entry row).1 (map entry rows)
     put_insert row is =
         map_insert rows i row ∙ ap (λ (k : ℕ). insert (map entry rows) i (k, (entry row).1)) is
         ∙ put_gap (map entry rows) i key (entry row).1 (entry row) (omega (arith, gap.in_range, length-map rows entry))
@@ -152,6 +162,11 @@ module _ {Row X : Type 0} (entry : Row → ℕ × X) (rows : List Row) (rising :
     below = λ j d lt. ranked _ key _ (sym ((parted comparisons_rise).0 j d (omega arith) lt));
     above = λ j d le lt. ranked _ key _ (sym ((parted comparisons_rise).1 j d le lt));
   }
+
+  -- so it tells whether the map has the key
+  pub found : (r : Result ℕ ℕ) → Row → IsPlaceOf entry rows key r → is_ok r ≡ finite.contains_key (table_of entry rows) key
+  found (Ok i) d at = sym (ap is_some (get-at entry rows rising key i at d))
+  found (Err i) d gap = sym (ap is_some (get-gap entry rows key i gap))
 
 -- ---- a row is taken out
 
@@ -199,6 +214,38 @@ module _ {Row X : Type 0} (entry : Row → ℕ × X) (rows : List Row) (rising :
   pub rising-remove : (d : Row) → IsRising entry (remove rows i)
   rising-remove d = ap (is_sorted nat_cmp) (others d) ∙ from_T _ (is_sorted-where_key nat_cmp (other_than key) (map entry rows) (to_T _ rising))
 
+-- ---- a row whose key is above all goes to the end
+
+module _ {Row X : Type 0} (entry : Row → ℕ × X) where
+  abbrev pub IsAboveAll : Row → List Row → Type 0
+  IsAboveAll row rows = AllByRecursion (λ r. (entry r).0 < (entry row).0) rows
+
+  below_push : (k : ℕ) (rows : List Row) (row : Row) → below_all nat_cmp k (map entry rows) ≡ true → k < (entry row).0 → below_all nat_cmp k (map entry (rows ++ row ∷ [])) ≡ true
+  below_push k [] row below lt = and_from _ _ (ap is_lt (cmp_lt k (entry row).0 lt)) refl
+  below_push k (r ∷ rows) row below lt = and_from _ _ (and_left _ _ below) (below_push k rows row (and_right _ _ below) lt)
+
+  pub rising-push : (rows : List Row) (row : Row) → IsRising entry rows → IsAboveAll row rows → IsRising entry (rows ++ row ∷ [])
+  rising-push [] row rising above = refl
+  rising-push (r ∷ rows) row rising above =
+      and_from _ _ (below_push (entry r).0 rows row (and_left _ _ rising) above.0) (rising-push rows row (and_right _ _ rising) above.1)
+
+  find_above : (rows : List Row) (row : Row) → IsAboveAll row rows → find nat_cmp (entry row).0 (map entry rows) ≡ None
+  find_above [] row above = refl
+  find_above (r ∷ rows) row above = rw (cmp_gt (entry row).0 (entry r).0 above.0) (find_above rows row above.1)
+
+  pub table_of-push : (rows : List Row) (row : Row) → IsAboveAll row rows → table_of entry (rows ++ row ∷ []) ≡ finite.insert (table_of entry rows) (entry row).0 (entry row).1
+  table_of-push rows row above =
+      ap (λ (es : List (ℕ × X)). finite.from_entries es) (map_push entry rows row)
+      ∙ finite.from_entries_push nat_cmp_total nat_cmp-IsAntisymmetric (map entry rows) (entry row).0 (entry row).1 (find_above rows row above)
+
+  pub push_table : (limit : ℕ) (rows : List Row) (capacity : ℕ) → IsTable entry limit rows capacity → (row : Row) → IsAboveAll row rows → length rows < limit → (more : ℕ) → capacity ≤ more
+      → IsTable entry limit (rows ++ row ∷ []) more
+  push_table limit rows capacity is row above lt more le = record {
+    rising = rising-push rows row is.rising above;
+    fits = omega (arith, length-append rows (row ∷ []), lt);
+    room = omega (arith, is.room);
+  }
+
 -- ---- rows again, and a part of the rows
 
 -- to keep the keys that pass a test is to keep their entries
@@ -223,6 +270,17 @@ module _ {Row X : Type 0} (entry : Row → ℕ × X) where
   entries-retain rows p rising =
       ap finite.entries (retain-from_entries p (map entry rows))
       ∙ entries_back (where_key nat_cmp p (map entry rows)) (from_T _ (is_sorted-where_key nat_cmp p (map entry rows) (to_T _ rising)))
+
+  -- keys rise where, as numbers, they ascend
+  keys_are : (rows : List Row) → map (λ (e : ℕ × X). e.0) (map entry rows) ≡ map (λ row. (entry row).0) rows
+  keys_are [] = refl
+  keys_are (row ∷ rows) = ap (λ (t : List ℕ). (entry row).0 ∷ t) (keys_are rows)
+
+  pub keys_ascend : (rows : List Row) → IsRising entry rows → IsAscending (map (λ row. (entry row).0) rows)
+  keys_ascend rows rising = subst IsAscending (keys_are rows) (ascending_of_sorted (map entry rows) rising)
+
+  pub rising_of_keys : (rows : List Row) → IsAscending (map (λ row. (entry row).0) rows) → IsRising entry rows
+  rising_of_keys rows h = sorted_of_ascending (map entry rows) (subst IsAscending (sym (keys_are rows)) h)
 
 -- ---- what an edit keeps of a table
 

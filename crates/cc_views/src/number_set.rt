@@ -5,9 +5,9 @@ ghost use Rattle.std.specs.Cmp.Rules.{comparing};
 ghost use Rattle.std.specs.List.{AllByRecursion};
 ghost use Rattle.std.specs.Ordering.{on};
 ghost use Rattle.cc_views.specs.Ascending.{IsAscending};
-ghost use Rattle.cc_views.specs.NatPlaces.{IsPlaceOf};
 ghost use Rattle.cc_views.specs.NatSets as set;
-ghost use Rattle.cc_views.specs.NatSets.{items};
+ghost use Rattle.cc_views.specs.NatSets.{marked, items};
+ghost use Rattle.cc_views.specs.Tables.{IsRising, IsPlaceOf};
 
 use std::marker::Model;
 
@@ -21,21 +21,22 @@ pub struct NumberSet {
 
 impl Model for NumberSet {
     ghost use Rattle.std.specs.Prelude.{length, take};
-    ghost use Rattle.cc_views.specs.NatSets.{NatSet, set_code, from_list, items};
+    ghost use Rattle.cc_views.specs.NatSets.{NatSet, set_code, marked, items};
+    ghost use Rattle.cc_views.specs.Tables.{table_of};
     ghost use Rattle.cc_views.specs.Room.{filled};
-    ghost use Rattle.cc_views.specs.NumberTable.{IsNumberTable, table_of_items};
+    ghost use Rattle.cc_views.specs.NumberTable.{IsNumberTable, cells_of_items};
 
     ghost Value = { NatSet };
 
     ghost coded = { set_code };
 
-    ghost view = { λ s. from_list (take s.len s.numbers) };
+    ghost view = { λ s. table_of marked (take s.len s.numbers) };
 
     ghost invariant = { λ s. IsNumberTable s.numbers s.len };
 
     ghost inverse = { λ s. record { numbers = filled 32 (items s); len = length (items s) } };
 
-    ghost inverse_ok = { λ s h i. record { numbers = (table_of_items s.numbers s.len h).0 i; len = (table_of_items s.numbers s.len h).1 i } };
+    ghost inverse_ok = { λ s h i. record { numbers = (cells_of_items s.numbers s.len h).0 i; len = (cells_of_items s.numbers s.len h).1 i } };
 }
 
 impl NumberSet {
@@ -104,8 +105,8 @@ impl NumberSet {
 
 // Where the number is, or where it would go.
 fn place_of(numbers: &[u32], number: u32) -> Result<usize, usize>
-    requires { IsAscending numbers.now }
-    ensures { IsPlaceOf numbers.now number result }
+    requires { IsRising marked numbers.now }
+    ensures { IsPlaceOf marked numbers.now number result }
 {
     numbers.binary_search(&number)
 }

@@ -5,7 +5,8 @@ ghost use Rattle.std.specs.Vec.{vec_capacity};
 ghost use Rattle.std.specs.List.{AllByRecursion, list_all};
 ghost use Rattle.std.specs.FinMap as map;
 ghost use Rattle.cc_views.specs.Ascending.{IsAscending};
-ghost use Rattle.cc_views.specs.Rows.{ViewMap, IsTable, IsRising, IsPlaceOf, entries_of, rows_of, single, absorbed, absorbed_all};
+ghost use Rattle.cc_views.specs.Rows.{ViewMap, entry_of, entries_of, rows_of, single, absorbed, absorbed_all};
+ghost use Rattle.cc_views.specs.Tables.{IsRising, IsPlaceOf};
 ghost use Rattle.cc_views.specs.Merge.{merge, MergesAtEachNode, IsAtMost, Agree, keeps};
 ghost use Rattle.cc_views.specs.Sizes.{MergeIsNoLarger, MergeStaysWithin};
 
@@ -22,17 +23,17 @@ pub struct View {
 }
 
 impl Model for View {
-    ghost use Rattle.std.specs.FinMap as map;
     ghost use Rattle.std.specs.Vec.{vec_capacity};
-    ghost use Rattle.cc_views.specs.Rows.{ViewMap, view_code, entries_of, IsTable};
+    ghost use Rattle.cc_views.specs.Rows.{ViewMap, view_code, entry_of};
+    ghost use Rattle.cc_views.specs.Tables.{IsTable, table_of};
 
     ghost Value = { ViewMap };
 
     ghost coded = { view_code };
 
-    ghost view = { λ v. map.from_entries (entries_of v.rows.items) };
+    ghost view = { λ v. table_of entry_of v.rows.items };
 
-    ghost invariant = { λ v. IsTable v.rows.items (vec_capacity v.rows) };
+    ghost invariant = { λ v. IsTable entry_of 256 v.rows.items (vec_capacity v.rows) };
 }
 
 impl View {
@@ -138,14 +139,14 @@ fn is_kept(row: &Row, view: &View) -> bool
 
 // Where the node's row is, or where it would go.
 fn place_of(rows: &[Row], node: NodeId) -> Result<usize, usize>
-    requires { IsRising rows.now }
-    ensures { IsPlaceOf rows.now node result }
+    requires { IsRising entry_of rows.now }
+    ensures { IsPlaceOf entry_of rows.now node result }
 {
     rows.binary_search_by_key(&node.number(), |row| row.node.number())
 }
 
 fn absorb(rows: &mut Vec<Row>, row: Row)
-    requires rising { IsRising rows.old.items }
+    requires rising { IsRising entry_of rows.old.items }
     requires room { 256 ≤ vec_capacity rows.old }
     requires fits { length (absorbed (entries_of rows.old.items) row) ≤ 256 }
     ensures rows { entries_of rows.new.items ≡ absorbed (entries_of rows.old.items) row }
@@ -162,7 +163,7 @@ fn absorb(rows: &mut Vec<Row>, row: Row)
 }
 
 fn absorb_all(rows: &mut Vec<Row>, others: &[Row])
-    requires rising { IsRising rows.old.items }
+    requires rising { IsRising entry_of rows.old.items }
     requires room { 256 ≤ vec_capacity rows.old }
     requires fits { length (absorbed_all (entries_of rows.old.items) others.now) ≤ 256 }
     ensures rows { entries_of rows.new.items ≡ absorbed_all (entries_of rows.old.items) others.now }

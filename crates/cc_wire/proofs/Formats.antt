@@ -1,11 +1,9 @@
 -- Each format is read as it is spelled.
-use Rattle.std.proofs.Common.{◌≡◌, ℕ, zero, suc, ◌+◌, ◌^◌, ◌<◌, ◌≤◌, Bool, true, false, ltb, List, [], ◌∷◌, ◌++◌, length, Result, Ok, Err, refl, sym, ap, subst, ◌∙◌, arith}
+use Rattle.std.proofs.Common.{◌≡◌, ℕ, zero, suc, ◌+◌, ◌^◌, ◌<◌, ◌≤◌, Bool, true, false, ltb, List, [], ◌∷◌, ◌++◌, map as list_map, length, Result, Ok, Err, refl, sym, ap, subst, ◌∙◌, arith}
 use Rattle.std.specs.Int.{w16, w32, w64, to_be_bytes}
 use Rattle.std.specs.List.{flat_map, AllByRecursion}
-use Rattle.std.specs.Ordering.{nat_cmp, is_lt}
 use Rattle.std.specs.FinMap as map
-use Rattle.std.specs.FinMap.Entries.{below_all}
-use Rattle.std.proofs.lemmas.Bool.{and_from, ltb-false, le-ltb}
+use Rattle.std.proofs.lemmas.Bool.{ltb-false, le-ltb}
 use Rattle.std.proofs.lemmas.Nat.{be_bytes_2, be_bytes_4, be_bytes_8, from_be_bytes-to_be_bytes_2, from_be_bytes-to_be_bytes_4, from_be_bytes-to_be_bytes_8}
 use Rattle.cc_views.specs.Ascending.{IsAscending}
 use Rattle.cc_views.specs.NatSets.{NatSet, from_list, items}
@@ -13,8 +11,9 @@ use Rattle.cc_views.specs.NatLists.{items_ascending, items-from_list, from_list-
 use Rattle.cc_changes.specs.ChangeSets.{ChangeSets}
 use Rattle.cc_views.specs.declared.value.Value.{Value}
 use Rattle.cc_views.specs.declared.row.Row.{Row}
-use Rattle.cc_views.specs.Rows.{ViewMap, IsRising, entries_of, rows_of}
-use Rattle.cc_views.specs.Entries.{cmp_lt, lt_from_cmp, and_left, and_right, from_T}
+use Rattle.cc_views.specs.Rows.{ViewMap, entry_of, rows_of}
+use Rattle.cc_views.specs.Tables.{IsRising, keys_ascend, rising_of_keys}
+use Rattle.cc_views.specs.Entries.{from_T}
 use Rattle.cc_views.proofs.Absorbs.{rows_back}
 use Rattle.cc_wire.specs.declared.fault.WireFault.{WireFault}
 use Rattle.cc_wire.specs.declared.fault.WireFault.TheVariants.{NotAscending, TooLarge}
@@ -126,21 +125,32 @@ facts_of_run : {X : Type 0} (key : X → ℕ) (Q : X → Type 0) (least : ℕ) (
 facts_of_run key Q least [] run = tt
 facts_of_run key Q least (x ∷ xs) run = (run.0.0, facts_of_run key Q (key x + 1) xs run.1)
 
-next_le : (n : ℕ) (ns : List ℕ) → AllByRecursion (λ y. n + 1 ≤ y) ns → AllByRecursion (λ y. n < y) ns
-next_le n [] all = tt
-next_le n (y ∷ ns) all = (omega (arith, all.0), next_le n ns all.1)
+next_le : {X : Type 0} (key : X → ℕ) (n : ℕ) (xs : List X) → AllByRecursion (λ x. n + 1 ≤ key x) xs → AllByRecursion (λ q. n < q) (list_map key xs)
+next_le key n [] all = tt
+next_le key n (x ∷ xs) all = (omega (arith, all.0), next_le key n xs all.1)
 
-next_lt : (n : ℕ) (ns : List ℕ) → AllByRecursion (λ y. n < y) ns → AllByRecursion (λ y. n + 1 ≤ y) ns
-next_lt n [] all = tt
-next_lt n (y ∷ ns) all = (omega (arith, all.0), next_lt n ns all.1)
+next_lt : {X : Type 0} (key : X → ℕ) (n : ℕ) (xs : List X) → AllByRecursion (λ q. n < q) (list_map key xs) → AllByRecursion (λ x. n + 1 ≤ key x) xs
+next_lt key n [] all = tt
+next_lt key n (x ∷ xs) all = (omega (arith, all.0), next_lt key n xs all.1)
 
-ascending_of_run : (least : ℕ) (ns : List ℕ) → IsRun (λ n. n) (λ n. n < 2 ^ 32) least ns → IsAscending ns
-ascending_of_run least [] run = tt
-ascending_of_run least (n ∷ ns) run = (next_le n ns (above_of_run (λ n. n) (λ n. n < 2 ^ 32) (n + 1) ns run.1), ascending_of_run (n + 1) ns run.1)
+-- the keys of a run ascend, and items whose keys ascend are a run
+pub ascending_of_run : {X : Type 0} (key : X → ℕ) (Q : X → Type 0) (least : ℕ) (xs : List X) → IsRun key Q least xs → IsAscending (list_map key xs)
+ascending_of_run key Q least [] run = tt
+ascending_of_run key Q least (x ∷ xs) run = (next_le key (key x) xs (above_of_run key Q (key x + 1) xs run.1), ascending_of_run key Q (key x + 1) xs run.1)
 
-run_of_ascending : (least : ℕ) (ns : List ℕ) → AllByRecursion (λ n. least ≤ n) ns → IsAscending ns → AllByRecursion (λ n. n < 2 ^ 32) ns → IsRun (λ n. n) (λ n. n < 2 ^ 32) least ns
-run_of_ascending least [] above up all = tt
-run_of_ascending least (n ∷ ns) above up all = ((all.0, above.0), run_of_ascending (n + 1) ns (next_lt n ns up.0) up.1 all.1)
+pub run_of_ascending : {X : Type 0} (key : X → ℕ) (Q : X → Type 0) (least : ℕ) (xs : List X) → AllByRecursion (λ x. least ≤ key x) xs → IsAscending (list_map key xs) → AllByRecursion Q xs → IsRun key Q least xs
+run_of_ascending key Q least [] above up all = tt
+run_of_ascending key Q least (x ∷ xs) above up all = ((all.0, above.0), run_of_ascending key Q (key x + 1) xs (next_lt key (key x) xs up.0) up.1 all.1)
+
+same_numbers : (ns : List ℕ) → list_map (λ n. n) ns ≡ ns
+same_numbers [] = refl
+same_numbers (n ∷ ns) = ap (λ (t : List ℕ). n ∷ t) (same_numbers ns)
+
+numbers_of_run : (least : ℕ) (ns : List ℕ) → IsRun (λ n. n) (λ n. n < 2 ^ 32) least ns → IsAscending ns
+numbers_of_run least ns run = subst IsAscending (same_numbers ns) (ascending_of_run (λ n. n) (λ n. n < 2 ^ 32) least ns run)
+
+run_of_numbers : (least : ℕ) (ns : List ℕ) → AllByRecursion (λ n. least ≤ n) ns → IsAscending ns → AllByRecursion (λ n. n < 2 ^ 32) ns → IsRun (λ n. n) (λ n. n < 2 ^ 32) least ns
+run_of_numbers least ns above up all = run_of_ascending (λ n. n) (λ n. n < 2 ^ 32) least ns above (subst IsAscending (sym (same_numbers ns)) up) all
 
 from_zero : (ns : List ℕ) → AllByRecursion (λ n. 0 ≤ n) ns
 from_zero [] = tt
@@ -159,15 +169,15 @@ pub number_set_spelled : Spelled number_set_at IsNumberSet number_set_spelling
 unfolding number_set_at
 number_set_spelled = as_facts IsNumberSet
     (λ s h. record { fits = h.0.1; numbers = facts_of_run (λ n. n) (λ n. n < 2 ^ 32) 0 (items s) h.1 })
-    (λ s h. ((omega (arith, h.fits), h.fits), run_of_ascending 0 (items s) (from_zero (items s)) (items_ascending s) h.numbers))
-    (as_fields from_list items from_list-items (λ ns h. items-from_list ns (ascending_of_run 0 ns h.1)) (listed_spelled 32 0 byte_spelled))
+    (λ s h. ((omega (arith, h.fits), h.fits), run_of_numbers 0 (items s) (from_zero (items s)) (items_ascending s) h.numbers))
+    (as_fields from_list items from_list-items (λ ns h. items-from_list ns (numbers_of_run 0 ns h.1)) (listed_spelled 32 0 byte_spelled))
 
 pub number_list_spelled : Spelled number_list_at IsNumberList number_list_spelling
 unfolding number_list_at
 number_list_spelled = as_facts IsNumberList
     (λ s h. record { fits = h.0.1; numbers = facts_of_run (λ n. n) (λ n. n < 2 ^ 32) 0 (items s) h.1 })
-    (λ s h. ((omega (arith, h.fits), h.fits), run_of_ascending 0 (items s) (from_zero (items s)) (items_ascending s) h.numbers))
-    (as_fields from_list items from_list-items (λ ns h. items-from_list ns (ascending_of_run 0 ns h.1)) (listed_spelled 8192 0 u16_spelled))
+    (λ s h. ((omega (arith, h.fits), h.fits), run_of_numbers 0 (items s) (from_zero (items s)) (items_ascending s) h.numbers))
+    (as_fields from_list items from_list-items (λ ns h. items-from_list ns (numbers_of_run 0 ns h.1)) (listed_spelled 8192 0 u16_spelled))
 
 -- ---- values
 
@@ -201,27 +211,14 @@ row_spelled least = as_facts (λ row. HasRowFields row × (least ≤ row.node))
 abbrev node_of : Row → ℕ
 node_of row = row.node
 
-below_of_above : (n : ℕ) (rows : List Row) → AllByRecursion (λ r. n + 1 ≤ r.node) rows → below_all nat_cmp n (entries_of rows) ≡ true
-below_of_above n [] all = refl
-below_of_above n (r ∷ rows) all = and_from _ _ (ap is_lt (cmp_lt n r.node (omega (arith, all.0)))) (below_of_above n rows all.1)
-
-above_of_below : (n : ℕ) (rows : List Row) → below_all nat_cmp n (entries_of rows) ≡ true → AllByRecursion (λ r. n + 1 ≤ r.node) rows
-above_of_below n [] h = tt
-above_of_below n (r ∷ rows) h = (omega (arith, lt_from_cmp n r.node (and_left _ _ h)), above_of_below n rows (and_right _ _ h))
-
-rising_of_run : (least : ℕ) (rows : List Row) → IsRun node_of HasRowFields least rows → IsRising rows
-rising_of_run least [] run = refl
-rising_of_run least (r ∷ rows) run = and_from _ _ (below_of_above r.node rows (above_of_run node_of HasRowFields (r.node + 1) rows run.1)) (rising_of_run (r.node + 1) rows run.1)
-
 rows_of_run : (least : ℕ) (rows : List Row) → 1 ≤ least → IsRun node_of HasRowFields least rows → AllByRecursion IsRow rows
 rows_of_run least [] le run = tt
 rows_of_run least (r ∷ rows) le run =
     (record { id = omega (arith, run.0.1); node = run.0.0.0; number = run.0.0.1.0; value = run.0.0.1.1 }, rows_of_run (r.node + 1) rows (omega arith) run.1)
 
-run_of_rows : (least : ℕ) (rows : List Row) → AllByRecursion (λ r. least ≤ r.node) rows → IsRising rows → AllByRecursion IsRow rows → IsRun node_of HasRowFields least rows
-run_of_rows least [] above rising all = tt
-run_of_rows least (r ∷ rows) above rising all =
-    (((all.0.node, (all.0.number, all.0.value)), above.0), run_of_rows (r.node + 1) rows (above_of_below r.node rows (and_left _ _ rising)) (and_right _ _ rising) all.1)
+fields_of_rows : (rows : List Row) → AllByRecursion IsRow rows → AllByRecursion HasRowFields rows
+fields_of_rows [] all = tt
+fields_of_rows (r ∷ rows) all = ((all.0.node, (all.0.number, all.0.value)), fields_of_rows rows all.1)
 
 ids_above : (rows : List Row) → AllByRecursion IsRow rows → AllByRecursion (λ r. 1 ≤ r.node) rows
 ids_above [] all = tt
@@ -234,7 +231,7 @@ row_list_spelled : Spelled row_list_at IsRowList (λ rows. to_be_bytes w16 (leng
 unfolding row_list_at
 row_list_spelled = counted length (limited_spelled 256 u16_spelled) (λ n. items_spelled row_at node_of HasRowFields row_spelling row_spelled n 1)
 
-rising_rows_of : (v : ViewMap) → IsRising (rows_of v)
+rising_rows_of : (v : ViewMap) → IsRising entry_of (rows_of v)
 rising_rows_of v = rw (entries_of_rows v) (from_T _ (map.entries_sorted v))
 
 pub view_spelled : Spelled view_at IsView view_spelling
@@ -245,13 +242,16 @@ view_spelled = record {
 }
   where
     as_list : Spelled (via view_with row_list_at) (λ v. IsRowList (rows_of v)) (λ v. to_be_bytes w16 (length (rows_of v)) ++ flat_map row_spelling (rows_of v))
-    as_list = as_fields view_with rows_of view_of_rows (λ rows is. sym (rows_back rows (rising_of_run 1 rows is.1))) row_list_spelled
+    as_list = as_fields view_with rows_of view_of_rows (λ rows is. sym (rows_back rows (rising_of_keys entry_of rows (ascending_of_run node_of HasRowFields 1 rows is.1)))) row_list_spelled
 
     lawful : (v : ViewMap) → IsRowList (rows_of v) → IsView v
     lawful v is = record { fits = omega (arith, is.0.1, len-rows_of v); rows = rows_of_run 1 (rows_of v) (omega arith) is.1 }
 
     listed : (v : ViewMap) → IsView v → IsRowList (rows_of v)
-    listed v is = ((omega (arith, is.fits, len-rows_of v), omega (arith, is.fits, len-rows_of v)), run_of_rows 1 (rows_of v) (ids_above (rows_of v) is.rows) (rising_rows_of v) is.rows)
+    listed v is = (
+      (omega (arith, is.fits, len-rows_of v), omega (arith, is.fits, len-rows_of v)),
+      run_of_ascending node_of HasRowFields 1 (rows_of v) (ids_above (rows_of v) is.rows) (keys_ascend entry_of (rows_of v) (rising_rows_of v)) (fields_of_rows (rows_of v) is.rows),
+    )
 
 pub view_is_found : (bytes : List ℕ) (r : Result ViewMap WireFault) → IsBytes bytes → Gives (λ v. v) r (whole view_at bytes) → IfOk r (SpellsView bytes)
 view_is_found bytes (Ok v) fits given = let t = whole_takes view_spelled bytes v fits given in record { lawful = t.0; spelled = t.1 }
@@ -278,8 +278,8 @@ pub id_set_spelled : Spelled id_set_at IsIdSet id_set_spelling
 unfolding id_set_at
 id_set_spelled = as_facts IsIdSet
     (λ s h. record { fits = h.0.1; ids = ids_of_run 1 (items s) (omega arith) h.1 })
-    (λ s h. ((omega (arith, h.fits), h.fits), run_of_ascending 1 (items s) (positive_ids (items s) h.ids) (items_ascending s) (fitting_ids (items s) h.ids)))
-    (as_fields from_list items from_list-items (λ ids h. items-from_list ids (ascending_of_run 1 ids h.1)) (listed_spelled 256 1 u16_spelled))
+    (λ s h. ((omega (arith, h.fits), h.fits), run_of_numbers 1 (items s) (positive_ids (items s) h.ids) (items_ascending s) (fitting_ids (items s) h.ids)))
+    (as_fields from_list items from_list-items (λ ids h. items-from_list ids (numbers_of_run 1 ids h.1)) (listed_spelled 256 1 u16_spelled))
 
 abbrev changes_fields : ChangeSets → NatSet × (NatSet × NatSet)
 changes_fields c = (c.entered, (c.joined, c.left))

@@ -1,11 +1,11 @@
 use Rattle.std.proofs.Common.{rules, subst, ℕ}
 use Rattle.std.proofs.lemmas.List.Sorted.{answers_always}
-use Rattle.cc_views.specs.NatPlaces.{IsPlaceOf}
-use Rattle.cc_views.specs.NatPlaces.{searched}
+use Rattle.cc_views.specs.NatSets.{marked}
+use Rattle.cc_views.specs.Tables.{IsPlaceOf, searched}
 use Rattle.cc_changes.proofs.id_set.place_of.Goals as goal
 
 pub returns : goal.returns
 returns c =
     let facts = c.binary_search_by_key.ensures in
-    subst (λ (k : ℕ). IsPlaceOf c.args.ids.now k c.binary_search_by_key.result) c.number.ensures.number
-    (searched c.args.ids.now c.requires c.number.result _ facts.bound (facts.position (λ id. id) (answers_always _ _ _ (λ f a r g called. search rules))))
+    subst (λ (k : ℕ). IsPlaceOf marked c.args.ids.now k c.binary_search_by_key.result) c.number.ensures.number
+    (searched marked c.args.ids.now c.requires c.number.result _ facts.bound (facts.position (λ id. id) (answers_always _ _ _ (λ f a r g called. search rules))))

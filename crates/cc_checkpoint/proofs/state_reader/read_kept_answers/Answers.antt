@@ -4,7 +4,8 @@ use Rattle.std.proofs.lemmas.List.{length-append}
 use Rattle.cc_outbox.specs.Rows.{entry_of}
 use Rattle.cc_wire.proofs.Items.{ends, is_done, still_below, below_next}
 use Rattle.cc_node.specs.States.{kept_answer_at}
-use Rattle.cc_checkpoint.proofs.TableReads.{rising_push, rows_go_on}
+use Rattle.cc_checkpoint.proofs.TableReads.{rows_go_on}
+use Rattle.cc_views.specs.Tables.{rising-push}
 use Rattle.cc_checkpoint.proofs.state_reader.read_kept_answers.Goals as goal
 
 pub returns-in_err-kept-clause-exact : goal.returns-in_err-kept-clause-exact
@@ -22,7 +23,7 @@ loop-preserved c =
       so_far = rows_go_on entry_of kept_answer_at rows c.args.count c.loop.counter c.loop.least c.loop.reader row _ _ c.loop-test.true c.in_ok-kept.ensures.exact c.loop.invariant.so_far;
       length = length-append rows (row ∷ []) ∙ ap (λ k. k + 1) c.loop.invariant.length;
       below = below_next (λ r. r.session) rows row c.loop.least c.loop.invariant.below c.in_ok-kept.ensures.least;
-      rising = rising_push entry_of rows row c.loop.invariant.rising above;
+      rising = rising-push entry_of rows row c.loop.invariant.rising above;
       room = omega (arith, c.push.ensures.capacity, c.loop.invariant.room);
     })
 

@@ -1,5 +1,5 @@
 use Rattle.cc_views.specs.Tables.{searched}
-use Rattle.cc_links.specs.KnownIds.{marked}
+use Rattle.cc_views.specs.NatSets.{marked}
 use Rattle.cc_links.proofs.known_ids.place_of.Goals as goal
 
 pub returns : goal.returns

@@ -7,7 +7,7 @@ use Rattle.cc_changes.proofs.id_set.IdSet.count_without.Goals as goal
 pub returns-clause-count : goal.returns-clause-count
 returns-clause-count c =
     c.count_outside.ensures ∙ ap (λ (ids : List ℕ). length (filter (λ q. not (set.contains c.args.other.now q)) ids)) c.deref.ensures.value
-    ∙ outside c.self.inside.ids.items c.args.self.now c.args.other.now c.self.invariant.ascending c.self.view_is
+    ∙ outside c.self.inside.ids.items c.args.self.now c.args.other.now c.self.invariant.rising c.self.view_is
 
 pub returns-clause-fits : goal.returns-clause-fits
 returns-clause-fits c =

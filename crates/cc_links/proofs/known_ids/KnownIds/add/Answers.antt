@@ -1,8 +1,8 @@
 use Rattle.std.proofs.Common.{◌≡◌, ◌≤◌, ℕ, true, false, List, arith, refl, sym, ap, subst, ◌∙◌}
 use Rattle.cc_views.specs.NatSets as set
-use Rattle.cc_views.specs.NatSets.{NatSet}
+use Rattle.cc_views.specs.NatSets.{NatSet, marked}
 use Rattle.cc_views.specs.Tables.{IsAt, IsGapFor, table_of}
-use Rattle.cc_links.specs.KnownIds.{marked, AreKnown}
+use Rattle.cc_links.specs.KnownIds.{AreKnown}
 use Rattle.cc_links.proofs.KnownSets.{len_known, there_already, fits_one_more, one_too_many, known_more, set_more}
 use Rattle.cc_links.proofs.known_ids.KnownIds.add.Goals as goal
 

@@ -1,7 +1,7 @@
 use Rattle.std.proofs.Common.{arith, ap}
 use Rattle.cc_views.specs.NatSets as set
 use Rattle.cc_views.specs.Tables.{len-table_of}
-use Rattle.cc_links.specs.KnownIds.{marked}
+use Rattle.cc_views.specs.NatSets.{marked}
 use Rattle.cc_links.proofs.known_ids.KnownIds.len.Goals as goal
 
 pub returns-clause-len : goal.returns-clause-len

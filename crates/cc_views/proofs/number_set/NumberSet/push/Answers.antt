@@ -9,7 +9,7 @@ pub invariant_of-self : goal.invariant_of-self
 invariant_of-self c = table_push _ _ _ c.self.invariant c.self.view_is c.args.number c.requires.room c.requires.above
 
 pub returns-clause-set : goal.returns-clause-set
-returns-clause-set c = set_push _ _ _ c.self.invariant c.self.view_is c.args.number c.requires.room
+returns-clause-set c = set_push _ _ _ c.self.invariant c.self.view_is c.args.number c.requires.room c.requires.above
 
 pub returns-clause-items : goal.returns-clause-items
 returns-clause-items c = items_push _ _ _ c.self.invariant c.self.view_is c.args.number c.requires.room c.requires.above

@@ -1,7 +1,7 @@
 use Rattle.std.proofs.Common.{◌∷◌, [], ◌+◌, arith, ◌∙◌, ap}
 use Rattle.std.proofs.lemmas.Result.{err_from_is_err_and}
 use Rattle.std.proofs.lemmas.List.{length-append}
-use Rattle.cc_views.specs.NatPlaces.{push_ascending}
+use Rattle.cc_views.specs.NatLists.{push_ascending}
 use Rattle.cc_wire.specs.Reading.{number_from}
 use Rattle.cc_wire.proofs.Items.{goes_on, ends, is_done, still_below, below_next}
 use Rattle.cc_wire.proofs.reader.Reader.numbers.Goals as goal
