@@ -15,9 +15,8 @@ ghost use Rattle.cc_flush.specs.Formatting.{durable, of_fresh, FormatRose, Keeps
 
 use crate::back::Back;
 use cc_checkpoint::encode_image;
-use cc_journal::{CLOSED_GATE, OPEN_GATE};
 use cc_node::{Fresh, Node, Opening};
-use cc_site::{DeviceFault, Side, Site, cut_durably, write_durably};
+use cc_site::{CLOSED_GATE, DeviceFault, OPEN_GATE, Side, Site, cut_durably, write_durably};
 use cc_views::NoMemory;
 use std::alloc::Global;
 
