@@ -8,42 +8,13 @@ ghost use Rattle.cc_checkpoint.specs.Faults.{Answers, CountsDevice};
 ghost use Rattle.cc_checkpoint.specs.Choosing.{generation_in, greater, chosen};
 
 use crate::open_fault::OpenFault;
-use cc_site::{DeviceFault, Side, Site};
-
-/// The byte of an open gate (own choice).
-const OPEN_GATE: u8 = 0xA5;
+use cc_site::{OPEN_GATE, Side, Site, length_of, read_into};
 
 /// The side in use, and its generation.
 #[derive(Clone, Copy, Debug, PartialEq, Eq)]
 pub struct InUse {
     pub side: Side,
     pub generation: u64,
-}
-
-/// How long a side is, in bytes, for a call that answers why two sides can't be opened.
-pub fn length_of<S: Site>(site: &mut S, side: Side) -> Result<u64, OpenFault>
-    ensures value { S.honest site.old → IfOk result (λ n. n ≡ length (S.state site.old side).bytes) }
-    ensures device { IfErr result (λ e. (fault : DeviceFault) × (e ≡ faults.Device fault)) }
-    ensures reads { OnlyReads S.honest S.tells S.state S.sent S.moment S.left_since site.old site.new }
-    ensures fault { CountsDevice (S.failures site.old) (S.failures site.new) result }
-{
-    Ok(site.length(side)?)
-}
-
-// Reads what lies from a place on.
-pub(crate) fn read_into<S: Site>(
-    site: &mut S,
-    side: Side,
-    place: u64,
-    into: &mut [u8],
-) -> Result<(), OpenFault>
-    requires { S.honest site.old → place + length into.old ≤ length (S.state site.old side).bytes }
-    ensures value { S.honest site.old → OnOk result (into.new ≡ take (length into.old) (drop place (S.state site.old side).bytes)) }
-    ensures device { IfErr result (λ e. (fault : DeviceFault) × (e ≡ faults.Device fault)) }
-    ensures reads { OnlyReads S.honest S.tells S.state S.sent S.moment S.left_since site.old site.new }
-    ensures fault { CountsDevice (S.failures site.old) (S.failures site.new) result }
-{
-    Ok(site.read(side, place, into)?)
 }
 
 // The generation of a side, where it is armed.

@@ -8,31 +8,14 @@ ghost use Rattle.cc_checkpoint.specs.declared.open_fault.OpenFault.TheVariants a
 ghost use Rattle.cc_checkpoint.specs.Faults.{CountsDevice};
 ghost use Rattle.cc_checkpoint.specs.Heads.{size_of, state_of, HasState, HeadAt, HeadFails, StateFound};
 
-use crate::choosing::{length_of, read_into};
 use crate::fault::StateFault;
 use crate::image::VERSION;
 use crate::open_fault::OpenFault;
 use crate::state::decode_state;
 use cc_node::Node;
-use cc_site::{DeviceFault, Side, Site};
+use cc_site::{Side, Site, fill_buffer, length_of, read_into};
 use cc_wire::WireFault;
 use std::alloc::Global;
-
-// Reads as much as the buffer holds.
-fn read_to<S: Site>(
-    site: &mut S,
-    side: Side,
-    place: u64,
-    into: &mut Vec<u8>,
-) -> Result<(), OpenFault>
-    requires { S.honest site.old → place + vec_len into.old ≤ length (S.state site.old side).bytes }
-    ensures value { S.honest site.old → OnOk result (into.new.items ≡ take (vec_len into.old) (drop place (S.state site.old side).bytes)) }
-    ensures device { IfErr result (λ e. (fault : DeviceFault) × (e ≡ faults.Device fault)) }
-    ensures reads { OnlyReads S.honest S.tells S.state S.sent S.moment S.left_since site.old site.new }
-    ensures fault { CountsDevice (S.failures site.old) (S.failures site.new) result }
-{
-    read_into(site, side, place, into.as_mut_slice())
-}
 
 // The node whose state the bytes spell. None where they spell none.
 fn node_of(alloc: Global, bytes: &[u8]) -> Result<Option<Node>, OpenFault>
@@ -86,7 +69,7 @@ pub fn read_state<S: Site>(
 {
     let size = state_size(site, side)?;
     let mut bytes = vec![in alloc; 0; size as usize]?;
-    read_to(site, side, 14, &mut bytes)?;
+    fill_buffer(site, side, 14, &mut bytes)?;
     match node_of(alloc, &bytes)? {
         Some(node) => Ok((node, 14 + u64::from(size))),
         None => Err(OpenFault::Damaged(side, 14)),

@@ -6,15 +6,13 @@ ghost use Rattle.cc_checkpoint.specs.Images.{image_spelling, SpellsImage};
 
 use crate::state::encode_state;
 use cc_node::Node;
+use cc_site::CLOSED_GATE;
 use cc_views::NoMemory;
 use cc_wire::{put_u8, put_u32, put_u64};
 use std::alloc::{AllocError, Global};
 
 /// The version of the format of states (own choice).
 pub const VERSION: u8 = 1;
-
-/// What is written for a closed gate (own choice).
-const CLOSED_GATE: u8 = 0;
 
 // Puts the generation, the version, the state behind its length, and a closed gate.
 #[tactic(auto, unfolding(crate::specs::Images::head_spelling))]

@@ -13,7 +13,7 @@ mod state;
 mod state_reader;
 mod state_writer;
 
-pub use choosing::{InUse, choose, length_of};
+pub use choosing::{InUse, choose};
 pub use fault::StateFault;
 pub use head::read_state;
 pub use image::{VERSION, encode_image};

@@ -22,17 +22,14 @@ use cc_views::{COUNTER_LIMIT, NoMemory};
 use cc_wire::Message;
 use std::alloc::Global;
 
-// How many answers an operation needs at most.
-const MAX_NEED: u64 = 256;
-
-// Whether a pending operation waits for more answers than it has, as many as there can be at most.
+// Whether a pending operation waits for more answers than it has, at most as many as a node can know peers.
 fn has_waiting(stage: Stage) -> bool
     ensures { IsTrue result ↔ HasWaiting stage }
 {
     match stage {
         Stage::Idle => true,
         Stage::Storing(pending) | Stage::Querying(pending) | Stage::StoringBack(pending) => {
-            pending.count < pending.need && pending.need <= MAX_NEED
+            pending.count < pending.need && pending.need <= Links::MAX_ROWS as u64
         }
     }
 }

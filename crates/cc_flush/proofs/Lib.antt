@@ -1,4 +1,5 @@
 mod Formatted
+mod FormatMoments
 mod FoundSides
 mod EventOutputs
 mod LinkSends

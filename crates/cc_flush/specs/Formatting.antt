@@ -1,16 +1,22 @@
 -- What formatting leaves.
 --     durable             a side of which a crash leaves just these bytes
+--     BeginsWith          the first byte is that one
+--     AreShut, StayShut   each side begins with the byte of a closed gate, whatever a crash leaves;  so it is at a moment
+--     Arms                while an image is put behind the closed gate of a side, and then the gate is opened
+--     HasNoneOrAll        no side is armed, or side A has the whole image
+--     IsNoneOrWhole       no side is armed, or both stand for the node
 --     of_fresh            the fault for a node that can't begin
 --     KeepsOutlet         nothing was put
 --     FormatFails         when each fault comes, and what it leaves unchanged
 --     FormatRose          a device fault is told where the count of failures rose, and only there
-use Rattle.std.specs.Prelude.{◌≡◌, ◌↔◌, ◌⊎◌, ℕ, List, false, None}
+use Rattle.std.specs.Prelude.{◌≡◌, ◌↔◌, ◌⊎◌, ℕ, List, [], ◌∷◌, take, false, None}
 use Rattle.cc_wire.specs.declared.output.Output.{Output}
 use Rattle.cc_site.specs.declared.site.Side.{Side}
 use Rattle.cc_site.specs.declared.site.Side.TheVariants.{A, B}
-use Rattle.cc_site.specs.Sides.{SideState}
-use Rattle.cc_node.specs.Sides.{IsArmed}
-use Rattle.cc_site.specs.Moments.{Rose}
+use Rattle.cc_site.specs.Sides.{SideState, MayLeave, other}
+use Rattle.cc_site.specs.Moments.{Contents, Rose}
+use Rattle.cc_node.specs.Node.{Node}
+use Rattle.cc_node.specs.Sides.{OPEN, IsArmed, Stands}
 use Rattle.cc_node.specs.declared.opening.Fresh.{Fresh}
 use Rattle.cc_node.specs.declared.opening.Fresh.TheVariants as fresh
 use Rattle.cc_flush.specs.declared.formatting.FormatFault.{FormatFault}
@@ -18,6 +24,33 @@ use Rattle.cc_flush.specs.declared.formatting.FormatFault.TheVariants.{BadOpenin
 
 abbrev pub durable : List ℕ → SideState
 durable bytes = record { bytes = bytes; touched = λ _. false; shifted = None }
+
+abbrev pub BeginsWith : ℕ → List ℕ → Type 0
+BeginsWith byte bytes = take 1 bytes ≡ byte ∷ []
+
+-- each side begins with the byte that is written for a closed gate, whatever a crash leaves of it now
+abbrev pub AreShut : (Side → SideState) → Type 0
+AreShut state = (side : Side) (left : List ℕ) → MayLeave (state side) left → BeginsWith 0 left
+
+pub record StayShut (sent : List Output) (left : Contents) (told : List Output) : Type 0 where
+  pub shut : (side : Side) → BeginsWith 0 (left side)
+  pub outlet : told ≡ sent
+
+-- the side isn't armed, or has the whole image; the other one is as it was
+pub record Arms (side : Side) (image : List ℕ) (state : Side → SideState) (sent : List Output) (left : Contents) (told : List Output) : Type 0 where
+  pub this : (¬ IsArmed (left side)) ⊎ (left side ≡ OPEN ∷ image)
+  pub rest : MayLeave (state (other side)) (left (other side))
+  pub outlet : told ≡ sent
+
+pub record HasNoneOrAll (image : List ℕ) (sent : List Output) (left : Contents) (told : List Output) : Type 0 where
+  pub first : (¬ IsArmed (left A)) ⊎ (left A ≡ OPEN ∷ image)
+  pub second : ¬ IsArmed (left B)
+  pub outlet : told ≡ sent
+
+-- no side is armed, or the two stand for the node; nothing was put
+pub record IsNoneOrWhole (node : Node) (sent : List Output) (left : Contents) (told : List Output) : Type 0 where
+  pub none_or_whole : ((¬ IsArmed (left A)) × (¬ IsArmed (left B))) ⊎ Stands (left A) (left B) node
+  pub outlet : told ≡ sent
 
 abbrev pub FormatRose : ℕ → ℕ → FormatFault → Type 0
 FormatRose before now (Device fault) = Rose before now

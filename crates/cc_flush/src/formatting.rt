@@ -3,7 +3,7 @@
 ghost use Rattle.std.specs.Prelude.{ℕ, ◌≡◌, ◌↔◌, ◌⊎◌, ◌∷◌, [], ◌≤◌, length, true, false, IfOk, OnOk, IsTrue, MatchResult, IsErrOf, IfErr};
 ghost use Rattle.cc_site.specs.declared.site.Side.TheVariants.{A, B};
 ghost use Rattle.cc_site.specs.Sides.{other};
-ghost use Rattle.cc_site.specs.Moments.{Rose};
+ghost use Rattle.cc_site.specs.Moments.{EachMoment, Rose};
 ghost use Rattle.cc_site.specs.Reads.{OnlyReads};
 ghost use Rattle.cc_node.specs.Node.{Node as NodeState};
 ghost use Rattle.cc_node.specs.Opening.{told, fresh, IsOpening};
@@ -11,13 +11,15 @@ ghost use Rattle.cc_node.specs.Sides.{OPEN, IsArmed};
 ghost use Rattle.cc_checkpoint.specs.Images.{SpellsImage};
 ghost use Rattle.cc_journal.specs.Journals.{IsAtRest};
 ghost use Rattle.cc_flush.specs.declared.formatting.FormatFault.TheVariants as faults;
-ghost use Rattle.cc_flush.specs.Formatting.{durable, of_fresh, FormatRose, KeepsOutlet, FormatFails};
+ghost use Rattle.cc_flush.specs.Formatting.{durable, of_fresh, BeginsWith, AreShut, StayShut, Arms, HasNoneOrAll, IsNoneOrWhole, FormatRose, KeepsOutlet, FormatFails};
 
 use crate::back::Back;
 use cc_checkpoint::encode_image;
-use cc_journal::{CLOSED_GATE, OPEN_GATE};
 use cc_node::{Fresh, Node, Opening};
-use cc_site::{DeviceFault, Side, Site, cut_durably, write_durably};
+use cc_site::{
+    CLOSED_GATE, DeviceFault, OPEN_GATE, Side, Site, cut_durably, length_of, read_into,
+    write_durably,
+};
 use cc_views::NoMemory;
 use std::alloc::Global;
 
@@ -61,18 +63,19 @@ impl From<NoMemory> for FormatFault {
     }
 }
 
-// Whether the gate of a side reads open.
-fn is_armed<S: Site>(site: &mut S, side: Side) -> Result<bool, DeviceFault>
-    ensures exact { S.honest site.old → IfOk result (λ armed. IsTrue armed ↔ IsArmed (S.state site.old side).bytes) }
+// Whether a side begins with that byte.
+fn begins_with<S: Site>(site: &mut S, side: Side, byte: u8) -> Result<bool, DeviceFault>
+    ensures exact { S.honest site.old → IfOk result (λ begins. IsTrue begins ↔ BeginsWith byte (S.state site.old side).bytes) }
     ensures reads { OnlyReads S.honest S.tells S.state S.sent S.moment S.left_since site.old site.new }
     ensures fault { MatchResult result (λ _. S.failures site.new ≡ S.failures site.old) (λ _. Rose (S.failures site.old) (S.failures site.new)) }
 {
-    if site.length(side)? == 0 {
+    let len = length_of(site, side)?;
+    if len == 0 {
         return Ok(false);
     }
-    let mut gate = [CLOSED_GATE];
-    site.read(side, 0, &mut gate)?;
-    Ok(gate[0] == OPEN_GATE)
+    let mut first = [0];
+    read_into(site, side, 0, &mut first)?;
+    Ok(first[0] == byte)
 }
 
 // Whether the gate of either side reads open.
@@ -81,23 +84,27 @@ fn is_formatted<S: Site>(site: &mut S) -> Result<bool, DeviceFault>
     ensures reads { OnlyReads S.honest S.tells S.state S.sent S.moment S.left_since site.old site.new }
     ensures fault { MatchResult result (λ _. S.failures site.new ≡ S.failures site.old) (λ _. Rose (S.failures site.old) (S.failures site.new)) }
 {
-    if is_armed(site, Side::A)? {
+    if begins_with(site, Side::A, OPEN_GATE)? {
         return Ok(true);
     }
-    is_armed(site, Side::B)
+    begins_with(site, Side::B, OPEN_GATE)
 }
 
-// Leaves a side as one closed byte.
+// Leaves a side as one closed byte. Where it begins with that byte, that isn't touched, so that no crash opens its gate.
 fn clear<S: Site>(site: &mut S, side: Side) -> Result<(), DeviceFault>
     ensures honest { S.honest site.old ↔ S.honest site.new }
     ensures tells { (S.tells site.old ↔ S.tells site.new) × (S.sent site.new ≡ S.sent site.old) }
     ensures value { S.honest site.old → OnOk result (S.state site.new side ≡ durable (0 ∷ [])) }
     ensures other_side { S.honest site.old → S.state site.new (other side) ≡ S.state site.old (other side) }
+    ensures every_moment { S.honest site.old → AreShut (S.state site.old) → EachMoment S.moment S.left_since site.old site.new (StayShut (S.sent site.old)) }
     ensures fault { MatchResult result (λ _. S.failures site.new ≡ S.failures site.old) (λ _. Rose (S.failures site.old) (S.failures site.new)) }
 {
+    let shut = begins_with(site, side, CLOSED_GATE)?;
+    if shut {
+        return cut_durably(site, side, 1);
+    }
     cut_durably(site, side, 0)?;
-    write_durably(site, side, 0, &[CLOSED_GATE])?;
-    Ok(())
+    write_durably(site, side, 0, &[CLOSED_GATE])
 }
 
 // Puts an image behind the closed gate of a side that has nothing else, and opens the gate.
@@ -107,11 +114,11 @@ fn fill_and_arm<S: Site>(site: &mut S, side: Side, image: &[u8]) -> Result<(), D
     ensures tells { (S.tells site.old ↔ S.tells site.new) × (S.sent site.new ≡ S.sent site.old) }
     ensures value { S.honest site.old → OnOk result (S.state site.new side ≡ durable (OPEN ∷ image.now)) }
     ensures other_side { S.honest site.old → S.state site.new (other side) ≡ S.state site.old (other side) }
+    ensures every_moment { S.honest site.old → EachMoment S.moment S.left_since site.old site.new (Arms side image.now (S.state site.old) (S.sent site.old)) }
     ensures fault { MatchResult result (λ _. S.failures site.new ≡ S.failures site.old) (λ _. Rose (S.failures site.old) (S.failures site.new)) }
 {
     write_durably(site, side, 1, image)?;
-    write_durably(site, side, 0, &[OPEN_GATE])?;
-    Ok(())
+    write_durably(site, side, 0, &[OPEN_GATE])
 }
 
 // Lays the image on side A behind an open gate, and one closed byte on side B.
@@ -120,6 +127,7 @@ fn lay_out<S: Site>(site: &mut S, image: &[u8]) -> Result<(), DeviceFault>
     ensures tells { (S.tells site.old ↔ S.tells site.new) × (S.sent site.new ≡ S.sent site.old) }
     ensures first { S.honest site.old → OnOk result (S.state site.new A ≡ durable (OPEN ∷ image.now)) }
     ensures second { S.honest site.old → OnOk result (S.state site.new B ≡ durable (0 ∷ [])) }
+    ensures every_moment { S.honest site.old → AreShut (S.state site.old) → EachMoment S.moment S.left_since site.old site.new (HasNoneOrAll image.now (S.sent site.old)) }
     ensures fault { MatchResult result (λ _. S.failures site.new ≡ S.failures site.old) (λ _. Rose (S.failures site.old) (S.failures site.new)) }
 {
     clear(site, Side::B)?;
@@ -149,6 +157,7 @@ fn format_sides<S: Site>(site: &mut S, image: &[u8]) -> Result<(), FormatFault>
     ensures unarmed { S.honest site.old → OnOk result (¬ (IsArmed (S.state site.old A).bytes) × ¬ (IsArmed (S.state site.old B).bytes)) }
     ensures already { S.honest site.old → IsErrOf result faults.AlreadyFormatted
         → (IsArmed (S.state site.old A).bytes ⊎ IsArmed (S.state site.old B).bytes) × (S.state site.new ≡ S.state site.old) }
+    ensures every_moment { S.honest site.old → AreShut (S.state site.old) → EachMoment S.moment S.left_since site.old site.new (HasNoneOrAll image.now (S.sent site.old)) }
     ensures only { IfErr result (λ fault. (fault ≡ faults.AlreadyFormatted) ⊎ ((device : DeviceFault) × (fault ≡ faults.Device device))) }
     ensures fault { MatchResult result (λ _. S.failures site.new ≡ S.failures site.old) (FormatRose (S.failures site.old) (S.failures site.new)) }
 {
@@ -160,9 +169,9 @@ fn format_sides<S: Site>(site: &mut S, image: &[u8]) -> Result<(), FormatFault>
 }
 
 /// Makes two sides that aren't armed keep the node that begins as the opening says, under generation 1 on side A. The
-/// faults come in the order BadOpening, NoMemory, Device and AlreadyFormatted, but Device where it is met. What a crash
-/// within the call leaves is not told: both sides are then to be emptied and formatted again. After a Device fault it may
-/// be tried again.
+/// faults come in the order BadOpening, NoMemory, Device and AlreadyFormatted, but Device where it is met. After a Device
+/// fault it may be tried again. What a crash within the call leaves is told where both sides begin with the byte that is
+/// written for a closed gate: no armed side, or the node. Else both sides are then to be emptied and formatted again.
 pub fn format<S: Site>(
     alloc: Global,
     site: S,
@@ -172,6 +181,10 @@ pub fn format<S: Site>(
     ensures at_rest { S.honest site → IfOk result (λ s. (place : ℕ) × IsAtRest (S.state s) (S.sent s) (record { side = A; place = place }) 1 (fresh (told opening.now)) [] (length (S.sent s))) }
     ensures second { S.honest site → IfOk result (λ s. S.state s B ≡ durable (0 ∷ [])) }
     ensures unarmed { S.honest site → OnOk result (¬ (IsArmed (S.state site A).bytes) × ¬ (IsArmed (S.state site B).bytes)) }
+    // Where each side begins with the byte of a closed gate, whatever a crash leaves, it is done whole or not at all.
+    ensures every_moment { S.honest site → AreShut (S.state site)
+        → MatchResult result (λ s. EachMoment S.moment S.left_since site s (IsNoneOrWhole (fresh (told opening.now)) (S.sent site)))
+        (λ b. EachMoment S.moment S.left_since site b.site (IsNoneOrWhole (fresh (told opening.now)) (S.sent site))) }
     ensures good { OnOk result (IsOpening (told opening.now)) }
     ensures faults { IfErr result (λ b. FormatFails S.honest S.state (IsOpening (told opening.now)) site b.site b.fault) }
     ensures count { MatchResult result (λ s. S.failures s ≡ S.failures site) (λ b. FormatRose (S.failures site) (S.failures b.site) b.fault) }

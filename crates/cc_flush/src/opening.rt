@@ -12,10 +12,10 @@ ghost use Rattle.cc_journal.specs.Journals.{IsAtRest};
 ghost use Rattle.cc_journal.specs.Reading.{IsScanned};
 ghost use Rattle.cc_flush.specs.Opening.{IsFound, IsReadingFault, OpenFails, RecordsFail, of_scan};
 
-use cc_checkpoint::{InUse, OpenFault, choose, length_of, read_state};
+use cc_checkpoint::{InUse, OpenFault, choose, read_state};
 use cc_journal::{Journal, ScanFault, Scanned, scan};
 use cc_node::Node;
-use cc_site::{DeviceFault, Side, Site};
+use cc_site::{DeviceFault, Side, Site, length_of};
 use std::alloc::Global;
 
 // What two sides hold: the node, where its next record goes, under which generation, and how long the side in use is.

@@ -317,26 +317,28 @@ fn each_call_of_formatting_may_fail(rt: HostRuntime) -> Result<(), Fail> {
         // Whether a side is armed.
         (0, Side::A, Call::Length),
         (1, Side::B, Call::Length),
-        // One closed byte on each.
-        (2, Side::B, Call::Cut),
-        (3, Side::B, Call::Sync),
-        (4, Side::B, Call::Write),
-        (5, Side::B, Call::Sync),
-        (6, Side::A, Call::Cut),
-        (7, Side::A, Call::Sync),
-        (8, Side::A, Call::Write),
+        // One closed byte on each, unless it stands there.
+        (2, Side::B, Call::Length),
+        (3, Side::B, Call::Cut),
+        (4, Side::B, Call::Sync),
+        (5, Side::B, Call::Write),
+        (6, Side::B, Call::Sync),
+        (7, Side::A, Call::Length),
+        (8, Side::A, Call::Cut),
         (9, Side::A, Call::Sync),
-        // The state, and then the gate.
         (10, Side::A, Call::Write),
         (11, Side::A, Call::Sync),
+        // The state, and then the gate.
         (12, Side::A, Call::Write),
         (13, Side::A, Call::Sync),
+        (14, Side::A, Call::Write),
+        (15, Side::A, Call::Sync),
     ] {
         let fault = begun(alloc, failing(alloc, at)?).err();
         let device = DeviceFault { side, call };
         assert_eq!(rt; fault, Some(FormatFault::Device(device)));
     }
-    assert_eq!(rt; begun(alloc, failing(alloc, 14)?).err(), None);
+    assert_eq!(rt; begun(alloc, failing(alloc, 16)?).err(), None);
     Ok(())
 }
 
@@ -344,12 +346,50 @@ fn each_call_of_formatting_may_fail(rt: HostRuntime) -> Result<(), Fail> {
 #[test]
 fn formatting_may_be_tried_again(rt: HostRuntime) -> Result<(), Fail> {
     let alloc = rt.alloc();
-    for at in 0..13 {
+    for at in 0..15 {
         let site = begun_again(alloc, failing(alloc, at)?)?;
         assert_eq!(rt; posts(alloc, site), Ok(0));
     }
-    let fault = begun_again(alloc, failing(alloc, 13)?).err();
+    let fault = begun_again(alloc, failing(alloc, 15)?).err();
     assert_eq!(rt; fault, Some(FormatFault::AlreadyFormatted));
+    Ok(())
+}
+
+// A site each side of which begins with a closed gate. Its disk calls fail from that number on.
+fn shut_failing(alloc: Global, at: u64) -> Result<MemorySite, Fail> {
+    let mut shut = MemorySite::new(alloc, 0)?;
+    for side in [Side::A, Side::B] {
+        write_durably(&mut shut, side, 0, &[0, 0xA5, 0xFF]).or(Err("the write failed"))?;
+    }
+    let mut site = shut.image(alloc, &Choice::Read)?;
+    site.fuse(at, Burn::Stop);
+    Ok(site)
+}
+
+// How many posts the node has that is opened where a crash left this of formatting such a site.
+fn half_formatted(alloc: Global, at: u64, choice: &Choice) -> Result<Result<u64, OpenFault>, Fail> {
+    match formatted(alloc, shut_failing(alloc, at)?, 4, &[], &[1]) {
+        Ok(_) => Err("it is formatted")?,
+        Err(Back { site, fault: _ }) => Ok(posts(alloc, site.image(alloc, choice)?)),
+    }
+}
+
+#[test]
+fn a_crash_leaves_shut_sides_or_an_entrant(rt: HostRuntime) -> Result<(), Fail> {
+    let alloc = rt.alloc();
+    let nothing = Err(OpenFault::NotFormatted);
+    for at in 0..16 {
+        // The last write opens the gate, and the last sync makes sure of it.
+        let (read, gates) = match at {
+            14 => (nothing, Ok(0)),
+            15 => (Ok(0), Ok(0)),
+            _ => (nothing, nothing),
+        };
+        assert_eq!(rt; half_formatted(alloc, at, &Choice::Read)?, read);
+        assert_eq!(rt; half_formatted(alloc, at, &Choice::Short)?, read);
+        assert_eq!(rt; half_formatted(alloc, at, &Choice::Fill(0xA5))?, gates);
+        assert_eq!(rt; half_formatted(alloc, at, &Choice::Fill(0))?, nothing);
+    }
     Ok(())
 }
 

@@ -16,7 +16,7 @@ const BATCH_LIMIT: u8 = 64;
 
 // An event behind its size, and how many bytes both have.
 #[derive(Drop)]
-struct Sized {
+struct SizedEvent {
     event: Event,
     size: usize,
 }
@@ -33,7 +33,7 @@ fn spelled_event(alloc: Global, bytes: &[u8]) -> Result<Option<Event>, NoMemory>
 }
 
 // The event that stands behind its size at the front.
-fn first_event(alloc: Global, bytes: &[u8]) -> Result<Option<Sized>, NoMemory>
+fn first_event(alloc: Global, bytes: &[u8]) -> Result<Option<SizedEvent>, NoMemory>
     ensures { IfOk result (λ found. MatchOption found (NoEvent bytes.now) (λ f. BeginsWith bytes.now f.event f.size)) }
 {
     let [a, b, c, d, rest @ ..] = bytes else {
@@ -46,7 +46,7 @@ fn first_event(alloc: Global, bytes: &[u8]) -> Result<Option<Sized>, NoMemory>
     let Some(event) = spelled_event(alloc, &rest[..size])? else {
         return Ok(None);
     };
-    Ok(Some(Sized {
+    Ok(Some(SizedEvent {
         event,
         size: 4 + size,
     }))
@@ -65,7 +65,7 @@ fn read_events(alloc: Global, bytes: &[u8]) -> Result<Option<Vec<Event>>, NoMemo
     let mut events = Vec::new(alloc);
     let mut place = 1;
     for _ in 0..*count {
-        let Some(Sized { event, size }) = first_event(alloc, &bytes[place..])? else {
+        let Some(SizedEvent { event, size }) = first_event(alloc, &bytes[place..])? else {
             return Ok(None);
         };
         events.push(event)?;

@@ -12,13 +12,10 @@ ghost use Rattle.cc_journal.specs.Journals.{Position, IsGood, IsAtRest};
 
 use crate::batch::Batch;
 use crate::record::put_record;
-use cc_site::{DeviceFault, Side, Site, write_durably};
+use cc_site::{DeviceFault, OPEN_GATE, Side, Site, write_durably};
 use cc_views::NoMemory;
 use std::alloc::Global;
 use std::marker::Model;
-
-/// The byte of an open gate (own choice); every other byte is a closed one.
-pub const OPEN_GATE: u8 = 0xA5;
 
 /// A batch that is written, and not made sure of yet. It can be neither dropped nor copied: `Journal::append` takes it.
 pub struct Flight {

@@ -11,9 +11,8 @@ mod scanning;
 
 pub use batch::Batch;
 pub use entry::Entry;
-pub use journal::{Flight, Forfeit, Journal, Landed, OPEN_GATE};
+pub use journal::{Flight, Forfeit, Journal, Landed};
 pub use laws::scans_once;
-pub use record::CLOSED_GATE;
 pub use scanning::{ScanFault, Scanned, scan};
 
 #[cfg(test)]

@@ -6,10 +6,8 @@ ghost use Rattle.std.specs.Int.{w32, to_be_bytes};
 ghost use Rattle.cc_wire.specs.Events.{event_spelling, IsEvent};
 ghost use Rattle.cc_node.specs.Sides.{SpellsRecord, record_spelling};
 
+use cc_site::CLOSED_GATE;
 use cc_wire::{Event, encode_event, event_is_spellable, largest_sizes, put_u8, put_u32};
-
-/// What is written for a closed gate (own choice).
-pub const CLOSED_GATE: u8 = 0;
 
 // Puts the record of one event, and a closed gate behind it.
 pub(crate) fn put_record(text: &mut Vec<u8>, bytes: &mut Vec<u8>, event: &Event)

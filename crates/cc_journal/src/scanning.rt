@@ -4,12 +4,14 @@ ghost use Rattle.std.specs.Prelude.{◌≡◌, ◌≤◌, ◌<◌, ◌+◌, leng
 ghost use Rattle.cc_journal.specs.declared.scanning.ScanFault.TheVariants as faults;
 ghost use Rattle.cc_journal.specs.Scanning.{NoRecord};
 ghost use Rattle.cc_journal.specs.Reading.{RecordLeads, BodyStands, NoBody, IsOpened, IsShut, IsScanned, IsStopped, IfDamaged, CountsDevice};
+ghost use Rattle.cc_site.specs.declared.site.Call.TheVariants.{Read};
+ghost use Rattle.cc_site.specs.Moments.{CountsFault};
 ghost use Rattle.cc_site.specs.Reads.{OnlyReads};
 
 use crate::events::take_events;
-use crate::journal::{Journal, OPEN_GATE};
+use crate::journal::Journal;
 use cc_node::Node;
-use cc_site::{DeviceFault, Side, Site};
+use cc_site::{DeviceFault, OPEN_GATE, Side, Site, fill_buffer, length_of, read_into};
 use cc_views::NoMemory;
 use std::alloc::{AllocError, Global};
 
@@ -71,56 +73,12 @@ struct Taken {
     events: u64,
 }
 
-// How long a side is.
-fn length_of<S: Site>(site: &mut S, side: Side) -> Result<u64, ScanFault>
-    ensures value { S.honest site.old → IfOk result (λ n. n ≡ length (S.state site.old side).bytes) }
-    ensures device { IfErr result (IfDamaged (λ _. ⊥)) }
-    ensures reads { OnlyReads S.honest S.tells S.state S.sent S.moment S.left_since site.old site.new }
-    ensures fault { CountsDevice side (S.failures site.old) (S.failures site.new) result }
-{
-    Ok(site.length(side)?)
-}
-
-// Reads what lies from a place on.
-fn read_into<S: Site>(
-    site: &mut S,
-    side: Side,
-    place: u64,
-    into: &mut [u8],
-) -> Result<(), ScanFault>
-    requires { S.honest site.old → place + length into.old ≤ length (S.state site.old side).bytes }
-    ensures value { S.honest site.old → OnOk result (into.new ≡ take (length into.old) (drop place (S.state site.old side).bytes)) }
-    ensures device { IfErr result (IfDamaged (λ _. ⊥)) }
-    ensures reads { OnlyReads S.honest S.tells S.state S.sent S.moment S.left_since site.old site.new }
-    ensures fault { CountsDevice side (S.failures site.old) (S.failures site.new) result }
-{
-    Ok(site.read(side, place, into)?)
-}
-
-// Reads as much as the buffer holds.
-fn read_to<S: Site>(
-    site: &mut S,
-    side: Side,
-    place: u64,
-    into: &mut Vec<u8>,
-) -> Result<(), ScanFault>
-    requires { S.honest site.old → place + vec_len into.old ≤ length (S.state site.old side).bytes }
-    ensures value { S.honest site.old → OnOk result (into.new.items ≡ take (vec_len into.old) (drop place (S.state site.old side).bytes)) }
-    ensures len { vec_len into.new ≡ vec_len into.old }
-    ensures device { IfErr result (IfDamaged (λ _. ⊥)) }
-    ensures reads { OnlyReads S.honest S.tells S.state S.sent S.moment S.left_since site.old site.new }
-    ensures fault { CountsDevice side (S.failures site.old) (S.failures site.new) result }
-{
-    read_into(site, side, place, into.as_mut_slice())
-}
-
 // Whether the gate at a place is open.
-fn gate_is_open<S: Site>(site: &mut S, side: Side, place: u64) -> Result<bool, ScanFault>
+fn gate_is_open<S: Site>(site: &mut S, side: Side, place: u64) -> Result<bool, DeviceFault>
     requires { S.honest site.old → place < length (S.state site.old side).bytes }
     ensures value { S.honest site.old → IfOk result (λ is_open. MatchBool is_open (IsOpened (drop place (S.state site.old side).bytes)) (IsShut (drop place (S.state site.old side).bytes))) }
-    ensures device { IfErr result (IfDamaged (λ _. ⊥)) }
     ensures reads { OnlyReads S.honest S.tells S.state S.sent S.moment S.left_since site.old site.new }
-    ensures fault { CountsDevice side (S.failures site.old) (S.failures site.new) result }
+    ensures fault { CountsFault (S.failures site.old) (S.failures site.new) side Read result }
 {
     let mut gate = [0];
     read_into(site, side, place, &mut gate)?;
@@ -156,7 +114,8 @@ fn read_body<S: Site>(
         return Err(ScanFault::Damaged(place));
     }
     body.resize(size as usize, 0)?;
-    read_to(site, side, place + 4, body)
+    fill_buffer(site, side, place + 4, body)?;
+    Ok(())
 }
 
 // Reads the record at a place, of a side that is so long, and takes its events in.

@@ -5,15 +5,19 @@
 mod disk;
 mod durable;
 mod fuse;
+mod gate;
 mod image;
 mod memory;
+mod reading;
 mod record;
 mod site;
 
 pub use durable::{cut_durably, write_durably};
 pub use fuse::Burn;
+pub use gate::{CLOSED_GATE, OPEN_GATE};
 pub use image::Choice;
 pub use memory::MemorySite;
+pub use reading::{fill_buffer, length_of, read_into};
 pub use site::{Call, DeviceFault, Side, Site};
 
 #[cfg(test)]

@@ -1,6 +1,5 @@
 use Rattle.std.proofs.Common.{ℕ, ◌+◌, ◌-◌, ◌<◌, ◌≤◌, List, length, take, drop, vec_len, refl, sym, ap, subst, ◌∙◌, arith}
 use Rattle.std.proofs.lemmas.List.{length-drop, drop-drop}
-use Rattle.std.proofs.lemmas.Result.{on_ok_weaker}
 use Rattle.cc_wire.proofs.Spelled.{IsBytes, IsBytes-take, IsBytes-drop}
 use Rattle.cc_site.specs.declared.site.Side.{Side}
 use Rattle.cc_site.specs.Sides.{SideState}
@@ -34,8 +33,5 @@ returns-clause-found g c honest =
     let some : 4 ≤ length rest = omega (arith, long, c.requires.len honest, c.if-len-place-lt4.false) in
     let few : size ≤ 262144 = omega (arith, c.if-size-gt-RECORD_LIMIT.false) in
     let within : size ≤ length rest - 4 = omega (arith, long, c.requires.len honest, c.if-len-place.false, c.from.ensures) in
-    on_ok_weaker c.read_to.result
-    (λ read.
-    body_stands rest size c.read_into.new.into c.from_be_bytes-size.ensures number some (subst IsBytes (sym number) (IsBytes-take 4 rest are_bytes)) few within c.read_to.new.into.items
-    (read ∙ ap (λ (t : Side → SideState). take (vec_len c.resize.new.self) (drop (place + 4) (t side).bytes)) (reads.keeps_state honest) ∙ ap (λ (n : ℕ). take n (drop (place + 4) bytes)) c.in_ok-resize.ensures.len ∙ ap (λ (l : List ℕ). take size l) (sym (drop-drop 4 place bytes))))
-    (c.read_to.ensures.value (reads.keeps_honesty.0 honest))
+    body_stands rest size c.read_into.new.into c.from_be_bytes-size.ensures number some (subst IsBytes (sym number) (IsBytes-take 4 rest are_bytes)) few within c.fill_buffer.new.buffer.items
+    (c.in_ok-fill_buffer.ensures.value (reads.keeps_honesty.0 honest) ∙ ap (λ (t : Side → SideState). take (vec_len c.resize.new.self) (drop (place + 4) (t side).bytes)) (reads.keeps_state honest) ∙ ap (λ (n : ℕ). take n (drop (place + 4) bytes)) c.in_ok-resize.ensures.len ∙ ap (λ (l : List ℕ). take size l) (sym (drop-drop 4 place bytes)))
