@@ -1,6 +1,6 @@
 #!/bin/sh
-# Prints a script of 10,000 lines over 16 members: they store by turns, everything is carried, and what was sent is acknowledged
-# before 500 posts are kept.
+# Prints a script of 10,000 lines over 16 members: they store by turns, and everything is carried, in 20 pieces. After 200 stores
+# what was sent is acknowledged, before 500 posts are kept, and each node crashes, before it put out 8,000 outputs.
 awk 'BEGIN {
   members = 16
   for (i = 1; i <= members; i++) list = list (i > 1 ? "," : "") i
@@ -8,12 +8,14 @@ awk 'BEGIN {
   while (lines < 10000) {
     storer = round % members + 1
     line("ask " storer " 7 " ++request[storer] " store a" round)
-    line("all 272")
+    for (piece = 1; piece <= 20; piece++) line("all 14")
     for (i = 1; i <= members; i++) posts[i]++
     posts[storer]++
     if (++round % 200 == 0)
-      for (i = 1; i <= members; i++)
+      for (i = 1; i <= members; i++) {
         for (peer = 1; peer <= members; peer++) line("acked " i " " peer " " posts[i])
+        line("crash " i " fill a5")
+      }
   }
 }
 function line(text) { if (lines++ < 10000) print text }'

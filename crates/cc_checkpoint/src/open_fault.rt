@@ -6,6 +6,8 @@ ghost use Rattle.cc_checkpoint.specs.declared.open_fault.OpenFault.TheVariants a
 use cc_site::{DeviceFault, Side};
 use cc_views::NoMemory;
 use std::alloc::AllocError;
+use std::error::Error;
+use std::fmt;
 
 /// Why two sides can't be opened. Places are in bytes from the start of the side.
 #[derive(Clone, Copy, Debug, PartialEq, Eq)]
@@ -21,6 +23,21 @@ pub enum OpenFault {
     /// A growth was refused.
     NoMemory,
 }
+
+/// Its name and what it carries: `Damaged A 153`, or `Device A Read`.
+impl fmt::Display for OpenFault {
+    fn fmt<W: fmt::Write>(&self, f: &mut fmt::Formatter<W>) -> fmt::Result {
+        match self {
+            OpenFault::NotFormatted => write!(f, "NotFormatted"),
+            OpenFault::Damaged(side, place) => write!(f, "Damaged {side} {place}"),
+            OpenFault::Version(version) => write!(f, "Version {version}"),
+            OpenFault::Device(fault) => write!(f, "Device {fault}"),
+            OpenFault::NoMemory => write!(f, "NoMemory"),
+        }
+    }
+}
+
+impl Error for OpenFault {}
 
 impl From<DeviceFault> for OpenFault {
     ghost from_gives = { λ fault open_fault. open_fault ≡ faults.Device fault };

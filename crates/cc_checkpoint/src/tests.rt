@@ -1,6 +1,7 @@
 use super::*;
 use cc_changes::Fraction;
 use cc_node::{Node, Opening};
+use cc_site::{Call, DeviceFault, Side};
 use cc_views::NodeId;
 use cc_wire::{Command, Event, Message, WireFault};
 use std::alloc::Global;
@@ -343,5 +344,26 @@ fn faults_of_states_print_what_is_wrong(rt: HostRuntime) -> Result<(), Fail> {
     let unlawful = StateFault::Unlawful;
     let text = format!(in rt.alloc(); "{unlawful}")?;
     assert_eq!(rt; text.as_str(), "no node can be in that state");
+    Ok(())
+}
+
+#[test]
+fn faults_of_opening_print_their_names(rt: HostRuntime) -> Result<(), Fail> {
+    let device = DeviceFault {
+        side: Side::A,
+        call: Call::Read,
+    };
+    let texts = [
+        (OpenFault::NotFormatted, "NotFormatted"),
+        (OpenFault::Damaged(Side::A, 153), "Damaged A 153"),
+        (OpenFault::Damaged(Side::B, 1), "Damaged B 1"),
+        (OpenFault::Version(7), "Version 7"),
+        (OpenFault::Device(device), "Device A Read"),
+        (OpenFault::NoMemory, "NoMemory"),
+    ];
+    for (fault, expected) in texts {
+        let text = format!(in rt.alloc(); "{fault}")?;
+        assert_eq!(rt; text.as_str(), expected);
+    }
     Ok(())
 }

@@ -25,6 +25,8 @@ use cc_node::{Core, Node};
 use cc_site::{DeviceFault, Site};
 use cc_views::NoMemory;
 use std::alloc::Global;
+use std::error::Error;
+use std::fmt;
 use std::marker::Model;
 
 /// A disk call failed, and the engine has ended: until the site is opened again every call but the readers and `close`
@@ -34,7 +36,18 @@ pub struct Failed {
     pub fault: DeviceFault,
 }
 
+/// `Failed`, and the disk call that failed: `Failed A Sync`.
+impl fmt::Display for Failed {
+    fn fmt<W: fmt::Write>(&self, f: &mut fmt::Formatter<W>) -> fmt::Result {
+        let fault = self.fault;
+        write!(f, "Failed {fault}")
+    }
+}
+
+impl Error for Failed {}
+
 /// A node that is kept on the two sides of a site. Nothing leaves it before the event that made it is durable.
+#[derive(Drop)]
 pub struct Flusher<S: Site> {
     site: S,
     node: Node,

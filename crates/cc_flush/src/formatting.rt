@@ -22,6 +22,8 @@ use cc_site::{
 };
 use cc_views::NoMemory;
 use std::alloc::Global;
+use std::error::Error;
+use std::fmt;
 
 /// Why two sides weren't formatted.
 #[derive(Clone, Copy, Debug, PartialEq, Eq)]
@@ -35,6 +37,20 @@ pub enum FormatFault {
     /// A side is armed.
     AlreadyFormatted,
 }
+
+/// Its name, and the disk call that failed: `Device A Write`.
+impl fmt::Display for FormatFault {
+    fn fmt<W: fmt::Write>(&self, f: &mut fmt::Formatter<W>) -> fmt::Result {
+        match self {
+            FormatFault::BadOpening => write!(f, "BadOpening"),
+            FormatFault::NoMemory => write!(f, "NoMemory"),
+            FormatFault::Device(fault) => write!(f, "Device {fault}"),
+            FormatFault::AlreadyFormatted => write!(f, "AlreadyFormatted"),
+        }
+    }
+}
+
+impl Error for FormatFault {}
 
 impl From<Fresh> for FormatFault {
     ghost from_gives = { λ fault format_fault. format_fault ≡ of_fresh fault };

@@ -504,3 +504,34 @@ fn a_failed_disk_call_ends_the_engine(rt: HostRuntime) -> Result<(), Fail> {
     assert_eq!(rt; put, 0);
     Ok(())
 }
+
+#[test]
+fn faults_of_formatting_print_their_names(rt: HostRuntime) -> Result<(), Fail> {
+    let device = DeviceFault {
+        side: Side::A,
+        call: Call::Write,
+    };
+    let texts = [
+        (FormatFault::BadOpening, "BadOpening"),
+        (FormatFault::NoMemory, "NoMemory"),
+        (FormatFault::Device(device), "Device A Write"),
+        (FormatFault::AlreadyFormatted, "AlreadyFormatted"),
+    ];
+    for (fault, expected) in texts {
+        let text = format!(in rt.alloc(); "{fault}")?;
+        assert_eq!(rt; text.as_str(), expected);
+    }
+    Ok(())
+}
+
+#[test]
+fn a_failed_engine_prints_its_disk_call(rt: HostRuntime) -> Result<(), Fail> {
+    let fault = DeviceFault {
+        side: Side::A,
+        call: Call::Sync,
+    };
+    let failed = Failed { fault };
+    let text = format!(in rt.alloc(); "{failed}")?;
+    assert_eq!(rt; text.as_str(), "Failed A Sync");
+    Ok(())
+}

@@ -9,6 +9,8 @@ ghost use Rattle.cc_site.specs.Moments.{Contents, Possible, Within, Nothing, Ela
 
 use cc_views::NodeId;
 use cc_wire::{Answer, Message};
+use std::error::Error;
+use std::fmt;
 
 /// One of the two files of a node (own choice).
 #[derive(Clone, Copy, Debug, PartialEq, Eq)]
@@ -31,6 +33,15 @@ impl Side {
     }
 }
 
+impl fmt::Display for Side {
+    fn fmt<W: fmt::Write>(&self, f: &mut fmt::Formatter<W>) -> fmt::Result {
+        match self {
+            Side::A => write!(f, "A"),
+            Side::B => write!(f, "B"),
+        }
+    }
+}
+
 /// The calls that a disk may fail.
 #[derive(Clone, Copy, Debug, PartialEq, Eq)]
 pub enum Call {
@@ -41,12 +52,35 @@ pub enum Call {
     Sync,
 }
 
+impl fmt::Display for Call {
+    fn fmt<W: fmt::Write>(&self, f: &mut fmt::Formatter<W>) -> fmt::Result {
+        match self {
+            Call::Length => write!(f, "Length"),
+            Call::Read => write!(f, "Read"),
+            Call::Write => write!(f, "Write"),
+            Call::Cut => write!(f, "Cut"),
+            Call::Sync => write!(f, "Sync"),
+        }
+    }
+}
+
 /// A disk call that failed, and the side that it was for.
 #[derive(Clone, Copy, Debug, PartialEq, Eq)]
 pub struct DeviceFault {
     pub side: Side,
     pub call: Call,
 }
+
+/// The side and the call: `A Read`.
+impl fmt::Display for DeviceFault {
+    fn fmt<W: fmt::Write>(&self, f: &mut fmt::Formatter<W>) -> fmt::Result {
+        let side = self.side;
+        let call = self.call;
+        write!(f, "{side} {call}")
+    }
+}
+
+impl Error for DeviceFault {}
 
 /// Two byte files and an outlet. Places and lengths are in bytes, from 0.
 ///

@@ -213,3 +213,25 @@ fn outputs_stand_in_their_order(rt: HostRuntime) -> Result<(), Fail> {
     assert_eq!(rt; number(site.outputs().get(2)), 8);
     Ok(())
 }
+
+#[test]
+fn faults_print_their_side_and_call(rt: HostRuntime) -> Result<(), Fail> {
+    let texts = [
+        (Call::Length, "A Length", "B Length"),
+        (Call::Read, "A Read", "B Read"),
+        (Call::Write, "A Write", "B Write"),
+        (Call::Cut, "A Cut", "B Cut"),
+        (Call::Sync, "A Sync", "B Sync"),
+    ];
+    for (call, in_a, in_b) in texts {
+        let side = Side::A;
+        let fault = DeviceFault { side, call };
+        let text = format!(in rt.alloc(); "{fault}")?;
+        assert_eq!(rt; text.as_str(), in_a);
+        let side = Side::B;
+        let fault = DeviceFault { side, call };
+        let text = format!(in rt.alloc(); "{fault}")?;
+        assert_eq!(rt; text.as_str(), in_b);
+    }
+    Ok(())
+}

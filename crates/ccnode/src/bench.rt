@@ -1,13 +1,11 @@
 //! How long the node in memory takes for an event.
 
+use crate::cluster::FOUR_FIFTHS;
 use crate::play_fault::PlayFault;
-use cc_changes::Fraction;
 use cc_node::{Core, Node, Opening};
 use cc_views::{NodeId, Row, Value, View};
 use cc_wire::{Event, Message};
 use std::alloc::Global;
-
-const FOUR_FIFTHS: Fraction = Fraction { num: 4, den: 5 };
 
 // After so many deliveries their posts are acknowledged, so that there is room for more.
 const ROUND: u64 = 256;
@@ -21,87 +19,99 @@ pub enum Kind {
     Query,
 }
 
-/// A member of a cluster that has seen a row of each node, and the message that it gets again and again.
+/// A member of a cluster that has seen a row of each node, and the delivery that it gets again and again.
 #[derive(Drop)]
 pub struct Load {
     core: Core,
     peers: Vec<NodeId>,
-    message: Message,
+    delivery: Event,
 }
 
 impl Load {
     /// A cluster of so many nodes.
     pub fn new(alloc: Global, nodes: u32, kind: Kind) -> Result<Self, PlayFault> {
-        let mut ids = Vec::new(alloc);
-        let mut peers = Vec::new(alloc);
-        let mut view = View::new(alloc)?;
-        for number in 1..nodes.saturating_add(1) {
-            let Some(node) = NodeId::new(number) else {
-                continue;
-            };
-            ids.push(number)?;
-            peers.push(node)?;
-            put_row(&mut view, node);
-        }
-        let opening = Opening {
-            me: 1,
-            initial: &ids,
-            contacts: &[],
-            beta: FOUR_FIFTHS,
-            gamma: FOUR_FIFTHS,
-        };
-        let fresh = Node::fresh(alloc, &opening).map_err(|_| PlayFault::NoMemory)?;
-        let mut core = fresh.core().copy(alloc)?;
-        let node = core.me();
-        let message = match kind {
-            Kind::Store => Message::Store {
-                view: view.copy(alloc)?,
-                tag: 1,
-                node,
-            },
-            Kind::Query => Message::Query { tag: 1, node },
-        };
-        let first = Event::Deliver {
-            from: node,
-            number: 1,
-            message: Message::Store { view, tag: 1, node },
-        };
-        take(alloc, &mut core, &first)?;
+        let mut core = member(alloc, nodes)?;
+        let peers = peers_of(alloc, &core)?;
+        let seen = delivery(alloc, &core, Kind::Store)?;
+        take(alloc, &mut core, &seen)?;
+        let delivery = delivery(alloc, &core, kind)?;
         Ok(Load {
             core,
             peers,
-            message,
+            delivery,
         })
     }
 
     /// Takes in so many messages from the node itself. How many were accepted.
-    pub fn deliver(self, alloc: Global, count: u64) -> Result<u64, PlayFault> {
-        let Load {
-            mut core,
-            peers,
-            mut message,
-        } = self;
-        let from = core.me();
+    pub fn deliver(&mut self, alloc: Global, count: u64) -> Result<u64, PlayFault> {
         let mut taken: u64 = 0;
         for i in 0..count {
-            let event = Event::Deliver {
-                from,
-                number: core.heard(from).saturating_add(1),
-                message,
-            };
-            if take(alloc, &mut core, &event)? {
+            if self.deliver_next(alloc)? {
                 taken = taken.saturating_add(1);
             }
             if i % ROUND == 0 {
-                acknowledge(alloc, &mut core, &peers)?;
+                acknowledge(alloc, &mut self.core, &self.peers)?;
             }
-            let Event::Deliver { message: back, .. } = event else {
-                return Ok(taken);
-            };
-            message = back;
         }
         Ok(taken)
     }
+
+    // Delivers the message under the next number. False where it is refused.
+    fn deliver_next(&mut self, alloc: Global) -> Result<bool, PlayFault> {
+        let heard = self.core.heard(self.core.me());
+        if let Event::Deliver { number, .. } = &mut self.delivery {
+            *number = heard.saturating_add(1);
+        }
+        take(alloc, &mut self.core, &self.delivery)
+    }
+}
+
+// The first of so many members, as it begins.
+fn member(alloc: Global, nodes: u32) -> Result<Core, PlayFault> {
+    let ids: Vec<u32> = (1..nodes.saturating_add(1)).collect(alloc)?;
+    let opening = Opening {
+        me: 1,
+        initial: &ids,
+        contacts: &[],
+        beta: FOUR_FIFTHS,
+        gamma: FOUR_FIFTHS,
+    };
+    let fresh = Node::fresh(alloc, &opening).map_err(|_| PlayFault::NoMemory)?;
+    Ok(fresh.core().copy(alloc)?)
+}
+
+fn peers_of(alloc: Global, core: &Core) -> Result<Vec<NodeId>, PlayFault> {
+    let mut peers = Vec::new(alloc);
+    for link in core.links().rows() {
+        peers.push(link.peer)?;
+    }
+    Ok(peers)
+}
+
+// The first message that the node gets from itself.
+fn delivery(alloc: Global, core: &Core, kind: Kind) -> Result<Event, PlayFault> {
+    let node = core.me();
+    let message = match kind {
+        Kind::Store => Message::Store {
+            view: row_of_each(alloc, core)?,
+            tag: 1,
+            node,
+        },
+        Kind::Query => Message::Query { tag: 1, node },
+    };
+    Ok(Event::Deliver {
+        from: node,
+        number: 1,
+        message,
+    })
+}
+
+fn row_of_each(alloc: Global, core: &Core) -> Result<View, PlayFault> {
+    let mut view = View::new(alloc)?;
+    for link in core.links().rows() {
+        put_row(&mut view, link.peer);
+    }
+    Ok(view)
 }
 
 // A row of a node, where there is room for it.

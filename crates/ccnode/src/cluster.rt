@@ -1,11 +1,15 @@
 //! A cluster in memory.
 
 use crate::delivery::{Delivery, Waiting};
+use crate::node_fault::NodeFault;
 use crate::play_fault::PlayFault;
 use crate::script::Line;
 use crate::station::{Outcome, Station};
 use cc_changes::Fraction;
-use cc_node::{Fresh, Opening};
+use cc_checkpoint::OpenFault;
+use cc_flush::FormatFault;
+use cc_node::Opening;
+use cc_site::Choice;
 use cc_views::NodeId;
 use cc_wire::Event;
 use std::alloc::{AllocFailed, Global};
@@ -13,13 +17,16 @@ use std::io::Write;
 
 const MAX_NODES: usize = 16;
 
-const FOUR_FIFTHS: Fraction = Fraction { num: 4, den: 5 };
+/// The fractions of a node where no line says others.
+pub const FOUR_FIFTHS: Fraction = Fraction { num: 4, den: 5 };
 
-/// Whether a line could be played.
+/// What came of a line.
 #[derive(Clone, Copy, Debug, PartialEq, Eq)]
 pub enum Played {
     Good,
     Bad,
+    /// A fault of a node was printed, which ends the script.
+    Ended,
 }
 
 /// Nodes in the order in which they were made, and the fractions of the next one.
@@ -52,20 +59,15 @@ impl Cluster {
                 self.gamma = gamma;
                 Ok(Played::Good)
             }
-            Line::Member { id, initial } => self.add(alloc, id, &initial, &[]),
-            Line::Entrant { id, contacts } => self.add(alloc, id, &[], &contacts),
+            Line::Member { id, initial } => self.add(alloc, id, &initial, &[], output),
+            Line::Entrant { id, contacts } => self.add(alloc, id, &[], &contacts, output),
             Line::Event { node, event } => match self.station_mut(node) {
-                Some(station) => {
-                    station.take(alloc, event, output)?;
-                    Ok(Played::Good)
-                }
+                Some(station) => conclude(node, station.take(alloc, event, output)?, output),
                 None => Ok(Played::Bad),
             },
             Line::Carry(delivery) => self.carry(alloc, delivery, output),
-            Line::CarryAll { limit } => {
-                self.carry_all(alloc, limit, output)?;
-                Ok(Played::Good)
-            }
+            Line::CarryAll { limit } => self.carry_all(alloc, limit, output),
+            Line::Crash { node, choice } => self.crash(alloc, node, &choice, output),
         }
     }
 
@@ -81,12 +83,13 @@ impl Cluster {
             .find(|station| station.id().number() == id)
     }
 
-    fn add(
+    fn add<W: Write>(
         &mut self,
         alloc: Global,
         id: u32,
         initial: &[u32],
         contacts: &[u32],
+        output: &mut W,
     ) -> Result<Played, PlayFault> {
         if self.stations.len() >= MAX_NODES || self.station(id).is_some() {
             return Ok(Played::Bad);
@@ -103,8 +106,7 @@ impl Cluster {
                 self.stations.push(station)?;
                 Ok(Played::Good)
             }
-            Err(Fresh::BadOpening) => Ok(Played::Bad),
-            Err(Fresh::NoMemory) => Err(PlayFault::NoMemory),
+            Err(fault) => tell(id, fault, output),
         }
     }
 
@@ -114,11 +116,14 @@ impl Cluster {
         delivery: Delivery,
         output: &mut W,
     ) -> Result<Played, PlayFault> {
-        if self.deliver(alloc, delivery, output)?.is_none() {
-            let Delivery { to, from, number } = delivery;
-            writeln!(output, "nothing {from} {to} {number}")?;
+        let Delivery { to, from, number } = delivery;
+        match self.deliver(alloc, delivery, output)? {
+            Some(outcome) => conclude(to, outcome, output),
+            None => {
+                writeln!(output, "nothing {from} {to} {number}")?;
+                Ok(Played::Good)
+            }
         }
-        Ok(Played::Good)
     }
 
     // Delivers a message. None where it wasn't sent, or there is no such receiver.
@@ -162,7 +167,7 @@ impl Cluster {
         alloc: Global,
         limit: u64,
         output: &mut W,
-    ) -> Result<(), PlayFault> {
+    ) -> Result<Played, PlayFault> {
         let mut waiting = Waiting::new(alloc);
         for sender in &self.stations {
             self.note_next_from(sender.id().number(), &mut waiting)?;
@@ -176,10 +181,30 @@ impl Cluster {
                 Some(Outcome::Accepted) => {}
                 Some(Outcome::Sent) => self.note_next_from(to, &mut waiting)?,
                 Some(Outcome::Refused) | None => waiting.refuse(delivery)?,
+                Some(Outcome::Ended(fault)) => return tell(to, fault, output),
             }
             self.note_next(from, to, &mut waiting)?;
         }
-        Ok(())
+        Ok(Played::Good)
+    }
+
+    fn crash<W: Write>(
+        &mut self,
+        alloc: Global,
+        node: u32,
+        choice: &Choice,
+        output: &mut W,
+    ) -> Result<Played, PlayFault> {
+        let Some(station) = self.station_mut(node) else {
+            return Ok(Played::Bad);
+        };
+        match station.crash(alloc, choice) {
+            Ok(()) => {
+                writeln!(output, "{node} opened")?;
+                Ok(Played::Good)
+            }
+            Err(fault) => tell(node, fault, output),
+        }
     }
 
     fn note_next_from(
@@ -212,5 +237,27 @@ impl Cluster {
         let receiver = self.station(to)?;
         let number = receiver.next_from(sender.id())?;
         sender.has_sent(receiver.id(), number).then_some(number)
+    }
+}
+
+// A line ends the script where its event ends the node.
+fn conclude<W: Write>(node: u32, outcome: Outcome, output: &mut W) -> Result<Played, PlayFault> {
+    match outcome {
+        Outcome::Ended(fault) => tell(node, fault, output),
+        Outcome::Refused | Outcome::Accepted | Outcome::Sent => Ok(Played::Good),
+    }
+}
+
+// Prints the fault that ends a script. A bad opening is a bad line instead, and want of memory a fault of the player.
+fn tell<W: Write>(node: u32, fault: NodeFault, output: &mut W) -> Result<Played, PlayFault> {
+    match fault {
+        NodeFault::Format(FormatFault::BadOpening) => Ok(Played::Bad),
+        NodeFault::Format(FormatFault::NoMemory)
+        | NodeFault::Open(OpenFault::NoMemory)
+        | NodeFault::NoMemory => Err(PlayFault::NoMemory),
+        _ => {
+            writeln!(output, "{node} fault {fault}")?;
+            Ok(Played::Ended)
+        }
     }
 }

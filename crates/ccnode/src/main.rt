@@ -4,10 +4,11 @@
 mod bench;
 mod cluster;
 mod delivery;
-mod outputs;
+mod node_fault;
 mod play;
 mod play_fault;
 mod script;
+mod sent;
 mod station;
 mod texts;
 
@@ -78,7 +79,7 @@ fn print_times(rt: &HostRuntime) -> anyhow::Result<()> {
 // What one event takes, deciding, making and applying together.
 fn nanoseconds(rt: &HostRuntime, nodes: u32, kind: Kind, count: u64) -> anyhow::Result<u128> {
     let alloc = rt.alloc();
-    let load = Load::new(alloc, nodes, kind)?;
+    let mut load = Load::new(alloc, nodes, kind)?;
     let start = Instant::now(rt)?;
     let taken = load.deliver(alloc, count)?;
     Ok(start.elapsed(rt)?.as_nanos() / u128::from(taken.max(1)))

@@ -13,11 +13,11 @@ const MAX_LINES: u64 = 10_000;
 // The script was played to its end.
 const GOOD: u8 = 0;
 
-// A bad line ended it.
+// A bad line or a fault of a node ended it.
 const REFUSED: u8 = 1;
 
 /// Plays a script over a cluster in memory, and prints what happens. The answer is the status to end with: 0, or 1
-/// after a bad line.
+/// after a bad line or a fault of a node.
 pub fn play<R: Read, W: Write>(
     alloc: Global,
     input: &mut R,
@@ -31,12 +31,12 @@ pub fn play<R: Read, W: Write>(
             break;
         }
         for byte in &chunk[..count] {
-            if player.take(*byte, output)? == Played::Bad {
+            if player.take(*byte, output)? != Played::Good {
                 return player.end(REFUSED, output);
             }
         }
     }
-    if player.has_line() && player.finish_line(output)? == Played::Bad {
+    if player.has_line() && player.finish_line(output)? != Played::Good {
         return player.end(REFUSED, output);
     }
     player.end(GOOD, output)
@@ -85,8 +85,10 @@ impl Player {
         let Some(line) = script::parse(self.alloc, &self.line)? else {
             return self.bad_line(output);
         };
-        if self.cluster.play(self.alloc, line, output)? == Played::Bad {
-            return self.bad_line(output);
+        match self.cluster.play(self.alloc, line, output)? {
+            Played::Bad => return self.bad_line(output),
+            Played::Ended => return Ok(Played::Ended),
+            Played::Good => {}
         }
         self.line.clear();
         self.lines = self.lines.saturating_add(1);

@@ -2,6 +2,7 @@
 
 use crate::delivery::Delivery;
 use cc_changes::Fraction;
+use cc_site::Choice;
 use cc_views::{NodeId, Text};
 use cc_wire::{Command, Event};
 use std::alloc::{AllocError, Global};
@@ -21,6 +22,8 @@ pub enum Line {
     Carry(Delivery),
     /// Delivers so many messages, each the next one of its link.
     CarryAll { limit: u64 },
+    /// A node crashes, which leaves of its site what is chosen, and is opened again.
+    Crash { node: u32, choice: Choice },
 }
 
 /// The line that these bytes are, without their newline. None for a line of any other form.
@@ -41,6 +44,8 @@ pub fn parse(alloc: Global, bytes: &[u8]) -> Result<Option<Line>, AllocError> {
         ["carry", from, to, number] => Ok(carry(from, to, number)),
         ["acked", node, peer, number] => Ok(event_at(node, acked(peer, number))),
         ["all", limit] => Ok(carry_all(limit)),
+        ["crash", node] => Ok(crash(node, Some(Choice::Read))),
+        ["crash", node, "fill", filler] => Ok(crash(node, filled(filler))),
         _ => Ok(None),
     }
 }
@@ -108,6 +113,17 @@ fn carry_all(limit: &str) -> Option<Line> {
     })
 }
 
+fn crash(node: &str, choice: Option<Choice>) -> Option<Line> {
+    Some(Line::Crash {
+        node: small_number(node)?,
+        choice: choice?,
+    })
+}
+
+fn filled(filler: &str) -> Option<Choice> {
+    Some(Choice::Fill(byte(filler)?))
+}
+
 fn command(words: &[&str]) -> Option<Command> {
     match words {
         ["store", word] => Some(Command::Store(stored_text(word)?)),
@@ -165,4 +181,20 @@ fn number(word: &str) -> Option<u64> {
         return None;
     }
     word.parse().ok()
+}
+
+// Two lower case hexadecimal digits.
+fn byte(word: &str) -> Option<u8> {
+    match word.as_bytes() {
+        [high, low] => Some((hex_digit(*high)? << 4) | hex_digit(*low)?),
+        _ => None,
+    }
+}
+
+fn hex_digit(digit: u8) -> Option<u8> {
+    match digit {
+        b'0'..=b'9' => Some(digit - b'0'),
+        b'a'..=b'f' => Some(digit - b'a' + 10),
+        _ => None,
+    }
 }

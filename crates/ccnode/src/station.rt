@@ -1,12 +1,20 @@
-//! A node of a cluster, and all that it sent.
+//! A node of a cluster on a site in memory, and all that it sent.
 
-use crate::outputs::{Outputs, Sent};
+use crate::node_fault::NodeFault;
 use crate::play_fault::PlayFault;
-use cc_node::{Fresh, Node, Opening};
+use crate::sent::Sent;
+use crate::texts::PrintedOutput;
+use cc_flush::{Back, Flusher, format};
+use cc_journal::Entry;
+use cc_node::{Core, Opening};
+use cc_site::{Choice, MemorySite};
 use cc_views::NodeId;
 use cc_wire::{Event, Message, decode_message};
 use std::alloc::Global;
 use std::io::Write;
+
+// How many outputs of a node its site keeps, from one opening to the next.
+const RESERVE: usize = 16_384;
 
 /// What a node makes of an event.
 #[derive(Clone, Copy, Debug, PartialEq, Eq)]
@@ -16,55 +24,107 @@ pub enum Outcome {
     Accepted,
     /// It is accepted, and a message is sent.
     Sent,
+    /// The node can't go on.
+    Ended(NodeFault),
 }
 
-/// A node, and its posts by number: number 1 comes first.
+/// A node in an engine, and its posts by ascending number, those from before a crash among them.
 #[derive(Drop)]
 pub struct Station {
-    node: Node,
+    engine: Flusher<MemorySite>,
+    // How many of the site's outputs were printed.
+    printed: usize,
     sent: Vec<Sent>,
 }
 
 impl Station {
     /// A node that begins as the opening says, and has sent nothing.
-    pub fn new(alloc: Global, opening: &Opening<'_>) -> Result<Self, Fresh> {
-        let node = Node::fresh(alloc, opening)?;
-        Ok(Station {
-            node,
-            sent: Vec::new(alloc),
-        })
+    pub fn new(alloc: Global, opening: &Opening<'_>) -> Result<Self, NodeFault> {
+        let site = MemorySite::new(alloc, RESERVE)?;
+        match format(alloc, site, opening) {
+            Ok(site) => Ok(Station {
+                engine: opened(alloc, site)?,
+                printed: 0,
+                sent: Vec::new(alloc),
+            }),
+            Err(Back { site: _, fault }) => Err(NodeFault::Format(fault)),
+        }
     }
 
     pub fn id(&self) -> NodeId {
-        self.node.me()
+        self.core().me()
     }
 
-    /// Takes an event in, unless it is refused, and prints what comes of it.
+    /// What keeps the node.
+    pub fn site(&self) -> &MemorySite {
+        self.engine.site()
+    }
+
+    fn core(&self) -> &Core {
+        self.engine.twin().core()
+    }
+
+    /// Makes an event durable, unless it is refused, and prints what comes of it.
     pub fn take<W: Write>(
         &mut self,
         alloc: Global,
         event: Event,
         output: &mut W,
     ) -> Result<Outcome, PlayFault> {
-        let id = self.id().number();
-        if let Err(refusal) = self.node.core().decide(&event) {
+        let core = self.engine.twin().core();
+        if let Err(refusal) = core.decide(&event) {
+            let id = core.me().number();
             writeln!(output, "{id} refused {refusal}")?;
             return Ok(Outcome::Refused);
         }
-        let made = self.node.core().made(alloc, &event)?;
-        let outputs = Outputs::of(alloc, &made)?;
-        self.node.settle(event, made);
+        let made = core.made(alloc, &event)?;
+        // A side that has no room is longer than any memory.
+        if !self.engine.room() {
+            return Err(PlayFault::NoMemory);
+        }
+        match self.engine.put_one(Entry { event, made }) {
+            Ok(()) => self.print_accepted(alloc, output),
+            Err(failed) => Ok(Outcome::Ended(NodeFault::Engine(failed))),
+        }
+    }
+
+    // Prints that an event was accepted and what it made, and keeps the post.
+    fn print_accepted<W: Write>(
+        &mut self,
+        alloc: Global,
+        output: &mut W,
+    ) -> Result<Outcome, PlayFault> {
+        let id = self.id().number();
+        let outputs = self.engine.site().outputs();
+        let made = outputs.get(self.printed..).unwrap_or(&[]);
+        let sent = Sent::among(alloc, self.engine.twin().core().posts(), made)?;
         writeln!(output, "{id} accepted")?;
-        let Some(sent) = outputs.put(alloc, self.node.core(), output)? else {
+        for part in made {
+            let part = PrintedOutput(part);
+            writeln!(output, "{id} {part}")?;
+        }
+        self.printed = outputs.len();
+        if self.engine.site().lost() > 0 {
+            return Ok(Outcome::Ended(NodeFault::Outlet));
+        }
+        let Some(sent) = sent else {
             return Ok(Outcome::Accepted);
         };
         self.sent.push(sent)?;
         Ok(Outcome::Sent)
     }
 
+    /// Crashes the node, and opens what the crash left of its site.
+    pub fn crash(&mut self, alloc: Global, choice: &Choice) -> Result<(), NodeFault> {
+        let image = self.site().image(alloc, choice)?;
+        self.engine = opened(alloc, image)?;
+        self.printed = 0;
+        Ok(())
+    }
+
     /// The number that its next message from a node has. None after the last number that there is.
     pub fn next_from(&self, peer: NodeId) -> Option<u64> {
-        self.node.heard(peer).checked_add(1)
+        self.core().heard(peer).checked_add(1)
     }
 
     /// Whether a message went to a node under that number.
@@ -91,13 +151,24 @@ impl Station {
 
     // The numbers of a link count the posts that were made after its row.
     fn sent_to(&self, to: NodeId, number: u64) -> Option<&Sent> {
-        let link = self.node.core().links().get(to)?;
-        let place = number.checked_sub(1)?.checked_add(link.start)?;
-        let sent = self.sent.get(usize::try_from(place).ok()?)?;
+        let link = self.core().links().get(to)?;
+        let post = link.start.checked_add(number)?;
+        let place = self
+            .sent
+            .binary_search_by_key(&post, |sent| sent.post)
+            .ok()?;
+        let sent = &self.sent[place];
         let is_receiver = sent
             .receivers
             .binary_search_by_key(&to.number(), |peer| peer.number())
             .is_ok();
         is_receiver.then_some(sent)
+    }
+}
+
+fn opened(alloc: Global, site: MemorySite) -> Result<Flusher<MemorySite>, NodeFault> {
+    match Flusher::open(alloc, site) {
+        Ok((engine, _core)) => Ok(engine),
+        Err(Back { site: _, fault }) => Err(NodeFault::Open(fault)),
     }
 }

@@ -2,6 +2,7 @@
 
 mod bad_lines;
 mod clusters;
+mod crashes;
 mod faults;
 mod limits;
 mod objects;

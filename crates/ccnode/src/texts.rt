@@ -1,8 +1,8 @@
-//! How views, messages and answers are printed.
+//! How views, messages, answers and outputs are printed.
 
 use cc_changes::Changes;
 use cc_views::{NodeId, Text, Value, View};
-use cc_wire::{Answer, Message};
+use cc_wire::{Answer, Message, Output};
 use std::fmt;
 
 /// Letters, digits, `.`, `_` and `-` as they are, every other byte as `%` and two hexadecimal digits.
@@ -41,7 +41,7 @@ impl fmt::Display for PrintedValue<'_> {
 
 /// `[NODE:NUMBER=VALUE,..]`.
 #[derive(Clone, Copy)]
-pub struct PrintedView<'a>(pub &'a View);
+struct PrintedView<'a>(&'a View);
 
 impl fmt::Display for PrintedView<'_> {
     fn fmt<W: fmt::Write>(&self, f: &mut fmt::Formatter<W>) -> fmt::Result {
@@ -94,7 +94,7 @@ fn print_joined<W: fmt::Write>(
 
 /// The message's name, and its fields in the order of its format.
 #[derive(Clone, Copy)]
-pub struct PrintedMessage<'a>(pub &'a Message);
+struct PrintedMessage<'a>(&'a Message);
 
 impl fmt::Display for PrintedMessage<'_> {
     fn fmt<W: fmt::Write>(&self, f: &mut fmt::Formatter<W>) -> fmt::Result {
@@ -158,7 +158,7 @@ fn print_echo<W: fmt::Write>(
 
 /// `Stored`, `Seen VIEW`, `Max N`, `Flag 0`, `Flag 1` or `Set [N,..]`.
 #[derive(Clone, Copy)]
-pub struct PrintedAnswer<'a>(pub &'a Answer);
+struct PrintedAnswer<'a>(&'a Answer);
 
 impl fmt::Display for PrintedAnswer<'_> {
     fn fmt<W: fmt::Write>(&self, f: &mut fmt::Formatter<W>) -> fmt::Result {
@@ -177,6 +177,38 @@ impl fmt::Display for PrintedAnswer<'_> {
                 write!(f, "Set [")?;
                 print_joined(f, members.as_slice(), ',')?;
                 write!(f, "]")
+            }
+        }
+    }
+}
+
+/// `ack T N`, `send T N MESSAGE` or `reply S R ANSWER`.
+#[derive(Clone, Copy)]
+pub struct PrintedOutput<'a>(pub &'a Output);
+
+impl fmt::Display for PrintedOutput<'_> {
+    fn fmt<W: fmt::Write>(&self, f: &mut fmt::Formatter<W>) -> fmt::Result {
+        match self.0 {
+            Output::Send {
+                to,
+                number,
+                message,
+            } => {
+                let to = to.number();
+                let message = PrintedMessage(message);
+                write!(f, "send {to} {number} {message}")
+            }
+            Output::Ack { to, number } => {
+                let to = to.number();
+                write!(f, "ack {to} {number}")
+            }
+            Output::Reply {
+                session,
+                request,
+                answer,
+            } => {
+                let answer = PrintedAnswer(answer);
+                write!(f, "reply {session} {request} {answer}")
             }
         }
     }

@@ -14,9 +14,36 @@ resend 1
 again 1 7
 reack 1 1
 checkpoint 1
-crash 1
-crash 1 fill a5
 retire 1 2";
+
+const NO_CRASHES: &str = "\
+crash
+crash\x20
+crash 2
+crash 9
+crash 0
+crash 01
+crash a
+crash 1\x20
+crash 1 1
+crash 1 fill
+crash 1 fill\x20
+crash 1 a5
+crash 1 fill a
+crash 1 fill A5
+crash 1 fill a55
+crash 1 fill 0a5
+crash 1 fill 0xa5
+crash 1 fill +5
+crash 1 fill -5
+crash 1 fill g0
+crash 1 fill a5 a5
+crash 1 fill  a5
+crash 1 read
+crash 1 Fill a5
+crash 9 fill a5
+crash 4294967296
+Crash 1";
 
 const NO_FRACTIONS: &str = "\
 fractions
@@ -165,6 +192,7 @@ fn a_bad_line_ends_the_script(rt: HostRuntime) -> Result<(), Fail> {
         NO_EVENTS,
         NO_ASKS,
         NO_CARRIES,
+        NO_CRASHES,
     ] {
         for line in lines.split('\n') {
             let script = format!(in rt.alloc(); "member 1 of 1\n{line}\nask 1 7 1 collect\n")?;

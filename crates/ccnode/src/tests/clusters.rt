@@ -91,7 +91,7 @@ nothing 1 2 1
 2 send 2 1 StoreAck 1 1
 ";
 
-const ENTER: &str = "\
+pub const ENTER: &str = "\
 member 1 of 1,2,3
 member 2 of 1,2,3
 member 3 of 1,2,3
@@ -107,7 +107,7 @@ carry 4 3 1
 carry 3 4 1
 ";
 
-const ENTERED: &str = "\
+pub const ENTERED: &str = "\
 4 accepted
 4 send 1 1 Enter 4
 4 send 2 1 Enter 4
@@ -151,7 +151,7 @@ const ENTERED: &str = "\
 4 send 4 3 Join 4
 ";
 
-const OUT_OF_ORDER: &str = "\
+pub const OUT_OF_ORDER: &str = "\
 member 1 of 1,2
 member 2 of 1,2
 ask 1 7 1 store a
@@ -164,7 +164,7 @@ carry 1 2 3
 carry 1 2 1
 ";
 
-const KEPT_IN_ORDER: &str = "\
+pub const KEPT_IN_ORDER: &str = "\
 1 accepted
 1 send 1 1 Store [1:1=a/0/0/] 1 1
 1 send 2 1 Store [1:1=a/0/0/] 1 1
@@ -422,7 +422,7 @@ fn links_have_numbers_of_their_own(rt: HostRuntime) -> Result<(), Fail> {
 
 // Four members and an entrant, with halves for both fractions. Messages are lost (nothing goes to node 4), come twice and
 // come too early.
-const FIVE: &str = "\
+pub const FIVE: &str = "\
 fractions 1/2 1/2
 member 1 of 1,2,3,4
 member 2 of 1,2,3,4
@@ -451,7 +451,7 @@ carry 5 2 2
 carry 5 2 3
 ";
 
-const PLAYED_BY_FIVE: &str = "\
+pub const PLAYED_BY_FIVE: &str = "\
 1 accepted
 1 send 1 1 Store [1:1=a/0/0/] 1 1
 1 send 2 1 Store [1:1=a/0/0/] 1 1

@@ -1,8 +1,12 @@
 //! Readers and writers that fail.
 
 use super::{STORE, STORED};
+use crate::node_fault::NodeFault;
 use crate::play::play;
 use crate::play_fault::PlayFault;
+use cc_checkpoint::OpenFault;
+use cc_flush::{Failed, FormatFault};
+use cc_site::{Call, DeviceFault, Side};
 use std::io;
 use std::io::{Read, Write};
 use std::test::*;
@@ -57,5 +61,36 @@ fn a_fault_of_the_reader_or_the_writer_ends_the_script(rt: HostRuntime) -> Resul
     let mut input = STORE.as_bytes();
     let outcome = play(rt.alloc(), &mut input, &mut Full { writes: 1 });
     assert!(rt; matches!(outcome, Err(PlayFault::Write)));
+    Ok(())
+}
+
+#[test]
+fn faults_of_a_node_print_their_texts(rt: HostRuntime) -> Result<(), Fail> {
+    let fault = DeviceFault {
+        side: Side::A,
+        call: Call::Sync,
+    };
+    let texts = [
+        (
+            NodeFault::Format(FormatFault::Device(fault)),
+            "Device A Sync",
+        ),
+        (
+            NodeFault::Format(FormatFault::AlreadyFormatted),
+            "AlreadyFormatted",
+        ),
+        (
+            NodeFault::Open(OpenFault::Damaged(Side::A, 153)),
+            "Damaged A 153",
+        ),
+        (NodeFault::Open(OpenFault::NotFormatted), "NotFormatted"),
+        (NodeFault::Engine(Failed { fault }), "Failed A Sync"),
+        (NodeFault::Outlet, "Outlet"),
+        (NodeFault::NoMemory, "NoMemory"),
+    ];
+    for (fault, expected) in texts {
+        let text = format!(in rt.alloc(); "{fault}")?;
+        assert_eq!(rt; text.as_str(), expected);
+    }
     Ok(())
 }

@@ -145,3 +145,49 @@ fn the_largest_script_is_played(rt: HostRuntime) -> Result<(), Fail> {
     assert!(rt; output.ends_with("\n16 accepted\n16 ack 1 416\n"));
     Ok(())
 }
+
+// A member of 256 nodes that finishes so many collects. Each puts out 1,029 outputs: four posts to 256 nodes, four
+// acknowledgements and a reply.
+fn collects(alloc: Global, count: u64) -> Result<String, Fail> {
+    let mut script = String::from_str(alloc, "fractions 1/256 4/5\nmember 1 of 1")?;
+    for id in 2..=256 {
+        let more = format!(in alloc; ",{id}")?;
+        script.push_str(&more)?;
+    }
+    script.push('\n')?;
+    for request in 1..=count {
+        let lines = format!(in alloc; "ask 1 7 {request} collect\nall 4\n")?;
+        script.push_str(&lines)?;
+    }
+    Ok(script)
+}
+
+// 15 collects and the first three steps of another put out 16,205 outputs, so the fourth step finds room for 179 of its 257.
+#[test]
+fn a_node_puts_out_16384_outputs(rt: HostRuntime) -> Result<(), Fail> {
+    let mut script = collects(rt.alloc(), 15)?;
+    let (status, output) = played(rt.alloc(), &script)?;
+    assert_eq!(rt; status, 0);
+    assert_eq!(rt; output.lines().count(), 15 * (1_029 + 5));
+    script.push_str("ask 1 7 16 collect\nall 4\nask 1 7 17 collect\n")?;
+    let (status, output) = played(rt.alloc(), &script)?;
+    assert_eq!(rt; status, 1);
+    assert_eq!(rt;
+        output.lines().count(),
+        15 * (1_029 + 5) + 257 + 258 + 258 + 180 + 1
+    );
+    assert!(rt; output.ends_with("\n1 send 178 64 StoreAck 32 1\n1 fault Outlet\n"));
+    Ok(())
+}
+
+// A crash begins a new list.
+#[test]
+fn a_node_that_crashes_puts_out_more(rt: HostRuntime) -> Result<(), Fail> {
+    let mut script = collects(rt.alloc(), 15)?;
+    script.push_str("crash 1\nask 1 7 16 collect\nall 4\n")?;
+    let (status, output) = played(rt.alloc(), &script)?;
+    assert_eq!(rt; status, 0);
+    assert_eq!(rt; output.lines().count(), 16 * (1_029 + 5) + 1);
+    assert!(rt; output.ends_with("\n1 reply 7 16 Seen []\n"));
+    Ok(())
+}
