@@ -12,6 +12,7 @@ use crate::outlet::put_entry;
 use cc_journal::{Batch, Entry, Forfeit, Journal, Landed};
 use cc_node::Node as TheNode;
 use cc_site::Site;
+use cc_wire::{event_is_spellable, largest_sizes};
 
 // Writes a batch, makes sure of it, and lets it count.
 pub(crate) fn make_durable<S: Site>(
@@ -80,6 +81,8 @@ pub(crate) fn put_durably<S: Site>(
 fn batch_of(entry: Entry) -> Batch
     ensures { result ≡ entry ∷ [] }
 {
+    event_is_spellable(&entry.event);
+    largest_sizes();
     let mut batch = Batch::new();
     match batch.push(entry) {
         Ok(()) => {}
@@ -94,5 +97,5 @@ fn only_entry(landed: Landed) -> Entry
     ensures { landed ≡ result ∷ [] }
 {
     let mut batch = landed.into_batch();
-    batch.pop().unwrap()
+    batch.take_first().unwrap()
 }

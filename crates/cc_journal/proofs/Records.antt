@@ -1,36 +1,59 @@
--- The record of one event.
-use Rattle.std.proofs.Common.{◌≡◌, ℕ, ◌+◌, ◌≤◌, List, [], ◌∷◌, ◌++◌, length, refl, ◌∙◌, ap, arith, length-append}
+-- The record of a batch.
+--     next_sized, last_sized     the events behind their sizes, one after the other
+--     length_batch               how long a record and the gate behind it are
+--     batch_spelled              the record is a batch's
+use Rattle.std.proofs.Common.{◌≡◌, ℕ, suc, ◌+◌, ◌<◌, ◌≤◌, List, [], ◌∷◌, ◌++◌, length, get_or, drop, drop-cons, add-one, refl, sym, ◌∙◌, ap, arith, length-append}
+use Rattle.std.specs.Prelude.{Option, Some, unwrap_or, slice_get}
 use Rattle.std.specs.Int.{w32, to_be_bytes}
-use Rattle.std.proofs.lemmas.List.{append-nil}
+use Rattle.std.specs.List.{flat_map, remove}
+use Rattle.std.proofs.lemmas.List.{append_assoc, at_drop_all, length-map}
+use Rattle.std.proofs.lemmas.List.Concat.{flat_map-cons}
 use Rattle.cc_wire.specs.declared.event.Event.{Event}
-use Rattle.cc_wire.specs.Events.{event_spelling, IsEvent}
+use Rattle.cc_wire.specs.Events.{event_spelling}
 use Rattle.cc_journal.specs.declared.entry.Entry.{Entry}
 use Rattle.cc_journal.specs.Batches.{events_in, batch_bytes}
 use Rattle.cc_node.specs.Sides.{SpellsBatch, SpellsRecord, record_spelling, events_spelling, sized_spelling}
 
--- what stands behind the length of the record
-abbrev alone : Event → List ℕ
-alone e = 1 ∷ (to_be_bytes w32 (length (event_spelling e)) ++ event_spelling e)
+-- the events of some entries, each behind its size
+abbrev pub sized : List Entry → List ℕ
+sized entries = flat_map sized_spelling (events_in entries)
 
-alone_is : (e : Event) → events_spelling (e ∷ []) ≡ alone e
-alone_is e = ap (λ (l : List ℕ). 1 ∷ l) (append-nil (sized_spelling e))
+pub length_sized : (e : Event) → length (sized_spelling e) ≡ 4 + length (event_spelling e)
+length_sized e = length-append (to_be_bytes w32 (length (event_spelling e))) (event_spelling e)
 
-length_alone : (e : Event) → length (alone e) ≡ 5 + length (event_spelling e)
-length_alone e = omega (arith, length-append (to_be_bytes w32 (length (event_spelling e))) (event_spelling e))
+next_entry : (entries : List Entry) (i : ℕ) (entry : Entry) → i < length entries → entry ≡ get_or entries i entry → drop i entries ≡ entry ∷ drop (i + 1) entries
+next_entry entries i entry lt is = drop-cons entries i entry lt ∙ ap (λ (e : Entry). e ∷ drop (suc i) entries) (sym is) ∙ ap (λ (n : ℕ). entry ∷ drop n entries) (sym (add-one i))
 
-pub one_record : (e : Event) → record_spelling (e ∷ []) ≡ to_be_bytes w32 (5 + length (event_spelling e)) ++ alone e
+pub next_events : (entries : List Entry) (i : ℕ) (entry : Entry) → i < length entries → entry ≡ get_or entries i entry → events_in (drop i entries) ≡ entry.event ∷ events_in (drop (i + 1) entries)
+next_events entries i entry lt is = ap events_in (next_entry entries i entry lt is)
+
+pub next_sized : (entries : List Entry) (i : ℕ) (entry : Entry) → i < length entries → entry ≡ get_or entries i entry → sized (drop i entries) ≡ sized_spelling entry.event ++ sized (drop (i + 1) entries)
+next_sized entries i entry lt is = ap (λ (es : List Event). flat_map sized_spelling es) (next_events entries i entry lt is) ∙ flat_map-cons sized_spelling entry.event (events_in (drop (i + 1) entries))
+
+pub last_sized : (entries : List Entry) (i : ℕ) → length entries ≤ i → sized (drop i entries) ≡ []
+last_sized entries i past = at_drop_all sized entries i past
+
+-- a record is its length, how many events there are, and the events
+pub record_is : (entries : List Entry) → (to_be_bytes w32 (length (events_spelling (events_in entries))) ++ length entries ∷ []) ++ sized entries ≡ record_spelling (events_in entries)
 unfolding record_spelling
-one_record e =
-    ap (λ (l : List ℕ). to_be_bytes w32 (length l) ++ l) (alone_is e) ∙ ap (λ (n : ℕ). to_be_bytes w32 n ++ alone e) (length_alone e)
+record_is entries =
+    append_assoc (to_be_bytes w32 (length (events_spelling (events_in entries)))) (length entries ∷ []) (sized entries)
+    ∙ ap (λ (n : ℕ). to_be_bytes w32 (length (events_spelling (events_in entries))) ++ n ∷ sized entries) (sym (length-map entries (λ (entry : Entry). entry.event)))
 
-pub one_spelled : (e : Event) → IsEvent e → length (event_spelling e) ≤ 58139 → SpellsRecord (record_spelling (e ∷ [])) (e ∷ [])
-one_spelled e is short = record {
-  some = omega arith;
-  few = omega arith;
-  fits = omega (arith, ap length (alone_is e), length_alone e, short);
-  each = (is, tt);
-  spelled = refl;
-}
+-- the first entry, and what the others take
+pub first_out : (entries : List Entry) (entry : Entry) → slice_get entries 0 ≡ Some entry → entries ≡ entry ∷ remove entries 0
+first_out [] entry is = absurd cc
+first_out (e ∷ entries) entry is = ap (λ (o : Option Entry). unwrap_or o entry ∷ entries) is
+
+pub length_first : (entries rest : List Entry) (entry : Entry) → entries ≡ entry ∷ rest → length (events_spelling (events_in entries)) ≡ 4 + length (event_spelling entry.event) + length (events_spelling (events_in rest))
+length_first entries rest entry is =
+    omega (
+      arith,
+      ap (λ (es : List Entry). length (events_spelling (events_in es))) is,
+      flat_map-cons sized_spelling entry.event (events_in rest),
+      length-append (sized_spelling entry.event) (sized rest),
+      length_sized entry.event,
+    )
 
 -- a batch and the gate behind it fill no more than the room of one record
 pub length_batch : (entries : List Entry) → SpellsRecord (record_spelling (events_in entries)) (events_in entries) → length (batch_bytes entries) ≤ 262149

@@ -2,12 +2,13 @@
 --     events_in           the events of some entries
 --     AreLawful           no event of them is refused, and each made part is that of its event
 --     batch_bytes         their record, and the closed gate of the next one
-use Rattle.std.specs.Prelude.{◌≡◌, ℕ, ⊤, List, [], ◌∷◌, ◌++◌, map, None}
+--     FitsRecord          they are few enough for one record, which has so many bytes behind its length
+use Rattle.std.specs.Prelude.{◌≡◌, ◌≤◌, ℕ, ⊤, List, [], ◌∷◌, ◌++◌, length, map, None}
 use Rattle.cc_wire.specs.declared.event.Event.{Event}
 use Rattle.cc_node.specs.Core.{made}
 use Rattle.cc_node.specs.Node.{Node, step}
 use Rattle.cc_node.specs.Refusals.{decides}
-use Rattle.cc_node.specs.Sides.{record_spelling}
+use Rattle.cc_node.specs.Sides.{batch_limit, record_limit, record_spelling, events_spelling}
 use Rattle.cc_journal.specs.declared.entry.Entry.{Entry}
 
 abbrev pub events_in : List Entry → List Event
@@ -19,3 +20,8 @@ AreLawful n (entry ∷ entries) = (decides n.core entry.event ≡ None) × (entr
 
 abbrev pub batch_bytes : List Entry → List ℕ
 batch_bytes entries = record_spelling (events_in entries) ++ 0 ∷ []
+
+pub record FitsRecord (entries : List Entry) (bytes : ℕ) : Type 0 where
+  pub few : length entries ≤ batch_limit
+  pub is_size : bytes ≡ length (events_spelling (events_in entries))
+  pub fits : bytes ≤ record_limit

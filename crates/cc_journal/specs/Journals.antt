@@ -1,8 +1,9 @@
 -- A journal: where its next record goes.
 --     Position            the side in use, and the place of the closed gate that ends its records
---     IsWritten, HasRoom  a batch in flight, and the room for one
+--     IsWritten           a batch in flight
+--     record_room         how many bytes a record and its gate have at most
 --     IsAtRest            whatever a crash leaves now, that side holds the node after all events up to that gate
-use Rattle.std.specs.Prelude.{◌≡◌, ◌≤◌, ℕ, List, length}
+use Rattle.std.specs.Prelude.{◌≡◌, ℕ, List, length}
 use Rattle.cc_wire.specs.declared.event.Event.{Event}
 use Rattle.cc_wire.specs.declared.output.Output.{Output}
 use Rattle.cc_site.specs.declared.site.Side.{Side}
@@ -25,10 +26,8 @@ pub record IsWritten (entries : List Entry) (bytes : ℕ) : Type 0 where
   pub size : bytes ≡ length (batch_bytes entries)
   pub spelled : SpellsRecord (record_spelling (events_in entries)) (events_in entries)
 
--- one record and its gate find room, and one event
-pub record HasRoom (record_room event_room : ℕ) : Type 0 where
-  pub for_record : 262149 ≤ record_room
-  pub for_event : 58139 ≤ event_room
+abbrev pub record_room : ℕ
+record_room = 262149
 
 -- the moment is good for what a crash leaves of both sides
 abbrev pub IsGood : Node → List Event → ℕ → ℕ → Contents → List Output → Type 0

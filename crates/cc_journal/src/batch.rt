@@ -1,21 +1,27 @@
 //! Entries that become durable together.
 
-ghost use Rattle.std.specs.Prelude.{IfSome, None, ◌≡◌, ◌≤◌, ◌++◌, ◌∷◌, [], ◌↔◌, length, OnOk, OnErr, IfErr, IsOk};
+ghost use Rattle.std.specs.Prelude.{◌≡◌, ◌↔◌, ◌≤◌, ◌<◌, ◌++◌, ◌∷◌, [], None, length, OnOk, OnErr, IfErr, IfSome, IsOk};
+ghost use Rattle.cc_node.specs.Sides.{batch_limit, record_limit, events_spelling};
+ghost use Rattle.cc_journal.specs.Batches.{events_in};
 
 use crate::entry::Entry;
 use arrayvec::ArrayVec;
+use cc_wire::event_len;
 use std::marker::Model;
 
-/// Entries that become durable together, in the order in which they were accepted. Until more than one event goes into a
-/// record, there is at most one.
+/// Entries that become durable together, in the order in which they were accepted: at most 64, and as many as one record
+/// takes.
 #[derive(Drop)]
 pub struct Batch {
     entries: ArrayVec<Entry, 64>,
+    // How many bytes the record of these entries has behind its length.
+    size: usize,
 }
 
 impl Model for Batch {
-    ghost use Rattle.std.specs.Prelude.{List, length, ◌≤◌};
+    ghost use Rattle.std.specs.Prelude.{List};
     ghost use Rattle.cc_journal.specs.declared.entry.Entry.{Entry as EntryValue};
+    ghost use Rattle.cc_journal.specs.Batches.{FitsRecord};
     ghost use Rattle.cc_journal.specs.Codes.{entries_code};
 
     ghost Value = { List EntryValue };
@@ -24,53 +30,77 @@ impl Model for Batch {
 
     ghost view = { λ b. b.entries.items };
 
-    ghost invariant = { λ b. length b.entries.items ≤ 1 };
+    ghost invariant = { λ b. FitsRecord b.entries.items b.size };
 }
 
+// How many bytes a count has, and the size of an event.
+const COUNT: usize = 1;
+
+const SIZE: usize = 4;
+
 impl Batch {
+    /// How many bytes a record has at most behind its length.
+    pub const MAX_BYTES: usize = 262_144;
+
     /// No entry.
     pub fn new() -> Self
         ensures { result ≡ [] }
     {
         Batch {
             entries: ArrayVec::new(),
+            size: COUNT,
         }
     }
 
-    /// Puts an entry behind the others. It is given back where there is no room for it.
+    /// Puts an entry behind the others. It is given back where there are 64 already, or where the record would have more
+    /// than 262,144 bytes behind its length.
     pub fn push(&mut self, entry: Entry) -> Result<(), Entry>
         ensures ok { OnOk result (self.new ≡ self.old ++ entry ∷ []) }
         ensures err { OnErr result (self.new ≡ self.old) }
         ensures given_back { IfErr result (λ e. e ≡ entry) }
-        ensures room { IsOk result ↔ (length self.old ≡ 0) }
+        ensures room { IsOk result ↔ ((length self.old < batch_limit) × (length (events_spelling (events_in (self.old ++ entry ∷ []))) ≤ record_limit)) }
     {
-        if !self.entries.is_empty() {
+        let size = self.size + SIZE + event_len(&entry.event);
+        if self.entries.is_full() || size > Self::MAX_BYTES {
             return Err(entry);
         }
         self.entries.push(entry);
+        self.size = size;
         Ok(())
     }
 
-    /// Takes the last entry out. None where there is none.
-    pub fn pop(&mut self) -> Option<Entry>
-        ensures some { IfSome result (λ entry. self.old ≡ self.new ++ entry ∷ []) }
+    /// Takes the first entry out. None where there is none.
+    pub fn take_first(&mut self) -> Option<Entry>
+        ensures some { IfSome result (λ entry. self.old ≡ entry ∷ self.new) }
         ensures none { result ≡ None → (self.old ≡ []) × (self.new ≡ []) }
     {
-        self.entries.pop()
+        let entry = self.entries.pop_at(0)?;
+        self.size -= SIZE + event_len(&entry.event);
+        Some(entry)
     }
 
     /// How many entries there are.
     pub fn len(&self) -> usize
         ensures len { result ≡ length self.now }
-        ensures fits { result ≤ 1 }
+        ensures fits { result ≤ batch_limit }
     {
         self.entries.len()
     }
 
     /// The entries, in their order.
     pub fn entries(&self) -> &[Entry]
-        ensures { result.now ≡ self.now }
+        ensures entries { result.now ≡ self.now }
+        ensures few { length result.now ≤ batch_limit }
+        ensures fits { length (events_spelling (events_in result.now)) ≤ record_limit }
     {
         self.entries.as_slice()
+    }
+
+    /// How many bytes their record has behind its length.
+    pub fn size(&self) -> usize
+        ensures size { result ≡ length (events_spelling (events_in self.now)) }
+        ensures fits { result ≤ record_limit }
+    {
+        self.size
     }
 }

@@ -87,14 +87,13 @@ pub struct Journal {
     side: Side,
     place: u64,
     text: Vec<u8>,
-    event: Vec<u8>,
 }
 
 impl Model for Journal {
     ghost use Rattle.std.specs.Prelude.{◌≤◌};
     ghost use Rattle.std.specs.Vec.{vec_capacity};
     ghost use Rattle.cc_journal.specs.Codes.{position_code};
-    ghost use Rattle.cc_journal.specs.Journals.{Position as Place, HasRoom};
+    ghost use Rattle.cc_journal.specs.Journals.{Position as Place, record_room};
 
     ghost Value = { Place };
 
@@ -102,14 +101,12 @@ impl Model for Journal {
 
     ghost view = { λ j. record { side = j.side; place = j.place } };
 
-    ghost invariant = { λ j. HasRoom (vec_capacity j.text) (vec_capacity j.event) };
+    ghost invariant = { λ j. record_room ≤ vec_capacity j.text };
 }
 
 impl Journal {
-    // How many bytes a record and its gate have at most, and an event.
+    // How many bytes a record and its gate have at most.
     const RECORD_ROOM: usize = 262_149;
-
-    const EVENT_ROOM: usize = 58_139;
 
     /// A journal of that side, whose next record goes behind the closed gate at `place`. NoMemory where a growth was
     /// refused.
@@ -117,13 +114,7 @@ impl Journal {
         ensures { IfOk result (λ j. j ≡ record { side = side; place = place }) }
     {
         let text = Vec::with_capacity(alloc, Self::RECORD_ROOM)?;
-        let event = Vec::with_capacity(alloc, Self::EVENT_ROOM)?;
-        Ok(Journal {
-            side,
-            place,
-            text,
-            event,
-        })
+        Ok(Journal { side, place, text })
     }
 
     /// The side in use.
@@ -138,6 +129,14 @@ impl Journal {
         ensures { result ≡ self.now.place }
     {
         self.place
+    }
+
+    /// The next record goes behind the closed gate at `place` of that side.
+    pub fn move_to(&mut self, side: Side, place: u64)
+        ensures { self.new ≡ record { side = side; place = place } }
+    {
+        self.side = side;
+        self.place = place;
     }
 
     /// Writes the batch's record, and a closed gate, behind the closed gate that ends the records, without a sync. Until
@@ -161,8 +160,7 @@ impl Journal {
         ensures length { S.honest site.old → OnOk result (length (S.state site.new self.old.side).bytes ≡ max (length (S.state site.old self.old.side).bytes) (self.old.place + 1 + length (batch_bytes batch))) }
         ensures fault { MatchResult result (λ _. S.failures site.new ≡ S.failures site.old) (λ forfeit. Rose (S.failures site.old) (S.failures site.new)) }
     {
-        let entry = &batch.entries()[0];
-        put_record(&mut self.text, &mut self.event, &entry.event);
+        put_record(&mut self.text, &batch);
         let size = self.text.len() as u64;
         site.write_at(self.side, self.place + 1, &self.text)?;
         Ok(Flight { batch, size })

@@ -1,54 +1,42 @@
 //! The bytes of a batch.
 
-ghost use Rattle.std.specs.Prelude.{◌≡◌, ◌≤◌, ◌<◌, ◌∷◌, [], ◌++◌, ◌+◌, length, vec_len};
+ghost use Rattle.std.specs.Prelude.{◌≡◌, ◌≤◌, ◌<◌, ◌∷◌, [], ◌++◌, ◌+◌, length};
+ghost use Rattle.std.specs.List.{flat_map, AllByRecursion};
 ghost use Rattle.std.specs.Vec.{vec_capacity};
-ghost use Rattle.std.specs.Int.{w32, to_be_bytes};
-ghost use Rattle.cc_wire.specs.Events.{event_spelling, IsEvent};
-ghost use Rattle.cc_node.specs.Sides.{SpellsRecord, record_spelling};
+ghost use Rattle.cc_wire.specs.Events.{IsEvent};
+ghost use Rattle.cc_node.specs.Sides.{SpellsRecord, record_spelling, sized_spelling, record_limit};
+ghost use Rattle.cc_journal.specs.Batches.{events_in, batch_bytes};
 
+use crate::batch::Batch;
+use crate::entry::Entry;
 use cc_site::CLOSED_GATE;
-use cc_wire::{Event, encode_event, event_is_spellable, largest_sizes, put_u8, put_u32};
+use cc_wire::{encode_event, event_len, put_u8, put_u32};
 
-// Puts the record of one event, and a closed gate behind it.
-pub(crate) fn put_record(text: &mut Vec<u8>, bytes: &mut Vec<u8>, event: &Event)
-    requires text { 262149 ≤ vec_capacity text.old }
-    requires event { 58139 ≤ vec_capacity bytes.old }
-    ensures bytes { text.new.items ≡ record_spelling (event.now ∷ []) ++ 0 ∷ [] }
-    ensures spelled { SpellsRecord (record_spelling (event.now ∷ [])) (event.now ∷ []) }
-    ensures record_room { 262149 ≤ vec_capacity text.new }
-    ensures event_room { 58139 ≤ vec_capacity bytes.new }
-{
-    put_event_alone(bytes, event);
-    text.clear();
-    put_sized(text, bytes);
-}
-
-// Puts an event in place of what was there.
-fn put_event_alone(bytes: &mut Vec<u8>, event: &Event)
-    requires { 58139 ≤ vec_capacity bytes.old }
-    ensures bytes { bytes.new.items ≡ event_spelling event.now }
-    ensures is_event { IsEvent event.now }
-    ensures fits { vec_len bytes.new ≤ 58139 }
-    ensures room { 58139 ≤ vec_capacity bytes.new }
-{
-    event_is_spellable(event);
-    largest_sizes();
-    bytes.clear();
-    encode_event(event, bytes).unwrap();
-}
-
-// Puts the length of the record, the count 1, the size of the event, the event, and a closed gate.
-fn put_sized(text: &mut Vec<u8>, event: &[u8])
-    requires empty { text.old.items ≡ [] }
-    requires short { length event.now ≤ 58139 }
+// Puts the record of a batch, and a closed gate behind it, in place of what was there.
+pub(crate) fn put_record(text: &mut Vec<u8>, batch: &Batch)
+    requires some { 1 ≤ length batch.now }
     requires room { 262149 ≤ vec_capacity text.old }
-    ensures bytes { text.new.items ≡ to_be_bytes w32 (5 + length event.now) ++ (1 ∷ (to_be_bytes w32 (length event.now) ++ event.now)) ++ 0 ∷ [] }
-    ensures room { vec_capacity text.old ≤ vec_capacity text.new }
+    ensures bytes { text.new.items ≡ batch_bytes batch.now }
+    ensures spelled { SpellsRecord (record_spelling (events_in batch.now)) (events_in batch.now) }
+    ensures room { 262149 ≤ vec_capacity text.new }
 {
-    let size = event.len() as u32;
-    put_u32(text, 5 + size).unwrap();
-    put_u8(text, 1).unwrap();
-    put_u32(text, size).unwrap();
-    text.extend_from_slice(event).unwrap();
+    text.clear();
+    put_u32(text, batch.size() as u32).unwrap();
+    put_u8(text, batch.len() as u8).unwrap();
+    put_events(text, batch.entries());
     put_u8(text, CLOSED_GATE).unwrap();
+}
+
+// Appends the events, each behind its size.
+fn put_events(text: &mut Vec<u8>, entries: &[Entry])
+    requires room { length text.old.items + length (flat_map sized_spelling (events_in entries.now)) ≤ vec_capacity text.old }
+    ensures bytes { text.new.items ≡ text.old.items ++ flat_map sized_spelling (events_in entries.now) }
+    ensures spelled { AllByRecursion IsEvent (events_in entries.now) }
+    ensures grows { vec_capacity text.old ≤ vec_capacity text.new }
+{
+    for entry in entries {
+        let event = &entry.event;
+        put_u32(text, event_len(event) as u32).unwrap();
+        encode_event(event, text).unwrap();
+    }
 }

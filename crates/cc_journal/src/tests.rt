@@ -1,7 +1,7 @@
 use super::*;
 use cc_changes::Fraction;
 use cc_node::{Node, Opening};
-use cc_site::{Burn, Call, DeviceFault, MemorySite, Side, Site, write_durably};
+use cc_site::{Burn, Call, Choice, DeviceFault, MemorySite, Side, Site, write_durably};
 use std::alloc::Global;
 use std::test::*;
 
@@ -38,14 +38,16 @@ fn contents<S: Site>(alloc: Global, site: &mut S) -> Result<Vec<u8>, Fail> {
 
 // Writes an Enter that makes nothing, and opens its gate. Whether the batch landed.
 fn enters<S: Site>(journal: &mut Journal, site: &mut S) -> bool {
+    lands(journal, site, batch_of(1))
+}
+
+// Writes a batch, and opens its gate. Whether it landed whole.
+fn lands<S: Site>(journal: &mut Journal, site: &mut S, batch: Batch) -> bool {
     let Ok(length) = site.length(journal.side()) else {
         return false;
     };
-    if length <= journal.place() || journal.place() >= 1 << 61 {
-        return false;
-    }
-    let mut batch = Batch::new();
-    if batch.push(Entry::default()).is_err() {
+    let count = batch.len();
+    if length <= journal.place() || journal.place() >= 1 << 61 || count == 0 {
         return false;
     }
     let Ok(flight) = journal.write(site, batch) else {
@@ -54,7 +56,7 @@ fn enters<S: Site>(journal: &mut Journal, site: &mut S) -> bool {
     let Ok(landed) = journal.append(site, flight) else {
         return false;
     };
-    landed.into_batch().len() == 1
+    landed.into_batch().len() == count
 }
 
 // What a scan of these bytes finds: the place of the journal, and how many records and events there are.
@@ -87,6 +89,50 @@ fn a_record_stands_behind_its_open_gate(rt: HostRuntime) -> Result<(), Fail> {
     assert_eq!(rt; journal.place(), 11);
     assert!(rt; enters(&mut journal, &mut site));
     assert_eq!(rt; journal.place(), 22);
+    Ok(())
+}
+
+// Entries of an Enter that makes nothing, so many of them that fit, up to a limit.
+fn batch_of(limit: usize) -> Batch {
+    let mut batch = Batch::new();
+    for _ in 0..limit {
+        if batch.push(Entry::default()).is_err() {
+            break;
+        }
+    }
+    batch
+}
+
+#[test]
+fn a_batch_takes_64_entries(rt: HostRuntime) -> Result<(), Fail> {
+    let mut batch = batch_of(65);
+    assert_eq!(rt; batch.len(), 64);
+    // a count, and the size and the byte of each event
+    assert_eq!(rt; batch.size(), 1 + 64 * 5);
+    assert!(rt; batch.take_first().is_some());
+    assert_eq!(rt; batch.len(), 63);
+    assert_eq!(rt; batch.entries().len(), 63);
+    assert!(rt; batch.push(Entry::default()).is_ok());
+    assert_eq!(rt; batch.size(), 1 + 64 * 5);
+    Ok(())
+}
+
+// Two events share a record, a gate and two syncs: the calls 0 and 1 made the side, 2 is its length, 3 the write, 4 the
+// sync of the record, 5 the gate, and 6 its sync.
+#[test]
+fn a_batch_of_two_has_one_record(rt: HostRuntime) -> Result<(), Fail> {
+    let alloc = rt.alloc();
+    let mut site = holding(alloc, &[0])?;
+    site.fuse(7, Burn::Stop);
+    let mut journal = Journal::new(alloc, Side::B, 9)?;
+    journal.move_to(Side::A, 0);
+    assert!(rt; lands(&mut journal, &mut site, batch_of(2)));
+    assert_eq!(rt; journal.place(), 16);
+    let image = site.image(alloc, &Choice::Fill(0xA5))?;
+    let mut site = image;
+    let bytes = contents(alloc, &mut site)?;
+    let record = [0xA5, 0, 0, 0, 11, 2, 0, 0, 0, 1, 1, 0, 0, 0, 1, 1, 0];
+    assert_eq!(rt; bytes.as_slice(), record.as_slice());
     Ok(())
 }
 

@@ -73,7 +73,7 @@ pub length-view : (v : ViewMap) → IsView v → length (view_spelling v) ≤ 55
 length-view v is = omega (arith, length-pieces IsRow row_spelling 215 length-row (rows_of v) is.rows, len-rows_of v, is.fits)
 
 -- a count and the numbers
-length-listed : (ns : List ℕ) → length (listed_spelling ns) ≡ 2 + 4 * length ns
+pub length-listed : (ns : List ℕ) → length (listed_spelling ns) ≡ 2 + 4 * length ns
 length-listed ns = omega (arith, length-numbers ns)
 
 -- at most 8,192 numbers

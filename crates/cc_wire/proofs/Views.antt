@@ -5,7 +5,7 @@ use Rattle.cc_wire.specs.Reading.{number_at, rows_at, row_list_at, view_at}
 use Rattle.std.proofs.Common.{◌≡◌, ◌≤◌, ltb, false, Ok, ℕ, List, [], ◌∷◌, length, map as list_map, refl, sym, ap, ◌∙◌}
 use Rattle.std.specs.Ordering.{nat_cmp}
 use Rattle.std.specs.FinMap as map
-use Rattle.std.proofs.lemmas.List.{length-map, nil_from_length}
+use Rattle.std.proofs.lemmas.List.{length-map}
 use Rattle.cc_views.specs.Entries.{entries_back, from_T}
 use Rattle.cc_views.specs.Rows.{Pair, ViewMap, row_of, entries_of, rows_of}
 

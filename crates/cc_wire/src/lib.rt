@@ -6,6 +6,7 @@ mod answer;
 mod changes_bytes;
 mod command;
 mod event;
+mod event_size;
 mod fault;
 mod frame;
 mod frame_reader;
@@ -25,6 +26,7 @@ pub use answer::{Answer, decode_answer, encode_answer, one_spelling_of_answers, 
 pub use changes_bytes::{put_changes, put_id};
 pub use command::{Command, decode_command, encode_command, one_spelling_of_commands};
 pub use event::{Event, decode_event, encode_event, one_spelling_of_events, put_asked};
+pub use event_size::event_len;
 pub use fault::WireFault;
 pub use frame::{Frame, decode_frame, encode_frame, one_spelling_of_frames};
 pub use frame_reader::{Fed, FrameReader, feeds_any_cutting};

@@ -237,6 +237,29 @@ fn small_events(rt: HostRuntime) -> Result<(), Fail> {
     Ok(())
 }
 
+// A kind, and then ids of four bytes and numbers of eight; a Store of one row has 39 bytes, a text its length before it.
+#[test]
+fn sizes_of_events(rt: HostRuntime) -> Result<(), Fail> {
+    assert_eq!(rt; event_len(&Event::Enter), 1);
+    let node = NodeId::new(1).ok_or("1 is an id")?;
+    let store = Event::Deliver {
+        from: node,
+        number: 1,
+        message: decode_message(rt.alloc(), &STORE)?,
+    };
+    assert_eq!(rt; event_len(&store), 52);
+    let join = decode_event(rt.alloc(), &DELIVER)?;
+    assert_eq!(rt; event_len(&join), DELIVER.len());
+    let command = Command::Store(Text::new(b"a").ok_or("the text is short")?);
+    let asked = Event::Ask {
+        session: 7,
+        request: 1,
+        command,
+    };
+    assert_eq!(rt; event_len(&asked), 20);
+    Ok(())
+}
+
 #[test]
 fn a_message_is_copied(rt: HostRuntime) -> Result<(), Fail> {
     let read = decode_message(rt.alloc(), &STORE)?;

@@ -1,0 +1,31 @@
+use Rattle.std.proofs.Common.{◌≡◌, ℕ, ◌+◌, List, ◌++◌, length, drop, sym, ◌∙◌, ap, subst, arith, length-append}
+use Rattle.std.specs.Int.{w32, to_be_bytes}
+use Rattle.std.specs.List.{AllByRecursion}
+use Rattle.std.proofs.lemmas.List.{append_assoc}
+use Rattle.cc_wire.specs.Events.{IsEvent, event_spelling}
+use Rattle.cc_node.specs.Sides.{sized_spelling}
+use Rattle.cc_journal.proofs.Records.{sized, next_events, next_sized}
+use Rattle.cc_journal.proofs.record.put_events.Goals as goal
+
+pub loop-entry-preserved : goal.loop-entry-preserved
+loop-entry-preserved c =
+    let text = c.loop-entry.text in
+    let new = c.encode_event.new.out in
+    let i = c.loop-entry.entry-index in
+    let all = c.args.entries.now in
+    let e = c.entry-item.result.event in
+    let rest = sized (drop (i + 1) all) in
+    let inv = c.loop-entry.invariant in
+    let next : sized (drop i all) ≡ sized_spelling e ++ rest = next_sized all i c.entry-item.result c.loop-entry-test.true c.entry-item.is in
+    let size_put : c.put_u32.new.out.items ≡ text.items ++ to_be_bytes w32 (length (event_spelling e)) =
+    (rw c.unwrap.ensures at c.put_u32.ensures.ok) ∙ ap (λ (n : ℕ). text.items ++ to_be_bytes w32 n) c.event_len.ensures.len in
+    let event_put : new.items ≡ c.put_u32.new.out.items ++ event_spelling e = rw c.unwrap-in-loop-entry.ensures at c.encode_event.ensures.ok in
+    let put : new.items ≡ text.items ++ sized_spelling e =
+    event_put ∙ ap (λ (l : List ℕ). l ++ event_spelling e) size_put ∙ append_assoc text.items (to_be_bytes w32 (length (event_spelling e))) (event_spelling e) in
+    let spelled = rw c.unwrap-in-loop-entry.ensures at c.encode_event.ensures.spelled in
+    record {
+      bytes = ap (λ (l : List ℕ). l ++ rest) put ∙ append_assoc text.items (sized_spelling e) rest ∙ ap (λ (l : List ℕ). text.items ++ l) (sym next) ∙ inv.bytes;
+      spelled = λ others. inv.spelled (subst (AllByRecursion IsEvent) (sym (next_events all i c.entry-item.result c.loop-entry-test.true c.entry-item.is)) (spelled.lawful, others));
+      room = omega (arith, inv.room, ap length put, length-append text.items (sized_spelling e), ap length next, length-append (sized_spelling e) rest, c.put_u32.ensures.grows, c.encode_event.ensures.grows);
+      grows = omega (arith, inv.grows, c.put_u32.ensures.grows, c.encode_event.ensures.grows);
+    }

@@ -1,0 +1,127 @@
+//! How many bytes an event's spelling has, without writing it.
+
+ghost use Rattle.std.specs.Prelude.{◌≡◌, ◌≤◌, ◌*◌, length};
+ghost use Rattle.std.specs.List.{flat_map};
+ghost use Rattle.cc_wire.specs.Spelling.{text_spelling, value_spelling, row_spelling, view_spelling, listed_spelling, changes_spelling};
+ghost use Rattle.cc_wire.specs.Messages.{message_spelling};
+ghost use Rattle.cc_wire.specs.Commands.{command_spelling};
+ghost use Rattle.cc_wire.specs.Events.{event_spelling};
+
+use crate::command::Command;
+use crate::event::Event;
+use crate::message::Message;
+use cc_changes::Changes;
+use cc_views::{NodeId, Row, Text, Value, View};
+
+// A kind, a flag, and numbers of four and eight bytes.
+const KIND: usize = 1;
+
+const FLAG: usize = 1;
+
+const ID: usize = 4;
+
+const NUMBER: usize = 8;
+
+fn text_len(text: &Text) -> usize
+    ensures len { result ≡ length (text_spelling text.now) }
+    ensures fits { result ≤ 65 }
+{
+    1 + text.as_bytes().len()
+}
+
+fn value_len(value: &Value) -> usize
+    ensures len { result ≡ length (value_spelling value.now) }
+    ensures fits { result ≤ 203 }
+{
+    text_len(&value.text) + NUMBER + FLAG + 1 + 4 * value.set.len()
+}
+
+fn row_len(row: &Row) -> usize
+    ensures len { result ≡ length (row_spelling row.now) }
+    ensures fits { result ≤ 215 }
+{
+    ID + NUMBER + value_len(&row.value)
+}
+
+fn rows_len(rows: &[Row]) -> usize
+    requires { length rows.now ≤ 256 }
+    ensures len { result ≡ length (flat_map row_spelling rows.now) }
+    ensures fits { result ≤ 215 * length rows.now }
+{
+    let mut len = 0;
+    for row in rows {
+        len += row_len(row);
+    }
+    len
+}
+
+fn view_len(view: &View) -> usize
+    ensures len { result ≡ length (view_spelling view.now) }
+    ensures fits { result ≤ 55042 }
+{
+    2 + rows_len(view.rows())
+}
+
+fn ids_len(ids: &[NodeId]) -> usize
+    requires { length ids.now ≤ 256 }
+    ensures len { result ≡ length (listed_spelling ids.now) }
+    ensures fits { result ≤ 1026 }
+{
+    2 + ID * ids.len()
+}
+
+fn changes_len(changes: &Changes) -> usize
+    ensures len { result ≡ length (changes_spelling changes.now) }
+    ensures fits { result ≤ 3078 }
+{
+    ids_len(changes.entered()) + ids_len(changes.joined()) + ids_len(changes.left())
+}
+
+fn message_len(message: &Message) -> usize
+    ensures len { result ≡ length (message_spelling message.now) }
+    ensures fits { result ≤ 58126 }
+{
+    match message {
+        Message::Enter { .. }
+        | Message::Join { .. }
+        | Message::JoinEcho { .. }
+        | Message::Leave { .. }
+        | Message::LeaveEcho { .. } => KIND + ID,
+        Message::EnterEcho { changes, view, .. } => {
+            KIND + changes_len(changes) + view_len(view) + FLAG + ID
+        }
+        Message::Query { .. } | Message::StoreAck { .. } => KIND + NUMBER + ID,
+        Message::QueryReply { view, .. } | Message::Store { view, .. } => {
+            KIND + view_len(view) + NUMBER + ID
+        }
+    }
+}
+
+fn command_len(command: &Command) -> usize
+    ensures len { result ≡ length (command_spelling command.now) }
+    ensures fits { result ≤ 66 }
+{
+    match command {
+        Command::Store(text) => KIND + text_len(text),
+        Command::WriteMax(_) => KIND + NUMBER,
+        Command::AddMember(_) => KIND + ID,
+        Command::Collect
+        | Command::ReadMax
+        | Command::SetFlag
+        | Command::ReadFlag
+        | Command::ReadSet => KIND,
+    }
+}
+
+/// How many bytes the spelling of an event has.
+pub fn event_len(event: &Event) -> usize
+    ensures len { result ≡ length (event_spelling event.now) }
+    ensures fits { result ≤ 58139 }
+{
+    match event {
+        Event::Enter | Event::Leave => KIND,
+        Event::Deliver { message, .. } => KIND + ID + NUMBER + message_len(message),
+        Event::Acked { .. } => KIND + ID + NUMBER,
+        Event::Ask { command, .. } => KIND + NUMBER + NUMBER + command_len(command),
+    }
+}
