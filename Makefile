@@ -24,17 +24,10 @@ bench:
 	@bash -c 'time ./crates/ccnode/out/ccnode play < largest_script.log | wc -lc'
 	@rm -f largest_script.log
 
-# Refuses the first growth of each test, then the second, up to the last: a test may then end with an error, never with a
-# fault. CRATES=cc_ops does one crate.
-CRATES = $(notdir $(wildcard crates/*))
+# Builds the tests, and refuses the first growth of each, then the second, up to the last: a test may then end with want
+# of memory, never with a fault. CRATES=cc_ops does one crate. It needs a C compiler.
+CRATES = $(notdir $(patsubst %/src/tests.rt,%,$(wildcard crates/*/src/tests.rt)))
 refused-growths:
-	@for crate in $(CRATES); do \
-	  if [ -f crates/$$crate/src/tests.rt ]; then \
-	    growth=1; \
-	    until (cd crates/$$crate && rt try --test --fail-alloc $$growth) > growths.log 2>&1; do \
-	      [ $$? -eq 101 ] || { cat growths.log; exit 1; }; \
-	      growth=$$((growth + 1)); \
-	    done; \
-	    echo "$$crate: $$((growth - 1)) growths refused"; \
-	  fi; \
-	done; rm -f growths.log
+	@for crate in $(CRATES); do (cd crates/$$crate && rt test) > growths.log 2>&1 || { cat growths.log; exit 1; }; done
+	@rm -f growths.log
+	@bash bench/refused_growths.sh $(CRATES)
