@@ -15,3 +15,6 @@ pub returns-clause-at_rest : goal.returns-clause-at_rest
 returns-clause-at_rest g c honest generation start events opening rest lawful =
     let appended = rw (c.write.ensures.same, c.in_ok-flight.ensures.flight) at c.append.ensures.at_rest in
     appended (c.write.ensures.honest.0 honest) generation start events opening (c.write.ensures.at_rest honest generation start events opening rest) lawful (c.in_ok-flight.ensures.behind honest)
+
+pub returns-in_err-flight-clause-every_moment : goal.returns-in_err-flight-clause-every_moment
+returns-in_err-flight-clause-every_moment g c honest generation start events opening rest lawful = c.write.ensures.every_moment honest generation start events opening rest
