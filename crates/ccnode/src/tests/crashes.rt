@@ -214,12 +214,17 @@ fn taken(alloc: Global, station: &mut Station, event: Event) -> Result<String, F
     Ok(String::from_utf8(output)?)
 }
 
-fn contents(alloc: Global, station: &Station, side: Side) -> Result<Vec<u8>, Fail> {
-    let mut site = station.site().image(alloc, &Choice::Read)?;
+fn contents<S: Site>(alloc: Global, site: &mut S, side: Side) -> Result<Vec<u8>, Fail> {
     let length = site.length(side).or(Err("the length can't be read"))?;
     let mut bytes = vec![in alloc; 0; length as usize]?;
     site.read(side, 0, &mut bytes).or(Err("the read failed"))?;
     Ok(bytes)
+}
+
+// What a side of a node's disk holds.
+fn kept(alloc: Global, station: &Station, side: Side) -> Result<Vec<u8>, Fail> {
+    let mut image = station.site().image(alloc, &Choice::Read)?;
+    contents(alloc, &mut image, side)
 }
 
 // Node 2 has a store of node 1, and is then given what overtook another message, and what it has already.
@@ -228,14 +233,14 @@ fn refused_events_are_not_journalled(rt: HostRuntime) -> Result<(), Fail> {
     let alloc = rt.alloc();
     let mut sender = member(alloc, 1)?;
     let mut receiver = member(alloc, 2)?;
-    let before = contents(alloc, &receiver, Side::A)?;
+    let before = kept(alloc, &receiver, Side::A)?;
     taken(alloc, &mut sender, store(1, b"a")?)?;
     let own = delivery(alloc, &sender, sender.id(), 1)?;
     taken(alloc, &mut sender, own)?;
     let first = delivery(alloc, &sender, receiver.id(), 1)?;
     taken(alloc, &mut receiver, first)?;
-    let a = contents(alloc, &receiver, Side::A)?;
-    let b = contents(alloc, &receiver, Side::B)?;
+    let a = kept(alloc, &receiver, Side::A)?;
+    let b = kept(alloc, &receiver, Side::B)?;
     assert!(rt; a.len() > before.len());
     let back = delivery(alloc, &receiver, sender.id(), 1)?;
     taken(alloc, &mut sender, back)?;
@@ -249,7 +254,7 @@ fn refused_events_are_not_journalled(rt: HostRuntime) -> Result<(), Fail> {
     let again = delivery(alloc, &sender, receiver.id(), 1)?;
     let printed = taken(alloc, &mut receiver, again)?;
     assert_eq!(rt; printed.as_str(), "2 refused 5 Old 1\n");
-    assert_eq!(rt; contents(alloc, &receiver, Side::A)?, a);
-    assert_eq!(rt; contents(alloc, &receiver, Side::B)?, b);
+    assert_eq!(rt; kept(alloc, &receiver, Side::A)?, a);
+    assert_eq!(rt; kept(alloc, &receiver, Side::B)?, b);
     Ok(())
 }
