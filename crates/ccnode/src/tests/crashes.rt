@@ -94,8 +94,12 @@ fn clusters_go_on_through_crashes(rt: HostRuntime) -> Result<(), Fail> {
         let crashing = with_crashes(alloc, script, made, last)?;
         let (status, output) = played(alloc, &crashing)?;
         assert_eq!(rt; status, 0);
-        let crashes = crashing.lines().count() - script.lines().count();
-        assert_eq!(rt; output.lines().count(), wanted.lines().count() + crashes);
+        let crashes = crashing
+            .lines()
+            .count()
+            .saturating_sub(script.lines().count());
+        let lines = wanted.lines().count().saturating_add(crashes);
+        assert_eq!(rt; output.lines().count(), lines);
         let rest = without_openings(alloc, &output)?;
         assert_eq!(rt; rest.as_str(), wanted);
     }
