@@ -11,8 +11,13 @@ cc -O1 -shared -fPIC -o "$folder/refuse.so" bench/refuse_growth.c -ldl
 status=0
 for crate in "$@"; do
   tests=crates/$crate/out/${crate}_tests
+  names=$("$tests" --list 2> /dev/null | sed -n 's/: test$//p')
+  if [ -z "$names" ]; then
+    echo "$crate: $tests lists no test" >&2
+    exit 1
+  fi
   growths=0 errors=0 stops=0
-  for name in $("$tests" --list 2> /dev/null | sed -n 's/: test$//p'); do
+  for name in $names; do
     growth=1
     while :; do
       ended=0

@@ -1,6 +1,6 @@
 //! Which side is in use, and the state that it holds.
 
-ghost use Rattle.std.specs.Prelude.{◌≡◌, ◌↔◌, ◌≤◌, ◌<◌, ◌+◌, length, vec_len, take, drop, ℕ, OnOk, IfOk, IfErr, MatchResult};
+ghost use Rattle.std.specs.Prelude.{◌≡◌, ◌≢◌, ◌↔◌, ◌≤◌, ◌<◌, ◌+◌, length, vec_len, take, drop, ℕ, OnOk, IfOk, IfErr, MatchResult};
 ghost use Rattle.cc_site.specs.declared.site.Side.TheVariants.{A, B};
 ghost use Rattle.cc_site.specs.Reads.{OnlyReads};
 ghost use Rattle.cc_checkpoint.specs.declared.open_fault.OpenFault.TheVariants as faults;
@@ -23,6 +23,7 @@ fn generation<S: Site>(site: &mut S, side: Side) -> Result<Option<u64>, OpenFaul
     ensures exact { S.honest site.old → Answers (λ o. o) result (generation_in side (S.state site.old side).bytes) }
     ensures reads { OnlyReads S.honest S.tells S.state S.sent S.moment S.left_since site.old site.new }
     ensures fault { CountsDevice (S.failures site.old) (S.failures site.new) result }
+    ensures memory { IfErr result (λ fault. fault ≢ faults.NoMemory) }
 {
     let len = length_of(site, side)?;
     if len == 0 {
@@ -49,6 +50,7 @@ fn generation<S: Site>(site: &mut S, side: Side) -> Result<Option<u64>, OpenFaul
 fn greater_of(first: Option<u64>, second: Option<u64>) -> Result<InUse, OpenFault>
     ensures exact { result ≡ greater first second }
     ensures fault { (failures : ℕ) → CountsDevice failures failures result }
+    ensures memory { IfErr result (λ fault. fault ≢ faults.NoMemory) }
 {
     match (first, second) {
         (None, None) => Err(OpenFault::NotFormatted),
@@ -85,6 +87,7 @@ pub fn choose<S: Site>(site: &mut S) -> Result<InUse, OpenFault>
     ensures exact { S.honest site.old → Answers (λ used. used) result (chosen (S.state site.old A).bytes (S.state site.old B).bytes) }
     ensures reads { OnlyReads S.honest S.tells S.state S.sent S.moment S.left_since site.old site.new }
     ensures fault { CountsDevice (S.failures site.old) (S.failures site.new) result }
+    ensures memory { IfErr result (λ fault. fault ≢ faults.NoMemory) }
 {
     let first = generation(site, Side::A)?;
     let second = generation(site, Side::B)?;

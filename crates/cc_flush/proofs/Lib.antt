@@ -3,7 +3,9 @@ mod FormatMoments
 mod FoundSides
 mod EventOutputs
 mod LinkSends
+mod Resends
 mod Putting
 mod Puts
 mod Committed
 mod OneNode
+mod Advancing

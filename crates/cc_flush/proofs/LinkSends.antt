@@ -1,8 +1,9 @@
 -- A post on each live link, row by row.
 --     row_sends            the last post on each link of these rows whose peer hasn't left
 --     rows_send            those of all links
+--     entries_where        the entries of a table whose keys pass a test
 --     all_start            no link starts behind the posts that were made
---     next_sends, start_at, after_last       the next row that a loop takes, and the end of it
+--     next, next_sends, start_at, after_last       the next row that a loop takes, and the end of it
 use Rattle.std.proofs.Common.{◌≡◌, ℕ, suc, ◌+◌, ◌-◌, ◌<◌, ◌≤◌, Bool, true, false, cond, not, List, [], ◌∷◌, ◌++◌, map, length, get_or, drop, drop-cons, add-one, refl, sym, ap, subst, ◌∙◌}
 use Rattle.std.specs.Prelude.{Some, IfSome}
 use Rattle.std.specs.List.{AllByRecursion}
@@ -32,7 +33,7 @@ row_sends c m (row ∷ rows) = on_link c m row ++ row_sends c m rows
 entries_again : (ls : Links) → ls ≡ table.from_entries (table.entries ls)
 entries_again ls = table.same_entries_map ls (table.from_entries (table.entries ls)) (sym (entries_back (table.entries ls) (from_T _ (table.entries_sorted ls))))
 
-entries_where : (p : ℕ → Bool) (ls : Links) → table.entries (table.retain_keys ls p) ≡ where_key nat_cmp p (table.entries ls)
+pub entries_where : (p : ℕ → Bool) (ls : Links) → table.entries (table.retain_keys ls p) ≡ where_key nat_cmp p (table.entries ls)
 entries_where p ls =
     ap (λ (m : Links). table.entries (table.retain_keys m p)) (entries_again ls)
     ∙ ap table.entries (retain-from_entries p (table.entries ls))
@@ -69,8 +70,8 @@ all_start posts ls h =
 
 -- ---- row by row
 
-next : (rows : List LinkRow) (i : ℕ) (row : LinkRow) → i < length rows → row ≡ get_or rows i row → drop i rows ≡ row ∷ drop (i + 1) rows
-next rows i row lt is = drop-cons rows i row lt ∙ ap (λ (r : LinkRow). r ∷ drop (suc i) rows) (sym is) ∙ ap (λ (n : ℕ). row ∷ drop n rows) (sym (add-one i))
+pub next : {X : Type 0} (xs : List X) (i : ℕ) (x : X) → i < length xs → x ≡ get_or xs i x → drop i xs ≡ x ∷ drop (i + 1) xs
+next xs i x lt is = drop-cons xs i x lt ∙ ap (λ r. r ∷ drop (suc i) xs) (sym is) ∙ ap (λ (n : ℕ). x ∷ drop n xs) (sym (add-one i))
 
 pub next_sends : (c : Core) (m : Message) (rows : List LinkRow) (i : ℕ) (row : LinkRow) → i < length rows → row ≡ get_or rows i row → row_sends c m (drop i rows) ≡ on_link c m row ++ row_sends c m (drop (i + 1) rows)
 next_sends c m rows i row lt is = ap (row_sends c m) (next rows i row lt is)

@@ -1,8 +1,8 @@
 -- While the outputs of durable events are put, the site is good and rests.
 --     putting_rests, putting_good      at each moment
 --     puts_good, puts_rest             along a run of calls, and after it
---     line_of_one, puts_line           for one event
-use Rattle.std.proofs.Common.{◌≡◌, ◌⊎◌, inr, ⊎_elim, ℕ, zero, suc, ◌≤◌, List, [], ◌∷◌, ◌++◌, length, take, drop, refl, sym, ◌∙◌, ap, subst, take-append-drop}
+--     line_made                        what the last events put out
+use Rattle.std.proofs.Common.{◌≡◌, ◌⊎◌, inr, ⊎_elim, ℕ, zero, suc, ◌≤◌, List, [], ◌∷◌, ◌++◌, length, take, drop, refl, sym, ◌∙◌, subst, take-append-drop}
 use Rattle.std.specs.List.{Contains}
 use Rattle.std.proofs.lemmas.List.{append-nil}
 use Rattle.std.proofs.lemmas.List.Elements.{Contains-append_cases, Contains-append_left, Contains-append_right}
@@ -11,8 +11,7 @@ use Rattle.cc_wire.specs.declared.output.Output.{Output}
 use Rattle.cc_site.specs.declared.site.Side.{Side}
 use Rattle.cc_site.specs.Sides.{SideState, MayLeave}
 use Rattle.cc_site.specs.Moments.{Contents, Possible, EachMoment, weaker}
-use Rattle.cc_node.specs.Core.{outputs}
-use Rattle.cc_node.specs.Node.{Node, after, line}
+use Rattle.cc_node.specs.Node.{Node, after, line, MayBeOut}
 use Rattle.cc_node.specs.Histories.{line-append}
 use Rattle.cc_journal.specs.Journals.{Position, IsGood, Rests, IsAtRest}
 use Rattle.cc_journal.proofs.Rests.{rests_whole_good}
@@ -26,48 +25,44 @@ contains_past zero xs ys output has = Contains-append_cases xs ys output has
 contains_past (suc n) [] ys output has = inr (contains_drop (suc n) ys output has)
 contains_past (suc n) (x ∷ xs) ys output has = contains_past n xs ys output has
 
--- the journal rests with all events, and the node is that before the last of them
-module _ (at : Position) (generation : ℕ) (start node : Node) (before events : List Event) (opening : ℕ) (is : node ≡ after start before) where
-  module _ (state : Side → SideState) (sent : List Output) (rest : IsAtRest state sent at generation start (before ++ events) opening) where
-    pub putting_rests : (left : Contents) (told : List Output) → IsPutting state sent (line node events) left told → Rests at generation start (before ++ events) opening left told
+-- the journal rests with all events, which made what is put
+module _ (at : Position) (generation : ℕ) (start : Node) (events : List Event) (opening : ℕ) (more : List Output) (are_made : (output : Output) → Contains more output → MayBeOut start events output) where
+  module _ (state : Side → SideState) (sent : List Output) (rest : IsAtRest state sent at generation start events opening) where
+    pub putting_rests : (left : Contents) (told : List Output) → IsPutting state sent more left told → Rests at generation start events opening left told
     putting_rests left told putting =
         let was = rest left sent (record { each = putting.each; outlet = refl }) in
-        let all : line start (before ++ events) ≡ line start before ++ (putting.put ++ putting.rest) =
-        line-append start before events ∙ ap (λ (n : Node). line start before ++ line n events) (sym is) ∙ ap (λ (l : List Output). line start before ++ l) putting.parts in
         record {
           other_there = was.other_there;
           stands = was.stands;
           made = λ output has. ⊎_elim (was.made output)
-              (λ new. inr (subst (λ (l : List Output). Contains l output) (sym all) (Contains-append_right (line start before) (putting.put ++ putting.rest) output (Contains-append_left putting.put putting.rest output new))))
+              (λ new. are_made output (subst (λ (l : List Output). Contains l output) (sym putting.parts) (Contains-append_left putting.put putting.rest output new)))
               (contains_past opening sent putting.put output (subst (λ (l : List Output). Contains (drop opening l) output) putting.outlet has));
         }
 
-    pub putting_good : (durable : ℕ) → durable ≤ length (before ++ events) → (left : Contents) (told : List Output) → IsPutting state sent (line node events) left told → IsGood start (before ++ events) durable opening left told
-    putting_good durable least left told putting = rests_whole_good at generation start (before ++ events) opening durable left told least (putting_rests left told putting)
+    pub putting_good : (durable : ℕ) → durable ≤ length events → (left : Contents) (told : List Output) → IsPutting state sent more left told → IsGood start events durable opening left told
+    putting_good durable least left told putting = rests_whole_good at generation start events opening durable left told least (putting_rests left told putting)
 
   module _ {D : Type 0} (honest tells : D → Type 0) (state : D → Side → SideState) (sent : D → List Output) (moment : D → ℕ) (left_since : D → ℕ → Contents → List Output → Type 0) (failures : D → ℕ) (old new : D)
-      (puts : Puts honest tells state sent moment left_since failures (line node events) old new) (is_honest : honest old) (is_told : tells new) (rest : IsAtRest (state old) (sent old) at generation start (before ++ events) opening) where
+      (puts : Puts honest tells state sent moment left_since failures more old new) (is_honest : honest old) (is_told : tells new) (rest : IsAtRest (state old) (sent old) at generation start events opening) where
     -- all outputs have been put
-    put_last : (left : Contents) (told : List Output) → Possible (state new) (sent new) left told → IsPutting (state old) (sent old) (line node events) left told
+    put_last : (left : Contents) (told : List Output) → Possible (state new) (sent new) left told → IsPutting (state old) (sent old) more left told
     put_last left told possible = record {
       each = λ side. subst (λ (t : Side → SideState). MayLeave (t side) (left side)) (puts.same_state is_honest) (possible.each side);
-      put = line node events;
+      put = more;
       rest = [];
-      parts = sym (append-nil (line node events));
+      parts = sym (append-nil more);
       outlet = possible.outlet ∙ (puts.told is_told).1;
     }
 
-    pub puts_good : (durable : ℕ) → durable ≤ length (before ++ events) → EachMoment moment left_since old new (IsGood start (before ++ events) durable opening)
-    puts_good durable least = weaker moment left_since old new (IsPutting (state old) (sent old) (line node events)) (IsGood start (before ++ events) durable opening) (puts.moments is_honest is_told)
+    pub puts_good : (durable : ℕ) → durable ≤ length events → EachMoment moment left_since old new (IsGood start events durable opening)
+    puts_good durable least = weaker moment left_since old new (IsPutting (state old) (sent old) more) (IsGood start events durable opening) (puts.moments is_honest is_told)
         (putting_good (state old) (sent old) rest durable least)
 
-    pub puts_rest : IsAtRest (state new) (sent new) at generation start (before ++ events) opening
+    pub puts_rest : IsAtRest (state new) (sent new) at generation start events opening
     puts_rest left told possible = putting_rests (state old) (sent old) rest left told (put_last left told possible)
 
-pub line_of_one : (n : Node) (e : Event) → line n (e ∷ []) ≡ outputs n.core e
-line_of_one n e = append-nil (outputs n.core e)
-
-pub puts_line : {D : Type 0} (honest tells : D → Type 0) (state : D → Side → SideState) (sent : D → List Output) (moment : D → ℕ) (left_since : D → ℕ → Contents → List Output → Type 0) (failures : D → ℕ) (n : Node) (e : Event) (old new : D)
-    → Puts honest tells state sent moment left_since failures (outputs n.core e) old new → Puts honest tells state sent moment left_since failures (line n (e ∷ [])) old new
-puts_line honest tells state sent moment left_since failures n e old new puts =
-    subst (λ (l : List Output). Puts honest tells state sent moment left_since failures l old new) (sym (line_of_one n e)) puts
+-- the outputs of the last events were made
+pub line_made : (start node : Node) (before events : List Event) → node ≡ after start before → (output : Output) → Contains (line node events) output → MayBeOut start (before ++ events) output
+line_made start node before events is output has =
+    inr (subst (λ (l : List Output). Contains l output) (sym (line-append start before events))
+    (Contains-append_right (line start before) (line (after start before) events) output (subst (λ (n : Node). Contains (line n events) output) is has)))

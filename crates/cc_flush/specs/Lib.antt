@@ -2,3 +2,5 @@ pub mod Engine
 pub mod Opening
 pub mod Formatting
 pub mod Outlet
+pub mod Standing
+pub mod Lives

@@ -1,29 +1,36 @@
 //! The engine: one node, the site that keeps it, and where its next record goes.
 
-ghost use Rattle.std.specs.Prelude.{◌≡◌, ◌↔◌, ◌≤◌, ◌<◌, ◌^◌, ◌++◌, ◌∷◌, [], ℕ, List, None, Some, Err, IsTrue, IfOk, IfErr, OnOk, MatchResult, length};
+ghost use Rattle.std.specs.Prelude.{◌≡◌, ◌↔◌, ◌⊎◌, ◌≤◌, ◌<◌, ◌^◌, ◌++◌, [], ℕ, List, true, false, nat_lt, None, Some, Ok, Err, IsTrue, IfOk, IfErr, OnOk, MatchResult, length};
+ghost use Rattle.std.specs.FinMap as table;
 ghost use Rattle.cc_wire.specs.declared.event.Event.{Event as EventValue};
 ghost use Rattle.cc_site.specs.declared.site.Side.{Side as SideValue};
+ghost use Rattle.cc_site.specs.declared.site.Call.TheVariants.{Write, Sync};
 ghost use Rattle.cc_site.specs.Sides.{other};
 ghost use Rattle.cc_site.specs.Moments.{EachMoment, Possible, Rose};
 ghost use Rattle.cc_site.specs.Reads.{bytes_of};
-ghost use Rattle.cc_node.specs.Core.{outputs};
-ghost use Rattle.cc_node.specs.Node.{Node as NodeValue, after, step};
+ghost use Rattle.cc_links.specs.Links.{heard_from};
+ghost use Rattle.cc_node.specs.Lawful.{IsLawfulNode};
+ghost use Rattle.cc_node.specs.Node.{Node as NodeValue, IsLawful, after, line};
 ghost use Rattle.cc_node.specs.Sides.{StandsAt};
 ghost use Rattle.cc_checkpoint.specs.Faults.{FaultRose};
-ghost use Rattle.cc_journal.specs.Batches.{AreLawful};
+ghost use Rattle.cc_journal.specs.Batches.{AreLawful, events_in};
 ghost use Rattle.cc_journal.specs.Journals.{IsGood, IsAtRest};
-ghost use Rattle.cc_flush.specs.Engine.{room_limit};
+ghost use Rattle.cc_flush.specs.Engine.{IsPutFrom, room_limit};
 ghost use Rattle.cc_flush.specs.Formatting.{KeepsOutlet};
 ghost use Rattle.cc_flush.specs.Opening.{OpenFails};
+ghost use Rattle.cc_flush.specs.Outlet.{Puts};
+ghost use Rattle.cc_flush.specs.Standing.{resends, reply_again, ack_again};
 
 use crate::back::Back;
-use crate::committing::put_durably;
+use crate::committing::make_durable;
 use crate::opening::{Found, open_sides};
+use crate::outlet::put_entries;
+use crate::standing::{put_ack_again, put_kept_answer, put_kept_posts};
 use cc_checkpoint::OpenFault;
-use cc_journal::{Entry, Forfeit, Journal};
+use cc_journal::{Batch, Forfeit, Journal, Landed};
 use cc_node::{Core, Node};
 use cc_site::{DeviceFault, Site};
-use cc_views::NoMemory;
+use cc_views::{NoMemory, NodeId};
 use std::alloc::Global;
 use std::error::Error;
 use std::fmt;
@@ -55,6 +62,8 @@ pub struct Flusher<S: Site> {
     generation: u64,
     // How long the side in use is.
     used: u64,
+    // Whether a batch is durable whose outputs weren't put.
+    owes: bool,
     failed: Option<DeviceFault>,
 }
 
@@ -65,7 +74,7 @@ impl<S: Site> Model for Flusher<S> {
 
     ghost coded = { engine_code S.code };
 
-    ghost view = { λ f. record { site = f.site; twin = f.node; at = f.journal; generation = f.generation; used = f.used; failed = f.failed } };
+    ghost view = { λ f. record { site = f.site; twin = f.node; at = f.journal; generation = f.generation; used = f.used; owes = f.owes; failed = f.failed } };
 
     ghost invariant = { λ f. IsSound S.honest S.state f.site f.journal f.used f.failed };
 }
@@ -74,7 +83,7 @@ impl<S: Site> Model for Flusher<S> {
 const ROOM_LIMIT: u64 = 1 << 61;
 
 impl<S: Site> Flusher<S> {
-    /// The node after all durable events.
+    /// The node after all durable events whose outputs were put.
     pub fn twin(&self) -> &Node
         ensures { result.now ≡ self.now.twin }
     {
@@ -95,6 +104,21 @@ impl<S: Site> Flusher<S> {
         self.failed
     }
 
+    /// Whether a batch is durable whose outputs weren't put: between a Landed and its `release`.
+    pub fn owes(&self) -> bool
+        ensures { result ≡ self.now.owes }
+    {
+        self.owes
+    }
+
+    /// How many bytes the side in use has.
+    pub fn used(&self) -> u64
+        ensures used { result ≡ self.now.used }
+        ensures length { S.honest self.now.site → self.now.failed ≡ None → result ≡ length (S.state self.now.site self.now.at.side).bytes }
+    {
+        self.used
+    }
+
     /// Whether there is room for one more record: the side in use is below 2^61 bytes.
     pub fn room(&self) -> bool
         ensures room { IsTrue result ↔ (self.now.used < room_limit) }
@@ -108,7 +132,7 @@ impl<S: Site> Flusher<S> {
     /// where they are met.
     pub fn open(alloc: Global, site: S) -> Result<(Self, Core), Back<S, OpenFault>>
         ensures outlet { MatchResult result (λ opened. KeepsOutlet S.honest S.tells S.sent site opened.0.site) (λ b. KeepsOutlet S.honest S.tells S.sent site b.site) }
-        ensures engine { IfOk result (λ opened. (opened.0.failed ≡ None) × (opened.1 ≡ opened.0.twin.core)) }
+        ensures engine { IfOk result (λ opened. (opened.0.failed ≡ None) × (opened.0.owes ≡ false) × (opened.1 ≡ opened.0.twin.core)) }
         ensures stands { S.honest site → IfOk result (λ opened. StandsAt (S.state site opened.0.at.side).bytes (S.state site (other opened.0.at.side)).bytes opened.0.generation opened.0.at.place opened.0.twin) }
         ensures faults { S.honest site → IfErr result (λ b. OpenFails (bytes_of S.state site) b.fault) }
         // At each moment a crash leaves what it might have left at the start, and nothing is put.
@@ -137,7 +161,6 @@ impl<S: Site> Flusher<S> {
                 });
             }
         };
-        let failed = None;
         Ok((
             Flusher {
                 site,
@@ -145,48 +168,152 @@ impl<S: Site> Flusher<S> {
                 journal,
                 generation,
                 used,
-                failed,
+                owes: false,
+                failed: None,
             },
             core,
         ))
     }
 
-    /// Makes an event durable and takes it into the node; then its outputs are put. It takes no memory. It fails only where
-    /// a disk call does; then the event is given up, nothing is put, and the engine has ended.
-    pub fn put_one(&mut self, entry: Entry) -> Result<(), Failed>
-        requires lawful { AreLawful self.old.twin (entry ∷ []) }
+    // An engine that has ended answers the fault that ended it.
+    fn check(&self) -> Result<(), Failed>
+        ensures goes_on { OnOk result (self.now.failed ≡ None) }
+        ensures ended { IfErr result (λ f. self.now.failed ≡ Some f.fault) }
+    {
+        match self.failed {
+            Some(fault) => Err(Failed { fault }),
+            None => Ok(()),
+        }
+    }
+
+    /// Makes a batch durable, under two syncs. Its outputs are owed from then on, until `release` puts them. It takes no
+    /// memory. It fails only where a disk call does; then the batch is given up, nothing is put, and the engine has ended.
+    pub fn commit(&mut self, batch: Batch) -> Result<Landed, Failed>
+        requires owes { self.old.owes ≡ false }
+        requires some { 1 ≤ length batch }
+        requires lawful { AreLawful self.old.twin batch }
         requires room { self.old.used < 2 ^ 61 }
         ensures ended { (fault : DeviceFault) → self.old.failed ≡ Some fault → (result ≡ Err (record { fault = fault })) × (self.new ≡ self.old) }
-        ensures twin { MatchResult result (λ _. self.new.twin ≡ step self.old.twin entry.event) (λ _. self.new.twin ≡ self.old.twin) }
+        ensures landed { IfOk result (λ landed. landed ≡ batch) }
+        ensures owes { MatchResult result (λ _. self.new.owes ≡ true) (λ _. self.new.owes ≡ false) }
+        ensures same_twin { self.new.twin ≡ self.old.twin }
         ensures goes_on { OnOk result (self.new.failed ≡ None) }
         ensures failed { IfErr result (λ f. self.new.failed ≡ Some f.fault) }
         ensures same_generation { self.new.generation ≡ self.old.generation }
         ensures honest { S.honest self.old.site ↔ S.honest self.new.site }
-        ensures told { S.tells self.new.site → S.tells self.old.site × MatchResult result
-            (λ _. S.sent self.new.site ≡ S.sent self.old.site ++ outputs self.old.twin.core entry.event) (λ _. S.sent self.new.site ≡ S.sent self.old.site) }
-        ensures every_moment { S.honest self.old.site → S.tells self.new.site → self.old.failed ≡ None → (start : NodeValue) (events : List EventValue) (opening : ℕ)
+        ensures tells { (S.tells self.old.site ↔ S.tells self.new.site) × (S.sent self.new.site ≡ S.sent self.old.site) }
+        ensures every_moment { S.honest self.old.site → self.old.failed ≡ None → (start : NodeValue) (events : List EventValue) (opening : ℕ)
             → self.old.twin ≡ after start events
             → IsAtRest (S.state self.old.site) (S.sent self.old.site) self.old.at self.old.generation start events opening
-            → EachMoment S.moment S.left_since self.old.site self.new.site (IsGood start (events ++ entry.event ∷ []) (length events) opening) }
-        ensures at_rest { S.honest self.old.site → S.tells self.new.site → self.old.failed ≡ None → (start : NodeValue) (events : List EventValue) (opening : ℕ)
+            → EachMoment S.moment S.left_since self.old.site self.new.site (IsGood start (events ++ events_in batch) (length events) opening) }
+        ensures at_rest { S.honest self.old.site → self.old.failed ≡ None → (start : NodeValue) (events : List EventValue) (opening : ℕ)
             → self.old.twin ≡ after start events
             → IsAtRest (S.state self.old.site) (S.sent self.old.site) self.old.at self.old.generation start events opening
-            → OnOk result (IsAtRest (S.state self.new.site) (S.sent self.new.site) self.new.at self.new.generation start (events ++ entry.event ∷ []) opening) }
+            → OnOk result (IsAtRest (S.state self.new.site) (S.sent self.new.site) self.new.at self.new.generation start (events ++ events_in batch) opening) }
+        ensures device { self.old.failed ≡ None → IfErr result (λ f. (f.fault.side ≡ self.old.at.side) × ((f.fault.call ≡ Write) ⊎ (f.fault.call ≡ Sync))) }
         ensures count { self.old.failed ≡ None → MatchResult result (λ _. S.failures self.new.site ≡ S.failures self.old.site) (λ _. Rose (S.failures self.old.site) (S.failures self.new.site)) }
     {
-        if let Some(fault) = self.failed {
-            return Err(Failed { fault });
-        }
-        match put_durably(&mut self.journal, &mut self.node, &mut self.site, entry) {
-            Ok(()) => {
+        self.check()?;
+        match make_durable(&mut self.journal, &mut self.site, batch) {
+            Ok(landed) => {
                 self.used = self.used.max(self.journal.place() + 1);
-                Ok(())
+                self.owes = true;
+                Ok(landed)
             }
             Err(Forfeit { fault }) => {
                 self.failed = Some(fault);
                 Err(Failed { fault })
             }
         }
+    }
+
+    /// Takes the events of the batch that `commit` answered last into the node, and puts the outputs of each in turn. It
+    /// makes no disk call, takes no memory and can't fail. Nothing is owed then.
+    pub fn release(&mut self, landed: Landed)
+        requires owes { self.old.owes ≡ true }
+        requires lawful { AreLawful self.old.twin landed }
+        ensures twin { self.new.twin ≡ after self.old.twin (events_in landed) }
+        ensures owes { self.new.owes ≡ false }
+        ensures same { (self.new.at ≡ self.old.at) × (self.new.generation ≡ self.old.generation) × (self.new.used ≡ self.old.used) × (self.new.failed ≡ self.old.failed) }
+        ensures honest { S.honest self.old.site ↔ S.honest self.new.site }
+        ensures told { S.tells self.new.site → S.tells self.old.site × (S.sent self.new.site ≡ S.sent self.old.site ++ line self.old.twin (events_in landed)) }
+        ensures every_moment { S.honest self.old.site → S.tells self.new.site → (start : NodeValue) (events : List EventValue) (opening durable : ℕ)
+            → self.old.twin ≡ after start events
+            → IsAtRest (S.state self.old.site) (S.sent self.old.site) self.old.at self.old.generation start (events ++ events_in landed) opening
+            → durable ≤ length (events ++ events_in landed)
+            → EachMoment S.moment S.left_since self.old.site self.new.site (IsGood start (events ++ events_in landed) durable opening) }
+        ensures at_rest { S.honest self.old.site → S.tells self.new.site → (start : NodeValue) (events : List EventValue) (opening : ℕ)
+            → self.old.twin ≡ after start events
+            → IsAtRest (S.state self.old.site) (S.sent self.old.site) self.old.at self.old.generation start (events ++ events_in landed) opening
+            → IsAtRest (S.state self.new.site) (S.sent self.new.site) self.new.at self.new.generation start (events ++ events_in landed) opening }
+        ensures count { S.failures self.new.site ≡ S.failures self.old.site }
+    {
+        put_entries(&mut self.node, &mut self.site, landed.into_batch());
+        self.owes = false;
+    }
+
+    /// Puts each kept post of the twin on each live link that is sent it and hasn't acknowledged it, by ascending number and
+    /// then by ascending peer. How many outputs those are. It makes no disk call; only an engine that has ended answers
+    /// Failed, and puts nothing.
+    pub fn resend(&mut self) -> Result<u64, Failed>
+        requires owes { self.old.owes ≡ false }
+        ensures ended { (fault : DeviceFault) → self.old.failed ≡ Some fault → (result ≡ Err (record { fault = fault })) × (self.new ≡ self.old) }
+        ensures count { self.old.failed ≡ None → result ≡ Ok (length (resends self.old.twin)) }
+        ensures same { IsPutFrom self.old self.new }
+        ensures puts { self.old.failed ≡ None → Puts S.honest S.tells S.state S.sent S.moment S.left_since S.failures (resends self.old.twin) self.old.site self.new.site }
+        ensures every_moment { S.honest self.old.site → S.tells self.new.site → self.old.failed ≡ None → (start : NodeValue) (events : List EventValue) (opening : ℕ)
+            → IsLawfulNode start → IsLawful start events → self.old.twin ≡ after start events
+            → IsAtRest (S.state self.old.site) (S.sent self.old.site) self.old.at self.old.generation start events opening
+            → EachMoment S.moment S.left_since self.old.site self.new.site (IsGood start events (length events) opening) }
+        ensures at_rest { S.honest self.old.site → S.tells self.new.site → self.old.failed ≡ None → (start : NodeValue) (events : List EventValue) (opening : ℕ)
+            → IsLawfulNode start → IsLawful start events → self.old.twin ≡ after start events
+            → IsAtRest (S.state self.old.site) (S.sent self.old.site) self.old.at self.old.generation start events opening
+            → IsAtRest (S.state self.new.site) (S.sent self.new.site) self.new.at self.new.generation start events opening }
+    {
+        self.check()?;
+        Ok(put_kept_posts(&self.node, &mut self.site))
+    }
+
+    /// Puts the answer that the twin keeps for a session, under the session's last request. Whether it keeps one; else
+    /// nothing is put. It makes no disk call; only an engine that has ended answers Failed, and puts nothing.
+    pub fn again(&mut self, session: u64) -> Result<bool, Failed>
+        requires owes { self.old.owes ≡ false }
+        ensures ended { (fault : DeviceFault) → self.old.failed ≡ Some fault → (result ≡ Err (record { fault = fault })) × (self.new ≡ self.old) }
+        ensures kept { self.old.failed ≡ None → result ≡ Ok (table.contains_key self.old.twin.outbox.answers session) }
+        ensures same { IsPutFrom self.old self.new }
+        ensures puts { self.old.failed ≡ None → Puts S.honest S.tells S.state S.sent S.moment S.left_since S.failures (reply_again session self.old.twin) self.old.site self.new.site }
+        ensures every_moment { S.honest self.old.site → S.tells self.new.site → self.old.failed ≡ None → (start : NodeValue) (events : List EventValue) (opening : ℕ)
+            → IsLawfulNode start → IsLawful start events → self.old.twin ≡ after start events
+            → IsAtRest (S.state self.old.site) (S.sent self.old.site) self.old.at self.old.generation start events opening
+            → EachMoment S.moment S.left_since self.old.site self.new.site (IsGood start events (length events) opening) }
+        ensures at_rest { S.honest self.old.site → S.tells self.new.site → self.old.failed ≡ None → (start : NodeValue) (events : List EventValue) (opening : ℕ)
+            → IsLawfulNode start → IsLawful start events → self.old.twin ≡ after start events
+            → IsAtRest (S.state self.old.site) (S.sent self.old.site) self.old.at self.old.generation start events opening
+            → IsAtRest (S.state self.new.site) (S.sent self.new.site) self.new.at self.new.generation start events opening }
+    {
+        self.check()?;
+        Ok(put_kept_answer(&self.node, &mut self.site, session))
+    }
+
+    /// Puts the acknowledgement of the last number that the twin has heard from a peer. Whether it heard any; else nothing is
+    /// put. It makes no disk call; only an engine that has ended answers Failed, and puts nothing.
+    pub fn reack(&mut self, peer: NodeId) -> Result<bool, Failed>
+        requires owes { self.old.owes ≡ false }
+        ensures ended { (fault : DeviceFault) → self.old.failed ≡ Some fault → (result ≡ Err (record { fault = fault })) × (self.new ≡ self.old) }
+        ensures heard { self.old.failed ≡ None → result ≡ Ok (nat_lt 0 (heard_from peer self.old.twin.core.links)) }
+        ensures same { IsPutFrom self.old self.new }
+        ensures puts { self.old.failed ≡ None → Puts S.honest S.tells S.state S.sent S.moment S.left_since S.failures (ack_again peer self.old.twin) self.old.site self.new.site }
+        ensures every_moment { S.honest self.old.site → S.tells self.new.site → self.old.failed ≡ None → (start : NodeValue) (events : List EventValue) (opening : ℕ)
+            → IsLawfulNode start → IsLawful start events → self.old.twin ≡ after start events
+            → IsAtRest (S.state self.old.site) (S.sent self.old.site) self.old.at self.old.generation start events opening
+            → EachMoment S.moment S.left_since self.old.site self.new.site (IsGood start events (length events) opening) }
+        ensures at_rest { S.honest self.old.site → S.tells self.new.site → self.old.failed ≡ None → (start : NodeValue) (events : List EventValue) (opening : ℕ)
+            → IsLawfulNode start → IsLawful start events → self.old.twin ≡ after start events
+            → IsAtRest (S.state self.old.site) (S.sent self.old.site) self.old.at self.old.generation start events opening
+            → IsAtRest (S.state self.new.site) (S.sent self.new.site) self.new.at self.new.generation start events opening }
+    {
+        self.check()?;
+        Ok(put_ack_again(&self.node, &mut self.site, peer))
     }
 
     /// Gives the site back.
@@ -199,6 +326,7 @@ impl<S: Site> Flusher<S> {
             journal: _,
             generation: _,
             used: _,
+            owes: _,
             failed: _,
         } = self;
         site

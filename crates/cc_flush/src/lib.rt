@@ -6,13 +6,16 @@ mod committing;
 mod flusher;
 mod formatting;
 mod laws;
+mod life;
 mod opening;
 mod outlet;
+mod standing;
 
 pub use back::Back;
 pub use flusher::{Failed, Flusher};
 pub use formatting::{FormatFault, format};
 pub use laws::{good_for_more, one_node, rests_with_all, shut_side};
+pub use life::Action;
 
 #[cfg(test)]
 mod tests;

@@ -1,13 +1,13 @@
-//! The outputs of a durable event are put to the site.
+//! The outputs of durable events are put to the site.
 
 ghost use Rattle.std.specs.Prelude.{◌≡◌, ◌≤◌, ◌∷◌, [], Some, option_map};
 ghost use Rattle.cc_links.specs.Links.{LinksWithin};
 ghost use Rattle.cc_node.specs.Core.{send_ack, send_post, send_reply, outputs};
-ghost use Rattle.cc_node.specs.Node.{step};
-ghost use Rattle.cc_journal.specs.Batches.{AreLawful};
+ghost use Rattle.cc_node.specs.Node.{after, line, step};
+ghost use Rattle.cc_journal.specs.Batches.{AreLawful, events_in};
 ghost use Rattle.cc_flush.specs.Outlet.{Puts, request_of, new_post, kept_reply, on_link};
 
-use cc_journal::Entry;
+use cc_journal::{Batch, Entry};
 use cc_links::LinkRow;
 use cc_node::{Core, LinkAck, Made, Node};
 use cc_outbox::Outbox;
@@ -21,9 +21,21 @@ struct Answered {
     request: u64,
 }
 
-/// Takes an accepted event into the node, and puts its outputs: the acknowledgement, the post on each live link by
-/// ascending peer, the reply.
-pub(crate) fn put_entry<S: Site>(node: &mut Node, site: &mut S, entry: Entry)
+// Takes accepted events into the node, and puts the outputs of each in turn.
+pub(crate) fn put_entries<S: Site>(node: &mut Node, site: &mut S, batch: Batch)
+    requires { AreLawful node.old batch }
+    ensures node { node.new ≡ after node.old (events_in batch) }
+    ensures puts { Puts S.honest S.tells S.state S.sent S.moment S.left_since S.failures (line node.old (events_in batch)) site.old site.new }
+{
+    let mut left = batch;
+    while let Some(entry) = left.take_first() {
+        put_entry(node, site, entry);
+    }
+}
+
+// Takes an accepted event into the node, and puts its outputs: the acknowledgement, the post on each live link by
+// ascending peer, the reply.
+fn put_entry<S: Site>(node: &mut Node, site: &mut S, entry: Entry)
     requires { AreLawful node.old (entry ∷ []) }
     ensures node { node.new ≡ step node.old entry.event }
     ensures puts { Puts S.honest S.tells S.state S.sent S.moment S.left_since S.failures (outputs node.old.core entry.event) site.old site.new }

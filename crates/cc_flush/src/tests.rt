@@ -1,9 +1,12 @@
+//! Formatting, opening and committing, and what a crash leaves of them.
+
 use super::*;
 use cc_changes::Fraction;
 use cc_checkpoint::OpenFault;
-use cc_journal::Entry;
+use cc_journal::{Batch, Entry};
 use cc_node::Opening;
 use cc_site::{Burn, Call, Choice, DeviceFault, MemorySite, Side, Site, write_durably};
+use cc_views::NodeId;
 use cc_wire::{Event, Message, Output};
 use std::alloc::Global;
 use std::test::*;
@@ -71,12 +74,19 @@ fn enter(alloc: Global, flusher: &mut Flusher<MemorySite>) -> Result<Option<Devi
     if flusher.twin().core().decide(&event).is_err() {
         return Err("the Enter is refused")?;
     }
-    if !flusher.room() {
+    if flusher.owes() || !flusher.room() {
         return Err("there is no room")?;
     }
     let made = flusher.twin().core().made(alloc, &event)?;
-    match flusher.put_one(Entry { event, made }) {
-        Ok(()) => Ok(None),
+    let mut batch = Batch::new();
+    if batch.push(Entry { event, made }).is_err() {
+        return Err("the Enter doesn't fit")?;
+    }
+    match flusher.commit(batch) {
+        Ok(landed) => {
+            flusher.release(landed);
+            Ok(None)
+        }
         Err(Failed { fault }) => Ok(Some(fault)),
     }
 }
@@ -193,6 +203,45 @@ fn an_enter_is_sent_once_it_is_durable(rt: HostRuntime) -> Result<(), Fail> {
     assert_eq!(rt; site.outputs().len(), 2);
     assert!(rt; is_enter(site.outputs().first(), 1));
     assert!(rt; is_enter(site.outputs().get(1), 4));
+    Ok(())
+}
+
+// A life of an Enter, and of what may be put again. The disk call that failed, if one did.
+fn live(alloc: Global, flusher: &mut Flusher<MemorySite>) -> Result<Option<DeviceFault>, Fail> {
+    let peer = NodeId::new(4).ok_or("4 is an id")?;
+    let event = Event::Enter;
+    if flusher.owes() || flusher.twin().core().decide(&event).is_err() {
+        return Err("the Enter is refused")?;
+    }
+    let made = flusher.twin().core().made(alloc, &event)?;
+    let mut batch = Batch::new();
+    if batch.push(Entry { event, made }).is_err() {
+        return Err("the Enter doesn't fit")?;
+    }
+    let actions = vec![in alloc;
+        Action::Turn(batch),
+        Action::Resend,
+        Action::Again(7),
+        Action::Reack(peer),
+    ]?;
+    match flusher.run_life(actions) {
+        Ok(()) => Ok(None),
+        Err(Failed { fault }) => Ok(Some(fault)),
+    }
+}
+
+// No peer has acknowledged the Enter, no session has an answer, and peer 4 has sent nothing.
+#[test]
+fn a_life_sends_an_enter_and_sends_it_again(rt: HostRuntime) -> Result<(), Fail> {
+    let alloc = rt.alloc();
+    let mut flusher = opened(alloc, entrant(alloc)?)?;
+    let outcome = live(alloc, &mut flusher);
+    let site = flusher.close();
+    assert_eq!(rt; outcome?, None);
+    assert_eq!(rt; site.outputs().len(), 4);
+    for (at, peer) in [(0, 1), (1, 4), (2, 1), (3, 4)] {
+        assert!(rt; is_enter(site.outputs().get(at), peer));
+    }
     Ok(())
 }
 

@@ -1,9 +1,10 @@
 //! A record is written behind a closed gate and made sure of; then the gate is opened, and made sure of.
 
-ghost use Rattle.std.specs.Prelude.{max, ◌≡◌, ◌↔◌, ◌≤◌, ◌<◌, ◌+◌, ◌^◌, ◌++◌, ◌∷◌, [], length, List, ℕ, OnOk, OnErr, IfOk, MatchResult, slice_index_or};
+ghost use Rattle.std.specs.Prelude.{max, ◌≡◌, ◌↔◌, ◌≤◌, ◌<◌, ◌+◌, ◌^◌, ◌++◌, ◌∷◌, [], length, List, ℕ, OnOk, OnErr, IfOk, IfErr, MatchResult, slice_index_or, ◌⊎◌};
 ghost use Rattle.std.specs.Vec.{vec_capacity};
 ghost use Rattle.cc_wire.specs.declared.event.Event.{Event};
 ghost use Rattle.cc_wire.specs.Events.{IsEvent};
+ghost use Rattle.cc_site.specs.declared.site.Call.TheVariants.{Write, Sync};
 ghost use Rattle.cc_site.specs.Moments.{EachMoment, Rose};
 ghost use Rattle.cc_node.specs.Node.{Node, after, IsLawful};
 ghost use Rattle.cc_node.specs.Sides.{StandsBehind, SpellsBatch};
@@ -158,6 +159,7 @@ impl Journal {
         ensures within { S.honest site.old → OnOk result (self.old.place + 1 ≤ length (S.state site.new self.old.side).bytes) }
         ensures behind { S.honest site.old → OnOk result (StandsBehind (S.state site.new self.old.side).bytes self.old.place (batch_bytes batch)) }
         ensures length { S.honest site.old → OnOk result (length (S.state site.new self.old.side).bytes ≡ max (length (S.state site.old self.old.side).bytes) (self.old.place + 1 + length (batch_bytes batch))) }
+        ensures device { IfErr result (λ forfeit. forfeit.fault ≡ record { side = self.old.side; call = Write }) }
         ensures fault { MatchResult result (λ _. S.failures site.new ≡ S.failures site.old) (λ forfeit. Rose (S.failures site.old) (S.failures site.new)) }
     {
         put_record(&mut self.text, &batch);
@@ -188,6 +190,7 @@ impl Journal {
             → OnOk result (IsAtRest (S.state site.new) (S.sent site.new) self.new generation start (events ++ events_in flight) opening) }
         ensures length { S.honest site.old → OnOk result (length (S.state site.new self.old.side).bytes ≡ length (S.state site.old self.old.side).bytes) }
         ensures short { OnOk result (length (batch_bytes flight) ≤ 262149) }
+        ensures device { IfErr result (λ forfeit. (forfeit.fault.side ≡ self.old.side) × ((forfeit.fault.call ≡ Write) ⊎ (forfeit.fault.call ≡ Sync))) }
         ensures fault { MatchResult result (λ _. S.failures site.new ≡ S.failures site.old) (λ forfeit. Rose (S.failures site.old) (S.failures site.new)) }
     {
         let Flight { batch, size } = flight;

@@ -67,6 +67,10 @@ impl Cluster {
             },
             Line::Carry(delivery) => self.carry(alloc, delivery, output),
             Line::CarryAll { limit } => self.carry_all(alloc, limit, output),
+            Line::Again { node, standing } => match self.station_mut(node) {
+                Some(station) => conclude(node, station.put_again(standing, output)?, output),
+                None => Ok(Played::Bad),
+            },
             Line::Crash { node, choice } => self.crash(alloc, node, &choice, output),
         }
     }

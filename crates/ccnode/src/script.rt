@@ -1,6 +1,7 @@
 //! The lines of a script.
 
 use crate::delivery::Delivery;
+use crate::station::Standing;
 use cc_changes::Fraction;
 use cc_site::Choice;
 use cc_views::{NodeId, Text};
@@ -22,6 +23,8 @@ pub enum Line {
     Carry(Delivery),
     /// Delivers so many messages, each the next one of its link.
     CarryAll { limit: u64 },
+    /// A node puts out again what stands in it.
+    Again { node: u32, standing: Standing },
     /// A node crashes, which leaves of its site what is chosen, and is opened again.
     Crash { node: u32, choice: Choice },
 }
@@ -44,6 +47,9 @@ pub fn parse(alloc: Global, bytes: &[u8]) -> Result<Option<Line>, AllocError> {
         ["carry", from, to, number] => Ok(carry(from, to, number)),
         ["acked", node, peer, number] => Ok(event_at(node, acked(peer, number))),
         ["all", limit] => Ok(carry_all(limit)),
+        ["resend", node] => Ok(again(node, Some(Standing::Posts))),
+        ["again", node, session] => Ok(again(node, answer(session))),
+        ["reack", node, peer] => Ok(again(node, ack(peer))),
         ["crash", node] => Ok(crash(node, Some(Choice::Read))),
         ["crash", node, "fill", filler] => Ok(crash(node, filled(filler))),
         _ => Ok(None),
@@ -110,6 +116,25 @@ fn carry(from: &str, to: &str, n: &str) -> Option<Line> {
 fn carry_all(limit: &str) -> Option<Line> {
     Some(Line::CarryAll {
         limit: number(limit)?,
+    })
+}
+
+fn again(node: &str, standing: Option<Standing>) -> Option<Line> {
+    Some(Line::Again {
+        node: small_number(node)?,
+        standing: standing?,
+    })
+}
+
+fn answer(session: &str) -> Option<Standing> {
+    Some(Standing::Answer {
+        session: number(session)?,
+    })
+}
+
+fn ack(peer: &str) -> Option<Standing> {
+    Some(Standing::Ack {
+        peer: NodeId::new(small_number(peer)?)?,
     })
 }
 

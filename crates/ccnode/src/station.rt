@@ -1,17 +1,20 @@
 //! A node of a cluster on a site in memory, and all that it sent.
 
+ghost use Rattle.std.specs.Prelude.{◌≡◌, ◌∷◌, [], false, IfOk};
+
 use crate::node_fault::NodeFault;
 use crate::play_fault::PlayFault;
 use crate::sent::Sent;
 use crate::texts::PrintedOutput;
 use cc_flush::{Back, Flusher, format};
-use cc_journal::Entry;
+use cc_journal::{Batch, Entry};
 use cc_node::{Core, Opening};
 use cc_site::{Choice, MemorySite};
 use cc_views::NodeId;
-use cc_wire::{Event, Message, decode_message};
+use cc_wire::{Event, Message, Output, decode_message, event_is_spellable, largest_sizes};
 use std::alloc::Global;
 use std::io::Write;
+use std::marker::Model;
 
 // How many outputs of a node its site keeps, from one opening to the next.
 const RESERVE: usize = 16_384;
@@ -28,6 +31,17 @@ pub enum Outcome {
     Ended(NodeFault),
 }
 
+/// What a node may put out again.
+#[derive(Clone, Copy, Debug, PartialEq, Eq)]
+pub enum Standing {
+    /// Each kept post, on each link that waits for it.
+    Posts,
+    /// The kept answer of a session.
+    Answer { session: u64 },
+    /// The acknowledgement of what was heard from a peer.
+    Ack { peer: NodeId },
+}
+
 /// A node in an engine, and its posts by ascending number, those from before a crash among them.
 #[derive(Drop)]
 pub struct Station {
@@ -35,6 +49,22 @@ pub struct Station {
     // How many of the site's outputs were printed.
     printed: usize,
     sent: Vec<Sent>,
+}
+
+// Each event is committed and released alone, so that nothing is owed.
+impl Model for Station {
+    ghost use Rattle.std.specs.Prelude.{◌≡◌, false};
+    ghost use Rattle.cc_site.specs.declared.memory.MemorySite.{MemorySite as MemorySiteValue};
+    ghost use Rattle.cc_site.specs.contracts.memory.MemorySite as memory_site;
+    ghost use Rattle.cc_flush.specs.Engine.{Engine, engine_code};
+
+    ghost Value = { Engine MemorySiteValue };
+
+    ghost coded = { engine_code (memory_site.the_row).coded };
+
+    ghost view = { λ s. s.engine };
+
+    ghost invariant = { λ s. s.engine.owes ≡ false };
 }
 
 impl Station {
@@ -82,8 +112,33 @@ impl Station {
         if !self.engine.room() {
             return Err(PlayFault::NoMemory);
         }
-        match self.engine.put_one(Entry { event, made }) {
-            Ok(()) => self.print_accepted(alloc, output),
+        match self.engine.commit(batch_of(Entry { event, made })) {
+            Ok(landed) => {
+                self.engine.release(landed);
+                self.print_accepted(alloc, output)
+            }
+            Err(failed) => Ok(Outcome::Ended(NodeFault::Engine(failed))),
+        }
+    }
+
+    /// Puts out again what stands in the node, and prints it.
+    pub fn put_again<W: Write>(
+        &mut self,
+        standing: Standing,
+        output: &mut W,
+    ) -> Result<Outcome, PlayFault> {
+        let put = match standing {
+            Standing::Posts => self.engine.resend().map(|count| count > 0),
+            Standing::Answer { session } => self.engine.again(session),
+            Standing::Ack { peer } => self.engine.reack(peer),
+        };
+        match put {
+            Ok(true) => self.print_new(output),
+            Ok(false) => {
+                let id = self.id().number();
+                writeln!(output, "{id} nothing")?;
+                Ok(Outcome::Accepted)
+            }
             Err(failed) => Ok(Outcome::Ended(NodeFault::Engine(failed))),
         }
     }
@@ -95,23 +150,35 @@ impl Station {
         output: &mut W,
     ) -> Result<Outcome, PlayFault> {
         let id = self.id().number();
-        let outputs = self.engine.site().outputs();
-        let made = outputs.get(self.printed..).unwrap_or(&[]);
-        let sent = Sent::among(alloc, self.engine.twin().core().posts(), made)?;
+        let sent = Sent::among(alloc, self.core().posts(), self.new_outputs())?;
         writeln!(output, "{id} accepted")?;
-        for part in made {
-            let part = PrintedOutput(part);
-            writeln!(output, "{id} {part}")?;
-        }
-        self.printed = outputs.len();
-        if self.engine.site().lost() > 0 {
-            return Ok(Outcome::Ended(NodeFault::Outlet));
+        if let Outcome::Ended(fault) = self.print_new(output)? {
+            return Ok(Outcome::Ended(fault));
         }
         let Some(sent) = sent else {
             return Ok(Outcome::Accepted);
         };
         self.sent.push(sent)?;
         Ok(Outcome::Sent)
+    }
+
+    // The outputs that weren't printed yet.
+    fn new_outputs(&self) -> &[Output] {
+        self.site().outputs().get(self.printed..).unwrap_or(&[])
+    }
+
+    // Prints the outputs that weren't printed yet.
+    fn print_new<W: Write>(&mut self, output: &mut W) -> Result<Outcome, PlayFault> {
+        let id = self.id().number();
+        for part in self.new_outputs() {
+            let part = PrintedOutput(part);
+            writeln!(output, "{id} {part}")?;
+        }
+        self.printed = self.site().outputs().len();
+        if self.site().lost() > 0 {
+            return Ok(Outcome::Ended(NodeFault::Outlet));
+        }
+        Ok(Outcome::Accepted)
     }
 
     /// Crashes the node, and opens what the crash left of its site.
@@ -166,7 +233,23 @@ impl Station {
     }
 }
 
-fn opened(alloc: Global, site: MemorySite) -> Result<Flusher<MemorySite>, NodeFault> {
+// A batch of one entry.
+fn batch_of(entry: Entry) -> Batch
+    ensures { result ≡ entry ∷ [] }
+{
+    event_is_spellable(&entry.event);
+    largest_sizes();
+    let mut batch = Batch::new();
+    match batch.push(entry) {
+        Ok(()) => {}
+        Err(entry) => drop(entry),
+    }
+    batch
+}
+
+fn opened(alloc: Global, site: MemorySite) -> Result<Flusher<MemorySite>, NodeFault>
+    ensures { IfOk result (λ engine. engine.owes ≡ false) }
+{
     match Flusher::open(alloc, site) {
         Ok((engine, _core)) => Ok(engine),
         Err(Back { site: _, fault }) => Err(NodeFault::Open(fault)),

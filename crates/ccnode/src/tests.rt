@@ -6,6 +6,7 @@ mod crashes;
 mod faults;
 mod limits;
 mod objects;
+mod standing;
 
 use crate::play::play;
 use std::alloc::Global;

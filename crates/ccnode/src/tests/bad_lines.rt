@@ -10,9 +10,6 @@ const NO_COMMANDS: &str = "
 play
 Member 2 of 2
 1
-resend 1
-again 1 7
-reack 1 1
 checkpoint 1
 retire 1 2";
 
@@ -44,6 +41,31 @@ crash 1 Fill a5
 crash 9 fill a5
 crash 4294967296
 Crash 1";
+
+const NOTHING_AGAIN: &str = "\
+resend
+resend\x20
+resend 2
+resend 0
+resend 01
+resend 1\x20
+resend 1 1
+Resend 1
+again
+again 1
+again 1\x20
+again 2 7
+again 1 a
+again 1 07
+again 1 18446744073709551616
+again 1 7 1
+reack
+reack 1
+reack 2 1
+reack 1 0
+reack 1 01
+reack 1 4294967296
+reack 1 1 1";
 
 const NO_FRACTIONS: &str = "\
 fractions
@@ -193,6 +215,7 @@ fn a_bad_line_ends_the_script(rt: HostRuntime) -> Result<(), Fail> {
         NO_ASKS,
         NO_CARRIES,
         NO_CRASHES,
+        NOTHING_AGAIN,
     ] {
         for line in lines.split('\n') {
             let script = format!(in rt.alloc(); "member 1 of 1\n{line}\nask 1 7 1 collect\n")?;

@@ -1,0 +1,31 @@
+use Rattle.std.proofs.Common.{◌≡◌, length, sym, subst, arith}
+use Rattle.cc_site.specs.Moments.{EachMoment}
+use Rattle.cc_node.specs.Node.{after}
+use Rattle.cc_journal.specs.Journals.{IsGood, IsAtRest}
+use Rattle.cc_flush.specs.Standing.{reply_again}
+use Rattle.cc_flush.proofs.Putting.{puts_good, puts_rest}
+use Rattle.cc_flush.proofs.Resends.{reply_stands, standing_is_made}
+use Rattle.cc_flush.proofs.flusher.Flusher.again.Goals as goal
+
+pub returns-clause-every_moment : goal.returns-clause-every_moment
+returns-clause-every_moment g c honest tells none start events opening sound lawful is rest =
+    let s = g.S.Site in
+    let old = c.self.inside in
+    let node = old.node in
+    let view = sym c.self.view_is in
+    let same = subst (λ e. e.twin ≡ after start events) view is in
+    subst (λ e. EachMoment s.moment s.left_since e.site c.put_kept_answer.new.site (IsGood start events (length events) opening)) c.self.view_is
+    (puts_good old.journal old.generation start events opening (reply_again c.args.session node) (standing_is_made start node events (reply_again c.args.session node) sound lawful same (reply_stands node c.args.session))
+    s.honest s.tells s.state s.sent s.moment s.left_since s.failures old.site c.put_kept_answer.new.site c.put_kept_answer.ensures.puts (subst (λ e. s.honest e.site) view honest) tells
+    (subst (λ e. IsAtRest (s.state e.site) (s.sent e.site) e.at e.generation start events opening) view rest) (length events) (omega arith))
+
+pub returns-clause-at_rest : goal.returns-clause-at_rest
+returns-clause-at_rest g c honest tells none start events opening sound lawful is rest =
+    let s = g.S.Site in
+    let old = c.self.inside in
+    let node = old.node in
+    let view = sym c.self.view_is in
+    let same = subst (λ e. e.twin ≡ after start events) view is in
+    puts_rest old.journal old.generation start events opening (reply_again c.args.session node) (standing_is_made start node events (reply_again c.args.session node) sound lawful same (reply_stands node c.args.session))
+    s.honest s.tells s.state s.sent s.moment s.left_since s.failures old.site c.put_kept_answer.new.site c.put_kept_answer.ensures.puts (subst (λ e. s.honest e.site) view honest) tells
+    (subst (λ e. IsAtRest (s.state e.site) (s.sent e.site) e.at e.generation start events opening) view rest)

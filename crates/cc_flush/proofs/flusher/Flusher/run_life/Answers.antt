@@ -1,0 +1,94 @@
+use Rattle.std.proofs.Common.{◌≡◌, inl, inr, List, [], ◌∷◌, ◌++◌, length, refl, sym, ◌∙◌, ap, subst, arith, rules, append_assoc, append-nil}
+use Rattle.std.specs.Vec.Iter.{into_iter_items}
+use Rattle.cc_flush.specs.declared.life.Action.{Action}
+use Rattle.cc_flush.specs.Lives.{AreTurnsLawful, BeginsWithTurn, IsTurn}
+use Rattle.cc_flush.proofs.Advancing.{stays, done_more, run_ended, moments_ended, moments_failed}
+use Rattle.cc_flush.proofs.flusher.Flusher.run_life.Goals as goal
+
+nothing_left : (actions : List Action) → length actions ≡ 0 → actions ≡ []
+nothing_left [] none = refl
+nothing_left (action ∷ actions) none = absurd (omega arith)
+
+turn_first : (action : Action) (more : List Action) → IsTurn action → BeginsWithTurn (action ∷ more)
+turn_first action more turn = (turn.0, more, ap (λ a. a ∷ more) turn.1)
+
+pub returns-in-Some-clause-run : goal.returns-in-Some-clause-run
+returns-in-Some-clause-run g c =
+    let s = g.S.Site in
+    let old = c.args.self.now in
+    record {
+      done = [];
+      rest = c.args.actions.items;
+      parts = refl;
+      twin = refl;
+      told = λ t. sym (append-nil (s.sent old.site));
+      stops = λ none. absurd cc;
+      at_rest = λ h t none start events opening sound lawful twin rests. tt;
+    }
+
+pub loop-action-init : goal.loop-action-init
+loop-action-init g c =
+    let s = g.S.Site in
+    let old = c.args.self.now in
+    record {
+      parts = search rules;
+      count = search rules;
+      lawful = search rules;
+      run = stays s.honest s.tells s.state s.sent s.moment s.left_since s.failures old c.requires.owes (sym c.fault.ensures ∙ c.in_default.is) (g.met.S.Site.only_now old.site);
+    }
+
+pub loop-action-preserved : goal.loop-action-preserved
+loop-action-preserved g c =
+    let s = g.S.Site in
+    let at = c.loop-action in
+    let action = c.in-Some-action.action in
+    let rest = into_iter_items c.next.new.self in
+    let steps : into_iter_items at.action-iterator ≡ action ∷ rest = c.in-Some-action.ensures.steps.0 in
+    let lawful = subst (AreTurnsLawful at.self.twin) steps at.invariant.lawful in
+    let acted = c.in_ok-act.ensures in
+    record {
+      parts = at.invariant.parts ∙ ap (λ l. at.yielded ++ l) steps ∙ sym (append_assoc at.yielded (action ∷ []) rest);
+      count = omega (arith, at.invariant.count, c.in-Some-action.ensures.steps.1, ap length steps);
+      lawful = subst (λ n. AreTurnsLawful n rest) (sym acted.twin) lawful.1;
+      run = done_more s.honest s.tells s.state s.sent s.moment s.left_since s.failures c.args.self.now at.self c.act.new.self at.yielded action at.invariant.run acted;
+    }
+
+pub returns-then-not-has_room_for-clause-run : goal.returns-then-not-has_room_for-clause-run
+returns-then-not-has_room_for-clause-run g c =
+    let s = g.S.Site in
+    let at = c.loop-action in
+    let action = c.in-Some-action.action in
+    let rest = into_iter_items c.next.new.self in
+    let steps : into_iter_items at.action-iterator ≡ action ∷ rest = c.in-Some-action.ensures.steps.0 in
+    let full = c.if-not-has_room_for.ensures in
+    run_ended s.honest s.tells s.state s.sent s.moment s.left_since s.failures c.args.self.now at.self c.args.actions.items at.yielded (action ∷ rest) (at.invariant.parts ∙ ap (λ l. at.yielded ++ l) steps) at.invariant.run
+    (inr (turn_first action rest full.0, full.1))
+
+pub returns-then-not-has_room_for-clause-every_moment : goal.returns-then-not-has_room_for-clause-every_moment
+returns-then-not-has_room_for-clause-every_moment g c honest tells none =
+    let s = g.S.Site in
+    let at = c.loop-action in
+    moments_ended s.honest s.tells s.state s.sent s.moment s.left_since s.failures c.args.self.now at.self c.args.actions.items at.yielded (into_iter_items at.action-iterator) at.invariant.parts at.invariant.run honest tells
+
+pub returns-in_err-act-clause-every_moment : goal.returns-in_err-act-clause-every_moment
+returns-in_err-act-clause-every_moment g c honest tells none =
+    let s = g.S.Site in
+    let at = c.loop-action in
+    let action = c.in-Some-action.action in
+    let rest = into_iter_items c.next.new.self in
+    let steps : into_iter_items at.action-iterator ≡ action ∷ rest = c.in-Some-action.ensures.steps.0 in
+    moments_failed s.honest s.tells s.state s.sent s.moment s.left_since s.failures c.args.self.now at.self c.act.new.self c.args.actions.items at.yielded action rest c.in_err-act.field-0.0.fault
+    (at.invariant.parts ∙ ap (λ l. at.yielded ++ l) steps) at.invariant.run c.in_err-act.ensures honest tells
+
+pub returns-clause-run : goal.returns-clause-run
+returns-clause-run g c =
+    let s = g.S.Site in
+    let at = c.loop-action in
+    let empty = nothing_left (into_iter_items at.action-iterator) (sym at.invariant.count ∙ c.in-None.ensures.steps.0) in
+    run_ended s.honest s.tells s.state s.sent s.moment s.left_since s.failures c.args.self.now at.self c.args.actions.items at.yielded (into_iter_items at.action-iterator) at.invariant.parts at.invariant.run (inl empty)
+
+pub returns-clause-every_moment : goal.returns-clause-every_moment
+returns-clause-every_moment g c honest tells none =
+    let s = g.S.Site in
+    let at = c.loop-action in
+    moments_ended s.honest s.tells s.state s.sent s.moment s.left_since s.failures c.args.self.now at.self c.args.actions.items at.yielded (into_iter_items at.action-iterator) at.invariant.parts at.invariant.run honest tells

@@ -1,0 +1,117 @@
+-- A life of an engine: the actions that it is asked for, in turn.
+--     events_by, events_of        the events of an action;  of actions
+--     outputs_by, outputs_of      what an action puts, and what actions put
+--     IsTurnLawful, AreTurnsLawful     a batch has entries, none of which is refused;  each batch has
+--     HasRoom                     there is room for an action
+--     IsTurn, BeginsWithTurn      the action is a Turn;  the first one is
+--     HasLived                    an engine rests with these events, from a lawful node on
+--     Advances                    it has taken in these events, and put these outputs
+--     Forfeits                    a disk call failed in a Turn, whose batch is given up
+--     HasRun                      it has carried out the first of these actions
+use Rattle.std.specs.Prelude.{◌≡◌, ◌↔◌, ◌⊎◌, ◌≤◌, ◌<◌, ⊤, ℕ, List, [], ◌∷◌, ◌++◌, length, false, None, Some, Result, OnOk, MatchResult}
+use Rattle.std.specs.List.{flat_map}
+use Rattle.cc_wire.specs.declared.event.Event.{Event}
+use Rattle.cc_wire.specs.declared.output.Output.{Output}
+use Rattle.cc_site.specs.declared.site.Side.{Side}
+use Rattle.cc_site.specs.declared.site.DeviceFault.{DeviceFault}
+use Rattle.cc_site.specs.Sides.{SideState}
+use Rattle.cc_site.specs.Moments.{Contents, EachMoment, Rose}
+use Rattle.cc_node.specs.Lawful.{IsLawfulNode}
+use Rattle.cc_node.specs.Node.{Node, IsLawful, after, line}
+use Rattle.cc_journal.specs.declared.entry.Entry.{Entry}
+use Rattle.cc_journal.specs.Batches.{AreLawful, events_in}
+use Rattle.cc_journal.specs.Journals.{IsGood, IsAtRest}
+use Rattle.cc_flush.specs.declared.flusher.Failed.{Failed}
+use Rattle.cc_flush.specs.declared.life.Action.{Action}
+use Rattle.cc_flush.specs.declared.life.Action.TheVariants.{Turn, Resend, Again, Reack}
+use Rattle.cc_flush.specs.Engine.{Engine, room_limit}
+use Rattle.cc_flush.specs.Standing.{resends, reply_again, ack_again}
+
+abbrev pub events_by : Action → List Event
+events_by (Turn batch) = events_in batch
+events_by Resend = []
+events_by (Again session) = []
+events_by (Reack peer) = []
+
+abbrev pub events_of : List Action → List Event
+events_of actions = flat_map events_by actions
+
+-- the node is that before the action
+abbrev pub outputs_by : Node → Action → List Output
+outputs_by n (Turn batch) = line n (events_in batch)
+outputs_by n Resend = resends n
+outputs_by n (Again session) = reply_again session n
+outputs_by n (Reack peer) = ack_again peer n
+
+abbrev pub outputs_of : Node → List Action → List Output
+outputs_of n [] = []
+outputs_of n (action ∷ rest) = outputs_by n action ++ outputs_of (after n (events_by action)) rest
+
+abbrev pub IsTurnLawful : Node → Action → Type 0
+IsTurnLawful n (Turn batch) = (1 ≤ length batch) × AreLawful n batch
+IsTurnLawful n Resend = ⊤
+IsTurnLawful n (Again session) = ⊤
+IsTurnLawful n (Reack peer) = ⊤
+
+abbrev pub AreTurnsLawful : Node → List Action → Type 0
+AreTurnsLawful n [] = ⊤
+AreTurnsLawful n (action ∷ rest) = IsTurnLawful n action × AreTurnsLawful (after n (events_by action)) rest
+
+abbrev pub HasRoom : ℕ → Action → Type 0
+HasRoom used (Turn batch) = used < room_limit
+HasRoom used Resend = ⊤
+HasRoom used (Again session) = ⊤
+HasRoom used (Reack peer) = ⊤
+
+abbrev pub IsTurn : Action → Type 0
+IsTurn action = (batch : List Entry) × (action ≡ Turn batch)
+
+abbrev pub BeginsWithTurn : List Action → Type 0
+BeginsWithTurn actions = (batch : List Entry) × (more : List Action) × (actions ≡ Turn batch ∷ more)
+
+pub record HasLived {D : Type 0} (state : D → Side → SideState) (sent : D → List Output) (engine : Engine D) (start : Node) (events : List Event) (opening : ℕ) : Type 0 where
+  pub sound : IsLawfulNode start
+  pub lawful : IsLawful start events
+  pub twin : engine.twin ≡ after start events
+  pub rests : IsAtRest (state engine.site) (sent engine.site) engine.at engine.generation start events opening
+
+pub record Advances {D : Type 0} (honest tells : D → Type 0) (state : D → Side → SideState) (sent : D → List Output) (moment : D → ℕ) (left_since : D → ℕ → Contents → List Output → Type 0) (failures : D → ℕ)
+    (events : List Event) (outputs : List Output) (old new : Engine D) : Type 0 where
+  pub twin : new.twin ≡ after old.twin events
+  pub owes : new.owes ≡ false
+  pub goes_on : new.failed ≡ None
+  pub same_generation : new.generation ≡ old.generation
+  pub same_honest : honest old.site ↔ honest new.site
+  pub told : tells new.site → tells old.site × (sent new.site ≡ sent old.site ++ outputs)
+  pub moments : honest old.site → tells new.site → (start : Node) (before : List Event) (opening : ℕ) → HasLived state sent old start before opening
+      → EachMoment moment left_since old.site new.site (IsGood start (before ++ events) (length before) opening)
+  pub lives : honest old.site → tells new.site → (start : Node) (before : List Event) (opening : ℕ) → HasLived state sent old start before opening
+      → HasLived state sent new start (before ++ events) opening
+  pub same_failures : failures new.site ≡ failures old.site
+
+pub record Forfeits {D : Type 0} (honest tells : D → Type 0) (state : D → Side → SideState) (sent : D → List Output) (moment : D → ℕ) (left_since : D → ℕ → Contents → List Output → Type 0) (failures : D → ℕ)
+    (action : Action) (old new : Engine D) (fault : DeviceFault) : Type 0 where
+  pub turn : IsTurn action
+  pub twin : new.twin ≡ old.twin
+  pub owes : new.owes ≡ false
+  pub failed : new.failed ≡ Some fault
+  pub same_generation : new.generation ≡ old.generation
+  pub same_honest : honest old.site ↔ honest new.site
+  pub told : (tells old.site ↔ tells new.site) × (sent new.site ≡ sent old.site)
+  pub moments : honest old.site → (start : Node) (before : List Event) (opening : ℕ) → HasLived state sent old start before opening
+      → EachMoment moment left_since old.site new.site (IsGood start (before ++ events_by action) (length before) opening)
+  pub rose : Rose (failures old.site) (failures new.site)
+
+-- the actions `done` have been carried out, and no part of `rest`
+pub record HasRun {D : Type 0} (honest tells : D → Type 0) (state : D → Side → SideState) (sent : D → List Output) (actions : List Action) (old new : Engine D) (result : Result (Unit {0}) Failed) : Type 0 where
+  pub done : List Action
+  pub rest : List Action
+  pub parts : actions ≡ done ++ rest
+  pub twin : new.twin ≡ after old.twin (events_of done)
+  pub told : tells new.site → sent new.site ≡ sent old.site ++ outputs_of old.twin done
+  -- all of them, unless there is no room for the next batch or a disk call failed in it
+  pub stops : MatchResult result (λ _. (rest ≡ []) ⊎ (BeginsWithTurn rest × (room_limit ≤ new.used))) (λ _. old.failed ≡ None → BeginsWithTurn rest)
+  pub at_rest : honest old.site → tells new.site → old.failed ≡ None → (start : Node) (events : List Event) (opening : ℕ)
+      → IsLawfulNode start → IsLawful start events → old.twin ≡ after start events
+      → IsAtRest (state old.site) (sent old.site) old.at old.generation start events opening
+      → OnOk result (IsAtRest (state new.site) (sent new.site) new.at new.generation start (events ++ events_of done) opening)
