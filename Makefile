@@ -1,5 +1,5 @@
 # The two commands of the README. The toolchain is Rattle's kit, with its command rt on the PATH.
-.PHONY: run test bench refused-growths
+.PHONY: run test bench refused-growths more-edits
 
 # Proves and builds the program; an empty script shows that it runs.
 BUILD = cd crates/ccnode && rt run -- play < /dev/null > ../../run.log 2>&1 || { cat ../../run.log; exit 1; }; rm -f ../../run.log
@@ -31,3 +31,9 @@ refused-growths:
 	@for crate in $(CRATES); do (cd crates/$$crate && rt test) > growths.log 2>&1 || { cat growths.log; exit 1; }; done
 	@rm -f growths.log
 	@bash bench/refused_growths.sh $(CRATES)
+
+# Tries the edits of more-edits, which the prover must refuse too. There the gate has one edit for each public call, and these
+# turn it in further ways: two to three hours. EDITED=cc_ops does one crate.
+EDITED = $(notdir $(wildcard more-edits/*))
+more-edits:
+	@bash bench/more_edits.sh $(EDITED)
