@@ -52,8 +52,6 @@ fn counted<T>(
 }
 
 impl Site for TwoFiles {
-    ghost use Rattle.std.specs.Prelude.{⊥};
-
     ghost honest = { λ _. ⊥ };
 
     ghost tells = { λ _. ⊥ };
