@@ -88,8 +88,8 @@ fn peers_of(alloc: Global, core: &Core) -> Result<Vec<NodeId>, PlayFault> {
     Ok(peers)
 }
 
-// The first message that the node gets from itself.
-fn delivery(alloc: Global, core: &Core, kind: Kind) -> Result<Event, PlayFault> {
+/// The first message that the node gets from itself.
+pub fn delivery(alloc: Global, core: &Core, kind: Kind) -> Result<Event, PlayFault> {
     let node = core.me();
     let message = match kind {
         Kind::Store => Message::Store {

@@ -2,8 +2,11 @@
 #![tactic(auto)]
 
 mod bench;
+mod bench_fault;
 mod cluster;
 mod delivery;
+mod disk_bench;
+mod engine_bench;
 mod node_fault;
 mod play;
 mod play_fault;
@@ -11,10 +14,15 @@ mod script;
 mod sent;
 mod station;
 mod texts;
+mod two_files;
 
 use bench::{Kind, Load};
+use cc_site::MemorySite;
 use clap::Command;
+use disk_bench::{FOLDER, new_sides, sync_nanoseconds};
+use engine_bench::{EngineLoad, Hundredths, ROUND, SECOND, engine_times};
 use play::play;
+use std::fs;
 use std::process::ExitCode;
 use std::time::Instant;
 
@@ -26,6 +34,11 @@ const BAD_COMMAND_LINE: u8 = 2;
 
 // A fault ended the run.
 const FAULT: u8 = 1;
+
+// How many stores of the engine are timed at most, where few rows make them short, and where many make them long.
+const SHORT_STORES: u64 = 102_400;
+
+const LONG_STORES: u64 = 25_600;
 
 fn main(rt: HostRuntime) -> anyhow::Result<ExitCode> {
     let alloc = rt.alloc();
@@ -51,6 +64,7 @@ fn main(rt: HostRuntime) -> anyhow::Result<ExitCode> {
     };
     if matches.subcommand_name() == Some("bench") {
         print_times(&rt)?;
+        print_engine_times(&rt)?;
         return Ok(ExitCode::SUCCESS);
     }
     let mut input = rt.reader();
@@ -83,4 +97,42 @@ fn nanoseconds(rt: &HostRuntime, nodes: u32, kind: Kind, count: u64) -> anyhow::
     let start = Instant::now(rt)?;
     let taken = load.deliver(alloc, count)?;
     Ok(start.elapsed(rt)?.as_nanos() / u128::from(taken.max(1)))
+}
+
+// For views of 1, 16 and 256 rows and batches of 1, 8 and 64 stores, in memory and on the disk.
+fn print_engine_times(rt: &HostRuntime) -> anyhow::Result<()> {
+    fs::create_dir_all(rt, FOLDER)?;
+    let outcome = print_engine_table(rt);
+    fs::remove_dir_all(rt, FOLDER)?;
+    outcome
+}
+
+fn print_engine_table(rt: &HostRuntime) -> anyhow::Result<()> {
+    let sync = sync_nanoseconds(rt)?.max(1);
+    let syncs = SECOND / sync;
+    println!(rt; "the engine, beside a disk that makes {syncs} syncs a second, each store in a batch:")?;
+    for nodes in [1, 16, 256] {
+        for batch in [1, 8, 64] {
+            let stores = if nodes > 16 {
+                LONG_STORES
+            } else {
+                SHORT_STORES
+            };
+            let rounds = stores / ROUND;
+            print_engine_row(rt, sync, EngineLoad { nodes, batch, rounds })?;
+        }
+    }
+    Ok(())
+}
+
+// What a store takes over a site in memory, which keeps no output, and over two files; and that beside its share of the
+// two syncs of its batch.
+fn print_engine_row(rt: &HostRuntime, sync: u128, load: EngineLoad) -> anyhow::Result<()> {
+    let alloc = rt.alloc();
+    let EngineLoad { nodes, batch, .. } = load;
+    let memory = engine_times(rt, alloc, MemorySite::new(alloc, 0)?, load)?;
+    let files = engine_times(rt, alloc, new_sides(rt)?, load)?;
+    let beside = Hundredths(files.elapsed.saturating_mul(batch as u128 * 50) / sync);
+    println!(rt; "{nodes} rows, batches of {batch}: in memory {memory}; on files {files}, {beside} of its syncs")?;
+    Ok(())
 }
