@@ -1,4 +1,5 @@
 pub mod Batches
+pub mod BatchLaws
 pub mod Journals
 pub mod Codes
 pub mod Scanning

@@ -76,7 +76,9 @@ fn member(alloc: Global, nodes: u32) -> Result<Core, PlayFault> {
         beta: FOUR_FIFTHS,
         gamma: FOUR_FIFTHS,
     };
-    let fresh = Node::fresh(alloc, &opening).map_err(|_| PlayFault::NoMemory)?;
+    let Ok(fresh) = Node::fresh(alloc, &opening) else {
+        return Err(PlayFault::NoMemory);
+    };
     Ok(fresh.core().copy(alloc)?)
 }
 

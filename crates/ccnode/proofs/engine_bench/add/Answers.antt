@@ -4,7 +4,7 @@ use Rattle.cc_node.specs.Node.{after}
 use Rattle.cc_node.specs.Refusals.{decides}
 use Rattle.cc_journal.specs.declared.entry.Entry.{Entry}
 use Rattle.cc_journal.specs.Batches.{AreLawful, events_in}
-use Rattle.ccnode.proofs.Batches.{lawful_more, core_more}
+use Rattle.cc_journal.specs.BatchLaws.{lawful_more, core_more}
 use Rattle.ccnode.proofs.engine_bench.add.Goals as goal
 
 pub returns-clause-lawful : goal.returns-clause-lawful
