@@ -15,7 +15,7 @@ run:
 test:
 	rt ci
 
-# Times single events, and a script of 10,000 lines over 16 nodes. It prints figures and fails nothing.
+# Times single events, the engine in memory and on the disk, and a script of 10,000 lines over 16 nodes. It prints figures and fails nothing.
 bench:
 	@$(BUILD)
 	@./crates/ccnode/out/ccnode bench

@@ -10,7 +10,7 @@ use std::time::{Clock, Instant};
 pub const FOLDER: &str = "bench-sides";
 
 // How many syncs are timed at most.
-const SYNCS: u128 = 2_000;
+const SYNCS: u64 = 2_000;
 
 // After so many seconds no further sync begins.
 const LONG_ENOUGH: u64 = 2;
@@ -42,8 +42,8 @@ pub fn sync_nanoseconds<R: Files<File = File> + Clock>(rt: &R) -> Result<u128, B
         file.sync_all()?;
         let spent = start.elapsed(rt)?;
         if spent.as_secs() >= LONG_ENOUGH {
-            return Ok(spent.as_nanos() / (before + 1));
+            return Ok(spent.as_nanos() / u128::from(before + 1));
         }
     }
-    Ok(start.elapsed(rt)?.as_nanos() / SYNCS)
+    Ok(start.elapsed(rt)?.as_nanos() / u128::from(SYNCS))
 }

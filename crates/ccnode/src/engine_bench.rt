@@ -55,7 +55,10 @@ impl fmt::Display for EngineTimes {
         let elapsed = Hundredths(self.elapsed / 10);
         let processor = Hundredths(self.processor / 10);
         let rate = SECOND / self.elapsed.max(1);
-        write!(f, "{elapsed} us ({processor} us of the processor), {rate} a second")
+        write!(
+            f,
+            "{elapsed} us ({processor} us of the processor), {rate} a second"
+        )
     }
 }
 

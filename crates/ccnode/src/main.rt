@@ -110,7 +110,9 @@ fn print_engine_times(rt: &HostRuntime) -> anyhow::Result<()> {
 fn print_engine_table(rt: &HostRuntime) -> anyhow::Result<()> {
     let sync = sync_nanoseconds(rt)?.max(1);
     let syncs = SECOND / sync;
-    println!(rt; "the engine, beside a disk that makes {syncs} syncs a second, each store in a batch:")?;
+    println!(rt;
+        "the engine, beside a disk that makes {syncs} syncs a second, each store in a batch:"
+    )?;
     for nodes in [1, 16, 256] {
         for batch in [1, 8, 64] {
             let stores = if nodes > 16 {
@@ -119,7 +121,15 @@ fn print_engine_table(rt: &HostRuntime) -> anyhow::Result<()> {
                 SHORT_STORES
             };
             let rounds = stores / ROUND;
-            print_engine_row(rt, sync, EngineLoad { nodes, batch, rounds })?;
+            print_engine_row(
+                rt,
+                sync,
+                EngineLoad {
+                    nodes,
+                    batch,
+                    rounds,
+                },
+            )?;
         }
     }
     Ok(())
@@ -133,6 +143,8 @@ fn print_engine_row(rt: &HostRuntime, sync: u128, load: EngineLoad) -> anyhow::R
     let memory = engine_times(rt, alloc, MemorySite::new(alloc, 0)?, load)?;
     let files = engine_times(rt, alloc, new_sides(rt)?, load)?;
     let beside = Hundredths(files.elapsed.saturating_mul(batch as u128 * 50) / sync);
-    println!(rt; "{nodes} rows, batches of {batch}: in memory {memory}; on files {files}, {beside} of its syncs")?;
+    println!(rt;
+        "{nodes} rows, batches of {batch}: in memory {memory}; on files {files}, {beside} of its syncs"
+    )?;
     Ok(())
 }
