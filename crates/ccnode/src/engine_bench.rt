@@ -83,6 +83,15 @@ struct Spent {
 }
 
 impl Spent {
+    // Both together.
+    fn with(&self, other: &Spent) -> Spent {
+        Spent {
+            stores: self.stores.saturating_add(other.stores),
+            elapsed: self.elapsed.saturating_add(other.elapsed),
+            processor: self.processor.saturating_add(other.processor),
+        }
+    }
+
     // What one store took. A round is some stores at least.
     fn on_one(&self) -> EngineTimes {
         let stores = u128::from(self.stores.max(1));
@@ -108,22 +117,42 @@ pub fn engine_times<S: Site + Drop, C: Clock + CpuClock>(
         elapsed: Duration::ZERO,
         processor: Duration::ZERO,
     };
-    for before in 0..load.rounds {
-        let events = next_stores(alloc, &live, &store)?;
-        let start = Instant::now(clock)?;
-        let used = clock.thread_cpu_time()?;
-        run(alloc, &mut engine, &mut live, events, load.batch)?;
-        let processor = clock.thread_cpu_time()?.saturating_sub(used);
-        spent.processor = spent.processor.saturating_add(processor);
-        spent.elapsed = spent.elapsed.saturating_add(start.elapsed(clock)?);
-        spent.stores = before.saturating_add(1).saturating_mul(ROUND);
-        let events = acknowledgements(alloc, &live)?;
-        run(alloc, &mut engine, &mut live, events, MAX_BATCH)?;
+    for _ in 0..load.rounds {
+        let round = round(clock, alloc, &mut engine, &mut live, &store, load.batch)?;
+        spent = spent.with(&round);
         if spent.elapsed.as_secs() >= LONG_ENOUGH {
             break;
         }
     }
     Ok(spent.on_one())
+}
+
+// A round of stores, which is timed, and then the acknowledgements of all posts, which aren't.
+fn round<S: Site + Drop, C: Clock + CpuClock>(
+    clock: &C,
+    alloc: Global,
+    engine: &mut Flusher<S>,
+    live: &mut Core,
+    store: &Event,
+    batch: usize,
+) -> Result<Spent, BenchFault>
+    requires owes { engine.old.owes ≡ false }
+    requires live { live.old ≡ engine.old.twin.core }
+    ensures owes { OnOk result (engine.new.owes ≡ false) }
+    ensures live { OnOk result (live.new ≡ engine.new.twin.core) }
+{
+    let events = next_stores(alloc, live, store)?;
+    let start = Instant::now(clock)?;
+    let used = clock.thread_cpu_time()?;
+    run(alloc, engine, live, events, batch)?;
+    let spent = Spent {
+        stores: ROUND,
+        processor: clock.thread_cpu_time()?.saturating_sub(used),
+        elapsed: start.elapsed(clock)?,
+    };
+    let events = acknowledgements(alloc, live)?;
+    run(alloc, engine, live, events, MAX_BATCH)?;
+    Ok(spent)
 }
 
 // The engine of the first of so many members, and its core.

@@ -1,8 +1,8 @@
 use Rattle.std.proofs.Common.{◌≡◌, false}
 use Rattle.ccnode.proofs.engine_bench.engine_times.Given as goal
 
-abbrev pub invariant-loop-before : goal.invariant-loop-before
-invariant-loop-before g l = record {
+abbrev pub invariant-loop : goal.invariant-loop-before
+invariant-loop g l = record {
   owes : l.engine.owes ≡ false;
   live : l.live ≡ l.engine.twin.core;
 }
