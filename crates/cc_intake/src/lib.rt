@@ -17,3 +17,6 @@ pub use life::{Finished, finish, start};
 pub use rule::{Lane, Life};
 pub use turner::{Turned, Turner};
 pub use worker::{Source, work};
+
+#[cfg(test)]
+mod tests;
