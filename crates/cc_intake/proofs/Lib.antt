@@ -1,0 +1,7 @@
+pub mod Lines
+pub mod Moves
+pub mod Batches
+pub mod Refusing
+pub mod Flushed
+pub mod Handing
+pub mod Talking

@@ -1,0 +1,58 @@
+-- Why a core refuses an event.
+--     own_reason              never for want of memory, nor for a full queue
+--     err_decided             the refusal of a decision
+--     refuses_own             what an intake says where its core refuses
+use Rattle.std.proofs.Common.{◌≡◌, inl, Bool, true, false, List, [], ◌∷◌, subst}
+use Rattle.std.specs.Prelude.{Option, Some, None, IfSome, Err, ⊤}
+use Rattle.std.specs.Bool.{then_some}
+use Rattle.std.specs.List.{AllByRecursion}
+use Rattle.cc_wire.specs.declared.event.Event.{Event}
+use Rattle.cc_wire.specs.declared.event.Event.TheVariants as event
+use Rattle.cc_wire.specs.declared.refusal.Refusal.{Refusal}
+use Rattle.cc_wire.specs.declared.refusal.Refusal.TheVariants as refusal
+use Rattle.cc_wire.specs.Refusals.{first_of}
+use Rattle.cc_node.specs.Core.{Core}
+use Rattle.cc_node.specs.Node.{Node}
+use Rattle.cc_node.specs.Refusals.{reasons, decides, decided}
+use Rattle.cc_intake.specs.Accepting.{Accepting}
+use Rattle.cc_intake.specs.Histories.{core_after}
+use Rattle.cc_intake.specs.Refusals.{Refuses}
+
+-- a core's reason
+abbrev IsOwn : Refusal → Type 0
+IsOwn refusal.NoMemory = ⊥
+IsOwn refusal.QueueFull = ⊥
+IsOwn r = ⊤
+
+own_if : (b : Bool) (r : Refusal) → IsOwn r → IfSome (then_some b r) IsOwn
+own_if true r own = own
+own_if false r own = tt
+
+first_own : (rs : List (Option Refusal)) → AllByRecursion (λ r. IfSome r IsOwn) rs → IfSome (first_of rs) IsOwn
+first_own [] all = tt
+first_own (None ∷ rs) all = first_own rs all.1
+first_own (Some r ∷ rs) all = all.0
+
+own_reasons : (c : Core) (e : Event) → AllByRecursion (λ r. IfSome r IsOwn) (reasons c e)
+own_reasons c event.Enter = (own_if _ _ tt, (own_if _ _ tt, (own_if _ _ tt, (own_if _ _ tt, tt))))
+own_reasons c event.Leave = (own_if _ _ tt, (own_if _ _ tt, (own_if _ _ tt, (own_if _ _ tt, tt))))
+own_reasons c (event.Deliver from n m) = (own_if _ _ tt, (own_if _ _ tt, (own_if _ _ tt, (own_if _ _ tt, (own_if _ _ tt, (own_if _ _ tt, (own_if _ _ tt, tt)))))))
+own_reasons c (event.Acked peer n) = (own_if _ _ tt, (own_if _ _ tt, tt))
+own_reasons c (event.Ask s r command) = (own_if _ _ tt, (own_if _ _ tt, (own_if _ _ tt, (own_if _ _ tt, (own_if _ _ tt, (own_if _ _ tt, (own_if _ _ tt, (own_if _ _ tt, (own_if _ _ tt, (own_if _ _ tt, (own_if _ _ tt, tt)))))))))))
+
+own_reason : (c : Core) (e : Event) → IfSome (decides c e) IsOwn
+unfolding decides
+own_reason c e = first_own (reasons c e) (own_reasons c e)
+
+is_own : (c : Core) (e : Event) (r : Refusal) → decides c e ≡ Some r → IsOwn r
+is_own c e r is = subst (λ d. IfSome d IsOwn) is (own_reason c e)
+
+pub err_decided : (d : Option Refusal) (r : Refusal) → Err r ≡ decided d → d ≡ Some r
+err_decided None r is = absurd cc
+err_decided (Some s) r is = cc
+
+pub refuses_own : (opening : Node) (i j : Accepting) (e : Event) (r : Refusal) → decides (core_after opening i.entries) e ≡ Some r → j ≡ i → Refuses opening i e r j
+refuses_own opening i j e refusal.Spent is same = (inl is, same)
+refuses_own opening i j e refusal.NoMemory is same = absurd (is_own (core_after opening i.entries) e refusal.NoMemory is)
+refuses_own opening i j e refusal.QueueFull is same = absurd (is_own (core_after opening i.entries) e refusal.QueueFull is)
+refuses_own opening i j e r is same = (is, same)

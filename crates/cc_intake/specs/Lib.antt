@@ -1,0 +1,10 @@
+pub mod Histories
+pub mod Line
+pub mod Ends
+pub mod Accepting
+pub mod Refusals
+pub mod Turning
+pub mod Putting
+pub mod Flushing
+pub mod Turns
+pub mod Talks

@@ -1,0 +1,184 @@
+//! The intake, which threads share under a lock, and their shares of what it accepted.
+
+ghost use Rattle.std.specs.Prelude.{◌≡◌, ◌≤◌, ◌<◌, ◌+◌, [], ◌∷◌, ◌++◌, length, sum, IfOk, IfErr, OnErr, MatchOption};
+ghost use Rattle.cc_intake.specs.Histories.{life_limit, core_after, entry_at};
+ghost use Rattle.cc_intake.specs.Accepting.{share_limit};
+ghost use Rattle.cc_intake.specs.Refusals.{MayAccept, Refuses};
+
+use crate::ends::{Producer, Queue};
+use crate::rule::{Lane, Life};
+use cc_journal::Entry;
+use cc_node::Core;
+use cc_wire::{Event, Refusal};
+use std::alloc::Global;
+use std::marker::Model;
+use std::sync::ledger::{Blank, Book};
+use std::sync::{Wait, ledger};
+
+// How many shares are given out in one life at most.
+const SHARE_LIMIT: u64 = 1 << 20;
+
+// How many events are accepted in one life at most.
+const LIFE_LIMIT: u64 = 1 << 61;
+
+/// How many events one thread has had accepted. Contracts see the number.
+#[derive(Drop)]
+pub struct Share<L: Life> {
+    mark: ledger::Share<L>,
+    count: u64,
+}
+
+impl<L: Life> Model for Share<L> {
+    ghost use Rattle.std.specs.Prelude.{◌≡◌, ℕ};
+
+    ghost Value = { ℕ };
+
+    ghost view = { λ s. s.count };
+
+    ghost invariant = { λ s. (s.mark.parts ≡ 1) × (s.mark.amount ≡ s.count) };
+}
+
+impl<L: Life> Share<L> {
+    /// How many events were accepted for it.
+    pub fn count(&self) -> u64
+        ensures { result ≡ self.now }
+    {
+        self.count
+    }
+}
+
+// The shares' counts, added up. With all parts they are the total.
+fn added<L: Life>(book: &mut Book<L>, all: &mut ledger::Share<L>, shares: Vec<Share<L>>) -> u64
+    requires empty { all.old.amount ≡ 0 }
+    requires room { book.old.total ≤ life_limit }
+    ensures sum { result ≡ sum shares.items }
+    ensures whole { all.old.parts + length shares.items ≡ L.parts → result ≡ book.old.total }
+{
+    let mut told = 0;
+    for share in shares {
+        let Share { mark, count } = share;
+        all.merge(mark);
+        book.audit(all);
+        told += count;
+    }
+    book.audit(all);
+    told
+}
+
+/// The core after all events that were accepted, with the end of the queue that pushes and the book of shares. Threads share
+/// it under a lock. Contracts see the entries that it has accepted, how often it found the queue full, and how many shares it
+/// gave out.
+#[derive(Drop)]
+pub struct Intake<L: Life, Q: Lane> {
+    core: Core,
+    producer: Producer<L, Q>,
+    accepted: u64,
+    book: Book<L>,
+    unissued: ledger::Share<L>,
+    issued: u64,
+}
+
+impl<L: Life, Q: Lane> Model for Intake<L, Q> {
+    ghost use Rattle.std.specs.Prelude.{◌≡◌, ◌+◌, ◌≤◌, length};
+    ghost use Rattle.cc_intake.specs.Histories.{life_limit, core_after};
+    ghost use Rattle.cc_intake.specs.Accepting.{Accepting, accepting_code, share_limit};
+
+    ghost Value = { Accepting };
+
+    ghost coded = { accepting_code };
+
+    ghost view = { λ i. record { entries = i.producer.entries; finds = i.producer.finds; issued = i.issued } };
+
+    ghost invariant = { λ i. (i.core ≡ core_after L.opening i.producer.entries) × (i.accepted ≡ length i.producer.entries) × (i.accepted ≤ life_limit) × (i.book.total ≡ i.accepted) × (i.unissued.parts + i.issued ≡ share_limit) × (i.unissued.amount ≡ 0) };
+}
+
+impl<L: Life, Q: Lane> Intake<L, Q> {
+    pub(crate) fn new(core: Core, producer: Producer<L, Q>, blank: Blank) -> Self
+        requires core { core ≡ L.opening.core }
+        requires producer { producer ≡ record { entries = []; finds = 0 } }
+        requires ledger { (blank.name ≡ L.name) × (blank.parts ≡ L.parts) × (L.parts ≡ share_limit) }
+        ensures { result ≡ record { entries = []; finds = 0; issued = 0 } }
+    {
+        let (book, unissued) = blank.open::<L>();
+        Intake {
+            core,
+            producer,
+            accepted: 0,
+            book,
+            unissued,
+            issued: 0,
+        }
+    }
+
+    // The end of the queue, how many events were accepted, how many of them the shares count, and how many were issued.
+    pub(crate) fn close(self, shares: Vec<Share<L>>) -> (Producer<L, Q>, u64, u64, u64)
+        requires { L.parts ≡ share_limit }
+        ensures producer { result.0.entries ≡ self.entries }
+        ensures accepted { result.1 ≡ length self.entries }
+        ensures told { result.2 ≡ sum shares.items }
+        ensures issued { result.3 ≡ self.issued }
+        ensures all { self.issued ≡ length shares.items → result.2 ≡ result.1 }
+    {
+        let Intake {
+            core: _,
+            producer,
+            accepted,
+            mut book,
+            mut unissued,
+            issued,
+        } = self;
+        let told = added(&mut book, &mut unissued, shares);
+        (producer, accepted, told, issued)
+    }
+
+    /// A share that counts nothing yet. It takes no memory. None where 1,048,576 were given out in this life.
+    pub fn share(&mut self) -> Option<Share<L>>
+        ensures { MatchOption result ((self.old.issued ≡ share_limit) × (self.new ≡ self.old))
+            (λ s. (s ≡ 0) × (self.old.issued < share_limit) × (self.new ≡ record { entries = self.old.entries; finds = self.old.finds; issued = self.old.issued + 1 })) }
+    {
+        if self.issued >= SHARE_LIMIT {
+            return None;
+        }
+        let mark = self.unissued.split_off(1, 0);
+        self.issued += 1;
+        Some(Share { mark, count: 0 })
+    }
+
+    /// Accepts an event, as one step on the queue, and counts it for the share. Its place in this life, from 1. A refused
+    /// event is given up, and has changed nothing: it is refused for the core's reason, else Spent after 2^61 events of this
+    /// life, else NoMemory where a growth was refused, else QueueFull where the queue was full at a moment of the call.
+    pub fn accept<R: Wait>(
+        &mut self,
+        rt: &R,
+        alloc: Global,
+        share: &mut Share<L>,
+        queue: &Queue<L, Q>,
+        event: Event,
+    ) -> Result<u64, Refusal>
+        ensures accepted { IfOk result (λ n. MayAccept L.opening self.old event × (n ≡ length self.new.entries)
+            × (self.new ≡ record { entries = self.old.entries ++ entry_at (core_after L.opening self.old.entries) event ∷ []; finds = self.old.finds; issued = self.old.issued })) }
+        ensures counted { IfOk result (λ n. (share.new ≡ share.old + 1) × (share.old < n)) }
+        ensures refused { IfErr result (λ r. Refuses L.opening self.old event r self.new) }
+        ensures uncounted { OnErr result (share.new ≡ share.old) }
+    {
+        self.core.decide(&event)?;
+        if self.accepted >= LIFE_LIMIT {
+            return Err(Refusal::Spent);
+        }
+        let Ok(made) = self.core.made(alloc, &event) else {
+            return Err(Refusal::NoMemory);
+        };
+        let Ok(copy) = event.copy(alloc) else {
+            return Err(Refusal::NoMemory);
+        };
+        let Ok(()) = self.producer.push(rt, queue, Entry { event, made }) else {
+            return Err(Refusal::QueueFull);
+        };
+        self.core.apply(&copy);
+        self.accepted += 1;
+        self.book.audit(&mut share.mark);
+        self.book.add(&mut share.mark, 1);
+        share.count += 1;
+        Ok(self.accepted)
+    }
+}

@@ -1,0 +1,22 @@
+//! Threads hand events to one flusher through a queue. What they did is the history of one thread, and the flusher's list is
+//! a prefix of it.
+#![tactic(auto)]
+
+mod ends;
+mod gate;
+mod intake;
+mod life;
+mod rule;
+mod turner;
+mod worker;
+
+pub use ends::{Ends, Queue, lane};
+pub use gate::{Gate, Gated, NoGate};
+pub use intake::{Intake, Share};
+pub use life::{Finished, finish, start};
+pub use rule::{Lane, Life};
+pub use turner::{Turned, Turner};
+pub use worker::{Source, work};
+
+#[cfg(test)]
+mod tests;

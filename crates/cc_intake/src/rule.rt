@@ -1,0 +1,131 @@
+//! The rule of the queue: what was pushed is lawful from the node that was opened, and is what was popped and then what the
+//! queue holds.
+
+use cc_journal::Entry;
+use crossbeam_queue::RuledArrayQueue;
+use crossbeam_queue::protocol::{Join, Lesson, Outcome, Protocol, Split};
+use std::collections::LinkedList;
+use std::marker::{Brand, PhantomData};
+use std::sync::ledger::Ledger;
+
+/// Names one life: the node that was opened, beside the ledger of its shares. A caller's generic function is called with
+/// `Brand` for it, so what comes out of a lock is known to be of the same life.
+///
+/// That a list was reached is known to the end of the queue that pushes, and to the one that pops only where it looked at
+/// the queue: the rule tells it of the list that is pushed now, and of no other.
+pub trait Life: Ledger {
+    ghost use Rattle.std.specs.Prelude.{List};
+    ghost use Rattle.cc_node.specs.Node.{Node};
+    ghost use Rattle.cc_journal.specs.declared.entry.Entry.{Entry};
+
+    /// The node that was opened.
+    ghost opening: { Node };
+
+    /// The queue held the end of this list at one moment.
+    ghost reached: { List Entry → Type 0 };
+}
+
+impl Life for Brand {
+    ghost use Rattle.cc_intake.specs.Line.{no_opening};
+
+    ghost opening = { no_opening };
+
+    ghost reached = { λ list. Unit {0} };
+}
+
+/// Names one queue.
+pub trait Lane {
+    ghost use Rattle.atomic_table.specs.Seated.{TableId};
+
+    ghost table: { TableId };
+}
+
+impl Lane for Brand {
+    ghost use Rattle.cc_intake.specs.Line.{unnamed};
+
+    ghost table = { unnamed };
+}
+
+// What a pass may do (push, pop), what it has pushed and popped, and how often it found the queue full or empty. No value of
+// it is made.
+pub struct Hand {
+    pub pushes: bool,
+    pub pops: bool,
+    pub sent: LinkedList<Entry>,
+    pub got: LinkedList<Entry>,
+    pub finds: u64,
+}
+
+pub struct Law<L> {
+    life: PhantomData<L>,
+}
+
+impl<L: Life> Protocol<Entry, Hand> for Law<L> {
+    ghost use Rattle.cc_intake.specs.Line.{IsOneLine, newcomer};
+
+    ghost holds = { IsOneLine L.opening L.reached };
+
+    ghost first = { newcomer };
+}
+
+pub type Ring<L> = RuledArrayQueue<Entry, Hand, Law<L>>;
+
+// A push, and what a full queue tells.
+pub struct Sent;
+
+impl Outcome<Entry, Hand> for Sent {
+    ghost use Rattle.cc_intake.specs.Line.{Pushed};
+
+    ghost then = { Pushed };
+}
+
+impl Lesson<Entry, Hand> for Sent {
+    ghost use Rattle.cc_intake.specs.Line.{EndsWith};
+
+    ghost fact = { λ v items. EndsWith v.sent items };
+}
+
+// A pop, whose list is lawful, and what an empty queue tells.
+pub struct Got<L> {
+    life: PhantomData<L>,
+}
+
+impl<L: Life> Outcome<Entry, Hand> for Got<L> {
+    ghost use Rattle.cc_intake.specs.Line.{Popped};
+
+    ghost then = { Popped L.opening };
+}
+
+impl<L: Life> Lesson<Entry, Hand> for Got<L> {
+    ghost use Rattle.std.specs.Prelude.{◌≡◌, []};
+
+    ghost fact = { λ v items. items ≡ [] → L.reached v.got };
+}
+
+// The first pass is cut into those of the two ends, and these are put together again.
+pub struct Roles;
+
+impl Split<Hand> for Roles {
+    ghost use Rattle.cc_intake.specs.Line.{producer, consumer};
+
+    ghost left = { λ v. producer v.sent v.finds };
+
+    ghost right = { λ v. consumer v.got 0 };
+}
+
+impl Join<Hand> for Roles {
+    ghost use Rattle.cc_intake.specs.Line.{both, nobody};
+
+    ghost both = { both };
+
+    ghost spent = { nobody };
+}
+
+// Both ends together know the whole.
+pub struct Whole;
+
+impl Lesson<Entry, Hand> for Whole {
+    ghost use Rattle.std.specs.Prelude.{◌≡◌, ◌++◌};
+
+    ghost fact = { λ v items. v.sent ≡ v.got ++ items };
+}

@@ -1,0 +1,229 @@
+//! The turner, which hands what it pops to its engine, batch by batch. Nothing here takes the lock of the intake.
+
+ghost use Rattle.std.specs.Prelude.{◌≡◌, ◌↔◌, ◌≤◌, ◌<◌, ◌^◌, [], None, Some, Ok, Err, false, nat_lt, length, IsTrue, IfOk, IfErr, OnOk, MatchResult};
+ghost use Rattle.std.specs.FinMap as table;
+ghost use Rattle.cc_links.specs.Links.{heard_from};
+ghost use Rattle.cc_node.specs.Node.{after};
+ghost use Rattle.cc_journal.specs.Batches.{AreLawful, events_in};
+ghost use Rattle.cc_flush.specs.Engine.{IsPutFrom, room_limit};
+ghost use Rattle.cc_flush.specs.Outlet.{Puts};
+ghost use Rattle.cc_flush.specs.Standing.{resends, reply_again, ack_again};
+ghost use Rattle.cc_intake.specs.Histories.{life_limit};
+ghost use Rattle.cc_intake.specs.Turning.{listed, popped};
+ghost use Rattle.cc_intake.specs.Putting.{MomentsStayGood, StaysAtRest};
+ghost use Rattle.cc_intake.specs.Flushing.{Flushes, GivesUp};
+ghost use Rattle.cc_intake.specs.Turns.{IsDone, Gathers, Turns};
+
+use crate::ends::{Consumer, Queue};
+use crate::rule::{Lane, Life};
+use cc_flush::{Failed, Flusher};
+use cc_journal::{Batch, Entry};
+use cc_site::{DeviceFault, Site};
+use cc_views::NodeId;
+use cc_wire::event_len;
+use std::marker::Model;
+use std::sync::Wait;
+
+// How many entries a batch has at most.
+const BATCH_LIMIT: usize = 64;
+
+/// How many events a turn took, and whether the engine has no room for another record.
+#[derive(Clone, Copy, Debug, PartialEq, Eq)]
+pub struct Turned {
+    pub events: usize,
+    pub full: bool,
+}
+
+/// An engine with the end of the queue that pops. Contracts see the entries that it has handed to the engine, the one that
+/// it keeps for the next turn, how often it found the queue empty, and the engine.
+#[derive(Drop)]
+pub struct Turner<S: Site, L: Life, Q: Lane> {
+    engine: Flusher<S>,
+    consumer: Consumer<L, Q>,
+    kept: Option<Entry>,
+    // How many entries were handed to the engine.
+    flushed: u64,
+}
+
+impl<S: Site, L: Life, Q: Lane> Model for Turner<S, L, Q> {
+    ghost use Rattle.std.specs.Prelude.{take};
+    ghost use Rattle.cc_intake.specs.Turning.{Turning, turning_code, IsTurner};
+
+    ghost Value = { Turning S };
+
+    ghost coded = { turning_code S.code };
+
+    ghost view = { λ t. record { handed = take t.flushed t.consumer.entries; kept = t.kept; finds = t.consumer.finds; engine = t.engine } };
+
+    ghost invariant = { λ t. IsTurner L.opening t.consumer.entries t.flushed t.kept t.engine };
+}
+
+impl<S: Site, L: Life, Q: Lane> Turner<S, L, Q> {
+    pub(crate) fn new(engine: Flusher<S>, consumer: Consumer<L, Q>) -> Self
+        requires owes { engine.owes ≡ false }
+        requires twin { engine.failed ≡ None → engine.twin ≡ L.opening }
+        requires consumer { consumer ≡ record { entries = []; finds = 0 } }
+        ensures { result ≡ record { handed = []; kept = None; finds = 0; engine = engine } }
+    {
+        Turner {
+            engine,
+            consumer,
+            kept: None,
+            flushed: 0,
+        }
+    }
+
+    // The engine, the end of the queue, the kept entry, and how many entries were handed over.
+    pub(crate) fn close(self) -> (Flusher<S>, Consumer<L, Q>, Option<Entry>, u64)
+        ensures engine { result.0 ≡ self.engine }
+        ensures consumer { result.1.entries ≡ popped self }
+        ensures kept { result.2 ≡ self.kept }
+        ensures flushed { (result.3 ≡ length self.handed) × (result.3 ≤ life_limit) }
+    {
+        let Turner {
+            engine,
+            consumer,
+            kept,
+            flushed,
+        } = self;
+        (engine, consumer, kept, flushed)
+    }
+
+    /// The engine, which owes nothing. While it goes on, its node is that after the entries handed over.
+    pub fn engine(&self) -> &Flusher<S>
+        ensures engine { result.now ≡ self.now.engine }
+        ensures owes { result.now.owes ≡ false }
+        ensures twin { result.now.failed ≡ None → result.now.twin ≡ after L.opening (events_in self.now.handed) }
+    {
+        &self.engine
+    }
+
+    /// Takes what waits in the queue, up to one batch of 64 events that one record takes, makes it durable and puts its
+    /// outputs. An entry that the record doesn't take is kept for the next turn. `full` is told where the engine had no room
+    /// at the start, and then nothing was taken. It fails only where a disk call does: then the batch is given up, and the
+    /// engine has ended.
+    pub fn turn<R: Wait>(&mut self, rt: &R, queue: &Queue<L, Q>) -> Result<Turned, Failed>
+        ensures turned { Turns S.honest S.tells S.state S.sent S.moment S.left_since S.failures L.reached self.old self.new result }
+        ensures twin { OnOk result (self.new.engine.twin ≡ after L.opening (events_in self.new.handed)) }
+        ensures full { IfOk result (λ t. IsTrue t.full ↔ (room_limit ≤ self.old.engine.used)) }
+        ensures untouched { IfOk result (λ t. IsTrue t.full → self.new ≡ self.old) }
+        ensures failed { IfErr result (λ f. (self.new.engine.failed ≡ Some f.fault) × (self.new.engine.twin ≡ self.old.engine.twin)) }
+        ensures ended { (fault : DeviceFault) → self.old.engine.failed ≡ Some fault → (result ≡ Err (record { fault = fault })) × (self.new ≡ self.old) }
+    {
+        if let Some(fault) = self.engine.fault() {
+            return Err(Failed { fault });
+        }
+        if !self.engine.room() {
+            return Ok(Turned {
+                events: 0,
+                full: true,
+            });
+        }
+        let kept = self.kept.take();
+        let (batch, kept) = gather(rt, queue, &mut self.consumer, kept);
+        self.kept = kept;
+        let events = batch.len();
+        self.flushed += events as u64;
+        flush(&mut self.engine, batch)?;
+        Ok(Turned {
+            events,
+            full: false,
+        })
+    }
+
+    /// Puts each kept post again, as `Flusher::resend` does, from the node as it is durable.
+    pub fn resend(&mut self) -> Result<u64, Failed>
+        ensures lists { self.new ≡ record self.old { engine = self.new.engine } }
+        ensures ended { (fault : DeviceFault) → self.old.engine.failed ≡ Some fault → (result ≡ Err (record { fault = fault })) × (self.new ≡ self.old) }
+        ensures count { self.old.engine.failed ≡ None → result ≡ Ok (length (resends self.old.engine.twin)) }
+        ensures same { IsPutFrom self.old.engine self.new.engine }
+        ensures puts { self.old.engine.failed ≡ None → Puts S.honest S.tells S.state S.sent S.moment S.left_since S.failures (resends self.old.engine.twin) self.old.engine.site self.new.engine.site }
+        ensures every_moment { MomentsStayGood S.honest S.tells S.state S.sent S.moment S.left_since self.old.engine self.new.engine }
+        ensures at_rest { StaysAtRest S.honest S.tells S.state S.sent self.old.engine self.new.engine }
+    {
+        self.engine.resend()
+    }
+
+    /// Puts the kept answer of a session again, as `Flusher::again` does, from the node as it is durable.
+    pub fn again(&mut self, session: u64) -> Result<bool, Failed>
+        ensures lists { self.new ≡ record self.old { engine = self.new.engine } }
+        ensures ended { (fault : DeviceFault) → self.old.engine.failed ≡ Some fault → (result ≡ Err (record { fault = fault })) × (self.new ≡ self.old) }
+        ensures kept { self.old.engine.failed ≡ None → result ≡ Ok (table.contains_key self.old.engine.twin.outbox.answers session) }
+        ensures same { IsPutFrom self.old.engine self.new.engine }
+        ensures puts { self.old.engine.failed ≡ None → Puts S.honest S.tells S.state S.sent S.moment S.left_since S.failures (reply_again session self.old.engine.twin) self.old.engine.site self.new.engine.site }
+        ensures every_moment { MomentsStayGood S.honest S.tells S.state S.sent S.moment S.left_since self.old.engine self.new.engine }
+        ensures at_rest { StaysAtRest S.honest S.tells S.state S.sent self.old.engine self.new.engine }
+    {
+        self.engine.again(session)
+    }
+
+    /// Acknowledges again what was heard last from a peer, as `Flusher::reack` does, from the node as it is durable.
+    pub fn reack(&mut self, peer: NodeId) -> Result<bool, Failed>
+        ensures lists { self.new ≡ record self.old { engine = self.new.engine } }
+        ensures ended { (fault : DeviceFault) → self.old.engine.failed ≡ Some fault → (result ≡ Err (record { fault = fault })) × (self.new ≡ self.old) }
+        ensures heard { self.old.engine.failed ≡ None → result ≡ Ok (nat_lt 0 (heard_from peer self.old.engine.twin.core.links)) }
+        ensures same { IsPutFrom self.old.engine self.new.engine }
+        ensures puts { self.old.engine.failed ≡ None → Puts S.honest S.tells S.state S.sent S.moment S.left_since S.failures (ack_again peer self.old.engine.twin) self.old.engine.site self.new.engine.site }
+        ensures every_moment { MomentsStayGood S.honest S.tells S.state S.sent S.moment S.left_since self.old.engine self.new.engine }
+        ensures at_rest { StaysAtRest S.honest S.tells S.state S.sent self.old.engine self.new.engine }
+    {
+        self.engine.reack(peer)
+    }
+}
+
+// Pops entries, up to one batch that begins with the kept one.
+fn gather<L: Life, Q: Lane, R: Wait>(
+    rt: &R,
+    queue: &Queue<L, Q>,
+    consumer: &mut Consumer<L, Q>,
+    kept: Option<Entry>,
+) -> (Batch, Option<Entry>)
+    ensures gathers { Gathers consumer.old.entries kept result.0 result.1 consumer.new.entries }
+    ensures done { IsDone L.reached result.0 result.1 consumer.new.entries consumer.old.finds consumer.new.finds }
+    ensures lawful { AreLawful L.opening consumer.new.entries }
+    ensures limit { length consumer.new.entries ≤ life_limit }
+{
+    consumer.look();
+    let mut batch = begun(kept);
+    while batch.len() < BATCH_LIMIT {
+        let Some(entry) = consumer.pop(rt, queue) else {
+            return (batch, None);
+        };
+        if let Err(entry) = batch.push(entry) {
+            return (batch, Some(entry));
+        }
+    }
+    (batch, None)
+}
+
+// A batch with the kept entry, which a record takes.
+fn begun(kept: Option<Entry>) -> Batch
+    ensures { result ≡ listed kept }
+{
+    let mut batch = Batch::new();
+    if let Some(entry) = kept {
+        event_len(&entry.event);
+        match batch.push(entry) {
+            Ok(()) => {}
+            Err(_) => unreachable!(),
+        }
+    }
+    batch
+}
+
+// Makes a batch durable and puts its outputs, if it has any entry.
+fn flush<S: Site>(engine: &mut Flusher<S>, batch: Batch) -> Result<(), Failed>
+    requires owes { engine.old.owes ≡ false }
+    requires goes_on { engine.old.failed ≡ None }
+    requires lawful { AreLawful engine.old.twin batch }
+    requires room { engine.old.used < 2 ^ 61 }
+    ensures { MatchResult result
+        (λ _. Flushes S.honest S.tells S.state S.sent S.moment S.left_since S.failures batch engine.old engine.new)
+        (λ f. GivesUp S.honest S.tells S.state S.sent S.moment S.left_since S.failures batch engine.old engine.new f.fault) }
+{
+    if batch.len() > 0 {
+        let landed = engine.commit(batch)?;
+        engine.release(landed);
+    }
+    Ok(())
+}

@@ -1,0 +1,73 @@
+//! A worker, which brings the events of a source to the intake.
+
+ghost use Rattle.std.specs.Prelude.{◌≡◌, ◌+◌, List};
+ghost use Rattle.cc_intake.specs.Talks.{Answer, Talks, places_of, PlacesRise, step, IsAbove};
+
+use crate::ends::Queue;
+use crate::gate::Gate;
+use crate::intake::{Intake, Share};
+use crate::rule::{Lane, Life};
+use cc_wire::{Event, Refusal};
+use std::alloc::Global;
+use std::sync::{Mutex, Wait};
+
+/// Where a worker's events come from, and where their answers go.
+pub trait Source {
+    ghost use Rattle.std.specs.Prelude.{Option};
+    ghost use Rattle.cc_wire.specs.declared.event.Event.{Event};
+    ghost use Rattle.cc_intake.specs.Talks.{Answer};
+
+    /// What `next` gives, and what it leaves.
+    ghost gives: { Self → Option Event → Self → Type 0 };
+
+    /// What an answer leaves.
+    ghost hears: { Self → Answer → Self → Type 0 };
+
+    /// The next event. None at the end.
+    fn next(&mut self) -> Option<Event>
+        ensures { gives self.old result self.new };
+
+    /// The answer to the event that was given last.
+    fn told(&mut self, answer: Result<u64, Refusal>)
+        ensures { hears self.old answer self.new };
+}
+
+/// Brings each event of a source to the intake, under the lock, and tells the source its answer, until there is no further
+/// one. The gate is called round each accept, outside the lock. What finds no memory is answered NoMemory.
+pub fn work<L: Life, Q: Lane, G: Gate, S: Source, R: Wait>(
+    rt: &R,
+    alloc: Global,
+    lock: &Mutex<Intake<L, Q>>,
+    queue: &Queue<L, Q>,
+    share: &mut Share<L>,
+    gate: &G,
+    source: &mut S,
+)
+    ensures { (answers : List Answer) × Talks S.gives S.hears source.old answers source.new × (share.new ≡ share.old + places_of answers) × PlacesRise share.old answers }
+{
+    for _ in rt.forever() {
+        let Some(event) = source.next() else {
+            return;
+        };
+        gate.before_accept();
+        let answer = bring(rt, alloc, lock, queue, share, event);
+        gate.after_accept();
+        source.told(answer);
+    }
+    unreachable!()
+}
+
+// One accept under the lock, which is free again at the return.
+fn bring<L: Life, Q: Lane, R: Wait>(
+    rt: &R,
+    alloc: Global,
+    lock: &Mutex<Intake<L, Q>>,
+    queue: &Queue<L, Q>,
+    share: &mut Share<L>,
+    event: Event,
+) -> Result<u64, Refusal>
+    ensures count { share.new ≡ step result share.old }
+    ensures above { IsAbove result share.old }
+{
+    lock.lock(rt).accept(rt, alloc, share, queue, event)
+}
