@@ -1,5 +1,7 @@
 //! Formatting, opening and committing, and what a crash leaves of them.
 
+mod commits;
+
 use super::*;
 use cc_changes::Fraction;
 use cc_checkpoint::OpenFault;

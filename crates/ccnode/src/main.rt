@@ -142,7 +142,7 @@ fn print_engine_row(rt: &HostRuntime, sync: u128, load: EngineLoad) -> anyhow::R
     let EngineLoad { nodes, batch, .. } = load;
     let memory = engine_times(rt, alloc, MemorySite::new(alloc, 0)?, load)?;
     let files = engine_times(rt, alloc, new_sides(rt)?, load)?;
-    let beside = Hundredths(files.elapsed.saturating_mul(batch as u128 * 50) / sync);
+    let beside = Hundredths(files.elapsed.saturating_mul(batch as u128 * 50) / sync.max(1));
     println!(rt;
         "{nodes} rows, batches of {batch}: in memory {memory}; on files {files}, {beside} of its syncs"
     )?;
