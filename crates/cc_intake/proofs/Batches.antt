@@ -8,7 +8,7 @@ use Rattle.cc_journal.specs.Batches.{AreLawful, events_in}
 use Rattle.cc_intake.specs.Histories.{life_limit}
 use Rattle.cc_intake.specs.Turning.{listed}
 use Rattle.cc_intake.specs.Turns.{Gathers}
-use Rattle.cc_intake.proofs.Lines.{after_both, lawful_front, lawful_rest}
+use Rattle.cc_journal.specs.BatchLaws.{after_both, lawful_front, lawful_rest}
 
 take_front : (xs ys : List Entry) (n : ℕ) → n ≡ length xs → take n (xs ++ ys) ≡ xs
 take_front xs ys n is = take_at xs ys n (sym is)

@@ -1,4 +1,3 @@
-pub mod Lines
 pub mod Moves
 pub mod Batches
 pub mod Refusing

@@ -11,7 +11,7 @@ use Rattle.cc_node.specs.Refusals.{decides}
 use Rattle.cc_journal.specs.declared.entry.Entry.{Entry}
 use Rattle.cc_journal.specs.Batches.{AreLawful}
 use Rattle.cc_intake.specs.Histories.{life_limit, core_after}
-use Rattle.cc_intake.proofs.Lines.{lawful-append, lawful_front}
+use Rattle.cc_journal.specs.BatchLaws.{lawful_both, lawful_front}
 use Rattle.cc_intake.specs.declared.rule.Hand.{Hand}
 use Rattle.cc_intake.specs.Line.{hand, newcomer, producer, consumer, nobody, both, found, EndsWith, Pushed, Popped, Knows, IsOneLine}
 
@@ -66,7 +66,7 @@ pushes opening reached n port v x may room accepted its_made reach items views _
         sent = sent;
         got = h.got;
         whole = ap (λ l. l ++ x ∷ []) h.whole ∙ append_assoc h.got items (x ∷ []);
-        lawful = lawful-append opening h.sent (x ∷ []) h.lawful
+        lawful = lawful_both opening h.sent (x ∷ []) h.lawful
             (subst (λ (l : List Entry). decides (core_after opening l) x.event ≡ None) is accepted, subst (λ (l : List Entry). x.made ≡ made (core_after opening l) x.event) is its_made, tt);
         here = subst (λ (l : List Entry). reached (l ++ x ∷ [])) is reach;
         limit = subst (λ (l : List Entry). length (l ++ x ∷ []) ≤ life_limit) is (omega (arith, length-append v.sent (x ∷ [])));

@@ -3,7 +3,7 @@ use Rattle.cc_wire.specs.declared.event.Event.{Event}
 use Rattle.cc_node.specs.Core.{Core, next}
 use Rattle.cc_intake.specs.Histories.{core_after}
 use Rattle.cc_intake.specs.Ends.{End}
-use Rattle.cc_intake.proofs.Lines.{core_more}
+use Rattle.cc_journal.specs.BatchLaws.{core_more}
 use Rattle.cc_intake.proofs.Refusing.{err_decided, refuses_own}
 use Rattle.std.proofs.lemmas.Result.{err_from_is_err_and}
 use Rattle.std.specs.Prelude.{Some}
