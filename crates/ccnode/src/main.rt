@@ -99,7 +99,8 @@ fn nanoseconds(rt: &HostRuntime, nodes: u32, kind: Kind, count: u64) -> anyhow::
     Ok(start.elapsed(rt)?.as_nanos() / u128::from(taken.max(1)))
 }
 
-// For views of 1, 16 and 256 rows and batches of 1, 8 and 64 stores, in memory and on the disk.
+// For views of 1, 16 and 256 rows and batches of 1 and 8 stores and of as many as they have at most, in memory and on
+// the disk.
 fn print_engine_times(rt: &HostRuntime) -> anyhow::Result<()> {
     fs::create_dir_all(rt, FOLDER)?;
     let outcome = print_engine_table(rt);
@@ -114,22 +115,19 @@ fn print_engine_table(rt: &HostRuntime) -> anyhow::Result<()> {
         "the engine, beside a disk that makes {syncs} syncs a second, each store in a batch:"
     )?;
     for nodes in [1, 16, 256] {
-        for batch in [1, 8, 64] {
-            let stores = if nodes > 16 {
-                LONG_STORES
-            } else {
-                SHORT_STORES
+        // A record doesn't take 64 stores of 256 rows.
+        let (stores, most) = match nodes {
+            256 => (LONG_STORES, 32),
+            _ => (SHORT_STORES, 64),
+        };
+        let rounds = stores / ROUND;
+        for batch in [1, 8, most] {
+            let load = EngineLoad {
+                nodes,
+                batch,
+                rounds,
             };
-            let rounds = stores / ROUND;
-            print_engine_row(
-                rt,
-                sync,
-                EngineLoad {
-                    nodes,
-                    batch,
-                    rounds,
-                },
-            )?;
+            print_engine_row(rt, sync, load)?;
         }
     }
     Ok(())
