@@ -529,7 +529,7 @@ fn after_crash<L: Life, Q: Lane, R: Wait>(
     check(number == 1, "the own number is 1")
 }
 
-// Whether that is the reply to request 1 of session 7, that the text is stored.
+// Whether that is the reply to the first request of session 7, that the text is stored.
 fn is_stored(output: Option<&Output>) -> bool {
     match output {
         Some(

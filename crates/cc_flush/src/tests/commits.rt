@@ -67,7 +67,7 @@ fn delivery(number: u64, post: Option<Message>) -> Result<Event, Fail> {
     })
 }
 
-// A client stores `a` in session 7, as request 1.
+// A client stores `a` in session 7, as its first request.
 fn ask() -> Result<Event, Fail> {
     let text = Text::new(b"a").ok_or("a is a text")?;
     Ok(Event::Ask {
