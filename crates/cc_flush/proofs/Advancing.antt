@@ -26,11 +26,10 @@ use Rattle.cc_journal.proofs.Rests.{rests_more_good}
 use Rattle.cc_flush.specs.declared.life.Action.{Action}
 use Rattle.cc_flush.specs.Engine.{Engine, IsPutFrom, room_limit}
 use Rattle.cc_flush.specs.Outlet.{Puts}
+use Rattle.cc_flush.specs.Flushing.{Flushes}
 use Rattle.cc_flush.specs.Lives.{events_by, events_of, outputs_by, outputs_of, BeginsWithTurn, HasLived, Advances, Forfeits, HasRun}
 use Rattle.cc_flush.proofs.Committed.{lawful_after}
-
-both_ways : {P Q R : Type 0} → P ↔ Q → Q ↔ R → P ↔ R
-both_ways first then = (λ p. then.0 (first.0 p), λ r. first.1 (then.1 r))
+use Rattle.cc_flush.proofs.Flushing.{both_ways}
 
 -- ---- lists of actions
 
@@ -147,56 +146,23 @@ module _ {D : Type 0} (honest tells : D → Type 0) (state : D → Side → Side
           same_failures = run.same_failures;
         }
 
-  -- what making a batch durable ensures, and what putting its outputs does
-  pub record Written (batch : List Entry) (old mid : Engine D) : Type 0 where
-    pub same_twin : mid.twin ≡ old.twin
-    pub goes_on : mid.failed ≡ None
-    pub same_generation : mid.generation ≡ old.generation
-    pub same_honest : honest old.site ↔ honest mid.site
-    pub same_told : (tells old.site ↔ tells mid.site) × (sent mid.site ≡ sent old.site)
-    pub same_failures : failures mid.site ≡ failures old.site
-    pub moments : honest old.site → old.failed ≡ None → (start : Node) (events : List Event) (opening : ℕ) → old.twin ≡ after start events
-        → IsAtRest (state old.site) (sent old.site) old.at old.generation start events opening
-        → EachMoment moment left_since old.site mid.site (IsGood start (events ++ events_in batch) (length events) opening)
-    pub rests : honest old.site → old.failed ≡ None → (start : Node) (events : List Event) (opening : ℕ) → old.twin ≡ after start events
-        → IsAtRest (state old.site) (sent old.site) old.at old.generation start events opening
-        → IsAtRest (state mid.site) (sent mid.site) mid.at mid.generation start (events ++ events_in batch) opening
-
-  pub record Released (batch : List Entry) (mid new : Engine D) : Type 0 where
-    pub twin : new.twin ≡ after mid.twin (events_in batch)
-    pub owes : new.owes ≡ false
-    pub goes_on : new.failed ≡ mid.failed
-    pub same_generation : new.generation ≡ mid.generation
-    pub same_honest : honest mid.site ↔ honest new.site
-    pub told : tells new.site → tells mid.site × (sent new.site ≡ sent mid.site ++ line mid.twin (events_in batch))
-    pub same_failures : failures new.site ≡ failures mid.site
-    pub moments : honest mid.site → tells new.site → (start : Node) (events : List Event) (opening durable : ℕ) → mid.twin ≡ after start events
-        → IsAtRest (state mid.site) (sent mid.site) mid.at mid.generation start (events ++ events_in batch) opening → durable ≤ length (events ++ events_in batch)
-        → EachMoment moment left_since mid.site new.site (IsGood start (events ++ events_in batch) durable opening)
-    pub rests : honest mid.site → tells new.site → (start : Node) (events : List Event) (opening : ℕ) → mid.twin ≡ after start events
-        → IsAtRest (state mid.site) (sent mid.site) mid.at mid.generation start (events ++ events_in batch) opening
-        → IsAtRest (state new.site) (sent new.site) new.at new.generation start (events ++ events_in batch) opening
-
-  pub turn_advances : (old mid new : Engine D) (batch : List Entry) → AreLawful old.twin batch → old.failed ≡ None → Written batch old mid → Released batch mid new → Goes (events_in batch) (line old.twin (events_in batch)) old new
-  turn_advances old mid new batch lawful none first then = record {
-    twin = then.twin ∙ ap (λ (n : Node). after n (events_in batch)) first.same_twin;
-    owes = then.owes;
-    goes_on = then.goes_on ∙ first.goes_on;
-    same_generation = then.same_generation ∙ first.same_generation;
-    same_honest = both_ways first.same_honest then.same_honest;
-    told = λ t.
-        let late = then.told t in
-        (first.same_told.0.1 late.0, late.1 ∙ ap (λ (l : List Output). l ++ line mid.twin (events_in batch)) first.same_told.1 ∙ ap (λ (n : Node). sent old.site ++ line n (events_in batch)) first.same_twin);
-    moments = λ h t start before opening was.
-        joined moment left_since old.site mid.site new.site (IsGood start (before ++ events_in batch) (length before) opening) (first.moments h none start before opening was.twin was.rests)
-        (then.moments (first.same_honest.0 h) t start before opening (length before) (first.same_twin ∙ was.twin) (first.rests h none start before opening was.twin was.rests) (omega (arith, length-append before (events_in batch))));
+  -- a batch becomes durable, and its outputs are put
+  pub turn_advances : (old new : Engine D) (batch : List Entry) → AreLawful old.twin batch → Flushes honest tells state sent moment left_since failures batch old new → Goes (events_in batch) (line old.twin (events_in batch)) old new
+  turn_advances old new batch lawful run = record {
+    twin = run.twin;
+    owes = run.owes;
+    goes_on = run.goes_on;
+    same_generation = run.same_generation;
+    same_honest = run.same_honest;
+    told = run.told;
+    moments = λ h t start before opening was. run.every_moment h t start before opening was.twin was.rests;
     lives = λ h t start before opening was. record {
       sound = was.sound;
       lawful = IsLawful-append start before (events_in batch) was.lawful (lawful_after old.twin start before batch was.twin lawful);
-      twin = then.twin ∙ ap (λ (n : Node). after n (events_in batch)) (first.same_twin ∙ was.twin) ∙ sym (after-append start before (events_in batch));
-      rests = then.rests (first.same_honest.0 h) t start before opening (first.same_twin ∙ was.twin) (first.rests h none start before opening was.twin was.rests);
+      twin = run.twin ∙ ap (λ (n : Node). after n (events_in batch)) was.twin ∙ sym (after-append start before (events_in batch));
+      rests = run.at_rest h t start before opening was.twin was.rests;
     };
-    same_failures = then.same_failures ∙ first.same_failures;
+    same_failures = run.same_failures;
   }
 
   -- ---- the end of a life

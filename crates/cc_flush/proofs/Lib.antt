@@ -7,5 +7,6 @@ mod Resends
 mod Putting
 mod Puts
 mod Committed
+mod Flushing
 mod OneNode
 mod Advancing

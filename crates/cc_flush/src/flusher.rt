@@ -16,9 +16,11 @@ ghost use Rattle.cc_checkpoint.specs.Faults.{FaultRose};
 ghost use Rattle.cc_journal.specs.Batches.{AreLawful, events_in};
 ghost use Rattle.cc_journal.specs.Journals.{IsGood, IsAtRest};
 ghost use Rattle.cc_flush.specs.Engine.{IsPutFrom, room_limit};
+ghost use Rattle.cc_flush.specs.Flushing.{Flushes, GivesUp};
 ghost use Rattle.cc_flush.specs.Formatting.{KeepsOutlet};
 ghost use Rattle.cc_flush.specs.Opening.{OpenFails};
 ghost use Rattle.cc_flush.specs.Outlet.{Puts};
+ghost use Rattle.cc_flush.specs.Putting.{MomentsStayGood, StaysAtRest};
 ghost use Rattle.cc_flush.specs.Standing.{resends, reply_again, ack_again};
 
 use crate::back::Back;
@@ -252,6 +254,23 @@ impl<S: Site> Flusher<S> {
         self.owes = false;
     }
 
+    /// Makes a batch durable and puts its outputs: a `commit`, and then a `release`. It takes no memory. It fails only where
+    /// a disk call does; then the batch is given up, nothing is put, and the engine has ended.
+    pub fn flush(&mut self, batch: Batch) -> Result<(), Failed>
+        requires owes { self.old.owes ≡ false }
+        requires some { 1 ≤ length batch }
+        requires lawful { AreLawful self.old.twin batch }
+        requires room { self.old.used < 2 ^ 61 }
+        ensures ended { (fault : DeviceFault) → self.old.failed ≡ Some fault → (result ≡ Err (record { fault = fault })) × (self.new ≡ self.old) }
+        ensures flushed { self.old.failed ≡ None → MatchResult result
+            (λ _. Flushes S.honest S.tells S.state S.sent S.moment S.left_since S.failures batch self.old self.new)
+            (λ f. GivesUp S.honest S.tells S.state S.sent S.moment S.left_since S.failures batch self.old self.new f.fault) }
+    {
+        let landed = self.commit(batch)?;
+        self.release(landed);
+        Ok(())
+    }
+
     /// Puts each kept post of the twin on each live link that is sent it and hasn't acknowledged it, by ascending number and
     /// then by ascending peer. How many outputs those are. It makes no disk call; only an engine that has ended answers
     /// Failed, and puts nothing.
@@ -261,14 +280,8 @@ impl<S: Site> Flusher<S> {
         ensures count { self.old.failed ≡ None → result ≡ Ok (length (resends self.old.twin)) }
         ensures same { IsPutFrom self.old self.new }
         ensures puts { self.old.failed ≡ None → Puts S.honest S.tells S.state S.sent S.moment S.left_since S.failures (resends self.old.twin) self.old.site self.new.site }
-        ensures every_moment { S.honest self.old.site → S.tells self.new.site → self.old.failed ≡ None → (start : NodeValue) (events : List EventValue) (opening : ℕ)
-            → IsLawfulNode start → IsLawful start events → self.old.twin ≡ after start events
-            → IsAtRest (S.state self.old.site) (S.sent self.old.site) self.old.at self.old.generation start events opening
-            → EachMoment S.moment S.left_since self.old.site self.new.site (IsGood start events (length events) opening) }
-        ensures at_rest { S.honest self.old.site → S.tells self.new.site → self.old.failed ≡ None → (start : NodeValue) (events : List EventValue) (opening : ℕ)
-            → IsLawfulNode start → IsLawful start events → self.old.twin ≡ after start events
-            → IsAtRest (S.state self.old.site) (S.sent self.old.site) self.old.at self.old.generation start events opening
-            → IsAtRest (S.state self.new.site) (S.sent self.new.site) self.new.at self.new.generation start events opening }
+        ensures every_moment { MomentsStayGood S.honest S.tells S.state S.sent S.moment S.left_since self.old self.new }
+        ensures at_rest { StaysAtRest S.honest S.tells S.state S.sent self.old self.new }
     {
         self.check()?;
         Ok(put_kept_posts(&self.node, &mut self.site))
@@ -282,14 +295,8 @@ impl<S: Site> Flusher<S> {
         ensures kept { self.old.failed ≡ None → result ≡ Ok (table.contains_key self.old.twin.outbox.answers session) }
         ensures same { IsPutFrom self.old self.new }
         ensures puts { self.old.failed ≡ None → Puts S.honest S.tells S.state S.sent S.moment S.left_since S.failures (reply_again session self.old.twin) self.old.site self.new.site }
-        ensures every_moment { S.honest self.old.site → S.tells self.new.site → self.old.failed ≡ None → (start : NodeValue) (events : List EventValue) (opening : ℕ)
-            → IsLawfulNode start → IsLawful start events → self.old.twin ≡ after start events
-            → IsAtRest (S.state self.old.site) (S.sent self.old.site) self.old.at self.old.generation start events opening
-            → EachMoment S.moment S.left_since self.old.site self.new.site (IsGood start events (length events) opening) }
-        ensures at_rest { S.honest self.old.site → S.tells self.new.site → self.old.failed ≡ None → (start : NodeValue) (events : List EventValue) (opening : ℕ)
-            → IsLawfulNode start → IsLawful start events → self.old.twin ≡ after start events
-            → IsAtRest (S.state self.old.site) (S.sent self.old.site) self.old.at self.old.generation start events opening
-            → IsAtRest (S.state self.new.site) (S.sent self.new.site) self.new.at self.new.generation start events opening }
+        ensures every_moment { MomentsStayGood S.honest S.tells S.state S.sent S.moment S.left_since self.old self.new }
+        ensures at_rest { StaysAtRest S.honest S.tells S.state S.sent self.old self.new }
     {
         self.check()?;
         Ok(put_kept_answer(&self.node, &mut self.site, session))
@@ -303,14 +310,8 @@ impl<S: Site> Flusher<S> {
         ensures heard { self.old.failed ≡ None → result ≡ Ok (nat_lt 0 (heard_from peer self.old.twin.core.links)) }
         ensures same { IsPutFrom self.old self.new }
         ensures puts { self.old.failed ≡ None → Puts S.honest S.tells S.state S.sent S.moment S.left_since S.failures (ack_again peer self.old.twin) self.old.site self.new.site }
-        ensures every_moment { S.honest self.old.site → S.tells self.new.site → self.old.failed ≡ None → (start : NodeValue) (events : List EventValue) (opening : ℕ)
-            → IsLawfulNode start → IsLawful start events → self.old.twin ≡ after start events
-            → IsAtRest (S.state self.old.site) (S.sent self.old.site) self.old.at self.old.generation start events opening
-            → EachMoment S.moment S.left_since self.old.site self.new.site (IsGood start events (length events) opening) }
-        ensures at_rest { S.honest self.old.site → S.tells self.new.site → self.old.failed ≡ None → (start : NodeValue) (events : List EventValue) (opening : ℕ)
-            → IsLawfulNode start → IsLawful start events → self.old.twin ≡ after start events
-            → IsAtRest (S.state self.old.site) (S.sent self.old.site) self.old.at self.old.generation start events opening
-            → IsAtRest (S.state self.new.site) (S.sent self.new.site) self.new.at self.new.generation start events opening }
+        ensures every_moment { MomentsStayGood S.honest S.tells S.state S.sent S.moment S.left_since self.old self.new }
+        ensures at_rest { StaysAtRest S.honest S.tells S.state S.sent self.old self.new }
     {
         self.check()?;
         Ok(put_ack_again(&self.node, &mut self.site, peer))

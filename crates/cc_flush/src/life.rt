@@ -28,8 +28,7 @@ pub enum Action {
 }
 
 impl<S: Site> Flusher<S> {
-    /// Carries out actions in turn, of which a Turn is a `commit` and then a `release`, and each other one the call of its
-    /// name. Before a Turn without room for its batch it ends with Ok, and the rest is given up. Where a disk call fails it
+    /// Carries out actions in turn, of which a Turn is a `flush`, and each other one the call of its name. Before a Turn without room for its batch it ends with Ok, and the rest is given up. Where a disk call fails it
     /// ends at once, and the engine has ended.
     pub fn run_life(&mut self, actions: Vec<Action>) -> Result<(), Failed>
         requires owes { self.old.owes ≡ false }
@@ -85,8 +84,7 @@ impl<S: Site> Flusher<S> {
     {
         match action {
             Action::Turn(batch) => {
-                let landed = self.commit(batch)?;
-                self.release(landed);
+                self.flush(batch)?;
             }
             Action::Resend => {
                 self.resend()?;

@@ -1,24 +1,17 @@
--- How a batch goes through an engine.
---     flushed_none            a batch with no entry
---     Written, Released       what making it durable ensures, and what putting its outputs does
---     flushed                 both, one after the other
-use Rattle.std.proofs.Common.{◌≡◌, ℕ, ◌≤◌, List, [], ◌∷◌, ◌++◌, length, refl, sym, ◌∙◌, ap, subst, arith, append-nil, length-append}
-use Rattle.std.specs.Prelude.{◌↔◌, false, None}
+-- A batch with no entry goes through an engine that was asked for nothing.
+--     flushed_none
+use Rattle.std.proofs.Common.{◌≡◌, ℕ, List, [], ◌∷◌, ◌++◌, length, refl, sym, subst, arith, append-nil}
+use Rattle.std.specs.Prelude.{false, None}
 use Rattle.cc_wire.specs.declared.event.Event.{Event}
 use Rattle.cc_wire.specs.declared.output.Output.{Output}
 use Rattle.cc_site.specs.declared.site.Side.{Side}
 use Rattle.cc_site.specs.Sides.{SideState}
-use Rattle.cc_site.specs.Moments.{Contents, Possible, EachMoment, started, joined}
-use Rattle.cc_node.specs.Node.{Node, after, line}
+use Rattle.cc_site.specs.Moments.{Contents, Possible, started}
 use Rattle.cc_journal.specs.declared.entry.Entry.{Entry}
-use Rattle.cc_journal.specs.Batches.{events_in}
 use Rattle.cc_journal.specs.Journals.{IsGood, IsAtRest}
 use Rattle.cc_journal.proofs.Rests.{rests_more_good}
 use Rattle.cc_flush.specs.Engine.{Engine}
-use Rattle.cc_intake.specs.Flushing.{Flushes}
-
-both_ways : {P Q R : Type 0} → P ↔ Q → Q ↔ R → P ↔ R
-both_ways first then = (λ p. then.0 (first.0 p), λ r. first.1 (then.1 r))
+use Rattle.cc_flush.specs.Flushing.{Flushes}
 
 no_entry : (batch : List Entry) → length batch ≡ 0 → batch ≡ []
 no_entry [] none = refl
@@ -40,50 +33,3 @@ module _ {D : Type 0} (honest tells : D → Type 0) (state : D → Side → Side
     at_rest = λ h t start events opening is rests. subst (λ (l : List Event). IsAtRest (state e.site) (sent e.site) e.at e.generation start l opening) (sym (append-nil events)) rests;
     same_failures = refl;
   })
-
-  pub record Written (batch : List Entry) (old mid : Engine D) : Type 0 where
-    pub same_twin : mid.twin ≡ old.twin
-    pub goes_on : mid.failed ≡ None
-    pub same_generation : mid.generation ≡ old.generation
-    pub same_honest : honest old.site ↔ honest mid.site
-    pub same_told : (tells old.site ↔ tells mid.site) × (sent mid.site ≡ sent old.site)
-    pub same_failures : failures mid.site ≡ failures old.site
-    pub every_moment : honest old.site → old.failed ≡ None → (start : Node) (events : List Event) (opening : ℕ) → old.twin ≡ after start events
-        → IsAtRest (state old.site) (sent old.site) old.at old.generation start events opening
-        → EachMoment moment left_since old.site mid.site (IsGood start (events ++ events_in batch) (length events) opening)
-    pub at_rest : honest old.site → old.failed ≡ None → (start : Node) (events : List Event) (opening : ℕ) → old.twin ≡ after start events
-        → IsAtRest (state old.site) (sent old.site) old.at old.generation start events opening
-        → IsAtRest (state mid.site) (sent mid.site) mid.at mid.generation start (events ++ events_in batch) opening
-
-  pub record Released (batch : List Entry) (mid new : Engine D) : Type 0 where
-    pub twin : new.twin ≡ after mid.twin (events_in batch)
-    pub owes : new.owes ≡ false
-    pub goes_on : new.failed ≡ mid.failed
-    pub same_generation : new.generation ≡ mid.generation
-    pub same_honest : honest mid.site ↔ honest new.site
-    pub told : tells new.site → tells mid.site × (sent new.site ≡ sent mid.site ++ line mid.twin (events_in batch))
-    pub same_failures : failures new.site ≡ failures mid.site
-    pub every_moment : honest mid.site → tells new.site → (start : Node) (events : List Event) (opening durable : ℕ) → mid.twin ≡ after start events
-        → IsAtRest (state mid.site) (sent mid.site) mid.at mid.generation start (events ++ events_in batch) opening → durable ≤ length (events ++ events_in batch)
-        → EachMoment moment left_since mid.site new.site (IsGood start (events ++ events_in batch) durable opening)
-    pub at_rest : honest mid.site → tells new.site → (start : Node) (events : List Event) (opening : ℕ) → mid.twin ≡ after start events
-        → IsAtRest (state mid.site) (sent mid.site) mid.at mid.generation start (events ++ events_in batch) opening
-        → IsAtRest (state new.site) (sent new.site) new.at new.generation start (events ++ events_in batch) opening
-
-  pub flushed : (old mid new : Engine D) (batch : List Entry) → old.failed ≡ None → Written batch old mid → Released batch mid new → Flushes honest tells state sent moment left_since failures batch old new
-  flushed old mid new batch none first then = record {
-    twin = then.twin ∙ ap (λ (n : Node). after n (events_in batch)) first.same_twin;
-    owes = then.owes;
-    goes_on = then.goes_on ∙ first.goes_on;
-    same_generation = then.same_generation ∙ first.same_generation;
-    same_honest = both_ways first.same_honest then.same_honest;
-    told = λ t.
-        let late = then.told t in
-        (first.same_told.0.1 late.0, late.1 ∙ ap (λ (l : List Output). l ++ line mid.twin (events_in batch)) first.same_told.1 ∙ ap (λ (n : Node). sent old.site ++ line n (events_in batch)) first.same_twin);
-    every_moment = λ h t start events opening is rests.
-        joined moment left_since old.site mid.site new.site (IsGood start (events ++ events_in batch) (length events) opening) (first.every_moment h none start events opening is rests)
-        (then.every_moment (first.same_honest.0 h) t start events opening (length events) (first.same_twin ∙ is) (first.at_rest h none start events opening is rests) (omega (arith, length-append events (events_in batch))));
-    at_rest = λ h t start events opening is rests.
-        then.at_rest (first.same_honest.0 h) t start events opening (first.same_twin ∙ is) (first.at_rest h none start events opening is rests);
-    same_failures = then.same_failures ∙ first.same_failures;
-  }

@@ -16,7 +16,7 @@ use Rattle.cc_flush.specs.Engine.{Engine}
 use Rattle.cc_flush.specs.declared.flusher.Failed.{Failed}
 use Rattle.cc_intake.specs.declared.turner.Turned.{Turned}
 use Rattle.cc_intake.specs.Turning.{Turning, popped, IsTurner}
-use Rattle.cc_intake.specs.Flushing.{Flushes, GivesUp}
+use Rattle.cc_flush.specs.Flushing.{Flushes, GivesUp}
 use Rattle.cc_intake.specs.Turns.{IsDone, Turns}
 use Rattle.cc_intake.proofs.Batches.{HandedOn}
 use Rattle.cc_intake.proofs.Flushed.{flushed_none}

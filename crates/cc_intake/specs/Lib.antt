@@ -4,7 +4,5 @@ pub mod Ends
 pub mod Accepting
 pub mod Refusals
 pub mod Turning
-pub mod Putting
-pub mod Flushing
 pub mod Turns
 pub mod Talks

@@ -14,7 +14,7 @@ use Rattle.cc_journal.specs.Batches.{events_in}
 use Rattle.cc_flush.specs.declared.flusher.Failed.{Failed}
 use Rattle.cc_intake.specs.declared.turner.Turned.{Turned}
 use Rattle.cc_intake.specs.Turning.{Turning, listed, popped}
-use Rattle.cc_intake.specs.Flushing.{Flushes, GivesUp}
+use Rattle.cc_flush.specs.Flushing.{Flushes, GivesUp}
 
 abbrev pub Fits : List Entry → Entry → Type 0
 Fits batch e = (length batch < batch_limit) × (length (events_spelling (events_in (batch ++ e ∷ []))) ≤ record_limit)

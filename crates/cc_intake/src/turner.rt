@@ -6,12 +6,12 @@ ghost use Rattle.cc_links.specs.Links.{heard_from};
 ghost use Rattle.cc_node.specs.Node.{after};
 ghost use Rattle.cc_journal.specs.Batches.{AreLawful, events_in};
 ghost use Rattle.cc_flush.specs.Engine.{IsPutFrom, room_limit};
+ghost use Rattle.cc_flush.specs.Flushing.{Flushes, GivesUp};
 ghost use Rattle.cc_flush.specs.Outlet.{Puts};
+ghost use Rattle.cc_flush.specs.Putting.{MomentsStayGood, StaysAtRest};
 ghost use Rattle.cc_flush.specs.Standing.{resends, reply_again, ack_again};
 ghost use Rattle.cc_intake.specs.Histories.{life_limit};
 ghost use Rattle.cc_intake.specs.Turning.{listed, popped};
-ghost use Rattle.cc_intake.specs.Putting.{MomentsStayGood, StaysAtRest};
-ghost use Rattle.cc_intake.specs.Flushing.{Flushes, GivesUp};
 ghost use Rattle.cc_intake.specs.Turns.{IsDone, Gathers, Turns};
 
 use crate::ends::{Consumer, Queue};
@@ -23,9 +23,6 @@ use cc_views::NodeId;
 use cc_wire::event_len;
 use std::marker::Model;
 use std::sync::Wait;
-
-// How many entries a batch has at most.
-const BATCH_LIMIT: usize = 64;
 
 /// How many events a turn took, and whether the engine has no room for another record.
 #[derive(Clone, Copy, Debug, PartialEq, Eq)]
@@ -185,7 +182,7 @@ fn gather<L: Life, Q: Lane, R: Wait>(
 {
     consumer.look();
     let mut batch = begun(kept);
-    while batch.len() < BATCH_LIMIT {
+    while batch.len() < Batch::MAX_ENTRIES {
         let Some(entry) = consumer.pop(rt, queue) else {
             return (batch, None);
         };
@@ -222,8 +219,7 @@ fn flush<S: Site>(engine: &mut Flusher<S>, batch: Batch) -> Result<(), Failed>
         (λ f. GivesUp S.honest S.tells S.state S.sent S.moment S.left_since S.failures batch engine.old engine.new f.fault) }
 {
     if batch.len() > 0 {
-        let landed = engine.commit(batch)?;
-        engine.release(landed);
+        engine.flush(batch)?;
     }
     Ok(())
 }

@@ -13,7 +13,7 @@ use std::marker::Model;
 /// takes.
 #[derive(Drop)]
 pub struct Batch {
-    entries: ArrayVec<Entry, 64>,
+    entries: ArrayVec<Entry, { Self::MAX_ENTRIES }>,
     // How many bytes the record of these entries has behind its length.
     size: usize,
 }
@@ -39,6 +39,9 @@ const COUNT: usize = 1;
 const SIZE: usize = 4;
 
 impl Batch {
+    /// How many entries a batch has at most.
+    pub const MAX_ENTRIES: usize = 64;
+
     /// How many bytes a record has at most behind its length.
     pub const MAX_BYTES: usize = 262_144;
 

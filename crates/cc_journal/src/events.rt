@@ -6,13 +6,11 @@ ghost use Rattle.cc_wire.specs.Events.{SpellsEvent};
 ghost use Rattle.cc_node.specs.Node.{after, IsLawful};
 ghost use Rattle.cc_journal.specs.Reading.{SpellsEvents, BeginsWith, NoEvent, BytesLead, LeadNowhere};
 
+use crate::batch::Batch;
 use cc_node::Node;
 use cc_views::NoMemory;
 use cc_wire::{Event, WireFault, decode_event};
 use std::alloc::Global;
-
-// How many events a record has at most.
-const BATCH_LIMIT: u8 = 64;
 
 // An event behind its size, and how many bytes both have.
 #[derive(Drop)]
@@ -59,7 +57,7 @@ fn read_events(alloc: Global, bytes: &[u8]) -> Result<Option<Vec<Event>>, NoMemo
     let [count, ..] = bytes else {
         return Ok(None);
     };
-    if *count == 0 || *count > BATCH_LIMIT {
+    if *count == 0 || usize::from(*count) > Batch::MAX_ENTRIES {
         return Ok(None);
     }
     let mut events = Vec::new(alloc);

@@ -107,7 +107,7 @@ impl Model for Journal {
 
 impl Journal {
     // How many bytes a record and its gate have at most.
-    const RECORD_ROOM: usize = 262_149;
+    const RECORD_ROOM: usize = 5 + Batch::MAX_BYTES;
 
     /// A journal of that side, whose next record goes behind the closed gate at `place`. NoMemory where a growth was
     /// refused.

@@ -8,15 +8,13 @@ ghost use Rattle.cc_site.specs.declared.site.Call.TheVariants.{Read};
 ghost use Rattle.cc_site.specs.Moments.{CountsFault};
 ghost use Rattle.cc_site.specs.Reads.{OnlyReads};
 
+use crate::batch::Batch;
 use crate::events::take_events;
 use crate::journal::Journal;
 use cc_node::Node;
 use cc_site::{DeviceFault, OPEN_GATE, Side, Site, fill_buffer, length_of, read_into};
 use cc_views::NoMemory;
 use std::alloc::{AllocError, Global};
-
-// How many bytes a record has at most behind its length.
-const RECORD_LIMIT: u32 = 262_144;
 
 /// What the records of a side hold.
 #[derive(Drop)]
@@ -107,7 +105,7 @@ fn read_body<S: Site>(
     let mut number = [0; 4];
     read_into(site, side, place, &mut number)?;
     let size = u32::from_be_bytes(number);
-    if size > RECORD_LIMIT {
+    if size as usize > Batch::MAX_BYTES {
         return Err(ScanFault::Damaged(place));
     }
     if len - place - 4 < u64::from(size) {
@@ -163,7 +161,7 @@ pub fn scan<S: Site>(
     ensures fault { CountsDevice side (S.failures site.old) (S.failures site.new) result }
 {
     let len = length_of(site, side)?;
-    let mut body = Vec::with_capacity(alloc, RECORD_LIMIT as usize)?;
+    let mut body = Vec::with_capacity(alloc, Batch::MAX_BYTES)?;
     let mut node = node;
     let mut place = place;
     let mut records = 0;

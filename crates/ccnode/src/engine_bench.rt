@@ -23,9 +23,6 @@ pub const SECOND: u128 = 1_000_000_000;
 /// How many stores a round has. Then each peer acknowledges the posts, so that there is room for more.
 pub const ROUND: u64 = 256;
 
-// How many events a batch takes at most.
-const MAX_BATCH: usize = 64;
-
 // After so many seconds no further round begins.
 const LONG_ENOUGH: u64 = 1;
 
@@ -151,7 +148,7 @@ fn round<S: Site + Drop, C: Clock + CpuClock>(
         elapsed: start.elapsed(clock)?,
     };
     let events = acknowledgements(alloc, live)?;
-    run(alloc, engine, live, events, MAX_BATCH)?;
+    run(alloc, engine, live, events, Batch::MAX_ENTRIES)?;
     Ok(spent)
 }
 
@@ -267,7 +264,6 @@ fn turn<S: Site + Drop>(engine: &mut Flusher<S>, batch: Batch) -> Result<(), Ben
     if !engine.room() {
         return Err(BenchFault::Full);
     }
-    let landed = engine.commit(batch)?;
-    engine.release(landed);
+    engine.flush(batch)?;
     Ok(())
 }

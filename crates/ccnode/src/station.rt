@@ -112,11 +112,8 @@ impl Station {
         if !self.engine.room() {
             return Err(PlayFault::NoMemory);
         }
-        match self.engine.commit(batch_of(Entry { event, made })) {
-            Ok(landed) => {
-                self.engine.release(landed);
-                self.print_accepted(alloc, output)
-            }
+        match self.engine.flush(batch_of(Entry { event, made })) {
+            Ok(()) => self.print_accepted(alloc, output),
             Err(failed) => Ok(Outcome::Ended(NodeFault::Engine(failed))),
         }
     }

@@ -31,7 +31,7 @@ returns-clause-found g c honest =
     let reads = c.read_into.ensures.reads in
     let long = length-drop place bytes in
     let some : 4 ≤ length rest = omega (arith, long, c.requires.len honest, c.if-len-place-lt4.false) in
-    let few : size ≤ 262144 = omega (arith, c.if-size-gt-RECORD_LIMIT.false) in
+    let few : size ≤ 262144 = omega (arith, c.if-size-gt-MAX_BYTES.false) in
     let within : size ≤ length rest - 4 = omega (arith, long, c.requires.len honest, c.if-len-place.false, c.from.ensures) in
     body_stands rest size c.read_into.new.into c.from_be_bytes-size.ensures number some (subst IsBytes (sym number) (IsBytes-take 4 rest are_bytes)) few within c.fill_buffer.new.buffer.items
     (c.in_ok-fill_buffer.ensures.value (reads.keeps_honesty.0 honest) ∙ ap (λ (t : Side → SideState). take (vec_len c.resize.new.self) (drop (place + 4) (t side).bytes)) (reads.keeps_state honest) ∙ ap (λ (n : ℕ). take n (drop (place + 4) bytes)) c.in_ok-resize.ensures.len ∙ ap (λ (l : List ℕ). take size l) (sym (drop-drop 4 place bytes)))

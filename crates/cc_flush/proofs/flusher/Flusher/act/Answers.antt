@@ -4,62 +4,36 @@ use Rattle.cc_site.specs.Moments.{EachMoment}
 use Rattle.cc_journal.specs.Journals.{IsGood}
 use Rattle.cc_flush.specs.Lives.{events_by, outputs_by, IsTurnLawful, Advances}
 use Rattle.cc_flush.specs.Standing.{resends, reply_again, ack_again}
-use Rattle.cc_flush.proofs.Advancing.{put_advances, turn_advances, Released}
+use Rattle.cc_flush.proofs.Advancing.{put_advances, turn_advances}
 use Rattle.cc_flush.proofs.flusher.Flusher.act.Goals as goal
 
-pub returns-in_err-landed-in-Turn : goal.returns-in_err-landed-in-Turn
-returns-in_err-landed-in-Turn g c =
+pub returns-in_err-flush-in-Turn : goal.returns-in_err-flush-in-Turn
+returns-in_err-flush-in-Turn g c =
     let s = g.S.Site in
     let old = c.args.self.now in
-    let new = c.commit.new.self in
-    let e = c.in_err-landed-in-Turn.ensures in
+    let new = c.flush.new.self in
+    let e = c.flush.ensures.flushed c.requires.goes_on in
     let p = err_from_is_err_and c.from_residual.result c.from_residual.ensures.1 in
     rw (p.1, p.2) (record {
       turn = (c.in-Turn.batch, c.in-Turn.is);
-      twin = e.same_twin;
+      twin = e.twin;
       owes = e.owes;
       failed = e.failed;
       same_generation = e.same_generation;
-      same_honest = e.honest;
-      told = e.tells;
+      same_honest = e.same_honest;
+      told = e.told;
       moments = λ h start before opening was. subst (λ a. EachMoment s.moment s.left_since old.site new.site (IsGood start (before ++ events_by a) (length before) opening)) (sym c.in-Turn.is)
-          (e.every_moment h c.requires.goes_on start before opening was.twin was.rests);
-      rose = e.count c.requires.goes_on;
+          (e.every_moment h start before opening was.twin was.rests);
+      rose = e.rose;
     })
 
-pub returns-in_ok-landed-in-Turn : goal.returns-in_ok-landed-in-Turn
-returns-in_ok-landed-in-Turn g c =
+pub returns-in_ok-flush-in-Turn : goal.returns-in_ok-flush-in-Turn
+returns-in_ok-flush-in-Turn g c =
     let s = g.S.Site in
     let old = c.args.self.now in
-    let mid = c.commit.new.self in
-    let new = c.release.new.self in
-    let batch = c.in-Turn.batch in
-    let e = c.in_ok-landed-in-Turn.ensures in
-    let r = c.release.ensures in
     let lawful = subst (IsTurnLawful old.twin) c.in-Turn.is c.requires.lawful in
-    subst (λ a. Advances s.honest s.tells s.state s.sent s.moment s.left_since s.failures (events_by a) (outputs_by old.twin a) old new) (sym c.in-Turn.is)
-    (turn_advances s.honest s.tells s.state s.sent s.moment s.left_since s.failures old mid new batch lawful.1 c.requires.goes_on
-    (record {
-      same_twin = e.same_twin;
-      goes_on = e.goes_on;
-      same_generation = e.same_generation;
-      same_honest = e.honest;
-      same_told = e.tells;
-      same_failures = e.count c.requires.goes_on;
-      moments = e.every_moment;
-      rests = e.at_rest;
-    })
-    (subst (λ b. Released s.honest s.tells s.state s.sent s.moment s.left_since s.failures b mid new) e.landed (record {
-      twin = r.twin;
-      owes = r.owes;
-      goes_on = r.same.3;
-      same_generation = r.same.1;
-      same_honest = r.honest;
-      told = r.told;
-      same_failures = r.count;
-      moments = r.every_moment;
-      rests = r.at_rest;
-    })))
+    subst (λ a. Advances s.honest s.tells s.state s.sent s.moment s.left_since s.failures (events_by a) (outputs_by old.twin a) old c.flush.new.self) (sym c.in-Turn.is)
+    (turn_advances s.honest s.tells s.state s.sent s.moment s.left_since s.failures old c.flush.new.self c.in-Turn.batch lawful.1 (c.in_ok-flush.ensures.flushed c.requires.goes_on))
 
 pub returns-in_ok-resend-in-Resend : goal.returns-in_ok-resend-in-Resend
 returns-in_ok-resend-in-Resend g c =

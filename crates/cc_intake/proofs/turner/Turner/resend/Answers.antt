@@ -1,4 +1,4 @@
-use Rattle.cc_intake.specs.Putting.{MomentsStayGood, StaysAtRest}
+use Rattle.cc_flush.specs.Putting.{MomentsStayGood, StaysAtRest}
 use Rattle.std.proofs.Common.{subst}
 use Rattle.cc_intake.proofs.turner.Turner.resend.Goals as goal
 

@@ -1,10 +1,11 @@
--- A batch goes through an engine.
+-- A batch goes through an engine: it is made durable, and then its outputs are put.
 --     Flushes                 it is durable, and its outputs were put
 --     GivesUp                 a disk call failed, and it is given up
-use Rattle.std.specs.Prelude.{◌≡◌, ◌↔◌, ℕ, List, ◌++◌, length, false, None, Some}
+use Rattle.std.specs.Prelude.{◌≡◌, ◌↔◌, ◌⊎◌, ℕ, List, ◌++◌, length, false, None, Some}
 use Rattle.cc_wire.specs.declared.event.Event.{Event}
 use Rattle.cc_wire.specs.declared.output.Output.{Output}
 use Rattle.cc_site.specs.declared.site.Side.{Side}
+use Rattle.cc_site.specs.declared.site.Call.TheVariants.{Write, Sync}
 use Rattle.cc_site.specs.declared.site.DeviceFault.{DeviceFault}
 use Rattle.cc_site.specs.Sides.{SideState}
 use Rattle.cc_site.specs.Moments.{Contents, EachMoment, Rose}
@@ -42,4 +43,5 @@ module _ {D : Type 0} (honest tells : D → Type 0) (state : D → Side → Side
     pub every_moment : honest old.site → (start : Node) (events : List Event) (opening : ℕ) → old.twin ≡ after start events
         → IsAtRest (state old.site) (sent old.site) old.at old.generation start events opening
         → EachMoment moment left_since old.site new.site (IsGood start (events ++ events_in batch) (length events) opening)
+    pub device : (fault.side ≡ old.at.side) × ((fault.call ≡ Write) ⊎ (fault.call ≡ Sync))
     pub rose : Rose (failures old.site) (failures new.site)

@@ -1,0 +1,48 @@
+use Rattle.std.proofs.Common.{subst}
+use Rattle.std.proofs.lemmas.Result.{err_from_is_err_and}
+use Rattle.cc_flush.proofs.Flushing.{flushed, Released}
+use Rattle.cc_flush.proofs.flusher.Flusher.flush.Goals as goal
+
+pub returns-in_err-landed-clause-flushed : goal.returns-in_err-landed-clause-flushed
+returns-in_err-landed-clause-flushed g c none =
+    let e = c.in_err-landed.ensures in
+    let p = err_from_is_err_and c.from_residual.result c.from_residual.ensures.1 in
+    rw (p.1, p.2) (record {
+      twin = e.same_twin;
+      owes = e.owes;
+      failed = e.failed;
+      same_generation = e.same_generation;
+      same_honest = e.honest;
+      told = e.tells;
+      every_moment = λ h. e.every_moment h none;
+      device = e.device none;
+      rose = e.count none;
+    })
+
+pub returns-clause-flushed : goal.returns-clause-flushed
+returns-clause-flushed g c none =
+    let s = g.S.Site in
+    let e = c.in_ok-landed.ensures in
+    let r = c.release.ensures in
+    flushed s.honest s.tells s.state s.sent s.moment s.left_since s.failures c.args.self.now c.commit.new.self c.release.new.self c.args.batch none
+    (record {
+      same_twin = e.same_twin;
+      goes_on = e.goes_on;
+      same_generation = e.same_generation;
+      same_honest = e.honest;
+      same_told = e.tells;
+      same_failures = e.count none;
+      every_moment = e.every_moment;
+      at_rest = e.at_rest;
+    })
+    (subst (λ b. Released s.honest s.tells s.state s.sent s.moment s.left_since s.failures b c.commit.new.self c.release.new.self) e.landed (record {
+      twin = r.twin;
+      owes = r.owes;
+      goes_on = r.same.3;
+      same_generation = r.same.1;
+      same_honest = r.honest;
+      told = r.told;
+      same_failures = r.count;
+      every_moment = r.every_moment;
+      at_rest = r.at_rest;
+    }))
