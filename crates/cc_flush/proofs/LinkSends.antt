@@ -6,7 +6,7 @@
 --     next, next_sends, start_at, after_last       the next row that a loop takes, and the end of it
 use Rattle.std.proofs.Common.{◌≡◌, ℕ, suc, ◌+◌, ◌-◌, ◌<◌, ◌≤◌, Bool, true, false, cond, not, List, [], ◌∷◌, ◌++◌, map, length, get_or, drop, drop-cons, add-one, refl, sym, ap, subst, ◌∙◌}
 use Rattle.std.specs.Prelude.{Some, IfSome}
-use Rattle.std.specs.List.{AllByRecursion}
+use Rattle.std.specs.List.{AllByRecursion, flat_map}
 use Rattle.std.specs.Ordering.{nat_cmp}
 use Rattle.std.specs.FinMap as table
 use Rattle.std.specs.FinMap.Entries.{where_key, is_sorted-where_key}
@@ -25,8 +25,7 @@ use Rattle.cc_node.specs.Core.{Core, sends, send_post}
 use Rattle.cc_flush.specs.Outlet.{on_link}
 
 abbrev pub row_sends : Core → Message → List LinkRow → List Output
-row_sends c m [] = []
-row_sends c m (row ∷ rows) = on_link c m row ++ row_sends c m rows
+row_sends c m rows = flat_map (on_link c m) rows
 
 -- ---- the rows that pass a test
 

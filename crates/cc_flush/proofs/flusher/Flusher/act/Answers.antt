@@ -12,7 +12,7 @@ returns-in_err-flush-in-Turn g c =
     let s = g.S.Site in
     let old = c.args.self.now in
     let new = c.flush.new.self in
-    let e = c.flush.ensures.flushed c.requires.goes_on in
+    let e = c.in_err-flush-in-Turn.ensures.flushed c.requires.goes_on in
     let p = err_from_is_err_and c.from_residual.result c.from_residual.ensures.1 in
     rw (p.1, p.2) (record {
       turn = (c.in-Turn.batch, c.in-Turn.is);
@@ -33,7 +33,7 @@ returns-in_ok-flush-in-Turn g c =
     let old = c.args.self.now in
     let lawful = subst (IsTurnLawful old.twin) c.in-Turn.is c.requires.lawful in
     subst (λ a. Advances s.honest s.tells s.state s.sent s.moment s.left_since s.failures (events_by a) (outputs_by old.twin a) old c.flush.new.self) (sym c.in-Turn.is)
-    (turn_advances s.honest s.tells s.state s.sent s.moment s.left_since s.failures old c.flush.new.self c.in-Turn.batch lawful.1 (c.in_ok-flush.ensures.flushed c.requires.goes_on))
+    (turn_advances s.honest s.tells s.state s.sent s.moment s.left_since s.failures old c.flush.new.self c.in-Turn.batch lawful.1 (c.in_ok-flush-in-Turn.ensures.flushed c.requires.goes_on))
 
 pub returns-in_ok-resend-in-Resend : goal.returns-in_ok-resend-in-Resend
 returns-in_ok-resend-in-Resend g c =
