@@ -4,6 +4,7 @@ pub mod ChoosingLaws
 pub mod HeadLaws
 pub mod TableWrites
 pub mod TableReads
+pub mod DeviceFaults
 mod Imaged
 pub mod Restored
 pub mod LawfulFields

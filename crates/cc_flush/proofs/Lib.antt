@@ -1,5 +1,6 @@
 mod Formatted
 mod FormatMoments
+mod FormatStops
 mod FoundSides
 mod EventOutputs
 mod LinkSends

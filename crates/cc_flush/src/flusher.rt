@@ -17,7 +17,7 @@ ghost use Rattle.cc_journal.specs.Batches.{AreLawful, events_in};
 ghost use Rattle.cc_journal.specs.Journals.{IsGood, IsAtRest};
 ghost use Rattle.cc_flush.specs.Engine.{IsPutFrom, room_limit};
 ghost use Rattle.cc_flush.specs.Formatting.{KeepsOutlet};
-ghost use Rattle.cc_flush.specs.Opening.{OpenFails};
+ghost use Rattle.cc_flush.specs.Opening.{OpenFails, Opens};
 ghost use Rattle.cc_flush.specs.Outlet.{Puts};
 ghost use Rattle.cc_flush.specs.Standing.{resends, reply_again, ack_again};
 
@@ -140,7 +140,7 @@ impl<S: Site> Flusher<S> {
             (λ b. EachMoment S.moment S.left_since site b.site (Possible (S.state site) (S.sent site))) }
         ensures at_rest { S.honest site → ((side : SideValue) → 1 ≤ length (S.state site side).bytes)
             → IfOk result (λ opened. IsAtRest (S.state opened.0.site) (S.sent opened.0.site) opened.0.at opened.0.generation opened.0.twin [] (length (S.sent opened.0.site))) }
-        ensures count { MatchResult result (λ opened. S.failures opened.0.site ≡ S.failures site) (λ b. FaultRose (S.failures site) (S.failures b.site) b.fault) }
+        ensures count { MatchResult result (λ opened. S.failures opened.0.site ≡ S.failures site) (λ b. FaultRose Opens (S.failures site) (S.failures b.site) b.fault) }
     {
         let mut site = site;
         let Found {
