@@ -4,7 +4,6 @@ pub mod ChoosingLaws
 pub mod HeadLaws
 pub mod TableWrites
 pub mod TableReads
-pub mod DeviceFaults
 mod Imaged
 pub mod Restored
 pub mod LawfulFields

@@ -1,6 +1,5 @@
 mod Formatted
 mod FormatMoments
-mod FormatStops
 mod FoundSides
 mod EventOutputs
 mod LinkSends
