@@ -17,7 +17,7 @@ ghost use Rattle.cc_journal.specs.Batches.{AreLawful, events_in};
 ghost use Rattle.cc_journal.specs.Journals.{IsGood, IsAtRest};
 ghost use Rattle.cc_flush.specs.Engine.{IsPutFrom, room_limit};
 ghost use Rattle.cc_flush.specs.Formatting.{KeepsOutlet};
-ghost use Rattle.cc_flush.specs.Opening.{OpenFails, Opens};
+ghost use Rattle.cc_flush.specs.Opening.{AreSettled, OpenFails, OpenStops, Opens};
 ghost use Rattle.cc_flush.specs.Outlet.{Puts};
 ghost use Rattle.cc_flush.specs.Standing.{resends, reply_again, ack_again};
 
@@ -135,6 +135,7 @@ impl<S: Site> Flusher<S> {
         ensures engine { IfOk result (λ opened. (opened.0.failed ≡ None) × (opened.0.owes ≡ false) × (opened.1 ≡ opened.0.twin.core)) }
         ensures stands { S.honest site → IfOk result (λ opened. StandsAt (S.state site opened.0.at.side).bytes (S.state site (other opened.0.at.side)).bytes opened.0.generation opened.0.at.place opened.0.twin) }
         ensures faults { S.honest site → IfErr result (λ b. OpenFails (bytes_of S.state site) b.fault) }
+        ensures settled { S.honest site → MatchResult result (λ opened. AreSettled (S.state site) (S.state opened.0.site)) (λ b. OpenStops (S.state site) (S.state b.site) b.fault) }
         // At each moment a crash leaves what it might have left at the start, and nothing is put.
         ensures every_moment { S.honest site → MatchResult result (λ opened. EachMoment S.moment S.left_since site opened.0.site (Possible (S.state site) (S.sent site)))
             (λ b. EachMoment S.moment S.left_since site b.site (Possible (S.state site) (S.sent site))) }
