@@ -203,6 +203,7 @@ impl<S: Site> Flusher<S> {
         ensures same_generation { self.new.generation ≡ self.old.generation }
         ensures honest { S.honest self.old.site ↔ S.honest self.new.site }
         ensures tells { (S.tells self.old.site ↔ S.tells self.new.site) × (S.sent self.new.site ≡ S.sent self.old.site) }
+        ensures other_side { S.honest self.old.site → S.state self.new.site (other self.old.at.side) ≡ S.state self.old.site (other self.old.at.side) }
         ensures every_moment { S.honest self.old.site → self.old.failed ≡ None → (start : NodeValue) (events : List EventValue) (opening : ℕ)
             → self.old.twin ≡ after start events
             → IsAtRest (S.state self.old.site) (S.sent self.old.site) self.old.at self.old.generation start events opening
@@ -237,6 +238,7 @@ impl<S: Site> Flusher<S> {
         ensures owes { self.new.owes ≡ false }
         ensures same { (self.new.at ≡ self.old.at) × (self.new.generation ≡ self.old.generation) × (self.new.used ≡ self.old.used) × (self.new.failed ≡ self.old.failed) }
         ensures honest { S.honest self.old.site ↔ S.honest self.new.site }
+        ensures same_sides { S.honest self.old.site → S.state self.new.site ≡ S.state self.old.site }
         ensures told { S.tells self.new.site → S.tells self.old.site × (S.sent self.new.site ≡ S.sent self.old.site ++ line self.old.twin (events_in landed)) }
         ensures every_moment { S.honest self.old.site → S.tells self.new.site → (start : NodeValue) (events : List EventValue) (opening durable : ℕ)
             → self.old.twin ≡ after start events
