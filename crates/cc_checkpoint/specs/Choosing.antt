@@ -1,13 +1,14 @@
 -- Which side is in use: the armed one with the greater generation.
 --     generation_in          the generation of a side, where it is armed
 --     chosen                 the side in use, and its generation
-use Rattle.std.specs.Prelude.{ℕ, List, length, slice_index_or, nat_lt, ◌||◌, ◌==◌, if◌then◌else◌, Option, Some, None, Result, Ok, Err}
+--     IsInTurn               a fault of side B is told only where side A could be read
+use Rattle.std.specs.Prelude.{◌≡◌, ℕ, List, length, slice_index_or, nat_lt, ◌||◌, ◌==◌, if◌then◌else◌, Option, Some, None, Result, Ok, Err}
 use Rattle.cc_site.specs.declared.site.Side.{Side}
 use Rattle.cc_site.specs.declared.site.Side.TheVariants.{A, B}
 use Rattle.cc_node.specs.Sides.{OPEN, generation_of}
 use Rattle.cc_checkpoint.specs.declared.choosing.InUse.{InUse}
 use Rattle.cc_checkpoint.specs.declared.open_fault.OpenFault.{OpenFault}
-use Rattle.cc_checkpoint.specs.declared.open_fault.OpenFault.TheVariants.{NotFormatted, Damaged}
+use Rattle.cc_checkpoint.specs.declared.open_fault.OpenFault.TheVariants.{NotFormatted, Damaged, Version, Device, NoMemory}
 use Rattle.cc_checkpoint.specs.Faults.{◌>>=◌}
 
 unfoldable pub generation_in : Side → List ℕ → Result (Option ℕ) OpenFault
@@ -27,3 +28,11 @@ greater (Some a) (Some b) = if a == b then Err (Damaged B 1) else (if nat_lt a b
 
 unfoldable pub chosen : List ℕ → List ℕ → Result InUse OpenFault
 chosen a b = generation_in A a >>= λ first. generation_in B b >>= λ second. greater first second
+
+-- side B is looked at only once side A has a generation, or isn't armed
+abbrev pub IsInTurn : List ℕ → OpenFault → Type 0
+IsInTurn a (Device fault) = fault.side ≡ B → (first : Option ℕ) × (generation_in A a ≡ Ok first)
+IsInTurn a NotFormatted = Unit {0}
+IsInTurn a (Damaged side place) = Unit {0}
+IsInTurn a (Version version) = Unit {0}
+IsInTurn a NoMemory = Unit {0}

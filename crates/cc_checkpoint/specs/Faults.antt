@@ -1,9 +1,11 @@
 -- Why two sides can't be opened.
 --     ◌>>=◌                      one thing found after another
 --     Fails, Answers             what a function answered is what was to be found, unless a disk call or memory failed
---     FaultRose, CountsDevice    a device fault is told where the count of failures rose, and only there
+--     FaultRose, CountsDevice    a device fault names one of these calls, and is told where the count of failures rose, and only there
 use Rattle.std.specs.Prelude.{◌≡◌, ℕ, Result, Ok, Err, MatchResult}
-use Rattle.cc_site.specs.Moments.{Rose}
+use Rattle.cc_site.specs.declared.site.Side.{Side}
+use Rattle.cc_site.specs.declared.site.Call.{Call}
+use Rattle.cc_site.specs.Telling.{Tells}
 use Rattle.cc_checkpoint.specs.declared.open_fault.OpenFault.{OpenFault}
 use Rattle.cc_checkpoint.specs.declared.open_fault.OpenFault.TheVariants.{NotFormatted, Damaged, Version, Device, NoMemory}
 
@@ -23,12 +25,12 @@ abbrev pub Answers : {X Y : Type 0} → (X → Y) → Result X OpenFault → Res
 Answers view (Ok x) found = found ≡ Ok (view x)
 Answers view (Err fault) found = Fails found fault
 
-abbrev pub FaultRose : ℕ → ℕ → OpenFault → Type 0
-FaultRose before now (Device fault) = Rose before now
-FaultRose before now NotFormatted = now ≡ before
-FaultRose before now (Damaged side place) = now ≡ before
-FaultRose before now (Version version) = now ≡ before
-FaultRose before now NoMemory = now ≡ before
+abbrev pub FaultRose : (Side → Call → Type 0) → ℕ → ℕ → OpenFault → Type 0
+FaultRose calls before now (Device fault) = Tells calls before now fault
+FaultRose calls before now NotFormatted = now ≡ before
+FaultRose calls before now (Damaged side place) = now ≡ before
+FaultRose calls before now (Version version) = now ≡ before
+FaultRose calls before now NoMemory = now ≡ before
 
-abbrev pub CountsDevice : {T : Type 0} → ℕ → ℕ → Result T OpenFault → Type 0
-CountsDevice before now result = MatchResult result (λ _. now ≡ before) (FaultRose before now)
+abbrev pub CountsDevice : {T : Type 0} → (Side → Call → Type 0) → ℕ → ℕ → Result T OpenFault → Type 0
+CountsDevice calls before now result = MatchResult result (λ _. now ≡ before) (FaultRose calls before now)

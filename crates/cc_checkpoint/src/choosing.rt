@@ -3,9 +3,10 @@
 ghost use Rattle.std.specs.Prelude.{◌≡◌, ◌≢◌, ◌↔◌, ◌≤◌, ◌<◌, ◌+◌, length, vec_len, take, drop, ℕ, OnOk, IfOk, IfErr, MatchResult};
 ghost use Rattle.cc_site.specs.declared.site.Side.TheVariants.{A, B};
 ghost use Rattle.cc_site.specs.Reads.{OnlyReads};
+ghost use Rattle.cc_site.specs.Telling.{LooksAt, LooksAtEither};
 ghost use Rattle.cc_checkpoint.specs.declared.open_fault.OpenFault.TheVariants as faults;
 ghost use Rattle.cc_checkpoint.specs.Faults.{Answers, CountsDevice};
-ghost use Rattle.cc_checkpoint.specs.Choosing.{generation_in, greater, chosen};
+ghost use Rattle.cc_checkpoint.specs.Choosing.{generation_in, greater, chosen, IsInTurn};
 
 use crate::open_fault::OpenFault;
 use cc_site::{OPEN_GATE, Side, Site, length_of, read_into};
@@ -22,7 +23,7 @@ pub struct InUse {
 fn generation<S: Site>(site: &mut S, side: Side) -> Result<Option<u64>, OpenFault>
     ensures exact { S.honest site.old → Answers (λ o. o) result (generation_in side (S.state site.old side).bytes) }
     ensures reads { OnlyReads S.honest S.tells S.state S.sent S.moment S.left_since site.old site.new }
-    ensures fault { CountsDevice (S.failures site.old) (S.failures site.new) result }
+    ensures fault { CountsDevice (LooksAt side) (S.failures site.old) (S.failures site.new) result }
     ensures memory { IfErr result (λ fault. fault ≢ faults.NoMemory) }
 {
     let len = length_of(site, side)?;
@@ -49,7 +50,7 @@ fn generation<S: Site>(site: &mut S, side: Side) -> Result<Option<u64>, OpenFaul
 #[tactic(auto, unfolding(crate::specs::Choosing::greater))]
 fn greater_of(first: Option<u64>, second: Option<u64>) -> Result<InUse, OpenFault>
     ensures exact { result ≡ greater first second }
-    ensures fault { (failures : ℕ) → CountsDevice failures failures result }
+    ensures fault { (failures : ℕ) → CountsDevice LooksAtEither failures failures result }
     ensures memory { IfErr result (λ fault. fault ≢ faults.NoMemory) }
 {
     match (first, second) {
@@ -80,13 +81,14 @@ fn greater_of(first: Option<u64>, second: Option<u64>) -> Result<InUse, OpenFaul
     }
 }
 
-/// Finds the side in use: the armed one with the greater generation. NotFormatted where no side is armed, Damaged at place
+/// Finds the side in use: the armed one with the greater generation. Side B is looked at after side A. NotFormatted where no side is armed, Damaged at place
 /// 1 where an armed side has no generation (the first of them), or the second one has that of the first (own choice).
 #[tactic(auto, unfolding(crate::specs::Choosing::chosen))]
 pub fn choose<S: Site>(site: &mut S) -> Result<InUse, OpenFault>
     ensures exact { S.honest site.old → Answers (λ used. used) result (chosen (S.state site.old A).bytes (S.state site.old B).bytes) }
+    ensures in_turn { S.honest site.old → IfErr result (IsInTurn (S.state site.old A).bytes) }
     ensures reads { OnlyReads S.honest S.tells S.state S.sent S.moment S.left_since site.old site.new }
-    ensures fault { CountsDevice (S.failures site.old) (S.failures site.new) result }
+    ensures fault { CountsDevice LooksAtEither (S.failures site.old) (S.failures site.new) result }
     ensures memory { IfErr result (λ fault. fault ≢ faults.NoMemory) }
 {
     let first = generation(site, Side::A)?;

@@ -2,6 +2,7 @@
 
 ghost use Rattle.std.specs.Prelude.{◌≡◌, ◌≤◌, ◌+◌, length, vec_len, take, drop, OnOk, IfOk, IfErr, MatchResult};
 ghost use Rattle.cc_site.specs.Reads.{OnlyReads};
+ghost use Rattle.cc_site.specs.Telling.{LooksAt};
 ghost use Rattle.cc_node.specs.Node.{Node as NodeState};
 ghost use Rattle.cc_node.specs.States.{SpellsNode};
 ghost use Rattle.cc_checkpoint.specs.declared.open_fault.OpenFault.TheVariants as faults;
@@ -32,7 +33,7 @@ fn node_of(alloc: Global, bytes: &[u8]) -> Result<Option<Node>, OpenFault>
 fn state_size<S: Site>(site: &mut S, side: Side) -> Result<u32, OpenFault>
     ensures exact { S.honest site.old → MatchResult result (λ size. HasState (S.state site.old side).bytes × (size ≡ size_of (S.state site.old side).bytes)) (HeadFails side (S.state site.old side).bytes) }
     ensures reads { OnlyReads S.honest S.tells S.state S.sent S.moment S.left_since site.old site.new }
-    ensures fault { CountsDevice (S.failures site.old) (S.failures site.new) result }
+    ensures fault { CountsDevice (LooksAt side) (S.failures site.old) (S.failures site.new) result }
 {
     let len = length_of(site, side)?;
     if len < 10 {
@@ -65,7 +66,7 @@ pub fn read_state<S: Site>(
 ) -> Result<(Node, u64), OpenFault>
     ensures exact { S.honest site.old → MatchResult result (λ found. HeadAt (S.state site.old side).bytes found.0 found.1) (HeadFails side (S.state site.old side).bytes) }
     ensures reads { OnlyReads S.honest S.tells S.state S.sent S.moment S.left_since site.old site.new }
-    ensures fault { CountsDevice (S.failures site.old) (S.failures site.new) result }
+    ensures fault { CountsDevice (LooksAt side) (S.failures site.old) (S.failures site.new) result }
 {
     let size = state_size(site, side)?;
     let mut bytes = vec![in alloc; 0; size as usize]?;

@@ -7,6 +7,8 @@
 --     IsNoneOrWhole       no side is armed, or both stand for the node
 --     of_fresh            the fault for a node that can't begin
 --     KeepsOutlet         nothing was put
+--     IsOn                a call on this side
+--     FailsOn, FormatStops    a disk call on this side fails;  what was done where formatting stops at one
 --     FormatFails         when each fault comes, and what it leaves unchanged
 --     FormatRose          a device fault is told where the count of failures rose, and only there
 use Rattle.std.specs.Prelude.{◌≡◌, ◌↔◌, ◌⊎◌, ℕ, List, [], ◌∷◌, take, false, None}
@@ -14,7 +16,10 @@ use Rattle.cc_wire.specs.declared.output.Output.{Output}
 use Rattle.cc_site.specs.declared.site.Side.{Side}
 use Rattle.cc_site.specs.declared.site.Side.TheVariants.{A, B}
 use Rattle.cc_site.specs.Sides.{SideState, MayLeave, other}
+use Rattle.cc_site.specs.declared.site.Call.{Call}
+use Rattle.cc_site.specs.declared.site.DeviceFault.{DeviceFault}
 use Rattle.cc_site.specs.Moments.{Contents, Rose}
+use Rattle.cc_site.specs.Telling.{Looks}
 use Rattle.cc_node.specs.Node.{Node}
 use Rattle.cc_node.specs.Sides.{OPEN, IsArmed, Stands}
 use Rattle.cc_node.specs.declared.opening.Fresh.{Fresh}
@@ -67,9 +72,23 @@ pub record KeepsOutlet {D : Type 0} (honest tells : D → Type 0) (sent : D → 
   pub keeps_telling : tells old ↔ tells new
   pub same : sent new ≡ sent old
 
+abbrev pub IsOn : Side → Side → Call → Type 0
+IsOn this side call = side ≡ this
+
+-- a disk call on this side failed, and the other side is so; a look at a side changes none
+pub record FailsOn (this : Side) (rest : SideState) (old new : Side → SideState) (fault : DeviceFault) : Type 0 where
+  pub on : fault.side ≡ this
+  pub other_side : new (other this) ≡ rest
+  pub same : Looks fault.call → new this ≡ old this
+
+-- it was one of the first looks at both sides; or one while side B is laid out, and then side A
+abbrev pub FormatStops : (Side → SideState) → (Side → SideState) → DeviceFault → Type 0
+FormatStops old new fault =
+    (Looks fault.call × (new ≡ old)) ⊎ FailsOn B (old A) old new fault ⊎ FailsOn A (durable (0 ∷ [])) old new fault
+
 abbrev pub FormatFails : {D : Type 0} → (D → Type 0) → (D → Side → SideState) → Type 0 → D → D → FormatFault → Type 0
 FormatFails honest state is_opening old new BadOpening = (¬ is_opening) × (new ≡ old)
 FormatFails honest state is_opening old new NoMemory = is_opening × (new ≡ old)
-FormatFails honest state is_opening old new (Device fault) = is_opening
+FormatFails honest state is_opening old new (Device fault) = is_opening × (honest old → FormatStops (state old) (state new) fault)
 FormatFails honest state is_opening old new AlreadyFormatted =
     is_opening × (honest old → (IsArmed (state old A).bytes ⊎ IsArmed (state old B).bytes) × (state new ≡ state old))

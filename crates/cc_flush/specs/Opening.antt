@@ -3,11 +3,17 @@
 --     of_scan         a fault of the records of a side, as one of the site
 --     IsReadingFault  a fault that the contents are the reason of
 --     OpenFails       the fault that the reading rules name for these contents
+--     Syncs, Opens    the disk calls of opening: a sync of either side, and looks at them
+--     AreSettled      both sides are made sure of
+--     OpenStops       what was made sure of where opening stops: side A first, then side B, and no look before that
 use Rattle.std.specs.Prelude.{⊤, length, ◌≡◌, ◌⊎◌, ◌≤◌, ◌-◌, ℕ, List, drop, Ok, Err}
 use Rattle.cc_site.specs.declared.site.Side.{Side}
 use Rattle.cc_site.specs.declared.site.Side.TheVariants.{A, B}
-use Rattle.cc_site.specs.Sides.{other}
+use Rattle.cc_site.specs.declared.site.Call.{Call}
+use Rattle.cc_site.specs.declared.site.Call.TheVariants.{Sync}
+use Rattle.cc_site.specs.Sides.{SideState, other, settled}
 use Rattle.cc_site.specs.Moments.{Contents}
+use Rattle.cc_site.specs.Telling.{Looks, LooksAtEither}
 use Rattle.cc_node.specs.Sides.{StandsAt}
 use Rattle.cc_node.specs.Node.{Node}
 use Rattle.cc_checkpoint.specs.declared.choosing.InUse.{InUse}
@@ -54,3 +60,22 @@ ReadingFails left fault = (chosen (left A) (left B) ≡ Err fault) ⊎ ((used : 
 
 abbrev pub OpenFails : Contents → OpenFault → Type 0
 OpenFails left fault = IsReadingFault fault → ReadingFails left fault
+
+abbrev pub Syncs : Side → Call → Type 0
+Syncs side call = call ≡ Sync
+
+abbrev pub Opens : Side → Call → Type 0
+Opens side call = Syncs side call ⊎ LooksAtEither side call
+
+abbrev pub AreSettled : (Side → SideState) → (Side → SideState) → Type 0
+AreSettled old new = (new A ≡ settled (old A)) × (new B ≡ settled (old B))
+
+abbrev pub OpenStops : (Side → SideState) → (Side → SideState) → OpenFault → Type 0
+OpenStops old new (Device fault) =
+    ((fault.call ≡ Sync) × (fault.side ≡ A) × (new A ≡ old A) × (new B ≡ old B))
+    ⊎ ((fault.call ≡ Sync) × (fault.side ≡ B) × (new A ≡ settled (old A)) × (new B ≡ old B))
+    ⊎ (Looks fault.call × AreSettled old new)
+OpenStops old new NotFormatted = AreSettled old new
+OpenStops old new (Damaged side place) = AreSettled old new
+OpenStops old new (Version version) = AreSettled old new
+OpenStops old new NoMemory = AreSettled old new

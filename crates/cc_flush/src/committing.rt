@@ -3,6 +3,7 @@
 ghost use Rattle.std.specs.Prelude.{max, ◌≡◌, ◌↔◌, ◌≤◌, ◌<◌, ◌+◌, ◌^◌, ◌++◌, length, List, ℕ, ◌⊎◌, OnOk, OnErr, IfOk, IfErr, MatchResult};
 ghost use Rattle.cc_wire.specs.declared.event.Event.{Event};
 ghost use Rattle.cc_site.specs.declared.site.Call.TheVariants.{Write, Sync};
+ghost use Rattle.cc_site.specs.Sides.{other};
 ghost use Rattle.cc_site.specs.Moments.{EachMoment, Rose};
 ghost use Rattle.cc_node.specs.Node.{Node, after, IsLawful};
 ghost use Rattle.cc_journal.specs.Batches.{events_in, batch_bytes};
@@ -25,6 +26,7 @@ pub(crate) fn make_durable<S: Site>(
     ensures err { OnErr result (journal.new ≡ journal.old) }
     ensures honest { S.honest site.old ↔ S.honest site.new }
     ensures tells { (S.tells site.old ↔ S.tells site.new) × (S.sent site.new ≡ S.sent site.old) }
+    ensures other_side { S.honest site.old → S.state site.new (other journal.old.side) ≡ S.state site.old (other journal.old.side) }
     ensures every_moment { S.honest site.old → (generation : ℕ) (start : Node) (events : List Event) (opening : ℕ)
         → IsAtRest (S.state site.old) (S.sent site.old) journal.old generation start events opening
         → IsLawful (after start events) (events_in batch)

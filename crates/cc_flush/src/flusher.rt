@@ -18,7 +18,7 @@ ghost use Rattle.cc_journal.specs.Journals.{IsGood, IsAtRest};
 ghost use Rattle.cc_flush.specs.Engine.{IsPutFrom, room_limit};
 ghost use Rattle.cc_flush.specs.Flushing.{Flushes, GivesUp};
 ghost use Rattle.cc_flush.specs.Formatting.{KeepsOutlet};
-ghost use Rattle.cc_flush.specs.Opening.{OpenFails};
+ghost use Rattle.cc_flush.specs.Opening.{AreSettled, OpenFails, OpenStops, Opens};
 ghost use Rattle.cc_flush.specs.Outlet.{Puts};
 ghost use Rattle.cc_flush.specs.Putting.{MomentsStayGood, StaysAtRest};
 ghost use Rattle.cc_flush.specs.Standing.{resends, reply_again, ack_again};
@@ -137,12 +137,13 @@ impl<S: Site> Flusher<S> {
         ensures engine { IfOk result (λ opened. (opened.0.failed ≡ None) × (opened.0.owes ≡ false) × (opened.1 ≡ opened.0.twin.core)) }
         ensures stands { S.honest site → IfOk result (λ opened. StandsAt (S.state site opened.0.at.side).bytes (S.state site (other opened.0.at.side)).bytes opened.0.generation opened.0.at.place opened.0.twin) }
         ensures faults { S.honest site → IfErr result (λ b. OpenFails (bytes_of S.state site) b.fault) }
+        ensures settled { S.honest site → MatchResult result (λ opened. AreSettled (S.state site) (S.state opened.0.site)) (λ b. OpenStops (S.state site) (S.state b.site) b.fault) }
         // At each moment a crash leaves what it might have left at the start, and nothing is put.
         ensures every_moment { S.honest site → MatchResult result (λ opened. EachMoment S.moment S.left_since site opened.0.site (Possible (S.state site) (S.sent site)))
             (λ b. EachMoment S.moment S.left_since site b.site (Possible (S.state site) (S.sent site))) }
         ensures at_rest { S.honest site → ((side : SideValue) → 1 ≤ length (S.state site side).bytes)
             → IfOk result (λ opened. IsAtRest (S.state opened.0.site) (S.sent opened.0.site) opened.0.at opened.0.generation opened.0.twin [] (length (S.sent opened.0.site))) }
-        ensures count { MatchResult result (λ opened. S.failures opened.0.site ≡ S.failures site) (λ b. FaultRose (S.failures site) (S.failures b.site) b.fault) }
+        ensures count { MatchResult result (λ opened. S.failures opened.0.site ≡ S.failures site) (λ b. FaultRose Opens (S.failures site) (S.failures b.site) b.fault) }
     {
         let mut site = site;
         let Found {
@@ -204,6 +205,7 @@ impl<S: Site> Flusher<S> {
         ensures same_generation { self.new.generation ≡ self.old.generation }
         ensures honest { S.honest self.old.site ↔ S.honest self.new.site }
         ensures tells { (S.tells self.old.site ↔ S.tells self.new.site) × (S.sent self.new.site ≡ S.sent self.old.site) }
+        ensures other_side { S.honest self.old.site → S.state self.new.site (other self.old.at.side) ≡ S.state self.old.site (other self.old.at.side) }
         ensures every_moment { S.honest self.old.site → self.old.failed ≡ None → (start : NodeValue) (events : List EventValue) (opening : ℕ)
             → self.old.twin ≡ after start events
             → IsAtRest (S.state self.old.site) (S.sent self.old.site) self.old.at self.old.generation start events opening
@@ -238,6 +240,7 @@ impl<S: Site> Flusher<S> {
         ensures owes { self.new.owes ≡ false }
         ensures same { (self.new.at ≡ self.old.at) × (self.new.generation ≡ self.old.generation) × (self.new.used ≡ self.old.used) × (self.new.failed ≡ self.old.failed) }
         ensures honest { S.honest self.old.site ↔ S.honest self.new.site }
+        ensures same_sides { S.honest self.old.site → S.state self.new.site ≡ S.state self.old.site }
         ensures told { S.tells self.new.site → S.tells self.old.site × (S.sent self.new.site ≡ S.sent self.old.site ++ line self.old.twin (events_in landed)) }
         ensures every_moment { S.honest self.old.site → S.tells self.new.site → (start : NodeValue) (events : List EventValue) (opening durable : ℕ)
             → self.old.twin ≡ after start events

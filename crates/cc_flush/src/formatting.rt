@@ -3,15 +3,17 @@
 ghost use Rattle.std.specs.Prelude.{ℕ, ◌≡◌, ◌↔◌, ◌⊎◌, ◌∷◌, [], ◌≤◌, length, true, false, IfOk, OnOk, IsTrue, MatchResult, IsErrOf, IfErr};
 ghost use Rattle.cc_site.specs.declared.site.Side.TheVariants.{A, B};
 ghost use Rattle.cc_site.specs.Sides.{other};
-ghost use Rattle.cc_site.specs.Moments.{EachMoment, Rose};
+ghost use Rattle.cc_site.specs.declared.site.Call.TheVariants.{Write, Sync};
+ghost use Rattle.cc_site.specs.Moments.{EachMoment, Rose, CountsOneFault};
 ghost use Rattle.cc_site.specs.Reads.{OnlyReads};
+ghost use Rattle.cc_site.specs.Telling.{Looks, LooksAt, LooksAtEither, CountsCalls};
 ghost use Rattle.cc_node.specs.Node.{Node as NodeState};
 ghost use Rattle.cc_node.specs.Opening.{told, fresh, IsOpening};
 ghost use Rattle.cc_node.specs.Sides.{OPEN, IsArmed};
 ghost use Rattle.cc_checkpoint.specs.Images.{SpellsImage};
 ghost use Rattle.cc_journal.specs.Journals.{IsAtRest};
 ghost use Rattle.cc_flush.specs.declared.formatting.FormatFault.TheVariants as faults;
-ghost use Rattle.cc_flush.specs.Formatting.{durable, of_fresh, BeginsWith, AreShut, StayShut, Arms, HasNoneOrAll, IsNoneOrWhole, FormatRose, KeepsOutlet, FormatFails};
+ghost use Rattle.cc_flush.specs.Formatting.{durable, of_fresh, BeginsWith, AreShut, StayShut, Arms, HasNoneOrAll, IsNoneOrWhole, FormatRose, FormatStops, KeepsOutlet, FormatFails, IsOn};
 
 use crate::back::Back;
 use cc_checkpoint::encode_image;
@@ -83,7 +85,7 @@ impl From<NoMemory> for FormatFault {
 fn begins_with<S: Site>(site: &mut S, side: Side, byte: u8) -> Result<bool, DeviceFault>
     ensures exact { S.honest site.old → IfOk result (λ begins. IsTrue begins ↔ BeginsWith byte (S.state site.old side).bytes) }
     ensures reads { OnlyReads S.honest S.tells S.state S.sent S.moment S.left_since site.old site.new }
-    ensures fault { MatchResult result (λ _. S.failures site.new ≡ S.failures site.old) (λ _. Rose (S.failures site.old) (S.failures site.new)) }
+    ensures fault { CountsCalls (LooksAt side) (S.failures site.old) (S.failures site.new) result }
 {
     let len = length_of(site, side)?;
     if len == 0 {
@@ -98,7 +100,7 @@ fn begins_with<S: Site>(site: &mut S, side: Side, byte: u8) -> Result<bool, Devi
 fn is_formatted<S: Site>(site: &mut S) -> Result<bool, DeviceFault>
     ensures exact { S.honest site.old → IfOk result (λ armed. IsTrue armed ↔ (IsArmed (S.state site.old A).bytes ⊎ IsArmed (S.state site.old B).bytes)) }
     ensures reads { OnlyReads S.honest S.tells S.state S.sent S.moment S.left_since site.old site.new }
-    ensures fault { MatchResult result (λ _. S.failures site.new ≡ S.failures site.old) (λ _. Rose (S.failures site.old) (S.failures site.new)) }
+    ensures fault { CountsCalls LooksAtEither (S.failures site.old) (S.failures site.new) result }
 {
     if begins_with(site, Side::A, OPEN_GATE)? {
         return Ok(true);
@@ -113,7 +115,8 @@ fn clear<S: Site>(site: &mut S, side: Side) -> Result<(), DeviceFault>
     ensures value { S.honest site.old → OnOk result (S.state site.new side ≡ durable (0 ∷ [])) }
     ensures other_side { S.honest site.old → S.state site.new (other side) ≡ S.state site.old (other side) }
     ensures every_moment { S.honest site.old → AreShut (S.state site.old) → EachMoment S.moment S.left_since site.old site.new (StayShut (S.sent site.old)) }
-    ensures fault { MatchResult result (λ _. S.failures site.new ≡ S.failures site.old) (λ _. Rose (S.failures site.old) (S.failures site.new)) }
+    ensures looked { S.honest site.old → IfErr result (λ fault. Looks fault.call → S.state site.new side ≡ S.state site.old side) }
+    ensures fault { CountsCalls (IsOn side) (S.failures site.old) (S.failures site.new) result }
 {
     let shut = begins_with(site, side, CLOSED_GATE)?;
     if shut {
@@ -131,7 +134,7 @@ fn fill_and_arm<S: Site>(site: &mut S, side: Side, image: &[u8]) -> Result<(), D
     ensures value { S.honest site.old → OnOk result (S.state site.new side ≡ durable (OPEN ∷ image.now)) }
     ensures other_side { S.honest site.old → S.state site.new (other side) ≡ S.state site.old (other side) }
     ensures every_moment { S.honest site.old → EachMoment S.moment S.left_since site.old site.new (Arms side image.now (S.state site.old) (S.sent site.old)) }
-    ensures fault { MatchResult result (λ _. S.failures site.new ≡ S.failures site.old) (λ _. Rose (S.failures site.old) (S.failures site.new)) }
+    ensures fault { CountsOneFault (S.failures site.old) (S.failures site.new) side Write Sync result }
 {
     write_durably(site, side, 1, image)?;
     write_durably(site, side, 0, &[OPEN_GATE])
@@ -144,6 +147,7 @@ fn lay_out<S: Site>(site: &mut S, image: &[u8]) -> Result<(), DeviceFault>
     ensures first { S.honest site.old → OnOk result (S.state site.new A ≡ durable (OPEN ∷ image.now)) }
     ensures second { S.honest site.old → OnOk result (S.state site.new B ≡ durable (0 ∷ [])) }
     ensures every_moment { S.honest site.old → AreShut (S.state site.old) → EachMoment S.moment S.left_since site.old site.new (HasNoneOrAll image.now (S.sent site.old)) }
+    ensures stops { S.honest site.old → IfErr result (FormatStops (S.state site.old) (S.state site.new)) }
     ensures fault { MatchResult result (λ _. S.failures site.new ≡ S.failures site.old) (λ _. Rose (S.failures site.old) (S.failures site.new)) }
 {
     clear(site, Side::B)?;
@@ -174,6 +178,7 @@ fn format_sides<S: Site>(site: &mut S, image: &[u8]) -> Result<(), FormatFault>
     ensures already { S.honest site.old → IsErrOf result faults.AlreadyFormatted
         → (IsArmed (S.state site.old A).bytes ⊎ IsArmed (S.state site.old B).bytes) × (S.state site.new ≡ S.state site.old) }
     ensures every_moment { S.honest site.old → AreShut (S.state site.old) → EachMoment S.moment S.left_since site.old site.new (HasNoneOrAll image.now (S.sent site.old)) }
+    ensures stops { S.honest site.old → (device : DeviceFault) → IsErrOf result (faults.Device device) → FormatStops (S.state site.old) (S.state site.new) device }
     ensures only { IfErr result (λ fault. (fault ≡ faults.AlreadyFormatted) ⊎ ((device : DeviceFault) × (fault ≡ faults.Device device))) }
     ensures fault { MatchResult result (λ _. S.failures site.new ≡ S.failures site.old) (FormatRose (S.failures site.old) (S.failures site.new)) }
 {

@@ -3,14 +3,14 @@
 ghost use Rattle.std.specs.Prelude.{max, ◌≡◌, ◌↔◌, ◌≤◌, [], length, OnOk, IfOk, IfErr, MatchResult, ℕ};
 ghost use Rattle.cc_site.specs.declared.site.Side.{Side as SideValue};
 ghost use Rattle.cc_site.specs.declared.site.Side.TheVariants.{A, B};
-ghost use Rattle.cc_site.specs.Sides.{settled};
 ghost use Rattle.cc_site.specs.Moments.{Elapses, EachMoment, Possible, Nothing};
 ghost use Rattle.cc_site.specs.Reads.{OnlyReads, bytes_of};
+ghost use Rattle.cc_site.specs.Telling.{LooksAt, LooksAtEither};
 ghost use Rattle.cc_checkpoint.specs.declared.open_fault.OpenFault.TheVariants as faults;
 ghost use Rattle.cc_checkpoint.specs.Faults.{CountsDevice};
 ghost use Rattle.cc_journal.specs.Journals.{IsAtRest};
 ghost use Rattle.cc_journal.specs.Reading.{IsScanned};
-ghost use Rattle.cc_flush.specs.Opening.{IsFound, IsReadingFault, OpenFails, RecordsFail, of_scan};
+ghost use Rattle.cc_flush.specs.Opening.{AreSettled, IsFound, IsReadingFault, OpenFails, OpenStops, Opens, RecordsFail, Syncs, of_scan};
 
 use cc_checkpoint::{InUse, OpenFault, choose, read_state};
 use cc_journal::{Journal, ScanFault, Scanned, scan};
@@ -31,10 +31,11 @@ pub(crate) struct Found {
 fn settle_sides<S: Site>(site: &mut S) -> Result<(), OpenFault>
     ensures honest { S.honest site.old ↔ S.honest site.new }
     ensures tells { (S.tells site.old ↔ S.tells site.new) × (S.sent site.new ≡ S.sent site.old) }
-    ensures value { S.honest site.old → OnOk result ((S.state site.new A ≡ settled (S.state site.old A)) × (S.state site.new B ≡ settled (S.state site.old B))) }
+    ensures value { S.honest site.old → OnOk result (AreSettled (S.state site.old) (S.state site.new)) }
+    ensures stops { S.honest site.old → IfErr result (OpenStops (S.state site.old) (S.state site.new)) }
     ensures time { S.honest site.old → Elapses (S.moment site.old) (S.moment site.new) (S.left_since site.old) (S.left_since site.new) Nothing }
     ensures device { IfErr result (λ e. (fault : DeviceFault) × (e ≡ faults.Device fault)) }
-    ensures fault { CountsDevice (S.failures site.old) (S.failures site.new) result }
+    ensures fault { CountsDevice Syncs (S.failures site.old) (S.failures site.new) result }
 {
     site.sync(Side::A)?;
     site.sync(Side::B)?;
@@ -63,7 +64,7 @@ fn read_records<S: Site>(
     ensures scanned { S.honest site.old → IfOk result (IsScanned (S.state site.old side).bytes side first node) }
     ensures failed { S.honest site.old → IfErr result (λ fault. IsReadingFault fault → RecordsFail side (S.state site.old side).bytes node first fault) }
     ensures reads { OnlyReads S.honest S.tells S.state S.sent S.moment S.left_since site.old site.new }
-    ensures fault { CountsDevice (S.failures site.old) (S.failures site.new) result }
+    ensures fault { CountsDevice (LooksAt side) (S.failures site.old) (S.failures site.new) result }
 {
     match scan(alloc, site, side, first, node) {
         Ok(scanned) => Ok(scanned),
@@ -83,7 +84,7 @@ fn read_sides<S: Site>(alloc: Global, site: &mut S) -> Result<Found, OpenFault>
     ensures reaches { IfOk result (λ found. found.journal.place ≤ found.used) }
     ensures failed { S.honest site.old → IfErr result (OpenFails (bytes_of S.state site.old)) }
     ensures reads { OnlyReads S.honest S.tells S.state S.sent S.moment S.left_since site.old site.new }
-    ensures fault { CountsDevice (S.failures site.old) (S.failures site.new) result }
+    ensures fault { CountsDevice LooksAtEither (S.failures site.old) (S.failures site.new) result }
 {
     let InUse { side, generation } = choose(site)?;
     let (start, first) = read_state(alloc, site, side)?;
@@ -106,10 +107,12 @@ pub(crate) fn open_sides<S: Site>(alloc: Global, site: &mut S) -> Result<Found, 
     ensures reaches { IfOk result (λ found. found.journal.place ≤ found.used) }
     ensures failed { S.honest site.old → IfErr result (OpenFails (bytes_of S.state site.old)) }
     ensures every_moment { S.honest site.old → EachMoment S.moment S.left_since site.old site.new (Possible (S.state site.old) (S.sent site.old)) }
+    ensures settled { S.honest site.old → OnOk result (AreSettled (S.state site.old) (S.state site.new)) }
+    ensures stops { S.honest site.old → IfErr result (OpenStops (S.state site.old) (S.state site.new)) }
     ensures same_bytes { S.honest site.old → OnOk result ((side : SideValue) → (S.state site.new side).bytes ≡ (S.state site.old side).bytes) }
     ensures at_rest { S.honest site.old → ((side : SideValue) → 1 ≤ length (S.state site.old side).bytes)
         → IfOk result (λ found. IsAtRest (S.state site.new) (S.sent site.new) found.journal found.generation found.node [] (length (S.sent site.new))) }
-    ensures fault { CountsDevice (S.failures site.old) (S.failures site.new) result }
+    ensures fault { CountsDevice Opens (S.failures site.old) (S.failures site.new) result }
 {
     settle_sides(site)?;
     read_sides(alloc, site)

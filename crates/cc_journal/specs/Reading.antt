@@ -8,7 +8,7 @@
 --     IsScanned, IsStopped    what a scan found;  where it stopped
 --     IfDamaged               what a fault tells by its place
 --     CountsDevice            the count of failures, and the fault that is told
-use Rattle.std.specs.Prelude.{◌≡◌, ◌≢◌, ◌⊎◌, ⊤, ℕ, ◌+◌, ◌-◌, ◌≤◌, List, ◌∷◌, ◌++◌, length, drop, Result, MatchResult}
+use Rattle.std.specs.Prelude.{◌≡◌, ◌≢◌, ⊤, ℕ, ◌+◌, ◌-◌, ◌≤◌, List, ◌∷◌, ◌++◌, length, drop, Result, MatchResult}
 use Rattle.std.specs.Int.{to_be_bytes, w32}
 use Rattle.std.specs.List.{AllByRecursion}
 use Rattle.cc_wire.specs.declared.event.Event.{Event}
@@ -16,8 +16,7 @@ use Rattle.cc_wire.specs.Events.{IsEvent}
 use Rattle.cc_node.specs.Node.{Node, after, IsLawful}
 use Rattle.cc_node.specs.Sides.{OPEN, batch_limit, record_limit, sized_spelling, events_spelling, SpellsRecord}
 use Rattle.cc_site.specs.declared.site.Side.{Side}
-use Rattle.cc_site.specs.declared.site.Call.TheVariants.{Length, Read}
-use Rattle.cc_site.specs.Moments.{Rose}
+use Rattle.cc_site.specs.Telling.{LooksAt, Tells}
 use Rattle.cc_journal.specs.Scanning.{ScansTo, StopsAt}
 use Rattle.cc_journal.specs.declared.scanning.Scanned.{Scanned}
 use Rattle.cc_journal.specs.declared.scanning.ScanFault.{ScanFault}
@@ -97,10 +96,10 @@ IfDamaged P (Damaged place) = P place
 IfDamaged P (Device fault) = ⊤
 IfDamaged P NoMemory = ⊤
 
--- a device fault is that of this side's length or of a read, and is answered where the count of failures rose, and only there
+-- a device fault names a look at this side, and is answered where the count of failures rose, and only there
 abbrev pub FaultRose : Side → ℕ → ℕ → ScanFault → Type 0
 FaultRose side before now (Damaged place) = now ≡ before
-FaultRose side before now (Device fault) = (fault.side ≡ side) × ((fault.call ≡ Length) ⊎ (fault.call ≡ Read)) × Rose before now
+FaultRose side before now (Device fault) = Tells (LooksAt side) before now fault
 FaultRose side before now NoMemory = now ≡ before
 
 abbrev pub CountsDevice : {T : Type 0} → Side → ℕ → ℕ → Result T ScanFault → Type 0

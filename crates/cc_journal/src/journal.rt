@@ -5,6 +5,7 @@ ghost use Rattle.std.specs.Vec.{vec_capacity};
 ghost use Rattle.cc_wire.specs.declared.event.Event.{Event};
 ghost use Rattle.cc_wire.specs.Events.{IsEvent};
 ghost use Rattle.cc_site.specs.declared.site.Call.TheVariants.{Write, Sync};
+ghost use Rattle.cc_site.specs.Sides.{other};
 ghost use Rattle.cc_site.specs.Moments.{EachMoment, Rose};
 ghost use Rattle.cc_node.specs.Node.{Node, after, IsLawful};
 ghost use Rattle.cc_node.specs.Sides.{StandsBehind, SpellsBatch};
@@ -150,6 +151,7 @@ impl Journal {
         ensures flight { IfOk result (λ flight. flight ≡ batch) }
         ensures honest { S.honest site.old ↔ S.honest site.new }
         ensures tells { (S.tells site.old ↔ S.tells site.new) × (S.sent site.new ≡ S.sent site.old) }
+        ensures other_side { S.honest site.old → S.state site.new (other self.old.side) ≡ S.state site.old (other self.old.side) }
         ensures every_moment { S.honest site.old → (generation : ℕ) (start : Node) (events : List Event) (opening : ℕ)
             → IsAtRest (S.state site.old) (S.sent site.old) self.old generation start events opening
             → EachMoment S.moment S.left_since site.old site.new (IsGood start (events ++ events_in batch) (length events) opening) }
@@ -178,6 +180,7 @@ impl Journal {
         ensures err { OnErr result (self.new ≡ self.old) }
         ensures honest { S.honest site.old ↔ S.honest site.new }
         ensures tells { (S.tells site.old ↔ S.tells site.new) × (S.sent site.new ≡ S.sent site.old) }
+        ensures other_side { S.honest site.old → S.state site.new (other self.old.side) ≡ S.state site.old (other self.old.side) }
         ensures every_moment { S.honest site.old → (generation : ℕ) (start : Node) (events : List Event) (opening : ℕ)
             → IsAtRest (S.state site.old) (S.sent site.old) self.old generation start events opening
             → IsLawful (after start events) (events_in flight)

@@ -2,6 +2,7 @@ pub mod Sides
 pub mod SideLaws
 pub mod FrontLaws
 pub mod Moments
+pub mod Telling
 pub mod Reads
 pub mod Crashes
 pub mod Record

@@ -20,7 +20,7 @@ returns-clause-faults g c =
     let opening = IsOpening (told c.args.opening.now) in
     elim (c.in-Err-format_sides.ensures.only) [
       | inl is ↦ subst (λ f. FormatFails s.honest s.state opening c.args.site c.format_sides.new.site f) (sym is) (c.in-Ok.ensures.good, λ honest. c.in-Err-format_sides.ensures.already honest (ap the_err is))
-      | inr device ↦ subst (λ f. FormatFails s.honest s.state opening c.args.site c.format_sides.new.site f) (sym device.1) c.in-Ok.ensures.good
+      | inr device ↦ subst (λ f. FormatFails s.honest s.state opening c.args.site c.format_sides.new.site f) (sym device.1) (c.in-Ok.ensures.good, λ honest. c.in-Err-format_sides.ensures.stops honest device.0 (ap the_err device.1))
     ]
 
 pub returns-in-Err-clause-every_moment : goal.returns-in-Err-clause-every_moment
