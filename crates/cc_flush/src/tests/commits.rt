@@ -125,7 +125,7 @@ enum Part {
     Deliveries,
 }
 
-// Commits that batch, and releases it where it landed. The disk call that failed, if one did.
+// Commits that batch, and releases it where it landed, by one call. The disk call that failed, if one did.
 fn turn(
     alloc: Global,
     flusher: &mut Flusher<MemorySite>,
@@ -139,11 +139,8 @@ fn turn(
         Part::Ask => only_ask(alloc, flusher.twin())?,
         Part::Deliveries => deliveries(alloc, flusher.twin())?,
     };
-    match flusher.commit(batch) {
-        Ok(landed) => {
-            flusher.release(landed);
-            Ok(None)
-        }
+    match flusher.flush(batch) {
+        Ok(()) => Ok(None),
         Err(Failed { fault }) => Ok(Some(fault)),
     }
 }
