@@ -45,6 +45,19 @@ impl<L: Life> Share<L> {
     {
         self.count
     }
+
+    // Counts one event more, in the book too.
+    fn raise(&mut self, book: &mut Book<L>)
+        requires { book.old.total < life_limit }
+        ensures total { book.new.total ≡ book.old.total + 1 }
+        ensures count { self.new ≡ self.old + 1 }
+        ensures most { self.old ≤ book.old.total }
+    {
+        let Share { mark, count } = self;
+        book.audit(mark);
+        book.add(mark, 1);
+        *count += 1;
+    }
 }
 
 // The shares' counts, added up. With all parts they are the total.
@@ -161,24 +174,31 @@ impl<L: Life, Q: Lane> Intake<L, Q> {
         ensures refused { IfErr result (λ r. Refuses L.opening self.old event r self.new) }
         ensures uncounted { OnErr result (share.new ≡ share.old) }
     {
-        self.core.decide(&event)?;
+        let entry = self.prepared(alloc, &event)?;
+        let Ok(()) = self.producer.push(rt, queue, entry) else {
+            return Err(Refusal::QueueFull);
+        };
+        self.core.apply(&event);
+        self.accepted += 1;
+        share.raise(&mut self.book);
+        Ok(self.accepted)
+    }
+
+    // The queue's entry of an event that may be accepted, in memory of its own. All growths of an accept are here.
+    fn prepared(&self, alloc: Global, event: &Event) -> Result<Entry, Refusal>
+        ensures entry { IfOk result (λ e. MayAccept L.opening self.now event.now × (e ≡ entry_at (core_after L.opening self.now.entries) event.now)) }
+        ensures refused { IfErr result (λ r. Refuses L.opening self.now event.now r self.now) }
+    {
+        self.core.decide(event)?;
         if self.accepted >= LIFE_LIMIT {
             return Err(Refusal::Spent);
         }
-        let Ok(made) = self.core.made(alloc, &event) else {
+        let Ok(made) = self.core.made(alloc, event) else {
             return Err(Refusal::NoMemory);
         };
-        let Ok(copy) = event.copy(alloc) else {
+        let Ok(event) = event.copy(alloc) else {
             return Err(Refusal::NoMemory);
         };
-        let Ok(()) = self.producer.push(rt, queue, Entry { event, made }) else {
-            return Err(Refusal::QueueFull);
-        };
-        self.core.apply(&copy);
-        self.accepted += 1;
-        self.book.audit(&mut share.mark);
-        self.book.add(&mut share.mark, 1);
-        share.count += 1;
-        Ok(self.accepted)
+        Ok(Entry { event, made })
     }
 }
