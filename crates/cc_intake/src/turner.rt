@@ -199,6 +199,7 @@ fn begun(kept: Option<Entry>) -> Batch
 {
     let mut batch = Batch::new();
     if let Some(entry) = kept {
+        // Its contract says that a record takes one event, however long.
         event_len(&entry.event);
         match batch.push(entry) {
             Ok(()) => {}
