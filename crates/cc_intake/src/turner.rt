@@ -20,7 +20,6 @@ use cc_flush::{Failed, Flusher};
 use cc_journal::{Batch, Entry};
 use cc_site::{DeviceFault, Site};
 use cc_views::NodeId;
-use cc_wire::event_len;
 use std::marker::Model;
 use std::sync::Wait;
 
@@ -193,20 +192,14 @@ fn gather<L: Life, Q: Lane, R: Wait>(
     (batch, None)
 }
 
-// A batch with the kept entry, which a record takes.
+// A batch that begins with the kept entry.
 fn begun(kept: Option<Entry>) -> Batch
     ensures { result ≡ listed kept }
 {
-    let mut batch = Batch::new();
-    if let Some(entry) = kept {
-        // Its contract says that a record takes one event, however long.
-        event_len(&entry.event);
-        match batch.push(entry) {
-            Ok(()) => {}
-            Err(_) => unreachable!(),
-        }
+    match kept {
+        Some(entry) => Batch::of_one(entry),
+        None => Batch::new(),
     }
-    batch
 }
 
 // Makes a batch durable and puts its outputs, if it has any entry.

@@ -55,6 +55,16 @@ impl Batch {
         }
     }
 
+    /// One entry. A record takes any one event.
+    pub fn of_one(entry: Entry) -> Self
+        ensures { result ≡ entry ∷ [] }
+    {
+        let size = COUNT + SIZE + event_len(&entry.event);
+        let mut entries = ArrayVec::new();
+        entries.push(entry);
+        Batch { entries, size }
+    }
+
     /// Puts an entry behind the others. It is given back where there are 64 already, or where the record would have more
     /// than 262,144 bytes behind its length.
     pub fn push(&mut self, entry: Entry) -> Result<(), Entry>

@@ -11,7 +11,7 @@ use cc_journal::{Batch, Entry};
 use cc_node::{Core, Opening};
 use cc_site::{Choice, MemorySite};
 use cc_views::NodeId;
-use cc_wire::{Event, Message, Output, decode_message, event_is_spellable, largest_sizes};
+use cc_wire::{Event, Message, Output, decode_message};
 use std::alloc::Global;
 use std::io::Write;
 use std::marker::Model;
@@ -112,7 +112,7 @@ impl Station {
         if !self.engine.room() {
             return Err(PlayFault::NoMemory);
         }
-        match self.engine.flush(batch_of(Entry { event, made })) {
+        match self.engine.flush(Batch::of_one(Entry { event, made })) {
             Ok(()) => self.print_accepted(alloc, output),
             Err(failed) => Ok(Outcome::Ended(NodeFault::Engine(failed))),
         }
@@ -228,20 +228,6 @@ impl Station {
             .is_ok();
         is_receiver.then_some(sent)
     }
-}
-
-// A batch of one entry.
-fn batch_of(entry: Entry) -> Batch
-    ensures { result ≡ entry ∷ [] }
-{
-    event_is_spellable(&entry.event);
-    largest_sizes();
-    let mut batch = Batch::new();
-    match batch.push(entry) {
-        Ok(()) => {}
-        Err(entry) => drop(entry),
-    }
-    batch
 }
 
 fn opened(alloc: Global, site: MemorySite) -> Result<Flusher<MemorySite>, NodeFault>
