@@ -8,16 +8,17 @@
 --     of_fresh            the fault for a node that can't begin
 --     KeepsOutlet         nothing was put
 --     IsOn                a call on this side
---     FailsOn, FormatStops    a disk call on this side fails;  what was done where formatting stops at one
+--     FailsOn             a disk call on this side fails, and the other side is so
+--     FormatStops         what was done where formatting stops at a disk call that fails
 --     FormatFails         when each fault comes, and what it leaves unchanged
 --     FormatRose          a device fault is told where the count of failures rose, and only there
 use Rattle.std.specs.Prelude.{◌≡◌, ◌↔◌, ◌⊎◌, ℕ, List, [], ◌∷◌, take, false, None}
 use Rattle.cc_wire.specs.declared.output.Output.{Output}
 use Rattle.cc_site.specs.declared.site.Side.{Side}
 use Rattle.cc_site.specs.declared.site.Side.TheVariants.{A, B}
-use Rattle.cc_site.specs.Sides.{SideState, MayLeave, other}
 use Rattle.cc_site.specs.declared.site.Call.{Call}
 use Rattle.cc_site.specs.declared.site.DeviceFault.{DeviceFault}
+use Rattle.cc_site.specs.Sides.{SideState, MayLeave, other}
 use Rattle.cc_site.specs.Moments.{Contents, Rose}
 use Rattle.cc_site.specs.Telling.{Looks}
 use Rattle.cc_node.specs.Node.{Node}

@@ -131,7 +131,7 @@ impl<S: Site> Flusher<S> {
 
     /// Opens two sides: makes sure of both, and reads what they hold. It writes nothing. Beside the engine it gives the core
     /// of its node once more. NotFormatted, Damaged and Version come where the reading rules name them, Device and NoMemory
-    /// where they are met.
+    /// where they are met. Side A is made sure of first, and no side is looked at before side B is made sure of too.
     pub fn open(alloc: Global, site: S) -> Result<(Self, Core), Back<S, OpenFault>>
         ensures outlet { MatchResult result (λ opened. KeepsOutlet S.honest S.tells S.sent site opened.0.site) (λ b. KeepsOutlet S.honest S.tells S.sent site b.site) }
         ensures engine { IfOk result (λ opened. (opened.0.failed ≡ None) × (opened.0.owes ≡ false) × (opened.1 ≡ opened.0.twin.core)) }

@@ -2,8 +2,8 @@
 
 ghost use Rattle.std.specs.Prelude.{ℕ, ◌≡◌, ◌↔◌, ◌⊎◌, ◌∷◌, [], ◌≤◌, length, true, false, IfOk, OnOk, IsTrue, MatchResult, IsErrOf, IfErr};
 ghost use Rattle.cc_site.specs.declared.site.Side.TheVariants.{A, B};
-ghost use Rattle.cc_site.specs.Sides.{other};
 ghost use Rattle.cc_site.specs.declared.site.Call.TheVariants.{Write, Sync};
+ghost use Rattle.cc_site.specs.Sides.{other};
 ghost use Rattle.cc_site.specs.Moments.{EachMoment, Rose, CountsOneFault};
 ghost use Rattle.cc_site.specs.Reads.{OnlyReads};
 ghost use Rattle.cc_site.specs.Telling.{Looks, LooksAt, LooksAtEither, CountsCalls};
@@ -13,7 +13,7 @@ ghost use Rattle.cc_node.specs.Sides.{OPEN, IsArmed};
 ghost use Rattle.cc_checkpoint.specs.Images.{SpellsImage};
 ghost use Rattle.cc_journal.specs.Journals.{IsAtRest};
 ghost use Rattle.cc_flush.specs.declared.formatting.FormatFault.TheVariants as faults;
-ghost use Rattle.cc_flush.specs.Formatting.{durable, of_fresh, BeginsWith, AreShut, StayShut, Arms, HasNoneOrAll, IsNoneOrWhole, FormatRose, FormatStops, KeepsOutlet, FormatFails, IsOn};
+ghost use Rattle.cc_flush.specs.Formatting.{durable, of_fresh, BeginsWith, AreShut, StayShut, Arms, HasNoneOrAll, IsNoneOrWhole, IsOn, FormatRose, FormatStops, KeepsOutlet, FormatFails};
 
 use crate::back::Back;
 use cc_checkpoint::encode_image;
@@ -191,7 +191,8 @@ fn format_sides<S: Site>(site: &mut S, image: &[u8]) -> Result<(), FormatFault>
 
 /// Makes two sides that aren't armed keep the node that begins as the opening says, under generation 1 on side A. The
 /// faults come in the order BadOpening, NoMemory, Device and AlreadyFormatted, but Device where it is met. After a Device
-/// fault it may be tried again. What a crash within the call leaves is told where both sides begin with the byte that is
+/// fault it may be tried again. It looks at both sides, and lays out side B before side A, so the side that the fault names
+/// tells how far it came. What a crash within the call leaves is told where both sides begin with the byte that is
 /// written for a closed gate: no armed side, or the node. Else both sides are then to be emptied and formatted again.
 pub fn format<S: Site>(
     alloc: Global,
