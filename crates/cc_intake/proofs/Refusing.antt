@@ -2,7 +2,9 @@
 --     own_reason              never for want of memory, nor for a full queue
 --     err_decided             the refusal of a decision
 --     refuses_own             what an intake says where its core refuses
-use Rattle.std.proofs.Common.{◌≡◌, inl, Bool, true, false, List, [], ◌∷◌, subst}
+--     decides_after           an intake's core decides as the core after its entries
+--     may_accept              where it doesn't refuse an event, and the life has room
+use Rattle.std.proofs.Common.{◌≡◌, inl, Bool, true, false, List, [], ◌∷◌, ℕ, ◌<◌, length, ap, subst, arith}
 use Rattle.std.specs.Prelude.{Option, Some, None, IfSome, Err, ⊤}
 use Rattle.std.specs.Bool.{then_some}
 use Rattle.std.specs.List.{AllByRecursion}
@@ -15,8 +17,8 @@ use Rattle.cc_node.specs.Core.{Core}
 use Rattle.cc_node.specs.Node.{Node}
 use Rattle.cc_node.specs.Refusals.{reasons, decides, decided}
 use Rattle.cc_intake.specs.Accepting.{Accepting}
-use Rattle.cc_intake.specs.Histories.{core_after}
-use Rattle.cc_intake.specs.Refusals.{Refuses}
+use Rattle.cc_intake.specs.Histories.{life_limit, core_after}
+use Rattle.cc_intake.specs.Refusals.{MayAccept, Refuses}
 
 -- a core's reason
 abbrev IsOwn : Refusal → Type 0
@@ -56,3 +58,15 @@ refuses_own opening i j e refusal.Spent is same = (inl is, same)
 refuses_own opening i j e refusal.NoMemory is same = absurd (is_own (core_after opening i.entries) e refusal.NoMemory is)
 refuses_own opening i j e refusal.QueueFull is same = absurd (is_own (core_after opening i.entries) e refusal.QueueFull is)
 refuses_own opening i j e r is same = (is, same)
+
+-- an intake's core decides as the core after its entries
+pub decides_after : (opening : Node) (i j : Accepting) (core : Core) (e : Event) (d : Option Refusal)
+    → j ≡ i → core ≡ core_after opening j.entries → decides core e ≡ d → decides (core_after opening i.entries) e ≡ d
+decides_after opening i j core e d same is decided = subst (λ (k : Accepting). decides (core_after opening k.entries) e ≡ d) same (subst (λ (k : Core). decides k e ≡ d) is decided)
+
+-- where an intake's core doesn't refuse an event, and the life has room
+pub may_accept : (opening : Node) (i j : Accepting) (core : Core) (accepted : ℕ) (e : Event)
+    → j ≡ i → core ≡ core_after opening j.entries → accepted ≡ length j.entries → decides core e ≡ None → accepted < life_limit → MayAccept opening i e
+may_accept opening i j core accepted e same is count free room =
+    let n = ap (λ (k : Accepting). length k.entries) same in
+    (decides_after opening i j core e None same is free, omega (arith, n, count, room))

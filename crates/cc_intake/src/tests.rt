@@ -43,7 +43,7 @@ enum Holding {
     EachSync,
 }
 
-// Counts accepts and syncs, and holds syncs.
+// Counts accepts and syncs, and holds syncs. It notes a wait that was too long, and that the engine has ended.
 #[derive(Drop)]
 struct Hold {
     holding: Holding,
@@ -52,6 +52,7 @@ struct Hold {
     syncs: AtomicU64,
     held: AtomicU64,
     late: AtomicU64,
+    ended: AtomicU64,
 }
 
 impl Hold {
@@ -63,6 +64,7 @@ impl Hold {
             syncs: AtomicU64::new(0),
             held: AtomicU64::new(0),
             late: AtomicU64::new(0),
+            ended: AtomicU64::new(0),
         }
     }
 
@@ -543,22 +545,24 @@ fn is_stored(output: Option<&Output>) -> bool {
     }
 }
 
-// Brings what it heard from one node, as messages 1 to `last`, each again where the queue was full.
+// Brings what it heard from one node, as messages 1 to `last`, each again where the queue was full, and none once the engine
+// has ended.
 #[derive(Drop)]
-struct Peer {
+struct Peer<'a> {
+    gate: &'a Hold,
     node: NodeId,
     next: u64,
     last: u64,
     refused: u64,
 }
 
-impl Source for Peer {
+impl Source for Peer<'_> {
     ghost gives = { λ s e t. Unit {0} };
 
     ghost hears = { λ s a t. Unit {0} };
 
     fn next(&mut self) -> Option<Event> {
-        if self.next > self.last {
+        if self.next > self.last || self.gate.ended.load(Ordering::SeqCst) == 1 {
             return None;
         }
         Some(Event::Deliver {
@@ -582,22 +586,24 @@ impl Source for Peer {
 
 // A worker: its share, and where its events come from.
 #[derive(Drop)]
-struct Worker<L: Life> {
+struct Worker<'a, L: Life> {
     share: Share<L>,
-    peer: Peer,
+    peer: Peer<'a>,
 }
 
 // So many workers, each of a node of its own.
-fn hired<L: Life, Q: Lane, R: Wait>(
+fn hired<'a, L: Life, Q: Lane, R: Wait>(
     rt: &R,
     alloc: Global,
+    gate: &'a Hold,
     lock: &Mutex<Intake<L, Q>>,
     count: u32,
     last: u64,
-) -> Result<Vec<Worker<L>>, Fail> {
+) -> Result<Vec<Worker<'a, L>>, Fail> {
     let mut workers = Vec::new(alloc);
     for i in 0..count {
         let peer = Peer {
+            gate,
             node: NodeId::new(i.wrapping_add(2)).ok_or("a node")?,
             next: 1,
             last,
@@ -609,9 +615,10 @@ fn hired<L: Life, Q: Lane, R: Wait>(
     Ok(workers)
 }
 
-// Takes turns until nothing is left after the workers have stopped.
+// Takes turns until nothing is left after the workers have stopped, or the engine has ended.
 fn turn_on<L: Life, Q: Lane, R: Wait>(
     rt: &R,
+    gate: &Hold,
     turner: &mut Turner<Disk<'_>, L, Q>,
     queue: &Queue<L, Q>,
     stop: &AtomicU64,
@@ -620,11 +627,15 @@ fn turn_on<L: Life, Q: Lane, R: Wait>(
         let stopped = stop.load(Ordering::SeqCst) == 1;
         match turner.turn(rt, queue) {
             Ok(turned) if turned.events > 0 => {}
-            _ => {
+            Ok(_) => {
                 if stopped {
                     return;
                 }
                 thread::yield_now();
+            }
+            Err(_) => {
+                gate.ended.store(1, Ordering::SeqCst);
+                return;
             }
         }
     }
@@ -647,14 +658,14 @@ fn acks(outputs: &[Output], node: NodeId) -> Option<u64> {
     Some(last)
 }
 
-fn labour<L: Life, Q: Lane, R: Wait>(
+fn labour<'a, L: Life, Q: Lane, R: Wait>(
     rt: &R,
     alloc: Global,
     lock: &Mutex<Intake<L, Q>>,
     queue: &Queue<L, Q>,
     gate: &Hold,
-    worker: Worker<L>,
-) -> Worker<L> {
+    worker: Worker<'a, L>,
+) -> Worker<'a, L> {
     let Worker {
         mut share,
         mut peer,
@@ -663,14 +674,14 @@ fn labour<L: Life, Q: Lane, R: Wait>(
     Worker { share, peer }
 }
 
-fn labour_all<L: Life + Send + Sync, Q: Lane + Send + Sync, R: Threads + Wait + Sync>(
+fn labour_all<'a, L: Life + Send + Sync, Q: Lane + Send + Sync, R: Threads + Wait + Sync>(
     rt: &R,
     alloc: Global,
     lock: &Mutex<Intake<L, Q>>,
     queue: &Queue<L, Q>,
     gate: &Hold,
-    workers: Vec<Worker<L>>,
-) -> Result<Vec<Worker<L>>, AllocError> {
+    workers: Vec<Worker<'a, L>>,
+) -> Result<Vec<Worker<'a, L>>, AllocError> {
     thread::map_vec(
         rt,
         workers,
@@ -690,11 +701,11 @@ fn many<L: Life + Send + Sync, Q: Lane + Send + Sync, R: Threads + Wait + Sync>(
     count: u32,
     last: u64,
 ) -> Result<(), Fail> {
-    let workers = hired(rt, alloc, lock, count, last)?;
+    let workers = hired(rt, alloc, gate, lock, count, last)?;
     let stop = AtomicU64::new(0);
     let (_, workers) = join(
         rt,
-        || turn_on(rt, turner, queue, &stop),
+        || turn_on(rt, gate, turner, queue, &stop),
         || {
             let done = labour_all(rt, alloc, lock, queue, gate, workers);
             stop.store(1, Ordering::SeqCst);
