@@ -1,4 +1,4 @@
-/* Preloaded into a test, it refuses the growth with the number in REFUSED_GROWTH, counted from 1, and says so. */
+/* Preloaded into a test, it refuses the growth with the number in REFUSED_GROWTH, counted from 1 over all threads, and says so. */
 #define _GNU_SOURCE
 #include <dlfcn.h>
 #include <stdlib.h>
@@ -6,13 +6,10 @@
 
 static int refuses(void)
 {
-    static long refused = -1, count = 0;
-    if (refused < 0) {
-        const char *number = getenv("REFUSED_GROWTH");
-        refused = number ? atol(number) : 0;
-    }
-    count++;
-    if (count != refused)
+    static long count = 0;
+    const char *number = getenv("REFUSED_GROWTH");
+    long refused = number ? atol(number) : 0;
+    if (__atomic_add_fetch(&count, 1, __ATOMIC_SEQ_CST) != refused)
         return 0;
     static const char said[] = "a growth is refused\n";
     ssize_t written = write(STDERR_FILENO, said, sizeof said - 1);

@@ -1,8 +1,9 @@
 #!/usr/bin/env bash
 # For each test of these crates: refuses its first growth, then its second, up to the last. A test may then pass, or answer
 # an error: want of memory, or the failed call of a disk in memory, which can't grow. Where it compares an answer that is
-# an error with another one, it stops at that line, which is printed. A test that ends in any other way is printed too, and
-# the status is 1. The tests are those that `rt test` built.
+# an error with another one, it stops at that line, which is printed. A test that ends in any other way, or not within a
+# minute (status 124), is printed too, and the status is 1. Where a test runs threads, which growth has a number depends on
+# how they fall together. The tests are those that `rt test` built.
 set -eu
 cd "$(dirname "$0")/.."
 folder=$(mktemp -d)
@@ -21,7 +22,7 @@ for crate in "$@"; do
     growth=1
     while :; do
       ended=0
-      (cd "crates/$crate" && env REFUSED_GROWTH=$growth LD_PRELOAD="$folder/refuse.so" "out/${crate}_tests" "$name") \
+      (cd "crates/$crate" && timeout 60 env REFUSED_GROWTH=$growth LD_PRELOAD="$folder/refuse.so" "out/${crate}_tests" "$name") \
         > "$folder/said" 2>&1 || ended=$?
       grep -q 'a growth is refused' "$folder/said" || break
       if [ $ended -eq 101 ] && grep -q 'its result gives status 1' "$folder/said"; then
