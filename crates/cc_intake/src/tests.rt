@@ -546,13 +546,14 @@ fn is_stored(output: Option<&Output>) -> bool {
 }
 
 // Brings what it heard from one node, as messages 1 to `last`, each again where the queue was full, and none once the engine
-// has ended.
+// has ended or the queue was full for too long: where no thread can be made, no turn begins before the workers are done.
 #[derive(Drop)]
 struct Peer<'a> {
     gate: &'a Hold,
     node: NodeId,
     next: u64,
     last: u64,
+    full: u64,
     refused: u64,
 }
 
@@ -562,7 +563,8 @@ impl Source for Peer<'_> {
     ghost hears = { λ s a t. Unit {0} };
 
     fn next(&mut self) -> Option<Event> {
-        if self.next > self.last || self.gate.ended.load(Ordering::SeqCst) == 1 {
+        let done = self.next > self.last || self.full >= TURNS;
+        if done || self.gate.ended.load(Ordering::SeqCst) == 1 {
             return None;
         }
         Some(Event::Deliver {
@@ -574,8 +576,14 @@ impl Source for Peer<'_> {
 
     fn told(&mut self, answer: Result<u64, Refusal>) {
         match answer {
-            Ok(_) => self.next = self.next.saturating_add(1),
-            Err(Refusal::QueueFull) => {}
+            Ok(_) => {
+                self.next = self.next.saturating_add(1);
+                self.full = 0;
+            }
+            Err(Refusal::QueueFull) => {
+                self.full = self.full.saturating_add(1);
+                thread::yield_now();
+            }
             Err(_) => {
                 self.refused = self.refused.saturating_add(1);
                 self.next = self.next.saturating_add(1);
@@ -607,6 +615,7 @@ fn hired<'a, L: Life, Q: Lane, R: Wait>(
             node: NodeId::new(i.wrapping_add(2)).ok_or("a node")?,
             next: 1,
             last,
+            full: 0,
             refused: 0,
         };
         let share = drawn(rt, lock)?;
