@@ -6,7 +6,7 @@ BUILD = cd crates/ccnode && rt run -- play < /dev/null > ../../run.log 2>&1 || {
 
 # Builds the program, proves it on the way, and plays the script that ships with it.
 run:
-	@echo 'proving and building ccnode (a quarter of an hour on the first run) ...'
+	@echo 'proving and building ccnode (forty minutes on the first run) ...'
 	@$(BUILD)
 	@echo '$$ ccnode play < crates/ccnode/stdin'
 	@./crates/ccnode/out/ccnode play < crates/ccnode/stdin
