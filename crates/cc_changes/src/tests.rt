@@ -32,25 +32,28 @@ fn a_need_is_rounded_up_and_at_least_one(rt: HostRuntime) {
 
 #[test]
 fn who_joined_has_entered(rt: HostRuntime) -> Result<(), Fail> {
-    let mut changes = Changes::new(rt.alloc())?;
+    let one = id(1)?;
+    let two = id(2)?;
     let other = told(rt.alloc(), 2, 1)?;
+    let mut changes = Changes::new(rt.alloc())?;
     assert!(rt; changes.would_fit(&other));
     if changes.would_fit(&other) {
         changes.union(&other);
     }
     assert_eq!(rt; changes.present_count(), 2);
     assert_eq!(rt; changes.member_count(), 1);
-    assert!(rt; changes.has_entered(id(1)?));
-    assert!(rt; !changes.has_joined(id(2)?));
+    assert!(rt; changes.has_entered(one));
+    assert!(rt; !changes.has_joined(two));
     Ok(())
 }
 
 #[test]
 fn who_left_is_not_present(rt: HostRuntime) -> Result<(), Fail> {
+    let seven = id(7)?;
     let mut changes = Changes::new(rt.alloc())?;
-    changes.add_join(id(7)?);
+    changes.add_join(seven);
     let copy = changes.copy(rt.alloc())?;
-    changes.add_leave(id(7)?);
+    changes.add_leave(seven);
     assert_eq!(rt; changes.present_count(), 0);
     assert_eq!(rt; changes.entered().len(), 1);
     assert_eq!(rt; copy.present_count(), 1);

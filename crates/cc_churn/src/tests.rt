@@ -57,20 +57,30 @@ fn four_echoes_are_needed_of_four_nodes(rt: HostRuntime) -> Result<(), Fail> {
     Ok(())
 }
 
+fn is_echoed(alloc: Global, churn: &Churn, me: NodeId, join: &Message) -> Result<bool, Fail> {
+    let view = View::new(alloc)?;
+    let echo = churn.post(alloc, me, GAMMA, &view, join)?;
+    Ok(matches!(echo, Some(Message::JoinEcho { .. })))
+}
+
+fn is_copied(alloc: Global, churn: &Churn, me: NodeId) -> Result<bool, Fail> {
+    let copy = churn.copy(alloc)?;
+    Ok(copy.has_joined(me) && copy.has_entered(me) && !copy.has_left(me))
+}
+
 #[test]
 fn a_node_joins_and_is_asked(rt: HostRuntime) -> Result<(), Fail> {
     let me = id(1)?;
+    let join = Message::Join { node: me };
     let mut churn = Churn::new(rt.alloc())?;
     assert_eq!(rt; churn.decide_ask(me), Some(Refusal::NotEntered));
-    let view = View::new(rt.alloc())?;
-    let join = Message::Join { node: me };
-    let echo = churn.post(rt.alloc(), me, GAMMA, &view, &join)?;
-    assert!(rt; matches!(echo, Some(Message::JoinEcho { .. })));
+    let echoed = is_echoed(rt.alloc(), &churn, me, &join)?;
+    assert!(rt; echoed);
     churn.apply(me, GAMMA, &join);
     assert_eq!(rt; churn.decide_ask(me), None);
     assert_eq!(rt; churn.decide_enter(me), Some(Refusal::AlreadyEntered));
     assert_eq!(rt; churn.quorum(GAMMA), 1);
-    let copy = churn.copy(rt.alloc())?;
-    assert!(rt; copy.has_joined(me) && copy.has_entered(me) && !copy.has_left(me));
+    let copied = is_copied(rt.alloc(), &churn, me)?;
+    assert!(rt; copied);
     Ok(())
 }

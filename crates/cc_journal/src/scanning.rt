@@ -145,6 +145,68 @@ fn read_record<S: Site>(
     })
 }
 
+// Where the records end, how many there are, and how many events in them.
+#[derive(Drop)]
+struct Ended {
+    journal: Journal,
+    records: u64,
+    events: u64,
+}
+
+// Reads the records from the gate at `place` on, and takes their events into a node that the caller owns.
+fn scan_into<S: Site>(
+    alloc: Global,
+    site: &mut S,
+    side: Side,
+    place: u64,
+    node: &mut Node,
+) -> Result<Ended, ScanFault>
+    ensures scanned { S.honest site.old → IfOk result (λ e. IsScanned (S.state site.old side).bytes side place node.old (record { journal = e.journal; node = node.new; records = e.records; events = e.events })) }
+    ensures damaged { S.honest site.old → IfErr result (IfDamaged (IsStopped (S.state site.old side).bytes place node.old)) }
+    ensures reads { OnlyReads S.honest S.tells S.state S.sent S.moment S.left_since site.old site.new }
+    ensures fault { CountsDevice side (S.failures site.old) (S.failures site.new) result }
+{
+    let len = length_of(site, side)?;
+    let mut body = Vec::with_capacity(alloc, Batch::MAX_BYTES)?;
+    scan_records(alloc, site, side, place, len, &mut body, node)
+}
+
+// The same over a side of known length, through a buffer that holds any record.
+fn scan_records<S: Site>(
+    alloc: Global,
+    site: &mut S,
+    side: Side,
+    place: u64,
+    len: u64,
+    body: &mut Vec<u8>,
+    node: &mut Node,
+) -> Result<Ended, ScanFault>
+    requires len { S.honest site.old → len ≡ length (S.state site.old side).bytes }
+    ensures scanned { S.honest site.old → IfOk result (λ e. IsScanned (S.state site.old side).bytes side place node.old (record { journal = e.journal; node = node.new; records = e.records; events = e.events })) }
+    ensures damaged { S.honest site.old → IfErr result (IfDamaged (IsStopped (S.state site.old side).bytes place node.old)) }
+    ensures reads { OnlyReads S.honest S.tells S.state S.sent S.moment S.left_since site.old site.new }
+    ensures fault { CountsDevice side (S.failures site.old) (S.failures site.new) result }
+{
+    let mut place = place;
+    let mut records = 0;
+    let mut events = 0;
+    while place < len {
+        if !gate_is_open(site, side, place)? {
+            let journal = Journal::new(alloc, side, place)?;
+            return Ok(Ended {
+                journal,
+                records,
+                events,
+            });
+        }
+        let taken = read_record(alloc, site, side, place + 1, len, body, node)?;
+        place += 1 + taken.size;
+        records += 1;
+        events += taken.events;
+    }
+    Err(ScanFault::Damaged(place))
+}
+
 /// Reads the records of a side from the gate at `place` on, in bytes from 0, and takes their events in, up to a closed
 /// gate (own choice). Damaged where no gate or no record stands that has to, Device where a disk call failed, and NoMemory
 /// where a growth was refused; then the node is given up.
@@ -160,26 +222,16 @@ pub fn scan<S: Site>(
     ensures reads { OnlyReads S.honest S.tells S.state S.sent S.moment S.left_since site.old site.new }
     ensures fault { CountsDevice side (S.failures site.old) (S.failures site.new) result }
 {
-    let len = length_of(site, side)?;
-    let mut body = Vec::with_capacity(alloc, Batch::MAX_BYTES)?;
     let mut node = node;
-    let mut place = place;
-    let mut records = 0;
-    let mut events = 0;
-    while place < len {
-        if !gate_is_open(site, side, place)? {
-            let journal = Journal::new(alloc, side, place)?;
-            return Ok(Scanned {
-                journal,
-                node,
-                records,
-                events,
-            });
-        }
-        let taken = read_record(alloc, site, side, place + 1, len, &mut body, &mut node)?;
-        place += 1 + taken.size;
-        records += 1;
-        events += taken.events;
-    }
-    Err(ScanFault::Damaged(place))
+    let Ended {
+        journal,
+        records,
+        events,
+    } = scan_into(alloc, site, side, place, &mut node)?;
+    Ok(Scanned {
+        journal,
+        node,
+        records,
+        events,
+    })
 }

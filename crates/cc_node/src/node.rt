@@ -9,7 +9,7 @@ ghost use Rattle.cc_ops.specs.Stages.{stage_of};
 ghost use Rattle.cc_outbox.specs.OutboxLaws.{KeepsPosts};
 ghost use Rattle.cc_node.specs.declared.opening.Fresh.TheVariants as faults;
 ghost use Rattle.cc_node.specs.Core as machine;
-ghost use Rattle.cc_node.specs.Lawful.{IsLawfulNode, KeepsAnswers, pending_session};
+ghost use Rattle.cc_node.specs.Lawful.{IsLawfulCore, IsLawfulNode, KeepsAnswers, pending_session};
 ghost use Rattle.cc_node.specs.Node.{step, add, keep, forget_asked};
 ghost use Rattle.cc_node.specs.Opening.{told, fresh, IsOpening};
 ghost use Rattle.cc_node.specs.Parts.{core_of};
@@ -72,13 +72,7 @@ impl Node {
         ensures node { IfSome result (λ n. n ≡ record { core = core_of parts; outbox = outbox }) }
     {
         let core = Core::restored(parts)?;
-        if outbox.last() != core.posts() {
-            return None;
-        }
-        if !keeps_posts(&outbox, core.lowest()) {
-            return None;
-        }
-        if !keeps_answers(&outbox, core.sessions(), core.ops()) {
+        if !keeps_all(&outbox, &core) {
             return None;
         }
         Some(Node { core, outbox })
@@ -155,6 +149,20 @@ impl Node {
         self.core.apply(&event);
         self.outbox.trim(self.core.lowest());
     }
+}
+
+// Whether an outbox is that of a lawful node with this core.
+fn keeps_all(outbox: &Outbox, core: &Core) -> bool
+    requires { IsLawfulCore core.now }
+    ensures { IsTrue result ↔ IsLawfulNode (record { core = core.now; outbox = outbox.now }) }
+{
+    if outbox.last() != core.posts() {
+        return false;
+    }
+    if !keeps_posts(outbox, core.lowest()) {
+        return false;
+    }
+    keeps_answers(outbox, core.sessions(), core.ops())
 }
 
 // Whether just the posts above number `lowest` are kept.

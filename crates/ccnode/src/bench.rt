@@ -23,6 +23,12 @@ pub enum Kind {
 #[derive(Drop)]
 pub struct Load {
     core: Core,
+    given: Given,
+}
+
+// Who acknowledges, and the delivery.
+#[derive(Drop)]
+struct Given {
     peers: Vec<NodeId>,
     delivery: Event,
 }
@@ -31,15 +37,8 @@ impl Load {
     /// A cluster of so many nodes.
     pub fn new(alloc: Global, nodes: u32, kind: Kind) -> Result<Self, PlayFault> {
         let mut core = member(alloc, nodes)?;
-        let peers = peers_of(alloc, &core)?;
-        let seen = delivery(alloc, &core, Kind::Store)?;
-        take(alloc, &mut core, &seen)?;
-        let delivery = delivery(alloc, &core, kind)?;
-        Ok(Load {
-            core,
-            peers,
-            delivery,
-        })
+        let given = given_again(alloc, &mut core, kind)?;
+        Ok(Load { core, given })
     }
 
     /// Takes in so many messages from the node itself. How many were accepted.
@@ -50,7 +49,7 @@ impl Load {
                 taken = taken.saturating_add(1);
             }
             if i % ROUND == 0 {
-                acknowledge(alloc, &mut self.core, &self.peers)?;
+                acknowledge(alloc, &mut self.core, &self.given.peers)?;
             }
         }
         Ok(taken)
@@ -59,10 +58,10 @@ impl Load {
     // Delivers the message under the next number. False where it is refused.
     fn deliver_next(&mut self, alloc: Global) -> Result<bool, PlayFault> {
         let heard = self.core.heard(self.core.me());
-        if let Event::Deliver { number, .. } = &mut self.delivery {
+        if let Event::Deliver { number, .. } = &mut self.given.delivery {
             *number = heard.saturating_add(1);
         }
-        take(alloc, &mut self.core, &self.delivery)
+        take(alloc, &mut self.core, &self.given.delivery)
     }
 }
 
@@ -76,10 +75,30 @@ fn member(alloc: Global, nodes: u32) -> Result<Core, PlayFault> {
         beta: FOUR_FIFTHS,
         gamma: FOUR_FIFTHS,
     };
-    let Ok(fresh) = Node::fresh(alloc, &opening) else {
-        return Err(PlayFault::NoMemory);
-    };
-    Ok(fresh.core().copy(alloc)?)
+    core_of(alloc, &opening)
+}
+
+fn core_of(alloc: Global, opening: &Opening<'_>) -> Result<Core, PlayFault> {
+    match Node::fresh(alloc, opening) {
+        Ok(fresh) => Ok(fresh.core().copy(alloc)?),
+        Err(_) => Err(PlayFault::NoMemory),
+    }
+}
+
+// What the member gets again and again, once it has seen a row of each node.
+fn given_again(alloc: Global, core: &mut Core, kind: Kind) -> Result<Given, PlayFault> {
+    show_rows(alloc, core)?;
+    let peers = peers_of(alloc, core)?;
+    Ok(Given {
+        peers,
+        delivery: delivery(alloc, core, kind)?,
+    })
+}
+
+fn show_rows(alloc: Global, core: &mut Core) -> Result<(), PlayFault> {
+    let seen = delivery(alloc, core, Kind::Store)?;
+    take(alloc, core, &seen)?;
+    Ok(())
 }
 
 fn peers_of(alloc: Global, core: &Core) -> Result<Vec<NodeId>, PlayFault> {

@@ -108,14 +108,42 @@ pub fn engine_times<S: Site + Drop, C: Clock + CpuClock>(
     load: EngineLoad,
 ) -> Result<EngineTimes, BenchFault> {
     let (mut engine, mut live) = opened(alloc, site, load.nodes)?;
-    let store = delivery(alloc, &live, Kind::Store)?;
+    first_rounds(clock, alloc, &mut engine, &mut live, load)
+}
+
+// What a store takes in an engine that nothing was given yet.
+fn first_rounds<S: Site + Drop, C: Clock + CpuClock>(
+    clock: &C,
+    alloc: Global,
+    engine: &mut Flusher<S>,
+    live: &mut Core,
+    load: EngineLoad,
+) -> Result<EngineTimes, BenchFault>
+    requires owes { engine.old.owes ≡ false }
+    requires live { live.old ≡ engine.old.twin.core }
+{
+    let store = delivery(alloc, live, Kind::Store)?;
+    rounds(clock, alloc, engine, live, &store, load)
+}
+
+fn rounds<S: Site + Drop, C: Clock + CpuClock>(
+    clock: &C,
+    alloc: Global,
+    engine: &mut Flusher<S>,
+    live: &mut Core,
+    store: &Event,
+    load: EngineLoad,
+) -> Result<EngineTimes, BenchFault>
+    requires owes { engine.old.owes ≡ false }
+    requires live { live.old ≡ engine.old.twin.core }
+{
     let mut spent = Spent {
         stores: 0,
         elapsed: Duration::ZERO,
         processor: Duration::ZERO,
     };
     for _ in 0..load.rounds {
-        let round = round(clock, alloc, &mut engine, &mut live, &store, load.batch)?;
+        let round = round(clock, alloc, engine, live, store, load.batch)?;
         spent = spent.with(&round);
         if spent.elapsed.as_secs() >= LONG_ENOUGH {
             break;

@@ -94,6 +94,11 @@ fn print_times(rt: &HostRuntime) -> anyhow::Result<()> {
 fn nanoseconds(rt: &HostRuntime, nodes: u32, kind: Kind, count: u64) -> anyhow::Result<u128> {
     let alloc = rt.alloc();
     let mut load = Load::new(alloc, nodes, kind)?;
+    time_of(rt, &mut load, count)
+}
+
+fn time_of(rt: &HostRuntime, load: &mut Load, count: u64) -> anyhow::Result<u128> {
+    let alloc = rt.alloc();
     let start = Instant::now(rt)?;
     let taken = load.deliver(alloc, count)?;
     Ok(start.elapsed(rt)?.as_nanos() / u128::from(taken.max(1)))

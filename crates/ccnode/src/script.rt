@@ -35,24 +35,49 @@ pub fn parse(alloc: Global, bytes: &[u8]) -> Result<Option<Line>, AllocError> {
         return Ok(None);
     };
     let words: Vec<&str> = text.split(' ').collect(alloc)?;
-    match words.as_slice() {
-        ["fractions", beta, gamma] => Ok(fractions(beta, gamma)),
+    line_of(alloc, words.as_slice())
+}
+
+// The line of these words.
+fn line_of(alloc: Global, words: &[&str]) -> Result<Option<Line>, AllocError> {
+    match words {
         ["member", id, "of", list] => member(alloc, id, list),
         ["entrant", id, "via", list] => entrant(alloc, id, list),
-        ["enter", node] => Ok(event_at(node, Some(Event::Enter))),
-        ["leave", node] => Ok(event_at(node, Some(Event::Leave))),
+        _ => Ok(plain_line(words)),
+    }
+}
+
+// The line of these words, where it has no list.
+fn plain_line(words: &[&str]) -> Option<Line> {
+    match words {
+        ["fractions", beta, gamma] => fractions(beta, gamma),
+        ["enter", node] => event_at(node, Some(Event::Enter)),
+        ["leave", node] => event_at(node, Some(Event::Leave)),
         ["ask", node, session, request, command @ ..] => {
-            Ok(event_at(node, ask(session, request, command)))
+            event_at(node, ask(session, request, command))
         }
-        ["carry", from, to, number] => Ok(carry(from, to, number)),
-        ["acked", node, peer, number] => Ok(event_at(node, acked(peer, number))),
-        ["all", limit] => Ok(carry_all(limit)),
-        ["resend", node] => Ok(again(node, Some(Standing::Posts))),
-        ["again", node, session] => Ok(again(node, answer(session))),
-        ["reack", node, peer] => Ok(again(node, ack(peer))),
-        ["crash", node] => Ok(crash(node, Some(Choice::Read))),
-        ["crash", node, "fill", filler] => Ok(crash(node, filled(filler))),
-        _ => Ok(None),
+        ["acked", node, peer, number] => event_at(node, acked(peer, number)),
+        _ => carried_line(words),
+    }
+}
+
+// The line of these words, where it is no event.
+fn carried_line(words: &[&str]) -> Option<Line> {
+    match words {
+        ["carry", from, to, number] => carry(from, to, number),
+        ["all", limit] => carry_all(limit),
+        ["resend", node] => again(node, Some(Standing::Posts)),
+        ["again", node, session] => again(node, answer(session)),
+        ["reack", node, peer] => again(node, ack(peer)),
+        _ => crash_line(words),
+    }
+}
+
+fn crash_line(words: &[&str]) -> Option<Line> {
+    match words {
+        ["crash", node] => crash(node, Some(Choice::Read)),
+        ["crash", node, "fill", filler] => crash(node, filled(filler)),
+        _ => None,
     }
 }
 

@@ -1,6 +1,7 @@
 //! A node of a cluster on a site in memory, and all that it sent.
 
-ghost use Rattle.std.specs.Prelude.{◌≡◌, ◌∷◌, [], false, IfOk};
+ghost use Rattle.std.specs.Prelude.{◌≡◌, ◌∷◌, [], false, None, IfOk};
+ghost use Rattle.cc_node.specs.Refusals.{decides};
 
 use crate::node_fault::NodeFault;
 use crate::play_fault::PlayFault;
@@ -11,7 +12,7 @@ use cc_journal::{Batch, Entry};
 use cc_node::{Core, Opening};
 use cc_site::{Choice, MemorySite};
 use cc_views::NodeId;
-use cc_wire::{Event, Message, Output, decode_message};
+use cc_wire::{Event, Message, Output, Refusal, decode_message};
 use std::alloc::Global;
 use std::io::Write;
 use std::marker::Model;
@@ -90,7 +91,9 @@ impl Station {
         self.engine.site()
     }
 
-    fn core(&self) -> &Core {
+    fn core(&self) -> &Core
+        ensures { result.now ≡ self.now.twin.core }
+    {
         self.engine.twin().core()
     }
 
@@ -101,17 +104,36 @@ impl Station {
         event: Event,
         output: &mut W,
     ) -> Result<Outcome, PlayFault> {
-        let core = self.engine.twin().core();
-        if let Err(refusal) = core.decide(&event) {
-            let id = core.me().number();
-            writeln!(output, "{id} refused {refusal}")?;
-            return Ok(Outcome::Refused);
+        if let Err(refusal) = self.core().decide(&event) {
+            return self.print_refused(refusal, output);
         }
-        let made = core.made(alloc, &event)?;
+        self.take_in(alloc, event, output)
+    }
+
+    fn print_refused<W: Write>(
+        &self,
+        refusal: Refusal,
+        output: &mut W,
+    ) -> Result<Outcome, PlayFault> {
+        let id = self.id().number();
+        writeln!(output, "{id} refused {refusal}")?;
+        Ok(Outcome::Refused)
+    }
+
+    // Makes an event durable that isn't refused.
+    fn take_in<W: Write>(
+        &mut self,
+        alloc: Global,
+        event: Event,
+        output: &mut W,
+    ) -> Result<Outcome, PlayFault>
+        requires { decides self.old.twin.core event ≡ None }
+    {
         // A side that has no room is longer than any memory.
         if !self.engine.room() {
             return Err(PlayFault::NoMemory);
         }
+        let made = self.engine.twin().core().made(alloc, &event)?;
         match self.engine.flush(Batch::of_one(Entry { event, made })) {
             Ok(()) => self.print_accepted(alloc, output),
             Err(failed) => Ok(Outcome::Ended(NodeFault::Engine(failed))),

@@ -1,0 +1,21 @@
+use Rattle.std.proofs.Common.{◌≡◌, ◌-◌, ◌≤◌, length, drop}
+use Rattle.cc_site.specs.Reads.{OnlyReads}
+use Rattle.cc_journal.proofs.Scans.{SoFar}
+use Rattle.cc_journal.proofs.scanning.scan_records.Given as goal
+
+abbrev pub invariant-loop-place : goal.invariant-loop-place
+invariant-loop-place g l =
+    let s = g.S.Site in
+    let bytes = (s.state l.fn.site l.side).bytes in
+    record {
+      reads : OnlyReads s.honest s.tells s.state s.sent s.moment s.left_since l.fn.site l.site;
+      size : s.honest l.fn.site → l.len ≡ length bytes;
+      onward : l.fn.place ≤ l.place;
+      few_records : l.records ≤ l.place;
+      few_events : l.events ≤ l.place;
+      so_far : s.honest l.fn.site → SoFar (drop l.fn.place bytes) l.fn.node l.node (l.place - l.fn.place) l.records l.events;
+      failures : s.failures l.site ≡ s.failures l.fn.site;
+    }
+
+abbrev pub decreases-loop-place : goal.decreases-loop-place
+decreases-loop-place g l = l.len - l.place
