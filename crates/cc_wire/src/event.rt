@@ -4,7 +4,7 @@ ghost use Rattle.std.specs.Prelude.{◌≡◌, ◌≤◌, ◌+◌, ℕ, List, []
 ghost use Rattle.std.specs.Vec.{vec_capacity};
 ghost use Rattle.cc_wire.specs.Writing.{Writes};
 ghost use Rattle.cc_wire.specs.Reading.{Gives, whole};
-ghost use Rattle.cc_wire.specs.Events.{numbered_spelling, IsNumbered, delivery_spelling, IsDelivery, asked_spelling, IsAsked, place_spelling, IsPlace, event_at, event_spelling, IsEvent, SpellsEvent};
+ghost use Rattle.cc_wire.specs.Events.{numbered_spelling, IsNumbered, delivery_spelling, IsDelivery, asked_spelling, IsAsked, place_spelling, IsPlace, event_at, event_fields, numbered_at, delivery_at, place_at, asked_at, event_spelling, IsEvent, SpellsEvent};
 
 use crate::changes_bytes::put_id;
 use crate::command::{Command, put_command};
@@ -76,17 +76,51 @@ impl Event {
 }
 
 impl<'a> Reader<'a> {
-    #[tactic(auto, unfolding(crate::specs::Events::event_at))]
-    pub(crate) fn event(&mut self, alloc: Global) -> Result<Event, WireFault>
-        ensures { Gives (λ x. (x, self.new)) result (event_at self.old) }
+    // A node and a number on the link to it.
+    pub(crate) fn numbered(&mut self) -> Result<(NodeId, u64), WireFault>
+        ensures { Gives (λ x. (x, self.new)) result (numbered_at self.old) }
     {
-        match self.u8()? {
+        let node = self.id(1)?;
+        let number = self.u64()?;
+        Ok((node, number))
+    }
+
+    // A message that came from a node under a number.
+    pub(crate) fn delivery(&mut self, alloc: Global) -> Result<((NodeId, u64), Message), WireFault>
+        ensures { Gives (λ x. (x, self.new)) result (delivery_at self.old) }
+    {
+        let numbered = self.numbered()?;
+        let message = self.message(alloc)?;
+        Ok((numbered, message))
+    }
+
+    // The place of a command: a session, and the number of the request in it.
+    pub(crate) fn place(&mut self) -> Result<(u64, u64), WireFault>
+        ensures { Gives (λ x. (x, self.new)) result (place_at self.old) }
+    {
+        let session = self.u64()?;
+        let request = self.u64()?;
+        Ok((session, request))
+    }
+
+    // A command at its place.
+    pub(crate) fn asked(&mut self) -> Result<((u64, u64), Command), WireFault>
+        ensures { Gives (λ x. (x, self.new)) result (asked_at self.old) }
+    {
+        let place = self.place()?;
+        let command = self.command()?;
+        Ok((place, command))
+    }
+
+    // The fields of an event of that kind.
+    fn event_fields(&mut self, alloc: Global, kind: u8) -> Result<Event, WireFault>
+        ensures { Gives (λ x. (x, self.new)) result (event_fields kind self.old) }
+    {
+        match kind {
             1 => Ok(Event::Enter),
             2 => Ok(Event::Leave),
             3 => {
-                let from = self.id(1)?;
-                let number = self.u64()?;
-                let message = self.message(alloc)?;
+                let ((from, number), message) = self.delivery(alloc)?;
                 Ok(Event::Deliver {
                     from,
                     number,
@@ -94,14 +128,11 @@ impl<'a> Reader<'a> {
                 })
             }
             4 => {
-                let peer = self.id(1)?;
-                let number = self.u64()?;
+                let (peer, number) = self.numbered()?;
                 Ok(Event::Acked { peer, number })
             }
             5 => {
-                let session = self.u64()?;
-                let request = self.u64()?;
-                let command = self.command()?;
+                let ((session, request), command) = self.asked()?;
                 Ok(Event::Ask {
                     session,
                     request,
@@ -110,6 +141,14 @@ impl<'a> Reader<'a> {
             }
             kind => Err(WireFault::BadKind(kind)),
         }
+    }
+
+    #[tactic(auto, unfolding(crate::specs::Events::event_at))]
+    pub(crate) fn event(&mut self, alloc: Global) -> Result<Event, WireFault>
+        ensures { Gives (λ x. (x, self.new)) result (event_at self.old) }
+    {
+        let kind = self.u8()?;
+        self.event_fields(alloc, kind)
     }
 }
 

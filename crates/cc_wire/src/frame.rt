@@ -5,7 +5,7 @@ ghost use Rattle.std.specs.Int.{w32, w64, to_be_bytes};
 ghost use Rattle.std.specs.Vec.{vec_capacity};
 ghost use Rattle.cc_wire.specs.Writing.{Writes};
 ghost use Rattle.cc_wire.specs.Reading.{Gives, whole};
-ghost use Rattle.cc_wire.specs.Frames.{replied_spelling, IsReplied, refused_spelling, IsRefused, body_spelling, frame_spelling, IsFrame, SpellsFrame, body_at, body_length_at, enclosed_at, frame_at};
+ghost use Rattle.cc_wire.specs.Frames.{replied_spelling, IsReplied, refused_spelling, IsRefused, body_spelling, frame_spelling, IsFrame, SpellsFrame, body_at, body_fields, replied_at, refused_at, body_length_at, enclosed_at, frame_at};
 
 use crate::answer::{Answer, put_answer};
 use crate::command::Command;
@@ -64,15 +64,32 @@ impl Frame {
 }
 
 impl<'a> Reader<'a> {
-    #[tactic(auto, unfolding(crate::specs::Frames::body_at))]
-    fn body(&mut self, alloc: Global) -> Result<Frame, WireFault>
-        ensures { Gives (λ x. (x, self.new)) result (body_at self.old) }
+    // The answer to the command at a place.
+    fn replied(&mut self, alloc: Global) -> Result<((u64, u64), Answer), WireFault>
+        ensures { Gives (λ x. (x, self.new)) result (replied_at self.old) }
     {
-        match self.u8()? {
+        let place = self.place()?;
+        let answer = self.answer(alloc)?;
+        Ok((place, answer))
+    }
+
+    // The number of the refusal of the command at a place, and what the refusal carries.
+    fn refused(&mut self) -> Result<((u64, u64), (u8, u64)), WireFault>
+        ensures { Gives (λ x. (x, self.new)) result (refused_at self.old) }
+    {
+        let place = self.place()?;
+        let refusal = self.u8()?;
+        let value = self.u64()?;
+        Ok((place, (refusal, value)))
+    }
+
+    // The fields of a frame of that kind.
+    fn body_fields(&mut self, alloc: Global, kind: u8) -> Result<Frame, WireFault>
+        ensures { Gives (λ x. (x, self.new)) result (body_fields kind self.old) }
+    {
+        match kind {
             1 => {
-                let from = self.id(1)?;
-                let number = self.u64()?;
-                let message = self.message(alloc)?;
+                let ((from, number), message) = self.delivery(alloc)?;
                 Ok(Frame::Post {
                     from,
                     number,
@@ -80,14 +97,11 @@ impl<'a> Reader<'a> {
                 })
             }
             2 => {
-                let from = self.id(1)?;
-                let number = self.u64()?;
+                let (from, number) = self.numbered()?;
                 Ok(Frame::Ack { from, number })
             }
             3 => {
-                let session = self.u64()?;
-                let request = self.u64()?;
-                let command = self.command()?;
+                let ((session, request), command) = self.asked()?;
                 Ok(Frame::Ask {
                     session,
                     request,
@@ -95,9 +109,7 @@ impl<'a> Reader<'a> {
                 })
             }
             4 => {
-                let session = self.u64()?;
-                let request = self.u64()?;
-                let answer = self.answer(alloc)?;
+                let ((session, request), answer) = self.replied(alloc)?;
                 Ok(Frame::Reply {
                     session,
                     request,
@@ -105,10 +117,7 @@ impl<'a> Reader<'a> {
                 })
             }
             5 => {
-                let session = self.u64()?;
-                let request = self.u64()?;
-                let refusal = self.u8()?;
-                let value = self.u64()?;
+                let ((session, request), (refusal, value)) = self.refused()?;
                 Ok(Frame::Refused {
                     session,
                     request,
@@ -119,6 +128,14 @@ impl<'a> Reader<'a> {
             6 => Ok(Frame::Leave),
             kind => Err(WireFault::BadKind(kind)),
         }
+    }
+
+    #[tactic(auto, unfolding(crate::specs::Frames::body_at))]
+    fn body(&mut self, alloc: Global) -> Result<Frame, WireFault>
+        ensures { Gives (λ x. (x, self.new)) result (body_at self.old) }
+    {
+        let kind = self.u8()?;
+        self.body_fields(alloc, kind)
     }
 
     /// The length of a body.

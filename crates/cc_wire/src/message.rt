@@ -3,8 +3,9 @@
 ghost use Rattle.std.specs.Prelude.{◌≡◌, ◌≤◌, ◌+◌, ℕ, List, [], ◌∷◌, ◌++◌, length, IfOk, OnOk, OnErr, IsOk, Ok, vec_len};
 ghost use Rattle.std.specs.Vec.{vec_capacity};
 ghost use Rattle.cc_wire.specs.Writing.{Writes};
-ghost use Rattle.cc_wire.specs.Reading.{Gives, whole};
-ghost use Rattle.cc_wire.specs.Messages.{message_at, message_spelling, IsMessage, SpellsMessage, call_spelling, IsCall, echo_spelling, IsEcho};
+ghost use Rattle.cc_wire.specs.Reading.{◌⊗◌, Gives, via, view_at, whole};
+ghost use Rattle.cc_wire.specs.declared.message.Message.TheVariants as variants;
+ghost use Rattle.cc_wire.specs.Messages.{message_at, fields_of, call_at, echo_at, message_spelling, IsMessage, SpellsMessage, call_spelling, IsCall, echo_spelling, IsEcho};
 ghost use Rattle.cc_wire.specs.Spelling.{view_spelling, IsView, number_spelling, IsId};
 
 use crate::changes_bytes::{put_changes, put_id};
@@ -114,28 +115,50 @@ impl Message {
 }
 
 impl<'a> Reader<'a> {
-    /// A message: its kind, and the fields of that. BadKind for a kind that no message has.
-    #[tactic(auto, unfolding(crate::specs::Messages::message_at))]
-    pub fn message(&mut self, alloc: Global) -> Result<Message, WireFault>
-        ensures { Gives (λ x. (x, self.new)) result (message_at self.old) }
+    // A tag and a node.
+    fn call(&mut self) -> Result<(u64, NodeId), WireFault>
+        ensures { Gives (λ x. (x, self.new)) result (call_at self.old) }
     {
-        match self.u8()? {
+        let tag = self.u64()?;
+        let node = self.id(1)?;
+        Ok((tag, node))
+    }
+
+    // The view that is shown with a call.
+    fn shown(&mut self, alloc: Global) -> Result<(View, (u64, NodeId)), WireFault>
+        ensures { Gives (λ x. (x, self.new)) result ((view_at ⊗ call_at) self.old) }
+    {
+        let view = self.view(alloc)?;
+        let call = self.call()?;
+        Ok((view, call))
+    }
+
+    // What an echo tells.
+    fn echo(&mut self, alloc: Global) -> Result<Message, WireFault>
+        ensures { Gives (λ x. (x, self.new)) result (via (λ f. variants.EnterEcho f.0 f.1.0 f.1.1.0 f.1.1.1) echo_at self.old) }
+    {
+        let changes = self.changes(alloc)?;
+        let view = self.view(alloc)?;
+        let is_joined = self.flag()?;
+        let node = self.id(1)?;
+        Ok(Message::EnterEcho {
+            changes,
+            view,
+            is_joined,
+            node,
+        })
+    }
+
+    // The fields of a message of that kind.
+    fn fields(&mut self, alloc: Global, kind: u8) -> Result<Message, WireFault>
+        ensures { Gives (λ x. (x, self.new)) result (fields_of kind self.old) }
+    {
+        match kind {
             1 => {
                 let node = self.id(1)?;
                 Ok(Message::Enter { node })
             }
-            2 => {
-                let changes = self.changes(alloc)?;
-                let view = self.view(alloc)?;
-                let is_joined = self.flag()?;
-                let node = self.id(1)?;
-                Ok(Message::EnterEcho {
-                    changes,
-                    view,
-                    is_joined,
-                    node,
-                })
-            }
+            2 => self.echo(alloc),
             3 => {
                 let node = self.id(1)?;
                 Ok(Message::Join { node })
@@ -153,29 +176,32 @@ impl<'a> Reader<'a> {
                 Ok(Message::LeaveEcho { node })
             }
             7 => {
-                let tag = self.u64()?;
-                let node = self.id(1)?;
+                let (tag, node) = self.call()?;
                 Ok(Message::Query { tag, node })
             }
             8 => {
-                let view = self.view(alloc)?;
-                let tag = self.u64()?;
-                let node = self.id(1)?;
+                let (view, (tag, node)) = self.shown(alloc)?;
                 Ok(Message::QueryReply { view, tag, node })
             }
             9 => {
-                let view = self.view(alloc)?;
-                let tag = self.u64()?;
-                let node = self.id(1)?;
+                let (view, (tag, node)) = self.shown(alloc)?;
                 Ok(Message::Store { view, tag, node })
             }
             10 => {
-                let tag = self.u64()?;
-                let node = self.id(1)?;
+                let (tag, node) = self.call()?;
                 Ok(Message::StoreAck { tag, node })
             }
             kind => Err(WireFault::BadKind(kind)),
         }
+    }
+
+    /// A message: its kind, and the fields of that. BadKind for a kind that no message has.
+    #[tactic(auto, unfolding(crate::specs::Messages::message_at))]
+    pub fn message(&mut self, alloc: Global) -> Result<Message, WireFault>
+        ensures { Gives (λ x. (x, self.new)) result (message_at self.old) }
+    {
+        let kind = self.u8()?;
+        self.fields(alloc, kind)
     }
 }
 
