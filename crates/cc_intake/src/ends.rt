@@ -1,6 +1,6 @@
 //! The queue and its two ends. Only a push or a pop changes what an end has seen.
 
-ghost use Rattle.std.specs.Prelude.{List, ◌≡◌, ◌≤◌, ◌<◌, ◌+◌, None, [], ◌∷◌, ◌++◌, length, IfErr, OnOk, MatchOption};
+ghost use Rattle.std.specs.Prelude.{List, ◌≡◌, ◌≤◌, ◌<◌, ◌+◌, None, [], ◌∷◌, ◌++◌, length, OnOk, OnErr, MatchOption};
 ghost use Rattle.crossbeam_queue.specs.Fifo.{Held};
 ghost use Rattle.cc_node.specs.Core.{made};
 ghost use Rattle.cc_node.specs.Refusals.{decides};
@@ -108,6 +108,10 @@ impl Split<Hand> for Found {
     ghost right = { λ v. nobody };
 }
 
+// The queue was full.
+#[derive(Drop)]
+pub(crate) struct Full;
+
 // The end that pushes. Contracts see what it has pushed, and how often it found the queue full.
 #[derive(Drop)]
 pub struct Producer<L: Life, Q: Lane> {
@@ -133,24 +137,25 @@ impl<L: Life, Q: Lane> Model for Producer<L, Q> {
 }
 
 impl<L: Life, Q: Lane> Producer<L, Q> {
-    // The entry comes back only where the queue was full at one moment of the call.
+    // The entry is given up only where the queue was full at one moment of the call.
     pub(crate) fn push<R: Wait>(
         &mut self,
         rt: &R,
         queue: &Queue<L, Q>,
         entry: Entry,
-    ) -> Result<(), Entry>
+    ) -> Result<(), Full>
         requires room { length self.old.entries < life_limit }
         requires accepted { decides (core_after L.opening self.old.entries) entry.event ≡ None }
         requires made { entry.made ≡ made (core_after L.opening self.old.entries) entry.event }
         ensures pushed { OnOk result (self.new ≡ record { entries = self.old.entries ++ entry ∷ []; finds = self.old.finds }) }
-        ensures full { IfErr result (λ e. (e ≡ entry) × (self.new ≡ record { entries = self.old.entries; finds = self.old.finds + 1 }) × Held queue_limit (λ items. EndsWith self.old.entries items)) }
+        ensures full { OnErr result ((self.new ≡ record { entries = self.old.entries; finds = self.old.finds + 1 }) × Held queue_limit (λ items. EndsWith self.old.entries items)) }
     {
         match queue.ring.push_as::<Sent, R>(rt, &mut self.pass, entry) {
             Ok(()) => Ok(()),
             Err(entry) => {
+                drop(entry);
                 queue.ring.another::<Found>(&mut self.pass);
-                Err(entry)
+                Err(Full)
             }
         }
     }

@@ -133,13 +133,14 @@ impl<L: Life, Q: Lane> Intake<L, Q> {
         ensures all { self.issued ≡ length shares.items → result.2 ≡ result.1 }
     {
         let Intake {
-            core: _,
+            core,
             producer,
             accepted,
             mut book,
             mut unissued,
             issued,
         } = self;
+        drop(core);
         let told = added(&mut book, &mut unissued, shares);
         (producer, accepted, told, issued)
     }
@@ -174,11 +175,31 @@ impl<L: Life, Q: Lane> Intake<L, Q> {
         ensures refused { IfErr result (λ r. Refuses L.opening self.old event r self.new) }
         ensures uncounted { OnErr result (share.new ≡ share.old) }
     {
-        let entry = self.prepared(alloc, &event)?;
+        let answer = self.accept_event(rt, alloc, share, queue, &event);
+        drop(event);
+        answer
+    }
+
+    // Accepts an event, which stays the caller's.
+    fn accept_event<R: Wait>(
+        &mut self,
+        rt: &R,
+        alloc: Global,
+        share: &mut Share<L>,
+        queue: &Queue<L, Q>,
+        event: &Event,
+    ) -> Result<u64, Refusal>
+        ensures accepted { IfOk result (λ n. MayAccept L.opening self.old event.now × (n ≡ length self.new.entries)
+            × (self.new ≡ record { entries = self.old.entries ++ entry_at (core_after L.opening self.old.entries) event.now ∷ []; finds = self.old.finds; issued = self.old.issued })) }
+        ensures counted { IfOk result (λ n. (share.new ≡ share.old + 1) × (share.old < n)) }
+        ensures refused { IfErr result (λ r. Refuses L.opening self.old event.now r self.new) }
+        ensures uncounted { OnErr result (share.new ≡ share.old) }
+    {
+        let entry = self.prepared(alloc, event)?;
         let Ok(()) = self.producer.push(rt, queue, entry) else {
             return Err(Refusal::QueueFull);
         };
-        self.core.apply(&event);
+        self.core.apply(event);
         self.accepted += 1;
         share.raise(&mut self.book);
         Ok(self.accepted)
@@ -197,6 +218,7 @@ impl<L: Life, Q: Lane> Intake<L, Q> {
             return Err(Refusal::NoMemory);
         };
         let Ok(event) = event.copy(alloc) else {
+            drop(made);
             return Err(Refusal::NoMemory);
         };
         Ok(Entry { event, made })

@@ -79,6 +79,7 @@ pub fn finish<S: Site, L: Life, Q: Lane, R: Wait>(
     let (engine, consumer, kept, flushed) = turner.close();
     let waiting = queue.rest(rt, producer, consumer) as u64;
     let rest = if kept.is_some() { waiting + 1 } else { waiting };
+    drop(kept);
     Finished {
         accepted,
         told,

@@ -21,6 +21,7 @@ use cc_journal::{Batch, Entry};
 use cc_site::{DeviceFault, Site};
 use cc_views::NodeId;
 use std::marker::Model;
+use std::mem;
 use std::sync::Wait;
 
 /// How many events a turn took, and whether the engine has no room for another record.
@@ -117,7 +118,7 @@ impl<S: Site, L: Life, Q: Lane> Turner<S, L, Q> {
         }
         let kept = self.kept.take();
         let (batch, kept) = gather(rt, queue, &mut self.consumer, kept);
-        self.kept = kept;
+        drop(mem::replace(&mut self.kept, kept));
         let events = batch.len();
         self.flushed += events as u64;
         flush(&mut self.engine, batch)?;

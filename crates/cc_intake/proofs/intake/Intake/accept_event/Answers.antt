@@ -6,7 +6,7 @@ use Rattle.cc_journal.specs.BatchLaws.{core_more}
 use Rattle.cc_intake.specs.Histories.{core_after}
 use Rattle.cc_intake.specs.Accepting.{Accepting}
 use Rattle.cc_intake.specs.Ends.{End}
-use Rattle.cc_intake.proofs.intake.Intake.accept.Goals as goal
+use Rattle.cc_intake.proofs.intake.Intake.accept_event.Goals as goal
 
 pub invariant_of-self-2 : goal.invariant_of-self-2
 invariant_of-self-2 g c =
