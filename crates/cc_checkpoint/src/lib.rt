@@ -22,6 +22,3 @@ pub use laws::{
 };
 pub use open_fault::OpenFault;
 pub use state::{decode_state, encode_state};
-
-#[cfg(test)]
-mod tests;

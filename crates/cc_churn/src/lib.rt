@@ -4,6 +4,3 @@
 mod churn;
 
 pub use churn::Churn;
-
-#[cfg(test)]
-mod tests;

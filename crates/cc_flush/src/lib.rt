@@ -16,6 +16,3 @@ pub use flusher::{Failed, Flusher};
 pub use formatting::{FormatFault, format};
 pub use laws::{good_for_more, one_node, rests_with_all, shut_side};
 pub use life::Action;
-
-#[cfg(test)]
-mod tests;

@@ -17,6 +17,3 @@ pub use life::{Finished, finish, start};
 pub use rule::{Lane, Life};
 pub use turner::{Turned, Turner};
 pub use worker::{Source, work};
-
-#[cfg(test)]
-mod tests;

@@ -14,6 +14,3 @@ pub use entry::Entry;
 pub use journal::{Flight, Forfeit, Journal, Landed};
 pub use laws::scans_once;
 pub use scanning::{ScanFault, Scanned, scan};
-
-#[cfg(test)]
-mod tests;

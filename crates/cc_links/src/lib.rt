@@ -8,6 +8,3 @@ mod links;
 pub use known_ids::KnownIds;
 pub use link_row::LinkRow;
 pub use links::Links;
-
-#[cfg(test)]
-mod tests;

@@ -18,8 +18,3 @@ pub use made::{LinkAck, Made};
 pub use node::Node;
 pub use node_core::Core;
 pub use opening::{Fresh, Opening};
-
-#[cfg(test)]
-mod restored_tests;
-#[cfg(test)]
-mod tests;

@@ -8,6 +8,3 @@ mod writes;
 pub use reads::{flag_of, max_of, set_of};
 pub use set_full::SetFull;
 pub use writes::{add_member, set_flag, write_max, write_text};
-
-#[cfg(test)]
-mod tests;

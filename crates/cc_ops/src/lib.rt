@@ -8,6 +8,3 @@ mod stage;
 pub use ops::{Ops, is_writing};
 pub use pending::{Asked, Pending, Reply};
 pub use stage::Stage;
-
-#[cfg(test)]
-mod tests;

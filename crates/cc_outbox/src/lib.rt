@@ -6,6 +6,3 @@ mod outbox;
 
 pub use kept_answer::KeptAnswer;
 pub use outbox::Outbox;
-
-#[cfg(test)]
-mod tests;

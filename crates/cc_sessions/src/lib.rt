@@ -8,6 +8,3 @@ mod sessions;
 pub use checked::Checked;
 pub use session_row::SessionRow;
 pub use sessions::Sessions;
-
-#[cfg(test)]
-mod tests;

@@ -19,6 +19,3 @@ pub use image::Choice;
 pub use memory::MemorySite;
 pub use reading::{fill_buffer, length_of, read_into};
 pub use site::{Call, DeviceFault, Side, Site};
-
-#[cfg(test)]
-mod tests;

@@ -18,6 +18,3 @@ pub use row::Row;
 pub use text::Text;
 pub use value::Value;
 pub use view::{View, merge_joins, merges_at_each_node, size_of_a_merge};
-
-#[cfg(test)]
-mod tests;

@@ -39,6 +39,3 @@ pub use sizes::largest_sizes;
 pub use spellable::event_is_spellable;
 pub use view_bytes::{decode_view, encode_view, one_spelling_of_views};
 pub use writer::{put_u8, put_u16, put_u32, put_u64, put_value, put_view};
-
-#[cfg(test)]
-mod tests;

@@ -1,0 +1,148 @@
+//! Times a node in memory, and an engine over memory and over files.
+#![tactic(auto)]
+
+mod bench;
+mod bench_fault;
+mod disk_bench;
+mod engine_bench;
+mod two_files;
+
+use bench::{Kind, event_nanoseconds};
+use cc_site::MemorySite;
+use clap::{ArgMatches, Command};
+use disk_bench::{FOLDER, new_sides, sync_nanoseconds};
+use engine_bench::{EngineLoad, Hundredths, ROUND, SECOND, engine_times};
+use std::alloc::{AllocError, Global};
+use std::fs;
+use std::process::ExitCode;
+
+// The command line isn't as it should be.
+const BAD_COMMAND_LINE: u8 = 2;
+
+// How many stores of the engine are timed at most, where few rows make them short, and where many make them long.
+const SHORT_STORES: u64 = 102_400;
+
+const LONG_STORES: u64 = 25_600;
+
+// What is timed.
+#[derive(Clone, Copy)]
+enum Timing {
+    Events,
+    Engine,
+}
+
+fn main(rt: HostRuntime) -> anyhow::Result<ExitCode> {
+    let words: Vec<String> = std::env::args(&rt)?.collect(rt.alloc())?;
+    obey(&rt, &words)
+}
+
+// Does what the words of a command line ask for.
+fn obey(rt: &HostRuntime, words: &[String]) -> anyhow::Result<ExitCode> {
+    match parse(rt.alloc(), words) {
+        Ok(timing) => print_timing(rt, timing),
+        Err(error) => print_error(rt, &error),
+    }
+}
+
+fn parse(alloc: Global, words: &[String]) -> Result<Timing, clap::Error> {
+    let command = command_line(alloc)?;
+    let matches = command.try_get_matches_from(words)?;
+    Ok(timing_of(&matches))
+}
+
+fn timing_of(matches: &ArgMatches<'_>) -> Timing {
+    if matches.subcommand_name() == Some("engine") {
+        Timing::Engine
+    } else {
+        Timing::Events
+    }
+}
+
+// The help has the program's own name, whatever its file is called.
+fn command_line<'a>(alloc: Global) -> Result<Command<'a>, AllocError> {
+    let command = Command::new(alloc, "cc_bench")
+        .about("Times the node and the engine of a store-collect cluster")
+        .subcommand_required(true)
+        .bin_name("cc_bench")?;
+    let command = command.subcommand(Command::new(alloc, "events").about(
+        "Prints how long a node in memory takes for an event",
+    ))?;
+    command.subcommand(Command::new(alloc, "engine").about(
+        "Prints how long the engine takes for a store, in memory and on files",
+    ))
+}
+
+// Prints the help that was asked for, or what is wrong with the command line.
+fn print_error(rt: &HostRuntime, error: &clap::Error) -> anyhow::Result<ExitCode> {
+    error.print(rt)?;
+    let is_help = error.exit_code() == 0;
+    Ok(ExitCode::from(if is_help { 0 } else { BAD_COMMAND_LINE }))
+}
+
+fn print_timing(rt: &HostRuntime, timing: Timing) -> anyhow::Result<ExitCode> {
+    match timing {
+        Timing::Events => print_times(rt)?,
+        Timing::Engine => print_engine_times(rt)?,
+    }
+    Ok(ExitCode::SUCCESS)
+}
+
+// For stores and queries, in clusters of 16 and of 256 nodes, in a short history and in a long one.
+fn print_times(rt: &HostRuntime) -> anyhow::Result<()> {
+    for nodes in [16, 256] {
+        for count in [10_000, 100_000] {
+            let store = event_nanoseconds(rt, rt.alloc(), nodes, Kind::Store, count)?;
+            let query = event_nanoseconds(rt, rt.alloc(), nodes, Kind::Query, count)?;
+            println!(rt; "{nodes} nodes, {count} events: a store {store} ns, a query {query} ns")?;
+        }
+    }
+    Ok(())
+}
+
+// For views of 1, 16 and 256 rows and batches of 1 and 8 stores and of as many as they have at most, in memory and on
+// the disk.
+fn print_engine_times(rt: &HostRuntime) -> anyhow::Result<()> {
+    fs::create_dir_all(rt, FOLDER)?;
+    let outcome = print_engine_table(rt);
+    fs::remove_dir_all(rt, FOLDER)?;
+    outcome
+}
+
+fn print_engine_table(rt: &HostRuntime) -> anyhow::Result<()> {
+    let sync = sync_nanoseconds(rt)?.max(1);
+    let syncs = SECOND / sync;
+    println!(rt;
+        "the engine, beside a disk that makes {syncs} syncs a second, each store in a batch:"
+    )?;
+    for nodes in [1, 16, 256] {
+        // A record doesn't take 64 stores of 256 rows.
+        let (stores, most) = match nodes {
+            256 => (LONG_STORES, 32),
+            _ => (SHORT_STORES, 64),
+        };
+        let rounds = stores / ROUND;
+        for batch in [1, 8, most] {
+            let load = EngineLoad {
+                nodes,
+                batch,
+                rounds,
+            };
+            print_engine_row(rt, sync, load)?;
+        }
+    }
+    Ok(())
+}
+
+// What a store takes over a site in memory, which keeps no output, and over two files; and that beside its share of the
+// two syncs of its batch.
+fn print_engine_row(rt: &HostRuntime, sync: u128, load: EngineLoad) -> anyhow::Result<()> {
+    let alloc = rt.alloc();
+    let EngineLoad { nodes, batch, .. } = load;
+    let memory = engine_times(rt, alloc, MemorySite::new(alloc, 0)?, load)?;
+    let files = engine_times(rt, alloc, new_sides(rt)?, load)?;
+    let beside = Hundredths(files.elapsed.saturating_mul(batch as u128 * 50) / sync.max(1));
+    println!(rt;
+        "{nodes} rows, batches of {batch}: in memory {memory}; on files {files}, {beside} of its syncs"
+    )?;
+    Ok(())
+}

@@ -1,5 +1,0 @@
-use Rattle.cc_intake.proofs.tests.live_as.Given as goal
-
--- the queue that was just made
-abbrev pub ghosts-live_at : goal.ghosts-live_at
-ghosts-live_at g a = record { table = a.ends }

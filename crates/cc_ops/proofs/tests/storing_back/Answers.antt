@@ -1,5 +1,0 @@
-use Rattle.cc_ops.proofs.Fits.{reply_fits}
-use Rattle.cc_ops.proofs.tests.storing_back.Goals as goal
-
-pub apply-requires-clause-fits : goal.apply-requires-clause-fits
-apply-requires-clause-fits c = rw (c.in_ok-ops.ensures, c.in_ok-empty_reply.ensures) (reply_fits _)

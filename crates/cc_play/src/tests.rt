@@ -1,0 +1,162 @@
+//! What no script prints: the texts of faults that no script meets, and what the disks of a cluster hold.
+
+use crate::cluster::{Cluster, Played};
+use crate::node_fault::NodeFault;
+use crate::script;
+use cc_checkpoint::OpenFault;
+use cc_flush::{Failed, FormatFault};
+use cc_site::{Call, Choice, DeviceFault, MemorySite, Side, Site};
+use std::alloc::Global;
+use std::test::*;
+
+// Where a device fails.
+const FAILING: DeviceFault = DeviceFault {
+    side: Side::A,
+    call: Call::Sync,
+};
+
+// Each kind of fault, and its text.
+const TEXTS: [(NodeFault, &str); 7] = [
+    (
+        NodeFault::Format(FormatFault::Device(FAILING)),
+        "Device A Sync",
+    ),
+    (
+        NodeFault::Format(FormatFault::AlreadyFormatted),
+        "AlreadyFormatted",
+    ),
+    (
+        NodeFault::Open(OpenFault::Damaged(Side::A, 153)),
+        "Damaged A 153",
+    ),
+    (NodeFault::Open(OpenFault::NotFormatted), "NotFormatted"),
+    (
+        NodeFault::Engine(Failed { fault: FAILING }),
+        "Failed A Sync",
+    ),
+    (NodeFault::Outlet, "Outlet"),
+    (NodeFault::NoMemory, "NoMemory"),
+];
+
+#[test]
+fn faults_of_a_node_print_their_texts(rt: HostRuntime) -> Result<(), Fail> {
+    for (fault, wanted) in TEXTS {
+        let text = format!(in rt.alloc(); "{fault}")?;
+        assert_eq!(rt; text.as_str(), wanted);
+    }
+    Ok(())
+}
+
+// Lines, what they print, and whether they change what the sides of node 2 hold. Node 2 has a store of node 1, and is then
+// given what overtook another message, and what it has already.
+const STEPS: [(&str, &str, bool); 6] = [
+    ("member 1 of 1,2\nmember 2 of 1,2", "", true),
+    (
+        "ask 1 7 1 store a\ncarry 1 1 1",
+        "1 accepted
+1 send 1 1 Store [1:1=a/0/0/] 1 1
+1 send 2 1 Store [1:1=a/0/0/] 1 1
+1 accepted
+1 ack 1 1
+1 send 1 2 StoreAck 1 1
+1 send 2 2 StoreAck 1 1
+",
+        false,
+    ),
+    (
+        "carry 1 2 1",
+        "2 accepted
+2 ack 1 1
+2 send 1 1 StoreAck 1 1
+2 send 2 1 StoreAck 1 1
+",
+        true,
+    ),
+    (
+        "carry 2 1 1\ncarry 1 1 2\nask 1 7 2 store b",
+        "1 accepted
+1 ack 2 1
+1 accepted
+1 ack 1 2
+1 reply 7 1 Stored
+1 accepted
+1 send 1 3 Store [1:2=b/0/0/] 2 1
+1 send 2 3 Store [1:2=b/0/0/] 2 1
+",
+        false,
+    ),
+    ("carry 1 2 3", "2 refused 6 Gap 1\n", false),
+    ("carry 1 2 1", "2 refused 5 Old 1\n", false),
+];
+
+#[test]
+fn refused_events_are_not_journalled(rt: HostRuntime) -> Result<(), Fail> {
+    let alloc = rt.alloc();
+    let mut cluster = Cluster::new(alloc);
+    for (lines, wanted, is_journalled) in STEPS {
+        let (printed, is_changed) = played(alloc, &mut cluster, lines)?;
+        assert_eq!(rt; printed.as_str(), wanted);
+        assert_eq!(rt; is_changed, is_journalled, "{lines}");
+    }
+    Ok(())
+}
+
+// What these lines print, and whether they change what the sides of node 2 hold.
+fn played(alloc: Global, cluster: &mut Cluster, lines: &str) -> Result<(String, bool), Fail> {
+    let before = sides(alloc, cluster)?;
+    let printed = printed(alloc, cluster, lines)?;
+    let is_changed = sides(alloc, cluster)? != before;
+    Ok((printed, is_changed))
+}
+
+fn printed(alloc: Global, cluster: &mut Cluster, lines: &str) -> Result<String, Fail> {
+    let mut output = Vec::new(alloc);
+    for line in lines.lines() {
+        play_line(alloc, cluster, line, &mut output)?;
+    }
+    Ok(String::from_utf8(output)?)
+}
+
+fn play_line(
+    alloc: Global,
+    cluster: &mut Cluster,
+    line: &str,
+    output: &mut Vec<u8>,
+) -> Result<(), Fail> {
+    let line = script::parse(alloc, line.as_bytes())?.ok_or("a line has no known form")?;
+    match cluster.play(alloc, line, output)? {
+        Played::Good => Ok(()),
+        Played::Bad | Played::Ended => Err("a line can't be played")?,
+    }
+}
+
+// What both sides of node 2 hold: nothing before it is made.
+fn sides(alloc: Global, cluster: &Cluster) -> Result<Vec<Vec<u8>>, Fail> {
+    match cluster.station(2) {
+        Some(station) => contents(alloc, station.site()),
+        None => Ok(Vec::new(alloc)),
+    }
+}
+
+fn contents(alloc: Global, site: &MemorySite) -> Result<Vec<Vec<u8>>, Fail> {
+    let mut image = site.image(alloc, &Choice::Read)?;
+    let mut sides = Vec::new(alloc);
+    for side in [Side::A, Side::B] {
+        add_side(alloc, &mut image, side, &mut sides)?;
+    }
+    Ok(sides)
+}
+
+// Adds what a side holds.
+fn add_side<S: Site>(
+    alloc: Global,
+    site: &mut S,
+    side: Side,
+    sides: &mut Vec<Vec<u8>>,
+) -> Result<(), Fail> {
+    let length = site.length(side).or(Err("the length can't be read"))?;
+    let mut bytes = vec![in alloc; 0; length as usize]?;
+    site.read(side, 0, &mut bytes).or(Err("the read failed"))?;
+    sides.push(bytes)?;
+    Ok(())
+}

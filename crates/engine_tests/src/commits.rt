@@ -1,0 +1,382 @@
+//! Commits of several events, the crash of one, and what is put again afterwards.
+
+ghost use Rattle.std.specs.Prelude.{◌≡◌, ◌≤◌, [], length, OnOk, IfOk};
+ghost use Rattle.cc_node.specs.Node.{after};
+ghost use Rattle.cc_journal.specs.Batches.{AreLawful, events_in};
+
+use crate::openings::{formatted, opened};
+use cc_flush::{Back, Failed, Flusher};
+use cc_journal::{Batch, Entry};
+use cc_node::{Core, Node};
+use cc_site::{Burn, Call, Choice, DeviceFault, MemorySite, Side, Site};
+use cc_views::{NodeId, Text};
+use cc_wire::{Answer, Command, Event, Message, Output, Refusal};
+use std::alloc::Global;
+use std::test::*;
+
+// Member 1 of 1, which has never been opened.
+fn member(alloc: Global) -> Result<MemorySite, Fail> {
+    match formatted(alloc, MemorySite::new(alloc, 16)?, 1, &[1], &[]) {
+        Ok(site) => Ok(site),
+        Err(Back { site: _, fault }) => Err(fault)?,
+    }
+}
+
+// Member 1 of 1, of whose disk calls from its opening on one fails, or all from it on.
+fn member_failing(alloc: Global, at: u64, burn: Burn) -> Result<MemorySite, Fail> {
+    let mut site = member(alloc)?.image(alloc, &Choice::Read)?;
+    site.fuse(at, burn);
+    Ok(site)
+}
+
+// Adds an event to a batch that is lawful from a node on, and to the core that the batch leads to. The post that it makes.
+fn add(
+    alloc: Global,
+    node: &Node,
+    live: &mut Core,
+    batch: &mut Batch,
+    event: Event,
+) -> Result<Option<Message>, Fail>
+    requires lawful { AreLawful node.now batch.old }
+    requires live { live.old ≡ (after node.now (events_in batch.old)).core }
+    ensures lawful { OnOk result (AreLawful node.now batch.new) }
+    ensures live { OnOk result (live.new ≡ (after node.now (events_in batch.new)).core) }
+    ensures some { OnOk result (1 ≤ length batch.new) }
+{
+    if live.decide(&event).is_err() {
+        return Err("the event is refused")?;
+    }
+    let made = live.made(alloc, &event)?;
+    let post = match &made.post {
+        Some(post) => Some(post.copy(alloc)?),
+        None => None,
+    };
+    live.apply(&event);
+    match batch.push(Entry { event, made }) {
+        Ok(()) => Ok(post),
+        Err(_) => Err("the event doesn't fit")?,
+    }
+}
+
+// What node 1 sent itself comes over its link.
+fn delivery(number: u64, post: Option<Message>) -> Result<Event, Fail> {
+    Ok(Event::Deliver {
+        from: NodeId::new(1).ok_or("1 is an id")?,
+        number,
+        message: post.ok_or("there is no post")?,
+    })
+}
+
+// A client stores `a` in session 7, as its first request.
+fn ask() -> Result<Event, Fail> {
+    let text = Text::new(b"a").ok_or("a is a text")?;
+    Ok(Event::Ask {
+        session: 7,
+        request: 1,
+        command: Command::Store(text),
+    })
+}
+
+// The ask of a store, its post as it comes back, and the acknowledgement of that.
+fn store(alloc: Global, node: &Node) -> Result<Batch, Fail>
+    ensures lawful { IfOk result (AreLawful node.now) }
+    ensures some { IfOk result (λ b. 1 ≤ length b) }
+{
+    let mut live = node.core().copy(alloc)?;
+    let mut batch = Batch::new();
+    let post = add(alloc, node, &mut live, &mut batch, ask()?)?;
+    let post = add(alloc, node, &mut live, &mut batch, delivery(1, post)?)?;
+    add(alloc, node, &mut live, &mut batch, delivery(2, post)?)?;
+    Ok(batch)
+}
+
+// The ask alone.
+fn only_ask(alloc: Global, node: &Node) -> Result<Batch, Fail>
+    ensures lawful { IfOk result (AreLawful node.now) }
+    ensures some { IfOk result (λ b. 1 ≤ length b) }
+{
+    let mut live = node.core().copy(alloc)?;
+    let mut batch = Batch::new();
+    add(alloc, node, &mut live, &mut batch, ask()?)?;
+    Ok(batch)
+}
+
+// The two deliveries that follow the ask.
+fn deliveries(alloc: Global, node: &Node) -> Result<Batch, Fail>
+    ensures lawful { IfOk result (AreLawful node.now) }
+    ensures some { IfOk result (λ b. 1 ≤ length b) }
+{
+    let mut live = node.core().copy(alloc)?;
+    let mut batch = Batch::new();
+    let post = match node.outbox().post(1) {
+        Some(post) => Some(post.copy(alloc)?),
+        None => None,
+    };
+    let post = add(alloc, node, &mut live, &mut batch, delivery(1, post)?)?;
+    add(alloc, node, &mut live, &mut batch, delivery(2, post)?)?;
+    Ok(batch)
+}
+
+// Which batch is committed.
+#[derive(Clone, Copy)]
+enum Part {
+    Store,
+    Ask,
+    Deliveries,
+}
+
+// Commits that batch, and releases it where it landed, by one call. The disk call that failed, if one did.
+fn turn(
+    alloc: Global,
+    flusher: &mut Flusher<MemorySite>,
+    part: Part,
+) -> Result<Option<DeviceFault>, Fail> {
+    if flusher.owes() || !flusher.room() {
+        return Err("there is no room")?;
+    }
+    let batch = match part {
+        Part::Store => store(alloc, flusher.twin())?,
+        Part::Ask => only_ask(alloc, flusher.twin())?,
+        Part::Deliveries => deliveries(alloc, flusher.twin())?,
+    };
+    match flusher.flush(batch) {
+        Ok(()) => Ok(None),
+        Err(Failed { fault }) => Ok(Some(fault)),
+    }
+}
+
+// Opens a site and commits those batches. Beside the site it gives the disk call that failed, if one did.
+fn turned(
+    alloc: Global,
+    site: MemorySite,
+    parts: &[Part],
+) -> Result<(MemorySite, Option<DeviceFault>), Fail> {
+    let mut flusher = opened(alloc, site)?;
+    let mut outcome = Ok(None);
+    for part in parts {
+        if let Ok(None) = outcome {
+            outcome = turn(alloc, &mut flusher, *part);
+        }
+    }
+    Ok((flusher.close(), outcome?))
+}
+
+// What a node has made: how many posts, and the own number.
+type Progress = (u64, u64);
+
+// What the node has made that is opened where a crash left this of a site.
+fn left(alloc: Global, site: &MemorySite, choice: &Choice) -> Result<Progress, Fail> {
+    let flusher = opened(alloc, site.image(alloc, choice)?)?;
+    let core = flusher.twin().core();
+    let progress = (core.posts(), core.ops().number());
+    let _ = flusher.close();
+    Ok(progress)
+}
+
+// The node before a store, and after it.
+const BEFORE: Progress = (0, 0);
+
+const AFTER: Progress = (2, 1);
+
+// What five crashes leave of a site: touched places as they are read, and full of 00, of A5 and of FF, and cut away.
+fn crashes(alloc: Global, site: &MemorySite) -> Result<[Progress; 5], Fail> {
+    Ok([
+        left(alloc, site, &Choice::Read)?,
+        left(alloc, site, &Choice::Fill(0))?,
+        left(alloc, site, &Choice::Fill(0xA5))?,
+        left(alloc, site, &Choice::Fill(0xFF))?,
+        left(alloc, site, &Choice::Short)?,
+    ])
+}
+
+// Whether an output is a store's first message, sent as the first one.
+fn is_store(output: Option<&Output>) -> bool {
+    let Some(
+        Output::Send {
+            to: _,
+            number,
+            message,
+        },
+    ) = output
+    else {
+        return false;
+    };
+    *number == 1 && matches!(message, Message::Store { .. })
+}
+
+// Whether an output is the reply to the ask.
+fn is_stored(output: Option<&Output>) -> bool {
+    let Some(
+        Output::Reply {
+            session,
+            request,
+            answer,
+        },
+    ) = output
+    else {
+        return false;
+    };
+    (*session, *request) == (7, 1) && matches!(answer, Answer::Stored)
+}
+
+#[test]
+fn a_store_is_one_batch(rt: HostRuntime) -> Result<(), Fail> {
+    let alloc = rt.alloc();
+    let (site, failed) = turned(alloc, member(alloc)?, &[Part::Store])?;
+    assert_eq!(rt; failed, None);
+    assert_eq!(rt; crashes(alloc, &site)?, [AFTER; 5]);
+    // The store, an acknowledgement and one more message, and an acknowledgement and the reply.
+    assert_eq!(rt; site.outputs().len(), 5);
+    assert!(rt; is_store(site.outputs().first()));
+    assert!(rt; is_stored(site.outputs().last()));
+    Ok(())
+}
+
+// The calls of opening are 0 to 13. What a crash leaves after each call of a commit failed is none of its events or all.
+fn failed_commit(alloc: Global, at: u64, burn: Burn) -> Result<(Call, usize, [Progress; 5]), Fail> {
+    let (site, failed) = turned(alloc, member_failing(alloc, at, burn)?, &[Part::Store])?;
+    let fault = failed.ok_or("no disk call failed")?;
+    if fault.side != Side::A {
+        return Err("the other side failed")?;
+    }
+    Ok((fault.call, site.outputs().len(), crashes(alloc, &site)?))
+}
+
+#[test]
+fn each_call_of_a_commit_may_fail(rt: HostRuntime) -> Result<(), Fail> {
+    let alloc = rt.alloc();
+    for burn in [Burn::Once, Burn::Stop] {
+        for (at, call, crashes) in [
+            // The record, and its sync.
+            (14, Call::Write, [BEFORE; 5]),
+            (15, Call::Sync, [BEFORE; 5]),
+            // Its gate, which isn't written, and the sync of that.
+            (16, Call::Write, [BEFORE, BEFORE, AFTER, BEFORE, BEFORE]),
+            (17, Call::Sync, [AFTER, BEFORE, AFTER, BEFORE, AFTER]),
+        ] {
+            let outcome = failed_commit(alloc, at, burn)?;
+            assert_eq!(rt; outcome, (call, 0, crashes));
+        }
+    }
+    Ok(())
+}
+
+// The gate of the deliveries' record is written by call 20. Only the ask was released.
+#[test]
+fn both_deliveries_stand_or_neither(rt: HostRuntime) -> Result<(), Fail> {
+    let alloc = rt.alloc();
+    let site = member_failing(alloc, 20, Burn::Once)?;
+    let (site, failed) = turned(alloc, site, &[Part::Ask, Part::Deliveries])?;
+    let write = DeviceFault {
+        side: Side::A,
+        call: Call::Write,
+    };
+    assert_eq!(rt; failed, Some(write));
+    assert_eq!(rt; site.outputs().len(), 1);
+    assert_eq!(rt; left(alloc, &site, &Choice::Fill(0xA5))?, AFTER);
+    assert_eq!(rt; left(alloc, &site, &Choice::Fill(0))?, (1, 1));
+    Ok(())
+}
+
+// Commits a store. What a crash leaves of it before its release.
+fn unreleased(alloc: Global, flusher: &mut Flusher<MemorySite>) -> Result<MemorySite, Fail> {
+    if flusher.owes() || !flusher.room() {
+        return Err("there is no room")?;
+    }
+    let batch = store(alloc, flusher.twin())?;
+    match flusher.commit(batch) {
+        Ok(landed) => {
+            let image = flusher.site().image(alloc, &Choice::Read);
+            flusher.release(landed);
+            Ok(image?)
+        }
+        Err(failed) => Err(failed)?,
+    }
+}
+
+// Why the ask isn't taken again, whether its answer is put again, and the own number.
+fn repeated(flusher: &mut Flusher<MemorySite>) -> Result<(Option<Refusal>, bool, u64), Fail> {
+    let refusal = flusher.twin().core().decide(&ask()?).err();
+    if flusher.owes() {
+        return Err("outputs are owed")?;
+    }
+    let is_put = flusher.again(7)?;
+    Ok((refusal, is_put, flusher.twin().core().ops().number()))
+}
+
+#[test]
+fn a_commit_that_was_not_released_stands(rt: HostRuntime) -> Result<(), Fail> {
+    let alloc = rt.alloc();
+    let mut crashed = opened(alloc, member(alloc)?)?;
+    let image = unreleased(alloc, &mut crashed);
+    let _ = crashed.close();
+    let mut flusher = opened(alloc, image?)?;
+    let outcome = repeated(&mut flusher);
+    let site = flusher.close();
+    assert_eq!(rt; outcome?, (Some(Refusal::Repeat), true, 1));
+    assert_eq!(rt; site.outputs().len(), 1);
+    assert!(rt; is_stored(site.outputs().first()));
+    Ok(())
+}
+
+// Puts the kept posts again: how many outputs those were, or the fault that ended the engine.
+fn resend(flusher: &mut Flusher<MemorySite>) -> Result<Result<u64, DeviceFault>, Fail> {
+    if flusher.owes() {
+        return Err("outputs are owed")?;
+    }
+    match flusher.resend() {
+        Ok(count) => Ok(Ok(count)),
+        Err(Failed { fault }) => Ok(Err(fault)),
+    }
+}
+
+// Commits a store, and puts the kept posts again.
+fn stored_and_resent(
+    alloc: Global,
+    flusher: &mut Flusher<MemorySite>,
+) -> Result<(Option<DeviceFault>, Result<u64, DeviceFault>), Fail> {
+    let failed = turn(alloc, flusher, Part::Store)?;
+    Ok((failed, resend(flusher)?))
+}
+
+#[test]
+fn a_failed_engine_puts_nothing_again(rt: HostRuntime) -> Result<(), Fail> {
+    let alloc = rt.alloc();
+    let mut flusher = opened(alloc, member_failing(alloc, 15, Burn::Once)?)?;
+    let outcome = stored_and_resent(alloc, &mut flusher);
+    let site = flusher.close();
+    let sync = DeviceFault {
+        side: Side::A,
+        call: Call::Sync,
+    };
+    assert_eq!(rt; outcome?, (Some(sync), Err(sync)));
+    assert_eq!(rt; site.outputs().len(), 0);
+    Ok(())
+}
+
+// How many outputs are put again by the node that is opened where a crash left this of a site.
+fn resent(alloc: Global, site: &MemorySite, choice: &Choice) -> Result<u64, Fail> {
+    let mut flusher = opened(alloc, site.image(alloc, choice)?)?;
+    let outcome = resend(&mut flusher);
+    let site = flusher.close();
+    match outcome? {
+        Ok(count) if count == site.outputs().len() as u64 => Ok(count),
+        _ => Err("another count was put again")?,
+    }
+}
+
+// Where the second sync failed, a crash leaves the whole batch or nothing of it.
+#[test]
+fn what_stands_is_put_again(rt: HostRuntime) -> Result<(), Fail> {
+    let alloc = rt.alloc();
+    let site = member_failing(alloc, 17, Burn::Once)?;
+    let (site, failed) = turned(alloc, site, &[Part::Store])?;
+    let sync = DeviceFault {
+        side: Side::A,
+        call: Call::Sync,
+    };
+    assert_eq!(rt; failed, Some(sync));
+    assert_eq!(rt; resent(alloc, &site, &Choice::Fill(0xA5))?, 2);
+    assert_eq!(rt; resent(alloc, &site, &Choice::Fill(0))?, 0);
+    Ok(())
+}

@@ -1,0 +1,7 @@
+//! Tests of the engine over a site in memory, by its public calls alone.
+#![tactic(auto)]
+
+#[cfg(test)]
+mod commits;
+#[cfg(test)]
+mod openings;

@@ -1,0 +1,586 @@
+//! Formatting, opening and committing, and what a crash leaves of them.
+
+use cc_changes::Fraction;
+use cc_checkpoint::OpenFault;
+use cc_flush::{Action, Back, Failed, Flusher, FormatFault, format};
+use cc_journal::{Batch, Entry};
+use cc_node::Opening;
+use cc_site::{Burn, Call, Choice, DeviceFault, MemorySite, Side, Site, write_durably};
+use cc_views::NodeId;
+use cc_wire::{Event, Message, Output};
+use std::alloc::Global;
+use std::test::*;
+
+// The gate behind the state of entrant 4, open, the record of one Enter, and the next gate.
+const ENTERED: [u8; 12] = [0xA5, 0, 0, 0, 6, 1, 0, 0, 0, 1, 1, 0];
+
+// Formats a site for a node that begins so, with both shares 4/5.
+pub fn formatted(
+    alloc: Global,
+    site: MemorySite,
+    me: u32,
+    initial: &[u32],
+    contacts: &[u32],
+) -> Result<MemorySite, Back<MemorySite, FormatFault>> {
+    let share = Fraction { num: 4, den: 5 };
+    let opening = Opening {
+        me,
+        initial,
+        contacts,
+        beta: share,
+        gamma: share,
+    };
+    format(alloc, site, &opening)
+}
+
+// Formats a site for entrant 4 with contact 1.
+fn begun(alloc: Global, site: MemorySite) -> Result<MemorySite, FormatFault> {
+    match formatted(alloc, site, 4, &[], &[1]) {
+        Ok(site) => Ok(site),
+        Err(Back { site: _, fault }) => Err(fault),
+    }
+}
+
+// Formats it so twice, whether or not that fails at first.
+fn begun_again(alloc: Global, site: MemorySite) -> Result<MemorySite, FormatFault> {
+    match formatted(alloc, site, 4, &[], &[1]) {
+        Ok(site) => begun(alloc, site),
+        Err(Back { site, fault: _ }) => begun(alloc, site),
+    }
+}
+
+fn entrant(alloc: Global) -> Result<MemorySite, Fail> {
+    Ok(begun(alloc, MemorySite::new(alloc, 8)?)?)
+}
+
+pub fn opened(alloc: Global, site: MemorySite) -> Result<Flusher<MemorySite>, OpenFault> {
+    match Flusher::open(alloc, site) {
+        Ok((flusher, _)) => Ok(flusher),
+        Err(Back { site: _, fault }) => Err(fault),
+    }
+}
+
+// How many posts the node of a site has made: 0 for an entrant as it begins, and 1 once it has entered.
+fn posts(alloc: Global, site: MemorySite) -> Result<u64, OpenFault> {
+    let flusher = opened(alloc, site)?;
+    let posts = flusher.twin().core().posts();
+    let _ = flusher.close();
+    Ok(posts)
+}
+
+// Commits an Enter. The disk call that failed, if one did.
+fn enter(alloc: Global, flusher: &mut Flusher<MemorySite>) -> Result<Option<DeviceFault>, Fail> {
+    let event = Event::Enter;
+    if flusher.twin().core().decide(&event).is_err() {
+        return Err("the Enter is refused")?;
+    }
+    if flusher.owes() || !flusher.room() {
+        return Err("there is no room")?;
+    }
+    let made = flusher.twin().core().made(alloc, &event)?;
+    let mut batch = Batch::new();
+    if batch.push(Entry { event, made }).is_err() {
+        return Err("the Enter doesn't fit")?;
+    }
+    match flusher.commit(batch) {
+        Ok(landed) => {
+            flusher.release(landed);
+            Ok(None)
+        }
+        Err(Failed { fault }) => Ok(Some(fault)),
+    }
+}
+
+// Opens a site and commits an Enter. Beside the site it gives the disk call that failed, if one did.
+fn entered(alloc: Global, site: MemorySite) -> Result<(MemorySite, Option<DeviceFault>), Fail> {
+    let mut flusher = opened(alloc, site)?;
+    let outcome = enter(alloc, &mut flusher);
+    let site = flusher.close();
+    Ok((site, outcome?))
+}
+
+fn contents<S: Site>(alloc: Global, site: &mut S, side: Side) -> Result<Vec<u8>, Fail> {
+    let length = site.length(side).or(Err("the length can't be read"))?;
+    let mut bytes = vec![in alloc; 0; length as usize]?;
+    site.read(side, 0, &mut bytes).or(Err("the read failed"))?;
+    Ok(bytes)
+}
+
+// Writes behind the state of entrant 4, or over what is there.
+fn keep<S: Site>(site: &mut S, bytes: &[u8]) -> Result<(), Fail> {
+    let length = site.length(Side::A).or(Err("the length can't be read"))?;
+    if length < 152 {
+        return Err("the side is too short")?;
+    }
+    write_durably(site, Side::A, 152, bytes).or(Err("the write failed"))?;
+    Ok(())
+}
+
+// Entrant 4, with these bytes behind its state.
+fn kept(alloc: Global, bytes: &[u8]) -> Result<MemorySite, Fail> {
+    let mut site = entrant(alloc)?;
+    keep(&mut site, bytes)?;
+    Ok(site)
+}
+
+#[test]
+fn an_entrant_is_formatted(rt: HostRuntime) -> Result<(), Fail> {
+    let alloc = rt.alloc();
+    let mut site = entrant(alloc)?;
+    let a = contents(alloc, &mut site, Side::A)?;
+    assert_eq!(rt; a.len(), 153);
+    let head = [0xA5, 0, 0, 0, 0, 0, 0, 0, 1, 1, 0, 0, 0, 0x8A];
+    assert_eq!(rt; a.get(..14), Some(head.as_slice()));
+    assert_eq!(rt; a.last(), Some(&0));
+    let b = contents(alloc, &mut site, Side::B)?;
+    assert_eq!(rt; b.as_slice(), [0].as_slice());
+    Ok(())
+}
+
+#[test]
+fn a_member_is_formatted(rt: HostRuntime) -> Result<(), Fail> {
+    let alloc = rt.alloc();
+    match formatted(alloc, MemorySite::new(alloc, 0)?, 1, &[1], &[]) {
+        Ok(mut site) => {
+            assert_eq!(rt; site.length(Side::A), Ok(133));
+            assert_eq!(rt; site.length(Side::B), Ok(1));
+            Ok(())
+        }
+        Err(Back { site: _, fault }) => Err(fault)?,
+    }
+}
+
+#[test]
+fn a_node_without_a_name_is_not_formatted(rt: HostRuntime) -> Result<(), Fail> {
+    let alloc = rt.alloc();
+    match formatted(alloc, MemorySite::new(alloc, 0)?, 0, &[], &[1]) {
+        Ok(_) => Err("it is formatted")?,
+        Err(Back { site: _, fault }) => {
+            assert_eq!(rt; fault, FormatFault::BadOpening);
+            Ok(())
+        }
+    }
+}
+
+#[test]
+fn a_node_is_opened_as_it_began(rt: HostRuntime) -> Result<(), Fail> {
+    let alloc = rt.alloc();
+    assert_eq!(rt; posts(alloc, entrant(alloc)?), Ok(0));
+    Ok(())
+}
+
+#[test]
+fn an_enter_stands_behind_its_open_gate(rt: HostRuntime) -> Result<(), Fail> {
+    let alloc = rt.alloc();
+    let (mut site, failed) = entered(alloc, entrant(alloc)?)?;
+    assert_eq!(rt; failed, None);
+    let a = contents(alloc, &mut site, Side::A)?;
+    assert_eq!(rt; a.len(), 164);
+    assert_eq!(rt; a.get(152..), Some(ENTERED.as_slice()));
+    assert_eq!(rt; posts(alloc, site), Ok(1));
+    Ok(())
+}
+
+// Whether an output sends the Enter of entrant 4 to that peer, as the first message.
+fn is_enter(output: Option<&Output>, peer: u32) -> bool {
+    let Some(
+        Output::Send {
+            to,
+            number: 1,
+            message: Message::Enter { node },
+        },
+    ) = output
+    else {
+        return false;
+    };
+    to.number() == peer && node.number() == 4
+}
+
+#[test]
+fn an_enter_is_sent_once_it_is_durable(rt: HostRuntime) -> Result<(), Fail> {
+    let alloc = rt.alloc();
+    let (site, _) = entered(alloc, entrant(alloc)?)?;
+    assert_eq!(rt; site.outputs().len(), 2);
+    assert!(rt; is_enter(site.outputs().first(), 1));
+    assert!(rt; is_enter(site.outputs().get(1), 4));
+    Ok(())
+}
+
+// A life of an Enter, and of what may be put again. The disk call that failed, if one did.
+fn live(alloc: Global, flusher: &mut Flusher<MemorySite>) -> Result<Option<DeviceFault>, Fail> {
+    let peer = NodeId::new(4).ok_or("4 is an id")?;
+    let event = Event::Enter;
+    if flusher.owes() || flusher.twin().core().decide(&event).is_err() {
+        return Err("the Enter is refused")?;
+    }
+    let made = flusher.twin().core().made(alloc, &event)?;
+    let mut batch = Batch::new();
+    if batch.push(Entry { event, made }).is_err() {
+        return Err("the Enter doesn't fit")?;
+    }
+    let actions = vec![in alloc;
+        Action::Turn(batch),
+        Action::Resend,
+        Action::Again(7),
+        Action::Reack(peer),
+    ]?;
+    match flusher.run_life(actions) {
+        Ok(()) => Ok(None),
+        Err(Failed { fault }) => Ok(Some(fault)),
+    }
+}
+
+// No peer has acknowledged the Enter, no session has an answer, and peer 4 has sent nothing.
+#[test]
+fn a_life_sends_an_enter_and_sends_it_again(rt: HostRuntime) -> Result<(), Fail> {
+    let alloc = rt.alloc();
+    let mut flusher = opened(alloc, entrant(alloc)?)?;
+    let outcome = live(alloc, &mut flusher);
+    let site = flusher.close();
+    assert_eq!(rt; outcome?, None);
+    assert_eq!(rt; site.outputs().len(), 4);
+    for (at, peer) in [(0, 1), (1, 4), (2, 1), (3, 4)] {
+        assert!(rt; is_enter(site.outputs().get(at), peer));
+    }
+    Ok(())
+}
+
+#[test]
+fn a_record_behind_a_closed_gate_is_not_kept(rt: HostRuntime) -> Result<(), Fail> {
+    let alloc = rt.alloc();
+    for (gate, count) in [(0, 0), (0xFF, 0), (0xA5, 1)] {
+        let mut bytes = ENTERED;
+        bytes[0] = gate;
+        assert_eq!(rt; posts(alloc, kept(alloc, &bytes)?), Ok(count));
+    }
+    let site = kept(alloc, &[0, 0xA5, 0xFF, 0xA5, 1])?;
+    assert_eq!(rt; posts(alloc, site), Ok(0));
+    Ok(())
+}
+
+#[test]
+fn an_armed_side_is_not_formatted(rt: HostRuntime) -> Result<(), Fail> {
+    let alloc = rt.alloc();
+    for gate in [0, 0xFF, 0xA5] {
+        let fault = begun(alloc, kept(alloc, &[gate, 0xA5])?).err();
+        assert_eq!(rt; fault, Some(FormatFault::AlreadyFormatted));
+    }
+    let (site, _) = entered(alloc, entrant(alloc)?)?;
+    let fault = begun(alloc, site).err();
+    assert_eq!(rt; fault, Some(FormatFault::AlreadyFormatted));
+    Ok(())
+}
+
+#[test]
+fn sides_that_are_not_armed_are_not_opened(rt: HostRuntime) -> Result<(), Fail> {
+    let alloc = rt.alloc();
+    let empty = MemorySite::new(alloc, 0)?;
+    assert_eq!(rt; posts(alloc, empty), Err(OpenFault::NotFormatted));
+    let mut closed = entrant(alloc)?;
+    write_durably(&mut closed, Side::A, 0, &[0]).or(Err("the write failed"))?;
+    assert_eq!(rt; posts(alloc, closed), Err(OpenFault::NotFormatted));
+    Ok(())
+}
+
+#[test]
+fn a_record_that_is_cut_off_is_damage(rt: HostRuntime) -> Result<(), Fail> {
+    let alloc = rt.alloc();
+    let mut site = kept(alloc, &[0xA5, 0, 0, 1, 0])?;
+    assert_eq!(rt; site.length(Side::A), Ok(157));
+    let damage = OpenFault::Damaged(Side::A, 153);
+    assert_eq!(rt; posts(alloc, site), Err(damage));
+    Ok(())
+}
+
+// Why a site can't be opened whose side A has these bytes, and side B none.
+fn fault_of(alloc: Global, bytes: &[u8]) -> Result<Option<OpenFault>, Fail> {
+    let mut site = MemorySite::new(alloc, 0)?;
+    write_durably(&mut site, Side::A, 0, bytes).or(Err("the write failed"))?;
+    Ok(posts(alloc, site).err())
+}
+
+// The generation, the version, the length of the state, and the state.
+#[test]
+fn a_side_that_cannot_be_read_is_damaged(rt: HostRuntime) -> Result<(), Fail> {
+    let alloc = rt.alloc();
+    let place = |at| Some(OpenFault::Damaged(Side::A, at));
+    assert_eq!(rt; fault_of(alloc, &[0xA5])?, place(1));
+    assert_eq!(rt;
+        fault_of(alloc, &[0xA5, 0, 0, 0, 0, 0, 0, 0, 0, 1])?,
+        place(1)
+    );
+    assert_eq!(rt; fault_of(alloc, &[0xA5, 0, 0, 0, 0, 0, 0, 0, 1])?, place(9));
+    let short = [0xA5, 0, 0, 0, 0, 0, 0, 0, 1, 1, 0, 0];
+    assert_eq!(rt; fault_of(alloc, &short)?, place(10));
+    let past = [0xA5, 0, 0, 0, 0, 0, 0, 0, 1, 1, 0, 0, 0, 2, 0];
+    assert_eq!(rt; fault_of(alloc, &past)?, place(10));
+    let nothing = [0xA5, 0, 0, 0, 0, 0, 0, 0, 1, 1, 0, 0, 0, 0, 0];
+    assert_eq!(rt; fault_of(alloc, &nothing)?, place(14));
+    Ok(())
+}
+
+#[test]
+fn a_version_that_is_not_known_is_told(rt: HostRuntime) -> Result<(), Fail> {
+    let version = [0xA5, 0, 0, 0, 0, 0, 0, 0, 1, 7, 0, 0, 0, 0, 0];
+    let fault = fault_of(rt.alloc(), &version)?;
+    assert_eq!(rt; fault, Some(OpenFault::Version(7)));
+    Ok(())
+}
+
+// Entrant 4 on side B, and side A is armed too, under that generation, with nothing behind it that can be read.
+fn armed_twice(alloc: Global, a: u8, b: u8) -> Result<MemorySite, Fail> {
+    let mut first = entrant(alloc)?;
+    let mut bytes = contents(alloc, &mut first, Side::A)?;
+    if let Some(generation) = bytes.get_mut(8) {
+        *generation = b;
+    }
+    let mut site = MemorySite::new(alloc, 0)?;
+    write_durably(&mut site, Side::B, 0, &bytes).or(Err("the write failed"))?;
+    let garbage = [0xA5, 0, 0, 0, 0, 0, 0, 0, a, 0xFF, 0xA5];
+    write_durably(&mut site, Side::A, 0, &garbage).or(Err("the write failed"))?;
+    Ok(site)
+}
+
+#[test]
+fn the_side_of_the_greater_generation_is_opened(rt: HostRuntime) -> Result<(), Fail> {
+    let alloc = rt.alloc();
+    assert_eq!(rt; posts(alloc, armed_twice(alloc, 4, 5)?), Ok(0));
+    let version = posts(alloc, armed_twice(alloc, 6, 5)?);
+    assert_eq!(rt; version, Err(OpenFault::Version(0xFF)));
+    let damage = posts(alloc, armed_twice(alloc, 5, 5)?);
+    assert_eq!(rt; damage, Err(OpenFault::Damaged(Side::B, 1)));
+    Ok(())
+}
+
+// An empty site, of which the disk call with that number fails.
+fn failing(alloc: Global, at: u64) -> Result<MemorySite, Fail> {
+    let mut site = MemorySite::new(alloc, 0)?;
+    site.fuse(at, Burn::Once);
+    Ok(site)
+}
+
+#[test]
+fn each_call_of_formatting_may_fail(rt: HostRuntime) -> Result<(), Fail> {
+    let alloc = rt.alloc();
+    for (at, side, call) in [
+        // Whether a side is armed.
+        (0, Side::A, Call::Length),
+        (1, Side::B, Call::Length),
+        // One closed byte on each, unless it stands there.
+        (2, Side::B, Call::Length),
+        (3, Side::B, Call::Cut),
+        (4, Side::B, Call::Sync),
+        (5, Side::B, Call::Write),
+        (6, Side::B, Call::Sync),
+        (7, Side::A, Call::Length),
+        (8, Side::A, Call::Cut),
+        (9, Side::A, Call::Sync),
+        (10, Side::A, Call::Write),
+        (11, Side::A, Call::Sync),
+        // The state, and then the gate.
+        (12, Side::A, Call::Write),
+        (13, Side::A, Call::Sync),
+        (14, Side::A, Call::Write),
+        (15, Side::A, Call::Sync),
+    ] {
+        let fault = begun(alloc, failing(alloc, at)?).err();
+        let device = DeviceFault { side, call };
+        assert_eq!(rt; fault, Some(FormatFault::Device(device)));
+    }
+    assert_eq!(rt; begun(alloc, failing(alloc, 16)?).err(), None);
+    Ok(())
+}
+
+// Only the last sync comes after the gate is open.
+#[test]
+fn formatting_may_be_tried_again(rt: HostRuntime) -> Result<(), Fail> {
+    let alloc = rt.alloc();
+    for at in 0..15 {
+        let site = begun_again(alloc, failing(alloc, at)?)?;
+        assert_eq!(rt; posts(alloc, site), Ok(0));
+    }
+    let fault = begun_again(alloc, failing(alloc, 15)?).err();
+    assert_eq!(rt; fault, Some(FormatFault::AlreadyFormatted));
+    Ok(())
+}
+
+// A site each side of which begins with a closed gate. Its disk calls fail from that number on.
+fn shut_failing(alloc: Global, at: u64) -> Result<MemorySite, Fail> {
+    let mut shut = MemorySite::new(alloc, 0)?;
+    for side in [Side::A, Side::B] {
+        write_durably(&mut shut, side, 0, &[0, 0xA5, 0xFF]).or(Err("the write failed"))?;
+    }
+    let mut site = shut.image(alloc, &Choice::Read)?;
+    site.fuse(at, Burn::Stop);
+    Ok(site)
+}
+
+// How many posts the node has that is opened where a crash left this of formatting such a site.
+fn half_formatted(alloc: Global, at: u64, choice: &Choice) -> Result<Result<u64, OpenFault>, Fail> {
+    match formatted(alloc, shut_failing(alloc, at)?, 4, &[], &[1]) {
+        Ok(_) => Err("it is formatted")?,
+        Err(Back { site, fault: _ }) => Ok(posts(alloc, site.image(alloc, choice)?)),
+    }
+}
+
+#[test]
+fn a_crash_leaves_shut_sides_or_an_entrant(rt: HostRuntime) -> Result<(), Fail> {
+    let alloc = rt.alloc();
+    let nothing = Err(OpenFault::NotFormatted);
+    for at in 0..16 {
+        // The last write opens the gate, and the last sync makes sure of it.
+        let (read, gates) = match at {
+            14 => (nothing, Ok(0)),
+            15 => (Ok(0), Ok(0)),
+            _ => (nothing, nothing),
+        };
+        assert_eq!(rt; half_formatted(alloc, at, &Choice::Read)?, read);
+        assert_eq!(rt; half_formatted(alloc, at, &Choice::Short)?, read);
+        assert_eq!(rt; half_formatted(alloc, at, &Choice::Fill(0xA5))?, gates);
+        assert_eq!(rt; half_formatted(alloc, at, &Choice::Fill(0))?, nothing);
+    }
+    Ok(())
+}
+
+// Entrant 4, and the disk call with that number fails, from its opening on.
+fn opened_failing(alloc: Global, at: u64) -> Result<MemorySite, Fail> {
+    let mut site = entrant(alloc)?.image(alloc, &Choice::Read)?;
+    site.fuse(at, Burn::Once);
+    Ok(site)
+}
+
+#[test]
+fn each_call_of_opening_may_fail(rt: HostRuntime) -> Result<(), Fail> {
+    let alloc = rt.alloc();
+    for (at, side, call) in [
+        (0, Side::A, Call::Sync),
+        (1, Side::B, Call::Sync),
+        // Gates and generations.
+        (2, Side::A, Call::Length),
+        (3, Side::A, Call::Read),
+        (4, Side::A, Call::Read),
+        (5, Side::B, Call::Length),
+        (6, Side::B, Call::Read),
+        // The version, the length of the state, and the state.
+        (7, Side::A, Call::Length),
+        (8, Side::A, Call::Read),
+        (9, Side::A, Call::Read),
+        (10, Side::A, Call::Read),
+        // The gate of the first record, and the length in use.
+        (11, Side::A, Call::Length),
+        (12, Side::A, Call::Read),
+        (13, Side::A, Call::Length),
+    ] {
+        let device = DeviceFault { side, call };
+        let outcome = posts(alloc, opened_failing(alloc, at)?);
+        assert_eq!(rt; outcome, Err(OpenFault::Device(device)));
+    }
+    assert_eq!(rt; posts(alloc, opened_failing(alloc, 14)?), Ok(0));
+    Ok(())
+}
+
+// The calls of opening are 0 to 13.
+#[test]
+fn each_call_of_an_enter_may_fail(rt: HostRuntime) -> Result<(), Fail> {
+    let alloc = rt.alloc();
+    for (at, call) in [
+        (14, Call::Write),
+        (15, Call::Sync),
+        (16, Call::Write),
+        (17, Call::Sync),
+    ] {
+        let (site, failed) = entered(alloc, opened_failing(alloc, at)?)?;
+        let device = DeviceFault {
+            side: Side::A,
+            call,
+        };
+        assert_eq!(rt; failed, Some(device));
+        assert_eq!(rt; site.outputs().len(), 0);
+    }
+    let (_, failed) = entered(alloc, opened_failing(alloc, 18)?)?;
+    assert_eq!(rt; failed, None);
+    Ok(())
+}
+
+// How many posts there are after a crash that leaves this.
+fn left(alloc: Global, site: &MemorySite, choice: &Choice) -> Result<u64, Fail> {
+    Ok(posts(alloc, site.image(alloc, choice)?)?)
+}
+
+#[test]
+fn a_crash_leaves_an_enter_or_nothing_of_it(rt: HostRuntime) -> Result<(), Fail> {
+    let alloc = rt.alloc();
+    for (at, [read, zeros, gates, ones, short]) in [
+        // The record isn't made sure of.
+        (14, [0, 0, 0, 0, 0]),
+        (15, [0, 0, 0, 0, 0]),
+        // Its gate isn't written, and it isn't made sure of.
+        (16, [0, 0, 1, 0, 0]),
+        (17, [1, 0, 1, 0, 1]),
+    ] {
+        let (site, _) = entered(alloc, opened_failing(alloc, at)?)?;
+        assert_eq!(rt; left(alloc, &site, &Choice::Read)?, read);
+        assert_eq!(rt; left(alloc, &site, &Choice::Fill(0))?, zeros);
+        assert_eq!(rt; left(alloc, &site, &Choice::Fill(0xA5))?, gates);
+        assert_eq!(rt; left(alloc, &site, &Choice::Fill(0xFF))?, ones);
+        assert_eq!(rt; left(alloc, &site, &Choice::Short)?, short);
+    }
+    Ok(())
+}
+
+// Commits an Enter twice. What each came to, and the fault that ended the engine.
+fn enter_twice(
+    alloc: Global,
+    flusher: &mut Flusher<MemorySite>,
+) -> Result<[Option<DeviceFault>; 3], Fail> {
+    let first = enter(alloc, flusher)?;
+    let second = enter(alloc, flusher)?;
+    Ok([first, second, flusher.fault()])
+}
+
+#[test]
+fn a_failed_disk_call_ends_the_engine(rt: HostRuntime) -> Result<(), Fail> {
+    let alloc = rt.alloc();
+    let mut flusher = opened(alloc, opened_failing(alloc, 16)?)?;
+    let outcome = enter_twice(alloc, &mut flusher);
+    let put = flusher.site().outputs().len();
+    let _ = flusher.close();
+    let device = DeviceFault {
+        side: Side::A,
+        call: Call::Write,
+    };
+    assert_eq!(rt; outcome?, [Some(device); 3]);
+    assert_eq!(rt; put, 0);
+    Ok(())
+}
+
+#[test]
+fn faults_of_formatting_print_their_names(rt: HostRuntime) -> Result<(), Fail> {
+    let device = DeviceFault {
+        side: Side::A,
+        call: Call::Write,
+    };
+    let texts = [
+        (FormatFault::BadOpening, "BadOpening"),
+        (FormatFault::NoMemory, "NoMemory"),
+        (FormatFault::Device(device), "Device A Write"),
+        (FormatFault::AlreadyFormatted, "AlreadyFormatted"),
+    ];
+    for (fault, expected) in texts {
+        let text = format!(in rt.alloc(); "{fault}")?;
+        assert_eq!(rt; text.as_str(), expected);
+    }
+    Ok(())
+}
+
+#[test]
+fn a_failed_engine_prints_its_disk_call(rt: HostRuntime) -> Result<(), Fail> {
+    let fault = DeviceFault {
+        side: Side::A,
+        call: Call::Sync,
+    };
+    let failed = Failed { fault };
+    let text = format!(in rt.alloc(); "{failed}")?;
+    assert_eq!(rt; text.as_str(), "Failed A Sync");
+    Ok(())
+}

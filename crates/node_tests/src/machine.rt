@@ -1,0 +1,174 @@
+//! Openings, and what a node answers to events.
+
+use cc_changes::Fraction;
+use cc_node::{Core, Fresh, Node, Opening};
+use cc_views::NodeId;
+use cc_wire::{Command, Event, Message, Refusal};
+use std::alloc::Global;
+use std::process::Abort;
+use std::test::*;
+
+const FOUR_FIFTHS: Fraction = Fraction { num: 4, den: 5 };
+
+// An opening with these members and contacts.
+fn opening<'a>(me: u32, initial: &'a [u32], contacts: &'a [u32]) -> Opening<'a> {
+    Opening {
+        me,
+        initial,
+        contacts,
+        beta: FOUR_FIFTHS,
+        gamma: FOUR_FIFTHS,
+    }
+}
+
+fn is_bad(alloc: Global, opening: &Opening<'_>) -> bool {
+    Node::fresh(alloc, opening).err() == Some(Fresh::BadOpening)
+}
+
+#[test]
+fn lists_of_an_opening_ascend_from_one(rt: HostRuntime) -> Result<(), Fail> {
+    for bad in [
+        opening(0, &[0], &[]),
+        opening(1, &[0, 1], &[]),
+        opening(2, &[2, 1], &[]),
+        opening(1, &[1, 1], &[]),
+        opening(3, &[], &[2, 1]),
+        opening(3, &[], &[0]),
+    ] {
+        assert!(rt; is_bad(rt.alloc(), &bad));
+    }
+    Ok(())
+}
+
+#[test]
+fn a_member_is_one_of_the_first_and_no_contact_of_its_own(rt: HostRuntime) -> Result<(), Fail> {
+    assert!(rt; is_bad(rt.alloc(), &opening(1, &[2], &[])));
+    assert!(rt; is_bad(rt.alloc(), &opening(1, &[], &[1])));
+    let nothing = Opening {
+        beta: Fraction { num: 0, den: 5 },
+        ..opening(1, &[1], &[])
+    };
+    assert!(rt; is_bad(rt.alloc(), &nothing));
+    let beyond = Opening {
+        gamma: Fraction { num: 6, den: 5 },
+        ..opening(1, &[1], &[])
+    };
+    assert!(rt; is_bad(rt.alloc(), &beyond));
+    Ok(())
+}
+
+#[test]
+fn an_opening_names_up_to_256_nodes(rt: HostRuntime) -> Result<(), Fail> {
+    let mut contacts = Vec::new(rt.alloc());
+    for id in 2..257 {
+        contacts.push(id)?;
+    }
+    assert!(rt; !is_bad(rt.alloc(), &opening(1, &[], &contacts)));
+    contacts.push(257)?;
+    assert!(rt; is_bad(rt.alloc(), &opening(1, &[], &contacts)));
+    Ok(())
+}
+
+fn check_member<R: Abort>(rt: &R, node: &Node, contact: NodeId) {
+    assert_eq!(rt; node.me().number(), 2);
+    assert!(rt; node.is_joined());
+    assert!(rt; node.view().rows().is_empty());
+    assert_eq!(rt; node.kept(), 0);
+    assert_eq!(rt; node.core().links().len(), 3);
+    assert!(rt; node.core().is_live(contact));
+    assert_eq!(rt; node.heard(contact), 0);
+    assert!(rt; node.core().link(3).is_none());
+}
+
+#[test]
+fn a_member_begins(rt: HostRuntime) -> Result<(), Fail> {
+    let seventh = NodeId::new(7).ok_or("7 is an id")?;
+    let node = Node::fresh(rt.alloc(), &opening(2, &[1, 2], &[7]))?;
+    check_member(&rt, &node, seventh);
+    Ok(())
+}
+
+#[test]
+fn faults_print_their_names(rt: HostRuntime) -> Result<(), Fail> {
+    let bad = Fresh::BadOpening;
+    let text = format!(in rt.alloc(); "{bad}")?;
+    assert_eq!(rt; text.as_str(), "BadOpening");
+    let full = Fresh::NoMemory;
+    let text = format!(in rt.alloc(); "{full}")?;
+    assert_eq!(rt; text.as_str(), "NoMemory");
+    Ok(())
+}
+
+fn ask(request: u64, command: Command) -> Event {
+    Event::Ask {
+        session: 7,
+        request,
+        command,
+    }
+}
+
+fn copied(alloc: Global, post: &Option<Message>) -> Result<Option<Message>, Fail> {
+    match post {
+        Some(message) => Ok(Some(message.copy(alloc)?)),
+        None => Ok(None),
+    }
+}
+
+// Takes the event in, if it isn't refused. The post that it makes.
+fn taken(alloc: Global, node: &mut Node, event: Event) -> Result<Option<Message>, Fail> {
+    if node.core().decide(&event).is_err() {
+        return Ok(None);
+    }
+    let made = node.core().made(alloc, &event)?;
+    let post = copied(alloc, &made.post)?;
+    node.settle(event, made);
+    Ok(post)
+}
+
+fn check_copy<R: Abort + AllocGlobal>(rt: &R, core: &Core) -> Result<(), Fail> {
+    let copy = core.copy(rt.alloc())?;
+    assert_eq!(rt; copy.view().rows(), core.view().rows());
+    Ok(())
+}
+
+fn check_ask<R: Abort + AllocGlobal>(rt: &R, node: &mut Node) -> Result<(), Fail> {
+    let post = taken(rt.alloc(), node, ask(1, Command::SetFlag))?;
+    let is_store = matches!(post, Some(Message::Store { tag: 1, .. }));
+    drop(post);
+    assert!(rt; is_store);
+    assert_eq!(rt; node.core().posts(), 1);
+    assert_eq!(rt; node.kept(), 1);
+    check_copy(rt, node.core())?;
+    let again = node.core().decide(&ask(1, Command::SetFlag));
+    assert_eq!(rt; again.err(), Some(Refusal::Repeat));
+    let next = node.core().decide(&ask(2, Command::Collect));
+    assert_eq!(rt; next.err(), Some(Refusal::Busy));
+    Ok(())
+}
+
+#[test]
+fn an_ask_is_taken_in(rt: HostRuntime) -> Result<(), Fail> {
+    let mut node = Node::fresh(rt.alloc(), &opening(1, &[1], &[]))?;
+    check_ask(&rt, &mut node)
+}
+
+fn check_enter<R: Abort + AllocGlobal>(rt: &R, node: &mut Node) -> Result<(), Fail> {
+    assert!(rt; !node.is_joined());
+    let refused = node.core().decide(&ask(1, Command::Collect));
+    assert_eq!(rt; refused.err(), Some(Refusal::NotEntered));
+    let post = taken(rt.alloc(), node, Event::Enter)?;
+    let is_enter = matches!(post, Some(Message::Enter { .. }));
+    drop(post);
+    assert!(rt; is_enter);
+    assert_eq!(rt;
+        node.core().decide(&Event::Enter).err(),
+        Some(Refusal::AlreadyEntered)
+    );
+    Ok(())
+}
+
+#[test]
+fn an_entrant_enters(rt: HostRuntime) -> Result<(), Fail> {
+    let mut node = Node::fresh(rt.alloc(), &opening(4, &[], &[1, 2]))?;
+    check_enter(&rt, &mut node)
+}

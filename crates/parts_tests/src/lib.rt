@@ -1,0 +1,21 @@
+//! Tests of the messages and the parts of a node, by their public calls alone.
+#![tactic(auto)]
+
+#[cfg(test)]
+mod changes;
+#[cfg(test)]
+mod churn;
+#[cfg(test)]
+mod formats;
+#[cfg(test)]
+mod links;
+#[cfg(test)]
+mod objects;
+#[cfg(test)]
+mod operations;
+#[cfg(test)]
+mod outboxes;
+#[cfg(test)]
+mod sessions;
+#[cfg(test)]
+mod views;

@@ -1,0 +1,75 @@
+//! Views, texts and sets of numbers.
+
+ghost use Rattle.std.specs.Prelude.{◌≡◌, ◌≤◌, IfOk, IsSome};
+ghost use Rattle.std.specs.FinMap.{len};
+
+use cc_views::{NodeId, NumberSet, Row, Text, Value, View};
+use std::alloc::Global;
+use std::test::*;
+
+// A row with number 1.
+fn row(node: u32, text: &[u8]) -> Option<Row> {
+    let mut value = Value::empty();
+    value.text = Text::new(text)?;
+    Some(Row {
+        node: NodeId::new(node)?,
+        number: 1,
+        value,
+    })
+}
+
+fn view(alloc: Global, node: u32, text: &[u8]) -> Result<View, Fail>
+    ensures { IfOk result (λ v. len v ≡ 1) }
+{
+    let mut view = View::new(alloc)?;
+    view.push(row(node, text).ok_or("the row has an id and a short text")?);
+    Ok(view)
+}
+
+#[test]
+fn a_text_has_at_most_64_bytes(rt: HostRuntime) -> Result<(), Fail> {
+    let text = Text::new(&[7; 64]).ok_or("64 bytes are taken")?;
+    assert_eq!(rt; text.as_bytes(), [7; 64].as_slice());
+    assert!(rt; Text::new(&[7; 65]).is_none());
+    Ok(())
+}
+
+#[test]
+#[tactic(auto, using(cc_views::specs::NatSets::len_insert_at_most))]
+fn a_number_stands_once_in_a_set(rt: HostRuntime) {
+    let mut set = NumberSet::new();
+    set.insert(9);
+    set.insert(5);
+    set.insert(9);
+    assert_eq!(rt; set.as_slice(), [5, 9].as_slice());
+}
+
+#[test]
+#[tactic(auto, using(cc_views::specs::MergeLaws::merge_is_no_larger))]
+fn equal_numbers_keep_the_left_row(rt: HostRuntime) -> Result<(), Fail> {
+    let mut left = view(rt.alloc(), 1, b"a")?;
+    left.merge(&view(rt.alloc(), 1, b"b")?);
+    assert_eq!(rt; left.rows(), view(rt.alloc(), 1, b"a")?.rows());
+    Ok(())
+}
+
+#[test]
+#[tactic(auto, using(cc_views::specs::MergeLaws::merge_is_no_larger))]
+fn both_nodes_stand_in_a_merge(rt: HostRuntime) -> Result<(), Fail> {
+    let mut left = view(rt.alloc(), 1, b"a")?;
+    left.merge(&view(rt.alloc(), 2, b"b")?);
+    assert_eq!(rt; left.rows().len(), 2);
+    Ok(())
+}
+
+#[test]
+#[tactic(auto, using(cc_views::specs::MergeLaws::merge_row_is_no_larger))]
+fn a_copy_stays_as_it_was(rt: HostRuntime) -> Result<(), Fail> {
+    let mut view = view(rt.alloc(), 1, b"a")?;
+    let copy = view.copy(rt.alloc())?;
+    view.merge_row(row(2, b"b").ok_or("the row has an id and a short text")?);
+    assert_eq!(rt; copy.rows().len(), 1);
+    assert!(rt; copy.at_most(&view));
+    assert!(rt; !view.at_most(&copy));
+    Ok(())
+}

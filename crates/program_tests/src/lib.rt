@@ -1,0 +1,19 @@
+//! Whole scripts, and what they print.
+#![tactic(auto)]
+
+#[cfg(test)]
+mod bad_lines;
+#[cfg(test)]
+mod clusters;
+#[cfg(test)]
+mod crashes;
+#[cfg(test)]
+mod faults;
+#[cfg(test)]
+mod limits;
+#[cfg(test)]
+mod objects;
+#[cfg(test)]
+mod played;
+#[cfg(test)]
+mod standing;

@@ -1,0 +1,5 @@
+use Rattle.threads_tests.proofs.lives.live_as.Given as goal
+
+-- the queue that was just made
+abbrev pub ghosts-live_at : goal.ghosts-live_at
+ghosts-live_at g a = record { table = a.ends }

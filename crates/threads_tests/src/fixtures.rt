@@ -1,0 +1,116 @@
+//! What the tests share: the disk and the engine of a node, events, and accepts.
+
+ghost use Rattle.std.specs.Prelude.{◌≡◌, ◌<◌, None, false, IfOk};
+
+use crate::holding::Hold;
+use cc_changes::Fraction;
+use cc_flush::{Back, Flusher, format};
+use cc_intake::{Gated, Intake, Lane, Life, Queue, Share};
+use cc_node::{Core, Opening};
+use cc_site::MemorySite;
+use cc_views::{NodeId, Text};
+use cc_wire::{Command, Event, Message, Refusal};
+use std::alloc::Global;
+use std::sync::{Mutex, Wait};
+use std::test::*;
+
+/// A disk in memory, with a gate round each sync.
+pub(crate) type Disk<'a> = Gated<'a, MemorySite, Hold>;
+
+pub(crate) fn id(number: u32) -> NodeId
+    requires { 0 < number }
+    ensures { result ≡ number }
+{
+    NodeId::new(number).unwrap()
+}
+
+/// Fails the test where something isn't so.
+pub(crate) fn check(holds: bool, what: &'static str) -> Result<(), Fail> {
+    if holds { Ok(()) } else { Err(what)? }
+}
+
+/// Member 1 of 1 on a disk in memory.
+pub(crate) fn formatted(alloc: Global) -> Result<MemorySite, Fail> {
+    let share = Fraction { num: 4, den: 5 };
+    let opening = Opening {
+        me: 1,
+        initial: &[1],
+        contacts: &[],
+        beta: share,
+        gamma: share,
+    };
+    match format(alloc, MemorySite::new(alloc, 1024)?, &opening) {
+        Ok(site) => Ok(site),
+        Err(Back { site: _, fault }) => Err(fault)?,
+    }
+}
+
+pub(crate) fn opened<'a>(
+    alloc: Global,
+    site: MemorySite,
+    gate: &'a Hold,
+) -> Result<(Flusher<Disk<'a>>, Core), Fail>
+    ensures { IfOk result (λ o. (o.0.failed ≡ None) × (o.0.owes ≡ false) × (o.1 ≡ o.0.twin.core)) }
+{
+    match Flusher::open(alloc, Gated { site, gate }) {
+        Ok(opened) => Ok(opened),
+        Err(Back { site: _, fault }) => Err(fault)?,
+    }
+}
+
+pub(crate) fn drawn<L: Life, Q: Lane, R: Wait>(
+    rt: &R,
+    lock: &Mutex<Intake<L, Q>>,
+) -> Result<Share<L>, Fail> {
+    let share = lock.lock(rt).share();
+    Ok(share.ok_or("a share")?)
+}
+
+// The message that node 1 sent itself under that number: it heard that it joined.
+fn echo(number: u64) -> Event {
+    Event::Deliver {
+        from: id(1),
+        number,
+        message: Message::JoinEcho { node: id(1) },
+    }
+}
+
+/// The first request of session 7, to store a text.
+pub(crate) fn store_a() -> Option<Event> {
+    let text = Text::new(b"a")?;
+    Some(Event::Ask {
+        session: 7,
+        request: 1,
+        command: Command::Store(text),
+    })
+}
+
+/// Accepts message `number` of node 1.
+pub(crate) fn hear<L: Life, Q: Lane, R: Wait>(
+    rt: &R,
+    alloc: Global,
+    lock: &Mutex<Intake<L, Q>>,
+    queue: &Queue<L, Q>,
+    share: &mut Share<L>,
+    number: u64,
+) -> Result<u64, Refusal> {
+    lock.lock(rt).accept(rt, alloc, share, queue, echo(number))
+}
+
+/// Whether messages 1 to `last` are accepted at the places of their numbers.
+pub(crate) fn hears_all<L: Life, Q: Lane, R: Wait>(
+    rt: &R,
+    alloc: Global,
+    lock: &Mutex<Intake<L, Q>>,
+    queue: &Queue<L, Q>,
+    share: &mut Share<L>,
+    last: u64,
+) -> bool {
+    for i in 0..last {
+        let number = i.saturating_add(1);
+        if hear(rt, alloc, lock, queue, share, number) != Ok(number) {
+            return false;
+        }
+    }
+    true
+}

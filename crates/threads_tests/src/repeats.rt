@@ -1,0 +1,69 @@
+//! A worker that asks the same twice.
+
+use crate::fixtures::{check, store_a};
+use crate::holding::{Hold, Holding};
+use crate::lives::lives;
+use crate::stories::Story;
+use cc_intake::{Intake, Lane, Life, Queue, Share, Source, work};
+use cc_wire::{Event, Refusal};
+use std::alloc::Global;
+use std::sync::{Mutex, Wait};
+use std::test::*;
+
+// Asks the same twice, and keeps what it is told.
+#[derive(Drop)]
+struct Twice {
+    asked: usize,
+    first: Option<Result<u64, Refusal>>,
+    second: Option<Result<u64, Refusal>>,
+}
+
+impl Source for Twice {
+    ghost gives = { λ s e t. Unit {0} };
+
+    ghost hears = { λ s a t. Unit {0} };
+
+    fn next(&mut self) -> Option<Event> {
+        if self.asked >= 2 {
+            return None;
+        }
+        self.asked += 1;
+        store_a()
+    }
+
+    fn told(&mut self, answer: Result<u64, Refusal>) {
+        if self.first.is_none() {
+            self.first = Some(answer);
+        } else {
+            self.second = Some(answer);
+        }
+    }
+}
+
+/// A worker asks the same twice.
+pub(crate) fn repeat<L: Life, Q: Lane, R: Wait>(
+    rt: &R,
+    alloc: Global,
+    gate: &Hold,
+    lock: &Mutex<Intake<L, Q>>,
+    queue: &Queue<L, Q>,
+    share: &mut Share<L>,
+) -> Result<(), Fail> {
+    let mut source = Twice {
+        asked: 0,
+        first: None,
+        second: None,
+    };
+    work(rt, alloc, lock, queue, share, gate, &mut source);
+    check(source.first == Some(Ok(1)), "an ask is accepted")?;
+    let again = Some(Err(Refusal::Repeat));
+    check(source.second == again, "the same ask is a repeat")?;
+    check(share.count() == 1, "the share counts one")
+}
+
+#[test]
+fn a_worker_is_told_of_a_repeat(rt: HostRuntime) -> Result<(), Fail> {
+    let expected = [1, 1, 0, 1];
+    let site = lives(&rt, rt.alloc(), Holding::Nothing, Story::Repeat, expected)?;
+    check(site.outputs().len() == 0, "nothing is put")
+}

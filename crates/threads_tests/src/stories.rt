@@ -1,0 +1,61 @@
+//! What may happen in a life.
+
+use crate::crashes::after_crash;
+use crate::fixtures::{Disk, drawn};
+use crate::holding::Hold;
+use crate::repeats::repeat;
+use crate::turns::{batches, full_queue};
+use crate::workers::many;
+use cc_intake::{Intake, Lane, Life, Queue, Share, Turner};
+use std::alloc::Global;
+use std::sync::{Mutex, Wait};
+use std::test::*;
+use std::thread::Threads;
+
+/// What a life is to come to.
+#[derive(Clone, Copy)]
+pub(crate) enum Story {
+    Batches,
+    FullQueue,
+    Repeat,
+    AfterCrash,
+    /// So many workers bring so many events each.
+    Workers(u32, u64),
+}
+
+pub(crate) fn play<L: Life + Send + Sync, Q: Lane + Send + Sync, R: Threads + Wait + Sync>(
+    rt: &R,
+    alloc: Global,
+    gate: &Hold,
+    lock: &Mutex<Intake<L, Q>>,
+    turner: &mut Turner<Disk<'_>, L, Q>,
+    queue: &Queue<L, Q>,
+    shares: &mut Vec<Share<L>>,
+    story: Story,
+) -> Result<(), Fail> {
+    if let Story::Workers(count, last) = story {
+        return many(rt, alloc, gate, lock, turner, queue, shares, count, last);
+    }
+    shares.push(drawn(rt, lock)?)?;
+    let share = shares.first_mut().ok_or("a share")?;
+    play_alone(rt, alloc, gate, lock, turner, queue, share, story)
+}
+
+fn play_alone<L: Life, Q: Lane, R: Wait>(
+    rt: &R,
+    alloc: Global,
+    gate: &Hold,
+    lock: &Mutex<Intake<L, Q>>,
+    turner: &mut Turner<Disk<'_>, L, Q>,
+    queue: &Queue<L, Q>,
+    share: &mut Share<L>,
+    story: Story,
+) -> Result<(), Fail> {
+    match story {
+        Story::Batches => batches(rt, alloc, gate, lock, turner, queue, share),
+        Story::FullQueue => full_queue(rt, alloc, lock, turner, queue, share),
+        Story::Repeat => repeat(rt, alloc, gate, lock, queue, share),
+        Story::AfterCrash => after_crash(rt, alloc, lock, turner, queue, share),
+        Story::Workers(_, _) => Ok(()),
+    }
+}

@@ -1,0 +1,95 @@
+//! Whole turns, and a queue that is full.
+
+use crate::fixtures::{Disk, check, hear, hears_all};
+use crate::holding::{Hold, Holding};
+use crate::lives::lives;
+use crate::stories::Story;
+use cc_intake::{Intake, Lane, Life, Queue, Share, Turned, Turner};
+use cc_wire::Refusal;
+use std::alloc::Global;
+use std::sync::atomic::Ordering;
+use std::sync::{Mutex, Wait};
+use std::test::*;
+
+// How many events a turn took. None where it fails or there is no room.
+fn taken<L: Life, Q: Lane, R: Wait>(
+    rt: &R,
+    turner: &mut Turner<Disk<'_>, L, Q>,
+    queue: &Queue<L, Q>,
+) -> Option<usize> {
+    match turner.turn(rt, queue) {
+        Ok(
+            Turned {
+                events,
+                full: false,
+            },
+        ) => Some(events),
+        _ => None,
+    }
+}
+
+/// 65 events are accepted, and taken by turns.
+pub(crate) fn batches<L: Life, Q: Lane, R: Wait>(
+    rt: &R,
+    alloc: Global,
+    gate: &Hold,
+    lock: &Mutex<Intake<L, Q>>,
+    turner: &mut Turner<Disk<'_>, L, Q>,
+    queue: &Queue<L, Q>,
+    share: &mut Share<L>,
+) -> Result<(), Fail> {
+    let all = hears_all(rt, alloc, lock, queue, share, 65);
+    check(all, "65 events are accepted")?;
+    let before = gate.syncs.load(Ordering::SeqCst);
+    for events in [64, 1, 0] {
+        let turned = taken(rt, turner, queue);
+        check(turned == Some(events), "a turn takes a whole batch")?;
+    }
+    let syncs = gate.syncs.load(Ordering::SeqCst).wrapping_sub(before);
+    check(syncs == 4, "two batches take four syncs")
+}
+
+#[test]
+fn turns_take_64_then_1_then_none(rt: HostRuntime) -> Result<(), Fail> {
+    let expected = [65, 65, 65, 0];
+    let site = lives(&rt, rt.alloc(), Holding::Nothing, Story::Batches, expected)?;
+    check(site.outputs().len() == 65, "each event is acknowledged")
+}
+
+/// The queue takes 256 events, and another one after a turn.
+pub(crate) fn full_queue<L: Life, Q: Lane, R: Wait>(
+    rt: &R,
+    alloc: Global,
+    lock: &Mutex<Intake<L, Q>>,
+    turner: &mut Turner<Disk<'_>, L, Q>,
+    queue: &Queue<L, Q>,
+    share: &mut Share<L>,
+) -> Result<(), Fail> {
+    let all = hears_all(rt, alloc, lock, queue, share, 256);
+    check(all, "256 events are accepted")?;
+    let old = hear(rt, alloc, lock, queue, share, 256);
+    check(
+        old == Err(Refusal::Old(256)),
+        "the core's reason comes first",
+    )?;
+    let full = hear(rt, alloc, lock, queue, share, 257);
+    check(full == Err(Refusal::QueueFull), "the queue is full")?;
+    let turned = taken(rt, turner, queue);
+    check(turned == Some(64), "a turn makes room")?;
+    let answer = hear(rt, alloc, lock, queue, share, 257);
+    check(answer == Ok(257), "the event is accepted at place 257")?;
+    check(share.count() == 257, "the share counts 257")
+}
+
+#[test]
+fn a_full_queue_refuses_until_a_turn(rt: HostRuntime) -> Result<(), Fail> {
+    let expected = [257, 257, 64, 193];
+    let site = lives(
+        &rt,
+        rt.alloc(),
+        Holding::Nothing,
+        Story::FullQueue,
+        expected,
+    )?;
+    check(site.outputs().len() == 64, "64 events are acknowledged")
+}

@@ -1,0 +1,306 @@
+//! Workers that bring events side by side, while one thread takes turns.
+
+use crate::fixtures::{Disk, check, drawn, opened};
+use crate::holding::{Hold, Holding, TURNS};
+use crate::lives::lives;
+use crate::stories::Story;
+use cc_intake::{Intake, Lane, Life, Queue, Share, Source, Turner, work};
+use cc_node::Core;
+use cc_site::{Choice, MemorySite};
+use cc_views::NodeId;
+use cc_wire::{Event, Message, Output, Refusal};
+use std::alloc::{AllocError, Global};
+use std::sync::atomic::{AtomicU64, Ordering};
+use std::sync::{Mutex, Wait};
+use std::test::*;
+use std::thread;
+use std::thread::{Threads, join};
+
+// How many events a worker brings.
+const EVENTS: u64 = 40;
+
+// Brings what it heard from one node, as messages 1 to `last`, each again where the queue was full, and none once the engine
+// has ended or the queue was full for too long: where no thread can be made, no turn begins before the workers are done.
+#[derive(Drop)]
+struct Peer<'a> {
+    gate: &'a Hold,
+    node: NodeId,
+    next: u64,
+    last: u64,
+    full: u64,
+    refused: u64,
+}
+
+impl Source for Peer<'_> {
+    ghost gives = { λ s e t. Unit {0} };
+
+    ghost hears = { λ s a t. Unit {0} };
+
+    fn next(&mut self) -> Option<Event> {
+        let done = self.next > self.last || self.full >= TURNS;
+        if done || self.gate.ended.load(Ordering::SeqCst) == 1 {
+            return None;
+        }
+        Some(Event::Deliver {
+            from: self.node,
+            number: self.next,
+            message: Message::JoinEcho { node: self.node },
+        })
+    }
+
+    fn told(&mut self, answer: Result<u64, Refusal>) {
+        match answer {
+            Ok(_) => {
+                self.next = self.next.saturating_add(1);
+                self.full = 0;
+            }
+            Err(Refusal::QueueFull) => {
+                self.full = self.full.saturating_add(1);
+                thread::yield_now();
+            }
+            Err(_) => {
+                self.refused = self.refused.saturating_add(1);
+                self.next = self.next.saturating_add(1);
+            }
+        }
+    }
+}
+
+// A worker: its share, and where its events come from.
+#[derive(Drop)]
+struct Worker<'a, L: Life> {
+    share: Share<L>,
+    peer: Peer<'a>,
+}
+
+// So many workers, each of a node of its own.
+fn hired<'a, L: Life, Q: Lane, R: Wait>(
+    rt: &R,
+    alloc: Global,
+    gate: &'a Hold,
+    lock: &Mutex<Intake<L, Q>>,
+    count: u32,
+    last: u64,
+) -> Result<Vec<Worker<'a, L>>, Fail> {
+    let mut workers = Vec::new(alloc);
+    hire(rt, gate, lock, count, last, &mut workers)?;
+    Ok(workers)
+}
+
+fn hire<'a, L: Life, Q: Lane, R: Wait>(
+    rt: &R,
+    gate: &'a Hold,
+    lock: &Mutex<Intake<L, Q>>,
+    count: u32,
+    last: u64,
+    workers: &mut Vec<Worker<'a, L>>,
+) -> Result<(), Fail> {
+    for i in 0..count {
+        let peer = Peer {
+            gate,
+            node: NodeId::new(i.wrapping_add(2)).ok_or("a node")?,
+            next: 1,
+            last,
+            full: 0,
+            refused: 0,
+        };
+        let share = drawn(rt, lock)?;
+        workers.push(Worker { share, peer })?;
+    }
+    Ok(())
+}
+
+// Takes turns until nothing is left after the workers have stopped, or the engine has ended.
+fn turn_on<L: Life, Q: Lane, R: Wait>(
+    rt: &R,
+    gate: &Hold,
+    turner: &mut Turner<Disk<'_>, L, Q>,
+    queue: &Queue<L, Q>,
+    stop: &AtomicU64,
+) {
+    for _ in rt.forever() {
+        let stopped = stop.load(Ordering::SeqCst) == 1;
+        match turner.turn(rt, queue) {
+            Ok(turned) if turned.events > 0 => {}
+            Ok(_) => {
+                if stopped {
+                    return;
+                }
+                thread::yield_now();
+            }
+            Err(_) => {
+                gate.ended.store(1, Ordering::SeqCst);
+                return;
+            }
+        }
+    }
+}
+
+fn labour<'a, L: Life, Q: Lane, R: Wait>(
+    rt: &R,
+    alloc: Global,
+    lock: &Mutex<Intake<L, Q>>,
+    queue: &Queue<L, Q>,
+    gate: &Hold,
+    worker: Worker<'a, L>,
+) -> Worker<'a, L> {
+    let Worker {
+        mut share,
+        mut peer,
+    } = worker;
+    work(rt, alloc, lock, queue, &mut share, gate, &mut peer);
+    Worker { share, peer }
+}
+
+fn labour_all<'a, L: Life + Send + Sync, Q: Lane + Send + Sync, R: Threads + Wait + Sync>(
+    rt: &R,
+    alloc: Global,
+    lock: &Mutex<Intake<L, Q>>,
+    queue: &Queue<L, Q>,
+    gate: &Hold,
+    workers: Vec<Worker<'a, L>>,
+) -> Result<Vec<Worker<'a, L>>, AllocError> {
+    thread::map_vec(
+        rt,
+        workers,
+        &|worker| { labour(rt, alloc, lock, queue, gate, worker) },
+    )
+}
+
+// Takes the share of a worker, each of whose events was accepted.
+fn hand_in<L: Life>(
+    worker: Worker<'_, L>,
+    shares: &mut Vec<Share<L>>,
+    last: u64,
+) -> Result<(), Fail> {
+    let Worker { share, peer } = worker;
+    let whole = share.count() == last && peer.refused == 0;
+    shares.push(share)?;
+    check(whole, "each event of a worker is accepted")
+}
+
+fn hand_in_all<L: Life>(
+    workers: Vec<Worker<'_, L>>,
+    shares: &mut Vec<Share<L>>,
+    last: u64,
+) -> Result<(), Fail> {
+    for worker in workers {
+        hand_in(worker, shares, last)?;
+    }
+    Ok(())
+}
+
+// The workers bring their events, while one thread takes turns.
+fn labour_with_turns<'a, L: Life + Send + Sync, Q: Lane + Send + Sync, R: Threads + Wait + Sync>(
+    rt: &R,
+    alloc: Global,
+    gate: &Hold,
+    lock: &Mutex<Intake<L, Q>>,
+    turner: &mut Turner<Disk<'_>, L, Q>,
+    queue: &Queue<L, Q>,
+    workers: Vec<Worker<'a, L>>,
+) -> Result<Vec<Worker<'a, L>>, AllocError> {
+    let stop = AtomicU64::new(0);
+    let (_, workers) = join(
+        rt,
+        || turn_on(rt, gate, turner, queue, &stop),
+        || {
+            let done = labour_all(rt, alloc, lock, queue, gate, workers);
+            stop.store(1, Ordering::SeqCst);
+            done
+        },
+    );
+    workers
+}
+
+/// So many workers bring so many events each, while one thread takes turns.
+pub(crate) fn many<L: Life + Send + Sync, Q: Lane + Send + Sync, R: Threads + Wait + Sync>(
+    rt: &R,
+    alloc: Global,
+    gate: &Hold,
+    lock: &Mutex<Intake<L, Q>>,
+    turner: &mut Turner<Disk<'_>, L, Q>,
+    queue: &Queue<L, Q>,
+    shares: &mut Vec<Share<L>>,
+    count: u32,
+    last: u64,
+) -> Result<(), Fail> {
+    let workers = hired(rt, alloc, gate, lock, count, last)?;
+    let workers = labour_with_turns(rt, alloc, gate, lock, turner, queue, workers)?;
+    hand_in_all(workers, shares, last)?;
+    let late = gate.late.load(Ordering::SeqCst);
+    check(late == 0, "no gate gives up")
+}
+
+#[test]
+fn accepts_are_answered_while_a_sync_is_held(rt: HostRuntime) -> Result<(), Fail> {
+    let story = Story::Workers(2, 1);
+    let site = lives(&rt, rt.alloc(), Holding::FirstSync, story, [2, 2, 2, 0])?;
+    check(site.outputs().len() == 2, "both events are acknowledged")
+}
+
+// How many acknowledgements went to the node. None where their numbers don't go up by one.
+fn acks(outputs: &[Output], node: NodeId) -> Option<u64> {
+    let mut last: u64 = 0;
+    for output in outputs {
+        match output {
+            Output::Ack { to, number } if *to == node => {
+                if *number != last.saturating_add(1) {
+                    return None;
+                }
+                last = *number;
+            }
+            _ => {}
+        }
+    }
+    Some(last)
+}
+
+// Whether the outputs acknowledge each event of each worker in its order, and the core heard them all.
+fn heard_all(core: &Core, outputs: &[Output], count: u32) -> bool {
+    for i in 0..count {
+        let Some(node) = NodeId::new(i.wrapping_add(2)) else {
+            return false;
+        };
+        if acks(outputs, node) != Some(EVENTS) || core.heard(node) != EVENTS {
+            return false;
+        }
+    }
+    true
+}
+
+// Whether the outputs acknowledge each event of each worker in its order, and the node that is opened again heard them all.
+fn has_all(alloc: Global, site: &MemorySite, count: u32) -> Result<bool, Fail> {
+    let gate = Hold::new(Holding::Nothing);
+    let image = site.image(alloc, &Choice::Read)?;
+    let (engine, core) = opened(alloc, image, &gate)?;
+    drop(engine);
+    let all = heard_all(&core, site.outputs(), count);
+    drop(core);
+    Ok(all)
+}
+
+// The site has so many events, each of each worker once.
+fn is_whole(alloc: Global, site: &MemorySite, count: u32, all: u64) -> Result<(), Fail> {
+    check(
+        site.outputs().len() as u64 == all,
+        "each event is acknowledged once",
+    )?;
+    let whole = has_all(alloc, site, count)?;
+    check(whole, "the disk and the outlet have all events")
+}
+
+fn one_history<R: Threads + Wait + Sync>(rt: &R, alloc: Global, count: u32) -> Result<(), Fail> {
+    let all = u64::from(count).wrapping_mul(EVENTS);
+    let story = Story::Workers(count, EVENTS);
+    let site = lives(rt, alloc, Holding::EachSync, story, [all, all, all, 0])?;
+    is_whole(alloc, &site, count, all)
+}
+
+#[test]
+fn many_workers_have_one_history(rt: HostRuntime) -> Result<(), Fail> {
+    for count in [2, 4, 8] {
+        one_history(&rt, rt.alloc(), count)?;
+    }
+    Ok(())
+}
