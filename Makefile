@@ -1,39 +1,56 @@
-# The two commands of the README. The toolchain is Rattle's kit, with its command rt on the PATH.
-.PHONY: run test bench refused-growths more-edits
+# The commands of the README. The toolchain is Rattle's kit, with its command rt on the PATH.
+.PHONY: try run test check bench edits refused-growths costs
 
-# Proves and builds the program; an empty script shows that it runs.
-BUILD = cd crates/ccnode && rt run -- play < /dev/null > ../../run.log 2>&1 || { cat ../../run.log; exit 1; }; rm -f ../../run.log
+# As many crates side by side as there are processors, four at most: each takes up to 5 GB of memory.
+JOBS = $(shell n=$$(nproc); [ $$n -lt 4 ] && echo $$n || echo 4)
+
+# Plays the script that ships with the program before any proof.
+try:
+	@echo 'unproved: compiling and playing crates/ccnode/stdin ...'
+	@cd crates/ccnode && rt try -- play < stdin
+
+# Proves and builds a program and what it stands on; the words behind it make it do little.
+BUILD = build() { (cd crates/$$1 && rt all check --jobs $(JOBS) && rt run -- $$2 < /dev/null) > $$1.log 2>&1 || { cat $$1.log; exit 1; }; rm -f $$1.log; }
 
 # Builds the program, proves it on the way, and plays the script that ships with it.
 run:
-	@echo 'proving and building ccnode (forty minutes on the first run) ...'
-	@$(BUILD)
+	@echo 'proving and building ccnode (the first run takes long: see README.md) ...'
+	@$(BUILD); build ccnode play
 	@echo '$$ ccnode play < crates/ccnode/stdin'
 	@./crates/ccnode/out/ccnode play < crates/ccnode/stdin
 
-# Proves every crate from nothing, tries the edits that must fail, and runs the tests and the program.
+# Proves every crate from nothing, tries the edits that must fail, and runs the tests and the programs.
 test:
 	rt ci
 
-# Times single events, the engine in memory and on the disk, and a script of 10,000 lines over 16 nodes. It prints figures and fails nothing.
+# Proves one crate and what it stands on: make check CRATE=cc_wire
+check:
+	cd crates/$(CRATE) && rt all check --jobs $(JOBS)
+
+# Times single events, the engine in memory and on the disk, and a script of 10,000 lines over 16 nodes. It prints figures
+# and fails nothing.
 bench:
-	@$(BUILD)
-	@./crates/ccnode/out/ccnode bench
+	@$(BUILD); build cc_bench --help; build ccnode play
+	@./crates/cc_bench/out/cc_bench events
+	@./crates/cc_bench/out/cc_bench engine
 	@sh bench/largest_script.sh > largest_script.log
 	@echo 'a script of 10,000 lines over 16 nodes:'
 	@bash -c 'time ./crates/ccnode/out/ccnode play < largest_script.log | wc -lc'
 	@rm -f largest_script.log
 
+# Tries all edits of some crates, those of the gate and those beside it: make edits CRATES="cc_views cc_wire", or CRATES=all
+edits:
+	@bash tools/edits.sh $(CRATES)
+
 # Builds the tests, and refuses the first growth of each, then the second, up to the last: a test may then end with want
-# of memory, never with a fault. CRATES=cc_ops does one crate. It needs a C compiler.
-CRATES = $(notdir $(patsubst %/src/tests.rt,%,$(wildcard crates/*/src/tests.rt)))
+# of memory, never with a fault. CRATES=node_tests does one crate. It needs a C compiler.
+TESTS = $(shell grep -rl '\[test\]' crates/*/src | cut -d/ -f2 | sort -u)
+refused-growths: CRATES = $(TESTS)
 refused-growths:
 	@for crate in $(CRATES); do (cd crates/$$crate && rt test) > growths.log 2>&1 || { cat growths.log; exit 1; }; done
 	@rm -f growths.log
-	@bash bench/refused_growths.sh $(CRATES)
+	@bash tools/refused_growths.sh $(CRATES)
 
-# Tries the edits of more-edits, which the prover must refuse too. There the gate has one edit for each public call, and these
-# turn it in further ways: two to three hours. EDITED=cc_ops does one crate.
-EDITED = $(notdir $(wildcard more-edits/*))
-more-edits:
-	@bash bench/more_edits.sh $(EDITED)
+# Prints what each crate costs: its proof, its tests and its edits, in processor seconds with one job. CRATES=cc_ops does one.
+costs:
+	@bash tools/costs.sh $(CRATES)

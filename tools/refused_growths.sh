@@ -8,7 +8,7 @@ set -eu
 cd "$(dirname "$0")/.."
 folder=$(mktemp -d)
 trap 'rm -rf "$folder"' EXIT
-cc -O1 -shared -fPIC -o "$folder/refuse.so" bench/refuse_growth.c -ldl
+cc -O1 -shared -fPIC -o "$folder/refuse.so" tools/refuse_growth.c -ldl
 status=0
 for crate in "$@"; do
   tests=crates/$crate/out/${crate}_tests
