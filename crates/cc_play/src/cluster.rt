@@ -38,6 +38,7 @@ pub struct Cluster {
 }
 
 impl Cluster {
+    /// Without a node.
     pub fn new(alloc: Global) -> Self {
         Cluster {
             stations: Vec::new(alloc),
@@ -96,6 +97,7 @@ impl Cluster {
         }
     }
 
+    /// The node of that id.
     pub fn station(&self, id: u32) -> Option<&Station> {
         self.stations
             .iter()

@@ -11,8 +11,10 @@ mod sent;
 mod station;
 mod texts;
 
+pub use cluster::{Cluster, Played};
+pub use delivery::Delivery;
+pub use node_fault::NodeFault;
 pub use play_fault::PlayFault;
 pub use player::play;
-
-#[cfg(test)]
-mod tests;
+pub use script::{Line, parse};
+pub use station::{Outcome, Standing, Station};

@@ -82,6 +82,7 @@ impl Station {
         }
     }
 
+    /// The id of the node.
     pub fn id(&self) -> NodeId {
         self.core().me()
     }

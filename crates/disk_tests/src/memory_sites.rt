@@ -103,8 +103,9 @@ fn a_crash_lays_bytes_over_both_sides(rt: HostRuntime) -> Result<(), Fail> {
 #[test]
 fn an_image_is_sure_and_put_nothing(rt: HostRuntime) -> Result<(), Fail> {
     let alloc = rt.alloc();
+    let peer = node(2)?;
     let mut site = torn(alloc)?;
-    site.ack(node(2)?, 1);
+    site.ack(peer, 1);
     let image = site.image(alloc, &Choice::Fill(7))?;
     assert_eq!(rt; image.outputs().len(), 0);
     let bytes = left(alloc, &image, Side::A, &Choice::Fill(0))?;
@@ -202,14 +203,20 @@ fn a_fuse_stops_the_disk(rt: HostRuntime) -> Result<(), Fail> {
     Ok(())
 }
 
+// Tells a peer that a node joined, and answers session 7.
+fn send_and_reply(site: &mut MemorySite, peer: NodeId, joined: NodeId, number: u64, request: u64) {
+    let message = Message::Join { node: joined };
+    site.send(peer, number, &message);
+    site.reply(7, request, &Answer::Stored);
+}
+
 #[test]
 fn outputs_past_the_reserve_are_lost(rt: HostRuntime) -> Result<(), Fail> {
+    let (peer, joined) = (node(2)?, node(3)?);
     let mut site = MemorySite::new(rt.alloc(), 2)?;
-    let message = Message::Join { node: node(3)? };
-    site.send(node(2)?, 1, &message);
-    site.reply(7, 1, &Answer::Stored);
+    send_and_reply(&mut site, peer, joined, 1, 1);
     assert_eq!(rt; site.lost(), 0);
-    site.ack(node(2)?, 1);
+    site.ack(peer, 1);
     assert_eq!(rt; site.outputs().len(), 2);
     assert_eq!(rt; site.lost(), 1);
     Ok(())
@@ -227,11 +234,10 @@ fn number(output: Option<&Output>) -> u64 {
 
 #[test]
 fn outputs_stand_in_their_order(rt: HostRuntime) -> Result<(), Fail> {
+    let (peer, joined) = (node(2)?, node(3)?);
     let mut site = MemorySite::new(rt.alloc(), 3)?;
-    let message = Message::Join { node: node(3)? };
-    site.ack(node(2)?, 5);
-    site.send(node(2)?, 6, &message);
-    site.reply(7, 8, &Answer::Stored);
+    site.ack(peer, 5);
+    send_and_reply(&mut site, peer, joined, 6, 8);
     assert_eq!(rt; number(site.outputs().first()), 5);
     assert_eq!(rt; number(site.outputs().get(1)), 6);
     assert_eq!(rt; number(site.outputs().get(2)), 8);

@@ -29,42 +29,42 @@ fn member_failing(alloc: Global, at: u64, burn: Burn) -> Result<MemorySite, Fail
     Ok(site)
 }
 
-// Adds an event to a batch that is lawful from a node on, and to the core that the batch leads to. The post that it makes.
+// Adds an event to a batch that is lawful from a node on, and to the core that the batch leads to.
 fn add(
     alloc: Global,
     node: &Node,
     live: &mut Core,
     batch: &mut Batch,
     event: Event,
-) -> Result<Option<Message>, Fail>
+) -> Result<(), Fail>
     requires lawful { AreLawful node.now batch.old }
     requires live { live.old ≡ (after node.now (events_in batch.old)).core }
     ensures lawful { OnOk result (AreLawful node.now batch.new) }
     ensures live { OnOk result (live.new ≡ (after node.now (events_in batch.new)).core) }
     ensures some { OnOk result (1 ≤ length batch.new) }
 {
-    if live.decide(&event).is_err() {
-        return Err("the event is refused")?;
-    }
+    live.decide(&event)?;
     let made = live.made(alloc, &event)?;
-    let post = match &made.post {
-        Some(post) => Some(post.copy(alloc)?),
-        None => None,
-    };
     live.apply(&event);
-    match batch.push(Entry { event, made }) {
-        Ok(()) => Ok(post),
-        Err(_) => Err("the event doesn't fit")?,
-    }
+    batch.push(Entry { event, made })?;
+    Ok(())
 }
 
 // What node 1 sent itself comes over its link.
-fn delivery(number: u64, post: Option<Message>) -> Result<Event, Fail> {
+fn delivery(alloc: Global, number: u64, post: Option<&Message>) -> Result<Event, Fail> {
+    let from = NodeId::new(1).ok_or("1 is an id")?;
+    let post = post.ok_or("there is no post")?;
+    let message = post.copy(alloc)?;
     Ok(Event::Deliver {
-        from: NodeId::new(1).ok_or("1 is an id")?,
+        from,
         number,
-        message: post.ok_or("there is no post")?,
+        message,
     })
+}
+
+// The post that the last event of a batch makes.
+fn last_post(batch: &Batch) -> Option<&Message> {
+    batch.entries().last()?.made.post.as_ref()
 }
 
 // A client stores `a` in session 7, as its first request.
@@ -77,52 +77,78 @@ fn ask() -> Result<Event, Fail> {
     })
 }
 
-// The ask of a store, its post as it comes back, and the acknowledgement of that.
-fn store(alloc: Global, node: &Node) -> Result<Batch, Fail>
-    ensures lawful { IfOk result (AreLawful node.now) }
-    ensures some { IfOk result (λ b. 1 ≤ length b) }
-{
-    let mut live = node.core().copy(alloc)?;
-    let mut batch = Batch::new();
-    let post = add(alloc, node, &mut live, &mut batch, ask()?)?;
-    let post = add(alloc, node, &mut live, &mut batch, delivery(1, post)?)?;
-    add(alloc, node, &mut live, &mut batch, delivery(2, post)?)?;
-    Ok(batch)
-}
-
-// The ask alone.
-fn only_ask(alloc: Global, node: &Node) -> Result<Batch, Fail>
-    ensures lawful { IfOk result (AreLawful node.now) }
-    ensures some { IfOk result (λ b. 1 ≤ length b) }
-{
-    let mut live = node.core().copy(alloc)?;
-    let mut batch = Batch::new();
-    add(alloc, node, &mut live, &mut batch, ask()?)?;
-    Ok(batch)
-}
-
-// The two deliveries that follow the ask.
-fn deliveries(alloc: Global, node: &Node) -> Result<Batch, Fail>
-    ensures lawful { IfOk result (AreLawful node.now) }
-    ensures some { IfOk result (λ b. 1 ≤ length b) }
-{
-    let mut live = node.core().copy(alloc)?;
-    let mut batch = Batch::new();
-    let post = match node.outbox().post(1) {
-        Some(post) => Some(post.copy(alloc)?),
-        None => None,
-    };
-    let post = add(alloc, node, &mut live, &mut batch, delivery(1, post)?)?;
-    add(alloc, node, &mut live, &mut batch, delivery(2, post)?)?;
-    Ok(batch)
-}
-
-// Which batch is committed.
+// Which batch is committed: the ask of a store, its post as it comes back and the acknowledgement of that; the ask alone;
+// or the two deliveries that follow the ask.
 #[derive(Clone, Copy)]
 enum Part {
     Store,
     Ask,
     Deliveries,
+}
+
+// Adds the delivery under that number of the post that the batch's last event makes.
+fn add_delivery(
+    alloc: Global,
+    node: &Node,
+    live: &mut Core,
+    batch: &mut Batch,
+    number: u64,
+) -> Result<(), Fail>
+    requires lawful { AreLawful node.now batch.old }
+    requires live { live.old ≡ (after node.now (events_in batch.old)).core }
+    ensures lawful { OnOk result (AreLawful node.now batch.new) }
+    ensures live { OnOk result (live.new ≡ (after node.now (events_in batch.new)).core) }
+    ensures some { OnOk result (1 ≤ length batch.new) }
+{
+    let event = delivery(alloc, number, last_post(batch))?;
+    add(alloc, node, live, batch, event)
+}
+
+// Adds events to a batch that begins with the node.
+fn fill(
+    alloc: Global,
+    node: &Node,
+    live: &mut Core,
+    batch: &mut Batch,
+    part: Part,
+) -> Result<(), Fail>
+    requires lawful { AreLawful node.now batch.old }
+    requires live { live.old ≡ (after node.now (events_in batch.old)).core }
+    ensures lawful { OnOk result (AreLawful node.now batch.new) }
+    ensures live { OnOk result (live.new ≡ (after node.now (events_in batch.new)).core) }
+    ensures some { OnOk result (1 ≤ length batch.new) }
+{
+    let first = match part {
+        Part::Store | Part::Ask => ask()?,
+        Part::Deliveries => delivery(alloc, 1, node.outbox().post(1))?,
+    };
+    add(alloc, node, live, batch, first)?;
+    match part {
+        Part::Store => {
+            add_delivery(alloc, node, live, batch, 1)?;
+            add_delivery(alloc, node, live, batch, 2)
+        }
+        Part::Ask => Ok(()),
+        Part::Deliveries => add_delivery(alloc, node, live, batch, 2),
+    }
+}
+
+// The batch of a part, which the node takes.
+fn batch_of(alloc: Global, node: &Node, part: Part) -> Result<Batch, Fail>
+    ensures lawful { IfOk result (AreLawful node.now) }
+    ensures some { IfOk result (λ b. 1 ≤ length b) }
+{
+    let mut live = node.core().copy(alloc)?;
+    let mut batch = Batch::new();
+    let filled = fill(alloc, node, &mut live, &mut batch, part);
+    drop(live);
+    match filled {
+        Ok(()) => Ok(batch),
+        Err(fault) => {
+            drop(batch);
+            Err(fault)
+        }
+    }
 }
 
 // Commits that batch, and releases it where it landed, by one call. The disk call that failed, if one did.
@@ -134,11 +160,7 @@ fn turn(
     if flusher.owes() || !flusher.room() {
         return Err("there is no room")?;
     }
-    let batch = match part {
-        Part::Store => store(alloc, flusher.twin())?,
-        Part::Ask => only_ask(alloc, flusher.twin())?,
-        Part::Deliveries => deliveries(alloc, flusher.twin())?,
-    };
+    let batch = batch_of(alloc, flusher.twin(), part)?;
     match flusher.flush(batch) {
         Ok(()) => Ok(None),
         Err(Failed { fault }) => Ok(Some(fault)),
@@ -283,7 +305,7 @@ fn unreleased(alloc: Global, flusher: &mut Flusher<MemorySite>) -> Result<Memory
     if flusher.owes() || !flusher.room() {
         return Err("there is no room")?;
     }
-    let batch = store(alloc, flusher.twin())?;
+    let batch = batch_of(alloc, flusher.twin(), Part::Store)?;
     match flusher.commit(batch) {
         Ok(landed) => {
             let image = flusher.site().image(alloc, &Choice::Read);

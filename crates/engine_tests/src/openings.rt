@@ -1,10 +1,13 @@
 //! Formatting, opening and committing, and what a crash leaves of them.
 
+ghost use Rattle.std.specs.Prelude.{◌≤◌, length, IfOk};
+ghost use Rattle.cc_journal.specs.Batches.{AreLawful};
+
 use cc_changes::Fraction;
 use cc_checkpoint::OpenFault;
 use cc_flush::{Action, Back, Failed, Flusher, FormatFault, format};
 use cc_journal::{Batch, Entry};
-use cc_node::Opening;
+use cc_node::{Node, Opening};
 use cc_site::{Burn, Call, Choice, DeviceFault, MemorySite, Side, Site, write_durably};
 use cc_views::NodeId;
 use cc_wire::{Event, Message, Output};
@@ -68,20 +71,23 @@ fn posts(alloc: Global, site: MemorySite) -> Result<u64, OpenFault> {
     Ok(posts)
 }
 
+// The batch of an Enter, which the node doesn't refuse.
+fn batch_of_enter(alloc: Global, node: &Node) -> Result<Batch, Fail>
+    ensures lawful { IfOk result (AreLawful node.now) }
+    ensures some { IfOk result (λ b. 1 ≤ length b) }
+{
+    let event = Event::Enter;
+    node.core().decide(&event)?;
+    let made = node.core().made(alloc, &event)?;
+    Ok(Batch::of_one(Entry { event, made }))
+}
+
 // Commits an Enter. The disk call that failed, if one did.
 fn enter(alloc: Global, flusher: &mut Flusher<MemorySite>) -> Result<Option<DeviceFault>, Fail> {
-    let event = Event::Enter;
-    if flusher.twin().core().decide(&event).is_err() {
-        return Err("the Enter is refused")?;
-    }
     if flusher.owes() || !flusher.room() {
         return Err("there is no room")?;
     }
-    let made = flusher.twin().core().made(alloc, &event)?;
-    let mut batch = Batch::new();
-    if batch.push(Entry { event, made }).is_err() {
-        return Err("the Enter doesn't fit")?;
-    }
+    let batch = batch_of_enter(alloc, flusher.twin())?;
     match flusher.commit(batch) {
         Ok(landed) => {
             flusher.release(landed);
@@ -123,16 +129,21 @@ fn kept(alloc: Global, bytes: &[u8]) -> Result<MemorySite, Fail> {
     Ok(site)
 }
 
+// A side of entrant 4 as it begins.
+fn side_of_entrant(alloc: Global, side: Side) -> Result<Vec<u8>, Fail> {
+    let mut site = entrant(alloc)?;
+    contents(alloc, &mut site, side)
+}
+
 #[test]
 fn an_entrant_is_formatted(rt: HostRuntime) -> Result<(), Fail> {
     let alloc = rt.alloc();
-    let mut site = entrant(alloc)?;
-    let a = contents(alloc, &mut site, Side::A)?;
+    let a = side_of_entrant(alloc, Side::A)?;
     assert_eq!(rt; a.len(), 153);
     let head = [0xA5, 0, 0, 0, 0, 0, 0, 0, 1, 1, 0, 0, 0, 0x8A];
     assert_eq!(rt; a.get(..14), Some(head.as_slice()));
     assert_eq!(rt; a.last(), Some(&0));
-    let b = contents(alloc, &mut site, Side::B)?;
+    let b = side_of_entrant(alloc, Side::B)?;
     assert_eq!(rt; b.as_slice(), [0].as_slice());
     Ok(())
 }
@@ -209,15 +220,10 @@ fn an_enter_is_sent_once_it_is_durable(rt: HostRuntime) -> Result<(), Fail> {
 // A life of an Enter, and of what may be put again. The disk call that failed, if one did.
 fn live(alloc: Global, flusher: &mut Flusher<MemorySite>) -> Result<Option<DeviceFault>, Fail> {
     let peer = NodeId::new(4).ok_or("4 is an id")?;
-    let event = Event::Enter;
-    if flusher.owes() || flusher.twin().core().decide(&event).is_err() {
-        return Err("the Enter is refused")?;
+    if flusher.owes() {
+        return Err("outputs are owed")?;
     }
-    let made = flusher.twin().core().made(alloc, &event)?;
-    let mut batch = Batch::new();
-    if batch.push(Entry { event, made }).is_err() {
-        return Err("the Enter doesn't fit")?;
-    }
+    let batch = batch_of_enter(alloc, flusher.twin())?;
     let actions = vec![in alloc;
         Action::Turn(batch),
         Action::Resend,
@@ -415,11 +421,22 @@ fn shut_failing(alloc: Global, at: u64) -> Result<MemorySite, Fail> {
     Ok(site)
 }
 
-// How many posts the node has that is opened where a crash left this of formatting such a site.
-fn half_formatted(alloc: Global, at: u64, choice: &Choice) -> Result<Result<u64, OpenFault>, Fail> {
+// How many posts the node has that is opened where a crash left this of a site: touched places as they are read, cut away,
+// and full of A5 and of 00.
+fn posts_left(alloc: Global, site: &MemorySite) -> Result<[Result<u64, OpenFault>; 4], Fail> {
+    Ok([
+        posts(alloc, site.image(alloc, &Choice::Read)?),
+        posts(alloc, site.image(alloc, &Choice::Short)?),
+        posts(alloc, site.image(alloc, &Choice::Fill(0xA5))?),
+        posts(alloc, site.image(alloc, &Choice::Fill(0))?),
+    ])
+}
+
+// The same after formatting such a site failed at that call.
+fn half_formatted(alloc: Global, at: u64) -> Result<[Result<u64, OpenFault>; 4], Fail> {
     match formatted(alloc, shut_failing(alloc, at)?, 4, &[], &[1]) {
         Ok(_) => Err("it is formatted")?,
-        Err(Back { site, fault: _ }) => Ok(posts(alloc, site.image(alloc, choice)?)),
+        Err(Back { site, fault: _ }) => posts_left(alloc, &site),
     }
 }
 
@@ -434,10 +451,8 @@ fn a_crash_leaves_shut_sides_or_an_entrant(rt: HostRuntime) -> Result<(), Fail> 
             15 => (Ok(0), Ok(0)),
             _ => (nothing, nothing),
         };
-        assert_eq!(rt; half_formatted(alloc, at, &Choice::Read)?, read);
-        assert_eq!(rt; half_formatted(alloc, at, &Choice::Short)?, read);
-        assert_eq!(rt; half_formatted(alloc, at, &Choice::Fill(0xA5))?, gates);
-        assert_eq!(rt; half_formatted(alloc, at, &Choice::Fill(0))?, nothing);
+        let left = half_formatted(alloc, at)?;
+        assert_eq!(rt; left, [read, read, gates, nothing]);
     }
     Ok(())
 }
@@ -507,10 +522,27 @@ fn left(alloc: Global, site: &MemorySite, choice: &Choice) -> Result<u64, Fail> 
     Ok(posts(alloc, site.image(alloc, choice)?)?)
 }
 
+// The same after the call of that number failed, with touched places as they are read, full of 00, of A5 and of FF, and cut
+// away.
+fn left_of_enter(alloc: Global, at: u64) -> Result<[u64; 5], Fail> {
+    let (site, _) = entered(alloc, opened_failing(alloc, at)?)?;
+    crashes(alloc, &site)
+}
+
+fn crashes(alloc: Global, site: &MemorySite) -> Result<[u64; 5], Fail> {
+    Ok([
+        left(alloc, site, &Choice::Read)?,
+        left(alloc, site, &Choice::Fill(0))?,
+        left(alloc, site, &Choice::Fill(0xA5))?,
+        left(alloc, site, &Choice::Fill(0xFF))?,
+        left(alloc, site, &Choice::Short)?,
+    ])
+}
+
 #[test]
 fn a_crash_leaves_an_enter_or_nothing_of_it(rt: HostRuntime) -> Result<(), Fail> {
     let alloc = rt.alloc();
-    for (at, [read, zeros, gates, ones, short]) in [
+    for (at, crashes) in [
         // The record isn't made sure of.
         (14, [0, 0, 0, 0, 0]),
         (15, [0, 0, 0, 0, 0]),
@@ -518,12 +550,7 @@ fn a_crash_leaves_an_enter_or_nothing_of_it(rt: HostRuntime) -> Result<(), Fail>
         (16, [0, 0, 1, 0, 0]),
         (17, [1, 0, 1, 0, 1]),
     ] {
-        let (site, _) = entered(alloc, opened_failing(alloc, at)?)?;
-        assert_eq!(rt; left(alloc, &site, &Choice::Read)?, read);
-        assert_eq!(rt; left(alloc, &site, &Choice::Fill(0))?, zeros);
-        assert_eq!(rt; left(alloc, &site, &Choice::Fill(0xA5))?, gates);
-        assert_eq!(rt; left(alloc, &site, &Choice::Fill(0xFF))?, ones);
-        assert_eq!(rt; left(alloc, &site, &Choice::Short)?, short);
+        assert_eq!(rt; left_of_enter(alloc, at)?, crashes);
     }
     Ok(())
 }

@@ -107,22 +107,17 @@ fn ask(request: u64, command: Command) -> Event {
     }
 }
 
-fn copied(alloc: Global, post: &Option<Message>) -> Result<Option<Message>, Fail> {
-    match post {
-        Some(message) => Ok(Some(message.copy(alloc)?)),
-        None => Ok(None),
-    }
+// Takes the event in, which isn't refused.
+fn take(alloc: Global, node: &mut Node, event: Event) -> Result<(), Fail> {
+    node.core().decide(&event)?;
+    let made = node.core().made(alloc, &event)?;
+    node.settle(event, made);
+    Ok(())
 }
 
-// Takes the event in, if it isn't refused. The post that it makes.
-fn taken(alloc: Global, node: &mut Node, event: Event) -> Result<Option<Message>, Fail> {
-    if node.core().decide(&event).is_err() {
-        return Ok(None);
-    }
-    let made = node.core().made(alloc, &event)?;
-    let post = copied(alloc, &made.post)?;
-    node.settle(event, made);
-    Ok(post)
+// Why the node refuses the event.
+fn refusal(node: &Node, event: Event) -> Option<Refusal> {
+    node.core().decide(&event).err()
 }
 
 fn check_copy<R: Abort + AllocGlobal>(rt: &R, core: &Core) -> Result<(), Fail> {
@@ -131,19 +126,20 @@ fn check_copy<R: Abort + AllocGlobal>(rt: &R, core: &Core) -> Result<(), Fail> {
     Ok(())
 }
 
-fn check_ask<R: Abort + AllocGlobal>(rt: &R, node: &mut Node) -> Result<(), Fail> {
-    let post = taken(rt.alloc(), node, ask(1, Command::SetFlag))?;
-    let is_store = matches!(post, Some(Message::Store { tag: 1, .. }));
-    drop(post);
-    assert!(rt; is_store);
+fn check_asked<R: Abort>(rt: &R, node: &Node) {
+    assert!(rt; matches!(node.outbox().post(1), Some(Message::Store { tag: 1, .. })));
     assert_eq!(rt; node.core().posts(), 1);
     assert_eq!(rt; node.kept(), 1);
-    check_copy(rt, node.core())?;
-    let again = node.core().decide(&ask(1, Command::SetFlag));
-    assert_eq!(rt; again.err(), Some(Refusal::Repeat));
-    let next = node.core().decide(&ask(2, Command::Collect));
-    assert_eq!(rt; next.err(), Some(Refusal::Busy));
-    Ok(())
+    let again = refusal(node, ask(1, Command::SetFlag));
+    assert_eq!(rt; again, Some(Refusal::Repeat));
+    let next = refusal(node, ask(2, Command::Collect));
+    assert_eq!(rt; next, Some(Refusal::Busy));
+}
+
+fn check_ask<R: Abort + AllocGlobal>(rt: &R, node: &mut Node) -> Result<(), Fail> {
+    take(rt.alloc(), node, ask(1, Command::SetFlag))?;
+    check_asked(rt, node);
+    check_copy(rt, node.core())
 }
 
 #[test]
@@ -154,16 +150,11 @@ fn an_ask_is_taken_in(rt: HostRuntime) -> Result<(), Fail> {
 
 fn check_enter<R: Abort + AllocGlobal>(rt: &R, node: &mut Node) -> Result<(), Fail> {
     assert!(rt; !node.is_joined());
-    let refused = node.core().decide(&ask(1, Command::Collect));
-    assert_eq!(rt; refused.err(), Some(Refusal::NotEntered));
-    let post = taken(rt.alloc(), node, Event::Enter)?;
-    let is_enter = matches!(post, Some(Message::Enter { .. }));
-    drop(post);
-    assert!(rt; is_enter);
-    assert_eq!(rt;
-        node.core().decide(&Event::Enter).err(),
-        Some(Refusal::AlreadyEntered)
-    );
+    let refused = refusal(node, ask(1, Command::Collect));
+    assert_eq!(rt; refused, Some(Refusal::NotEntered));
+    take(rt.alloc(), node, Event::Enter)?;
+    assert!(rt; matches!(node.outbox().post(1), Some(Message::Enter { .. })));
+    assert_eq!(rt; refusal(node, Event::Enter), Some(Refusal::AlreadyEntered));
     Ok(())
 }
 

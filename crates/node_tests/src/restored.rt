@@ -12,6 +12,7 @@ use cc_sessions::Sessions;
 use cc_views::{NodeId, Row, Value, View};
 use cc_wire::{Answer, Command, Message};
 use std::alloc::Global;
+use std::process::Abort;
 use std::test::*;
 
 const FOUR_FIFTHS: Fraction = Fraction { num: 4, den: 5 };
@@ -102,6 +103,11 @@ fn outbox(alloc: Global, dropped: u8) -> Result<Outbox, Fail> {
     Ok(outbox)
 }
 
+// The outbox of no post, after so many that were dropped.
+fn dropped(alloc: Global, count: u64) -> Result<Outbox, Fail> {
+    Ok(Outbox::starting_after(alloc, count)?)
+}
+
 // The outbox of one post, and of an answer.
 #[tactic(auto, using(cc_views::specs::MapLaws::len_insert))]
 fn answered(alloc: Global, session: u64) -> Result<Outbox, Fail> {
@@ -125,43 +131,93 @@ fn parts(alloc: Global) -> Result<CoreParts, Fail> {
     })
 }
 
+// The same with these operations.
+fn with_ops(alloc: Global, ops: Ops) -> Result<CoreParts, Fail> {
+    match parts(alloc) {
+        Ok(mut parts) => {
+            parts.ops = ops;
+            Ok(parts)
+        }
+        Err(fault) => {
+            drop(ops);
+            Err(fault)
+        }
+    }
+}
+
 // The same with an operation in this round.
 fn in_round(alloc: Global, stage: Stage, seen: u32) -> Result<CoreParts, Fail>
     requires { HasWaiting stage }
 {
-    let mut parts = parts(alloc)?;
-    parts.ops = ops(alloc, 1, stage, seen)?;
-    Ok(parts)
+    let ops = ops(alloc, 1, stage, seen)?;
+    with_ops(alloc, ops)
 }
 
-fn with_churn(alloc: Global, entered: u32, joined: u32, left: u32) -> Result<CoreParts, Fail> {
-    let mut parts = parts(alloc)?;
-    parts.churn = churn(alloc, entered, joined, left)?;
-    Ok(parts)
+// The same with these changes.
+fn with_churn(alloc: Global, churn: Churn) -> Result<CoreParts, Fail> {
+    match parts(alloc) {
+        Ok(mut parts) => {
+            parts.churn = churn;
+            Ok(parts)
+        }
+        Err(fault) => {
+            drop(churn);
+            Err(fault)
+        }
+    }
 }
 
 fn with_link(alloc: Global, start: u64, acked: u64, heard: u64) -> Result<CoreParts, Fail> {
-    let mut parts = parts(alloc)?;
-    parts.links = links(alloc, start, acked, heard)?;
-    Ok(parts)
+    let links = links(alloc, start, acked, heard)?;
+    match parts(alloc) {
+        Ok(mut parts) => {
+            parts.links = links;
+            Ok(parts)
+        }
+        Err(fault) => {
+            drop(links);
+            Err(fault)
+        }
+    }
 }
 
-fn with_request(alloc: Global, last: u64) -> Result<CoreParts, Fail> {
-    let mut parts = in_round(alloc, Stage::Idle, 1)?;
-    parts.sessions = sessions(alloc, last)?;
-    Ok(parts)
+// The parts with session 7 at its last request.
+fn with_sessions(parts: Result<CoreParts, Fail>, sessions: Sessions) -> Result<CoreParts, Fail> {
+    match parts {
+        Ok(mut parts) => {
+            parts.sessions = sessions;
+            Ok(parts)
+        }
+        Err(fault) => {
+            drop(sessions);
+            Err(fault)
+        }
+    }
+}
+
+// The node of these parts that keeps what this outbox keeps. None where the state is not lawful.
+fn restored(parts: CoreParts, outbox: Result<Outbox, Fail>) -> Result<Option<Node>, Fail> {
+    match outbox {
+        Ok(outbox) => Ok(Node::restored(parts, outbox)),
+        Err(fault) => {
+            drop(parts);
+            Err(fault)
+        }
+    }
 }
 
 // Whether a node is restored that keeps post 1 and no answer.
 fn is_restored(alloc: Global, parts: CoreParts) -> Result<bool, Fail> {
-    let outbox = outbox(alloc, 0)?;
-    Ok(Node::restored(parts, outbox).is_some())
+    is_restored_with(parts, outbox(alloc, 0))
 }
 
-#[test]
-fn a_lawful_state_is_restored(rt: HostRuntime) -> Result<(), Fail> {
-    let restored = Node::restored(parts(rt.alloc())?, outbox(rt.alloc(), 0)?);
-    let node = restored.ok_or("the state is lawful")?;
+// Whether a node is restored that keeps what this outbox keeps.
+fn is_restored_with(parts: CoreParts, outbox: Result<Outbox, Fail>) -> Result<bool, Fail> {
+    let node = restored(parts, outbox)?;
+    Ok(node.is_some())
+}
+
+fn check_restored<R: Abort>(rt: &R, node: &Node) {
     let core = node.core();
     assert_eq!(rt; core.beta(), FOUR_FIFTHS);
     assert_eq!(rt; core.gamma(), FOUR_FIFTHS);
@@ -169,6 +225,14 @@ fn a_lawful_state_is_restored(rt: HostRuntime) -> Result<(), Fail> {
     assert_eq!(rt; core.ops().number(), 1);
     assert_eq!(rt; core.sessions().finish(7), Some(1));
     assert_eq!(rt; node.outbox().last(), 1);
+}
+
+#[test]
+fn a_lawful_state_is_restored(rt: HostRuntime) -> Result<(), Fail> {
+    let parts = parts(rt.alloc())?;
+    let node = restored(parts, outbox(rt.alloc(), 0))?;
+    let node = node.ok_or("the state is lawful")?;
+    check_restored(&rt, &node);
     Ok(())
 }
 
@@ -198,11 +262,11 @@ fn a_share_is_above_0_and_at_most_1(rt: HostRuntime) -> Result<(), Fail> {
 
 #[test]
 fn a_node_knows_itself_and_whom_it_has_seen(rt: HostRuntime) -> Result<(), Fail> {
+    let second = id(2)?;
     let mut other = parts(rt.alloc())?;
-    other.me = id(2)?;
+    other.me = second;
     assert!(rt; !is_restored(rt.alloc(), other)?);
-    let mut seeing = parts(rt.alloc())?;
-    seeing.ops = ops(rt.alloc(), 2, Stage::Idle, 1)?;
+    let seeing = with_ops(rt.alloc(), ops(rt.alloc(), 2, Stage::Idle, 1)?)?;
     assert!(rt; !is_restored(rt.alloc(), seeing)?);
     let storing_back = Stage::StoringBack(pending(Command::Collect));
     let storing_back = in_round(rt.alloc(), storing_back, 2)?;
@@ -213,7 +277,8 @@ fn a_node_knows_itself_and_whom_it_has_seen(rt: HostRuntime) -> Result<(), Fail>
 #[test]
 fn who_comes_and_goes_is_known_and_has_entered(rt: HostRuntime) -> Result<(), Fail> {
     for (entered, joined, left) in [(2, 0, 0), (1, 2, 0), (1, 1, 2), (0, 1, 0)] {
-        let parts = with_churn(rt.alloc(), entered, joined, left)?;
+        let churn = churn(rt.alloc(), entered, joined, left)?;
+        let parts = with_churn(rt.alloc(), churn)?;
         assert!(rt; !is_restored(rt.alloc(), parts)?);
     }
     Ok(())
@@ -231,7 +296,8 @@ fn links_are_within_their_bounds(rt: HostRuntime) -> Result<(), Fail> {
 #[test]
 fn requests_are_within_their_bounds(rt: HostRuntime) -> Result<(), Fail> {
     for last in [0, PAST] {
-        let parts = with_request(rt.alloc(), last)?;
+        let sessions = sessions(rt.alloc(), last)?;
+        let parts = with_sessions(in_round(rt.alloc(), Stage::Idle, 1), sessions)?;
         assert!(rt; !is_restored(rt.alloc(), parts)?);
     }
     Ok(())
@@ -239,13 +305,12 @@ fn requests_are_within_their_bounds(rt: HostRuntime) -> Result<(), Fail> {
 
 #[test]
 fn counts_are_within_their_limits(rt: HostRuntime) -> Result<(), Fail> {
-    let mut needing = parts(rt.alloc())?;
-    needing.churn = Churn::from_parts(Changes::new(rt.alloc())?, 0, 257);
+    let churn = Churn::from_parts(Changes::new(rt.alloc())?, 0, 257);
+    let needing = with_churn(rt.alloc(), churn)?;
     assert!(rt; !is_restored(rt.alloc(), needing)?);
     let mut posting = with_link(rt.alloc(), PAST, 0, 0)?;
     posting.posts = PAST;
-    let dropped = Outbox::starting_after(rt.alloc(), PAST)?;
-    assert!(rt; Node::restored(posting, dropped).is_none());
+    assert!(rt; !is_restored_with(posting, dropped(rt.alloc(), PAST))?);
     Ok(())
 }
 
@@ -257,18 +322,18 @@ fn the_last_request_pends_in_a_round_of_its_own(rt: HostRuntime) -> Result<(), F
     let writing = Stage::Querying(pending(Command::SetFlag));
     let writing = in_round(rt.alloc(), writing, 1)?;
     assert!(rt; !is_restored(rt.alloc(), writing)?);
-    let mut earlier = parts(rt.alloc())?;
-    earlier.sessions = sessions(rt.alloc(), 2)?;
+    let sessions = sessions(rt.alloc(), 2)?;
+    let earlier = with_sessions(parts(rt.alloc()), sessions)?;
     assert!(rt; !is_restored(rt.alloc(), earlier)?);
     Ok(())
 }
 
 #[test]
 fn just_the_posts_not_acknowledged_are_kept(rt: HostRuntime) -> Result<(), Fail> {
-    let later = outbox(rt.alloc(), 1)?;
-    assert!(rt; Node::restored(parts(rt.alloc())?, later).is_none());
-    let dropped = Outbox::starting_after(rt.alloc(), 1)?;
-    assert!(rt; Node::restored(parts(rt.alloc())?, dropped).is_none());
+    let kept = parts(rt.alloc())?;
+    assert!(rt; !is_restored_with(kept, outbox(rt.alloc(), 1))?);
+    let kept = parts(rt.alloc())?;
+    assert!(rt; !is_restored_with(kept, dropped(rt.alloc(), 1))?);
     let acknowledged = with_link(rt.alloc(), 0, 1, 0)?;
     assert!(rt; !is_restored(rt.alloc(), acknowledged)?);
     Ok(())
@@ -277,10 +342,10 @@ fn just_the_posts_not_acknowledged_are_kept(rt: HostRuntime) -> Result<(), Fail>
 #[test]
 fn answers_are_of_requests_that_are_done(rt: HostRuntime) -> Result<(), Fail> {
     let idle = in_round(rt.alloc(), Stage::Idle, 1)?;
-    assert!(rt; Node::restored(idle, answered(rt.alloc(), 7)?).is_some());
+    assert!(rt; is_restored_with(idle, answered(rt.alloc(), 7))?);
     let idle = in_round(rt.alloc(), Stage::Idle, 1)?;
-    assert!(rt; Node::restored(idle, answered(rt.alloc(), 8)?).is_none());
+    assert!(rt; !is_restored_with(idle, answered(rt.alloc(), 8))?);
     let pending = parts(rt.alloc())?;
-    assert!(rt; Node::restored(pending, answered(rt.alloc(), 7)?).is_none());
+    assert!(rt; !is_restored_with(pending, answered(rt.alloc(), 7))?);
     Ok(())
 }

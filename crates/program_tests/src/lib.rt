@@ -8,9 +8,13 @@ mod clusters;
 #[cfg(test)]
 mod crashes;
 #[cfg(test)]
+mod disks;
+#[cfg(test)]
 mod faults;
 #[cfg(test)]
 mod limits;
+#[cfg(test)]
+mod node_faults;
 #[cfg(test)]
 mod objects;
 #[cfg(test)]

@@ -1,4 +1,4 @@
-use Rattle.std.proofs.Common.{rules, ◌≡◌, None, sym, ap, ◌∙◌, subst}
+use Rattle.std.proofs.Common.{◌≡◌, ◌∷◌, ◌++◌, [], None, sym, subst, ◌∙◌}
 use Rattle.cc_node.specs.Core.{next, made}
 use Rattle.cc_node.specs.Node.{after}
 use Rattle.cc_node.specs.Refusals.{decides}
@@ -7,20 +7,18 @@ use Rattle.cc_journal.specs.Batches.{AreLawful, events_in}
 use Rattle.cc_journal.specs.BatchLaws.{lawful_more, core_more}
 use Rattle.engine_tests.proofs.commits.add.Goals as goal
 
-pub returns-in-Ok-clause-lawful : goal.returns-in-Ok-clause-lawful
-returns-in-Ok-clause-lawful c =
+pub returns-clause-lawful : goal.returns-clause-lawful
+returns-clause-lawful c =
     let node = c.args.node.now in
-    let batch = c.args.batch.now in
-    let event = c.args.event in
-    let entry : Entry = record { event = event; made = c.in_ok-made.made } in
-    let taken : decides c.args.live.now event ≡ None = search rules in
-    subst (AreLawful node) (sym c.in-Ok.ensures.ok)
-    (lawful_more node batch entry c.requires.lawful (subst (λ k. decides k event ≡ None) c.requires.live taken) (subst (λ k. entry.made ≡ made k event) c.requires.live c.in_ok-made.ensures))
+    let entry : Entry = record { event = c.args.event; made = c.in_ok-made.made } in
+    let taken = subst (λ core. decides core c.args.event ≡ None) c.requires.live c.in_ok-decide.ensures.accepted in
+    let made_is = subst (λ core. c.in_ok-made.made ≡ made core c.args.event) c.requires.live c.in_ok-made.ensures in
+    subst (AreLawful node) (sym c.in_ok-push.ensures.ok) (lawful_more node c.args.batch.now entry c.requires.lawful taken made_is)
 
-pub returns-in-Ok-clause-live : goal.returns-in-Ok-clause-live
-returns-in-Ok-clause-live c =
+pub returns-clause-live : goal.returns-clause-live
+returns-clause-live c =
     let node = c.args.node.now in
-    let batch = c.args.batch.now in
-    let event = c.args.event in
-    let entry : Entry = record { event = event; made = c.in_ok-made.made } in
-    c.apply.ensures ∙ ap (λ k. next k event) c.requires.live ∙ sym (core_more node batch entry) ∙ ap (λ b. (after node (events_in b)).core) (sym c.in-Ok.ensures.ok)
+    let live = c.apply.new.self in
+    let entry : Entry = record { event = c.args.event; made = c.in_ok-made.made } in
+    let next_is = subst (λ core. live ≡ next core c.args.event) c.requires.live c.apply.ensures in
+    subst (λ entries. live ≡ (after node (events_in entries)).core) (sym c.in_ok-push.ensures.ok) (next_is ∙ sym (core_more node c.args.batch.now entry))

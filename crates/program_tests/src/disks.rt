@@ -1,51 +1,9 @@
-//! What no script prints: the texts of faults that no script meets, and what the disks of a cluster hold.
+//! What the disks of a cluster hold.
 
-use crate::cluster::{Cluster, Played};
-use crate::node_fault::NodeFault;
-use crate::script;
-use cc_checkpoint::OpenFault;
-use cc_flush::{Failed, FormatFault};
-use cc_site::{Call, Choice, DeviceFault, MemorySite, Side, Site};
+use cc_play::{Cluster, Played, parse};
+use cc_site::{Choice, MemorySite, Side, Site};
 use std::alloc::Global;
 use std::test::*;
-
-// Where a device fails.
-const FAILING: DeviceFault = DeviceFault {
-    side: Side::A,
-    call: Call::Sync,
-};
-
-// Each kind of fault, and its text.
-const TEXTS: [(NodeFault, &str); 7] = [
-    (
-        NodeFault::Format(FormatFault::Device(FAILING)),
-        "Device A Sync",
-    ),
-    (
-        NodeFault::Format(FormatFault::AlreadyFormatted),
-        "AlreadyFormatted",
-    ),
-    (
-        NodeFault::Open(OpenFault::Damaged(Side::A, 153)),
-        "Damaged A 153",
-    ),
-    (NodeFault::Open(OpenFault::NotFormatted), "NotFormatted"),
-    (
-        NodeFault::Engine(Failed { fault: FAILING }),
-        "Failed A Sync",
-    ),
-    (NodeFault::Outlet, "Outlet"),
-    (NodeFault::NoMemory, "NoMemory"),
-];
-
-#[test]
-fn faults_of_a_node_print_their_texts(rt: HostRuntime) -> Result<(), Fail> {
-    for (fault, wanted) in TEXTS {
-        let text = format!(in rt.alloc(); "{fault}")?;
-        assert_eq!(rt; text.as_str(), wanted);
-    }
-    Ok(())
-}
 
 // Lines, what they print, and whether they change what the sides of node 2 hold. Node 2 has a store of node 1, and is then
 // given what overtook another message, and what it has already.
@@ -123,7 +81,7 @@ fn play_line(
     line: &str,
     output: &mut Vec<u8>,
 ) -> Result<(), Fail> {
-    let line = script::parse(alloc, line.as_bytes())?.ok_or("a line has no known form")?;
+    let line = parse(alloc, line.as_bytes())?.ok_or("a line has no known form")?;
     match cluster.play(alloc, line, output)? {
         Played::Good => Ok(()),
         Played::Bad | Played::Ended => Err("a line can't be played")?,

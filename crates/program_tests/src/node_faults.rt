@@ -1,0 +1,45 @@
+//! What no script prints: the texts of faults that no script meets.
+
+use cc_checkpoint::OpenFault;
+use cc_flush::{Failed, FormatFault};
+use cc_play::NodeFault;
+use cc_site::{Call, DeviceFault, Side};
+use std::test::*;
+
+// Where a device fails.
+const FAILING: DeviceFault = DeviceFault {
+    side: Side::A,
+    call: Call::Sync,
+};
+
+// Each kind of fault, and its text.
+const TEXTS: [(NodeFault, &str); 7] = [
+    (
+        NodeFault::Format(FormatFault::Device(FAILING)),
+        "Device A Sync",
+    ),
+    (
+        NodeFault::Format(FormatFault::AlreadyFormatted),
+        "AlreadyFormatted",
+    ),
+    (
+        NodeFault::Open(OpenFault::Damaged(Side::A, 153)),
+        "Damaged A 153",
+    ),
+    (NodeFault::Open(OpenFault::NotFormatted), "NotFormatted"),
+    (
+        NodeFault::Engine(Failed { fault: FAILING }),
+        "Failed A Sync",
+    ),
+    (NodeFault::Outlet, "Outlet"),
+    (NodeFault::NoMemory, "NoMemory"),
+];
+
+#[test]
+fn faults_of_a_node_print_their_texts(rt: HostRuntime) -> Result<(), Fail> {
+    for (fault, wanted) in TEXTS {
+        let text = format!(in rt.alloc(); "{fault}")?;
+        assert_eq!(rt; text.as_str(), wanted);
+    }
+    Ok(())
+}
