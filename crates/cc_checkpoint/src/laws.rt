@@ -7,7 +7,8 @@ ghost use Rattle.cc_node.specs.States.{State, SpellsState, SpellsNode, node_of};
 
 /// Each state has one spelling, and none begins another.
 pub fn one_spelling_of_states()
-    ensures { (a b u w : List ℕ) (x y : State) → SpellsState a x → SpellsState b y → a ++ u ≡ b ++ w → (x ≡ y) × (a ≡ b) }
+    ensures one { (a b u w : List ℕ) (x y : State) → SpellsState a x → SpellsState b y → a ++ u ≡ b ++ w → (x ≡ y) × (a ≡ b) }
+    ensures same { (a b : List ℕ) (x : State) → SpellsState a x → SpellsState b x → a ≡ b }
 {}
 
 /// Each node has one spelling, and none begins another.

@@ -50,5 +50,6 @@ pub fn no_output_twice()
 
 /// Each record has one spelling, and none begins another.
 pub fn one_spelling_of_records()
-    ensures { (a b u w : List ℕ) (x y : List Event) → SpellsRecord a x → SpellsRecord b y → a ++ u ≡ b ++ w → (x ≡ y) × (a ≡ b) }
+    ensures one { (a b u w : List ℕ) (x y : List Event) → SpellsRecord a x → SpellsRecord b y → a ++ u ≡ b ++ w → (x ≡ y) × (a ≡ b) }
+    ensures same { (a b : List ℕ) (x : List Event) → SpellsRecord a x → SpellsRecord b x → a ≡ b }
 {}

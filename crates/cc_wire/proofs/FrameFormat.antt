@@ -1,5 +1,5 @@
 -- Frames are read as they are spelled.
-use Rattle.std.proofs.Common.{◌≡◌, ℕ, ◌≤◌, ◌<◌, ◌^◌, false, cond, eqb, ltb, List, [], ◌∷◌, ◌++◌, length, Result, Ok, Err, refl, sym, ap, subst, ◌∙◌, arith}
+use Rattle.std.proofs.Common.{◌≡◌, ℕ, ◌≤◌, ◌<◌, ◌^◌, false, cond, eqb, ltb, List, [], ◌∷◌, ◌++◌, length, take, drop, Result, Ok, Err, refl, sym, ap, subst, ◌∙◌, arith}
 use Rattle.std.specs.Prelude.{IfOk}
 use Rattle.std.specs.Int.{w32, to_be_bytes}
 use Rattle.std.proofs.lemmas.Bool.{le-ltb}
@@ -11,7 +11,7 @@ use Rattle.cc_wire.specs.declared.frame.Frame.{Frame}
 use Rattle.cc_wire.specs.declared.frame.Frame.TheVariants.{Post, Ack, Ask, Reply, Refused, Leave}
 use Rattle.cc_wire.specs.Reading.{◌>>=◌, Reading, via, Gives, byte_at, bytes_at, whole}
 use Rattle.cc_wire.specs.Frames.{replied_spelling, IsReplied, replied_at, refused_spelling, IsRefused, refused_at, body_spelling, frame_spelling, IsFrame, SpellsFrame, body_fields, body_at, body_length_at, enclosed_at, frame_at}
-use Rattle.cc_wire.proofs.Spelled.{IsBytes, bind_ok, ok_is, Takes, Spelled, both, as_facts, tested, counted, byte_spelled, bytes_spelled, nothing_spelled, kind_or}
+use Rattle.cc_wire.proofs.Spelled.{IsBytes, bind_ok, guard_ok, ok_is, Takes, Spelled, both, as_facts, tested, counted, byte_spelled, bytes_spelled, nothing_spelled, kind_or}
 use Rattle.cc_wire.proofs.Formats.{limited_spelled, u32_spelled, u64_spelled}
 use Rattle.cc_wire.proofs.AnswerFormat.{answer_spelled}
 use Rattle.cc_wire.proofs.EventFormat.{numbered_spelled, delivery_spelled, place_spelled, asked_spelled}
@@ -100,18 +100,22 @@ bytes_again n bytes rest e =
 enclosed_takes : (n : ℕ) (bytes : List ℕ) (x : Frame) (rest : List ℕ) → IsBytes bytes → enclosed_at n bytes ≡ Ok (x, rest) → Takes bytes (body_spelling x) rest × ((length (body_spelling x) ≡ n) × IsFrame x)
 unfolding enclosed_at
 enclosed_takes n bytes x rest fits e =
-    let body = bind_ok (bytes_at n bytes) (λ body. whole body_at body.0 >>= λ frame. Ok (frame, body.1)) (x, rest) e in
-    let read = bind_ok (whole body_at body.0.0) (λ frame. Ok (frame, body.0.1)) (x, rest) body.2 in
+    let read = bind_ok (whole body_at (take n bytes)) (λ frame. bytes_at n bytes >>= λ body. Ok (frame, body.1)) (x, rest) e in
+    let body = bind_ok (bytes_at n bytes) (λ body. Ok (read.0, body.1)) (x, rest) read.2 in
     let t = (bytes_spelled n).takes bytes body.0.0 body.0.1 fits body.1 in
-    let w = whole_takes body_spelled body.0.0 read.0 t.1.1 read.1 in
+    let cut = guard_ok (ltb (length bytes) n) Short (take n bytes, drop n bytes) body.0 body.1 in
+    let taken : take n bytes ≡ body.0.0 = ap (λ (p : List ℕ × List ℕ). p.0) cut.1 in
+    let w = whole_takes body_spelled body.0.0 read.0 t.1.1 (ap (whole body_at) (sym taken) ∙ read.1) in
     let made : Frame × List ℕ = (read.0, body.0.1) in
-    subst (λ (y : Frame × List ℕ). Takes bytes (body_spelling y.0) y.1 × ((length (body_spelling y.0) ≡ n) × IsFrame y.0)) (ok_is made (x, rest) read.2)
+    subst (λ (y : Frame × List ℕ). Takes bytes (body_spelling y.0) y.1 × ((length (body_spelling y.0) ≡ n) × IsFrame y.0)) (ok_is made (x, rest) body.2)
     (subst (λ (b : List ℕ). Takes bytes b body.0.1) w.1 t.0, (ap length (sym w.1) ∙ t.1.0, w.0))
 
 -- and a spelling of so many bytes is read again
 enclosed_again : (n : ℕ) (x : Frame) (rest : List ℕ) → length (body_spelling x) ≡ n → IsFrame x → enclosed_at n (body_spelling x ++ rest) ≡ Ok (x, rest)
 unfolding enclosed_at
-enclosed_again n x rest len is = rw (bytes_again n (body_spelling x) rest len, whole_again body_spelled x is) refl
+enclosed_again n x rest len is =
+    ap (λ (l : List ℕ). whole body_at l >>= λ frame. bytes_at n (body_spelling x ++ rest) >>= λ body. Ok (frame, body.1)) (take_at (body_spelling x) rest n len)
+    ∙ rw (whole_again body_spelled x is, bytes_again n (body_spelling x) rest len) refl
 
 enclosed_spelled : (n : ℕ) → Spelled (enclosed_at n) (λ x. (length (body_spelling x) ≡ n) × IsFrame x) body_spelling
 enclosed_spelled n = record { takes = enclosed_takes n; again = λ x rest fits. enclosed_again n x rest fits.0 fits.1 }

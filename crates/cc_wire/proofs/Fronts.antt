@@ -127,15 +127,17 @@ is_partial-append bytes more h =
 -- ---- frames
 
 -- what follows a body stays behind it
-followed : (r : Result Frame WireFault) (rest more : List ℕ) → (r >>= λ f. Ok (f, rest ++ more)) ≡ with_more (r >>= λ f. Ok (f, rest)) more
-followed (Ok f) rest more = refl
-followed (Err e) rest more = refl
+followed : (r : Result Frame WireFault) (n : ℕ) (bytes more : List ℕ) → n ≤ length bytes
+    → (r >>= λ f. bytes_at n (bytes ++ more) >>= λ body. Ok (f, body.1)) ≡ with_more (r >>= λ f. bytes_at n bytes >>= λ body. Ok (f, body.1)) more
+followed (Ok f) n bytes more le = rw (bytes_at-append n bytes more le, bytes_at-within n bytes le) refl
+followed (Err e) n bytes more le = refl
 
 -- a body that is there is read alike, whatever follows
 enclosed_at-append : (n : ℕ) (bytes more : List ℕ) → n ≤ length bytes → enclosed_at n (bytes ++ more) ≡ with_more (enclosed_at n bytes) more
 unfolding enclosed_at
 enclosed_at-append n bytes more le =
-    rw (bytes_at-append n bytes more le, bytes_at-within n bytes le) (followed (whole body_at (take n bytes)) (drop n bytes) more)
+    ap (λ (l : List ℕ). whole body_at l >>= λ frame. bytes_at n (bytes ++ more) >>= λ body. Ok (frame, body.1)) (take-append-le n bytes more le)
+    ∙ followed (whole body_at (take n bytes)) n bytes more le
 
 -- a frame whose length is there, by that length
 by_length : (bytes more : List ℕ) (r : Result (ℕ × List ℕ) WireFault) → 4 ≤ length bytes → body_length_at bytes ≡ r → is_below (length bytes) (r >>= λ n. Ok (4 + n.0)) ≡ false
@@ -157,11 +159,11 @@ frame_at-append bytes more h =
 enclosed_rest : (n : ℕ) (bytes : List ℕ) (f : Frame) (rest : List ℕ) → enclosed_at n bytes ≡ Ok (f, rest) → length bytes ≤ n → rest ≡ []
 unfolding enclosed_at
 enclosed_rest n bytes f rest e le =
-    let body = bind_ok (bytes_at n bytes) (λ body. whole body_at body.0 >>= λ frame. Ok (frame, body.1)) (f, rest) e in
-    let read = bind_ok (whole body_at body.0.0) (λ frame. Ok (frame, body.0.1)) (f, rest) body.2 in
+    let read = bind_ok (whole body_at (take n bytes)) (λ frame. bytes_at n bytes >>= λ body. Ok (frame, body.1)) (f, rest) e in
+    let body = bind_ok (bytes_at n bytes) (λ body. Ok (read.0, body.1)) (f, rest) read.2 in
     let cut = guard_ok (ltb (length bytes) n) Short (take n bytes, drop n bytes) body.0 body.1 in
     let made : Frame × List ℕ = (read.0, body.0.1) in
-    let left : body.0.1 ≡ rest = ap (λ (p : Frame × List ℕ). p.1) (ok_is made (f, rest) read.2) in
+    let left : body.0.1 ≡ rest = ap (λ (p : Frame × List ℕ). p.1) (ok_is made (f, rest) body.2) in
     let dropped : drop n bytes ≡ body.0.1 = ap (λ (p : List ℕ × List ℕ). p.1) cut.1 in
     sym left ∙ sym dropped ∙ drop_all n bytes le
 

@@ -1,5 +1,5 @@
 -- Frames as bytes: the length of a body, and the body: a kind, and then the fields.
-use Rattle.std.specs.Prelude.{◌≡◌, ℕ, ◌<◌, ◌^◌, List, [], ◌∷◌, ◌++◌, length, Ok, Err, ◌==◌, if◌then◌else◌}
+use Rattle.std.specs.Prelude.{◌≡◌, ℕ, ◌<◌, ◌^◌, List, [], ◌∷◌, ◌++◌, length, take, Ok, Err, ◌==◌, if◌then◌else◌}
 use Rattle.std.specs.Int.{w32, w64, to_be_bytes}
 use Rattle.cc_wire.specs.declared.fault.WireFault.TheVariants.{Short, BadKind}
 use Rattle.cc_wire.specs.declared.answer.Answer.{Answer}
@@ -75,9 +75,10 @@ body_at bytes = byte_at bytes >>= λ kind. body_fields kind.0 kind.1
 unfoldable pub body_length_at : Reading ℕ
 body_length_at bytes = limited 65536 (number_at w32) bytes >>= λ n. if n.0 == 0 then Err Short else Ok n
 
--- so many bytes, all of which are the body
+-- so many bytes, all of which are the body: its fields come before its end, so where the bytes stop short of it, the
+-- fault is still that of the first field that can't be read
 unfoldable pub enclosed_at : ℕ → Reading Frame
-enclosed_at count bytes = bytes_at count bytes >>= λ body. whole body_at body.0 >>= λ frame. Ok (frame, body.1)
+enclosed_at count bytes = whole body_at (take count bytes) >>= λ frame. bytes_at count bytes >>= λ body. Ok (frame, body.1)
 
 unfoldable pub frame_at : Reading Frame
 frame_at bytes = body_length_at bytes >>= λ n. enclosed_at n.0 n.1

@@ -138,5 +138,6 @@ pub fn encode_answer(answer: &Answer, out: &mut Vec<u8>) -> Result<(), NoMemory>
 
 /// Each answer has one spelling, and none begins another.
 pub fn one_spelling_of_answers()
-    ensures { (a b u w : List ℕ) (x y : Answer) → SpellsAnswer a x → SpellsAnswer b y → a ++ u ≡ b ++ w → (x ≡ y) × (a ≡ b) }
+    ensures one { (a b u w : List ℕ) (x y : Answer) → SpellsAnswer a x → SpellsAnswer b y → a ++ u ≡ b ++ w → (x ≡ y) × (a ≡ b) }
+    ensures same { (a b : List ℕ) (x : Answer) → SpellsAnswer a x → SpellsAnswer b x → a ≡ b }
 {}

@@ -130,5 +130,6 @@ pub fn encode_command(command: &Command, out: &mut Vec<u8>) -> Result<(), NoMemo
 
 /// Each command has one spelling, and none begins another.
 pub fn one_spelling_of_commands()
-    ensures { (a b u w : List ℕ) (x y : Command) → SpellsCommand a x → SpellsCommand b y → a ++ u ≡ b ++ w → (x ≡ y) × (a ≡ b) }
+    ensures one { (a b u w : List ℕ) (x y : Command) → SpellsCommand a x → SpellsCommand b y → a ++ u ≡ b ++ w → (x ≡ y) × (a ≡ b) }
+    ensures same { (a b : List ℕ) (x : Command) → SpellsCommand a x → SpellsCommand b x → a ≡ b }
 {}

@@ -266,5 +266,6 @@ pub fn encode_event(event: &Event, out: &mut Vec<u8>) -> Result<(), NoMemory>
 
 /// Each event has one spelling, and none begins another.
 pub fn one_spelling_of_events()
-    ensures { (a b u w : List ℕ) (x y : Event) → SpellsEvent a x → SpellsEvent b y → a ++ u ≡ b ++ w → (x ≡ y) × (a ≡ b) }
+    ensures one { (a b u w : List ℕ) (x y : Event) → SpellsEvent a x → SpellsEvent b y → a ++ u ≡ b ++ w → (x ≡ y) × (a ≡ b) }
+    ensures same { (a b : List ℕ) (x : Event) → SpellsEvent a x → SpellsEvent b x → a ≡ b }
 {}

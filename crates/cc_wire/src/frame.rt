@@ -154,12 +154,14 @@ impl<'a> Reader<'a> {
         Ok(length)
     }
 
+    // The frame whose body is so long. The fields of a body that is cut off are read as far as they go.
     #[tactic(auto, unfolding(crate::specs::Frames::enclosed_at))]
     fn enclosed(&mut self, alloc: Global, length: usize) -> Result<Frame, WireFault>
         ensures { Gives (λ x. (x, self.new)) result (enclosed_at length self.old) }
     {
-        let body = self.bytes(length)?;
-        decode_body(alloc, body)
+        let frame = decode_body(alloc, self.front(length))?;
+        self.bytes(length)?;
+        Ok(frame)
     }
 
     #[tactic(auto, unfolding(crate::specs::Frames::frame_at))]
@@ -324,5 +326,6 @@ pub fn encode_frame(frame: &Frame, out: &mut Vec<u8>) -> Result<(), NoMemory>
 
 /// Each frame has one spelling, and none begins another.
 pub fn one_spelling_of_frames()
-    ensures { (a b u w : List ℕ) (x y : Frame) → SpellsFrame a x → SpellsFrame b y → a ++ u ≡ b ++ w → (x ≡ y) × (a ≡ b) }
+    ensures one { (a b u w : List ℕ) (x y : Frame) → SpellsFrame a x → SpellsFrame b y → a ++ u ≡ b ++ w → (x ≡ y) × (a ≡ b) }
+    ensures same { (a b : List ℕ) (x : Frame) → SpellsFrame a x → SpellsFrame b x → a ≡ b }
 {}

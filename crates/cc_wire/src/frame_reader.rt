@@ -1,7 +1,8 @@
 //! Frames out of a stream that comes in pieces.
 
-ghost use Rattle.std.specs.Prelude.{◌≡◌, ◌≤◌, ◌+◌, ◌-◌, ◌++◌, [], min, length, take, IsTrue, Some, IfOk, IfErr, OnErr, MatchResult};
+ghost use Rattle.std.specs.Prelude.{◌≡◌, ◌≤◌, ◌+◌, ◌-◌, ◌++◌, [], min, length, take, IsTrue, Some, None, Err, IfOk, IfErr, OnErr, MatchResult};
 ghost use Rattle.std.specs.Vec.{vec_capacity};
+ghost use Rattle.cc_wire.specs.declared.fault.WireFault.TheVariants.{Broken};
 ghost use Rattle.cc_wire.specs.Reading.{Gives, Fails};
 ghost use Rattle.cc_wire.specs.Held.{frame_length, is_partial, front_of, TopsUp, IsHeld};
 ghost use Rattle.cc_wire.specs.Streams.{fed, rest_after, held_after, FeedsRead, FeedsRefuse, StreamsReadOneWay, StreamsStayRefused};
@@ -61,6 +62,8 @@ impl FrameReader {
     /// `Broken` for good.
     pub fn feed(&mut self, alloc: Global, piece: &[u8]) -> Result<Fed, WireFault>
         ensures exact { Gives (λ x. x) result (fed self.old piece.now) }
+        // A reader that is broken takes no memory: it answers nothing else.
+        ensures broken { self.old ≡ None → result ≡ Err Broken }
         ensures held { self.new ≡ held_after self.old piece.now result }
         ensures used { IfOk result (λ fed. fed.used ≤ length piece.now) }
     {

@@ -325,5 +325,6 @@ pub fn encode_message(message: &Message, out: &mut Vec<u8>) -> Result<(), NoMemo
 
 /// Each message has one spelling, and none begins another.
 pub fn one_spelling_of_messages()
-    ensures { (a b u w : List ℕ) (x y : Message) → SpellsMessage a x → SpellsMessage b y → a ++ u ≡ b ++ w → (x ≡ y) × (a ≡ b) }
+    ensures one { (a b u w : List ℕ) (x y : Message) → SpellsMessage a x → SpellsMessage b y → a ++ u ≡ b ++ w → (x ≡ y) × (a ≡ b) }
+    ensures same { (a b : List ℕ) (x : Message) → SpellsMessage a x → SpellsMessage b x → a ≡ b }
 {}

@@ -1,6 +1,6 @@
 //! Reading fields from left to right.
 
-ghost use Rattle.std.specs.Prelude.{◌≡◌, ◌≤◌, IfOk, length};
+ghost use Rattle.std.specs.Prelude.{◌≡◌, ◌≤◌, IfOk, length, take};
 ghost use Rattle.std.specs.Int.{w16, w32, w64};
 ghost use Rattle.cc_wire.specs.Reading.{Gives, TakesNoMemory, byte_at, bytes_at, number_at, number_from, flag_at, ended};
 
@@ -60,6 +60,13 @@ impl<'a> Reader<'a> {
         let (front, rest) = bytes.split_at(count);
         self.rest = rest;
         Ok(front)
+    }
+
+    /// The next `count` bytes, or all where there are fewer. They stay.
+    pub(crate) fn front(&self, count: usize) -> &'a [u8]
+        ensures { result.now ≡ take count self.now }
+    {
+        &self.rest[..count.min(self.rest.len())]
     }
 
     /// A number of two bytes.

@@ -101,5 +101,6 @@ pub fn encode_view(view: &View, out: &mut Vec<u8>) -> Result<(), NoMemory>
 
 /// Each view has one spelling, and none begins another.
 pub fn one_spelling_of_views()
-    ensures { (a b u w : List ℕ) (x y : ViewMap) → SpellsView a x → SpellsView b y → a ++ u ≡ b ++ w → (x ≡ y) × (a ≡ b) }
+    ensures one { (a b u w : List ℕ) (x y : ViewMap) → SpellsView a x → SpellsView b y → a ++ u ≡ b ++ w → (x ≡ y) × (a ≡ b) }
+    ensures same { (a b : List ℕ) (x : ViewMap) → SpellsView a x → SpellsView b x → a ≡ b }
 {}

@@ -404,6 +404,23 @@ fn frames_are_read_whole(rt: HostRuntime) -> Result<(), Fail> {
     Ok(())
 }
 
+// A body that is cut off is Short only where all fields can be read as far as they go.
+#[test]
+fn a_bad_field_of_a_cut_off_body_is_the_fault(rt: HostRuntime) -> Result<(), Fail> {
+    let cases: [(&[u8], WireFault); 6] = [
+        (&[0, 0, 0, 5], WireFault::Short),
+        (&[0, 0, 0, 5, 7], WireFault::BadKind(7)),
+        (&[0, 0, 0, 5, 1, 0, 0, 0], WireFault::Short),
+        (&[0, 0, 0, 9, 1, 0, 0, 0, 0], WireFault::NotAscending),
+        (&[0, 0, 0, 2, 6], WireFault::Short),
+        (&[0, 0, 0, 3, 6, 6], WireFault::Trailing),
+    ];
+    for (bytes, fault) in cases {
+        assert_eq!(rt; frame_fault(rt.alloc(), bytes), Some(fault));
+    }
+    Ok(())
+}
+
 fn stream_fault(alloc: Global, reader: &mut FrameReader, bytes: &[u8]) -> Option<WireFault> {
     reader.feed(alloc, bytes).err()
 }
