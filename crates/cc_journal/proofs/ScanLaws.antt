@@ -1,10 +1,12 @@
 -- Bytes are scanned in one way.
-use Rattle.std.proofs.Common.{◌≡◌, ◌≢◌, ◌⊎◌, inl, inr, ℕ, ◌+◌, List, [], ◌∷◌, ◌++◌, length, drop, get_or, sym, ◌∙◌, ap}
+use Rattle.std.proofs.Common.{◌≡◌, ◌≢◌, ◌⊎◌, inl, inr, ℕ, zero, suc, ◌+◌, ◌≤◌, eqb, List, [], ◌∷◌, ◌++◌, length, drop, get_or, refl, sym, ◌∙◌, ap, arith, length-drop}
+use Rattle.std.proofs.lemmas.Bool.{cases_Bool, eqb-true, eqb-false}
 use Rattle.cc_wire.specs.declared.event.Event.{Event}
 use Rattle.cc_node.specs.Node.{Node, after}
 use Rattle.cc_node.specs.Sides.{OPEN, events_of}
 use Rattle.cc_node.specs.RecordLaws.{Ends, one_front}
 use Rattle.cc_journal.specs.Scanning.{ScansTo, StopsAt, NoRecord}
+use Rattle.cc_journal.proofs.Scans.{SoFar, none_so_far, one_more, scanned, ended, stopped}
 
 -- a closed gate ends records
 shut_ends : (gate : ℕ) (rest : List ℕ) (node : Node) → gate ≢ OPEN → Ends (gate ∷ rest) node
@@ -54,3 +56,37 @@ either_one bytes start node size records events place p q =
     let one = one_front start p.batches q.batches p.front q.front (p.gate ∷ p.rest) q.rest p.spelled q.spelled p.lawful q.lawful
     (shut_ends p.gate p.rest (after start (events_of p.batches)) p.closed) (stop_ends q.front q.rest (after start (events_of q.batches)) place q.stop) (sym p.parts ∙ q.parts) in
     not_shut p.gate p.rest q.front q.rest (after start (events_of q.batches)) place p.closed one.2 q.stop
+
+-- Where bytes neither lead to a node nor stop, they would go on for ever, from open gate to open gate.
+module _ (bytes : List ℕ) (start : Node) (no_scan : (node : Node) (size records events : ℕ) → ScansTo bytes start node size records events → ⊥) (no_stop : (place : ℕ) → StopsAt bytes start place → ⊥) where
+  at_gate : (node : Node) (size records events : ℕ) → SoFar bytes start node size records events → ((behind : List ℕ) → drop size bytes ≡ OPEN ∷ behind → NoRecord behind node)
+      → (rest : List ℕ) → drop size bytes ≡ rest → ⊥
+  at_gate node size records events so_far none [] is = no_stop size (ended bytes start node size records events so_far is)
+  at_gate node size records events so_far none (gate ∷ rest) is = elim (cases_Bool (eqb gate OPEN)) [
+    | inl opened ↦
+        let open_gate : drop size bytes ≡ OPEN ∷ rest = is ∙ ap (λ (g : ℕ). g ∷ rest) (eqb-true _ _ opened) in
+        no_stop (size + 1) (stopped bytes start node size records events so_far rest open_gate (none rest open_gate))
+    | inr shut ↦ no_scan node size records events (scanned bytes start node size records events so_far gate rest is (eqb-false _ _ shut))
+  ]
+
+  from_gate : (fuel : ℕ) (node : Node) (size records events : ℕ) → SoFar bytes start node size records events → length bytes ≤ fuel + size → ⊥
+  from_gate zero node size records events so_far enough =
+      at_gate node size records events so_far (λ behind opened. absurd (omega (arith, enough, ap length opened, length-drop size bytes))) (drop size bytes) refl
+  from_gate (suc fuel) node size records events so_far enough =
+      at_gate node size records events so_far
+      (λ behind opened body rest batch is spelled lawful.
+      from_gate fuel (after node batch) (size + (1 + length body)) (records + 1) (events + length batch)
+      (one_more bytes start node size records events so_far behind (after node batch) (length body) (length batch) opened (record {
+        body = body;
+        rest = rest;
+        events = batch;
+        parts = is;
+        at_size = refl;
+        spelled = spelled;
+        leads = record { lawful = lawful; leads_to = refl; event_count = refl };
+      }))
+      (omega (arith, enough)))
+      (drop size bytes) refl
+
+  pub neither_one : ⊥
+  neither_one = from_gate (length bytes) start 0 0 0 (none_so_far bytes start) (omega arith)

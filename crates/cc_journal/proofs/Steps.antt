@@ -6,7 +6,7 @@ use Rattle.cc_wire.specs.declared.output.Output.{Output}
 use Rattle.cc_site.specs.declared.site.Side.{Side}
 use Rattle.cc_site.specs.Sides.{SideState, MayLeave, other, touch, written, settled}
 use Rattle.cc_site.specs.SideLaws.{settled_only}
-use Rattle.cc_site.specs.Moments.{Contents, Possible, Within, Nothing, Elapses, EachMoment, started, goes_on, rests, weaker, now_has}
+use Rattle.cc_site.specs.Moments.{Contents, Possible, Within, Nothing, Elapses, EachMoment, OnlyNow, CountsNow, started, goes_on, rests, weaker, now_has}
 use Rattle.cc_node.specs.Node.{Node, after, IsLawful}
 use Rattle.cc_node.specs.Sides.{OPEN, SpellsBatch, StandsBehind}
 use Rattle.cc_node.specs.Good.{RestsAt}
@@ -15,20 +15,12 @@ use Rattle.cc_journal.specs.Journals.{Position, IsGood, Rests, IsAtRest}
 use Rattle.cc_journal.proofs.Rests.{behind_rests, rest_of, rests_more_good, gate_good, opened_rests}
 
 module _ {D : Type 0} (moment : D → ℕ) (left_since : D → ℕ → Contents → List Output → Type 0) (state : D → Side → SideState) (sent : D → List Output) where
-  -- the site at a call's start, where this moment is all that is possible
-  abbrev pub OnlyNow : D → Type 0
-  OnlyNow site = (left : Contents) (told : List Output) → left_since site (moment site) left told → Possible (state site) (sent site) left told
-
-  -- what is possible now counts since an earlier moment
-  abbrev pub CountsNow : D → Type 0
-  CountsNow site = (t : ℕ) (left : Contents) (told : List Output) → t ≤ moment site → Possible (state site) (sent site) left told → left_since site t left told
-
   module _ (old new : D) (at : Position) (generation : ℕ) (start : Node) (events : List Event) (opening : ℕ) (rest : IsAtRest (state old) (sent old) at generation start events opening) where
     abbrev pub Resting : Contents → List Output → Type 0
     Resting = Rests at generation start events opening
 
     -- a write behind the closed gate
-    pub behind_run : (n : ℕ) → OnlyNow old → Elapses (moment old) (moment new) (left_since old) (left_since new) (Within at.side (touch (state old at.side) (at.place + 1) n) (state old) (sent old))
+    pub behind_run : (n : ℕ) → OnlyNow moment left_since state sent old → Elapses (moment old) (moment new) (left_since old) (left_since new) (Within at.side (touch (state old at.side) (at.place + 1) n) (state old) (sent old))
         → at.place + 1 ≤ length (state old at.side).bytes → EachMoment moment left_since old new Resting
     behind_run n only time fits =
         goes_on moment left_since old old new Resting _ (started moment left_since old Resting (λ left told since. rest left told (only left told since))) time
@@ -37,11 +29,11 @@ module _ {D : Type 0} (moment : D → ℕ) (left_since : D → ℕ → Contents 
     pub run_good : (more : List Event) → EachMoment moment left_since old new Resting → EachMoment moment left_since old new (IsGood start (events ++ more) (length events) opening)
     run_good more run = weaker moment left_since old new Resting (IsGood start (events ++ more) (length events) opening) run (rests_more_good at generation start events opening more)
 
-    pub run_rests : EachMoment moment left_since old new Resting → CountsNow new → IsAtRest (state new) (sent new) at generation start events opening
+    pub run_rests : EachMoment moment left_since old new Resting → CountsNow moment left_since state sent new → IsAtRest (state new) (sent new) at generation start events opening
     run_rests run counts = now_has moment left_since old new Resting (Possible (state new) (sent new)) run counts
 
     -- a call that touches nothing
-    pub still_run : OnlyNow old → Elapses (moment old) (moment new) (left_since old) (left_since new) Nothing → EachMoment moment left_since old new Resting
+    pub still_run : OnlyNow moment left_since state sent old → Elapses (moment old) (moment new) (left_since old) (left_since new) Nothing → EachMoment moment left_since old new Resting
     still_run only time = rests moment left_since old old new Resting (started moment left_since old Resting (λ left told since. rest left told (only left told since))) time
 
   -- The gate is opened, over a side that a sync has made sure of.

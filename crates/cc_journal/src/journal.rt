@@ -5,12 +5,12 @@ ghost use Rattle.std.specs.Vec.{vec_capacity};
 ghost use Rattle.cc_wire.specs.declared.event.Event.{Event};
 ghost use Rattle.cc_wire.specs.Events.{IsEvent};
 ghost use Rattle.cc_site.specs.declared.site.Call.TheVariants.{Write, Sync};
-ghost use Rattle.cc_site.specs.Sides.{other};
+ghost use Rattle.cc_site.specs.Sides.{other, touch};
 ghost use Rattle.cc_site.specs.Moments.{EachMoment, Rose};
 ghost use Rattle.cc_node.specs.Node.{Node, after, IsLawful};
 ghost use Rattle.cc_node.specs.Sides.{StandsBehind, SpellsBatch};
 ghost use Rattle.cc_journal.specs.Batches.{events_in, batch_bytes};
-ghost use Rattle.cc_journal.specs.Journals.{Position, IsGood, IsAtRest};
+ghost use Rattle.cc_journal.specs.Journals.{Position, with_record, with_open_gate, MayHaveOpened, IsGood, IsAtRest};
 
 use crate::batch::Batch;
 use crate::record::put_record;
@@ -152,6 +152,8 @@ impl Journal {
         ensures honest { S.honest site.old ↔ S.honest site.new }
         ensures tells { (S.tells site.old ↔ S.tells site.new) × (S.sent site.new ≡ S.sent site.old) }
         ensures other_side { S.honest site.old → S.state site.new (other self.old.side) ≡ S.state site.old (other self.old.side) }
+        ensures holds { S.honest site.old → OnOk result (S.state site.new self.old.side ≡ with_record (S.state site.old self.old.side) self.old.place batch) }
+        ensures failed { S.honest site.old → OnErr result ((S.state site.new self.old.side ≡ touch (S.state site.old self.old.side) (self.old.place + 1) (length (batch_bytes batch))) ⊎ (S.state site.new self.old.side ≡ S.state site.old self.old.side)) }
         ensures every_moment { S.honest site.old → (generation : ℕ) (start : Node) (events : List Event) (opening : ℕ)
             → IsAtRest (S.state site.old) (S.sent site.old) self.old generation start events opening
             → EachMoment S.moment S.left_since site.old site.new (IsGood start (events ++ events_in batch) (length events) opening) }
@@ -181,6 +183,8 @@ impl Journal {
         ensures honest { S.honest site.old ↔ S.honest site.new }
         ensures tells { (S.tells site.old ↔ S.tells site.new) × (S.sent site.new ≡ S.sent site.old) }
         ensures other_side { S.honest site.old → S.state site.new (other self.old.side) ≡ S.state site.old (other self.old.side) }
+        ensures holds { S.honest site.old → OnOk result (S.state site.new self.old.side ≡ with_open_gate (S.state site.old self.old.side) self.old.place) }
+        ensures failed { S.honest site.old → OnErr result (MayHaveOpened (S.state site.old self.old.side) self.old.place (S.state site.new self.old.side)) }
         ensures every_moment { S.honest site.old → (generation : ℕ) (start : Node) (events : List Event) (opening : ℕ)
             → IsAtRest (S.state site.old) (S.sent site.old) self.old generation start events opening
             → IsLawful (after start events) (events_in flight)

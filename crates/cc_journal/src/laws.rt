@@ -5,7 +5,7 @@ ghost use Rattle.cc_node.specs.Node.{Node};
 ghost use Rattle.cc_journal.specs.Scanning.{ScansTo, StopsAt};
 
 /// Bytes are scanned in one way: either to one node, with one count of bytes, records and events, or up to one place
-/// at which they stop.
+/// at which they stop; and it can't be that neither holds.
 pub fn scans_once()
     ensures found { (bytes : List ℕ) (start x y : Node) (size-x size-y records-x records-y events-x events-y : ℕ)
         → ScansTo bytes start x size-x records-x events-x → ScansTo bytes start y size-y records-y events-y
@@ -14,4 +14,7 @@ pub fn scans_once()
         → StopsAt bytes start place-x → StopsAt bytes start place-y → place-x ≡ place-y }
     ensures either { (bytes : List ℕ) (start node : Node) (size records events place : ℕ)
         → ScansTo bytes start node size records events → StopsAt bytes start place → ⊥ }
+    ensures neither { (bytes : List ℕ) (start : Node)
+        → ((node : Node) (size records events : ℕ) → ScansTo bytes start node size records events → ⊥)
+        → ((place : ℕ) → StopsAt bytes start place → ⊥) → ⊥ }
 {}

@@ -2,6 +2,7 @@
 --     Contents                            the bytes of each side
 --     Possible, Within, Nothing           what may be left and told: at rest;  while one side changes;  nothing
 --     Elapses, EachMoment                 what one call adds to the moments;  what holds at each moment of a run of calls
+--     OnlyNow, CountsNow                  the first moment of a call: nothing else is possible;  the last: what is possible counts
 --     Rose, CountsFault, CountsOneFault   the count of failures, and the fault that is told
 --     started, goes_on, rests, joined, weaker, now_has     how a run of calls is put together
 use Rattle.std.specs.Prelude.{◌≡◌, ◌⊎◌, ℕ, ◌+◌, ◌%◌, ◌^◌, ◌≤◌, List, Result, MatchResult}
@@ -43,6 +44,15 @@ pub record EachMoment {D : Type 0} (moment : D → ℕ) (left_since : D → ℕ 
   pub each : (left : Contents) (told : List Output) → left_since new (moment old) left told → P left told
   -- for a run that began earlier
   pub before : (t : ℕ) (left : Contents) (told : List Output) → t ≤ moment old → left_since new t left told → left_since old t left told ⊎ P left told
+
+module _ {D : Type 0} (moment : D → ℕ) (left_since : D → ℕ → Contents → List Output → Type 0) (state : D → Side → SideState) (sent : D → List Output) where
+  -- since this moment only what is possible now was so
+  abbrev pub OnlyNow : D → Type 0
+  OnlyNow site = (left : Contents) (told : List Output) → left_since site (moment site) left told → Possible (state site) (sent site) left told
+
+  -- what is possible now counts since an earlier moment
+  abbrev pub CountsNow : D → Type 0
+  CountsNow site = (t : ℕ) (left : Contents) (told : List Output) → t ≤ moment site → Possible (state site) (sent site) left told → left_since site t left told
 
 -- the count of failures, a u64 that wraps, went one on
 abbrev pub Rose : ℕ → ℕ → Type 0

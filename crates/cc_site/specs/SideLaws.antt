@@ -2,6 +2,7 @@
 --     touch_more, shift_more              what it may leave before a write or a cut, it may leave while that runs
 --     written_within, cut_within          so it is with what it may leave after it
 --     settled_only, settled_within        after a sync it leaves what is read, which it might have left before
+--     durable_only                        of a durable side it leaves its bytes
 --     rebased, firm-touch, no_shorter_written, other_other     what these and others rest on
 use Rattle.std.proofs.Common.{◌≡◌, ◌⊎◌, ⊎_elim, ℕ, ◌+◌, ◌<◌, ◌≤◌, min, Bool, true, false, ◌&&◌, cond, nat_le, nat_lt, List, ◌++◌, length, take, drop, slice_index, Option, None, Some, unwrap_or, refl, sym, ◌∙◌, subst, arith}
 use Rattle.std.proofs.lemmas.Bool.{or_parts}
@@ -10,7 +11,7 @@ use Rattle.std.proofs.lemmas.Grind.{common_steps}
 use Rattle.std.proofs.lemmas.List.{ext_get_or}
 use Rattle.cc_site.specs.declared.site.Side.{Side}
 use Rattle.cc_site.specs.declared.site.Side.TheVariants.{A, B}
-use Rattle.cc_site.specs.Sides.{SideState, MayLeave, other, firm, touch, written, shift, cut_to, settled}
+use Rattle.cc_site.specs.Sides.{SideState, MayLeave, other, firm, touch, written, shift, cut_to, settled, durable}
 
 -- the other side's other side
 pub other_other : (side : Side) → other (other side) ≡ side
@@ -94,6 +95,9 @@ shift_more s to left may = record {
 -- after a sync a crash leaves what a read gives
 pub settled_only : (s : SideState) (left : List ℕ) → MayLeave (settled s) left → left ≡ s.bytes
 settled_only s left may = ext_get_or 0 left s.bytes (may.no_longer refl) (λ p below. may.same p (omega (arith, below, may.no_longer refl)) refl)
+
+pub durable_only : (bytes left : List ℕ) → MayLeave (durable bytes) left → left ≡ bytes
+durable_only bytes left may = settled_only (durable bytes) left may
 
 -- which it might have left before
 pub settled_within : (s : SideState) (left : List ℕ) → firm s ≤ length s.bytes → MayLeave (settled s) left → MayLeave s left

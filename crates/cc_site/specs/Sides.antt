@@ -3,8 +3,9 @@
 --     SideState, firm, MayLeave           a side;  where it may end after a crash;  which bytes a crash may leave of it
 --     touch, overwritten, written         while a write runs;  its bytes after it;  the side after it
 --     shift, cut_to                       while a cut runs;  after it
---     settled                             after a sync
-use Rattle.std.specs.Prelude.{◌≡◌, ℕ, ◌+◌, ◌<◌, ◌≤◌, min, Bool, false, ◌||◌, ◌&&◌, nat_le, nat_lt, if◌then◌else◌, List, ◌++◌, length, take, drop, slice_index, Option, None, Some, unwrap_or}
+--     settled, durable                    after a sync;  a side with these bytes, all of them made sure of
+--     MayHaveWritten, MayHaveCut          where a write or a cut fails, or the sync behind it
+use Rattle.std.specs.Prelude.{◌≡◌, ◌⊎◌, ℕ, ◌+◌, ◌<◌, ◌≤◌, min, Bool, false, ◌||◌, ◌&&◌, nat_le, nat_lt, if◌then◌else◌, List, ◌++◌, length, take, drop, slice_index, Option, None, Some, unwrap_or}
 use Rattle.cc_site.specs.declared.site.Side.{Side}
 use Rattle.cc_site.specs.declared.site.Side.TheVariants.{A, B}
 
@@ -55,3 +56,14 @@ cut_to s len = record (shift s len) { bytes = take len s.bytes }
 -- after a sync that succeeds
 abbrev pub settled : SideState → SideState
 settled s = record { bytes = s.bytes; touched = λ _. false; shifted = None }
+
+abbrev pub durable : List ℕ → SideState
+durable bytes = record { bytes = bytes; touched = λ _. false; shifted = None }
+
+-- where a write fails, or the sync behind it: nothing has changed, or the write may have touched its range, or it was made
+abbrev pub MayHaveWritten : SideState → ℕ → List ℕ → SideState → Type 0
+MayHaveWritten old at bytes new = (new ≡ old) ⊎ ((new ≡ touch old at (length bytes)) ⊎ (new ≡ written old at bytes))
+
+-- the same for a cut
+abbrev pub MayHaveCut : SideState → ℕ → SideState → Type 0
+MayHaveCut old len new = (new ≡ old) ⊎ ((new ≡ shift old len) ⊎ (new ≡ cut_to old len))

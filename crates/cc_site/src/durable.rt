@@ -1,8 +1,8 @@
 //! Changes of a side that a sync makes sure of.
 
-ghost use Rattle.std.specs.Prelude.{◌≡◌, ◌↔◌, ◌≤◌, length, OnOk};
+ghost use Rattle.std.specs.Prelude.{◌≡◌, ◌↔◌, ◌≤◌, length, OnOk, OnErr};
 ghost use Rattle.cc_site.specs.declared.site.Call.TheVariants.{Write, Cut, Sync};
-ghost use Rattle.cc_site.specs.Sides.{other, touch, written, shift, cut_to, settled};
+ghost use Rattle.cc_site.specs.Sides.{other, touch, written, shift, cut_to, settled, MayHaveWritten, MayHaveCut};
 ghost use Rattle.cc_site.specs.Moments.{Within, EachMoment, CountsOneFault};
 
 use crate::site::{DeviceFault, Side, Site};
@@ -19,6 +19,7 @@ pub fn write_durably<S: Site>(
     ensures honest { S.honest site.old ↔ S.honest site.new }
     ensures tells { (S.tells site.old ↔ S.tells site.new) × (S.sent site.new ≡ S.sent site.old) }
     ensures value { S.honest site.old → OnOk result (S.state site.new side ≡ settled (written (S.state site.old side) place bytes.now)) }
+    ensures failed { S.honest site.old → OnErr result (MayHaveWritten (S.state site.old side) place bytes.now (S.state site.new side)) }
     ensures other_side { S.honest site.old → S.state site.new (other side) ≡ S.state site.old (other side) }
     ensures every_moment { S.honest site.old → EachMoment S.moment S.left_since site.old site.new
         (Within side (touch (S.state site.old side) place (length bytes.now)) (S.state site.old) (S.sent site.old)) }
@@ -36,6 +37,7 @@ pub fn cut_durably<S: Site>(site: &mut S, side: Side, len: u64) -> Result<(), De
     ensures honest { S.honest site.old ↔ S.honest site.new }
     ensures tells { (S.tells site.old ↔ S.tells site.new) × (S.sent site.new ≡ S.sent site.old) }
     ensures value { S.honest site.old → OnOk result (S.state site.new side ≡ settled (cut_to (S.state site.old side) len)) }
+    ensures failed { S.honest site.old → OnErr result (MayHaveCut (S.state site.old side) len (S.state site.new side)) }
     ensures other_side { S.honest site.old → S.state site.new (other side) ≡ S.state site.old (other side) }
     ensures every_moment { S.honest site.old → EachMoment S.moment S.left_since site.old site.new
         (Within side (shift (S.state site.old side) len) (S.state site.old) (S.sent site.old)) }

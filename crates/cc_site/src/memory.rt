@@ -1,13 +1,15 @@
 //! A site in memory, which keeps a record of its disk calls and its first outputs.
 
-ghost use Rattle.std.specs.Prelude.{◌≡◌, ◌⊎◌, ◌↔◌, ◌+◌, ◌%◌, ◌^◌, ◌≤◌, ◌<◌, ◌++◌, [], ◌∷◌, length, Option, Some, IsTrue, is_err, IsSome, IfSome, IfOk, ⊤};
+ghost use Rattle.std.specs.Prelude.{◌≡◌, ◌⊎◌, ◌↔◌, ◌+◌, ◌%◌, ◌^◌, ◌≤◌, ◌<◌, ◌++◌, [], ◌∷◌, length, take, drop, Option, None, Some, IsTrue, is_err, IsSome, IfSome, OnOk, OnErr, IfOk, ⊤};
 ghost use Rattle.std.specs.Vec.{vec_capacity};
 ghost use Rattle.cc_wire.specs.declared.output.Output.{Output};
+ghost use Rattle.cc_wire.specs.declared.output.Output.TheVariants.{Send, Ack, Reply};
 ghost use Rattle.cc_site.specs.declared.site.Side.{Side};
+ghost use Rattle.cc_site.specs.declared.site.Call.TheVariants.{Length, Read, Write, Cut, Sync};
 ghost use Rattle.cc_site.specs.Fuse.{MayBurn};
 ghost use Rattle.cc_site.specs.Kept.{kept, lost_after};
-ghost use Rattle.cc_site.specs.Moments.{CountsFault};
-ghost use Rattle.cc_site.specs.Sides.{MayLeave};
+ghost use Rattle.cc_site.specs.Moments.{Possible, Within, Nothing, Elapses, CountsFault};
+ghost use Rattle.cc_site.specs.Sides.{MayLeave, other, touch, written, shift, cut_to, settled};
 ghost use Rattle.cc_site.specs.Image.{IsChosen};
 ghost use Rattle.cc_site.specs.Record.{file, state_now, AreBytes, Since, ToldFits, FirmFits};
 ghost use Rattle.cc_site.specs.Disks.{bytes_of};
@@ -42,7 +44,7 @@ pub struct MemorySite {
 }
 
 impl MemorySite {
-    ghost use Rattle.cc_site.specs.Memory.{memory_state, memory_outputs, IsFresh};
+    ghost use Rattle.cc_site.specs.Memory.{memory_state, memory_outputs, memory_reserve, memory_lost, memory_fuse, IsFresh};
 
     /// Two empty sides, and room for so many outputs. NoMemory where a growth was refused.
     pub fn new(alloc: Global, reserve: usize) -> Result<MemorySite, NoMemory>
@@ -78,7 +80,7 @@ impl MemorySite {
     /// The site after a crash now: what the crash may change is as chosen, nothing of it is touched, and no output was
     /// put. It has the same reserve, and no fuse. NoMemory where a growth was refused.
     pub fn image(&self, alloc: Global, choice: &Choice) -> Result<MemorySite, NoMemory>
-        ensures fresh { IfOk result (λ image. IsFresh image self.now.reserve) }
+        ensures fresh { IfOk result (λ image. IsFresh image (memory_reserve self.now)) }
         ensures chosen { IfOk result (λ image. IsChosen choice.now (memory_state self.now) (λ side. (memory_state image side).bytes)) }
         ensures possible { IfOk result (λ image. (side : Side) → MayLeave (memory_state self.now side) (memory_state image side).bytes) }
     {
@@ -95,7 +97,7 @@ impl MemorySite {
 
     /// How many outputs were not kept, for want of room or of memory. It stops at the greatest u64.
     pub fn lost(&self) -> u64
-        ensures { result ≡ self.now.lost }
+        ensures { result ≡ memory_lost self.now }
     {
         self.lost
     }
@@ -103,7 +105,8 @@ impl MemorySite {
     /// The disk call of this number, from 0 on since the site was made, fails: it alone, or with all later ones. It
     /// takes the place of an earlier fuse.
     pub fn fuse(&mut self, at: u64, burn: Burn)
-        ensures { self.new ≡ record self.old { fuse = Some (record { at = at; burn = burn }) } }
+        ensures same { self.new ≡ record self.old { fuse = Some (record { at = at; burn = burn }) } }
+        ensures armed { memory_fuse self.new ≡ Some (record { at = at; burn = burn }) }
     {
         self.fuse = Some(Fuse { at, burn });
     }
@@ -181,7 +184,7 @@ fn keep(outputs: &mut Vec<Output>, reserve: usize, lost: &mut u64, output: Optio
 }
 
 impl Site for MemorySite {
-    ghost use Rattle.cc_site.specs.Memory.{memory_state};
+    ghost use Rattle.cc_site.specs.Memory.{memory_state, memory_outputs, memory_lost, memory_calls, memory_fuse, memory_failures, memory_moment, memory_left_since, CountsCall, Keeps};
     ghost use Rattle.cc_site.specs.RecordLaws.{since_now, now_only, may_read_now};
 
     ghost honest = { λ _. ⊤ };
@@ -206,13 +209,28 @@ impl Site for MemorySite {
 
     ghost only_now = { λ m _ left told since. now_only (bytes_of m.disk) m.disk.steps.items m.outputs.items left told since };
 
-    fn length(&mut self, side: Side) -> Result<u64, DeviceFault> {
+    fn length(&mut self, side: Side) -> Result<u64, DeviceFault>
+        ensures call { CountsCall self.old self.new }
+        ensures fuse { IsTrue (is_err result) ↔ MayBurn (memory_fuse self.old) (memory_calls self.old) }
+        ensures value { IfOk result (λ n. n ≡ length (memory_state self.old side).bytes) }
+        ensures same { memory_state self.new ≡ memory_state self.old }
+        ensures time { Elapses (memory_moment self.old) (memory_moment self.new) (memory_left_since self.old) (memory_left_since self.new) Nothing }
+        ensures fault { CountsFault (memory_failures self.old) (memory_failures self.new) side Length result }
+    {
         let fails = burns(&mut self.calls, &self.fuse);
         count(fails, &mut self.failures, side, Call::Length)?;
         Ok(self.disk.bytes(side).len() as u64)
     }
 
-    fn read(&mut self, side: Side, place: u64, into: &mut [u8]) -> Result<(), DeviceFault> {
+    fn read(&mut self, side: Side, place: u64, into: &mut [u8]) -> Result<(), DeviceFault>
+        requires { place + length into.old ≤ length (memory_state self.old side).bytes }
+        ensures call { CountsCall self.old self.new }
+        ensures fuse { IsTrue (is_err result) ↔ MayBurn (memory_fuse self.old) (memory_calls self.old) }
+        ensures value { OnOk result (into.new ≡ take (length into.old) (drop place (memory_state self.old side).bytes)) }
+        ensures same { memory_state self.new ≡ memory_state self.old }
+        ensures time { Elapses (memory_moment self.old) (memory_moment self.new) (memory_left_since self.old) (memory_left_since self.new) Nothing }
+        ensures fault { CountsFault (memory_failures self.old) (memory_failures self.new) side Read result }
+    {
         let fails = burns(&mut self.calls, &self.fuse);
         count(fails, &mut self.failures, side, Call::Read)?;
         let place = place as usize;
@@ -220,28 +238,60 @@ impl Site for MemorySite {
         Ok(())
     }
 
-    fn write_at(&mut self, side: Side, place: u64, bytes: &[u8]) -> Result<(), DeviceFault> {
+    fn write_at(&mut self, side: Side, place: u64, bytes: &[u8]) -> Result<(), DeviceFault>
+        requires { place ≤ length (memory_state self.old side).bytes }
+        ensures call { CountsCall self.old self.new }
+        ensures fuse { MayBurn (memory_fuse self.old) (memory_calls self.old) → IsTrue (is_err result) }
+        ensures value { OnOk result (memory_state self.new side ≡ written (memory_state self.old side) place bytes.now) }
+        ensures failed { OnErr result ((memory_state self.new side ≡ touch (memory_state self.old side) place (length bytes.now)) ⊎ (memory_state self.new side ≡ memory_state self.old side)) }
+        ensures other_side { memory_state self.new (other side) ≡ memory_state self.old (other side) }
+        ensures time { Elapses (memory_moment self.old) (memory_moment self.new) (memory_left_since self.old) (memory_left_since self.new) (Within side (touch (memory_state self.old side) place (length bytes.now)) (memory_state self.old) (memory_outputs self.old)) }
+        ensures fault { CountsFault (memory_failures self.old) (memory_failures self.new) side Write result }
+    {
         let fails = burns(&mut self.calls, &self.fuse);
         let told = self.outputs.len();
         let outcome = self.disk.write(fails, told, side, place as usize, bytes);
         count(outcome.is_err(), &mut self.failures, side, Call::Write)
     }
 
-    fn cut(&mut self, side: Side, len: u64) -> Result<(), DeviceFault> {
+    fn cut(&mut self, side: Side, len: u64) -> Result<(), DeviceFault>
+        requires { len ≤ length (memory_state self.old side).bytes }
+        ensures call { CountsCall self.old self.new }
+        ensures fuse { MayBurn (memory_fuse self.old) (memory_calls self.old) → IsTrue (is_err result) }
+        ensures value { OnOk result (memory_state self.new side ≡ cut_to (memory_state self.old side) len) }
+        ensures failed { OnErr result ((memory_state self.new side ≡ shift (memory_state self.old side) len) ⊎ (memory_state self.new side ≡ memory_state self.old side)) }
+        ensures other_side { memory_state self.new (other side) ≡ memory_state self.old (other side) }
+        ensures time { Elapses (memory_moment self.old) (memory_moment self.new) (memory_left_since self.old) (memory_left_since self.new) (Within side (shift (memory_state self.old side) len) (memory_state self.old) (memory_outputs self.old)) }
+        ensures fault { CountsFault (memory_failures self.old) (memory_failures self.new) side Cut result }
+    {
         let fails = burns(&mut self.calls, &self.fuse);
         let told = self.outputs.len();
         let outcome = self.disk.cut(fails, told, side, len as usize);
         count(outcome.is_err(), &mut self.failures, side, Call::Cut)
     }
 
-    fn sync(&mut self, side: Side) -> Result<(), DeviceFault> {
+    fn sync(&mut self, side: Side) -> Result<(), DeviceFault>
+        ensures call { CountsCall self.old self.new }
+        ensures fuse { MayBurn (memory_fuse self.old) (memory_calls self.old) → IsTrue (is_err result) }
+        ensures value { OnOk result (memory_state self.new side ≡ settled (memory_state self.old side)) }
+        ensures failed { OnErr result (memory_state self.new side ≡ memory_state self.old side) }
+        ensures other_side { memory_state self.new (other side) ≡ memory_state self.old (other side) }
+        ensures time { Elapses (memory_moment self.old) (memory_moment self.new) (memory_left_since self.old) (memory_left_since self.new) Nothing }
+        ensures fault { CountsFault (memory_failures self.old) (memory_failures self.new) side Sync result }
+    {
         let fails = burns(&mut self.calls, &self.fuse);
         let told = self.outputs.len();
         let outcome = self.disk.sync(fails, told, side);
         count(outcome.is_err(), &mut self.failures, side, Call::Sync)
     }
 
-    fn send(&mut self, to: NodeId, number: u64, message: &Message) {
+    fn send(&mut self, to: NodeId, number: u64, message: &Message)
+        ensures kept { Keeps (Some (Send to number message.now)) self.old self.new ⊎ Keeps None self.old self.new }
+        ensures tells { memory_lost self.new ≡ 0 → (memory_lost self.old ≡ 0) × (memory_outputs self.new ≡ memory_outputs self.old ++ Send to number message.now ∷ []) }
+        ensures same { memory_state self.new ≡ memory_state self.old }
+        ensures time { Elapses (memory_moment self.old) (memory_moment self.new) (memory_left_since self.old) (memory_left_since self.new) (Possible (memory_state self.old) (memory_outputs self.new)) }
+        ensures failures { memory_failures self.new ≡ memory_failures self.old }
+    {
         let output = match message.copy(self.alloc) {
             Ok(message) => Some(Output::Send {
                 to,
@@ -253,12 +303,24 @@ impl Site for MemorySite {
         keep(&mut self.outputs, self.reserve, &mut self.lost, output);
     }
 
-    fn ack(&mut self, to: NodeId, number: u64) {
+    fn ack(&mut self, to: NodeId, number: u64)
+        ensures kept { Keeps (Some (Ack to number)) self.old self.new }
+        ensures tells { memory_lost self.new ≡ 0 → (memory_lost self.old ≡ 0) × (memory_outputs self.new ≡ memory_outputs self.old ++ Ack to number ∷ []) }
+        ensures same { memory_state self.new ≡ memory_state self.old }
+        ensures time { Elapses (memory_moment self.old) (memory_moment self.new) (memory_left_since self.old) (memory_left_since self.new) (Possible (memory_state self.old) (memory_outputs self.new)) }
+        ensures failures { memory_failures self.new ≡ memory_failures self.old }
+    {
         let output = Some(Output::Ack { to, number });
         keep(&mut self.outputs, self.reserve, &mut self.lost, output);
     }
 
-    fn reply(&mut self, session: u64, request: u64, answer: &Answer) {
+    fn reply(&mut self, session: u64, request: u64, answer: &Answer)
+        ensures kept { Keeps (Some (Reply session request answer.now)) self.old self.new ⊎ Keeps None self.old self.new }
+        ensures tells { memory_lost self.new ≡ 0 → (memory_lost self.old ≡ 0) × (memory_outputs self.new ≡ memory_outputs self.old ++ Reply session request answer.now ∷ []) }
+        ensures same { memory_state self.new ≡ memory_state self.old }
+        ensures time { Elapses (memory_moment self.old) (memory_moment self.new) (memory_left_since self.old) (memory_left_since self.new) (Possible (memory_state self.old) (memory_outputs self.new)) }
+        ensures failures { memory_failures self.new ≡ memory_failures self.old }
+    {
         let output = match answer.copy(self.alloc) {
             Ok(answer) => Some(Output::Reply {
                 session,

@@ -1,8 +1,10 @@
-use Rattle.std.proofs.Common.{◌≤◌, ◌+◌, ◌++◌, length, sym, subst, ap, ◌∙◌, arith}
+use Rattle.std.proofs.Common.{◌≡◌, ◌≤◌, ◌+◌, [], ◌∷◌, ◌++◌, length, inl, inr, sym, subst, ap, ◌∙◌, arith}
+use Rattle.std.specs.Prelude.{Result, Ok, Err, OnErr}
+use Rattle.cc_site.specs.Sides.{written, settled, MayHaveWritten}
 use Rattle.cc_site.specs.Moments.{joined}
-use Rattle.cc_node.specs.Sides.{StandsBehind, SpellsBatch}
+use Rattle.cc_node.specs.Sides.{OPEN, StandsBehind, SpellsBatch}
 use Rattle.cc_journal.specs.Batches.{events_in, batch_bytes}
-use Rattle.cc_journal.specs.Journals.{IsGood, IsAtRest}
+use Rattle.cc_journal.specs.Journals.{with_open_gate, MayHaveOpened, IsGood, IsAtRest}
 use Rattle.cc_journal.specs.contracts.journal.Journal.{the_view}
 use Rattle.cc_journal.proofs.Records.{length_batch, batch_spelled}
 use Rattle.cc_journal.proofs.Steps.{still_run, run_good, run_rests, gate_run, gate_rest}
@@ -79,3 +81,28 @@ returns-clause-at_rest g c honest generation start events opening rest lawful st
 
 pub returns-clause-short : goal.returns-clause-short
 returns-clause-short g c = subst (λ b. length (batch_bytes b) ≤ 262149) c.flight.view_is (length_batch c.flight.inside.batch c.flight.invariant.spelled)
+
+on_err : {T E : Type 0} (r : Result T E) (P : Type 0) → P → OnErr r P
+on_err (Ok v) P p = tt
+on_err (Err e) P p = p
+
+pub returns-in_err-sync-clause-failed : goal.returns-in_err-sync-clause-failed
+returns-in_err-sync-clause-failed g c honest =
+    let s = g.S.Site in
+    on_err c.from_residual.result _ (inl (subst (λ p. s.state c.sync.new.self p.side ≡ s.state c.args.site.now p.side) c.self.view_is (c.in_err-sync.ensures.failed honest)))
+
+pub returns-in_err-write_durably-clause-failed : goal.returns-in_err-write_durably-clause-failed
+returns-in_err-write_durably-clause-failed g c honest =
+    let s = g.S.Site in
+    let at = the_view c.self.inside in
+    let new = c.write_durably.new.site in
+    on_err c.from_residual-in_err-write_durably.result _
+    (subst (λ p. MayHaveOpened (s.state c.args.site.now p.side) p.place (s.state new p.side)) c.self.view_is
+    (inr (subst (λ t. MayHaveWritten t at.place (OPEN ∷ []) (s.state new at.side)) (c.in_ok-sync.ensures.value honest) (c.in_err-write_durably.ensures.failed (c.sync.ensures.honest.0 honest)))))
+
+pub returns-clause-holds : goal.returns-clause-holds
+returns-clause-holds g c honest =
+    let s = g.S.Site in
+    let at = the_view c.self.inside in
+    subst (λ p. s.state c.write_durably.new.site p.side ≡ with_open_gate (s.state c.args.site.now p.side) p.place) c.self.view_is
+    (c.in_ok-write_durably.ensures.value (c.sync.ensures.honest.0 honest) ∙ ap (λ t. settled (written t at.place (OPEN ∷ []))) (c.in_ok-sync.ensures.value honest))

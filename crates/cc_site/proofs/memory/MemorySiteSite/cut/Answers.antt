@@ -13,7 +13,7 @@ invariant_of-self-clause-told_fits c =
     let side = c.args.side in
     let w = c.cut-outcome in
     let told : c.len-told.result ≡ length m.outputs.items = search rules in
-    let left = cut_leaves w.result m w.new.self side c.args.len c.len-told.result _ told (c.requires tt) w.ensures.ok w.ensures.err w.ensures.other w.ensures.adds w.ensures.missed in
+    let left = cut_leaves w.result m w.new.self side c.args.len c.len-told.result _ told c.requires w.ensures.ok w.ensures.err w.ensures.other w.ensures.adds w.ensures.missed in
     left.told
 
 pub invariant_of-self-clause-firm_fits : goal.invariant_of-self-clause-firm_fits
@@ -22,45 +22,45 @@ invariant_of-self-clause-firm_fits c =
     let side = c.args.side in
     let w = c.cut-outcome in
     let told : c.len-told.result ≡ length m.outputs.items = search rules in
-    let left = cut_leaves w.result m w.new.self side c.args.len c.len-told.result _ told (c.requires tt) w.ensures.ok w.ensures.err w.ensures.other w.ensures.adds w.ensures.missed in
+    let left = cut_leaves w.result m w.new.self side c.args.len c.len-told.result _ told c.requires w.ensures.ok w.ensures.err w.ensures.other w.ensures.adds w.ensures.missed in
     left.firm
 
 pub returns-clause-value : goal.returns-clause-value
-returns-clause-value c honest =
+returns-clause-value c =
     let m = c.args.self.now in
     let side = c.args.side in
     let w = c.cut-outcome in
     let told : c.len-told.result ≡ length m.outputs.items = search rules in
-    let left = cut_leaves w.result m w.new.self side c.args.len c.len-told.result _ told (c.requires tt) w.ensures.ok w.ensures.err w.ensures.other w.ensures.adds w.ensures.missed in
+    let left = cut_leaves w.result m w.new.self side c.args.len c.len-told.result _ told c.requires w.ensures.ok w.ensures.err w.ensures.other w.ensures.adds w.ensures.missed in
     let alike : is_err c.count.result ≡ is_err w.result = search rules in
     on_ok_like w.result c.count.result (state_now (bytes_of w.new.self) w.new.self.steps.items side ≡ cut_to (memory_state m side) c.args.len) alike left.value
 
 pub returns-clause-failed : goal.returns-clause-failed
-returns-clause-failed c honest =
+returns-clause-failed c =
     let m = c.args.self.now in
     let side = c.args.side in
     let w = c.cut-outcome in
     let told : c.len-told.result ≡ length m.outputs.items = search rules in
-    let left = cut_leaves w.result m w.new.self side c.args.len c.len-told.result _ told (c.requires tt) w.ensures.ok w.ensures.err w.ensures.other w.ensures.adds w.ensures.missed in
+    let left = cut_leaves w.result m w.new.self side c.args.len c.len-told.result _ told c.requires w.ensures.ok w.ensures.err w.ensures.other w.ensures.adds w.ensures.missed in
     let alike : is_err c.count.result ≡ is_err w.result = search rules in
     on_err_like w.result c.count.result ((state_now (bytes_of w.new.self) w.new.self.steps.items side ≡ shift (memory_state m side) c.args.len) ⊎ (state_now (bytes_of w.new.self) w.new.self.steps.items side ≡ memory_state m side)) alike left.failed
 
 pub returns-clause-other_side : goal.returns-clause-other_side
-returns-clause-other_side c honest =
+returns-clause-other_side c =
     let m = c.args.self.now in
     let side = c.args.side in
     let w = c.cut-outcome in
     let told : c.len-told.result ≡ length m.outputs.items = search rules in
-    let left = cut_leaves w.result m w.new.self side c.args.len c.len-told.result _ told (c.requires tt) w.ensures.ok w.ensures.err w.ensures.other w.ensures.adds w.ensures.missed in
+    let left = cut_leaves w.result m w.new.self side c.args.len c.len-told.result _ told c.requires w.ensures.ok w.ensures.err w.ensures.other w.ensures.adds w.ensures.missed in
     left.rest
 
 pub returns-clause-time : goal.returns-clause-time
-returns-clause-time c honest =
+returns-clause-time c =
     let m = c.args.self.now in
     let side = c.args.side in
     let w = c.cut-outcome in
     let told : c.len-told.result ≡ length m.outputs.items = search rules in
-    let left = cut_leaves w.result m w.new.self side c.args.len c.len-told.result _ told (c.requires tt) w.ensures.ok w.ensures.err w.ensures.other w.ensures.adds w.ensures.missed in
+    let left = cut_leaves w.result m w.new.self side c.args.len c.len-told.result _ told c.requires w.ensures.ok w.ensures.err w.ensures.other w.ensures.adds w.ensures.missed in
     left.time
 
 pub invariant_of-self-clause-are_bytes : goal.invariant_of-self-clause-are_bytes

@@ -4,7 +4,7 @@ use Rattle.cc_site.specs.RecordLaws.{elapses_same}
 use Rattle.cc_site.proofs.memory.MemorySiteSite.read.Goals as goal
 
 pub returns-in_err-count-clause-time : goal.returns-in_err-count-clause-time
-returns-in_err-count-clause-time c honest = elapses_same (bytes_of c.args.self.now.disk) c.args.self.now.disk.steps.items c.args.self.now.outputs.items Nothing
+returns-in_err-count-clause-time c = elapses_same (bytes_of c.args.self.now.disk) c.args.self.now.disk.steps.items c.args.self.now.outputs.items Nothing
 
 pub returns-clause-time : goal.returns-clause-time
-returns-clause-time c honest = elapses_same (bytes_of c.args.self.now.disk) c.args.self.now.disk.steps.items c.args.self.now.outputs.items Nothing
+returns-clause-time c = elapses_same (bytes_of c.args.self.now.disk) c.args.self.now.disk.steps.items c.args.self.now.outputs.items Nothing

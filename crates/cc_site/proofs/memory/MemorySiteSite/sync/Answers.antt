@@ -26,7 +26,7 @@ invariant_of-self-clause-firm_fits c =
     left.firm
 
 pub returns-clause-value : goal.returns-clause-value
-returns-clause-value c honest =
+returns-clause-value c =
     let m = c.args.self.now in
     let side = c.args.side in
     let w = c.sync-outcome in
@@ -36,7 +36,7 @@ returns-clause-value c honest =
     on_ok_like w.result c.count.result (state_now (bytes_of w.new.self) w.new.self.steps.items side ≡ settled (memory_state m side)) alike left.value
 
 pub returns-clause-failed : goal.returns-clause-failed
-returns-clause-failed c honest =
+returns-clause-failed c =
     let m = c.args.self.now in
     let side = c.args.side in
     let w = c.sync-outcome in
@@ -46,7 +46,7 @@ returns-clause-failed c honest =
     on_err_like w.result c.count.result (state_now (bytes_of w.new.self) w.new.self.steps.items side ≡ memory_state m side) alike left.failed
 
 pub returns-clause-other_side : goal.returns-clause-other_side
-returns-clause-other_side c honest =
+returns-clause-other_side c =
     let m = c.args.self.now in
     let side = c.args.side in
     let w = c.sync-outcome in
@@ -55,7 +55,7 @@ returns-clause-other_side c honest =
     left.rest
 
 pub returns-clause-time : goal.returns-clause-time
-returns-clause-time c honest =
+returns-clause-time c =
     let m = c.args.self.now in
     let side = c.args.side in
     let w = c.sync-outcome in
