@@ -3,30 +3,28 @@
 --     stays, advances_both           an engine that was asked for nothing;  one action after another
 --     done_more                      the actions that are done, and one more
 --     put_advances, turn_advances    outputs are put again;  a batch becomes durable, and its outputs are put
---     run_ended                      a life that ends well
---     moments_ended, moments_failed  its moments;  those of one in which a disk call fails
+--     run_ended, run_failed          a life that ends well;  one in which a disk call fails
 use Rattle.std.proofs.Common.{◌≡◌, ℕ, ◌≤◌, List, [], ◌∷◌, ◌++◌, length, refl, sym, ◌∙◌, ap, subst, arith, append_assoc, append-nil, length-append}
-use Rattle.std.specs.Prelude.{◌↔◌, ◌⊎◌, false, None, Ok}
+use Rattle.std.specs.Prelude.{◌⊎◌, false, None, Ok, Err}
 use Rattle.std.proofs.lemmas.List.Concat.{flat_map-append}
 use Rattle.cc_wire.specs.declared.event.Event.{Event}
 use Rattle.cc_wire.specs.declared.output.Output.{Output}
 use Rattle.cc_site.specs.declared.site.Side.{Side}
 use Rattle.cc_site.specs.declared.site.Side.TheVariants.{A, B}
-use Rattle.cc_site.specs.declared.site.DeviceFault.{DeviceFault}
 use Rattle.cc_site.specs.Sides.{SideState}
 use Rattle.cc_site.specs.Moments.{Contents, Possible, EachMoment, started, joined, weaker}
-use Rattle.cc_node.specs.Lawful.{IsLawfulNode}
-use Rattle.cc_node.specs.Node.{Node, IsLawful, after, line}
+use Rattle.cc_node.specs.Node.{Node, after, line}
 use Rattle.cc_node.specs.Histories.{after-append, IsLawful-append}
 use Rattle.cc_node.specs.GoodLaws.{good_for_more}
 use Rattle.cc_journal.specs.declared.entry.Entry.{Entry}
 use Rattle.cc_journal.specs.Batches.{AreLawful, events_in}
-use Rattle.cc_journal.specs.Journals.{IsGood, IsAtRest}
-use Rattle.cc_journal.proofs.Rests.{rests_more_good}
+use Rattle.cc_journal.specs.Journals.{IsGood}
+use Rattle.cc_flush.specs.declared.flusher.Failed.{Failed}
 use Rattle.cc_flush.specs.declared.life.Action.{Action}
 use Rattle.cc_flush.specs.Engine.{Engine, IsPutFrom, room_limit}
 use Rattle.cc_flush.specs.Outlet.{Puts}
 use Rattle.cc_flush.specs.Flushing.{Flushes}
+use Rattle.cc_flush.specs.Putting.{MomentsStayGood, StaysAtRest}
 use Rattle.cc_flush.specs.Lives.{events_by, events_of, outputs_by, outputs_of, BeginsWithTurn, HasLived, Advances, Forfeits, HasRun}
 use Rattle.cc_flush.proofs.Committed.{lawful_after}
 use Rattle.cc_flush.proofs.Flushing.{both_ways}
@@ -84,7 +82,7 @@ module _ {D : Type 0} (honest tells : D → Type 0) (state : D → Side → Side
     same_honest = (λ h. h, λ h. h);
     told = λ t. (t, sym (append-nil (sent e.site)));
     moments = λ h t start before opening was. started moment left_since e.site (IsGood start (before ++ []) (length before) opening)
-        (λ left told since. rests_more_good e.at e.generation start before opening [] left told (was.rests left told (only h left told since)));
+        (λ left told since. good_on_at start before [] (length before) (length before) opening left told (omega arith) (was.good left told (only h left told since)));
     lives = λ h t start before opening was. subst (λ (l : List Event). Lived e start l opening) (sym (append-nil before)) was;
     same_failures = refl;
   }
@@ -121,10 +119,7 @@ module _ {D : Type 0} (honest tells : D → Type 0) (state : D → Side → Side
 
   -- outputs are put again
   module _ (old new : Engine D) (outputs : List Output) (owes : old.owes ≡ false) (none : old.failed ≡ None) (from : IsPutFrom old new) (puts : old.failed ≡ None → Puts honest tells state sent moment left_since failures outputs old.site new.site)
-      (moments : honest old.site → tells new.site → old.failed ≡ None → (start : Node) (events : List Event) (opening : ℕ) → IsLawfulNode start → IsLawful start events → old.twin ≡ after start events
-      → IsAtRest (state old.site) (sent old.site) old.at old.generation start events opening → EachMoment moment left_since old.site new.site (IsGood start events (length events) opening))
-      (rests : honest old.site → tells new.site → old.failed ≡ None → (start : Node) (events : List Event) (opening : ℕ) → IsLawfulNode start → IsLawful start events → old.twin ≡ after start events
-      → IsAtRest (state old.site) (sent old.site) old.at old.generation start events opening → IsAtRest (state new.site) (sent new.site) new.at new.generation start events opening) where
+      (moments : MomentsStayGood honest tells state sent moment left_since old new) (rests : StaysAtRest honest tells state sent old new) where
     pub put_advances : Goes [] outputs old new
     put_advances =
         let run = puts none in
@@ -136,12 +131,12 @@ module _ {D : Type 0} (honest tells : D → Type 0) (state : D → Side → Side
           same_honest = run.same_honest;
           told = run.told;
           moments = λ h t start before opening was. subst (λ (l : List Event). EachMoment moment left_since old.site new.site (IsGood start l (length before) opening)) (sym (append-nil before))
-              (moments h t none start before opening was.sound was.lawful was.twin was.rests);
+              (moments h t none start before opening was.sound was.lawful was.twin was.good);
           lives = λ h t start before opening was. subst (λ (l : List Event). Lived new start l opening) (sym (append-nil before)) (record {
             sound = was.sound;
             lawful = was.lawful;
             twin = from.twin ∙ was.twin;
-            rests = rests h t none start before opening was.sound was.lawful was.twin was.rests;
+            good = rests h t none start before opening was.sound was.lawful was.twin was.good;
           });
           same_failures = run.same_failures;
         }
@@ -155,12 +150,12 @@ module _ {D : Type 0} (honest tells : D → Type 0) (state : D → Side → Side
     same_generation = run.same_generation;
     same_honest = run.same_honest;
     told = run.told;
-    moments = λ h t start before opening was. run.every_moment h t start before opening was.twin was.rests;
+    moments = λ h t start before opening was. run.every_moment h t start before opening was.twin was.good;
     lives = λ h t start before opening was. record {
       sound = was.sound;
       lawful = IsLawful-append start before (events_in batch) was.lawful (lawful_after old.twin start before batch was.twin lawful);
       twin = run.twin ∙ ap (λ (n : Node). after n (events_in batch)) was.twin ∙ sym (after-append start before (events_in batch));
-      rests = run.at_rest h t start before opening was.twin was.rests;
+      good = run.at_rest h t start before opening was.twin was.good;
     };
     same_failures = run.same_failures;
   }
@@ -169,7 +164,7 @@ module _ {D : Type 0} (honest tells : D → Type 0) (state : D → Side → Side
 
   -- actions are done, and the rest, of which there is none or for which there is no room, is given up
   pub run_ended : (old new : Engine D) (actions done rest : List Action) → actions ≡ done ++ rest → Goes (events_of done) (outputs_of old.twin done) old new → (rest ≡ []) ⊎ (BeginsWithTurn rest × (room_limit ≤ new.used))
-      → HasRun honest tells state sent actions old new (Ok tt)
+      → HasRun honest tells state sent moment left_since actions old new (Ok tt)
   run_ended old new actions done rest parts run why = record {
     done = done;
     rest = rest;
@@ -177,33 +172,25 @@ module _ {D : Type 0} (honest tells : D → Type 0) (state : D → Side → Side
     twin = run.twin;
     told = λ t. (run.told t).1;
     stops = why;
-    at_rest = λ h t none start events opening sound lawful twin rests. (run.lives h t start events opening (record { sound = sound; lawful = lawful; twin = twin; rests = rests })).rests;
+    moments = λ h t none start events opening sound lawful twin good. run.moments h t start events opening (record { sound = sound; lawful = lawful; twin = twin; good = good });
+    at_rest = λ h t none start events opening sound lawful twin good. (run.lives h t start events opening (record { sound = sound; lawful = lawful; twin = twin; good = good })).good;
   }
 
-  -- actions are done, and the rest is given up
-  pub moments_ended : (old new : Engine D) (actions done rest : List Action) → actions ≡ done ++ rest → Goes (events_of done) (outputs_of old.twin done) old new → honest old.site → tells new.site
-      → (start : Node) (events : List Event) (opening : ℕ) → IsLawfulNode start → IsLawful start events → old.twin ≡ after start events → IsAtRest (state old.site) (sent old.site) old.at old.generation start events opening
-      → EachMoment moment left_since old.site new.site (IsGood start (events ++ events_of actions) (length events) opening)
-  moments_ended old new actions done rest parts run h t start events opening sound lawful twin rests =
-      let all : (events ++ events_of done) ++ events_of rest ≡ events ++ events_of actions =
-      append_assoc events (events_of done) (events_of rest) ∙ ap (λ (l : List Event). events ++ l) (sym (flat_map-append events_by done rest) ∙ ap events_of (sym parts)) in
-      subst (λ (l : List Event). EachMoment moment left_since old.site new.site (IsGood start l (length events) opening)) all
-      (good_on moment left_since old.site new.site start (events ++ events_of done) (events_of rest) (length events) (length events) opening (omega arith)
-      (run.moments h t start events opening (record { sound = sound; lawful = lawful; twin = twin; rests = rests })))
-
-  -- a disk call failed in the next action
-  pub moments_failed : (old mid new : Engine D) (actions done : List Action) (action : Action) (more : List Action) (fault : DeviceFault) → actions ≡ done ++ action ∷ more → Goes (events_of done) (outputs_of old.twin done) old mid
-      → Forfeits honest tells state sent moment left_since failures action mid new fault → honest old.site → tells new.site
-      → (start : Node) (events : List Event) (opening : ℕ) → IsLawfulNode start → IsLawful start events → old.twin ≡ after start events → IsAtRest (state old.site) (sent old.site) old.at old.generation start events opening
-      → EachMoment moment left_since old.site new.site (IsGood start (events ++ events_of actions) (length events) opening)
-  moments_failed old mid new actions done action more fault parts run failed h t start events opening sound lawful twin rests =
-      let was : Lived old start events opening = record { sound = sound; lawful = lawful; twin = twin; rests = rests } in
-      let mid_told = failed.told.0.1 t in
-      let begun = joined_on moment left_since old.site mid.site new.site start events (events_of done) (events_by action) opening (run.moments h mid_told start events opening was)
-      (failed.moments (run.same_honest.0 h) start (events ++ events_of done) opening (run.lives h mid_told start events opening was)) in
-      let front : events_of actions ≡ (events_of done ++ events_by action) ++ events_of more =
-      ap events_of parts ∙ flat_map-append events_by done (action ∷ more) ∙ sym (append_assoc (events_of done) (events_by action) (events_of more)) in
-      let all : (events ++ (events_of done ++ events_by action)) ++ events_of more ≡ events ++ events_of actions =
-      append_assoc events (events_of done ++ events_by action) (events_of more) ∙ ap (λ (l : List Event). events ++ l) (sym front) in
-      subst (λ (l : List Event). EachMoment moment left_since old.site new.site (IsGood start l (length events) opening)) all
-      (good_on moment left_since old.site new.site start (events ++ (events_of done ++ events_by action)) (events_of more) (length events) (length events) opening (omega arith) begun)
+  -- actions are done, a disk call failed in the next one, and the rest is given up
+  pub run_failed : (old mid new : Engine D) (actions done : List Action) (action : Action) (more : List Action) (failed : Failed) → actions ≡ done ++ action ∷ more → Goes (events_of done) (outputs_of old.twin done) old mid
+      → Forfeits honest tells state sent moment left_since failures action mid new failed.fault → HasRun honest tells state sent moment left_since actions old new (Err failed)
+  run_failed old mid new actions done action more failed parts run fails = record {
+    done = done;
+    rest = action ∷ more;
+    parts = parts;
+    twin = fails.twin ∙ run.twin;
+    told = λ t. fails.told.1 ∙ (run.told (fails.told.0.1 t)).1;
+    stops = λ none. (fails.turn.0, more, ap (λ (a : Action). a ∷ more) fails.turn.1);
+    moments = λ h t none start events opening sound lawful twin good.
+        let was : Lived old start events opening = record { sound = sound; lawful = lawful; twin = twin; good = good } in
+        let mid_told = fails.told.0.1 t in
+        subst (λ (l : List Event). EachMoment moment left_since old.site new.site (IsGood start (events ++ l) (length events) opening)) (sym (events_more done action))
+        (joined_on moment left_since old.site mid.site new.site start events (events_of done) (events_by action) opening (run.moments h mid_told start events opening was)
+        (fails.moments (run.same_honest.0 h) start (events ++ events_of done) opening (run.lives h mid_told start events opening was)));
+    at_rest = λ h t none start events opening sound lawful twin good. tt;
+  }

@@ -11,8 +11,8 @@ use Rattle.cc_site.specs.Moments.{Contents, EachMoment, joined}
 use Rattle.cc_node.specs.Node.{Node, after, line}
 use Rattle.cc_journal.specs.declared.entry.Entry.{Entry}
 use Rattle.cc_journal.specs.Batches.{events_in}
-use Rattle.cc_journal.specs.Journals.{IsGood, IsAtRest}
-use Rattle.cc_flush.specs.Engine.{Engine}
+use Rattle.cc_journal.specs.Journals.{IsGood}
+use Rattle.cc_flush.specs.Engine.{Engine, IsGoodAtRest}
 use Rattle.cc_flush.specs.Flushing.{Flushes}
 
 pub both_ways : {P Q R : Type 0} → P ↔ Q → Q ↔ R → P ↔ R
@@ -27,11 +27,11 @@ module _ {D : Type 0} (honest tells : D → Type 0) (state : D → Side → Side
     pub same_told : (tells old.site ↔ tells mid.site) × (sent mid.site ≡ sent old.site)
     pub same_failures : failures mid.site ≡ failures old.site
     pub every_moment : honest old.site → old.failed ≡ None → (start : Node) (events : List Event) (opening : ℕ) → old.twin ≡ after start events
-        → IsAtRest (state old.site) (sent old.site) old.at old.generation start events opening
+        → IsGoodAtRest (state old.site) (sent old.site) start events (length events) opening
         → EachMoment moment left_since old.site mid.site (IsGood start (events ++ events_in batch) (length events) opening)
     pub at_rest : honest old.site → old.failed ≡ None → (start : Node) (events : List Event) (opening : ℕ) → old.twin ≡ after start events
-        → IsAtRest (state old.site) (sent old.site) old.at old.generation start events opening
-        → IsAtRest (state mid.site) (sent mid.site) mid.at mid.generation start (events ++ events_in batch) opening
+        → IsGoodAtRest (state old.site) (sent old.site) start events (length events) opening
+        → IsGoodAtRest (state mid.site) (sent mid.site) start (events ++ events_in batch) (length (events ++ events_in batch)) opening
 
   pub record Released (batch : List Entry) (mid new : Engine D) : Type 0 where
     pub twin : new.twin ≡ after mid.twin (events_in batch)
@@ -42,11 +42,11 @@ module _ {D : Type 0} (honest tells : D → Type 0) (state : D → Side → Side
     pub told : tells new.site → tells mid.site × (sent new.site ≡ sent mid.site ++ line mid.twin (events_in batch))
     pub same_failures : failures new.site ≡ failures mid.site
     pub every_moment : honest mid.site → tells new.site → (start : Node) (events : List Event) (opening durable : ℕ) → mid.twin ≡ after start events
-        → IsAtRest (state mid.site) (sent mid.site) mid.at mid.generation start (events ++ events_in batch) opening → durable ≤ length (events ++ events_in batch)
+        → IsGoodAtRest (state mid.site) (sent mid.site) start (events ++ events_in batch) (length (events ++ events_in batch)) opening → durable ≤ length (events ++ events_in batch)
         → EachMoment moment left_since mid.site new.site (IsGood start (events ++ events_in batch) durable opening)
     pub at_rest : honest mid.site → tells new.site → (start : Node) (events : List Event) (opening : ℕ) → mid.twin ≡ after start events
-        → IsAtRest (state mid.site) (sent mid.site) mid.at mid.generation start (events ++ events_in batch) opening
-        → IsAtRest (state new.site) (sent new.site) new.at new.generation start (events ++ events_in batch) opening
+        → IsGoodAtRest (state mid.site) (sent mid.site) start (events ++ events_in batch) (length (events ++ events_in batch)) opening
+        → IsGoodAtRest (state new.site) (sent new.site) start (events ++ events_in batch) (length (events ++ events_in batch)) opening
 
   pub flushed : (old mid new : Engine D) (batch : List Entry) → old.failed ≡ None → Written batch old mid → Released batch mid new → Flushes honest tells state sent moment left_since failures batch old new
   flushed old mid new batch none first then = record {

@@ -1,9 +1,8 @@
 -- What reading two sides found stands there, and opening them leaves it so.
-use Rattle.std.proofs.Common.{◌≡◌, inl, inr, ℕ, ◌+◌, ◌-◌, ◌≤◌, List, [], ◌∷◌, ◌++◌, length, drop, Result, Ok, Err, refl, sym, ◌∙◌, ap, subst, arith, length-append}
+use Rattle.std.proofs.Common.{◌≡◌, inl, inr, ℕ, ◌+◌, ◌-◌, ◌≤◌, List, ◌∷◌, ◌++◌, length, drop, Result, Ok, Err, refl, sym, ◌∙◌, ap, subst, arith, length-append}
 use Rattle.std.specs.Prelude.{IfOk, IfErr}
 use Rattle.std.proofs.lemmas.List.{append_assoc}
 use Rattle.cc_wire.proofs.Spelled.{IsBytes}
-use Rattle.cc_wire.specs.declared.output.Output.{Output}
 use Rattle.cc_site.specs.declared.site.Side.{Side}
 use Rattle.cc_site.specs.declared.site.Side.TheVariants.{A, B}
 use Rattle.cc_site.specs.Sides.{SideState, MayLeave, other, settled}
@@ -17,11 +16,11 @@ use Rattle.cc_checkpoint.specs.Choosing.{chosen}
 use Rattle.cc_checkpoint.specs.Heads.{HeadAt}
 use Rattle.cc_checkpoint.proofs.ChoosingLaws.{chosen_takes}
 use Rattle.cc_checkpoint.proofs.HeadLaws.{head_spelled}
-use Rattle.cc_journal.specs.Journals.{Position, IsAtRest}
+use Rattle.cc_journal.specs.Journals.{Position}
 use Rattle.cc_journal.specs.Scanning.{ScansTo}
 use Rattle.cc_flush.specs.declared.opening.Found.{Found}
-use Rattle.cc_flush.specs.Opening.{IsFound, SideFails, ReadingFails, OpenFails}
-use Rattle.cc_flush.proofs.Formatted.{none_made}
+use Rattle.cc_flush.specs.Engine.{IsSettled, StandsNow}
+use Rattle.cc_flush.specs.Opening.{AreSettled, IsFound, SideFails, ReadingFails, OpenFails}
 
 module _ (left : Contents) (used : InUse) (start node : Node) (first size records events : ℕ) (bytes : (side : Side) → IsBytes (left side)) (chose : chosen (left A) (left B) ≡ Ok used) (at_head : HeadAt (left used.side) start first)
     (scans : ScansTo (drop first (left used.side)) start node size records events) where
@@ -69,16 +68,18 @@ only_these : (mid old : Side → SideState) → mid A ≡ settled (old A) → mi
 only_these mid old a b A c may = settled_only (old A) c (subst (λ (t : SideState). MayLeave t c) a may)
 only_these mid old a b B c may = settled_only (old B) c (subst (λ (t : SideState). MayLeave t c) b may)
 
-pub opened_rests : (old mid new : Side → SideState) (sent : List Output) (node : Node) (at : Position) (generation : ℕ) → mid A ≡ settled (old A) → mid B ≡ settled (old B) → new ≡ mid → ((side : Side) → 1 ≤ length (old side).bytes)
-    → StandsAt (old at.side).bytes (old (other at.side)).bytes generation at.place node → IsAtRest new sent at generation node [] (length sent)
-opened_rests old mid new sent node at generation a b same there stands left told possible = record {
-  other_there = subst (λ (l : List ℕ). 1 ≤ length l) (sym (now (other at.side))) (there (other at.side));
-  stands = subst (λ (l : List ℕ). StandsAt l (left (other at.side)) generation at.place node) (sym (now at.side)) (subst (λ (l : List ℕ). StandsAt (old at.side).bytes l generation at.place node) (sym (now (other at.side))) stands);
-  made = none_made node sent told possible.outlet;
-}
+pub are_settled : (old new : Side → SideState) → AreSettled old new → (side : Side) → IsSettled (new side)
+are_settled old new is A = is.0 ∙ ap settled (sym is.0)
+are_settled old new is B = is.1 ∙ ap settled (sym is.1)
+
+pub opened_stands : (old mid new : Side → SideState) (node : Node) (at : Position) (generation : ℕ) → mid A ≡ settled (old A) → mid B ≡ settled (old B) → new ≡ mid
+    → StandsAt (old at.side).bytes (old (other at.side)).bytes generation at.place node → StandsNow new at generation node
+opened_stands old mid new node at generation a b same stands bytes others may may_other =
+    subst (λ (l : List ℕ). StandsAt l others generation at.place node) (sym (now at.side bytes may))
+    (subst (λ (l : List ℕ). StandsAt (old at.side).bytes l generation at.place node) (sym (now (other at.side) others may_other)) stands)
   where
-    now : (side : Side) → left side ≡ (old side).bytes
-    now side = only_these mid old a b side (left side) (subst (λ (t : Side → SideState). MayLeave (t side) (left side)) same (possible.each side))
+    now : (side : Side) (left : List ℕ) → MayLeave (new side) left → left ≡ (old side).bytes
+    now side left possible = only_these mid old a b side left (subst (λ (t : Side → SideState). MayLeave (t side) left) same possible)
 
 -- the same of contents that are the same on each side
 pub same_found : (mid old : Contents) (node : Node) (at : Position) (generation used : ℕ) → ((side : Side) → mid side ≡ old side) → IsFound mid node at generation used → IsFound old node at generation used
@@ -101,9 +102,9 @@ pub same_fails : (mid old : Contents) (result : Result Found OpenFault) → ((si
 same_fails mid old (Ok found) same fails = tt
 same_fails mid old (Err fault) same fails = λ is. same_reading mid old fault same (fails is)
 
-pub if_found : (result : Result Found OpenFault) (old mid new : Side → SideState) (sent : List Output) → mid A ≡ settled (old A) → mid B ≡ settled (old B) → new ≡ mid → ((side : Side) → 1 ≤ length (old side).bytes)
-    → IfOk result (λ found. IsFound (λ side. (mid side).bytes) found.node found.journal found.generation found.used) → IfOk result (λ found. IsAtRest new sent found.journal found.generation found.node [] (length sent))
-if_found (Ok found) old mid new sent a b same there is =
-    opened_rests old mid new sent found.node found.journal found.generation a b same there
+pub if_found : (result : Result Found OpenFault) (old mid new : Side → SideState) → mid A ≡ settled (old A) → mid B ≡ settled (old B) → new ≡ mid
+    → IfOk result (λ found. IsFound (λ side. (mid side).bytes) found.node found.journal found.generation found.used) → IfOk result (λ found. StandsNow new found.journal found.generation found.node)
+if_found (Ok found) old mid new a b same is =
+    opened_stands old mid new found.node found.journal found.generation a b same
     (same_found (λ side. (mid side).bytes) (λ side. (old side).bytes) found.node found.journal found.generation found.used (same_bytes mid old a b) is).stands
-if_found (Err fault) old mid new sent a b same there is = tt
+if_found (Err fault) old mid new a b same is = tt

@@ -5,8 +5,10 @@ mod EventOutputs
 mod LinkSends
 mod Resends
 mod Putting
+mod Keeping
 mod Puts
 mod Committed
 mod Flushing
 mod OneNode
+mod NodeOrFault
 mod Advancing

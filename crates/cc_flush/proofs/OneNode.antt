@@ -9,26 +9,26 @@ use Rattle.cc_checkpoint.specs.Heads.{HeadAt, state_of}
 use Rattle.cc_checkpoint.proofs.HeadLaws.{head_found}
 use Rattle.cc_journal.specs.Scanning.{ScansTo}
 
-abbrev OneState : Type 0
+abbrev pub OneState : Type 0
 OneState = (a b u w : List ℕ) (x y : Node) → SpellsNode a x → SpellsNode b y → a ++ u ≡ b ++ w → (x ≡ y) × (a ≡ b)
 
-abbrev OneScan : Type 0
+abbrev pub OneScan : Type 0
 OneScan = (bytes : List ℕ) (start x y : Node) (size-x size-y records-x records-y events-x events-y : ℕ)
     → ScansTo bytes start x size-x records-x events-x → ScansTo bytes start y size-y records-y events-y
     → (x ≡ y) × (size-x ≡ size-y) × (records-x ≡ records-y) × (events-x ≡ events-y)
 
 -- what a side holds, as it is read
-record Read (bytes : List ℕ) (node : Node) (place : ℕ) : Type 0 where
-  start : Node
-  first : ℕ
-  size : ℕ
-  records : ℕ
-  events : ℕ
-  head : HeadAt bytes start first
-  scans : ScansTo (drop first bytes) start node size records events
-  at_place : place ≡ first + size
+pub record Read (bytes : List ℕ) (node : Node) (place : ℕ) : Type 0 where
+  pub start : Node
+  pub first : ℕ
+  pub size : ℕ
+  pub records : ℕ
+  pub events : ℕ
+  pub head : HeadAt bytes start first
+  pub scans : ScansTo (drop first bytes) start node size records events
+  pub at_place : place ≡ first + size
 
-read : (bytes : List ℕ) (generation : ℕ) (node : Node) (place : ℕ) → Holds bytes generation node place → Read bytes node place
+pub read : (bytes : List ℕ) (generation : ℕ) (node : Node) (place : ℕ) → Holds bytes generation node place → Read bytes node place
 read bytes generation node place holds =
     let front = holds.is_front in
     let rest = front.records ++ holds.gate ∷ holds.rest in

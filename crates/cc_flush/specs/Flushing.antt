@@ -12,8 +12,8 @@ use Rattle.cc_site.specs.Moments.{Contents, EachMoment, Rose}
 use Rattle.cc_node.specs.Node.{Node, after, line}
 use Rattle.cc_journal.specs.declared.entry.Entry.{Entry}
 use Rattle.cc_journal.specs.Batches.{events_in}
-use Rattle.cc_journal.specs.Journals.{IsGood, IsAtRest}
-use Rattle.cc_flush.specs.Engine.{Engine}
+use Rattle.cc_journal.specs.Journals.{IsGood}
+use Rattle.cc_flush.specs.Engine.{Engine, IsGoodAtRest}
 
 module _ {D : Type 0} (honest tells : D → Type 0) (state : D → Side → SideState) (sent : D → List Output) (moment : D → ℕ) (left_since : D → ℕ → Contents → List Output → Type 0) (failures : D → ℕ) where
   -- the engine has taken the events in, and put their outputs; none came before its event was durable
@@ -25,11 +25,11 @@ module _ {D : Type 0} (honest tells : D → Type 0) (state : D → Side → Side
     pub same_honest : honest old.site ↔ honest new.site
     pub told : tells new.site → tells old.site × (sent new.site ≡ sent old.site ++ line old.twin (events_in batch))
     pub every_moment : honest old.site → tells new.site → (start : Node) (events : List Event) (opening : ℕ) → old.twin ≡ after start events
-        → IsAtRest (state old.site) (sent old.site) old.at old.generation start events opening
+        → IsGoodAtRest (state old.site) (sent old.site) start events (length events) opening
         → EachMoment moment left_since old.site new.site (IsGood start (events ++ events_in batch) (length events) opening)
     pub at_rest : honest old.site → tells new.site → (start : Node) (events : List Event) (opening : ℕ) → old.twin ≡ after start events
-        → IsAtRest (state old.site) (sent old.site) old.at old.generation start events opening
-        → IsAtRest (state new.site) (sent new.site) new.at new.generation start (events ++ events_in batch) opening
+        → IsGoodAtRest (state old.site) (sent old.site) start events (length events) opening
+        → IsGoodAtRest (state new.site) (sent new.site) start (events ++ events_in batch) (length (events ++ events_in batch)) opening
     pub same_failures : failures new.site ≡ failures old.site
 
   -- nothing was put, and a crash leaves all of the batch or nothing of it
@@ -41,7 +41,7 @@ module _ {D : Type 0} (honest tells : D → Type 0) (state : D → Side → Side
     pub same_honest : honest old.site ↔ honest new.site
     pub told : (tells old.site ↔ tells new.site) × (sent new.site ≡ sent old.site)
     pub every_moment : honest old.site → (start : Node) (events : List Event) (opening : ℕ) → old.twin ≡ after start events
-        → IsAtRest (state old.site) (sent old.site) old.at old.generation start events opening
+        → IsGoodAtRest (state old.site) (sent old.site) start events (length events) opening
         → EachMoment moment left_since old.site new.site (IsGood start (events ++ events_in batch) (length events) opening)
     pub device : (fault.side ≡ old.at.side) × ((fault.call ≡ Write) ⊎ (fault.call ≡ Sync))
     pub rose : Rose (failures old.site) (failures new.site)

@@ -4,11 +4,12 @@
 --     IsTurnLawful, AreTurnsLawful     a batch has entries, none of which is refused;  each batch has
 --     HasRoom                     there is room for an action
 --     IsTurn, BeginsWithTurn      the action is a Turn;  the first one is
---     HasLived                    an engine rests with these events, from a lawful node on
+--     HasLived                    these events led to an engine's node from a lawful one on, and the moment is good for them
 --     Advances                    it has taken in these events, and put these outputs
 --     Forfeits                    a disk call failed in a Turn, whose batch is given up
+--     begun                       the actions of which anything was done
 --     HasRun                      it has carried out the first of these actions
-use Rattle.std.specs.Prelude.{◌≡◌, ◌↔◌, ◌⊎◌, ◌≤◌, ◌<◌, ⊤, ℕ, List, [], ◌∷◌, ◌++◌, length, false, None, Some, Result, OnOk, MatchResult}
+use Rattle.std.specs.Prelude.{◌≡◌, ◌↔◌, ◌⊎◌, ◌≤◌, ◌<◌, ⊤, ℕ, List, [], ◌∷◌, ◌++◌, length, take, false, None, Some, Ok, Err, Result, OnOk, MatchResult}
 use Rattle.std.specs.List.{flat_map}
 use Rattle.cc_wire.specs.declared.event.Event.{Event}
 use Rattle.cc_wire.specs.declared.output.Output.{Output}
@@ -20,11 +21,11 @@ use Rattle.cc_node.specs.Lawful.{IsLawfulNode}
 use Rattle.cc_node.specs.Node.{Node, IsLawful, after, line}
 use Rattle.cc_journal.specs.declared.entry.Entry.{Entry}
 use Rattle.cc_journal.specs.Batches.{AreLawful, events_in}
-use Rattle.cc_journal.specs.Journals.{IsGood, IsAtRest}
+use Rattle.cc_journal.specs.Journals.{IsGood}
 use Rattle.cc_flush.specs.declared.flusher.Failed.{Failed}
 use Rattle.cc_flush.specs.declared.life.Action.{Action}
 use Rattle.cc_flush.specs.declared.life.Action.TheVariants.{Turn, Resend, Again, Reack}
-use Rattle.cc_flush.specs.Engine.{Engine, room_limit}
+use Rattle.cc_flush.specs.Engine.{Engine, IsGoodAtRest, room_limit}
 use Rattle.cc_flush.specs.Standing.{resends, reply_again, ack_again}
 
 abbrev pub events_by : Action → List Event
@@ -73,7 +74,7 @@ pub record HasLived {D : Type 0} (state : D → Side → SideState) (sent : D �
   pub sound : IsLawfulNode start
   pub lawful : IsLawful start events
   pub twin : engine.twin ≡ after start events
-  pub rests : IsAtRest (state engine.site) (sent engine.site) engine.at engine.generation start events opening
+  pub good : IsGoodAtRest (state engine.site) (sent engine.site) start events (length events) opening
 
 pub record Advances {D : Type 0} (honest tells : D → Type 0) (state : D → Side → SideState) (sent : D → List Output) (moment : D → ℕ) (left_since : D → ℕ → Contents → List Output → Type 0) (failures : D → ℕ)
     (events : List Event) (outputs : List Output) (old new : Engine D) : Type 0 where
@@ -102,8 +103,14 @@ pub record Forfeits {D : Type 0} (honest tells : D → Type 0) (state : D → Si
       → EachMoment moment left_since old.site new.site (IsGood start (before ++ events_by action) (length before) opening)
   pub rose : Rose (failures old.site) (failures new.site)
 
--- the actions `done` have been carried out, and no part of `rest`
-pub record HasRun {D : Type 0} (honest tells : D → Type 0) (state : D → Side → SideState) (sent : D → List Output) (actions : List Action) (old new : Engine D) (result : Result (Unit {0}) Failed) : Type 0 where
+-- those that were carried out, and the Turn in which a disk call failed, if one did
+abbrev pub begun : Result (Unit {0}) Failed → List Action → List Action → List Action
+begun (Ok unit) done rest = done
+begun (Err failed) done rest = done ++ take 1 rest
+
+-- the actions `done` have been carried out, and no part of `rest` but for the batch of the Turn that failed
+pub record HasRun {D : Type 0} (honest tells : D → Type 0) (state : D → Side → SideState) (sent : D → List Output) (moment : D → ℕ) (left_since : D → ℕ → Contents → List Output → Type 0)
+    (actions : List Action) (old new : Engine D) (result : Result (Unit {0}) Failed) : Type 0 where
   pub done : List Action
   pub rest : List Action
   pub parts : actions ≡ done ++ rest
@@ -111,7 +118,12 @@ pub record HasRun {D : Type 0} (honest tells : D → Type 0) (state : D → Side
   pub told : tells new.site → sent new.site ≡ sent old.site ++ outputs_of old.twin done
   -- all of them, unless there is no room for the next batch or a disk call failed in it
   pub stops : MatchResult result (λ _. (rest ≡ []) ⊎ (BeginsWithTurn rest × (room_limit ≤ new.used))) (λ _. old.failed ≡ None → BeginsWithTurn rest)
+  -- what was given up unbegun has no part in any moment
+  pub moments : honest old.site → tells new.site → old.failed ≡ None → (start : Node) (events : List Event) (opening : ℕ)
+      → IsLawfulNode start → IsLawful start events → old.twin ≡ after start events
+      → IsGoodAtRest (state old.site) (sent old.site) start events (length events) opening
+      → EachMoment moment left_since old.site new.site (IsGood start (events ++ events_of (begun result done rest)) (length events) opening)
   pub at_rest : honest old.site → tells new.site → old.failed ≡ None → (start : Node) (events : List Event) (opening : ℕ)
       → IsLawfulNode start → IsLawful start events → old.twin ≡ after start events
-      → IsAtRest (state old.site) (sent old.site) old.at old.generation start events opening
-      → OnOk result (IsAtRest (state new.site) (sent new.site) new.at new.generation start (events ++ events_of done) opening)
+      → IsGoodAtRest (state old.site) (sent old.site) start events (length events) opening
+      → OnOk result (IsGoodAtRest (state new.site) (sent new.site) start (events ++ events_of done) (length (events ++ events_of done)) opening)

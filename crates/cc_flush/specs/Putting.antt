@@ -9,20 +9,20 @@ use Rattle.cc_site.specs.Sides.{SideState}
 use Rattle.cc_site.specs.Moments.{Contents, EachMoment}
 use Rattle.cc_node.specs.Lawful.{IsLawfulNode}
 use Rattle.cc_node.specs.Node.{Node, IsLawful, after}
-use Rattle.cc_journal.specs.Journals.{IsGood, IsAtRest}
-use Rattle.cc_flush.specs.Engine.{Engine}
+use Rattle.cc_journal.specs.Journals.{IsGood}
+use Rattle.cc_flush.specs.Engine.{Engine, IsGoodAtRest}
 
 module _ {D : Type 0} (honest tells : D → Type 0) (state : D → Side → SideState) (sent : D → List Output) where
   abbrev pub MomentsStayGood : (D → ℕ) → (D → ℕ → Contents → List Output → Type 0) → Engine D → Engine D → Type 0
   MomentsStayGood moment left_since old new =
       honest old.site → tells new.site → old.failed ≡ None → (start : Node) (events : List Event) (opening : ℕ)
       → IsLawfulNode start → IsLawful start events → old.twin ≡ after start events
-      → IsAtRest (state old.site) (sent old.site) old.at old.generation start events opening
+      → IsGoodAtRest (state old.site) (sent old.site) start events (length events) opening
       → EachMoment moment left_since old.site new.site (IsGood start events (length events) opening)
 
   abbrev pub StaysAtRest : Engine D → Engine D → Type 0
   StaysAtRest old new =
       honest old.site → tells new.site → old.failed ≡ None → (start : Node) (events : List Event) (opening : ℕ)
       → IsLawfulNode start → IsLawful start events → old.twin ≡ after start events
-      → IsAtRest (state old.site) (sent old.site) old.at old.generation start events opening
-      → IsAtRest (state new.site) (sent new.site) new.at new.generation start events opening
+      → IsGoodAtRest (state old.site) (sent old.site) start events (length events) opening
+      → IsGoodAtRest (state new.site) (sent new.site) start events (length events) opening

@@ -14,8 +14,8 @@ ghost use Rattle.cc_node.specs.Node.{Node as NodeValue, IsLawful, after, line};
 ghost use Rattle.cc_node.specs.Sides.{StandsAt};
 ghost use Rattle.cc_checkpoint.specs.Faults.{FaultRose};
 ghost use Rattle.cc_journal.specs.Batches.{AreLawful, events_in};
-ghost use Rattle.cc_journal.specs.Journals.{IsGood, IsAtRest};
-ghost use Rattle.cc_flush.specs.Engine.{IsPutFrom, room_limit};
+ghost use Rattle.cc_journal.specs.Journals.{IsGood};
+ghost use Rattle.cc_flush.specs.Engine.{IsGoodAtRest, IsOwed, IsPutFrom, room_limit};
 ghost use Rattle.cc_flush.specs.Flushing.{Flushes, GivesUp};
 ghost use Rattle.cc_flush.specs.Formatting.{KeepsOutlet};
 ghost use Rattle.cc_flush.specs.Opening.{AreSettled, OpenFails, OpenStops, Opens};
@@ -78,7 +78,7 @@ impl<S: Site> Model for Flusher<S> {
 
     ghost view = { λ f. record { site = f.site; twin = f.node; at = f.journal; generation = f.generation; used = f.used; owes = f.owes; failed = f.failed } };
 
-    ghost invariant = { λ f. IsSound S.honest S.state f.site f.journal f.used f.failed };
+    ghost invariant = { λ f. IsSound S.honest S.state (record { site = f.site; twin = f.node; at = f.journal; generation = f.generation; used = f.used; owes = f.owes; failed = f.failed }) };
 }
 
 // Up to how many bytes of a side there is room for a record.
@@ -142,7 +142,7 @@ impl<S: Site> Flusher<S> {
         ensures every_moment { S.honest site → MatchResult result (λ opened. EachMoment S.moment S.left_since site opened.0.site (Possible (S.state site) (S.sent site)))
             (λ b. EachMoment S.moment S.left_since site b.site (Possible (S.state site) (S.sent site))) }
         ensures at_rest { S.honest site → ((side : SideValue) → 1 ≤ length (S.state site side).bytes)
-            → IfOk result (λ opened. IsAtRest (S.state opened.0.site) (S.sent opened.0.site) opened.0.at opened.0.generation opened.0.twin [] (length (S.sent opened.0.site))) }
+            → IfOk result (λ opened. IsGoodAtRest (S.state opened.0.site) (S.sent opened.0.site) opened.0.twin [] 0 (length (S.sent opened.0.site))) }
         ensures count { MatchResult result (λ opened. S.failures opened.0.site ≡ S.failures site) (λ b. FaultRose Opens (S.failures site) (S.failures b.site) b.fault) }
     {
         let mut site = site;
@@ -198,6 +198,7 @@ impl<S: Site> Flusher<S> {
         requires room { self.old.used < 2 ^ 61 }
         ensures ended { (fault : DeviceFault) → self.old.failed ≡ Some fault → (result ≡ Err (record { fault = fault })) × (self.new ≡ self.old) }
         ensures landed { IfOk result (λ landed. landed ≡ batch) }
+        ensures owed { IfOk result (IsOwed S.honest S.state self.new) }
         ensures owes { MatchResult result (λ _. self.new.owes ≡ true) (λ _. self.new.owes ≡ false) }
         ensures same_twin { self.new.twin ≡ self.old.twin }
         ensures goes_on { OnOk result (self.new.failed ≡ None) }
@@ -208,12 +209,12 @@ impl<S: Site> Flusher<S> {
         ensures other_side { S.honest self.old.site → S.state self.new.site (other self.old.at.side) ≡ S.state self.old.site (other self.old.at.side) }
         ensures every_moment { S.honest self.old.site → self.old.failed ≡ None → (start : NodeValue) (events : List EventValue) (opening : ℕ)
             → self.old.twin ≡ after start events
-            → IsAtRest (S.state self.old.site) (S.sent self.old.site) self.old.at self.old.generation start events opening
+            → IsGoodAtRest (S.state self.old.site) (S.sent self.old.site) start events (length events) opening
             → EachMoment S.moment S.left_since self.old.site self.new.site (IsGood start (events ++ events_in batch) (length events) opening) }
         ensures at_rest { S.honest self.old.site → self.old.failed ≡ None → (start : NodeValue) (events : List EventValue) (opening : ℕ)
             → self.old.twin ≡ after start events
-            → IsAtRest (S.state self.old.site) (S.sent self.old.site) self.old.at self.old.generation start events opening
-            → OnOk result (IsAtRest (S.state self.new.site) (S.sent self.new.site) self.new.at self.new.generation start (events ++ events_in batch) opening) }
+            → IsGoodAtRest (S.state self.old.site) (S.sent self.old.site) start events (length events) opening
+            → OnOk result (IsGoodAtRest (S.state self.new.site) (S.sent self.new.site) start (events ++ events_in batch) (length (events ++ events_in batch)) opening) }
         ensures device { self.old.failed ≡ None → IfErr result (λ f. (f.fault.side ≡ self.old.at.side) × ((f.fault.call ≡ Write) ⊎ (f.fault.call ≡ Sync))) }
         ensures count { self.old.failed ≡ None → MatchResult result (λ _. S.failures self.new.site ≡ S.failures self.old.site) (λ _. Rose (S.failures self.old.site) (S.failures self.new.site)) }
     {
@@ -231,11 +232,10 @@ impl<S: Site> Flusher<S> {
         }
     }
 
-    /// Takes the events of the batch that `commit` answered last into the node, and puts the outputs of each in turn. It
-    /// makes no disk call, takes no memory and can't fail. Nothing is owed then.
+    /// Takes the events of the batch that is owed, which `commit` answered last, into the node, and puts the outputs of each
+    /// in turn. It makes no disk call, takes no memory and can't fail. Nothing is owed then.
     pub fn release(&mut self, landed: Landed)
-        requires owes { self.old.owes ≡ true }
-        requires lawful { AreLawful self.old.twin landed }
+        requires owed { IsOwed S.honest S.state self.old landed }
         ensures twin { self.new.twin ≡ after self.old.twin (events_in landed) }
         ensures owes { self.new.owes ≡ false }
         ensures same { (self.new.at ≡ self.old.at) × (self.new.generation ≡ self.old.generation) × (self.new.used ≡ self.old.used) × (self.new.failed ≡ self.old.failed) }
@@ -244,13 +244,13 @@ impl<S: Site> Flusher<S> {
         ensures told { S.tells self.new.site → S.tells self.old.site × (S.sent self.new.site ≡ S.sent self.old.site ++ line self.old.twin (events_in landed)) }
         ensures every_moment { S.honest self.old.site → S.tells self.new.site → (start : NodeValue) (events : List EventValue) (opening durable : ℕ)
             → self.old.twin ≡ after start events
-            → IsAtRest (S.state self.old.site) (S.sent self.old.site) self.old.at self.old.generation start (events ++ events_in landed) opening
+            → IsGoodAtRest (S.state self.old.site) (S.sent self.old.site) start (events ++ events_in landed) (length (events ++ events_in landed)) opening
             → durable ≤ length (events ++ events_in landed)
             → EachMoment S.moment S.left_since self.old.site self.new.site (IsGood start (events ++ events_in landed) durable opening) }
         ensures at_rest { S.honest self.old.site → S.tells self.new.site → (start : NodeValue) (events : List EventValue) (opening : ℕ)
             → self.old.twin ≡ after start events
-            → IsAtRest (S.state self.old.site) (S.sent self.old.site) self.old.at self.old.generation start (events ++ events_in landed) opening
-            → IsAtRest (S.state self.new.site) (S.sent self.new.site) self.new.at self.new.generation start (events ++ events_in landed) opening }
+            → IsGoodAtRest (S.state self.old.site) (S.sent self.old.site) start (events ++ events_in landed) (length (events ++ events_in landed)) opening
+            → IsGoodAtRest (S.state self.new.site) (S.sent self.new.site) start (events ++ events_in landed) (length (events ++ events_in landed)) opening }
         ensures count { S.failures self.new.site ≡ S.failures self.old.site }
     {
         put_entries(&mut self.node, &mut self.site, landed.into_batch());

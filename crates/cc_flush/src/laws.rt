@@ -1,11 +1,16 @@
 //! Laws of what two sides stand for. Each is a function whose contract is the law.
 
-ghost use Rattle.std.specs.Prelude.{◌≡◌, ◌↔◌, ◌≤◌, ◌++◌, ℕ, List, length};
+ghost use Rattle.std.specs.Prelude.{◌≡◌, ◌↔◌, ◌≤◌, ◌<◌, ◌++◌, ℕ, List, length, slice_index};
 ghost use Rattle.cc_wire.specs.declared.event.Event.{Event};
 ghost use Rattle.cc_wire.specs.declared.output.Output.{Output};
+ghost use Rattle.cc_site.specs.declared.site.Side.{Side};
+ghost use Rattle.cc_site.specs.declared.site.Side.TheVariants.{A, B};
+ghost use Rattle.cc_site.specs.Moments.{Contents};
 ghost use Rattle.cc_node.specs.Node.{Node, after};
 ghost use Rattle.cc_node.specs.Sides.{IsArmed, StandsAt, StandsIn, Stands};
 ghost use Rattle.cc_node.specs.Good.{IsGoodAt, RestsAt};
+ghost use Rattle.cc_checkpoint.specs.declared.open_fault.OpenFault.{OpenFault};
+ghost use Rattle.cc_flush.specs.Opening.{IsReadingFault, ReadingFails};
 
 use cc_checkpoint::one_spelling_of_nodes;
 use cc_journal::scans_once;
@@ -22,10 +27,25 @@ pub fn one_node()
     scans_once();
 }
 
-/// What lies behind the closed gate of a side has no part in what is good.
+/// Two sides stand for a node, or the reading rules name a fault: never both, one fault and no other, and it can't be that
+/// there is neither. So `Flusher::open` answers Ok just where a node stands, and a fault of the reading rules just where
+/// they name it, but for the device's faults and want of memory.
+pub fn node_or_fault()
+    ensures apart { (left : Contents) (node : Node) (fault : OpenFault) → Stands (left A) (left B) node → IsReadingFault fault → ReadingFails left fault → ⊥ }
+    ensures one { (left : Contents) (first second : OpenFault) → IsReadingFault first → IsReadingFault second → ReadingFails left first → ReadingFails left second → first ≡ second }
+    ensures neither { (left : Contents) → ((side : Side) (place : ℕ) → slice_index (left side) place < 256)
+        → ((node : Node) → Stands (left A) (left B) node → ⊥) → ((fault : OpenFault) → IsReadingFault fault → ReadingFails left fault → ⊥) → ⊥ }
+{
+    one_spelling_of_nodes();
+    scans_once();
+}
+
+/// What lies behind the closed gate of a side, either side, has no part in what is good.
 pub fn shut_side()
-    ensures { (a b changed : List ℕ) → ¬ (IsArmed a) → ¬ (IsArmed changed) → (start : Node) (events : List Event) (durable opening : ℕ) (told : List Output)
-        → 1 ≤ length changed → IsGoodAt start events durable opening a b told → IsGoodAt start events durable opening changed b told }
+    ensures first { (a b changed : List ℕ) → ¬ (IsArmed a) → ¬ (IsArmed changed) → 1 ≤ length a → 1 ≤ length changed → (start : Node) (events : List Event) (durable opening : ℕ) (told : List Output)
+        → IsGoodAt start events durable opening a b told ↔ IsGoodAt start events durable opening changed b told }
+    ensures second { (a b changed : List ℕ) → ¬ (IsArmed b) → ¬ (IsArmed changed) → 1 ≤ length b → 1 ≤ length changed → (start : Node) (events : List Event) (durable opening : ℕ) (told : List Output)
+        → IsGoodAt start events durable opening a b told ↔ IsGoodAt start events durable opening a changed told }
 {}
 
 /// A moment that is good stays so for more events, and for fewer durable ones.

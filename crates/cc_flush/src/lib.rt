@@ -14,5 +14,5 @@ mod standing;
 pub use back::Back;
 pub use flusher::{Failed, Flusher};
 pub use formatting::{FormatFault, format};
-pub use laws::{good_for_more, one_node, rests_with_all, shut_side};
+pub use laws::{good_for_more, node_or_fault, one_node, rests_with_all, shut_side};
 pub use life::Action;

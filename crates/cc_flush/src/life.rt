@@ -1,13 +1,9 @@
 //! A life of an engine: what it is asked for, in turn.
 
-ghost use Rattle.std.specs.Prelude.{◌≡◌, ◌↔◌, ◌≤◌, ◌++◌, ℕ, List, false, None, Some, Err, MatchBool, IfErr, OnOk, MatchResult, length};
-ghost use Rattle.cc_wire.specs.declared.event.Event.{Event as EventValue};
-ghost use Rattle.cc_site.specs.Moments.{EachMoment, Rose};
-ghost use Rattle.cc_node.specs.Lawful.{IsLawfulNode};
-ghost use Rattle.cc_node.specs.Node.{Node as NodeValue, IsLawful, after};
-ghost use Rattle.cc_journal.specs.Journals.{IsGood, IsAtRest};
+ghost use Rattle.std.specs.Prelude.{◌≡◌, ◌↔◌, ◌≤◌, false, None, Some, Err, MatchBool, IfErr, OnOk, MatchResult};
+ghost use Rattle.cc_site.specs.Moments.{Rose};
 ghost use Rattle.cc_flush.specs.Engine.{room_limit};
-ghost use Rattle.cc_flush.specs.Lives.{events_by, events_of, outputs_by, IsTurnLawful, AreTurnsLawful, HasRoom, IsTurn, Advances, Forfeits, HasRun};
+ghost use Rattle.cc_flush.specs.Lives.{events_by, outputs_by, IsTurnLawful, AreTurnsLawful, HasRoom, IsTurn, Advances, Forfeits, HasRun};
 
 use crate::flusher::{Failed, Flusher};
 use cc_journal::Batch;
@@ -40,12 +36,8 @@ impl<S: Site> Flusher<S> {
         ensures same_generation { self.new.generation ≡ self.old.generation }
         ensures honest { S.honest self.old.site ↔ S.honest self.new.site }
         ensures tells { S.tells self.new.site → S.tells self.old.site }
-        // How many actions were carried out, and what those came to.
-        ensures run { HasRun S.honest S.tells S.state S.sent actions.items self.old self.new result }
-        ensures every_moment { S.honest self.old.site → S.tells self.new.site → self.old.failed ≡ None → (start : NodeValue) (events : List EventValue) (opening : ℕ)
-            → IsLawfulNode start → IsLawful start events → self.old.twin ≡ after start events
-            → IsAtRest (S.state self.old.site) (S.sent self.old.site) self.old.at self.old.generation start events opening
-            → EachMoment S.moment S.left_since self.old.site self.new.site (IsGood start (events ++ events_of actions.items) (length events) opening) }
+        // How many actions were carried out, what those came to, and each moment of them.
+        ensures run { HasRun S.honest S.tells S.state S.sent S.moment S.left_since actions.items self.old self.new result }
         ensures count { self.old.failed ≡ None → MatchResult result (λ _. S.failures self.new.site ≡ S.failures self.old.site) (λ _. Rose (S.failures self.old.site) (S.failures self.new.site)) }
     {
         if let Some(fault) = self.fault() {

@@ -1,6 +1,6 @@
 //! What two sides keep is found again.
 
-ghost use Rattle.std.specs.Prelude.{max, ◌≡◌, ◌↔◌, ◌≤◌, [], length, OnOk, IfOk, IfErr, MatchResult, ℕ};
+ghost use Rattle.std.specs.Prelude.{max, ◌≡◌, ◌↔◌, ◌≤◌, OnOk, IfOk, IfErr, MatchResult, ℕ};
 ghost use Rattle.cc_site.specs.declared.site.Side.{Side as SideValue};
 ghost use Rattle.cc_site.specs.declared.site.Side.TheVariants.{A, B};
 ghost use Rattle.cc_site.specs.Moments.{Elapses, EachMoment, Possible, Nothing};
@@ -8,8 +8,8 @@ ghost use Rattle.cc_site.specs.Reads.{OnlyReads, bytes_of};
 ghost use Rattle.cc_site.specs.Telling.{LooksAt, LooksAtEither};
 ghost use Rattle.cc_checkpoint.specs.declared.open_fault.OpenFault.TheVariants as faults;
 ghost use Rattle.cc_checkpoint.specs.Faults.{CountsDevice};
-ghost use Rattle.cc_journal.specs.Journals.{IsAtRest};
 ghost use Rattle.cc_journal.specs.Reading.{IsScanned};
+ghost use Rattle.cc_flush.specs.Engine.{StandsNow};
 ghost use Rattle.cc_flush.specs.Opening.{AreSettled, IsFound, IsReadingFault, OpenFails, OpenStops, Opens, RecordsFail, Syncs, of_scan};
 
 use cc_checkpoint::{InUse, OpenFault, choose, read_state};
@@ -110,8 +110,7 @@ pub(crate) fn open_sides<S: Site>(alloc: Global, site: &mut S) -> Result<Found, 
     ensures settled { S.honest site.old → OnOk result (AreSettled (S.state site.old) (S.state site.new)) }
     ensures stops { S.honest site.old → IfErr result (OpenStops (S.state site.old) (S.state site.new)) }
     ensures same_bytes { S.honest site.old → OnOk result ((side : SideValue) → (S.state site.new side).bytes ≡ (S.state site.old side).bytes) }
-    ensures at_rest { S.honest site.old → ((side : SideValue) → 1 ≤ length (S.state site.old side).bytes)
-        → IfOk result (λ found. IsAtRest (S.state site.new) (S.sent site.new) found.journal found.generation found.node [] (length (S.sent site.new))) }
+    ensures stands { S.honest site.old → IfOk result (λ found. StandsNow (S.state site.new) found.journal found.generation found.node) }
     ensures fault { CountsDevice Opens (S.failures site.old) (S.failures site.new) result }
 {
     settle_sides(site)?;

@@ -24,12 +24,12 @@ returns-clause-every_moment g c honest =
     (rests s.moment s.left_since old old mid P (started s.moment s.left_since old P (g.met.S.Site.only_now old honest)) (c.settle_sides.ensures.time honest))
     (c.read_sides.ensures.reads.no_moment h)
 
-pub returns-clause-at_rest : goal.returns-clause-at_rest
-returns-clause-at_rest g c honest there =
+pub returns-clause-stands : goal.returns-clause-stands
+returns-clause-stands g c honest =
     let s = g.S.Site in
     let old = c.args.site.now in
     let mid = c.settle_sides.new.site in
     let new = c.read_sides.new.site in
     let h = c.settle_sides.ensures.honest.0 honest in
     let value = c.in_ok-settle_sides.ensures.value honest in
-    if_found c.read_sides.result (s.state old) (s.state mid) (s.state new) (s.sent new) value.0 value.1 (c.read_sides.ensures.reads.keeps_state h) there (c.read_sides.ensures.found h)
+    if_found c.read_sides.result (s.state old) (s.state mid) (s.state new) value.0 value.1 (c.read_sides.ensures.reads.keeps_state h) (c.read_sides.ensures.found h)

@@ -23,7 +23,7 @@ returns-in_err-flush-in-Turn g c =
       same_honest = e.same_honest;
       told = e.told;
       moments = λ h start before opening was. subst (λ a. EachMoment s.moment s.left_since old.site new.site (IsGood start (before ++ events_by a) (length before) opening)) (sym c.in-Turn.is)
-          (e.every_moment h start before opening was.twin was.rests);
+          (e.every_moment h start before opening was.twin was.good);
       rose = e.rose;
     })
 

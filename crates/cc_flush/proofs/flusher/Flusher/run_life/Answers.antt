@@ -1,8 +1,9 @@
 use Rattle.std.proofs.Common.{◌≡◌, inl, inr, List, [], ◌∷◌, ◌++◌, length, refl, sym, ◌∙◌, ap, subst, arith, rules, append_assoc, append-nil}
+use Rattle.std.proofs.lemmas.Result.{err_from_is_err_and}
 use Rattle.std.specs.Vec.Iter.{into_iter_items}
 use Rattle.cc_flush.specs.declared.life.Action.{Action}
 use Rattle.cc_flush.specs.Lives.{AreTurnsLawful, BeginsWithTurn, IsTurn}
-use Rattle.cc_flush.proofs.Advancing.{stays, done_more, run_ended, moments_ended, moments_failed}
+use Rattle.cc_flush.proofs.Advancing.{stays, done_more, run_ended, run_failed}
 use Rattle.cc_flush.proofs.flusher.Flusher.run_life.Goals as goal
 
 nothing_left : (actions : List Action) → length actions ≡ 0 → actions ≡ []
@@ -23,6 +24,7 @@ returns-in-Some-clause-run g c =
       twin = refl;
       told = λ t. sym (append-nil (s.sent old.site));
       stops = λ none. absurd cc;
+      moments = λ h t none. absurd cc;
       at_rest = λ h t none start events opening sound lawful twin rests. tt;
     }
 
@@ -64,21 +66,16 @@ returns-then-not-has_room_for-clause-run g c =
     run_ended s.honest s.tells s.state s.sent s.moment s.left_since s.failures c.args.self.now at.self c.args.actions.items at.yielded (action ∷ rest) (at.invariant.parts ∙ ap (λ l. at.yielded ++ l) steps) at.invariant.run
     (inr (turn_first action rest full.0, full.1))
 
-pub returns-then-not-has_room_for-clause-every_moment : goal.returns-then-not-has_room_for-clause-every_moment
-returns-then-not-has_room_for-clause-every_moment g c honest tells none =
-    let s = g.S.Site in
-    let at = c.loop-action in
-    moments_ended s.honest s.tells s.state s.sent s.moment s.left_since s.failures c.args.self.now at.self c.args.actions.items at.yielded (into_iter_items at.action-iterator) at.invariant.parts at.invariant.run honest tells
-
-pub returns-in_err-act-clause-every_moment : goal.returns-in_err-act-clause-every_moment
-returns-in_err-act-clause-every_moment g c honest tells none =
+pub returns-in_err-act-clause-run : goal.returns-in_err-act-clause-run
+returns-in_err-act-clause-run g c =
     let s = g.S.Site in
     let at = c.loop-action in
     let action = c.in-Some-action.action in
     let rest = into_iter_items c.next.new.self in
     let steps : into_iter_items at.action-iterator ≡ action ∷ rest = c.in-Some-action.ensures.steps.0 in
-    moments_failed s.honest s.tells s.state s.sent s.moment s.left_since s.failures c.args.self.now at.self c.act.new.self c.args.actions.items at.yielded action rest c.in_err-act.field-0.0.fault
-    (at.invariant.parts ∙ ap (λ l. at.yielded ++ l) steps) at.invariant.run c.in_err-act.ensures honest tells
+    let p = err_from_is_err_and c.from_residual.result c.from_residual.ensures.1 in
+    rw (p.1, p.2) (run_failed s.honest s.tells s.state s.sent s.moment s.left_since s.failures c.args.self.now at.self c.act.new.self c.args.actions.items at.yielded action rest c.in_err-act.field-0.0
+    (at.invariant.parts ∙ ap (λ l. at.yielded ++ l) steps) at.invariant.run c.in_err-act.ensures)
 
 pub returns-clause-run : goal.returns-clause-run
 returns-clause-run g c =
@@ -86,9 +83,3 @@ returns-clause-run g c =
     let at = c.loop-action in
     let empty = nothing_left (into_iter_items at.action-iterator) (sym at.invariant.count ∙ c.in-None.ensures.steps.0) in
     run_ended s.honest s.tells s.state s.sent s.moment s.left_since s.failures c.args.self.now at.self c.args.actions.items at.yielded (into_iter_items at.action-iterator) at.invariant.parts at.invariant.run (inl empty)
-
-pub returns-clause-every_moment : goal.returns-clause-every_moment
-returns-clause-every_moment g c honest tells none =
-    let s = g.S.Site in
-    let at = c.loop-action in
-    moments_ended s.honest s.tells s.state s.sent s.moment s.left_since s.failures c.args.self.now at.self c.args.actions.items at.yielded (into_iter_items at.action-iterator) at.invariant.parts at.invariant.run honest tells
