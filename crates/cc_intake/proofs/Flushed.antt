@@ -5,12 +5,13 @@ use Rattle.std.specs.Prelude.{false, None}
 use Rattle.cc_wire.specs.declared.event.Event.{Event}
 use Rattle.cc_wire.specs.declared.output.Output.{Output}
 use Rattle.cc_site.specs.declared.site.Side.{Side}
+use Rattle.cc_site.specs.declared.site.Side.TheVariants.{A, B}
 use Rattle.cc_site.specs.Sides.{SideState}
 use Rattle.cc_site.specs.Moments.{Contents, Possible, started}
+use Rattle.cc_node.specs.GoodLaws.{good_for_more}
 use Rattle.cc_journal.specs.declared.entry.Entry.{Entry}
-use Rattle.cc_journal.specs.Journals.{IsGood, IsAtRest}
-use Rattle.cc_journal.proofs.Rests.{rests_more_good}
-use Rattle.cc_flush.specs.Engine.{Engine}
+use Rattle.cc_journal.specs.Journals.{IsGood}
+use Rattle.cc_flush.specs.Engine.{Engine, IsGoodAtRest}
 use Rattle.cc_flush.specs.Flushing.{Flushes}
 
 no_entry : (batch : List Entry) → length batch ≡ 0 → batch ≡ []
@@ -28,8 +29,8 @@ module _ {D : Type 0} (honest tells : D → Type 0) (state : D → Side → Side
     same_generation = refl;
     same_honest = (λ h. h, λ h. h);
     told = λ t. (t, sym (append-nil (sent e.site)));
-    every_moment = λ h t start events opening is rests. started moment left_since e.site (IsGood start (events ++ []) (length events) opening)
-        (λ left told since. rests_more_good e.at e.generation start events opening [] left told (rests left told (only h left told since)));
-    at_rest = λ h t start events opening is rests. subst (λ (l : List Event). IsAtRest (state e.site) (sent e.site) e.at e.generation start l opening) (sym (append-nil events)) rests;
+    every_moment = λ h t start events opening is good. started moment left_since e.site (IsGood start (events ++ []) (length events) opening)
+        (λ left told since. good_for_more start events [] (length events) (length events) opening (left A) (left B) told (omega arith) (good left told (only h left told since)));
+    at_rest = λ h t start events opening is good. subst (λ (l : List Event). IsGoodAtRest (state e.site) (sent e.site) start l (length l) opening) (sym (append-nil events)) good;
     same_failures = refl;
   })

@@ -13,7 +13,7 @@ use Rattle.cc_journal.specs.Batches.{AreLawful}
 use Rattle.cc_intake.specs.Histories.{life_limit, core_after}
 use Rattle.cc_journal.specs.BatchLaws.{lawful_both, lawful_front}
 use Rattle.cc_intake.specs.declared.rule.Hand.{Hand}
-use Rattle.cc_intake.specs.Line.{hand, newcomer, producer, consumer, nobody, both, found, EndsWith, Pushed, Popped, Knows, IsOneLine}
+use Rattle.cc_intake.specs.Line.{hand, newcomer, producer, consumer, nobody, both, found, WasRest, Pushed, Popped, Knows, IsOneLine}
 
 at_end : (l : List Hand) (a b : Hand) (j : ℕ) → get_elem? l j ≢ some b → get_elem? (l ++ a ∷ []) j ≡ some b → j ≡ length l
 at_end [] a b zero n e = refl
@@ -34,8 +34,8 @@ all_snoc F views w old new j u e = ⊎_elim (λ (x : get_elem? views j ≡ some 
 off : false ≡ true → ⊥
 off e = true≢false (sym e)
 
-pub begins : (opening : Node) (reached : List Entry → Type 0) → reached [] → IsOneLine opening reached [] (newcomer ∷ [])
-begins opening reached start = record {
+pub begins : (opening : Node) (reached taken : List Entry → Type 0) → reached [] × taken [] → IsOneLine opening reached taken [] (newcomer ∷ [])
+begins opening reached taken start = record {
   pusher = 0;
   popper = 0;
   sent = [];
@@ -43,7 +43,8 @@ begins opening reached start = record {
   whole = refl;
   lawful = tt;
   limit = omega arith;
-  here = start;
+  here = start.0;
+  there = start.1;
   knows = one;
 }
   where
@@ -51,10 +52,10 @@ begins opening reached start = record {
     one zero v e = subst (Knows 0 0 [] [] 0) (some-injective _ _ e) ((λ _. (refl, refl)), (λ _. (refl, refl)))
     one (suc j) v e = absurd (some-ne-none v (sym e))
 
-pub pushes : (opening : Node) (reached : List Entry → Type 0) (n port : ℕ) (v : Hand) (x : Entry)
+pub pushes : (opening : Node) (reached taken : List Entry → Type 0) (n port : ℕ) (v : Hand) (x : Entry)
     → v.pushes ≡ true → length v.sent < life_limit → decides (core_after opening v.sent) x.event ≡ None → x.made ≡ made (core_after opening v.sent) x.event → reached (v.sent ++ x ∷ [])
-    → Pushes (IsOneLine opening reached) n port v x (Pushed v x)
-pushes opening reached n port v x may room accepted its_made reach items views _ h at =
+    → Pushes (IsOneLine opening reached taken) n port v x (Pushed v x)
+pushes opening reached taken n port v x may room accepted its_made reach items views _ h at =
     let w : Hand = hand v.pushes v.pops (v.sent ++ x ∷ []) v.got v.finds in
     let mine = h.knows port v at in
     let is : v.sent ≡ h.sent = (mine.0 may).1 in
@@ -69,6 +70,7 @@ pushes opening reached n port v x may room accepted its_made reach items views _
         lawful = lawful_both opening h.sent (x ∷ []) h.lawful
             (subst (λ (l : List Entry). decides (core_after opening l) x.event ≡ None) is accepted, subst (λ (l : List Entry). x.made ≡ made (core_after opening l) x.event) is its_made, tt);
         here = subst (λ (l : List Entry). reached (l ++ x ∷ [])) is reach;
+        there = h.there;
         limit = subst (λ (l : List Entry). length (l ++ x ∷ []) ≤ life_limit) is (omega (arith, length-append v.sent (x ∷ [])));
         knows = all_set (Knows h.pusher h.popper sent h.got) views port w ((λ _. ((mine.0 may).0, ap (λ l. l ++ x ∷ []) is)), mine.1)
             (λ j u other e. ((λ p. absurd (other (((h.knows j u e).0 p).0 ∙ sym (mine.0 may).0))), (h.knows j u e).1));
@@ -76,11 +78,11 @@ pushes opening reached n port v x may room accepted its_made reach items views _
       refl,
     )
 
-pub full_learns : (opening : Node) (reached : List Entry → Type 0) (port : ℕ) (v : Hand) → v.pushes ≡ true → Learns (IsOneLine opening reached) port v (λ items. EndsWith v.sent items)
-full_learns opening reached port v may items views h at = (h.got, ((h.knows port v at).0 may).1 ∙ h.whole)
+pub full_learns : (opening : Node) (reached taken : List Entry → Type 0) (port : ℕ) (v : Hand) → v.pushes ≡ true → Learns (IsOneLine opening reached taken) port v (WasRest taken v.sent)
+full_learns opening reached taken port v may items views h at = (h.got, ((h.knows port v at).0 may).1 ∙ h.whole, h.there)
 
-pub pops : (opening : Node) (reached : List Entry → Type 0) (port : ℕ) (v : Hand) → v.pops ≡ true → Pops (IsOneLine opening reached) port v (Popped opening v)
-pops opening reached port v may x items views h at =
+pub pops : (opening : Node) (reached taken : List Entry → Type 0) (port : ℕ) (v : Hand) → v.pops ≡ true → ((l : List Entry) → taken l) → Pops (IsOneLine opening reached taken) port v (Popped opening v)
+pops opening reached taken port v may take x items views h at =
     let w : Hand = hand v.pushes v.pops v.sent (v.got ++ x ∷ []) v.finds in
     let mine = h.knows port v at in
     let is : v.got ≡ h.got = (mine.1 may).1 in
@@ -96,6 +98,7 @@ pops opening reached port v may x items views h at =
         lawful = h.lawful;
         limit = h.limit;
         here = h.here;
+        there = take got;
         knows = all_set (Knows h.pusher h.popper h.sent got) views port w (mine.0, (λ _. ((mine.1 may).0, ap (λ l. l ++ x ∷ []) is)))
             (λ j u other e. ((h.knows j u e).0, λ p. absurd (other (((h.knows j u e).1 p).0 ∙ sym (mine.1 may).0))));
       },
@@ -106,45 +109,43 @@ pops opening reached port v may x items views h at =
       ),
     )
 
--- a find changes nothing but the count
-pub finds : (opening : Node) (reached : List Entry → Type 0) (port : ℕ) (v : Hand) → Forks (IsOneLine opening reached) port v (found v) nobody
-finds opening reached port v items views h at = record {
-  pusher = h.pusher;
-  popper = h.popper;
+-- the same lists, as other passes know them
+known_by : {opening : Node} {reached taken : List Entry → Type 0} {items : List Entry} {views : List Hand} (h : IsOneLine opening reached taken items views) (pusher popper : ℕ) (views' : List Hand)
+    → All (Knows pusher popper h.sent h.got) views' → IsOneLine opening reached taken items views'
+known_by h pusher popper views' knows = record {
+  pusher = pusher;
+  popper = popper;
   sent = h.sent;
   got = h.got;
   whole = h.whole;
   lawful = h.lawful;
   limit = h.limit;
   here = h.here;
-  knows = all_snoc (Knows h.pusher h.popper h.sent h.got) (set views port (found v)) nobody
-      (all_set (Knows h.pusher h.popper h.sent h.got) views port (found v) (h.knows port v at) (λ j u other e. h.knows j u e))
-      (λ j. ((λ p. absurd (off p)), (λ p. absurd (off p))));
+  there = h.there;
+  knows = knows;
 }
 
-pub forks : (opening : Node) (reached : List Entry → Type 0) (port : ℕ) (v : Hand) → v.pushes ≡ true → v.pops ≡ true → Forks (IsOneLine opening reached) port v (producer v.sent v.finds) (consumer v.got 0)
-forks opening reached port v a b items views h at =
+-- a find changes nothing but the count
+pub finds : (opening : Node) (reached taken : List Entry → Type 0) (port : ℕ) (v : Hand) → Forks (IsOneLine opening reached taken) port v (found v) nobody
+finds opening reached taken port v items views h at = known_by h h.pusher h.popper _
+    (all_snoc (Knows h.pusher h.popper h.sent h.got) (set views port (found v)) nobody
+    (all_set (Knows h.pusher h.popper h.sent h.got) views port (found v) (h.knows port v at) (λ j u other e. h.knows j u e))
+    (λ j. ((λ p. absurd (off p)), (λ p. absurd (off p)))))
+
+pub forks : (opening : Node) (reached taken : List Entry → Type 0) (port : ℕ) (v : Hand) → v.pushes ≡ true → v.pops ≡ true → Forks (IsOneLine opening reached taken) port v (producer v.sent v.finds) (consumer v.got 0)
+forks opening reached taken port v a b items views h at =
     let l : Hand = producer v.sent v.finds in
     let r : Hand = consumer v.got 0 in
     let mine = h.knows port v at in
     let vs : List Hand = set views port l in
     let Old : ℕ → Hand → Type 0 = λ j u. (u.pushes ≡ true → (j ≡ h.pusher) × (u.sent ≡ h.sent)) × (u.pops ≢ true) in
     let old : All Old vs = all_set Old views port l ((λ _. mine.0 a), off) (λ j u other e. ((h.knows j u e).0, λ p. other (((h.knows j u e).1 p).0 ∙ sym (mine.1 b).0))) in
-    record {
-      pusher = h.pusher;
-      popper = length vs;
-      sent = h.sent;
-      got = h.got;
-      whole = h.whole;
-      lawful = h.lawful;
-      limit = h.limit;
-      here = h.here;
-      knows = λ j u e. ⊎_elim (λ x. ((old j u x).0, λ p. absurd ((old j u x).1 p)))
-          (λ (is : r ≡ u). ((λ p. absurd (off (ap (λ (y : Hand). y.pushes) is ∙ p))), λ p. (at_end vs r u j (λ x. (old j u x).1 p) e, ap (λ (y : Hand). y.got) (sym is) ∙ (mine.1 b).1))) (at_snoc vs r u j e);
-    }
+    known_by h h.pusher (length vs) _
+    (λ j u e. ⊎_elim (λ x. ((old j u x).0, λ p. absurd ((old j u x).1 p)))
+    (λ (is : r ≡ u). ((λ p. absurd (off (ap (λ (y : Hand). y.pushes) is ∙ p))), λ p. (at_end vs r u j (λ x. (old j u x).1 p) e, ap (λ (y : Hand). y.got) (sym is) ∙ (mine.1 b).1))) (at_snoc vs r u j e))
 
-pub merges : (opening : Node) (reached : List Entry → Type 0) (port : ℕ) (v : Hand) (other : ℕ) (u : Hand) → v.pushes ≡ true → u.pops ≡ true → Merges (IsOneLine opening reached) port v other u (both v u) nobody
-merges opening reached port v other u a b items views h at two at' =
+pub merges : (opening : Node) (reached taken : List Entry → Type 0) (port : ℕ) (v : Hand) (other : ℕ) (u : Hand) → v.pushes ≡ true → u.pops ≡ true → Merges (IsOneLine opening reached taken) port v other u (both v u) nobody
+merges opening reached taken port v other u a b items views h at two at' =
     let w : Hand = both v u in
     let mine = h.knows port v at in
     let vs : List Hand = set views port w in
@@ -152,25 +153,16 @@ merges opening reached port v other u a b items views h at two at' =
     let theirs = (h.knows other u was).1 b in
     let Now : ℕ → Hand → Type 0 = λ j y. j ≢ other → Knows h.pusher port h.sent h.got j y in
     let now : All Now vs = all_set Now views port w (λ _. ((λ _. mine.0 a), λ _. (refl, theirs.1))) (λ j y _ e apart. ((h.knows j y e).0, λ p. absurd (apart (((h.knows j y e).1 p).0 ∙ sym theirs.0)))) in
-    record {
-      pusher = h.pusher;
-      popper = port;
-      sent = h.sent;
-      got = h.got;
-      whole = h.whole;
-      lawful = h.lawful;
-      limit = h.limit;
-      here = h.here;
-      knows = all_set (Knows h.pusher port h.sent h.got) vs other nobody ((λ p. absurd (off p)), λ p. absurd (off p)) (λ j y apart e. now j y e apart);
-    }
+    known_by h h.pusher port _
+    (all_set (Knows h.pusher port h.sent h.got) vs other nobody ((λ p. absurd (off p)), λ p. absurd (off p)) (λ j y apart e. now j y e apart))
 
-pub whole_learns : (opening : Node) (reached : List Entry → Type 0) (port : ℕ) (v : Hand) → v.pushes ≡ true → v.pops ≡ true → Learns (IsOneLine opening reached) port v (λ items. v.sent ≡ v.got ++ items)
-whole_learns opening reached port v a b items views h at =
+pub whole_learns : (opening : Node) (reached taken : List Entry → Type 0) (port : ℕ) (v : Hand) → v.pushes ≡ true → v.pops ≡ true → Learns (IsOneLine opening reached taken) port v (λ items. v.sent ≡ v.got ++ items)
+whole_learns opening reached taken port v a b items views h at =
     let mine = h.knows port v at in
     (mine.0 a).1 ∙ h.whole ∙ ap (λ l. l ++ items) (sym (mine.1 b).1)
 
 -- where the queue is empty, what was popped is what was pushed
-pub empty_learns : (opening : Node) (reached : List Entry → Type 0) (port : ℕ) (v : Hand) → v.pops ≡ true → Learns (IsOneLine opening reached) port v (λ items. items ≡ [] → reached v.got)
-empty_learns opening reached port v may items views h at empty =
+pub empty_learns : (opening : Node) (reached taken : List Entry → Type 0) (port : ℕ) (v : Hand) → v.pops ≡ true → Learns (IsOneLine opening reached taken) port v (λ items. items ≡ [] → reached v.got)
+empty_learns opening reached taken port v may items views h at empty =
     let is : v.got ≡ h.got = ((h.knows port v at).1 may).1 in
     subst reached (h.whole ∙ ap (λ l. h.got ++ l) empty ∙ append-nil h.got ∙ sym is) h.here

@@ -16,6 +16,7 @@ use Rattle.cc_wire.specs.Refusals.{first_of}
 use Rattle.cc_node.specs.Core.{Core}
 use Rattle.cc_node.specs.Node.{Node}
 use Rattle.cc_node.specs.Refusals.{reasons, decides, decided}
+use Rattle.cc_journal.specs.declared.entry.Entry.{Entry}
 use Rattle.cc_intake.specs.Accepting.{Accepting}
 use Rattle.cc_intake.specs.Histories.{life_limit, core_after}
 use Rattle.cc_intake.specs.Refusals.{MayAccept, Refuses}
@@ -53,11 +54,11 @@ pub err_decided : (d : Option Refusal) (r : Refusal) → Err r ≡ decided d →
 err_decided None r is = absurd cc
 err_decided (Some s) r is = cc
 
-pub refuses_own : (opening : Node) (i j : Accepting) (e : Event) (r : Refusal) → decides (core_after opening i.entries) e ≡ Some r → j ≡ i → Refuses opening i e r j
-refuses_own opening i j e refusal.Spent is same = (inl is, same)
-refuses_own opening i j e refusal.NoMemory is same = absurd (is_own (core_after opening i.entries) e refusal.NoMemory is)
-refuses_own opening i j e refusal.QueueFull is same = absurd (is_own (core_after opening i.entries) e refusal.QueueFull is)
-refuses_own opening i j e r is same = (is, same)
+pub refuses_own : (opening : Node) (taken : List Entry → Type 0) (i j : Accepting) (e : Event) (r : Refusal) → decides (core_after opening i.entries) e ≡ Some r → j ≡ i → Refuses opening taken i e r j
+refuses_own opening taken i j e refusal.Spent is same = (inl is, same)
+refuses_own opening taken i j e refusal.NoMemory is same = absurd (is_own (core_after opening i.entries) e refusal.NoMemory is)
+refuses_own opening taken i j e refusal.QueueFull is same = absurd (is_own (core_after opening i.entries) e refusal.QueueFull is)
+refuses_own opening taken i j e r is same = (is, same)
 
 -- an intake's core decides as the core after its entries
 pub decides_after : (opening : Node) (i j : Accepting) (core : Core) (e : Event) (d : Option Refusal)

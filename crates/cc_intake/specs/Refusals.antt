@@ -1,27 +1,28 @@
 -- When an intake refuses an event.
 --     MayAccept               the core doesn't refuse it, and the life has room for it
 --     Refuses                 what each refusal says, and leaves
-use Rattle.std.specs.Prelude.{◌≡◌, ◌⊎◌, ◌+◌, ◌<◌, None, Some, length}
+use Rattle.std.specs.Prelude.{◌≡◌, ◌⊎◌, ◌+◌, ◌<◌, None, Some, List, length}
 use Rattle.crossbeam_queue.specs.Fifo.{Held}
 use Rattle.cc_wire.specs.declared.event.Event.{Event}
 use Rattle.cc_wire.specs.declared.refusal.Refusal.{Refusal}
 use Rattle.cc_wire.specs.declared.refusal.Refusal.TheVariants.{Spent, NoMemory, QueueFull}
 use Rattle.cc_node.specs.Node.{Node}
 use Rattle.cc_node.specs.Refusals.{decides}
+use Rattle.cc_journal.specs.declared.entry.Entry.{Entry}
 use Rattle.cc_intake.specs.Histories.{life_limit, core_after}
 use Rattle.cc_intake.specs.Accepting.{Accepting}
 use Rattle.cc_intake.specs.Ends.{queue_limit}
-use Rattle.cc_intake.specs.Line.{EndsWith}
+use Rattle.cc_intake.specs.Line.{WasRest}
 
 abbrev pub MayAccept : Node → Accepting → Event → Type 0
 MayAccept opening i event = (decides (core_after opening i.entries) event ≡ None) × (length i.entries < life_limit)
 
 -- Why an intake refuses the event, and the intake that it leaves: the core's own reason, the limit of one life, memory, or a
--- queue that was full at a moment of the call.
-abbrev pub Refuses : Node → Accepting → Event → Refusal → Accepting → Type 0
-Refuses opening i event Spent j =
+-- queue that was full: what it accepted is a list that was all that had been popped at one moment, and 256 entries behind it.
+abbrev pub Refuses : Node → (List Entry → Type 0) → Accepting → Event → Refusal → Accepting → Type 0
+Refuses opening taken i event Spent j =
     ((decides (core_after opening i.entries) event ≡ Some Spent) ⊎ ((decides (core_after opening i.entries) event ≡ None) × (length i.entries ≡ life_limit))) × (j ≡ i)
-Refuses opening i event NoMemory j = MayAccept opening i event × (j ≡ i)
-Refuses opening i event QueueFull j =
-    MayAccept opening i event × (j ≡ record { entries = i.entries; finds = i.finds + 1; issued = i.issued }) × Held queue_limit (λ items. EndsWith i.entries items)
-Refuses opening i event r j = (decides (core_after opening i.entries) event ≡ Some r) × (j ≡ i)
+Refuses opening taken i event NoMemory j = MayAccept opening i event × (j ≡ i)
+Refuses opening taken i event QueueFull j =
+    MayAccept opening i event × (j ≡ record { entries = i.entries; finds = i.finds + 1; issued = i.issued }) × Held queue_limit (WasRest taken i.entries)
+Refuses opening taken i event r j = (decides (core_after opening i.entries) event ≡ Some r) × (j ≡ i)

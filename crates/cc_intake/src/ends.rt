@@ -7,7 +7,7 @@ ghost use Rattle.cc_node.specs.Refusals.{decides};
 ghost use Rattle.cc_journal.specs.declared.entry.Entry.{Entry as EntryValue};
 ghost use Rattle.cc_journal.specs.Batches.{AreLawful};
 ghost use Rattle.cc_intake.specs.Histories.{life_limit, core_after};
-ghost use Rattle.cc_intake.specs.Line.{EndsWith};
+ghost use Rattle.cc_intake.specs.Line.{WasRest};
 ghost use Rattle.cc_intake.specs.Ends.{queue_limit};
 
 use crate::rule::{Got, Hand, Lane, Life, Ring, Roles, Sent, Whole};
@@ -45,7 +45,7 @@ const QUEUE_LIMIT: usize = 256;
 
 /// A new queue of 256 entries. NoMemory where a growth was refused.
 pub fn lane<L: Life>(alloc: Global) -> Result<Ends<L>, NoMemory>
-    requires { L.reached [] }
+    requires { L.reached [] × L.taken [] }
 {
     let (ring, mut pushing) = Ring::<L>::ruled(alloc, QUEUE_LIMIT)?;
     let popping = ring.another::<Roles>(&mut pushing);
@@ -61,6 +61,7 @@ impl<L: Life> Ends<L> {
     pub(crate) fn named<Q: Lane>(self) -> (Queue<L, Q>, Producer<L, Q>, Consumer<L, Q>)
         requires lane { self ≡ Q.table }
         requires reached { (list : List EntryValue) → L.reached list }
+        requires taken { (list : List EntryValue) → L.taken list }
         ensures producer { result.1 ≡ record { entries = []; finds = 0 } }
         ensures consumer { result.2 ≡ record { entries = []; finds = 0 } }
     {
@@ -148,9 +149,9 @@ impl<L: Life, Q: Lane> Producer<L, Q> {
         requires accepted { decides (core_after L.opening self.old.entries) entry.event ≡ None }
         requires made { entry.made ≡ made (core_after L.opening self.old.entries) entry.event }
         ensures pushed { OnOk result (self.new ≡ record { entries = self.old.entries ++ entry ∷ []; finds = self.old.finds }) }
-        ensures full { OnErr result ((self.new ≡ record { entries = self.old.entries; finds = self.old.finds + 1 }) × Held queue_limit (λ items. EndsWith self.old.entries items)) }
+        ensures full { OnErr result ((self.new ≡ record { entries = self.old.entries; finds = self.old.finds + 1 }) × Held queue_limit (WasRest L.taken self.old.entries)) }
     {
-        match queue.ring.push_as::<Sent, R>(rt, &mut self.pass, entry) {
+        match queue.ring.push_as::<Sent<L>, R>(rt, &mut self.pass, entry) {
             Ok(()) => Ok(()),
             Err(entry) => {
                 drop(entry);
@@ -170,8 +171,9 @@ pub struct Consumer<L: Life, Q: Lane> {
 }
 
 impl<L: Life, Q: Lane> Model for Consumer<L, Q> {
-    ghost use Rattle.std.specs.Prelude.{◌≡◌, ◌≤◌, [], length};
+    ghost use Rattle.std.specs.Prelude.{◌≡◌, ◌≤◌, List, [], length};
     ghost use Rattle.crossbeam_queue.specs.Passes.{view as hand_of};
+    ghost use Rattle.cc_journal.specs.declared.entry.Entry.{Entry as EntryValue};
     ghost use Rattle.cc_journal.specs.Batches.{AreLawful};
     ghost use Rattle.cc_intake.specs.Histories.{life_limit};
     ghost use Rattle.cc_intake.specs.Line.{consumer};
@@ -183,7 +185,7 @@ impl<L: Life, Q: Lane> Model for Consumer<L, Q> {
 
     ghost view = { λ p. record { entries = (hand_of p.pass).got; finds = (hand_of p.pass).finds } };
 
-    ghost invariant = { λ p. (p.pass.table_id ≡ Q.table) × (p.pass.me.1 ≡ []) × (hand_of p.pass ≡ consumer (hand_of p.pass).got (hand_of p.pass).finds) × AreLawful L.opening (hand_of p.pass).got × (length (hand_of p.pass).got ≤ life_limit) };
+    ghost invariant = { λ p. (p.pass.table_id ≡ Q.table) × (p.pass.me.1 ≡ []) × (hand_of p.pass ≡ consumer (hand_of p.pass).got (hand_of p.pass).finds) × AreLawful L.opening (hand_of p.pass).got × (length (hand_of p.pass).got ≤ life_limit) × ((list : List EntryValue) → L.taken list) };
 }
 
 impl<L: Life, Q: Lane> Consumer<L, Q> {

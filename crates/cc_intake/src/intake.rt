@@ -102,7 +102,7 @@ impl<L: Life, Q: Lane> Model for Intake<L, Q> {
 
     ghost view = { λ i. record { entries = i.producer.entries; finds = i.producer.finds; issued = i.issued } };
 
-    ghost invariant = { λ i. (i.core ≡ core_after L.opening i.producer.entries) × (i.accepted ≡ length i.producer.entries) × (i.accepted ≤ life_limit) × (i.book.total ≡ i.accepted) × (i.unissued.parts + i.issued ≡ share_limit) × (i.unissued.amount ≡ 0) };
+    ghost invariant = { λ i. (i.core ≡ core_after L.opening i.producer.entries) × (i.accepted ≡ length i.producer.entries) × (i.accepted ≤ life_limit) × (i.book.total ≡ i.accepted) × (i.unissued.parts + i.issued ≡ share_limit) × (i.unissued.amount ≡ 0) × (L.parts ≡ share_limit) };
 }
 
 impl<L: Life, Q: Lane> Intake<L, Q> {
@@ -125,7 +125,6 @@ impl<L: Life, Q: Lane> Intake<L, Q> {
 
     // The end of the queue, how many events were accepted, how many of them the shares count, and how many were issued.
     pub(crate) fn close(self, shares: Vec<Share<L>>) -> (Producer<L, Q>, u64, u64, u64)
-        requires { L.parts ≡ share_limit }
         ensures producer { result.0.entries ≡ self.entries }
         ensures accepted { result.1 ≡ length self.entries }
         ensures told { result.2 ≡ sum shares.items }
@@ -172,7 +171,7 @@ impl<L: Life, Q: Lane> Intake<L, Q> {
         ensures accepted { IfOk result (λ n. MayAccept L.opening self.old event × (n ≡ length self.new.entries)
             × (self.new ≡ record { entries = self.old.entries ++ entry_at (core_after L.opening self.old.entries) event ∷ []; finds = self.old.finds; issued = self.old.issued })) }
         ensures counted { IfOk result (λ n. (share.new ≡ share.old + 1) × (share.old < n)) }
-        ensures refused { IfErr result (λ r. Refuses L.opening self.old event r self.new) }
+        ensures refused { IfErr result (λ r. Refuses L.opening L.taken self.old event r self.new) }
         ensures uncounted { OnErr result (share.new ≡ share.old) }
     {
         let answer = self.accept_event(rt, alloc, share, queue, &event);
@@ -192,7 +191,7 @@ impl<L: Life, Q: Lane> Intake<L, Q> {
         ensures accepted { IfOk result (λ n. MayAccept L.opening self.old event.now × (n ≡ length self.new.entries)
             × (self.new ≡ record { entries = self.old.entries ++ entry_at (core_after L.opening self.old.entries) event.now ∷ []; finds = self.old.finds; issued = self.old.issued })) }
         ensures counted { IfOk result (λ n. (share.new ≡ share.old + 1) × (share.old < n)) }
-        ensures refused { IfErr result (λ r. Refuses L.opening self.old event.now r self.new) }
+        ensures refused { IfErr result (λ r. Refuses L.opening L.taken self.old event.now r self.new) }
         ensures uncounted { OnErr result (share.new ≡ share.old) }
     {
         let entry = self.prepared(alloc, event)?;
@@ -208,7 +207,7 @@ impl<L: Life, Q: Lane> Intake<L, Q> {
     // The queue's entry of an event that may be accepted, in memory of its own. All growths of an accept are here.
     fn prepared(&self, alloc: Global, event: &Event) -> Result<Entry, Refusal>
         ensures entry { IfOk result (λ e. MayAccept L.opening self.now event.now × (e ≡ entry_at (core_after L.opening self.now.entries) event.now)) }
-        ensures refused { IfErr result (λ r. Refuses L.opening self.now event.now r self.now) }
+        ensures refused { IfErr result (λ r. Refuses L.opening L.taken self.now event.now r self.now) }
     {
         self.core.decide(event)?;
         if self.accepted >= LIFE_LIMIT {

@@ -28,6 +28,7 @@ pub fn start<S: Site, L: Life, Q: Lane>(
     requires twin { engine.failed ≡ None → engine.twin ≡ L.opening }
     requires ledger { (blank.name ≡ L.name) × (blank.parts ≡ L.parts) × (L.parts ≡ share_limit) }
     requires reached { (list : List Entry) → L.reached list }
+    requires taken { (list : List Entry) → L.taken list }
     requires lane { ends ≡ Q.table }
     ensures intake { result.0 ≡ record { entries = []; finds = 0; issued = 0 } }
     ensures turner { result.1 ≡ record { handed = []; kept = None; finds = 0; engine = engine } }
@@ -65,7 +66,6 @@ pub fn finish<S: Site, L: Life, Q: Lane, R: Wait>(
     turner: Turner<S, L, Q>,
     queue: Queue<L, Q>,
 ) -> Finished<S>
-    requires { L.parts ≡ share_limit }
     ensures accepted { result.accepted ≡ length intake.entries }
     ensures flushed { result.flushed ≡ length turner.handed }
     ensures rest { result.flushed + result.rest ≡ result.accepted }

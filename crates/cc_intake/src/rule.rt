@@ -11,8 +11,9 @@ use std::sync::ledger::Ledger;
 /// Names one life: the node that was opened, beside the ledger of its shares. A caller's generic function is called with
 /// `Brand` for it, so what comes out of a lock is known to be of the same life.
 ///
-/// That a list was reached is known to the end of the queue that pushes, and to the one that pops only where it looked at
-/// the queue: the rule tells it of the list that is pushed now, and of no other.
+/// That a list was reached is known to the end of the queue that pushes, and that a list was taken to the end that pops. The
+/// other end knows it only where it looked at the queue: the rule tells it of what is pushed and popped now, and of no other
+/// list.
 pub trait Life: Ledger {
     ghost use Rattle.std.specs.Prelude.{List};
     ghost use Rattle.cc_node.specs.Node.{Node};
@@ -21,8 +22,11 @@ pub trait Life: Ledger {
     /// The node that was opened.
     ghost opening: { Node };
 
-    /// The queue held the end of this list at one moment.
+    /// At one moment this was all that had been pushed.
     ghost reached: { List Entry → Type 0 };
+
+    /// At one moment this was all that had been popped.
+    ghost taken: { List Entry → Type 0 };
 }
 
 impl Life for Brand {
@@ -31,6 +35,8 @@ impl Life for Brand {
     ghost opening = { no_opening };
 
     ghost reached = { λ list. Unit {0} };
+
+    ghost taken = { λ list. Unit {0} };
 }
 
 /// Names one queue.
@@ -63,7 +69,7 @@ pub struct Law<L> {
 impl<L: Life> Protocol<Entry, Hand> for Law<L> {
     ghost use Rattle.cc_intake.specs.Line.{IsOneLine, newcomer};
 
-    ghost holds = { IsOneLine L.opening L.reached };
+    ghost holds = { IsOneLine L.opening L.reached L.taken };
 
     ghost first = { newcomer };
 }
@@ -71,18 +77,20 @@ impl<L: Life> Protocol<Entry, Hand> for Law<L> {
 pub type Ring<L> = RuledArrayQueue<Entry, Hand, Law<L>>;
 
 // A push, and what a full queue tells.
-pub struct Sent;
+pub struct Sent<L> {
+    life: PhantomData<L>,
+}
 
-impl Outcome<Entry, Hand> for Sent {
+impl<L: Life> Outcome<Entry, Hand> for Sent<L> {
     ghost use Rattle.cc_intake.specs.Line.{Pushed};
 
     ghost then = { Pushed };
 }
 
-impl Lesson<Entry, Hand> for Sent {
-    ghost use Rattle.cc_intake.specs.Line.{EndsWith};
+impl<L: Life> Lesson<Entry, Hand> for Sent<L> {
+    ghost use Rattle.cc_intake.specs.Line.{WasRest};
 
-    ghost fact = { λ v items. EndsWith v.sent items };
+    ghost fact = { λ v items. WasRest L.taken v.sent items };
 }
 
 // A pop, whose list is lawful, and what an empty queue tells.

@@ -1,6 +1,6 @@
 //! A node that crashes once an answer is durable, and before it is put out.
 
-ghost use Rattle.std.specs.Prelude.{◌≡◌, ◌≤◌, true, length, IfOk};
+ghost use Rattle.std.specs.Prelude.{◌≤◌, length, IfOk};
 ghost use Rattle.cc_journal.specs.Batches.{AreLawful};
 
 use crate::fixtures::{Disk, check, formatted, id, opened, store_a};
@@ -9,7 +9,7 @@ use crate::lives::{counts, live};
 use crate::stories::Story;
 use cc_flush::Flusher;
 use cc_intake::{Finished, Intake, Lane, Life, Queue, Share, Turner};
-use cc_journal::{Batch, Entry, Landed};
+use cc_journal::{Batch, Entry};
 use cc_site::{Choice, MemorySite};
 use cc_wire::{Answer, Event, Output, Refusal};
 use std::alloc::Global;
@@ -27,34 +27,30 @@ fn batch_of(alloc: Global, engine: &Flusher<Disk<'_>>, event: &Event) -> Result<
     Ok(Batch::of_one(Entry { event, made }))
 }
 
-// Makes an event durable, whose outputs are owed then.
-fn commit(alloc: Global, engine: &mut Flusher<Disk<'_>>, event: &Event) -> Result<Landed, Fail>
-    ensures owes { IfOk result (λ _. engine.new.owes ≡ true) }
-    ensures lawful { IfOk result (λ landed. AreLawful engine.new.twin landed) }
-{
+// Makes an event durable and puts its outputs.
+fn take(alloc: Global, engine: &mut Flusher<Disk<'_>>, event: &Event) -> Result<(), Fail> {
     if engine.owes() || !engine.room() {
         return Err("there is no room")?;
     }
     let batch = batch_of(alloc, engine, event)?;
-    match engine.commit(batch) {
-        Ok(landed) => Ok(landed),
-        Err(failed) => Err(failed)?,
-    }
-}
-
-// Makes an event durable and puts its outputs.
-fn take(alloc: Global, engine: &mut Flusher<Disk<'_>>, event: &Event) -> Result<(), Fail> {
-    let landed = commit(alloc, engine, event)?;
-    engine.release(landed);
+    engine.flush(batch)?;
     Ok(())
 }
 
 // Makes an event durable and puts its outputs. What a crash leaves in between.
 fn crash(alloc: Global, engine: &mut Flusher<Disk<'_>>, event: &Event) -> Result<MemorySite, Fail> {
-    let landed = commit(alloc, engine, event)?;
-    let image = engine.site().site.image(alloc, &Choice::Read);
-    engine.release(landed);
-    Ok(image?)
+    if engine.owes() || !engine.room() {
+        return Err("there is no room")?;
+    }
+    let batch = batch_of(alloc, engine, event)?;
+    match engine.commit(batch) {
+        Ok(landed) => {
+            let image = engine.site().site.image(alloc, &Choice::Read);
+            engine.release(landed);
+            Ok(image?)
+        }
+        Err(failed) => Err(failed)?,
+    }
 }
 
 // The message that was put out as the output of that number, delivered as the one with that number.

@@ -73,6 +73,7 @@ fn live_as<'a, L: Life + Send + Sync, R: Threads + Wait + Sync>(
     requires twin { engine.failed ≡ None → engine.twin ≡ L.opening }
     requires ledger { (blank.name ≡ L.name) × (blank.parts ≡ L.parts) × (L.parts ≡ share_limit) }
     requires reached { (list : List EntryValue) → L.reached list }
+    requires taken { (list : List EntryValue) → L.taken list }
 {
     match lane::<L>(alloc) {
         Ok(ends) => live_at::<L, Brand, R>(rt, alloc, engine, core, blank, ends, gate, story),
@@ -99,6 +100,7 @@ fn live_at<'a, L: Life + Send + Sync, Q: Lane + Send + Sync, R: Threads + Wait +
     requires twin { engine.failed ≡ None → engine.twin ≡ L.opening }
     requires ledger { (blank.name ≡ L.name) × (blank.parts ≡ L.parts) × (L.parts ≡ share_limit) }
     requires reached { (list : List EntryValue) → L.reached list }
+    requires taken { (list : List EntryValue) → L.taken list }
     requires lane { ends ≡ Q.table }
 {
     let (intake, mut turner, queue) = start::<_, L, Q>(engine, core, blank, ends);

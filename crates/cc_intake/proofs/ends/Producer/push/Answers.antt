@@ -11,13 +11,13 @@ push_as-requires-clause-rule g c =
     let may = ap (λ v. v.pushes) c.self.invariant.2 in
     let is = sym c.self.view_is in
     let opening = g.L.Life.opening in (
-      pushes opening g.L.Life.reached _ _ _ c.args.entry may
+      pushes opening g.L.Life.reached g.L.Life.taken _ _ _ c.args.entry may
           (subst (λ (e : End). length e.entries < life_limit) is c.requires.room)
           (subst (λ (e : End). decides (core_after opening e.entries) c.args.entry.event ≡ None) is c.requires.accepted)
           (subst (λ (e : End). c.args.entry.made ≡ made (core_after opening e.entries) c.args.entry.event) is c.requires.made)
           (c.self.invariant.3 _),
-      full_learns opening g.L.Life.reached _ _ may,
+      full_learns opening g.L.Life.reached g.L.Life.taken _ _ may,
     )
 
 pub another-requires-clause-rule : goal.another-requires-clause-rule
-another-requires-clause-rule g c = finds g.L.Life.opening g.L.Life.reached _ _
+another-requires-clause-rule g c = finds g.L.Life.opening g.L.Life.reached g.L.Life.taken _ _

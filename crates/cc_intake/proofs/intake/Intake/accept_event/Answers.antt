@@ -1,4 +1,4 @@
-use Rattle.std.proofs.Common.{◌≡◌, [], ◌∷◌, length, sym, ap, ◌∙◌, arith, length-append}
+use Rattle.std.proofs.Common.{[], ◌∷◌, length, sym, ap, ◌∙◌, arith, length-append}
 use Rattle.cc_wire.specs.declared.event.Event.{Event}
 use Rattle.cc_node.specs.Core.{Core, next}
 use Rattle.cc_journal.specs.declared.entry.Entry.{Entry}
@@ -22,4 +22,4 @@ invariant_of-self-2 g c =
     let shown = ap (λ (a : Accepting). length a.entries) c.self.view_is in
     let longer = ap (λ (p : End). length p.entries) pushed in
     let added = length-append c.self.inside.producer.entries (entry ∷ []) in
-    (core, omega (arith, count, longer, added), omega (arith, count, room, shown), omega (arith, c.raise.ensures.total, i.3), i.4, i.5)
+    (core, omega (arith, count, longer, added), omega (arith, count, room, shown), omega (arith, c.raise.ensures.total, i.3), i.4, i.5, i.6)

@@ -16,7 +16,7 @@ returns-in_err-decide-clause-refused g c =
     let own = subst (λ (k : Core). decides k event ≡ Some r) c.self.invariant.0 (err_decided (decides c.self.inside.core event) r c.in_err-decide.ensures.exact) in
     let is = subst (λ (i : Accepting). decides (core_after opening i.entries) event ≡ Some r) c.self.view_is own in
     let p = err_from_is_err_and c.from_residual.result c.from_residual.ensures.1 in
-    rw (p.1, p.2) (refuses_own opening c.args.self.now _ event r is (search rules))
+    rw (p.1, p.2) (refuses_own opening g.L.Life.taken c.args.self.now _ event r is (search rules))
 
 pub made-requires : goal.made-requires
 made-requires g c = c.in_ok-decide.ensures.accepted
