@@ -159,7 +159,7 @@ impl<L: Life, Q: Lane> Intake<L, Q> {
 
     /// Accepts an event, as one step on the queue, and counts it for the share. Its place in this life, from 1. A refused
     /// event is given up, and has changed nothing: it is refused for the core's reason, else Spent after 2^61 events of this
-    /// life, else NoMemory where a growth was refused, else QueueFull where the queue was full at a moment of the call.
+    /// life, else NoMemory where a growth was refused, else QueueFull where a look found the queue full.
     pub fn accept<R: Wait>(
         &mut self,
         rt: &R,
