@@ -4,7 +4,7 @@ use crate::bench_fault::BenchFault;
 use cc_changes::Fraction;
 use cc_node::{Core, Node, Opening};
 use cc_views::{NodeId, Row, Value, View};
-use cc_wire::{Event, Message};
+use cc_wire::{Event, Message, Refusal};
 use std::alloc::Global;
 use std::time::{Clock, Instant};
 
@@ -162,11 +162,11 @@ fn put_row(view: &mut View, node: NodeId) {
 
 // Decides on the event, makes what it makes, and takes it in. False where it is refused.
 fn take(alloc: Global, core: &mut Core, event: &Event) -> Result<bool, BenchFault> {
-    if core.decide(event).is_err() {
-        return Ok(false);
+    match core.made_or_refused(alloc, event) {
+        Ok(_made) => core.apply(event),
+        Err(Refusal::NoMemory) => return Err(BenchFault::NoMemory),
+        Err(_) => return Ok(false),
     }
-    let _made = core.made(alloc, event)?;
-    core.apply(event);
     Ok(true)
 }
 

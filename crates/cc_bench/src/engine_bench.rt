@@ -270,10 +270,9 @@ fn add<S: Site + Drop>(
     ensures live { OnOk result (live.new ≡ (after engine.now.twin (events_in batch.new)).core) }
     ensures some { OnOk result (1 ≤ length batch.new) }
 {
-    live.decide(&event)?;
-    let made = live.made(alloc, &event)?;
-    live.apply(&event);
-    batch.push(Entry { event, made })?;
+    let entry = Entry::of(alloc, live, event)?;
+    live.apply(&entry.event);
+    batch.push(entry)?;
     Ok(())
 }
 

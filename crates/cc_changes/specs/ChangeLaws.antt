@@ -12,6 +12,7 @@ use Rattle.std.specs.FinMap as table
 use Rattle.std.specs.FinMap.{FinMap}
 use Rattle.std.proofs.lemmas.Bool.{eqb-true}
 use Rattle.std.proofs.lemmas.Grind.{div_ceil_times}
+use Rattle.cc_views.specs.Limits.{known_limit}
 use Rattle.cc_views.specs.MergeLaws.{either_true}
 use Rattle.cc_views.specs.NatSets as set
 use Rattle.cc_views.specs.NatSets.{NatSet, IsWithin, contains-insert, contains-union, difference_within, len_within}
@@ -52,7 +53,7 @@ module _ {X : Type 0} (ids : FinMap nat_cmp X) (c : ChangeSets) (among : IsAmong
     left = within_union ids c.left d.left among.left its.left;
   }
 
-  pub fits_among : table.len ids ≤ 256 → FitsRoom c
+  pub fits_among : table.len ids ≤ known_limit → FitsRoom c
   fits_among few = record {
     entered = omega (arith, few, len_within c.entered ids among.entered);
     joined = omega (arith, few, len_within c.joined ids among.joined);

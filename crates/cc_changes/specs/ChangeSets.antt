@@ -5,6 +5,7 @@
 --     FitsRoom                                         that each set has at most 256 ids
 use Rattle.std.specs.Prelude.{ℕ, ◌≤◌, refl}
 use Rattle.std.specs.Coded.{Coded, code_by, coded×}
+use Rattle.cc_views.specs.Limits.{known_limit}
 use Rattle.cc_views.specs.NatSets as set
 use Rattle.cc_views.specs.NatSets.{NatSet, set_code}
 
@@ -49,6 +50,6 @@ abbrev pub members : ChangeSets → NatSet
 members c = set.difference c.joined c.left
 
 pub record FitsRoom (c : ChangeSets) : Type 0 where
-  pub entered : set.len c.entered ≤ 256
-  pub joined : set.len c.joined ≤ 256
-  pub left : set.len c.left ≤ 256
+  pub entered : set.len c.entered ≤ known_limit
+  pub joined : set.len c.joined ≤ known_limit
+  pub left : set.len c.left ≤ known_limit

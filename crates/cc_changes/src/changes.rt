@@ -3,6 +3,7 @@
 ghost use Rattle.std.specs.Prelude.{◌≡◌, ◌≤◌, ◌↔◌, ◌||◌, not, length, IfOk, IsTrue};
 ghost use Rattle.std.specs.List.{filter};
 ghost use Rattle.cc_views.specs.Ascending.{IsAscending};
+ghost use Rattle.cc_views.specs.Limits.{known_limit};
 ghost use Rattle.cc_views.specs.NatSets as set;
 ghost use Rattle.cc_changes.specs.ChangeSets as changes;
 ghost use Rattle.cc_changes.specs.ChangeSets.{FitsRoom};
@@ -160,7 +161,7 @@ impl Changes {
     pub fn entered(&self) -> &[NodeId]
         ensures ids { result.now ≡ set.items self.now.entered }
         ensures ascending { IsAscending result.now }
-        ensures fits { length result.now ≤ 256 }
+        ensures fits { length result.now ≤ known_limit }
     {
         self.entered.as_slice()
     }
@@ -169,7 +170,7 @@ impl Changes {
     pub fn joined(&self) -> &[NodeId]
         ensures ids { result.now ≡ set.items self.now.joined }
         ensures ascending { IsAscending result.now }
-        ensures fits { length result.now ≤ 256 }
+        ensures fits { length result.now ≤ known_limit }
     {
         self.joined.as_slice()
     }
@@ -178,7 +179,7 @@ impl Changes {
     pub fn left(&self) -> &[NodeId]
         ensures ids { result.now ≡ set.items self.now.left }
         ensures ascending { IsAscending result.now }
-        ensures fits { length result.now ≤ 256 }
+        ensures fits { length result.now ≤ known_limit }
     {
         self.left.as_slice()
     }
@@ -208,7 +209,7 @@ fn count_joining(ids: &[NodeId], mine: &Changes, told: &Changes) -> usize
 }
 
 fn all_fit(entered: usize, joined: usize, left: usize) -> bool
-    ensures { IsTrue result ↔ (((entered ≤ 256) × (joined ≤ 256)) × (left ≤ 256)) }
+    ensures { IsTrue result ↔ (((entered ≤ known_limit) × (joined ≤ known_limit)) × (left ≤ known_limit)) }
 {
     entered <= IdSet::MAX_LEN && joined <= IdSet::MAX_LEN && left <= IdSet::MAX_LEN
 }

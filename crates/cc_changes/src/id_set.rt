@@ -4,6 +4,7 @@ ghost use Rattle.std.specs.Prelude.{◌≡◌, ◌≤◌, ◌<◌, ◌+◌, [], 
 ghost use Rattle.std.specs.List.{AllByRecursion, filter};
 ghost use Rattle.std.specs.Vec.{vec_capacity};
 ghost use Rattle.cc_views.specs.Ascending.{IsAscending};
+ghost use Rattle.cc_views.specs.Limits.{known_limit};
 ghost use Rattle.cc_views.specs.NatSets as set;
 ghost use Rattle.cc_views.specs.NatSets.{marked, items};
 ghost use Rattle.cc_views.specs.Tables.{IsRising, IsTable, IsPlaceOf, table_of};
@@ -20,6 +21,7 @@ pub struct IdSet {
 
 impl Model for IdSet {
     ghost use Rattle.std.specs.Vec.{vec_capacity};
+    ghost use Rattle.cc_views.specs.Limits.{known_limit};
     ghost use Rattle.cc_views.specs.NatSets.{NatSet, set_code, marked};
     ghost use Rattle.cc_views.specs.Tables.{IsTable, table_of};
 
@@ -29,7 +31,7 @@ impl Model for IdSet {
 
     ghost view = { λ s. table_of marked s.ids.items };
 
-    ghost invariant = { λ s. IsTable marked 256 s.ids.items (vec_capacity s.ids) };
+    ghost invariant = { λ s. IsTable marked known_limit s.ids.items (vec_capacity s.ids) };
 }
 
 impl IdSet {
@@ -67,7 +69,7 @@ impl IdSet {
     pub fn as_slice(&self) -> &[NodeId]
         ensures ids { result.now ≡ items self.now }
         ensures ascending { IsAscending result.now }
-        ensures fits { length result.now ≤ 256 }
+        ensures fits { length result.now ≤ known_limit }
     {
         &self.ids
     }
@@ -80,7 +82,7 @@ impl IdSet {
 
     /// Adds an id above those that are there.
     pub fn push(&mut self, id: NodeId)
-        requires room { set.len self.old < 256 }
+        requires room { set.len self.old < known_limit }
         requires above { AllByRecursion (λ k. k < id) (items self.old) }
         ensures set { self.new ≡ set.insert self.old id }
         ensures items { items self.new ≡ items self.old ++ id ∷ [] }
@@ -90,7 +92,7 @@ impl IdSet {
 
     /// Adds an id, which changes nothing where it is there.
     pub fn insert(&mut self, id: NodeId)
-        requires { set.len (set.insert self.old id) ≤ 256 }
+        requires { set.len (set.insert self.old id) ≤ known_limit }
         ensures { self.new ≡ set.insert self.old id }
     {
         insert_all(&mut self.ids, &[id]);
@@ -98,7 +100,7 @@ impl IdSet {
 
     /// Adds all ids of the other set.
     pub fn add_all(&mut self, other: &IdSet)
-        requires { set.len (set.union self.old other.now) ≤ 256 }
+        requires { set.len (set.union self.old other.now) ≤ known_limit }
         ensures { self.new ≡ set.union self.old other.now }
     {
         insert_all(&mut self.ids, &other.ids);
@@ -107,7 +109,7 @@ impl IdSet {
     /// How many of the ids are not in the other set.
     pub fn count_without(&self, other: &IdSet) -> usize
         ensures count { result ≡ set.len (set.difference self.now other.now) }
-        ensures fits { result ≤ 256 }
+        ensures fits { result ≤ known_limit }
     {
         count_outside(&self.ids, other)
     }
@@ -115,7 +117,7 @@ impl IdSet {
     /// How many of the ids are in neither of the other sets.
     pub fn count_without_both(&self, one: &IdSet, other: &IdSet) -> usize
         ensures count { result ≡ set.len (set.difference self.now (set.union one.now other.now)) }
-        ensures fits { result ≤ 256 }
+        ensures fits { result ≤ known_limit }
     {
         count_outside_both(&self.ids, one, other)
     }
@@ -144,9 +146,9 @@ fn place_of(ids: &[NodeId], id: NodeId) -> Result<usize, usize>
 }
 
 fn insert_one(ids: &mut Vec<NodeId>, id: NodeId)
-    requires table { IsTable marked 256 ids.old.items (vec_capacity ids.old) }
-    requires fits { set.len (set.insert (table_of marked ids.old.items) id) ≤ 256 }
-    ensures table { IsTable marked 256 ids.new.items (vec_capacity ids.new) }
+    requires table { IsTable marked known_limit ids.old.items (vec_capacity ids.old) }
+    requires fits { set.len (set.insert (table_of marked ids.old.items) id) ≤ known_limit }
+    ensures table { IsTable marked known_limit ids.new.items (vec_capacity ids.new) }
     ensures ids { table_of marked ids.new.items ≡ set.insert (table_of marked ids.old.items) id }
 {
     if let Err(at) = place_of(ids, id) {
@@ -155,9 +157,9 @@ fn insert_one(ids: &mut Vec<NodeId>, id: NodeId)
 }
 
 fn insert_all(ids: &mut Vec<NodeId>, others: &[NodeId])
-    requires table { IsTable marked 256 ids.old.items (vec_capacity ids.old) }
-    requires fits { set.len (set.insert_all (table_of marked ids.old.items) others.now) ≤ 256 }
-    ensures table { IsTable marked 256 ids.new.items (vec_capacity ids.new) }
+    requires table { IsTable marked known_limit ids.old.items (vec_capacity ids.old) }
+    requires fits { set.len (set.insert_all (table_of marked ids.old.items) others.now) ≤ known_limit }
+    ensures table { IsTable marked known_limit ids.new.items (vec_capacity ids.new) }
     ensures ids { table_of marked ids.new.items ≡ set.insert_all (table_of marked ids.old.items) others.now }
 {
     for id in others {

@@ -34,7 +34,7 @@ pub record FrontHead (bytes : List ℕ) (generation : ℕ) (node : Node) (place 
   pub head : List ℕ
   pub parts : bytes ≡ head ++ drop place bytes
   pub size : length head ≡ place
-  pub spelled : SpellsHead head generation node
+  pub spelled : SpellsHead VERSION head generation node
 
 pub head_spelled : (bytes : List ℕ) (generation : ℕ) (node : Node) (place : ℕ) → IsBytes bytes → IsArmed bytes → 1 ≤ generation → generation_of bytes ≡ generation → HeadAt bytes node place → FrontHead bytes generation node place
 head_spelled bytes generation node place fits armed from_one is at =
@@ -73,7 +73,7 @@ head_spelled bytes generation node place fits armed from_one is at =
     })
 
 -- a side that begins with a head has the state that it spells
-pub head_found : (head rest : List ℕ) (generation : ℕ) (node : Node) → SpellsHead head generation node → HeadAt (head ++ rest) node (length head)
+pub head_found : (head rest : List ℕ) (generation : ℕ) (node : Node) → SpellsHead VERSION head generation node → HeadAt (head ++ rest) node (length head)
 head_found head rest generation node spelled =
     let size = length spelled.state in
     let all : head ++ rest ≡ OPEN ∷ (to_be_bytes w64 generation ++ (VERSION ∷ (to_be_bytes w32 size ++ (spelled.state ++ rest)))) = ap (λ (l : List ℕ). l ++ rest) spelled.parts in

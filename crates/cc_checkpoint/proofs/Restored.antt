@@ -1,5 +1,5 @@
 -- Tables made of rows in order, and what each lawful state lets build.
-use Rattle.std.proofs.Common.{◌≡◌, ℕ, ◌<◌, ◌≤◌, Bool, true, false, ◌&&◌, List, [], ◌∷◌, ◌++◌, length, map, None, refl, sym, ap, subst, ◌∙◌, append_assoc, arith}
+use Rattle.std.proofs.Common.{◌≡◌, ℕ, ◌<◌, ◌≤◌, Bool, true, false, ◌&&◌, List, [], ◌∷◌, ◌++◌, length, map, None, refl, sym, ap, ◌∙◌, append_assoc, arith}
 use Rattle.std.specs.Prelude.{IsFalse, ◌==◌}
 use Rattle.std.specs.Ordering.{nat_cmp}
 use Rattle.std.specs.Cmp.{nat_cmp_total}
@@ -32,28 +32,22 @@ module _ {X Row : Type 0} (entry : Row → ℕ × X) where
       rw (cmp_gt (entry row).0 (entry r).0 (above_front (entry r).0 front row rest (and_left _ _ rising))) (not_before front row rest (and_right _ _ rising))
 
   -- a row behind the rows so far
-  pub table_push : (rows front : List Row) (row : Row) (rest : List Row) → IsRising entry rows → front ++ row ∷ rest ≡ rows
+  pub table_push : (rows front : List Row) (row : Row) (before rest : List Row) → IsRising entry rows → before ≡ row ∷ rest → front ++ before ≡ rows
       → table_of entry (front ++ row ∷ []) ≡ table.insert (table_of entry front) (entry row).0 (entry row).1
-  table_push rows front row rest rising parts =
+  table_push rows front row before rest rising step parts =
       ap (λ (es : List (ℕ × X)). table.from_entries es) (map-append entry front (row ∷ []))
-      ∙ table.from_entries_push nat_cmp_total nat_cmp-IsAntisymmetric (map entry front) (entry row).0 (entry row).1 (not_before front row rest (subst (IsRising entry) (sym parts) rising))
-
-  -- so far there are as many as came
-  pub table_so_far : (rows front rest : List Row) → IsRising entry rows → front ++ rest ≡ rows → table.len (table_of entry front) ≡ length front
-  table_so_far rows front rest rising parts = len-table_of entry front (rising_front front rest (subst (IsRising entry) (sym parts) rising))
+      ∙ table.from_entries_push nat_cmp_total nat_cmp-IsAntisymmetric (map entry front) (entry row).0 (entry row).1 (not_before front row rest (rw (← parts, step) at rising))
 
   -- so one more fits
-  pub one_more_fits : (limit : ℕ) (rows front : List Row) (row : Row) (rest : List Row) → IsRising entry rows → length rows ≤ limit → front ++ row ∷ rest ≡ rows
+  pub fewer : (limit : ℕ) (rows front : List Row) (row : Row) (before rest : List Row) → IsRising entry rows → length rows ≤ limit → before ≡ row ∷ rest → front ++ before ≡ rows
+      → table.len (table_of entry front) < limit
+  fewer limit rows front row before rest rising few step parts =
+      omega (arith, few, ap length parts, ap length step, length-append front before, len-table_of entry front (rising_front front before (rw (← parts) at rising)))
+
+  pub one_more_fits : (limit : ℕ) (rows front : List Row) (row : Row) (before rest : List Row) → IsRising entry rows → length rows ≤ limit → before ≡ row ∷ rest → front ++ before ≡ rows
       → table.len (table.insert (table_of entry front) (entry row).0 (entry row).1) ≤ limit
-  one_more_fits limit rows front row rest rising few parts =
-      omega (
-        arith,
-        few,
-        ap length parts,
-        length-append front (row ∷ rest),
-        table_so_far rows front (row ∷ rest) rising parts,
-        len_insert (table_of entry front) (entry row).0 (entry row).1,
-      )
+  one_more_fits limit rows front row before rest rising few step parts =
+      omega (arith, fewer limit rows front row before rest rising few step parts, len_insert (table_of entry front) (entry row).0 (entry row).1)
 
 -- what came, and what is left
 pub moved_on : {X : Type 0} (front : List X) (x : X) (before after all : List X) → before ≡ x ∷ after → front ++ before ≡ all → (front ++ x ∷ []) ++ after ≡ all

@@ -20,7 +20,7 @@ pub record SpellsImage (bytes : List ℕ) (generation : ℕ) (node : Node) : Typ
   pub gate : ℕ
   pub parts : bytes ≡ head ++ gate ∷ []
   pub closed : gate ≢ OPEN
-  pub spelled : SpellsHead (OPEN ∷ head) generation node
+  pub spelled : SpellsHead VERSION (OPEN ∷ head) generation node
 
 pub image_holds : (image : List ℕ) (generation : ℕ) (node : Node) → SpellsImage image generation node → Holds (OPEN ∷ image) generation node (length image)
 image_holds image generation node spells = record {

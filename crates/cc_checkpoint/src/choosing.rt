@@ -22,7 +22,7 @@ pub struct InUse {
 #[tactic(auto, unfolding(crate::specs::Choosing::generation_in))]
 fn generation<S: Site>(site: &mut S, side: Side) -> Result<Option<u64>, OpenFault>
     ensures exact { S.honest site.old → Answers (λ o. o) result (generation_in side (S.state site.old side).bytes) }
-    ensures reads { OnlyReads S.honest S.tells S.state S.sent S.moment S.left_since site.old site.new }
+    ensures reads { OnlyReads S.Site site.old site.new }
     ensures fault { CountsDevice (LooksAt side) (S.failures site.old) (S.failures site.new) result }
     ensures memory { IfErr result (λ fault. fault ≢ faults.NoMemory) }
 {
@@ -87,7 +87,7 @@ fn greater_of(first: Option<u64>, second: Option<u64>) -> Result<InUse, OpenFaul
 pub fn choose<S: Site>(site: &mut S) -> Result<InUse, OpenFault>
     ensures exact { S.honest site.old → Answers (λ used. used) result (chosen (S.state site.old A).bytes (S.state site.old B).bytes) }
     ensures in_turn { S.honest site.old → IfErr result (IsInTurn (S.state site.old A).bytes) }
-    ensures reads { OnlyReads S.honest S.tells S.state S.sent S.moment S.left_since site.old site.new }
+    ensures reads { OnlyReads S.Site site.old site.new }
     ensures fault { CountsDevice LooksAtEither (S.failures site.old) (S.failures site.new) result }
     ensures memory { IfErr result (λ fault. fault ≢ faults.NoMemory) }
 {

@@ -32,7 +32,7 @@ fn node_of(alloc: Global, bytes: &[u8]) -> Result<Option<Node>, OpenFault>
 // How long the state is, where a known version stands before it.
 fn state_size<S: Site>(site: &mut S, side: Side) -> Result<u32, OpenFault>
     ensures exact { S.honest site.old → MatchResult result (λ size. HasState (S.state site.old side).bytes × (size ≡ size_of (S.state site.old side).bytes)) (HeadFails side (S.state site.old side).bytes) }
-    ensures reads { OnlyReads S.honest S.tells S.state S.sent S.moment S.left_since site.old site.new }
+    ensures reads { OnlyReads S.Site site.old site.new }
     ensures fault { CountsDevice (LooksAt side) (S.failures site.old) (S.failures site.new) result }
 {
     let len = length_of(site, side)?;
@@ -65,7 +65,7 @@ pub fn read_state<S: Site>(
     side: Side,
 ) -> Result<(Node, u64), OpenFault>
     ensures exact { S.honest site.old → MatchResult result (λ found. HeadAt (S.state site.old side).bytes found.0 found.1) (HeadFails side (S.state site.old side).bytes) }
-    ensures reads { OnlyReads S.honest S.tells S.state S.sent S.moment S.left_since site.old site.new }
+    ensures reads { OnlyReads S.Site site.old site.new }
     ensures fault { CountsDevice (LooksAt side) (S.failures site.old) (S.failures site.new) result }
 {
     let size = state_size(site, side)?;

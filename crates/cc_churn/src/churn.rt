@@ -1,12 +1,12 @@
 //! Who entered, joined and left, and how far the own entering has come.
 
-ghost use Rattle.std.specs.Prelude.{◌≡◌, ◌+◌, ◌≤◌, ◌<◌, ◌^◌, [], ◌∷◌, IfOk, is_some};
-ghost use Rattle.cc_views.specs.Limits.{overruns};
+ghost use Rattle.std.specs.Prelude.{◌≡◌, ◌+◌, ◌≤◌, ◌<◌, [], ◌∷◌, IfOk, is_some};
+ghost use Rattle.cc_views.specs.Limits.{counter_limit, overruns};
 ghost use Rattle.cc_views.specs.Rows.{ViewMap};
 ghost use Rattle.cc_changes.specs.ChangeSets.{FitsRoom};
 ghost use Rattle.cc_churn.specs.Churn as churn;
 ghost use Rattle.cc_churn.specs.Refusals.{left, already_entered, not_entered, not_joined};
-ghost use Rattle.cc_wire.specs.Refusals.{first_of};
+ghost use Rattle.cc_wire.specs.Refusals.{first_of, decided};
 
 use cc_changes::{Changes, Fraction, need};
 use cc_views::{COUNTER_LIMIT, NoMemory, NodeId, View};
@@ -24,7 +24,8 @@ pub struct Churn {
 }
 
 impl Model for Churn {
-    ghost use Rattle.std.specs.Prelude.{◌≤◌, ◌^◌};
+    ghost use Rattle.std.specs.Prelude.{◌≤◌};
+    ghost use Rattle.cc_views.specs.Limits.{counter_limit};
     ghost use Rattle.cc_churn.specs.Churn.{Churn as State, churn_code};
 
     ghost Value = { State };
@@ -33,7 +34,7 @@ impl Model for Churn {
 
     ghost view = { λ a. record { changes = a.changes; echoes = a.echoes; need = a.need } };
 
-    ghost invariant = { λ a. a.echoes ≤ 2 ^ 62 };
+    ghost invariant = { λ a. a.echoes ≤ counter_limit };
 }
 
 impl Churn {
@@ -51,7 +52,7 @@ impl Churn {
     /// With these changes, so many echoes, and so many needed to join (0 where that isn't known): for a decoder of
     /// states (own choice).
     pub fn from_parts(changes: Changes, echoes: u64, need: u64) -> Self
-        requires { echoes ≤ 2 ^ 62 }
+        requires { echoes ≤ counter_limit }
         ensures { result ≡ record { changes = changes; echoes = echoes; need = need } }
     {
         Churn {
@@ -82,7 +83,7 @@ impl Churn {
     /// How many echoes to its own Enter the node has counted.
     pub fn echoes(&self) -> u64
         ensures echoes { result ≡ self.now.echoes }
-        ensures limit { result ≤ 2 ^ 62 }
+        ensures limit { result ≤ counter_limit }
     {
         self.echoes
     }
@@ -149,7 +150,7 @@ impl Churn {
         requires positive { 0 < gamma.num }
         requires share { gamma.num ≤ gamma.den }
         requires fits { FitsRoom (churn.after_message me gamma message.now self.old).changes }
-        requires echoes { (churn.after_message me gamma message.now self.old).echoes ≤ 2 ^ 62 }
+        requires echoes { (churn.after_message me gamma message.now self.old).echoes ≤ counter_limit }
         ensures { self.new ≡ churn.after_message me gamma message.now self.old }
     {
         match message {
@@ -181,7 +182,7 @@ impl Churn {
         requires positive { 0 < gamma.num }
         requires share { gamma.num ≤ gamma.den }
         requires fits { FitsRoom (churn.echoed me gamma from_joined self.old).changes }
-        requires echoes { self.old.echoes + 1 ≤ 2 ^ 62 }
+        requires echoes { self.old.echoes + 1 ≤ counter_limit }
         ensures { self.new ≡ churn.echoed me gamma from_joined self.old }
     {
         if from_joined && self.need == 0 {
@@ -287,47 +288,54 @@ impl Churn {
     }
 
     /// Why the node can't enter, if it can't: it has left, or entered before (own choice).
-    pub fn decide_enter(&self, me: NodeId) -> Option<Refusal>
-        ensures { result ≡ first_of (left me self.now ∷ already_entered me self.now ∷ []) }
+    pub fn decide_enter(&self, me: NodeId) -> Result<(), Refusal>
+        ensures { result ≡ decided (first_of (left me self.now ∷ already_entered me self.now ∷ [])) }
     {
         if self.has_left(me) {
-            return Some(Refusal::Left);
+            return Err(Refusal::Left);
         }
-        self.has_entered(me).then_some(Refusal::AlreadyEntered)
+        if self.has_entered(me) {
+            return Err(Refusal::AlreadyEntered);
+        }
+        Ok(())
     }
 
     /// Why the node can't leave, if it can't: it has left, or hasn't entered (own choice).
-    pub fn decide_leave(&self, me: NodeId) -> Option<Refusal>
-        ensures { result ≡ first_of (left me self.now ∷ not_entered me self.now ∷ []) }
+    pub fn decide_leave(&self, me: NodeId) -> Result<(), Refusal>
+        ensures { result ≡ decided (first_of (left me self.now ∷ not_entered me self.now ∷ [])) }
     {
-        self.refuse_outside(me)
+        self.decide_inside(me)
     }
 
     /// Why the node can't take a message, if it can't: it has left, or hasn't entered (own choice).
-    pub fn decide_delivery(&self, me: NodeId) -> Option<Refusal>
-        ensures { result ≡ first_of (left me self.now ∷ not_entered me self.now ∷ []) }
+    pub fn decide_delivery(&self, me: NodeId) -> Result<(), Refusal>
+        ensures { result ≡ decided (first_of (left me self.now ∷ not_entered me self.now ∷ [])) }
     {
-        self.refuse_outside(me)
+        self.decide_inside(me)
     }
 
     /// Why the node can't be asked, if it can't: it has left, hasn't entered, or hasn't joined (own choice).
-    pub fn decide_ask(&self, me: NodeId) -> Option<Refusal>
-        ensures { result ≡ first_of (left me self.now ∷ not_entered me self.now ∷ not_joined me self.now ∷ []) }
+    pub fn decide_ask(&self, me: NodeId) -> Result<(), Refusal>
+        ensures { result ≡ decided (first_of (left me self.now ∷ not_entered me self.now ∷ not_joined me self.now ∷ [])) }
     {
-        if let Some(refusal) = self.refuse_outside(me) {
-            return Some(refusal);
+        self.decide_inside(me)?;
+        if !self.has_joined(me) {
+            return Err(Refusal::NotJoined);
         }
-        (!self.has_joined(me)).then_some(Refusal::NotJoined)
+        Ok(())
     }
 
-    // Why the node isn't between its entering and its leaving.
-    fn refuse_outside(&self, me: NodeId) -> Option<Refusal>
-        ensures { result ≡ first_of (left me self.now ∷ not_entered me self.now ∷ []) }
+    // Why the node isn't between its entering and its leaving, if it isn't.
+    fn decide_inside(&self, me: NodeId) -> Result<(), Refusal>
+        ensures { result ≡ decided (first_of (left me self.now ∷ not_entered me self.now ∷ [])) }
     {
         if self.has_left(me) {
-            return Some(Refusal::Left);
+            return Err(Refusal::Left);
         }
-        (!self.has_entered(me)).then_some(Refusal::NotEntered)
+        if !self.has_entered(me) {
+            return Err(Refusal::NotEntered);
+        }
+        Ok(())
     }
 
     // Whether the node has joined, as far as it and the sender of these changes know.

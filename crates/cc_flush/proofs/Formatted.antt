@@ -5,19 +5,14 @@ use Rattle.std.proofs.lemmas.List.{drop_all}
 use Rattle.cc_wire.specs.declared.output.Output.{Output}
 use Rattle.cc_site.specs.declared.site.Side.{Side}
 use Rattle.cc_site.specs.declared.site.Side.TheVariants.{A, B}
-use Rattle.cc_site.specs.Sides.{SideState, MayLeave}
-use Rattle.cc_site.specs.SideLaws.{settled_only}
+use Rattle.cc_site.specs.Sides.{SideState, MayLeave, durable}
+use Rattle.cc_site.specs.SideLaws.{durable_only}
 use Rattle.cc_node.specs.Node.{Node}
 use Rattle.std.specs.Prelude.{slice_index_or}
 use Rattle.cc_node.specs.Sides.{OPEN, Holds}
 use Rattle.cc_node.specs.Good.{AllMade}
 use Rattle.cc_checkpoint.specs.Images.{SpellsImage, image_holds}
 use Rattle.cc_journal.specs.Journals.{IsAtRest}
-use Rattle.cc_flush.specs.Formatting.{durable}
-
--- of a durable side a crash leaves its bytes
-pub durable_only : (bytes left : List ℕ) → MayLeave (durable bytes) left → left ≡ bytes
-durable_only bytes left may = settled_only (durable bytes) left may
 
 -- nothing was put since now
 pub none_made : (start : Node) (sent told : List Output) → told ≡ sent → AllMade start [] (length sent) told

@@ -6,9 +6,10 @@ mod LinkSends
 mod Resends
 mod Putting
 mod Keeping
+mod Releasing
 mod Puts
 mod Committed
 mod Flushing
 mod OneNode
 mod NodeOrFault
-mod Advancing
+pub mod Advancing

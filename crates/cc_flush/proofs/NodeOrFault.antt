@@ -2,16 +2,15 @@
 --     apart           never both
 --     one_fault       the fault is one
 --     neither         it can't be that there is neither
-use Rattle.std.proofs.Common.{◌≡◌, ◌≢◌, ◌⊎◌, inl, inr, ℕ, zero, suc, ◌+◌, ◌-◌, ◌<◌, ◌≤◌, Bool, true, false, cond, eqb, ltb, List, [], ◌∷◌, ◌++◌, length, drop, slice_index, get_or, Option, Some, None, Result, Ok, Err, refl, sym, ◌∙◌, ap, subst, arith, length-drop}
+use Rattle.std.proofs.Common.{◌≡◌, ◌≢◌, ◌⊎◌, inl, inr, ℕ, ◌+◌, ◌-◌, ◌<◌, ◌≤◌, Bool, true, false, cond, eqb, ltb, List, [], length, drop, slice_index, get_or, Option, Some, None, Result, Ok, Err, refl, sym, ◌∙◌, ap, subst, arith}
 use Rattle.std.proofs.lemmas.Bool.{cases_Bool, cases_lt, eqb-true, eqb-false}
-use Rattle.cc_wire.specs.declared.event.Event.{Event}
 use Rattle.cc_wire.proofs.Spelled.{IsBytes}
 use Rattle.cc_site.specs.declared.site.Side.{Side}
 use Rattle.cc_site.specs.declared.site.Side.TheVariants.{A, B}
 use Rattle.cc_site.specs.Sides.{other}
 use Rattle.cc_site.specs.Moments.{Contents}
-use Rattle.cc_node.specs.Node.{Node, after, IsLawful}
-use Rattle.cc_node.specs.Sides.{OPEN, VERSION, StandsAt, StandsIn, Stands, SpellsRecord}
+use Rattle.cc_node.specs.Node.{Node}
+use Rattle.cc_node.specs.Sides.{OPEN, VERSION, StandsIn, Stands}
 use Rattle.cc_node.specs.States.{SpellsNode}
 use Rattle.cc_node.specs.Fronts.{generation_held, held_armed}
 use Rattle.cc_checkpoint.specs.declared.choosing.InUse.{InUse}
@@ -24,7 +23,7 @@ use Rattle.cc_checkpoint.proofs.ChoosingLaws.{chosen_again}
 use Rattle.cc_journal.specs.Scanning.{ScansTo, StopsAt}
 use Rattle.cc_flush.specs.Opening.{IsReadingFault, RecordsFail, SideFails, ReadingFails}
 use Rattle.cc_flush.proofs.FoundSides.{held}
-use Rattle.cc_flush.proofs.OneNode.{OneState, OneScan, Read, read}
+use Rattle.cc_flush.proofs.OneNode.{OneState, Read, read}
 
 abbrev pub OneStop : Type 0
 OneStop = (bytes : List ℕ) (start : Node) (place-x place-y : ℕ) → StopsAt bytes start place-x → StopsAt bytes start place-y → place-x ≡ place-y

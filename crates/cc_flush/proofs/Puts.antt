@@ -1,12 +1,14 @@
 -- Runs of calls that put outputs.
 --     puts_none, puts_both           a run of no call;  a run after another
 --     HasPut, put_none, put_more     of some outputs, what isn't left has been put
-use Rattle.std.proofs.Common.{◌≡◌, ℕ, List, [], ◌++◌, refl, sym, ◌∙◌, ap, subst}
+use Rattle.std.proofs.Common.{◌≡◌, List, [], ◌++◌, refl, sym, ◌∙◌, ap, subst}
 use Rattle.std.proofs.lemmas.List.{append_assoc, append-nil}
 use Rattle.cc_wire.specs.declared.output.Output.{Output}
 use Rattle.cc_site.specs.declared.site.Side.{Side}
+use Rattle.cc_site.specs.declared.site.Site.{Ghosts}
 use Rattle.cc_site.specs.Sides.{SideState, MayLeave}
-use Rattle.cc_site.specs.Moments.{Contents, Possible, started, joined, weaker}
+use Rattle.cc_site.specs.Moments.{Contents, Possible}
+use Rattle.cc_site.specs.Runs.{OnlyNow, started, joined, weaker}
 use Rattle.cc_flush.specs.Outlet.{IsPutting, Puts}
 
 -- nothing has been put yet
@@ -39,16 +41,16 @@ putting_then old mid sent now xs ys same more left told putting = record {
   outlet = putting.outlet ∙ ap (λ (l : List Output). l ++ putting.put) more ∙ append_assoc sent xs putting.put;
 }
 
-module _ {D : Type 0} (honest tells : D → Type 0) (state : D → Side → SideState) (sent : D → List Output) (moment : D → ℕ) (left_since : D → ℕ → Contents → List Output → Type 0) (failures : D → ℕ) where
+module _ {D : Type 0} (s : Ghosts D) where
   abbrev Run : List Output → D → D → Type 0
-  Run = Puts honest tells state sent moment left_since failures
+  Run = Puts s
 
-  pub puts_none : (site : D) → (honest site → (left : Contents) (told : List Output) → left_since site (moment site) left told → Possible (state site) (sent site) left told) → Run [] site site
+  pub puts_none : (site : D) → (s.honest site → OnlyNow s site) → Run [] site site
   puts_none site only = record {
     same_honest = (λ h. h, λ h. h);
     same_state = λ _. refl;
-    told = λ t. (t, sym (append-nil (sent site)));
-    moments = λ h _. started moment left_since site (IsPutting (state site) (sent site) []) (λ left told since. putting_none (state site) (sent site) [] left told (only h left told since));
+    told = λ t. (t, sym (append-nil (s.sent site)));
+    moments = λ h _. started s site (IsPutting (s.state site) (s.sent site) []) (λ left told since. putting_none (s.state site) (s.sent site) [] left told (only h left told since));
     same_failures = refl;
   }
 
@@ -59,14 +61,14 @@ module _ {D : Type 0} (honest tells : D → Type 0) (state : D → Side → Side
     told = λ t.
         let after = then.told t in
         let before = first.told after.0 in
-        (before.0, after.1 ∙ ap (λ (l : List Output). l ++ ys) before.1 ∙ append_assoc (sent old) xs ys);
+        (before.0, after.1 ∙ ap (λ (l : List Output). l ++ ys) before.1 ∙ append_assoc (s.sent old) xs ys);
     moments = λ h t.
         let after = then.told t in
-        joined moment left_since old mid new (IsPutting (state old) (sent old) (xs ++ ys))
-        (weaker moment left_since old mid (IsPutting (state old) (sent old) xs) (IsPutting (state old) (sent old) (xs ++ ys)) (first.moments h after.0)
-        (putting_first (state old) (sent old) xs ys))
-        (weaker moment left_since mid new (IsPutting (state mid) (sent mid) ys) (IsPutting (state old) (sent old) (xs ++ ys)) (then.moments (first.same_honest.0 h) t)
-        (putting_then (state old) (state mid) (sent old) (sent mid) xs ys (first.same_state h) (first.told after.0).1));
+        joined s old mid new (IsPutting (s.state old) (s.sent old) (xs ++ ys))
+        (weaker s old mid (IsPutting (s.state old) (s.sent old) xs) (IsPutting (s.state old) (s.sent old) (xs ++ ys)) (first.moments h after.0)
+        (putting_first (s.state old) (s.sent old) xs ys))
+        (weaker s mid new (IsPutting (s.state mid) (s.sent mid) ys) (IsPutting (s.state old) (s.sent old) (xs ++ ys)) (then.moments (first.same_honest.0 h) t)
+        (putting_then (s.state old) (s.state mid) (s.sent old) (s.sent mid) xs ys (first.same_state h) (first.told after.0).1));
     same_failures = then.same_failures ∙ first.same_failures;
   }
 
@@ -76,7 +78,7 @@ module _ {D : Type 0} (honest tells : D → Type 0) (state : D → Side → Side
     pub puts : Run front old now
     pub parts : all ≡ front ++ left
 
-  pub put_none : (site : D) (all : List Output) → (honest site → (left : Contents) (told : List Output) → left_since site (moment site) left told → Possible (state site) (sent site) left told) → HasPut site site all all
+  pub put_none : (site : D) (all : List Output) → (s.honest site → OnlyNow s site) → HasPut site site all all
   put_none site all only = record { front = []; puts = puts_none site only; parts = refl }
 
   pub put_more : (old now new : D) (all left first rest : List Output) → HasPut old now all left → left ≡ first ++ rest → Run first now new → HasPut old new all rest

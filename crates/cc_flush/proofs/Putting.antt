@@ -9,11 +9,13 @@ use Rattle.std.proofs.lemmas.List.Elements.{Contains-append_cases, Contains-appe
 use Rattle.cc_wire.specs.declared.event.Event.{Event}
 use Rattle.cc_wire.specs.declared.output.Output.{Output}
 use Rattle.cc_site.specs.declared.site.Side.{Side}
+use Rattle.cc_site.specs.declared.site.Site.{Ghosts}
 use Rattle.cc_site.specs.Sides.{SideState, MayLeave}
-use Rattle.cc_site.specs.Moments.{Contents, Possible, EachMoment, weaker}
+use Rattle.cc_site.specs.Moments.{Contents, Possible}
+use Rattle.cc_site.specs.Runs.{EachMoment, weaker}
 use Rattle.cc_node.specs.Node.{Node, after, line, MayBeOut}
 use Rattle.cc_node.specs.Histories.{line-append}
-use Rattle.cc_journal.specs.Journals.{Position, IsGood, Rests, IsAtRest}
+use Rattle.cc_journal.specs.Journals.{Position, IsGood, Rests, IsAtRest, RestsNow}
 use Rattle.cc_journal.proofs.Rests.{rests_whole_good}
 use Rattle.cc_flush.specs.Outlet.{IsPutting, Puts}
 
@@ -42,10 +44,9 @@ module _ (at : Position) (generation : ℕ) (start : Node) (events : List Event)
     pub putting_good : (durable : ℕ) → durable ≤ length events → (left : Contents) (told : List Output) → IsPutting state sent more left told → IsGood start events durable opening left told
     putting_good durable least left told putting = rests_whole_good at generation start events opening durable left told least (putting_rests left told putting)
 
-  module _ {D : Type 0} (honest tells : D → Type 0) (state : D → Side → SideState) (sent : D → List Output) (moment : D → ℕ) (left_since : D → ℕ → Contents → List Output → Type 0) (failures : D → ℕ) (old new : D)
-      (puts : Puts honest tells state sent moment left_since failures more old new) (is_honest : honest old) (is_told : tells new) (rest : IsAtRest (state old) (sent old) at generation start events opening) where
+  module _ {D : Type 0} (s : Ghosts D) (old new : D) (puts : Puts s more old new) (is_honest : s.honest old) (is_told : s.tells new) (rest : RestsNow s old at generation start events opening) where
     -- all outputs have been put
-    put_last : (left : Contents) (told : List Output) → Possible (state new) (sent new) left told → IsPutting (state old) (sent old) more left told
+    put_last : (left : Contents) (told : List Output) → Possible (s.state new) (s.sent new) left told → IsPutting (s.state old) (s.sent old) more left told
     put_last left told possible = record {
       each = λ side. subst (λ (t : Side → SideState). MayLeave (t side) (left side)) (puts.same_state is_honest) (possible.each side);
       put = more;
@@ -54,12 +55,12 @@ module _ (at : Position) (generation : ℕ) (start : Node) (events : List Event)
       outlet = possible.outlet ∙ (puts.told is_told).1;
     }
 
-    pub puts_good : (durable : ℕ) → durable ≤ length events → EachMoment moment left_since old new (IsGood start events durable opening)
-    puts_good durable least = weaker moment left_since old new (IsPutting (state old) (sent old) more) (IsGood start events durable opening) (puts.moments is_honest is_told)
-        (putting_good (state old) (sent old) rest durable least)
+    pub puts_good : (durable : ℕ) → durable ≤ length events → EachMoment s old new (IsGood start events durable opening)
+    puts_good durable least = weaker s old new (IsPutting (s.state old) (s.sent old) more) (IsGood start events durable opening) (puts.moments is_honest is_told)
+        (putting_good (s.state old) (s.sent old) rest durable least)
 
-    pub puts_rest : IsAtRest (state new) (sent new) at generation start events opening
-    puts_rest left told possible = putting_rests (state old) (sent old) rest left told (put_last left told possible)
+    pub puts_rest : RestsNow s new at generation start events opening
+    puts_rest left told possible = putting_rests (s.state old) (s.sent old) rest left told (put_last left told possible)
 
 -- the outputs of the last events were made
 pub line_made : (start node : Node) (before events : List Event) → node ≡ after start before → (output : Output) → Contains (line node events) output → MayBeOut start (before ++ events) output

@@ -28,7 +28,7 @@ use Rattle.cc_outbox.specs.OutboxLaws.{KeepsPosts}
 use Rattle.cc_outbox.specs.Rows.{numbered}
 use Rattle.cc_node.specs.Core.{Core, live_links}
 use Rattle.cc_node.specs.Lawful.{IsLawfulNode}
-use Rattle.cc_node.specs.Node.{Node, after, IsLawful, Stands, MayBeOut}
+use Rattle.cc_node.specs.Node.{Node, after, IsLawful, HasOutput, MayBeOut}
 use Rattle.cc_node.proofs.StandingLaws.{standing_made}
 use Rattle.cc_checkpoint.proofs.NodeStates.{entries_numbered, post_at, length-values}
 use Rattle.cc_flush.specs.Standing.{waits_for, resend_on, resend_row, resend_post, resends, reply_of, reply_again, ack_again}
@@ -101,7 +101,7 @@ each_entry P m each =
 
 module _ (n : Node) where
   abbrev AllStand : List Output → Type 0
-  AllStand outputs = AllByRecursion (Stands n) outputs
+  AllStand outputs = AllByRecursion (HasOutput n) outputs
 
   send_stands : (number : ℕ) (m : Message) (to : ℕ) (l : Link) → table.get n.outbox.posts number ≡ Some m → table.get (live_links n.core) to ≡ Some l
       → (b : Bool) → waits_for number l ≡ b → AllStand (if b then output.Send to (number - l.start) m ∷ [] else [])
@@ -112,19 +112,19 @@ module _ (n : Node) where
 
   post_stands : (number : ℕ) (m : Message) → table.get n.outbox.posts number ≡ Some m → AllStand (resend_post n.core (number, m))
   post_stands number m kept =
-      all_pieces (Stands n) (resend_on (number, m)) (table.entries (live_links n.core))
+      all_pieces (HasOutput n) (resend_on (number, m)) (table.entries (live_links n.core))
       (each_entry (λ to l. AllStand (resend_on (number, m) (to, l))) (live_links n.core) (λ to l live. send_stands number m to l kept live (waits_for number l) refl))
 
-  pub resends_stand : AllByRecursion (Stands n) (resends n)
+  pub resends_stand : AllByRecursion (HasOutput n) (resends n)
   resends_stand =
-      all_pieces (Stands n) (resend_post n.core) (table.entries n.outbox.posts) (each_entry (λ number m. AllStand (resend_post n.core (number, m))) n.outbox.posts post_stands)
+      all_pieces (HasOutput n) (resend_post n.core) (table.entries n.outbox.posts) (each_entry (λ number m. AllStand (resend_post n.core (number, m))) n.outbox.posts post_stands)
 
   reply_stands_of : (session : ℕ) (r : Option ℕ) (a : Option Answer) → table.get n.core.sessions session ≡ r → table.get n.outbox.answers session ≡ a → AllStand (reply_of session r a)
   reply_stands_of session None a last kept = tt
   reply_stands_of session (Some r) None last kept = tt
   reply_stands_of session (Some r) (Some a) last kept = ((kept, last), tt)
 
-  pub reply_stands : (session : ℕ) → AllByRecursion (Stands n) (reply_again session n)
+  pub reply_stands : (session : ℕ) → AllByRecursion (HasOutput n) (reply_again session n)
   reply_stands session = reply_stands_of session (table.get n.core.sessions session) (table.get n.outbox.answers session) refl refl
 
   heard_stands : (peer : ℕ) (l : Link) → table.get n.core.links peer ≡ Some l → (b : Bool) → nat_lt 0 l.heard ≡ b → AllStand (if b then output.Ack peer l.heard ∷ [] else [])
@@ -136,11 +136,11 @@ module _ (n : Node) where
   ack_stands_of peer None row = tt
   ack_stands_of peer (Some l) row = heard_stands peer l row (nat_lt 0 l.heard) refl
 
-  pub ack_stands : (peer : ℕ) → AllByRecursion (Stands n) (ack_again peer n)
+  pub ack_stands : (peer : ℕ) → AllByRecursion (HasOutput n) (ack_again peer n)
   ack_stands peer = ack_stands_of peer (table.get n.core.links peer) refl
 
 -- what stands after lawful events was made by them
-pub standing_is_made : (start node : Node) (events : List Event) (again : List Output) → IsLawfulNode start → IsLawful start events → node ≡ after start events → AllByRecursion (Stands node) again
+pub standing_is_made : (start node : Node) (events : List Event) (again : List Output) → IsLawfulNode start → IsLawful start events → node ≡ after start events → AllByRecursion (HasOutput node) again
     → (output : Output) → Contains again output → MayBeOut start events output
 standing_is_made start node events again sound lawful is stand output has =
-    standing_made start events output sound lawful (subst (λ (n : Node). Stands n output) is (All-contains (Stands node) again output (All-from_recursion (Stands node) again stand) has))
+    standing_made start events output sound lawful (subst (λ (n : Node). HasOutput n output) is (All-contains (HasOutput node) again output (All-from_recursion (HasOutput node) again stand) has))

@@ -2,26 +2,22 @@
 --     Engine              its site, its node, where the next record goes, whether outputs are owed, and the fault that ended it
 --     IsSettled           a side with no unsynced change
 --     StandsNow           whatever a crash leaves now, the sides stand for that node
---     IsGoodAtRest        whatever a crash leaves now, the moment is good
 --     IsSound             what every engine keeps
 --     IsOwed              the entries whose outputs weren't put
---     IsPutFrom           an engine that has put something, and is as it was otherwise
---     room_limit          below so many bytes of the side in use there is room for a record
-use Rattle.std.specs.Prelude.{◌≡◌, ◌≤◌, ℕ, ◌+◌, ◌^◌, Bool, true, false, List, [], length, Option, None, refl}
+use Rattle.std.specs.Prelude.{◌≡◌, ◌≤◌, ℕ, ◌+◌, Bool, true, false, List, [], length, Option, None, refl}
 use Rattle.std.specs.Coded.{Coded, code_by, coded×, coded_bool, coded_ℕ, coded_option}
 use Rattle.cc_wire.specs.declared.event.Event.{Event}
-use Rattle.cc_wire.specs.declared.output.Output.{Output}
 use Rattle.cc_site.specs.declared.site.Side.{Side}
+use Rattle.cc_site.specs.declared.site.Site.{Ghosts}
 use Rattle.cc_site.specs.declared.site.DeviceFault.{DeviceFault}
 use Rattle.cc_site.specs.contracts.site.DeviceFault as device_fault
 use Rattle.cc_site.specs.Sides.{SideState, MayLeave, other, settled}
-use Rattle.cc_site.specs.Crashes.{AfterCrash}
 use Rattle.cc_node.specs.Node.{Node, after}
 use Rattle.cc_node.specs.Sides.{StandsAt}
 use Rattle.cc_node.specs.Codes.{node_code}
 use Rattle.cc_journal.specs.declared.entry.Entry.{Entry}
 use Rattle.cc_journal.specs.Batches.{AreLawful, events_in}
-use Rattle.cc_journal.specs.Journals.{Position, IsGood}
+use Rattle.cc_journal.specs.Journals.{Position}
 use Rattle.cc_journal.specs.Codes.{position_code}
 
 pub record Engine (D : Type 0) : Type 0 where
@@ -52,34 +48,20 @@ abbrev pub StandsNow : (Side → SideState) → Position → ℕ → Node → Ty
 StandsNow state at generation node =
     (bytes others : List ℕ) → MayLeave (state at.side) bytes → MayLeave (state (other at.side)) others → StandsAt bytes others generation at.place node
 
-abbrev pub IsGoodAtRest : (Side → SideState) → List Output → Node → List Event → ℕ → ℕ → Type 0
-IsGoodAtRest state sent start events durable opening = AfterCrash state sent (IsGood start events durable opening)
-
-pub record IsSound {D : Type 0} (honest : D → Type 0) (state : D → Side → SideState) (engine : Engine D) : Type 0 where
+pub record IsSound {D : Type 0} (s : Ghosts D) (engine : Engine D) : Type 0 where
   pub reaches : engine.at.place ≤ engine.used
-  pub within : honest engine.site → engine.failed ≡ None → engine.at.place + 1 ≤ length (state engine.site engine.at.side).bytes
-  pub is_length : honest engine.site → engine.failed ≡ None → engine.used ≡ length (state engine.site engine.at.side).bytes
+  pub within : s.honest engine.site → engine.failed ≡ None → engine.at.place + 1 ≤ length (s.state engine.site engine.at.side).bytes
+  pub is_length : s.honest engine.site → engine.failed ≡ None → engine.used ≡ length (s.state engine.site engine.at.side).bytes
   pub goes_on : engine.owes ≡ true → engine.failed ≡ None
-  pub other_settled : honest engine.site → engine.failed ≡ None → IsSettled (state engine.site (other engine.at.side))
+  pub other_settled : s.honest engine.site → engine.failed ≡ None → IsSettled (s.state engine.site (other engine.at.side))
   -- the sides stand for the twin or, while a batch is owed, for the node after it; where the other side is empty no moment is
   -- good
-  pub stands : honest engine.site → engine.failed ≡ None → 1 ≤ length (state engine.site (other engine.at.side)).bytes
-      → (owed : List Event) × (engine.owes ≡ false → owed ≡ []) × StandsNow (state engine.site) engine.at engine.generation (after engine.twin owed)
+  pub stands : s.honest engine.site → engine.failed ≡ None → 1 ≤ length (s.state engine.site (other engine.at.side)).bytes
+      → (owed : List Event) × (engine.owes ≡ false → owed ≡ []) × StandsNow (s.state engine.site) engine.at engine.generation (after engine.twin owed)
 
 -- the engine owes, and the sides stand for the node that these entries lead to from the twin on
-pub record IsOwed {D : Type 0} (honest : D → Type 0) (state : D → Side → SideState) (engine : Engine D) (entries : List Entry) : Type 0 where
+pub record IsOwed {D : Type 0} (s : Ghosts D) (engine : Engine D) (entries : List Entry) : Type 0 where
   pub owes : engine.owes ≡ true
   pub lawful : AreLawful engine.twin entries
-  pub stands : honest engine.site → engine.failed ≡ None → 1 ≤ length (state engine.site (other engine.at.side)).bytes
-      → StandsNow (state engine.site) engine.at engine.generation (after engine.twin (events_in entries))
-
-pub record IsPutFrom {D : Type 0} (old new : Engine D) : Type 0 where
-  pub twin : new.twin ≡ old.twin
-  pub at : new.at ≡ old.at
-  pub generation : new.generation ≡ old.generation
-  pub used : new.used ≡ old.used
-  pub owes : new.owes ≡ old.owes
-  pub failed : new.failed ≡ old.failed
-
-abbrev pub room_limit : ℕ
-room_limit = 2 ^ 61
+  pub stands : s.honest engine.site → engine.failed ≡ None → 1 ≤ length (s.state engine.site (other engine.at.side)).bytes
+      → StandsNow (s.state engine.site) engine.at engine.generation (after engine.twin (events_in entries))

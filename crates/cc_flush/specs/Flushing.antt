@@ -1,47 +1,73 @@
--- A batch goes through an engine: it is made durable, and then its outputs are put.
---     Flushes                 it is durable, and its outputs were put
---     GivesUp                 a disk call failed, and it is given up
-use Rattle.std.specs.Prelude.{◌≡◌, ◌↔◌, ◌⊎◌, ℕ, List, ◌++◌, length, false, None, Some}
+-- What a call makes of an engine, and of each history that led to it.
+--     LeadsTo, HasLived       these events led to its node, and the moment is good for them;  lawful events, from a lawful node on
+--     LeadsToOwed             with the events of the batch that is owed
+--     Advances, Flushes       it has taken in events, and put outputs;  those of a batch
+--     GivesUp                 a disk call failed: nothing was put, and no event was taken in
+--     PutsAgain               it has put outputs, and is as it was otherwise
+use Rattle.std.specs.Prelude.{◌≡◌, ◌↔◌, ◌⊎◌, ℕ, List, ◌++◌, false, None, Some}
 use Rattle.cc_wire.specs.declared.event.Event.{Event}
 use Rattle.cc_wire.specs.declared.output.Output.{Output}
-use Rattle.cc_site.specs.declared.site.Side.{Side}
+use Rattle.cc_site.specs.declared.site.Site.{Ghosts}
 use Rattle.cc_site.specs.declared.site.Call.TheVariants.{Write, Sync}
 use Rattle.cc_site.specs.declared.site.DeviceFault.{DeviceFault}
-use Rattle.cc_site.specs.Sides.{SideState}
-use Rattle.cc_site.specs.Moments.{Contents, EachMoment, Rose}
-use Rattle.cc_node.specs.Node.{Node, after, line}
+use Rattle.cc_site.specs.Moments.{Rose}
+use Rattle.cc_node.specs.Lawful.{IsLawfulNode}
+use Rattle.cc_node.specs.Node.{Node, IsLawful, after, line}
 use Rattle.cc_journal.specs.declared.entry.Entry.{Entry}
 use Rattle.cc_journal.specs.Batches.{events_in}
-use Rattle.cc_journal.specs.Journals.{IsGood}
-use Rattle.cc_flush.specs.Engine.{Engine, IsGoodAtRest}
+use Rattle.cc_journal.specs.Journals.{IsGoodNow, KeepsGood, StaysGood}
+use Rattle.cc_flush.specs.Engine.{Engine}
+use Rattle.cc_flush.specs.Outlet.{Puts}
 
-module _ {D : Type 0} (honest tells : D → Type 0) (state : D → Side → SideState) (sent : D → List Output) (moment : D → ℕ) (left_since : D → ℕ → Contents → List Output → Type 0) (failures : D → ℕ) where
-  -- the engine has taken the events in, and put their outputs; none came before its event was durable
-  pub record Flushes (batch : List Entry) (old new : Engine D) : Type 0 where
-    pub twin : new.twin ≡ after old.twin (events_in batch)
+module _ {D : Type 0} (s : Ghosts D) where
+  pub record LeadsTo (engine : Engine D) (start : Node) (events : List Event) (opening : ℕ) : Type 0 where
+    pub twin : engine.twin ≡ after start events
+    pub good : IsGoodNow s engine.site start events opening
+
+  pub record HasLived (engine : Engine D) (start : Node) (events : List Event) (opening : ℕ) : Type 0 where
+    pub sound : IsLawfulNode start
+    pub lawful : IsLawful start events
+    pub twin : engine.twin ≡ after start events
+    pub good : IsGoodNow s engine.site start events opening
+
+  pub record LeadsToOwed (entries : List Entry) (engine : Engine D) (start : Node) (events : List Event) (opening : ℕ) : Type 0 where
+    pub before : List Event
+    pub parts : events ≡ before ++ events_in entries
+    pub twin : engine.twin ≡ after start before
+    pub good : IsGoodNow s engine.site start events opening
+
+  -- No output came before its event was durable.
+  pub record Advances (led : Engine D → Node → List Event → ℕ → Type 0) (more : List Event) (outputs : List Output) (old new : Engine D) : Type 0 where
+    pub twin : new.twin ≡ after old.twin more
     pub owes : new.owes ≡ false
     pub goes_on : new.failed ≡ None
     pub same_generation : new.generation ≡ old.generation
-    pub same_honest : honest old.site ↔ honest new.site
-    pub told : tells new.site → tells old.site × (sent new.site ≡ sent old.site ++ line old.twin (events_in batch))
-    pub every_moment : honest old.site → tells new.site → (start : Node) (events : List Event) (opening : ℕ) → old.twin ≡ after start events
-        → IsGoodAtRest (state old.site) (sent old.site) start events (length events) opening
-        → EachMoment moment left_since old.site new.site (IsGood start (events ++ events_in batch) (length events) opening)
-    pub at_rest : honest old.site → tells new.site → (start : Node) (events : List Event) (opening : ℕ) → old.twin ≡ after start events
-        → IsGoodAtRest (state old.site) (sent old.site) start events (length events) opening
-        → IsGoodAtRest (state new.site) (sent new.site) start (events ++ events_in batch) (length (events ++ events_in batch)) opening
-    pub same_failures : failures new.site ≡ failures old.site
+    pub same_honest : s.honest old.site ↔ s.honest new.site
+    pub told : s.tells new.site → s.tells old.site × (s.sent new.site ≡ s.sent old.site ++ outputs)
+    pub moments : s.honest old.site → s.tells new.site → KeepsGood s (led old) more old.site new.site
+    pub afterwards : s.honest old.site → s.tells new.site → (start : Node) (events : List Event) (opening : ℕ) → led old start events opening → led new start (events ++ more) opening
+    pub same_failures : s.failures new.site ≡ s.failures old.site
 
-  -- nothing was put, and a crash leaves all of the batch or nothing of it
-  pub record GivesUp (batch : List Entry) (old new : Engine D) (fault : DeviceFault) : Type 0 where
+  abbrev pub Flushes : List Entry → Engine D → Engine D → Type 0
+  Flushes batch old new = Advances LeadsTo (events_in batch) (line old.twin (events_in batch)) old new
+
+  pub record GivesUp (led : Engine D → Node → List Event → ℕ → Type 0) (more : List Event) (old new : Engine D) (fault : DeviceFault) : Type 0 where
     pub twin : new.twin ≡ old.twin
     pub owes : new.owes ≡ false
     pub failed : new.failed ≡ Some fault
     pub same_generation : new.generation ≡ old.generation
-    pub same_honest : honest old.site ↔ honest new.site
-    pub told : (tells old.site ↔ tells new.site) × (sent new.site ≡ sent old.site)
-    pub every_moment : honest old.site → (start : Node) (events : List Event) (opening : ℕ) → old.twin ≡ after start events
-        → IsGoodAtRest (state old.site) (sent old.site) start events (length events) opening
-        → EachMoment moment left_since old.site new.site (IsGood start (events ++ events_in batch) (length events) opening)
+    pub same_honest : s.honest old.site ↔ s.honest new.site
+    pub told : (s.tells old.site ↔ s.tells new.site) × (s.sent new.site ≡ s.sent old.site)
+    pub moments : s.honest old.site → KeepsGood s (led old) more old.site new.site
     pub device : (fault.side ≡ old.at.side) × ((fault.call ≡ Write) ⊎ (fault.call ≡ Sync))
-    pub rose : Rose (failures old.site) (failures new.site)
+    pub rose : Rose (s.failures old.site) (s.failures new.site)
+
+  pub record PutsAgain (outputs : List Output) (old new : Engine D) : Type 0 where
+    pub twin : new.twin ≡ old.twin
+    pub at : new.at ≡ old.at
+    pub generation : new.generation ≡ old.generation
+    pub used : new.used ≡ old.used
+    pub owes : new.owes ≡ old.owes
+    pub failed : new.failed ≡ old.failed
+    pub puts : Puts s outputs old.site new.site
+    pub good : s.honest old.site → s.tells new.site → StaysGood s (HasLived old) old.site new.site

@@ -1,24 +1,25 @@
 -- What formatting leaves.
---     durable             a side of which a crash leaves just these bytes
 --     BeginsWith          the first byte is that one
---     AreShut, StayShut   each side begins with the byte of a closed gate, whatever a crash leaves;  so it is at a moment
+--     AreShut, StayShut   each side begins with the byte that is written for a closed gate, whatever a crash leaves;  at a moment with
+--                         any byte but that of an open one
 --     Arms                while an image is put behind the closed gate of a side, and then the gate is opened
 --     HasNoneOrAll        no side is armed, or side A has the whole image
 --     IsNoneOrWhole       no side is armed, or both stand for the node
 --     of_fresh            the fault for a node that can't begin
---     KeepsOutlet         nothing was put
 --     IsOn                a call on this side
 --     FailsOn             a disk call on this side fails, and the other side is so
 --     FormatStops         what was done where formatting stops at a disk call that fails
 --     FormatFails         when each fault comes, and what it leaves unchanged
 --     FormatRose          a device fault is told where the count of failures rose, and only there
-use Rattle.std.specs.Prelude.{◌≡◌, ◌↔◌, ◌⊎◌, ℕ, List, [], ◌∷◌, take, false, None}
+use Rattle.std.specs.Prelude.{◌≡◌, ◌⊎◌, ℕ, List, [], ◌∷◌, take}
 use Rattle.cc_wire.specs.declared.output.Output.{Output}
 use Rattle.cc_site.specs.declared.site.Side.{Side}
+use Rattle.cc_site.specs.declared.site.Site.{Ghosts}
 use Rattle.cc_site.specs.declared.site.Side.TheVariants.{A, B}
 use Rattle.cc_site.specs.declared.site.Call.{Call}
 use Rattle.cc_site.specs.declared.site.DeviceFault.{DeviceFault}
-use Rattle.cc_site.specs.Sides.{SideState, MayLeave, other}
+use Rattle.cc_site.specs.Sides.{SideState, MayLeave, other, durable}
+use Rattle.cc_site.specs.Gates.{IsShut}
 use Rattle.cc_site.specs.Moments.{Contents, Rose}
 use Rattle.cc_site.specs.Telling.{Looks}
 use Rattle.cc_node.specs.Node.{Node}
@@ -28,9 +29,6 @@ use Rattle.cc_node.specs.declared.opening.Fresh.TheVariants as fresh
 use Rattle.cc_flush.specs.declared.formatting.FormatFault.{FormatFault}
 use Rattle.cc_flush.specs.declared.formatting.FormatFault.TheVariants.{BadOpening, NoMemory, Device, AlreadyFormatted}
 
-abbrev pub durable : List ℕ → SideState
-durable bytes = record { bytes = bytes; touched = λ _. false; shifted = None }
-
 abbrev pub BeginsWith : ℕ → List ℕ → Type 0
 BeginsWith byte bytes = take 1 bytes ≡ byte ∷ []
 
@@ -39,7 +37,7 @@ abbrev pub AreShut : (Side → SideState) → Type 0
 AreShut state = (side : Side) (left : List ℕ) → MayLeave (state side) left → BeginsWith 0 left
 
 pub record StayShut (sent : List Output) (left : Contents) (told : List Output) : Type 0 where
-  pub shut : (side : Side) → BeginsWith 0 (left side)
+  pub shut : (side : Side) → IsShut (left side)
   pub outlet : told ≡ sent
 
 -- the side isn't armed, or has the whole image; the other one is as it was
@@ -68,11 +66,6 @@ abbrev pub of_fresh : Fresh → FormatFault
 of_fresh fresh.BadOpening = BadOpening
 of_fresh fresh.NoMemory = NoMemory
 
-pub record KeepsOutlet {D : Type 0} (honest tells : D → Type 0) (sent : D → List Output) (old new : D) : Type 0 where
-  pub keeps_honesty : honest old ↔ honest new
-  pub keeps_telling : tells old ↔ tells new
-  pub same : sent new ≡ sent old
-
 abbrev pub IsOn : Side → Side → Call → Type 0
 IsOn this side call = side ≡ this
 
@@ -87,9 +80,9 @@ abbrev pub FormatStops : (Side → SideState) → (Side → SideState) → Devic
 FormatStops old new fault =
     (Looks fault.call × (new ≡ old)) ⊎ FailsOn B (old A) old new fault ⊎ FailsOn A (durable (0 ∷ [])) old new fault
 
-abbrev pub FormatFails : {D : Type 0} → (D → Type 0) → (D → Side → SideState) → Type 0 → D → D → FormatFault → Type 0
-FormatFails honest state is_opening old new BadOpening = (¬ is_opening) × (new ≡ old)
-FormatFails honest state is_opening old new NoMemory = is_opening × (new ≡ old)
-FormatFails honest state is_opening old new (Device fault) = is_opening × (honest old → FormatStops (state old) (state new) fault)
-FormatFails honest state is_opening old new AlreadyFormatted =
-    is_opening × (honest old → (IsArmed (state old A).bytes ⊎ IsArmed (state old B).bytes) × (state new ≡ state old))
+abbrev pub FormatFails : {D : Type 0} → Ghosts D → Type 0 → D → D → FormatFault → Type 0
+FormatFails s is_opening old new BadOpening = (¬ is_opening) × (new ≡ old)
+FormatFails s is_opening old new NoMemory = is_opening × (new ≡ old)
+FormatFails s is_opening old new (Device fault) = is_opening × (s.honest old → FormatStops (s.state old) (s.state new) fault)
+FormatFails s is_opening old new AlreadyFormatted =
+    is_opening × (s.honest old → (IsArmed (s.state old A).bytes ⊎ IsArmed (s.state old B).bytes) × (s.state new ≡ s.state old))

@@ -3,6 +3,5 @@ pub mod Opening
 pub mod Formatting
 pub mod Outlet
 pub mod Standing
-pub mod Putting
 pub mod Flushing
 pub mod Lives

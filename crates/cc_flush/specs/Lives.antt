@@ -4,28 +4,22 @@
 --     IsTurnLawful, AreTurnsLawful     a batch has entries, none of which is refused;  each batch has
 --     HasRoom                     there is room for an action
 --     IsTurn, BeginsWithTurn      the action is a Turn;  the first one is
---     HasLived                    these events led to an engine's node from a lawful one on, and the moment is good for them
---     Advances                    it has taken in these events, and put these outputs
---     Forfeits                    a disk call failed in a Turn, whose batch is given up
 --     begun                       the actions of which anything was done
 --     HasRun                      it has carried out the first of these actions
-use Rattle.std.specs.Prelude.{◌≡◌, ◌↔◌, ◌⊎◌, ◌≤◌, ◌<◌, ⊤, ℕ, List, [], ◌∷◌, ◌++◌, length, take, false, None, Some, Ok, Err, Result, OnOk, MatchResult}
+use Rattle.std.specs.Prelude.{◌≡◌, ◌⊎◌, ◌≤◌, ◌<◌, ⊤, ℕ, List, [], ◌∷◌, ◌++◌, length, take, None, Ok, Err, Result, OnOk, MatchResult}
 use Rattle.std.specs.List.{flat_map}
 use Rattle.cc_wire.specs.declared.event.Event.{Event}
 use Rattle.cc_wire.specs.declared.output.Output.{Output}
-use Rattle.cc_site.specs.declared.site.Side.{Side}
-use Rattle.cc_site.specs.declared.site.DeviceFault.{DeviceFault}
-use Rattle.cc_site.specs.Sides.{SideState}
-use Rattle.cc_site.specs.Moments.{Contents, EachMoment, Rose}
-use Rattle.cc_node.specs.Lawful.{IsLawfulNode}
-use Rattle.cc_node.specs.Node.{Node, IsLawful, after, line}
+use Rattle.cc_site.specs.declared.site.Site.{Ghosts}
+use Rattle.cc_node.specs.Node.{Node, after, line}
 use Rattle.cc_journal.specs.declared.entry.Entry.{Entry}
 use Rattle.cc_journal.specs.Batches.{AreLawful, events_in}
-use Rattle.cc_journal.specs.Journals.{IsGood}
+use Rattle.cc_journal.specs.Journals.{room_limit, KeepsGood}
 use Rattle.cc_flush.specs.declared.flusher.Failed.{Failed}
-use Rattle.cc_flush.specs.declared.life.Action.{Action}
-use Rattle.cc_flush.specs.declared.life.Action.TheVariants.{Turn, Resend, Again, Reack}
-use Rattle.cc_flush.specs.Engine.{Engine, IsGoodAtRest, room_limit}
+use Rattle.cc_flush.specs.declared.actions.Action.{Action}
+use Rattle.cc_flush.specs.declared.actions.Action.TheVariants.{Turn, Resend, Again, Reack}
+use Rattle.cc_flush.specs.Engine.{Engine}
+use Rattle.cc_flush.specs.Flushing.{HasLived}
 use Rattle.cc_flush.specs.Standing.{resends, reply_again, ack_again}
 
 abbrev pub events_by : Action → List Event
@@ -70,60 +64,21 @@ IsTurn action = (batch : List Entry) × (action ≡ Turn batch)
 abbrev pub BeginsWithTurn : List Action → Type 0
 BeginsWithTurn actions = (batch : List Entry) × (more : List Action) × (actions ≡ Turn batch ∷ more)
 
-pub record HasLived {D : Type 0} (state : D → Side → SideState) (sent : D → List Output) (engine : Engine D) (start : Node) (events : List Event) (opening : ℕ) : Type 0 where
-  pub sound : IsLawfulNode start
-  pub lawful : IsLawful start events
-  pub twin : engine.twin ≡ after start events
-  pub good : IsGoodAtRest (state engine.site) (sent engine.site) start events (length events) opening
-
-pub record Advances {D : Type 0} (honest tells : D → Type 0) (state : D → Side → SideState) (sent : D → List Output) (moment : D → ℕ) (left_since : D → ℕ → Contents → List Output → Type 0) (failures : D → ℕ)
-    (events : List Event) (outputs : List Output) (old new : Engine D) : Type 0 where
-  pub twin : new.twin ≡ after old.twin events
-  pub owes : new.owes ≡ false
-  pub goes_on : new.failed ≡ None
-  pub same_generation : new.generation ≡ old.generation
-  pub same_honest : honest old.site ↔ honest new.site
-  pub told : tells new.site → tells old.site × (sent new.site ≡ sent old.site ++ outputs)
-  pub moments : honest old.site → tells new.site → (start : Node) (before : List Event) (opening : ℕ) → HasLived state sent old start before opening
-      → EachMoment moment left_since old.site new.site (IsGood start (before ++ events) (length before) opening)
-  pub lives : honest old.site → tells new.site → (start : Node) (before : List Event) (opening : ℕ) → HasLived state sent old start before opening
-      → HasLived state sent new start (before ++ events) opening
-  pub same_failures : failures new.site ≡ failures old.site
-
-pub record Forfeits {D : Type 0} (honest tells : D → Type 0) (state : D → Side → SideState) (sent : D → List Output) (moment : D → ℕ) (left_since : D → ℕ → Contents → List Output → Type 0) (failures : D → ℕ)
-    (action : Action) (old new : Engine D) (fault : DeviceFault) : Type 0 where
-  pub turn : IsTurn action
-  pub twin : new.twin ≡ old.twin
-  pub owes : new.owes ≡ false
-  pub failed : new.failed ≡ Some fault
-  pub same_generation : new.generation ≡ old.generation
-  pub same_honest : honest old.site ↔ honest new.site
-  pub told : (tells old.site ↔ tells new.site) × (sent new.site ≡ sent old.site)
-  pub moments : honest old.site → (start : Node) (before : List Event) (opening : ℕ) → HasLived state sent old start before opening
-      → EachMoment moment left_since old.site new.site (IsGood start (before ++ events_by action) (length before) opening)
-  pub rose : Rose (failures old.site) (failures new.site)
-
 -- those that were carried out, and the Turn in which a disk call failed, if one did
 abbrev pub begun : Result (Unit {0}) Failed → List Action → List Action → List Action
 begun (Ok unit) done rest = done
 begun (Err failed) done rest = done ++ take 1 rest
 
 -- the actions `done` have been carried out, and no part of `rest` but for the batch of the Turn that failed
-pub record HasRun {D : Type 0} (honest tells : D → Type 0) (state : D → Side → SideState) (sent : D → List Output) (moment : D → ℕ) (left_since : D → ℕ → Contents → List Output → Type 0)
-    (actions : List Action) (old new : Engine D) (result : Result (Unit {0}) Failed) : Type 0 where
+pub record HasRun {D : Type 0} (s : Ghosts D) (actions : List Action) (old new : Engine D) (result : Result (Unit {0}) Failed) : Type 0 where
   pub done : List Action
   pub rest : List Action
   pub parts : actions ≡ done ++ rest
   pub twin : new.twin ≡ after old.twin (events_of done)
-  pub told : tells new.site → sent new.site ≡ sent old.site ++ outputs_of old.twin done
+  pub told : s.tells new.site → s.sent new.site ≡ s.sent old.site ++ outputs_of old.twin done
   -- all of them, unless there is no room for the next batch or a disk call failed in it
   pub stops : MatchResult result (λ _. (rest ≡ []) ⊎ (BeginsWithTurn rest × (room_limit ≤ new.used))) (λ _. old.failed ≡ None → BeginsWithTurn rest)
   -- what was given up unbegun has no part in any moment
-  pub moments : honest old.site → tells new.site → old.failed ≡ None → (start : Node) (events : List Event) (opening : ℕ)
-      → IsLawfulNode start → IsLawful start events → old.twin ≡ after start events
-      → IsGoodAtRest (state old.site) (sent old.site) start events (length events) opening
-      → EachMoment moment left_since old.site new.site (IsGood start (events ++ events_of (begun result done rest)) (length events) opening)
-  pub at_rest : honest old.site → tells new.site → old.failed ≡ None → (start : Node) (events : List Event) (opening : ℕ)
-      → IsLawfulNode start → IsLawful start events → old.twin ≡ after start events
-      → IsGoodAtRest (state old.site) (sent old.site) start events (length events) opening
-      → OnOk result (IsGoodAtRest (state new.site) (sent new.site) start (events ++ events_of done) (length (events ++ events_of done)) opening)
+  pub moments : s.honest old.site → s.tells new.site → old.failed ≡ None → KeepsGood s (HasLived s old) (events_of (begun result done rest)) old.site new.site
+  pub afterwards : s.honest old.site → s.tells new.site → old.failed ≡ None → (start : Node) (events : List Event) (opening : ℕ) → HasLived s old start events opening
+      → OnOk result (HasLived s new start (events ++ events_of done) opening)

@@ -17,8 +17,10 @@ use Rattle.cc_ops.specs.declared.pending.Reply.{Reply}
 use Rattle.cc_outbox.specs.Outbox.{Outbox}
 use Rattle.cc_node.specs.Node.{Node}
 use Rattle.cc_site.specs.declared.site.Side.{Side}
+use Rattle.cc_site.specs.declared.site.Site.{Ghosts}
 use Rattle.cc_site.specs.Sides.{SideState, MayLeave}
-use Rattle.cc_site.specs.Moments.{Contents, EachMoment}
+use Rattle.cc_site.specs.Moments.{Contents}
+use Rattle.cc_site.specs.Runs.{EachMoment}
 use Rattle.cc_flush.specs.declared.outlet.Answered.{Answered}
 
 pub record IsPutting (state : Side → SideState) (sent more : List Output) (left : Contents) (told : List Output) : Type 0 where
@@ -28,12 +30,12 @@ pub record IsPutting (state : Side → SideState) (sent more : List Output) (lef
   pub parts : more ≡ put ++ rest
   pub outlet : told ≡ sent ++ put
 
-pub record Puts {D : Type 0} (honest tells : D → Type 0) (state : D → Side → SideState) (sent : D → List Output) (moment : D → ℕ) (left_since : D → ℕ → Contents → List Output → Type 0) (failures : D → ℕ) (outputs : List Output) (old new : D) : Type 0 where
-  pub same_honest : honest old ↔ honest new
-  pub same_state : honest old → state new ≡ state old
-  pub told : tells new → tells old × (sent new ≡ sent old ++ outputs)
-  pub moments : honest old → tells new → EachMoment moment left_since old new (IsPutting (state old) (sent old) outputs)
-  pub same_failures : failures new ≡ failures old
+pub record Puts {D : Type 0} (s : Ghosts D) (outputs : List Output) (old new : D) : Type 0 where
+  pub same_honest : s.honest old ↔ s.honest new
+  pub same_state : s.honest old → s.state new ≡ s.state old
+  pub told : s.tells new → s.tells old × (s.sent new ≡ s.sent old ++ outputs)
+  pub moments : s.honest old → s.tells new → EachMoment s old new (IsPutting (s.state old) (s.sent old) outputs)
+  pub same_failures : s.failures new ≡ s.failures old
 
 abbrev pub on_link : Core → Message → LinkRow → List Output
 on_link c m row = if set.contains c.churn.changes.left row.peer then [] else output.Send row.peer (c.posts - row.start) m ∷ []

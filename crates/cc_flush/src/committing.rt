@@ -4,10 +4,10 @@ ghost use Rattle.std.specs.Prelude.{max, ◌≡◌, ◌↔◌, ◌≤◌, ◌<�
 ghost use Rattle.cc_wire.specs.declared.event.Event.{Event};
 ghost use Rattle.cc_site.specs.declared.site.Call.TheVariants.{Write, Sync};
 ghost use Rattle.cc_site.specs.Sides.{other};
-ghost use Rattle.cc_site.specs.Moments.{EachMoment, Rose};
-ghost use Rattle.cc_node.specs.Node.{Node, after, IsLawful};
+ghost use Rattle.cc_site.specs.Moments.{Rose};
+ghost use Rattle.cc_node.specs.Node.{Node};
 ghost use Rattle.cc_journal.specs.Batches.{events_in, batch_bytes};
-ghost use Rattle.cc_journal.specs.Journals.{IsGood, IsAtRest};
+ghost use Rattle.cc_journal.specs.Journals.{record_room, room_limit, KeepsGood, RestsFor, RestsNow};
 
 use cc_journal::{Batch, Forfeit, Journal, Landed};
 use cc_site::Site;
@@ -19,7 +19,7 @@ pub(crate) fn make_durable<S: Site>(
     batch: Batch,
 ) -> Result<Landed, Forfeit>
     requires within { S.honest site.old → journal.old.place + 1 ≤ length (S.state site.old journal.old.side).bytes }
-    requires room { journal.old.place < 2 ^ 61 }
+    requires room { journal.old.place < room_limit }
     requires some { 1 ≤ length batch }
     ensures landed { IfOk result (λ landed. landed ≡ batch) }
     ensures ok { OnOk result (journal.new ≡ record { side = journal.old.side; place = journal.old.place + length (batch_bytes batch) }) }
@@ -27,16 +27,13 @@ pub(crate) fn make_durable<S: Site>(
     ensures honest { S.honest site.old ↔ S.honest site.new }
     ensures tells { (S.tells site.old ↔ S.tells site.new) × (S.sent site.new ≡ S.sent site.old) }
     ensures other_side { S.honest site.old → S.state site.new (other journal.old.side) ≡ S.state site.old (other journal.old.side) }
-    ensures every_moment { S.honest site.old → (generation : ℕ) (start : Node) (events : List Event) (opening : ℕ)
-        → IsAtRest (S.state site.old) (S.sent site.old) journal.old generation start events opening
-        → IsLawful (after start events) (events_in batch)
-        → EachMoment S.moment S.left_since site.old site.new (IsGood start (events ++ events_in batch) (length events) opening) }
+    ensures every_moment { S.honest site.old → (generation : ℕ)
+        → KeepsGood S.Site (RestsFor S.Site (events_in batch) site.old journal.old generation) (events_in batch) site.old site.new }
     ensures at_rest { S.honest site.old → (generation : ℕ) (start : Node) (events : List Event) (opening : ℕ)
-        → IsAtRest (S.state site.old) (S.sent site.old) journal.old generation start events opening
-        → IsLawful (after start events) (events_in batch)
-        → OnOk result (IsAtRest (S.state site.new) (S.sent site.new) journal.new generation start (events ++ events_in batch) opening) }
+        → RestsFor S.Site (events_in batch) site.old journal.old generation start events opening
+        → OnOk result (RestsNow S.Site site.new journal.new generation start (events ++ events_in batch) opening) }
     ensures length { S.honest site.old → OnOk result (length (S.state site.new journal.old.side).bytes ≡ max (length (S.state site.old journal.old.side).bytes) (journal.old.place + 1 + length (batch_bytes batch))) }
-    ensures short { OnOk result (length (batch_bytes batch) ≤ 262149) }
+    ensures short { OnOk result (length (batch_bytes batch) ≤ record_room) }
     ensures device { IfErr result (λ forfeit. (forfeit.fault.side ≡ journal.old.side) × ((forfeit.fault.call ≡ Write) ⊎ (forfeit.fault.call ≡ Sync))) }
     ensures fault { MatchResult result (λ _. S.failures site.new ≡ S.failures site.old) (λ _. Rose (S.failures site.old) (S.failures site.new)) }
 {

@@ -6,7 +6,8 @@ ghost use Rattle.cc_wire.specs.declared.event.Event.{Event as EventValue};
 ghost use Rattle.cc_site.specs.declared.site.Side.{Side as SideValue};
 ghost use Rattle.cc_site.specs.declared.site.Call.TheVariants.{Write, Sync};
 ghost use Rattle.cc_site.specs.Sides.{other};
-ghost use Rattle.cc_site.specs.Moments.{EachMoment, Possible, Rose};
+ghost use Rattle.cc_site.specs.Moments.{Possible, Rose};
+ghost use Rattle.cc_site.specs.Runs.{KeepsOutlet, EachMoment};
 ghost use Rattle.cc_site.specs.Reads.{bytes_of};
 ghost use Rattle.cc_links.specs.Links.{heard_from};
 ghost use Rattle.cc_node.specs.Lawful.{IsLawfulNode};
@@ -14,13 +15,10 @@ ghost use Rattle.cc_node.specs.Node.{Node as NodeValue, IsLawful, after, line};
 ghost use Rattle.cc_node.specs.Sides.{StandsAt};
 ghost use Rattle.cc_checkpoint.specs.Faults.{FaultRose};
 ghost use Rattle.cc_journal.specs.Batches.{AreLawful, events_in};
-ghost use Rattle.cc_journal.specs.Journals.{IsGood};
-ghost use Rattle.cc_flush.specs.Engine.{IsGoodAtRest, IsOwed, IsPutFrom, room_limit};
-ghost use Rattle.cc_flush.specs.Flushing.{Flushes, GivesUp};
-ghost use Rattle.cc_flush.specs.Formatting.{KeepsOutlet};
+ghost use Rattle.cc_journal.specs.Journals.{room_limit, IsGoodNow, KeepsGood, StaysGood};
+ghost use Rattle.cc_flush.specs.Engine.{IsOwed};
+ghost use Rattle.cc_flush.specs.Flushing.{Flushes, GivesUp, LeadsTo, LeadsToOwed, PutsAgain};
 ghost use Rattle.cc_flush.specs.Opening.{AreSettled, OpenFails, OpenStops, Opens};
-ghost use Rattle.cc_flush.specs.Outlet.{Puts};
-ghost use Rattle.cc_flush.specs.Putting.{MomentsStayGood, StaysAtRest};
 ghost use Rattle.cc_flush.specs.Standing.{resends, reply_again, ack_again};
 
 use crate::back::Back;
@@ -78,7 +76,7 @@ impl<S: Site> Model for Flusher<S> {
 
     ghost view = { λ f. record { site = f.site; twin = f.node; at = f.journal; generation = f.generation; used = f.used; owes = f.owes; failed = f.failed } };
 
-    ghost invariant = { λ f. IsSound S.honest S.state (record { site = f.site; twin = f.node; at = f.journal; generation = f.generation; used = f.used; owes = f.owes; failed = f.failed }) };
+    ghost invariant = { λ f. IsSound S.Site (record { site = f.site; twin = f.node; at = f.journal; generation = f.generation; used = f.used; owes = f.owes; failed = f.failed }) };
 }
 
 // Up to how many bytes of a side there is room for a record.
@@ -124,7 +122,7 @@ impl<S: Site> Flusher<S> {
     /// Whether there is room for one more record: the side in use is below 2^61 bytes.
     pub fn room(&self) -> bool
         ensures room { IsTrue result ↔ (self.now.used < room_limit) }
-        ensures used { S.honest self.now.site → self.now.failed ≡ None → IsTrue result ↔ (length (S.state self.now.site self.now.at.side).bytes < 2 ^ 61) }
+        ensures used { S.honest self.now.site → self.now.failed ≡ None → IsTrue result ↔ (length (S.state self.now.site self.now.at.side).bytes < room_limit) }
     {
         self.used < ROOM_LIMIT
     }
@@ -133,16 +131,16 @@ impl<S: Site> Flusher<S> {
     /// of its node once more. NotFormatted, Damaged and Version come where the reading rules name them, Device and NoMemory
     /// where they are met. Side A is made sure of first, and no side is looked at before side B is made sure of too.
     pub fn open(alloc: Global, site: S) -> Result<(Self, Core), Back<S, OpenFault>>
-        ensures outlet { MatchResult result (λ opened. KeepsOutlet S.honest S.tells S.sent site opened.0.site) (λ b. KeepsOutlet S.honest S.tells S.sent site b.site) }
+        ensures outlet { MatchResult result (λ opened. KeepsOutlet S.Site site opened.0.site) (λ b. KeepsOutlet S.Site site b.site) }
         ensures engine { IfOk result (λ opened. (opened.0.failed ≡ None) × (opened.0.owes ≡ false) × (opened.1 ≡ opened.0.twin.core)) }
         ensures stands { S.honest site → IfOk result (λ opened. StandsAt (S.state site opened.0.at.side).bytes (S.state site (other opened.0.at.side)).bytes opened.0.generation opened.0.at.place opened.0.twin) }
-        ensures faults { S.honest site → IfErr result (λ b. OpenFails (bytes_of S.state site) b.fault) }
+        ensures faults { S.honest site → IfErr result (λ b. OpenFails (bytes_of S.Site site) b.fault) }
         ensures settled { S.honest site → MatchResult result (λ opened. AreSettled (S.state site) (S.state opened.0.site)) (λ b. OpenStops (S.state site) (S.state b.site) b.fault) }
         // At each moment a crash leaves what it might have left at the start, and nothing is put.
-        ensures every_moment { S.honest site → MatchResult result (λ opened. EachMoment S.moment S.left_since site opened.0.site (Possible (S.state site) (S.sent site)))
-            (λ b. EachMoment S.moment S.left_since site b.site (Possible (S.state site) (S.sent site))) }
+        ensures every_moment { S.honest site → MatchResult result (λ opened. EachMoment S.Site site opened.0.site (Possible (S.state site) (S.sent site)))
+            (λ b. EachMoment S.Site site b.site (Possible (S.state site) (S.sent site))) }
         ensures at_rest { S.honest site → ((side : SideValue) → 1 ≤ length (S.state site side).bytes)
-            → IfOk result (λ opened. IsGoodAtRest (S.state opened.0.site) (S.sent opened.0.site) opened.0.twin [] 0 (length (S.sent opened.0.site))) }
+            → IfOk result (λ opened. IsGoodNow S.Site opened.0.site opened.0.twin [] (length (S.sent opened.0.site))) }
         ensures count { MatchResult result (λ opened. S.failures opened.0.site ≡ S.failures site) (λ b. FaultRose Opens (S.failures site) (S.failures b.site) b.fault) }
     {
         let mut site = site;
@@ -195,10 +193,10 @@ impl<S: Site> Flusher<S> {
         requires owes { self.old.owes ≡ false }
         requires some { 1 ≤ length batch }
         requires lawful { AreLawful self.old.twin batch }
-        requires room { self.old.used < 2 ^ 61 }
+        requires room { self.old.used < room_limit }
         ensures ended { (fault : DeviceFault) → self.old.failed ≡ Some fault → (result ≡ Err (record { fault = fault })) × (self.new ≡ self.old) }
         ensures landed { IfOk result (λ landed. landed ≡ batch) }
-        ensures owed { IfOk result (IsOwed S.honest S.state self.new) }
+        ensures owed { IfOk result (IsOwed S.Site self.new) }
         ensures owes { MatchResult result (λ _. self.new.owes ≡ true) (λ _. self.new.owes ≡ false) }
         ensures same_twin { self.new.twin ≡ self.old.twin }
         ensures goes_on { OnOk result (self.new.failed ≡ None) }
@@ -207,14 +205,9 @@ impl<S: Site> Flusher<S> {
         ensures honest { S.honest self.old.site ↔ S.honest self.new.site }
         ensures tells { (S.tells self.old.site ↔ S.tells self.new.site) × (S.sent self.new.site ≡ S.sent self.old.site) }
         ensures other_side { S.honest self.old.site → S.state self.new.site (other self.old.at.side) ≡ S.state self.old.site (other self.old.at.side) }
-        ensures every_moment { S.honest self.old.site → self.old.failed ≡ None → (start : NodeValue) (events : List EventValue) (opening : ℕ)
-            → self.old.twin ≡ after start events
-            → IsGoodAtRest (S.state self.old.site) (S.sent self.old.site) start events (length events) opening
-            → EachMoment S.moment S.left_since self.old.site self.new.site (IsGood start (events ++ events_in batch) (length events) opening) }
-        ensures at_rest { S.honest self.old.site → self.old.failed ≡ None → (start : NodeValue) (events : List EventValue) (opening : ℕ)
-            → self.old.twin ≡ after start events
-            → IsGoodAtRest (S.state self.old.site) (S.sent self.old.site) start events (length events) opening
-            → OnOk result (IsGoodAtRest (S.state self.new.site) (S.sent self.new.site) start (events ++ events_in batch) (length (events ++ events_in batch)) opening) }
+        ensures every_moment { S.honest self.old.site → self.old.failed ≡ None → KeepsGood S.Site (LeadsTo S.Site self.old) (events_in batch) self.old.site self.new.site }
+        ensures at_rest { S.honest self.old.site → self.old.failed ≡ None → (start : NodeValue) (events : List EventValue) (opening : ℕ) → LeadsTo S.Site self.old start events opening
+            → OnOk result (IsGoodNow S.Site self.new.site start (events ++ events_in batch) opening) }
         ensures device { self.old.failed ≡ None → IfErr result (λ f. (f.fault.side ≡ self.old.at.side) × ((f.fault.call ≡ Write) ⊎ (f.fault.call ≡ Sync))) }
         ensures count { self.old.failed ≡ None → MatchResult result (λ _. S.failures self.new.site ≡ S.failures self.old.site) (λ _. Rose (S.failures self.old.site) (S.failures self.new.site)) }
     {
@@ -235,22 +228,14 @@ impl<S: Site> Flusher<S> {
     /// Takes the events of the batch that is owed, which `commit` answered last, into the node, and puts the outputs of each
     /// in turn. It makes no disk call, takes no memory and can't fail. Nothing is owed then.
     pub fn release(&mut self, landed: Landed)
-        requires owed { IsOwed S.honest S.state self.old landed }
+        requires owed { IsOwed S.Site self.old landed }
         ensures twin { self.new.twin ≡ after self.old.twin (events_in landed) }
         ensures owes { self.new.owes ≡ false }
         ensures same { (self.new.at ≡ self.old.at) × (self.new.generation ≡ self.old.generation) × (self.new.used ≡ self.old.used) × (self.new.failed ≡ self.old.failed) }
         ensures honest { S.honest self.old.site ↔ S.honest self.new.site }
         ensures same_sides { S.honest self.old.site → S.state self.new.site ≡ S.state self.old.site }
         ensures told { S.tells self.new.site → S.tells self.old.site × (S.sent self.new.site ≡ S.sent self.old.site ++ line self.old.twin (events_in landed)) }
-        ensures every_moment { S.honest self.old.site → S.tells self.new.site → (start : NodeValue) (events : List EventValue) (opening durable : ℕ)
-            → self.old.twin ≡ after start events
-            → IsGoodAtRest (S.state self.old.site) (S.sent self.old.site) start (events ++ events_in landed) (length (events ++ events_in landed)) opening
-            → durable ≤ length (events ++ events_in landed)
-            → EachMoment S.moment S.left_since self.old.site self.new.site (IsGood start (events ++ events_in landed) durable opening) }
-        ensures at_rest { S.honest self.old.site → S.tells self.new.site → (start : NodeValue) (events : List EventValue) (opening : ℕ)
-            → self.old.twin ≡ after start events
-            → IsGoodAtRest (S.state self.old.site) (S.sent self.old.site) start (events ++ events_in landed) (length (events ++ events_in landed)) opening
-            → IsGoodAtRest (S.state self.new.site) (S.sent self.new.site) start (events ++ events_in landed) (length (events ++ events_in landed)) opening }
+        ensures good { S.honest self.old.site → S.tells self.new.site → StaysGood S.Site (LeadsToOwed S.Site landed self.old) self.old.site self.new.site }
         ensures count { S.failures self.new.site ≡ S.failures self.old.site }
     {
         put_entries(&mut self.node, &mut self.site, landed.into_batch());
@@ -263,11 +248,11 @@ impl<S: Site> Flusher<S> {
         requires owes { self.old.owes ≡ false }
         requires some { 1 ≤ length batch }
         requires lawful { AreLawful self.old.twin batch }
-        requires room { self.old.used < 2 ^ 61 }
+        requires room { self.old.used < room_limit }
         ensures ended { (fault : DeviceFault) → self.old.failed ≡ Some fault → (result ≡ Err (record { fault = fault })) × (self.new ≡ self.old) }
         ensures flushed { self.old.failed ≡ None → MatchResult result
-            (λ _. Flushes S.honest S.tells S.state S.sent S.moment S.left_since S.failures batch self.old self.new)
-            (λ f. GivesUp S.honest S.tells S.state S.sent S.moment S.left_since S.failures batch self.old self.new f.fault) }
+            (λ _. Flushes S.Site batch self.old self.new)
+            (λ f. GivesUp S.Site (LeadsTo S.Site) (events_in batch) self.old self.new f.fault) }
     {
         let landed = self.commit(batch)?;
         self.release(landed);
@@ -281,10 +266,7 @@ impl<S: Site> Flusher<S> {
         requires owes { self.old.owes ≡ false }
         ensures ended { (fault : DeviceFault) → self.old.failed ≡ Some fault → (result ≡ Err (record { fault = fault })) × (self.new ≡ self.old) }
         ensures count { self.old.failed ≡ None → result ≡ Ok (length (resends self.old.twin)) }
-        ensures same { IsPutFrom self.old self.new }
-        ensures puts { self.old.failed ≡ None → Puts S.honest S.tells S.state S.sent S.moment S.left_since S.failures (resends self.old.twin) self.old.site self.new.site }
-        ensures every_moment { MomentsStayGood S.honest S.tells S.state S.sent S.moment S.left_since self.old self.new }
-        ensures at_rest { StaysAtRest S.honest S.tells S.state S.sent self.old self.new }
+        ensures puts { self.old.failed ≡ None → PutsAgain S.Site (resends self.old.twin) self.old self.new }
     {
         self.check()?;
         Ok(put_kept_posts(&self.node, &mut self.site))
@@ -296,10 +278,7 @@ impl<S: Site> Flusher<S> {
         requires owes { self.old.owes ≡ false }
         ensures ended { (fault : DeviceFault) → self.old.failed ≡ Some fault → (result ≡ Err (record { fault = fault })) × (self.new ≡ self.old) }
         ensures kept { self.old.failed ≡ None → result ≡ Ok (table.contains_key self.old.twin.outbox.answers session) }
-        ensures same { IsPutFrom self.old self.new }
-        ensures puts { self.old.failed ≡ None → Puts S.honest S.tells S.state S.sent S.moment S.left_since S.failures (reply_again session self.old.twin) self.old.site self.new.site }
-        ensures every_moment { MomentsStayGood S.honest S.tells S.state S.sent S.moment S.left_since self.old self.new }
-        ensures at_rest { StaysAtRest S.honest S.tells S.state S.sent self.old self.new }
+        ensures puts { self.old.failed ≡ None → PutsAgain S.Site (reply_again session self.old.twin) self.old self.new }
     {
         self.check()?;
         Ok(put_kept_answer(&self.node, &mut self.site, session))
@@ -311,10 +290,7 @@ impl<S: Site> Flusher<S> {
         requires owes { self.old.owes ≡ false }
         ensures ended { (fault : DeviceFault) → self.old.failed ≡ Some fault → (result ≡ Err (record { fault = fault })) × (self.new ≡ self.old) }
         ensures heard { self.old.failed ≡ None → result ≡ Ok (nat_lt 0 (heard_from peer self.old.twin.core.links)) }
-        ensures same { IsPutFrom self.old self.new }
-        ensures puts { self.old.failed ≡ None → Puts S.honest S.tells S.state S.sent S.moment S.left_since S.failures (ack_again peer self.old.twin) self.old.site self.new.site }
-        ensures every_moment { MomentsStayGood S.honest S.tells S.state S.sent S.moment S.left_since self.old self.new }
-        ensures at_rest { StaysAtRest S.honest S.tells S.state S.sent self.old self.new }
+        ensures puts { self.old.failed ≡ None → PutsAgain S.Site (ack_again peer self.old.twin) self.old self.new }
     {
         self.check()?;
         Ok(put_ack_again(&self.node, &mut self.site, peer))

@@ -3,17 +3,18 @@
 ghost use Rattle.std.specs.Prelude.{ℕ, ◌≡◌, ◌↔◌, ◌⊎◌, ◌∷◌, [], ◌≤◌, length, true, false, IfOk, OnOk, IsTrue, MatchResult, IsErrOf, IfErr};
 ghost use Rattle.cc_site.specs.declared.site.Side.TheVariants.{A, B};
 ghost use Rattle.cc_site.specs.declared.site.Call.TheVariants.{Write, Sync};
-ghost use Rattle.cc_site.specs.Sides.{other};
-ghost use Rattle.cc_site.specs.Moments.{EachMoment, Rose, CountsOneFault};
+ghost use Rattle.cc_site.specs.Sides.{durable, other};
+ghost use Rattle.cc_site.specs.Moments.{Rose, CountsOneFault};
+ghost use Rattle.cc_site.specs.Runs.{KeepsOutlet, EachMoment};
 ghost use Rattle.cc_site.specs.Reads.{OnlyReads};
 ghost use Rattle.cc_site.specs.Telling.{Looks, LooksAt, LooksAtEither, CountsCalls};
 ghost use Rattle.cc_node.specs.Node.{Node as NodeState};
 ghost use Rattle.cc_node.specs.Opening.{told, fresh, IsOpening};
 ghost use Rattle.cc_node.specs.Sides.{OPEN, IsArmed};
 ghost use Rattle.cc_checkpoint.specs.Images.{SpellsImage};
-ghost use Rattle.cc_journal.specs.Journals.{IsAtRest};
+ghost use Rattle.cc_journal.specs.Journals.{RestsNow};
 ghost use Rattle.cc_flush.specs.declared.formatting.FormatFault.TheVariants as faults;
-ghost use Rattle.cc_flush.specs.Formatting.{durable, of_fresh, BeginsWith, AreShut, StayShut, Arms, HasNoneOrAll, IsNoneOrWhole, IsOn, FormatRose, FormatStops, KeepsOutlet, FormatFails};
+ghost use Rattle.cc_flush.specs.Formatting.{of_fresh, BeginsWith, AreShut, StayShut, Arms, HasNoneOrAll, IsNoneOrWhole, IsOn, FormatRose, FormatStops, FormatFails};
 
 use crate::back::Back;
 use cc_checkpoint::encode_image;
@@ -84,7 +85,7 @@ impl From<NoMemory> for FormatFault {
 // Whether a side begins with that byte.
 fn begins_with<S: Site>(site: &mut S, side: Side, byte: u8) -> Result<bool, DeviceFault>
     ensures exact { S.honest site.old → IfOk result (λ begins. IsTrue begins ↔ BeginsWith byte (S.state site.old side).bytes) }
-    ensures reads { OnlyReads S.honest S.tells S.state S.sent S.moment S.left_since site.old site.new }
+    ensures reads { OnlyReads S.Site site.old site.new }
     ensures fault { CountsCalls (LooksAt side) (S.failures site.old) (S.failures site.new) result }
 {
     let len = length_of(site, side)?;
@@ -99,7 +100,7 @@ fn begins_with<S: Site>(site: &mut S, side: Side, byte: u8) -> Result<bool, Devi
 // Whether the gate of either side reads open.
 fn is_formatted<S: Site>(site: &mut S) -> Result<bool, DeviceFault>
     ensures exact { S.honest site.old → IfOk result (λ armed. IsTrue armed ↔ (IsArmed (S.state site.old A).bytes ⊎ IsArmed (S.state site.old B).bytes)) }
-    ensures reads { OnlyReads S.honest S.tells S.state S.sent S.moment S.left_since site.old site.new }
+    ensures reads { OnlyReads S.Site site.old site.new }
     ensures fault { CountsCalls LooksAtEither (S.failures site.old) (S.failures site.new) result }
 {
     if begins_with(site, Side::A, OPEN_GATE)? {
@@ -114,7 +115,7 @@ fn clear<S: Site>(site: &mut S, side: Side) -> Result<(), DeviceFault>
     ensures tells { (S.tells site.old ↔ S.tells site.new) × (S.sent site.new ≡ S.sent site.old) }
     ensures value { S.honest site.old → OnOk result (S.state site.new side ≡ durable (0 ∷ [])) }
     ensures other_side { S.honest site.old → S.state site.new (other side) ≡ S.state site.old (other side) }
-    ensures every_moment { S.honest site.old → AreShut (S.state site.old) → EachMoment S.moment S.left_since site.old site.new (StayShut (S.sent site.old)) }
+    ensures every_moment { S.honest site.old → AreShut (S.state site.old) → EachMoment S.Site site.old site.new (StayShut (S.sent site.old)) }
     ensures looked { S.honest site.old → IfErr result (λ fault. Looks fault.call → S.state site.new side ≡ S.state site.old side) }
     ensures fault { CountsCalls (IsOn side) (S.failures site.old) (S.failures site.new) result }
 {
@@ -133,7 +134,7 @@ fn fill_and_arm<S: Site>(site: &mut S, side: Side, image: &[u8]) -> Result<(), D
     ensures tells { (S.tells site.old ↔ S.tells site.new) × (S.sent site.new ≡ S.sent site.old) }
     ensures value { S.honest site.old → OnOk result (S.state site.new side ≡ durable (OPEN ∷ image.now)) }
     ensures other_side { S.honest site.old → S.state site.new (other side) ≡ S.state site.old (other side) }
-    ensures every_moment { S.honest site.old → EachMoment S.moment S.left_since site.old site.new (Arms side image.now (S.state site.old) (S.sent site.old)) }
+    ensures every_moment { S.honest site.old → EachMoment S.Site site.old site.new (Arms side image.now (S.state site.old) (S.sent site.old)) }
     ensures fault { CountsOneFault (S.failures site.old) (S.failures site.new) side Write Sync result }
 {
     write_durably(site, side, 1, image)?;
@@ -146,7 +147,7 @@ fn lay_out<S: Site>(site: &mut S, image: &[u8]) -> Result<(), DeviceFault>
     ensures tells { (S.tells site.old ↔ S.tells site.new) × (S.sent site.new ≡ S.sent site.old) }
     ensures first { S.honest site.old → OnOk result (S.state site.new A ≡ durable (OPEN ∷ image.now)) }
     ensures second { S.honest site.old → OnOk result (S.state site.new B ≡ durable (0 ∷ [])) }
-    ensures every_moment { S.honest site.old → AreShut (S.state site.old) → EachMoment S.moment S.left_since site.old site.new (HasNoneOrAll image.now (S.sent site.old)) }
+    ensures every_moment { S.honest site.old → AreShut (S.state site.old) → EachMoment S.Site site.old site.new (HasNoneOrAll image.now (S.sent site.old)) }
     ensures stops { S.honest site.old → IfErr result (FormatStops (S.state site.old) (S.state site.new)) }
     ensures fault { MatchResult result (λ _. S.failures site.new ≡ S.failures site.old) (λ _. Rose (S.failures site.old) (S.failures site.new)) }
 {
@@ -172,12 +173,12 @@ fn format_sides<S: Site>(site: &mut S, image: &[u8]) -> Result<(), FormatFault>
     ensures honest { S.honest site.old ↔ S.honest site.new }
     ensures tells { (S.tells site.old ↔ S.tells site.new) × (S.sent site.new ≡ S.sent site.old) }
     ensures at_rest { S.honest site.old → (node : NodeState) → SpellsImage image.now 1 node
-        → OnOk result (IsAtRest (S.state site.new) (S.sent site.new) (record { side = A; place = length image.now }) 1 node [] (length (S.sent site.new))) }
+        → OnOk result (RestsNow S.Site site.new (record { side = A; place = length image.now }) 1 node [] (length (S.sent site.new))) }
     ensures second { S.honest site.old → OnOk result (S.state site.new B ≡ durable (0 ∷ [])) }
     ensures unarmed { S.honest site.old → OnOk result (¬ (IsArmed (S.state site.old A).bytes) × ¬ (IsArmed (S.state site.old B).bytes)) }
     ensures already { S.honest site.old → IsErrOf result faults.AlreadyFormatted
         → (IsArmed (S.state site.old A).bytes ⊎ IsArmed (S.state site.old B).bytes) × (S.state site.new ≡ S.state site.old) }
-    ensures every_moment { S.honest site.old → AreShut (S.state site.old) → EachMoment S.moment S.left_since site.old site.new (HasNoneOrAll image.now (S.sent site.old)) }
+    ensures every_moment { S.honest site.old → AreShut (S.state site.old) → EachMoment S.Site site.old site.new (HasNoneOrAll image.now (S.sent site.old)) }
     ensures stops { S.honest site.old → (device : DeviceFault) → IsErrOf result (faults.Device device) → FormatStops (S.state site.old) (S.state site.new) device }
     ensures only { IfErr result (λ fault. (fault ≡ faults.AlreadyFormatted) ⊎ ((device : DeviceFault) × (fault ≡ faults.Device device))) }
     ensures fault { MatchResult result (λ _. S.failures site.new ≡ S.failures site.old) (FormatRose (S.failures site.old) (S.failures site.new)) }
@@ -199,16 +200,16 @@ pub fn format<S: Site>(
     site: S,
     opening: &Opening<'_>,
 ) -> Result<S, Back<S, FormatFault>>
-    ensures outlet { MatchResult result (KeepsOutlet S.honest S.tells S.sent site) (λ b. KeepsOutlet S.honest S.tells S.sent site b.site) }
-    ensures at_rest { S.honest site → IfOk result (λ s. (place : ℕ) × IsAtRest (S.state s) (S.sent s) (record { side = A; place = place }) 1 (fresh (told opening.now)) [] (length (S.sent s))) }
+    ensures outlet { MatchResult result (KeepsOutlet S.Site site) (λ b. KeepsOutlet S.Site site b.site) }
+    ensures at_rest { S.honest site → IfOk result (λ s. (place : ℕ) × RestsNow S.Site s (record { side = A; place = place }) 1 (fresh (told opening.now)) [] (length (S.sent s))) }
     ensures second { S.honest site → IfOk result (λ s. S.state s B ≡ durable (0 ∷ [])) }
     ensures unarmed { S.honest site → OnOk result (¬ (IsArmed (S.state site A).bytes) × ¬ (IsArmed (S.state site B).bytes)) }
     // Where each side begins with the byte of a closed gate, whatever a crash leaves, it is done whole or not at all.
     ensures every_moment { S.honest site → AreShut (S.state site)
-        → MatchResult result (λ s. EachMoment S.moment S.left_since site s (IsNoneOrWhole (fresh (told opening.now)) (S.sent site)))
-        (λ b. EachMoment S.moment S.left_since site b.site (IsNoneOrWhole (fresh (told opening.now)) (S.sent site))) }
+        → MatchResult result (λ s. EachMoment S.Site site s (IsNoneOrWhole (fresh (told opening.now)) (S.sent site)))
+        (λ b. EachMoment S.Site site b.site (IsNoneOrWhole (fresh (told opening.now)) (S.sent site))) }
     ensures good { OnOk result (IsOpening (told opening.now)) }
-    ensures faults { IfErr result (λ b. FormatFails S.honest S.state (IsOpening (told opening.now)) site b.site b.fault) }
+    ensures faults { IfErr result (λ b. FormatFails S.Site (IsOpening (told opening.now)) site b.site b.fault) }
     ensures count { MatchResult result (λ s. S.failures s ≡ S.failures site) (λ b. FormatRose (S.failures site) (S.failures b.site) b.fault) }
 {
     let image = match first_image(alloc, opening) {

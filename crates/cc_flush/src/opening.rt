@@ -3,7 +3,8 @@
 ghost use Rattle.std.specs.Prelude.{max, ◌≡◌, ◌↔◌, ◌≤◌, OnOk, IfOk, IfErr, MatchResult, ℕ};
 ghost use Rattle.cc_site.specs.declared.site.Side.{Side as SideValue};
 ghost use Rattle.cc_site.specs.declared.site.Side.TheVariants.{A, B};
-ghost use Rattle.cc_site.specs.Moments.{Elapses, EachMoment, Possible, Nothing};
+ghost use Rattle.cc_site.specs.Moments.{Possible, Nothing};
+ghost use Rattle.cc_site.specs.Runs.{Passes, EachMoment};
 ghost use Rattle.cc_site.specs.Reads.{OnlyReads, bytes_of};
 ghost use Rattle.cc_site.specs.Telling.{LooksAt, LooksAtEither};
 ghost use Rattle.cc_checkpoint.specs.declared.open_fault.OpenFault.TheVariants as faults;
@@ -33,7 +34,7 @@ fn settle_sides<S: Site>(site: &mut S) -> Result<(), OpenFault>
     ensures tells { (S.tells site.old ↔ S.tells site.new) × (S.sent site.new ≡ S.sent site.old) }
     ensures value { S.honest site.old → OnOk result (AreSettled (S.state site.old) (S.state site.new)) }
     ensures stops { S.honest site.old → IfErr result (OpenStops (S.state site.old) (S.state site.new)) }
-    ensures time { S.honest site.old → Elapses (S.moment site.old) (S.moment site.new) (S.left_since site.old) (S.left_since site.new) Nothing }
+    ensures time { S.honest site.old → Passes S.Site site.old site.new Nothing }
     ensures device { IfErr result (λ e. (fault : DeviceFault) × (e ≡ faults.Device fault)) }
     ensures fault { CountsDevice Syncs (S.failures site.old) (S.failures site.new) result }
 {
@@ -63,7 +64,7 @@ fn read_records<S: Site>(
 ) -> Result<Scanned, OpenFault>
     ensures scanned { S.honest site.old → IfOk result (IsScanned (S.state site.old side).bytes side first node) }
     ensures failed { S.honest site.old → IfErr result (λ fault. IsReadingFault fault → RecordsFail side (S.state site.old side).bytes node first fault) }
-    ensures reads { OnlyReads S.honest S.tells S.state S.sent S.moment S.left_since site.old site.new }
+    ensures reads { OnlyReads S.Site site.old site.new }
     ensures fault { CountsDevice (LooksAt side) (S.failures site.old) (S.failures site.new) result }
 {
     match scan(alloc, site, side, first, node) {
@@ -80,10 +81,10 @@ fn greatest(m: u64, n: u64) -> u64
 
 // Reads what both sides hold.
 fn read_sides<S: Site>(alloc: Global, site: &mut S) -> Result<Found, OpenFault>
-    ensures found { S.honest site.old → IfOk result (λ found. IsFound (bytes_of S.state site.old) found.node found.journal found.generation found.used) }
+    ensures found { S.honest site.old → IfOk result (λ found. IsFound (bytes_of S.Site site.old) found.node found.journal found.generation found.used) }
     ensures reaches { IfOk result (λ found. found.journal.place ≤ found.used) }
-    ensures failed { S.honest site.old → IfErr result (OpenFails (bytes_of S.state site.old)) }
-    ensures reads { OnlyReads S.honest S.tells S.state S.sent S.moment S.left_since site.old site.new }
+    ensures failed { S.honest site.old → IfErr result (OpenFails (bytes_of S.Site site.old)) }
+    ensures reads { OnlyReads S.Site site.old site.new }
     ensures fault { CountsDevice LooksAtEither (S.failures site.old) (S.failures site.new) result }
 {
     let InUse { side, generation } = choose(site)?;
@@ -103,10 +104,10 @@ fn read_sides<S: Site>(alloc: Global, site: &mut S) -> Result<Found, OpenFault>
 pub(crate) fn open_sides<S: Site>(alloc: Global, site: &mut S) -> Result<Found, OpenFault>
     ensures honest { S.honest site.old ↔ S.honest site.new }
     ensures tells { (S.tells site.old ↔ S.tells site.new) × (S.sent site.new ≡ S.sent site.old) }
-    ensures found { S.honest site.old → IfOk result (λ found. IsFound (bytes_of S.state site.old) found.node found.journal found.generation found.used) }
+    ensures found { S.honest site.old → IfOk result (λ found. IsFound (bytes_of S.Site site.old) found.node found.journal found.generation found.used) }
     ensures reaches { IfOk result (λ found. found.journal.place ≤ found.used) }
-    ensures failed { S.honest site.old → IfErr result (OpenFails (bytes_of S.state site.old)) }
-    ensures every_moment { S.honest site.old → EachMoment S.moment S.left_since site.old site.new (Possible (S.state site.old) (S.sent site.old)) }
+    ensures failed { S.honest site.old → IfErr result (OpenFails (bytes_of S.Site site.old)) }
+    ensures every_moment { S.honest site.old → EachMoment S.Site site.old site.new (Possible (S.state site.old) (S.sent site.old)) }
     ensures settled { S.honest site.old → OnOk result (AreSettled (S.state site.old) (S.state site.new)) }
     ensures stops { S.honest site.old → IfErr result (OpenStops (S.state site.old) (S.state site.new)) }
     ensures same_bytes { S.honest site.old → OnOk result ((side : SideValue) → (S.state site.new side).bytes ≡ (S.state site.old side).bytes) }

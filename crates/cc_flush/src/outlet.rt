@@ -25,7 +25,7 @@ struct Answered {
 pub(crate) fn put_entries<S: Site>(node: &mut Node, site: &mut S, batch: Batch)
     requires { AreLawful node.old batch }
     ensures node { node.new ≡ after node.old (events_in batch) }
-    ensures puts { Puts S.honest S.tells S.state S.sent S.moment S.left_since S.failures (line node.old (events_in batch)) site.old site.new }
+    ensures puts { Puts S.Site (line node.old (events_in batch)) site.old site.new }
 {
     let mut left = batch;
     while let Some(entry) = left.take_first() {
@@ -38,7 +38,7 @@ pub(crate) fn put_entries<S: Site>(node: &mut Node, site: &mut S, batch: Batch)
 fn put_entry<S: Site>(node: &mut Node, site: &mut S, entry: Entry)
     requires { AreLawful node.old (entry ∷ []) }
     ensures node { node.new ≡ step node.old entry.event }
-    ensures puts { Puts S.honest S.tells S.state S.sent S.moment S.left_since S.failures (outputs node.old.core entry.event) site.old site.new }
+    ensures puts { Puts S.Site (outputs node.old.core entry.event) site.old site.new }
 {
     let Entry { event, made } = entry;
     let ack = made.ack;
@@ -61,7 +61,7 @@ fn answered_by(made: &Made) -> Option<Answered>
 }
 
 fn put_ack<S: Site>(site: &mut S, ack: Option<LinkAck>)
-    ensures { Puts S.honest S.tells S.state S.sent S.moment S.left_since S.failures (send_ack ack) site.old site.new }
+    ensures { Puts S.Site (send_ack ack) site.old site.new }
 {
     if let Some(ack) = ack {
         site.ack(ack.to, ack.number);
@@ -70,7 +70,7 @@ fn put_ack<S: Site>(site: &mut S, ack: Option<LinkAck>)
 
 // Puts the last post on each live link, where the node has made more posts than so many.
 fn put_post<S: Site>(site: &mut S, node: &Node, before: u64)
-    ensures { Puts S.honest S.tells S.state S.sent S.moment S.left_since S.failures (send_post node.now.core (new_post before node.now)) site.old site.new }
+    ensures { Puts S.Site (send_post node.now.core (new_post before node.now)) site.old site.new }
 {
     if let Some(post) = new_post(node, before) {
         put_on_links(site, node.core(), post);
@@ -91,7 +91,7 @@ fn new_post(node: &Node, before: u64) -> Option<&Message>
 
 fn put_on_links<S: Site>(site: &mut S, core: &Core, post: &Message)
     requires { LinksWithin core.now.posts core.now.links }
-    ensures { Puts S.honest S.tells S.state S.sent S.moment S.left_since S.failures (send_post core.now (Some post.now)) site.old site.new }
+    ensures { Puts S.Site (send_post core.now (Some post.now)) site.old site.new }
 {
     let rows = core.links().rows();
     for row in rows {
@@ -102,7 +102,7 @@ fn put_on_links<S: Site>(site: &mut S, core: &Core, post: &Message)
 // Puts the last post on a link, unless its peer has left.
 fn put_on_link<S: Site>(site: &mut S, core: &Core, row: &LinkRow, post: &Message)
     requires { row.now.start ≤ core.now.posts }
-    ensures { Puts S.honest S.tells S.state S.sent S.moment S.left_since S.failures (on_link core.now post.now row.now) site.old site.new }
+    ensures { Puts S.Site (on_link core.now post.now row.now) site.old site.new }
 {
     if !core.churn().has_left(row.peer) {
         site.send(row.peer, core.posts() - row.start, post);
@@ -110,7 +110,7 @@ fn put_on_link<S: Site>(site: &mut S, core: &Core, row: &LinkRow, post: &Message
 }
 
 fn put_reply<S: Site>(site: &mut S, outbox: &Outbox, answered: Option<Answered>)
-    ensures { Puts S.honest S.tells S.state S.sent S.moment S.left_since S.failures (send_reply (kept_reply answered outbox.now)) site.old site.new }
+    ensures { Puts S.Site (send_reply (kept_reply answered outbox.now)) site.old site.new }
 {
     let Some(answered) = answered else {
         return;

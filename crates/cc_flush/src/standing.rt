@@ -16,7 +16,7 @@ use cc_wire::Message;
 /// outputs those are.
 pub(crate) fn put_kept_posts<S: Site>(node: &Node, site: &mut S) -> u64
     ensures count { result ≡ length (resends node.now) }
-    ensures puts { Puts S.honest S.tells S.state S.sent S.moment S.left_since S.failures (resends node.now) site.old site.new }
+    ensures puts { Puts S.Site (resends node.now) site.old site.new }
 {
     let outbox = node.outbox();
     let last = outbox.last();
@@ -32,7 +32,7 @@ pub(crate) fn put_kept_posts<S: Site>(node: &Node, site: &mut S) -> u64
 fn put_kept_post<S: Site>(core: &Core, site: &mut S, number: u64, post: &Message) -> u64
     ensures count { result ≡ length (resend_post core.now (number, post.now)) }
     ensures few { result ≤ 256 }
-    ensures puts { Puts S.honest S.tells S.state S.sent S.moment S.left_since S.failures (resend_post core.now (number, post.now)) site.old site.new }
+    ensures puts { Puts S.Site (resend_post core.now (number, post.now)) site.old site.new }
 {
     let rows = core.links().rows();
     let mut count = 0;
@@ -52,7 +52,7 @@ fn put_on_waiting_link<S: Site>(
 ) -> u64
     ensures count { result ≡ length (resend_row core.now (number, post.now) row.now) }
     ensures one { result ≤ 1 }
-    ensures puts { Puts S.honest S.tells S.state S.sent S.moment S.left_since S.failures (resend_row core.now (number, post.now) row.now) site.old site.new }
+    ensures puts { Puts S.Site (resend_row core.now (number, post.now) row.now) site.old site.new }
 {
     if core.churn().has_left(row.peer) || number <= row.start {
         return 0;
@@ -68,7 +68,7 @@ fn put_on_waiting_link<S: Site>(
 /// Puts the kept answer of a session under its last request. Whether there is one.
 pub(crate) fn put_kept_answer<S: Site>(node: &Node, site: &mut S, session: u64) -> bool
     ensures kept { result ≡ table.contains_key node.now.outbox.answers session }
-    ensures puts { Puts S.honest S.tells S.state S.sent S.moment S.left_since S.failures (reply_again session node.now) site.old site.new }
+    ensures puts { Puts S.Site (reply_again session node.now) site.old site.new }
 {
     let Some(request) = node.core().sessions().finish(session) else {
         return false;
@@ -83,7 +83,7 @@ pub(crate) fn put_kept_answer<S: Site>(node: &Node, site: &mut S, session: u64) 
 /// Puts the acknowledgement of what was heard last from a peer. Whether anything was.
 pub(crate) fn put_ack_again<S: Site>(node: &Node, site: &mut S, peer: NodeId) -> bool
     ensures heard { result ≡ nat_lt 0 (heard_from peer node.now.core.links) }
-    ensures puts { Puts S.honest S.tells S.state S.sent S.moment S.left_since S.failures (ack_again peer node.now) site.old site.new }
+    ensures puts { Puts S.Site (ack_again peer node.now) site.old site.new }
 {
     let heard = node.heard(peer);
     if heard == 0 {

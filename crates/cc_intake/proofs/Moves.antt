@@ -12,23 +12,23 @@ use Rattle.cc_journal.specs.declared.entry.Entry.{Entry}
 use Rattle.cc_journal.specs.Batches.{AreLawful}
 use Rattle.cc_intake.specs.Histories.{life_limit, core_after}
 use Rattle.cc_journal.specs.BatchLaws.{lawful_both, lawful_front}
-use Rattle.cc_intake.specs.declared.rule.Hand.{Hand}
-use Rattle.cc_intake.specs.Line.{hand, newcomer, producer, consumer, nobody, both, found, WasRest, Pushed, Popped, Knows, IsOneLine}
+use Rattle.cc_intake.specs.declared.rule.PassView.{PassView}
+use Rattle.cc_intake.specs.Line.{pass_view, newcomer, producer, consumer, nobody, both, found, WasRest, Pushed, Popped, Knows, IsOneLine}
 
-at_end : (l : List Hand) (a b : Hand) (j : ℕ) → get_elem? l j ≢ some b → get_elem? (l ++ a ∷ []) j ≡ some b → j ≡ length l
+at_end : (l : List PassView) (a b : PassView) (j : ℕ) → get_elem? l j ≢ some b → get_elem? (l ++ a ∷ []) j ≡ some b → j ≡ length l
 at_end [] a b zero n e = refl
 at_end [] a b (suc j) n e = absurd (some-ne-none b (sym e))
 at_end (x ∷ xs) a b zero n e = absurd (n e)
 at_end (x ∷ xs) a b (suc j) n e = ap suc (at_end xs a b j n e)
 
-abbrev All : (ℕ → Hand → Type 0) → List Hand → Type 0
-All F views = (port : ℕ) (v : Hand) → get_elem? views port ≡ some v → F port v
+abbrev All : (ℕ → PassView → Type 0) → List PassView → Type 0
+All F views = (port : ℕ) (v : PassView) → get_elem? views port ≡ some v → F port v
 
-all_set : (F : ℕ → Hand → Type 0) (views : List Hand) (port : ℕ) (w : Hand) → F port w → ((j : ℕ) (u : Hand) → j ≢ port → get_elem? views j ≡ some u → F j u) → All F (set views port w)
-all_set F views port w mine others j u e = ⊎_elim (λ (x : (j ≡ port) × (w ≡ u)). subst (λ (y : ℕ × Hand). F y.0 y.1) (λ i. (sym x.0 i, x.1 i)) mine)
+all_set : (F : ℕ → PassView → Type 0) (views : List PassView) (port : ℕ) (w : PassView) → F port w → ((j : ℕ) (u : PassView) → j ≢ port → get_elem? views j ≡ some u → F j u) → All F (set views port w)
+all_set F views port w mine others j u e = ⊎_elim (λ (x : (j ≡ port) × (w ≡ u)). subst (λ (y : ℕ × PassView). F y.0 y.1) (λ i. (sym x.0 i, x.1 i)) mine)
     (λ (x : (j ≢ port) × (get_elem? views j ≡ some u)). others j u x.0 x.1) (at_set views port j w u e)
 
-all_snoc : (F : ℕ → Hand → Type 0) (views : List Hand) (w : Hand) → All F views → ((j : ℕ) → F j w) → All F (views ++ w ∷ [])
+all_snoc : (F : ℕ → PassView → Type 0) (views : List PassView) (w : PassView) → All F views → ((j : ℕ) → F j w) → All F (views ++ w ∷ [])
 all_snoc F views w old new j u e = ⊎_elim (λ (x : get_elem? views j ≡ some u). old j u x) (λ (is : w ≡ u). subst (F j) is (new j)) (at_snoc views w u j e)
 
 off : false ≡ true → ⊥
@@ -52,11 +52,11 @@ begins opening reached taken start = record {
     one zero v e = subst (Knows 0 0 [] [] 0) (some-injective _ _ e) ((λ _. (refl, refl)), (λ _. (refl, refl)))
     one (suc j) v e = absurd (some-ne-none v (sym e))
 
-pub pushes : (opening : Node) (reached taken : List Entry → Type 0) (n port : ℕ) (v : Hand) (x : Entry)
+pub pushes : (opening : Node) (reached taken : List Entry → Type 0) (n port : ℕ) (v : PassView) (x : Entry)
     → v.pushes ≡ true → length v.sent < life_limit → decides (core_after opening v.sent) x.event ≡ None → x.made ≡ made (core_after opening v.sent) x.event → reached (v.sent ++ x ∷ [])
     → Pushes (IsOneLine opening reached taken) n port v x (Pushed v x)
 pushes opening reached taken n port v x may room accepted its_made reach items views _ h at =
-    let w : Hand = hand v.pushes v.pops (v.sent ++ x ∷ []) v.got v.finds in
+    let w : PassView = pass_view v.pushes v.pops (v.sent ++ x ∷ []) v.got v.finds in
     let mine = h.knows port v at in
     let is : v.sent ≡ h.sent = (mine.0 may).1 in
     let sent = h.sent ++ x ∷ [] in (
@@ -78,12 +78,12 @@ pushes opening reached taken n port v x may room accepted its_made reach items v
       refl,
     )
 
-pub full_learns : (opening : Node) (reached taken : List Entry → Type 0) (port : ℕ) (v : Hand) → v.pushes ≡ true → Learns (IsOneLine opening reached taken) port v (WasRest taken v.sent)
+pub full_learns : (opening : Node) (reached taken : List Entry → Type 0) (port : ℕ) (v : PassView) → v.pushes ≡ true → Learns (IsOneLine opening reached taken) port v (WasRest taken v.sent)
 full_learns opening reached taken port v may items views h at = (h.got, ((h.knows port v at).0 may).1 ∙ h.whole, h.there)
 
-pub pops : (opening : Node) (reached taken : List Entry → Type 0) (port : ℕ) (v : Hand) → v.pops ≡ true → ((l : List Entry) → taken l) → Pops (IsOneLine opening reached taken) port v (Popped opening v)
+pub pops : (opening : Node) (reached taken : List Entry → Type 0) (port : ℕ) (v : PassView) → v.pops ≡ true → ((l : List Entry) → taken l) → Pops (IsOneLine opening reached taken) port v (Popped opening v)
 pops opening reached taken port v may take x items views h at =
-    let w : Hand = hand v.pushes v.pops v.sent (v.got ++ x ∷ []) v.finds in
+    let w : PassView = pass_view v.pushes v.pops v.sent (v.got ++ x ∷ []) v.finds in
     let mine = h.knows port v at in
     let is : v.got ≡ h.got = (mine.1 may).1 in
     let got = h.got ++ x ∷ [] in
@@ -110,7 +110,7 @@ pops opening reached taken port v may take x items views h at =
     )
 
 -- the same lists, as other passes know them
-known_by : {opening : Node} {reached taken : List Entry → Type 0} {items : List Entry} {views : List Hand} (h : IsOneLine opening reached taken items views) (pusher popper : ℕ) (views' : List Hand)
+known_by : {opening : Node} {reached taken : List Entry → Type 0} {items : List Entry} {views : List PassView} (h : IsOneLine opening reached taken items views) (pusher popper : ℕ) (views' : List PassView)
     → All (Knows pusher popper h.sent h.got) views' → IsOneLine opening reached taken items views'
 known_by h pusher popper views' knows = record {
   pusher = pusher;
@@ -126,43 +126,43 @@ known_by h pusher popper views' knows = record {
 }
 
 -- a find changes nothing but the count
-pub finds : (opening : Node) (reached taken : List Entry → Type 0) (port : ℕ) (v : Hand) → Forks (IsOneLine opening reached taken) port v (found v) nobody
+pub finds : (opening : Node) (reached taken : List Entry → Type 0) (port : ℕ) (v : PassView) → Forks (IsOneLine opening reached taken) port v (found v) nobody
 finds opening reached taken port v items views h at = known_by h h.pusher h.popper _
     (all_snoc (Knows h.pusher h.popper h.sent h.got) (set views port (found v)) nobody
     (all_set (Knows h.pusher h.popper h.sent h.got) views port (found v) (h.knows port v at) (λ j u other e. h.knows j u e))
     (λ j. ((λ p. absurd (off p)), (λ p. absurd (off p)))))
 
-pub forks : (opening : Node) (reached taken : List Entry → Type 0) (port : ℕ) (v : Hand) → v.pushes ≡ true → v.pops ≡ true → Forks (IsOneLine opening reached taken) port v (producer v.sent v.finds) (consumer v.got 0)
+pub forks : (opening : Node) (reached taken : List Entry → Type 0) (port : ℕ) (v : PassView) → v.pushes ≡ true → v.pops ≡ true → Forks (IsOneLine opening reached taken) port v (producer v.sent v.finds) (consumer v.got 0)
 forks opening reached taken port v a b items views h at =
-    let l : Hand = producer v.sent v.finds in
-    let r : Hand = consumer v.got 0 in
+    let l : PassView = producer v.sent v.finds in
+    let r : PassView = consumer v.got 0 in
     let mine = h.knows port v at in
-    let vs : List Hand = set views port l in
-    let Old : ℕ → Hand → Type 0 = λ j u. (u.pushes ≡ true → (j ≡ h.pusher) × (u.sent ≡ h.sent)) × (u.pops ≢ true) in
+    let vs : List PassView = set views port l in
+    let Old : ℕ → PassView → Type 0 = λ j u. (u.pushes ≡ true → (j ≡ h.pusher) × (u.sent ≡ h.sent)) × (u.pops ≢ true) in
     let old : All Old vs = all_set Old views port l ((λ _. mine.0 a), off) (λ j u other e. ((h.knows j u e).0, λ p. other (((h.knows j u e).1 p).0 ∙ sym (mine.1 b).0))) in
     known_by h h.pusher (length vs) _
     (λ j u e. ⊎_elim (λ x. ((old j u x).0, λ p. absurd ((old j u x).1 p)))
-    (λ (is : r ≡ u). ((λ p. absurd (off (ap (λ (y : Hand). y.pushes) is ∙ p))), λ p. (at_end vs r u j (λ x. (old j u x).1 p) e, ap (λ (y : Hand). y.got) (sym is) ∙ (mine.1 b).1))) (at_snoc vs r u j e))
+    (λ (is : r ≡ u). ((λ p. absurd (off (ap (λ (y : PassView). y.pushes) is ∙ p))), λ p. (at_end vs r u j (λ x. (old j u x).1 p) e, ap (λ (y : PassView). y.got) (sym is) ∙ (mine.1 b).1))) (at_snoc vs r u j e))
 
-pub merges : (opening : Node) (reached taken : List Entry → Type 0) (port : ℕ) (v : Hand) (other : ℕ) (u : Hand) → v.pushes ≡ true → u.pops ≡ true → Merges (IsOneLine opening reached taken) port v other u (both v u) nobody
+pub merges : (opening : Node) (reached taken : List Entry → Type 0) (port : ℕ) (v : PassView) (other : ℕ) (u : PassView) → v.pushes ≡ true → u.pops ≡ true → Merges (IsOneLine opening reached taken) port v other u (both v u) nobody
 merges opening reached taken port v other u a b items views h at two at' =
-    let w : Hand = both v u in
+    let w : PassView = both v u in
     let mine = h.knows port v at in
-    let vs : List Hand = set views port w in
+    let vs : List PassView = set views port w in
     let was : get_elem? views other ≡ some u = ⊎_elim (λ x. absurd (two x.0)) (λ x. x.1) (at_set views port other w u at') in
     let theirs = (h.knows other u was).1 b in
-    let Now : ℕ → Hand → Type 0 = λ j y. j ≢ other → Knows h.pusher port h.sent h.got j y in
+    let Now : ℕ → PassView → Type 0 = λ j y. j ≢ other → Knows h.pusher port h.sent h.got j y in
     let now : All Now vs = all_set Now views port w (λ _. ((λ _. mine.0 a), λ _. (refl, theirs.1))) (λ j y _ e apart. ((h.knows j y e).0, λ p. absurd (apart (((h.knows j y e).1 p).0 ∙ sym theirs.0)))) in
     known_by h h.pusher port _
     (all_set (Knows h.pusher port h.sent h.got) vs other nobody ((λ p. absurd (off p)), λ p. absurd (off p)) (λ j y apart e. now j y e apart))
 
-pub whole_learns : (opening : Node) (reached taken : List Entry → Type 0) (port : ℕ) (v : Hand) → v.pushes ≡ true → v.pops ≡ true → Learns (IsOneLine opening reached taken) port v (λ items. v.sent ≡ v.got ++ items)
+pub whole_learns : (opening : Node) (reached taken : List Entry → Type 0) (port : ℕ) (v : PassView) → v.pushes ≡ true → v.pops ≡ true → Learns (IsOneLine opening reached taken) port v (λ items. v.sent ≡ v.got ++ items)
 whole_learns opening reached taken port v a b items views h at =
     let mine = h.knows port v at in
     (mine.0 a).1 ∙ h.whole ∙ ap (λ l. l ++ items) (sym (mine.1 b).1)
 
 -- where the queue is empty, what was popped is what was pushed
-pub empty_learns : (opening : Node) (reached taken : List Entry → Type 0) (port : ℕ) (v : Hand) → v.pops ≡ true → Learns (IsOneLine opening reached taken) port v (λ items. items ≡ [] → reached v.got)
+pub empty_learns : (opening : Node) (reached taken : List Entry → Type 0) (port : ℕ) (v : PassView) → v.pops ≡ true → Learns (IsOneLine opening reached taken) port v (λ items. items ≡ [] → reached v.got)
 empty_learns opening reached taken port v may items views h at empty =
     let is : v.got ≡ h.got = ((h.knows port v at).1 may).1 in
     subst reached (h.whole ∙ ap (λ l. h.got ++ l) empty ∙ append-nil h.got ∙ sym is) h.here

@@ -1,11 +1,11 @@
 -- Why a core refuses an event.
 --     own_reason              never for want of memory, nor for a full queue
---     err_decided             the refusal of a decision
 --     refuses_own             what an intake says where its core refuses
 --     decides_after           an intake's core decides as the core after its entries
 --     may_accept              where it doesn't refuse an event, and the life has room
-use Rattle.std.proofs.Common.{◌≡◌, inl, Bool, true, false, List, [], ◌∷◌, ℕ, ◌<◌, length, ap, subst, arith}
-use Rattle.std.specs.Prelude.{Option, Some, None, IfSome, Err, ⊤}
+--     refuses_made            what an intake says where its core refuses, or finds no memory
+use Rattle.std.proofs.Common.{◌≡◌, inl, inr, refl, sym, Bool, true, false, List, [], ◌∷◌, ℕ, ◌<◌, length, ap, subst, arith}
+use Rattle.std.specs.Prelude.{◌⊎◌, Option, Some, None, IfSome, ⊤}
 use Rattle.std.specs.Bool.{then_some}
 use Rattle.std.specs.List.{AllByRecursion}
 use Rattle.cc_wire.specs.declared.event.Event.{Event}
@@ -15,7 +15,7 @@ use Rattle.cc_wire.specs.declared.refusal.Refusal.TheVariants as refusal
 use Rattle.cc_wire.specs.Refusals.{first_of}
 use Rattle.cc_node.specs.Core.{Core}
 use Rattle.cc_node.specs.Node.{Node}
-use Rattle.cc_node.specs.Refusals.{reasons, decides, decided}
+use Rattle.cc_node.specs.Refusals.{reasons, decides}
 use Rattle.cc_journal.specs.declared.entry.Entry.{Entry}
 use Rattle.cc_intake.specs.Accepting.{Accepting}
 use Rattle.cc_intake.specs.Histories.{life_limit, core_after}
@@ -50,10 +50,6 @@ own_reason c e = first_own (reasons c e) (own_reasons c e)
 is_own : (c : Core) (e : Event) (r : Refusal) → decides c e ≡ Some r → IsOwn r
 is_own c e r is = subst (λ d. IfSome d IsOwn) is (own_reason c e)
 
-pub err_decided : (d : Option Refusal) (r : Refusal) → Err r ≡ decided d → d ≡ Some r
-err_decided None r is = absurd cc
-err_decided (Some s) r is = cc
-
 pub refuses_own : (opening : Node) (taken : List Entry → Type 0) (i j : Accepting) (e : Event) (r : Refusal) → decides (core_after opening i.entries) e ≡ Some r → j ≡ i → Refuses opening taken i e r j
 refuses_own opening taken i j e refusal.Spent is same = (inl is, same)
 refuses_own opening taken i j e refusal.NoMemory is same = absurd (is_own (core_after opening i.entries) e refusal.NoMemory is)
@@ -71,3 +67,9 @@ pub may_accept : (opening : Node) (i j : Accepting) (core : Core) (accepted : �
 may_accept opening i j core accepted e same is count free room =
     let n = ap (λ (k : Accepting). length k.entries) same in
     (decides_after opening i j core e None same is free, omega (arith, n, count, room))
+
+pub refuses_made : (opening : Node) (taken : List Entry → Type 0) (i j : Accepting) (core : Core) (accepted : ℕ) (e : Event) (r : Refusal)
+    → j ≡ i → core ≡ core_after opening j.entries → accepted ≡ length j.entries → accepted < life_limit → (decides core e ≡ Some r) ⊎ ((decides core e ≡ None) × (r ≡ refusal.NoMemory)) → Refuses opening taken i e r i
+refuses_made opening taken i j core accepted e r same is count room (inl own) = refuses_own opening taken i i e r (decides_after opening i j core e (Some r) same is own) refl
+refuses_made opening taken i j core accepted e r same is count room (inr free) =
+    subst (λ (s : Refusal). Refuses opening taken i e s i) (sym free.1) (may_accept opening i j core accepted e same is count free.0 room, refl)

@@ -1,6 +1,6 @@
 -- The rule of the queue between the intake and the flusher.
 --     IsOneLine               the rule: what was pushed is what was popped and then what the queue holds
---     hand, producer, consumer, nobody     what a pass may do, and what it has seen:  of any;  of each end;  of none
+--     pass_view, producer, consumer, nobody     what a pass may do, and what it has seen:  of any;  of each end;  of none
 --     newcomer, both, found   the first pass;  the two ends together;  one find more
 --     Pushed, Popped          what a push and a pop make of it
 --     WasRest                 the queue held these behind a taken list
@@ -14,7 +14,7 @@ use Rattle.cc_node.specs.Node.{Node}
 use Rattle.cc_node.specs.Opening.{fresh}
 use Rattle.cc_journal.specs.declared.entry.Entry.{Entry}
 use Rattle.cc_journal.specs.Batches.{AreLawful}
-use Rattle.cc_intake.specs.declared.rule.Hand.{Hand}
+use Rattle.cc_intake.specs.declared.rule.PassView.{PassView}
 use Rattle.cc_intake.specs.Histories.{life_limit}
 
 abbrev pub unnamed : TableId
@@ -23,46 +23,46 @@ unnamed = record { words = 0; slots = 0; views_name = 0; atom = 0; block = 0; of
 abbrev pub no_opening : Node
 no_opening = fresh (record { me = 1; initial = []; contacts = []; beta = record { num = 1; den = 1 }; gamma = record { num = 1; den = 1 } })
 
-abbrev pub hand : Bool → Bool → List Entry → List Entry → ℕ → Hand
-hand pushes pops sent got finds = record { pushes = pushes; pops = pops; sent = sent; got = got; finds = finds }
+abbrev pub pass_view : Bool → Bool → List Entry → List Entry → ℕ → PassView
+pass_view pushes pops sent got finds = record { pushes = pushes; pops = pops; sent = sent; got = got; finds = finds }
 
-abbrev pub newcomer : Hand
-newcomer = hand true true [] [] 0
+abbrev pub newcomer : PassView
+newcomer = pass_view true true [] [] 0
 
-abbrev pub producer : List Entry → ℕ → Hand
-producer sent finds = hand true false sent [] finds
+abbrev pub producer : List Entry → ℕ → PassView
+producer sent finds = pass_view true false sent [] finds
 
-abbrev pub consumer : List Entry → ℕ → Hand
-consumer got finds = hand false true [] got finds
+abbrev pub consumer : List Entry → ℕ → PassView
+consumer got finds = pass_view false true [] got finds
 
-abbrev pub nobody : Hand
-nobody = hand false false [] [] 0
+abbrev pub nobody : PassView
+nobody = pass_view false false [] [] 0
 
-abbrev pub both : Hand → Hand → Hand
-both v w = hand true true v.sent w.got 0
+abbrev pub both : PassView → PassView → PassView
+both v w = pass_view true true v.sent w.got 0
 
-abbrev pub found : Hand → Hand
-found v = hand v.pushes v.pops v.sent v.got (v.finds + 1)
+abbrev pub found : PassView → PassView
+found v = pass_view v.pushes v.pops v.sent v.got (v.finds + 1)
 
 -- what was pushed is a taken list, and then these
 abbrev pub WasRest : (List Entry → Type 0) → List Entry → List Entry → Type 0
 WasRest taken sent items = (got : List Entry) × (sent ≡ got ++ items) × taken got
 
-abbrev pub Pushed : Hand → Entry → Hand → Type 0
-Pushed v x w = w ≡ hand v.pushes v.pops (v.sent ++ x ∷ []) v.got v.finds
+abbrev pub Pushed : PassView → Entry → PassView → Type 0
+Pushed v x w = w ≡ pass_view v.pushes v.pops (v.sent ++ x ∷ []) v.got v.finds
 
 -- the popped entries are lawful from this node on
-abbrev pub Popped : Node → Hand → Entry → Hand → Type 0
+abbrev pub Popped : Node → PassView → Entry → PassView → Type 0
 Popped opening v x w =
-    (w ≡ hand v.pushes v.pops v.sent (v.got ++ x ∷ []) v.finds) × AreLawful opening (v.got ++ x ∷ []) × (length (v.got ++ x ∷ []) ≤ life_limit)
+    (w ≡ pass_view v.pushes v.pops v.sent (v.got ++ x ∷ []) v.finds) × AreLawful opening (v.got ++ x ∷ []) × (length (v.got ++ x ∷ []) ≤ life_limit)
 
 -- one pass at most may push, and has the list of what was pushed; one at most may pop, and has the list of what was popped
-abbrev pub Knows : ℕ → ℕ → List Entry → List Entry → ℕ → Hand → Type 0
+abbrev pub Knows : ℕ → ℕ → List Entry → List Entry → ℕ → PassView → Type 0
 Knows pusher popper sent got port v = (v.pushes ≡ true → (port ≡ pusher) × (v.sent ≡ sent)) × (v.pops ≡ true → (port ≡ popper) × (v.got ≡ got))
 
 -- What was pushed is what was popped and then what the queue holds. It is lawful from the node that was opened, there are at
 -- most so many entries of one life, and it is reached. What was popped is taken.
-pub record IsOneLine (opening : Node) (reached taken : List Entry → Type 0) (items : List Entry) (views : List Hand) : Type 0 where
+pub record IsOneLine (opening : Node) (reached taken : List Entry → Type 0) (items : List Entry) (views : List PassView) : Type 0 where
   pub pusher : ℕ
   pub popper : ℕ
   pub sent : List Entry
@@ -72,4 +72,4 @@ pub record IsOneLine (opening : Node) (reached taken : List Entry → Type 0) (i
   pub limit : length sent ≤ life_limit
   pub here : reached sent
   pub there : taken got
-  pub knows : (port : ℕ) (v : Hand) → get_elem? views port ≡ some v → Knows pusher popper sent got port v
+  pub knows : (port : ℕ) (v : PassView) → get_elem? views port ≡ some v → Knows pusher popper sent got port v

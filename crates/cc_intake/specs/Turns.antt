@@ -4,17 +4,14 @@
 --     Gathers                 what a batch was gathered from
 --     Turns                   a batch was popped, and handed to the engine
 use Rattle.std.specs.Prelude.{◌≡◌, ◌≤◌, ◌<◌, ◌⊎◌, ℕ, List, [], ◌∷◌, ◌++◌, length, Option, None, IsSomeAnd, IsFalse, IfOk, Result, MatchResult}
-use Rattle.cc_wire.specs.declared.output.Output.{Output}
-use Rattle.cc_site.specs.declared.site.Side.{Side}
-use Rattle.cc_site.specs.Sides.{SideState}
-use Rattle.cc_site.specs.Moments.{Contents}
+use Rattle.cc_site.specs.declared.site.Site.{Ghosts}
 use Rattle.cc_node.specs.Sides.{batch_limit, record_limit, events_spelling}
 use Rattle.cc_journal.specs.declared.entry.Entry.{Entry}
 use Rattle.cc_journal.specs.Batches.{events_in}
 use Rattle.cc_flush.specs.declared.flusher.Failed.{Failed}
 use Rattle.cc_intake.specs.declared.turner.Turned.{Turned}
 use Rattle.cc_intake.specs.Turning.{Turning, listed, popped}
-use Rattle.cc_flush.specs.Flushing.{Flushes, GivesUp}
+use Rattle.cc_flush.specs.Flushing.{LeadsTo, Flushes, GivesUp}
 
 abbrev pub Fits : List Entry → Entry → Type 0
 Fits batch e = (length batch < batch_limit) × (length (events_spelling (events_in (batch ++ e ∷ []))) ≤ record_limit)
@@ -28,8 +25,7 @@ IsDone reached batch kept all before now = (length batch ≡ batch_limit) ⊎ (I
 abbrev pub Gathers : List Entry → Option Entry → List Entry → Option Entry → List Entry → Type 0
 Gathers before kept batch kept' now = (more : List Entry) × (now ≡ before ++ more) × (listed kept ++ more ≡ batch ++ listed kept')
 
-pub record Turns {D : Type 0} (honest tells : D → Type 0) (state : D → Side → SideState) (sent : D → List Output) (moment : D → ℕ) (left_since : D → ℕ → Contents → List Output → Type 0) (failures : D → ℕ)
-    (reached : List Entry → Type 0) (old new : Turning D) (result : Result Turned Failed) : Type 0 where
+pub record Turns {D : Type 0} (s : Ghosts D) (reached : List Entry → Type 0) (old new : Turning D) (result : Result Turned Failed) : Type 0 where
   pub batch : List Entry
   pub more : List Entry
   -- it came from the front of what waited, whole and in order
@@ -37,5 +33,5 @@ pub record Turns {D : Type 0} (honest tells : D → Type 0) (state : D → Side 
   pub behind : popped new ≡ popped old ++ more
   pub done : IfOk result (λ t. (t.events ≡ length batch) × (IsFalse t.full → IsDone reached batch new.kept (popped new) old.finds new.finds))
   -- the engine made it durable and put its outputs; where it had not failed before, it failed in this batch
-  pub engine : MatchResult result (λ _. Flushes honest tells state sent moment left_since failures batch old.engine new.engine)
-      (λ f. old.engine.failed ≡ None → GivesUp honest tells state sent moment left_since failures batch old.engine new.engine f.fault)
+  pub engine : MatchResult result (λ _. Flushes s batch old.engine new.engine)
+      (λ f. old.engine.failed ≡ None → GivesUp s (LeadsTo s) (events_in batch) old.engine new.engine f.fault)

@@ -10,7 +10,7 @@ ghost use Rattle.cc_intake.specs.Histories.{life_limit, core_after};
 ghost use Rattle.cc_intake.specs.Line.{WasRest};
 ghost use Rattle.cc_intake.specs.Ends.{queue_limit};
 
-use crate::rule::{Got, Hand, Lane, Life, Ring, Roles, Sent, Whole};
+use crate::rule::{Lane, Life, PassView, Pop, Push, Ring, TwoEnds, WholeLine};
 use cc_journal::Entry;
 use cc_views::NoMemory;
 use crossbeam_queue::Pass;
@@ -23,8 +23,8 @@ use std::sync::Wait;
 #[derive(Drop)]
 pub struct Ends<L: Life> {
     ring: Ring<L>,
-    pushing: Pass<Entry, Hand>,
-    popping: Pass<Entry, Hand>,
+    pushing: Pass<Entry, PassView>,
+    popping: Pass<Entry, PassView>,
 }
 
 impl<L: Life> Model for Ends<L> {
@@ -48,7 +48,7 @@ pub fn lane<L: Life>(alloc: Global) -> Result<Ends<L>, NoMemory>
     requires { L.reached [] × L.taken [] }
 {
     let (ring, mut pushing) = Ring::<L>::ruled(alloc, QUEUE_LIMIT)?;
-    let popping = ring.another::<Roles>(&mut pushing);
+    let popping = ring.another::<TwoEnds>(&mut pushing);
     Ok(Ends {
         ring,
         pushing,
@@ -101,7 +101,7 @@ pub struct Queue<L: Life, Q: Lane> {
 // One find more.
 struct Found;
 
-impl Split<Hand> for Found {
+impl Split<PassView> for Found {
     ghost use Rattle.cc_intake.specs.Line.{found, nobody};
 
     ghost left = { found };
@@ -116,7 +116,7 @@ pub(crate) struct Full;
 // The end that pushes. Contracts see what it has pushed, and how often it found the queue full.
 #[derive(Drop)]
 pub struct Producer<L: Life, Q: Lane> {
-    pass: Pass<Entry, Hand>,
+    pass: Pass<Entry, PassView>,
     life: PhantomData<L>,
     lane: PhantomData<Q>,
 }
@@ -151,7 +151,7 @@ impl<L: Life, Q: Lane> Producer<L, Q> {
         ensures pushed { OnOk result (self.new ≡ record { entries = self.old.entries ++ entry ∷ []; finds = self.old.finds }) }
         ensures full { OnErr result ((self.new ≡ record { entries = self.old.entries; finds = self.old.finds + 1 }) × Held queue_limit (WasRest L.taken self.old.entries)) }
     {
-        match queue.ring.push_as::<Sent<L>, R>(rt, &mut self.pass, entry) {
+        match queue.ring.push_as::<Push<L>, R>(rt, &mut self.pass, entry) {
             Ok(()) => Ok(()),
             Err(entry) => {
                 drop(entry);
@@ -165,7 +165,7 @@ impl<L: Life, Q: Lane> Producer<L, Q> {
 // The end that pops. Contracts see what it has popped, and how often it found the queue empty.
 #[derive(Drop)]
 pub struct Consumer<L: Life, Q: Lane> {
-    pass: Pass<Entry, Hand>,
+    pass: Pass<Entry, PassView>,
     life: PhantomData<L>,
     lane: PhantomData<Q>,
 }
@@ -203,7 +203,7 @@ impl<L: Life, Q: Lane> Consumer<L, Q> {
         ensures lawful { AreLawful L.opening self.new.entries }
         ensures limit { length self.new.entries ≤ life_limit }
     {
-        match queue.ring.pop_as::<Got<L>, R>(rt, &mut self.pass) {
+        match queue.ring.pop_as::<Pop<L>, R>(rt, &mut self.pass) {
             Some(entry) => Some(entry),
             None => {
                 queue.ring.another::<Found>(&mut self.pass);
@@ -234,7 +234,7 @@ impl<L: Life, Q: Lane> Queue<L, Q> {
             life: _,
             lane: _,
         } = consumer;
-        self.ring.absorb::<Roles>(&mut pass, other);
-        self.ring.len_as::<Whole, R>(rt, &mut pass)
+        self.ring.absorb::<TwoEnds>(&mut pass, other);
+        self.ring.len_as::<WholeLine, R>(rt, &mut pass)
     }
 }

@@ -209,13 +209,11 @@ impl<L: Life, Q: Lane> Intake<L, Q> {
         ensures entry { IfOk result (λ e. MayAccept L.opening self.now event.now × (e ≡ entry_at (core_after L.opening self.now.entries) event.now)) }
         ensures refused { IfErr result (λ r. Refuses L.opening L.taken self.now event.now r self.now) }
     {
-        self.core.decide(event)?;
         if self.accepted >= LIFE_LIMIT {
+            self.core.decide(event)?;
             return Err(Refusal::Spent);
         }
-        let Ok(made) = self.core.made(alloc, event) else {
-            return Err(Refusal::NoMemory);
-        };
+        let made = self.core.made_or_refused(alloc, event)?;
         let Ok(event) = event.copy(alloc) else {
             drop(made);
             return Err(Refusal::NoMemory);

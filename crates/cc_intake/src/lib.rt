@@ -3,7 +3,7 @@
 #![tactic(auto)]
 
 mod ends;
-mod gate;
+mod hooks;
 mod intake;
 mod life;
 mod rule;
@@ -11,7 +11,7 @@ mod turner;
 mod worker;
 
 pub use ends::{Ends, Queue, lane};
-pub use gate::{Gate, Gated, NoGate};
+pub use hooks::{Hooked, Hooks, NoHooks};
 pub use intake::{Intake, Share};
 pub use life::{Finished, finish, start};
 pub use rule::{Lane, Life};

@@ -54,7 +54,7 @@ impl Lane for Brand {
 
 // What a pass may do (push, pop), what it has pushed and popped, and how often it found the queue full or empty. No value of
 // it is made.
-pub struct Hand {
+pub struct PassView {
     pub pushes: bool,
     pub pops: bool,
     pub sent: LinkedList<Entry>,
@@ -62,11 +62,11 @@ pub struct Hand {
     pub finds: u64,
 }
 
-pub struct Law<L> {
+pub struct OneLine<L> {
     life: PhantomData<L>,
 }
 
-impl<L: Life> Protocol<Entry, Hand> for Law<L> {
+impl<L: Life> Protocol<Entry, PassView> for OneLine<L> {
     ghost use Rattle.cc_intake.specs.Line.{IsOneLine, newcomer};
 
     ghost holds = { IsOneLine L.opening L.reached L.taken };
@@ -74,46 +74,46 @@ impl<L: Life> Protocol<Entry, Hand> for Law<L> {
     ghost first = { newcomer };
 }
 
-pub type Ring<L> = RuledArrayQueue<Entry, Hand, Law<L>>;
+pub type Ring<L> = RuledArrayQueue<Entry, PassView, OneLine<L>>;
 
 // A push, and what a full queue tells.
-pub struct Sent<L> {
+pub struct Push<L> {
     life: PhantomData<L>,
 }
 
-impl<L: Life> Outcome<Entry, Hand> for Sent<L> {
+impl<L: Life> Outcome<Entry, PassView> for Push<L> {
     ghost use Rattle.cc_intake.specs.Line.{Pushed};
 
     ghost then = { Pushed };
 }
 
-impl<L: Life> Lesson<Entry, Hand> for Sent<L> {
+impl<L: Life> Lesson<Entry, PassView> for Push<L> {
     ghost use Rattle.cc_intake.specs.Line.{WasRest};
 
     ghost fact = { λ v items. WasRest L.taken v.sent items };
 }
 
 // A pop, whose list is lawful, and what an empty queue tells.
-pub struct Got<L> {
+pub struct Pop<L> {
     life: PhantomData<L>,
 }
 
-impl<L: Life> Outcome<Entry, Hand> for Got<L> {
+impl<L: Life> Outcome<Entry, PassView> for Pop<L> {
     ghost use Rattle.cc_intake.specs.Line.{Popped};
 
     ghost then = { Popped L.opening };
 }
 
-impl<L: Life> Lesson<Entry, Hand> for Got<L> {
+impl<L: Life> Lesson<Entry, PassView> for Pop<L> {
     ghost use Rattle.std.specs.Prelude.{◌≡◌, []};
 
     ghost fact = { λ v items. items ≡ [] → L.reached v.got };
 }
 
 // The first pass is cut into those of the two ends, and these are put together again.
-pub struct Roles;
+pub struct TwoEnds;
 
-impl Split<Hand> for Roles {
+impl Split<PassView> for TwoEnds {
     ghost use Rattle.cc_intake.specs.Line.{producer, consumer};
 
     ghost left = { λ v. producer v.sent v.finds };
@@ -121,7 +121,7 @@ impl Split<Hand> for Roles {
     ghost right = { λ v. consumer v.got 0 };
 }
 
-impl Join<Hand> for Roles {
+impl Join<PassView> for TwoEnds {
     ghost use Rattle.cc_intake.specs.Line.{both, nobody};
 
     ghost both = { both };
@@ -130,9 +130,9 @@ impl Join<Hand> for Roles {
 }
 
 // Both ends together know the whole.
-pub struct Whole;
+pub struct WholeLine;
 
-impl Lesson<Entry, Hand> for Whole {
+impl Lesson<Entry, PassView> for WholeLine {
     ghost use Rattle.std.specs.Prelude.{◌≡◌, ◌++◌};
 
     ghost fact = { λ v items. v.sent ≡ v.got ++ items };

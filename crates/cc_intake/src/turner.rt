@@ -5,10 +5,8 @@ ghost use Rattle.std.specs.FinMap as table;
 ghost use Rattle.cc_links.specs.Links.{heard_from};
 ghost use Rattle.cc_node.specs.Node.{after};
 ghost use Rattle.cc_journal.specs.Batches.{AreLawful, events_in};
-ghost use Rattle.cc_flush.specs.Engine.{IsPutFrom, room_limit};
-ghost use Rattle.cc_flush.specs.Flushing.{Flushes, GivesUp};
-ghost use Rattle.cc_flush.specs.Outlet.{Puts};
-ghost use Rattle.cc_flush.specs.Putting.{MomentsStayGood, StaysAtRest};
+ghost use Rattle.cc_journal.specs.Journals.{room_limit};
+ghost use Rattle.cc_flush.specs.Flushing.{Flushes, GivesUp, LeadsTo, PutsAgain};
 ghost use Rattle.cc_flush.specs.Standing.{resends, reply_again, ack_again};
 ghost use Rattle.cc_intake.specs.Histories.{life_limit};
 ghost use Rattle.cc_intake.specs.Turning.{listed, popped};
@@ -100,7 +98,7 @@ impl<S: Site, L: Life, Q: Lane> Turner<S, L, Q> {
     /// at the start, and then nothing was taken. It fails only where a disk call does: then the batch is given up, and the
     /// engine has ended.
     pub fn turn<R: Wait>(&mut self, rt: &R, queue: &Queue<L, Q>) -> Result<Turned, Failed>
-        ensures turned { Turns S.honest S.tells S.state S.sent S.moment S.left_since S.failures L.reached self.old self.new result }
+        ensures turned { Turns S.Site L.reached self.old self.new result }
         ensures twin { OnOk result (self.new.engine.twin ≡ after L.opening (events_in self.new.handed)) }
         ensures full { IfOk result (λ t. IsTrue t.full ↔ (room_limit ≤ self.old.engine.used)) }
         ensures untouched { IfOk result (λ t. IsTrue t.full → self.new ≡ self.old) }
@@ -133,10 +131,7 @@ impl<S: Site, L: Life, Q: Lane> Turner<S, L, Q> {
         ensures lists { self.new ≡ record self.old { engine = self.new.engine } }
         ensures ended { (fault : DeviceFault) → self.old.engine.failed ≡ Some fault → (result ≡ Err (record { fault = fault })) × (self.new ≡ self.old) }
         ensures count { self.old.engine.failed ≡ None → result ≡ Ok (length (resends self.old.engine.twin)) }
-        ensures same { IsPutFrom self.old.engine self.new.engine }
-        ensures puts { self.old.engine.failed ≡ None → Puts S.honest S.tells S.state S.sent S.moment S.left_since S.failures (resends self.old.engine.twin) self.old.engine.site self.new.engine.site }
-        ensures every_moment { MomentsStayGood S.honest S.tells S.state S.sent S.moment S.left_since self.old.engine self.new.engine }
-        ensures at_rest { StaysAtRest S.honest S.tells S.state S.sent self.old.engine self.new.engine }
+        ensures puts { self.old.engine.failed ≡ None → PutsAgain S.Site (resends self.old.engine.twin) self.old.engine self.new.engine }
     {
         self.engine.resend()
     }
@@ -146,10 +141,7 @@ impl<S: Site, L: Life, Q: Lane> Turner<S, L, Q> {
         ensures lists { self.new ≡ record self.old { engine = self.new.engine } }
         ensures ended { (fault : DeviceFault) → self.old.engine.failed ≡ Some fault → (result ≡ Err (record { fault = fault })) × (self.new ≡ self.old) }
         ensures kept { self.old.engine.failed ≡ None → result ≡ Ok (table.contains_key self.old.engine.twin.outbox.answers session) }
-        ensures same { IsPutFrom self.old.engine self.new.engine }
-        ensures puts { self.old.engine.failed ≡ None → Puts S.honest S.tells S.state S.sent S.moment S.left_since S.failures (reply_again session self.old.engine.twin) self.old.engine.site self.new.engine.site }
-        ensures every_moment { MomentsStayGood S.honest S.tells S.state S.sent S.moment S.left_since self.old.engine self.new.engine }
-        ensures at_rest { StaysAtRest S.honest S.tells S.state S.sent self.old.engine self.new.engine }
+        ensures puts { self.old.engine.failed ≡ None → PutsAgain S.Site (reply_again session self.old.engine.twin) self.old.engine self.new.engine }
     {
         self.engine.again(session)
     }
@@ -159,10 +151,7 @@ impl<S: Site, L: Life, Q: Lane> Turner<S, L, Q> {
         ensures lists { self.new ≡ record self.old { engine = self.new.engine } }
         ensures ended { (fault : DeviceFault) → self.old.engine.failed ≡ Some fault → (result ≡ Err (record { fault = fault })) × (self.new ≡ self.old) }
         ensures heard { self.old.engine.failed ≡ None → result ≡ Ok (nat_lt 0 (heard_from peer self.old.engine.twin.core.links)) }
-        ensures same { IsPutFrom self.old.engine self.new.engine }
-        ensures puts { self.old.engine.failed ≡ None → Puts S.honest S.tells S.state S.sent S.moment S.left_since S.failures (ack_again peer self.old.engine.twin) self.old.engine.site self.new.engine.site }
-        ensures every_moment { MomentsStayGood S.honest S.tells S.state S.sent S.moment S.left_since self.old.engine self.new.engine }
-        ensures at_rest { StaysAtRest S.honest S.tells S.state S.sent self.old.engine self.new.engine }
+        ensures puts { self.old.engine.failed ≡ None → PutsAgain S.Site (ack_again peer self.old.engine.twin) self.old.engine self.new.engine }
     {
         self.engine.reack(peer)
     }
@@ -208,10 +197,10 @@ fn flush<S: Site>(engine: &mut Flusher<S>, batch: Batch) -> Result<(), Failed>
     requires owes { engine.old.owes ≡ false }
     requires goes_on { engine.old.failed ≡ None }
     requires lawful { AreLawful engine.old.twin batch }
-    requires room { engine.old.used < 2 ^ 61 }
+    requires room { engine.old.used < room_limit }
     ensures { MatchResult result
-        (λ _. Flushes S.honest S.tells S.state S.sent S.moment S.left_since S.failures batch engine.old engine.new)
-        (λ f. GivesUp S.honest S.tells S.state S.sent S.moment S.left_since S.failures batch engine.old engine.new f.fault) }
+        (λ _. Flushes S.Site batch engine.old engine.new)
+        (λ f. GivesUp S.Site (LeadsTo S.Site) (events_in batch) engine.old engine.new f.fault) }
 {
     if batch.len() > 0 {
         engine.flush(batch)?;

@@ -4,7 +4,7 @@ ghost use Rattle.std.specs.Prelude.{◌≡◌, ◌+◌, List};
 ghost use Rattle.cc_intake.specs.Talks.{Answer, Talks, places_of, PlacesRise, step, IsAbove};
 
 use crate::ends::Queue;
-use crate::gate::Gate;
+use crate::hooks::Hooks;
 use crate::intake::{Intake, Share};
 use crate::rule::{Lane, Life};
 use cc_wire::{Event, Refusal};
@@ -33,14 +33,14 @@ pub trait Source {
 }
 
 /// Brings each event of a source to the intake, under the lock, and tells the source its answer, until there is no further
-/// one. The gate is called round each accept, outside the lock. What finds no memory is answered NoMemory.
-pub fn work<L: Life, Q: Lane, G: Gate, S: Source, R: Wait>(
+/// one. The hooks are called round each accept, outside the lock. What finds no memory is answered NoMemory.
+pub fn work<L: Life, Q: Lane, H: Hooks, S: Source, R: Wait>(
     rt: &R,
     alloc: Global,
     lock: &Mutex<Intake<L, Q>>,
     queue: &Queue<L, Q>,
     share: &mut Share<L>,
-    gate: &G,
+    hooks: &H,
     source: &mut S,
 )
     ensures { (answers : List Answer) × Talks S.gives S.hears source.old answers source.new × (share.new ≡ share.old + places_of answers) × PlacesRise share.old answers }
@@ -49,9 +49,9 @@ pub fn work<L: Life, Q: Lane, G: Gate, S: Source, R: Wait>(
         let Some(event) = source.next() else {
             return;
         };
-        gate.before_accept();
+        hooks.before_accept();
         let answer = bring(rt, alloc, lock, queue, share, event);
-        gate.after_accept();
+        hooks.after_accept();
         source.told(answer);
     }
     unreachable!()

@@ -2,19 +2,26 @@
 --     Position            the side in use, and the place of the closed gate that ends its records
 --     IsWritten           a batch in flight
 --     record_room         how many bytes a record and its gate have at most
+--     room_limit          below so many bytes of a side there is room for a record
 --     with_record         that side, where a batch was written behind the gate
 --     with_open_gate      that side, where the gate was opened and all of it made sure of
 --     MayHaveOpened       what it may be where that failed
 --     IsAtRest            whatever a crash leaves now, that side holds the node after all events up to that gate
-use Rattle.std.specs.Prelude.{◌≡◌, ◌⊎◌, ◌+◌, ℕ, List, [], ◌∷◌, length}
+--     RestsNow, RestsFor  so the sides of a site rest;  and the batch that comes is lawful
+--     IsGoodNow           whatever a crash leaves now, the moment is good, with all events durable
+--     KeepsGood           from every history that led to a call on, each moment of it is good
+--     StaysGood           the same of a call before which all events were durable, and so is the moment after it
+use Rattle.std.specs.Prelude.{◌≡◌, ◌⊎◌, ◌+◌, ◌^◌, ℕ, List, [], ◌∷◌, ◌++◌, length}
 use Rattle.cc_wire.specs.declared.event.Event.{Event}
 use Rattle.cc_wire.specs.declared.output.Output.{Output}
 use Rattle.cc_site.specs.declared.site.Side.{Side}
 use Rattle.cc_site.specs.declared.site.Side.TheVariants.{A, B}
+use Rattle.cc_site.specs.declared.site.Site.{Ghosts}
 use Rattle.cc_site.specs.Sides.{SideState, other, written, settled, MayHaveWritten}
 use Rattle.cc_site.specs.Moments.{Contents}
+use Rattle.cc_site.specs.Runs.{EachMoment}
 use Rattle.cc_site.specs.Crashes.{AfterCrash}
-use Rattle.cc_node.specs.Node.{Node}
+use Rattle.cc_node.specs.Node.{Node, IsLawful, after}
 use Rattle.cc_node.specs.Good.{IsGoodAt, RestsAt}
 use Rattle.cc_node.specs.Sides.{OPEN, SpellsRecord, record_spelling}
 use Rattle.cc_journal.specs.declared.entry.Entry.{Entry}
@@ -31,6 +38,9 @@ pub record IsWritten (entries : List Entry) (bytes : ℕ) : Type 0 where
 
 abbrev pub record_room : ℕ
 record_room = 262149
+
+abbrev pub room_limit : ℕ
+room_limit = 2 ^ 61
 
 -- the record and the closed gate behind it, written over what was behind the gate at `place`
 abbrev pub with_record : SideState → ℕ → List Entry → SideState
@@ -54,3 +64,22 @@ Rests at generation start events opening left told = RestsAt generation at.place
 
 abbrev pub IsAtRest : (Side → SideState) → List Output → Position → ℕ → Node → List Event → ℕ → Type 0
 IsAtRest state sent at generation start events opening = AfterCrash state sent (Rests at generation start events opening)
+
+module _ {D : Type 0} (s : Ghosts D) where
+  abbrev pub RestsNow : D → Position → ℕ → Node → List Event → ℕ → Type 0
+  RestsNow site at generation start events opening = IsAtRest (s.state site) (s.sent site) at generation start events opening
+
+  pub record RestsFor (batch : List Event) (site : D) (at : Position) (generation : ℕ) (start : Node) (events : List Event) (opening : ℕ) : Type 0 where
+    pub rests : RestsNow site at generation start events opening
+    pub lawful : IsLawful (after start events) batch
+
+  abbrev pub IsGoodNow : D → Node → List Event → ℕ → Type 0
+  IsGoodNow site start events opening = AfterCrash (s.state site) (s.sent site) (IsGood start events (length events) opening)
+
+  -- The moments are good for the events and those that come, of which none need be durable.
+  abbrev pub KeepsGood : (Node → List Event → ℕ → Type 0) → List Event → D → D → Type 0
+  KeepsGood led more old new = (start : Node) (events : List Event) (opening : ℕ) → led start events opening → EachMoment s old new (IsGood start (events ++ more) (length events) opening)
+
+  pub record StaysGood (led : Node → List Event → ℕ → Type 0) (old new : D) : Type 0 where
+    pub moments : (start : Node) (events : List Event) (opening : ℕ) → led start events opening → EachMoment s old new (IsGood start events (length events) opening)
+    pub afterwards : (start : Node) (events : List Event) (opening : ℕ) → led start events opening → IsGoodNow new start events opening

@@ -9,7 +9,7 @@ ghost use Rattle.cc_journal.specs.Reading.{SpellsEvents, BeginsWith, NoEvent, By
 use crate::batch::Batch;
 use cc_node::Node;
 use cc_views::NoMemory;
-use cc_wire::{Event, WireFault, decode_event};
+use cc_wire::{Event, Refusal, WireFault, decode_event};
 use std::alloc::Global;
 
 // An event behind its size, and how many bytes both have.
@@ -80,11 +80,11 @@ fn settle_all(alloc: Global, node: &mut Node, events: Vec<Event>) -> Result<bool
     ensures { IfOk result (λ all. MatchBool all (IsLawful node.old events.items × (node.new ≡ after node.old events.items)) (IsLawful node.old events.items → ⊥)) }
 {
     for event in events {
-        if node.core().decide(&event).is_err() {
-            return Ok(false);
+        match node.core().made_or_refused(alloc, &event) {
+            Ok(made) => node.settle(event, made),
+            Err(Refusal::NoMemory) => return Err(NoMemory),
+            Err(_) => return Ok(false),
         }
-        let made = node.core().made(alloc, &event)?;
-        node.settle(event, made);
     }
     Ok(true)
 }

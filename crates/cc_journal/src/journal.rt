@@ -6,11 +6,11 @@ ghost use Rattle.cc_wire.specs.declared.event.Event.{Event};
 ghost use Rattle.cc_wire.specs.Events.{IsEvent};
 ghost use Rattle.cc_site.specs.declared.site.Call.TheVariants.{Write, Sync};
 ghost use Rattle.cc_site.specs.Sides.{other, touch};
-ghost use Rattle.cc_site.specs.Moments.{EachMoment, Rose};
-ghost use Rattle.cc_node.specs.Node.{Node, after, IsLawful};
+ghost use Rattle.cc_site.specs.Moments.{Rose};
+ghost use Rattle.cc_node.specs.Node.{Node};
 ghost use Rattle.cc_node.specs.Sides.{StandsBehind, SpellsBatch};
 ghost use Rattle.cc_journal.specs.Batches.{events_in, batch_bytes};
-ghost use Rattle.cc_journal.specs.Journals.{Position, with_record, with_open_gate, MayHaveOpened, IsGood, IsAtRest};
+ghost use Rattle.cc_journal.specs.Journals.{Position, with_record, with_open_gate, record_room, room_limit, KeepsGood, MayHaveOpened, RestsFor, RestsNow};
 
 use crate::batch::Batch;
 use crate::record::put_record;
@@ -145,7 +145,7 @@ impl Journal {
     /// `append` opens that gate the record doesn't count, so a crash leaves what was there.
     pub fn write<S: Site>(&mut self, site: &mut S, batch: Batch) -> Result<Flight, Forfeit>
         requires within { S.honest site.old → self.old.place + 1 ≤ length (S.state site.old self.old.side).bytes }
-        requires room { self.old.place < 2 ^ 61 }
+        requires room { self.old.place < room_limit }
         requires some { 1 ≤ length batch }
         ensures same { self.new ≡ self.old }
         ensures flight { IfOk result (λ flight. flight ≡ batch) }
@@ -154,12 +154,9 @@ impl Journal {
         ensures other_side { S.honest site.old → S.state site.new (other self.old.side) ≡ S.state site.old (other self.old.side) }
         ensures holds { S.honest site.old → OnOk result (S.state site.new self.old.side ≡ with_record (S.state site.old self.old.side) self.old.place batch) }
         ensures failed { S.honest site.old → OnErr result ((S.state site.new self.old.side ≡ touch (S.state site.old self.old.side) (self.old.place + 1) (length (batch_bytes batch))) ⊎ (S.state site.new self.old.side ≡ S.state site.old self.old.side)) }
-        ensures every_moment { S.honest site.old → (generation : ℕ) (start : Node) (events : List Event) (opening : ℕ)
-            → IsAtRest (S.state site.old) (S.sent site.old) self.old generation start events opening
-            → EachMoment S.moment S.left_since site.old site.new (IsGood start (events ++ events_in batch) (length events) opening) }
+        ensures every_moment { S.honest site.old → (generation : ℕ) → KeepsGood S.Site (RestsNow S.Site site.old self.old generation) (events_in batch) site.old site.new }
         ensures at_rest { S.honest site.old → (generation : ℕ) (start : Node) (events : List Event) (opening : ℕ)
-            → IsAtRest (S.state site.old) (S.sent site.old) self.old generation start events opening
-            → IsAtRest (S.state site.new) (S.sent site.new) self.old generation start events opening }
+            → RestsNow S.Site site.old self.old generation start events opening → RestsNow S.Site site.new self.old generation start events opening }
         ensures within { S.honest site.old → OnOk result (self.old.place + 1 ≤ length (S.state site.new self.old.side).bytes) }
         ensures behind { S.honest site.old → OnOk result (StandsBehind (S.state site.new self.old.side).bytes self.old.place (batch_bytes batch)) }
         ensures length { S.honest site.old → OnOk result (length (S.state site.new self.old.side).bytes ≡ max (length (S.state site.old self.old.side).bytes) (self.old.place + 1 + length (batch_bytes batch))) }
@@ -176,7 +173,7 @@ impl Journal {
     /// last one that this journal wrote, and nothing else went to the side since.
     pub fn append<S: Site>(&mut self, site: &mut S, flight: Flight) -> Result<Landed, Forfeit>
         requires within { S.honest site.old → self.old.place + 1 ≤ length (S.state site.old self.old.side).bytes }
-        requires room { self.old.place < 2 ^ 61 }
+        requires room { self.old.place < room_limit }
         ensures landed { IfOk result (λ landed. landed ≡ flight) }
         ensures ok { OnOk result (self.new ≡ record { side = self.old.side; place = self.old.place + length (batch_bytes flight) }) }
         ensures err { OnErr result (self.new ≡ self.old) }
@@ -185,18 +182,13 @@ impl Journal {
         ensures other_side { S.honest site.old → S.state site.new (other self.old.side) ≡ S.state site.old (other self.old.side) }
         ensures holds { S.honest site.old → OnOk result (S.state site.new self.old.side ≡ with_open_gate (S.state site.old self.old.side) self.old.place) }
         ensures failed { S.honest site.old → OnErr result (MayHaveOpened (S.state site.old self.old.side) self.old.place (S.state site.new self.old.side)) }
-        ensures every_moment { S.honest site.old → (generation : ℕ) (start : Node) (events : List Event) (opening : ℕ)
-            → IsAtRest (S.state site.old) (S.sent site.old) self.old generation start events opening
-            → IsLawful (after start events) (events_in flight)
-            → StandsBehind (S.state site.old self.old.side).bytes self.old.place (batch_bytes flight)
-            → EachMoment S.moment S.left_since site.old site.new (IsGood start (events ++ events_in flight) (length events) opening) }
-        ensures at_rest { S.honest site.old → (generation : ℕ) (start : Node) (events : List Event) (opening : ℕ)
-            → IsAtRest (S.state site.old) (S.sent site.old) self.old generation start events opening
-            → IsLawful (after start events) (events_in flight)
-            → StandsBehind (S.state site.old self.old.side).bytes self.old.place (batch_bytes flight)
-            → OnOk result (IsAtRest (S.state site.new) (S.sent site.new) self.new generation start (events ++ events_in flight) opening) }
+        ensures every_moment { S.honest site.old → StandsBehind (S.state site.old self.old.side).bytes self.old.place (batch_bytes flight)
+            → (generation : ℕ) → KeepsGood S.Site (RestsFor S.Site (events_in flight) site.old self.old generation) (events_in flight) site.old site.new }
+        ensures at_rest { S.honest site.old → StandsBehind (S.state site.old self.old.side).bytes self.old.place (batch_bytes flight)
+            → (generation : ℕ) (start : Node) (events : List Event) (opening : ℕ) → RestsFor S.Site (events_in flight) site.old self.old generation start events opening
+            → OnOk result (RestsNow S.Site site.new self.new generation start (events ++ events_in flight) opening) }
         ensures length { S.honest site.old → OnOk result (length (S.state site.new self.old.side).bytes ≡ length (S.state site.old self.old.side).bytes) }
-        ensures short { OnOk result (length (batch_bytes flight) ≤ 262149) }
+        ensures short { OnOk result (length (batch_bytes flight) ≤ record_room) }
         ensures device { IfErr result (λ forfeit. (forfeit.fault.side ≡ self.old.side) × ((forfeit.fault.call ≡ Write) ⊎ (forfeit.fault.call ≡ Sync))) }
         ensures fault { MatchResult result (λ _. S.failures site.new ≡ S.failures site.old) (λ forfeit. Rose (S.failures site.old) (S.failures site.new)) }
     {

@@ -75,7 +75,7 @@ struct Taken {
 fn gate_is_open<S: Site>(site: &mut S, side: Side, place: u64) -> Result<bool, DeviceFault>
     requires { S.honest site.old → place < length (S.state site.old side).bytes }
     ensures value { S.honest site.old → IfOk result (λ is_open. MatchBool is_open (IsOpened (drop place (S.state site.old side).bytes)) (IsShut (drop place (S.state site.old side).bytes))) }
-    ensures reads { OnlyReads S.honest S.tells S.state S.sent S.moment S.left_since site.old site.new }
+    ensures reads { OnlyReads S.Site site.old site.new }
     ensures fault { CountsFault (S.failures site.old) (S.failures site.new) side Read result }
 {
     let mut gate = [0];
@@ -96,7 +96,7 @@ fn read_body<S: Site>(
     ensures found { S.honest site.old → OnOk result (BodyStands (drop place (S.state site.old side).bytes) body.new.items) }
     ensures damaged { S.honest site.old → IfErr result (IfDamaged (λ p. (p ≡ place) × NoBody (drop place (S.state site.old side).bytes))) }
     ensures within { OnOk result (place + 4 + vec_len body.new ≤ len) }
-    ensures reads { OnlyReads S.honest S.tells S.state S.sent S.moment S.left_since site.old site.new }
+    ensures reads { OnlyReads S.Site site.old site.new }
     ensures fault { CountsDevice side (S.failures site.old) (S.failures site.new) result }
 {
     if len - place < 4 {
@@ -132,7 +132,7 @@ fn read_record<S: Site>(
     ensures damaged { S.honest site.old → IfErr result (IfDamaged (λ p. (p ≡ place) × NoRecord (drop place (S.state site.old side).bytes) node.old)) }
     ensures within { IfOk result (λ taken. place + taken.size ≤ len) }
     ensures few { IfOk result (λ taken. taken.events ≤ taken.size) }
-    ensures reads { OnlyReads S.honest S.tells S.state S.sent S.moment S.left_since site.old site.new }
+    ensures reads { OnlyReads S.Site site.old site.new }
     ensures fault { CountsDevice side (S.failures site.old) (S.failures site.new) result }
 {
     read_body(site, side, place, len, body)?;
@@ -163,7 +163,7 @@ fn scan_into<S: Site>(
 ) -> Result<Ended, ScanFault>
     ensures scanned { S.honest site.old → IfOk result (λ e. IsScanned (S.state site.old side).bytes side place node.old (record { journal = e.journal; node = node.new; records = e.records; events = e.events })) }
     ensures damaged { S.honest site.old → IfErr result (IfDamaged (IsStopped (S.state site.old side).bytes place node.old)) }
-    ensures reads { OnlyReads S.honest S.tells S.state S.sent S.moment S.left_since site.old site.new }
+    ensures reads { OnlyReads S.Site site.old site.new }
     ensures fault { CountsDevice side (S.failures site.old) (S.failures site.new) result }
 {
     let len = length_of(site, side)?;
@@ -184,7 +184,7 @@ fn scan_records<S: Site>(
     requires len { S.honest site.old → len ≡ length (S.state site.old side).bytes }
     ensures scanned { S.honest site.old → IfOk result (λ e. IsScanned (S.state site.old side).bytes side place node.old (record { journal = e.journal; node = node.new; records = e.records; events = e.events })) }
     ensures damaged { S.honest site.old → IfErr result (IfDamaged (IsStopped (S.state site.old side).bytes place node.old)) }
-    ensures reads { OnlyReads S.honest S.tells S.state S.sent S.moment S.left_since site.old site.new }
+    ensures reads { OnlyReads S.Site site.old site.new }
     ensures fault { CountsDevice side (S.failures site.old) (S.failures site.new) result }
 {
     let mut place = place;
@@ -219,7 +219,7 @@ pub fn scan<S: Site>(
 ) -> Result<Scanned, ScanFault>
     ensures scanned { S.honest site.old → IfOk result (IsScanned (S.state site.old side).bytes side place node) }
     ensures damaged { S.honest site.old → IfErr result (IfDamaged (IsStopped (S.state site.old side).bytes place node)) }
-    ensures reads { OnlyReads S.honest S.tells S.state S.sent S.moment S.left_since site.old site.new }
+    ensures reads { OnlyReads S.Site site.old site.new }
     ensures fault { CountsDevice side (S.failures site.old) (S.failures site.new) result }
 {
     let mut node = node;

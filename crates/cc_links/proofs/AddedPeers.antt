@@ -1,9 +1,14 @@
 -- The next peer to which a loop gives a row.
-use Rattle.std.proofs.Common.{◌≡◌, ℕ, suc, List, ◌+◌, ◌<◌, ◌∷◌, map, drop, drop-cons, length, get_or, add-one, arith, ap, sym, ◌∙◌}
+use Rattle.std.proofs.Common.{◌≡◌, ℕ, suc, List, ◌+◌, ◌<◌, ◌≤◌, ◌∷◌, map, drop, drop-cons, length, get_or, add-one, arith, ap, sym, ◌∙◌}
 use Rattle.std.proofs.Math.ListN.{get_or-map}
 use Rattle.std.proofs.lemmas.List.{length-map}
+use Rattle.std.specs.FinMap as table
 use Rattle.cc_links.specs.Links.{Links, add, add_all}
-use Rattle.cc_links.specs.LinkLaws.{add_all-add}
+use Rattle.cc_links.specs.LinkLaws.{add_all-add, len_add_all}
+
+-- where links with more peers fit, they do too
+pub fewer_fit : (posts : ℕ) (peers : List ℕ) (ls all : Links) → add_all posts peers ls ≡ all → table.len all ≤ 256 → table.len ls ≤ 256
+fewer_fit posts peers ls all same fits = omega (arith, len_add_all posts peers ls, ap table.len same, fits)
 
 -- beyond the list it would read some other number
 pub next_number : (posts : ℕ) (peers : List ℕ) (i peer other : ℕ) (ls all : Links) → i < length peers → peer ≡ get_or peers i other

@@ -1,8 +1,7 @@
 -- Ids in order as a set: one more, and all of a list.
-use Rattle.std.proofs.Common.{◌≡◌, ℕ, suc, ◌+◌, ◌<◌, ◌≤◌, Bool, true, false, List, ◌∷◌, map, length, get_or, drop, drop-cons, add-one, refl, sym, ap, ◌∙◌, arith}
-use Rattle.std.specs.Prelude.{◌==◌}
+use Rattle.std.proofs.Common.{◌≡◌, ℕ, suc, ◌+◌, ◌<◌, ◌≤◌, List, ◌∷◌, map, length, get_or, drop, drop-cons, add-one, refl, sym, ap, ◌∙◌, arith}
 use Rattle.std.specs.List.{insert}
-use Rattle.std.proofs.lemmas.Bool.{or_left, eqb-true, eqb-false}
+use Rattle.std.proofs.lemmas.Bool.{or_left}
 use Rattle.std.proofs.Math.ListN.{get_or-map}
 use Rattle.std.proofs.lemmas.List.{length-map}
 use Rattle.std.proofs.lemmas.List.Edits.{length-insert}
@@ -12,40 +11,31 @@ use Rattle.cc_views.specs.NatSets.{NatSet, marked, contains-insert_all, insert_a
 use Rattle.cc_views.specs.Tables.{IsAt, IsGapFor, table_of, table_of-insert, rising-insert, len-table_of, len-insert_gap}
 use Rattle.cc_links.specs.KnownIds.{AreKnown}
 
-module _ (ids : List ℕ) (known : AreKnown ids) (id i : ℕ) (s : NatSet) (view : table_of marked ids ≡ s) where
-  pub len_known : set.len s ≤ 256
-  len_known = omega (arith, len-table_of marked ids known.rising, known.fits, ap set.len view)
+pub len_known : {ids : List ℕ} {s : NatSet} → AreKnown ids → table_of marked ids ≡ s → set.len s ≤ 256
+len_known {ids} known view = omega (arith, len-table_of marked ids known.rising, known.fits, ap set.len view)
 
-  pub there_already : IsAt marked ids id i → s ≡ set.insert s id
-  there_already at = sym view ∙ held ids id i known.rising at ∙ ap (λ (m : NatSet). set.insert m id) view
+pub there_already : {ids : List ℕ} {id i : ℕ} {s : NatSet} → AreKnown ids → table_of marked ids ≡ s → IsAt marked ids id i → s ≡ set.insert s id
+there_already {id = id} known view at = sym view ∙ held _ _ _ known.rising at ∙ ap (λ (m : NatSet). set.insert m id) view
 
-  -- a new id is one more
-  pub one_more : IsGapFor marked ids id i → set.len (set.insert s id) ≡ length ids + 1
-  one_more gap = sym (ap (λ (m : NatSet). set.len (set.insert m id)) view) ∙ len-insert_gap marked ids id i gap tt known.rising
+-- what one more id, with the number q, makes of them
+pub record Grown (ids : List ℕ) (id q i : ℕ) (s : NatSet) : Type 0 where
+  pub count : set.len (set.insert s q) ≡ length ids + 1
+  pub known : length ids < 256 → AreKnown (insert ids i id)
+  pub same : table_of marked (insert ids i id) ≡ set.insert s q
 
-  -- where not all places are taken
-  pub fits_one_more : (full : Bool) → IsGapFor marked ids id i → full ≡ (length ids == 256) → full ≡ false → set.len (set.insert s id) ≤ 256
-  fits_one_more full gap e f =
-      let apart : length ids ≡ 256 → ⊥ = eqb-false (length ids) 256 (sym e ∙ f) in
-      omega (arith, one_more gap, known.fits, apart)
-
-  -- where all are
-  pub one_too_many : (full : Bool) → IsGapFor marked ids id i → full ≡ (length ids == 256) → full ≡ true → set.len (set.insert s id) ≤ 256 → ⊥
-  one_too_many full gap e f fits =
-      let all : length ids ≡ 256 = eqb-true (length ids) 256 (sym e ∙ f) in
-      omega (arith, one_more gap, fits, all)
-
-  pub known_more : IsGapFor marked ids id i → set.len (set.insert s id) ≤ 256 → AreKnown (insert ids i id)
-  known_more gap fits = record {
-    rising = rising-insert marked ids id i gap id refl known.rising;
-    fits = omega (arith, length-insert ids i id gap.in_range, one_more gap, fits);
-  }
-
-  pub set_more : IsGapFor marked ids id i → table_of marked (insert ids i id) ≡ set.insert s id
-  set_more gap = table_of-insert marked ids id i gap id refl ∙ ap (λ (m : NatSet). set.insert m id) view
+pub grown : {ids : List ℕ} {id q i : ℕ} {s : NatSet} → AreKnown ids → table_of marked ids ≡ s → IsGapFor marked ids id i → id ≡ q → Grown ids id q i s
+grown {ids} {id} {q} {i} known view gap is = record {
+  count = sym (λ j. set.len (set.insert (view j) (is j))) ∙ len-insert_gap marked ids id i gap tt known.rising;
+  known = λ room. record { rising = rising-insert marked ids id i gap id refl known.rising; fits = omega (arith, length-insert ids i id gap.in_range) };
+  same = table_of-insert marked ids id i gap id refl ∙ (λ j. set.insert (view j) (is j));
+}
 
 pub len_insert_all : (s : NatSet) (ids : List ℕ) → set.len s ≤ set.len (set.insert_all s ids)
 len_insert_all s ids = len_within s (set.insert_all s ids) (λ q h. contains-insert_all s ids q ∙ or_left _ _ h)
+
+-- where ids fit, the first of them does
+pub first_fits : (s all : NatSet) (ids : List ℕ) → set.insert_all s ids ≡ all → set.len all ≤ 256 → set.len s ≤ 256
+first_fits s all ids same fits = omega (arith, len_insert_all s ids, ap set.len same, fits)
 
 -- the next id that a loop takes; beyond the list it would read some other number
 pub next_number : (s all : NatSet) (ids : List ℕ) (i id other : ℕ) → i < length ids → id ≡ get_or ids i other → set.insert_all s (drop i ids) ≡ all

@@ -7,6 +7,7 @@ use Rattle.std.specs.Prelude.{nat_eq}
 use Rattle.std.specs.List.{list_any}
 use Rattle.std.specs.FinMap as table
 use Rattle.std.proofs.Math.Bool.{or_comm}
+use Rattle.cc_views.specs.Limits.{known_limit}
 use Rattle.cc_views.specs.NatSets as set
 use Rattle.cc_views.specs.NatSets.{NatSet, marked, IsWithin, len_within, contains-insert_all, contains-from_list, contains-keys}
 use Rattle.cc_views.specs.Tables.{IsRising}
@@ -17,7 +18,7 @@ use Rattle.cc_links.specs.LinkLaws.{contains-add_all}
 -- ids in order, and no more than there is room for
 pub record AreKnown (ids : List ℕ) : Type 0 where
   pub rising : IsRising marked ids
-  pub fits : length ids ≤ 256
+  pub fits : length ids ≤ known_limit
 
 abbrev pub ids_of : Links → NatSet
 ids_of ls = set.from_list (table.keys ls)

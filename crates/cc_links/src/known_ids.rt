@@ -1,6 +1,7 @@
 //! Ids in ascending order, in a room of a fixed size.
 ghost use Rattle.std.specs.Prelude.{◌≡◌, ◌≤◌, ◌↔◌, IsTrue, IsFalse};
 ghost use Rattle.std.specs.List.{Contains};
+ghost use Rattle.cc_views.specs.Limits.{known_limit};
 ghost use Rattle.cc_views.specs.NatSets as set;
 ghost use Rattle.cc_views.specs.NatSets.{marked};
 ghost use Rattle.cc_views.specs.Tables.{IsRising, IsPlaceOf};
@@ -45,17 +46,17 @@ impl KnownIds {
     /// How many ids there are.
     pub fn len(&self) -> usize
         ensures len { result ≡ set.len self.now }
-        ensures fits { result ≤ 256 }
+        ensures fits { result ≤ known_limit }
     {
         self.numbers.len()
     }
 
     /// Adds an id. False, and nothing is changed, where it is one too many.
     pub fn add(&mut self, id: NodeId) -> bool
-        ensures fits { IsTrue result ↔ (set.len (set.insert self.old id) ≤ 256) }
+        ensures fits { IsTrue result ↔ (set.len (set.insert self.old id) ≤ known_limit) }
         ensures added { IsTrue result → self.new ≡ set.insert self.old id }
         ensures unchanged { IsFalse result → self.new ≡ self.old }
-        ensures within { set.len self.new ≤ 256 }
+        ensures within { set.len self.new ≤ known_limit }
     {
         let number = id.number();
         match place_of(&self.numbers, number) {
@@ -70,7 +71,7 @@ impl KnownIds {
 
     /// Adds some ids. False where they are too many, and then only some of them are added.
     pub fn add_all(&mut self, ids: &[NodeId]) -> bool
-        ensures fits { IsTrue result ↔ (set.len (set.insert_all self.old ids.now) ≤ 256) }
+        ensures fits { IsTrue result ↔ (set.len (set.insert_all self.old ids.now) ≤ known_limit) }
         ensures added { IsTrue result → self.new ≡ set.insert_all self.old ids.now }
     {
         // The proof of the loop then knows the room.
@@ -87,7 +88,7 @@ impl KnownIds {
     /// added.
     pub fn add_numbers(&mut self, numbers: &[u32]) -> bool
         requires { ¬ (Contains numbers.now 0) }
-        ensures fits { IsTrue result ↔ (set.len (set.insert_all self.old numbers.now) ≤ 256) }
+        ensures fits { IsTrue result ↔ (set.len (set.insert_all self.old numbers.now) ≤ known_limit) }
         ensures added { IsTrue result → self.new ≡ set.insert_all self.old numbers.now }
     {
         // The proof of the loop then knows the room.
@@ -102,7 +103,7 @@ impl KnownIds {
 
     /// Adds the nodes of a view's rows. False where they are too many, and then only some of them are added.
     pub fn add_nodes(&mut self, rows: &[Row]) -> bool
-        ensures fits { IsTrue result ↔ (set.len (set.insert_all self.old (nodes_of rows.now)) ≤ 256) }
+        ensures fits { IsTrue result ↔ (set.len (set.insert_all self.old (nodes_of rows.now)) ≤ known_limit) }
         ensures added { IsTrue result → self.new ≡ set.insert_all self.old (nodes_of rows.now) }
     {
         // The proof of the loop then knows the room.
@@ -117,7 +118,7 @@ impl KnownIds {
 
     /// Adds the peers of links. False where they are too many, and then only some of them are added.
     pub fn add_peers(&mut self, rows: &[LinkRow]) -> bool
-        ensures fits { IsTrue result ↔ (set.len (set.insert_all self.old (peers_of rows.now)) ≤ 256) }
+        ensures fits { IsTrue result ↔ (set.len (set.insert_all self.old (peers_of rows.now)) ≤ known_limit) }
         ensures added { IsTrue result → self.new ≡ set.insert_all self.old (peers_of rows.now) }
     {
         // The proof of the loop then knows the room.

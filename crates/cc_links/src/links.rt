@@ -4,6 +4,7 @@ ghost use Rattle.std.specs.Vec.{vec_capacity};
 ghost use Rattle.std.specs.Option.{option_map_or};
 ghost use Rattle.std.specs.FinMap as table;
 ghost use Rattle.cc_views.specs.Ascending.{IsAscending};
+ghost use Rattle.cc_views.specs.Limits.{known_limit};
 ghost use Rattle.cc_views.specs.NatSets as set;
 ghost use Rattle.cc_views.specs.Tables.{IsRising, IsPlaceOf, table_of};
 ghost use Rattle.cc_links.specs.Links as links;
@@ -22,6 +23,7 @@ pub struct Links {
 
 impl Model for Links {
     ghost use Rattle.std.specs.Vec.{vec_capacity};
+    ghost use Rattle.cc_views.specs.Limits.{known_limit};
     ghost use Rattle.cc_views.specs.Tables.{IsTable, table_of};
     ghost use Rattle.cc_links.specs.Links as links;
     ghost use Rattle.cc_links.specs.Links.{links_code};
@@ -33,7 +35,7 @@ impl Model for Links {
 
     ghost view = { λ l. table_of entry_of l.rows.items };
 
-    ghost invariant = { λ l. IsTable entry_of 256 l.rows.items (vec_capacity l.rows) };
+    ghost invariant = { λ l. IsTable entry_of known_limit l.rows.items (vec_capacity l.rows) };
 }
 
 impl Links {
@@ -61,7 +63,7 @@ impl Links {
     /// The rows, by ascending peer.
     pub fn rows(&self) -> &[LinkRow]
         ensures rows { result.now ≡ rows_of self.now }
-        ensures fits { length result.now ≤ 256 }
+        ensures fits { length result.now ≤ known_limit }
     {
         &self.rows
     }
@@ -69,7 +71,7 @@ impl Links {
     /// How many peers have a row.
     pub fn len(&self) -> usize
         ensures len { result ≡ table.len self.now }
-        ensures fits { result ≤ 256 }
+        ensures fits { result ≤ known_limit }
     {
         self.rows.len()
     }
@@ -121,7 +123,7 @@ impl Links {
 
     /// Puts a row in, in place of the one that its peer had. It takes no memory.
     pub fn insert(&mut self, row: LinkRow)
-        requires { table.len (table.insert self.old row.peer (link_of row)) ≤ 256 }
+        requires { table.len (table.insert self.old row.peer (link_of row)) ≤ known_limit }
         ensures { self.new ≡ table.insert self.old row.peer (link_of row) }
     {
         match place_of(&self.rows, row.peer) {
@@ -133,7 +135,7 @@ impl Links {
     /// Gives the peer a row, unless it has one. It is sent the posts after the first `posts` (own choice).
     /// It takes no memory.
     pub fn add(&mut self, peer: NodeId, posts: u64)
-        requires { table.len (links.add posts peer self.old) ≤ 256 }
+        requires { table.len (links.add posts peer self.old) ≤ known_limit }
         ensures { self.new ≡ links.add posts peer self.old }
     {
         if self.get(peer).is_none() {
@@ -148,7 +150,7 @@ impl Links {
 
     /// Gives each of the peers a row that has none. It takes no memory.
     pub fn add_all(&mut self, peers: &[NodeId], posts: u64)
-        requires { table.len (links.add_all posts peers.now self.old) ≤ 256 }
+        requires { table.len (links.add_all posts peers.now self.old) ≤ known_limit }
         ensures { self.new ≡ links.add_all posts peers.now self.old }
     {
         for peer in peers {
@@ -158,7 +160,7 @@ impl Links {
 
     /// Gives each of the nodes of a view's rows a row that has none. It takes no memory.
     pub fn add_nodes(&mut self, rows: &[Row], posts: u64)
-        requires { table.len (links.add_all posts (nodes_of rows.now) self.old) ≤ 256 }
+        requires { table.len (links.add_all posts (nodes_of rows.now) self.old) ≤ known_limit }
         ensures { self.new ≡ links.add_all posts (nodes_of rows.now) self.old }
     {
         for row in rows {

@@ -1,44 +1,58 @@
 -- What the parts' decisions say of an event, and which counters it would raise.
-use Rattle.std.proofs.Common.{◌≡◌, ℕ, ◌+◌, ◌-◌, ◌<◌, ◌≤◌, ◌⊎◌, Bool, true, false, ◌&&◌, ◌||◌, nat_lt, nat_le, List, [], ◌∷◌, ◌++◌, refl, sym, ap, ◌∙◌, inl, inr, arith}
-use Rattle.std.specs.Prelude.{Option, Some, None, is_some, ◌==◌}
+use Rattle.std.proofs.Common.{◌≡◌, ℕ, ◌+◌, ◌<◌, ◌≤◌, ◌⊎◌, Bool, true, false, ◌&&◌, ◌||◌, nat_lt, nat_le, List, [], ◌∷◌, ◌++◌, refl, sym, ap, ◌∙◌, inl, inr, arith}
+use Rattle.std.specs.Prelude.{Option, Some, None, Result, Ok, Err, IsErrAnd, is_some, ◌==◌}
 use Rattle.std.specs.Option.{option_len, option_or}
 use Rattle.std.specs.Bool.{then_some}
 use Rattle.std.proofs.lemmas.Bool.Decides.{eqb_tells}
 use Rattle.std.proofs.Math.Bool.{and-false, and-true, or-false}
 use Rattle.std.proofs.lemmas.Bool.{leb-false, ltb-false, lt-ltb, le-ltb, or_parts}
 use Rattle.cc_views.specs.Limits.{counter_limit, overruns}
-use Rattle.cc_wire.specs.declared.event.Event.{Event}
 use Rattle.cc_wire.specs.declared.event.Event.TheVariants as event
 use Rattle.cc_wire.specs.declared.message.Message.{Message}
 use Rattle.cc_wire.specs.declared.message.Message.TheVariants as message
 use Rattle.cc_wire.specs.declared.refusal.Refusal.{Refusal}
 use Rattle.cc_wire.specs.declared.refusal.Refusal.TheVariants as refusal
-use Rattle.cc_wire.specs.Refusals.{first_of, or_else, first_of_both}
+use Rattle.cc_wire.specs.Refusals.{first_of, decided}
 use Rattle.cc_churn.specs.Churn as churn
 use Rattle.cc_ops.specs.Ops as ops
 use Rattle.cc_ops.specs.OwnLaws.{message_keeps}
 use Rattle.cc_links.specs.Links.{heard_from, hear, add_all}
 use Rattle.cc_sessions.specs.Sessions.{last_request, is_stale, is_skip, is_repeat, finds_no_room}
 use Rattle.cc_wire.specs.declared.command.Command.{Command}
-use Rattle.cc_node.specs.Core.{Core, next, post, quorum, ids_of, lowest}
-use Rattle.cc_outbox.specs.Outbox.{post_limit}
-use Rattle.cc_node.specs.Refusals.{any_overruns, spent, decides, left, not_entered, already_entered, not_joined, old, gap, too_many_nodes, nothing_to_ack, too_many_sessions, repeat, stale, skip, busy, set_full, outbox_full}
+use Rattle.cc_node.specs.Core.{Core, next, post, quorum, ids_of}
+use Rattle.cc_node.specs.Refusals.{any_overruns, spent, decides, old, gap, nothing_to_ack, too_many_sessions, repeat, stale, skip}
 use Rattle.cc_node.proofs.Effects.{asked_of}
 use Rattle.cc_node.proofs.LawfulLaws.{hears_now, request_now}
 
 -- ---- reasons, one list after the other
 
--- a reason of the first list is the first
-pub first_there : (xs ys : List (Option Refusal)) (r : Refusal) → first_of xs ≡ Some r → first_of (xs ++ ys) ≡ Some r
-first_there xs ys r h = first_of_both xs ys ∙ ap (λ o. or_else o (first_of ys)) h
+-- a refusal for the first reasons is the refusal, and `?` hands it on
+pub err_there : (xs ys : List (Option Refusal)) (r : Refusal) (d : Result (Unit {0}) Refusal) → IsErrAnd d (λ e. e ≡ r) → decided (first_of xs) ≡ Err r → d ≡ decided (first_of (xs ++ ys))
+err_there [] ys r d e h = cc
+err_there (None ∷ xs) ys r d e h = err_there xs ys r d e h
+err_there (Some s ∷ xs) ys r (Ok x) e h = absurd e
+err_there (Some s ∷ xs) ys r (Err q) e h = cc
 
--- where the first list has none, the second counts
-pub first_later : (xs ys : List (Option Refusal)) → first_of xs ≡ None → first_of (xs ++ ys) ≡ first_of ys
-first_later xs ys h = first_of_both xs ys ∙ ap (λ o. or_else o (first_of ys)) h
+-- where the first reasons refuse nothing, the others decide
+pub ok_later : (xs ys : List (Option Refusal)) → decided (first_of xs) ≡ Ok tt → decided (first_of ys) ≡ decided (first_of (xs ++ ys))
+ok_later [] ys h = refl
+ok_later (None ∷ xs) ys h = ok_later xs ys h
+ok_later (Some s ∷ xs) ys h = cc
 
-pub first_alone : (o : Option Refusal) → first_of (o ∷ []) ≡ o
-first_alone None = refl
-first_alone (Some r) = refl
+-- what refuses nothing has no reason
+pub ok_none : (o : Option Refusal) → decided o ≡ Ok tt → o ≡ None
+ok_none None h = refl
+ok_none (Some r) h = cc
+
+-- a reason that holds is the first
+pub first_holds : (b : Bool) (r : Refusal) (o : Option Refusal) (rs : List (Option Refusal)) → then_some b r ≡ o → b ≡ true → Err r ≡ decided (first_of (o ∷ rs))
+first_holds true r o rs e h = ap (λ x. decided (first_of (x ∷ rs))) e
+first_holds false r o rs e h = cc
+
+-- one that doesn't is passed over
+pub first_passes : (b : Bool) (r : Refusal) (o : Option Refusal) (rs : List (Option Refusal)) → then_some b r ≡ o → b ≡ false → decided (first_of rs) ≡ decided (first_of (o ∷ rs))
+first_passes true r o rs e h = cc
+first_passes false r o rs e h = ap (λ x. decided (first_of (x ∷ rs))) e
 
 -- ---- counters
 
@@ -182,30 +196,6 @@ spent_ask c s r k e h =
 
 -- ---- of the reasons, the first
 
-pub enter_refused : (c : Core) (r : Refusal) → first_of (left c ∷ already_entered c ∷ []) ≡ Some r → Some r ≡ decides c event.Enter
-unfolding decides
-enter_refused c r h = sym (first_there (left c ∷ already_entered c ∷ []) (outbox_full c event.Enter ∷ spent c event.Enter ∷ []) r h)
-
--- why one post more can't be made
-abbrev pub no_post : Core → Option Refusal
-no_post c = first_of (then_some ((c.posts - lowest c) == post_limit) refusal.OutboxFull ∷ then_some (c.posts == counter_limit) refusal.Spent ∷ [])
-
-pub enter_posts : (c : Core) → first_of (left c ∷ already_entered c ∷ []) ≡ None → no_post c ≡ decides c event.Enter
-unfolding decides
-enter_posts c h =
-    sym (first_later (left c ∷ already_entered c ∷ []) (outbox_full c event.Enter ∷ spent c event.Enter ∷ []) h
-    ∙ ap (λ o. first_of (outbox_full c event.Enter ∷ o ∷ [])) (spent_enter c))
-
-pub leave_refused : (c : Core) (r : Refusal) → first_of (left c ∷ not_entered c ∷ []) ≡ Some r → Some r ≡ decides c event.Leave
-unfolding decides
-leave_refused c r h = sym (first_there (left c ∷ not_entered c ∷ []) (outbox_full c event.Leave ∷ spent c event.Leave ∷ []) r h)
-
-pub leave_posts : (c : Core) → first_of (left c ∷ not_entered c ∷ []) ≡ None → no_post c ≡ decides c event.Leave
-unfolding decides
-leave_posts c h =
-    sym (first_later (left c ∷ not_entered c ∷ []) (outbox_full c event.Leave ∷ spent c event.Leave ∷ []) h
-    ∙ ap (λ o. first_of (outbox_full c event.Leave ∷ o ∷ [])) (spent_leave c))
-
 pub ack_refused : (c : Core) (peer n : ℕ) → nothing_to_ack c peer n ≡ decides c (event.Acked peer n)
 unfolding decides
 ack_refused c peer n = sym (ap (λ o. first_of (nothing_to_ack c peer n ∷ o ∷ [])) (spent_ack c peer n) ∙ first_but_none (nothing_to_ack c peer n))
@@ -213,38 +203,6 @@ ack_refused c peer n = sym (ap (λ o. first_of (nothing_to_ack c peer n ∷ o �
     first_but_none : (o : Option Refusal) → first_of (o ∷ None ∷ []) ≡ o
     first_but_none None = refl
     first_but_none (Some r) = refl
-
-module _ (c : Core) (from n : ℕ) (m : Message) where
-  abbrev delivery : Event
-  delivery = event.Deliver from n m
-
-  pub delivery_refused : (r : Refusal) → first_of (left c ∷ not_entered c ∷ []) ≡ Some r → Some r ≡ decides c delivery
-  unfolding decides
-  delivery_refused r h =
-      sym (first_there (left c ∷ not_entered c ∷ []) (old c from n ∷ gap c from n ∷ too_many_nodes c from m ∷ outbox_full c delivery ∷ spent c delivery ∷ []) r h)
-
-  pub number_refused : (r : Refusal) → first_of (left c ∷ not_entered c ∷ []) ≡ None → first_of (old c from n ∷ gap c from n ∷ []) ≡ Some r → Some r ≡ decides c delivery
-  unfolding decides
-  number_refused r h k =
-      sym (first_later (left c ∷ not_entered c ∷ []) (old c from n ∷ gap c from n ∷ too_many_nodes c from m ∷ outbox_full c delivery ∷ spent c delivery ∷ []) h
-      ∙ first_there (old c from n ∷ gap c from n ∷ []) (too_many_nodes c from m ∷ outbox_full c delivery ∷ spent c delivery ∷ []) r k)
-
-  pub delivery_rest : first_of (left c ∷ not_entered c ∷ []) ≡ None → first_of (old c from n ∷ gap c from n ∷ []) ≡ None
-      → first_of (too_many_nodes c from m ∷ outbox_full c delivery ∷ spent c delivery ∷ []) ≡ decides c delivery
-  unfolding decides
-  delivery_rest h k =
-      sym (first_later (left c ∷ not_entered c ∷ []) (old c from n ∷ gap c from n ∷ too_many_nodes c from m ∷ outbox_full c delivery ∷ spent c delivery ∷ []) h
-      ∙ first_later (old c from n ∷ gap c from n ∷ []) (too_many_nodes c from m ∷ outbox_full c delivery ∷ spent c delivery ∷ []) k)
-
--- a reason that holds is the first
-pub first_holds : (b : Bool) (r : Refusal) (o : Option Refusal) (rs : List (Option Refusal)) → then_some b r ≡ o → b ≡ true → Some r ≡ first_of (o ∷ rs)
-first_holds true r o rs e h = ap (λ x. first_of (x ∷ rs)) e
-first_holds false r o rs e h = cc
-
--- one that doesn't is passed over
-pub first_passes : (b : Bool) (r : Refusal) (o : Option Refusal) (rs : List (Option Refusal)) → then_some b r ≡ o → b ≡ false → first_of rs ≡ first_of (o ∷ rs)
-first_passes true r o rs e h = cc
-first_passes false r o rs e h = ap (λ x. first_of (x ∷ rs)) e
 
 none_holds : (b : Bool) (r : Refusal) (rs : List (Option Refusal)) → first_of (then_some b r ∷ rs) ≡ None → (b ≡ false) × (first_of rs ≡ None)
 none_holds true r rs h = absurd cc
@@ -273,42 +231,8 @@ next_request c s r h =
     close : (last r : ℕ) → last ≤ r → r ≤ last + 1 → (r ≡ last) ⊎ (r ≡ last + 1)
     close last r a b = grind arith
 
-module _ (c : Core) (s r : ℕ) (k : Command) where
-  abbrev asked : Event
-  asked = event.Ask s r k
-
-  abbrev outside : List (Option Refusal)
-  outside = left c ∷ not_entered c ∷ not_joined c ∷ []
-
-  abbrev requested : List (Option Refusal)
-  requested = too_many_sessions c s ∷ repeat c s r ∷ stale c s r ∷ skip c s r ∷ []
-
-  abbrev operation : List (Option Refusal)
-  operation = busy c ∷ set_full c k ∷ []
-
-  abbrev last : List (Option Refusal)
-  last = outbox_full c asked ∷ spent c asked ∷ []
-
-  pub ask_refused : (o : Refusal) → first_of outside ≡ Some o → Some o ≡ decides c asked
-  unfolding decides
-  ask_refused o h = sym (first_there outside (requested ++ (operation ++ last)) o h)
-
-  pub request_refused : (o : Refusal) → first_of outside ≡ None → first_of requested ≡ Some o → Some o ≡ decides c asked
-  unfolding decides
-  request_refused o h i = sym (first_later outside (requested ++ (operation ++ last)) h ∙ first_there requested (operation ++ last) o i)
-
-  pub operation_refused : (o : Refusal) → first_of outside ≡ None → first_of requested ≡ None → first_of operation ≡ Some o → Some o ≡ decides c asked
-  unfolding decides
-  operation_refused o h i j =
-      sym (first_later outside (requested ++ (operation ++ last)) h ∙ first_later requested (operation ++ last) i ∙ first_there operation last o j)
-
-  pub ask_rest : first_of outside ≡ None → first_of requested ≡ None → first_of operation ≡ None → first_of last ≡ decides c asked
-  unfolding decides
-  ask_rest h i j =
-      sym (first_later outside (requested ++ (operation ++ last)) h ∙ first_later requested (operation ++ last) i ∙ first_later operation last j)
-
-  -- where no reason of the request holds, it is neither stale nor leaves one out
-  pub is_next : first_of requested ≡ None → first_of (stale c s r ∷ skip c s r ∷ []) ≡ None
-  is_next h =
-      let a = none_holds (finds_no_room c.sessions s) refusal.TooManySessions (repeat c s r ∷ stale c s r ∷ skip c s r ∷ []) h in
-      (none_holds (is_repeat c.sessions s r) refusal.Repeat (stale c s r ∷ skip c s r ∷ []) a.1).1
+-- where no reason of the request holds, it is neither stale nor leaves one out
+pub is_next : (c : Core) (s r : ℕ) → first_of (too_many_sessions c s ∷ repeat c s r ∷ stale c s r ∷ skip c s r ∷ []) ≡ None → first_of (stale c s r ∷ skip c s r ∷ []) ≡ None
+is_next c s r h =
+    let a = none_holds (finds_no_room c.sessions s) refusal.TooManySessions (repeat c s r ∷ stale c s r ∷ skip c s r ∷ []) h in
+    (none_holds (is_repeat c.sessions s r) refusal.Repeat (stale c s r ∷ skip c s r ∷ []) a.1).1

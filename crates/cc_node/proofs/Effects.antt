@@ -1,7 +1,7 @@
 -- What each event makes of a core, part by part, and that the parts have room for it.
 --     next_enter, .._leave, .._delivery, .._ack, .._ask    the core after an event, by its parts
 --     .._room                                              that each part's call has what it asks for
-use Rattle.std.proofs.Common.{◌≡◌, ℕ, ◌+◌, ◌-◌, ◌<◌, ◌≤◌, Bool, true, false, cond, ◌&&◌, ◌∷◌, refl, sym, ap, subst, ◌∙◌, arith, add-zero}
+use Rattle.std.proofs.Common.{◌≡◌, ℕ, ◌+◌, ◌-◌, ◌<◌, ◌≤◌, Bool, true, false, cond, ◌&&◌, [], ◌∷◌, refl, sym, ap, subst, ◌∙◌, arith, add-zero}
 use Rattle.std.specs.Prelude.{Option, Some, None, is_some, IsTrue, IsFalse, ◌==◌}
 use Rattle.std.specs.Option.{option_len}
 use mir.Val.{bool_byte}
@@ -9,11 +9,12 @@ use Rattle.std.specs.FinMap as table
 use Rattle.std.proofs.lemmas.Bool.{ltb-false}
 use Rattle.cc_views.specs.NatSets as set
 use Rattle.cc_views.specs.NatSets.{NatSet, len_within, same_ids, contains-from_list, contains-keys}
-use Rattle.cc_views.specs.Limits.{counter_limit}
+use Rattle.cc_views.specs.Limits.{counter_limit, known_limit}
 use Rattle.cc_changes.specs.ChangeSets.{FitsRoom}
 use Rattle.cc_changes.specs.ChangeLaws.{fits_among}
 use Rattle.cc_churn.specs.Churn as churn
-use Rattle.cc_links.specs.Links.{add_all, hear, ack}
+use Rattle.cc_links.specs.Links.{Links, add_all, hear, ack}
+use Rattle.cc_links.specs.LinkLaws.{len_add_all}
 use Rattle.cc_ops.specs.Ops as ops
 use Rattle.cc_ops.specs.Commands.{finds_no_room}
 use Rattle.cc_ops.specs.declared.pending.Asked.{Asked}
@@ -24,10 +25,10 @@ use Rattle.cc_wire.specs.declared.event.Event.TheVariants as event
 use Rattle.cc_wire.specs.declared.message.Message.{Message}
 use Rattle.cc_outbox.specs.Outbox.{post_limit}
 use Rattle.cc_outbox.specs.OutboxLaws.{room_for_post}
-use Rattle.cc_node.specs.Core.{Core, next, post, reply, quorum, ids_of, lowest}
+use Rattle.cc_node.specs.Core.{Core, handled, next, post, reply, quorum, ids_of, lowest}
 use Rattle.cc_node.specs.Node.{Node, step, add, keep, forget_asked}
 use Rattle.cc_node.specs.Lawful.{IsLawfulCore, IsLawfulNode}
-use Rattle.cc_node.specs.Refusals.{decides, known_limit}
+use Rattle.cc_node.specs.Refusals.{decides}
 use Rattle.cc_node.proofs.KeptLaws.{posts_forget}
 use Rattle.cc_node.proofs.LawfulLaws.{next_core, quorum_fits, step_lawful}
 use Rattle.cc_node.proofs.RefusalLaws.{takes_delivery, takes_ask, takes_any}
@@ -40,36 +41,32 @@ changes_fit c h = fits_among c.links c.churn.changes h.changes h.link_count
 pub view_fits : (c : Core) → IsLawfulCore c → table.len c.ops.view ≤ 256
 view_fits c h = omega (arith, len_within c.ops.view c.links h.view, h.link_count)
 
--- ---- the core after each event
+-- ---- the core after each event. s is the core, and c the same by its fields
 
-pub next_enter : (c : Core) → next c event.Enter ≡ record c { churn = churn.with_entered c.me c.churn; posts = c.posts + 1 }
+pub next_enter : {c s : Core} {d : churn.Churn} → c ≡ s → d ≡ churn.with_entered c.me c.churn → record c { churn = d; posts = c.posts + 1 } ≡ next s event.Enter
 unfolding next
-next_enter c = refl
+next_enter is made = rw (← is, made) refl
 
-pub next_leave : (c : Core) → next c event.Leave ≡ record c { churn = churn.with_left c.me c.churn; posts = c.posts + 1 }
+pub next_leave : {c s : Core} {d : churn.Churn} → c ≡ s → d ≡ churn.with_left c.me c.churn → record c { churn = d; posts = c.posts + 1 } ≡ next s event.Leave
 unfolding next
-next_leave c = refl
+next_leave is made = rw (← is, made) refl
 
-pub next_ack : (c : Core) (peer n : ℕ) → next c (event.Acked peer n) ≡ record c { links = ack peer n c.links }
+pub next_ack : (c s : Core) (peer n : ℕ) (ls : Links) → c ≡ s → ls ≡ ack peer n c.links → record c { links = ls } ≡ next s (event.Acked peer n)
 unfolding next
-next_ack c peer n = ap (λ (k : ℕ). record c { links = ack peer n c.links; posts = k }) (add-zero c.posts)
+next_ack c s peer n ls is made = (λ i. record c { links = made i; posts = sym (add-zero c.posts) i }) ∙ ap (λ (d : Core). next d (event.Acked peer n)) is
 
 len_is : {X : Type 0} (o : Option X) → option_len o ≡ cond (is_some o) 1 0
 len_is None = refl
 len_is (Some x) = refl
 
--- with the number of posts that a message makes
-abbrev pub delivered : Core → ℕ → ℕ → Message → ℕ → Core
-delivered c from n m made = record c {
+pub next_delivery : (c : Core) (from n : ℕ) (m : Message) → next c (event.Deliver from n m) ≡ record c {
   churn = churn.after_message c.me c.gamma m c.churn;
   ops = ops.after_message c.me (quorum c) m c.ops;
-  posts = c.posts + made;
+  posts = c.posts + cond (is_some (post c (event.Deliver from n m))) 1 0;
   links = hear from n (add_all c.posts (from ∷ ids_of m) c.links);
 }
-
-pub next_delivery : (c : Core) (from n : ℕ) (m : Message) → next c (event.Deliver from n m) ≡ delivered c from n m (cond (is_some (post c (event.Deliver from n m))) 1 0)
 unfolding next
-next_delivery c from n m = ap (delivered c from n m) (len_is (post c (event.Deliver from n m)))
+next_delivery c from n m = ap (λ (k : ℕ). record (handled c (event.Deliver from n m)) { posts = c.posts + k }) (len_is (post c (event.Deliver from n m)))
 
 abbrev pub asked_of : ℕ → ℕ → Command → Asked
 asked_of s r k = record { session = s; request = r; command = k }
@@ -81,68 +78,68 @@ next_ask c s r k = refl
 
 -- ---- what the parts ask for
 
-pub enter_room : (c : Core) → decides c event.Enter ≡ None → IsLawfulCore c → FitsRoom (churn.with_entered c.me c.churn).changes
-unfolding next
-enter_room c d h = changes_fit (next c event.Enter) (next_core c event.Enter d h)
+-- what is the next core is lawful
+pub next_keeps : {c s d : Core} (e : Event) → c ≡ s → d ≡ next s e → decides s e ≡ None → IsLawfulCore c → IsLawfulCore d
+next_keeps e is same none h = subst IsLawfulCore (sym same) (next_core _ e none (subst IsLawfulCore is h))
 
-pub leave_room : (c : Core) → decides c event.Leave ≡ None → IsLawfulCore c → FitsRoom (churn.with_left c.me c.churn).changes
-unfolding next
-leave_room c d h = changes_fit (next c event.Leave) (next_core c event.Leave d h)
+pub enter_room : {c s : Core} → c ≡ s → decides s event.Enter ≡ None → IsLawfulCore c → FitsRoom (churn.with_entered c.me c.churn).changes
+enter_room is none h = changes_fit _ (next_keeps event.Enter is (next_enter is refl) none h)
 
-pub record DeliveryRoom (c : Core) (from : ℕ) (m : Message) : Type 0 where
+pub leave_room : {c s : Core} → c ≡ s → decides s event.Leave ≡ None → IsLawfulCore c → FitsRoom (churn.with_left c.me c.churn).changes
+leave_room is none h = changes_fit _ (next_keeps event.Leave is (next_leave is refl) none h)
+
+pub record DeliveryRoom (c s : Core) (from : ℕ) (m : Message) : Type 0 where
+  pub named : table.len (add_all c.posts (ids_of m) c.links) ≤ 256
   pub links : table.len (add_all c.posts (from ∷ ids_of m) c.links) ≤ 256
   pub changes : FitsRoom (churn.after_message c.me c.gamma m c.churn).changes
   pub echoes : (churn.after_message c.me c.gamma m c.churn).echoes ≤ counter_limit
-  pub view : table.len (ops.after_message c.me (quorum c) m c.ops).view ≤ 256
-  pub tag : (ops.after_message c.me (quorum c) m c.ops).tag ≤ counter_limit
-  pub quorum : quorum c ≤ 256
+  pub few : {q : ℕ} → q ≡ quorum s → q ≤ 256
+  pub view : {q : ℕ} → q ≡ quorum s → table.len (ops.after_message c.me q m c.ops).view ≤ 256
+  pub tag : {q : ℕ} → q ≡ quorum s → (ops.after_message c.me q m c.ops).tag ≤ counter_limit
 
-pub delivery_room : (c : Core) (from n : ℕ) (m : Message) → decides c (event.Deliver from n m) ≡ None → IsLawfulCore c → DeliveryRoom c from m
+pub delivery_room : {c s : Core} {from : ℕ} {m : Message} (n : ℕ) → c ≡ s → decides s (event.Deliver from n m) ≡ None → IsLawfulCore c → DeliveryRoom c s from m
 unfolding next
-delivery_room c from n m d h =
-    let e = event.Deliver from n m in
-    let after = next_core c e d h in
+delivery_room {c} {s} {from} {m} n is d h =
+    let none = rw (← is) at d in
+    let after = next_core c (event.Deliver from n m) none h in
+    let all = ltb-false known_limit (table.len (add_all c.posts (from ∷ ids_of m) c.links)) (takes_delivery c from n m none).nodes in
     record {
-      links = ltb-false known_limit (table.len (add_all c.posts (from ∷ ids_of m) c.links)) (takes_delivery c from n m d).nodes;
-      changes = changes_fit (next c e) after;
+      named = omega (arith, len_add_all c.posts (from ∷ []) (add_all c.posts (ids_of m) c.links), all);
+      links = all;
+      changes = changes_fit _ after;
       echoes = after.counts.echoes;
-      view = view_fits (next c e) after;
-      tag = after.counts.tag;
-      quorum = quorum_fits c h;
+      few = λ e. rw (e, ← is) (quorum_fits c h);
+      view = λ e. rw (e, ← is) (view_fits _ after);
+      tag = λ e. rw (e, ← is) after.counts.tag;
     }
 
-pub record AskRoom (c : Core) (s r : ℕ) (k : Command) : Type 0 where
+pub record AskRoom (c d : Core) (s r : ℕ) (k : Command) : Type 0 where
   pub set : IsFalse (finds_no_room c.ops.mine k)
-  pub view : table.len (ops.after_ask c.me (quorum c) (asked_of s r k) c.ops).view ≤ 256
-  pub number : (ops.after_ask c.me (quorum c) (asked_of s r k) c.ops).number ≤ counter_limit
-  pub tag : (ops.after_ask c.me (quorum c) (asked_of s r k) c.ops).tag ≤ counter_limit
-  pub quorum : quorum c ≤ 256
   pub session : IsFalse (finds_no_session c.sessions s)
+  pub few : {q : ℕ} → q ≡ quorum d → q ≤ 256
+  pub view : {q : ℕ} → q ≡ quorum d → table.len (ops.after_ask c.me q (asked_of s r k) c.ops).view ≤ 256
+  pub number : {q : ℕ} → q ≡ quorum d → (ops.after_ask c.me q (asked_of s r k) c.ops).number ≤ counter_limit
+  pub tag : {q : ℕ} → q ≡ quorum d → (ops.after_ask c.me q (asked_of s r k) c.ops).tag ≤ counter_limit
 
-pub ask_room : (c : Core) (s r : ℕ) (k : Command) → decides c (event.Ask s r k) ≡ None → IsLawfulCore c → AskRoom c s r k
+pub ask_room : {c d : Core} {s r : ℕ} {k : Command} → c ≡ d → decides d (event.Ask s r k) ≡ None → IsLawfulCore c → AskRoom c d s r k
 unfolding next
-ask_room c s r k d h =
-    let e = event.Ask s r k in
-    let after = next_core c e d h in
-    let takes = takes_ask c s r k d in
+ask_room {c} {d} {s} {r} {k} is accepted h =
+    let none = rw (← is) at accepted in
+    let after = next_core c (event.Ask s r k) none h in
+    let takes = takes_ask c s r k none in
     record {
       set = takes.room;
-      view = view_fits (next c e) after;
-      number = after.counts.number;
-      tag = after.counts.tag;
-      quorum = quorum_fits c h;
       session = takes.sessions;
+      few = λ e. rw (e, ← is) (quorum_fits c h);
+      view = λ e. rw (e, ← is) (view_fits _ after);
+      number = λ e. rw (e, ← is) after.counts.number;
+      tag = λ e. rw (e, ← is) after.counts.tag;
     }
 
 -- ---- lists of a set
 
 pub from_items : (s : NatSet) → set.from_list (set.items s) ≡ s
 from_items s = same_ids _ _ (λ q. contains-from_list (set.items s) q ∙ sym (contains-keys s q))
-
--- ---- what is the next core is lawful
-
-pub next_keeps : (c d : Core) (e : Event) → d ≡ next c e → decides c e ≡ None → IsLawfulCore c → IsLawfulCore d
-next_keeps c d e same none h = subst IsLawfulCore (sym same) (next_core c e none h)
 
 -- a test as a number
 pub byte_is : (b : Bool) (n : ℕ) (d : Bool) → n ≡ bool_byte b → b ≡ d → n ≡ cond d 1 0
@@ -158,8 +155,10 @@ both_false true b h k = h
 both_false false b h k = cc
 
 -- there is room for the post of an event that isn't refused
-pub post_room : (n : Node) (e : Event) → decides n.core e ≡ None → IsLawfulNode n → IsTrue (is_some (post n.core e)) → table.len (forget_asked e n.outbox).posts < 512
-post_room n e none h makes =
+pub post_room : {n s : Node} (e : Event) → n ≡ s → decides s.core e ≡ None → IsLawfulNode n → IsTrue (is_some (post s.core e)) → table.len (forget_asked e n.outbox).posts < 512
+post_room {n} e is d h made =
+    let none : decides n.core e ≡ None = rw is d in
+    let makes : IsTrue (is_some (post n.core e)) = rw is made in
     let c = n.core in
     let free = both_false (is_some (post c e)) ((c.posts - lowest c) == post_limit) (takes_any c e none).posts makes in
     let room : table.len n.outbox.posts < post_limit = room_for_post (lowest c) c.posts n.outbox.posts h.posts free in
@@ -169,6 +168,6 @@ answers_fit : (n : Node) → IsLawfulNode n → table.len n.outbox.answers ≤ 2
 answers_fit n h = omega (arith, len_within n.outbox.answers n.core.sessions (λ s there. (h.answers s there).0), h.core.session_count)
 
 -- there is room for its answer
-pub answer_room : (n : Node) (e : Event) → decides n.core e ≡ None → IsLawfulNode n → table.len (keep (reply n.core e) (add (post n.core e) (forget_asked e n.outbox))).answers ≤ 256
+pub answer_room : {n s : Node} (e : Event) → n ≡ s → decides s.core e ≡ None → IsLawfulNode n → table.len (keep (reply s.core e) (add (post s.core e) (forget_asked e n.outbox))).answers ≤ 256
 unfolding step
-answer_room n e none h = answers_fit (step n e) (step_lawful n e none h)
+answer_room {n} e is d h = rw (← is) (answers_fit (step n e) (step_lawful n e (rw is d) h))

@@ -11,13 +11,12 @@ use Rattle.cc_views.specs.NatSets as set
 use Rattle.cc_views.specs.NatSets.{IsWithin, contains-from_list, len_within}
 use Rattle.cc_views.specs.MapLaws.{get-empty, empty_within}
 use Rattle.cc_views.specs.Rows.{Pair}
-use Rattle.cc_views.specs.Limits.{counter_limit}
+use Rattle.cc_views.specs.Limits.{counter_limit, known_limit}
 use Rattle.cc_wire.specs.declared.answer.Answer.{Answer}
 use Rattle.cc_wire.specs.declared.event.Event.{Event}
 use Rattle.cc_links.specs.Links.{Link, Links, add_all, IsLinkWithin}
 use Rattle.cc_links.specs.LinkLaws.{add_all_links, contains-add_all, lowest_within}
 use Rattle.cc_outbox.specs.OutboxLaws.{KeepsPosts, keeps_none}
-use Rattle.cc_node.specs.Refusals.{known_limit}
 use Rattle.cc_node.specs.Node.{Node, step, after, IsLawful}
 use Rattle.cc_node.specs.Lawful.{IsLawfulNode}
 use Rattle.cc_node.specs.Opening.{Opening, IsOpening, ids_of, fresh}

@@ -11,6 +11,7 @@ use Rattle.std.specs.FinMap as table
 use Rattle.std.specs.FinMap.{FinMap}
 use Rattle.std.proofs.lemmas.Bool.{cond_both, eq-eqb, eqb-false, or_cases, or_left, or_right}
 use Rattle.std.proofs.lemmas.List.Folds.{list_any-append}
+use Rattle.cc_views.specs.Limits.{known_limit}
 use Rattle.cc_views.specs.NatSets as set
 use Rattle.cc_views.specs.NatSets.{NatSet, IsWithin, contains-keys, contains-union, contains-insert, len_within, get-insert_key}
 use Rattle.cc_views.specs.Rows.{Pair, ViewMap, single}
@@ -33,7 +34,6 @@ use Rattle.cc_ops.specs.declared.pending.Pending.{Pending}
 use Rattle.cc_links.specs.Links.{Links}
 use Rattle.cc_sessions.specs.Sessions.{Requests}
 use Rattle.cc_node.specs.Core.{ids_of}
-use Rattle.cc_node.specs.Refusals.{known_limit}
 use Rattle.cc_node.specs.Lawful.{IsKnown, IsPendingIn, IsPhaseOf}
 
 pub same_number : (n : ℕ) → nat_eq n n ≡ true

@@ -14,7 +14,7 @@ use Rattle.cc_views.specs.NatSets.{IsWithin, get-insert_key}
 use Rattle.cc_views.specs.MapLaws.{all_insert, within_insert}
 use Rattle.cc_views.specs.Rows.{ViewMap}
 use Rattle.cc_views.specs.Merge.{merge}
-use Rattle.cc_views.specs.Limits.{counter_limit}
+use Rattle.cc_views.specs.Limits.{counter_limit, known_limit, set_limit}
 use Rattle.cc_views.specs.declared.value.Value.{Value}
 use Rattle.cc_changes.specs.declared.fraction.Fraction.{Fraction}
 use Rattle.cc_changes.specs.ChangeSets.{ChangeSets, add_enter, add_join, add_leave, present}
@@ -28,7 +28,7 @@ use Rattle.cc_wire.specs.declared.message.Message.{Message}
 use Rattle.cc_wire.specs.declared.message.Message.TheVariants as message
 use Rattle.cc_churn.specs.Churn as churn
 use Rattle.cc_churn.specs.Churn.{Churn}
-use Rattle.cc_ops.specs.Commands.{is_writing, written, finds_no_room, set_limit}
+use Rattle.cc_ops.specs.Commands.{is_writing, written, finds_no_room}
 use Rattle.cc_ops.specs.Ops as ops
 use Rattle.cc_ops.specs.Ops.{Ops, Phase, Idle, Storing, Querying, StoringBack}
 use Rattle.cc_ops.specs.declared.pending.Asked.{Asked}
@@ -37,7 +37,7 @@ use Rattle.cc_links.specs.LinkLaws.{LinksGoOn, go_same, go_then, add_all_goes, h
 use Rattle.cc_sessions.specs.Sessions.{Requests, last_request, begin_fits}
 use Rattle.cc_node.specs.Core.{Core, quorum, ids_of, next, post, reply, lowest}
 use Rattle.cc_node.specs.Writes.{writes}
-use Rattle.cc_node.specs.Refusals.{known_limit, decides}
+use Rattle.cc_node.specs.Refusals.{decides}
 use Rattle.cc_node.specs.Node.{Node, step}
 use Rattle.cc_node.specs.Lawful.{CountsWithin, KeepsAnswers, IsLawfulCore, IsLawfulNode}
 use Rattle.cc_node.proofs.CoreLaws.{own_number, own_value}

@@ -39,7 +39,7 @@ use Rattle.cc_node.specs.declared.made.LinkAck.{LinkAck}
 use Rattle.cc_node.specs.Core as core
 use Rattle.cc_node.specs.Core.{Core, quorum, next, post, reply, outputs, sends, send_post, send_ack, send_reply, live_links}
 use Rattle.cc_node.specs.Refusals.{decides}
-use Rattle.cc_node.specs.Node.{Node, step, line, Stands, IsLawful}
+use Rattle.cc_node.specs.Node.{Node, step, line, HasOutput, IsLawful}
 use Rattle.cc_node.specs.Lines.{Follows}
 use Rattle.cc_node.specs.Lawful.{IsPhaseOf, pending_session, IsLawfulCore, IsLawfulNode}
 use Rattle.cc_node.proofs.KeptLaws.{same_some, reply_pending, ask_pending}
@@ -443,7 +443,7 @@ line_rises n (e ∷ es) h d =
     (outputs n.core e) (outputs_past n.core e h.core))
 
 -- what stands was put out before
-standing_past : (n : Node) (o : Output) → IsLawfulNode n → Stands n o → IsPast n.core o
+standing_past : (n : Node) (o : Output) → IsLawfulNode n → HasOutput n o → IsPast n.core o
 standing_past n (output.Send to wire m) h s =
     let c = n.core in
     let old : s.0 ≤ c.posts = (h.posts.within s.0 (ap is_some s.2)).1 in
@@ -465,5 +465,5 @@ outputs_follow_each_other n es h d = pairs_rise (line n es) (line_rises n es h d
 pub no_output_twice : (n : Node) (es : List Event) → IsLawfulNode n → IsLawful n es → AllPairs (λ x y. x ≢ y) (line n es)
 no_output_twice n es h d i j o before inside = follows_apart _ _ (outputs_follow_each_other n es h d i j o before inside)
 
-pub standing_followed : (n : Node) (es : List Event) (o : Output) → IsLawfulNode n → IsLawful n es → Stands n o → All (Follows o) (line n es)
+pub standing_followed : (n : Node) (es : List Event) (o : Output) → IsLawfulNode n → IsLawful n es → HasOutput n o → All (Follows o) (line n es)
 standing_followed n es o h d s = All-from_recursion (Follows o) (line n es) (line_follows n es o h d (standing_past n o h s))

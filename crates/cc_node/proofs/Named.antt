@@ -1,8 +1,8 @@
 -- The nodes that a message names, one field after the other, from the last to the first.
---     nodes_of-rows_of                 the nodes of a view's rows
---     echo_links, EchoRoom, echo_room  links for all that an EnterEcho names, and that there is room on the way
---     view_links, view_room            the same of a message with a view
---     echo_known, view_known           the known ids with those that a message names
+--     nodes_of-rows_of             the nodes of a view's rows
+--     named_links, named_room      links for all of them, and that there is room on the way
+--     marks_too_many, marks_then   known ids with these and with more of them
+--     echo_ids, too_many           all that an EnterEcho names; whether the known ids and these are too many
 use Rattle.std.proofs.Common.{◌≡◌, ℕ, ◌≤◌, Bool, true, false, not, nat_lt, List, [], ◌∷◌, ◌++◌, map, refl, sym, ap, ◌∙◌, arith}
 use Rattle.std.specs.Prelude.{◌↔◌, IsTrue}
 use Rattle.std.specs.FinMap as table
@@ -19,6 +19,7 @@ use Rattle.cc_links.specs.Rows.{nodes_of}
 use Rattle.cc_links.proofs.KnownSets.{len_insert_all}
 use Rattle.cc_wire.specs.declared.message.Message.{Message}
 use Rattle.cc_wire.specs.declared.message.Message.TheVariants as message
+use Rattle.cc_node.specs.declared.named_nodes.Named.{Named}
 use Rattle.cc_node.specs.Core.{ids_of}
 use Rattle.cc_node.specs.Known.{Marks}
 
@@ -31,50 +32,47 @@ nodes_of-rows_of v = nodes_of_entries (table.entries v)
 
 -- ---- links
 
-module _ (posts : ℕ) (ls : Links) (c : ChangeSets) (v : ViewMap) where
-  abbrev pub after_view : Links
-  after_view = add_all posts (table.keys v) ls
+module _ (posts : ℕ) (ls : Links) (n : Named) where
+  abbrev after_rows : Links
+  after_rows = add_all posts (nodes_of n.rows.now) ls
 
-  abbrev pub after_left : Links
-  after_left = add_all posts (set.items c.left) after_view
+  abbrev after_left : Links
+  after_left = add_all posts n.left.now after_rows
 
-  abbrev pub after_joined : Links
-  after_joined = add_all posts (set.items c.joined) after_left
+  abbrev after_joined : Links
+  after_joined = add_all posts n.joined.now after_left
 
-  abbrev pub after_entered : Links
-  after_entered = add_all posts (set.items c.entered) after_joined
+  abbrev after_entered : Links
+  after_entered = add_all posts n.entered.now after_joined
 
-  pub echo_links : (j : Bool) (q : ℕ) → add posts q after_entered ≡ add_all posts (ids_of (message.EnterEcho c v j q)) ls
-  echo_links j q =
-      let e = set.items c.entered in
-      let k = set.items c.joined in
-      let l = set.items c.left in
-      sym (add_all-append posts (q ∷ e ++ k ++ l) (table.keys v) ls ∙ add_all-append posts (q ∷ e ++ k) l after_view ∙ add_all-append posts (q ∷ e) k after_left)
+  pub named_links : (ids : List ℕ) → ids ≡ n.node ∷ (n.entered.now ++ (n.joined.now ++ (n.left.now ++ nodes_of n.rows.now))) → add posts n.node after_entered ≡ add_all posts ids ls
+  named_links ids is =
+      let left = add_all-append posts n.left.now (nodes_of n.rows.now) ls in
+      let joined = add_all-append posts n.joined.now (n.left.now ++ nodes_of n.rows.now) ls ∙ ap (add_all posts n.joined.now) left in
+      let entered = add_all-append posts n.entered.now (n.joined.now ++ (n.left.now ++ nodes_of n.rows.now)) ls ∙ ap (add_all posts n.entered.now) joined in
+      sym (ap (λ qs. add_all posts qs ls) is ∙ ap (add posts n.node) entered)
 
-  pub record EchoRoom (q : ℕ) : Type 0 where
-    pub view : table.len after_view ≤ 256
+  pub record NamedRoom : Type 0 where
+    pub rows : table.len after_rows ≤ 256
     pub left : table.len after_left ≤ 256
     pub joined : table.len after_joined ≤ 256
     pub entered : table.len after_entered ≤ 256
-    pub node : table.len (add posts q after_entered) ≤ 256
+    pub node : table.len (add posts n.node after_entered) ≤ 256
 
-  pub echo_room : (j : Bool) (q : ℕ) → table.len (add_all posts (ids_of (message.EnterEcho c v j q)) ls) ≤ 256 → EchoRoom q
-  echo_room j q h =
-      let same = ap table.len (echo_links j q) in
-      let a = len_add_all posts (set.items c.left) after_view in
-      let b = len_add_all posts (set.items c.joined) after_left in
-      let d = len_add_all posts (set.items c.entered) after_joined in
-      let e = len_add_all posts (q ∷ []) after_entered in
+  pub named_room : (ids : List ℕ) → ids ≡ n.node ∷ (n.entered.now ++ (n.joined.now ++ (n.left.now ++ nodes_of n.rows.now))) → table.len (add_all posts ids ls) ≤ 256 → NamedRoom
+  named_room ids is h =
+      let same = ap table.len (named_links ids is) in
+      let a = len_add_all posts n.left.now after_rows in
+      let b = len_add_all posts n.joined.now after_left in
+      let d = len_add_all posts n.entered.now after_joined in
+      let e = len_add_all posts (n.node ∷ []) after_entered in
       record {
-        view = omega (arith, same, a, b, d, e, h);
+        rows = omega (arith, same, a, b, d, e, h);
         left = omega (arith, same, b, d, e, h);
         joined = omega (arith, same, d, e, h);
         entered = omega (arith, same, e, h);
         node = omega (arith, same, h);
       }
-
-pub view_room : (posts : ℕ) (ls : Links) (v : ViewMap) (q : ℕ) → table.len (add posts q (add_all posts (table.keys v) ls)) ≤ 256 → table.len (add_all posts (table.keys v) ls) ≤ 256
-view_room posts ls v q h = omega (arith, len_add_all posts (q ∷ []) (add_all posts (table.keys v) ls), h)
 
 -- ---- known ids
 

@@ -11,10 +11,13 @@ use Rattle.cc_links.specs.LinkLaws.{add_all-append, len_add_all}
 use Rattle.cc_node.specs.Opening.{Opening, ids_of}
 use Rattle.cc_node.proofs.FreshLaws.{known_listed}
 use Rattle.std.specs.Prelude.{IsTrue, slice_index_or}
-use Rattle.std.proofs.lemmas.List.Elements.{Contains-append_right, Contains-append_cases}
+use Rattle.std.proofs.lemmas.List.Elements.{Contains-append_left, Contains-append_right, Contains-append_cases}
 
 pub zero_listed : (me : ℕ) (ns : List ℕ) → Contains ns 0 → Contains (me ∷ ns) 0
 zero_listed me ns h = Contains-append_right (me ∷ []) ns 0 h
+
+pub initial_listed : (o : Opening) → Contains o.initial 0 → Contains (ids_of o) 0
+initial_listed o h = Contains-append_left (o.me ∷ o.initial) o.contacts 0 (zero_listed o.me o.initial h)
 
 at_first : (me k : ℕ) → k < 1 → slice_index_or (me ∷ []) k 0 ≡ 0 → me ≡ 0
 at_first me zero h e = e

@@ -9,7 +9,7 @@ use Rattle.std.specs.Bool.{then_some}
 use Rattle.std.specs.List.{AllByRecursion}
 use Rattle.std.specs.FinMap as table
 use Rattle.std.proofs.lemmas.Bool.{or_parts, and_cases, eqb-false, ltb-false}
-use Rattle.cc_views.specs.Limits.{overruns}
+use Rattle.cc_views.specs.Limits.{known_limit, overruns}
 use Rattle.cc_wire.specs.declared.command.Command.{Command}
 use Rattle.cc_wire.specs.declared.event.Event.{Event}
 use Rattle.cc_wire.specs.declared.event.Event.TheVariants as event
@@ -24,7 +24,7 @@ use Rattle.cc_sessions.specs.Sessions as requests
 use Rattle.cc_sessions.specs.Sessions.{last_request, is_stale, is_skip}
 use Rattle.cc_node.specs.Core.{Core, next, post, lowest, with_links}
 use Rattle.cc_outbox.specs.Outbox.{post_limit}
-use Rattle.cc_node.specs.Refusals.{known_limit, left, already_entered, not_entered, outbox_full, spent, any_overruns, row_overruns, reasons, decides}
+use Rattle.cc_node.specs.Refusals.{left, already_entered, not_entered, outbox_full, spent, any_overruns, row_overruns, reasons, decides}
 
 all_none : (rs : List (Option Refusal)) → first_of rs ≡ None → AllByRecursion (λ r. r ≡ None) rs
 all_none [] h = tt

@@ -34,7 +34,7 @@ use Rattle.cc_outbox.specs.Outbox.{Outbox}
 use Rattle.cc_node.specs.Core as core
 use Rattle.cc_node.specs.Core.{ids_of, next, post, reply, outputs, sends, send_post, send_ack, send_reply, lowest, live_links}
 use Rattle.cc_node.specs.Refusals.{decides}
-use Rattle.cc_node.specs.Node.{Node, step, after, line, keep, add, forget_asked, Stands, MayBeOut, IsLawful}
+use Rattle.cc_node.specs.Node.{Node, step, after, line, keep, add, forget_asked, HasOutput, MayBeOut, IsLawful}
 use Rattle.cc_node.specs.Lawful.{IsPhaseOf, IsLawfulNode}
 use Rattle.cc_node.proofs.KeptLaws.{same_some, posts_forget}
 use Rattle.cc_node.proofs.LawfulLaws.{links_go_on, left_grows, add_all_heard, hears_now, step_lawful}
@@ -112,8 +112,8 @@ was_live posts number b true o o' m grows goes old e above = cc
 was_live posts number true false o o' m grows goes old e above = let no : false ≡ true = grows refl in cc
 was_live posts number false false o o' m grows goes old e above = went_on posts number o o' m goes old e above
 
-step_send : (n : Node) (e : Event) (to wire : ℕ) (m : Message) → decides n.core e ≡ None → IsLawfulNode n → Stands (step n e) (output.Send to wire m)
-    → Stands n (output.Send to wire m) ⊎ Contains (outputs n.core e) (output.Send to wire m)
+step_send : (n : Node) (e : Event) (to wire : ℕ) (m : Message) → decides n.core e ≡ None → IsLawfulNode n → HasOutput (step n e) (output.Send to wire m)
+    → HasOutput n (output.Send to wire m) ⊎ Contains (outputs n.core e) (output.Send to wire m)
 unfolding step next
 step_send n e to wire m d h s =
     let c = n.core in
@@ -126,7 +126,7 @@ step_send n e to wire m d h s =
     ap (λ p. table.get p number) (sym (posts_keep (reply c e) added))
     ∙ only_some (nat_lt (lowest (next c e)) number) (table.get (keep (reply c e) added).posts number) m (sym (get-above (lowest (next c e)) (keep (reply c e) added).posts number) ∙ s.2) in
     elim (kept_or_new (post c e) (forget_asked e n.outbox) number m kept)
-    as (λ _. Stands n (output.Send to wire m) ⊎ Contains (outputs n.core e) (output.Send to wire m)) [
+    as (λ _. HasOutput n (output.Send to wire m) ⊎ Contains (outputs n.core e) (output.Send to wire m)) [
       | inl old ↦
           let was : table.get n.outbox.posts number ≡ Some m = ap (λ p. table.get p number) (sym (posts_forget e n.outbox)) ∙ old in
           let early : number ≤ c.posts = (h.posts.within number (ap is_some was)).1 in
@@ -177,7 +177,7 @@ ack_heard_of q peer n (Some l) ls e =
       | inr t ↦ ap (λ o. option_map_or (λ (k : Link). k.heard) o 0) (get-insert_key ls peer (record l { acked = n }) q ∙ ap (λ b. cond b (Some (record l { acked = n })) (table.get ls q)) t.0)
     ]
 
-step_ack : (n : Node) (e : Event) (to heard : ℕ) → Stands (step n e) (output.Ack to heard) → Stands n (output.Ack to heard) ⊎ Contains (outputs n.core e) (output.Ack to heard)
+step_ack : (n : Node) (e : Event) (to heard : ℕ) → HasOutput (step n e) (output.Ack to heard) → HasOutput n (output.Ack to heard) ⊎ Contains (outputs n.core e) (output.Ack to heard)
 unfolding step next
 step_ack n event.Enter to heard s = inl s
 step_ack n event.Leave to heard s = inl s
@@ -186,7 +186,7 @@ step_ack n (event.Deliver from k m) to heard s =
     let e = event.Deliver from k m in
     let ls = add_all c.posts (from ∷ ids_of m) c.links in
     let now : heard_from to (hear from k ls) ≡ heard = ap (λ o. option_map_or (λ (l : Link). l.heard) o 0) s.1 ∙ s.2 in
-    elim (eqb_tells to from) as (λ _. Stands n (output.Ack to heard) ⊎ Contains (outputs n.core e) (output.Ack to heard)) [
+    elim (eqb_tells to from) as (λ _. HasOutput n (output.Ack to heard) ⊎ Contains (outputs n.core e) (output.Ack to heard)) [
       | inl t ↦
           let number : k ≡ heard = sym (hears_now c from k m) ∙ ap (λ q. heard_from q (hear from k ls)) (sym t.1) ∙ now in
           let is : output.Ack from k ≡ output.Ack to heard = ap (λ q. output.Ack q k) (sym t.1) ∙ ap (λ q. output.Ack to q) number in
@@ -255,8 +255,8 @@ kept_or_told ss (Some r) o x q a h e f =
 get-remove_key : {X : Type 0} (m : FinMap nat_cmp X) (k q : ℕ) → table.get (table.remove m k) q ≡ cond (nat_eq q k) None (table.get m q)
 get-remove_key m k q = table.get-remove nat_cmp_total m k q ∙ ap (λ b. cond b None (table.get m q)) (unsigned_tied q k)
 
-step_reply : (n : Node) (e : Event) (x q : ℕ) (a : Answer) → IsLawfulNode n → Stands (step n e) (output.Reply x q a)
-    → Stands n (output.Reply x q a) ⊎ Contains (outputs n.core e) (output.Reply x q a)
+step_reply : (n : Node) (e : Event) (x q : ℕ) (a : Answer) → IsLawfulNode n → HasOutput (step n e) (output.Reply x q a)
+    → HasOutput n (output.Reply x q a) ⊎ Contains (outputs n.core e) (output.Reply x q a)
 unfolding step next
 step_reply n event.Enter x q a h s = inl s
 step_reply n event.Leave x q a h s = inl s
@@ -265,14 +265,14 @@ step_reply n (event.Deliver from k m) x q a h s =
     let e = event.Deliver from k m in
     elim (kept_or_told c.sessions (reply c e) n.outbox x q a (reply_last c.links c.sessions c.me m c.ops h.core.phase)
     (ap (λ o. table.get o x) (sym (answers_add (post c e) (reply c e) n.outbox)) ∙ s.0) s.1)
-    as (λ _. Stands n (output.Reply x q a) ⊎ Contains (outputs n.core e) (output.Reply x q a)) [
+    as (λ _. HasOutput n (output.Reply x q a) ⊎ Contains (outputs n.core e) (output.Reply x q a)) [
       | inl old ↦ inl (old, s.1)
       | inr new ↦ inr (Contains-append_right (send_ack (core.ack e) ++ send_post (next c e) (post c e)) (send_reply (reply c e)) _ new)
     ]
 step_reply n (event.Acked peer k) x q a h s = inl s
 step_reply n (event.Ask y r k) x q a h s =
     let c = n.core in
-    elim (nat_eq x y) as (λ b. nat_eq x y ≡ b → Stands n (output.Reply x q a) ⊎ Contains (outputs n.core (event.Ask y r k)) (output.Reply x q a)) [
+    elim (nat_eq x y) as (λ b. nat_eq x y ≡ b → HasOutput n (output.Reply x q a) ⊎ Contains (outputs n.core (event.Ask y r k)) (output.Reply x q a)) [
       | true ↦ λ t.
           let gone : None ≡ Some a = ap (λ b. cond b None (table.get n.outbox.answers x)) (sym t) ∙ sym (get-remove_key n.outbox.answers y x) ∙ s.0 in cc
       | false ↦ λ t. inl (
@@ -283,12 +283,12 @@ step_reply n (event.Ask y r k) x q a h s =
 
 -- ---- along a list
 
-step_stands : (n : Node) (e : Event) (o : Output) → decides n.core e ≡ None → IsLawfulNode n → Stands (step n e) o → Stands n o ⊎ Contains (outputs n.core e) o
+step_stands : (n : Node) (e : Event) (o : Output) → decides n.core e ≡ None → IsLawfulNode n → HasOutput (step n e) o → HasOutput n o ⊎ Contains (outputs n.core e) o
 step_stands n e (output.Send to wire m) d h s = step_send n e to wire m d h s
 step_stands n e (output.Ack to heard) d h s = step_ack n e to heard s
 step_stands n e (output.Reply x q a) d h s = step_reply n e x q a h s
 
-pub standing_made : (n : Node) (es : List Event) (o : Output) → IsLawfulNode n → IsLawful n es → Stands (after n es) o → MayBeOut n es o
+pub standing_made : (n : Node) (es : List Event) (o : Output) → IsLawfulNode n → IsLawful n es → HasOutput (after n es) o → MayBeOut n es o
 standing_made n [] o h d s = inl s
 standing_made n (e ∷ es) o h d s =
     elim (standing_made (step n e) es o (step_lawful n e d.0 h) d.1 s) as (λ _. MayBeOut n (e ∷ es) o) [

@@ -12,15 +12,14 @@ use Rattle.cc_views.specs.NatSets as set
 use Rattle.cc_views.specs.NatSets.{IsWithin}
 use Rattle.cc_changes.specs.Need.{IsShare}
 use Rattle.cc_wire.specs.declared.answer.Answer.{Answer}
-use Rattle.cc_ops.specs.Commands.{is_writing, set_limit}
+use Rattle.cc_ops.specs.Commands.{is_writing}
 use Rattle.cc_ops.specs.declared.pending.Pending.{Pending}
 use Rattle.cc_ops.specs.Ops.{Phase, Idle, Storing, Querying, StoringBack}
 use Rattle.cc_links.specs.Links.{Links, LinksWithin}
-use Rattle.cc_sessions.specs.Sessions.{Requests, session_limit}
-use Rattle.cc_views.specs.Limits.{counter_limit}
+use Rattle.cc_sessions.specs.Sessions.{Requests}
+use Rattle.cc_views.specs.Limits.{counter_limit, known_limit, session_limit, set_limit}
 use Rattle.cc_node.specs.Core.{Core, lowest}
 use Rattle.cc_outbox.specs.OutboxLaws.{KeepsPosts}
-use Rattle.cc_node.specs.Refusals.{known_limit}
 use Rattle.cc_node.specs.Node.{Node}
 
 abbrev pub IsKnown : Links → ℕ → Type 0

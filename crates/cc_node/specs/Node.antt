@@ -2,7 +2,7 @@
 --     step N e         the node after an event
 --     after N es       after a list of events
 --     line N es        all that is put out along the list
---     Stands N o       what a node may put out again
+--     HasOutput N o       what a node may put out again
 --     IsLawful N es    no event of the list is refused
 use Rattle.std.specs.Prelude.{◌≡◌, ℕ, ◌-◌, ◌<◌, ◌⊎◌, List, [], ◌∷◌, ◌++◌, Option, Some, None}
 use Rattle.std.specs.List.{Contains}
@@ -62,15 +62,15 @@ pub record ResendsOn (l : Link) (number wire : ℕ) : Type 0 where
   pub unacked : l.acked < wire
   pub is_number : wire ≡ number - l.start
 
-abbrev pub Stands : Node → Output → Type 0
-Stands n (output.Send to wire m) =
+abbrev pub HasOutput : Node → Output → Type 0
+HasOutput n (output.Send to wire m) =
     (number : ℕ) × (l : Link) × (table.get n.outbox.posts number ≡ Some m) × (table.get (live_links n.core) to ≡ Some l) × ResendsOn l number wire
-Stands n (output.Ack to heard) = (l : Link) × (table.get n.core.links to ≡ Some l) × (l.heard ≡ heard) × (0 < heard)
-Stands n (output.Reply s r a) = (table.get n.outbox.answers s ≡ Some a) × (table.get n.core.sessions s ≡ Some r)
+HasOutput n (output.Ack to heard) = (l : Link) × (table.get n.core.links to ≡ Some l) × (l.heard ≡ heard) × (0 < heard)
+HasOutput n (output.Reply s r a) = (table.get n.outbox.answers s ≡ Some a) × (table.get n.core.sessions s ≡ Some r)
 
 -- all that may have been put out by the end of a list
 abbrev pub MayBeOut : Node → List Event → Output → Type 0
-MayBeOut n es o = Stands n o ⊎ Contains (line n es) o
+MayBeOut n es o = HasOutput n o ⊎ Contains (line n es) o
 
 abbrev pub IsLawful : Node → List Event → Type 0
 IsLawful n [] = Unit {0}

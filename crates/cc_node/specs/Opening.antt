@@ -6,12 +6,12 @@ use Rattle.std.specs.Prelude.{◌≡◌, ℕ, ◌≤◌, ◌⊎◌, List, [], �
 use Rattle.std.specs.List.{Contains}
 use Rattle.std.specs.List.Sorted.{IsStrictlyIncreasing}
 use Rattle.std.specs.FinMap as table
+use Rattle.cc_views.specs.Limits.{known_limit}
 use Rattle.cc_views.specs.NatSets as set
 use Rattle.cc_changes.specs.declared.fraction.Fraction.{Fraction}
 use Rattle.cc_ops.specs.Ops.{nothing_done}
 use Rattle.cc_outbox.specs.Outbox.{starting_after}
 use Rattle.cc_links.specs.Links.{add_all}
-use Rattle.cc_node.specs.Refusals.{known_limit}
 use Rattle.cc_node.specs.Node.{Node}
 use Rattle.cc_changes.specs.Need.{IsShare}
 use Rattle.cc_node.specs.declared.opening.Opening.{Opening as Told}

@@ -1,9 +1,9 @@
 -- When an event is refused, and why: of the reasons that hold, the first in the order given here.
-use Rattle.std.specs.Prelude.{◌==◌, ℕ, ◌+◌, ◌-◌, Bool, false, ◌&&◌, ◌||◌, not, nat_lt, nat_le, List, [], ◌∷◌, Option, Some, None, is_some, Result, Ok, Err}
+use Rattle.std.specs.Prelude.{◌==◌, ℕ, ◌+◌, ◌-◌, Bool, false, ◌&&◌, ◌||◌, not, nat_lt, nat_le, List, [], ◌∷◌, Option, is_some}
 use Rattle.std.specs.Option.{option_map_or}
 use Rattle.std.specs.Bool.{then_some}
 use Rattle.std.specs.FinMap as table
-use Rattle.cc_views.specs.Limits.{overruns}
+use Rattle.cc_views.specs.Limits.{known_limit, overruns}
 use Rattle.cc_wire.specs.declared.command.Command.{Command}
 use Rattle.cc_wire.specs.declared.event.Event.{Event}
 use Rattle.cc_wire.specs.declared.event.Event.TheVariants as event
@@ -11,6 +11,7 @@ use Rattle.cc_wire.specs.declared.message.Message.{Message}
 use Rattle.cc_wire.specs.declared.refusal.Refusal.{Refusal}
 use Rattle.cc_wire.specs.declared.refusal.Refusal.TheVariants as refusal
 use Rattle.cc_wire.specs.Refusals.{first_of}
+pub use Rattle.cc_wire.specs.Refusals.{decided}
 use Rattle.cc_churn.specs.Refusals as coming
 use Rattle.cc_ops.specs.Refusals as pending
 use Rattle.cc_links.specs.Links as links
@@ -18,10 +19,6 @@ use Rattle.cc_outbox.specs.Outbox.{post_limit}
 use Rattle.cc_sessions.specs.Sessions as sessions
 use Rattle.cc_sessions.specs.Sessions.{last_request}
 use Rattle.cc_node.specs.Core.{Core, next, post, lowest, with_links}
-
--- how many nodes are known at most
-abbrev pub known_limit : ℕ
-known_limit = 256
 
 abbrev pub left : Core → Option Refusal
 left c = coming.left c.me c.churn
@@ -101,8 +98,3 @@ reasons c (event.Ask s r command) =
 -- none, or the reason for which an event is refused
 unfoldable pub decides : Core → Event → Option Refusal
 decides c e = first_of (reasons c e)
-
--- the answer of a decision
-abbrev pub decided : Option Refusal → Result (Unit {0}) Refusal
-decided None = Ok tt
-decided (Some reason) = Err reason

@@ -35,10 +35,10 @@ IsArmed bytes = slice_index_or bytes 0 0 ≡ OPEN
 abbrev pub generation_of : List ℕ → ℕ
 generation_of bytes = from_be_bytes w64 (take 8 (drop 1 bytes))
 
--- an open gate, the generation, the version, and a state behind its length
-pub record SpellsHead (bytes : List ℕ) (generation : ℕ) (start : Node) : Type 0 where
+-- an open gate, the generation, the byte of the version, and a state behind its length
+pub record SpellsHead (version : ℕ) (bytes : List ℕ) (generation : ℕ) (start : Node) : Type 0 where
   pub state : List ℕ
-  pub parts : bytes ≡ OPEN ∷ (to_be_bytes w64 generation ++ VERSION ∷ (to_be_bytes w32 (length state) ++ state))
+  pub parts : bytes ≡ OPEN ∷ (to_be_bytes w64 generation ++ version ∷ (to_be_bytes w32 (length state) ++ state))
   pub from_one : 1 ≤ generation
   pub fits : generation < 2 ^ 64
   pub short : length state < 2 ^ 32
@@ -88,7 +88,7 @@ pub record IsFront (bytes : List ℕ) (generation : ℕ) (node : Node) : Type 0 
   pub head : List ℕ
   pub records : List ℕ
   pub parts : bytes ≡ head ++ records
-  pub head_spelled : SpellsHead head generation start
+  pub head_spelled : SpellsHead VERSION head generation start
   pub records_spelled : SpellsRecords records batches
   pub lawful : IsLawful start (events_of batches)
   pub leads_to : node ≡ after start (events_of batches)

@@ -11,6 +11,7 @@ use Rattle.std.specs.List.{flat_map, AllByRecursion}
 use Rattle.std.specs.Ordering.{nat_cmp}
 use Rattle.std.specs.FinMap as table
 use Rattle.std.specs.FinMap.{FinMap}
+use Rattle.cc_views.specs.Limits.{session_limit}
 use Rattle.cc_views.specs.Rows.{ViewMap}
 use Rattle.cc_views.specs.declared.value.Value.{Value}
 use Rattle.cc_changes.specs.ChangeSets.{ChangeSets}
@@ -28,7 +29,7 @@ use Rattle.cc_ops.specs.declared.pending.Pending.{Pending}
 use Rattle.cc_ops.specs.Ops.{Phase, Idle, Storing, Querying, StoringBack}
 use Rattle.cc_links.specs.Links.{Link, Links}
 use Rattle.cc_sessions.specs.Sessions.{Requests}
-use Rattle.cc_outbox.specs.Outbox.{Outbox}
+use Rattle.cc_outbox.specs.Outbox.{Outbox, post_limit}
 use Rattle.cc_outbox.specs.Rows.{numbered}
 use Rattle.cc_node.specs.Core.{Core}
 use Rattle.cc_node.specs.Node.{Node}
@@ -242,7 +243,7 @@ abbrev pub kept_spelling : List Message → List ℕ
 kept_spelling posts = to_be_bytes w16 (length posts) ++ flat_map message_spelling posts
 
 pub record IsKeptPosts (posts : List Message) : Type 0 where
-  pub fits : length posts ≤ 512
+  pub fits : length posts ≤ post_limit
   pub each : AllByRecursion IsMessage posts
 
 -- so many, in any order
@@ -250,7 +251,7 @@ abbrev pub posts_at : ℕ → Reading (List Message)
 posts_at count = items_at (λ _. message_at) (λ _. 0) count 0
 
 unfoldable pub kept_at : Reading (List Message)
-kept_at bytes = limited 512 (number_at w16) bytes >>= λ n. posts_at n.0 n.1
+kept_at bytes = limited post_limit (number_at w16) bytes >>= λ n. posts_at n.0 n.1
 
 -- ---- the third part
 
@@ -267,7 +268,7 @@ tables_spelling t =
 pub record IsTables (t : Tables) : Type 0 where
   pub posts : t.posts < 2 ^ 64
   pub links : IsTableOf IsLink most_rows t.links
-  pub sessions : IsTableOf IsSession 256 t.sessions
+  pub sessions : IsTableOf IsSession session_limit t.sessions
   pub kept : IsKeptPosts t.kept
   pub answers : IsTableOf IsKeptAnswer most_rows t.answers
 
@@ -277,7 +278,7 @@ tables_with f = record { posts = f.0; links = f.1.0; sessions = f.1.1.0; kept = 
 unfoldable pub tables_at : Reading Tables
 tables_at =
     via tables_with
-    (number_at w64 ⊗ table_at link_at most_rows 1 ⊗ table_at session_at 256 0 ⊗ kept_at ⊗ table_at kept_answer_at most_rows 0)
+    (number_at w64 ⊗ table_at link_at most_rows 1 ⊗ table_at session_at session_limit 0 ⊗ kept_at ⊗ table_at kept_answer_at most_rows 0)
 
 -- ---- states
 

@@ -3,18 +3,17 @@
 ghost use Rattle.std.specs.Prelude.{◌≡◌, ◌≤◌, ◌↔◌, Some, IsTrue, IsFalse};
 ghost use Rattle.std.specs.List.{list_all};
 ghost use Rattle.std.specs.FinMap as table;
+ghost use Rattle.cc_views.specs.Limits.{known_limit, session_limit, set_limit};
 ghost use Rattle.cc_views.specs.NatSets as set;
 ghost use Rattle.cc_views.specs.NatSets.{IsWithin};
 ghost use Rattle.cc_views.specs.Rows.{ViewMap};
 ghost use Rattle.cc_changes.specs.ChangeLaws.{IsAmong};
 ghost use Rattle.cc_links.specs.Links.{LinksWithin};
 ghost use Rattle.cc_links.specs.Rows.{link_of};
-ghost use Rattle.cc_ops.specs.Commands.{is_writing, set_limit};
+ghost use Rattle.cc_ops.specs.Commands.{is_writing};
 ghost use Rattle.cc_ops.specs.Ops.{IsWaiting, seen_in};
-ghost use Rattle.cc_sessions.specs.Sessions.{session_limit};
 ghost use Rattle.cc_node.specs.Lawful.{CountsWithin, IsLawfulCore, IsPendingIn, IsPhaseOf, SessionsWithin};
 ghost use Rattle.cc_node.specs.Parts.{core_of, is_link_within, is_request_within};
-ghost use Rattle.cc_node.specs.Refusals.{known_limit};
 
 use cc_changes::{Changes, Fraction};
 use cc_churn::Churn;

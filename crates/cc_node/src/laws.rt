@@ -6,7 +6,7 @@ ghost use Rattle.cc_views.specs.Merge.{IsAtMost};
 ghost use Rattle.cc_wire.specs.declared.event.Event.{Event};
 ghost use Rattle.cc_wire.specs.declared.output.Output.{Output};
 ghost use Rattle.cc_node.specs.Core.{Core, next};
-ghost use Rattle.cc_node.specs.Node.{Node, step, after, line, Stands, MayBeOut, IsLawful};
+ghost use Rattle.cc_node.specs.Node.{Node, step, after, line, HasOutput, MayBeOut, IsLawful};
 ghost use Rattle.cc_node.specs.Refusals.{decides};
 ghost use Rattle.cc_node.specs.Sides.{SpellsRecord};
 ghost use Rattle.cc_node.specs.Lawful.{IsLawfulNode};
@@ -37,14 +37,14 @@ pub fn own_number_counts_writes()
 
 /// What a node may put out again stood at the start, or was made for an event since.
 pub fn standing_made()
-    ensures { (n : Node) (es : List Event) (o : Output) → IsLawfulNode n → IsLawful n es → Stands (after n es) o → MayBeOut n es o }
+    ensures { (n : Node) (es : List Event) (o : Output) → IsLawfulNode n → IsLawful n es → HasOutput (after n es) o → MayBeOut n es o }
 {}
 
 /// On each link the numbers of what is sent rise, as do those that are acknowledged, and in each session the requests that
 /// are answered; they begin above all that stood at the start. So no two events of a history make the same output.
 pub fn no_output_twice()
     ensures rising { (n : Node) (es : List Event) → IsLawfulNode n → IsLawful n es → AllPairs Follows (line n es) }
-    ensures since { (n : Node) (es : List Event) (o : Output) → IsLawfulNode n → IsLawful n es → Stands n o → All (Follows o) (line n es) }
+    ensures since { (n : Node) (es : List Event) (o : Output) → IsLawfulNode n → IsLawful n es → HasOutput n o → All (Follows o) (line n es) }
     ensures apart { (n : Node) (es : List Event) → IsLawfulNode n → IsLawful n es → AllPairs (λ x y. x ≢ y) (line n es) }
 {}
 

@@ -1,99 +1,111 @@
 //! The nodes that a message names.
 
-ghost use Rattle.std.specs.Prelude.{◌≡◌, ◌≤◌, ◌∷◌, Bool};
+ghost use Rattle.std.specs.Prelude.{◌≡◌, ◌≤◌, ◌∷◌, ◌++◌, ℕ, List};
 ghost use Rattle.std.specs.FinMap as table;
+ghost use Rattle.cc_views.specs.Limits.{known_limit};
+ghost use Rattle.cc_views.specs.NatSets.{NatSet};
 ghost use Rattle.cc_links.specs.Links as links;
-ghost use Rattle.cc_wire.specs.declared.message.Message.TheVariants as message;
+ghost use Rattle.cc_links.specs.Rows.{nodes_of};
 ghost use Rattle.cc_node.specs.Core.{ids_of};
 ghost use Rattle.cc_node.specs.Known.{Marks};
 
-use cc_changes::Changes;
 use cc_links::{KnownIds, Links};
-use cc_views::{NodeId, View};
+use cc_views::{NodeId, Row};
 use cc_wire::Message;
+
+// The nodes that a message names: those of its view, those of its changes, and one.
+struct Named<'a> {
+    rows: &'a [Row],
+    left: &'a [NodeId],
+    joined: &'a [NodeId],
+    entered: &'a [NodeId],
+    node: NodeId,
+}
+
+fn named_by(message: &Message) -> Named<'_>
+    ensures { ids_of message.now ≡ result.node ∷ (result.entered.now ++ (result.joined.now ++ (result.left.now ++ nodes_of result.rows.now))) }
+{
+    match message {
+        Message::EnterEcho {
+            changes,
+            view,
+            node,
+            ..
+        } => Named {
+            rows: view.rows(),
+            left: changes.left(),
+            joined: changes.joined(),
+            entered: changes.entered(),
+            node: *node,
+        },
+        Message::QueryReply { view, node, .. } | Message::Store { view, node, .. } => {
+            named_by_rows(view.rows(), *node)
+        }
+        Message::Enter { node }
+        | Message::Join { node }
+        | Message::JoinEcho { node }
+        | Message::Leave { node }
+        | Message::LeaveEcho { node } => named_by_rows(&[], *node),
+        Message::Query { node, .. } | Message::StoreAck { node, .. } => named_by_rows(&[], *node),
+    }
+}
+
+// Those of rows, and one.
+fn named_by_rows<'a>(rows: &'a [Row], node: NodeId) -> Named<'a>
+    ensures { result.node ∷ (result.entered.now ++ (result.joined.now ++ (result.left.now ++ nodes_of result.rows.now))) ≡ node ∷ nodes_of rows.now }
+{
+    Named {
+        rows,
+        left: &[],
+        joined: &[],
+        entered: &[],
+        node,
+    }
+}
+
+// Adds these ids to the known ones too, if those before them fit.
+fn mark_more(known: &mut KnownIds, fit: bool, ids: &[NodeId]) -> bool
+    ensures { (before : NatSet) (marked : List ℕ) → Marks before marked fit known.old → Marks before (ids.now ++ marked) result known.new }
+{
+    if !fit {
+        return false;
+    }
+    known.add_all(ids)
+}
 
 // Adds the nodes that a message names to the known ones. False where they are too many.
 pub(crate) fn mark_named(known: &mut KnownIds, message: &Message) -> bool
     ensures { Marks known.old (ids_of message.now) result known.new }
 {
-    match message {
-        Message::EnterEcho {
-            changes,
-            view,
-            node,
-            ..
-        } => mark_echo(known, changes, view, *node),
-        Message::QueryReply { view, node, .. } => mark_view(known, view, *node),
-        Message::Store { view, node, .. } => mark_view(known, view, *node),
-        Message::Enter { node }
-        | Message::Join { node }
-        | Message::JoinEcho { node }
-        | Message::Leave { node }
-        | Message::LeaveEcho { node } => known.add(*node),
-        Message::Query { node, .. } | Message::StoreAck { node, .. } => known.add(*node),
-    }
-}
-
-// Adds the nodes of a view, and one more.
-fn mark_view(known: &mut KnownIds, view: &View, node: NodeId) -> bool
-    ensures { Marks known.old (node ∷ table.keys view.now) result known.new }
-{
-    if !known.add_nodes(view.rows()) {
-        return false;
-    }
-    known.add(node)
-}
-
-// Adds all that an EnterEcho names.
-fn mark_echo(known: &mut KnownIds, changes: &Changes, view: &View, node: NodeId) -> bool
-    ensures { (is_joined : Bool) → Marks known.old (ids_of (message.EnterEcho changes.now view.now is_joined node)) result known.new }
-{
-    if !known.add_nodes(view.rows()) {
-        return false;
-    }
-    if !known.add_all(changes.left()) {
-        return false;
-    }
-    if !known.add_all(changes.joined()) {
-        return false;
-    }
-    if !known.add_all(changes.entered()) {
-        return false;
-    }
-    known.add(node)
+    let Named {
+        rows,
+        left,
+        joined,
+        entered,
+        node,
+    } = named_by(message);
+    let fit = known.add_nodes(rows);
+    let fit = mark_more(known, fit, left);
+    let fit = mark_more(known, fit, joined);
+    let fit = mark_more(known, fit, entered);
+    mark_more(known, fit, &[node])
 }
 
 // Gives each node that a message names a link, unless it has one.
 pub(crate) fn link_named(peers: &mut Links, message: &Message, posts: u64)
-    requires { table.len (links.add_all posts (ids_of message.now) peers.old) ≤ 256 }
+    requires { table.len (links.add_all posts (ids_of message.now) peers.old) ≤ known_limit }
     ensures { peers.new ≡ links.add_all posts (ids_of message.now) peers.old }
 {
-    match message {
-        Message::EnterEcho {
-            changes,
-            view,
-            node,
-            ..
-        } => {
-            peers.add_nodes(view.rows(), posts);
-            peers.add_all(changes.left(), posts);
-            peers.add_all(changes.joined(), posts);
-            peers.add_all(changes.entered(), posts);
-            peers.add(*node, posts);
-        }
-        Message::QueryReply { view, node, .. } => {
-            peers.add_nodes(view.rows(), posts);
-            peers.add(*node, posts);
-        }
-        Message::Store { view, node, .. } => {
-            peers.add_nodes(view.rows(), posts);
-            peers.add(*node, posts);
-        }
-        Message::Enter { node }
-        | Message::Join { node }
-        | Message::JoinEcho { node }
-        | Message::Leave { node }
-        | Message::LeaveEcho { node } => peers.add(*node, posts),
-        Message::Query { node, .. } | Message::StoreAck { node, .. } => peers.add(*node, posts),
-    }
+    let Named {
+        rows,
+        left,
+        joined,
+        entered,
+        node,
+    } = named_by(message);
+    peers.add_nodes(rows, posts);
+    peers.add_all(left, posts);
+    peers.add_all(joined, posts);
+    peers.add_all(entered, posts);
+    peers.add(node, posts);
 }

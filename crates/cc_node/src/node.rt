@@ -1,11 +1,13 @@
 //! A node: its core, and what it keeps to put out again.
 
-ghost use Rattle.std.specs.Prelude.{◌≡◌, ◌≤◌, ◌<◌, ◌^◌, ◌↔◌, None, IfOk, IfSome, OnOk, IsErrOf, IsTrue, is_some};
+ghost use Rattle.std.specs.Prelude.{◌≡◌, ◌≤◌, ◌<◌, ◌↔◌, None, IfOk, IfSome, OnOk, IsErrOf, IsTrue, is_some};
 ghost use Rattle.std.specs.List.{list_all};
 ghost use Rattle.std.specs.FinMap as table;
+ghost use Rattle.cc_views.specs.Limits.{counter_limit, session_limit};
 ghost use Rattle.cc_churn.specs.Churn as churn;
 ghost use Rattle.cc_links.specs.Links as links;
 ghost use Rattle.cc_ops.specs.Stages.{stage_of};
+ghost use Rattle.cc_outbox.specs.Outbox.{post_limit};
 ghost use Rattle.cc_outbox.specs.OutboxLaws.{KeepsPosts};
 ghost use Rattle.cc_node.specs.declared.opening.Fresh.TheVariants as faults;
 ghost use Rattle.cc_node.specs.Core as machine;
@@ -218,8 +220,8 @@ fn forget_asked(outbox: &mut Outbox, event: &Event)
 
 // The post of an event, where it has one, is kept under the next number.
 fn keep_post(outbox: &mut Outbox, post: Option<Message>)
-    requires room { IsTrue (is_some post) → table.len outbox.old.posts < 512 }
-    requires number { outbox.old.last ≤ 2 ^ 62 }
+    requires room { IsTrue (is_some post) → table.len outbox.old.posts < post_limit }
+    requires number { outbox.old.last ≤ counter_limit }
     ensures { outbox.new ≡ add post outbox.old }
 {
     match post {
@@ -230,7 +232,7 @@ fn keep_post(outbox: &mut Outbox, post: Option<Message>)
 
 // The answer of an event, where it has one, is kept for its session.
 fn keep_answer(outbox: &mut Outbox, answer: Option<Reply>)
-    requires { table.len (keep answer outbox.old).answers ≤ 256 }
+    requires { table.len (keep answer outbox.old).answers ≤ session_limit }
     ensures { outbox.new ≡ keep answer outbox.old }
 {
     match answer {

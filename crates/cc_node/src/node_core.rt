@@ -1,6 +1,6 @@
 //! The core of a node: a composition of its parts.
 
-ghost use Rattle.std.specs.Prelude.{◌≡◌, ◌+◌, ◌-◌, ◌≤◌, ◌==◌, ◌&&◌, ◌↔◌, [], ◌∷◌, Bool, None, OnOk, IfOk, IfSome, IsTrue, is_some, slice_get, ℕ};
+ghost use Rattle.std.specs.Prelude.{◌≡◌, ◌+◌, ◌-◌, ◌≤◌, ◌==◌, ◌&&◌, ◌⊎◌, ◌↔◌, [], ◌∷◌, Bool, None, Some, OnOk, IfOk, IfErr, IfSome, IsTrue, is_some, slice_get, ℕ};
 ghost use Rattle.std.specs.Bool.{then_some};
 ghost use Rattle.std.specs.FinMap as table;
 ghost use Rattle.cc_views.specs.Limits.{counter_limit};
@@ -234,59 +234,50 @@ impl Core {
     pub fn decide(&self, event: &Event) -> Result<(), Refusal>
         ensures exact { result ≡ decided (decides self.now event.now) }
         ensures accepted { OnOk result (decides self.now event.now ≡ None) }
-    {
-        match self.refuse(event) {
-            Some(refusal) => Err(refusal),
-            None => Ok(()),
-        }
-    }
-
-    fn refuse(&self, event: &Event) -> Option<Refusal>
-        ensures { result ≡ decides self.now event.now }
+        ensures refused { IfErr result (λ r. decides self.now event.now ≡ Some r) }
     {
         match event {
-            Event::Enter => self.refuse_enter(),
-            Event::Leave => self.refuse_leave(),
+            Event::Enter => self.decide_enter(),
+            Event::Leave => self.decide_leave(),
             Event::Deliver {
                 from,
                 number,
                 message,
-            } => self.refuse_delivery(*from, *number, message),
-            Event::Acked { peer, number } => self.refuse_ack(*peer, *number),
+            } => self.decide_delivery(*from, *number, message),
+            Event::Acked { peer, number } => self.decide_ack(*peer, *number),
             Event::Ask {
                 session,
                 request,
                 command,
-            } => self.refuse_ask(*session, *request, command),
+            } => self.decide_ask(*session, *request, command),
         }
     }
 
-    fn refuse_enter(&self) -> Option<Refusal>
-        ensures { result ≡ decides self.now event.Enter }
+    fn decide_enter(&self) -> Result<(), Refusal>
+        ensures { result ≡ decided (decides self.now event.Enter) }
     {
-        if let Some(refusal) = self.churn.decide_enter(self.me) {
-            return Some(refusal);
-        }
-        self.refuse_post()
+        self.churn.decide_enter(self.me)?;
+        self.decide_post()
     }
 
-    fn refuse_leave(&self) -> Option<Refusal>
-        ensures { result ≡ decides self.now event.Leave }
+    fn decide_leave(&self) -> Result<(), Refusal>
+        ensures { result ≡ decided (decides self.now event.Leave) }
     {
-        if let Some(refusal) = self.churn.decide_leave(self.me) {
-            return Some(refusal);
-        }
-        self.refuse_post()
+        self.churn.decide_leave(self.me)?;
+        self.decide_post()
     }
 
     // Why one post more can't be made, if it can't.
-    fn refuse_post(&self) -> Option<Refusal>
-        ensures { result ≡ first_of (then_some ((self.now.posts - machine.lowest self.now) == post_limit) refusal.OutboxFull ∷ then_some (self.now.posts == counter_limit) refusal.Spent ∷ []) }
+    fn decide_post(&self) -> Result<(), Refusal>
+        ensures { result ≡ decided (first_of (then_some ((self.now.posts - machine.lowest self.now) == post_limit) refusal.OutboxFull ∷ then_some (self.now.posts == counter_limit) refusal.Spent ∷ [])) }
     {
         if self.is_outbox_full() {
-            return Some(Refusal::OutboxFull);
+            return Err(Refusal::OutboxFull);
         }
-        (self.posts == COUNTER_LIMIT).then_some(Refusal::Spent)
+        if self.posts == COUNTER_LIMIT {
+            return Err(Refusal::Spent);
+        }
+        Ok(())
     }
 
     // Whether as many posts are kept as may be.
@@ -296,24 +287,31 @@ impl Core {
         self.posts - self.lowest() == Outbox::MAX_POSTS as u64
     }
 
-    fn refuse_delivery(&self, from: NodeId, number: u64, message: &Message) -> Option<Refusal>
-        ensures { result ≡ decides self.now (event.Deliver from number message.now) }
+    fn decide_delivery(&self, from: NodeId, number: u64, message: &Message) -> Result<(), Refusal>
+        ensures { result ≡ decided (decides self.now (event.Deliver from number message.now)) }
     {
-        if let Some(refusal) = self.churn.decide_delivery(self.me) {
-            return Some(refusal);
-        }
-        if let Some(refusal) = self.refuse_number(from, number) {
-            return Some(refusal);
-        }
+        self.churn.decide_delivery(self.me)?;
+        self.decide_number(from, number)?;
+        self.decide_message(from, message)
+    }
+
+    // Why the message, the next on its link, can't be taken, if it can't.
+    fn decide_message(&self, from: NodeId, message: &Message) -> Result<(), Refusal>
+        ensures { (n : ℕ) → n ≡ links.heard_from from self.now.links + 1
+            → result ≡ decided (first_of (reasons.too_many_nodes self.now from message.now ∷ reasons.outbox_full self.now (event.Deliver from n message.now)
+            ∷ reasons.spent self.now (event.Deliver from n message.now) ∷ [])) }
+    {
         if self.knows_too_many(from, message) {
-            return Some(Refusal::TooManyNodes);
+            return Err(Refusal::TooManyNodes);
         }
         let makes_post = self.makes_post(message);
         if self.has_no_room(makes_post) {
-            return Some(Refusal::OutboxFull);
+            return Err(Refusal::OutboxFull);
         }
-        self.delivery_is_spent(from, message, makes_post)
-            .then_some(Refusal::Spent)
+        if self.delivery_is_spent(from, message, makes_post) {
+            return Err(Refusal::Spent);
+        }
+        Ok(())
     }
 
     // Whether there is a post, and as many are kept as may be.
@@ -324,14 +322,17 @@ impl Core {
     }
 
     // Why the number isn't the next one of its link, if it isn't.
-    fn refuse_number(&self, from: NodeId, number: u64) -> Option<Refusal>
-        ensures { result ≡ first_of (reasons.old self.now from number ∷ reasons.gap self.now from number ∷ []) }
+    fn decide_number(&self, from: NodeId, number: u64) -> Result<(), Refusal>
+        ensures { result ≡ decided (first_of (reasons.old self.now from number ∷ reasons.gap self.now from number ∷ [])) }
     {
         let heard = self.heard(from);
         if number <= heard {
-            return Some(Refusal::Old(heard));
+            return Err(Refusal::Old(heard));
         }
-        (number - heard > 1).then_some(Refusal::Gap(heard))
+        if number - heard > 1 {
+            return Err(Refusal::Gap(heard));
+        }
+        Ok(())
     }
 
     // Whether the sender, the nodes that the message names and the known ones are too many together.
@@ -381,44 +382,50 @@ impl Core {
         makes_post && self.posts == COUNTER_LIMIT
     }
 
-    fn refuse_ack(&self, peer: NodeId, number: u64) -> Option<Refusal>
-        ensures { result ≡ decides self.now (event.Acked peer number) }
+    fn decide_ack(&self, peer: NodeId, number: u64) -> Result<(), Refusal>
+        ensures { result ≡ decided (decides self.now (event.Acked peer number)) }
     {
-        let is_awaited = self.links.awaits_ack(peer, number, self.posts);
-        (!is_awaited).then_some(Refusal::NothingToAck)
+        if !self.links.awaits_ack(peer, number, self.posts) {
+            return Err(Refusal::NothingToAck);
+        }
+        Ok(())
     }
 
-    fn refuse_ask(&self, session: u64, request: u64, command: &Command) -> Option<Refusal>
-        ensures { result ≡ decides self.now (event.Ask session request command.now) }
+    fn decide_ask(&self, session: u64, request: u64, command: &Command) -> Result<(), Refusal>
+        ensures { result ≡ decided (decides self.now (event.Ask session request command.now)) }
     {
-        if let Some(refusal) = self.churn.decide_ask(self.me) {
-            return Some(refusal);
-        }
-        if let Some(refusal) = self.refuse_request(session, request) {
-            return Some(refusal);
-        }
-        if let Some(refusal) = self.ops.decide_ask(command) {
-            return Some(refusal);
-        }
-        if self.is_outbox_full() {
-            return Some(Refusal::OutboxFull);
-        }
-        self.ask_is_spent(request, command)
-            .then_some(Refusal::Spent)
+        self.churn.decide_ask(self.me)?;
+        self.decide_request(session, request)?;
+        self.ops.decide_ask(command)?;
+        self.decide_command(request, command)
     }
 
     // Why the request isn't the next one of its session, if it isn't.
-    fn refuse_request(&self, session: u64, request: u64) -> Option<Refusal>
-        ensures { result ≡ first_of (reasons.too_many_sessions self.now session ∷ reasons.repeat self.now session request
-            ∷ reasons.stale self.now session request ∷ reasons.skip self.now session request ∷ []) }
+    fn decide_request(&self, session: u64, request: u64) -> Result<(), Refusal>
+        ensures { result ≡ decided (first_of (reasons.too_many_sessions self.now session ∷ reasons.repeat self.now session request
+            ∷ reasons.stale self.now session request ∷ reasons.skip self.now session request ∷ [])) }
     {
         match self.sessions.check(session, request) {
-            Checked::Full => Some(Refusal::TooManySessions),
-            Checked::Repeat => Some(Refusal::Repeat),
-            Checked::Stale(last) => Some(Refusal::Stale(last)),
-            Checked::Skip(last) => Some(Refusal::Skip(last)),
-            Checked::Fresh => None,
+            Checked::Full => Err(Refusal::TooManySessions),
+            Checked::Repeat => Err(Refusal::Repeat),
+            Checked::Stale(last) => Err(Refusal::Stale(last)),
+            Checked::Skip(last) => Err(Refusal::Skip(last)),
+            Checked::Fresh => Ok(()),
         }
+    }
+
+    // Why the command, under the next request of its session, can't begin, if it can't.
+    fn decide_command(&self, request: u64, command: &Command) -> Result<(), Refusal>
+        ensures { (s : ℕ) → first_of (reasons.stale self.now s request ∷ reasons.skip self.now s request ∷ []) ≡ None
+            → result ≡ decided (first_of (reasons.outbox_full self.now (event.Ask s request command.now) ∷ reasons.spent self.now (event.Ask s request command.now) ∷ [])) }
+    {
+        if self.is_outbox_full() {
+            return Err(Refusal::OutboxFull);
+        }
+        if self.ask_is_spent(request, command) {
+            return Err(Refusal::Spent);
+        }
+        Ok(())
     }
 
     // Whether a counter stands at its limit that the ask, the next of its session, would raise.
@@ -429,10 +436,7 @@ impl Core {
         if self.ops.ask_is_spent(command) {
             return true;
         }
-        if self.posts == COUNTER_LIMIT {
-            return true;
-        }
-        request > COUNTER_LIMIT
+        self.posts == COUNTER_LIMIT || request > COUNTER_LIMIT
     }
 
     /// What the event makes, which isn't refused: the acknowledgement, the post and the answer. The only error is a
@@ -455,6 +459,18 @@ impl Core {
                 request,
                 command,
             } => self.made_of_ask(alloc, *session, *request, command),
+        }
+    }
+
+    /// What the event makes, or why it is refused: the core's reason, else NoMemory where a growth was refused.
+    pub fn made_or_refused(&self, alloc: Global, event: &Event) -> Result<Made, Refusal>
+        ensures made { IfOk result (λ m. (decides self.now event.now ≡ None) × (m ≡ machine.made self.now event.now)) }
+        ensures refused { IfErr result (λ r. (decides self.now event.now ≡ Some r) ⊎ ((decides self.now event.now ≡ None) × (r ≡ refusal.NoMemory))) }
+    {
+        self.decide(event)?;
+        match self.made(alloc, event) {
+            Ok(made) => Ok(made),
+            Err(NoMemory) => Err(Refusal::NoMemory),
         }
     }
 

@@ -4,6 +4,7 @@ ghost use Rattle.std.specs.Prelude.{◌≡◌, ◌≤◌, ◌↔◌, ◌⊎◌, 
 ghost use Rattle.std.specs.List.{Contains};
 ghost use Rattle.std.specs.List.Sorted.{IsStrictlyIncreasing};
 ghost use Rattle.std.specs.FinMap as table;
+ghost use Rattle.cc_views.specs.Limits.{known_limit};
 ghost use Rattle.cc_views.specs.NatSets as set;
 ghost use Rattle.cc_links.specs.Links as links;
 ghost use Rattle.cc_node.specs.Opening.{told, ids_of, IsOpening};
@@ -73,7 +74,7 @@ impl Opening<'_> {
     // A link to each node that it names.
     pub(crate) fn links(&self, alloc: Global) -> Result<Links, NoMemory>
         requires ids { ¬ (Contains (ids_of (told self.now)) 0) }
-        requires few { set.len (set.from_list (ids_of (told self.now))) ≤ 256 }
+        requires few { set.len (set.from_list (ids_of (told self.now))) ≤ known_limit }
         ensures { IfOk result (λ ls. ls ≡ links.add_all 0 (ids_of (told self.now)) table.empty) }
     {
         let mut peers = Links::new(alloc)?;
@@ -86,7 +87,7 @@ impl Opening<'_> {
     // The members of the first hour entered and joined.
     pub(crate) fn changes(&self, alloc: Global) -> Result<Changes, NoMemory>
         requires ids { ¬ (Contains (ids_of (told self.now)) 0) }
-        requires few { set.len (set.from_list (ids_of (told self.now))) ≤ 256 }
+        requires few { set.len (set.from_list (ids_of (told self.now))) ≤ known_limit }
         ensures { IfOk result (λ c. c ≡ record { entered = set.from_list self.now.initial.now; joined = set.from_list self.now.initial.now; left = set.empty }) }
     {
         let entered = id_set(alloc, self.initial)?;
@@ -111,7 +112,7 @@ impl Opening<'_> {
     // Whether at most 256 ids are different.
     fn names_few(&self) -> bool
         requires { ¬ (Contains (ids_of (told self.now)) 0) }
-        ensures { IsTrue result ↔ (set.len (set.from_list (ids_of (told self.now))) ≤ 256) }
+        ensures { IsTrue result ↔ (set.len (set.from_list (ids_of (told self.now))) ≤ known_limit) }
     {
         let mut known = KnownIds::new();
         if !known.add_numbers(self.contacts) {
@@ -139,7 +140,7 @@ fn is_ascending(numbers: &[u32]) -> bool
 // Gives each of the peers a link.
 fn link_numbers(peers: &mut Links, numbers: &[u32])
     requires ids { ¬ (Contains numbers.now 0) }
-    requires few { table.len (links.add_all 0 numbers.now peers.old) ≤ 256 }
+    requires few { table.len (links.add_all 0 numbers.now peers.old) ≤ known_limit }
     ensures { peers.new ≡ links.add_all 0 numbers.now peers.old }
 {
     for number in numbers {
@@ -150,7 +151,7 @@ fn link_numbers(peers: &mut Links, numbers: &[u32])
 // The set of these ids.
 fn id_set(alloc: Global, numbers: &[u32]) -> Result<IdSet, NoMemory>
     requires ids { ¬ (Contains numbers.now 0) }
-    requires few { set.len (set.from_list numbers.now) ≤ 256 }
+    requires few { set.len (set.from_list numbers.now) ≤ known_limit }
     ensures { IfOk result (λ s. s ≡ set.from_list numbers.now) }
 {
     let mut ids = IdSet::new(alloc)?;
@@ -160,7 +161,7 @@ fn id_set(alloc: Global, numbers: &[u32]) -> Result<IdSet, NoMemory>
 
 fn insert_numbers(ids: &mut IdSet, numbers: &[u32])
     requires ids { ¬ (Contains numbers.now 0) }
-    requires few { set.len (set.insert_all ids.old numbers.now) ≤ 256 }
+    requires few { set.len (set.insert_all ids.old numbers.now) ≤ known_limit }
     ensures { ids.new ≡ set.insert_all ids.old numbers.now }
 {
     for number in numbers {

@@ -3,7 +3,8 @@
 --     written c mine     the own value after a command; a reading one leaves it
 --     finds_no_room      whether a command would put a number too many into the set slot
 --     answer_of c v      what a command is answered, a reading one from that view
-use Rattle.std.specs.Prelude.{ℕ, Bool, true, false, max, not, ◌&&◌, ◌==◌}
+use Rattle.std.specs.Prelude.{Bool, true, false, max, not, ◌&&◌, ◌==◌}
+use Rattle.cc_views.specs.Limits.{set_limit}
 use Rattle.cc_views.specs.NatSets as set
 use Rattle.cc_views.specs.Rows.{ViewMap}
 use Rattle.cc_views.specs.declared.value.Value.{Value}
@@ -42,10 +43,6 @@ answer_of command.SetFlag v = answer.Stored
 answer_of command.ReadFlag v = answer.Flag (flag_of v)
 answer_of (command.AddMember x) v = answer.Stored
 answer_of command.ReadSet v = answer.Set (set_of v)
-
--- how many numbers a set slot has at most
-abbrev pub set_limit : ℕ
-set_limit = 32
 
 -- whether a command finds no room in the set slot
 abbrev pub finds_no_room : Value → Command → Bool

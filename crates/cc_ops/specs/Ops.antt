@@ -8,6 +8,7 @@ use Rattle.std.specs.Prelude.{◌==◌, ℕ, ◌+◌, ◌<◌, ◌≤◌, Bool, 
 use Rattle.std.specs.Prelude.{Option, Some, None}
 use Rattle.std.specs.Bool.{then_some}
 use Rattle.std.specs.FinMap as map
+use Rattle.cc_views.specs.Limits.{known_limit}
 use Rattle.cc_views.specs.NatSets as set
 use Rattle.cc_views.specs.Rows.{ViewMap, single}
 use Rattle.cc_views.specs.Merge.{merge}
@@ -171,4 +172,4 @@ reply_of me (message.StoreAck tag q) s = if is_own me tag q s then reply_in s.vi
 -- an operation waits for more answers than it has
 pub record IsWaiting (p : Pending) : Type 0 where
   pub count : p.count < p.need
-  pub need : p.need ≤ 256
+  pub need : p.need ≤ known_limit

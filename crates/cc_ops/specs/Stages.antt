@@ -1,7 +1,8 @@
 -- What an `Ops` keeps.
 --     phase_of stage seen      the phase, by its stage and the view that is stored back
 --     IsKept inside            the counters within their limits, and an operation that waits for more answers than it has
-use Rattle.std.specs.Prelude.{ℕ, ◌≤◌, ◌^◌, ⊤}
+use Rattle.std.specs.Prelude.{ℕ, ◌≤◌, ⊤}
+use Rattle.cc_views.specs.Limits.{counter_limit}
 use Rattle.cc_views.specs.Rows.{ViewMap}
 use Rattle.cc_ops.specs.declared.stage.Stage.{Stage}
 use Rattle.cc_ops.specs.declared.stage.Stage.TheVariants as stage
@@ -28,6 +29,6 @@ HasWaiting (stage.Querying p) = IsWaiting p
 HasWaiting (stage.StoringBack p) = IsWaiting p
 
 pub record IsKept (written rounds : ℕ) (at : Stage) : Type 0 where
-  pub number : written ≤ 2 ^ 62
-  pub tag : rounds ≤ 2 ^ 62
+  pub number : written ≤ counter_limit
+  pub tag : rounds ≤ counter_limit
   pub waits : HasWaiting at

@@ -1,5 +1,9 @@
 //! The operation that a client waits for.
 
+ghost use Rattle.std.specs.Prelude.{◌≡◌};
+ghost use Rattle.cc_ops.specs.Ops as ops;
+ghost use Rattle.cc_ops.specs.Ops.{IsWaiting};
+
 use cc_wire::{Answer, Command};
 
 /// What a client asked for, and under which request of its session (own choice).
@@ -24,4 +28,34 @@ pub struct Reply {
     pub session: u64,
     pub request: u64,
     pub answer: Answer,
+}
+
+// A round of an operation, which needs so many answers.
+pub(crate) fn begun(asked: &Asked, quorum: u64) -> Pending
+    ensures { result ≡ ops.begun quorum asked.now }
+{
+    Pending {
+        asked: *asked,
+        need: quorum,
+        count: 0,
+    }
+}
+
+// Whether one more answer is enough.
+pub(crate) fn is_last(pending: &Pending) -> bool
+    requires { IsWaiting pending.now }
+    ensures { result ≡ ops.is_last pending.now }
+{
+    pending.count + 1 == pending.need
+}
+
+pub(crate) fn counted(pending: &Pending) -> Pending
+    requires { IsWaiting pending.now }
+    ensures { result ≡ ops.counted pending.now }
+{
+    Pending {
+        asked: pending.asked,
+        need: pending.need,
+        count: pending.count + 1,
+    }
 }

@@ -1,6 +1,7 @@
 -- How an outbox is kept: the posts in the order of their numbers, and the answers as rows.
 use Rattle.std.specs.Prelude.{ℕ, ◌+◌, ◌-◌, ◌≤◌, List, [], ◌∷◌, length, map}
 use Rattle.std.specs.FinMap.{from_entries, entries}
+use Rattle.cc_views.specs.Limits.{session_limit}
 use Rattle.cc_views.specs.Tables.{IsTable, table_of}
 use Rattle.cc_wire.specs.declared.answer.Answer.{Answer}
 use Rattle.cc_wire.specs.declared.message.Message.{Message}
@@ -31,9 +32,9 @@ outbox_of last posts answers = record {
   answers = table_of entry_of answers;
 }
 
--- up to 512 posts and 256 answers, each with room for as many
+-- up to so many posts, and an answer a session, each with room for as many
 pub record IsKept (last : ℕ) (posts : List Message) (post_room : ℕ) (kept : List KeptAnswer) (answer_room : ℕ) : Type 0 where
   pub numbers : length posts ≤ last
   pub fits : length posts ≤ post_limit
   pub room : post_limit ≤ post_room
-  pub answers : IsTable entry_of 256 kept answer_room
+  pub answers : IsTable entry_of session_limit kept answer_room

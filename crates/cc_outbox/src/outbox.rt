@@ -2,6 +2,7 @@
 ghost use Rattle.std.specs.Prelude.{◌≡◌, ◌+◌, ◌-◌, ◌≤◌, ◌<◌, ◌^◌, IfOk, length, drop, option_map};
 ghost use Rattle.std.specs.VecDeque.{deque_capacity};
 ghost use Rattle.std.specs.FinMap as map;
+ghost use Rattle.cc_views.specs.Limits.{session_limit};
 ghost use Rattle.cc_views.specs.Tables.{IsRising, IsPlaceOf};
 ghost use Rattle.cc_outbox.specs.Outbox as outbox;
 ghost use Rattle.cc_outbox.specs.OutboxLaws.{KeepsPosts};
@@ -73,7 +74,7 @@ impl Outbox {
 
     /// Keeps a post, under the number after that of the last one. It takes no memory.
     pub fn add(&mut self, post: Message)
-        requires room { map.len self.old.posts < 512 }
+        requires room { map.len self.old.posts < outbox.post_limit }
         requires number { self.old.last + 1 < 2 ^ 64 }
         ensures { self.new ≡ outbox.add post self.old }
     {
@@ -111,7 +112,7 @@ impl Outbox {
     /// How many posts are kept, which are the last ones.
     pub fn post_count(&self) -> usize
         ensures count { result ≡ map.len self.now.posts }
-        ensures fits { result ≤ 512 }
+        ensures fits { result ≤ outbox.post_limit }
         ensures last { KeepsPosts (self.now.last - result) self.now.last self.now.posts }
     {
         self.posts.len()
@@ -119,7 +120,7 @@ impl Outbox {
 
     /// Keeps the answer of a session, in place of the one that it had. It takes no memory.
     pub fn keep(&mut self, session: u64, answer: Answer)
-        requires { map.len (map.insert self.old.answers session answer) ≤ 256 }
+        requires { map.len (map.insert self.old.answers session answer) ≤ session_limit }
         ensures { self.new ≡ outbox.keep session answer self.old }
     {
         let kept = KeptAnswer { session, answer };
@@ -152,7 +153,7 @@ impl Outbox {
     pub fn answers(&self) -> &[KeptAnswer]
         ensures answers { result.now ≡ answers_of self.now }
         ensures len { length result.now ≡ map.len self.now.answers }
-        ensures fits { length result.now ≤ 256 }
+        ensures fits { length result.now ≤ session_limit }
     {
         &self.answers
     }

@@ -1,7 +1,7 @@
 //! A node of a cluster on a site in memory, and all that it sent.
 
-ghost use Rattle.std.specs.Prelude.{◌≡◌, ◌∷◌, [], false, None, IfOk};
-ghost use Rattle.cc_node.specs.Refusals.{decides};
+ghost use Rattle.std.specs.Prelude.{◌≡◌, ◌∷◌, [], false, IfOk};
+ghost use Rattle.cc_journal.specs.Batches.{AreLawful};
 
 use crate::node_fault::NodeFault;
 use crate::play_fault::PlayFault;
@@ -105,10 +105,11 @@ impl Station {
         event: Event,
         output: &mut W,
     ) -> Result<Outcome, PlayFault> {
-        if let Err(refusal) = self.core().decide(&event) {
-            return self.print_refused(refusal, output);
+        match Entry::of(alloc, self.core(), event) {
+            Ok(entry) => self.take_in(alloc, entry, output),
+            Err(Refusal::NoMemory) => Err(PlayFault::NoMemory),
+            Err(refusal) => self.print_refused(refusal, output),
         }
-        self.take_in(alloc, event, output)
     }
 
     fn print_refused<W: Write>(
@@ -125,27 +126,26 @@ impl Station {
     fn take_in<W: Write>(
         &mut self,
         alloc: Global,
-        event: Event,
+        entry: Entry,
         output: &mut W,
     ) -> Result<Outcome, PlayFault>
-        requires { decides self.old.twin.core event ≡ None }
+        requires { AreLawful self.old.twin (entry ∷ []) }
     {
-        match self.commit(alloc, event)? {
+        match self.commit(entry)? {
             Ok(()) => self.print_accepted(alloc, output),
             Err(failed) => Ok(Outcome::Ended(NodeFault::Engine(failed))),
         }
     }
 
     // Makes an event durable that isn't refused, and puts its outputs.
-    fn commit(&mut self, alloc: Global, event: Event) -> Result<Result<(), Failed>, PlayFault>
-        requires { decides self.old.twin.core event ≡ None }
+    fn commit(&mut self, entry: Entry) -> Result<Result<(), Failed>, PlayFault>
+        requires { AreLawful self.old.twin (entry ∷ []) }
     {
         // A side that has no room is longer than any memory.
         if !self.engine.room() {
             return Err(PlayFault::NoMemory);
         }
-        let made = self.engine.twin().core().made(alloc, &event)?;
-        Ok(self.engine.flush(Batch::of_one(Entry { event, made })))
+        Ok(self.engine.flush(Batch::of_one(entry)))
     }
 
     /// Puts out again what stands in the node, and prints it.

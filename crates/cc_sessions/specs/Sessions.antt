@@ -13,6 +13,7 @@ use Rattle.std.specs.Ordering.{nat_cmp}
 use Rattle.std.specs.FinMap as table
 use Rattle.std.specs.FinMap.{FinMap}
 use Rattle.std.proofs.lemmas.Bool.Decides.{eqb_tells}
+use Rattle.cc_views.specs.Limits.{session_limit}
 
 -- of each session the last request
 abbrev pub Requests : Type 0
@@ -20,9 +21,6 @@ Requests = FinMap nat_cmp ℕ
 
 abbrev pub requests_code : Coded Requests
 requests_code = table.code coded_ℕ coded_ℕ
-
-abbrev pub session_limit : ℕ
-session_limit = 256
 
 -- the last request of a session, 0 for none
 abbrev pub last_request : Requests → ℕ → ℕ
@@ -50,10 +48,10 @@ is_stale ss s r = is_stale_after (last_request ss s) r
 abbrev pub is_skip : Requests → ℕ → ℕ → Bool
 is_skip ss s r = is_skip_after (last_request ss s) r
 
-room_left : (there : Bool) (n m : ℕ) → (not there && (n == 256)) ≡ false → n ≤ 256 → m ≡ cond there n (n + 1) → m ≤ 256
+room_left : (there : Bool) (n m : ℕ) → (not there && (n == session_limit)) ≡ false → n ≤ session_limit → m ≡ cond there n (n + 1) → m ≤ session_limit
 room_left true n m h le e = omega (arith, e)
 room_left false n m h le e =
-    elim (eqb_tells n 256) as (λ _. m ≤ 256) [
+    elim (eqb_tells n session_limit) as (λ _. m ≤ session_limit) [
       | inl t ↦ absurd cc
       | inr t ↦ omega (arith, e, t.1)
     ]

@@ -2,6 +2,7 @@
 ghost use Rattle.std.specs.Prelude.{◌≡◌, ◌≤◌, IfOk, IsFalse, length};
 ghost use Rattle.std.specs.Vec.{vec_capacity};
 ghost use Rattle.std.specs.FinMap as table;
+ghost use Rattle.cc_views.specs.Limits.{session_limit};
 ghost use Rattle.cc_views.specs.Tables.{IsRising, IsPlaceOf};
 ghost use Rattle.cc_sessions.specs.Sessions.{finds_no_room};
 ghost use Rattle.cc_sessions.specs.Checks.{after_last, checked};
@@ -21,6 +22,7 @@ pub struct Sessions {
 
 impl Model for Sessions {
     ghost use Rattle.std.specs.Vec.{vec_capacity};
+    ghost use Rattle.cc_views.specs.Limits.{session_limit};
     ghost use Rattle.cc_views.specs.Tables.{IsTable, table_of};
     ghost use Rattle.cc_sessions.specs.Sessions.{Requests, requests_code};
     ghost use Rattle.cc_sessions.specs.Rows.{entry_of};
@@ -31,7 +33,7 @@ impl Model for Sessions {
 
     ghost view = { λ s. table_of entry_of s.rows.items };
 
-    ghost invariant = { λ s. IsTable entry_of 256 s.rows.items (vec_capacity s.rows) };
+    ghost invariant = { λ s. IsTable entry_of session_limit s.rows.items (vec_capacity s.rows) };
 }
 
 impl Sessions {
@@ -60,7 +62,7 @@ impl Sessions {
     pub fn rows(&self) -> &[SessionRow]
         ensures rows { result.now ≡ rows_of self.now }
         ensures len { length result.now ≡ table.len self.now }
-        ensures fits { length result.now ≤ 256 }
+        ensures fits { length result.now ≤ session_limit }
     {
         &self.rows
     }

@@ -5,7 +5,7 @@ use Rattle.std.proofs.lemmas.Grind.{common_steps}
 use Rattle.cc_wire.specs.declared.output.Output.{Output}
 use Rattle.cc_site.specs.declared.site.Side.{Side}
 use Rattle.cc_site.specs.declared.site.Side.TheVariants.{A, B}
-use Rattle.cc_site.specs.declared.record.Step.{Step}
+use Rattle.cc_site.specs.declared.steps.Step.{Step}
 use Rattle.cc_site.specs.declared.disk.Disk.{Disk}
 use Rattle.cc_site.specs.declared.memory.MemorySite.{MemorySite}
 use Rattle.cc_site.specs.Sides.{SideState, MayLeave, other, firm, touch, written, shift, cut_to, settled}

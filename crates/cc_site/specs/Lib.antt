@@ -3,6 +3,7 @@ pub mod SideLaws
 pub mod FrontLaws
 pub mod Gates
 pub mod Moments
+pub mod Runs
 pub mod Telling
 pub mod Reads
 pub mod Crashes

@@ -5,7 +5,8 @@
 --     memory_failures, memory_moment, memory_left_since     its members of these names
 --     IsFresh                             one just made
 --     CountsCall, Keeps                   what a disk call leaves of all but the disk;  what an output does
-use Rattle.std.specs.Prelude.{◌≡◌, ◌+◌, ◌%◌, ◌^◌, ℕ, List, [], length, Option, None}
+--     OnlyArms                            all is as it was but which calls are to fail
+use Rattle.std.specs.Prelude.{◌≡◌, ◌↔◌, ◌+◌, ◌%◌, ◌^◌, ℕ, List, [], length, Option, None}
 use Rattle.cc_wire.specs.declared.output.Output.{Output}
 use Rattle.cc_site.specs.declared.fuse.Fuse.{Fuse}
 use Rattle.cc_site.specs.declared.site.Side.{Side}
@@ -76,3 +77,13 @@ pub record Keeps (output : Option Output) (old new : MemorySite) : Type 0 where
   pub reserve : memory_reserve new ≡ memory_reserve old
   pub calls : memory_calls new ≡ memory_calls old
   pub fuse : memory_fuse new ≡ memory_fuse old
+
+pub record OnlyArms (old new : MemorySite) : Type 0 where
+  pub state : memory_state new ≡ memory_state old
+  pub outputs : memory_outputs new ≡ memory_outputs old
+  pub reserve : memory_reserve new ≡ memory_reserve old
+  pub lost : memory_lost new ≡ memory_lost old
+  pub calls : memory_calls new ≡ memory_calls old
+  pub failures : memory_failures new ≡ memory_failures old
+  pub moment : memory_moment new ≡ memory_moment old
+  pub left_since : (t : ℕ) (left : Contents) (told : List Output) → memory_left_since new t left told ↔ memory_left_since old t left told

@@ -9,9 +9,9 @@ use Rattle.std.specs.Prelude.{◌≡◌, ℕ, zero, suc, ◌+◌, ◌<◌, ◌�
 use Rattle.cc_wire.specs.declared.output.Output.{Output}
 use Rattle.cc_site.specs.declared.site.Side.{Side}
 use Rattle.cc_site.specs.declared.site.Side.TheVariants.{A, B}
-use Rattle.cc_site.specs.declared.record.Step.{Step}
-use Rattle.cc_site.specs.declared.record.Change.{Change}
-use Rattle.cc_site.specs.declared.record.Change.TheVariants.{Written, Missed, Shortened, Kept, Synced}
+use Rattle.cc_site.specs.declared.steps.Step.{Step}
+use Rattle.cc_site.specs.declared.steps.Change.{Change}
+use Rattle.cc_site.specs.declared.steps.Change.TheVariants.{Written, MissedWrite, Shortened, MissedCut, Synced}
 use Rattle.cc_site.specs.Sides.{SideState, firm}
 use Rattle.cc_site.specs.Moments.{Contents, Possible}
 
@@ -51,9 +51,9 @@ mark_cut m len to = record { touched = m.touched; shifted = Some (min (unwrap_or
 
 abbrev pub mark_change : Marks → ℕ → Change → Marks
 mark_change m len (Written place count old) = mark_write m len place count
-mark_change m len (Missed place count) = mark_write m len place count
+mark_change m len (MissedWrite place count) = mark_write m len place count
 mark_change m len (Shortened to tail) = mark_cut m len to
-mark_change m len (Kept to) = mark_cut m len to
+mark_change m len (MissedCut to) = mark_cut m len to
 mark_change m len Synced = no_marks
 
 abbrev pub mark_step : Side → Marks → Step → Marks
@@ -70,9 +70,9 @@ marks side steps = marks_after side no_marks steps
 -- the bytes before a change
 abbrev pub undo_change : Change → List ℕ → List ℕ
 undo_change (Written place count old) bytes = take place bytes ++ old.items ++ drop (place + count) bytes
-undo_change (Missed place count) bytes = bytes
+undo_change (MissedWrite place count) bytes = bytes
 undo_change (Shortened to tail) bytes = bytes ++ tail.items
-undo_change (Kept to) bytes = bytes
+undo_change (MissedCut to) bytes = bytes
 undo_change Synced bytes = bytes
 
 abbrev pub undo_step : Side → Step → List ℕ → List ℕ

@@ -8,7 +8,7 @@ use Rattle.std.proofs.lemmas.List.{take_all, drop_all}
 use Rattle.cc_wire.specs.declared.output.Output.{Output}
 use Rattle.cc_site.specs.declared.site.Side.{Side}
 use Rattle.cc_site.specs.declared.site.Side.TheVariants.{A, B}
-use Rattle.cc_site.specs.declared.record.Step.{Step}
+use Rattle.cc_site.specs.declared.steps.Step.{Step}
 use Rattle.cc_site.specs.Sides.{SideState, MayLeave, other, firm}
 use Rattle.cc_site.specs.Moments.{Contents, Possible, Within, Elapses}
 use Rattle.cc_site.specs.Record.{is_side, Marks, no_marks, mark_change, mark_step, marks_after, marks, undo_change, undo_step, undo, state_now, state_at, told_at, ToldFits, FirmFits, Since, Adds}

@@ -5,8 +5,8 @@ ghost use Rattle.cc_site.specs.Sides.{other, overwritten};
 ghost use Rattle.cc_site.specs.Record.{no_marks, mark_write, mark_cut};
 ghost use Rattle.cc_site.specs.Disks.{bytes_of, AddsStep, StaysFull};
 
-use crate::record::{Change, Step, attempt_cut, attempt_write, note};
 use crate::site::Side;
+use crate::steps::{Change, Step, attempt_cut, attempt_write, note};
 use std::alloc::{AllocError, Global};
 
 /// Two byte files, and a step for each call that changed one or failed to.

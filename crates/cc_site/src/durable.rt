@@ -3,7 +3,8 @@
 ghost use Rattle.std.specs.Prelude.{◌≡◌, ◌↔◌, ◌≤◌, length, OnOk, OnErr};
 ghost use Rattle.cc_site.specs.declared.site.Call.TheVariants.{Write, Cut, Sync};
 ghost use Rattle.cc_site.specs.Sides.{other, touch, written, shift, cut_to, settled, MayHaveWritten, MayHaveCut};
-ghost use Rattle.cc_site.specs.Moments.{Within, EachMoment, CountsOneFault};
+ghost use Rattle.cc_site.specs.Moments.{Within, CountsOneFault};
+ghost use Rattle.cc_site.specs.Runs.{EachMoment};
 
 use crate::site::{DeviceFault, Side, Site};
 
@@ -21,7 +22,7 @@ pub fn write_durably<S: Site>(
     ensures value { S.honest site.old → OnOk result (S.state site.new side ≡ settled (written (S.state site.old side) place bytes.now)) }
     ensures failed { S.honest site.old → OnErr result (MayHaveWritten (S.state site.old side) place bytes.now (S.state site.new side)) }
     ensures other_side { S.honest site.old → S.state site.new (other side) ≡ S.state site.old (other side) }
-    ensures every_moment { S.honest site.old → EachMoment S.moment S.left_since site.old site.new
+    ensures every_moment { S.honest site.old → EachMoment S.Site site.old site.new
         (Within side (touch (S.state site.old side) place (length bytes.now)) (S.state site.old) (S.sent site.old)) }
     ensures fault { CountsOneFault (S.failures site.old) (S.failures site.new) side Write Sync result }
 {
@@ -39,7 +40,7 @@ pub fn cut_durably<S: Site>(site: &mut S, side: Side, len: u64) -> Result<(), De
     ensures value { S.honest site.old → OnOk result (S.state site.new side ≡ settled (cut_to (S.state site.old side) len)) }
     ensures failed { S.honest site.old → OnErr result (MayHaveCut (S.state site.old side) len (S.state site.new side)) }
     ensures other_side { S.honest site.old → S.state site.new (other side) ≡ S.state site.old (other side) }
-    ensures every_moment { S.honest site.old → EachMoment S.moment S.left_since site.old site.new
+    ensures every_moment { S.honest site.old → EachMoment S.Site site.old site.new
         (Within side (shift (S.state site.old side) len) (S.state site.old) (S.sent site.old)) }
     ensures fault { CountsOneFault (S.failures site.old) (S.failures site.new) side Cut Sync result }
 {

@@ -1,11 +1,11 @@
 //! Fuses: which disk calls of a site in memory are to fail.
 
 ghost use Rattle.std.specs.Prelude.{◌↔◌, IsTrue};
-ghost use Rattle.cc_site.specs.Fuse.{Burns};
+ghost use Rattle.cc_site.specs.Fuse.{Fails};
 
 /// Whether a fuse fails one disk call, or that one and all after it (own choice).
 #[derive(Clone, Copy, Debug, PartialEq, Eq)]
-pub enum Burn {
+pub enum Failing {
     Once,
     Stop,
 }
@@ -14,17 +14,17 @@ pub enum Burn {
 #[derive(Clone, Copy, Debug, PartialEq, Eq)]
 pub struct Fuse {
     pub at: u64,
-    pub burn: Burn,
+    pub failing: Failing,
 }
 
 impl Fuse {
     /// Whether it fails the disk call with this number.
-    pub fn burns(&self, number: u64) -> bool
-        ensures { IsTrue result ↔ Burns self.now number }
+    pub fn fails(&self, number: u64) -> bool
+        ensures { IsTrue result ↔ Fails self.now number }
     {
-        match self.burn {
-            Burn::Once => number == self.at,
-            Burn::Stop => number >= self.at,
+        match self.failing {
+            Failing::Once => number == self.at,
+            Failing::Stop => number >= self.at,
         }
     }
 }

@@ -4,8 +4,8 @@ ghost use Rattle.std.specs.Prelude.{◌≡◌, ◌+◌, ◌<◌, ◌≤◌, ◌|
 ghost use Rattle.cc_site.specs.Record.{Marks, mark_step, marks};
 ghost use Rattle.cc_site.specs.Image.{overlaid, taken, touched_list, IsFilled};
 
-use crate::record::{Change, Step};
 use crate::site::Side;
+use crate::steps::{Change, Step};
 use std::alloc::{AllocError, Global};
 
 /// What a crash makes of the places that it may change.
@@ -39,9 +39,9 @@ fn mark(flags: &mut [bool], side: Side, step: &Step)
     }
     match &step.change {
         Change::Written { place, count, .. } => mark_range(flags, *place, *count),
-        Change::Missed { place, count } => mark_range(flags, *place, *count),
+        Change::MissedWrite { place, count } => mark_range(flags, *place, *count),
         Change::Shortened { .. } => {}
-        Change::Kept { .. } => {}
+        Change::MissedCut { .. } => {}
         Change::Synced => flags.fill(false),
     }
 }
@@ -117,7 +117,7 @@ fn shift(shifted: Option<usize>, side: Side, step: &Step) -> Option<usize>
             }
             Some(low)
         }
-        Change::Missed { place, count } => {
+        Change::MissedWrite { place, count } => {
             if place
                 .checked_add(*count)
                 .is_some_and(|end| end <= step.length)
@@ -127,7 +127,7 @@ fn shift(shifted: Option<usize>, side: Side, step: &Step) -> Option<usize>
             Some(low)
         }
         Change::Shortened { to, .. } => Some(low.min(*to)),
-        Change::Kept { to } => Some(low.min(*to)),
+        Change::MissedCut { to } => Some(low.min(*to)),
         Change::Synced => None,
     }
 }

@@ -9,11 +9,11 @@ mod gate;
 mod image;
 mod memory;
 mod reading;
-mod record;
 mod site;
+mod steps;
 
 pub use durable::{cut_durably, write_durably};
-pub use fuse::Burn;
+pub use fuse::Failing;
 pub use gate::{CLOSED_GATE, OPEN_GATE};
 pub use image::Choice;
 pub use memory::MemorySite;

@@ -6,7 +6,7 @@ ghost use Rattle.cc_wire.specs.declared.output.Output.{Output};
 ghost use Rattle.cc_wire.specs.declared.output.Output.TheVariants.{Send, Ack, Reply};
 ghost use Rattle.cc_site.specs.declared.site.Side.{Side};
 ghost use Rattle.cc_site.specs.declared.site.Call.TheVariants.{Length, Read, Write, Cut, Sync};
-ghost use Rattle.cc_site.specs.Fuse.{MayBurn};
+ghost use Rattle.cc_site.specs.Fuse.{MayFail};
 ghost use Rattle.cc_site.specs.Kept.{kept, lost_after};
 ghost use Rattle.cc_site.specs.Moments.{Possible, Within, Nothing, Elapses, CountsFault};
 ghost use Rattle.cc_site.specs.Sides.{MayLeave, other, touch, written, shift, cut_to, settled};
@@ -15,10 +15,10 @@ ghost use Rattle.cc_site.specs.Record.{file, state_now, AreBytes, Since, ToldFit
 ghost use Rattle.cc_site.specs.Disks.{bytes_of};
 
 use crate::disk::Disk;
-use crate::fuse::{Burn, Fuse};
+use crate::fuse::{Failing, Fuse};
 use crate::image::{Choice, filled, laid, shortened};
-use crate::record::Step;
 use crate::site::{Call, DeviceFault, Side, Site};
+use crate::steps::Step;
 use cc_views::{NoMemory, NodeId};
 use cc_wire::{Answer, Message, Output};
 use std::alloc::{AllocError, Global};
@@ -44,7 +44,7 @@ pub struct MemorySite {
 }
 
 impl MemorySite {
-    ghost use Rattle.cc_site.specs.Memory.{memory_state, memory_outputs, memory_reserve, memory_lost, memory_fuse, IsFresh};
+    ghost use Rattle.cc_site.specs.Memory.{memory_state, memory_outputs, memory_reserve, memory_lost, memory_fuse, IsFresh, OnlyArms};
 
     /// Two empty sides, and room for so many outputs. NoMemory where a growth was refused.
     pub fn new(alloc: Global, reserve: usize) -> Result<MemorySite, NoMemory>
@@ -104,11 +104,11 @@ impl MemorySite {
 
     /// The disk call of this number, from 0 on since the site was made, fails: it alone, or with all later ones. It
     /// takes the place of an earlier fuse.
-    pub fn fuse(&mut self, at: u64, burn: Burn)
-        ensures same { self.new ≡ record self.old { fuse = Some (record { at = at; burn = burn }) } }
-        ensures armed { memory_fuse self.new ≡ Some (record { at = at; burn = burn }) }
+    pub fn fuse(&mut self, at: u64, failing: Failing)
+        ensures same { OnlyArms self.old self.new }
+        ensures armed { memory_fuse self.new ≡ Some (record { at = at; failing = failing }) }
     {
-        self.fuse = Some(Fuse { at, burn });
+        self.fuse = Some(Fuse { at, failing });
     }
 }
 
@@ -143,15 +143,15 @@ fn chosen(
 }
 
 // Counts a disk call, and answers whether a fuse fails it.
-fn burns(calls: &mut u64, fuse: &Option<Fuse>) -> bool
+fn next_fails(calls: &mut u64, fuse: &Option<Fuse>) -> bool
     ensures calls { calls.new ≡ (calls.old + 1) % 2 ^ 64 }
-    ensures burns { IsTrue result ↔ MayBurn fuse.now calls.old }
+    ensures fails { IsTrue result ↔ MayFail fuse.now calls.old }
 {
     let number = *calls;
     *calls = number.wrapping_add(1);
     match fuse {
         None => false,
-        Some(fuse) => fuse.burns(number),
+        Some(fuse) => fuse.fails(number),
     }
 }
 
@@ -211,13 +211,13 @@ impl Site for MemorySite {
 
     fn length(&mut self, side: Side) -> Result<u64, DeviceFault>
         ensures call { CountsCall self.old self.new }
-        ensures fuse { IsTrue (is_err result) ↔ MayBurn (memory_fuse self.old) (memory_calls self.old) }
+        ensures fuse { IsTrue (is_err result) ↔ MayFail (memory_fuse self.old) (memory_calls self.old) }
         ensures value { IfOk result (λ n. n ≡ length (memory_state self.old side).bytes) }
         ensures same { memory_state self.new ≡ memory_state self.old }
         ensures time { Elapses (memory_moment self.old) (memory_moment self.new) (memory_left_since self.old) (memory_left_since self.new) Nothing }
         ensures fault { CountsFault (memory_failures self.old) (memory_failures self.new) side Length result }
     {
-        let fails = burns(&mut self.calls, &self.fuse);
+        let fails = next_fails(&mut self.calls, &self.fuse);
         count(fails, &mut self.failures, side, Call::Length)?;
         Ok(self.disk.bytes(side).len() as u64)
     }
@@ -225,13 +225,13 @@ impl Site for MemorySite {
     fn read(&mut self, side: Side, place: u64, into: &mut [u8]) -> Result<(), DeviceFault>
         requires { place + length into.old ≤ length (memory_state self.old side).bytes }
         ensures call { CountsCall self.old self.new }
-        ensures fuse { IsTrue (is_err result) ↔ MayBurn (memory_fuse self.old) (memory_calls self.old) }
+        ensures fuse { IsTrue (is_err result) ↔ MayFail (memory_fuse self.old) (memory_calls self.old) }
         ensures value { OnOk result (into.new ≡ take (length into.old) (drop place (memory_state self.old side).bytes)) }
         ensures same { memory_state self.new ≡ memory_state self.old }
         ensures time { Elapses (memory_moment self.old) (memory_moment self.new) (memory_left_since self.old) (memory_left_since self.new) Nothing }
         ensures fault { CountsFault (memory_failures self.old) (memory_failures self.new) side Read result }
     {
-        let fails = burns(&mut self.calls, &self.fuse);
+        let fails = next_fails(&mut self.calls, &self.fuse);
         count(fails, &mut self.failures, side, Call::Read)?;
         let place = place as usize;
         into.copy_from_slice(&self.disk.bytes(side)[place..place + into.len()]);
@@ -241,14 +241,14 @@ impl Site for MemorySite {
     fn write_at(&mut self, side: Side, place: u64, bytes: &[u8]) -> Result<(), DeviceFault>
         requires { place ≤ length (memory_state self.old side).bytes }
         ensures call { CountsCall self.old self.new }
-        ensures fuse { MayBurn (memory_fuse self.old) (memory_calls self.old) → IsTrue (is_err result) }
+        ensures fuse { MayFail (memory_fuse self.old) (memory_calls self.old) → IsTrue (is_err result) }
         ensures value { OnOk result (memory_state self.new side ≡ written (memory_state self.old side) place bytes.now) }
         ensures failed { OnErr result ((memory_state self.new side ≡ touch (memory_state self.old side) place (length bytes.now)) ⊎ (memory_state self.new side ≡ memory_state self.old side)) }
         ensures other_side { memory_state self.new (other side) ≡ memory_state self.old (other side) }
         ensures time { Elapses (memory_moment self.old) (memory_moment self.new) (memory_left_since self.old) (memory_left_since self.new) (Within side (touch (memory_state self.old side) place (length bytes.now)) (memory_state self.old) (memory_outputs self.old)) }
         ensures fault { CountsFault (memory_failures self.old) (memory_failures self.new) side Write result }
     {
-        let fails = burns(&mut self.calls, &self.fuse);
+        let fails = next_fails(&mut self.calls, &self.fuse);
         let told = self.outputs.len();
         let outcome = self.disk.write(fails, told, side, place as usize, bytes);
         count(outcome.is_err(), &mut self.failures, side, Call::Write)
@@ -257,14 +257,14 @@ impl Site for MemorySite {
     fn cut(&mut self, side: Side, len: u64) -> Result<(), DeviceFault>
         requires { len ≤ length (memory_state self.old side).bytes }
         ensures call { CountsCall self.old self.new }
-        ensures fuse { MayBurn (memory_fuse self.old) (memory_calls self.old) → IsTrue (is_err result) }
+        ensures fuse { MayFail (memory_fuse self.old) (memory_calls self.old) → IsTrue (is_err result) }
         ensures value { OnOk result (memory_state self.new side ≡ cut_to (memory_state self.old side) len) }
         ensures failed { OnErr result ((memory_state self.new side ≡ shift (memory_state self.old side) len) ⊎ (memory_state self.new side ≡ memory_state self.old side)) }
         ensures other_side { memory_state self.new (other side) ≡ memory_state self.old (other side) }
         ensures time { Elapses (memory_moment self.old) (memory_moment self.new) (memory_left_since self.old) (memory_left_since self.new) (Within side (shift (memory_state self.old side) len) (memory_state self.old) (memory_outputs self.old)) }
         ensures fault { CountsFault (memory_failures self.old) (memory_failures self.new) side Cut result }
     {
-        let fails = burns(&mut self.calls, &self.fuse);
+        let fails = next_fails(&mut self.calls, &self.fuse);
         let told = self.outputs.len();
         let outcome = self.disk.cut(fails, told, side, len as usize);
         count(outcome.is_err(), &mut self.failures, side, Call::Cut)
@@ -272,14 +272,14 @@ impl Site for MemorySite {
 
     fn sync(&mut self, side: Side) -> Result<(), DeviceFault>
         ensures call { CountsCall self.old self.new }
-        ensures fuse { MayBurn (memory_fuse self.old) (memory_calls self.old) → IsTrue (is_err result) }
+        ensures fuse { MayFail (memory_fuse self.old) (memory_calls self.old) → IsTrue (is_err result) }
         ensures value { OnOk result (memory_state self.new side ≡ settled (memory_state self.old side)) }
         ensures failed { OnErr result (memory_state self.new side ≡ memory_state self.old side) }
         ensures other_side { memory_state self.new (other side) ≡ memory_state self.old (other side) }
         ensures time { Elapses (memory_moment self.old) (memory_moment self.new) (memory_left_since self.old) (memory_left_since self.new) Nothing }
         ensures fault { CountsFault (memory_failures self.old) (memory_failures self.new) side Sync result }
     {
-        let fails = burns(&mut self.calls, &self.fuse);
+        let fails = next_fails(&mut self.calls, &self.fuse);
         let told = self.outputs.len();
         let outcome = self.disk.sync(fails, told, side);
         count(outcome.is_err(), &mut self.failures, side, Call::Sync)

@@ -10,7 +10,7 @@ use crate::site::{DeviceFault, Side, Site};
 /// How long a side is, in bytes.
 pub fn length_of<S: Site>(site: &mut S, side: Side) -> Result<u64, DeviceFault>
     ensures value { S.honest site.old → IfOk result (λ n. n ≡ length (S.state site.old side).bytes) }
-    ensures reads { OnlyReads S.honest S.tells S.state S.sent S.moment S.left_since site.old site.new }
+    ensures reads { OnlyReads S.Site site.old site.new }
     ensures fault { CountsFault (S.failures site.old) (S.failures site.new) side Length result }
 {
     site.length(side)
@@ -25,7 +25,7 @@ pub fn read_into<S: Site>(
 ) -> Result<(), DeviceFault>
     requires { S.honest site.old → place + length into.old ≤ length (S.state site.old side).bytes }
     ensures value { S.honest site.old → OnOk result (into.new ≡ take (length into.old) (drop place (S.state site.old side).bytes)) }
-    ensures reads { OnlyReads S.honest S.tells S.state S.sent S.moment S.left_since site.old site.new }
+    ensures reads { OnlyReads S.Site site.old site.new }
     ensures fault { CountsFault (S.failures site.old) (S.failures site.new) side Read result }
 {
     site.read(side, place, into)
@@ -41,7 +41,7 @@ pub fn fill_buffer<S: Site>(
     requires { S.honest site.old → place + vec_len buffer.old ≤ length (S.state site.old side).bytes }
     ensures value { S.honest site.old → OnOk result (buffer.new.items ≡ take (vec_len buffer.old) (drop place (S.state site.old side).bytes)) }
     ensures len { vec_len buffer.new ≡ vec_len buffer.old }
-    ensures reads { OnlyReads S.honest S.tells S.state S.sent S.moment S.left_since site.old site.new }
+    ensures reads { OnlyReads S.Site site.old site.new }
     ensures fault { CountsFault (S.failures site.old) (S.failures site.new) side Read result }
 {
     read_into(site, side, place, buffer.as_mut_slice())

@@ -5,6 +5,7 @@ ghost use Rattle.std.specs.Cmp.Rules.{comparing};
 ghost use Rattle.std.specs.List.{AllByRecursion};
 ghost use Rattle.std.specs.Ordering.{on};
 ghost use Rattle.cc_views.specs.Ascending.{IsAscending};
+ghost use Rattle.cc_views.specs.Limits.{set_limit};
 ghost use Rattle.cc_views.specs.NatSets as set;
 ghost use Rattle.cc_views.specs.NatSets.{marked, items};
 ghost use Rattle.cc_views.specs.Tables.{IsRising, IsPlaceOf};
@@ -21,6 +22,7 @@ pub struct NumberSet {
 
 impl Model for NumberSet {
     ghost use Rattle.std.specs.Prelude.{length, take};
+    ghost use Rattle.cc_views.specs.Limits.{set_limit};
     ghost use Rattle.cc_views.specs.NatSets.{NatSet, set_code, marked, items};
     ghost use Rattle.cc_views.specs.Tables.{table_of};
     ghost use Rattle.cc_views.specs.Room.{filled};
@@ -34,7 +36,7 @@ impl Model for NumberSet {
 
     ghost invariant = { λ s. IsNumberTable s.numbers s.len };
 
-    ghost inverse = { λ s. record { numbers = filled 32 (items s); len = length (items s) } };
+    ghost inverse = { λ s. record { numbers = filled set_limit (items s); len = length (items s) } };
 
     ghost inverse_ok = { λ s h i. record { numbers = (cells_of_items s.numbers s.len h).0 i; len = (cells_of_items s.numbers s.len h).1 i } };
 }
@@ -58,7 +60,7 @@ impl NumberSet {
     /// How many numbers there are.
     pub fn len(&self) -> usize
         ensures len { result ≡ set.len self.now }
-        ensures fits { result ≤ 32 }
+        ensures fits { result ≤ set_limit }
     {
         self.as_slice().len()
     }
@@ -67,7 +69,7 @@ impl NumberSet {
     pub fn as_slice(&self) -> &[u32]
         ensures numbers { result.now ≡ items self.now }
         ensures ascending { IsAscending result.now }
-        ensures fits { length result.now ≤ 32 }
+        ensures fits { length result.now ≤ set_limit }
     {
         &self.numbers[..self.len]
     }
@@ -81,7 +83,7 @@ impl NumberSet {
 
     /// Adds a number above those that are there.
     pub fn push(&mut self, number: u32)
-        requires room { set.len self.old < 32 }
+        requires room { set.len self.old < set_limit }
         requires above { AllByRecursion (λ n. n < number) (items self.old) }
         ensures set { self.new ≡ set.insert self.old number }
         ensures items { items self.new ≡ items self.old ++ number ∷ [] }
@@ -92,7 +94,7 @@ impl NumberSet {
 
     /// Adds a number, which changes nothing where it is there.
     pub fn insert(&mut self, number: u32)
-        requires { set.len (set.insert self.old number) ≤ 32 }
+        requires { set.len (set.insert self.old number) ≤ set_limit }
         ensures { self.new ≡ set.insert self.old number }
     {
         if let Err(at) = place_of(self.as_slice(), number) {

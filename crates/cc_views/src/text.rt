@@ -1,4 +1,5 @@
 ghost use Rattle.std.specs.Prelude.{◌≡◌, ◌≤◌, ◌↔◌, [], length, IsSome, IfSome};
+ghost use Rattle.cc_views.specs.Limits.{text_limit};
 
 use std::marker::Model;
 
@@ -12,17 +13,18 @@ pub struct Text {
 
 impl Model for Text {
     ghost use Rattle.std.specs.Prelude.{ℕ, List, length, take};
+    ghost use Rattle.cc_views.specs.Limits.{text_limit};
     ghost use Rattle.cc_views.specs.Room.{IsRoom, filled, filled_of_used};
 
     ghost Value = { List ℕ };
 
     ghost view = { λ t. take t.len t.bytes };
 
-    ghost invariant = { λ t. IsRoom 64 t.bytes t.len };
+    ghost invariant = { λ t. IsRoom text_limit t.bytes t.len };
 
-    ghost inverse = { λ xs. record { bytes = filled 64 xs; len = length xs } };
+    ghost inverse = { λ xs. record { bytes = filled text_limit xs; len = length xs } };
 
-    ghost inverse_ok = { λ t h i. record { bytes = (filled_of_used 64 t.bytes t.len h).0 i; len = (filled_of_used 64 t.bytes t.len h).1 i } };
+    ghost inverse_ok = { λ t h i. record { bytes = (filled_of_used text_limit t.bytes t.len h).0 i; len = (filled_of_used text_limit t.bytes t.len h).1 i } };
 }
 
 impl Text {
@@ -31,7 +33,7 @@ impl Text {
 
     /// None above 64 bytes.
     pub fn new(bytes: &[u8]) -> Option<Self>
-        ensures some { IsSome result ↔ (length bytes.now ≤ 64) }
+        ensures some { IsSome result ↔ (length bytes.now ≤ text_limit) }
         ensures text { IfSome result (λ t. t ≡ bytes.now) }
     {
         let len = bytes.len();
@@ -56,7 +58,7 @@ impl Text {
     /// The bytes, as they were given.
     pub fn as_bytes(&self) -> &[u8]
         ensures bytes { result.now ≡ self.now }
-        ensures fits { length self.now ≤ 64 }
+        ensures fits { length self.now ≤ text_limit }
     {
         &self.bytes[..self.len]
     }

@@ -5,6 +5,7 @@ ghost use Rattle.std.specs.Vec.{vec_capacity};
 ghost use Rattle.std.specs.List.{AllByRecursion, list_all};
 ghost use Rattle.std.specs.FinMap as map;
 ghost use Rattle.cc_views.specs.Ascending.{IsAscending};
+ghost use Rattle.cc_views.specs.Limits.{known_limit};
 ghost use Rattle.cc_views.specs.Rows.{ViewMap, entry_of, entries_of, rows_of, single, absorbed, absorbed_all};
 ghost use Rattle.cc_views.specs.Tables.{IsRising, IsPlaceOf};
 ghost use Rattle.cc_views.specs.Merge.{merge, MergesAtEachNode, IsAtMost, Agree, keeps};
@@ -24,6 +25,7 @@ pub struct View {
 
 impl Model for View {
     ghost use Rattle.std.specs.Vec.{vec_capacity};
+    ghost use Rattle.cc_views.specs.Limits.{known_limit};
     ghost use Rattle.cc_views.specs.Rows.{ViewMap, view_code, entry_of};
     ghost use Rattle.cc_views.specs.Tables.{IsTable, table_of};
 
@@ -33,7 +35,7 @@ impl Model for View {
 
     ghost view = { λ v. table_of entry_of v.rows.items };
 
-    ghost invariant = { λ v. IsTable entry_of 256 v.rows.items (vec_capacity v.rows) };
+    ghost invariant = { λ v. IsTable entry_of known_limit v.rows.items (vec_capacity v.rows) };
 }
 
 impl View {
@@ -71,7 +73,7 @@ impl View {
     pub fn rows(&self) -> &[Row]
         ensures rows { result.now ≡ rows_of self.now }
         ensures ascending { IsAscending (list_map (λ row. row.node) result.now) }
-        ensures fits { map.len self.now ≤ 256 }
+        ensures fits { map.len self.now ≤ known_limit }
     {
         &self.rows
     }
@@ -89,7 +91,7 @@ impl View {
 
     /// Adds a row whose node is above those of all rows here.
     pub fn push(&mut self, row: Row)
-        requires room { map.len self.old < 256 }
+        requires room { map.len self.old < known_limit }
         requires above { AllByRecursion (λ r. r.node < row.node) (rows_of self.old) }
         ensures map { self.new ≡ map.insert self.old row.node (row.number, row.value) }
         ensures rows { rows_of self.new ≡ rows_of self.old ++ row ∷ [] }
@@ -107,7 +109,7 @@ impl View {
 
     /// Takes a row where its node is new, or its number is greater than that of its node here.
     pub fn merge_row(&mut self, row: Row)
-        requires { map.len (merge self.old (single row)) ≤ 256 }
+        requires { map.len (merge self.old (single row)) ≤ known_limit }
         ensures { self.new ≡ merge self.old (single row) }
     {
         absorb_all(&mut self.rows, &[row]);
@@ -116,7 +118,7 @@ impl View {
     /// Takes each row of `other` whose node is new, or whose number is greater than that of its node here (CCC, merge of
     /// views). On equal numbers the row here stays (own choice).
     pub fn merge(&mut self, other: &View)
-        requires { map.len (merge self.old other.now) ≤ 256 }
+        requires { map.len (merge self.old other.now) ≤ known_limit }
         ensures { self.new ≡ merge self.old other.now }
     {
         absorb_all(&mut self.rows, &other.rows);
@@ -147,10 +149,10 @@ fn place_of(rows: &[Row], node: NodeId) -> Result<usize, usize>
 
 fn absorb(rows: &mut Vec<Row>, row: Row)
     requires rising { IsRising entry_of rows.old.items }
-    requires room { 256 ≤ vec_capacity rows.old }
-    requires fits { length (absorbed (entries_of rows.old.items) row) ≤ 256 }
+    requires room { known_limit ≤ vec_capacity rows.old }
+    requires fits { length (absorbed (entries_of rows.old.items) row) ≤ known_limit }
     ensures rows { entries_of rows.new.items ≡ absorbed (entries_of rows.old.items) row }
-    ensures room { 256 ≤ vec_capacity rows.new }
+    ensures room { known_limit ≤ vec_capacity rows.new }
 {
     match place_of(rows, row.node) {
         Ok(at) => {
@@ -164,10 +166,10 @@ fn absorb(rows: &mut Vec<Row>, row: Row)
 
 fn absorb_all(rows: &mut Vec<Row>, others: &[Row])
     requires rising { IsRising entry_of rows.old.items }
-    requires room { 256 ≤ vec_capacity rows.old }
-    requires fits { length (absorbed_all (entries_of rows.old.items) others.now) ≤ 256 }
+    requires room { known_limit ≤ vec_capacity rows.old }
+    requires fits { length (absorbed_all (entries_of rows.old.items) others.now) ≤ known_limit }
     ensures rows { entries_of rows.new.items ≡ absorbed_all (entries_of rows.old.items) others.now }
-    ensures room { 256 ≤ vec_capacity rows.new }
+    ensures room { known_limit ≤ vec_capacity rows.new }
 {
     for row in others {
         absorb(rows, *row);

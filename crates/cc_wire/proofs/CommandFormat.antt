@@ -1,14 +1,11 @@
 -- Commands are read as they are spelled.
-use Rattle.std.proofs.Common.{◌≡◌, ℕ, cond, eqb, List, [], ◌∷◌, ◌++◌, Result, Ok, Err, refl, ap, ◌∙◌}
-use Rattle.std.specs.Prelude.{IfOk}
-use Rattle.cc_wire.specs.declared.fault.WireFault.{WireFault}
+use Rattle.std.proofs.Common.{◌≡◌, ℕ, cond, eqb, List, [], ◌∷◌, ◌++◌, Ok, refl}
 use Rattle.cc_wire.specs.declared.command.Command.{Command}
 use Rattle.cc_wire.specs.declared.command.Command.TheVariants.{Store, Collect, WriteMax, ReadMax, SetFlag, ReadFlag, AddMember, ReadSet}
-use Rattle.cc_wire.specs.Reading.{Reading, via, Gives, byte_at, whole}
-use Rattle.cc_wire.specs.Commands.{command_spelling, IsCommand, SpellsCommand, command_fields, command_at}
-use Rattle.cc_wire.proofs.Spelled.{IsBytes, bind_ok, Takes, Spelled, byte_spelled, nothing_spelled, kind_or}
+use Rattle.cc_wire.specs.Reading.{Reading, via}
+use Rattle.cc_wire.specs.Commands.{command_spelling, IsCommand, command_fields, command_at}
+use Rattle.cc_wire.proofs.Spelled.{IsBytes, Takes, Spelled, nothing_spelled, kind_or, kinded_takes}
 use Rattle.cc_wire.proofs.Formats.{text_spelled, u32_spelled, u64_spelled}
-use Rattle.cc_wire.proofs.Whole.{whole_takes, whole_again}
 
 module _ (bytes after : List ℕ) (k : ℕ) (m : Command) (rest : List ℕ) (fits : IsBytes after) (front : Takes bytes (k ∷ []) after) where
   abbrev case : {A : Type 0} {r : Reading A} {P : A → Type 0} {f : A → List ℕ} (spelled : Spelled r P f) (make : A → Command) (kind : ℕ)
@@ -29,13 +26,6 @@ module _ (bytes after : List ℕ) (k : ℕ) (m : Command) (rest : List ℕ) (fit
       case nothing_spelled (λ _. ReadSet) 8 (λ a h. h) (λ a. refl) _ (
       λ e. absurd cc))))))))
 
-command_takes : (bytes : List ℕ) (m : Command) (rest : List ℕ) → IsBytes bytes → command_at bytes ≡ Ok (m, rest) → Takes bytes (command_spelling m) rest × IsCommand m
-unfolding command_at
-command_takes bytes m rest fits e =
-    let k = bind_ok (byte_at bytes) (λ kind. command_fields kind.0 kind.1) (m, rest) e in
-    let front = byte_spelled.takes bytes k.0.0 k.0.1 fits k.1 in
-    fields_take bytes k.0.1 k.0.0 m rest front.0.left front.0 k.2
-
 command_again : (m : Command) (rest : List ℕ) → IsCommand m → command_at (command_spelling m ++ rest) ≡ Ok (m, rest)
 unfolding command_at
 command_again (Store text) rest is = rw (text_spelled.again text rest is) refl
@@ -48,11 +38,5 @@ command_again (AddMember number) rest is = rw (u32_spelled.again number rest is)
 command_again ReadSet rest is = refl
 
 pub command_spelled : Spelled command_at IsCommand command_spelling
-command_spelled = record { takes = command_takes; again = command_again }
-
-pub command_is_found : (bytes : List ℕ) (r : Result Command WireFault) → IsBytes bytes → Gives (λ m. m) r (whole command_at bytes) → IfOk r (SpellsCommand bytes)
-command_is_found bytes (Ok m) fits given = let t = whole_takes command_spelled bytes m fits given in record { lawful = t.0; spelled = t.1 }
-command_is_found bytes (Err e) fits given = tt
-
-pub command_is_only : (bytes : List ℕ) (m : Command) → SpellsCommand bytes m → whole command_at bytes ≡ Ok m
-command_is_only bytes m is = ap (whole command_at) is.spelled ∙ whole_again command_spelled m is.lawful
+unfolding command_at
+command_spelled = record { takes = kinded_takes fields_take; again = command_again }

@@ -1,16 +1,13 @@
 -- Events are read as they are spelled.
-use Rattle.std.proofs.Common.{◌≡◌, ℕ, cond, eqb, List, [], ◌∷◌, ◌++◌, Result, Ok, Err, refl, ap, ◌∙◌}
-use Rattle.std.specs.Prelude.{IfOk}
-use Rattle.cc_wire.specs.declared.fault.WireFault.{WireFault}
+use Rattle.std.proofs.Common.{◌≡◌, ℕ, cond, eqb, List, [], ◌∷◌, ◌++◌, Ok, refl}
 use Rattle.cc_wire.specs.declared.event.Event.{Event}
 use Rattle.cc_wire.specs.declared.event.Event.TheVariants.{Enter, Leave, Deliver, Acked, Ask}
-use Rattle.cc_wire.specs.Reading.{Reading, via, Gives, byte_at, whole}
-use Rattle.cc_wire.specs.Events.{numbered_spelling, IsNumbered, numbered_at, delivery_spelling, IsDelivery, delivery_at, place_spelling, IsPlace, place_at, asked_spelling, IsAsked, asked_at, event_spelling, IsEvent, SpellsEvent, event_fields, event_at}
-use Rattle.cc_wire.proofs.Spelled.{IsBytes, bind_ok, Takes, Spelled, both, as_facts, byte_spelled, nothing_spelled, kind_or}
+use Rattle.cc_wire.specs.Reading.{Reading, via}
+use Rattle.cc_wire.specs.Events.{numbered_spelling, IsNumbered, numbered_at, delivery_spelling, IsDelivery, delivery_at, place_spelling, IsPlace, place_at, asked_spelling, IsAsked, asked_at, event_spelling, IsEvent, event_fields, event_at}
+use Rattle.cc_wire.proofs.Spelled.{IsBytes, Takes, Spelled, both, as_facts, nothing_spelled, kind_or, kinded_takes}
 use Rattle.cc_wire.proofs.Formats.{id_spelled, u64_spelled}
 use Rattle.cc_wire.proofs.MessageFormat.{message_spelled}
 use Rattle.cc_wire.proofs.CommandFormat.{command_spelled}
-use Rattle.cc_wire.proofs.Whole.{whole_takes, whole_again}
 
 pub numbered_spelled : Spelled numbered_at (λ f. IsNumbered f.0 f.1) (λ f. numbered_spelling f.0 f.1)
 numbered_spelled = as_facts (λ f. IsNumbered f.0 f.1)
@@ -52,13 +49,6 @@ module _ (bytes after : List ℕ) (k : ℕ) (m : Event) (rest : List ℕ) (fits 
       case asked_spelled (λ f. Ask f.0.0 f.0.1 f.1) 5 (λ a h. h) (λ a. refl) _ (
       λ e. absurd cc)))))
 
-event_takes : (bytes : List ℕ) (m : Event) (rest : List ℕ) → IsBytes bytes → event_at bytes ≡ Ok (m, rest) → Takes bytes (event_spelling m) rest × IsEvent m
-unfolding event_at
-event_takes bytes m rest fits e =
-    let k = bind_ok (byte_at bytes) (λ kind. event_fields kind.0 kind.1) (m, rest) e in
-    let front = byte_spelled.takes bytes k.0.0 k.0.1 fits k.1 in
-    fields_take bytes k.0.1 k.0.0 m rest front.0.left front.0 k.2
-
 event_again : (m : Event) (rest : List ℕ) → IsEvent m → event_at (event_spelling m ++ rest) ≡ Ok (m, rest)
 unfolding event_at
 event_again Enter rest is = refl
@@ -68,11 +58,5 @@ event_again (Acked peer number) rest is = rw (numbered_spelled.again (peer, numb
 event_again (Ask session request command) rest is = rw (asked_spelled.again ((session, request), command) rest is) refl
 
 pub event_spelled : Spelled event_at IsEvent event_spelling
-event_spelled = record { takes = event_takes; again = event_again }
-
-pub event_is_found : (bytes : List ℕ) (r : Result Event WireFault) → IsBytes bytes → Gives (λ m. m) r (whole event_at bytes) → IfOk r (SpellsEvent bytes)
-event_is_found bytes (Ok m) fits given = let t = whole_takes event_spelled bytes m fits given in record { lawful = t.0; spelled = t.1 }
-event_is_found bytes (Err e) fits given = tt
-
-pub event_is_only : (bytes : List ℕ) (m : Event) → SpellsEvent bytes m → whole event_at bytes ≡ Ok m
-event_is_only bytes m is = ap (whole event_at) is.spelled ∙ whole_again event_spelled m is.lawful
+unfolding event_at
+event_spelled = record { takes = kinded_takes fields_take; again = event_again }

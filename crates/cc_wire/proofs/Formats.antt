@@ -1,5 +1,5 @@
 -- Each format is read as it is spelled.
-use Rattle.std.proofs.Common.{◌≡◌, ℕ, zero, suc, ◌+◌, ◌^◌, ◌<◌, ◌≤◌, Bool, true, false, ltb, List, [], ◌∷◌, ◌++◌, map as list_map, length, Result, Ok, Err, refl, sym, ap, subst, ◌∙◌, arith}
+use Rattle.std.proofs.Common.{◌≡◌, ℕ, zero, suc, ◌+◌, ◌^◌, ◌<◌, ◌≤◌, Bool, true, false, ltb, List, [], ◌∷◌, ◌++◌, map as list_map, length, Ok, refl, sym, ap, subst, ◌∙◌, arith}
 use Rattle.std.specs.Int.{w16, w32, w64, to_be_bytes}
 use Rattle.std.specs.List.{flat_map, AllByRecursion}
 use Rattle.std.specs.FinMap as map
@@ -15,14 +15,10 @@ use Rattle.cc_views.specs.Rows.{ViewMap, entry_of, rows_of}
 use Rattle.cc_views.specs.Tables.{IsRising, keys_ascend, rising_of_keys}
 use Rattle.cc_views.specs.Entries.{from_T}
 use Rattle.cc_views.proofs.Absorbs.{rows_back}
-use Rattle.cc_wire.specs.declared.fault.WireFault.{WireFault}
 use Rattle.cc_wire.specs.declared.fault.WireFault.TheVariants.{NotAscending, TooLarge}
 use Rattle.cc_wire.specs.Reading.{Reading, via, byte_at, number_at, limited, number_from, flag_with, flag_at, text_at, numbers_at, number_set_at, number_list_at, listed_at, value_with, value_at, row_with, row_at, row_list_at, view_with, view_at, id_set_at, changes_with, changes_at}
-use Rattle.cc_wire.specs.Spelling.{text_spelling, IsText, flag_spelling, number_spelling, number_set_spelling, IsNumberSet, value_spelling, IsValue, row_spelling, IsRow, view_spelling, IsView, SpellsView, number_list_spelling, IsNumberList, id_set_spelling, IsId, IsIdSet, changes_spelling, IsChanges}
+use Rattle.cc_wire.specs.Spelling.{text_spelling, IsText, flag_spelling, number_spelling, number_set_spelling, IsNumberSet, value_spelling, IsValue, row_spelling, IsRow, view_spelling, IsView, number_list_spelling, IsNumberList, id_set_spelling, IsId, IsIdSet, changes_spelling, IsChanges}
 use Rattle.cc_wire.proofs.Spelled.{IsBytes, ok_is, Takes, Spelled, both, as_fields, as_facts, tested, counted, IsRun, items_spelled, byte_spelled, bytes_spelled, IsWide, number_spelled}
-use Rattle.std.specs.Prelude.{IfOk}
-use Rattle.cc_wire.specs.Reading.{Gives, whole}
-use Rattle.cc_wire.proofs.Whole.{whole_takes, whole_again}
 use Rattle.cc_wire.proofs.Views.{len-rows_of, view_of_rows, entries_of_rows}
 
 -- ---- numbers
@@ -252,13 +248,6 @@ view_spelled = record {
       (omega (arith, is.fits, len-rows_of v), omega (arith, is.fits, len-rows_of v)),
       run_of_ascending node_of HasRowFields 1 (rows_of v) (ids_above (rows_of v) is.rows) (keys_ascend entry_of (rows_of v) (rising_rows_of v)) (fields_of_rows (rows_of v) is.rows),
     )
-
-pub view_is_found : (bytes : List ℕ) (r : Result ViewMap WireFault) → IsBytes bytes → Gives (λ v. v) r (whole view_at bytes) → IfOk r (SpellsView bytes)
-view_is_found bytes (Ok v) fits given = let t = whole_takes view_spelled bytes v fits given in record { lawful = t.0; spelled = t.1 }
-view_is_found bytes (Err e) fits given = tt
-
-pub view_is_only : (bytes : List ℕ) (v : ViewMap) → SpellsView bytes v → whole view_at bytes ≡ Ok v
-view_is_only bytes v is = ap (whole view_at) is.spelled ∙ whole_again view_spelled v is.lawful
 
 -- ---- sets of ids
 

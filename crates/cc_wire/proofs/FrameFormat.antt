@@ -1,17 +1,15 @@
 -- Frames are read as they are spelled.
-use Rattle.std.proofs.Common.{◌≡◌, ℕ, ◌≤◌, ◌<◌, ◌^◌, false, cond, eqb, ltb, List, [], ◌∷◌, ◌++◌, length, take, drop, Result, Ok, Err, refl, sym, ap, subst, ◌∙◌, arith}
-use Rattle.std.specs.Prelude.{IfOk}
+use Rattle.std.proofs.Common.{◌≡◌, ℕ, ◌≤◌, ◌<◌, ◌^◌, false, cond, eqb, ltb, List, [], ◌∷◌, ◌++◌, length, take, drop, Ok, refl, sym, ap, subst, ◌∙◌, arith}
 use Rattle.std.specs.Int.{w32, to_be_bytes}
 use Rattle.std.proofs.lemmas.Bool.{le-ltb}
 use Rattle.std.proofs.lemmas.Bool.Decides.{nat_tests}
 use Rattle.std.proofs.lemmas.List.{take_at, drop_at, length-append}
-use Rattle.cc_wire.specs.declared.fault.WireFault.{WireFault}
 use Rattle.cc_wire.specs.declared.fault.WireFault.TheVariants.{Short}
 use Rattle.cc_wire.specs.declared.frame.Frame.{Frame}
 use Rattle.cc_wire.specs.declared.frame.Frame.TheVariants.{Post, Ack, Ask, Reply, Refused, Leave}
-use Rattle.cc_wire.specs.Reading.{◌>>=◌, Reading, via, Gives, byte_at, bytes_at, whole}
-use Rattle.cc_wire.specs.Frames.{replied_spelling, IsReplied, replied_at, refused_spelling, IsRefused, refused_at, body_spelling, frame_spelling, IsFrame, SpellsFrame, body_fields, body_at, body_length_at, enclosed_at, frame_at}
-use Rattle.cc_wire.proofs.Spelled.{IsBytes, bind_ok, guard_ok, ok_is, Takes, Spelled, both, as_facts, tested, counted, byte_spelled, bytes_spelled, nothing_spelled, kind_or}
+use Rattle.cc_wire.specs.Reading.{◌>>=◌, Reading, via, bytes_at, whole}
+use Rattle.cc_wire.specs.Frames.{replied_spelling, IsReplied, replied_at, refused_spelling, IsRefused, refused_at, body_spelling, frame_spelling, IsFrame, body_fields, body_at, body_length_at, enclosed_at, frame_at}
+use Rattle.cc_wire.proofs.Spelled.{IsBytes, bind_ok, guard_ok, ok_is, Takes, Spelled, both, as_facts, tested, counted, byte_spelled, bytes_spelled, nothing_spelled, kind_or, kinded_takes}
 use Rattle.cc_wire.proofs.Formats.{limited_spelled, u32_spelled, u64_spelled}
 use Rattle.cc_wire.proofs.AnswerFormat.{answer_spelled}
 use Rattle.cc_wire.proofs.EventFormat.{numbered_spelled, delivery_spelled, place_spelled, asked_spelled}
@@ -52,15 +50,7 @@ module _ (bytes after : List ℕ) (k : ℕ) (m : Frame) (rest : List ℕ) (fits 
       case nothing_spelled (λ _. Leave) 6 (λ a h. h) (λ a. refl) _ (
       λ e. absurd cc))))))
 
--- what is read of a body is spelled so
-body_takes : (bytes : List ℕ) (m : Frame) (rest : List ℕ) → IsBytes bytes → body_at bytes ≡ Ok (m, rest) → Takes bytes (body_spelling m) rest × IsFrame m
-unfolding body_at
-body_takes bytes m rest fits e =
-    let k = bind_ok (byte_at bytes) (λ kind. body_fields kind.0 kind.1) (m, rest) e in
-    let front = byte_spelled.takes bytes k.0.0 k.0.1 fits k.1 in
-    fields_take bytes k.0.1 k.0.0 m rest front.0.left front.0 k.2
-
--- and what is spelled so is read again
+-- what is spelled so is read again
 body_again : (m : Frame) (rest : List ℕ) → IsFrame m → body_at (body_spelling m ++ rest) ≡ Ok (m, rest)
 unfolding body_at
 body_again (Post from number message) rest is = rw (delivery_spelled.again ((from, number), message) rest is) refl
@@ -71,7 +61,8 @@ body_again (Refused session request refusal value) rest is = rw (refused_spelled
 body_again Leave rest is = refl
 
 pub body_spelled : Spelled body_at IsFrame body_spelling
-body_spelled = record { takes = body_takes; again = body_again }
+unfolding body_at
+body_spelled = record { takes = kinded_takes fields_take; again = body_again }
 
 -- ---- lengths
 
@@ -129,12 +120,3 @@ frame_spelled = as_facts IsFrame
     (λ f h. h.1)
     (λ f h. (((omega (arith, length-body f h), omega (arith, length-body f h)), length-body-positive f), h))
     (counted (λ f. length (body_spelling f)) length_spelled enclosed_spelled)
-
--- what is found in the bytes is spelled by them
-pub frame_is_found : (bytes : List ℕ) (r : Result Frame WireFault) → IsBytes bytes → Gives (λ m. m) r (whole frame_at bytes) → IfOk r (SpellsFrame bytes)
-frame_is_found bytes (Ok m) fits given = let t = whole_takes frame_spelled bytes m fits given in record { lawful = t.0; spelled = t.1 }
-frame_is_found bytes (Err e) fits given = tt
-
--- what the bytes spell is what is found
-pub frame_is_only : (bytes : List ℕ) (m : Frame) → SpellsFrame bytes m → whole frame_at bytes ≡ Ok m
-frame_is_only bytes m is = ap (whole frame_at) is.spelled ∙ whole_again frame_spelled m is.lawful

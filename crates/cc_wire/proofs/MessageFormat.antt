@@ -1,14 +1,11 @@
 -- Messages are read as they are spelled.
-use Rattle.std.proofs.Common.{◌≡◌, ℕ, cond, eqb, List, [], ◌∷◌, ◌++◌, Result, Ok, Err, refl, ap, ◌∙◌}
-use Rattle.std.specs.Prelude.{IfOk}
-use Rattle.cc_wire.specs.declared.fault.WireFault.{WireFault}
+use Rattle.std.proofs.Common.{◌≡◌, ℕ, cond, eqb, List, [], ◌∷◌, ◌++◌, Ok, refl}
 use Rattle.cc_wire.specs.declared.message.Message.{Message}
 use Rattle.cc_wire.specs.declared.message.Message.TheVariants.{Enter, EnterEcho, Join, JoinEcho, Leave, LeaveEcho, Query, QueryReply, Store, StoreAck}
-use Rattle.cc_wire.specs.Reading.{Reading, via, Gives, byte_at, whole}
-use Rattle.cc_wire.specs.Messages.{call_spelling, IsCall, echo_spelling, IsEcho, message_spelling, IsMessage, SpellsMessage, call_at, echo_at, fields_of, message_at}
-use Rattle.cc_wire.proofs.Spelled.{IsBytes, bind_ok, Takes, Spelled, both, as_facts, byte_spelled, kind_or}
+use Rattle.cc_wire.specs.Reading.{Reading, via}
+use Rattle.cc_wire.specs.Messages.{call_spelling, IsCall, echo_spelling, IsEcho, message_spelling, IsMessage, call_at, echo_at, fields_of, message_at}
+use Rattle.cc_wire.proofs.Spelled.{IsBytes, Takes, Spelled, both, as_facts, kind_or, kinded_takes}
 use Rattle.cc_wire.proofs.Formats.{u64_spelled, from_spelled, id_spelled, flag_spelled, view_spelled, changes_spelled}
-use Rattle.cc_wire.proofs.Whole.{whole_takes, whole_again}
 
 call_spelled : Spelled call_at (λ p. IsCall p.0 p.1) (λ p. call_spelling p.0 p.1)
 call_spelled = as_facts (λ p. IsCall p.0 p.1)
@@ -43,13 +40,6 @@ module _ (bytes after : List ℕ) (k : ℕ) (m : Message) (rest : List ℕ) (fit
       case call_spelled (λ f. StoreAck f.0 f.1) 10 (λ a h. h) (λ a. refl) _ (
       λ e. absurd cc))))))))))
 
-message_takes : (bytes : List ℕ) (m : Message) (rest : List ℕ) → IsBytes bytes → message_at bytes ≡ Ok (m, rest) → Takes bytes (message_spelling m) rest × IsMessage m
-unfolding message_at
-message_takes bytes m rest fits e =
-    let k = bind_ok (byte_at bytes) (λ kind. fields_of kind.0 kind.1) (m, rest) e in
-    let front = byte_spelled.takes bytes k.0.0 k.0.1 fits k.1 in
-    fields_take bytes k.0.1 k.0.0 m rest front.0.left front.0 k.2
-
 message_again : (m : Message) (rest : List ℕ) → IsMessage m → message_at (message_spelling m ++ rest) ≡ Ok (m, rest)
 unfolding message_at
 message_again (Enter node) rest is = rw (id_spelled.again node rest is) refl
@@ -64,11 +54,5 @@ message_again (Store view tag node) rest is = rw ((both view_spelled call_spelle
 message_again (StoreAck tag node) rest is = rw (call_spelled.again (tag, node) rest is) refl
 
 pub message_spelled : Spelled message_at IsMessage message_spelling
-message_spelled = record { takes = message_takes; again = message_again }
-
-pub message_is_found : (bytes : List ℕ) (r : Result Message WireFault) → IsBytes bytes → Gives (λ m. m) r (whole message_at bytes) → IfOk r (SpellsMessage bytes)
-message_is_found bytes (Ok m) fits given = let t = whole_takes message_spelled bytes m fits given in record { lawful = t.0; spelled = t.1 }
-message_is_found bytes (Err e) fits given = tt
-
-pub message_is_only : (bytes : List ℕ) (m : Message) → SpellsMessage bytes m → whole message_at bytes ≡ Ok m
-message_is_only bytes m is = ap (whole message_at) is.spelled ∙ whole_again message_spelled m is.lawful
+unfolding message_at
+message_spelled = record { takes = kinded_takes fields_take; again = message_again }

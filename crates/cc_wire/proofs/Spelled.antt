@@ -8,7 +8,7 @@ use Rattle.std.proofs.lemmas.List.{take_at, drop_at, take-append-drop, length-ap
 use Rattle.std.proofs.lemmas.List.Concat.{flat_map-cons}
 use Rattle.cc_wire.specs.declared.fault.WireFault.{WireFault}
 use Rattle.cc_wire.specs.declared.fault.WireFault.TheVariants.{Short}
-use Rattle.cc_wire.specs.Reading.{◌>>=◌, Reading, ◌⊗◌, via, byte_at, bytes_at, number_at, items_at, nothing_at}
+use Rattle.cc_wire.specs.Reading.{◌>>=◌, Reading, ◌⊗◌, via, byte_at, kinded, bytes_at, number_at, items_at, nothing_at}
 
 abbrev pub IsBytes : List ℕ → Type 0
 IsBytes bytes = (i : ℕ) → get_or bytes i 0 < 256
@@ -213,6 +213,15 @@ module _ {M : Type 0} (spelling : M → List ℕ) (Is : M → Type 0) (bytes aft
         | true ↦ λ is e. kind_takes spelled make kind lawful text (eqb-true k kind is) e
         | false ↦ λ _ e. next e
       ] refl e
+
+-- where the fields of each kind are read as they are spelled, so is the whole
+pub kinded_takes : {M : Type 0} {spelling : M → List ℕ} {Is : M → Type 0} {fields : ℕ → Reading M}
+    → ((bytes after : List ℕ) (k : ℕ) (m : M) (rest : List ℕ) → IsBytes after → Takes bytes (k ∷ []) after → fields k after ≡ Ok (m, rest) → Takes bytes (spelling m) rest × Is m)
+    → (bytes : List ℕ) (m : M) (rest : List ℕ) → IsBytes bytes → kinded fields bytes ≡ Ok (m, rest) → Takes bytes (spelling m) rest × Is m
+kinded_takes {fields} fields_take bytes m rest fits e =
+    let k = bind_ok (byte_at bytes) (λ kind. fields kind.0 kind.1) (m, rest) e in
+    let front = byte_spelled.takes bytes k.0.0 k.0.1 fits k.1 in
+    fields_take bytes k.0.1 k.0.0 m rest front.0.left front.0 k.2
 
 -- nothing stands behind a kind that has no fields
 pub nothing_spelled : Spelled nothing_at (λ _. Unit {0}) (λ _. [])

@@ -1,10 +1,12 @@
 -- Reading all of the bytes.
 use Rattle.std.proofs.Common.{◌≡◌, ℕ, Bool, true, false, cond, eqb, List, [], ◌++◌, length, Result, Ok, Err, refl, sym, ap, subst, ◌∙◌}
+use Rattle.std.specs.Prelude.{IfOk}
 use Rattle.std.proofs.lemmas.Bool.{eqb-true}
 use Rattle.std.proofs.lemmas.List.{append-nil, nil_from_length}
 use Rattle.cc_wire.specs.declared.fault.WireFault.{WireFault}
 use Rattle.cc_wire.specs.declared.fault.WireFault.TheVariants.{Short, BadKind, NotAscending, TooLarge, Trailing, NoMemory, Broken}
 use Rattle.cc_wire.specs.Reading.{◌>>=◌, Reading, Gives, TakesNoMemory, ended, whole}
+use Rattle.cc_wire.specs.Spelling.{Spells}
 use Rattle.cc_wire.proofs.Spelled.{IsBytes, bind_ok, ok_is, Spelled}
 
 is_ended : (b : Bool) (u : Unit {0}) (d : WireFault) → cond b (Ok tt) (Err d) ≡ Ok u → b ≡ true
@@ -31,6 +33,18 @@ module _ {X : Type 0} {read : Reading X} {Is : X → Type 0} {spelling : X → L
       let e : read (spelling x) ≡ Ok (x, []) = ap read (sym (append-nil (spelling x))) ∙ spelled.again x [] is in
       rw e refl
 
+  -- what is read is spelled so
+  pub whole_found : (bytes : List ℕ) (r : Result X WireFault) → IsBytes bytes → Gives (λ x. x) r (whole read bytes) → IfOk r (Spells Is spelling bytes)
+  whole_found bytes (Ok x) fits given = let t = whole_takes bytes x fits given in record { lawful = t.0; spelled = t.1 }
+  whole_found bytes (Err e) fits given = tt
+
+  -- and what is spelled so is read
+  pub whole_only : (bytes : List ℕ) (x : X) → Spells Is spelling bytes x → whole read bytes ≡ Ok x
+  whole_only bytes x is = ap (whole read) is.spelled ∙ whole_again x is.lawful
+
+  pub given_only : (bytes : List ℕ) (r : Result X WireFault) → Gives (λ x. x) r (whole read bytes) → (x : X) → Spells Is spelling bytes x → Gives (λ x. x) r (Ok x)
+  given_only bytes r given x is = subst (λ f. Gives (λ x. x) r f) (whole_only bytes x is) given
+
   -- no spelling begins another
   pub one_spelling : (a b u w : List ℕ) (x y : X) → Is x → Is y → a ≡ spelling x → b ≡ spelling y → a ++ u ≡ b ++ w → (x ≡ y) × (a ≡ b)
   one_spelling a b u w x y is-x is-y a-is b-is e =
@@ -39,6 +53,9 @@ module _ {X : Type 0} {read : Reading X} {Is : X → Type 0} {spelling : X → L
       let one : (x, u) ≡ (y, w) = ok_is (x, u) (y, w) (sym first ∙ ap read e ∙ second) in
       let same : x ≡ y = ap (λ (p : X × List ℕ). p.0) one in
       (same, a-is ∙ ap spelling same ∙ sym b-is)
+
+  pub only_spelling : (a b u w : List ℕ) (x y : X) → Spells Is spelling a x → Spells Is spelling b y → a ++ u ≡ b ++ w → (x ≡ y) × (a ≡ b)
+  only_spelling a b u w x y p q e = one_spelling a b u w x y p.lawful q.lawful p.spelled q.spelled e
 
 -- what takes no memory gives just what is read
 pub just_read : {X : Type 0} (r read : Result X WireFault) → TakesNoMemory r → Gives (λ x. x) r read → r ≡ read

@@ -1,11 +1,11 @@
 -- Answers as bytes: a kind, and then the field.
-use Rattle.std.specs.Prelude.{◌≡◌, ℕ, ◌<◌, ◌^◌, List, [], ◌∷◌, Err, ◌==◌, if◌then◌else◌}
+use Rattle.std.specs.Prelude.{ℕ, ◌<◌, ◌^◌, List, [], ◌∷◌, Err, ◌==◌, if◌then◌else◌}
 use Rattle.std.specs.Int.{w64, to_be_bytes}
 use Rattle.cc_wire.specs.declared.fault.WireFault.TheVariants.{BadKind}
 use Rattle.cc_wire.specs.declared.answer.Answer.{Answer}
 use Rattle.cc_wire.specs.declared.answer.Answer.TheVariants.{Stored, Seen, Max, Flag, Set}
-use Rattle.cc_wire.specs.Reading.{◌>>=◌, Reading, via, nothing_at, byte_at, number_at, flag_at, number_list_at, view_at}
-use Rattle.cc_wire.specs.Spelling.{flag_spelling, number_list_spelling, IsNumberList, view_spelling, IsView}
+use Rattle.cc_wire.specs.Reading.{Reading, via, nothing_at, kinded, number_at, flag_at, number_list_at, view_at}
+use Rattle.cc_wire.specs.Spelling.{Spells, flag_spelling, number_list_spelling, IsNumberList, view_spelling, IsView}
 
 abbrev pub answer_spelling : Answer → List ℕ
 answer_spelling Stored = 1 ∷ []
@@ -21,10 +21,8 @@ IsAnswer (Max number) = number < 2 ^ 64
 IsAnswer (Flag flag) = Unit {0}
 IsAnswer (Set numbers) = IsNumberList numbers
 
--- the bytes spell the answer
-pub record SpellsAnswer (bytes : List ℕ) (a : Answer) : Type 0 where
-  pub lawful : IsAnswer a
-  pub spelled : bytes ≡ answer_spelling a
+abbrev pub SpellsAnswer : List ℕ → Answer → Type 0
+SpellsAnswer = Spells IsAnswer answer_spelling
 
 abbrev pub answer_fields : ℕ → Reading Answer
 answer_fields kind =
@@ -36,4 +34,4 @@ answer_fields kind =
     else (λ bytes. Err (BadKind kind))))))
 
 unfoldable pub answer_at : Reading Answer
-answer_at bytes = byte_at bytes >>= λ kind. answer_fields kind.0 kind.1
+answer_at = kinded answer_fields

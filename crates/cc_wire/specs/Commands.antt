@@ -1,11 +1,11 @@
 -- Commands as bytes: a kind, and then the field.
-use Rattle.std.specs.Prelude.{◌≡◌, ℕ, ◌<◌, ◌^◌, List, [], ◌∷◌, Err, ◌==◌, if◌then◌else◌}
+use Rattle.std.specs.Prelude.{ℕ, ◌<◌, ◌^◌, List, [], ◌∷◌, Err, ◌==◌, if◌then◌else◌}
 use Rattle.std.specs.Int.{w32, w64, to_be_bytes}
 use Rattle.cc_wire.specs.declared.fault.WireFault.TheVariants.{BadKind}
 use Rattle.cc_wire.specs.declared.command.Command.{Command}
 use Rattle.cc_wire.specs.declared.command.Command.TheVariants.{Store, Collect, WriteMax, ReadMax, SetFlag, ReadFlag, AddMember, ReadSet}
-use Rattle.cc_wire.specs.Reading.{◌>>=◌, Reading, via, nothing_at, byte_at, number_at, text_at}
-use Rattle.cc_wire.specs.Spelling.{text_spelling, IsText}
+use Rattle.cc_wire.specs.Reading.{Reading, via, nothing_at, kinded, number_at, text_at}
+use Rattle.cc_wire.specs.Spelling.{Spells, text_spelling, IsText}
 
 abbrev pub command_spelling : Command → List ℕ
 command_spelling (Store text) = 1 ∷ text_spelling text
@@ -27,10 +27,8 @@ IsCommand ReadFlag = Unit {0}
 IsCommand (AddMember number) = number < 2 ^ 32
 IsCommand ReadSet = Unit {0}
 
--- the bytes spell the command
-pub record SpellsCommand (bytes : List ℕ) (c : Command) : Type 0 where
-  pub lawful : IsCommand c
-  pub spelled : bytes ≡ command_spelling c
+abbrev pub SpellsCommand : List ℕ → Command → Type 0
+SpellsCommand = Spells IsCommand command_spelling
 
 abbrev pub command_fields : ℕ → Reading Command
 command_fields kind =
@@ -45,4 +43,4 @@ command_fields kind =
     else (λ bytes. Err (BadKind kind)))))))))
 
 unfoldable pub command_at : Reading Command
-command_at bytes = byte_at bytes >>= λ kind. command_fields kind.0 kind.1
+command_at = kinded command_fields

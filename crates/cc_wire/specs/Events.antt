@@ -1,13 +1,13 @@
 -- Events as bytes: a kind, and then the fields.
-use Rattle.std.specs.Prelude.{◌≡◌, ℕ, ◌<◌, ◌^◌, List, [], ◌∷◌, ◌++◌, Err, ◌==◌, if◌then◌else◌}
+use Rattle.std.specs.Prelude.{ℕ, ◌<◌, ◌^◌, List, [], ◌∷◌, ◌++◌, Err, ◌==◌, if◌then◌else◌}
 use Rattle.std.specs.Int.{w32, w64, to_be_bytes}
 use Rattle.cc_wire.specs.declared.fault.WireFault.TheVariants.{BadKind}
 use Rattle.cc_wire.specs.declared.message.Message.{Message}
 use Rattle.cc_wire.specs.declared.command.Command.{Command}
 use Rattle.cc_wire.specs.declared.event.Event.{Event}
 use Rattle.cc_wire.specs.declared.event.Event.TheVariants.{Enter, Leave, Deliver, Acked, Ask}
-use Rattle.cc_wire.specs.Reading.{◌>>=◌, Reading, ◌⊗◌, via, nothing_at, byte_at, number_at, number_from}
-use Rattle.cc_wire.specs.Spelling.{IsId}
+use Rattle.cc_wire.specs.Reading.{Reading, ◌⊗◌, via, nothing_at, kinded, number_at, number_from}
+use Rattle.cc_wire.specs.Spelling.{Spells, IsId}
 use Rattle.cc_wire.specs.Messages.{message_spelling, IsMessage, message_at}
 use Rattle.cc_wire.specs.Commands.{command_spelling, IsCommand, command_at}
 
@@ -69,10 +69,8 @@ IsEvent (Deliver from number message) = IsDelivery from number message
 IsEvent (Acked peer number) = IsNumbered peer number
 IsEvent (Ask session request command) = IsAsked session request command
 
--- the bytes spell the event
-pub record SpellsEvent (bytes : List ℕ) (e : Event) : Type 0 where
-  pub lawful : IsEvent e
-  pub spelled : bytes ≡ event_spelling e
+abbrev pub SpellsEvent : List ℕ → Event → Type 0
+SpellsEvent = Spells IsEvent event_spelling
 
 abbrev pub event_fields : ℕ → Reading Event
 event_fields kind =
@@ -84,4 +82,4 @@ event_fields kind =
     else (λ bytes. Err (BadKind kind))))))
 
 unfoldable pub event_at : Reading Event
-event_at bytes = byte_at bytes >>= λ kind. event_fields kind.0 kind.1
+event_at = kinded event_fields

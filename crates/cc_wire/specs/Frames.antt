@@ -1,11 +1,13 @@
 -- Frames as bytes: the length of a body, and the body: a kind, and then the fields.
-use Rattle.std.specs.Prelude.{◌≡◌, ℕ, ◌<◌, ◌^◌, List, [], ◌∷◌, ◌++◌, length, take, Ok, Err, ◌==◌, if◌then◌else◌}
+use Rattle.std.specs.Prelude.{ℕ, ◌<◌, ◌^◌, List, [], ◌∷◌, ◌++◌, length, take, Ok, Err, ◌==◌, if◌then◌else◌}
 use Rattle.std.specs.Int.{w32, w64, to_be_bytes}
 use Rattle.cc_wire.specs.declared.fault.WireFault.TheVariants.{Short, BadKind}
 use Rattle.cc_wire.specs.declared.answer.Answer.{Answer}
 use Rattle.cc_wire.specs.declared.frame.Frame.{Frame}
 use Rattle.cc_wire.specs.declared.frame.Frame.TheVariants.{Post, Ack, Ask, Reply, Refused, Leave}
-use Rattle.cc_wire.specs.Reading.{◌>>=◌, Reading, ◌⊗◌, via, nothing_at, byte_at, bytes_at, number_at, limited, whole}
+use Rattle.cc_wire.specs.Reading.{◌>>=◌, Reading, ◌⊗◌, via, nothing_at, byte_at, kinded, bytes_at, number_at, limited, whole}
+use Rattle.cc_wire.specs.Limits.{body_limit}
+use Rattle.cc_wire.specs.Spelling.{Spells}
 use Rattle.cc_wire.specs.Answers.{answer_spelling, IsAnswer, answer_at}
 use Rattle.cc_wire.specs.Events.{numbered_spelling, IsNumbered, numbered_at, delivery_spelling, IsDelivery, delivery_at, place_spelling, IsPlace, place_at, asked_spelling, IsAsked, asked_at}
 
@@ -51,10 +53,8 @@ IsFrame (Reply session request answer) = IsReplied session request answer
 IsFrame (Refused session request refusal value) = IsRefused session request refusal value
 IsFrame Leave = Unit {0}
 
--- the bytes spell the frame
-pub record SpellsFrame (bytes : List ℕ) (f : Frame) : Type 0 where
-  pub lawful : IsFrame f
-  pub spelled : bytes ≡ frame_spelling f
+abbrev pub SpellsFrame : List ℕ → Frame → Type 0
+SpellsFrame = Spells IsFrame frame_spelling
 
 -- ---- reading
 
@@ -69,11 +69,11 @@ body_fields kind =
     else (λ bytes. Err (BadKind kind)))))))
 
 unfoldable pub body_at : Reading Frame
-body_at bytes = byte_at bytes >>= λ kind. body_fields kind.0 kind.1
+body_at = kinded body_fields
 
--- the length of a body: from 1 to 65,536
+-- the length of a body: from 1 to its limit
 unfoldable pub body_length_at : Reading ℕ
-body_length_at bytes = limited 65536 (number_at w32) bytes >>= λ n. if n.0 == 0 then Err Short else Ok n
+body_length_at bytes = limited body_limit (number_at w32) bytes >>= λ n. if n.0 == 0 then Err Short else Ok n
 
 -- so many bytes, all of which are the body: its fields come before its end, so where the bytes stop short of it, the
 -- fault is still that of the first field that can't be read

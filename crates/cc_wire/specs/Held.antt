@@ -5,6 +5,7 @@
 use Rattle.std.specs.Prelude.{◌≡◌, ℕ, ◌+◌, ◌≤◌, List, ◌++◌, length, take, Bool, false, Option, Some, None, Result, Ok, Err, IsTrue, IsOkAnd, nat_lt, if◌then◌else◌}
 use Rattle.cc_wire.specs.declared.fault.WireFault.{WireFault}
 use Rattle.cc_wire.specs.declared.frame.Frame.{Frame}
+use Rattle.cc_wire.specs.Limits.{frame_limit}
 use Rattle.cc_wire.specs.Reading.{◌>>=◌}
 use Rattle.cc_wire.specs.Frames.{body_length_at, frame_at}
 
@@ -33,4 +34,4 @@ pub record TopsUp (old piece : List ℕ) (used : ℕ) (new : List ℕ) : Type 0 
 -- room for the largest frame
 pub record IsHeld (held : List ℕ) (capacity : ℕ) : Type 0 where
   pub partial : IsTrue (is_partial held)
-  pub room : 65540 ≤ capacity
+  pub room : frame_limit ≤ capacity

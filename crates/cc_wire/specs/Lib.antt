@@ -1,3 +1,4 @@
+pub mod Limits
 pub mod Reading
 pub mod Writing
 pub mod Spelling

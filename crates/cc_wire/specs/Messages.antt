@@ -1,13 +1,13 @@
 -- Messages as bytes: a kind, and then the fields.
-use Rattle.std.specs.Prelude.{◌≡◌, ℕ, Bool, ◌<◌, ◌≤◌, ◌^◌, List, ◌∷◌, ◌++◌, Err, ◌==◌, if◌then◌else◌}
+use Rattle.std.specs.Prelude.{ℕ, Bool, ◌<◌, ◌≤◌, ◌^◌, List, ◌∷◌, ◌++◌, Err, ◌==◌, if◌then◌else◌}
 use Rattle.std.specs.Int.{w32, w64, to_be_bytes}
 use Rattle.cc_views.specs.Rows.{ViewMap}
 use Rattle.cc_changes.specs.ChangeSets.{ChangeSets}
 use Rattle.cc_wire.specs.declared.fault.WireFault.TheVariants.{BadKind}
 use Rattle.cc_wire.specs.declared.message.Message.{Message}
 use Rattle.cc_wire.specs.declared.message.Message.TheVariants.{Enter, EnterEcho, Join, JoinEcho, Leave, LeaveEcho, Query, QueryReply, Store, StoreAck}
-use Rattle.cc_wire.specs.Reading.{◌>>=◌, Reading, ◌⊗◌, via, byte_at, number_at, number_from, flag_at, view_at, changes_at}
-use Rattle.cc_wire.specs.Spelling.{view_spelling, IsView, flag_spelling, changes_spelling, IsChanges, IsId}
+use Rattle.cc_wire.specs.Reading.{Reading, ◌⊗◌, via, kinded, number_at, number_from, flag_at, view_at, changes_at}
+use Rattle.cc_wire.specs.Spelling.{Spells, view_spelling, IsView, flag_spelling, changes_spelling, IsChanges, IsId}
 
 -- a tag and a node
 abbrev pub call_spelling : ℕ → ℕ → List ℕ
@@ -51,10 +51,8 @@ IsMessage (QueryReply view tag node) = IsView view × IsCall tag node
 IsMessage (Store view tag node) = IsView view × IsCall tag node
 IsMessage (StoreAck tag node) = IsCall tag node
 
--- the bytes spell the message
-pub record SpellsMessage (bytes : List ℕ) (m : Message) : Type 0 where
-  pub lawful : IsMessage m
-  pub spelled : bytes ≡ message_spelling m
+abbrev pub SpellsMessage : List ℕ → Message → Type 0
+SpellsMessage = Spells IsMessage message_spelling
 
 -- ---- reading
 
@@ -79,4 +77,4 @@ fields_of kind =
     else (λ bytes. Err (BadKind kind)))))))))))
 
 unfoldable pub message_at : Reading Message
-message_at bytes = byte_at bytes >>= λ kind. fields_of kind.0 kind.1
+message_at = kinded fields_of

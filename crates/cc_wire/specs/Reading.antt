@@ -7,6 +7,8 @@ use Rattle.cc_views.specs.declared.row.Row.{Row}
 use Rattle.cc_views.specs.NatSets.{NatSet, from_list}
 use Rattle.cc_views.specs.Rows.{ViewMap, entries_of}
 use Rattle.cc_changes.specs.ChangeSets.{ChangeSets}
+use Rattle.cc_views.specs.Limits.{known_limit, set_limit, text_limit}
+use Rattle.cc_wire.specs.Limits.{list_limit}
 use Rattle.cc_wire.specs.declared.fault.WireFault.{WireFault}
 use Rattle.cc_wire.specs.declared.fault.WireFault.TheVariants.{Short, BadKind, NotAscending, TooLarge, Trailing, NoMemory}
 
@@ -51,6 +53,10 @@ abbrev pub byte_at : Reading ℕ
 byte_at [] = Err Short
 byte_at (byte ∷ rest) = Ok (byte, rest)
 
+-- a kind, and then its fields
+abbrev pub kinded : {X : Type 0} → (ℕ → Reading X) → Reading X
+kinded fields bytes = byte_at bytes >>= λ kind. fields kind.0 kind.1
+
 -- that many bytes
 abbrev pub bytes_at : ℕ → Reading (List ℕ)
 bytes_at count bytes = if nat_lt (length bytes) count then Err Short else Ok (take count bytes, drop count bytes)
@@ -75,7 +81,7 @@ unfoldable pub flag_at : Reading Bool
 flag_at bytes = byte_at bytes >>= flag_with
 
 unfoldable pub text_at : Reading (List ℕ)
-text_at bytes = limited 64 byte_at bytes >>= λ n. bytes_at n.0 n.1
+text_at bytes = limited text_limit byte_at bytes >>= λ n. bytes_at n.0 n.1
 
 -- so many items whose keys rise, from `least` on
 unfoldable pub items_at : {X : Type 0} → (ℕ → Reading X) → (X → ℕ) → ℕ → ℕ → Reading (List X)
@@ -91,10 +97,10 @@ unfoldable pub listed_at : Reading ℕ → ℕ → ℕ → Reading (List ℕ)
 listed_at count limit least bytes = limited limit count bytes >>= λ n. numbers_at n.0 least n.1
 
 unfoldable pub number_set_at : Reading NatSet
-number_set_at = via from_list (listed_at byte_at 32 0)
+number_set_at = via from_list (listed_at byte_at set_limit 0)
 
 unfoldable pub number_list_at : Reading NatSet
-number_list_at = via from_list (listed_at (number_at w16) 8192 0)
+number_list_at = via from_list (listed_at (number_at w16) list_limit 0)
 
 abbrev pub value_with : List ℕ × (ℕ × (Bool × NatSet)) → Value
 value_with f = record { text = f.0; max = f.1.0; flag = f.1.1.0; set = f.1.1.1 }
@@ -112,7 +118,7 @@ abbrev pub rows_at : ℕ → ℕ → Reading (List Row)
 rows_at = items_at row_at (λ row. row.node)
 
 unfoldable pub row_list_at : Reading (List Row)
-row_list_at bytes = limited 256 (number_at w16) bytes >>= λ n. rows_at n.0 1 n.1
+row_list_at bytes = limited known_limit (number_at w16) bytes >>= λ n. rows_at n.0 1 n.1
 
 abbrev pub view_with : List Row → ViewMap
 view_with rows = from_entries (entries_of rows)
@@ -121,7 +127,7 @@ unfoldable pub view_at : Reading ViewMap
 view_at = via view_with row_list_at
 
 unfoldable pub id_set_at : Reading NatSet
-id_set_at = via from_list (listed_at (number_at w16) 256 1)
+id_set_at = via from_list (listed_at (number_at w16) known_limit 1)
 
 abbrev pub changes_with : NatSet × (NatSet × NatSet) → ChangeSets
 changes_with f = record { entered = f.0; joined = f.1.0; left = f.1.1 }

@@ -1,5 +1,6 @@
--- Refusals: the number of each, the number that it carries, and its text; and the first of several reasons.
-use Rattle.std.specs.Prelude.{◌≡◌, ℕ, List, [], ◌∷◌, ◌++◌, Option, Some, None, codes, unwrap_or, refl}
+-- Refusals: the number of each, the number that it carries, and its text; the first of several reasons, and the answer
+-- of a decision.
+use Rattle.std.specs.Prelude.{ℕ, List, [], ◌∷◌, ◌++◌, Option, Some, None, Result, Ok, Err, codes, unwrap_or}
 use Rattle.std.specs.Fmt.{decimal}
 use Rattle.cc_wire.specs.declared.refusal.Refusal.{Refusal}
 use Rattle.cc_wire.specs.declared.refusal.Refusal.TheVariants.{Left, NotEntered, AlreadyEntered, NotJoined, Old, Gap, NothingToAck, TooManyNodes, TooManySessions, Repeat, Stale, Skip, Busy, SetFull, OutboxFull, Spent, NoMemory, QueueFull}
@@ -69,13 +70,7 @@ first_of [] = None
 first_of (None ∷ reasons) = first_of reasons
 first_of (Some reason ∷ reasons) = Some reason
 
--- a refusal, or else the one that follows
-abbrev pub or_else : Option Refusal → Option Refusal → Option Refusal
-or_else None following = following
-or_else (Some reason) following = Some reason
-
--- of two lists of reasons, one after the other, the first of the first list counts where it has one
-pub first_of_both : (reasons following : List (Option Refusal)) → first_of (reasons ++ following) ≡ or_else (first_of reasons) (first_of following)
-first_of_both [] following = refl
-first_of_both (None ∷ reasons) following = first_of_both reasons following
-first_of_both (Some reason ∷ reasons) following = refl
+-- the answer of a decision
+abbrev pub decided : Option Refusal → Result (Unit {0}) Refusal
+decided None = Ok tt
+decided (Some reason) = Err reason

@@ -8,13 +8,20 @@ use Rattle.cc_views.specs.declared.value.Value.{Value}
 use Rattle.cc_views.specs.declared.row.Row.{Row}
 use Rattle.cc_views.specs.Rows.{ViewMap, rows_of}
 use Rattle.cc_changes.specs.ChangeSets.{ChangeSets}
+use Rattle.cc_views.specs.Limits.{known_limit, set_limit, text_limit}
+use Rattle.cc_wire.specs.Limits.{list_limit}
+
+-- the bytes spell what has a spelling
+pub record Spells {X : Type 0} (Is : X → Type 0) (spelling : X → List ℕ) (bytes : List ℕ) (x : X) : Type 0 where
+  pub lawful : Is x
+  pub spelled : bytes ≡ spelling x
 
 -- ---- texts: a length and the bytes
 abbrev pub text_spelling : List ℕ → List ℕ
 text_spelling text = length text ∷ text
 
 pub record IsText (text : List ℕ) : Type 0 where
-  pub fits : length text ≤ 64
+  pub fits : length text ≤ text_limit
   pub bytes : AllByRecursion (λ b. b < 256) text
 
 -- ---- flags
@@ -30,7 +37,7 @@ abbrev pub number_set_spelling : NatSet → List ℕ
 number_set_spelling s = length (items s) ∷ flat_map number_spelling (items s)
 
 pub record IsNumberSet (s : NatSet) : Type 0 where
-  pub fits : length (items s) ≤ 32
+  pub fits : length (items s) ≤ set_limit
   pub numbers : AllByRecursion (λ n. n < 2 ^ 32) (items s)
 
 -- ---- values: text, max, flag, set
@@ -57,13 +64,11 @@ abbrev pub view_spelling : ViewMap → List ℕ
 view_spelling v = to_be_bytes w16 (len v) ++ flat_map row_spelling (rows_of v)
 
 pub record IsView (v : ViewMap) : Type 0 where
-  pub fits : len v ≤ 256
+  pub fits : len v ≤ known_limit
   pub rows : AllByRecursion IsRow (rows_of v)
 
--- the bytes spell the view
-pub record SpellsView (bytes : List ℕ) (v : ViewMap) : Type 0 where
-  pub lawful : IsView v
-  pub spelled : bytes ≡ view_spelling v
+abbrev pub SpellsView : List ℕ → ViewMap → Type 0
+SpellsView = Spells IsView view_spelling
 
 -- ---- lists: a count, and the numbers in ascending order
 abbrev pub listed_spelling : List ℕ → List ℕ
@@ -73,7 +78,7 @@ abbrev pub number_list_spelling : NatSet → List ℕ
 number_list_spelling s = listed_spelling (items s)
 
 pub record IsNumberList (s : NatSet) : Type 0 where
-  pub fits : length (items s) ≤ 8192
+  pub fits : length (items s) ≤ list_limit
   pub numbers : AllByRecursion (λ n. n < 2 ^ 32) (items s)
 
 -- ---- sets of ids
@@ -85,7 +90,7 @@ pub record IsId (id : ℕ) : Type 0 where
   pub fits : id < 2 ^ 32
 
 pub record IsIdSet (s : NatSet) : Type 0 where
-  pub fits : length (items s) ≤ 256
+  pub fits : length (items s) ≤ known_limit
   pub ids : AllByRecursion IsId (items s)
 
 -- ---- changes: who entered, joined and left. Who joined need not be among those who entered

@@ -9,7 +9,7 @@ ghost use Rattle.cc_wire.specs.Answers.{answer_at, answer_spelling, IsAnswer, Sp
 use crate::fault::WireFault;
 use crate::number_list::{NumberList, put_number_list};
 use crate::reader::Reader;
-use crate::writer::{put_flag, put_u8, put_u64, put_view};
+use crate::writer::{put_flag, put_u8, put_u64, put_view, settled};
 use cc_views::{NoMemory, View};
 use std::alloc::{AllocError, Global};
 
@@ -129,11 +129,8 @@ pub fn encode_answer(answer: &Answer, out: &mut Vec<u8>) -> Result<(), NoMemory>
     ensures room { vec_len out.old + length (answer_spelling answer.now) ≤ vec_capacity out.old → IsOk result }
 {
     let start = out.len();
-    if put_answer(out, answer).is_err() {
-        out.truncate(start);
-        return Err(NoMemory);
-    }
-    Ok(())
+    let put = put_answer(out, answer);
+    settled(out, start, put)
 }
 
 /// Each answer has one spelling, and none begins another.

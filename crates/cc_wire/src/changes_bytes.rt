@@ -3,6 +3,7 @@
 ghost use Rattle.std.specs.Prelude.{◌≡◌, ◌≤◌, [], ◌++◌, length, OnOk};
 ghost use Rattle.std.specs.List.{flat_map, AllByRecursion};
 ghost use Rattle.cc_views.specs.NatSets.{items};
+ghost use Rattle.cc_views.specs.Limits.{known_limit};
 ghost use Rattle.cc_wire.specs.Writing.{Writes};
 ghost use Rattle.cc_wire.specs.Spelling.{number_spelling, listed_spelling, IsId, changes_spelling, IsChanges};
 ghost use Rattle.cc_wire.specs.Reading.{Gives, numbers_at, id_set_at, changes_at};
@@ -59,7 +60,7 @@ pub fn put_id(out: &mut Vec<u8>, id: NodeId) -> Result<(), AllocError>
 }
 
 fn put_ids(out: &mut Vec<u8>, ids: &[NodeId]) -> Result<(), AllocError>
-    requires { length ids.now ≤ 256 }
+    requires { length ids.now ≤ known_limit }
     ensures writes { Writes out.old out.new (listed_spelling ids.now) result }
     ensures fits { OnOk result (AllByRecursion IsId ids.now) }
 {

@@ -8,7 +8,7 @@ ghost use Rattle.cc_wire.specs.Commands.{command_at, command_spelling, IsCommand
 
 use crate::fault::WireFault;
 use crate::reader::Reader;
-use crate::writer::{put_text, put_u8, put_u32, put_u64};
+use crate::writer::{put_text, put_u8, put_u32, put_u64, settled};
 use cc_views::{NoMemory, Text};
 use std::alloc::AllocError;
 
@@ -121,11 +121,8 @@ pub fn encode_command(command: &Command, out: &mut Vec<u8>) -> Result<(), NoMemo
     ensures room { vec_len out.old + length (command_spelling command.now) ≤ vec_capacity out.old → IsOk result }
 {
     let start = out.len();
-    if put_command(out, command).is_err() {
-        out.truncate(start);
-        return Err(NoMemory);
-    }
-    Ok(())
+    let put = put_command(out, command);
+    settled(out, start, put)
 }
 
 /// Each command has one spelling, and none begins another.

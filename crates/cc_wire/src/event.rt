@@ -11,7 +11,7 @@ use crate::command::{Command, put_command};
 use crate::fault::WireFault;
 use crate::message::{Message, put_message};
 use crate::reader::Reader;
-use crate::writer::{put_u8, put_u64};
+use crate::writer::{put_u8, put_u64, settled};
 use cc_views::{NoMemory, NodeId};
 use std::alloc::{AllocError, Global};
 
@@ -257,11 +257,8 @@ pub fn encode_event(event: &Event, out: &mut Vec<u8>) -> Result<(), NoMemory>
     ensures grows { vec_capacity out.old ≤ vec_capacity out.new }
 {
     let start = out.len();
-    if put_event(out, event).is_err() {
-        out.truncate(start);
-        return Err(NoMemory);
-    }
-    Ok(())
+    let put = put_event(out, event);
+    settled(out, start, put)
 }
 
 /// Each event has one spelling, and none begins another.

@@ -2,6 +2,7 @@
 
 ghost use Rattle.std.specs.Prelude.{◌≡◌, ◌≤◌, ◌*◌, length};
 ghost use Rattle.std.specs.List.{flat_map};
+ghost use Rattle.cc_views.specs.Limits.{known_limit};
 ghost use Rattle.cc_wire.specs.Spelling.{text_spelling, value_spelling, row_spelling, view_spelling, listed_spelling, changes_spelling};
 ghost use Rattle.cc_wire.specs.Messages.{message_spelling};
 ghost use Rattle.cc_wire.specs.Commands.{command_spelling};
@@ -44,7 +45,7 @@ fn row_len(row: &Row) -> usize
 }
 
 fn rows_len(rows: &[Row]) -> usize
-    requires { length rows.now ≤ 256 }
+    requires { length rows.now ≤ known_limit }
     ensures len { result ≡ length (flat_map row_spelling rows.now) }
     ensures fits { result ≤ 215 * length rows.now }
 {
@@ -63,7 +64,7 @@ fn view_len(view: &View) -> usize
 }
 
 fn ids_len(ids: &[NodeId]) -> usize
-    requires { length ids.now ≤ 256 }
+    requires { length ids.now ≤ known_limit }
     ensures len { result ≡ length (listed_spelling ids.now) }
     ensures fits { result ≤ 1026 }
 {

@@ -3,6 +3,7 @@
 ghost use Rattle.std.specs.Prelude.{◌≡◌, ◌≤◌, ◌<◌, ◌+◌, ℕ, List, [], ◌∷◌, ◌++◌, length, take, drop, IfOk, OnOk, OnErr, IsOk, Ok, vec_len};
 ghost use Rattle.std.specs.Int.{w32, w64, to_be_bytes};
 ghost use Rattle.std.specs.Vec.{vec_capacity};
+ghost use Rattle.cc_wire.specs.Limits.{body_limit};
 ghost use Rattle.cc_wire.specs.Writing.{Writes};
 ghost use Rattle.cc_wire.specs.Reading.{Gives, whole};
 ghost use Rattle.cc_wire.specs.Frames.{replied_spelling, IsReplied, refused_spelling, IsRefused, body_spelling, frame_spelling, IsFrame, SpellsFrame, body_at, body_fields, replied_at, refused_at, body_length_at, enclosed_at, frame_at};
@@ -13,7 +14,7 @@ use crate::event::{put_asked, put_delivery, put_numbered, put_place};
 use crate::fault::WireFault;
 use crate::message::Message;
 use crate::reader::Reader;
-use crate::writer::{put_u8, put_u32, put_u64};
+use crate::writer::{put_u8, put_u32, put_u64, settled};
 use byteorder::{BigEndian, ByteOrder};
 use cc_views::{NoMemory, NodeId};
 use std::alloc::{AllocError, Global};
@@ -142,7 +143,7 @@ impl<'a> Reader<'a> {
     #[tactic(auto, unfolding(crate::specs::Frames::body_length_at))]
     pub(crate) fn body_length(&mut self) -> Result<usize, WireFault>
         ensures exact { Gives (λ x. (x, self.new)) result (body_length_at self.old) }
-        ensures fits { IfOk result (λ x. x ≤ 65536) }
+        ensures fits { IfOk result (λ x. x ≤ body_limit) }
     {
         let length = self.u32()? as usize;
         if length > Frame::MAX_BODY {
@@ -317,11 +318,8 @@ pub fn encode_frame(frame: &Frame, out: &mut Vec<u8>) -> Result<(), NoMemory>
     ensures room { vec_len out.old + length (frame_spelling frame.now) ≤ vec_capacity out.old → IsOk result }
 {
     let start = out.len();
-    if put_frame(out, frame).is_err() {
-        out.truncate(start);
-        return Err(NoMemory);
-    }
-    Ok(())
+    let put = put_frame(out, frame);
+    settled(out, start, put)
 }
 
 /// Each frame has one spelling, and none begins another.

@@ -2,6 +2,7 @@
 
 ghost use Rattle.std.specs.Prelude.{◌≡◌, ◌≤◌, ◌+◌, ◌-◌, ◌++◌, [], min, length, take, IsTrue, Some, None, Err, IfOk, IfErr, OnErr, MatchResult};
 ghost use Rattle.std.specs.Vec.{vec_capacity};
+ghost use Rattle.cc_wire.specs.Limits.{frame_limit};
 ghost use Rattle.cc_wire.specs.declared.fault.WireFault.TheVariants.{Broken};
 ghost use Rattle.cc_wire.specs.Reading.{Gives, Fails};
 ghost use Rattle.cc_wire.specs.Held.{frame_length, is_partial, front_of, TopsUp, IsHeld};
@@ -94,7 +95,7 @@ fn add_up_to(held: &mut Vec<u8>, piece: &[u8], goal: usize) -> usize
 #[tactic(auto, unfolding(crate::specs::Held::frame_length))]
 fn frame_len(held: &[u8]) -> Result<usize, WireFault>
     ensures exact { Gives (λ x. x) result (frame_length held.now) }
-    ensures fits { IfOk result (λ n. n ≤ 65540) }
+    ensures fits { IfOk result (λ n. n ≤ frame_limit) }
 {
     if held.len() < Frame::LENGTH {
         return Ok(Frame::LENGTH);
@@ -110,7 +111,7 @@ fn top_up(held: &mut Vec<u8>, piece: &[u8]) -> Result<usize, WireFault>
     ensures ok { IfOk result (λ used. TopsUp held.old.items piece.now used held.new.items) }
     ensures err { IfErr result (λ e. Fails e (front_of (held.old.items ++ piece.now))) }
     ensures front { take (length held.old.items) held.new.items ≡ held.old.items }
-    ensures room { 65540 ≤ vec_capacity held.new }
+    ensures room { frame_limit ≤ vec_capacity held.new }
 {
     let first = add_up_to(held, piece, Frame::LENGTH);
     let goal = frame_len(held)?;
@@ -155,7 +156,7 @@ fn next_frame(alloc: Global, held: &mut Vec<u8>, piece: &[u8]) -> Result<Fed, Wi
     ensures rest { IfOk result (λ given. held.new.items ≡ rest_after held.old.items piece.now given.frame) }
     ensures used { IfOk result (λ given. given.used ≤ length piece.now) }
     ensures front { OnErr result (take (length held.old.items) held.new.items ≡ held.old.items) }
-    ensures room { 65540 ≤ vec_capacity held.new }
+    ensures room { frame_limit ≤ vec_capacity held.new }
 {
     let used = top_up(held, piece)?;
     let frame = whole_frame(alloc, held)?;

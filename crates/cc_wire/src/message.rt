@@ -11,7 +11,7 @@ ghost use Rattle.cc_wire.specs.Spelling.{view_spelling, IsView, number_spelling,
 use crate::changes_bytes::{put_changes, put_id};
 use crate::fault::WireFault;
 use crate::reader::Reader;
-use crate::writer::{put_flag, put_u8, put_u32, put_u64, put_view};
+use crate::writer::{put_flag, put_u8, put_u32, put_u64, put_view, settled};
 use cc_changes::Changes;
 use cc_views::{NoMemory, NodeId, View};
 use std::alloc::{AllocError, Global};
@@ -316,11 +316,8 @@ pub fn encode_message(message: &Message, out: &mut Vec<u8>) -> Result<(), NoMemo
     ensures room { vec_len out.old + length (message_spelling message.now) ≤ vec_capacity out.old → IsOk result }
 {
     let start = out.len();
-    if put_message(out, message).is_err() {
-        out.truncate(start);
-        return Err(NoMemory);
-    }
-    Ok(())
+    let put = put_message(out, message);
+    settled(out, start, put)
 }
 
 /// Each message has one spelling, and none begins another.

@@ -5,6 +5,7 @@ ghost use Rattle.std.specs.List.{AllByRecursion};
 ghost use Rattle.std.specs.Vec.{vec_capacity};
 ghost use Rattle.cc_views.specs.Ascending.{IsAscending};
 ghost use Rattle.cc_views.specs.NatSets.{from_list, items};
+ghost use Rattle.cc_wire.specs.Limits.{list_limit};
 ghost use Rattle.cc_wire.specs.Writing.{Writes};
 ghost use Rattle.cc_wire.specs.Reading.{Gives, numbers_at, number_list_at};
 ghost use Rattle.cc_wire.specs.Spelling.{number_list_spelling, IsNumberList};
@@ -26,6 +27,7 @@ impl Model for NumberList {
     ghost use Rattle.std.specs.Prelude.{length, ◌≤◌};
     ghost use Rattle.cc_views.specs.Ascending.{IsAscending};
     ghost use Rattle.cc_views.specs.NatSets.{NatSet, set_code, from_list};
+    ghost use Rattle.cc_wire.specs.Limits.{list_limit};
 
     ghost Value = { NatSet };
 
@@ -33,7 +35,7 @@ impl Model for NumberList {
 
     ghost view = { λ l. from_list l.numbers.items };
 
-    ghost invariant = { λ l. IsAscending l.numbers.items × (length l.numbers.items ≤ 8192) };
+    ghost invariant = { λ l. IsAscending l.numbers.items × (length l.numbers.items ≤ list_limit) };
 }
 
 impl NumberList {
@@ -43,7 +45,7 @@ impl NumberList {
     /// The set of these numbers.
     pub fn from_ascending(numbers: Vec<u32>) -> Self
         requires ascending { IsAscending numbers.items }
-        requires fits { length numbers.items ≤ 8192 }
+        requires fits { length numbers.items ≤ list_limit }
         ensures set { result ≡ from_list numbers.items }
         ensures items { items result ≡ numbers.items }
     {
@@ -54,7 +56,7 @@ impl NumberList {
     pub fn as_slice(&self) -> &[u32]
         ensures numbers { result.now ≡ items self.now }
         ensures ascending { IsAscending result.now }
-        ensures fits { length result.now ≤ 8192 }
+        ensures fits { length result.now ≤ list_limit }
     {
         &self.numbers
     }

@@ -4,12 +4,13 @@ ghost use Rattle.std.specs.Prelude.{◌≡◌, ◌≤◌, ◌+◌, ℕ, List, []
 ghost use Rattle.std.specs.Vec.{vec_capacity};
 ghost use Rattle.std.specs.FinMap as map;
 ghost use Rattle.cc_views.specs.Rows.{ViewMap, rows_of, entries_of};
+ghost use Rattle.cc_views.specs.Limits.{known_limit};
 ghost use Rattle.cc_wire.specs.Spelling.{SpellsView, view_spelling};
 ghost use Rattle.cc_wire.specs.Reading.{Gives, row_at, rows_at, view_at, whole};
 
 use crate::fault::WireFault;
 use crate::reader::Reader;
-use crate::writer::put_view;
+use crate::writer::{put_view, settled};
 use cc_views::{NoMemory, Row, View};
 use std::alloc::Global;
 
@@ -31,7 +32,7 @@ impl<'a> Reader<'a> {
     }
 
     fn rows(&mut self, count: u16, view: &mut View) -> Result<(), WireFault>
-        requires count { count ≤ 256 }
+        requires count { count ≤ known_limit }
         requires empty { rows_of view.old ≡ [] }
         ensures { Gives (λ _. (rows_of view.new, self.new)) result (rows_at count 1 self.old) }
     {
@@ -92,11 +93,8 @@ pub fn encode_view(view: &View, out: &mut Vec<u8>) -> Result<(), NoMemory>
     ensures room { vec_len out.old + length (view_spelling view.now) ≤ vec_capacity out.old → IsOk result }
 {
     let start = out.len();
-    if put_view(out, view).is_err() {
-        out.truncate(start);
-        return Err(NoMemory);
-    }
-    Ok(())
+    let put = put_view(out, view);
+    settled(out, start, put)
 }
 
 /// Each view has one spelling, and none begins another.

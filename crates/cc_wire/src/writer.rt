@@ -1,6 +1,6 @@
 //! Writing fields at the end of a vector: each is spelled as `Reader` reads it.
 
-ghost use Rattle.std.specs.Prelude.{◌≡◌, ◌≤◌, ◌<◌, ◌+◌, ◌∷◌, [], ◌++◌, length, take, OnOk, OnErr, IsOk, vec_len};
+ghost use Rattle.std.specs.Prelude.{◌≡◌, ◌≤◌, ◌<◌, ◌+◌, ◌∷◌, [], ◌++◌, length, take, OnOk, OnErr, IsOk, IsErr, vec_len};
 ghost use Rattle.std.specs.Int.{w16, w32, w64, to_be_bytes};
 ghost use Rattle.std.specs.Vec.{vec_capacity};
 ghost use Rattle.std.specs.List.{flat_map, AllByRecursion};
@@ -8,8 +8,25 @@ ghost use Rattle.cc_wire.specs.Writing.{Writes};
 ghost use Rattle.cc_wire.specs.Spelling.{text_spelling, IsText, flag_spelling, number_spelling, number_set_spelling, IsNumberSet, value_spelling, IsValue, row_spelling, IsRow, view_spelling, IsView};
 
 use byteorder::{BigEndian, ByteOrder};
-use cc_views::{NumberSet, Row, Text, Value, View};
+use cc_views::{NoMemory, NumberSet, Row, Text, Value, View};
 use std::alloc::AllocError;
+
+// How an encoder ends: where its write failed, what stands behind the start is taken away.
+pub(crate) fn settled(
+    out: &mut Vec<u8>,
+    start: usize,
+    put: Result<(), AllocError>,
+) -> Result<(), NoMemory>
+    ensures ok { OnOk put (IsOk result × (out.new.items ≡ out.old.items)) }
+    ensures err { OnErr put (IsErr result × (out.new.items ≡ take start out.old.items)) }
+    ensures grows { vec_capacity out.old ≤ vec_capacity out.new }
+{
+    if put.is_err() {
+        out.truncate(start);
+        return Err(NoMemory);
+    }
+    Ok(())
+}
 
 pub(crate) fn put_bytes(out: &mut Vec<u8>, bytes: &[u8]) -> Result<(), AllocError>
     ensures { Writes out.old out.new bytes.now result }

@@ -1,7 +1,7 @@
 //! A site in memory: its calls, its fuse and its images.
 
 use cc_site::{
-    Burn, Call, Choice, DeviceFault, MemorySite, Side, Site, cut_durably, write_durably,
+    Call, Choice, DeviceFault, Failing, MemorySite, Side, Site, cut_durably, write_durably,
 };
 use cc_views::NodeId;
 use cc_wire::{Answer, Message, Output};
@@ -155,10 +155,10 @@ fn a_cut_side_ends_there(rt: HostRuntime) -> Result<(), Fail> {
 }
 
 // Two bytes that are sure, by disk calls 0 to 2. Call 4 is to fail.
-fn fused(alloc: Global, burn: Burn) -> Result<MemorySite, Fail> {
+fn fused(alloc: Global, failing: Failing) -> Result<MemorySite, Fail> {
     let mut site = MemorySite::new(alloc, 0)?;
     keep(&mut site, Side::A, 0, &[1, 2])?;
-    site.fuse(4, burn);
+    site.fuse(4, failing);
     Ok(site)
 }
 
@@ -166,7 +166,7 @@ fn fused(alloc: Global, burn: Burn) -> Result<MemorySite, Fail> {
 #[test]
 fn a_fuse_fails_one_call(rt: HostRuntime) -> Result<(), Fail> {
     let alloc = rt.alloc();
-    let mut site = fused(alloc, Burn::Once)?;
+    let mut site = fused(alloc, Failing::Once)?;
     assert_eq!(rt; site.length(Side::B), Ok(0));
     let write = DeviceFault {
         side: Side::A,
@@ -182,7 +182,7 @@ fn a_fuse_fails_one_call(rt: HostRuntime) -> Result<(), Fail> {
 
 // The outcomes of the calls 3 to 5 of a disk that stops at the fourth: two lengths and a sync.
 fn stopped(alloc: Global) -> Result<[Option<DeviceFault>; 3], Fail> {
-    let mut site = fused(alloc, Burn::Stop)?;
+    let mut site = fused(alloc, Failing::Stop)?;
     let first = site.length(Side::B).err();
     let second = site.length(Side::A).err();
     let third = site.sync(Side::B).err();

@@ -3,7 +3,7 @@
 use cc_changes::Fraction;
 use cc_journal::{Batch, Entry, Journal, ScanFault, Scanned, scan};
 use cc_node::{Node, Opening};
-use cc_site::{Burn, Call, Choice, DeviceFault, MemorySite, Side, Site, write_durably};
+use cc_site::{Call, Choice, DeviceFault, Failing, MemorySite, Side, Site, write_durably};
 use std::alloc::Global;
 use std::test::*;
 
@@ -134,7 +134,7 @@ fn a_batch_takes_64_entries(rt: HostRuntime) -> Result<(), Fail> {
 fn a_batch_of_two_has_one_record(rt: HostRuntime) -> Result<(), Fail> {
     let alloc = rt.alloc();
     let mut site = holding(alloc, &[0])?;
-    site.fuse(7, Burn::Stop);
+    site.fuse(7, Failing::Stop);
     let mut journal = Journal::new(alloc, Side::B, 9)?;
     journal.move_to(Side::A, 0);
     assert!(rt; lands(&mut journal, &mut site, batch_of(2)));
@@ -235,7 +235,7 @@ fn a_scan_tells_a_failed_call(rt: HostRuntime) -> Result<(), Fail> {
     let alloc = rt.alloc();
     for (at, call) in [(2, Call::Length), (3, Call::Read), (4, Call::Read)] {
         let mut site = holding(alloc, &ENTERED)?;
-        site.fuse(at, Burn::Once);
+        site.fuse(at, Failing::Once);
         let fault = scan(alloc, &mut site, Side::A, 0, entrant(alloc)?).err();
         let device = DeviceFault {
             side: Side::A,
@@ -252,7 +252,7 @@ fn a_failed_call_forfeits_the_batch(rt: HostRuntime) -> Result<(), Fail> {
     let alloc = rt.alloc();
     for at in [3, 4, 5, 6] {
         let mut site = holding(alloc, &[0])?;
-        site.fuse(at, Burn::Stop);
+        site.fuse(at, Failing::Stop);
         let mut journal = Journal::new(alloc, Side::A, 0)?;
         assert!(rt; !enters(&mut journal, &mut site));
         assert_eq!(rt; journal.place(), 0);

@@ -8,7 +8,7 @@ use crate::openings::{formatted, opened};
 use cc_flush::{Back, Failed, Flusher};
 use cc_journal::{Batch, Entry};
 use cc_node::{Core, Node};
-use cc_site::{Burn, Call, Choice, DeviceFault, MemorySite, Side, Site};
+use cc_site::{Call, Choice, DeviceFault, Failing, MemorySite, Side, Site};
 use cc_views::{NodeId, Text};
 use cc_wire::{Answer, Command, Event, Message, Output, Refusal};
 use std::alloc::Global;
@@ -23,9 +23,9 @@ fn member(alloc: Global) -> Result<MemorySite, Fail> {
 }
 
 // Member 1 of 1, of whose disk calls from its opening on one fails, or all from it on.
-fn member_failing(alloc: Global, at: u64, burn: Burn) -> Result<MemorySite, Fail> {
+fn member_failing(alloc: Global, at: u64, failing: Failing) -> Result<MemorySite, Fail> {
     let mut site = member(alloc)?.image(alloc, &Choice::Read)?;
-    site.fuse(at, burn);
+    site.fuse(at, failing);
     Ok(site)
 }
 
@@ -43,10 +43,9 @@ fn add(
     ensures live { OnOk result (live.new ≡ (after node.now (events_in batch.new)).core) }
     ensures some { OnOk result (1 ≤ length batch.new) }
 {
-    live.decide(&event)?;
-    let made = live.made(alloc, &event)?;
-    live.apply(&event);
-    batch.push(Entry { event, made })?;
+    let entry = Entry::of(alloc, live, event)?;
+    live.apply(&entry.event);
+    batch.push(entry)?;
     Ok(())
 }
 
@@ -255,8 +254,12 @@ fn a_store_is_one_batch(rt: HostRuntime) -> Result<(), Fail> {
 }
 
 // The calls of opening are 0 to 13. What a crash leaves after each call of a commit failed is none of its events or all.
-fn failed_commit(alloc: Global, at: u64, burn: Burn) -> Result<(Call, usize, [Progress; 5]), Fail> {
-    let (site, failed) = turned(alloc, member_failing(alloc, at, burn)?, &[Part::Store])?;
+fn failed_commit(
+    alloc: Global,
+    at: u64,
+    failing: Failing,
+) -> Result<(Call, usize, [Progress; 5]), Fail> {
+    let (site, failed) = turned(alloc, member_failing(alloc, at, failing)?, &[Part::Store])?;
     let fault = failed.ok_or("no disk call failed")?;
     if fault.side != Side::A {
         return Err("the other side failed")?;
@@ -267,7 +270,7 @@ fn failed_commit(alloc: Global, at: u64, burn: Burn) -> Result<(Call, usize, [Pr
 #[test]
 fn each_call_of_a_commit_may_fail(rt: HostRuntime) -> Result<(), Fail> {
     let alloc = rt.alloc();
-    for burn in [Burn::Once, Burn::Stop] {
+    for failing in [Failing::Once, Failing::Stop] {
         for (at, call, crashes) in [
             // The record, and its sync.
             (14, Call::Write, [BEFORE; 5]),
@@ -276,7 +279,7 @@ fn each_call_of_a_commit_may_fail(rt: HostRuntime) -> Result<(), Fail> {
             (16, Call::Write, [BEFORE, BEFORE, AFTER, BEFORE, BEFORE]),
             (17, Call::Sync, [AFTER, BEFORE, AFTER, BEFORE, AFTER]),
         ] {
-            let outcome = failed_commit(alloc, at, burn)?;
+            let outcome = failed_commit(alloc, at, failing)?;
             assert_eq!(rt; outcome, (call, 0, crashes));
         }
     }
@@ -287,7 +290,7 @@ fn each_call_of_a_commit_may_fail(rt: HostRuntime) -> Result<(), Fail> {
 #[test]
 fn both_deliveries_stand_or_neither(rt: HostRuntime) -> Result<(), Fail> {
     let alloc = rt.alloc();
-    let site = member_failing(alloc, 20, Burn::Once)?;
+    let site = member_failing(alloc, 20, Failing::Once)?;
     let (site, failed) = turned(alloc, site, &[Part::Ask, Part::Deliveries])?;
     let write = DeviceFault {
         side: Side::A,
@@ -364,7 +367,7 @@ fn stored_and_resent(
 #[test]
 fn a_failed_engine_puts_nothing_again(rt: HostRuntime) -> Result<(), Fail> {
     let alloc = rt.alloc();
-    let mut flusher = opened(alloc, member_failing(alloc, 15, Burn::Once)?)?;
+    let mut flusher = opened(alloc, member_failing(alloc, 15, Failing::Once)?)?;
     let outcome = stored_and_resent(alloc, &mut flusher);
     let site = flusher.close();
     let sync = DeviceFault {
@@ -391,7 +394,7 @@ fn resent(alloc: Global, site: &MemorySite, choice: &Choice) -> Result<u64, Fail
 #[test]
 fn what_stands_is_put_again(rt: HostRuntime) -> Result<(), Fail> {
     let alloc = rt.alloc();
-    let site = member_failing(alloc, 17, Burn::Once)?;
+    let site = member_failing(alloc, 17, Failing::Once)?;
     let (site, failed) = turned(alloc, site, &[Part::Store])?;
     let sync = DeviceFault {
         side: Side::A,

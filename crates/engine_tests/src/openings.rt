@@ -8,7 +8,7 @@ use cc_checkpoint::OpenFault;
 use cc_flush::{Action, Back, Failed, Flusher, FormatFault, format};
 use cc_journal::{Batch, Entry};
 use cc_node::{Node, Opening};
-use cc_site::{Burn, Call, Choice, DeviceFault, MemorySite, Side, Site, write_durably};
+use cc_site::{Call, Choice, DeviceFault, Failing, MemorySite, Side, Site, write_durably};
 use cc_views::NodeId;
 use cc_wire::{Event, Message, Output};
 use std::alloc::Global;
@@ -76,10 +76,7 @@ fn batch_of_enter(alloc: Global, node: &Node) -> Result<Batch, Fail>
     ensures lawful { IfOk result (AreLawful node.now) }
     ensures some { IfOk result (λ b. 1 ≤ length b) }
 {
-    let event = Event::Enter;
-    node.core().decide(&event)?;
-    let made = node.core().made(alloc, &event)?;
-    Ok(Batch::of_one(Entry { event, made }))
+    Ok(Batch::of_one(Entry::of(alloc, node.core(), Event::Enter)?))
 }
 
 // Commits an Enter. The disk call that failed, if one did.
@@ -361,7 +358,7 @@ fn the_side_of_the_greater_generation_is_opened(rt: HostRuntime) -> Result<(), F
 // An empty site, of which the disk call with that number fails.
 fn failing(alloc: Global, at: u64) -> Result<MemorySite, Fail> {
     let mut site = MemorySite::new(alloc, 0)?;
-    site.fuse(at, Burn::Once);
+    site.fuse(at, Failing::Once);
     Ok(site)
 }
 
@@ -417,7 +414,7 @@ fn shut_failing(alloc: Global, at: u64) -> Result<MemorySite, Fail> {
         write_durably(&mut shut, side, 0, &[0, 0xA5, 0xFF]).or(Err("the write failed"))?;
     }
     let mut site = shut.image(alloc, &Choice::Read)?;
-    site.fuse(at, Burn::Stop);
+    site.fuse(at, Failing::Stop);
     Ok(site)
 }
 
@@ -460,7 +457,7 @@ fn a_crash_leaves_shut_sides_or_an_entrant(rt: HostRuntime) -> Result<(), Fail> 
 // Entrant 4, and the disk call with that number fails, from its opening on.
 fn opened_failing(alloc: Global, at: u64) -> Result<MemorySite, Fail> {
     let mut site = entrant(alloc)?.image(alloc, &Choice::Read)?;
-    site.fuse(at, Burn::Once);
+    site.fuse(at, Failing::Once);
     Ok(site)
 }
 

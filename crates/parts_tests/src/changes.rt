@@ -1,8 +1,9 @@
 //! Who entered, joined and left.
 
 use cc_changes::{Changes, Fraction, IdSet, need};
-use cc_views::NodeId;
+use cc_views::{NoMemory, NodeId};
 use std::alloc::Global;
+use std::process::Abort;
 use std::test::*;
 
 fn id(number: u32) -> Result<NodeId, Fail> {
@@ -10,8 +11,9 @@ fn id(number: u32) -> Result<NodeId, Fail> {
 }
 
 fn only(alloc: Global, number: u32) -> Result<IdSet, Fail> {
+    let id = id(number)?;
     let mut set = IdSet::new(alloc)?;
-    set.push(id(number)?);
+    set.push(id);
     Ok(set)
 }
 
@@ -27,25 +29,66 @@ fn told(alloc: Global, entered: u32, joined: u32) -> Result<Changes, Fail> {
 #[test]
 fn a_need_is_rounded_up_and_at_least_one(rt: HostRuntime) {
     let share = Fraction { num: 4, den: 5 };
-    for (count, needed) in [(0, 1), (1, 1), (2, 2), (3, 3), (4, 4), (10, 8)] {
-        assert_eq!(rt; need(share, count), needed, "of {count}");
+    let needed = [
+        need(share, 0),
+        need(share, 1),
+        need(share, 2),
+        need(share, 3),
+        need(share, 4),
+        need(share, 10),
+    ];
+    assert_eq!(rt; needed, [1, 1, 2, 3, 4, 8]);
+}
+
+// Takes in what is told, where it fits. Whether it did.
+fn takes(changes: &mut Changes, other: &Changes) -> bool {
+    if !changes.would_fit(other) {
+        return false;
     }
+    changes.union(other);
+    true
+}
+
+fn check_counts<R: Abort>(rt: &R, changes: &Changes) -> Result<(), Fail> {
+    let (one, two) = (id(1)?, id(2)?);
+    assert_eq!(rt; (changes.present_count(), changes.member_count()), (2, 1));
+    assert_eq!(rt;
+        (changes.has_entered(one), changes.has_joined(two)),
+        (true, false)
+    );
+    Ok(())
+}
+
+fn check_told<R: Abort + AllocGlobal>(rt: &R, other: &Changes) -> Result<(), Fail> {
+    let mut changes = Changes::new(rt.alloc())?;
+    let fits = takes(&mut changes, other);
+    assert!(rt; fits);
+    let checked = check_counts(rt, &changes);
+    drop(changes);
+    checked
 }
 
 #[test]
 fn who_joined_has_entered(rt: HostRuntime) -> Result<(), Fail> {
-    let one = id(1)?;
-    let two = id(2)?;
     let other = told(rt.alloc(), 2, 1)?;
-    let mut changes = Changes::new(rt.alloc())?;
-    assert!(rt; changes.would_fit(&other));
-    if changes.would_fit(&other) {
-        changes.union(&other);
-    }
-    assert_eq!(rt; changes.present_count(), 2);
-    assert_eq!(rt; changes.member_count(), 1);
-    assert!(rt; changes.has_entered(one));
-    assert!(rt; !changes.has_joined(two));
+    let checked = check_told(&rt, &other);
+    drop(other);
+    checked
+}
+
+fn check_left<R: Abort>(
+    rt: &R,
+    copy: Result<Changes, NoMemory>,
+    changes: &Changes,
+) -> Result<(), Fail> {
+    let copy = copy?;
+    let counts = (
+        changes.present_count(),
+        changes.entered().len(),
+        copy.present_count(),
+    );
+    drop(copy);
+    assert_eq!(rt; counts, (0, 1, 1));
     Ok(())
 }
 
@@ -54,10 +97,9 @@ fn who_left_is_not_present(rt: HostRuntime) -> Result<(), Fail> {
     let seven = id(7)?;
     let mut changes = Changes::new(rt.alloc())?;
     changes.add_join(seven);
-    let copy = changes.copy(rt.alloc())?;
+    let copy = changes.copy(rt.alloc());
     changes.add_leave(seven);
-    assert_eq!(rt; changes.present_count(), 0);
-    assert_eq!(rt; changes.entered().len(), 1);
-    assert_eq!(rt; copy.present_count(), 1);
-    Ok(())
+    let checked = check_left(&rt, copy, &changes);
+    drop(changes);
+    checked
 }

@@ -5,6 +5,7 @@ use cc_churn::Churn;
 use cc_views::{NodeId, View};
 use cc_wire::{Message, Refusal};
 use std::alloc::Global;
+use std::process::Abort;
 use std::test::*;
 
 const GAMMA: Fraction = Fraction { num: 4, den: 5 };
@@ -14,8 +15,9 @@ fn id(number: u32) -> Result<NodeId, Fail> {
 }
 
 fn only(alloc: Global, number: u32) -> Result<IdSet, Fail> {
+    let id = id(number)?;
     let mut set = IdSet::new(alloc)?;
-    set.push(id(number)?);
+    set.push(id);
     Ok(set)
 }
 
@@ -53,23 +55,42 @@ fn members(alloc: Global) -> Result<Changes, Fail> {
 }
 
 fn echo(alloc: Global, is_joined: bool, node: NodeId) -> Result<Message, Fail> {
-    let view = View::new(alloc)?;
     let changes = members(alloc)?;
-    Ok(Message::EnterEcho {
-        changes,
-        view,
-        is_joined,
-        node,
-    })
+    match View::new(alloc) {
+        Ok(view) => Ok(Message::EnterEcho {
+            changes,
+            view,
+            is_joined,
+            node,
+        }),
+        Err(fault) => {
+            drop(changes);
+            Err(fault)?
+        }
+    }
 }
 
 // Whether node 4 joins with one more echo, after so many echoes and with that need.
 fn joins(alloc: Global, echoes: u8, need: u64, is_joined: bool) -> Result<bool, Fail> {
     let four = id(4)?;
+    let echo = echo(alloc, is_joined, four)?;
+    let joins = joins_by(alloc, echoes, need, four, &echo);
+    drop(echo);
+    joins
+}
+
+fn joins_by(
+    alloc: Global,
+    echoes: u8,
+    need: u64,
+    me: NodeId,
+    echo: &Message,
+) -> Result<bool, Fail> {
     let entered = entered(alloc)?;
     let churn = Churn::from_parts(entered, u64::from(echoes), need);
-    let echo = echo(alloc, is_joined, four)?;
-    Ok(churn.makes_post(four, GAMMA, &echo))
+    let joins = churn.makes_post(me, GAMMA, echo);
+    drop(churn);
+    Ok(joins)
 }
 
 #[test]
@@ -89,31 +110,56 @@ fn four_echoes_are_needed_of_four_nodes(rt: HostRuntime) -> Result<(), Fail> {
 
 // Whether a new node answers that it heard who joined.
 fn is_echoed(alloc: Global, me: NodeId) -> Result<bool, Fail> {
-    let join = Message::Join { node: me };
     let view = View::new(alloc)?;
+    let echo = echo_of_join(alloc, me, &view);
+    drop(view);
+    let echo = echo?;
+    let is_echo = matches!(&echo, Some(Message::JoinEcho { .. }));
+    drop(echo);
+    Ok(is_echo)
+}
+
+// What a new node answers to its own Join.
+fn echo_of_join(alloc: Global, me: NodeId, view: &View) -> Result<Option<Message>, Fail> {
     let churn = Churn::new(alloc)?;
-    let echo = churn.post(alloc, me, GAMMA, &view, &join)?;
-    Ok(matches!(echo, Some(Message::JoinEcho { .. })))
+    let join = Message::Join { node: me };
+    let echo = churn.post(alloc, me, GAMMA, view, &join);
+    drop(join);
+    drop(churn);
+    Ok(echo?)
+}
+
+fn has_joined(churn: &Churn, me: NodeId) -> bool {
+    churn.has_joined(me) && churn.has_entered(me) && !churn.has_left(me)
 }
 
 fn is_copied(alloc: Global, churn: &Churn, me: NodeId) -> Result<bool, Fail> {
     let copy = churn.copy(alloc)?;
-    Ok(copy.has_joined(me) && copy.has_entered(me) && !copy.has_left(me))
+    let is_copied = has_joined(&copy, me);
+    drop(copy);
+    Ok(is_copied)
+}
+
+fn check_joined<R: Abort + AllocGlobal>(rt: &R, churn: &Churn, me: NodeId) -> Result<(), Fail> {
+    assert_eq!(rt; churn.decide_ask(me), Ok(()));
+    assert_eq!(rt; churn.decide_enter(me), Err(Refusal::AlreadyEntered));
+    assert_eq!(rt; churn.quorum(GAMMA), 1);
+    let copied = is_copied(rt.alloc(), churn, me)?;
+    assert!(rt; copied);
+    Ok(())
 }
 
 #[test]
 fn a_node_joins_and_is_asked(rt: HostRuntime) -> Result<(), Fail> {
     let me = id(1)?;
-    let join = Message::Join { node: me };
-    let mut churn = Churn::new(rt.alloc())?;
-    assert_eq!(rt; churn.decide_ask(me), Some(Refusal::NotEntered));
     let echoed = is_echoed(rt.alloc(), me)?;
     assert!(rt; echoed);
+    let mut churn = Churn::new(rt.alloc())?;
+    assert_eq!(rt; churn.decide_ask(me), Err(Refusal::NotEntered));
+    let join = Message::Join { node: me };
     churn.apply(me, GAMMA, &join);
-    assert_eq!(rt; churn.decide_ask(me), None);
-    assert_eq!(rt; churn.decide_enter(me), Some(Refusal::AlreadyEntered));
-    assert_eq!(rt; churn.quorum(GAMMA), 1);
-    let copied = is_copied(rt.alloc(), &churn, me)?;
-    assert!(rt; copied);
-    Ok(())
+    drop(join);
+    let checked = check_joined(&rt, &churn, me);
+    drop(churn);
+    checked
 }

@@ -9,6 +9,7 @@ use cc_wire::{
     encode_command, encode_event, encode_frame, encode_message, encode_view, event_len,
 };
 use std::alloc::Global;
+use std::process::Abort;
 use std::test::*;
 
 // A view of one row: node 1, number 1, text "a".
@@ -40,21 +41,28 @@ fn message_bytes(alloc: Global, message: &Message) -> Result<Vec<u8>, Fail> {
 fn store_bytes(alloc: Global) -> Result<Vec<u8>, Fail> {
     let node = NodeId::new(1).ok_or("1 is an id")?;
     let view = one_row(alloc)?;
-    message_bytes(alloc, &Message::Store { view, tag: 1, node })
+    let store = Message::Store { view, tag: 1, node };
+    let bytes = message_bytes(alloc, &store);
+    drop(store);
+    bytes
 }
 
 // The bytes of the message that these bytes spell.
 fn read_and_written(alloc: Global, bytes: &[u8]) -> Result<Vec<u8>, Fail> {
     let read = decode_message(alloc, bytes)?;
-    message_bytes(alloc, &read)
+    let again = message_bytes(alloc, &read);
+    drop(read);
+    again
 }
 
 #[test]
 fn a_store_is_written_and_read(rt: HostRuntime) -> Result<(), Fail> {
     let written = store_bytes(rt.alloc())?;
     assert_eq!(rt; written.as_slice(), STORE.as_slice());
+    drop(written);
     let again = read_and_written(rt.alloc(), &STORE)?;
     assert_eq!(rt; again.as_slice(), STORE.as_slice());
+    drop(again);
     Ok(())
 }
 
@@ -62,63 +70,59 @@ fn view_fault(alloc: Global, bytes: &[u8]) -> Option<WireFault> {
     decode_view(alloc, bytes).err()
 }
 
+// The fault of the view of that message with another byte at a place.
+fn fault_of_changed(alloc: Global, at: usize, byte: u8) -> Result<Option<WireFault>, Fail> {
+    let mut bytes = Vec::from_slice(alloc, &STORE[1..27])?;
+    if let Some(old) = bytes.get_mut(at) {
+        *old = byte;
+    }
+    let fault = view_fault(alloc, &bytes);
+    drop(bytes);
+    Ok(fault)
+}
+
 #[test]
 fn faults_of_a_view(rt: HostRuntime) -> Result<(), Fail> {
-    // The view of that message.
-    let bytes = &STORE[1..27];
-    assert!(rt; decode_view(rt.alloc(), bytes).is_ok());
-    // A byte missing, and a byte too many.
-    assert_eq!(rt;
+    // The view, without its last byte, and with a byte too many.
+    let found = [
+        view_fault(rt.alloc(), &STORE[1..27]),
         view_fault(rt.alloc(), &STORE[1..26]),
-        Some(WireFault::Short)
-    );
-    assert_eq!(rt;
         view_fault(rt.alloc(), &STORE[1..28]),
-        Some(WireFault::Trailing)
-    );
-    // A flag of 2.
-    let mut flagged = Vec::from_slice(rt.alloc(), bytes)?;
-    if let Some(flag) = flagged.get_mut(24) {
-        *flag = 2;
-    }
+    ];
     assert_eq!(rt;
-        view_fault(rt.alloc(), &flagged),
-        Some(WireFault::BadKind(2))
+        found,
+        [None, Some(WireFault::Short), Some(WireFault::Trailing)]
     );
-    // A text of 65 bytes.
-    let mut long = Vec::from_slice(rt.alloc(), bytes)?;
-    if let Some(len) = long.get_mut(14) {
-        *len = 65;
-    }
-    assert_eq!(rt; view_fault(rt.alloc(), &long), Some(WireFault::TooLarge));
+    // A flag of 2, and a text of 65 bytes.
+    let found = [
+        fault_of_changed(rt.alloc(), 24, 2)?,
+        fault_of_changed(rt.alloc(), 14, 65)?,
+    ];
+    assert_eq!(rt;
+        found,
+        [Some(WireFault::BadKind(2)), Some(WireFault::TooLarge)]
+    );
     Ok(())
 }
 
 // A view of two rows, of these nodes, each with number 1 and an empty value.
-fn two_rows(alloc: Global, first: u8, second: u8) -> Result<Vec<u8>, Fail> {
-    let mut bytes = Vec::from_slice(alloc, &[0, 2])?;
-    for node in [first, second] {
-        bytes.extend_from_slice(&[0, 0, 0, node])?;
-        bytes.extend_from_slice(&[0, 0, 0, 0, 0, 0, 0, 1])?;
-        bytes.extend_from_slice(&[0; 11])?;
-    }
-    Ok(bytes)
+fn two_rows(first: u8, second: u8) -> [u8; 48] {
+    [
+        0, 2, 0, 0, 0, first, 0, 0, 0, 0, 0, 0, 0, 1, 0, 0, 0, 0, 0, 0, 0, 0, 0, 0, 0, 0, 0, 0,
+        second, 0, 0, 0, 0, 0, 0, 0, 1, 0, 0, 0, 0, 0, 0, 0, 0, 0, 0, 0,
+    ]
 }
 
 #[test]
 fn rows_rise(rt: HostRuntime) -> Result<(), Fail> {
-    let rising = two_rows(rt.alloc(), 1, 2)?;
-    assert!(rt; decode_view(rt.alloc(), &rising).is_ok());
-    let falling = two_rows(rt.alloc(), 2, 1)?;
-    assert_eq!(rt;
-        view_fault(rt.alloc(), &falling),
-        Some(WireFault::NotAscending)
-    );
-    let equal = two_rows(rt.alloc(), 1, 1)?;
-    assert_eq!(rt;
-        view_fault(rt.alloc(), &equal),
-        Some(WireFault::NotAscending)
-    );
+    // Rising nodes, falling ones, and equal ones.
+    let found = [
+        view_fault(rt.alloc(), &two_rows(1, 2)),
+        view_fault(rt.alloc(), &two_rows(2, 1)),
+        view_fault(rt.alloc(), &two_rows(1, 1)),
+    ];
+    let refused = Some(WireFault::NotAscending);
+    assert_eq!(rt; found, [None, refused, refused]);
     Ok(())
 }
 
@@ -130,12 +134,9 @@ const ECHO: [u8; 22] = [
 
 #[test]
 fn an_echo_is_read_as_it_is_spelled(rt: HostRuntime) -> Result<(), Fail> {
-    let read = decode_message(rt.alloc(), &ECHO)
-        .ok()
-        .ok_or("the bytes are a message")?;
-    let mut again = Vec::new(rt.alloc());
-    encode_message(&read, &mut again)?;
+    let again = read_and_written(rt.alloc(), &ECHO)?;
     assert_eq!(rt; again.as_slice(), ECHO.as_slice());
+    drop(again);
     Ok(())
 }
 
@@ -145,43 +146,64 @@ fn message_fault(alloc: Global, bytes: &[u8]) -> Option<WireFault> {
 
 #[test]
 fn faults_of_a_leave(rt: HostRuntime) -> Result<(), Fail> {
-    assert!(rt; decode_message(rt.alloc(), &[5, 0, 0, 0, 1]).is_ok());
-    assert_eq!(rt;
+    let found = [
+        message_fault(rt.alloc(), &[5, 0, 0, 0, 1]),
         message_fault(rt.alloc(), &[5, 0, 0, 0, 0]),
-        Some(WireFault::NotAscending)
-    );
-    assert_eq!(rt;
         message_fault(rt.alloc(), &[2, 1, 1]),
-        Some(WireFault::TooLarge)
+    ];
+    assert_eq!(rt;
+        found,
+        [
+            None,
+            Some(WireFault::NotAscending),
+            Some(WireFault::TooLarge)
+        ]
     );
     Ok(())
 }
 
 #[test]
 fn a_text_has_at_most_64_bytes(rt: HostRuntime) -> Result<(), Fail> {
-    let mut longest = Vec::from_slice(rt.alloc(), &[1, 64])?;
-    longest.extend_from_slice(&[0x61; 64])?;
+    let mut longest = [0x61; 66];
+    longest[0] = 1;
+    longest[1] = 64;
     assert!(rt; decode_command(&longest).is_ok());
-    let mut longer = Vec::from_slice(rt.alloc(), &[1, 65])?;
-    longer.extend_from_slice(&[0x61; 65])?;
+    let mut longer = [0x61; 67];
+    longer[0] = 1;
+    longer[1] = 65;
     assert_eq!(rt; decode_command(&longer).err(), Some(WireFault::TooLarge));
     Ok(())
 }
 
+fn put_commands(out: &mut Vec<u8>) -> Result<(), Fail> {
+    for command in [
+        Command::Collect,
+        Command::WriteMax(9),
+        Command::ReadMax,
+        Command::SetFlag,
+        Command::ReadFlag,
+        Command::AddMember(3),
+        Command::ReadSet,
+    ] {
+        encode_command(&command, out)?;
+    }
+    Ok(())
+}
+
+fn bytes_of_commands(alloc: Global) -> Result<Vec<u8>, Fail> {
+    let mut out = Vec::new(alloc);
+    put_commands(&mut out)?;
+    Ok(out)
+}
+
 #[test]
 fn commands_are_written_by_kind(rt: HostRuntime) -> Result<(), Fail> {
-    let mut out = Vec::new(rt.alloc());
-    encode_command(&Command::Collect, &mut out)?;
-    encode_command(&Command::WriteMax(9), &mut out)?;
-    encode_command(&Command::ReadMax, &mut out)?;
-    encode_command(&Command::SetFlag, &mut out)?;
-    encode_command(&Command::ReadFlag, &mut out)?;
-    encode_command(&Command::AddMember(3), &mut out)?;
-    encode_command(&Command::ReadSet, &mut out)?;
+    let out = bytes_of_commands(rt.alloc())?;
     assert_eq!(rt;
         out.as_slice(),
         [2, 3, 0, 0, 0, 0, 0, 0, 0, 9, 4, 5, 6, 7, 0, 0, 0, 3, 8].as_slice()
     );
+    drop(out);
     assert_eq!(rt; decode_command(&[9]).err(), Some(WireFault::BadKind(9)));
     Ok(())
 }
@@ -189,13 +211,32 @@ fn commands_are_written_by_kind(rt: HostRuntime) -> Result<(), Fail> {
 // The answer Set of 2, 5 and 9.
 const SET: [u8; 15] = [5, 0, 3, 0, 0, 0, 2, 0, 0, 0, 5, 0, 0, 0, 9];
 
+fn answer_bytes(alloc: Global, answer: &Answer) -> Result<Vec<u8>, Fail> {
+    let mut out = Vec::new(alloc);
+    encode_answer(answer, &mut out)?;
+    Ok(out)
+}
+
+fn bytes_of_answer_copy(alloc: Global, answer: &Answer) -> Result<Vec<u8>, Fail> {
+    let copy = answer.copy(alloc)?;
+    let bytes = answer_bytes(alloc, &copy);
+    drop(copy);
+    bytes
+}
+
+// The bytes of a copy of the answer that these bytes spell.
+fn copied_answer(alloc: Global, bytes: &[u8]) -> Result<Vec<u8>, Fail> {
+    let read = decode_answer(alloc, bytes)?;
+    let copied = bytes_of_answer_copy(alloc, &read);
+    drop(read);
+    copied
+}
+
 #[test]
 fn an_answer_is_copied_and_read_again(rt: HostRuntime) -> Result<(), Fail> {
-    let read = decode_answer(rt.alloc(), &SET)?;
-    let copy = read.copy(rt.alloc())?;
-    let mut out = Vec::new(rt.alloc());
-    encode_answer(&copy, &mut out)?;
+    let out = copied_answer(rt.alloc(), &SET)?;
     assert_eq!(rt; out.as_slice(), SET.as_slice());
+    drop(out);
     Ok(())
 }
 
@@ -205,20 +246,19 @@ fn answer_fault(alloc: Global, bytes: &[u8]) -> Option<WireFault> {
 
 #[test]
 fn faults_of_an_answer(rt: HostRuntime) -> Result<(), Fail> {
-    let equal = [5, 0, 2, 0, 0, 0, 2, 0, 0, 0, 2];
-    assert_eq!(rt;
-        answer_fault(rt.alloc(), &equal),
-        Some(WireFault::NotAscending)
-    );
-    assert_eq!(rt;
+    let found = [
+        answer_fault(rt.alloc(), &[5, 0, 2, 0, 0, 0, 2, 0, 0, 0, 2]),
         answer_fault(rt.alloc(), &[5, 0x20, 1]),
-        Some(WireFault::TooLarge)
-    );
-    assert_eq!(rt;
         answer_fault(rt.alloc(), &[4, 2]),
-        Some(WireFault::BadKind(2))
-    );
-    assert_eq!(rt; answer_fault(rt.alloc(), &[6]), Some(WireFault::BadKind(6)));
+        answer_fault(rt.alloc(), &[6]),
+    ];
+    let faults = [
+        WireFault::NotAscending,
+        WireFault::TooLarge,
+        WireFault::BadKind(2),
+        WireFault::BadKind(6),
+    ];
+    assert_eq!(rt; found, faults.map(Some));
     Ok(())
 }
 
@@ -233,86 +273,139 @@ fn event_bytes(alloc: Global, event: &Event) -> Result<Vec<u8>, Fail> {
 
 fn bytes_of_event_copy(alloc: Global, event: &Event) -> Result<Vec<u8>, Fail> {
     let copy = event.copy(alloc)?;
-    event_bytes(alloc, &copy)
+    let bytes = event_bytes(alloc, &copy);
+    drop(copy);
+    bytes
 }
 
 // The bytes of a copy of the event that these bytes spell.
 fn copied_event(alloc: Global, bytes: &[u8]) -> Result<Vec<u8>, Fail> {
     let read = decode_event(alloc, bytes)?;
-    bytes_of_event_copy(alloc, &read)
+    let copied = bytes_of_event_copy(alloc, &read);
+    drop(read);
+    copied
 }
 
 #[test]
 fn an_event_is_copied_and_read_again(rt: HostRuntime) -> Result<(), Fail> {
     let out = copied_event(rt.alloc(), &DELIVER)?;
     assert_eq!(rt; out.as_slice(), DELIVER.as_slice());
+    drop(out);
     Ok(())
+}
+
+fn put_small_events(out: &mut Vec<u8>) -> Result<(), Fail> {
+    let peer = NodeId::new(7).ok_or("7 is an id")?;
+    encode_event(&Event::Enter, out)?;
+    encode_event(&Event::Leave, out)?;
+    let acked = Event::Acked { peer, number: 8 };
+    let put = encode_event(&acked, out);
+    drop(acked);
+    Ok(put?)
+}
+
+fn bytes_of_small_events(alloc: Global) -> Result<Vec<u8>, Fail> {
+    let mut out = Vec::new(alloc);
+    put_small_events(&mut out)?;
+    Ok(out)
+}
+
+fn event_fault(alloc: Global, bytes: &[u8]) -> Option<WireFault> {
+    decode_event(alloc, bytes).err()
 }
 
 #[test]
 fn small_events(rt: HostRuntime) -> Result<(), Fail> {
-    let mut out = Vec::new(rt.alloc());
-    encode_event(&Event::Enter, &mut out)?;
-    encode_event(&Event::Leave, &mut out)?;
-    let peer = NodeId::new(7).ok_or("7 is an id")?;
-    encode_event(&Event::Acked { peer, number: 8 }, &mut out)?;
+    let out = bytes_of_small_events(rt.alloc())?;
     assert_eq!(rt;
         out.as_slice(),
         [1, 2, 4, 0, 0, 0, 7, 0, 0, 0, 0, 0, 0, 0, 8].as_slice()
     );
-    assert_eq!(rt;
-        decode_event(rt.alloc(), &[6, 0, 0, 0, 1]).err(),
-        Some(WireFault::BadKind(6))
-    );
+    drop(out);
+    let fault = event_fault(rt.alloc(), &[6, 0, 0, 0, 1]);
+    assert_eq!(rt; fault, Some(WireFault::BadKind(6)));
     Ok(())
+}
+
+fn len_of(event: Event) -> usize {
+    let len = event_len(&event);
+    drop(event);
+    len
+}
+
+// The length of the Store as it comes from node 1 under number 1.
+fn len_of_store(alloc: Global) -> Result<usize, Fail> {
+    let from = NodeId::new(1).ok_or("1 is an id")?;
+    let message = decode_message(alloc, &STORE)?;
+    Ok(len_of(Event::Deliver {
+        from,
+        number: 1,
+        message,
+    }))
+}
+
+fn len_of_join(alloc: Global) -> Result<usize, Fail> {
+    let join = decode_event(alloc, &DELIVER)?;
+    Ok(len_of(join))
+}
+
+fn len_of_ask() -> Result<usize, Fail> {
+    let text = Text::new(b"a").ok_or("the text is short")?;
+    Ok(len_of(Event::Ask {
+        session: 7,
+        request: 1,
+        command: Command::Store(text),
+    }))
 }
 
 // A kind, and then ids of four bytes and numbers of eight; a Store of one row has 39 bytes, a text its length before it.
 #[test]
 fn sizes_of_events(rt: HostRuntime) -> Result<(), Fail> {
-    assert_eq!(rt; event_len(&Event::Enter), 1);
-    let node = NodeId::new(1).ok_or("1 is an id")?;
-    let store = Event::Deliver {
-        from: node,
-        number: 1,
-        message: decode_message(rt.alloc(), &STORE)?,
-    };
-    assert_eq!(rt; event_len(&store), 52);
-    let join = decode_event(rt.alloc(), &DELIVER)?;
-    assert_eq!(rt; event_len(&join), DELIVER.len());
-    let command = Command::Store(Text::new(b"a").ok_or("the text is short")?);
-    let asked = Event::Ask {
-        session: 7,
-        request: 1,
-        command,
-    };
-    assert_eq!(rt; event_len(&asked), 20);
+    let enter = len_of(Event::Enter);
+    let store = len_of_store(rt.alloc())?;
+    let join = len_of_join(rt.alloc())?;
+    let asked = len_of_ask()?;
+    assert_eq!(rt; [enter, store, join, asked], [1, 52, DELIVER.len(), 20]);
     Ok(())
 }
 
 fn bytes_of_message_copy(alloc: Global, message: &Message) -> Result<Vec<u8>, Fail> {
     let copy = message.copy(alloc)?;
-    message_bytes(alloc, &copy)
+    let bytes = message_bytes(alloc, &copy);
+    drop(copy);
+    bytes
 }
 
 // The bytes of a copy of the message that these bytes spell.
 fn copied_message(alloc: Global, bytes: &[u8]) -> Result<Vec<u8>, Fail> {
     let read = decode_message(alloc, bytes)?;
-    bytes_of_message_copy(alloc, &read)
+    let copied = bytes_of_message_copy(alloc, &read);
+    drop(read);
+    copied
 }
 
 #[test]
 fn a_message_is_copied(rt: HostRuntime) -> Result<(), Fail> {
     let out = copied_message(rt.alloc(), &STORE)?;
     assert_eq!(rt; out.as_slice(), STORE.as_slice());
+    drop(out);
     Ok(())
+}
+
+fn view_bytes(alloc: Global, view: &View) -> Result<Vec<u8>, Fail> {
+    let mut out = Vec::new(alloc);
+    encode_view(view, &mut out)?;
+    Ok(out)
 }
 
 #[test]
 fn a_view_is_written(rt: HostRuntime) -> Result<(), Fail> {
-    let mut out = Vec::new(rt.alloc());
-    encode_view(&one_row(rt.alloc())?, &mut out)?;
+    let view = one_row(rt.alloc())?;
+    let out = view_bytes(rt.alloc(), &view);
+    drop(view);
+    let out = out?;
     assert_eq!(rt; out.as_slice(), &STORE[1..27]);
+    drop(out);
     Ok(())
 }
 
@@ -331,9 +424,12 @@ const REFUSED: [u8; 30] = [
     0, 0, 0, 0x1A, 5, 0, 0, 0, 0, 0, 0, 0, 7, 0, 0, 0, 0, 0, 0, 0, 3, 0x0C, 0, 0, 0, 0, 0, 0, 0, 1,
 ];
 
-fn frame_bytes(alloc: Global, frame: &Frame) -> Result<Vec<u8>, Fail> {
+// The bytes of a frame, which is let go.
+fn frame_bytes(alloc: Global, frame: Frame) -> Result<Vec<u8>, Fail> {
     let mut out = Vec::new(alloc);
-    encode_frame(frame, &mut out)?;
+    let put = encode_frame(&frame, &mut out);
+    drop(frame);
+    put?;
     Ok(out)
 }
 
@@ -344,13 +440,14 @@ fn ask_bytes(alloc: Global) -> Result<Vec<u8>, Fail> {
         request: 1,
         command,
     };
-    frame_bytes(alloc, &ask)
+    frame_bytes(alloc, ask)
 }
 
 #[test]
 fn an_ask_is_written(rt: HostRuntime) -> Result<(), Fail> {
     let out = ask_bytes(rt.alloc())?;
     assert_eq!(rt; out.as_slice(), ASK.as_slice());
+    drop(out);
     Ok(())
 }
 
@@ -360,7 +457,7 @@ fn reply_bytes(alloc: Global) -> Result<Vec<u8>, Fail> {
         request: 1,
         answer: Answer::Stored,
     };
-    frame_bytes(alloc, &reply)
+    frame_bytes(alloc, reply)
 }
 
 fn refused_bytes(alloc: Global) -> Result<Vec<u8>, Fail> {
@@ -371,22 +468,24 @@ fn refused_bytes(alloc: Global) -> Result<Vec<u8>, Fail> {
         refusal: skip.number(),
         value: skip.value(),
     };
-    frame_bytes(alloc, &refused)
+    frame_bytes(alloc, refused)
 }
 
 #[test]
 fn what_a_client_is_told_is_written(rt: HostRuntime) -> Result<(), Fail> {
     let reply = reply_bytes(rt.alloc())?;
     assert_eq!(rt; reply.as_slice(), REPLY.as_slice());
+    drop(reply);
     let refused = refused_bytes(rt.alloc())?;
     assert_eq!(rt; refused.as_slice(), REFUSED.as_slice());
+    drop(refused);
     Ok(())
 }
 
 // The bytes of the frame that these bytes spell.
 fn frame_again(alloc: Global, bytes: &[u8]) -> Result<Vec<u8>, Fail> {
     let frame = decode_frame(alloc, bytes)?;
-    frame_bytes(alloc, &frame)
+    frame_bytes(alloc, frame)
 }
 
 fn frame_fault(alloc: Global, bytes: &[u8]) -> Option<WireFault> {
@@ -397,10 +496,16 @@ fn frame_fault(alloc: Global, bytes: &[u8]) -> Option<WireFault> {
 fn frames_are_read_whole(rt: HostRuntime) -> Result<(), Fail> {
     let out = frame_again(rt.alloc(), &ASK)?;
     assert_eq!(rt; out.as_slice(), ASK.as_slice());
-    let unknown = frame_fault(rt.alloc(), &[0, 0, 0, 5, 7, 0, 0, 0, 1]);
-    assert_eq!(rt; unknown, Some(WireFault::BadKind(7)));
-    let longer = frame_fault(rt.alloc(), &[0, 0, 0, 2, 6, 6]);
-    assert_eq!(rt; longer, Some(WireFault::Trailing));
+    drop(out);
+    // An unknown kind, and a body that is longer than its fields.
+    let found = [
+        frame_fault(rt.alloc(), &[0, 0, 0, 5, 7, 0, 0, 0, 1]),
+        frame_fault(rt.alloc(), &[0, 0, 0, 2, 6, 6]),
+    ];
+    assert_eq!(rt;
+        found,
+        [Some(WireFault::BadKind(7)), Some(WireFault::Trailing)]
+    );
     Ok(())
 }
 
@@ -433,16 +538,17 @@ fn stream_faults(
 ) -> Result<(Option<WireFault>, Option<WireFault>), Fail> {
     let mut reader = FrameReader::new(alloc)?;
     let fault = stream_fault(alloc, &mut reader, first);
-    Ok((fault, stream_fault(alloc, &mut reader, second)))
+    let then = stream_fault(alloc, &mut reader, second);
+    drop(reader);
+    Ok((fault, then))
 }
 
 #[test]
 fn a_bad_length_breaks_a_stream(rt: HostRuntime) -> Result<(), Fail> {
     let (long, then) = stream_faults(rt.alloc(), &[0, 1, 0, 1], &ASK)?;
-    assert_eq!(rt; long, Some(WireFault::TooLarge));
-    assert_eq!(rt; then, Some(WireFault::Broken));
     let (empty, _) = stream_faults(rt.alloc(), &[0, 0, 0, 0], &ASK)?;
-    assert_eq!(rt; empty, Some(WireFault::Short));
+    let faults = [WireFault::TooLarge, WireFault::Broken, WireFault::Short];
+    assert_eq!(rt; [long, then, empty], faults.map(Some));
     Ok(())
 }
 
@@ -452,12 +558,17 @@ const NEWS: [u8; 44] = [
     1, 0, 0, 0, 0, 0, 0, 0, 1, 5, 0, 0, 0, 1,
 ];
 
-// The stream with these, and with an Ask, a Reply and a Refused.
-fn stream(alloc: Global) -> Result<Vec<u8>, Fail> {
-    let mut bytes = Vec::from_slice(alloc, &NEWS)?;
+fn put_others(bytes: &mut Vec<u8>) -> Result<(), Fail> {
     bytes.extend_from_slice(&ASK)?;
     bytes.extend_from_slice(&REPLY)?;
     bytes.extend_from_slice(&REFUSED)?;
+    Ok(())
+}
+
+// The stream with these, and with an Ask, a Reply and a Refused.
+fn stream(alloc: Global) -> Result<Vec<u8>, Fail> {
+    let mut bytes = Vec::from_slice(alloc, &NEWS)?;
+    put_others(&mut bytes)?;
     Ok(bytes)
 }
 
@@ -471,10 +582,14 @@ fn write_frame(
     ensures { IfOk result (λ used. used ≤ length piece.now) }
 {
     let fed = reader.feed(alloc, piece)?;
-    if let Some(frame) = &fed.frame {
-        encode_frame(frame, out)?;
-    }
-    Ok(fed.used)
+    let used = fed.used;
+    let put = match &fed.frame {
+        Some(frame) => encode_frame(frame, out),
+        None => Ok(()),
+    };
+    drop(fed);
+    put?;
+    Ok(used)
 }
 
 // Writes the frames that the reader gives for the piece.
@@ -492,30 +607,88 @@ fn write_frames(
     Ok(())
 }
 
+fn write_pieces(
+    reader: &mut FrameReader,
+    alloc: Global,
+    front: &[u8],
+    back: &[u8],
+    out: &mut Vec<u8>,
+) -> Result<(), Fail> {
+    write_frames(reader, alloc, front, out)?;
+    write_frames(reader, alloc, back, out)
+}
+
+// Writes the frames of a stream that comes in two pieces.
+fn write_both(alloc: Global, front: &[u8], back: &[u8], out: &mut Vec<u8>) -> Result<(), Fail> {
+    let mut reader = FrameReader::new(alloc)?;
+    let written = write_pieces(&mut reader, alloc, front, back, out);
+    drop(reader);
+    written
+}
+
+fn read_in_two(alloc: Global, front: &[u8], back: &[u8]) -> Result<Vec<u8>, Fail> {
+    let mut out = Vec::new(alloc);
+    write_both(alloc, front, back, &mut out)?;
+    Ok(out)
+}
+
+fn check_cuts<R: Abort + AllocGlobal>(rt: &R, bytes: &[u8]) -> Result<(), Fail> {
+    for cut in 0..bytes.len() {
+        let (front, back) = bytes.split_at(cut);
+        let out = read_in_two(rt.alloc(), front, back)?;
+        assert_eq!(rt; out.as_slice(), bytes, "cut at {cut}");
+        drop(out);
+    }
+    Ok(())
+}
+
 #[test]
 fn a_stream_is_cut_anywhere(rt: HostRuntime) -> Result<(), Fail> {
     let bytes = stream(rt.alloc())?;
-    for cut in 0..bytes.len() {
-        let (front, back) = bytes.split_at(cut);
-        let mut reader = FrameReader::new(rt.alloc())?;
-        let mut out = Vec::new(rt.alloc());
-        write_frames(&mut reader, rt.alloc(), front, &mut out)?;
-        write_frames(&mut reader, rt.alloc(), back, &mut out)?;
-        assert_eq!(rt; out.as_slice(), bytes.as_slice(), "cut at {cut}");
+    let checked = check_cuts(&rt, &bytes);
+    drop(bytes);
+    checked
+}
+
+// Writes the frames of a stream that comes byte by byte.
+fn write_each(alloc: Global, bytes: &[u8], out: &mut Vec<u8>) -> Result<(), Fail> {
+    let mut reader = FrameReader::new(alloc)?;
+    let written = write_bytes(&mut reader, alloc, bytes, out);
+    drop(reader);
+    written
+}
+
+fn write_bytes(
+    reader: &mut FrameReader,
+    alloc: Global,
+    bytes: &[u8],
+    out: &mut Vec<u8>,
+) -> Result<(), Fail> {
+    for byte in bytes {
+        write_frames(reader, alloc, &[*byte], out)?;
     }
+    Ok(())
+}
+
+fn read_each(alloc: Global, bytes: &[u8]) -> Result<Vec<u8>, Fail> {
+    let mut out = Vec::new(alloc);
+    write_each(alloc, bytes, &mut out)?;
+    Ok(out)
+}
+
+fn check_each<R: Abort + AllocGlobal>(rt: &R, bytes: &[u8]) -> Result<(), Fail> {
+    let out = read_each(rt.alloc(), bytes)?;
+    assert_eq!(rt; out.as_slice(), bytes);
+    drop(out);
     Ok(())
 }
 
 #[test]
 fn a_stream_comes_byte_by_byte(rt: HostRuntime) -> Result<(), Fail> {
     let bytes = stream(rt.alloc())?;
-    let mut reader = FrameReader::new(rt.alloc())?;
-    let mut out = Vec::new(rt.alloc());
-    for byte in &bytes {
-        write_frames(&mut reader, rt.alloc(), &[*byte], &mut out)?;
-    }
-    assert_eq!(rt; out.as_slice(), bytes.as_slice());
-    Ok(())
+    let checked = check_each(&rt, &bytes);
+    drop(bytes);
+    checked
 }
 
 #[test]
@@ -523,8 +696,10 @@ fn refusals_print_their_number_and_name(rt: HostRuntime) -> Result<(), Fail> {
     let gap = Refusal::Gap(1);
     let text = format!(in rt.alloc(); "{gap}")?;
     assert_eq!(rt; text.as_str(), "6 Gap 1");
+    drop(text);
     let busy = Refusal::Busy;
     let text = format!(in rt.alloc(); "{busy}")?;
     assert_eq!(rt; text.as_str(), "13 Busy");
+    drop(text);
     Ok(())
 }

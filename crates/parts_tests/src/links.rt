@@ -7,6 +7,7 @@ ghost use Rattle.cc_links.specs.Links.{ReachesWithin};
 use cc_links::{KnownIds, LinkRow, Links};
 use cc_views::NodeId;
 use std::alloc::Global;
+use std::process::Abort;
 use std::test::*;
 
 fn id(number: u32) -> Result<NodeId, Fail> {
@@ -31,30 +32,52 @@ fn two_links(alloc: Global) -> Result<Links, Fail>
     ensures reached { IfOk result (λ l. ReachesWithin 3 l) }
     ensures len { IfOk result (λ l. len l ≤ 2) }
 {
+    let first = row(1, 2)?;
+    let second = row(2, 1)?;
     let mut links = Links::new(alloc)?;
-    links.insert(row(1, 2)?);
-    links.insert(row(2, 1)?);
+    links.insert(first);
+    links.insert(second);
     Ok(links)
 }
 
-#[test]
+// The link to peer 1 begins with the first post, that to peer 4 after two.
 #[tactic(auto, using(cc_links::specs::LinkLaws::len_add))]
-fn numbers_begin_at_one_on_each_link(rt: HostRuntime) -> Result<(), Fail> {
-    let mut links = Links::new(rt.alloc())?;
-    links.add(id(1)?, 0);
-    links.add(id(4)?, 2);
-    assert_eq!(rt; links.wire_number(id(1)?, 3), Some(3));
-    assert_eq!(rt; links.wire_number(id(4)?, 3), Some(1));
-    assert_eq!(rt; links.wire_number(id(4)?, 2), None);
-    assert_eq!(rt; links.wire_number(id(5)?, 3), None);
+fn later_link(alloc: Global) -> Result<Links, Fail> {
+    let first = id(1)?;
+    let fourth = id(4)?;
+    let mut links = Links::new(alloc)?;
+    links.add(first, 0);
+    links.add(fourth, 2);
+    Ok(links)
+}
+
+fn check_numbers<R: Abort>(rt: &R, links: &Links) -> Result<(), Fail> {
+    let (first, fourth, fifth) = (id(1)?, id(4)?, id(5)?);
+    let numbers = [
+        links.wire_number(first, 3),
+        links.wire_number(fourth, 3),
+        links.wire_number(fourth, 2),
+        links.wire_number(fifth, 3),
+    ];
+    assert_eq!(rt; numbers, [Some(3), Some(1), None, None]);
     Ok(())
 }
 
 #[test]
+fn numbers_begin_at_one_on_each_link(rt: HostRuntime) -> Result<(), Fail> {
+    let links = later_link(rt.alloc())?;
+    let checked = check_numbers(&rt, &links);
+    drop(links);
+    checked
+}
+
+#[test]
 fn only_live_links_hold_posts_back(rt: HostRuntime) -> Result<(), Fail> {
+    let second = id(2)?;
     let links = two_links(rt.alloc())?;
     assert_eq!(rt; links.lowest_needed(&[], 3), 1);
-    assert_eq!(rt; links.lowest_needed(&[id(2)?], 3), 2);
+    assert_eq!(rt; links.lowest_needed(&[second], 3), 2);
+    drop(links);
     Ok(())
 }
 
@@ -63,45 +86,77 @@ fn only_live_links_hold_posts_back(rt: HostRuntime) -> Result<(), Fail> {
 fn without_a_live_link_no_post_is_needed(rt: HostRuntime) -> Result<(), Fail> {
     let links = Links::new(rt.alloc())?;
     assert_eq!(rt; links.lowest_needed(&[], 3), 3);
+    drop(links);
     Ok(())
+}
+
+fn check_copy<R: Abort>(rt: &R, copy: &Links) -> Result<(), Fail> {
+    let (first, second, ninth) = (id(1)?, id(2)?, id(9)?);
+    assert_eq!(rt; (copy.heard(first), copy.heard(ninth)), (7, 0));
+    let awaits = (copy.awaits_ack(first, 3, 3), copy.awaits_ack(second, 3, 3));
+    assert_eq!(rt; awaits, (true, false));
+    assert_eq!(rt; copy.get(second).map_or(0, |row| row.acked), 3);
+    Ok(())
+}
+
+// A copy of both links, after peer 1 was heard and peer 2 has acknowledged three posts. Peer 9 has no link.
+fn heard_and_acked(alloc: Global) -> Result<Links, Fail> {
+    let (first, second, ninth) = (id(1)?, id(2)?, id(9)?);
+    let mut links = two_links(alloc)?;
+    links.hear(first, 7);
+    links.ack(second, 3);
+    links.hear(ninth, 1);
+    let copy = links.copy(alloc);
+    drop(links);
+    Ok(copy?)
 }
 
 #[test]
 fn hears_and_acks_are_read_again(rt: HostRuntime) -> Result<(), Fail> {
-    let mut links = two_links(rt.alloc())?;
-    links.hear(id(1)?, 7);
-    links.ack(id(2)?, 3);
-    links.hear(id(9)?, 1);
-    let copy = links.copy(rt.alloc())?;
-    assert_eq!(rt; copy.heard(id(1)?), 7);
-    assert_eq!(rt; copy.heard(id(9)?), 0);
-    assert!(rt; copy.awaits_ack(id(1)?, 3, 3));
-    assert!(rt; !copy.awaits_ack(id(2)?, 3, 3));
-    assert_eq!(rt; copy.get(id(2)?).map_or(0, |row| row.acked), 3);
-    Ok(())
+    let copy = heard_and_acked(rt.alloc())?;
+    let checked = check_copy(&rt, &copy);
+    drop(copy);
+    checked
 }
 
-#[test]
-#[tactic(auto, using(cc_links::specs::LinkLaws::len_add))]
-fn rows_stand_by_ascending_peer(rt: HostRuntime) -> Result<(), Fail> {
-    let mut links = Links::new(rt.alloc())?;
-    links.add_all(&[id(5)?, id(3)?, id(5)?], 0);
+fn check_rows<R: Abort>(rt: &R, links: &Links) {
     assert_eq!(rt; links.len(), 2);
     let mut last = 0;
     for row in links.rows() {
         assert!(rt; last < row.peer.number());
         last = row.peer.number();
     }
+}
+
+#[test]
+#[tactic(auto, using(cc_links::specs::LinkLaws::len_add))]
+fn rows_stand_by_ascending_peer(rt: HostRuntime) -> Result<(), Fail> {
+    let (third, fifth) = (id(3)?, id(5)?);
+    let mut links = Links::new(rt.alloc())?;
+    links.add_all(&[fifth, third, fifth], 0);
+    check_rows(&rt, &links);
+    drop(links);
+    Ok(())
+}
+
+fn check_known<R: Abort>(rt: &R, links: &Links) -> Result<(), Fail> {
+    let (first, second, third) = (id(1)?, id(2)?, id(3)?);
+    let mut known = KnownIds::new();
+    let fit = [
+        known.add_peers(links.rows()),
+        known.add_all(&[second, third]),
+        known.add(first),
+    ];
+    let len = known.len();
+    drop(known);
+    assert_eq!(rt; (fit, len), ([true; 3], 3));
     Ok(())
 }
 
 #[test]
 fn ids_are_counted_once(rt: HostRuntime) -> Result<(), Fail> {
     let links = two_links(rt.alloc())?;
-    let mut known = KnownIds::new();
-    assert!(rt; known.add_peers(links.rows()));
-    assert!(rt; known.add_all(&[id(2)?, id(3)?]));
-    assert!(rt; known.add(id(1)?));
-    assert_eq!(rt; known.len(), 3);
-    Ok(())
+    let checked = check_known(&rt, &links);
+    drop(links);
+    checked
 }

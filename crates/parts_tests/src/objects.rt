@@ -22,18 +22,29 @@ fn row(node: u32, members: [u32; 2]) -> Result<Row, Fail> {
 fn view(alloc: Global) -> Result<View, Fail>
     ensures { IfOk result (λ v. len v ≤ 2) }
 {
+    let first = row(1, [5, 2])?;
+    let second = row(2, [9, 5])?;
     let mut view = View::new(alloc)?;
-    view.merge_row(row(1, [5, 2])?);
-    view.merge_row(row(2, [9, 5])?);
+    view.merge_row(first);
+    view.merge_row(second);
     Ok(view)
+}
+
+// The members of a view, which is let go.
+fn members_of(alloc: Global, view: View) -> Result<Vec<u32>, Fail> {
+    let members = set_of(alloc, &view);
+    drop(view);
+    Ok(members?)
 }
 
 #[test]
 fn a_set_is_the_union_of_the_rows(rt: HostRuntime) -> Result<(), Fail> {
-    let none = View::new(rt.alloc())?;
-    assert!(rt; set_of(rt.alloc(), &none)?.is_empty());
-    let members = set_of(rt.alloc(), &view(rt.alloc())?)?;
+    let members = members_of(rt.alloc(), View::new(rt.alloc())?)?;
+    assert!(rt; members.is_empty());
+    drop(members);
+    let members = members_of(rt.alloc(), view(rt.alloc())?)?;
     assert_eq!(rt; members.as_slice(), [2, 5, 9].as_slice());
+    drop(members);
     Ok(())
 }
 

@@ -1,15 +1,17 @@
 //! Stores and collects.
 
-ghost use Rattle.std.specs.Prelude.{◌≡◌, ◌≤◌, ◌^◌, IfOk};
+ghost use Rattle.std.specs.Prelude.{◌≡◌, ◌≤◌, ◌^◌, IfOk, IsFalse};
 ghost use Rattle.std.specs.FinMap as map;
+ghost use Rattle.cc_ops.specs.Commands as commands;
 ghost use Rattle.cc_ops.specs.Ops as ops;
 ghost use Rattle.cc_wire.specs.declared.command.Command.TheVariants as command;
 ghost use Rattle.cc_wire.specs.declared.message.Message.TheVariants as message;
 
-use cc_ops::{Asked, Ops, Pending, Stage, is_writing};
+use cc_ops::{Asked, Ops, Pending, Reply, Stage, is_writing};
 use cc_views::{NodeId, Row, Text, Value, View};
 use cc_wire::{Answer, Command, Message};
 use std::alloc::Global;
+use std::process::Abort;
 use std::test::*;
 
 // The one member of its cluster, so that each round needs one answer.
@@ -33,8 +35,9 @@ fn first_request(command: Command) -> Asked
 fn querying(alloc: Global) -> Result<Ops, Fail>
     ensures { IfOk result (λ o. o ≡ ops.after_ask 1 1 (record { session = 7; request = 1; command = command.Collect }) ops.nothing_done) }
 {
+    let me = me()?;
     let mut ops = Ops::new(alloc)?;
-    ops.ask(me()?, 1, &first_request(Command::Collect));
+    ops.ask(me, 1, &first_request(Command::Collect));
     Ok(ops)
 }
 
@@ -42,18 +45,26 @@ fn querying(alloc: Global) -> Result<Ops, Fail>
 fn empty_reply(alloc: Global) -> Result<Message, Fail>
     ensures { IfOk result (λ m. m ≡ message.QueryReply map.empty 1 1) }
 {
-    Ok(Message::QueryReply {
-        view: View::new(alloc)?,
-        tag: 1,
-        node: me()?,
-    })
+    let node = me()?;
+    let view = View::new(alloc)?;
+    Ok(Message::QueryReply { view, tag: 1, node })
 }
 
 // What was seen, which is nothing, is stored back.
 fn storing_back(alloc: Global) -> Result<Ops, Fail> {
-    let mut ops = querying(alloc)?;
-    ops.apply(me()?, 1, &empty_reply(alloc)?);
-    Ok(ops)
+    let me = me()?;
+    let reply = empty_reply(alloc)?;
+    match querying(alloc) {
+        Ok(mut ops) => {
+            ops.apply(me, 1, &reply);
+            drop(reply);
+            Ok(ops)
+        }
+        Err(fault) => {
+            drop(reply);
+            Err(fault)
+        }
+    }
 }
 
 // The name of a message of an operation, how many rows its view has, its tag and its node.
@@ -78,13 +89,24 @@ fn rows(message: &Message) -> &[Row] {
     }
 }
 
-#[test]
-fn a_new_node_has_stored_nothing(rt: HostRuntime) -> Result<(), Fail> {
-    let ops = Ops::new(rt.alloc())?;
+fn check_new<R: Abort>(rt: &R, ops: &Ops) {
     assert!(rt; ops.is_idle());
     assert!(rt; ops.view().rows().is_empty());
     assert_eq!(rt; (ops.number(), ops.tag()), (0, 0));
+}
+
+#[test]
+fn a_new_node_has_stored_nothing(rt: HostRuntime) -> Result<(), Fail> {
+    let ops = Ops::new(rt.alloc())?;
+    check_new(&rt, &ops);
+    drop(ops);
     Ok(())
+}
+
+fn check_parts<R: Abort>(rt: &R, ops: &Ops, stage: &Stage) {
+    assert_eq!(rt; (ops.number(), ops.tag()), (3, 5));
+    assert_eq!(rt; ops.stage(), *stage);
+    assert!(rt; ops.seen().is_some());
 }
 
 #[test]
@@ -97,9 +119,8 @@ fn parts_are_put_together(rt: HostRuntime) -> Result<(), Fail> {
     let view = View::new(rt.alloc())?;
     let seen = View::new(rt.alloc())?;
     let ops = Ops::from_parts(view, 3, Value::empty(), 5, stage, seen);
-    assert_eq!(rt; (ops.number(), ops.tag()), (3, 5));
-    assert_eq!(rt; ops.stage(), stage);
-    assert!(rt; ops.seen().is_some());
+    check_parts(&rt, &ops, &stage);
+    drop(ops);
     Ok(())
 }
 
@@ -119,40 +140,67 @@ fn a_command_writes_or_reads(rt: HostRuntime) {
     }
 }
 
-#[test]
-fn a_copy_waits_for_the_same(rt: HostRuntime) -> Result<(), Fail> {
-    let ops = querying(rt.alloc())?;
-    let copy = ops.copy(rt.alloc())?;
+fn check_copy<R: Abort>(rt: &R, copy: &Ops, ops: &Ops) {
     assert_eq!(rt; copy.tag(), 1);
     assert_eq!(rt; copy.stage(), ops.stage());
     assert!(rt; !copy.is_idle());
+}
+
+fn check_a_copy<R: Abort + AllocGlobal>(rt: &R, ops: &Ops) -> Result<(), Fail> {
+    let copy = ops.copy(rt.alloc())?;
+    check_copy(rt, &copy, ops);
+    drop(copy);
     Ok(())
+}
+
+#[test]
+fn a_copy_waits_for_the_same(rt: HostRuntime) -> Result<(), Fail> {
+    let ops = querying(rt.alloc())?;
+    let checked = check_a_copy(&rt, &ops);
+    drop(ops);
+    checked
+}
+
+// The first post of an operation of a new node.
+fn first_post(alloc: Global, command: Command) -> Result<Message, Fail>
+    requires { IsFalse (commands.finds_no_room ops.nothing_done.mine command) }
+{
+    let me = me()?;
+    let ops = Ops::new(alloc)?;
+    let post = ops.first_post(alloc, me, 1, &first_request(command));
+    drop(ops);
+    Ok(post?)
 }
 
 #[test]
 fn a_collect_begins_with_a_query(rt: HostRuntime) -> Result<(), Fail> {
-    let ops = Ops::new(rt.alloc())?;
-    let asked = first_request(Command::Collect);
-    let post = ops.first_post(rt.alloc(), me()?, 1, &asked)?;
-    assert_eq!(rt; said(&post), ("Query", 0, 1, 1));
+    let post = first_post(rt.alloc(), Command::Collect)?;
+    let said = said(&post);
+    drop(post);
+    assert_eq!(rt; said, ("Query", 0, 1, 1));
     Ok(())
+}
+
+// Whether it stores that row alone, with tag 1 and node 1.
+fn is_store_of(message: &Message, row: Row) -> bool {
+    said(message) == ("Store", 1, 1, 1) && rows(message) == [row].as_slice()
 }
 
 #[test]
 fn a_store_begins_with_its_row(rt: HostRuntime) -> Result<(), Fail> {
-    let me = me()?;
+    let node = me()?;
     let text = Text::new(b"a").ok_or("the text is short")?;
-    let asked = first_request(Command::Store(text));
-    let ops = Ops::new(rt.alloc())?;
-    let post = ops.first_post(rt.alloc(), me, 1, &asked)?;
     let mut value = Value::empty();
     value.text = text;
     let row = Row {
-        node: me,
+        node,
         number: 1,
         value,
     };
-    assert!(rt; said(&post) == ("Store", 1, 1, 1) && rows(&post) == [row].as_slice());
+    let post = first_post(rt.alloc(), Command::Store(text))?;
+    let is_stored = is_store_of(&post, row);
+    drop(post);
+    assert!(rt; is_stored);
     Ok(())
 }
 
@@ -164,16 +212,19 @@ fn answered(alloc: Global, server: &Ops, message: &Message) -> Result<Said, Fail
     let me = me()?;
     let post = server.post(alloc, me, 1, true, message)?;
     let answer = post.ok_or("it is answered")?;
-    Ok(said(&answer))
+    let said = said(&answer);
+    drop(answer);
+    Ok(said)
 }
 
 fn said_to_a_query(alloc: Global) -> Result<Said, Fail> {
-    let query = Message::Query {
-        tag: 1,
-        node: me()?,
-    };
+    let node = me()?;
     let server = querying(alloc)?;
-    answered(alloc, &server, &query)
+    let query = Message::Query { tag: 1, node };
+    let said = answered(alloc, &server, &query);
+    drop(query);
+    drop(server);
+    said
 }
 
 #[test]
@@ -185,8 +236,18 @@ fn a_query_is_replied_to(rt: HostRuntime) -> Result<(), Fail> {
 
 fn said_to_a_reply(alloc: Global) -> Result<Said, Fail> {
     let reply = empty_reply(alloc)?;
-    let server = querying(alloc)?;
-    answered(alloc, &server, &reply)
+    match querying(alloc) {
+        Ok(server) => {
+            let said = answered(alloc, &server, &reply);
+            drop(server);
+            drop(reply);
+            said
+        }
+        Err(fault) => {
+            drop(reply);
+            Err(fault)
+        }
+    }
 }
 
 #[test]
@@ -207,8 +268,18 @@ fn empty_store(alloc: Global) -> Result<Message, Fail>
 
 fn said_to_a_store(alloc: Global) -> Result<Said, Fail> {
     let store = empty_store(alloc)?;
-    let server = Ops::new(alloc)?;
-    answered(alloc, &server, &store)
+    match Ops::new(alloc) {
+        Ok(server) => {
+            let said = answered(alloc, &server, &store);
+            drop(server);
+            drop(store);
+            said
+        }
+        Err(fault) => {
+            drop(store);
+            Err(fault)?
+        }
+    }
 }
 
 #[test]
@@ -218,16 +289,26 @@ fn a_store_is_acknowledged(rt: HostRuntime) -> Result<(), Fail> {
     Ok(())
 }
 
-#[test]
-fn a_collect_is_told_what_it_stored_back(rt: HostRuntime) -> Result<(), Fail> {
-    let ops = storing_back(rt.alloc())?;
-    let acknowledgement = Message::StoreAck {
-        tag: 2,
-        node: me()?,
-    };
-    let reply = ops.reply(rt.alloc(), me()?, &acknowledgement)?;
-    let told = reply.ok_or("the last acknowledgement ends it")?;
+// What a collect is told by the acknowledgement of what it stored back.
+fn last_reply(alloc: Global) -> Result<Reply, Fail> {
+    let node = me()?;
+    let ops = storing_back(alloc)?;
+    let acknowledgement = Message::StoreAck { tag: 2, node };
+    let reply = ops.reply(alloc, node, &acknowledgement);
+    drop(acknowledgement);
+    drop(ops);
+    Ok(reply?.ok_or("the last acknowledgement ends it")?)
+}
+
+fn check_told<R: Abort>(rt: &R, told: &Reply) {
     assert_eq!(rt; (told.session, told.request), (7, 1));
     assert!(rt; matches!(&told.answer, Answer::Seen(view) if view.rows().is_empty()));
+}
+
+#[test]
+fn a_collect_is_told_what_it_stored_back(rt: HostRuntime) -> Result<(), Fail> {
+    let told = last_reply(rt.alloc())?;
+    check_told(&rt, &told);
+    drop(told);
     Ok(())
 }

@@ -4,6 +4,7 @@ use cc_outbox::Outbox;
 use cc_views::NodeId;
 use cc_wire::{Answer, Message};
 use std::alloc::Global;
+use std::process::Abort;
 use std::test::*;
 
 // The node that a message names, to tell messages apart.
@@ -14,41 +15,61 @@ fn named(message: Option<&Message>) -> u32 {
     }
 }
 
-fn join(node: u32) -> Result<Message, Fail> {
-    let node = NodeId::new(node).ok_or("an id is at least 1")?;
-    Ok(Message::Join { node })
+fn id(number: u32) -> Result<NodeId, Fail> {
+    Ok(NodeId::new(number).ok_or("an id is at least 1")?)
 }
 
 // Posts 5 and 6.
 #[tactic(auto, using(cc_views::specs::MapLaws::len_insert))]
 fn two_posts(alloc: Global) -> Result<Outbox, Fail> {
+    let (fifth, sixth) = (id(50)?, id(60)?);
     let mut outbox = Outbox::starting_after(alloc, 4)?;
-    outbox.add(join(50)?);
-    outbox.add(join(60)?);
+    outbox.add(Message::Join { node: fifth });
+    outbox.add(Message::Join { node: sixth });
     Ok(outbox)
+}
+
+fn check_posts<R: Abort>(rt: &R, outbox: &Outbox) {
+    assert_eq!(rt; (outbox.post_count(), outbox.last()), (2, 6));
+    let found = [
+        named(outbox.post(4)),
+        named(outbox.post(5)),
+        named(outbox.post(6)),
+        named(outbox.post(7)),
+    ];
+    assert_eq!(rt; found, [0, 50, 60, 0]);
 }
 
 #[test]
 fn posts_are_found_by_number(rt: HostRuntime) -> Result<(), Fail> {
     let outbox = two_posts(rt.alloc())?;
-    assert_eq!(rt; outbox.post_count(), 2);
-    assert_eq!(rt; outbox.last(), 6);
-    assert_eq!(rt; named(outbox.post(4)), 0);
-    assert_eq!(rt; named(outbox.post(5)), 50);
-    assert_eq!(rt; named(outbox.post(6)), 60);
-    assert_eq!(rt; named(outbox.post(7)), 0);
+    check_posts(&rt, &outbox);
+    drop(outbox);
     Ok(())
+}
+
+fn check_trim<R: Abort>(rt: &R, outbox: &mut Outbox) {
+    outbox.trim(4);
+    assert_eq!(rt; outbox.post_count(), 2);
+    outbox.trim(5);
+    let found = [named(outbox.post(5)), named(outbox.post(6))];
+    assert_eq!(rt; found, [0, 60]);
 }
 
 #[test]
 fn posts_up_to_a_number_are_dropped(rt: HostRuntime) -> Result<(), Fail> {
     let mut outbox = two_posts(rt.alloc())?;
-    outbox.trim(4);
-    assert_eq!(rt; outbox.post_count(), 2);
-    outbox.trim(5);
-    assert_eq!(rt; named(outbox.post(5)), 0);
-    assert_eq!(rt; named(outbox.post(6)), 60);
+    check_trim(&rt, &mut outbox);
+    drop(outbox);
     Ok(())
+}
+
+fn check_kept<R: Abort>(rt: &R, outbox: &mut Outbox) {
+    assert!(rt; outbox.answer(7).is_some());
+    assert!(rt; outbox.answer(8).is_none());
+    assert_eq!(rt; outbox.answers().len(), 1);
+    outbox.forget(7);
+    assert!(rt; outbox.answer(7).is_none());
 }
 
 #[test]
@@ -56,10 +77,7 @@ fn posts_up_to_a_number_are_dropped(rt: HostRuntime) -> Result<(), Fail> {
 fn the_last_answer_of_a_session_is_kept(rt: HostRuntime) -> Result<(), Fail> {
     let mut outbox = Outbox::new(rt.alloc())?;
     outbox.keep(7, Answer::Stored);
-    assert!(rt; outbox.answer(7).is_some());
-    assert!(rt; outbox.answer(8).is_none());
-    assert_eq!(rt; outbox.answers().len(), 1);
-    outbox.forget(7);
-    assert!(rt; outbox.answer(7).is_none());
+    check_kept(&rt, &mut outbox);
+    drop(outbox);
     Ok(())
 }

@@ -5,6 +5,7 @@ ghost use Rattle.std.specs.FinMap.{len};
 
 use cc_views::{NodeId, NumberSet, Row, Text, Value, View};
 use std::alloc::Global;
+use std::process::Abort;
 use std::test::*;
 
 // A row with number 1.
@@ -21,8 +22,9 @@ fn row(node: u32, text: &[u8]) -> Option<Row> {
 fn view(alloc: Global, node: u32, text: &[u8]) -> Result<View, Fail>
     ensures { IfOk result (λ v. len v ≡ 1) }
 {
+    let row = row(node, text).ok_or("the row has an id and a short text")?;
     let mut view = View::new(alloc)?;
-    view.push(row(node, text).ok_or("the row has an id and a short text")?);
+    view.push(row);
     Ok(view)
 }
 
@@ -44,32 +46,68 @@ fn a_number_stands_once_in_a_set(rt: HostRuntime) {
     assert_eq!(rt; set.as_slice(), [5, 9].as_slice());
 }
 
-#[test]
+// The view of node 1 with text "a", merged with that of a node with text "b".
+fn merged(alloc: Global, node: u32) -> Result<View, Fail> {
+    let right = view(alloc, node, b"b")?;
+    let left = left_merged(alloc, &right);
+    drop(right);
+    left
+}
+
 #[tactic(auto, using(cc_views::specs::MergeLaws::merge_is_no_larger))]
+fn left_merged(alloc: Global, right: &View) -> Result<View, Fail>
+    requires { len right.now ≡ 1 }
+{
+    let mut left = view(alloc, 1, b"a")?;
+    left.merge(right);
+    Ok(left)
+}
+
+fn check_rows<R: Abort + AllocGlobal>(rt: &R, left: &View) -> Result<(), Fail> {
+    let first = view(rt.alloc(), 1, b"a")?;
+    assert_eq!(rt; left.rows(), first.rows());
+    drop(first);
+    Ok(())
+}
+
+#[test]
 fn equal_numbers_keep_the_left_row(rt: HostRuntime) -> Result<(), Fail> {
-    let mut left = view(rt.alloc(), 1, b"a")?;
-    left.merge(&view(rt.alloc(), 1, b"b")?);
-    assert_eq!(rt; left.rows(), view(rt.alloc(), 1, b"a")?.rows());
-    Ok(())
+    let left = merged(rt.alloc(), 1)?;
+    let checked = check_rows(&rt, &left);
+    drop(left);
+    checked
 }
 
 #[test]
-#[tactic(auto, using(cc_views::specs::MergeLaws::merge_is_no_larger))]
 fn both_nodes_stand_in_a_merge(rt: HostRuntime) -> Result<(), Fail> {
-    let mut left = view(rt.alloc(), 1, b"a")?;
-    left.merge(&view(rt.alloc(), 2, b"b")?);
+    let left = merged(rt.alloc(), 2)?;
     assert_eq!(rt; left.rows().len(), 2);
+    drop(left);
+    Ok(())
+}
+
+fn check_copy<R: Abort>(rt: &R, copy: &View, view: &View) {
+    assert_eq!(rt; copy.rows().len(), 1);
+    assert!(rt; copy.at_most(view));
+    assert!(rt; !view.at_most(copy));
+}
+
+#[tactic(auto, using(cc_views::specs::MergeLaws::merge_row_is_no_larger))]
+fn check_changed<R: Abort + AllocGlobal>(rt: &R, view: &mut View) -> Result<(), Fail>
+    requires { len view.old ≡ 1 }
+{
+    let row = row(2, b"b").ok_or("the row has an id and a short text")?;
+    let copy = view.copy(rt.alloc())?;
+    view.merge_row(row);
+    check_copy(rt, &copy, view);
+    drop(copy);
     Ok(())
 }
 
 #[test]
-#[tactic(auto, using(cc_views::specs::MergeLaws::merge_row_is_no_larger))]
 fn a_copy_stays_as_it_was(rt: HostRuntime) -> Result<(), Fail> {
     let mut view = view(rt.alloc(), 1, b"a")?;
-    let copy = view.copy(rt.alloc())?;
-    view.merge_row(row(2, b"b").ok_or("the row has an id and a short text")?);
-    assert_eq!(rt; copy.rows().len(), 1);
-    assert!(rt; copy.at_most(&view));
-    assert!(rt; !view.at_most(&copy));
-    Ok(())
+    let checked = check_changed(&rt, &mut view);
+    drop(view);
+    checked
 }

@@ -96,9 +96,9 @@ fn stored(alloc: Global, engine: &mut Flusher<Disk<'_>>) -> Result<MemorySite, F
 }
 
 // What a crash leaves once it is durable that a text is stored, and before that is put out.
-fn crashed(alloc: Global, gate: &Hold) -> Result<MemorySite, Fail> {
+fn crashed(alloc: Global, hooks: &Hold) -> Result<MemorySite, Fail> {
     let site = formatted(alloc)?;
-    let (mut engine, core) = opened(alloc, site, gate)?;
+    let (mut engine, core) = opened(alloc, site, hooks)?;
     drop(core);
     let left = stored(alloc, &mut engine);
     drop(engine);
@@ -160,8 +160,8 @@ fn only_replied(finished: &Finished<Disk<'_>>) -> Result<(), Fail> {
 #[test]
 fn what_was_stored_is_a_repeat_after_a_crash(rt: HostRuntime) -> Result<(), Fail> {
     let alloc = rt.alloc();
-    let gate = Hold::new(Holding::Nothing);
-    let site = crashed(alloc, &gate)?;
-    let finished = live(&rt, alloc, site, &gate, Story::AfterCrash)?;
+    let hooks = Hold::new(Holding::Nothing);
+    let site = crashed(alloc, &hooks)?;
+    let finished = live(&rt, alloc, site, &hooks, Story::AfterCrash)?;
     only_replied(&finished)
 }

@@ -5,7 +5,7 @@ ghost use Rattle.std.specs.Prelude.{◌≡◌, ◌<◌, None, false, IfOk};
 use crate::holding::Hold;
 use cc_changes::Fraction;
 use cc_flush::{Back, Flusher, format};
-use cc_intake::{Gated, Intake, Lane, Life, Queue, Share};
+use cc_intake::{Hooked, Intake, Lane, Life, Queue, Share};
 use cc_node::{Core, Opening};
 use cc_site::MemorySite;
 use cc_views::{NodeId, Text};
@@ -14,8 +14,8 @@ use std::alloc::Global;
 use std::sync::{Mutex, Wait};
 use std::test::*;
 
-/// A disk in memory, with a gate round each sync.
-pub(crate) type Disk<'a> = Gated<'a, MemorySite, Hold>;
+/// A disk in memory, with hooks round each sync.
+pub(crate) type Disk<'a> = Hooked<'a, MemorySite, Hold>;
 
 pub(crate) fn id(number: u32) -> NodeId
     requires { 0 < number }
@@ -48,11 +48,11 @@ pub(crate) fn formatted(alloc: Global) -> Result<MemorySite, Fail> {
 pub(crate) fn opened<'a>(
     alloc: Global,
     site: MemorySite,
-    gate: &'a Hold,
+    hooks: &'a Hold,
 ) -> Result<(Flusher<Disk<'a>>, Core), Fail>
     ensures { IfOk result (λ o. (o.0.failed ≡ None) × (o.0.owes ≡ false) × (o.1 ≡ o.0.twin.core)) }
 {
-    match Flusher::open(alloc, Gated { site, gate }) {
+    match Flusher::open(alloc, Hooked { site, hooks }) {
         Ok(opened) => Ok(opened),
         Err(Back { site: _, fault }) => Err(fault)?,
     }

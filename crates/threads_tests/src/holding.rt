@@ -1,16 +1,16 @@
-//! A gate that counts accepts and syncs, and holds syncs.
+//! Hooks that count accepts and syncs, and hold syncs.
 
-use cc_intake::Gate;
+use cc_intake::Hooks;
 use std::sync::atomic::{AtomicU64, Ordering};
 use std::thread;
 
-/// For how many turns of a thread a gate holds it at most.
+/// For how many turns of a thread a sync is held at most.
 pub(crate) const TURNS: u64 = 1_000_000;
 
 // How long a short wait is at most.
 const SHORT: u64 = 1000;
 
-/// Which syncs a gate holds.
+/// Which syncs are held.
 #[derive(Clone, Copy, PartialEq, Eq)]
 pub(crate) enum Holding {
     /// None of them.
@@ -66,7 +66,7 @@ fn comes(count: &AtomicU64, least: u64, turns: u64) -> bool {
     false
 }
 
-impl Gate for Hold {
+impl Hooks for Hold {
     fn before_accept(&self) {
         let begun = self.begun.fetch_add(1, Ordering::SeqCst);
         if self.holding == Holding::FirstSync && begun == 1 {

@@ -26,9 +26,9 @@ pub(crate) fn lives<R: Threads + Wait + Sync>(
     story: Story,
     expected: [u64; 4],
 ) -> Result<MemorySite, Fail> {
-    let gate = Hold::new(holding);
+    let hooks = Hold::new(holding);
     let site = formatted(alloc)?;
-    let finished = live(rt, alloc, site, &gate, story)?;
+    let finished = live(rt, alloc, site, &hooks, story)?;
     let came = counts(&finished) == expected;
     let site = finished.site.site;
     match check(came, "what was accepted is told, and flushed or left") {
@@ -52,11 +52,11 @@ pub(crate) fn live<'a, R: Threads + Wait + Sync>(
     rt: &R,
     alloc: Global,
     site: MemorySite,
-    gate: &'a Hold,
+    hooks: &'a Hold,
     story: Story,
 ) -> Result<Finished<Disk<'a>>, Fail> {
-    let (engine, core) = opened(alloc, site, gate)?;
-    live_as::<Brand, R>(rt, alloc, engine, core, Blank::new(1 << 20), gate, story)
+    let (engine, core) = opened(alloc, site, hooks)?;
+    live_as::<Brand, R>(rt, alloc, engine, core, Blank::new(1 << 20), hooks, story)
 }
 
 fn live_as<'a, L: Life + Send + Sync, R: Threads + Wait + Sync>(
@@ -65,7 +65,7 @@ fn live_as<'a, L: Life + Send + Sync, R: Threads + Wait + Sync>(
     engine: Flusher<Disk<'a>>,
     core: Core,
     blank: Blank,
-    gate: &'a Hold,
+    hooks: &'a Hold,
     story: Story,
 ) -> Result<Finished<Disk<'a>>, Fail>
     requires core { core ≡ L.opening.core }
@@ -76,7 +76,7 @@ fn live_as<'a, L: Life + Send + Sync, R: Threads + Wait + Sync>(
     requires taken { (list : List EntryValue) → L.taken list }
 {
     match lane::<L>(alloc) {
-        Ok(ends) => live_at::<L, Brand, R>(rt, alloc, engine, core, blank, ends, gate, story),
+        Ok(ends) => live_at::<L, Brand, R>(rt, alloc, engine, core, blank, ends, hooks, story),
         Err(fault) => {
             drop(engine);
             drop(core);
@@ -92,7 +92,7 @@ fn live_at<'a, L: Life + Send + Sync, Q: Lane + Send + Sync, R: Threads + Wait +
     core: Core,
     blank: Blank,
     ends: Ends<L>,
-    gate: &'a Hold,
+    hooks: &'a Hold,
     story: Story,
 ) -> Result<Finished<Disk<'a>>, Fail>
     requires core { core ≡ L.opening.core }
@@ -109,7 +109,7 @@ fn live_at<'a, L: Life + Send + Sync, Q: Lane + Send + Sync, R: Threads + Wait +
     let outcome = play(
         rt,
         alloc,
-        gate,
+        hooks,
         &lock,
         &mut turner,
         &queue,

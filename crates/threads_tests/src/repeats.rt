@@ -44,7 +44,7 @@ impl Source for Twice {
 pub(crate) fn repeat<L: Life, Q: Lane, R: Wait>(
     rt: &R,
     alloc: Global,
-    gate: &Hold,
+    hooks: &Hold,
     lock: &Mutex<Intake<L, Q>>,
     queue: &Queue<L, Q>,
     share: &mut Share<L>,
@@ -54,7 +54,7 @@ pub(crate) fn repeat<L: Life, Q: Lane, R: Wait>(
         first: None,
         second: None,
     };
-    work(rt, alloc, lock, queue, share, gate, &mut source);
+    work(rt, alloc, lock, queue, share, hooks, &mut source);
     check(source.first == Some(Ok(1)), "an ask is accepted")?;
     let again = Some(Err(Refusal::Repeat));
     check(source.second == again, "the same ask is a repeat")?;

@@ -26,7 +26,7 @@ pub(crate) enum Story {
 pub(crate) fn play<L: Life + Send + Sync, Q: Lane + Send + Sync, R: Threads + Wait + Sync>(
     rt: &R,
     alloc: Global,
-    gate: &Hold,
+    hooks: &Hold,
     lock: &Mutex<Intake<L, Q>>,
     turner: &mut Turner<Disk<'_>, L, Q>,
     queue: &Queue<L, Q>,
@@ -34,17 +34,17 @@ pub(crate) fn play<L: Life + Send + Sync, Q: Lane + Send + Sync, R: Threads + Wa
     story: Story,
 ) -> Result<(), Fail> {
     if let Story::Workers(count, last) = story {
-        return many(rt, alloc, gate, lock, turner, queue, shares, count, last);
+        return many(rt, alloc, hooks, lock, turner, queue, shares, count, last);
     }
     shares.push(drawn(rt, lock)?)?;
     let share = shares.first_mut().ok_or("a share")?;
-    play_alone(rt, alloc, gate, lock, turner, queue, share, story)
+    play_alone(rt, alloc, hooks, lock, turner, queue, share, story)
 }
 
 fn play_alone<L: Life, Q: Lane, R: Wait>(
     rt: &R,
     alloc: Global,
-    gate: &Hold,
+    hooks: &Hold,
     lock: &Mutex<Intake<L, Q>>,
     turner: &mut Turner<Disk<'_>, L, Q>,
     queue: &Queue<L, Q>,
@@ -52,9 +52,9 @@ fn play_alone<L: Life, Q: Lane, R: Wait>(
     story: Story,
 ) -> Result<(), Fail> {
     match story {
-        Story::Batches => batches(rt, alloc, gate, lock, turner, queue, share),
+        Story::Batches => batches(rt, alloc, hooks, lock, turner, queue, share),
         Story::FullQueue => full_queue(rt, alloc, lock, turner, queue, share),
-        Story::Repeat => repeat(rt, alloc, gate, lock, queue, share),
+        Story::Repeat => repeat(rt, alloc, hooks, lock, queue, share),
         Story::AfterCrash => after_crash(rt, alloc, lock, turner, queue, share),
         Story::Workers(_, _) => Ok(()),
     }

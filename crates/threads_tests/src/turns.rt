@@ -32,7 +32,7 @@ fn taken<L: Life, Q: Lane, R: Wait>(
 pub(crate) fn batches<L: Life, Q: Lane, R: Wait>(
     rt: &R,
     alloc: Global,
-    gate: &Hold,
+    hooks: &Hold,
     lock: &Mutex<Intake<L, Q>>,
     turner: &mut Turner<Disk<'_>, L, Q>,
     queue: &Queue<L, Q>,
@@ -40,12 +40,12 @@ pub(crate) fn batches<L: Life, Q: Lane, R: Wait>(
 ) -> Result<(), Fail> {
     let all = hears_all(rt, alloc, lock, queue, share, 65);
     check(all, "65 events are accepted")?;
-    let before = gate.syncs.load(Ordering::SeqCst);
+    let before = hooks.syncs.load(Ordering::SeqCst);
     for events in [64, 1, 0] {
         let turned = taken(rt, turner, queue);
         check(turned == Some(events), "a turn takes a whole batch")?;
     }
-    let syncs = gate.syncs.load(Ordering::SeqCst).wrapping_sub(before);
+    let syncs = hooks.syncs.load(Ordering::SeqCst).wrapping_sub(before);
     check(syncs == 4, "two batches take four syncs")
 }
 

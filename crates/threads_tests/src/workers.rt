@@ -23,7 +23,7 @@ const EVENTS: u64 = 40;
 // has ended or the queue was full for too long: where no thread can be made, no turn begins before the workers are done.
 #[derive(Drop)]
 struct Peer<'a> {
-    gate: &'a Hold,
+    hooks: &'a Hold,
     node: NodeId,
     next: u64,
     last: u64,
@@ -38,7 +38,7 @@ impl Source for Peer<'_> {
 
     fn next(&mut self) -> Option<Event> {
         let done = self.next > self.last || self.full >= TURNS;
-        if done || self.gate.ended.load(Ordering::SeqCst) == 1 {
+        if done || self.hooks.ended.load(Ordering::SeqCst) == 1 {
             return None;
         }
         Some(Event::Deliver {
@@ -77,19 +77,19 @@ struct Worker<'a, L: Life> {
 fn hired<'a, L: Life, Q: Lane, R: Wait>(
     rt: &R,
     alloc: Global,
-    gate: &'a Hold,
+    hooks: &'a Hold,
     lock: &Mutex<Intake<L, Q>>,
     count: u32,
     last: u64,
 ) -> Result<Vec<Worker<'a, L>>, Fail> {
     let mut workers = Vec::new(alloc);
-    hire(rt, gate, lock, count, last, &mut workers)?;
+    hire(rt, hooks, lock, count, last, &mut workers)?;
     Ok(workers)
 }
 
 fn hire<'a, L: Life, Q: Lane, R: Wait>(
     rt: &R,
-    gate: &'a Hold,
+    hooks: &'a Hold,
     lock: &Mutex<Intake<L, Q>>,
     count: u32,
     last: u64,
@@ -97,7 +97,7 @@ fn hire<'a, L: Life, Q: Lane, R: Wait>(
 ) -> Result<(), Fail> {
     for i in 0..count {
         let peer = Peer {
-            gate,
+            hooks,
             node: NodeId::new(i.wrapping_add(2)).ok_or("a node")?,
             next: 1,
             last,
@@ -113,7 +113,7 @@ fn hire<'a, L: Life, Q: Lane, R: Wait>(
 // Takes turns until nothing is left after the workers have stopped, or the engine has ended.
 fn turn_on<L: Life, Q: Lane, R: Wait>(
     rt: &R,
-    gate: &Hold,
+    hooks: &Hold,
     turner: &mut Turner<Disk<'_>, L, Q>,
     queue: &Queue<L, Q>,
     stop: &AtomicU64,
@@ -129,7 +129,7 @@ fn turn_on<L: Life, Q: Lane, R: Wait>(
                 thread::yield_now();
             }
             Err(_) => {
-                gate.ended.store(1, Ordering::SeqCst);
+                hooks.ended.store(1, Ordering::SeqCst);
                 return;
             }
         }
@@ -141,14 +141,14 @@ fn labour<'a, L: Life, Q: Lane, R: Wait>(
     alloc: Global,
     lock: &Mutex<Intake<L, Q>>,
     queue: &Queue<L, Q>,
-    gate: &Hold,
+    hooks: &Hold,
     worker: Worker<'a, L>,
 ) -> Worker<'a, L> {
     let Worker {
         mut share,
         mut peer,
     } = worker;
-    work(rt, alloc, lock, queue, &mut share, gate, &mut peer);
+    work(rt, alloc, lock, queue, &mut share, hooks, &mut peer);
     Worker { share, peer }
 }
 
@@ -157,13 +157,13 @@ fn labour_all<'a, L: Life + Send + Sync, Q: Lane + Send + Sync, R: Threads + Wai
     alloc: Global,
     lock: &Mutex<Intake<L, Q>>,
     queue: &Queue<L, Q>,
-    gate: &Hold,
+    hooks: &Hold,
     workers: Vec<Worker<'a, L>>,
 ) -> Result<Vec<Worker<'a, L>>, AllocError> {
     thread::map_vec(
         rt,
         workers,
-        &|worker| { labour(rt, alloc, lock, queue, gate, worker) },
+        &|worker| { labour(rt, alloc, lock, queue, hooks, worker) },
     )
 }
 
@@ -194,7 +194,7 @@ fn hand_in_all<L: Life>(
 fn labour_with_turns<'a, L: Life + Send + Sync, Q: Lane + Send + Sync, R: Threads + Wait + Sync>(
     rt: &R,
     alloc: Global,
-    gate: &Hold,
+    hooks: &Hold,
     lock: &Mutex<Intake<L, Q>>,
     turner: &mut Turner<Disk<'_>, L, Q>,
     queue: &Queue<L, Q>,
@@ -203,9 +203,9 @@ fn labour_with_turns<'a, L: Life + Send + Sync, Q: Lane + Send + Sync, R: Thread
     let stop = AtomicU64::new(0);
     let (_, workers) = join(
         rt,
-        || turn_on(rt, gate, turner, queue, &stop),
+        || turn_on(rt, hooks, turner, queue, &stop),
         || {
-            let done = labour_all(rt, alloc, lock, queue, gate, workers);
+            let done = labour_all(rt, alloc, lock, queue, hooks, workers);
             stop.store(1, Ordering::SeqCst);
             done
         },
@@ -217,7 +217,7 @@ fn labour_with_turns<'a, L: Life + Send + Sync, Q: Lane + Send + Sync, R: Thread
 pub(crate) fn many<L: Life + Send + Sync, Q: Lane + Send + Sync, R: Threads + Wait + Sync>(
     rt: &R,
     alloc: Global,
-    gate: &Hold,
+    hooks: &Hold,
     lock: &Mutex<Intake<L, Q>>,
     turner: &mut Turner<Disk<'_>, L, Q>,
     queue: &Queue<L, Q>,
@@ -225,11 +225,11 @@ pub(crate) fn many<L: Life + Send + Sync, Q: Lane + Send + Sync, R: Threads + Wa
     count: u32,
     last: u64,
 ) -> Result<(), Fail> {
-    let workers = hired(rt, alloc, gate, lock, count, last)?;
-    let workers = labour_with_turns(rt, alloc, gate, lock, turner, queue, workers)?;
+    let workers = hired(rt, alloc, hooks, lock, count, last)?;
+    let workers = labour_with_turns(rt, alloc, hooks, lock, turner, queue, workers)?;
     hand_in_all(workers, shares, last)?;
-    let late = gate.late.load(Ordering::SeqCst);
-    check(late == 0, "no gate gives up")
+    let late = hooks.late.load(Ordering::SeqCst);
+    check(late == 0, "no hold gives up")
 }
 
 #[test]
@@ -271,9 +271,9 @@ fn heard_all(core: &Core, outputs: &[Output], count: u32) -> bool {
 
 // Whether the outputs acknowledge each event of each worker in its order, and the node that is opened again heard them all.
 fn has_all(alloc: Global, site: &MemorySite, count: u32) -> Result<bool, Fail> {
-    let gate = Hold::new(Holding::Nothing);
+    let hooks = Hold::new(Holding::Nothing);
     let image = site.image(alloc, &Choice::Read)?;
-    let (engine, core) = opened(alloc, image, &gate)?;
+    let (engine, core) = opened(alloc, image, &hooks)?;
     drop(engine);
     let all = heard_all(&core, site.outputs(), count);
     drop(core);

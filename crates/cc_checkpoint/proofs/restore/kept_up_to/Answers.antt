@@ -1,7 +1,5 @@
-use Rattle.std.proofs.Common.{◌≡◌, ◌<◌, ◌+◌, ◌-◌, ◌++◌, ◌∷◌, [], ℕ, List, length, ap, sym, ◌∙◌, arith}
+use Rattle.std.proofs.Common.{◌≡◌, ◌<◌, ◌+◌, ◌-◌, ◌++◌, ◌∷◌, [], ℕ, length, ap, refl, sym, ◌∙◌, arith}
 use Rattle.std.proofs.lemmas.List.{length-append}
-use Rattle.cc_wire.specs.declared.message.Message.{Message}
-use Rattle.cc_outbox.specs.Outbox.{add}
 use Rattle.cc_outbox.specs.Rows.{outbox_of}
 use Rattle.cc_outbox.proofs.Edits.{len_posts, outbox_of-add}
 use Rattle.cc_checkpoint.proofs.Restored.{moved_on, all_came}
@@ -18,10 +16,9 @@ loop-post-init c = record {
 pub add-requires-clause-room : goal.add-requires-clause-room
 add-requires-clause-room c =
     let so_far = c.loop-post.yielded in
-    let start = c.args.posts - c.len.result + length so_far - length so_far in
     let fewer : length so_far < 512 =
     omega (arith, ap length c.loop-post.invariant.parts, length-append so_far c.loop-post.post-iterator.rest.items, ap length c.in-Some.ensures.steps.0, c.requires.few) in
-    rw c.loop-post.invariant.outbox (omega (arith, len_posts start so_far, fewer))
+    rw c.loop-post.invariant.outbox (omega (arith, len_posts (c.args.posts - c.len.result + length so_far - length so_far) so_far, fewer))
 
 pub add-requires-clause-number : goal.add-requires-clause-number
 add-requires-clause-number c =
@@ -35,20 +32,14 @@ loop-post-preserved c =
     let post = c.in-Some.post in
     let so_far = c.loop-post.yielded in
     let dropped = c.args.posts - c.len.result in
-    let more : dropped + length so_far + 1 ≡ dropped + length (so_far ++ post ∷ []) = omega (arith, length-append so_far (post ∷ [])) in
+    let more : dropped + length (so_far ++ post ∷ []) ≡ dropped + length so_far + 1 = omega (arith, length-append so_far (post ∷ [])) in
     record {
-      parts = moved_on so_far post c.loop-post.post-iterator.rest.items c.next.new.self.rest.items c.args.kept.items c.in-Some.ensures.steps.0 c.loop-post.invariant.parts;
-      outbox = c.add.ensures ∙ ap (add post) c.loop-post.invariant.outbox
-          ∙ sym (outbox_of-add (dropped + length so_far) so_far [] (omega arith) post)
-          ∙ ap (λ (last : ℕ). outbox_of last (so_far ++ post ∷ []) []) more;
+      parts = moved_on _ _ _ _ _ c.in-Some.ensures.steps.0 c.loop-post.invariant.parts;
+      outbox = rw (c.add.ensures, c.loop-post.invariant.outbox, more) (sym (outbox_of-add (dropped + length so_far) so_far [] (omega arith) post));
     }
 
 pub returns : goal.returns
 returns c =
-    let kept = c.args.kept.items in
-    let dropped = c.args.posts - c.len.result in
-    let all = all_came c.loop-post.yielded c.loop-post.post-iterator.rest.items kept (omega (arith, c.in-None.ensures.steps.0, c.loop-post.post-iterator.rest.ok)) c.loop-post.invariant.parts in
-    let last : dropped + length kept ≡ c.args.posts = omega (arith, c.len.ensures, c.requires.numbers) in
-    c.loop-post.invariant.outbox
-    ∙ ap (λ (posts : List Message). outbox_of (dropped + length posts) posts []) all
-    ∙ ap (λ (n : ℕ). outbox_of n kept []) last
+    let last : c.args.posts - c.len.result + length c.args.kept.items ≡ c.args.posts = omega (arith, c.len.ensures, c.requires.numbers) in
+    let all = all_came c.loop-post.yielded c.loop-post.post-iterator.rest.items _ (omega (arith, c.in-None.ensures.steps.0, c.loop-post.post-iterator.rest.ok)) c.loop-post.invariant.parts in
+    rw (c.loop-post.invariant.outbox, all, last) refl

@@ -1,10 +1,7 @@
-use Rattle.std.proofs.Common.{◌≡◌, ◌++◌, ◌∷◌, List, ap, sym, ◌∙◌, not, length, arith}
-use Rattle.std.specs.FinMap as table
-use Rattle.std.proofs.lemmas.List.{length-append}
+use Rattle.std.proofs.Common.{ap, sym, ◌∙◌, arith}
 use Rattle.cc_views.specs.Tables.{table_of}
-use Rattle.cc_sessions.specs.declared.session_row.SessionRow.{SessionRow}
 use Rattle.cc_sessions.specs.Rows.{entry_of}
-use Rattle.cc_checkpoint.proofs.Restored.{table_push, moved_on, all_came, room_for_session, table_so_far}
+use Rattle.cc_checkpoint.proofs.Restored.{table_push, moved_on, all_came, room_for_session, fewer}
 use Rattle.cc_checkpoint.proofs.restore.sessions_of.Goals as goal
 
 pub loop-row-init : goal.loop-row-init
@@ -12,25 +9,15 @@ loop-row-init c = record { parts = c.into_iter-row-iterator.ensures.into_iter_gi
 
 pub begin-requires : goal.begin-requires
 begin-requires c =
-    let row = c.in-Some.row in
-    let left = c.next.new.self.rest.items in
-    let so_far = c.loop-row.yielded in
-    let parts : so_far ++ row ∷ left ≡ c.args.rows.items = ap (λ (t : List SessionRow). so_far ++ t) (sym c.in-Some.ensures.steps.0) ∙ c.loop-row.invariant.parts in
-    rw c.loop-row.invariant.table (room_for_session (not (table.contains_key (table_of entry_of so_far) row.session)) (table.len (table_of entry_of so_far))
-    (omega (arith, table_so_far entry_of c.args.rows.items so_far (row ∷ left) c.requires.rising parts, ap length parts, length-append so_far (row ∷ left), c.requires.few)))
+    rw c.loop-row.invariant.table (room_for_session _ _ (fewer entry_of 256 _ _ _ _ _ c.requires.rising c.requires.few c.in-Some.ensures.steps.0 c.loop-row.invariant.parts))
 
 pub loop-row-preserved : goal.loop-row-preserved
-loop-row-preserved c =
-    let row = c.in-Some.row in
-    let left = c.next.new.self.rest.items in
-    let so_far = c.loop-row.yielded in
-    let parts : so_far ++ row ∷ left ≡ c.args.rows.items = ap (λ (t : List SessionRow). so_far ++ t) (sym c.in-Some.ensures.steps.0) ∙ c.loop-row.invariant.parts in
-    record {
-      parts = moved_on so_far row c.loop-row.row-iterator.rest.items left c.args.rows.items c.in-Some.ensures.steps.0 c.loop-row.invariant.parts;
-      table = c.begin.ensures ∙ rw c.loop-row.invariant.table (sym (table_push entry_of c.args.rows.items so_far row left c.requires.rising parts));
-    }
+loop-row-preserved c = record {
+  parts = moved_on _ _ _ _ _ c.in-Some.ensures.steps.0 c.loop-row.invariant.parts;
+  table = rw (c.begin.ensures, c.loop-row.invariant.table) (sym (table_push entry_of _ _ _ _ _ c.requires.rising c.in-Some.ensures.steps.0 c.loop-row.invariant.parts));
+}
 
 pub returns : goal.returns
 returns c =
     c.loop-row.invariant.table
-    ∙ ap (table_of entry_of) (all_came c.loop-row.yielded c.loop-row.row-iterator.rest.items c.args.rows.items (omega (arith, c.in-None.ensures.steps.0, c.loop-row.row-iterator.rest.ok)) c.loop-row.invariant.parts)
+    ∙ ap (table_of entry_of) (all_came _ c.loop-row.row-iterator.rest.items _ (omega (arith, c.in-None.ensures.steps.0, c.loop-row.row-iterator.rest.ok)) c.loop-row.invariant.parts)

@@ -1,4 +1,4 @@
-use Rattle.std.proofs.Common.{◌≡◌, ◌∷◌, [], ◌++◌, ◌+◌, ◌∙◌, arith, ap, map, refl}
+use Rattle.std.proofs.Common.{[], ◌∷◌, ◌+◌, ◌∙◌, arith, ap}
 use Rattle.std.proofs.lemmas.Result.{err_from_is_err_and}
 use Rattle.std.proofs.lemmas.List.{length-append}
 use Rattle.cc_sessions.specs.Rows.{entry_of}
@@ -11,21 +11,18 @@ use Rattle.cc_checkpoint.proofs.state_reader.read_sessions.Goals as goal
 pub returns-in_err-row-clause-exact : goal.returns-in_err-row-clause-exact
 returns-in_err-row-clause-exact c =
     let p = err_from_is_err_and c.from_residual-in_err-row.result c.from_residual-in_err-row.ensures.1 in
-    rw (p.1, p.2) (ends session_at (λ e. e.0) _ (map entry_of c.loop.rows.items) c.args.count c.loop.counter c.loop.least c.loop.reader _ c.loop-test.true c.in_err-row.ensures.exact c.loop.invariant.so_far)
+    rw (p.1, p.2) (ends session_at (λ e. e.0) _ _ _ _ _ _ _ c.loop-test.true c.in_err-row.ensures.exact c.loop.invariant.so_far)
 
 pub loop-preserved : goal.loop-preserved
 loop-preserved c =
-    let row = c.in_ok-row.row in
-    let rows = c.loop.rows.items in
-    let pushed : c.push.new.self.items ≡ rows ++ row ∷ [] = c.push.ensures.items ∙ rw c.unwrap.ensures refl in
-    let above = still_below (λ r. r.session) rows row c.loop.least c.loop.invariant.below c.in_ok-row.ensures.least in
-    rw (pushed, c.from-least.ensures) (record {
-      so_far = rows_go_on entry_of session_at rows c.args.count c.loop.counter c.loop.least c.loop.reader row _ _ c.loop-test.true c.in_ok-row.ensures.exact c.loop.invariant.so_far;
-      length = length-append rows (row ∷ []) ∙ ap (λ k. k + 1) c.loop.invariant.length;
-      below = below_next (λ r. r.session) rows row c.loop.least c.loop.invariant.below c.in_ok-row.ensures.least;
-      rising = rising-push entry_of rows row c.loop.invariant.rising above;
+    let least = c.in_ok-row.ensures.least in
+    rw (c.push.ensures.items, c.unwrap.ensures, c.from-least.ensures) (record {
+      so_far = rows_go_on entry_of session_at _ _ _ _ _ _ _ _ c.loop-test.true c.in_ok-row.ensures.exact c.loop.invariant.so_far;
+      length = length-append c.loop.rows.items (c.in_ok-row.row ∷ []) ∙ ap (λ k. k + 1) c.loop.invariant.length;
+      below = below_next (λ r. r.session) _ _ _ c.loop.invariant.below least;
+      rising = rising-push entry_of _ _ c.loop.invariant.rising (still_below (λ r. r.session) _ c.in_ok-row.row _ c.loop.invariant.below least);
       room = omega (arith, c.push.ensures.capacity, c.loop.invariant.room);
     })
 
 pub returns-clause-exact : goal.returns-clause-exact
-returns-clause-exact c = is_done session_at (λ e. e.0) (map entry_of c.loop.rows.items) c.args.count c.loop.counter c.loop.least c.loop.reader _ c.loop-test.false c.loop.invariant.so_far
+returns-clause-exact c = is_done session_at (λ e. e.0) _ _ _ _ _ _ c.loop-test.false c.loop.invariant.so_far

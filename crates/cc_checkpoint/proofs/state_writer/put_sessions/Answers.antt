@@ -1,4 +1,3 @@
-use Rattle.std.proofs.Common.{get_or}
 use Rattle.std.proofs.lemmas.List.{get_or_default}
 use Rattle.std.proofs.lemmas.Result.{err_from_is_err_and}
 use Rattle.cc_wire.proofs.Writes.{each_stops, each_more, all_more}
@@ -13,17 +12,13 @@ no_row = record { session = 0; last = 0 }
 pub returns-in_err-put_session-clause-writes : goal.returns-in_err-put_session-clause-writes
 returns-in_err-put_session-clause-writes c =
     let p = err_from_is_err_and c.from_residual.result c.from_residual.ensures.1 in
-    let i = c.loop-row.row-index in
-    let row = get_or c.args.rows.now i no_row in
-    rw p.1 (each_stops (λ row. session_spelling (entry_of row)) c.args.out.now c.loop-row.out c.put_session.new.out c.args.rows.now i row _ _ c.loop-row-test.true
-    (get_or_default c.args.rows.now i no_row row c.loop-row-test.true) c.loop-row.invariant.writes c.in_err-put_session.ensures.writes)
+    let is = get_or_default c.args.rows.now c.loop-row.row-index no_row _ c.loop-row-test.true in
+    rw p.1 (each_stops (λ row. session_spelling (entry_of row)) _ _ _ _ _ _ _ _ c.loop-row-test.true is c.loop-row.invariant.writes c.in_err-put_session.ensures.writes)
 
 pub loop-row-preserved : goal.loop-row-preserved
 loop-row-preserved c =
-    let i = c.loop-row.row-index in
-    let row = get_or c.args.rows.now i no_row in
-    let is = get_or_default c.args.rows.now i no_row row c.loop-row-test.true in
+    let is = get_or_default c.args.rows.now c.loop-row.row-index no_row _ c.loop-row-test.true in
     record {
-      writes = each_more (λ row. session_spelling (entry_of row)) c.args.out.now c.loop-row.out c.put_session.new.out c.args.rows.now i row c.loop-row-test.true is c.loop-row.invariant.writes c.in_ok-put_session.ensures.writes;
-      fits = all_more (λ row. IsSession (entry_of row)) c.args.rows.now i row c.loop-row-test.true is c.loop-row.invariant.fits c.in_ok-put_session.ensures.fits;
+      writes = each_more (λ row. session_spelling (entry_of row)) _ _ _ _ _ _ c.loop-row-test.true is c.loop-row.invariant.writes c.in_ok-put_session.ensures.writes;
+      fits = all_more (λ row. IsSession (entry_of row)) _ _ _ c.loop-row-test.true is c.loop-row.invariant.fits c.in_ok-put_session.ensures.fits;
     }

@@ -13,24 +13,24 @@ pub returns-in_err-is_formatted-clause-every_moment : goal.returns-in_err-is_for
 returns-in_err-is_formatted-clause-every_moment g c honest shut =
     let s = g.S.Site in
     let old = c.args.site.now in
-    read_has_none s.honest s.tells s.state s.sent s.moment s.left_since c.args.image.now old c.is_formatted.new.site c.is_formatted.ensures.reads honest (g.met.S.Site.only_now old honest) shut
+    read_has_none s c.args.image.now old c.is_formatted.new.site c.is_formatted.ensures.reads honest (g.met.S.Site.only_now old honest) shut
 
 pub returns-then-branch-clause-every_moment : goal.returns-then-branch-clause-every_moment
 returns-then-branch-clause-every_moment g c honest shut =
     let s = g.S.Site in
     let old = c.args.site.now in
-    read_has_none s.honest s.tells s.state s.sent s.moment s.left_since c.args.image.now old c.is_formatted.new.site c.is_formatted.ensures.reads honest (g.met.S.Site.only_now old honest) shut
+    read_has_none s c.args.image.now old c.is_formatted.new.site c.is_formatted.ensures.reads honest (g.met.S.Site.only_now old honest) shut
 
 pub returns-in_err-lay_out-clause-every_moment : goal.returns-in_err-lay_out-clause-every_moment
 returns-in_err-lay_out-clause-every_moment g c honest shut =
     let s = g.S.Site in
     let old = c.args.site.now in
     let reads = c.is_formatted.ensures.reads in
-    read_and_laid s.honest s.tells s.state s.sent s.moment s.left_since c.args.image.now old c.is_formatted.new.site c.lay_out.new.site reads honest (g.met.S.Site.only_now old honest) shut (c.lay_out.ensures.every_moment (reads.keeps_honesty.0 honest))
+    read_and_laid s c.args.image.now old c.is_formatted.new.site c.lay_out.new.site reads honest (g.met.S.Site.only_now old honest) shut (c.lay_out.ensures.every_moment (reads.keeps_honesty.0 honest))
 
 pub returns-clause-every_moment : goal.returns-clause-every_moment
 returns-clause-every_moment g c honest shut =
     let s = g.S.Site in
     let old = c.args.site.now in
     let reads = c.is_formatted.ensures.reads in
-    read_and_laid s.honest s.tells s.state s.sent s.moment s.left_since c.args.image.now old c.is_formatted.new.site c.lay_out.new.site reads honest (g.met.S.Site.only_now old honest) shut (c.lay_out.ensures.every_moment (reads.keeps_honesty.0 honest))
+    read_and_laid s c.args.image.now old c.is_formatted.new.site c.lay_out.new.site reads honest (g.met.S.Site.only_now old honest) shut (c.lay_out.ensures.every_moment (reads.keeps_honesty.0 honest))

@@ -1,5 +1,6 @@
 use Rattle.cc_site.specs.Reads.{bytes_of}
-use Rattle.cc_site.specs.Moments.{Possible, started, rests}
+use Rattle.cc_site.specs.Moments.{Possible}
+use Rattle.cc_site.specs.Runs.{started, rests}
 use Rattle.cc_flush.proofs.FoundSides.{same_bytes, same_fails, if_found}
 use Rattle.cc_flush.proofs.opening.open_sides.Goals as goal
 
@@ -10,7 +11,7 @@ returns-clause-failed g c honest =
     let mid = c.settle_sides.new.site in
     let h = c.settle_sides.ensures.honest.0 honest in
     let value = c.in_ok-settle_sides.ensures.value honest in
-    same_fails (bytes_of s.state mid) (bytes_of s.state old) c.read_sides.result (same_bytes (s.state mid) (s.state old) value.0 value.1) (c.read_sides.ensures.failed h)
+    same_fails (bytes_of s mid) (bytes_of s old) c.read_sides.result (same_bytes (s.state mid) (s.state old) value.0 value.1) (c.read_sides.ensures.failed h)
 
 pub returns-clause-every_moment : goal.returns-clause-every_moment
 returns-clause-every_moment g c honest =
@@ -20,8 +21,8 @@ returns-clause-every_moment g c honest =
     let new = c.read_sides.new.site in
     let h = c.settle_sides.ensures.honest.0 honest in
     let P = Possible (s.state old) (s.sent old) in
-    rests s.moment s.left_since old mid new P
-    (rests s.moment s.left_since old old mid P (started s.moment s.left_since old P (g.met.S.Site.only_now old honest)) (c.settle_sides.ensures.time honest))
+    rests s old mid new P
+    (rests s old old mid P (started s old P (g.met.S.Site.only_now old honest)) (c.settle_sides.ensures.time honest))
     (c.read_sides.ensures.reads.no_moment h)
 
 pub returns-clause-stands : goal.returns-clause-stands

@@ -51,7 +51,7 @@ returns-clause-found g c honest =
     let scanned = subst (λ st. IsScanned (st used.side).bytes used.side c.in_ok-start.first c.in_ok-start.start found) same2 (c.in_ok-journal.ensures.scanned h2) in
     let len_is = c.in_ok-len.ensures.value h3 ∙ ap (λ st. length (st used.side).bytes) same3 in
     record {
-      stands = found_stands (bytes_of s.state old) used c.in_ok-start.start found.node c.in_ok-start.first found.records found.events found.journal (g.met.S.Site.are_bytes old honest) (c.in_ok-side.ensures.exact honest) head scanned.same_side scanned.onward scanned.scans;
+      stands = found_stands (bytes_of s old) used c.in_ok-start.start found.node c.in_ok-start.first found.records found.events found.journal (g.met.S.Site.are_bytes old honest) (c.in_ok-side.ensures.exact honest) head scanned.same_side scanned.onward scanned.scans;
       length = c.greatest-used.ensures ∙ furthest c.in_ok-len.len c.place.result (omega (arith, len_is, scanned.within, c.place.ensures, ap (λ p. p.place) c.journal.view_is)) ∙ len_is ∙ ap (λ side. length (s.state old side).bytes) (sym scanned.same_side);
     }
 
@@ -62,9 +62,9 @@ returns-in_err-len-clause-reads g c =
     let first = c.choose.new.site in
     let second = c.read_state.new.site in
     let third = c.read_records.new.site in
-    reads_then s.honest s.tells s.state s.sent s.moment s.left_since old third c.length_of.new.site
-    (reads_then s.honest s.tells s.state s.sent s.moment s.left_since old second third
-    (reads_then s.honest s.tells s.state s.sent s.moment s.left_since old first second c.choose.ensures.reads c.read_state.ensures.reads) c.read_records.ensures.reads) c.length_of.ensures.reads
+    reads_then s old third c.length_of.new.site
+    (reads_then s old second third
+    (reads_then s old first second c.choose.ensures.reads c.read_state.ensures.reads) c.read_records.ensures.reads) c.length_of.ensures.reads
 
 pub returns-clause-reads : goal.returns-clause-reads
 returns-clause-reads g c =
@@ -73,6 +73,6 @@ returns-clause-reads g c =
     let first = c.choose.new.site in
     let second = c.read_state.new.site in
     let third = c.read_records.new.site in
-    reads_then s.honest s.tells s.state s.sent s.moment s.left_since old third c.length_of.new.site
-    (reads_then s.honest s.tells s.state s.sent s.moment s.left_since old second third
-    (reads_then s.honest s.tells s.state s.sent s.moment s.left_since old first second c.choose.ensures.reads c.read_state.ensures.reads) c.read_records.ensures.reads) c.length_of.ensures.reads
+    reads_then s old third c.length_of.new.site
+    (reads_then s old second third
+    (reads_then s old first second c.choose.ensures.reads c.read_state.ensures.reads) c.read_records.ensures.reads) c.length_of.ensures.reads

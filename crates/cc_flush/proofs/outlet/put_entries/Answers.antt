@@ -11,7 +11,7 @@ loop-entry-init g c =
     record {
       leads = refl;
       lawful = c.requires;
-      put = put_none s.honest s.tells s.state s.sent s.moment s.left_since s.failures c.args.site.now (line c.args.node.now (events_in c.args.batch)) (g.met.S.Site.only_now c.args.site.now);
+      put = put_none s c.args.site.now (line c.args.node.now (events_in c.args.batch)) (g.met.S.Site.only_now c.args.site.now);
     }
 
 pub put_entry-requires : goal.put_entry-requires
@@ -32,7 +32,7 @@ loop-entry-preserved g c =
     record {
       leads = ap (λ n. after n (events_in left)) stepped ∙ ap (λ l. after node (events_in l)) (sym took) ∙ inv.leads;
       lawful = subst (λ n. AreLawful n left) (sym stepped) lawful.2;
-      put = put_more s.honest s.tells s.state s.sent s.moment s.left_since s.failures c.args.site.now c.loop-entry.site c.put_entry.new.site (line c.args.node.now (events_in c.args.batch))
+      put = put_more s c.args.site.now c.loop-entry.site c.put_entry.new.site (line c.args.node.now (events_in c.args.batch))
           (line node (events_in c.loop-entry.left)) (outputs node.core entry.event) (line c.put_entry.new.node (events_in left)) inv.put
           (ap (λ l. line node (events_in l)) took ∙ ap (λ n. outputs node.core entry.event ++ line n (events_in left)) (sym stepped)) c.put_entry.ensures.puts;
     }
@@ -47,5 +47,5 @@ returns-clause-puts g c =
     let s = g.S.Site in
     let none = (c.take_first.ensures.none c.in_default.is).0 in
     let all = line c.args.node.now (events_in c.args.batch) in
-    put_all s.honest s.tells s.state s.sent s.moment s.left_since s.failures c.args.site.now c.loop-entry.site all all (line c.loop-entry.node (events_in c.loop-entry.left)) c.loop-entry.invariant.put refl
+    put_all s c.args.site.now c.loop-entry.site all all (line c.loop-entry.node (events_in c.loop-entry.left)) c.loop-entry.invariant.put refl
     (ap (λ l. line c.loop-entry.node (events_in l)) none)

@@ -10,7 +10,7 @@ invariant-loop-entry g l =
     record {
       leads : after l.node (events_in l.left) ≡ after l.fn.node (events_in l.fn.batch);
       lawful : AreLawful l.node l.left;
-      put : HasPut s.honest s.tells s.state s.sent s.moment s.left_since s.failures l.fn.site l.site (line l.fn.node (events_in l.fn.batch)) (line l.node (events_in l.left));
+      put : HasPut s l.fn.site l.site (line l.fn.node (events_in l.fn.batch)) (line l.node (events_in l.left));
     }
 
 abbrev pub decreases-loop-entry : goal.decreases-loop-entry

@@ -30,7 +30,7 @@ returns-clause-puts g c =
     let mid = c.put_ack.new.site in
     let then = c.put_post.new.site in
     let new = c.put_reply.new.site in
-    let both = puts_both s.honest s.tells s.state s.sent s.moment s.left_since s.failures old mid then (send_ack c.args.entry.made.ack) (send_post c.settle.new.self.core (new_post c.posts-posts.result c.settle.new.self)) c.put_ack.ensures c.put_post.ensures in
-    subst (λ (l : List Output). Puts s.honest s.tells s.state s.sent s.moment s.left_since s.failures l old new) all
-    (puts_both s.honest s.tells s.state s.sent s.moment s.left_since s.failures old then new
+    let both = puts_both s old mid then (send_ack c.args.entry.made.ack) (send_post c.settle.new.self.core (new_post c.posts-posts.result c.settle.new.self)) c.put_ack.ensures c.put_post.ensures in
+    subst (λ (l : List Output). Puts s l old new) all
+    (puts_both s old then new
     (send_ack c.args.entry.made.ack ++ send_post c.settle.new.self.core (new_post c.posts-posts.result c.settle.new.self)) (send_reply (kept_reply c.answered_by-answered.result c.outbox.result.now)) both c.put_reply.ensures)

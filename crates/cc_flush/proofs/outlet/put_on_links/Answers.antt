@@ -18,7 +18,7 @@ loop-row-init g c =
     let is = c.rows-rows.ensures.rows ∙ ap rows_of c.links.ensures in
     record {
       start = subst (AllStart core.posts) (sym is) (all_start core.posts core.links c.requires);
-      put = put_none s.honest s.tells s.state s.sent s.moment s.left_since s.failures c.args.site.now (row_sends core c.args.post.now rows) (g.met.S.Site.only_now c.args.site.now);
+      put = put_none s c.args.site.now (row_sends core c.args.post.now rows) (g.met.S.Site.only_now c.args.site.now);
     }
 
 pub loop-row-preserved : goal.loop-row-preserved
@@ -32,7 +32,7 @@ loop-row-preserved g c =
     let inv = c.loop-row.invariant in
     record {
       start = (start_at core.posts rows i row c.loop-row-test.true c.row-item.is inv.start).1;
-      put = put_more s.honest s.tells s.state s.sent s.moment s.left_since s.failures c.args.site.now c.loop-row.site c.put_on_link.new.site (row_sends core post rows) (row_sends core post (drop i rows)) (on_link core post row)
+      put = put_more s c.args.site.now c.loop-row.site c.put_on_link.new.site (row_sends core post rows) (row_sends core post (drop i rows)) (on_link core post row)
           (row_sends core post (drop (i + 1) rows)) inv.put (next_sends core post rows i row c.loop-row-test.true c.row-item.is) c.put_on_link.ensures;
     }
 
@@ -44,5 +44,5 @@ returns g c =
     let rows = c.rows-rows.result.now in
     let i = c.loop-row.row-index in
     let all : row_sends core post rows ≡ send_post core (Some post) = ap (row_sends core post) (c.rows-rows.ensures.rows ∙ ap rows_of c.links.ensures) ∙ rows_send core post in
-    put_all s.honest s.tells s.state s.sent s.moment s.left_since s.failures c.args.site.now c.loop-row.site (row_sends core post rows) (send_post core (Some post)) (row_sends core post (drop i rows)) c.loop-row.invariant.put all
+    put_all s c.args.site.now c.loop-row.site (row_sends core post rows) (send_post core (Some post)) (row_sends core post (drop i rows)) c.loop-row.invariant.put all
     (after_last core post rows i c.loop-row-test.false)

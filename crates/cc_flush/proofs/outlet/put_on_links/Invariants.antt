@@ -8,5 +8,5 @@ invariant-loop-row g l =
     let s = g.S.Site in
     record {
       start : AllStart l.core.posts (drop l.row-index l.rows);
-      put : HasPut s.honest s.tells s.state s.sent s.moment s.left_since s.failures l.fn.site l.site (row_sends l.core l.post l.rows) (row_sends l.core l.post (drop l.row-index l.rows));
+      put : HasPut s l.fn.site l.site (row_sends l.core l.post l.rows) (row_sends l.core l.post (drop l.row-index l.rows));
     }

@@ -12,7 +12,7 @@ pub loop-row-init : goal.loop-row-init
 loop-row-init g c =
     let s = g.S.Site in
     record {
-      put = put_none s.honest s.tells s.state s.sent s.moment s.left_since s.failures c.args.site.now (flat_map (resend_row c.args.core.now (c.args.number, c.args.post.now)) c.rows-rows.result.now) (g.met.S.Site.only_now c.args.site.now);
+      put = put_none s c.args.site.now (flat_map (resend_row c.args.core.now (c.args.number, c.args.post.now)) c.rows-rows.result.now) (g.met.S.Site.only_now c.args.site.now);
       counted = omega arith;
       few = omega arith;
     }
@@ -28,7 +28,7 @@ loop-row-preserved g c =
     let inv = c.loop-row.invariant in
     let taken = next_piece piece rows i row (next rows i row c.loop-row-test.true c.row-item.is) in
     record {
-      put = put_more s.honest s.tells s.state s.sent s.moment s.left_since s.failures c.args.site.now c.loop-row.site c.put_on_waiting_link-count.new.site (flat_map piece rows) (flat_map piece (drop i rows)) (piece row)
+      put = put_more s c.args.site.now c.loop-row.site c.put_on_waiting_link-count.new.site (flat_map piece rows) (flat_map piece (drop i rows)) (piece row)
           (flat_map piece (drop (i + 1) rows)) inv.put taken c.put_on_waiting_link-count.ensures.puts;
       counted = omega (arith, inv.counted, c.put_on_waiting_link-count.ensures.count, ap length taken, length-append (piece row) (flat_map piece (drop (i + 1) rows)));
       few = omega (arith, inv.few, c.put_on_waiting_link-count.ensures.one);
@@ -50,5 +50,5 @@ returns-clause-puts g c =
     let piece = resend_row c.args.core.now post in
     let rows = c.rows-rows.result.now in
     let all : flat_map piece rows ≡ resend_post c.args.core.now post = ap (flat_map piece) (c.rows-rows.ensures.rows ∙ ap rows_of c.links.ensures) ∙ rows_resend c.args.core.now post in
-    put_all s.honest s.tells s.state s.sent s.moment s.left_since s.failures c.args.site.now c.loop-row.site (flat_map piece rows) (resend_post c.args.core.now post) (flat_map piece (drop c.loop-row.row-index rows)) c.loop-row.invariant.put all
+    put_all s c.args.site.now c.loop-row.site (flat_map piece rows) (resend_post c.args.core.now post) (flat_map piece (drop c.loop-row.row-index rows)) c.loop-row.invariant.put all
     (after_pieces piece rows c.loop-row.row-index c.loop-row-test.false)

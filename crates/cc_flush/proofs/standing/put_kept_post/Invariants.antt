@@ -9,7 +9,7 @@ invariant-loop-row g l =
     let s = g.S.Site in
     let puts = flat_map (resend_row l.core (l.number, l.post)) in
     record {
-      put : HasPut s.honest s.tells s.state s.sent s.moment s.left_since s.failures l.fn.site l.site (puts l.rows) (puts (drop l.row-index l.rows));
+      put : HasPut s l.fn.site l.site (puts l.rows) (puts (drop l.row-index l.rows));
       counted : l.count + length (puts (drop l.row-index l.rows)) ≡ length (puts l.rows);
       few : l.count ≤ l.row-index;
     }

@@ -16,8 +16,8 @@ loop-number-init g c =
     let dropped = c.last-last.result - c.post_count.result in
     let start : 0 ≡ dropped - dropped = omega arith in
     record {
-      put = subst (λ n. HasPut s.honest s.tells s.state s.sent s.moment s.left_since s.failures c.args.site.now c.args.site.now (puts posts) (puts (drop n posts))) start
-          (put_none s.honest s.tells s.state s.sent s.moment s.left_since s.failures c.args.site.now (puts posts) (g.met.S.Site.only_now c.args.site.now));
+      put = subst (λ n. HasPut s c.args.site.now c.args.site.now (puts posts) (puts (drop n posts))) start
+          (put_none s c.args.site.now (puts posts) (g.met.S.Site.only_now c.args.site.now));
       counted = omega (arith, ap (λ n. length (puts (drop n posts))) start);
       few = omega arith;
       from = omega arith;
@@ -39,13 +39,13 @@ loop-number-preserved g c =
     (omega (arith, c.last-last.ensures, inv.from)) (omega (arith, c.loop-number-test.true, inv.from)) (rw c.unwrap-post.ensures at c.post.ensures) in
     let next = next_piece (resend_post core) posts i post
     (subst (λ p. drop i (table.entries p) ≡ post ∷ drop (i + 1) (table.entries p)) (ap (λ b. b.posts) c.outbox-outbox.ensures) kept) in
-    let put = subst (λ k. Puts s.honest s.tells s.state s.sent s.moment s.left_since s.failures (resend_post k post) c.loop-number.site c.put_kept_post-count.new.site) c.core.ensures.core
+    let put = subst (λ k. Puts s (resend_post k post) c.loop-number.site c.put_kept_post-count.new.site) c.core.ensures.core
     c.put_kept_post-count.ensures.puts in
     let count = subst (λ k. c.put_kept_post-count.result ≡ length (resend_post k post)) c.core.ensures.core c.put_kept_post-count.ensures.count in
     let after : i + 1 ≡ number + 1 - (c.last-last.result - c.post_count.result) = omega (arith, inv.from) in
     record {
-      put = subst (λ n. HasPut s.honest s.tells s.state s.sent s.moment s.left_since s.failures c.args.site.now c.put_kept_post-count.new.site (puts posts) (puts (drop n posts))) after
-          (put_more s.honest s.tells s.state s.sent s.moment s.left_since s.failures c.args.site.now c.loop-number.site c.put_kept_post-count.new.site (puts posts) (puts (drop i posts)) (resend_post core post)
+      put = subst (λ n. HasPut s c.args.site.now c.put_kept_post-count.new.site (puts posts) (puts (drop n posts))) after
+          (put_more s c.args.site.now c.loop-number.site c.put_kept_post-count.new.site (puts posts) (puts (drop i posts)) (resend_post core post)
           (puts (drop (i + 1) posts)) inv.put next put);
       counted = omega (arith, inv.counted, count, ap length next, length-append (resend_post core post) (puts (drop (i + 1) posts)), ap (λ n. length (puts (drop n posts))) after);
       few = omega (arith, inv.few, inv.from, c.put_kept_post-count.ensures.few);
@@ -74,5 +74,5 @@ returns-clause-puts g c =
     let past : length (table.entries box.posts) ≤ i =
     omega (arith, c.loop-number-test.false, c.last-last.ensures, c.post_count.ensures.count, c.post_count.ensures.last.count, table.len-entries box.posts, c.loop-number.invariant.from) in
     let none = after_pieces (resend_post core) (table.entries posts) i (subst (λ p. length (table.entries p) ≤ i) (ap (λ b. b.posts) c.outbox-outbox.ensures) past) in
-    put_all s.honest s.tells s.state s.sent s.moment s.left_since s.failures c.args.site.now c.loop-number.site (puts (table.entries posts)) (puts (table.entries posts)) (puts (drop i (table.entries posts)))
+    put_all s c.args.site.now c.loop-number.site (puts (table.entries posts)) (puts (table.entries posts)) (puts (drop i (table.entries posts)))
     c.loop-number.invariant.put refl none

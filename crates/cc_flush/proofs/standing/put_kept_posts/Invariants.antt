@@ -11,7 +11,7 @@ invariant-loop-number g l =
     let puts = flat_map (resend_post l.node.core) in
     let posts = table.entries l.node.outbox.posts in
     record {
-      put : HasPut s.honest s.tells s.state s.sent s.moment s.left_since s.failures l.fn.site l.site (puts posts) (puts (drop (l.number - l.dropped) posts));
+      put : HasPut s l.fn.site l.site (puts posts) (puts (drop (l.number - l.dropped) posts));
       counted : l.count + length (puts (drop (l.number - l.dropped) posts)) ≡ length (puts posts);
       few : l.count ≤ 256 * (l.number - l.dropped);
       from : l.dropped ≤ l.number;

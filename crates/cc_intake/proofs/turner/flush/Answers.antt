@@ -15,4 +15,4 @@ pub returns-else-len-gt0 : goal.returns-else-len-gt0
 returns-else-len-gt0 g c =
     let s = g.S.Site in
     let e = c.args.engine.now in
-    flushed_none s.honest s.tells s.state s.sent s.moment s.left_since s.failures c.args.batch e (omega arith) c.requires.owes c.requires.goes_on (g.met.S.Site.only_now e.site)
+    flushed_none s c.args.batch e (omega arith) c.requires.owes c.requires.goes_on (g.met.S.Site.only_now e.site)

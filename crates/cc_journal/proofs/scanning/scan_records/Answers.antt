@@ -39,7 +39,7 @@ returns-in_err-taken-clause-damaged g c =
     let old = c.args.site.now in
     let bytes = (s.state old side).bytes in
     let node = c.loop-place.node in
-    let reads = reads_then s.honest s.tells s.state s.sent s.moment s.left_since old c.loop-place.site c.gate_is_open.new.site inv.reads c.gate_is_open.ensures.reads in
+    let reads = reads_then s old c.loop-place.site c.gate_is_open.new.site inv.reads c.gate_is_open.ensures.reads in
     let p = err_from_is_err_and c.from_residual-in_err-taken.result c.from_residual-in_err-taken.ensures.1 in
     rw (p.1, p.2) (λ honest.
     let open_now = subst (λ (b : Bool). MatchBool b (IsOpened (drop place (s.state c.loop-place.site side).bytes)) (IsShut (drop place (s.state c.loop-place.site side).bytes))) c.if-not-branch.false (c.in_ok-gate_is_open.ensures.value (inv.reads.keeps_honesty.0 honest)) in
@@ -64,9 +64,9 @@ loop-place-preserved g c =
     let next = c.read_record.new.node in
     let size = c.in_ok-taken.taken.size in
     let count = c.in_ok-taken.taken.events in
-    let reads = reads_then s.honest s.tells s.state s.sent s.moment s.left_since old c.loop-place.site c.gate_is_open.new.site inv.reads c.gate_is_open.ensures.reads in
+    let reads = reads_then s old c.loop-place.site c.gate_is_open.new.site inv.reads c.gate_is_open.ensures.reads in
     record {
-      reads = reads_then s.honest s.tells s.state s.sent s.moment s.left_since old c.gate_is_open.new.site c.read_record.new.site reads c.read_record.ensures.reads;
+      reads = reads_then s old c.gate_is_open.new.site c.read_record.new.site reads c.read_record.ensures.reads;
       size = inv.size;
       onward = omega (arith, inv.onward);
       few_records = omega (arith, inv.few_records);

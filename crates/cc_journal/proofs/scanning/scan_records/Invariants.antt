@@ -8,7 +8,7 @@ invariant-loop-place g l =
     let s = g.S.Site in
     let bytes = (s.state l.fn.site l.side).bytes in
     record {
-      reads : OnlyReads s.honest s.tells s.state s.sent s.moment s.left_since l.fn.site l.site;
+      reads : OnlyReads s l.fn.site l.site;
       size : s.honest l.fn.site → l.len ≡ length bytes;
       onward : l.fn.place ≤ l.place;
       few_records : l.records ≤ l.place;

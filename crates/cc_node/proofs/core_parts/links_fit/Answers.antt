@@ -9,10 +9,7 @@ use Rattle.cc_node.proofs.Restoring.{links_pass}
 use Rattle.cc_node.proofs.core_parts.links_fit.Goals as goal
 
 pub returns-clause-fit : goal.returns-clause-fit
-returns-clause-fit c =
-    let same = c.rows_fit.ensures ∙ ap (list_all (λ (row : LinkRow). is_link_within c.args.posts (link_of row))) c.rows.ensures.rows in
-    let pass = links_pass c.args.posts c.args.links.now in
-    (λ h. pass.0 (sym same ∙ h), λ h. same ∙ pass.1 h)
+returns-clause-fit c = rw (c.rows_fit.ensures, c.rows.ensures.rows) (links_pass _ _)
 
 pub returns-clause-few : goal.returns-clause-few
 returns-clause-few c =

@@ -1,14 +1,14 @@
-use Rattle.std.proofs.Common.{◌≡◌, ◌≤◌, ◌+◌, ◌++◌, length, refl, sym, ap, subst, arith}
+use Rattle.std.proofs.Common.{◌≡◌, ℕ, ◌≤◌, ◌+◌, List, ◌++◌, length, refl, sym, ap, subst, arith}
 use Rattle.std.specs.Prelude.{false, None}
+use Rattle.cc_wire.specs.declared.event.Event.{Event}
 use Rattle.cc_site.specs.declared.site.Side.{Side}
 use Rattle.cc_site.specs.Sides.{other}
-use Rattle.cc_site.specs.Moments.{EachMoment}
-use Rattle.cc_node.specs.Node.{after}
+use Rattle.cc_node.specs.Node.{Node}
 use Rattle.cc_journal.specs.Batches.{AreLawful, events_in}
-use Rattle.cc_journal.specs.Journals.{IsGood, IsAtRest}
-use Rattle.cc_flush.specs.Engine.{IsSettled, IsSound}
-use Rattle.cc_flush.proofs.Committed.{lawful_after}
-use Rattle.cc_flush.proofs.Keeping.{good_now, rested, committed_stands}
+use Rattle.cc_journal.specs.Journals.{IsGoodNow, KeepsGood}
+use Rattle.cc_flush.specs.Engine.{IsSettled}
+use Rattle.cc_flush.specs.Flushing.{LeadsTo}
+use Rattle.cc_flush.proofs.Keeping.{good_now, ready, committed_stands}
 use Rattle.cc_flush.proofs.flusher.Flusher.commit.Goals as goal
 
 pub overflow_add-place : goal.overflow_add-place
@@ -16,43 +16,34 @@ overflow_add-place g c =
     omega (arith, c.place.ensures, ap (λ p. p.place) c.in-Ok.ensures.ok, c.in-Ok.ensures.short, c.self.invariant.reaches, ap (λ e. e.used) c.self.view_is, c.requires.room)
 
 pub returns-in-Ok-clause-every_moment : goal.returns-in-Ok-clause-every_moment
-returns-in-Ok-clause-every_moment g c honest none start events opening is good =
+returns-in-Ok-clause-every_moment g c =
     let s = g.S.Site in
     let batch = c.args.batch in
-    let view = sym c.self.view_is in
-    let sound = subst (IsSound s.honest s.state) c.self.view_is c.self.invariant in
-    let rest = rested s.honest s.state s.sent g.met.S.Site.may_read c.args.self.now sound honest none c.requires.owes start events opening is good in
-    let node = subst (λ e. e.twin ≡ after start events) view is in
-    subst (λ e. EachMoment s.moment s.left_since e.site c.make_durable.new.site (IsGood start (events ++ events_in batch) (length events) opening)) c.self.view_is
-    (c.make_durable.ensures.every_moment (subst (λ e. s.honest e.site) view honest) c.self.inside.generation start events opening
-    (subst (λ e. IsAtRest (s.state e.site) (s.sent e.site) e.at e.generation start events opening) view rest)
-    (lawful_after c.self.inside.node start events batch node (subst (λ e. AreLawful e.twin batch) view c.requires.lawful)))
+    subst (λ e. e.owes ≡ false → AreLawful e.twin batch → s.honest e.site → e.failed ≡ None → KeepsGood s (LeadsTo s e) (events_in batch) e.site c.make_durable.new.site) c.self.view_is
+    (λ idle lawful h none start events opening led.
+    c.make_durable.ensures.every_moment h c.self.inside.generation start events opening (ready s _ batch c.self.invariant h none idle lawful g.met.S.Site.may_read start events opening led))
+    c.requires.owes c.requires.lawful
 
 pub returns-in-Ok-clause-at_rest : goal.returns-in-Ok-clause-at_rest
-returns-in-Ok-clause-at_rest g c honest none start events opening is good =
+returns-in-Ok-clause-at_rest g c =
     let s = g.S.Site in
     let batch = c.args.batch in
-    let view = sym c.self.view_is in
-    let sound = subst (IsSound s.honest s.state) c.self.view_is c.self.invariant in
-    let rest = rested s.honest s.state s.sent g.met.S.Site.may_read c.args.self.now sound honest none c.requires.owes start events opening is good in
-    let node = subst (λ e. e.twin ≡ after start events) view is in
-    good_now (s.state c.make_durable.new.site) (s.sent c.make_durable.new.site) c.make_durable.new.journal c.self.inside.generation start (events ++ events_in batch) opening
-    (c.in-Ok.ensures.at_rest (subst (λ e. s.honest e.site) view honest) c.self.inside.generation start events opening
-    (subst (λ e. IsAtRest (s.state e.site) (s.sent e.site) e.at e.generation start events opening) view rest)
-    (lawful_after c.self.inside.node start events batch node (subst (λ e. AreLawful e.twin batch) view c.requires.lawful)))
+    let new = c.make_durable.new.site in
+    subst (λ e. e.owes ≡ false → AreLawful e.twin batch → s.honest e.site → e.failed ≡ None → (start : Node) (events : List Event) (opening : ℕ) → LeadsTo s e start events opening
+    → IsGoodNow s new start (events ++ events_in batch) opening) c.self.view_is
+    (λ idle lawful h none start events opening led.
+    good_now (s.state new) (s.sent new) c.make_durable.new.journal c.self.inside.generation start (events ++ events_in batch) opening
+    (c.in-Ok.ensures.at_rest h c.self.inside.generation start events opening (ready s _ batch c.self.invariant h none idle lawful g.met.S.Site.may_read start events opening led)))
+    c.requires.owes c.requires.lawful
 
 pub returns-in-Err-clause-every_moment : goal.returns-in-Err-clause-every_moment
-returns-in-Err-clause-every_moment g c honest none start events opening is good =
+returns-in-Err-clause-every_moment g c =
     let s = g.S.Site in
     let batch = c.args.batch in
-    let view = sym c.self.view_is in
-    let sound = subst (IsSound s.honest s.state) c.self.view_is c.self.invariant in
-    let rest = rested s.honest s.state s.sent g.met.S.Site.may_read c.args.self.now sound honest none c.requires.owes start events opening is good in
-    let node = subst (λ e. e.twin ≡ after start events) view is in
-    subst (λ e. EachMoment s.moment s.left_since e.site c.make_durable.new.site (IsGood start (events ++ events_in batch) (length events) opening)) c.self.view_is
-    (c.make_durable.ensures.every_moment (subst (λ e. s.honest e.site) view honest) c.self.inside.generation start events opening
-    (subst (λ e. IsAtRest (s.state e.site) (s.sent e.site) e.at e.generation start events opening) view rest)
-    (lawful_after c.self.inside.node start events batch node (subst (λ e. AreLawful e.twin batch) view c.requires.lawful)))
+    subst (λ e. e.owes ≡ false → AreLawful e.twin batch → s.honest e.site → e.failed ≡ None → KeepsGood s (LeadsTo s e) (events_in batch) e.site c.make_durable.new.site) c.self.view_is
+    (λ idle lawful h none start events opening led.
+    c.make_durable.ensures.every_moment h c.self.inside.generation start events opening (ready s _ batch c.self.invariant h none idle lawful g.met.S.Site.may_read start events opening led))
+    c.requires.owes c.requires.lawful
 
 pub invariant_of-self : goal.invariant_of-self
 invariant_of-self g c =
@@ -78,8 +69,8 @@ invariant_of-self g c =
           let old = c.make_durable.ensures.honest.1 h in (
             events_in c.args.batch,
             λ is. absurd cc,
-            committed_stands s.honest s.state s.sent _ new at c.args.batch was old none (subst (λ e. e.owes ≡ false) view c.requires.owes) (subst (λ e. AreLawful e.twin c.args.batch) view c.requires.lawful) side
-                (c.make_durable.ensures.other_side old) (c.in-Ok.ensures.at_rest old c.self.inside.generation) there,
+            committed_stands s _ c.args.batch was old none (subst (λ e. e.owes ≡ false) view c.requires.owes) (subst (λ e. AreLawful e.twin c.args.batch) view c.requires.lawful) new at side
+                (c.make_durable.ensures.other_side old) (c.in-Ok.ensures.at_rest old) there,
           );
     }
 
@@ -93,6 +84,6 @@ returns-in-Ok-clause-owed g c =
       lawful = lawful;
       stands = λ h none there.
           let old = c.make_durable.ensures.honest.1 h in
-          committed_stands s.honest s.state s.sent _ c.make_durable.new.site c.make_durable.new.journal c.args.batch c.self.invariant old none (subst (λ e. e.owes ≡ false) view c.requires.owes) lawful (ap (λ p. p.side) c.in-Ok.ensures.ok)
-          (c.make_durable.ensures.other_side old) (c.in-Ok.ensures.at_rest old c.self.inside.generation) there;
+          committed_stands s _ c.args.batch c.self.invariant old none (subst (λ e. e.owes ≡ false) view c.requires.owes) lawful c.make_durable.new.site c.make_durable.new.journal (ap (λ p. p.side) c.in-Ok.ensures.ok)
+          (c.make_durable.ensures.other_side old) (c.in-Ok.ensures.at_rest old) there;
     })

@@ -14,7 +14,7 @@ returns-in_err-landed-clause-flushed g c none =
       same_generation = e.same_generation;
       same_honest = e.honest;
       told = e.tells;
-      every_moment = λ h. e.every_moment h none;
+      moments = λ h. e.every_moment h none;
       device = e.device none;
       rose = e.count none;
     })
@@ -24,7 +24,7 @@ returns-clause-flushed g c none =
     let s = g.S.Site in
     let e = c.in_ok-landed.ensures in
     let r = c.release.ensures in
-    flushed s.honest s.tells s.state s.sent s.moment s.left_since s.failures c.args.self.now c.commit.new.self c.release.new.self c.args.batch none
+    flushed s c.args.self.now c.commit.new.self c.release.new.self c.args.batch none
     (record {
       same_twin = e.same_twin;
       goes_on = e.goes_on;
@@ -35,7 +35,7 @@ returns-clause-flushed g c none =
       every_moment = e.every_moment;
       at_rest = e.at_rest;
     })
-    (subst (λ b. Released s.honest s.tells s.state s.sent s.moment s.left_since s.failures b c.commit.new.self c.release.new.self) e.landed (record {
+    (subst (λ b. Released s b c.commit.new.self c.release.new.self) e.landed (record {
       twin = r.twin;
       owes = r.owes;
       goes_on = r.same.3;
@@ -43,6 +43,5 @@ returns-clause-flushed g c none =
       same_honest = r.honest;
       told = r.told;
       same_failures = r.count;
-      every_moment = r.every_moment;
-      at_rest = r.at_rest;
+      good = r.good;
     }))

@@ -1,7 +1,8 @@
 use Rattle.std.proofs.Common.{◌≡◌, inl, inr, List, [], ◌∷◌, ◌++◌, length, refl, sym, ◌∙◌, ap, subst, arith, rules, append_assoc, append-nil}
 use Rattle.std.proofs.lemmas.Result.{err_from_is_err_and}
 use Rattle.std.specs.Vec.Iter.{into_iter_items}
-use Rattle.cc_flush.specs.declared.life.Action.{Action}
+use Rattle.cc_flush.specs.declared.actions.Action.{Action}
+use Rattle.cc_flush.specs.Flushing.{HasLived}
 use Rattle.cc_flush.specs.Lives.{AreTurnsLawful, BeginsWithTurn, IsTurn}
 use Rattle.cc_flush.proofs.Advancing.{stays, done_more, run_ended, run_failed}
 use Rattle.cc_flush.proofs.flusher.Flusher.run_life.Goals as goal
@@ -25,7 +26,7 @@ returns-in-Some-clause-run g c =
       told = λ t. sym (append-nil (s.sent old.site));
       stops = λ none. absurd cc;
       moments = λ h t none. absurd cc;
-      at_rest = λ h t none start events opening sound lawful twin rests. tt;
+      afterwards = λ h t none start events opening was. tt;
     }
 
 pub loop-action-init : goal.loop-action-init
@@ -36,7 +37,7 @@ loop-action-init g c =
       parts = search rules;
       count = search rules;
       lawful = search rules;
-      run = stays s.honest s.tells s.state s.sent s.moment s.left_since s.failures old c.requires.owes (sym c.fault.ensures ∙ c.in_default.is) (g.met.S.Site.only_now old.site);
+      run = stays s (HasLived s) old (λ start events opening was. was.good) c.requires.owes (sym c.fault.ensures ∙ c.in_default.is) (g.met.S.Site.only_now old.site);
     }
 
 pub loop-action-preserved : goal.loop-action-preserved
@@ -52,7 +53,7 @@ loop-action-preserved g c =
       parts = at.invariant.parts ∙ ap (λ l. at.yielded ++ l) steps ∙ sym (append_assoc at.yielded (action ∷ []) rest);
       count = omega (arith, at.invariant.count, c.in-Some-action.ensures.steps.1, ap length steps);
       lawful = subst (λ n. AreTurnsLawful n rest) (sym acted.twin) lawful.1;
-      run = done_more s.honest s.tells s.state s.sent s.moment s.left_since s.failures c.args.self.now at.self c.act.new.self at.yielded action at.invariant.run acted;
+      run = done_more s c.args.self.now at.self c.act.new.self at.yielded action at.invariant.run acted;
     }
 
 pub returns-then-not-has_room_for-clause-run : goal.returns-then-not-has_room_for-clause-run
@@ -63,7 +64,7 @@ returns-then-not-has_room_for-clause-run g c =
     let rest = into_iter_items c.next.new.self in
     let steps : into_iter_items at.action-iterator ≡ action ∷ rest = c.in-Some-action.ensures.steps.0 in
     let full = c.if-not-has_room_for.ensures in
-    run_ended s.honest s.tells s.state s.sent s.moment s.left_since s.failures c.args.self.now at.self c.args.actions.items at.yielded (action ∷ rest) (at.invariant.parts ∙ ap (λ l. at.yielded ++ l) steps) at.invariant.run
+    run_ended s c.args.self.now at.self c.args.actions.items at.yielded (action ∷ rest) (at.invariant.parts ∙ ap (λ l. at.yielded ++ l) steps) at.invariant.run
     (inr (turn_first action rest full.0, full.1))
 
 pub returns-in_err-act-clause-run : goal.returns-in_err-act-clause-run
@@ -74,7 +75,7 @@ returns-in_err-act-clause-run g c =
     let rest = into_iter_items c.next.new.self in
     let steps : into_iter_items at.action-iterator ≡ action ∷ rest = c.in-Some-action.ensures.steps.0 in
     let p = err_from_is_err_and c.from_residual.result c.from_residual.ensures.1 in
-    rw (p.1, p.2) (run_failed s.honest s.tells s.state s.sent s.moment s.left_since s.failures c.args.self.now at.self c.act.new.self c.args.actions.items at.yielded action rest c.in_err-act.field-0.0
+    rw (p.1, p.2) (run_failed s c.args.self.now at.self c.act.new.self c.args.actions.items at.yielded action rest c.in_err-act.field-0.0
     (at.invariant.parts ∙ ap (λ l. at.yielded ++ l) steps) at.invariant.run c.in_err-act.ensures)
 
 pub returns-clause-run : goal.returns-clause-run
@@ -82,4 +83,4 @@ returns-clause-run g c =
     let s = g.S.Site in
     let at = c.loop-action in
     let empty = nothing_left (into_iter_items at.action-iterator) (sym at.invariant.count ∙ c.in-None.ensures.steps.0) in
-    run_ended s.honest s.tells s.state s.sent s.moment s.left_since s.failures c.args.self.now at.self c.args.actions.items at.yielded (into_iter_items at.action-iterator) at.invariant.parts at.invariant.run (inl empty)
+    run_ended s c.args.self.now at.self c.args.actions.items at.yielded (into_iter_items at.action-iterator) at.invariant.parts at.invariant.run (inl empty)

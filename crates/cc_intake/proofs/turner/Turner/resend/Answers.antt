@@ -1,13 +1,8 @@
-use Rattle.cc_flush.specs.Putting.{MomentsStayGood, StaysAtRest}
-use Rattle.std.proofs.Common.{subst}
+use Rattle.std.proofs.Common.{◌≡◌, subst}
+use Rattle.std.specs.Prelude.{None}
+use Rattle.cc_flush.specs.Flushing.{PutsAgain}
+use Rattle.cc_flush.specs.Standing.{resends}
 use Rattle.cc_intake.proofs.turner.Turner.resend.Goals as goal
 
-pub returns-clause-every_moment : goal.returns-clause-every_moment
-returns-clause-every_moment g c =
-    let s = g.S.Site in
-    subst (λ t. MomentsStayGood s.honest s.tells s.state s.sent s.moment s.left_since t.engine c.resend.new.self) c.self.view_is c.resend.ensures.every_moment
-
-pub returns-clause-at_rest : goal.returns-clause-at_rest
-returns-clause-at_rest g c =
-    let s = g.S.Site in
-    subst (λ t. StaysAtRest s.honest s.tells s.state s.sent t.engine c.resend.new.self) c.self.view_is c.resend.ensures.at_rest
+pub returns-clause-puts : goal.returns-clause-puts
+returns-clause-puts g c = subst (λ e. e.engine.failed ≡ None → PutsAgain g.S.Site (resends e.engine.twin) e.engine c.resend.new.self) c.self.view_is c.resend.ensures.puts

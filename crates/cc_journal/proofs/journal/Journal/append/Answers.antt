@@ -1,86 +1,71 @@
-use Rattle.std.proofs.Common.{◌≡◌, ◌≤◌, ◌+◌, [], ◌∷◌, ◌++◌, length, inl, inr, sym, subst, ap, ◌∙◌, arith}
+use Rattle.std.proofs.Common.{ℕ, ◌≡◌, ◌≤◌, ◌+◌, [], ◌∷◌, ◌++◌, length, inl, inr, sym, subst, ap, ◌∙◌, arith}
 use Rattle.std.specs.Prelude.{Result, Ok, Err, OnErr}
 use Rattle.cc_site.specs.Sides.{written, settled, MayHaveWritten}
-use Rattle.cc_site.specs.Moments.{joined}
 use Rattle.cc_node.specs.Sides.{OPEN, StandsBehind, SpellsBatch}
 use Rattle.cc_journal.specs.Batches.{events_in, batch_bytes}
-use Rattle.cc_journal.specs.Journals.{with_open_gate, MayHaveOpened, IsGood, IsAtRest}
+use Rattle.cc_journal.specs.Journals.{with_open_gate, record_room, KeepsGood, MayHaveOpened, RestsFor, RestsNow}
 use Rattle.cc_journal.specs.contracts.journal.Journal.{the_view}
 use Rattle.cc_journal.proofs.Records.{length_batch, batch_spelled}
-use Rattle.cc_journal.proofs.Steps.{still_run, run_good, run_rests, gate_run, gate_rest}
+use Rattle.cc_journal.proofs.Steps.{still_good, gate_opens, gate_opened}
 use Rattle.cc_journal.proofs.journal.Journal.append.Goals as goal
 
 pub overflow_add-self : goal.overflow_add-self
 overflow_add-self g c = omega (arith, c.requires.room, ap (λ p. p.place) c.self.view_is, c.flight.invariant.size, length_batch c.flight.inside.batch c.flight.invariant.spelled)
 
 pub returns-in_err-sync-clause-every_moment : goal.returns-in_err-sync-clause-every_moment
-returns-in_err-sync-clause-every_moment g c honest generation start events opening rest lawful standing =
+returns-in_err-sync-clause-every_moment g c honest standing =
     let s = g.S.Site in
     let old = c.args.site.now in
-    let at = the_view c.self.inside in
-    let rest_at = subst (λ p. IsAtRest (s.state old) (s.sent old) p generation start events opening) (sym c.self.view_is) rest in
-    let still = still_run s.moment s.left_since s.state s.sent old c.sync.new.self at generation start events opening rest_at (g.met.S.Site.only_now old honest) (c.sync.ensures.time honest) in
-    run_good s.moment s.left_since s.state s.sent old c.sync.new.self at generation start events opening rest_at (events_in c.args.flight) still
+    let batch = events_in c.args.flight in
+    subst (λ p. (generation : ℕ) → KeepsGood s (RestsFor s batch old p generation) batch old c.sync.new.self) c.self.view_is
+    (still_good s old c.sync.new.self (the_view c.self.inside) (g.met.S.Site.only_now old honest) (c.sync.ensures.time honest) batch)
 
 pub returns-in_err-write_durably-clause-every_moment : goal.returns-in_err-write_durably-clause-every_moment
-returns-in_err-write_durably-clause-every_moment g c honest generation start events opening rest lawful standing =
+returns-in_err-write_durably-clause-every_moment g c honest standing =
     let s = g.S.Site in
     let old = c.args.site.now in
     let mid = c.sync.new.self in
     let new = c.write_durably.new.site in
-    let at = the_view c.self.inside in
     let batch = c.args.flight in
     let spelled = subst (λ b. SpellsBatch (batch_bytes b) (events_in b)) c.flight.view_is (batch_spelled c.flight.inside.batch c.flight.invariant.spelled) in
-    let rest_at = subst (λ p. IsAtRest (s.state old) (s.sent old) p generation start events opening) (sym c.self.view_is) rest in
     let standing_at = subst (λ p. StandsBehind (s.state old p.side).bytes p.place (batch_bytes batch)) (sym c.self.view_is) standing in
     let honest_mid = c.sync.ensures.honest.0 honest in
-    let still = still_run s.moment s.left_since s.state s.sent old mid at generation start events opening rest_at (g.met.S.Site.only_now old honest) (c.sync.ensures.time honest) in
-    let rest_mid = run_rests s.moment s.left_since s.state s.sent old mid at generation start events opening rest_at still (g.met.S.Site.counts_now mid honest_mid) in
-    joined s.moment s.left_since old mid new (IsGood start (events ++ events_in batch) (length events) opening)
-    (run_good s.moment s.left_since s.state s.sent old mid at generation start events opening rest_at (events_in batch) still)
-    (gate_run s.moment s.left_since s.state s.sent mid new at (s.state old at.side) generation start events opening rest_mid (c.in_ok-sync.ensures.value honest) (g.met.S.Site.may_read mid honest_mid) (batch_bytes batch) (events_in batch) spelled lawful standing_at
-    (c.write_durably.ensures.every_moment honest_mid))
+    subst (λ p. (generation : ℕ) → KeepsGood s (RestsFor s (events_in batch) old p generation) (events_in batch) old new) c.self.view_is
+    (gate_opens s old mid new (the_view c.self.inside) (g.met.S.Site.only_now old honest) (g.met.S.Site.counts_now mid honest_mid) (c.sync.ensures.time honest) (c.in_ok-sync.ensures.value honest) (g.met.S.Site.may_read mid honest_mid)
+    (batch_bytes batch) (events_in batch) spelled standing_at (c.write_durably.ensures.every_moment honest_mid))
 
 pub returns-clause-every_moment : goal.returns-clause-every_moment
-returns-clause-every_moment g c honest generation start events opening rest lawful standing =
+returns-clause-every_moment g c honest standing =
     let s = g.S.Site in
     let old = c.args.site.now in
     let mid = c.sync.new.self in
     let new = c.write_durably.new.site in
-    let at = the_view c.self.inside in
     let batch = c.args.flight in
     let spelled = subst (λ b. SpellsBatch (batch_bytes b) (events_in b)) c.flight.view_is (batch_spelled c.flight.inside.batch c.flight.invariant.spelled) in
-    let rest_at = subst (λ p. IsAtRest (s.state old) (s.sent old) p generation start events opening) (sym c.self.view_is) rest in
     let standing_at = subst (λ p. StandsBehind (s.state old p.side).bytes p.place (batch_bytes batch)) (sym c.self.view_is) standing in
     let honest_mid = c.sync.ensures.honest.0 honest in
-    let still = still_run s.moment s.left_since s.state s.sent old mid at generation start events opening rest_at (g.met.S.Site.only_now old honest) (c.sync.ensures.time honest) in
-    let rest_mid = run_rests s.moment s.left_since s.state s.sent old mid at generation start events opening rest_at still (g.met.S.Site.counts_now mid honest_mid) in
-    joined s.moment s.left_since old mid new (IsGood start (events ++ events_in batch) (length events) opening)
-    (run_good s.moment s.left_since s.state s.sent old mid at generation start events opening rest_at (events_in batch) still)
-    (gate_run s.moment s.left_since s.state s.sent mid new at (s.state old at.side) generation start events opening rest_mid (c.in_ok-sync.ensures.value honest) (g.met.S.Site.may_read mid honest_mid) (batch_bytes batch) (events_in batch) spelled lawful standing_at
-    (c.write_durably.ensures.every_moment honest_mid))
+    subst (λ p. (generation : ℕ) → KeepsGood s (RestsFor s (events_in batch) old p generation) (events_in batch) old new) c.self.view_is
+    (gate_opens s old mid new (the_view c.self.inside) (g.met.S.Site.only_now old honest) (g.met.S.Site.counts_now mid honest_mid) (c.sync.ensures.time honest) (c.in_ok-sync.ensures.value honest) (g.met.S.Site.may_read mid honest_mid)
+    (batch_bytes batch) (events_in batch) spelled standing_at (c.write_durably.ensures.every_moment honest_mid))
 
 pub returns-clause-at_rest : goal.returns-clause-at_rest
-returns-clause-at_rest g c honest generation start events opening rest lawful standing =
+returns-clause-at_rest g c honest standing generation start events opening led =
     let s = g.S.Site in
     let old = c.args.site.now in
     let mid = c.sync.new.self in
     let new = c.write_durably.new.site in
-    let at = the_view c.self.inside in
     let batch = c.args.flight in
     let spelled = subst (λ b. SpellsBatch (batch_bytes b) (events_in b)) c.flight.view_is (batch_spelled c.flight.inside.batch c.flight.invariant.spelled) in
-    let rest_at = subst (λ p. IsAtRest (s.state old) (s.sent old) p generation start events opening) (sym c.self.view_is) rest in
     let standing_at = subst (λ p. StandsBehind (s.state old p.side).bytes p.place (batch_bytes batch)) (sym c.self.view_is) standing in
     let honest_mid = c.sync.ensures.honest.0 honest in
-    let still = still_run s.moment s.left_since s.state s.sent old mid at generation start events opening rest_at (g.met.S.Site.only_now old honest) (c.sync.ensures.time honest) in
-    let rest_mid = run_rests s.moment s.left_since s.state s.sent old mid at generation start events opening rest_at still (g.met.S.Site.counts_now mid honest_mid) in
     let size_is = sym (c.flight.invariant.size ∙ ap (λ b. length (batch_bytes b)) c.flight.view_is) in
-    subst (λ n. IsAtRest (s.state new) (s.sent new) (record { side = c.self.inside.side; place = c.self.inside.place + n }) generation start (events ++ events_in batch) opening) size_is
-    (gate_rest s.moment s.left_since s.state s.sent mid new at (s.state old at.side) generation start events opening rest_mid (c.in_ok-sync.ensures.value honest) (g.met.S.Site.may_read mid honest_mid) (batch_bytes batch) (events_in batch) spelled lawful standing_at
-    (c.in_ok-write_durably.ensures.value honest_mid) (c.write_durably.ensures.other_side honest_mid) (c.write_durably.ensures.tells.1))
+    subst (λ n. RestsNow s new (record { side = c.self.inside.side; place = c.self.inside.place + n }) generation start (events ++ events_in batch) opening) size_is
+    (gate_opened s old mid new (the_view c.self.inside) (g.met.S.Site.only_now old honest) (g.met.S.Site.counts_now mid honest_mid) (c.sync.ensures.time honest) (c.in_ok-sync.ensures.value honest) (g.met.S.Site.may_read mid honest_mid)
+    (batch_bytes batch) (events_in batch) spelled standing_at (c.in_ok-write_durably.ensures.value honest_mid) (c.write_durably.ensures.other_side honest_mid) (c.write_durably.ensures.tells.1)
+    generation start events opening (subst (λ p. RestsFor s (events_in batch) old p generation start events opening) (sym c.self.view_is) led))
 
 pub returns-clause-short : goal.returns-clause-short
-returns-clause-short g c = subst (λ b. length (batch_bytes b) ≤ 262149) c.flight.view_is (length_batch c.flight.inside.batch c.flight.invariant.spelled)
+returns-clause-short g c = subst (λ b. length (batch_bytes b) ≤ record_room) c.flight.view_is (length_batch c.flight.inside.batch c.flight.invariant.spelled)
 
 on_err : {T E : Type 0} (r : Result T E) (P : Type 0) → P → OnErr r P
 on_err (Ok v) P p = tt

@@ -42,10 +42,10 @@ returns-then-self-eq-COUNTER_LIMIT c s h =
     let all = spent_ask a s r k (next_request a s r (subst (λ (t : Core). first_of (stale t s r ∷ skip t s r ∷ []) ≡ None) (sym c.self.view_is) h))
     (last_within (table.get a.sessions s) (c.self.invariant.sessions s)) in
     let operation : c.ask_is_spent.result ≡ counted = c.ask_is_spent.ensures a.me (quorum a) s r in
-    sym (all ∙ either_second counted posts request (eq-eqb a.posts counter_limit c.if-self-eq-COUNTER_LIMIT.true)) ∙ ap (λ (t : Core). any_overruns t (next t e) e) c.self.view_is
+    eq-eqb a.posts counter_limit c.if-self-eq-COUNTER_LIMIT.true ∙ sym (all ∙ either_second counted posts request (eq-eqb a.posts counter_limit c.if-self-eq-COUNTER_LIMIT.true)) ∙ ap (λ (t : Core). any_overruns t (next t e) e) c.self.view_is
 
-pub returns : goal.returns
-returns c s h =
+pub returns-else-self-eq-COUNTER_LIMIT : goal.returns-else-self-eq-COUNTER_LIMIT
+returns-else-self-eq-COUNTER_LIMIT c s h =
     let a = the_view c.self.inside in
     let r = c.args.request in
     let k = c.args.command.now in

@@ -1,8 +1,6 @@
-use Rattle.std.proofs.Common.{◌≡◌, ◌∷◌, ◌++◌, [], ◌+◌, ◌-◌, List, length, arith, ap, refl, ◌∙◌, length-append}
+use Rattle.std.proofs.Common.{◌≡◌, ◌∷◌, [], ◌+◌, ◌-◌, length, arith, ap, length-append}
 use Rattle.std.specs.FinMap as map
-use Rattle.cc_wire.specs.declared.message.Message.{Message}
-use Rattle.cc_outbox.specs.Outbox.{Outbox, add}
-use Rattle.cc_outbox.specs.Rows.{outbox_of}
+use Rattle.cc_outbox.specs.Outbox.{Outbox}
 use Rattle.cc_outbox.proofs.Edits.{len_posts, outbox_of-add}
 use Rattle.cc_outbox.proofs.outbox.Outbox.add.Goals as goal
 
@@ -16,8 +14,7 @@ pub invariant_of-self : goal.invariant_of-self
 invariant_of-self c =
     let inside = c.self.inside in
     let count = len_posts (inside.last - length inside.posts.items) inside.posts.items in
-    let now : c.push_back.new.self.items ≡ inside.posts.items ++ c.args.post ∷ [] = c.push_back.ensures.items ∙ rw c.unwrap.ensures refl in
-    let more : length c.push_back.new.self.items ≡ length inside.posts.items + 1 = ap length now ∙ length-append inside.posts.items (c.args.post ∷ []) in
+    let more : length c.push_back.new.self.items ≡ length inside.posts.items + 1 = rw (c.push_back.ensures.items, c.unwrap.ensures) (length-append inside.posts.items (c.args.post ∷ [])) in
     record {
       numbers = omega (arith, more, c.self.invariant.numbers);
       fits = omega (arith, more, count, ap (λ (o : Outbox). map.len o.posts) c.self.view_is, c.requires.room);
@@ -26,9 +23,4 @@ invariant_of-self c =
     }
 
 pub returns : goal.returns
-returns c =
-    let inside = c.self.inside in
-    let now : c.push_back.new.self.items ≡ inside.posts.items ++ c.args.post ∷ [] = c.push_back.ensures.items ∙ rw c.unwrap.ensures refl in
-    ap (λ (ps : List Message). outbox_of (inside.last + 1) ps inside.answers.items) now
-    ∙ outbox_of-add inside.last inside.posts.items inside.answers.items c.self.invariant.numbers c.args.post
-    ∙ ap (add c.args.post) c.self.view_is
+returns c = rw (← c.self.view_is, c.push_back.ensures.items, c.unwrap.ensures) (outbox_of-add _ _ _ c.self.invariant.numbers _)

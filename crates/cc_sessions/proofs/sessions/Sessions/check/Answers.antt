@@ -26,13 +26,11 @@ first (Some x) count r e h = cc
 pub returns-in-None : goal.returns-in-None
 returns-in-None c =
     let count = len-table_of entry_of c.self.inside.rows.items c.self.invariant.rising in
-    full (table.get c.args.self.now c.args.session) (table.len c.args.self.now) c.args.request (sym c.finish.ensures ∙ c.in-None.is)
-    (omega (arith, count, ap table.len c.self.view_is, c.len.ensures, c.if-len-eq-MAX_ROWS.true))
+    full _ _ _ (sym c.finish.ensures ∙ c.in-None.is) (omega (arith, count, ap table.len c.self.view_is, c.len.ensures, c.if-len-eq-MAX_ROWS.true))
 
 pub returns-in-None-2 : goal.returns-in-None-2
 returns-in-None-2 c =
     let count = len-table_of entry_of c.self.inside.rows.items c.self.invariant.rising in
     let apart : c.len.result ≡ 256 → ⊥ = c.if-len-eq-MAX_ROWS.false in
     c.check_after.ensures
-    ∙ first (table.get c.args.self.now c.args.session) (table.len c.args.self.now) c.args.request (sym c.finish.ensures ∙ c.in-None-2.is)
-    (λ (e : table.len c.args.self.now ≡ 256). apart (omega (arith, count, ap table.len c.self.view_is, c.len.ensures, e)))
+    ∙ first _ (table.len c.args.self.now) _ (sym c.finish.ensures ∙ c.in-None-2.is) (λ e. apart (omega (arith, count, ap table.len c.self.view_is, c.len.ensures, e)))

@@ -1,4 +1,4 @@
-use Rattle.std.proofs.Common.{◌≡◌, ◌⊎◌, length, is_err, rules}
+use Rattle.std.proofs.Common.{◌≡◌, ◌⊎◌, is_err, rules}
 use Rattle.cc_site.specs.Sides.{shift, cut_to}
 use Rattle.cc_site.specs.Record.{state_now}
 use Rattle.cc_site.specs.Disks.{bytes_of}
@@ -9,59 +9,35 @@ use Rattle.cc_site.proofs.memory.MemorySiteSite.cut.Goals as goal
 
 pub invariant_of-self-clause-told_fits : goal.invariant_of-self-clause-told_fits
 invariant_of-self-clause-told_fits c =
-    let m = c.args.self.now in
-    let side = c.args.side in
     let w = c.cut-outcome in
-    let told : c.len-told.result ≡ length m.outputs.items = search rules in
-    let left = cut_leaves w.result m w.new.self side c.args.len c.len-told.result _ told c.requires w.ensures.ok w.ensures.err w.ensures.other w.ensures.adds w.ensures.missed in
-    left.told
+    (cut_leaves w.result c.args.self.now w.new.self c.args.side c.args.len c.len-told.result _ (search rules) c.requires w.ensures.ok w.ensures.err w.ensures.other w.ensures.adds w.ensures.missed).told
 
 pub invariant_of-self-clause-firm_fits : goal.invariant_of-self-clause-firm_fits
 invariant_of-self-clause-firm_fits c =
-    let m = c.args.self.now in
-    let side = c.args.side in
     let w = c.cut-outcome in
-    let told : c.len-told.result ≡ length m.outputs.items = search rules in
-    let left = cut_leaves w.result m w.new.self side c.args.len c.len-told.result _ told c.requires w.ensures.ok w.ensures.err w.ensures.other w.ensures.adds w.ensures.missed in
-    left.firm
+    (cut_leaves w.result c.args.self.now w.new.self c.args.side c.args.len c.len-told.result _ (search rules) c.requires w.ensures.ok w.ensures.err w.ensures.other w.ensures.adds w.ensures.missed).firm
 
 pub returns-clause-value : goal.returns-clause-value
 returns-clause-value c =
-    let m = c.args.self.now in
-    let side = c.args.side in
     let w = c.cut-outcome in
-    let told : c.len-told.result ≡ length m.outputs.items = search rules in
-    let left = cut_leaves w.result m w.new.self side c.args.len c.len-told.result _ told c.requires w.ensures.ok w.ensures.err w.ensures.other w.ensures.adds w.ensures.missed in
     let alike : is_err c.count.result ≡ is_err w.result = search rules in
-    on_ok_like w.result c.count.result (state_now (bytes_of w.new.self) w.new.self.steps.items side ≡ cut_to (memory_state m side) c.args.len) alike left.value
+    on_ok_like w.result c.count.result (state_now (bytes_of w.new.self) w.new.self.steps.items c.args.side ≡ cut_to (memory_state c.args.self.now c.args.side) c.args.len) alike (cut_leaves w.result c.args.self.now w.new.self c.args.side c.args.len c.len-told.result _ (search rules) c.requires w.ensures.ok w.ensures.err w.ensures.other w.ensures.adds w.ensures.missed).value
 
 pub returns-clause-failed : goal.returns-clause-failed
 returns-clause-failed c =
-    let m = c.args.self.now in
-    let side = c.args.side in
     let w = c.cut-outcome in
-    let told : c.len-told.result ≡ length m.outputs.items = search rules in
-    let left = cut_leaves w.result m w.new.self side c.args.len c.len-told.result _ told c.requires w.ensures.ok w.ensures.err w.ensures.other w.ensures.adds w.ensures.missed in
     let alike : is_err c.count.result ≡ is_err w.result = search rules in
-    on_err_like w.result c.count.result ((state_now (bytes_of w.new.self) w.new.self.steps.items side ≡ shift (memory_state m side) c.args.len) ⊎ (state_now (bytes_of w.new.self) w.new.self.steps.items side ≡ memory_state m side)) alike left.failed
+    on_err_like w.result c.count.result ((state_now (bytes_of w.new.self) w.new.self.steps.items c.args.side ≡ shift (memory_state c.args.self.now c.args.side) c.args.len) ⊎ (state_now (bytes_of w.new.self) w.new.self.steps.items c.args.side ≡ memory_state c.args.self.now c.args.side)) alike (cut_leaves w.result c.args.self.now w.new.self c.args.side c.args.len c.len-told.result _ (search rules) c.requires w.ensures.ok w.ensures.err w.ensures.other w.ensures.adds w.ensures.missed).failed
 
 pub returns-clause-other_side : goal.returns-clause-other_side
 returns-clause-other_side c =
-    let m = c.args.self.now in
-    let side = c.args.side in
     let w = c.cut-outcome in
-    let told : c.len-told.result ≡ length m.outputs.items = search rules in
-    let left = cut_leaves w.result m w.new.self side c.args.len c.len-told.result _ told c.requires w.ensures.ok w.ensures.err w.ensures.other w.ensures.adds w.ensures.missed in
-    left.rest
+    (cut_leaves w.result c.args.self.now w.new.self c.args.side c.args.len c.len-told.result _ (search rules) c.requires w.ensures.ok w.ensures.err w.ensures.other w.ensures.adds w.ensures.missed).rest
 
 pub returns-clause-time : goal.returns-clause-time
 returns-clause-time c =
-    let m = c.args.self.now in
-    let side = c.args.side in
     let w = c.cut-outcome in
-    let told : c.len-told.result ≡ length m.outputs.items = search rules in
-    let left = cut_leaves w.result m w.new.self side c.args.len c.len-told.result _ told c.requires w.ensures.ok w.ensures.err w.ensures.other w.ensures.adds w.ensures.missed in
-    left.time
+    (cut_leaves w.result c.args.self.now w.new.self c.args.side c.args.len c.len-told.result _ (search rules) c.requires w.ensures.ok w.ensures.err w.ensures.other w.ensures.adds w.ensures.missed).time
 
 pub invariant_of-self-clause-are_bytes : goal.invariant_of-self-clause-are_bytes
 invariant_of-self-clause-are_bytes c =

@@ -1,4 +1,4 @@
-use Rattle.std.proofs.Common.{arith, ap, ◌∙◌, sym, subst, ◌≡◌, ◌<◌, ℕ, length, List, refl, ◌++◌, ◌∷◌, []}
+use Rattle.std.proofs.Common.{arith, ap, ◌∙◌, sym, ◌≡◌, ◌<◌, ℕ, length, List, ◌++◌, ◌∷◌, []}
 use Rattle.std.specs.FinMap as map
 use Rattle.cc_views.specs.declared.row.Row.{Row}
 use Rattle.std.proofs.lemmas.List.{length-append}
@@ -12,43 +12,32 @@ module _ (rows : List Row) (capacity : ℕ) (v : ViewMap) (is : IsTable entry_of
   known = rows_back rows is.rising ∙ ap rows_of view
 
   below : (row : Row) → IsAboveAll entry_of row (rows_of v) → IsAboveAll entry_of row rows
-  below row above = subst (IsAboveAll entry_of row) (sym known) above
+  below row above = rw known above
 
   has_room : map.len v < 256 → length rows < 256
   has_room room = omega (arith, room, len-table_of entry_of rows is.rising, ap map.len view)
 
-  rises : (row : Row) → IsAboveAll entry_of row (rows_of v) → (after : List Row) → after ≡ rows ++ row ∷ [] → IsRising entry_of after
-  rises row above after now = subst (IsRising entry_of) (sym now) (rising-push entry_of rows row is.rising (below row above))
+  rises : (row : Row) → IsAboveAll entry_of row (rows_of v) → IsRising entry_of (rows ++ row ∷ [])
+  rises row above = rising-push entry_of rows row is.rising (below row above)
 
 pub unwrap-requires : goal.unwrap-requires
 unwrap-requires c = c.push.ensures.succeeds (omega (arith, has_room _ _ _ c.self.invariant c.self.view_is c.requires.room, c.self.invariant.room))
 
 pub invariant_of-self : goal.invariant_of-self
 invariant_of-self c =
-    let rows = c.self.inside.rows.items in
-    let pushed : c.push.new.self.items ≡ rows ++ c.args.row ∷ [] = c.push.ensures.items ∙ rw c.unwrap.ensures refl in
-    subst (λ (rs : List Row). IsTable entry_of 256 rs c.push.new.self.cap) (sym pushed)
-    (push_table entry_of 256 rows _ c.self.invariant c.args.row (below rows _ _ c.self.invariant c.self.view_is c.args.row c.requires.above)
-    (has_room rows _ _ c.self.invariant c.self.view_is c.requires.room) _ c.push.ensures.capacity)
+    rw (c.push.ensures.items, c.unwrap.ensures)
+    (push_table _ _ _ _ c.self.invariant _ (below _ _ _ c.self.invariant c.self.view_is c.args.row c.requires.above) (has_room _ _ _ c.self.invariant c.self.view_is c.requires.room) _ c.push.ensures.capacity)
 
 pub returns-clause-map : goal.returns-clause-map
-returns-clause-map c =
-    let rows = c.self.inside.rows.items in
-    let pushed : c.push.new.self.items ≡ rows ++ c.args.row ∷ [] = c.push.ensures.items ∙ rw c.unwrap.ensures refl in
-    ap (table_of entry_of) pushed
-    ∙ table_of-push entry_of rows c.args.row (below rows _ _ c.self.invariant c.self.view_is c.args.row c.requires.above)
-    ∙ ap (λ (v : ViewMap). map.insert v c.args.row.node (c.args.row.number, c.args.row.value)) c.self.view_is
+returns-clause-map c = rw (c.push.ensures.items, c.unwrap.ensures, ← c.self.view_is) (table_of-push entry_of _ _ (below _ _ _ c.self.invariant c.self.view_is c.args.row c.requires.above))
 
 pub returns-clause-rows : goal.returns-clause-rows
 returns-clause-rows c =
-    let rows = c.self.inside.rows.items in
-    let pushed : c.push.new.self.items ≡ rows ++ c.args.row ∷ [] = c.push.ensures.items ∙ rw c.unwrap.ensures refl in
-    let rising = rises rows _ _ c.self.invariant c.self.view_is c.args.row c.requires.above c.push.new.self.items pushed in
-    sym (rows_back c.push.new.self.items rising) ∙ pushed ∙ ap (λ (rs : List Row). rs ++ c.args.row ∷ []) (known rows _ _ c.self.invariant c.self.view_is)
+    rw (c.push.ensures.items, c.unwrap.ensures)
+    (sym (rows_back _ (rises _ _ _ c.self.invariant c.self.view_is c.args.row c.requires.above)) ∙ ap (λ (rs : List Row). rs ++ c.args.row ∷ []) (known _ _ _ c.self.invariant c.self.view_is))
 
 pub returns-clause-len : goal.returns-clause-len
 returns-clause-len c =
     let rows = c.self.inside.rows.items in
-    let pushed : c.push.new.self.items ≡ rows ++ c.args.row ∷ [] = c.push.ensures.items ∙ rw c.unwrap.ensures refl in
-    let rising = rises rows _ _ c.self.invariant c.self.view_is c.args.row c.requires.above c.push.new.self.items pushed in
-    omega (arith, len-table_of entry_of c.push.new.self.items rising, ap length pushed, length-append rows (c.args.row ∷ []), len-table_of entry_of rows c.self.invariant.rising, ap map.len c.self.view_is)
+    let more = len-table_of entry_of (rows ++ c.args.row ∷ []) (rises _ _ _ c.self.invariant c.self.view_is c.args.row c.requires.above) in
+    rw (c.push.ensures.items, c.unwrap.ensures, ← c.self.view_is) (omega (arith, more, length-append rows (c.args.row ∷ []), len-table_of entry_of rows c.self.invariant.rising))

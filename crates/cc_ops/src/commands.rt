@@ -1,0 +1,167 @@
+//! What a client's command does: it begins an operation, writes the own value, and is answered.
+
+ghost use Rattle.std.specs.Prelude.{◌≡◌, ℕ, ◌+◌, ◌≤◌, ◌||◌, [], ◌∷◌, IfOk, IsFalse};
+ghost use Rattle.std.specs.FinMap.{len};
+ghost use Rattle.cc_views.specs.Limits.{counter_limit, known_limit, overruns};
+ghost use Rattle.cc_objects.specs.Objects as objects;
+ghost use Rattle.cc_wire.specs.Refusals.{first_of, decided};
+ghost use Rattle.cc_ops.specs.Commands as commands;
+ghost use Rattle.cc_ops.specs.Ops as ops;
+ghost use Rattle.cc_ops.specs.Refusals.{busy, set_full};
+
+use crate::ops::Ops;
+use crate::pending::{Asked, begun};
+use crate::stage::Stage;
+use cc_objects::{add_member, flag_of, max_of, set_flag, set_of, write_max, write_text};
+use cc_views::{COUNTER_LIMIT, NoMemory, NodeId, NumberSet, Row, Value, View};
+use cc_wire::{Answer, Command, Message, NumberList, Refusal};
+use std::alloc::Global;
+
+impl Ops {
+    /// Whether the command would put a 33rd number into the own set (own choice).
+    pub fn is_set_full(&self, command: &Command) -> bool
+        ensures { result ≡ commands.finds_no_room self.now.mine command.now }
+    {
+        match command {
+            Command::AddMember(member) => {
+                self.mine.set.len() == NumberSet::MAX_LEN && !self.mine.set.contains(*member)
+            }
+            _ => false,
+        }
+    }
+
+    /// Why the command can't begin, if it can't: another operation is pending, or the own set has no room (own choice).
+    pub fn decide_ask(&self, command: &Command) -> Result<(), Refusal>
+        ensures { result ≡ decided (first_of (busy self.now ∷ set_full command.now self.now ∷ [])) }
+    {
+        if !self.is_idle() {
+            return Err(Refusal::Busy);
+        }
+        if self.is_set_full(command) {
+            return Err(Refusal::SetFull);
+        }
+        Ok(())
+    }
+
+    /// Whether an ask of the command would raise a counter that stands at its limit, `2 ^ 62` (own choice).
+    pub fn ask_is_spent(&self, command: &Command) -> bool
+        ensures { (me quorum session request : ℕ) → result ≡ (overruns self.now.number (ops.after_ask me quorum (record { session = session; request = request; command = command.now }) self.now).number
+            || overruns self.now.tag (ops.after_ask me quorum (record { session = session; request = request; command = command.now }) self.now).tag) }
+    {
+        self.tag == COUNTER_LIMIT || (is_writing(command) && self.number == COUNTER_LIMIT)
+    }
+
+    /// Begins an operation that needs so many answers: a write stores the own value under its next number, a read asks
+    /// for the views of others (CCC, client).
+    pub fn ask(&mut self, me: NodeId, quorum: u64, asked: &Asked)
+        requires room { IsFalse (commands.finds_no_room self.old.mine asked.now.command) }
+        requires some { 1 ≤ quorum }
+        requires few { quorum ≤ known_limit }
+        requires fits { len (ops.after_ask me quorum asked.now self.old).view ≤ known_limit }
+        requires number { (ops.after_ask me quorum asked.now self.old).number ≤ counter_limit }
+        requires tag { (ops.after_ask me quorum asked.now self.old).tag ≤ counter_limit }
+        ensures { self.new ≡ ops.after_ask me quorum asked.now self.old }
+    {
+        if is_writing(&asked.command) {
+            self.write(me, &asked.command);
+            self.stage = Stage::Storing(begun(asked, quorum));
+        } else {
+            self.stage = Stage::Querying(begun(asked, quorum));
+        }
+        self.tag += 1;
+    }
+
+    // Writes the own value, under the next number, and its row in the view.
+    fn write(&mut self, me: NodeId, command: &Command)
+        requires room { IsFalse (commands.finds_no_room self.old.mine command.now) }
+        requires fits { len (ops.with_own_row me (ops.with_written command.now self.old)).view ≤ known_limit }
+        requires number { self.old.number + 1 ≤ counter_limit }
+        ensures { self.new ≡ ops.with_own_row me (ops.with_written command.now self.old) }
+    {
+        self.number += 1;
+        self.mine = written(command, &self.mine);
+        self.view.merge_row(Row {
+            node: me,
+            number: self.number,
+            value: self.mine,
+        });
+    }
+
+    /// What an operation begins with: a write with a Store of the view after it, a read with a Query (CCC, client). The
+    /// only error is a refused growth.
+    pub fn first_post(
+        &self,
+        alloc: Global,
+        me: NodeId,
+        quorum: u64,
+        asked: &Asked,
+    ) -> Result<Message, NoMemory>
+        requires room { IsFalse (commands.finds_no_room self.now.mine asked.now.command) }
+        requires fits { len (ops.after_ask me quorum asked.now self.now).view ≤ known_limit }
+        requires number { (ops.after_ask me quorum asked.now self.now).number ≤ counter_limit }
+        requires tag { (ops.after_ask me quorum asked.now self.now).tag ≤ counter_limit }
+        ensures { IfOk result (λ m. m ≡ ops.first_post me asked.now (ops.after_ask me quorum asked.now self.now)) }
+    {
+        if !is_writing(&asked.command) {
+            return Ok(Message::Query {
+                tag: self.tag + 1,
+                node: me,
+            });
+        }
+        let mut view = self.view.copy(alloc)?;
+        view.merge_row(Row {
+            node: me,
+            number: self.number + 1,
+            value: written(&asked.command, &self.mine),
+        });
+        Ok(Message::Store {
+            view,
+            tag: self.tag + 1,
+            node: me,
+        })
+    }
+}
+
+/// Whether the command writes, and doesn't read.
+pub fn is_writing(command: &Command) -> bool
+    ensures { result ≡ commands.is_writing command.now }
+{
+    match command {
+        Command::Store(_) | Command::WriteMax(_) | Command::SetFlag | Command::AddMember(_) => true,
+        Command::Collect | Command::ReadMax | Command::ReadFlag | Command::ReadSet => false,
+    }
+}
+
+fn written(command: &Command, mine: &Value) -> Value
+    requires { IsFalse (commands.finds_no_room mine.now command.now) }
+    ensures { result ≡ commands.written command.now mine.now }
+{
+    match command {
+        Command::Store(text) => write_text(mine, *text),
+        Command::WriteMax(max) => write_max(mine, *max),
+        Command::SetFlag => set_flag(mine),
+        Command::AddMember(member) => add_member(mine, *member).unwrap(),
+        Command::Collect | Command::ReadMax | Command::ReadFlag | Command::ReadSet => *mine,
+    }
+}
+
+pub(crate) fn answer_of(alloc: Global, command: &Command, seen: &View) -> Result<Answer, NoMemory>
+    ensures { IfOk result (λ a. a ≡ commands.answer_of command.now seen.now) }
+{
+    match command {
+        Command::Collect => Ok(Answer::Seen(seen.copy(alloc)?)),
+        Command::ReadMax => Ok(Answer::Max(max_of(seen))),
+        Command::ReadFlag => Ok(Answer::Flag(flag_of(seen))),
+        Command::ReadSet => Ok(Answer::Set(members_of(alloc, seen)?)),
+        Command::Store(_) | Command::WriteMax(_) | Command::SetFlag | Command::AddMember(_) => {
+            Ok(Answer::Stored)
+        }
+    }
+}
+
+fn members_of(alloc: Global, seen: &View) -> Result<NumberList, NoMemory>
+    ensures { IfOk result (λ s. s ≡ objects.set_of seen.now) }
+{
+    let members = set_of(alloc, seen)?;
+    Ok(NumberList::from_ascending(members))
+}

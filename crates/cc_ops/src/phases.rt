@@ -1,0 +1,209 @@
+//! How an operation goes from phase to phase and ends, and what is posted and told on the way.
+
+ghost use Rattle.std.specs.Prelude.{◌≡◌, ℕ, ◌≤◌, IfOk, is_some};
+ghost use Rattle.std.specs.Bool.{then_some};
+ghost use Rattle.std.specs.FinMap.{len};
+ghost use Rattle.cc_views.specs.Limits.{counter_limit, known_limit, overruns};
+ghost use Rattle.cc_wire.specs.declared.message.Message.TheVariants as message;
+ghost use Rattle.cc_ops.specs.Ops as ops;
+ghost use Rattle.cc_ops.specs.Ops.{IsWaiting};
+
+use crate::commands::answer_of;
+use crate::ops::Ops;
+use crate::pending::{Pending, Reply, begun, counted, is_last};
+use crate::stage::{Stage, acknowledged};
+use cc_views::{COUNTER_LIMIT, NoMemory, NodeId, View};
+use cc_wire::Message;
+use std::alloc::Global;
+
+impl Ops {
+    /// Takes a message: views that it carries are merged, and an operation goes on only by answers to its own tag. A
+    /// read that has its replies needs `quorum` acknowledgements of what it stores back (CCC, client and server).
+    pub fn apply(&mut self, me: NodeId, quorum: u64, message: &Message)
+        requires some { 1 ≤ quorum }
+        requires few { quorum ≤ known_limit }
+        requires fits { len (ops.after_message me quorum message.now self.old).view ≤ known_limit }
+        requires tag { (ops.after_message me quorum message.now self.old).tag ≤ counter_limit }
+        ensures { self.new ≡ ops.after_message me quorum message.now self.old }
+    {
+        match message {
+            Message::EnterEcho { view, .. } => self.view.merge(view),
+            Message::Store { view, .. } => self.view.merge(view),
+            Message::QueryReply { view, tag, node } => {
+                if *node == me && *tag == self.tag {
+                    self.take_reply(quorum, view);
+                }
+            }
+            Message::StoreAck { tag, node } => {
+                if *node == me && *tag == self.tag {
+                    self.stage = acknowledged(&self.stage);
+                }
+            }
+            Message::Enter { .. }
+            | Message::Join { .. }
+            | Message::JoinEcho { .. }
+            | Message::Leave { .. }
+            | Message::LeaveEcho { .. }
+            | Message::Query { .. } => {}
+        }
+    }
+
+    // One more reply to the query. With the last one, what is seen by then is stored back.
+    fn take_reply(&mut self, quorum: u64, view: &View)
+        requires some { 1 ≤ quorum }
+        requires few { quorum ≤ known_limit }
+        requires fits { len (ops.after_reply quorum view.now self.old.phase self.old).view ≤ known_limit }
+        requires tag { (ops.after_reply quorum view.now self.old.phase self.old).tag ≤ counter_limit }
+        ensures { self.new ≡ ops.after_reply quorum view.now self.old.phase self.old }
+    {
+        let stage = self.stage;
+        if let Stage::Querying(pending) = stage {
+            self.view.merge(view);
+            if is_last(&pending) {
+                self.seen.copy_from(&self.view);
+                self.tag += 1;
+                self.stage = Stage::StoringBack(begun(&pending.asked, quorum));
+            } else {
+                self.stage = Stage::Querying(counted(&pending));
+            }
+        }
+    }
+
+    /// What a message is answered with. A node serves others only once it has joined (CCC, server); the last reply to the
+    /// own query is answered with a Store of what is seen by then (CCC, client). The only error is a refused growth.
+    pub fn post(
+        &self,
+        alloc: Global,
+        me: NodeId,
+        quorum: u64,
+        is_joined: bool,
+        message: &Message,
+    ) -> Result<Option<Message>, NoMemory>
+        requires fits { len (ops.after_message me quorum message.now self.now).view ≤ known_limit }
+        requires tag { (ops.after_message me quorum message.now self.now).tag ≤ counter_limit }
+        ensures { IfOk result (λ p. p ≡ ops.post_of me is_joined message.now self.now (ops.after_message me quorum message.now self.now)) }
+    {
+        match message {
+            Message::Query { tag, node } if is_joined => Ok(Some(Message::QueryReply {
+                view: self.view.copy(alloc)?,
+                tag: *tag,
+                node: *node,
+            })),
+            Message::Store { tag, node, .. } if is_joined => Ok(Some(Message::StoreAck {
+                tag: *tag,
+                node: *node,
+            })),
+            Message::QueryReply { view, tag, node } if *node == me && *tag == self.tag => {
+                self.post_of_reply(alloc, me, quorum, view)
+            }
+            _ => Ok(None),
+        }
+    }
+
+    // With the last reply to the query, what is seen by then is stored back.
+    fn post_of_reply(
+        &self,
+        alloc: Global,
+        me: NodeId,
+        quorum: u64,
+        view: &View,
+    ) -> Result<Option<Message>, NoMemory>
+        requires fits { len (ops.after_reply quorum view.now self.now.phase self.now).view ≤ known_limit }
+        requires tag { (ops.after_reply quorum view.now self.now.phase self.now).tag ≤ counter_limit }
+        ensures { IfOk result (λ p. p ≡ then_some (ops.ends_query self.now.phase)
+            (message.Store (ops.after_reply quorum view.now self.now.phase self.now).view (ops.after_reply quorum view.now self.now.phase self.now).tag me)) }
+    {
+        let stage = self.stage;
+        if let Stage::Querying(pending) = stage {
+            if is_last(&pending) {
+                let mut seen = self.view.copy(alloc)?;
+                seen.merge(view);
+                return Ok(Some(Message::Store {
+                    view: seen,
+                    tag: self.tag + 1,
+                    node: me,
+                }));
+            }
+        }
+        Ok(None)
+    }
+
+    /// What the client is told on a message: the answer, where this is the last acknowledgement of its operation. A read
+    /// is answered from the view that it stored back (CCC, client). The only error is a refused growth.
+    pub fn reply(
+        &self,
+        alloc: Global,
+        me: NodeId,
+        message: &Message,
+    ) -> Result<Option<Reply>, NoMemory>
+        ensures { IfOk result (λ r. r ≡ ops.reply_of me message.now self.now) }
+    {
+        match message {
+            Message::StoreAck { tag, node } if *node == me && *tag == self.tag => {
+                self.reply_of_ack(alloc)
+            }
+            _ => Ok(None),
+        }
+    }
+
+    fn reply_of_ack(&self, alloc: Global) -> Result<Option<Reply>, NoMemory>
+        ensures { IfOk result (λ r. r ≡ ops.reply_in self.now.view self.now.phase) }
+    {
+        let stage = self.stage;
+        match stage {
+            Stage::Idle | Stage::Querying(_) => Ok(None),
+            Stage::Storing(pending) => told_if_last(alloc, &pending, &self.view),
+            Stage::StoringBack(pending) => told_if_last(alloc, &pending, &self.seen),
+        }
+    }
+
+    /// Whether a message is answered with a post; needs no memory.
+    pub fn makes_post(&self, me: NodeId, is_joined: bool, message: &Message) -> bool
+        ensures { (quorum : ℕ) → result ≡ is_some (ops.post_of me is_joined message.now self.now (ops.after_message me quorum message.now self.now)) }
+    {
+        match message {
+            Message::Query { .. } | Message::Store { .. } => is_joined,
+            Message::QueryReply { tag, node, .. } if *node == me && *tag == self.tag => {
+                self.ends_query()
+            }
+            _ => false,
+        }
+    }
+
+    /// Whether the message would raise a counter that stands at its limit, `2 ^ 62` (own choice).
+    pub fn is_spent(&self, me: NodeId, quorum: u64, message: &Message) -> bool
+        ensures { result ≡ overruns self.now.tag (ops.after_message me quorum message.now self.now).tag }
+    {
+        match message {
+            Message::QueryReply { tag, node, .. } if *node == me && *tag == self.tag => {
+                self.tag == COUNTER_LIMIT && self.ends_query()
+            }
+            _ => false,
+        }
+    }
+
+    // Whether one more reply ends the query.
+    fn ends_query(&self) -> bool
+        ensures { result ≡ ops.ends_query self.now.phase }
+    {
+        let stage = self.stage;
+        match stage {
+            Stage::Querying(pending) => is_last(&pending),
+            _ => false,
+        }
+    }
+}
+
+fn told_if_last(alloc: Global, pending: &Pending, seen: &View) -> Result<Option<Reply>, NoMemory>
+    requires { IsWaiting pending.now }
+    ensures { IfOk result (λ r. r ≡ then_some (ops.is_last pending.now) (ops.told pending.now seen.now)) }
+{
+    if !is_last(pending) {
+        return Ok(None);
+    }
+    Ok(Some(Reply {
+        session: pending.asked.session,
+        request: pending.asked.request,
+        answer: answer_of(alloc, &pending.asked.command, seen)?,
+    }))
+}
