@@ -19,7 +19,7 @@ impl Fraction {
     }
 }
 
-/// That share of a count, rounded up, and at least 1 (own choice).
+/// That share of a count, rounded up, and at least 1.
 pub fn need(share: Fraction, count: u64) -> u64
     requires positive { 0 < share.num }
     requires share { share.num ≤ share.den }

@@ -81,8 +81,9 @@ fn greater_of(first: Option<u64>, second: Option<u64>) -> Result<InUse, OpenFaul
     }
 }
 
-/// Finds the side in use: the armed one with the greater generation. Side B is looked at after side A. NotFormatted where no side is armed, Damaged at place
-/// 1 where an armed side has no generation (the first of them), or the second one has that of the first (own choice).
+/// Finds the side in use: the armed one with the greater generation. Side B is looked at after side A. NotFormatted where
+/// no side is armed, Damaged at place 1 where an armed side has no generation (the first of them), or the second one has
+/// that of the first.
 #[tactic(auto, unfolding(crate::specs::Choosing::chosen))]
 pub fn choose<S: Site>(site: &mut S) -> Result<InUse, OpenFault>
     ensures exact { S.honest site.old → Answers (λ used. used) result (chosen (S.state site.old A).bytes (S.state site.old B).bytes) }

@@ -58,7 +58,7 @@ fn state_size<S: Site>(site: &mut S, side: Side) -> Result<u32, OpenFault>
 
 /// Reads the state of an armed side: the node, and the place of the gate behind its state. Damaged at place 9 where no
 /// version stands, Version where it isn't known, Damaged at place 10 where the state's length doesn't stand there or goes
-/// past the end, and at 14 where no node has that state (own choice).
+/// past the end, and at 14 where no node has that state.
 pub fn read_state<S: Site>(
     alloc: Global,
     site: &mut S,

@@ -11,7 +11,7 @@ use cc_views::NoMemory;
 use cc_wire::{put_u8, put_u32, put_u64};
 use std::alloc::{AllocError, Global};
 
-/// The version of the format of states (own choice).
+/// The version of the format of states.
 pub const VERSION: u8 = 1;
 
 // Puts the generation, the version, the state behind its length, and a closed gate.

@@ -39,7 +39,7 @@ fn decode_all(alloc: Global, bytes: &[u8]) -> Result<Node, StateFault>
 }
 
 /// The node whose state the bytes spell, all of the bytes. A fault of the wire is that of the first field, from left to
-/// right, that can't be read; Unlawful comes where all can be read, and no node can be in that state (own choice).
+/// right, that can't be read; Unlawful comes where all can be read, and no node can be in that state.
 pub fn decode_state(alloc: Global, bytes: &[u8]) -> Result<Node, StateFault>
     // What each answer tells of the bytes.
     ensures answer { Decodes bytes.now result }

@@ -50,7 +50,7 @@ impl Churn {
     }
 
     /// With these changes, so many echoes, and so many needed to join (0 where that isn't known): for a decoder of
-    /// states (own choice).
+    /// states.
     pub fn from_parts(changes: Changes, echoes: u64, need: u64) -> Self
         requires { echoes ≤ counter_limit }
         ensures { result ≡ record { changes = changes; echoes = echoes; need = need } }
@@ -275,7 +275,7 @@ impl Churn {
         needed != 0 && needed <= self.echoes + 1
     }
 
-    /// Whether the message would raise the count of echoes past its limit, `2 ^ 62` (own choice).
+    /// Whether the message would raise the count of echoes past its limit, `2 ^ 62`.
     pub fn is_spent(&self, me: NodeId, gamma: Fraction, message: &Message) -> bool
         ensures { result ≡ overruns self.now.echoes (churn.after_message me gamma message.now self.now).echoes }
     {
@@ -287,7 +287,7 @@ impl Churn {
         }
     }
 
-    /// Why the node can't enter, if it can't: it has left, or entered before (own choice).
+    /// Why the node can't enter, if it can't: it has left, or entered before.
     pub fn decide_enter(&self, me: NodeId) -> Result<(), Refusal>
         ensures { result ≡ decided (first_of (left me self.now ∷ already_entered me self.now ∷ [])) }
     {
@@ -300,21 +300,21 @@ impl Churn {
         Ok(())
     }
 
-    /// Why the node can't leave, if it can't: it has left, or hasn't entered (own choice).
+    /// Why the node can't leave, if it can't: it has left, or hasn't entered.
     pub fn decide_leave(&self, me: NodeId) -> Result<(), Refusal>
         ensures { result ≡ decided (first_of (left me self.now ∷ not_entered me self.now ∷ [])) }
     {
         self.decide_inside(me)
     }
 
-    /// Why the node can't take a message, if it can't: it has left, or hasn't entered (own choice).
+    /// Why the node can't take a message, if it can't: it has left, or hasn't entered.
     pub fn decide_delivery(&self, me: NodeId) -> Result<(), Refusal>
         ensures { result ≡ decided (first_of (left me self.now ∷ not_entered me self.now ∷ [])) }
     {
         self.decide_inside(me)
     }
 
-    /// Why the node can't be asked, if it can't: it has left, hasn't entered, or hasn't joined (own choice).
+    /// Why the node can't be asked, if it can't: it has left, hasn't entered, or hasn't joined.
     pub fn decide_ask(&self, me: NodeId) -> Result<(), Refusal>
         ensures { result ≡ decided (first_of (left me self.now ∷ not_entered me self.now ∷ not_joined me self.now ∷ [])) }
     {

@@ -34,9 +34,6 @@ module _ (rest : List ℕ) (size : ℕ) (number : List ℕ) (is_size : size ≡ 
         ap (λ (l : List ℕ). drop 4 l) stands.parts,
       )
 
-  pub none_long : 262144 < size → NoBody rest
-  none_long long body stands = absurd (omega (arith, long, (shape body stands).0, stands.fits))
-
   pub none_past : length rest - 4 < size → NoBody rest
   none_past past body stands =
       let s = shape body stands in

@@ -115,33 +115,6 @@ module _ (bytes : List ℕ) (count : ℕ) (whole rest : List ℕ) (read : List E
       nothing [] none is = absurd (omega (arith, some, ap length is))
       nothing (e ∷ more) none is = absurd cc
 
-  pub all_read : length read ≡ count → 1 ≤ count → count ≤ 64 → length rest ≡ 0 → SpellsEvents bytes read
-  all_read same some few none = record {
-    some = omega (arith, same, some);
-    few = omega (arith, same, few);
-    each = is_read.each;
-    spelled = split ∙ ap (λ (l : List ℕ). count ∷ l) (is_read.parts ∙ ap (λ (l : List ℕ). flat_map sized_spelling read ++ l) (nil_from_length rest none) ∙ append-nil (flat_map sized_spelling read)) ∙ ap (λ (n : ℕ). n ∷ flat_map sized_spelling read) (sym same);
-  }
-
-pub read_none : (whole : List ℕ) → IsRead whole whole []
-read_none whole = record { parts = refl; each = tt }
-
-pub read_next : (whole rest : List ℕ) (read : List Event) (e : Event) (size : ℕ) → IsRead whole rest read → BeginsWith rest e size → IsRead whole (drop size rest) (read ++ e ∷ [])
-read_next whole rest read e size so_far next = record {
-  parts = so_far.parts ∙ ap (λ (l : List ℕ). flat_map sized_spelling read ++ l) next.parts
-      ∙ sym (append_assoc (flat_map sized_spelling read) (sized_spelling e) (drop size rest))
-      ∙ ap (λ (l : List ℕ). l ++ drop size rest) (sym (flat_map_push read e));
-  each = all_push read e so_far.each next.is_event;
-}
-  where
-    flat_map_push : (read : List Event) (e : Event) → flat_map sized_spelling (read ++ e ∷ []) ≡ flat_map sized_spelling read ++ sized_spelling e
-    flat_map_push [] e = append-nil (sized_spelling e)
-    flat_map_push (x ∷ read) e = ap (λ (l : List ℕ). sized_spelling x ++ l) (flat_map_push read e) ∙ sym (append_assoc (sized_spelling x) (flat_map sized_spelling read) (sized_spelling e))
-
-    all_push : (read : List Event) (e : Event) → AllByRecursion IsEvent read → IsEvent e → AllByRecursion IsEvent (read ++ e ∷ [])
-    all_push [] e all is = (is, tt)
-    all_push (x ∷ read) e all is = (all.0, all_push read e all.1 is)
-
 -- bytes spell one list of events
 pub one_list : (bytes : List ℕ) (xs ys : List Event) → SpellsEvents bytes xs → SpellsEvents bytes ys → xs ≡ ys
 one_list bytes xs ys p q =

@@ -1,12 +1,12 @@
 -- The record of a batch.
---     next_sized, last_sized     the events behind their sizes, one after the other
---     length_batch               how long a record and the gate behind it are
---     batch_spelled              the record is a batch's
+--     next_sized        the events behind their sizes, one after the other
+--     length_batch      how long a record and the gate behind it are
+--     batch_spelled     the record is a batch's
 use Rattle.std.proofs.Common.{◌≡◌, ℕ, suc, ◌+◌, ◌<◌, ◌≤◌, List, [], ◌∷◌, ◌++◌, length, get_or, drop, drop-cons, add-one, refl, sym, ◌∙◌, ap, arith, length-append}
 use Rattle.std.specs.Prelude.{Option, Some, unwrap_or, slice_get}
 use Rattle.std.specs.Int.{w32, to_be_bytes}
 use Rattle.std.specs.List.{flat_map, remove}
-use Rattle.std.proofs.lemmas.List.{append_assoc, at_drop_all, length-map}
+use Rattle.std.proofs.lemmas.List.{append_assoc, length-map}
 use Rattle.std.proofs.lemmas.List.Concat.{flat_map-cons}
 use Rattle.cc_wire.specs.declared.event.Event.{Event}
 use Rattle.cc_wire.specs.Events.{event_spelling}
@@ -29,9 +29,6 @@ next_events entries i entry lt is = ap events_in (next_entry entries i entry lt 
 
 pub next_sized : (entries : List Entry) (i : ℕ) (entry : Entry) → i < length entries → entry ≡ get_or entries i entry → sized (drop i entries) ≡ sized_spelling entry.event ++ sized (drop (i + 1) entries)
 next_sized entries i entry lt is = ap (λ (es : List Event). flat_map sized_spelling es) (next_events entries i entry lt is) ∙ flat_map-cons sized_spelling entry.event (events_in (drop (i + 1) entries))
-
-pub last_sized : (entries : List Entry) (i : ℕ) → length entries ≤ i → sized (drop i entries) ≡ []
-last_sized entries i past = at_drop_all sized entries i past
 
 -- a record is its length, how many events there are, and the events
 pub record_is : (entries : List Entry) → (to_be_bytes w32 (length (events_spelling (events_in entries))) ++ length entries ∷ []) ++ sized entries ≡ record_spelling (events_in entries)

@@ -208,7 +208,7 @@ fn scan_records<S: Site>(
 }
 
 /// Reads the records of a side from the gate at `place` on, in bytes from 0, and takes their events in, up to a closed
-/// gate (own choice). Damaged where no gate or no record stands that has to, Device where a disk call failed, and NoMemory
+/// gate. Damaged where no gate or no record stands that has to, Device where a disk call failed, and NoMemory
 /// where a growth was refused; then the node is given up.
 pub fn scan<S: Site>(
     alloc: Global,

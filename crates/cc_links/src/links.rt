@@ -132,7 +132,7 @@ impl Links {
         }
     }
 
-    /// Gives the peer a row, unless it has one. It is sent the posts after the first `posts` (own choice).
+    /// Gives the peer a row, unless it has one. It is sent the posts after the first `posts`.
     /// It takes no memory.
     pub fn add(&mut self, peer: NodeId, posts: u64)
         requires { table.len (links.add posts peer self.old) ≤ known_limit }
@@ -187,7 +187,7 @@ impl Links {
     }
 
     /// The last post that each live link has acknowledged, and `posts`, the count of all posts, where no link is live.
-    /// A link is live while its peer isn't among `left` (own choice).
+    /// A link is live while its peer isn't among `left`.
     pub fn lowest_needed(&self, left: &[NodeId], posts: u64) -> u64
         requires ascending { IsAscending left.now }
         requires reached { links.ReachesWithin posts self.now }

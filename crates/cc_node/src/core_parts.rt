@@ -22,7 +22,7 @@ use cc_ops::{Ops, Pending, Stage, is_writing};
 use cc_sessions::{SessionRow, Sessions};
 use cc_views::{COUNTER_LIMIT, NodeId, NumberSet, Row, View};
 
-/// What a core is put together from (own choice): the state of a node, up to what it keeps to put out again. Not all
+/// What a core is put together from: the state of a node, up to what it keeps to put out again. Not all
 /// parts make a lawful core.
 #[derive(Debug, Drop)]
 pub struct CoreParts {

@@ -68,7 +68,7 @@ impl Node {
     }
 
     /// The node of a stored state: its core in parts, and what it keeps to put out again. None where that is no state
-    /// that a node can be in (own choice). It takes no memory.
+    /// that a node can be in. It takes no memory.
     pub fn restored(parts: CoreParts, outbox: Outbox) -> Option<Self>
         ensures lawful { IsTrue (is_some result) ↔ IsLawfulNode (record { core = core_of parts; outbox = outbox }) }
         ensures node { IfSome result (λ n. n ≡ record { core = core_of parts; outbox = outbox }) }

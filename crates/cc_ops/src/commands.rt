@@ -18,7 +18,7 @@ use cc_wire::{Answer, Command, Message, NumberList, Refusal};
 use std::alloc::Global;
 
 impl Ops {
-    /// Whether the command would put a 33rd number into the own set (own choice).
+    /// Whether the command would put a 33rd number into the own set.
     pub fn is_set_full(&self, command: &Command) -> bool
         ensures { result ≡ commands.finds_no_room self.now.mine command.now }
     {
@@ -30,7 +30,7 @@ impl Ops {
         }
     }
 
-    /// Why the command can't begin, if it can't: another operation is pending, or the own set has no room (own choice).
+    /// Why the command can't begin, if it can't: another operation is pending, or the own set has no room.
     pub fn decide_ask(&self, command: &Command) -> Result<(), Refusal>
         ensures { result ≡ decided (first_of (busy self.now ∷ set_full command.now self.now ∷ [])) }
     {
@@ -43,7 +43,7 @@ impl Ops {
         Ok(())
     }
 
-    /// Whether an ask of the command would raise a counter that stands at its limit, `2 ^ 62` (own choice).
+    /// Whether an ask of the command would raise a counter that stands at its limit, `2 ^ 62`.
     pub fn ask_is_spent(&self, command: &Command) -> bool
         ensures { (me quorum session request : ℕ) → result ≡ (overruns self.now.number (ops.after_ask me quorum (record { session = session; request = request; command = command.now }) self.now).number
             || overruns self.now.tag (ops.after_ask me quorum (record { session = session; request = request; command = command.now }) self.now).tag) }

@@ -53,7 +53,7 @@ impl Ops {
     }
 
     /// These parts, and `seen` is what is stored back, where the stage says that something is; it has its room from the
-    /// start. For a decoder of states (own choice).
+    /// start. For a decoder of states.
     pub fn from_parts(
         view: View,
         number: u64,

@@ -6,7 +6,7 @@ ghost use Rattle.cc_ops.specs.Ops.{IsWaiting};
 
 use cc_wire::{Answer, Command};
 
-/// What a client asked for, and under which request of its session (own choice).
+/// What a client asked for, and under which request of its session.
 #[derive(Clone, Copy, Debug, PartialEq, Eq)]
 pub struct Asked {
     pub session: u64,

@@ -170,7 +170,7 @@ impl Ops {
         }
     }
 
-    /// Whether the message would raise a counter that stands at its limit, `2 ^ 62` (own choice).
+    /// Whether the message would raise a counter that stands at its limit, `2 ^ 62`.
     pub fn is_spent(&self, me: NodeId, quorum: u64, message: &Message) -> bool
         ensures { result ≡ overruns self.now.tag (ops.after_message me quorum message.now self.now).tag }
     {

@@ -82,7 +82,7 @@ impl Outbox {
         self.last += 1;
     }
 
-    /// Drops the posts up to number `lowest`, in a step for each (own choice).
+    /// Drops the posts up to number `lowest`, in a step for each.
     pub fn trim(&mut self, lowest: u64)
         ensures { self.new ≡ outbox.trim lowest self.old }
     {

@@ -1,4 +1,4 @@
-/// How a request stands to its session (own choice). The requests of a session are numbered from 1 on, without a gap.
+/// How a request stands to its session. The requests of a session are numbered from 1 on, without a gap.
 #[derive(Clone, Copy, Debug, PartialEq, Eq)]
 pub enum Checked {
     /// The next request of its session.

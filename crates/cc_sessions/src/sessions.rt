@@ -77,7 +77,7 @@ impl Sessions {
         }
     }
 
-    /// How the request stands to its session (own choice). Full comes first, then Repeat, Stale and Skip.
+    /// How the request stands to its session. Full comes first, then Repeat, Stale and Skip.
     pub fn check(&self, session: u64, request: u64) -> Checked
         ensures { result ≡ checked self.now session request }
     {

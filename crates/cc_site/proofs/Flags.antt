@@ -1,10 +1,6 @@
--- The list of touched places: its length and each of its flags, and a list of flags that is it (`flags_are`).
+-- The list of touched places: each of its flags, and a list of flags that is it (`flags_are`).
 use Rattle.std.proofs.Common.{◌≡◌, ℕ, zero, suc, ◌+◌, ◌<◌, Bool, false, List, [], ◌∷◌, length, slice_index_or, refl, ◌∙◌, ap, arith}
 use Rattle.cc_site.specs.Image.{touched_list}
-
-pub length-touched_list : (touched : ℕ → Bool) (p n : ℕ) → length (touched_list touched p n) ≡ n
-length-touched_list touched p zero = refl
-length-touched_list touched p (suc n) = ap suc (length-touched_list touched (suc p) n)
 
 pub flags_are : (touched : ℕ → Bool) (p n : ℕ) (flags : List Bool) → length flags ≡ n → ((q : ℕ) → q < n → slice_index_or flags q false ≡ touched (p + q)) → flags ≡ touched_list touched p n
 flags_are touched p zero [] long each = refl

@@ -8,8 +8,7 @@ ghost use Rattle.cc_site.specs.Runs.{EachMoment};
 
 use crate::site::{DeviceFault, Side, Site};
 
-/// Writes bytes from a place on, and makes sure of them by a sync. A fault is that of the write or of the sync (own
-/// choice).
+/// Writes bytes from a place on, and makes sure of them by a sync. A fault is that of the write or of the sync.
 pub fn write_durably<S: Site>(
     site: &mut S,
     side: Side,
@@ -31,8 +30,7 @@ pub fn write_durably<S: Site>(
     Ok(())
 }
 
-/// Cuts a side to a length in bytes, and makes sure of that by a sync. A fault is that of the cut or of the sync (own
-/// choice).
+/// Cuts a side to a length in bytes, and makes sure of that by a sync. A fault is that of the cut or of the sync.
 pub fn cut_durably<S: Site>(site: &mut S, side: Side, len: u64) -> Result<(), DeviceFault>
     requires { S.honest site.old → len ≤ length (S.state site.old side).bytes }
     ensures honest { S.honest site.old ↔ S.honest site.new }

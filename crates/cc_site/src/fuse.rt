@@ -3,7 +3,7 @@
 ghost use Rattle.std.specs.Prelude.{◌↔◌, IsTrue};
 ghost use Rattle.cc_site.specs.Fuse.{Fails};
 
-/// Whether a fuse fails one disk call, or that one and all after it (own choice).
+/// Whether a fuse fails one disk call, or that one and all after it.
 #[derive(Clone, Copy, Debug, PartialEq, Eq)]
 pub enum Failing {
     Once,

@@ -23,7 +23,7 @@ use cc_views::{NoMemory, NodeId};
 use cc_wire::{Answer, Message, Output};
 use std::alloc::{AllocError, Global};
 
-/// A site in memory. It is honest, and it tells its outputs as long as none was lost (own choice).
+/// A site in memory. It is honest, and it tells its outputs as long as none was lost.
 ///
 /// A disk call whose growth is refused is a device failure. A write or a cut that fails leaves its range touched; only
 /// where the record can't grow by that call itself, it leaves all as it was.

@@ -12,7 +12,7 @@ use cc_wire::{Answer, Message};
 use std::error::Error;
 use std::fmt;
 
-/// One of the two files of a node (own choice).
+/// One of the two files of a node.
 #[derive(Clone, Copy, Debug, PartialEq, Eq)]
 pub enum Side {
     A,

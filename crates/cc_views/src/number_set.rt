@@ -42,7 +42,7 @@ impl Model for NumberSet {
 }
 
 impl NumberSet {
-    /// How many numbers a set has at most (own choice).
+    /// How many numbers a set has at most.
     pub const MAX_LEN: usize = 32;
 
     /// A set of no numbers.

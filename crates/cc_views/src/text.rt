@@ -28,7 +28,7 @@ impl Model for Text {
 }
 
 impl Text {
-    /// How many bytes a text has at most (own choice).
+    /// How many bytes a text has at most.
     pub const MAX_LEN: usize = 64;
 
     /// None above 64 bytes.

@@ -4,7 +4,7 @@ ghost use Rattle.cc_views.specs.NatSets as set;
 use crate::number_set::NumberSet;
 use crate::text::Text;
 
-/// What a node has stored: one value of four slots (own choice).
+/// What a node has stored: one value of four slots.
 #[derive(Clone, Copy, Debug, PartialEq, Eq)]
 pub struct Value {
     pub text: Text,

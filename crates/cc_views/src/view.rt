@@ -116,7 +116,7 @@ impl View {
     }
 
     /// Takes each row of `other` whose node is new, or whose number is greater than that of its node here (CCC, merge of
-    /// views). On equal numbers the row here stays (own choice).
+    /// views). On equal numbers the row here stays.
     pub fn merge(&mut self, other: &View)
         requires { map.len (merge self.old other.now) ≤ known_limit }
         ensures { self.new ≡ merge self.old other.now }

@@ -59,14 +59,6 @@ module _ (old piece new : List ℕ) (used : ℕ) (t : TopsUp old piece used new)
         | false ↦ λ whole h. whole_given frame whole h
       ] refl e
 
-  -- what is held then
-  pub rest_given : (frame : Option Frame) → front_of new ≡ Ok frame → frame ≡ None → new ≡ old ++ piece
-  rest_given frame e none =
-      elim (is_partial new) as (λ b. is_partial new ≡ b → cond b (Ok None) (frame_at new >>= λ f. Ok (Some f.0)) ≡ Ok frame → new ≡ old ++ piece) [
-        | true ↦ λ part h. t.added ∙ ap (λ (p : List ℕ). old ++ p) (take_all used piece (omega (arith, t.all part)))
-        | false ↦ λ whole h. (let f = bind_ok (frame_at new) (λ f. Ok (Some f.0)) frame h in let same : Some f.0.0 ≡ frame = ok_is _ _ f.2 in absurd cc)
-      ] refl e
-
   -- a bad frame
   refused : (e : WireFault) → is_partial new ≡ false → (frame_at new >>= λ f. Ok (Some f.0)) ≡ Err e → fed (Some old) piece ≡ Err e
   refused e whole h =
