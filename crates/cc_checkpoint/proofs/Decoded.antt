@@ -45,7 +45,7 @@ not_both : (bytes : List ℕ) (s : State) (e : WireFault) → SpellsState bytes 
 not_both bytes s e is read = apart s e (sym (state_is_read bytes s is) ∙ read)
 
 -- a lawful state and an unlawful one are two
-not_unlawful : (bytes : List ℕ) (n : Node) → SpellsNode bytes n → SpellsUnlawful bytes → ⊥
+pub not_unlawful : (bytes : List ℕ) (n : Node) → SpellsNode bytes n → SpellsUnlawful bytes → ⊥
 not_unlawful bytes n is u =
     let one : u.state ≡ state_of n = (one_spelling_of_state bytes bytes [] [] u.state (state_of n) u.spelled is.state refl).0 in
     u.unlawful (subst IsLawfulNode (sym (ap node_of one ∙ node_of-state_of n is.lawful)) is.lawful)

@@ -4,8 +4,13 @@ pub mod ChoosingLaws
 pub mod HeadLaws
 pub mod TableWrites
 pub mod TableReads
-mod Imaged
+pub mod Imaged
 pub mod Restored
 pub mod LawfulFields
 pub mod Decoded
 pub mod StateLengths
+pub mod PartLaws
+pub mod BehindRuns
+pub mod OffRuns
+pub mod Ahead
+pub mod StateReads

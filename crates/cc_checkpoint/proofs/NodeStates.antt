@@ -1,12 +1,12 @@
 -- The node of a state, and the state of a node.
-use Rattle.std.proofs.Common.{◌≡◌, ℕ, ◌+◌, ◌-◌, ◌<◌, ◌≤◌, true, List, [], ◌∷◌, ◌++◌, length, map, get_or, take, Some, None, refl, sym, ap, subst, ◌∙◌, arith}
+use Rattle.std.proofs.Common.{◌≡◌, ℕ, ◌+◌, ◌-◌, ◌<◌, ◌≤◌, true, List, [], ◌∷◌, ◌++◌, length, map, get_or, Some, None, refl, sym, ap, subst, ◌∙◌, arith}
 use Rattle.std.specs.Prelude.{Option, IfSome, IsTrue, is_some}
 use Rattle.std.specs.List.{AllByRecursion}
 use Rattle.std.specs.Ordering.{nat_cmp}
 use Rattle.std.specs.FinMap as table
 use Rattle.std.specs.FinMap.{FinMap, is_sorted}
 use Rattle.std.specs.FinMap.Entries.{below_all, find}
-use Rattle.std.proofs.lemmas.List.{length-map, take_all}
+use Rattle.std.proofs.lemmas.List.{length-map}
 use Rattle.cc_views.specs.Entries.{lt_from_cmp, and_left, and_right, from_T, entries_back}
 use Rattle.cc_views.specs.MapLaws.{all_entries}
 use Rattle.cc_wire.specs.declared.message.Message.{Message}
@@ -116,12 +116,6 @@ post_at last count kept is few i number m at lt found =
     let read : table.get kept number ≡ find nat_cmp number (numbered start (table.values kept)) =
     table.get-entries kept number ∙ ap (find nat_cmp number) (entries_numbered (last - count) last kept is) in
     (inside, some_is m (get_or (table.values kept) i m) (found ∙ read ∙ find_numbered start (table.values kept) i number m inside place))
-
--- behind the last of them there is none
-pub all_posts : (last count : ℕ) (kept : FinMap nat_cmp Message) → KeepsPosts (last - count) last kept → count ≡ table.len kept
-    → (i : ℕ) → last - (last - count) ≤ i → take i (table.values kept) ≡ table.values kept
-all_posts last count kept is few i past =
-    take_all i (table.values kept) (omega (arith, past, is.count, length-map (table.entries kept) (λ (e : ℕ × Message). e.1), table.len-entries kept))
 
 pub length-values : {X : Type 0} (m : FinMap nat_cmp X) → length (table.values m) ≡ table.len m
 length-values m = length-map (table.entries m) (λ e. e.1) ∙ sym (table.len-entries m)

@@ -26,7 +26,9 @@ use Rattle.cc_wire.proofs.Formats.{ascending_of_run, run_of_ascending, u16_spell
 use Rattle.cc_wire.proofs.MessageFormat.{message_spelled}
 use Rattle.cc_wire.proofs.AnswerFormat.{answer_spelled}
 use Rattle.cc_wire.proofs.EventFormat.{asked_spelled}
-use Rattle.cc_node.specs.States.{Membership, Work, Tables, State, fraction_spelling, IsFraction, fraction_with, fraction_at, membership_spelling, IsMembership, membership_with, membership_at, pending_spelling, IsPending, pending_with, pending_at, phase_spelling, IsPhase, phase_fields, phase_at, work_spelling, IsWork, work_with, work_at, table_spelling, IsTableOf, row_list_at, table_at, link_spelling, IsLink, link_with, link_at, session_from, session_spelling, IsSession, session_at, kept_answer_spelling, IsKeptAnswer, kept_answer_at, kept_spelling, IsKeptPosts, kept_at, most_rows, tables_spelling, IsTables, tables_with, tables_at, state_spelling, IsState, state_with, state_at}
+use Rattle.cc_wire.specs.Spelling.{value_spelling, IsValue}
+use Rattle.cc_checkpoint.specs.Fields.{own_at}
+use Rattle.cc_node.specs.States.{Membership, Work, Tables, State, entering_spelling, entering_at, fraction_spelling, IsFraction, fraction_with, fraction_at, membership_spelling, IsMembership, membership_with, membership_at, pending_spelling, IsPending, pending_with, pending_at, phase_spelling, IsPhase, phase_fields, phase_at, work_spelling, IsWork, work_with, work_at, table_spelling, IsTableOf, row_list_at, table_at, link_spelling, IsLink, link_with, link_at, session_from, session_spelling, IsSession, session_at, kept_answer_spelling, IsKeptAnswer, kept_answer_at, kept_spelling, IsKeptPosts, kept_at, most_rows, tables_spelling, IsTables, tables_with, tables_at, state_spelling, IsState, state_with, state_at}
 
 -- ---- fractions
 
@@ -95,6 +97,12 @@ phase_spelled = record { takes = phase_takes; again = phase_again }
 
 -- ---- the second part
 
+pub own_spelled : Spelled own_at (λ own. (own.0 < 2 ^ 64) × (IsValue own.1.0 × (own.1.1 < 2 ^ 64))) (λ own. to_be_bytes w64 own.0 ++ (value_spelling own.1.0 ++ to_be_bytes w64 own.1.1))
+own_spelled = both u64_spelled (both value_spelled u64_spelled)
+
+pub entering_spelled : Spelled entering_at (λ entering. (entering.0 < 2 ^ 64) × (entering.1 < 2 ^ 16)) (λ entering. entering_spelling entering.0 entering.1)
+entering_spelled = both u64_spelled u16_spelled
+
 abbrev work_fields : Work → (ViewMap × (ℕ × (Value × ℕ))) × ((ℕ × ℕ) × Phase)
 work_fields w = ((w.view, (w.number, (w.mine, w.tag))), ((w.echoes, w.need), w.phase))
 
@@ -104,7 +112,7 @@ work_spelled = as_facts IsWork
     (λ w h. record { view = h.0.0; number = h.0.1.0; mine = h.0.1.1.0; tag = h.0.1.1.1; echoes = h.1.0.0; need = h.1.0.1; phase = h.1.1 })
     (λ w h. ((h.view, (h.number, (h.mine, h.tag))), ((h.echoes, h.need), h.phase)))
     (as_fields work_with work_fields (λ _. refl) (λ _ _. refl)
-    (both (both view_spelled (both u64_spelled (both value_spelled u64_spelled))) (both (both u64_spelled u16_spelled) phase_spelled)))
+    (both (both view_spelled own_spelled) (both entering_spelled phase_spelled)))
 
 -- ---- tables
 
@@ -160,7 +168,7 @@ IsLinkBody e = (e.0 < 2 ^ 32) × ((e.1.start < 2 ^ 64) × ((e.1.acked < 2 ^ 64) 
 abbrev link_fields : ℕ × Link → ℕ × (ℕ × (ℕ × ℕ))
 link_fields e = (e.0, (e.1.start, (e.1.acked, e.1.heard)))
 
-link_spelled : (least : ℕ) → Spelled (link_at least) (λ e. IsLinkBody e × (least ≤ e.0)) link_spelling
+pub link_spelled : (least : ℕ) → Spelled (link_at least) (λ e. IsLinkBody e × (least ≤ e.0)) link_spelling
 unfolding link_at
 link_spelled least = as_facts (λ e. IsLinkBody e × (least ≤ e.0))
     (λ e h. ((h.0.0, h.1), h.0.1))
@@ -190,7 +198,7 @@ session_spelled least = as_facts (λ e. IsSession e × (least ≤ e.0))
 pub sessions_spelled : Spelled (table_at session_at 256 0) (IsTableOf IsSession 256) (table_spelling session_spelling)
 sessions_spelled = table_spelled session_at IsSession IsSession session_spelling 0 session_spelled (λ e h le. h) (λ e is. (is, omega arith)) 256 (omega arith)
 
-kept_answer_spelled : (least : ℕ) → Spelled (kept_answer_at least) (λ e. IsKeptAnswer e × (least ≤ e.0)) kept_answer_spelling
+pub kept_answer_spelled : (least : ℕ) → Spelled (kept_answer_at least) (λ e. IsKeptAnswer e × (least ≤ e.0)) kept_answer_spelling
 unfolding kept_answer_at
 kept_answer_spelled least = as_facts (λ e. IsKeptAnswer e × (least ≤ e.0))
     (λ e h. (record { session = h.0.0; answer = h.1 }, h.0.1))

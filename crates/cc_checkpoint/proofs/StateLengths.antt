@@ -1,12 +1,13 @@
 -- How long the spelling of a node's state is at most.
-use Rattle.std.proofs.Common.{ℕ, ◌+◌, ◌*◌, ◌≤◌, List, ◌++◌, length, arith, ap}
+use Rattle.std.proofs.Common.{ℕ, ◌+◌, ◌*◌, ◌<◌, ◌≤◌, ◌^◌, List, ◌++◌, length, arith, ap}
 use Rattle.std.specs.Int.{w64, to_be_bytes}
 use Rattle.std.specs.List.{AllByRecursion}
 use Rattle.std.specs.Ordering.{nat_cmp}
 use Rattle.std.specs.FinMap as table
 use Rattle.std.specs.FinMap.{FinMap}
 use Rattle.std.proofs.lemmas.List.{length-append}
-use Rattle.cc_wire.specs.Spelling.{value_spelling, view_spelling}
+use Rattle.cc_views.specs.declared.value.Value.{Value}
+use Rattle.cc_wire.specs.Spelling.{value_spelling, IsValue, view_spelling}
 use Rattle.cc_wire.specs.Messages.{message_spelling, IsMessage}
 use Rattle.cc_wire.specs.Events.{asked_spelling}
 use Rattle.cc_wire.specs.declared.answer.Answer.{Answer}
@@ -16,10 +17,10 @@ use Rattle.cc_links.specs.Links.{Link}
 use Rattle.cc_ops.specs.declared.pending.Pending.{Pending}
 use Rattle.cc_ops.specs.Ops.{Phase, Idle, Storing, Querying, StoringBack}
 use Rattle.cc_node.specs.Node.{Node}
-use Rattle.cc_node.specs.States.{Membership, Work, Tables, membership_spelling, IsMembership, counts_spelling, pending_spelling, IsPending, phase_spelling, IsPhase, stored_spelling, entering_spelling, work_spelling, IsWork, table_spelling, link_spelling, IsLink, session_spelling, IsSession, kept_answer_spelling, IsKeptAnswer, kept_spelling, IsKeptPosts, tables_spelling, IsTables, SpellsNode, state_of}
+use Rattle.cc_node.specs.States.{Membership, Work, Tables, membership_spelling, IsMembership, counts_spelling, pending_spelling, IsPending, phase_spelling, IsPhase, stored_spelling, entering_spelling, work_spelling, IsWork, table_spelling, IsTableOf, link_spelling, IsLink, session_spelling, IsSession, kept_answer_spelling, IsKeptAnswer, kept_spelling, IsKeptPosts, tables_spelling, IsTables, SpellsNode, state_of}
 use Rattle.cc_checkpoint.proofs.LawfulFields.{answers_within}
 
-length-membership : (m : Membership) → IsMembership m → length (membership_spelling m) ≤ 3098
+pub length-membership : (m : Membership) → IsMembership m → length (membership_spelling m) ≤ 3098
 length-membership m is = omega (arith, length-changes m.changes is.changes)
 
 length-pending : (p : Pending) → IsPending p → length (pending_spelling p) ≤ 86
@@ -27,7 +28,7 @@ length-pending p is =
     omega (arith, length-append (asked_spelling p.asked.session p.asked.request p.asked.command) (counts_spelling p.need p.count), length-asked p.asked.session p.asked.request p.asked.command is.asked)
 
 -- with a view that is stored back it is the longest
-length-phase : (phase : Phase) → IsPhase phase → length (phase_spelling phase) ≤ 55129
+pub length-phase : (phase : Phase) → IsPhase phase → length (phase_spelling phase) ≤ 55129
 length-phase Idle is = omega arith
 length-phase (Storing p) is = omega (arith, length-pending p is)
 length-phase (Querying p) is = omega (arith, length-pending p is)
@@ -45,14 +46,18 @@ length-work w is =
       length-phase w.phase is.phase,
     )
 
-length-link : (e : ℕ × Link) → IsLink e → length (link_spelling e) ≤ 28
+pub length-link : (e : ℕ × Link) → IsLink e → length (link_spelling e) ≤ 28
 length-link e is = omega arith
 
 length-session : (e : ℕ × ℕ) → IsSession e → length (session_spelling e) ≤ 16
 length-session e is = omega arith
 
-length-kept_answer : (e : ℕ × Answer) → IsKeptAnswer e → length (kept_answer_spelling e) ≤ 55051
+pub length-kept_answer : (e : ℕ × Answer) → IsKeptAnswer e → length (kept_answer_spelling e) ≤ 55051
 length-kept_answer e is = omega (arith, length-answer e.1 is.answer)
+
+-- the own value under its number, and the tag
+pub length-own : (own : ℕ × (Value × ℕ)) → (own.0 < 2 ^ 64) × (IsValue own.1.0 × (own.1.1 < 2 ^ 64)) → length (to_be_bytes w64 own.0 ++ (value_spelling own.1.0 ++ to_be_bytes w64 own.1.1)) ≤ 219
+length-own own is = omega (arith, length-append (value_spelling own.1.0) (to_be_bytes w64 own.1.1), length-value own.1.0 is.1.0)
 
 -- a count and the rows
 length-table : {X : Type 0} (Is : ℕ × X → Type 0) (f : ℕ × X → List ℕ) (most : ℕ) → ((e : ℕ × X) → Is e → length (f e) ≤ most) → (m : FinMap nat_cmp X) → AllByRecursion Is (table.entries m)
@@ -77,6 +82,9 @@ length-tables t is links answers =
       is.sessions.fits,
       answers,
     )
+
+pub length-sessions : (m : FinMap nat_cmp ℕ) → IsTableOf IsSession 256 m → length (table_spelling session_spelling m) ≤ 4098
+length-sessions m is = omega (arith, length-table IsSession session_spelling 16 length-session m is.rows, is.fits)
 
 pub length-node : (bytes : List ℕ) (n : Node) → SpellsNode bytes n → length bytes ≤ 43978346
 length-node bytes n is =

@@ -1,4 +1,5 @@
 -- Which side is in use: the armed one with the greater generation.
+--     peek_of                what the first bytes of a side tell
 --     generation_in          the generation of a side, where it is armed
 --     chosen                 the side in use, and its generation
 --     IsInTurn               a fault of side B is told only where side A could be read
@@ -7,9 +8,14 @@ use Rattle.cc_site.specs.declared.site.Side.{Side}
 use Rattle.cc_site.specs.declared.site.Side.TheVariants.{A, B}
 use Rattle.cc_node.specs.Sides.{OPEN, generation_of}
 use Rattle.cc_checkpoint.specs.declared.choosing.InUse.{InUse}
+use Rattle.cc_checkpoint.specs.declared.choosing.Peeked.{Peeked}
+use Rattle.cc_checkpoint.specs.declared.choosing.Peeked.TheVariants.{Closed, Armed, Short}
 use Rattle.cc_checkpoint.specs.declared.open_fault.OpenFault.{OpenFault}
 use Rattle.cc_checkpoint.specs.declared.open_fault.OpenFault.TheVariants.{NotFormatted, Damaged, Version, Device, NoMemory}
 use Rattle.cc_checkpoint.specs.Faults.{◌>>=◌}
+
+abbrev pub peek_of : List ℕ → Peeked
+peek_of bytes = if slice_index_or bytes 0 0 == OPEN then (if nat_lt (length bytes) 9 then Short else Armed (generation_of bytes)) else Closed
 
 unfoldable pub generation_in : Side → List ℕ → Result (Option ℕ) OpenFault
 generation_in side bytes =

@@ -1,10 +1,14 @@
 -- The state that fields are, as they are read.
+--     own_at          reading the own value under its number, and the tag
 --     state_in f      the state of all fields
 --     AreRead t       what holds of tables that were read: keys rise, and there are as many rows as may be
 --     CanBuild f      whether the parts of a node can be made of them
-use Rattle.std.specs.Prelude.{◌≤◌, length}
+use Rattle.std.specs.Prelude.{◌≤◌, ℕ, length}
+use Rattle.std.specs.Int.{w64}
 use Rattle.cc_views.specs.Limits.{counter_limit}
 use Rattle.cc_views.specs.Tables.{IsRising, table_of}
+use Rattle.cc_views.specs.declared.value.Value.{Value}
+use Rattle.cc_wire.specs.Reading.{Reading, ◌⊗◌, number_at, value_at}
 use Rattle.cc_links.specs.Rows as links
 use Rattle.cc_sessions.specs.Rows as sessions
 use Rattle.cc_outbox.specs.Rows as answers
@@ -12,6 +16,8 @@ use Rattle.cc_ops.specs.Ops.{Phase}
 use Rattle.cc_ops.specs.Stages.{phase_of, HasWaiting}
 use Rattle.cc_node.specs.States as states
 use Rattle.cc_checkpoint.specs.declared.fields.Membership.{Membership}
+use Rattle.cc_checkpoint.specs.declared.fields.Own.{Own}
+use Rattle.cc_checkpoint.specs.declared.fields.Entering.{Entering}
 use Rattle.cc_checkpoint.specs.declared.fields.Round.{Round}
 use Rattle.cc_checkpoint.specs.declared.fields.Work.{Work}
 use Rattle.cc_checkpoint.specs.declared.fields.Tables.{Tables}
@@ -22,6 +28,15 @@ membership_in m = record { me = m.me; beta = m.beta; gamma = m.gamma; changes = 
 
 abbrev pub phase_in : Round → Phase
 phase_in r = phase_of r.stage r.seen
+
+abbrev pub own_at : Reading (ℕ × (Value × ℕ))
+own_at = number_at w64 ⊗ value_at ⊗ number_at w64
+
+abbrev pub own_in : Own → ℕ × (Value × ℕ)
+own_in own = (own.number, (own.mine, own.tag))
+
+abbrev pub entering_in : Entering → ℕ × ℕ
+entering_in entering = (entering.echoes, entering.need)
 
 abbrev pub work_in : Work → states.Work
 work_in w = record { view = w.view; number = w.number; mine = w.mine; tag = w.tag; echoes = w.echoes; need = w.need; phase = phase_in w.round }

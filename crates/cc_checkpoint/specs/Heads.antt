@@ -2,13 +2,16 @@
 --     size_of, state_of      the length that is told, and so many bytes
 --     HeadAt                 a node's state stands there, up to the gate at this place
 --     HeadFails              there is none, for this reason
---     StateFound             what decoding a state tells
-use Rattle.std.specs.Prelude.{◌≡◌, ◌≢◌, ◌⊎◌, ℕ, ◌+◌, ◌<◌, ◌≤◌, List, length, take, drop, slice_index, Option, Some, None, Result, Ok, Err}
+--     fault_of               why the state of a side can't be read, as a fault of the sides
+--     NodeFound              what reading a state tells
+use Rattle.std.specs.Prelude.{◌≡◌, ◌≢◌, ◌⊎◌, ℕ, ◌+◌, ◌<◌, ◌≤◌, List, length, take, drop, slice_index, Result, Ok, Err}
 use Rattle.std.specs.Int.{from_be_bytes, w32}
 use Rattle.cc_site.specs.declared.site.Side.{Side}
 use Rattle.cc_node.specs.Node.{Node}
 use Rattle.cc_node.specs.Sides.{VERSION}
 use Rattle.cc_node.specs.States.{SpellsNode}
+use Rattle.cc_checkpoint.specs.declared.read_fault.ReadFault.{ReadFault}
+use Rattle.cc_checkpoint.specs.declared.read_fault.ReadFault.TheVariants as read_faults
 use Rattle.cc_checkpoint.specs.declared.open_fault.OpenFault.{OpenFault}
 use Rattle.cc_checkpoint.specs.declared.open_fault.OpenFault.TheVariants.{NotFormatted, Damaged, Version, Device, NoMemory}
 
@@ -46,8 +49,15 @@ HeadFails side bytes NotFormatted = ⊥
 HeadFails side bytes (Device fault) = Unit {0}
 HeadFails side bytes NoMemory = Unit {0}
 
--- a node of that state is found, or there is none; only memory may be wanting
-abbrev pub StateFound : List ℕ → Result (Option Node) OpenFault → Type 0
-StateFound bytes (Ok (Some node)) = SpellsNode bytes node
-StateFound bytes (Ok None) = (node : Node) → SpellsNode bytes node → ⊥
-StateFound bytes (Err fault) = fault ≡ NoMemory
+-- why the state of a side can't be read, as a fault of the sides
+abbrev pub fault_of : Side → ReadFault → OpenFault
+fault_of side (read_faults.Device fault) = Device fault
+fault_of side read_faults.NoMemory = NoMemory
+fault_of side read_faults.NoState = Damaged side 14
+
+-- the node of that state is found, or there is none, but for want of memory and faults of the disk
+abbrev pub NodeFound : List ℕ → Result Node ReadFault → Type 0
+NodeFound bytes (Ok node) = SpellsNode bytes node
+NodeFound bytes (Err read_faults.NoState) = (node : Node) → SpellsNode bytes node → ⊥
+NodeFound bytes (Err read_faults.NoMemory) = Unit {0}
+NodeFound bytes (Err (read_faults.Device fault)) = Unit {0}

@@ -4,3 +4,6 @@ pub mod Faults
 pub mod Fields
 pub mod Images
 pub mod Decoding
+pub mod Parts
+pub mod Windows
+pub mod Checkpoints

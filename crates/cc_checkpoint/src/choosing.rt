@@ -3,19 +3,53 @@
 ghost use Rattle.std.specs.Prelude.{◌≡◌, ◌≢◌, ◌↔◌, ◌≤◌, ◌<◌, ◌+◌, length, vec_len, take, drop, ℕ, OnOk, IfOk, IfErr, MatchResult};
 ghost use Rattle.cc_site.specs.declared.site.Side.TheVariants.{A, B};
 ghost use Rattle.cc_site.specs.Reads.{OnlyReads};
-ghost use Rattle.cc_site.specs.Telling.{LooksAt, LooksAtEither};
+ghost use Rattle.cc_site.specs.Telling.{CountsCalls, LooksAt, LooksAtEither};
 ghost use Rattle.cc_checkpoint.specs.declared.open_fault.OpenFault.TheVariants as faults;
 ghost use Rattle.cc_checkpoint.specs.Faults.{Answers, CountsDevice};
-ghost use Rattle.cc_checkpoint.specs.Choosing.{generation_in, greater, chosen, IsInTurn};
+ghost use Rattle.cc_checkpoint.specs.Choosing.{generation_in, greater, chosen, peek_of, IsInTurn};
 
 use crate::open_fault::OpenFault;
-use cc_site::{OPEN_GATE, Side, Site, length_of, read_into};
+use cc_site::{DeviceFault, OPEN_GATE, Side, Site, length_of, read_into};
 
 /// The side in use, and its generation.
 #[derive(Clone, Copy, Debug, PartialEq, Eq)]
 pub struct InUse {
     pub side: Side,
     pub generation: u64,
+}
+
+/// What the first bytes of a side tell.
+#[derive(Clone, Copy, Debug, PartialEq, Eq)]
+pub enum Peeked {
+    /// It isn't armed.
+    Closed,
+    /// It is armed, under this generation.
+    Armed(u64),
+    /// It is armed, and ends before its generation does.
+    Short,
+}
+
+/// Reads the gate of a side and its generation, and nothing else.
+pub fn peek<S: Site>(site: &mut S, side: Side) -> Result<Peeked, DeviceFault>
+    ensures exact { S.honest site.old → IfOk result (λ peek. peek ≡ peek_of (S.state site.old side).bytes) }
+    ensures reads { OnlyReads S.Site site.old site.new }
+    ensures fault { CountsCalls (LooksAt side) (S.failures site.old) (S.failures site.new) result }
+{
+    let len = length_of(site, side)?;
+    if len == 0 {
+        return Ok(Peeked::Closed);
+    }
+    let mut gate = [0];
+    read_into(site, side, 0, &mut gate)?;
+    if gate[0] != OPEN_GATE {
+        return Ok(Peeked::Closed);
+    }
+    if len < 9 {
+        return Ok(Peeked::Short);
+    }
+    let mut number = [0; 8];
+    read_into(site, side, 1, &mut number)?;
+    Ok(Peeked::Armed(u64::from_be_bytes(number)))
 }
 
 // The generation of a side, where it is armed.
@@ -26,23 +60,10 @@ fn generation<S: Site>(site: &mut S, side: Side) -> Result<Option<u64>, OpenFaul
     ensures fault { CountsDevice (LooksAt side) (S.failures site.old) (S.failures site.new) result }
     ensures memory { IfErr result (λ fault. fault ≢ faults.NoMemory) }
 {
-    let len = length_of(site, side)?;
-    if len == 0 {
-        return Ok(None);
-    }
-    let mut gate = [0];
-    read_into(site, side, 0, &mut gate)?;
-    if gate[0] != OPEN_GATE {
-        return Ok(None);
-    }
-    if len < 9 {
-        return Err(OpenFault::Damaged(side, 1));
-    }
-    let mut number = [0; 8];
-    read_into(site, side, 1, &mut number)?;
-    match u64::from_be_bytes(number) {
-        0 => Err(OpenFault::Damaged(side, 1)),
-        generation => Ok(Some(generation)),
+    match peek(site, side)? {
+        Peeked::Closed => Ok(None),
+        Peeked::Short | Peeked::Armed(0) => Err(OpenFault::Damaged(side, 1)),
+        Peeked::Armed(generation) => Ok(Some(generation)),
     }
 }
 

@@ -16,6 +16,21 @@ pub(crate) struct Membership {
     pub changes: Changes,
 }
 
+/// The own value under its number, and the tag.
+#[derive(Debug, Drop)]
+pub(crate) struct Own {
+    pub number: u64,
+    pub mine: Value,
+    pub tag: u64,
+}
+
+/// How far the own entering has come.
+#[derive(Debug, Drop)]
+pub(crate) struct Entering {
+    pub echoes: u64,
+    pub need: u16,
+}
+
 /// How far the pending operation has come, and what it stores back; where it stores nothing back, a view without rows.
 #[derive(Debug, Drop)]
 pub(crate) struct Round {

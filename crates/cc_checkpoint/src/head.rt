@@ -1,32 +1,59 @@
 //! The state of an armed side.
 
-ghost use Rattle.std.specs.Prelude.{◌≡◌, ◌≤◌, ◌+◌, length, vec_len, take, drop, OnOk, IfOk, IfErr, MatchResult};
+ghost use Rattle.std.specs.Prelude.{◌≡◌, ◌≤◌, ◌+◌, length, take, drop, IfOk, MatchResult};
 ghost use Rattle.cc_site.specs.Reads.{OnlyReads};
 ghost use Rattle.cc_site.specs.Telling.{LooksAt};
-ghost use Rattle.cc_node.specs.Node.{Node as NodeState};
-ghost use Rattle.cc_node.specs.States.{SpellsNode};
-ghost use Rattle.cc_checkpoint.specs.declared.open_fault.OpenFault.TheVariants as faults;
 ghost use Rattle.cc_checkpoint.specs.Faults.{CountsDevice};
-ghost use Rattle.cc_checkpoint.specs.Heads.{size_of, state_of, HasState, HeadAt, HeadFails, StateFound};
+ghost use Rattle.cc_checkpoint.specs.Heads.{size_of, state_of, fault_of, HasState, HeadAt, HeadFails, NodeFound};
+ghost use Rattle.cc_checkpoint.specs.Windows.{CountsRead};
 
-use crate::fault::StateFault;
 use crate::image::VERSION;
 use crate::open_fault::OpenFault;
-use crate::state::decode_state;
+use crate::piece::Piece;
+use crate::read_fault::ReadFault;
+use crate::restore::restore;
+use crate::side_reader::read_off;
+use crate::unread::Unread;
 use cc_node::Node;
-use cc_site::{Side, Site, fill_buffer, length_of, read_into};
-use cc_wire::WireFault;
+use cc_site::{Side, Site, length_of, read_into};
 use std::alloc::Global;
 
-// The node whose state the bytes spell. None where they spell none.
-fn node_of(alloc: Global, bytes: &[u8]) -> Result<Option<Node>, OpenFault>
-    ensures { StateFound bytes.now result }
+// Where the state of a side begins.
+const STATE_PLACE: u64 = 14;
+
+// Why the state of a side can't be read, as a fault of the sides.
+fn fault_of(side: Side, fault: ReadFault) -> OpenFault
+    ensures { result ≡ fault_of side fault }
 {
-    match decode_state(alloc, bytes) {
-        Ok(node) => Ok(Some(node)),
-        Err(StateFault::Wire(WireFault::NoMemory)) => Err(OpenFault::NoMemory),
-        Err(_) => Ok(None),
+    match fault {
+        ReadFault::Device(fault) => OpenFault::Device(fault),
+        ReadFault::NoMemory => OpenFault::NoMemory,
+        ReadFault::NoState => OpenFault::Damaged(side, STATE_PLACE),
     }
+}
+
+// Reads the node whose state a side has there, in so many bytes.
+fn read_node<S: Site>(
+    alloc: Global,
+    site: &mut S,
+    side: Side,
+    size: u32,
+    piece: &mut Piece,
+) -> Result<Node, ReadFault>
+    requires { S.honest site.old → 14 + size ≤ length (S.state site.old side).bytes }
+    ensures found { S.honest site.old → NodeFound (take size (drop 14 (S.state site.old side).bytes)) result }
+    ensures reads { OnlyReads S.Site site.old site.new }
+    ensures fault { CountsRead side (S.failures site.old) (S.failures site.new) result }
+{
+    piece.clear();
+    let mut unread = Unread {
+        side,
+        place: STATE_PLACE,
+        end: STATE_PLACE + u64::from(size),
+    };
+    let fields = read_off(alloc, site, piece, &mut unread)?;
+    let node = restore(alloc, fields)?;
+    node.ok_or(ReadFault::NoState)
 }
 
 // How long the state is, where a known version stands before it.
@@ -58,21 +85,21 @@ fn state_size<S: Site>(site: &mut S, side: Side) -> Result<u32, OpenFault>
 
 /// Reads the state of an armed side: the node, and the place of the gate behind its state. Damaged at place 9 where no
 /// version stands, Version where it isn't known, Damaged at place 10 where the state's length doesn't stand there or goes
-/// past the end, and at 14 where no node has that state.
+/// past the end, and at 14 where no node has that state. It reads through the piece, element by element, and asks for no
+/// memory but the node's own.
 pub fn read_state<S: Site>(
     alloc: Global,
     site: &mut S,
     side: Side,
+    piece: &mut Piece,
 ) -> Result<(Node, u64), OpenFault>
     ensures exact { S.honest site.old → MatchResult result (λ found. HeadAt (S.state site.old side).bytes found.0 found.1) (HeadFails side (S.state site.old side).bytes) }
     ensures reads { OnlyReads S.Site site.old site.new }
     ensures fault { CountsDevice (LooksAt side) (S.failures site.old) (S.failures site.new) result }
 {
     let size = state_size(site, side)?;
-    let mut bytes = vec![in alloc; 0; size as usize]?;
-    fill_buffer(site, side, 14, &mut bytes)?;
-    match node_of(alloc, &bytes)? {
-        Some(node) => Ok((node, 14 + u64::from(size))),
-        None => Err(OpenFault::Damaged(side, 14)),
+    match read_node(alloc, site, side, size, piece) {
+        Ok(node) => Ok((node, STATE_PLACE + u64::from(size))),
+        Err(fault) => Err(fault_of(side, fault)),
     }
 }

@@ -2,18 +2,30 @@
 
 ghost use Rattle.std.specs.Prelude.{◌≡◌, ◌≤◌, ◌+◌, ◌++◌, length, OnOk, OnErr, Ok, Err, IsOk, vec_len};
 ghost use Rattle.std.specs.Vec.{vec_capacity};
+ghost use Rattle.cc_wire.specs.Writing.{Writes};
 ghost use Rattle.cc_node.specs.Node as machine;
 ghost use Rattle.cc_node.specs.States.{SpellsNode, state_spelling, state_of};
 ghost use Rattle.cc_checkpoint.specs.Decoding.{Decodes, Is, SpellsUnlawful};
 ghost use Rattle.cc_checkpoint.specs.declared.fault.StateFault.TheVariants as faults;
 
 use crate::fault::StateFault;
+use crate::parts::{part_count, put_part};
 use crate::restore::restore;
+use crate::spellable::node_is_spellable;
 use crate::state_reader::read_all;
-use crate::state_writer::put_state;
 use cc_node::Node;
 use cc_views::NoMemory;
-use std::alloc::Global;
+use std::alloc::{AllocError, Global};
+
+// Appends the parts of a node's state, one after the other.
+fn put_state(out: &mut Vec<u8>, node: &Node) -> Result<(), AllocError>
+    ensures { Writes out.old out.new (state_spelling (state_of node.now)) result }
+{
+    for at in 0..part_count(node) {
+        put_part(out, node, at)?;
+    }
+    Ok(())
+}
 
 /// Appends the spelling of a node's state. On an `Err` nothing has changed.
 pub fn encode_state(node: &Node, out: &mut Vec<u8>) -> Result<(), NoMemory>
@@ -22,6 +34,7 @@ pub fn encode_state(node: &Node, out: &mut Vec<u8>) -> Result<(), NoMemory>
     ensures err { OnErr result (out.new.items ≡ out.old.items) }
     ensures room { vec_len out.old + length (state_spelling (state_of node.now)) ≤ vec_capacity out.old → IsOk result }
 {
+    node_is_spellable(node);
     let start = out.len();
     if put_state(out, node).is_err() {
         out.truncate(start);

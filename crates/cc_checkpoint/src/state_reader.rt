@@ -6,10 +6,10 @@ ghost use Rattle.cc_wire.specs.Reading.{Gives, whole};
 ghost use Rattle.cc_links.specs.Rows as links;
 ghost use Rattle.cc_sessions.specs.Rows as sessions;
 ghost use Rattle.cc_outbox.specs.Rows as answers;
-ghost use Rattle.cc_node.specs.States.{fraction_at, membership_at, pending_at, phase_at, work_at, rows_at, row_list_at, table_at, link_at, session_from, session_at, kept_answer_at, posts_at, kept_at, most_rows, tables_at, state_at};
-ghost use Rattle.cc_checkpoint.specs.Fields.{membership_in, phase_in, work_in, tables_in, state_in, AreRead};
+ghost use Rattle.cc_node.specs.States.{fraction_at, membership_at, pending_at, phase_at, entering_at, work_at, rows_at, row_list_at, table_at, link_at, session_from, session_at, kept_answer_at, posts_at, kept_at, most_rows, tables_at, state_at};
+ghost use Rattle.cc_checkpoint.specs.Fields.{membership_in, own_at, own_in, entering_in, phase_in, work_in, tables_in, state_in, AreRead};
 
-use crate::fields::{Fields, Membership, Round, Tables, Work};
+use crate::fields::{Entering, Fields, Membership, Own, Round, Tables, Work};
 use cc_changes::Fraction;
 use cc_links::LinkRow;
 use cc_ops::{Asked, Pending, Stage};
@@ -29,7 +29,10 @@ fn read_fraction(reader: &mut Reader<'_>) -> Result<Fraction, WireFault>
 }
 
 #[tactic(auto, unfolding(cc_node::specs::States::membership_at))]
-fn read_membership(alloc: Global, reader: &mut Reader<'_>) -> Result<Membership, WireFault>
+pub(crate) fn read_membership(
+    alloc: Global,
+    reader: &mut Reader<'_>,
+) -> Result<Membership, WireFault>
     ensures { Gives (λ x. (membership_in x, reader.new)) result (membership_at reader.old) }
 {
     let me = reader.id(1)?;
@@ -65,7 +68,7 @@ fn read_pending(reader: &mut Reader<'_>) -> Result<Pending, WireFault>
 }
 
 #[tactic(auto, unfolding(cc_node::specs::States::phase_at))]
-fn read_round(alloc: Global, reader: &mut Reader<'_>) -> Result<Round, WireFault>
+pub(crate) fn read_round(alloc: Global, reader: &mut Reader<'_>) -> Result<Round, WireFault>
     ensures { Gives (λ x. (phase_in x, reader.new)) result (phase_at reader.old) }
 {
     match reader.u8()? {
@@ -93,16 +96,30 @@ fn read_round(alloc: Global, reader: &mut Reader<'_>) -> Result<Round, WireFault
     }
 }
 
+pub(crate) fn read_own(reader: &mut Reader<'_>) -> Result<Own, WireFault>
+    ensures { Gives (λ x. (own_in x, reader.new)) result (own_at reader.old) }
+{
+    let number = reader.u64()?;
+    let mine = reader.value()?;
+    let tag = reader.u64()?;
+    Ok(Own { number, mine, tag })
+}
+
+pub(crate) fn read_entering(reader: &mut Reader<'_>) -> Result<Entering, WireFault>
+    ensures { Gives (λ x. (entering_in x, reader.new)) result (entering_at reader.old) }
+{
+    let echoes = reader.u64()?;
+    let need = reader.u16()?;
+    Ok(Entering { echoes, need })
+}
+
 #[tactic(auto, unfolding(cc_node::specs::States::work_at))]
 fn read_work(alloc: Global, reader: &mut Reader<'_>) -> Result<Work, WireFault>
     ensures { Gives (λ x. (work_in x, reader.new)) result (work_at reader.old) }
 {
     let view = reader.view(alloc)?;
-    let number = reader.u64()?;
-    let mine = reader.value()?;
-    let tag = reader.u64()?;
-    let echoes = reader.u64()?;
-    let need = reader.u16()?;
+    let Own { number, mine, tag } = read_own(reader)?;
+    let Entering { echoes, need } = read_entering(reader)?;
     let round = read_round(alloc, reader)?;
     Ok(Work {
         view,
@@ -116,7 +133,7 @@ fn read_work(alloc: Global, reader: &mut Reader<'_>) -> Result<Work, WireFault>
 }
 
 #[tactic(auto, unfolding(cc_node::specs::States::link_at))]
-fn read_link(reader: &mut Reader<'_>, least: u64) -> Result<LinkRow, WireFault>
+pub(crate) fn read_link(reader: &mut Reader<'_>, least: u64) -> Result<LinkRow, WireFault>
     requires { 1 ≤ least }
     ensures exact { Gives (λ x. (links.entry_of x, reader.new)) result (link_at least reader.old) }
     ensures least { IfOk result (λ row. least ≤ row.peer) }
@@ -156,7 +173,7 @@ fn read_session(reader: &mut Reader<'_>, least: u128) -> Result<SessionRow, Wire
 }
 
 #[tactic(auto, unfolding(cc_node::specs::States::kept_answer_at))]
-fn read_kept_answer(
+pub(crate) fn read_kept_answer(
     alloc: Global,
     reader: &mut Reader<'_>,
     least: u128,
@@ -242,7 +259,10 @@ fn read_link_table(alloc: Global, reader: &mut Reader<'_>) -> Result<Vec<LinkRow
 }
 
 #[tactic(auto, unfolding(cc_node::specs::States::row_list_at))]
-fn read_session_table(alloc: Global, reader: &mut Reader<'_>) -> Result<Vec<SessionRow>, WireFault>
+pub(crate) fn read_session_table(
+    alloc: Global,
+    reader: &mut Reader<'_>,
+) -> Result<Vec<SessionRow>, WireFault>
     ensures exact { Gives (λ rows. (table_of sessions.entry_of rows.items, reader.new)) result (table_at session_at 256 0 reader.old) }
     ensures rising { IfOk result (λ rows. IsRising sessions.entry_of rows.items) }
     ensures few { IfOk result (λ rows. length rows.items ≤ 256) }

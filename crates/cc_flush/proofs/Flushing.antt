@@ -64,7 +64,7 @@ module _ {D : Type 0} (s : Ghosts D) where
       twin = then.twin ∙ ap (λ (n : Node). after n (events_in batch)) first.same_twin;
       owes = then.owes;
       goes_on = then.goes_on ∙ first.goes_on;
-      same_generation = then.same_generation ∙ first.same_generation;
+      generation = then.same_generation ∙ first.same_generation;
       same_honest = both_ways first.same_honest then.same_honest;
       told = λ t.
           let late = then.told t in

@@ -13,3 +13,4 @@ mod Flushing
 mod OneNode
 mod NodeOrFault
 pub mod Advancing
+pub mod MovingRuns

@@ -3,14 +3,17 @@
 --     LeadsToOwed             with the events of the batch that is owed
 --     Advances, Flushes       it has taken in events, and put outputs;  those of a batch
 --     GivesUp                 a disk call failed: nothing was put, and no event was taken in
+--     Commits, FlushFails     the disk calls on a side that make a batch durable;  one of them failed
 --     PutsAgain               it has put outputs, and is as it was otherwise
 use Rattle.std.specs.Prelude.{◌≡◌, ◌↔◌, ◌⊎◌, ℕ, List, ◌++◌, false, None, Some}
 use Rattle.cc_wire.specs.declared.event.Event.{Event}
 use Rattle.cc_wire.specs.declared.output.Output.{Output}
+use Rattle.cc_site.specs.declared.site.Side.{Side}
 use Rattle.cc_site.specs.declared.site.Site.{Ghosts}
+use Rattle.cc_site.specs.declared.site.Call.{Call}
 use Rattle.cc_site.specs.declared.site.Call.TheVariants.{Write, Sync}
 use Rattle.cc_site.specs.declared.site.DeviceFault.{DeviceFault}
-use Rattle.cc_site.specs.Moments.{Rose}
+use Rattle.cc_site.specs.Telling.{Tells}
 use Rattle.cc_node.specs.Lawful.{IsLawfulNode}
 use Rattle.cc_node.specs.Node.{Node, IsLawful, after, line}
 use Rattle.cc_journal.specs.declared.entry.Entry.{Entry}
@@ -18,6 +21,9 @@ use Rattle.cc_journal.specs.Batches.{events_in}
 use Rattle.cc_journal.specs.Journals.{IsGoodNow, KeepsGood, StaysGood}
 use Rattle.cc_flush.specs.Engine.{Engine}
 use Rattle.cc_flush.specs.Outlet.{Puts}
+
+abbrev pub Commits : Side → Side → Call → Type 0
+Commits this side call = (side ≡ this) × ((call ≡ Write) ⊎ (call ≡ Sync))
 
 module _ {D : Type 0} (s : Ghosts D) where
   pub record LeadsTo (engine : Engine D) (start : Node) (events : List Event) (opening : ℕ) : Type 0 where
@@ -36,12 +42,12 @@ module _ {D : Type 0} (s : Ghosts D) where
     pub twin : engine.twin ≡ after start before
     pub good : IsGoodNow s engine.site start events opening
 
-  -- No output came before its event was durable.
-  pub record Advances (led : Engine D → Node → List Event → ℕ → Type 0) (more : List Event) (outputs : List Output) (old new : Engine D) : Type 0 where
+  -- No output came before its event was durable. The generation is now in use.
+  pub record Advances (led : Engine D → Node → List Event → ℕ → Type 0) (more : List Event) (outputs : List Output) (in_use : ℕ) (old new : Engine D) : Type 0 where
     pub twin : new.twin ≡ after old.twin more
     pub owes : new.owes ≡ false
     pub goes_on : new.failed ≡ None
-    pub same_generation : new.generation ≡ old.generation
+    pub generation : new.generation ≡ in_use
     pub same_honest : s.honest old.site ↔ s.honest new.site
     pub told : s.tells new.site → s.tells old.site × (s.sent new.site ≡ s.sent old.site ++ outputs)
     pub moments : s.honest old.site → s.tells new.site → KeepsGood s (led old) more old.site new.site
@@ -49,9 +55,9 @@ module _ {D : Type 0} (s : Ghosts D) where
     pub same_failures : s.failures new.site ≡ s.failures old.site
 
   abbrev pub Flushes : List Entry → Engine D → Engine D → Type 0
-  Flushes batch old new = Advances LeadsTo (events_in batch) (line old.twin (events_in batch)) old new
+  Flushes batch old new = Advances LeadsTo (events_in batch) (line old.twin (events_in batch)) old.generation old new
 
-  pub record GivesUp (led : Engine D → Node → List Event → ℕ → Type 0) (more : List Event) (old new : Engine D) (fault : DeviceFault) : Type 0 where
+  pub record GivesUp (led : Engine D → Node → List Event → ℕ → Type 0) (more : List Event) (calls : Side → Call → Type 0) (old new : Engine D) (fault : DeviceFault) : Type 0 where
     pub twin : new.twin ≡ old.twin
     pub owes : new.owes ≡ false
     pub failed : new.failed ≡ Some fault
@@ -59,8 +65,10 @@ module _ {D : Type 0} (s : Ghosts D) where
     pub same_honest : s.honest old.site ↔ s.honest new.site
     pub told : (s.tells old.site ↔ s.tells new.site) × (s.sent new.site ≡ s.sent old.site)
     pub moments : s.honest old.site → KeepsGood s (led old) more old.site new.site
-    pub device : (fault.side ≡ old.at.side) × ((fault.call ≡ Write) ⊎ (fault.call ≡ Sync))
-    pub rose : Rose (s.failures old.site) (s.failures new.site)
+    pub device : Tells calls (s.failures old.site) (s.failures new.site) fault
+
+  abbrev pub FlushFails : List Entry → Engine D → Engine D → DeviceFault → Type 0
+  FlushFails batch old new fault = GivesUp LeadsTo (events_in batch) (Commits old.at.side) old new fault
 
   pub record PutsAgain (outputs : List Output) (old new : Engine D) : Type 0 where
     pub twin : new.twin ≡ old.twin

@@ -6,7 +6,6 @@
 --     HasNoneOrAll        no side is armed, or side A has the whole image
 --     IsNoneOrWhole       no side is armed, or both stand for the node
 --     of_fresh            the fault for a node that can't begin
---     IsOn                a call on this side
 --     FailsOn             a disk call on this side fails, and the other side is so
 --     FormatStops         what was done where formatting stops at a disk call that fails
 --     FormatFails         when each fault comes, and what it leaves unchanged
@@ -16,7 +15,6 @@ use Rattle.cc_wire.specs.declared.output.Output.{Output}
 use Rattle.cc_site.specs.declared.site.Side.{Side}
 use Rattle.cc_site.specs.declared.site.Site.{Ghosts}
 use Rattle.cc_site.specs.declared.site.Side.TheVariants.{A, B}
-use Rattle.cc_site.specs.declared.site.Call.{Call}
 use Rattle.cc_site.specs.declared.site.DeviceFault.{DeviceFault}
 use Rattle.cc_site.specs.Sides.{SideState, MayLeave, other, durable}
 use Rattle.cc_site.specs.Gates.{IsShut}
@@ -65,9 +63,6 @@ FormatRose before now AlreadyFormatted = now ≡ before
 abbrev pub of_fresh : Fresh → FormatFault
 of_fresh fresh.BadOpening = BadOpening
 of_fresh fresh.NoMemory = NoMemory
-
-abbrev pub IsOn : Side → Side → Call → Type 0
-IsOn this side call = side ≡ this
 
 -- a disk call on this side failed, and the other side is so; a look at a side changes none
 pub record FailsOn (this : Side) (rest : SideState) (old new : Side → SideState) (fault : DeviceFault) : Type 0 where

@@ -1,25 +1,32 @@
 -- A life of an engine: the actions that it is asked for, in turn.
 --     events_by, events_of        the events of an action;  of actions
 --     outputs_by, outputs_of      what an action puts, and what actions put
+--     generation_by, generation_after   the generation that is in use behind an action;  behind actions
 --     IsTurnLawful, AreTurnsLawful     a batch has entries, none of which is refused;  each batch has
 --     HasRoom                     there is room for an action
 --     IsTurn, BeginsWithTurn      the action is a Turn;  the first one is
+--     MayFailIn, FailsFirst       the disk calls of an action;  the fault names one of the first action's
+--     Acts                        one action was carried out, or a disk call of it failed
 --     begun                       the actions of which anything was done
 --     HasRun                      it has carried out the first of these actions
-use Rattle.std.specs.Prelude.{◌≡◌, ◌⊎◌, ◌≤◌, ◌<◌, ⊤, ℕ, List, [], ◌∷◌, ◌++◌, length, take, None, Ok, Err, Result, OnOk, MatchResult}
+use Rattle.std.specs.Prelude.{◌≡◌, ◌⊎◌, ◌≤◌, ◌<◌, ⊤, ℕ, ◌+◌, List, [], ◌∷◌, ◌++◌, length, take, nat_lt, if◌then◌else◌, None, Ok, Err, Result, OnOk, MatchResult}
 use Rattle.std.specs.List.{flat_map}
 use Rattle.cc_wire.specs.declared.event.Event.{Event}
 use Rattle.cc_wire.specs.declared.output.Output.{Output}
 use Rattle.cc_site.specs.declared.site.Site.{Ghosts}
+use Rattle.cc_site.specs.declared.site.Call.{Call}
+use Rattle.cc_site.specs.declared.site.Call.TheVariants.{Write, Sync}
+use Rattle.cc_site.specs.declared.site.DeviceFault.{DeviceFault}
+use Rattle.cc_views.specs.Limits.{counter_limit}
 use Rattle.cc_node.specs.Node.{Node, after, line}
 use Rattle.cc_journal.specs.declared.entry.Entry.{Entry}
 use Rattle.cc_journal.specs.Batches.{AreLawful, events_in}
 use Rattle.cc_journal.specs.Journals.{room_limit, KeepsGood}
 use Rattle.cc_flush.specs.declared.flusher.Failed.{Failed}
 use Rattle.cc_flush.specs.declared.actions.Action.{Action}
-use Rattle.cc_flush.specs.declared.actions.Action.TheVariants.{Turn, Resend, Again, Reack}
+use Rattle.cc_flush.specs.declared.actions.Action.TheVariants.{Turn, Resend, Again, Reack, Checkpoint}
 use Rattle.cc_flush.specs.Engine.{Engine}
-use Rattle.cc_flush.specs.Flushing.{HasLived}
+use Rattle.cc_flush.specs.Flushing.{HasLived, Advances, GivesUp}
 use Rattle.cc_flush.specs.Standing.{resends, reply_again, ack_again}
 
 abbrev pub events_by : Action → List Event
@@ -27,6 +34,7 @@ events_by (Turn batch) = events_in batch
 events_by Resend = []
 events_by (Again session) = []
 events_by (Reack peer) = []
+events_by Checkpoint = []
 
 abbrev pub events_of : List Action → List Event
 events_of actions = flat_map events_by actions
@@ -37,16 +45,30 @@ outputs_by n (Turn batch) = line n (events_in batch)
 outputs_by n Resend = resends n
 outputs_by n (Again session) = reply_again session n
 outputs_by n (Reack peer) = ack_again peer n
+outputs_by n Checkpoint = []
 
 abbrev pub outputs_of : Node → List Action → List Output
 outputs_of n [] = []
 outputs_of n (action ∷ rest) = outputs_by n action ++ outputs_of (after n (events_by action)) rest
+
+-- the next one behind a Checkpoint, unless none comes after it
+abbrev pub generation_by : ℕ → Action → ℕ
+generation_by generation (Turn batch) = generation
+generation_by generation Resend = generation
+generation_by generation (Again session) = generation
+generation_by generation (Reack peer) = generation
+generation_by generation Checkpoint = if nat_lt generation counter_limit then generation + 1 else generation
+
+abbrev pub generation_after : ℕ → List Action → ℕ
+generation_after generation [] = generation
+generation_after generation (action ∷ rest) = generation_after (generation_by generation action) rest
 
 abbrev pub IsTurnLawful : Node → Action → Type 0
 IsTurnLawful n (Turn batch) = (1 ≤ length batch) × AreLawful n batch
 IsTurnLawful n Resend = ⊤
 IsTurnLawful n (Again session) = ⊤
 IsTurnLawful n (Reack peer) = ⊤
+IsTurnLawful n Checkpoint = ⊤
 
 abbrev pub AreTurnsLawful : Node → List Action → Type 0
 AreTurnsLawful n [] = ⊤
@@ -57,6 +79,7 @@ HasRoom used (Turn batch) = used < room_limit
 HasRoom used Resend = ⊤
 HasRoom used (Again session) = ⊤
 HasRoom used (Reack peer) = ⊤
+HasRoom used Checkpoint = ⊤
 
 abbrev pub IsTurn : Action → Type 0
 IsTurn action = (batch : List Entry) × (action ≡ Turn batch)
@@ -64,20 +87,37 @@ IsTurn action = (batch : List Entry) × (action ≡ Turn batch)
 abbrev pub BeginsWithTurn : List Action → Type 0
 BeginsWithTurn actions = (batch : List Entry) × (more : List Action) × (actions ≡ Turn batch ∷ more)
 
--- those that were carried out, and the Turn in which a disk call failed, if one did
+-- a Checkpoint makes each kind of disk call; what is put again makes none
+abbrev pub MayFailIn : Action → Call → Type 0
+MayFailIn (Turn batch) call = (call ≡ Write) ⊎ (call ≡ Sync)
+MayFailIn Resend call = ⊥
+MayFailIn (Again session) call = ⊥
+MayFailIn (Reack peer) call = ⊥
+MayFailIn Checkpoint call = ⊤
+
+abbrev pub FailsFirst : List Action → DeviceFault → Type 0
+FailsFirst actions fault = (action : Action) × (more : List Action) × (actions ≡ action ∷ more) × MayFailIn action fault.call
+
+abbrev pub Acts : {D : Type 0} → Ghosts D → Action → Engine D → Engine D → Result (Unit {0}) Failed → Type 0
+Acts s action old new result = MatchResult result
+    (λ _. Advances s (HasLived s) (events_by action) (outputs_by old.twin action) (generation_by old.generation action) old new)
+    (λ f. GivesUp s (HasLived s) (events_by action) (λ side call. MayFailIn action call) old new f.fault)
+
+-- those that were carried out, and the one in which a disk call failed, if one did
 abbrev pub begun : Result (Unit {0}) Failed → List Action → List Action → List Action
 begun (Ok unit) done rest = done
 begun (Err failed) done rest = done ++ take 1 rest
 
--- the actions `done` have been carried out, and no part of `rest` but for the batch of the Turn that failed
+-- the actions `done` have been carried out, and no part of `rest` but for the one that failed
 pub record HasRun {D : Type 0} (s : Ghosts D) (actions : List Action) (old new : Engine D) (result : Result (Unit {0}) Failed) : Type 0 where
   pub done : List Action
   pub rest : List Action
   pub parts : actions ≡ done ++ rest
   pub twin : new.twin ≡ after old.twin (events_of done)
+  pub generation : new.generation ≡ generation_after old.generation done
   pub told : s.tells new.site → s.sent new.site ≡ s.sent old.site ++ outputs_of old.twin done
-  -- all of them, unless there is no room for the next batch or a disk call failed in it
-  pub stops : MatchResult result (λ _. (rest ≡ []) ⊎ (BeginsWithTurn rest × (room_limit ≤ new.used))) (λ _. old.failed ≡ None → BeginsWithTurn rest)
+  -- all of them, unless there is no room for the next batch, or a disk call failed in the next one
+  pub stops : MatchResult result (λ _. (rest ≡ []) ⊎ (BeginsWithTurn rest × (room_limit ≤ new.used))) (λ f. old.failed ≡ None → FailsFirst rest f.fault)
   -- what was given up unbegun has no part in any moment
   pub moments : s.honest old.site → s.tells new.site → old.failed ≡ None → KeepsGood s (HasLived s old) (events_of (begun result done rest)) old.site new.site
   pub afterwards : s.honest old.site → s.tells new.site → old.failed ≡ None → (start : Node) (events : List Event) (opening : ℕ) → HasLived s old start events opening

@@ -3,10 +3,9 @@
 ghost use Rattle.std.specs.Prelude.{◌≡◌, ◌↔◌, ◌≤◌, false, None, Some, Err, MatchBool, IfErr, OnOk, MatchResult};
 ghost use Rattle.cc_site.specs.Moments.{Rose};
 ghost use Rattle.cc_journal.specs.Journals.{room_limit};
-ghost use Rattle.cc_flush.specs.Flushing.{Advances, GivesUp, HasLived};
-ghost use Rattle.cc_flush.specs.Lives.{events_by, outputs_by, IsTurnLawful, AreTurnsLawful, HasRoom, IsTurn, HasRun};
+ghost use Rattle.cc_flush.specs.Lives.{IsTurnLawful, AreTurnsLawful, HasRoom, IsTurn, Acts, HasRun};
 
-use crate::flusher::{Failed, Flusher};
+use crate::flusher::{CheckpointFault, Failed, Flusher};
 use cc_journal::Batch;
 use cc_site::{DeviceFault, Site};
 use cc_views::NodeId;
@@ -22,11 +21,14 @@ pub enum Action {
     Again(u64),
     /// What was heard last from a peer is to be acknowledged again.
     Reack(NodeId),
+    /// The node is to be moved to the other side.
+    Checkpoint,
 }
 
 impl<S: Site> Flusher<S> {
-    /// Carries out actions in turn, of which a Turn is a `flush`, and each other one the call of its name. Before a Turn without room for its batch it ends with Ok, and the rest is given up. Where a disk call fails it
-    /// ends at once, and the engine has ended.
+    /// Carries out actions in turn, of which a Turn is a `flush`, and each other one the call of its name. A Checkpoint that
+    /// is Spent changes nothing, and the life goes on. Before a Turn without room for its batch it ends with Ok, and the
+    /// rest is given up. Where a disk call fails it ends at once, and the engine has ended.
     pub fn run_life(&mut self, actions: Vec<Action>) -> Result<(), Failed>
         requires owes { self.old.owes ≡ false }
         requires lawful { AreTurnsLawful self.old.twin actions.items }
@@ -34,7 +36,6 @@ impl<S: Site> Flusher<S> {
         ensures owes { self.new.owes ≡ false }
         ensures goes_on { OnOk result (self.new.failed ≡ None) }
         ensures failed { IfErr result (λ f. self.new.failed ≡ Some f.fault) }
-        ensures same_generation { self.new.generation ≡ self.old.generation }
         ensures honest { S.honest self.old.site ↔ S.honest self.new.site }
         ensures tells { S.tells self.new.site → S.tells self.old.site }
         // How many actions were carried out, what those came to, and each moment of them.
@@ -62,6 +63,7 @@ impl<S: Site> Flusher<S> {
             Action::Resend => true,
             Action::Again(_) => true,
             Action::Reack(_) => true,
+            Action::Checkpoint => true,
         }
     }
 
@@ -71,9 +73,7 @@ impl<S: Site> Flusher<S> {
         requires goes_on { self.old.failed ≡ None }
         requires lawful { IsTurnLawful self.old.twin action }
         requires room { HasRoom self.old.used action }
-        ensures { MatchResult result
-            (λ _. Advances S.Site (HasLived S.Site) (events_by action) (outputs_by self.old.twin action) self.old self.new)
-            (λ f. IsTurn action × GivesUp S.Site (HasLived S.Site) (events_by action) self.old self.new f.fault) }
+        ensures { Acts S.Site action self.old self.new result }
     {
         match action {
             Action::Turn(batch) => {
@@ -88,7 +88,23 @@ impl<S: Site> Flusher<S> {
             Action::Reack(peer) => {
                 self.reack(peer)?;
             }
+            Action::Checkpoint => {
+                self.checkpoint_unless_spent()?;
+            }
         }
         Ok(())
+    }
+
+    // Moves the node to the other side, unless the generation in use is the last one.
+    fn checkpoint_unless_spent(&mut self) -> Result<(), Failed>
+        requires owes { self.old.owes ≡ false }
+        requires goes_on { self.old.failed ≡ None }
+        ensures { Acts S.Site Action.Checkpoint self.old self.new result }
+    {
+        match self.checkpoint() {
+            Ok(()) => Ok(()),
+            Err(CheckpointFault::Spent) => Ok(()),
+            Err(CheckpointFault::Failed(failed)) => Err(failed),
+        }
     }
 }

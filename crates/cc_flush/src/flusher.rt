@@ -9,6 +9,7 @@ ghost use Rattle.cc_site.specs.Sides.{other};
 ghost use Rattle.cc_site.specs.Moments.{Possible, Rose};
 ghost use Rattle.cc_site.specs.Runs.{KeepsOutlet, EachMoment};
 ghost use Rattle.cc_site.specs.Reads.{bytes_of};
+ghost use Rattle.cc_views.specs.Limits.{counter_limit};
 ghost use Rattle.cc_links.specs.Links.{heard_from};
 ghost use Rattle.cc_node.specs.Lawful.{IsLawfulNode};
 ghost use Rattle.cc_node.specs.Node.{Node as NodeValue, IsLawful, after, line};
@@ -17,20 +18,23 @@ ghost use Rattle.cc_checkpoint.specs.Faults.{FaultRose};
 ghost use Rattle.cc_journal.specs.Batches.{AreLawful, events_in};
 ghost use Rattle.cc_journal.specs.Journals.{room_limit, IsGoodNow, KeepsGood, StaysGood};
 ghost use Rattle.cc_flush.specs.Engine.{IsOwed};
-ghost use Rattle.cc_flush.specs.Flushing.{Flushes, GivesUp, LeadsTo, LeadsToOwed, PutsAgain};
+ghost use Rattle.cc_flush.specs.Flushing.{FlushFails, Flushes, LeadsTo, LeadsToOwed, PutsAgain};
+ghost use Rattle.cc_flush.specs.declared.flusher.CheckpointFault.TheVariants as checkpoint_faults;
+ghost use Rattle.cc_flush.specs.Moving.{Moves, MoveStops};
 ghost use Rattle.cc_flush.specs.Opening.{AreSettled, OpenFails, OpenStops, Opens};
 ghost use Rattle.cc_flush.specs.Standing.{resends, reply_again, ack_again};
 
 use crate::back::Back;
 use crate::committing::make_durable;
+use crate::moving::move_over;
 use crate::opening::{Found, open_sides};
 use crate::outlet::put_entries;
 use crate::standing::{put_ack_again, put_kept_answer, put_kept_posts};
-use cc_checkpoint::OpenFault;
+use cc_checkpoint::{OpenFault, Piece};
 use cc_journal::{Batch, Forfeit, Journal, Landed};
 use cc_node::{Core, Node};
 use cc_site::{DeviceFault, Site};
-use cc_views::{NoMemory, NodeId};
+use cc_views::{COUNTER_LIMIT, NoMemory, NodeId};
 use std::alloc::Global;
 use std::error::Error;
 use std::fmt;
@@ -53,6 +57,35 @@ impl fmt::Display for Failed {
 
 impl Error for Failed {}
 
+/// Why a checkpoint wasn't made.
+#[derive(Clone, Copy, Debug, PartialEq, Eq)]
+pub enum CheckpointFault {
+    /// A disk call failed, and the engine has ended.
+    Failed(Failed),
+    /// The generation in use is 2^62 or more. Nothing has changed.
+    Spent,
+}
+
+/// `Failed`, and the disk call that failed, or `Spent`.
+impl fmt::Display for CheckpointFault {
+    fn fmt<W: fmt::Write>(&self, f: &mut fmt::Formatter<W>) -> fmt::Result {
+        match self {
+            CheckpointFault::Failed(failed) => write!(f, "{failed}"),
+            CheckpointFault::Spent => write!(f, "Spent"),
+        }
+    }
+}
+
+impl Error for CheckpointFault {}
+
+impl From<Failed> for CheckpointFault {
+    ghost from_gives = { λ failed fault. fault ≡ checkpoint_faults.Failed failed };
+
+    fn from(failed: Failed) -> Self {
+        CheckpointFault::Failed(failed)
+    }
+}
+
 /// A node that is kept on the two sides of a site. Nothing leaves it before the event that made it is durable.
 #[derive(Drop)]
 pub struct Flusher<S: Site> {
@@ -65,6 +98,8 @@ pub struct Flusher<S: Site> {
     // Whether a batch is durable whose outputs weren't put.
     owes: bool,
     failed: Option<DeviceFault>,
+    // What a checkpoint writes through.
+    piece: Piece,
 }
 
 impl<S: Site> Model for Flusher<S> {
@@ -149,6 +184,7 @@ impl<S: Site> Flusher<S> {
             journal,
             generation,
             used,
+            piece,
         } = match open_sides(alloc, &mut site) {
             Ok(found) => found,
             Err(fault) => return Err(Back { site, fault }),
@@ -171,6 +207,7 @@ impl<S: Site> Flusher<S> {
                 used,
                 owes: false,
                 failed: None,
+                piece,
             },
             core,
         ))
@@ -252,11 +289,51 @@ impl<S: Site> Flusher<S> {
         ensures ended { (fault : DeviceFault) → self.old.failed ≡ Some fault → (result ≡ Err (record { fault = fault })) × (self.new ≡ self.old) }
         ensures flushed { self.old.failed ≡ None → MatchResult result
             (λ _. Flushes S.Site batch self.old self.new)
-            (λ f. GivesUp S.Site (LeadsTo S.Site) (events_in batch) self.old self.new f.fault) }
+            (λ f. FlushFails S.Site batch self.old self.new f.fault) }
     {
         let landed = self.commit(batch)?;
         self.release(landed);
         Ok(())
+    }
+
+    /// Moves the node to the other side, under the next generation: then that side is in use, with no record behind the
+    /// node's state, and the old side is one closed byte. The node is the same, nothing is put, and it takes no memory.
+    /// A crash at any moment leaves two sides that stand for the node. Spent comes exactly where the generation in use is
+    /// 2^62 or more, and changes nothing. Failed comes only where a disk call fails, and ends the engine.
+    pub fn checkpoint(&mut self) -> Result<(), CheckpointFault>
+        requires owes { self.old.owes ≡ false }
+        ensures ended { (fault : DeviceFault) → self.old.failed ≡ Some fault → (result ≡ Err (checkpoint_faults.Failed (record { fault = fault }))) × (self.new ≡ self.old) }
+        ensures spent { self.old.failed ≡ None → counter_limit ≤ self.old.generation → (result ≡ Err checkpoint_faults.Spent) × (self.new ≡ self.old) }
+        ensures moves { self.old.failed ≡ None → self.old.generation < counter_limit → MatchResult result (λ _. Moves S.Site self.old self.new) (MoveStops S.Site self.old self.new) }
+        ensures same_twin { self.new.twin ≡ self.old.twin }
+        ensures owes { self.new.owes ≡ false }
+        ensures honest { S.honest self.old.site ↔ S.honest self.new.site }
+        ensures tells { (S.tells self.old.site ↔ S.tells self.new.site) × (S.sent self.new.site ≡ S.sent self.old.site) }
+        ensures good { S.honest self.old.site → self.old.failed ≡ None → StaysGood S.Site (LeadsTo S.Site self.old) self.old.site self.new.site }
+    {
+        self.check()?;
+        if self.generation >= COUNTER_LIMIT {
+            return Err(CheckpointFault::Spent);
+        }
+        let next = self.generation + 1;
+        match move_over(
+            &mut self.site,
+            &mut self.journal,
+            next,
+            &self.node,
+            &mut self.piece,
+        ) {
+            Ok(()) => {
+                self.generation = next;
+                self.used = self.journal.place() + 1;
+                Ok(())
+            }
+            Err(fault) => {
+                let failed = Failed { fault };
+                self.failed = Some(failed.fault);
+                Err(CheckpointFault::Failed(failed))
+            }
+        }
     }
 
     /// Puts each kept post of the twin on each live link that is sent it and hasn't acknowledged it, by ascending number and
@@ -308,6 +385,7 @@ impl<S: Site> Flusher<S> {
             used: _,
             owes: _,
             failed: _,
+            piece: _,
         } = self;
         site
     }

@@ -7,14 +7,14 @@ ghost use Rattle.cc_site.specs.Sides.{durable, other};
 ghost use Rattle.cc_site.specs.Moments.{Rose, CountsOneFault};
 ghost use Rattle.cc_site.specs.Runs.{KeepsOutlet, EachMoment};
 ghost use Rattle.cc_site.specs.Reads.{OnlyReads};
-ghost use Rattle.cc_site.specs.Telling.{Looks, LooksAt, LooksAtEither, CountsCalls};
+ghost use Rattle.cc_site.specs.Telling.{Looks, LooksAt, LooksAtEither, IsOn, CountsCalls};
 ghost use Rattle.cc_node.specs.Node.{Node as NodeState};
 ghost use Rattle.cc_node.specs.Opening.{told, fresh, IsOpening};
 ghost use Rattle.cc_node.specs.Sides.{OPEN, IsArmed};
 ghost use Rattle.cc_checkpoint.specs.Images.{SpellsImage};
 ghost use Rattle.cc_journal.specs.Journals.{RestsNow};
 ghost use Rattle.cc_flush.specs.declared.formatting.FormatFault.TheVariants as faults;
-ghost use Rattle.cc_flush.specs.Formatting.{of_fresh, BeginsWith, AreShut, StayShut, Arms, HasNoneOrAll, IsNoneOrWhole, IsOn, FormatRose, FormatStops, FormatFails};
+ghost use Rattle.cc_flush.specs.Formatting.{of_fresh, BeginsWith, AreShut, StayShut, Arms, HasNoneOrAll, IsNoneOrWhole, FormatRose, FormatStops, FormatFails};
 
 use crate::back::Back;
 use cc_checkpoint::encode_image;

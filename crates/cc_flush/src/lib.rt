@@ -7,12 +7,13 @@ mod committing;
 mod flusher;
 mod formatting;
 mod laws;
+mod moving;
 mod opening;
 mod outlet;
 mod standing;
 
 pub use actions::Action;
 pub use back::Back;
-pub use flusher::{Failed, Flusher};
+pub use flusher::{CheckpointFault, Failed, Flusher};
 pub use formatting::{FormatFault, format};
 pub use laws::{good_for_more, node_or_fault, one_node, rests_with_all, shut_side};

@@ -13,19 +13,21 @@ ghost use Rattle.cc_journal.specs.Reading.{IsScanned};
 ghost use Rattle.cc_flush.specs.Engine.{StandsNow};
 ghost use Rattle.cc_flush.specs.Opening.{AreSettled, IsFound, IsReadingFault, OpenFails, OpenStops, Opens, RecordsFail, Syncs, of_scan};
 
-use cc_checkpoint::{InUse, OpenFault, choose, read_state};
+use cc_checkpoint::{InUse, OpenFault, Piece, choose, read_state};
 use cc_journal::{Journal, ScanFault, Scanned, scan};
 use cc_node::Node;
 use cc_site::{DeviceFault, Side, Site, length_of};
 use std::alloc::Global;
 
-// What two sides hold: the node, where its next record goes, under which generation, and how long the side in use is.
+// What two sides hold: the node, where its next record goes, under which generation, and how long the side in use is. The
+// piece is the one that the state was read through.
 #[derive(Drop)]
 pub(crate) struct Found {
     pub node: Node,
     pub journal: Journal,
     pub generation: u64,
     pub used: u64,
+    pub piece: Piece,
 }
 
 // Makes sure of both sides.
@@ -79,16 +81,17 @@ fn greatest(m: u64, n: u64) -> u64
     m.max(n)
 }
 
-// Reads what both sides hold.
-fn read_sides<S: Site>(alloc: Global, site: &mut S) -> Result<Found, OpenFault>
+// Reads what both sides hold, the state through the piece.
+fn read_sides<S: Site>(alloc: Global, site: &mut S, piece: Piece) -> Result<Found, OpenFault>
     ensures found { S.honest site.old → IfOk result (λ found. IsFound (bytes_of S.Site site.old) found.node found.journal found.generation found.used) }
     ensures reaches { IfOk result (λ found. found.journal.place ≤ found.used) }
     ensures failed { S.honest site.old → IfErr result (OpenFails (bytes_of S.Site site.old)) }
     ensures reads { OnlyReads S.Site site.old site.new }
     ensures fault { CountsDevice LooksAtEither (S.failures site.old) (S.failures site.new) result }
 {
+    let mut piece = piece;
     let InUse { side, generation } = choose(site)?;
-    let (start, first) = read_state(alloc, site, side)?;
+    let (start, first) = read_state(alloc, site, side, &mut piece)?;
     let Scanned { journal, node, .. } = read_records(alloc, site, side, first, start)?;
     let len = length_of(site, side)?;
     let used = greatest(len, journal.place());
@@ -97,10 +100,11 @@ fn read_sides<S: Site>(alloc: Global, site: &mut S) -> Result<Found, OpenFault>
         journal,
         generation,
         used,
+        piece,
     })
 }
 
-// Makes sure of both sides, and reads what they hold. It writes nothing.
+// Makes sure of both sides, reserves the piece, and reads what the sides hold. It writes nothing.
 pub(crate) fn open_sides<S: Site>(alloc: Global, site: &mut S) -> Result<Found, OpenFault>
     ensures honest { S.honest site.old ↔ S.honest site.new }
     ensures tells { (S.tells site.old ↔ S.tells site.new) × (S.sent site.new ≡ S.sent site.old) }
@@ -115,5 +119,6 @@ pub(crate) fn open_sides<S: Site>(alloc: Global, site: &mut S) -> Result<Found, 
     ensures fault { CountsDevice Opens (S.failures site.old) (S.failures site.new) result }
 {
     settle_sides(site)?;
-    read_sides(alloc, site)
+    let piece = Piece::new(alloc)?;
+    read_sides(alloc, site, piece)
 }

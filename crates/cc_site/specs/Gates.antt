@@ -1,5 +1,6 @@
 -- The byte that begins a side, its gate: open, or any other.
 --     IsShut                              it isn't that of an open gate
+--     shut_like                           so is what begins with the same byte
 --     shut_cut, shut_written              a cut or a write behind it leaves it so
 --     byte_written                        while one byte of a durable side is written, it is as it was but for that byte
 --     gate_written                        so the side is shut while its gate is opened, or it is open and whole
@@ -17,7 +18,7 @@ abbrev pub IsShut : List ℕ → Type 0
 IsShut bytes = slice_index_or bytes 0 0 ≢ OPEN_GATE
 
 -- the same first byte
-shut_like : (c d : List ℕ) → take 1 c ≡ take 1 d → IsShut d → IsShut c
+pub shut_like : (c d : List ℕ) → take 1 c ≡ take 1 d → IsShut d → IsShut c
 shut_like c d same shut opened = shut (sym (get_or-take 1 d 0 0 (omega arith)) ∙ ap (λ (l : List ℕ). get_or l 0 0) (sym same) ∙ get_or-take 1 c 0 0 (omega arith) ∙ opened)
 
 module _ (s : SideState) (shut : (c : List ℕ) → MayLeave s c → IsShut c) (some : 1 ≤ length s.bytes) where

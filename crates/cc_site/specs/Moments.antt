@@ -1,5 +1,5 @@
 -- Moments: what a crash may leave of both sides, and what the outlet has got by then.
---     Contents                            the bytes of each side
+--     Contents, SeenFrom                  the bytes of each side;  what is said of one side's and the other's
 --     Possible, Within, Nothing           what may be left and told: at rest;  while one side changes;  nothing
 --     Elapses                             what one call adds to the moments
 --     Rose, CountsFault, CountsOneFault   the count of failures, and the fault that is told
@@ -13,6 +13,10 @@ use Rattle.cc_site.specs.Sides.{SideState, MayLeave, other}
 -- the bytes of each side
 abbrev pub Contents : Type 0
 Contents = Side → List ℕ
+
+-- this side's bytes come first
+abbrev pub SeenFrom : Side → (List ℕ → List ℕ → List Output → Type 0) → Contents → List Output → Type 0
+SeenFrom side P left told = P (left side) (left (other side)) told
 
 -- a crash at this moment may leave these contents, and this is what the outlet has got
 pub record Possible (state : Side → SideState) (sent : List Output) (left : Contents) (told : List Output) : Type 0 where

@@ -6,7 +6,6 @@ mod answer;
 mod changes_bytes;
 mod command;
 mod event;
-mod event_size;
 mod fault;
 mod frame;
 mod frame_reader;
@@ -18,6 +17,7 @@ mod refusal;
 mod rising;
 mod sizes;
 mod spellable;
+mod spelling_lengths;
 mod values;
 mod view_bytes;
 mod writer;
@@ -26,7 +26,6 @@ pub use answer::{Answer, decode_answer, encode_answer, one_spelling_of_answers, 
 pub use changes_bytes::{put_changes, put_id};
 pub use command::{Command, decode_command, encode_command, one_spelling_of_commands};
 pub use event::{Event, decode_event, encode_event, one_spelling_of_events, put_asked};
-pub use event_size::event_len;
 pub use fault::WireFault;
 pub use frame::{Frame, decode_frame, encode_frame, one_spelling_of_frames};
 pub use frame_reader::{Fed, FrameReader, feeds_any_cutting};
@@ -36,6 +35,12 @@ pub use output::Output;
 pub use reader::Reader;
 pub use refusal::Refusal;
 pub use sizes::largest_sizes;
-pub use spellable::event_is_spellable;
+pub use spellable::{
+    answer_is_spellable, changes_are_spellable, command_is_spellable, event_is_spellable,
+    id_is_spellable, message_is_spellable, value_is_spellable, view_is_spellable,
+};
+pub use spelling_lengths::{
+    answer_len, changes_len, command_len, event_len, message_len, value_len, view_len,
+};
 pub use view_bytes::{decode_view, encode_view, one_spelling_of_views};
 pub use writer::{put_u8, put_u16, put_u32, put_u64, put_value, put_view};

@@ -1,12 +1,14 @@
-//! Every event has a spelling. These functions change nothing and answer nothing: their contracts are what they are for.
+//! What has a spelling. These functions change nothing and answer nothing: their contracts are what they are for.
 
 ghost use Rattle.std.specs.List.{AllByRecursion};
 ghost use Rattle.std.specs.Prelude.{◌<◌, ◌^◌};
 ghost use Rattle.cc_wire.specs.Spelling.{IsText, IsNumberSet, IsValue, IsRow, IsView, IsId, IsChanges};
 ghost use Rattle.cc_wire.specs.Messages.{IsMessage, IsCall};
 ghost use Rattle.cc_wire.specs.Commands.{IsCommand};
+ghost use Rattle.cc_wire.specs.Answers.{IsAnswer};
 ghost use Rattle.cc_wire.specs.Events.{IsEvent, event_spelling, SpellsEvent};
 
+use crate::answer::Answer;
 use crate::command::Command;
 use crate::event::Event;
 use crate::message::Message;
@@ -41,7 +43,8 @@ fn set_is_spellable(set: &NumberSet)
     small_numbers_fit(set.as_slice());
 }
 
-fn value_is_spellable(value: &Value)
+/// Every value has a spelling.
+pub fn value_is_spellable(value: &Value)
     ensures { IsValue value.now }
 {
     text_is_spellable(&value.text);
@@ -65,13 +68,15 @@ fn rows_are_spellable(rows: &[Row])
     }
 }
 
-fn view_is_spellable(view: &View)
+/// Every view has a spelling.
+pub fn view_is_spellable(view: &View)
     ensures { IsView view.now }
 {
     rows_are_spellable(view.rows());
 }
 
-fn id_is_spellable(id: NodeId)
+/// Every id has a spelling.
+pub fn id_is_spellable(id: NodeId)
     ensures { IsId id }
 {
     let _ = id.number();
@@ -85,7 +90,8 @@ fn ids_are_spellable(ids: &[NodeId])
     }
 }
 
-fn changes_are_spellable(changes: &Changes)
+/// All changes have a spelling.
+pub fn changes_are_spellable(changes: &Changes)
     ensures { IsChanges changes.now }
 {
     ids_are_spellable(changes.entered());
@@ -93,7 +99,8 @@ fn changes_are_spellable(changes: &Changes)
     ids_are_spellable(changes.left());
 }
 
-fn command_is_spellable(command: &Command)
+/// Every command has a spelling.
+pub fn command_is_spellable(command: &Command)
     ensures { IsCommand command.now }
 {
     match command {
@@ -115,7 +122,8 @@ fn call_is_spellable(tag: u64, node: NodeId)
     id_is_spellable(node);
 }
 
-fn message_is_spellable(message: &Message)
+/// Every message has a spelling.
+pub fn message_is_spellable(message: &Message)
     ensures { IsMessage message.now }
 {
     match message {
@@ -144,6 +152,18 @@ fn message_is_spellable(message: &Message)
             call_is_spellable(*tag, *node);
         }
         Message::StoreAck { tag, node } => call_is_spellable(*tag, *node),
+    }
+}
+
+/// Every answer has a spelling.
+pub fn answer_is_spellable(answer: &Answer)
+    ensures { IsAnswer answer.now }
+{
+    match answer {
+        Answer::Stored | Answer::Flag(_) => {}
+        Answer::Seen(view) => view_is_spellable(view),
+        Answer::Max(number) => number_fits(*number),
+        Answer::Set(numbers) => small_numbers_fit(numbers.as_slice()),
     }
 }
 

@@ -15,8 +15,7 @@ returns-in_err-landed-clause-flushed g c none =
       same_honest = e.honest;
       told = e.tells;
       moments = λ h. e.every_moment h none;
-      device = e.device none;
-      rose = e.count none;
+      device = (e.device none, e.count none);
     })
 
 pub returns-clause-flushed : goal.returns-clause-flushed

@@ -23,6 +23,7 @@ returns-in-Some-clause-run g c =
       rest = c.args.actions.items;
       parts = refl;
       twin = refl;
+      generation = refl;
       told = λ t. sym (append-nil (s.sent old.site));
       stops = λ none. absurd cc;
       moments = λ h t none. absurd cc;

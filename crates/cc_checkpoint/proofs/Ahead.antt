@@ -1,0 +1,275 @@
+-- What is read in a window is what is read of all that is ahead, element by element.
+--     bytes_of_both, ahead_bytes        all that is ahead are bytes
+--     read_further                      reading on leaves what is ahead
+--     used, taken                       what is read is so many bytes of the front, and leaves the others
+--     runs_none, runs_on                no call;  one after another
+--     runs_as, runs_stop, runs_quietly  what they answer in the end
+--     no_memory, no_refill              nothing is told of what is ahead
+--     element, no_element               an element is read in the window as it is read of all that is ahead
+--     in_turn, first_stops, made           one thing behind another, and what they make
+--     seen_twice                        what is seen of what is seen
+--     all_of, not_all, none_of          reading all that is ahead
+--     few, too_many, uncounted          a count within its limit, and so many
+--     misses_along                      rows up to one that is missing
+use Rattle.std.proofs.Common.{◌≡◌, ℕ, suc, ◌+◌, ◌-◌, ◌<◌, ◌≤◌, ◌⊎◌, inl, inr, Bool, true, false, cond, ltb, eqb, List, [], ◌++◌, length, get_or, take, drop, Result, Ok, Err, refl, sym, ap, subst, ◌∙◌, append_assoc, take-add, arith}
+use Rattle.std.specs.Prelude.{slice_index}
+use Rattle.std.proofs.lemmas.Bool.{cases_lt, le-ltb, lt-ltb, ne_eqb}
+use Rattle.std.proofs.lemmas.List.{take_at, drop_at, take-append-le, take-append-drop, drop-drop, append-nil, nil_from_length, length-append, length-take, length-drop, get_or_append_left, get_or-append_right}
+use Rattle.cc_wire.specs.declared.fault.WireFault.{WireFault}
+use Rattle.cc_wire.specs.declared.fault.WireFault.TheVariants.{Short, BadKind, NotAscending, TooLarge, Trailing, NoMemory, Broken}
+use Rattle.cc_wire.specs.Reading.{◌>>=◌, Fails, Reading, ◌⊗◌, via, limited, items_at, ended, whole}
+use Rattle.cc_wire.proofs.Items.{with_front}
+use Rattle.cc_wire.proofs.Spelled.{IsBytes, IsBytes-take, IsBytes-drop, Spelled}
+use Rattle.cc_site.specs.declared.site.Side.{Side}
+use Rattle.cc_site.specs.declared.site.Site.{Ghosts}
+use Rattle.cc_site.specs.Reads.{reads_none, reads_then}
+use Rattle.cc_checkpoint.specs.declared.read_fault.ReadFault.{ReadFault}
+use Rattle.cc_checkpoint.specs.declared.read_fault.ReadFault.TheVariants as faults
+use Rattle.cc_checkpoint.specs.Windows.{of_wire, IsMissing, Misses, Finds, seen_by, IsOfDevice, AreBytes, CountsRead, FaultRead, At, ahead, LiesOn, Runs, ReadsOff}
+
+-- ---- bytes
+
+pub bytes_of_both : (a b : List ℕ) → IsBytes a → IsBytes b → IsBytes (a ++ b)
+bytes_of_both a b first second i =
+    elim (cases_lt i (length a)) [
+      | inl lt ↦ rw (get_or_append_left a b 0 i lt) (first i)
+      | inr le ↦ rw (get_or-append_right a b (length a) i 0 refl le) (second (i - length a))
+    ]
+
+front_bytes : (a b : List ℕ) → IsBytes (a ++ b) → IsBytes a
+front_bytes a b fits = subst IsBytes (take_at a b (length a) refl) (IsBytes-take (length a) (a ++ b) fits)
+
+-- some of the bytes that are to be read, put behind those that are held
+pub read_further : (held new bytes now : List ℕ) (place n end : ℕ) → now ≡ bytes → new ≡ held ++ take n (drop place bytes) → place + n ≤ end
+    → new ++ take (end - (place + n)) (drop (place + n) now) ≡ held ++ take (end - place) (drop place bytes)
+read_further held new bytes now place n end same put within =
+    let more = end - (place + n) in
+    let all : end - place ≡ n + more = omega (arith, within) in
+    let behind : drop (place + n) now ≡ drop n (drop place bytes) = ap (drop (place + n)) same ∙ sym (drop-drop n place bytes) in
+    ap (λ (l : List ℕ). l ++ take more (drop (place + n) now)) put
+    ∙ ap (λ (l : List ℕ). (held ++ take n (drop place bytes)) ++ take more l) behind
+    ∙ append_assoc held (take n (drop place bytes)) (take more (drop n (drop place bytes)))
+    ∙ ap (λ (l : List ℕ). held ++ l) (sym (ap (λ (k : ℕ). take k (drop place bytes)) all ∙ take-add n more (drop place bytes)))
+
+-- ---- what is missing
+
+pub misses_then : {A B : Type 0} (fault : ReadFault) (r : Result A WireFault) (f : A → Result B WireFault) → Misses fault r → Misses fault (r >>= f)
+misses_then (faults.Device _) r f missing = tt
+misses_then faults.NoMemory r f missing = tt
+misses_then faults.NoState (Ok x) f missing = absurd missing
+misses_then faults.NoState (Err e) f missing = tt
+
+misses_of_device : {A : Type 0} (fault : ReadFault) (r : Result A WireFault) → IsOfDevice fault → Misses fault r
+misses_of_device (faults.Device _) r is = tt
+misses_of_device faults.NoMemory r is = absurd is
+misses_of_device faults.NoState r is = absurd is
+
+-- what isn't read under one fault is missing
+misses_of_wire : {A B : Type 0} (e : WireFault) (r : Result A WireFault) (t : Result B WireFault) → ((f : WireFault) → r ≡ Err f → IsMissing t) → Fails e r → Misses (of_wire e) t
+misses_of_wire Short r t along h = along Short h
+misses_of_wire (BadKind k) r t along h = along (BadKind k) h
+misses_of_wire NotAscending r t along h = along NotAscending h
+misses_of_wire TooLarge r t along h = along TooLarge h
+misses_of_wire Trailing r t along h = along Trailing h
+misses_of_wire NoMemory r t along h = tt
+misses_of_wire Broken r t along h = along Broken h
+
+quiet : (side : Side) (before now : ℕ) (e : WireFault) → now ≡ before → FaultRead side before now (of_wire e)
+quiet side before now Short same = same
+quiet side before now (BadKind k) same = same
+quiet side before now NotAscending same = same
+quiet side before now TooLarge same = same
+quiet side before now Trailing same = same
+quiet side before now NoMemory same = same
+quiet side before now Broken same = same
+
+-- rows up to one that is missing
+pub misses_along : {X : Type 0} (item : ℕ → Reading X) (key : X → ℕ) (fault : ReadFault) (front : List X) (count i least : ℕ) (bytes : List ℕ) (total : Result (List X × List ℕ) WireFault)
+    → i < count → Misses fault (item least bytes) → with_front front (items_at item key (count - i) least bytes) ≡ total → Misses fault total
+unfolding items_at
+misses_along item key fault front count i least bytes total lt missing so_far =
+    let k : count - i ≡ suc (count - (i + 1)) = omega arith in
+    subst (λ t. Misses fault t) so_far (rw k (misses_then fault _ _ (misses_then fault (item least bytes) _ missing)))
+
+-- ---- an element in the window
+
+module _ {X : Type 0} {read : Reading X} {Is : X → Type 0} {spelling : X → List ℕ} (spelled : Spelled read Is spelling) where
+  -- what is read is so many bytes of the front
+  pub used : (piece bytes : List ℕ) (x : X) (left : List ℕ) (n : ℕ) → bytes ≡ piece → IsBytes piece → read bytes ≡ Ok (x, left) → n ≡ length (spelling x) → n ≤ length piece
+  used piece bytes x left n same fits e is =
+      let t = spelled.takes piece x left fits (ap read (sym same) ∙ e) in
+      omega (arith, is, ap length t.0.parts, length-append (spelling x) left)
+
+  -- and leaves the others
+  pub taken : (piece bytes : List ℕ) (x : X) (left new : List ℕ) (n : ℕ) → bytes ≡ piece → IsBytes piece → read bytes ≡ Ok (x, left) → n ≡ length (spelling x) → new ≡ drop n piece → read piece ≡ Ok (x, new)
+  taken piece bytes x left new n same fits e is rest =
+      let t = spelled.takes piece x left fits (ap read (sym same) ∙ e) in
+      let behind : left ≡ new = sym (rest ∙ ap (drop n) t.0.parts ∙ drop_at (spelling x) left n (sym is)) in
+      ap read (sym same) ∙ e ∙ ap (λ (l : List ℕ). Ok (x, l)) behind
+
+  found_ahead : (held rest : List ℕ) (x : X) (left : List ℕ) → IsBytes held → read held ≡ Ok (x, left) → read (held ++ rest) ≡ Ok (x, left ++ rest)
+  found_ahead held rest x left fits e =
+      let t = spelled.takes held x left fits e in
+      ap (λ (l : List ℕ). read (l ++ rest)) t.0.parts ∙ ap read (append_assoc (spelling x) left rest) ∙ spelled.again x (left ++ rest) t.1
+
+  module _ (most : ℕ) (small : (x : X) → Is x → length (spelling x) ≤ most) where
+    -- what is read of all that is ahead lies within the window
+    found_held : (held rest : List ℕ) (x : X) (left : List ℕ) → IsBytes (held ++ rest) → (most ≤ length held) ⊎ (rest ≡ []) → read (held ++ rest) ≡ Ok (x, left) → (y : X × List ℕ) × (read held ≡ Ok y)
+    found_held held rest x left fits reach e =
+        let t = spelled.takes (held ++ rest) x left fits e in
+        let n = length (spelling x) in
+        elim reach [
+          | inl le ↦ (
+              let front : spelling x ≡ take n held = sym (take_at (spelling x) left n refl) ∙ ap (take n) (sym t.0.parts) ∙ take-append-le n held rest (omega (arith, small x t.1, le)) in
+              let parts : held ≡ spelling x ++ drop n held = sym (take-append-drop n held) ∙ ap (λ (l : List ℕ). l ++ drop n held) (sym front) in
+              ((x, drop n held), ap read parts ∙ spelled.again x (drop n held) t.1))
+          | inr none ↦ ((x, left), ap read (sym (append-nil held) ∙ ap (λ (l : List ℕ). held ++ l) (sym none)) ∙ e)
+        ]
+
+    none_ahead : (held rest : List ℕ) (e : WireFault) → IsBytes (held ++ rest) → (most ≤ length held) ⊎ (rest ≡ []) → read held ≡ Err e → IsMissing (read (held ++ rest))
+    none_ahead held rest e fits reach h = by (read (held ++ rest)) refl
+      where
+        by : (r : Result (X × List ℕ) WireFault) → read (held ++ rest) ≡ r → IsMissing r
+        by (Ok y) is = let found = found_held held rest y.0 y.1 fits reach is in absurd (let no : ⊥ = cc (found.1, h) in no)
+        by (Err f) is = tt
+
+-- ---- calls that only read
+
+module _ {D : Type 0} (s : Ghosts D) where
+  pub runs_on : {T U : Type 0} (a m c : At D) (t : T) (outcome : Result U ReadFault) → Runs s a m (Ok t) → Runs s m c outcome → Runs s a c outcome
+  runs_on a m c t outcome first second = record {
+    side = second.side ∙ first.side;
+    lies = second.lies;
+    reads = reads_then s a.site m.site c.site first.reads second.reads;
+    fault = subst (λ n. CountsRead a.unread.side n (s.failures c.site) outcome) first.fault
+        (subst (λ side. CountsRead side (s.failures m.site) (s.failures c.site) outcome) first.side second.fault);
+  }
+
+  pub ahead_bytes : (a : At D) → IsBytes a.held → ((place : ℕ) → slice_index (s.state a.site a.unread.side).bytes place < 256) → AreBytes (ahead s a)
+  ahead_bytes a held bytes = bytes_of_both a.held _ held (IsBytes-take (a.unread.end - a.unread.place) _ (IsBytes-drop a.unread.place _ bytes))
+
+  pub runs_none : (a : At D) → LiesOn s a.site a.unread → Runs s {T = Unit {0}} a a (Ok tt)
+  runs_none a lies = record { side = refl; lies = lies; reads = reads_none s a.site; fault = refl }
+
+  pub runs_as : {T U : Type 0} (a m : At D) (held : List ℕ) (t : T) (u : U) → Runs s a m (Ok t) → Runs s a (record m { held = held }) (Ok u)
+  runs_as a m held t u run = record { side = run.side; lies = run.lies; reads = run.reads; fault = run.fault }
+
+  pub runs_stop : {T U : Type 0} (a m : At D) (fault : ReadFault) → Runs s {T = T} a m (Err fault) → Runs s {T = U} a m (Err fault)
+  runs_stop a m fault run = record { side = run.side; lies = run.lies; reads = run.reads; fault = run.fault }
+
+  pub runs_quietly : {T U : Type 0} (a m : At D) (held : List ℕ) (t : T) (e : WireFault) → Runs s a m (Ok t) → Runs s {T = U} a (record m { held = held }) (Err (of_wire e))
+  runs_quietly a m held t e run = record { side = run.side; lies = run.lies; reads = run.reads; fault = quiet a.unread.side (s.failures a.site) (s.failures m.site) e run.fault }
+
+  pub no_memory : {T X : Type 0} (read : Reading X) (a m : At D) (t : T) → Runs s a m (Ok t) → ReadsOff s read a m (Err faults.NoMemory)
+  no_memory read a m t run = record { run = runs_quietly a m m.held t NoMemory run; exact = λ honest. tt }
+
+  -- ---- elements
+
+  pub no_refill : {X : Type 0} (read : Reading X) (a m : At D) (fault : ReadFault) → Runs s {T = Unit {0}} a m (Err fault) → IsOfDevice fault → ReadsOff s read a m (Err fault)
+  no_refill read a m fault run device = record { run = runs_stop a m fault run; exact = λ honest. misses_of_device fault (read (ahead s a)) device }
+
+  module _ {X : Type 0} {read : Reading X} {Is : X → Type 0} {spelling : X → List ℕ} (spelled : Spelled read Is spelling) (most : ℕ) (small : (x : X) → Is x → length (spelling x) ≤ most)
+      (a m : At D) (held : List ℕ) (run : Runs s {T = Unit {0}} a m (Ok tt)) (same : s.honest a.site → ahead s m ≡ ahead s a) (fits : s.honest a.site → AreBytes (ahead s m))
+      (reach : (most ≤ length m.held) ⊎ (m.unread.place ≡ m.unread.end)) where
+    abbrev behind : List ℕ
+    behind = take (m.unread.end - m.unread.place) (drop m.unread.place (s.state m.site m.unread.side).bytes)
+
+    reaches : (most ≤ length m.held) ⊎ (behind ≡ [])
+    reaches = elim reach [ inl le ↦ inl le | inr all ↦ inr (let none : m.unread.end - m.unread.place ≡ 0 = omega (arith, all) in rw none refl) ]
+
+    pub element : (x : X) → read m.held ≡ Ok (x, held) → ReadsOff s read a (record m { held = held }) (Ok x)
+    element x e = record {
+      run = runs_as a m held tt x run;
+      exact = λ honest. ap read (sym (same honest)) ∙ found_ahead spelled m.held behind x held (front_bytes m.held behind (fits honest)) e;
+    }
+
+    pub no_element : (e : WireFault) → Fails e (read m.held) → ReadsOff s read a (record m { held = held }) (Err (of_wire e))
+    no_element e h = record {
+      run = runs_quietly a m held tt e run;
+      exact = λ honest. subst (λ l. Misses (of_wire e) (read l)) (same honest)
+          (misses_of_wire e (read m.held) (read (ahead s m)) (λ f is. none_ahead spelled most small m.held behind f (fits honest) reaches is) h);
+    }
+
+  -- ---- one thing behind another
+
+  pub in_turn : {X Y : Type 0} {p : Reading X} {q : Reading Y} (a m c : At D) (x : X) (outcome : Result Y ReadFault)
+      → ReadsOff s p a m (Ok x) → ReadsOff s q m c outcome → ReadsOff s (p ⊗ q) a c (seen_by (λ y. (x, y)) outcome)
+  in_turn a m c x (Ok y) first second = record {
+    run = runs_as a c c.held y (x, y) (runs_on a m c x (Ok y) first.run second.run);
+    exact = λ honest. rw (first.exact honest, second.exact (first.run.reads.keeps_honesty.0 honest)) refl;
+  }
+  in_turn a m c x (Err fault) first second = record {
+    run = runs_stop a c fault (runs_on a m c x (Err fault) first.run second.run);
+    exact = λ honest. rw (first.exact honest) (misses_then fault _ _ (second.exact (first.run.reads.keeps_honesty.0 honest)));
+  }
+
+  pub first_stops : {X Y : Type 0} {p : Reading X} (q : Reading Y) (a m : At D) (fault : ReadFault) → ReadsOff s p a m (Err fault) → ReadsOff s (p ⊗ q) a m (Err fault)
+  first_stops q a m fault first = record { run = runs_stop a m fault first.run; exact = λ honest. misses_then fault _ _ (first.exact honest) }
+
+  -- what they make
+  pub made : {X Y : Type 0} {p : Reading X} (make : X → Y) (a m : At D) (outcome : Result X ReadFault) → ReadsOff s p a m outcome → ReadsOff s (via make p) a m (seen_by make outcome)
+  made make a m (Ok x) reads = record { run = runs_as a m m.held x (make x) reads.run; exact = λ honest. rw (reads.exact honest) refl }
+  made make a m (Err fault) reads = record { run = runs_stop a m fault reads.run; exact = λ honest. misses_then fault _ _ (reads.exact honest) }
+
+  pub seen_twice : {X Y Z : Type 0} {p : Reading Z} (a c : At D) (f : Y → Z) (g : X → Y) (outcome : Result X ReadFault) → ReadsOff s p a c (seen_by f (seen_by g outcome)) → ReadsOff s p a c (seen_by (λ x. f (g x)) outcome)
+  seen_twice a c f g (Ok x) reads = reads
+  seen_twice a c f g (Err fault) reads = reads
+
+  -- ---- all that is ahead
+
+  pub none_ahead_of : (c : At D) → length c.held ≡ 0 → c.unread.end ≤ c.unread.place → ahead s c ≡ []
+  none_ahead_of c empty past =
+      let none : c.unread.end - c.unread.place ≡ 0 = omega (arith, past) in
+      let tail = drop c.unread.place (s.state c.site c.unread.side).bytes in
+      ap (λ (l : List ℕ). l ++ take (c.unread.end - c.unread.place) tail) (nil_from_length c.held empty) ∙ ap (λ (n : ℕ). take n tail) none
+
+  pub some_ahead_of : (c : At D) → s.honest c.site → LiesOn s c.site c.unread → (0 < length c.held) ⊎ (c.unread.place < c.unread.end) → 0 < length (ahead s c)
+  some_ahead_of c honest lies some =
+      let bytes = (s.state c.site c.unread.side).bytes in
+      let tail = drop c.unread.place bytes in
+      let within = lies.within honest in
+      let all = length-append c.held (take (c.unread.end - c.unread.place) tail) in
+      let more = length-take (c.unread.end - c.unread.place) tail in
+      let behind = length-drop c.unread.place bytes in
+      elim some [ inl held ↦ omega (arith, held, all) | inr left ↦ omega (arith, left, all, more, behind, within) ]
+
+  module _ {X : Type 0} (read : Reading X) (a c : At D) where
+    pub all_of : (x : X) → ReadsOff s read a c (Ok x) → length c.held ≡ 0 → c.unread.end ≤ c.unread.place → s.honest a.site → whole read (ahead s a) ≡ Ok x
+    unfolding whole ended
+    all_of x reads empty past honest = rw (reads.exact honest, none_ahead_of c empty past) refl
+
+    pub not_all : (x : X) → ReadsOff s read a c (Ok x) → (0 < length c.held) ⊎ (c.unread.place < c.unread.end) → s.honest a.site → IsMissing (whole read (ahead s a))
+    unfolding whole ended
+    not_all x reads some honest =
+        let long = some_ahead_of c (reads.run.reads.keeps_honesty.0 honest) reads.run.lies some in
+        let left : eqb (length (ahead s c)) 0 ≡ false = ne_eqb (length (ahead s c)) 0 (λ e. omega (arith, long, e)) in
+        rw (reads.exact honest, left) tt
+
+    pub none_of : (fault : ReadFault) → ReadsOff s read a c (Err fault) → s.honest a.site → Misses fault (whole read (ahead s a))
+    unfolding whole
+    none_of fault reads honest = misses_then fault (read (ahead s a)) _ (reads.exact honest)
+
+  -- ---- a count, and so many
+
+  abbrev counted_at : {Y : Type 0} → ℕ → Reading ℕ → (ℕ → Reading Y) → Reading Y
+  counted_at limit count items bytes = limited limit count bytes >>= λ n. items n.0 n.1
+
+  module _ {Y : Type 0} (limit : ℕ) {count : Reading ℕ} (items : ℕ → Reading Y) where
+    pub few : (a m c : At D) (n : ℕ) (outcome : Result Y ReadFault) → ReadsOff s count a m (Ok n) → n ≤ limit → ReadsOff s (items n) m c outcome → ReadsOff s (counted_at limit count items) a c outcome
+    few a m c n outcome first le second = record {
+      run = runs_on a m c n outcome first.run second.run;
+      exact = λ honest.
+          let within : ltb limit n ≡ false = le-ltb _ _ le in
+          rw (first.exact honest, within) (second.exact (first.run.reads.keeps_honesty.0 honest));
+    }
+
+    pub too_many : (a m : At D) (n : ℕ) → ReadsOff s count a m (Ok n) → limit < n → ReadsOff s (counted_at limit count items) a m (Err faults.NoState)
+    too_many a m n first lt = record {
+      run = runs_quietly a m m.held n TooLarge first.run;
+      exact = λ honest.
+          let above : ltb limit n ≡ true = lt-ltb _ _ lt in
+          rw (first.exact honest, above) tt;
+    }
+
+    pub uncounted : (a m : At D) (fault : ReadFault) → ReadsOff s count a m (Err fault) → ReadsOff s (counted_at limit count items) a m (Err fault)
+    uncounted a m fault first = record { run = runs_stop a m fault first.run; exact = λ honest. misses_then fault _ _ (misses_then fault _ _ (first.exact honest)) }

@@ -1,0 +1,61 @@
+use Rattle.std.proofs.Common.{◌≡◌, ◌++◌, List, ℕ, length, sym, ap, ◌∙◌, append_assoc, arith}
+use Rattle.std.proofs.lemmas.List.{length-append}
+use Rattle.cc_checkpoint.proofs.StateLengths.{length-node}
+use Rattle.cc_checkpoint.proofs.BehindRuns.{written_behind, then_behind, grown}
+use Rattle.cc_checkpoint.proofs.checkpoint.write_pieces.Goals as goal
+
+pub returns-in_err-write_at-clause-every_moment : goal.returns-in_err-write_at-clause-every_moment
+returns-in_err-write_at-clause-every_moment g c honest =
+    let s = g.S.Site in
+    let side = c.args.side in
+    let mid = c.loop-pieces.site in
+    let honest_mid = c.loop-pieces.invariant.honest.0 honest in
+    let within = c.loop-pieces.invariant.within honest in
+    then_behind s side c.args.site.now mid c.write_at.new.self (c.loop-pieces.invariant.moments honest) (g.met.S.Site.counts_now mid honest_mid)
+    (written_behind s side mid c.write_at.new.self c.loop-pieces.place (length c.as_slice-bytes.result.now) (g.met.S.Site.only_now mid honest_mid)
+    (omega (arith, c.requires.there, c.loop-pieces.invariant.from)) (omega (arith, within)) (c.write_at.ensures.time honest_mid))
+
+pub overflow_add-place : goal.overflow_add-place
+overflow_add-place g c =
+    omega (
+      arith,
+      c.loop-pieces.invariant.place,
+      length-node _ _ c.requires.spelled,
+      c.requires.short,
+      ap length c.as_slice-bytes.ensures,
+      c.next.ensures.fits,
+      c.next.ensures.length,
+    )
+
+pub loop-pieces-preserved : goal.loop-pieces-preserved
+loop-pieces-preserved g c =
+    let s = g.S.Site in
+    let side = c.args.side in
+    let mid = c.loop-pieces.site in
+    let new = c.write_at.new.self in
+    let so_far = c.loop-pieces.invariant in
+    let piece = c.next.new.into in
+    let rest = c.next.new.self in
+    let is : c.as_slice-bytes.result.now ≡ piece = c.as_slice-bytes.ensures in
+    let wrote : s.honest c.args.site.now → (s.state new side).bytes ≡ (s.state mid side).bytes ++ c.as_slice-bytes.result.now =
+    λ honest. grown (s.state mid side) (s.state new side) c.loop-pieces.place c.as_slice-bytes.result.now (so_far.within honest) (c.in_ok-write_at.ensures.value (so_far.honest.0 honest)) in
+    let longer = length-append piece rest in
+    record {
+      honest = (λ h. c.write_at.ensures.honest.0 (so_far.honest.0 h), λ h. so_far.honest.1 (c.write_at.ensures.honest.1 h));
+      tells = (λ t. c.write_at.ensures.tells.0.0 (so_far.tells.0 t), λ t. so_far.tells.1 (c.write_at.ensures.tells.0.1 t));
+      sent = c.write_at.ensures.tells.1 ∙ so_far.sent;
+      other_side = λ honest. c.write_at.ensures.other_side (so_far.honest.0 honest) ∙ so_far.other_side honest;
+      value = λ honest. ap (λ (l : List ℕ). l ++ rest) (wrote honest ∙ ap (λ (l : List ℕ). (s.state mid side).bytes ++ l) is)
+          ∙ append_assoc (s.state mid side).bytes piece rest
+          ∙ ap (λ (l : List ℕ). (s.state mid side).bytes ++ l) (sym c.next.ensures.piece)
+          ∙ so_far.value honest;
+      place = omega (arith, so_far.place, ap length is, ap length c.next.ensures.piece, longer);
+      within = λ honest. omega (arith, so_far.within honest, ap length (wrote honest), length-append (s.state mid side).bytes c.as_slice-bytes.result.now, ap length is);
+      from = omega (arith, so_far.from);
+      moments = λ honest.
+          let honest_mid = so_far.honest.0 honest in
+          then_behind s side c.args.site.now mid new (so_far.moments honest) (g.met.S.Site.counts_now mid honest_mid)
+          (written_behind s side mid new c.loop-pieces.place (length c.as_slice-bytes.result.now) (g.met.S.Site.only_now mid honest_mid)
+          (omega (arith, c.requires.there, so_far.from)) (omega (arith, so_far.within honest)) (c.write_at.ensures.time honest_mid));
+      failures = c.in_ok-write_at.ensures.fault ∙ so_far.failures;
+    }

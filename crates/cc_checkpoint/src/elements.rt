@@ -1,0 +1,148 @@
+//! The elements of a state that are taken whole from the front of a piece.
+
+ghost use Rattle.std.specs.Prelude.{◌≡◌, ◌≤◌, length, IfOk};
+ghost use Rattle.std.specs.Int.{w16, w64};
+ghost use Rattle.cc_views.specs.Tables.{IsRising, table_of};
+ghost use Rattle.cc_wire.specs.Messages.{message_at};
+ghost use Rattle.cc_wire.specs.Reading.{Gives, number_at, view_at};
+ghost use Rattle.cc_links.specs.Rows as links;
+ghost use Rattle.cc_sessions.specs.Rows as sessions;
+ghost use Rattle.cc_outbox.specs.Rows as answers;
+ghost use Rattle.cc_node.specs.States.{membership_at, entering_at, phase_at, phase_spelling, table_at, link_at, session_at, kept_answer_at};
+ghost use Rattle.cc_checkpoint.specs.Fields.{membership_in, own_at, own_in, entering_in, phase_in};
+
+use crate::fields::{Entering, Membership, Own, Round};
+use crate::parts::{COUNT, FRACTION, ID, LINK, NUMBER, SESSION, pending_len};
+use crate::piece::Piece;
+use crate::state_reader::{
+    read_entering, read_kept_answer, read_link, read_membership, read_own, read_round,
+    read_session_table,
+};
+use cc_links::LinkRow;
+use cc_ops::Stage;
+use cc_outbox::KeptAnswer;
+use cc_sessions::SessionRow;
+use cc_views::View;
+use cc_wire::{Message, WireFault, answer_len, changes_len, message_len, value_len, view_len};
+use std::alloc::Global;
+
+pub(crate) fn take_membership(alloc: Global, piece: &mut Piece) -> Result<Membership, WireFault>
+    ensures { Gives (λ x. (membership_in x, piece.new)) result (membership_at piece.old) }
+{
+    let mut reader = piece.reader();
+    let membership = read_membership(alloc, &mut reader)?;
+    piece.advance(ID + 2 * FRACTION + changes_len(&membership.changes));
+    Ok(membership)
+}
+
+pub(crate) fn take_view(alloc: Global, piece: &mut Piece) -> Result<View, WireFault>
+    ensures { Gives (λ x. (x, piece.new)) result (view_at piece.old) }
+{
+    let mut reader = piece.reader();
+    let view = reader.view(alloc)?;
+    piece.advance(view_len(&view));
+    Ok(view)
+}
+
+pub(crate) fn take_own(piece: &mut Piece) -> Result<Own, WireFault>
+    ensures { Gives (λ x. (own_in x, piece.new)) result (own_at piece.old) }
+{
+    let mut reader = piece.reader();
+    let own = read_own(&mut reader)?;
+    piece.advance(NUMBER + value_len(&own.mine) + NUMBER);
+    Ok(own)
+}
+
+pub(crate) fn take_entering(piece: &mut Piece) -> Result<Entering, WireFault>
+    ensures { Gives (λ x. (entering_in x, piece.new)) result (entering_at piece.old) }
+{
+    let mut reader = piece.reader();
+    let entering = read_entering(&mut reader)?;
+    piece.advance(NUMBER + COUNT);
+    Ok(entering)
+}
+
+fn round_len(round: &Round) -> usize
+    ensures { result ≡ length (phase_spelling (phase_in round.now)) }
+{
+    match round.stage {
+        Stage::Idle => 1,
+        Stage::Storing(pending) | Stage::Querying(pending) => 1 + pending_len(&pending),
+        Stage::StoringBack(pending) => 1 + pending_len(&pending) + view_len(&round.seen),
+    }
+}
+
+pub(crate) fn take_round(alloc: Global, piece: &mut Piece) -> Result<Round, WireFault>
+    ensures { Gives (λ x. (phase_in x, piece.new)) result (phase_at piece.old) }
+{
+    let mut reader = piece.reader();
+    let round = read_round(alloc, &mut reader)?;
+    piece.advance(round_len(&round));
+    Ok(round)
+}
+
+pub(crate) fn take_number(piece: &mut Piece) -> Result<u64, WireFault>
+    ensures { Gives (λ x. (x, piece.new)) result (number_at w64 piece.old) }
+{
+    let mut reader = piece.reader();
+    let number = reader.u64()?;
+    piece.advance(NUMBER);
+    Ok(number)
+}
+
+pub(crate) fn take_count(piece: &mut Piece) -> Result<u16, WireFault>
+    ensures { Gives (λ x. (x, piece.new)) result (number_at w16 piece.old) }
+{
+    let mut reader = piece.reader();
+    let count = reader.u16()?;
+    piece.advance(COUNT);
+    Ok(count)
+}
+
+pub(crate) fn take_link(piece: &mut Piece, least: u64) -> Result<LinkRow, WireFault>
+    requires { 1 ≤ least }
+    ensures exact { Gives (λ x. (links.entry_of x, piece.new)) result (link_at least piece.old) }
+    ensures least { IfOk result (λ row. least ≤ row.peer) }
+{
+    let mut reader = piece.reader();
+    let row = read_link(&mut reader, least)?;
+    piece.advance(LINK);
+    Ok(row)
+}
+
+pub(crate) fn take_session_table(
+    alloc: Global,
+    piece: &mut Piece,
+) -> Result<Vec<SessionRow>, WireFault>
+    ensures exact { Gives (λ rows. (table_of sessions.entry_of rows.items, piece.new)) result (table_at session_at 256 0 piece.old) }
+    ensures rising { IfOk result (λ rows. IsRising sessions.entry_of rows.items) }
+    ensures few { IfOk result (λ rows. length rows.items ≤ 256) }
+{
+    let mut reader = piece.reader();
+    let rows = read_session_table(alloc, &mut reader)?;
+    piece.advance(COUNT + SESSION * rows.len());
+    Ok(rows)
+}
+
+pub(crate) fn take_message(alloc: Global, piece: &mut Piece) -> Result<Message, WireFault>
+    ensures { Gives (λ x. (x, piece.new)) result (message_at piece.old) }
+{
+    let mut reader = piece.reader();
+    let message = reader.message(alloc)?;
+    piece.advance(message_len(&message));
+    Ok(message)
+}
+
+pub(crate) fn take_kept_answer(
+    alloc: Global,
+    piece: &mut Piece,
+    least: u128,
+) -> Result<KeptAnswer, WireFault>
+    ensures exact { Gives (λ x. (answers.entry_of x, piece.new)) result (kept_answer_at least piece.old) }
+    ensures least { IfOk result (λ kept. least ≤ kept.session) }
+{
+    let mut reader = piece.reader();
+    let kept = read_kept_answer(alloc, &mut reader, least)?;
+    piece.advance(NUMBER + answer_len(&kept.answer));
+    Ok(kept)
+}

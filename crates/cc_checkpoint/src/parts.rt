@@ -1,0 +1,181 @@
+//! A node's state in the parts that it is written in, each of which a piece has room for.
+
+ghost use Rattle.std.specs.Prelude.{◌≡◌, ◌≤◌, ◌<◌, ◌^◌, ℕ, [], get_or, length};
+ghost use Rattle.std.specs.FinMap as table;
+ghost use Rattle.cc_wire.specs.Writing.{Writes};
+ghost use Rattle.cc_node.specs.States.{membership_spelling, membership_of, pending_spelling, phase_spelling};
+ghost use Rattle.cc_checkpoint.specs.Parts.{own_spelling, front_spelling, kept_parts, parts_of};
+
+use crate::state_writer::{
+    put_entering, put_kept_answer, put_link_table, put_membership, put_phase, put_session_table,
+    put_stored,
+};
+use cc_node::{Core, Node};
+use cc_ops::{Ops, Pending, Stage};
+use cc_outbox::Outbox;
+use cc_wire::{
+    Message, answer_len, changes_len, command_len, message_len, put_message, put_u16, put_u64,
+    value_len, view_len,
+};
+use std::alloc::AllocError;
+
+// How many bytes a count, an id, a fraction, and a number have.
+pub(crate) const COUNT: usize = 2;
+
+pub(crate) const ID: usize = 4;
+
+pub(crate) const FRACTION: usize = 8;
+
+pub(crate) const NUMBER: usize = 8;
+
+// A link is a peer and three numbers, a session two.
+pub(crate) const LINK: usize = ID + 3 * NUMBER;
+
+pub(crate) const SESSION: usize = 2 * NUMBER;
+
+/// The kept post at a place, from 0: the lowest number comes first.
+pub(crate) fn kept_post(outbox: &Outbox, at: usize) -> &Message
+    requires { at < table.len outbox.now.posts }
+    ensures { result.now ≡ get_or (table.values outbox.now.posts) at result.now }
+{
+    let dropped = outbox.last() - outbox.post_count() as u64;
+    outbox.post(dropped + at as u64 + 1).unwrap()
+}
+
+fn membership_len(core: &Core) -> usize
+    ensures len { result ≡ length (membership_spelling (membership_of core.now)) }
+    ensures fits { result ≤ 3098 }
+{
+    ID + 2 * FRACTION + changes_len(core.churn().changes())
+}
+
+fn own_len(core: &Core) -> usize
+    ensures len { result ≡ length (own_spelling core.now) }
+    ensures fits { result ≤ 55271 }
+{
+    let ops = core.ops();
+    view_len(ops.view()) + NUMBER + value_len(ops.mine()) + NUMBER + NUMBER + COUNT
+}
+
+/// How many bytes a pending operation has.
+pub(crate) fn pending_len(pending: &Pending) -> usize
+    ensures len { result ≡ length (pending_spelling pending.now) }
+    ensures fits { result ≤ 86 }
+{
+    2 * NUMBER + command_len(&pending.asked.command) + 2 * COUNT
+}
+
+fn phase_len(ops: &Ops) -> usize
+    ensures len { result ≡ length (phase_spelling ops.now.phase) }
+    ensures fits { result ≤ 55129 }
+{
+    match ops.stage() {
+        Stage::Idle => 1,
+        Stage::Storing(pending) | Stage::Querying(pending) => 1 + pending_len(&pending),
+        Stage::StoringBack(pending) => 1 + pending_len(&pending) + view_len(ops.seen().unwrap()),
+    }
+}
+
+fn front_len(core: &Core) -> usize
+    ensures len { (kept : ℕ) → result ≡ length (front_spelling core.now kept) }
+    ensures fits { result ≤ 11278 }
+{
+    let links = COUNT + LINK * core.links().rows().len();
+    let sessions = COUNT + SESSION * core.sessions().rows().len();
+    NUMBER + links + sessions + COUNT
+}
+
+fn kept_len(outbox: &Outbox, at: usize) -> usize
+    requires { at < length (kept_parts outbox.now) }
+    ensures len { result ≡ length (get_or (kept_parts outbox.now) at []) }
+    ensures some { 1 ≤ result }
+    ensures fits { result ≤ 58126 }
+{
+    let posts = outbox.post_count();
+    if at < posts {
+        return message_len(kept_post(outbox, at));
+    }
+    if at == posts {
+        return COUNT;
+    }
+    let kept = &outbox.answers()[at - posts - 1];
+    NUMBER + answer_len(&kept.answer)
+}
+
+/// How many parts there are.
+pub(crate) fn part_count(node: &Node) -> usize
+    ensures count { result ≡ length (parts_of node.now) }
+    ensures few { result ≤ 773 }
+{
+    let outbox = node.outbox();
+    5 + outbox.post_count() + outbox.answers().len()
+}
+
+/// How many bytes a part has.
+#[tactic(auto, unfolding(crate::specs::Parts::parts_of))]
+pub(crate) fn part_len(node: &Node, at: usize) -> usize
+    requires { at < length (parts_of node.now) }
+    ensures len { result ≡ length (get_or (parts_of node.now) at []) }
+    ensures some { 1 ≤ result }
+    ensures fits { result ≤ 58126 }
+{
+    let core = node.core();
+    match at {
+        0 => membership_len(core),
+        1 => own_len(core),
+        2 => phase_len(core.ops()),
+        3 => front_len(core),
+        _ => kept_len(node.outbox(), at - 4),
+    }
+}
+
+fn put_own(out: &mut Vec<u8>, core: &Core) -> Result<(), AllocError>
+    requires { core.now.churn.need < 2 ^ 16 }
+    ensures { Writes out.old out.new (own_spelling core.now) result }
+{
+    let ops = core.ops();
+    put_stored(out, ops.view(), ops.number(), ops.mine(), ops.tag())?;
+    put_entering(out, core.churn().echoes(), core.churn().need())
+}
+
+fn put_front(out: &mut Vec<u8>, core: &Core, kept: usize) -> Result<(), AllocError>
+    requires { kept < 2 ^ 16 }
+    ensures { Writes out.old out.new (front_spelling core.now kept) result }
+{
+    put_u64(out, core.posts())?;
+    put_link_table(out, core.links())?;
+    put_session_table(out, core.sessions())?;
+    put_u16(out, kept as u16)
+}
+
+fn put_kept(out: &mut Vec<u8>, outbox: &Outbox, at: usize) -> Result<(), AllocError>
+    requires { at < length (kept_parts outbox.now) }
+    ensures { Writes out.old out.new (get_or (kept_parts outbox.now) at []) result }
+{
+    let posts = outbox.post_count();
+    let answers = outbox.answers();
+    if at < posts {
+        return put_message(out, kept_post(outbox, at));
+    }
+    if at == posts {
+        return put_u16(out, answers.len() as u16);
+    }
+    put_kept_answer(out, &answers[at - posts - 1])
+}
+
+/// Puts a part.
+#[tactic(auto, unfolding(crate::specs::Parts::parts_of))]
+pub(crate) fn put_part(out: &mut Vec<u8>, node: &Node, at: usize) -> Result<(), AllocError>
+    requires { at < length (parts_of node.now) }
+    ensures { Writes out.old out.new (get_or (parts_of node.now) at []) result }
+{
+    let core = node.core();
+    let outbox = node.outbox();
+    match at {
+        0 => put_membership(out, core),
+        1 => put_own(out, core),
+        2 => put_phase(out, core.ops()),
+        3 => put_front(out, core, outbox.post_count()),
+        _ => put_kept(out, outbox, at - 4),
+    }
+}

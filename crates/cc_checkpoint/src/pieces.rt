@@ -1,0 +1,62 @@
+//! A node's state in pieces, so that it is written through one buffer, however long it is.
+
+ghost use Rattle.std.specs.Prelude.{◌≡◌, ◌≤◌, ◌<◌, ◌^◌, ◌++◌, [], length};
+ghost use Rattle.cc_node.specs.States.{state_spelling, state_of};
+ghost use Rattle.cc_checkpoint.specs.Parts.{piece_limit};
+
+use crate::parts::{part_count, part_len};
+use crate::piece::Piece;
+use cc_node::Node;
+use std::marker::Model;
+
+/// How many bytes the spelling of a node's state has: so few that four bytes tell it.
+pub fn state_length(node: &Node) -> u64
+    ensures len { result ≡ length (state_spelling (state_of node.now)) }
+    ensures short { result < 2 ^ 32 }
+{
+    let mut length = 0;
+    for at in 0..part_count(node) {
+        length += part_len(node, at) as u64;
+    }
+    length
+}
+
+/// The state of a node that is still to come: seen as the rest of its spelling. It takes no memory.
+#[derive(Drop)]
+pub struct Pieces<'a> {
+    node: &'a Node,
+    // The next part.
+    at: usize,
+}
+
+impl<'a> Model for Pieces<'a> {
+    ghost use Rattle.std.specs.Prelude.{ℕ, List, drop, length, ◌≤◌};
+    ghost use Rattle.cc_checkpoint.specs.Parts.{parts_of, joined};
+
+    ghost Value = { List ℕ };
+
+    ghost view = { λ p. joined (drop p.at (parts_of p.node.now)) };
+
+    ghost invariant = { λ p. p.at ≤ length (parts_of p.node.now) };
+}
+
+impl<'a> Pieces<'a> {
+    /// The whole state of the node.
+    pub fn new(node: &'a Node) -> Self
+        ensures { result ≡ state_spelling (state_of node.now) }
+    {
+        Pieces { node, at: 0 }
+    }
+
+    /// The next piece, in place of what the buffer holds. How many bytes it has: 0 at the end, and nowhere else. A piece ends
+    /// between two of a state's elements: fields, rows, messages and answers.
+    pub fn next(&mut self, into: &mut Piece) -> usize
+        ensures piece { self.old ≡ into.new ++ self.new }
+        ensures length { result ≡ length into.new }
+        ensures fits { result ≤ piece_limit }
+        ensures end { result ≡ 0 → self.old ≡ [] }
+    {
+        self.at = into.take_parts(self.node, self.at);
+        into.as_slice().len()
+    }
+}

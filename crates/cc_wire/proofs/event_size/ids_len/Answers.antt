@@ -1,6 +1,0 @@
-use Rattle.std.proofs.Common.{sym}
-use Rattle.cc_wire.proofs.Lengths.{length-listed}
-use Rattle.cc_wire.proofs.event_size.ids_len.Goals as goal
-
-pub returns-clause-len : goal.returns-clause-len
-returns-clause-len c = sym (length-listed c.args.ids.now)
