@@ -1,0 +1,28 @@
+//! Where a site of files passes outputs on.
+
+use cc_views::NodeId;
+use cc_wire::{Answer, Message};
+
+/// Takes the outputs of a site. No call fails: what can't be passed on is lost.
+pub trait Outlet {
+    /// Passes a message on to a peer, under its number on the link to it.
+    fn send(&mut self, to: NodeId, number: u64, message: &Message);
+
+    /// Tells a peer up to which number its messages were heard.
+    fn ack(&mut self, to: NodeId, number: u64);
+
+    /// Answers a request of a session.
+    fn reply(&mut self, session: u64, request: u64, answer: &Answer);
+}
+
+/// Drops what it gets.
+#[derive(Clone, Copy, Debug)]
+pub struct NoOutlet;
+
+impl Outlet for NoOutlet {
+    fn send(&mut self, _to: NodeId, _number: u64, _message: &Message) {}
+
+    fn ack(&mut self, _to: NodeId, _number: u64) {}
+
+    fn reply(&mut self, _session: u64, _request: u64, _answer: &Answer) {}
+}
