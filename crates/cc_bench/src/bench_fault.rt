@@ -1,6 +1,7 @@
 use cc_checkpoint::OpenFault;
-use cc_flush::{Failed, FormatFault};
+use cc_flush::{CheckpointFault, Failed, FormatFault};
 use cc_journal::Entry;
+use cc_site::DeviceFault;
 use cc_views::NoMemory;
 use cc_wire::Refusal;
 use std::alloc::{AllocError, AllocFailed};
@@ -16,6 +17,8 @@ pub enum BenchFault {
     Open(OpenFault),
     #[error("the engine can't go on: {0}")]
     Engine(Failed),
+    #[error("the node can't be moved: {0}")]
+    Checkpoint(CheckpointFault),
     #[error("the node refuses an event")]
     Refused,
     #[error("a batch or a side is full")]
@@ -29,6 +32,19 @@ pub enum BenchFault {
 impl From<Failed> for BenchFault {
     fn from(failed: Failed) -> BenchFault {
         BenchFault::Engine(failed)
+    }
+}
+
+impl From<CheckpointFault> for BenchFault {
+    fn from(fault: CheckpointFault) -> BenchFault {
+        BenchFault::Checkpoint(fault)
+    }
+}
+
+/// A disk call of the bench itself, with no engine.
+impl From<DeviceFault> for BenchFault {
+    fn from(_e: DeviceFault) -> BenchFault {
+        BenchFault::System
     }
 }
 

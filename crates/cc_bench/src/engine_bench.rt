@@ -164,7 +164,7 @@ fn round<S: Site + Drop, C: Clock + CpuClock>(
     ensures owes { OnOk result (engine.new.owes ≡ false) }
     ensures live { OnOk result (live.new ≡ engine.new.twin.core) }
 {
-    let events = next_stores(alloc, live, store)?;
+    let events = copies(alloc, live, store, ROUND)?;
     let start = Instant::now(clock)?;
     let used = clock.thread_cpu_time()?;
     run(alloc, engine, live, events, batch)?;
@@ -178,8 +178,8 @@ fn round<S: Site + Drop, C: Clock + CpuClock>(
     Ok(spent)
 }
 
-// The engine of the first of so many members, and its core.
-fn opened<S: Site + Drop>(
+/// The engine of the first of so many members, and its core.
+pub fn opened<S: Site + Drop>(
     alloc: Global,
     site: S,
     nodes: u32,
@@ -203,12 +203,17 @@ fn formatted<S: Site + Drop>(alloc: Global, site: S, nodes: u32) -> Result<S, Be
     }
 }
 
-// The stores of a round, under the next numbers.
-fn next_stores(alloc: Global, live: &Core, store: &Event) -> Result<Vec<Event>, BenchFault> {
+/// So many copies of a message that the node gets from itself, under the next numbers.
+pub fn copies(
+    alloc: Global,
+    live: &Core,
+    delivery: &Event,
+    count: u64,
+) -> Result<Vec<Event>, BenchFault> {
     let heard = live.heard(live.me());
     let mut events = Vec::new(alloc);
-    for i in 0..ROUND {
-        let mut event = store.copy(alloc)?;
+    for i in 0..count {
+        let mut event = delivery.copy(alloc)?;
         if let Event::Deliver { number, .. } = &mut event {
             *number = heard.saturating_add(i + 1);
         }
@@ -217,8 +222,8 @@ fn next_stores(alloc: Global, live: &Core, store: &Event) -> Result<Vec<Event>, 
     Ok(events)
 }
 
-// Each peer acknowledges all posts so far.
-fn acknowledgements(alloc: Global, live: &Core) -> Result<Vec<Event>, BenchFault> {
+/// Each peer acknowledges all posts so far.
+pub fn acknowledgements(alloc: Global, live: &Core) -> Result<Vec<Event>, BenchFault> {
     let mut events = Vec::new(alloc);
     for link in live.links().rows() {
         events.push(Event::Acked {
@@ -229,8 +234,8 @@ fn acknowledgements(alloc: Global, live: &Core) -> Result<Vec<Event>, BenchFault
     Ok(events)
 }
 
-// Takes events in batches of so many, the last of which may be shorter. The live core is a batch ahead of the engine.
-fn run<S: Site + Drop>(
+/// Takes events in batches of so many, the last of which may be shorter. The live core is a batch ahead of the engine.
+pub fn run<S: Site + Drop>(
     alloc: Global,
     engine: &mut Flusher<S>,
     live: &mut Core,

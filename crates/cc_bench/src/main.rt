@@ -3,12 +3,14 @@
 
 mod bench;
 mod bench_fault;
+mod checkpoint_bench;
 mod disk_bench;
 mod engine_bench;
 mod two_files;
 
 use bench::{Kind, event_nanoseconds};
 use cc_site::MemorySite;
+use checkpoint_bench::{MovedNode, checkpoint_times};
 use clap::{ArgMatches, Command};
 use disk_bench::{FOLDER, new_sides, sync_nanoseconds};
 use engine_bench::{EngineLoad, Hundredths, ROUND, SECOND, engine_times};
@@ -29,6 +31,7 @@ const LONG_STORES: u64 = 25_600;
 enum Timing {
     Events,
     Engine,
+    Checkpoints,
 }
 
 fn main(rt: HostRuntime) -> anyhow::Result<ExitCode> {
@@ -51,10 +54,10 @@ fn parse(alloc: Global, words: &[String]) -> Result<Timing, clap::Error> {
 }
 
 fn timing_of(matches: &ArgMatches<'_>) -> Timing {
-    if matches.subcommand_name() == Some("engine") {
-        Timing::Engine
-    } else {
-        Timing::Events
+    match matches.subcommand_name() {
+        Some("engine") => Timing::Engine,
+        Some("checkpoints") => Timing::Checkpoints,
+        _ => Timing::Events,
     }
 }
 
@@ -67,8 +70,11 @@ fn command_line<'a>(alloc: Global) -> Result<Command<'a>, AllocError> {
     let command = command.subcommand(Command::new(alloc, "events").about(
         "Prints how long a node in memory takes for an event",
     ))?;
-    command.subcommand(Command::new(alloc, "engine").about(
+    let command = command.subcommand(Command::new(alloc, "engine").about(
         "Prints how long the engine takes for a store, in memory and on files",
+    ))?;
+    command.subcommand(Command::new(alloc, "checkpoints").about(
+        "Prints how long a checkpoint and an opening take, in memory and on files",
     ))
 }
 
@@ -83,6 +89,7 @@ fn print_timing(rt: &HostRuntime, timing: Timing) -> anyhow::Result<ExitCode> {
     match timing {
         Timing::Events => print_times(rt)?,
         Timing::Engine => print_engine_times(rt)?,
+        Timing::Checkpoints => print_checkpoint_times(rt)?,
     }
     Ok(ExitCode::SUCCESS)
 }
@@ -144,5 +151,36 @@ fn print_engine_row(rt: &HostRuntime, sync: u128, load: EngineLoad) -> anyhow::R
     println!(rt;
         "{nodes} rows, batches of {batch}: in memory {memory}; on files {files}, {beside} of its syncs"
     )?;
+    Ok(())
+}
+
+// For views of 1, 16 and 256 rows, with an empty outbox and with a full one, in memory and on the disk.
+fn print_checkpoint_times(rt: &HostRuntime) -> anyhow::Result<()> {
+    fs::create_dir_all(rt, FOLDER)?;
+    let outcome = print_checkpoint_table(rt);
+    fs::remove_dir_all(rt, FOLDER)?;
+    outcome
+}
+
+fn print_checkpoint_table(rt: &HostRuntime) -> anyhow::Result<()> {
+    println!(rt;
+        "a checkpoint beside one write of as many bytes, and an opening beside one read of them:"
+    )?;
+    for nodes in [1, 16, 256] {
+        for posts in [0, 512] {
+            print_checkpoint_row(rt, MovedNode { nodes, posts })?;
+        }
+    }
+    Ok(())
+}
+
+// Over a site in memory, which keeps no output, and over two files.
+fn print_checkpoint_row(rt: &HostRuntime, node: MovedNode) -> anyhow::Result<()> {
+    let alloc = rt.alloc();
+    let MovedNode { nodes, posts } = node;
+    let memory = checkpoint_times(rt, alloc, MemorySite::new(alloc, 0)?, node)?;
+    println!(rt; "{nodes} rows, {posts} posts, in memory: {memory}")?;
+    let files = checkpoint_times(rt, alloc, new_sides(rt)?, node)?;
+    println!(rt; "{nodes} rows, {posts} posts, on files: {files}")?;
     Ok(())
 }

@@ -15,7 +15,7 @@ use Rattle.cc_flush.specs.declared.flusher.Failed.{Failed}
 use Rattle.cc_intake.specs.declared.turner.Turned.{Turned}
 use Rattle.cc_intake.specs.Histories.{life_limit}
 use Rattle.cc_intake.specs.Turning.{Turning, popped, IsTurner}
-use Rattle.cc_flush.specs.Flushing.{LeadsTo, Flushes, GivesUp}
+use Rattle.cc_flush.specs.Flushing.{Flushes, FlushFails}
 use Rattle.cc_intake.specs.Turns.{IsDone, Gathers, Turns}
 use Rattle.cc_intake.proofs.Batches.{HandedOn, hands_on}
 use Rattle.cc_intake.proofs.Flushed.{flushed_none}
@@ -28,7 +28,7 @@ module _ {D : Type 0} (s : Ghosts D) (reached : List Entry → Type 0) where
   Goes = Flushes s
 
   abbrev Fails : List Entry → Engine D → Engine D → DeviceFault → Type 0
-  Fails batch = GivesUp s (LeadsTo s) (events_in batch)
+  Fails = FlushFails s
 
   pub turned_never : (t : Turning D) (f : Failed) → t.engine.failed ≡ Some f.fault → IsTurn t t (Err f)
   turned_never t f is = record {

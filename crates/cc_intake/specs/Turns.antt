@@ -11,7 +11,7 @@ use Rattle.cc_journal.specs.Batches.{events_in}
 use Rattle.cc_flush.specs.declared.flusher.Failed.{Failed}
 use Rattle.cc_intake.specs.declared.turner.Turned.{Turned}
 use Rattle.cc_intake.specs.Turning.{Turning, listed, popped}
-use Rattle.cc_flush.specs.Flushing.{LeadsTo, Flushes, GivesUp}
+use Rattle.cc_flush.specs.Flushing.{Flushes, FlushFails}
 
 abbrev pub Fits : List Entry → Entry → Type 0
 Fits batch e = (length batch < batch_limit) × (length (events_spelling (events_in (batch ++ e ∷ []))) ≤ record_limit)
@@ -34,4 +34,4 @@ pub record Turns {D : Type 0} (s : Ghosts D) (reached : List Entry → Type 0) (
   pub done : IfOk result (λ t. (t.events ≡ length batch) × (IsFalse t.full → IsDone reached batch new.kept (popped new) old.finds new.finds))
   -- the engine made it durable and put its outputs; where it had not failed before, it failed in this batch
   pub engine : MatchResult result (λ _. Flushes s batch old.engine new.engine)
-      (λ f. old.engine.failed ≡ None → GivesUp s (LeadsTo s) (events_in batch) old.engine new.engine f.fault)
+      (λ f. old.engine.failed ≡ None → FlushFails s batch old.engine new.engine f.fault)

@@ -2,11 +2,13 @@
 
 ghost use Rattle.std.specs.Prelude.{◌≡◌, ◌↔◌, ◌≤◌, ◌<◌, ◌^◌, [], None, Some, Ok, Err, false, nat_lt, length, IsTrue, IfOk, IfErr, OnOk, MatchResult};
 ghost use Rattle.std.specs.FinMap as table;
+ghost use Rattle.cc_views.specs.Limits.{counter_limit};
 ghost use Rattle.cc_links.specs.Links.{heard_from};
 ghost use Rattle.cc_node.specs.Node.{after};
 ghost use Rattle.cc_journal.specs.Batches.{AreLawful, events_in};
-ghost use Rattle.cc_journal.specs.Journals.{room_limit};
-ghost use Rattle.cc_flush.specs.Flushing.{Flushes, GivesUp, LeadsTo, PutsAgain};
+ghost use Rattle.cc_journal.specs.Journals.{room_limit, StaysGood};
+ghost use Rattle.cc_flush.specs.Flushing.{FlushFails, Flushes, LeadsTo, PutsAgain};
+ghost use Rattle.cc_flush.specs.Moving.{Moves, MoveStops};
 ghost use Rattle.cc_flush.specs.Standing.{resends, reply_again, ack_again};
 ghost use Rattle.cc_intake.specs.Histories.{life_limit};
 ghost use Rattle.cc_intake.specs.Turning.{listed, popped};
@@ -14,7 +16,7 @@ ghost use Rattle.cc_intake.specs.Turns.{IsDone, Gathers, Turns};
 
 use crate::ends::{Consumer, Queue};
 use crate::rule::{Lane, Life};
-use cc_flush::{Failed, Flusher};
+use cc_flush::{CheckpointFault, Failed, Flusher};
 use cc_journal::{Batch, Entry};
 use cc_site::{DeviceFault, Site};
 use cc_views::NodeId;
@@ -126,6 +128,21 @@ impl<S: Site, L: Life, Q: Lane> Turner<S, L, Q> {
         })
     }
 
+    /// Moves the engine's node to the other side, as `Flusher::checkpoint` does.
+    pub fn checkpoint(&mut self) -> Result<(), CheckpointFault>
+        ensures lists { self.new ≡ record self.old { engine = self.new.engine } }
+        ensures ended { (fault : DeviceFault) → self.old.engine.failed ≡ Some fault → (result ≡ Err (CheckpointFault.Failed (record { fault = fault }))) × (self.new ≡ self.old) }
+        ensures spent { self.old.engine.failed ≡ None → counter_limit ≤ self.old.engine.generation → (result ≡ Err CheckpointFault.Spent) × (self.new ≡ self.old) }
+        ensures moves { self.old.engine.failed ≡ None → self.old.engine.generation < counter_limit → MatchResult result (λ _. Moves S.Site self.old.engine self.new.engine) (MoveStops S.Site self.old.engine self.new.engine) }
+        ensures same_twin { self.new.engine.twin ≡ self.old.engine.twin }
+        ensures owes { self.new.engine.owes ≡ false }
+        ensures honest { S.honest self.old.engine.site ↔ S.honest self.new.engine.site }
+        ensures tells { (S.tells self.old.engine.site ↔ S.tells self.new.engine.site) × (S.sent self.new.engine.site ≡ S.sent self.old.engine.site) }
+        ensures good { S.honest self.old.engine.site → self.old.engine.failed ≡ None → StaysGood S.Site (LeadsTo S.Site self.old.engine) self.old.engine.site self.new.engine.site }
+    {
+        self.engine.checkpoint()
+    }
+
     /// Puts each kept post again, as `Flusher::resend` does, from the node as it is durable.
     pub fn resend(&mut self) -> Result<u64, Failed>
         ensures lists { self.new ≡ record self.old { engine = self.new.engine } }
@@ -200,7 +217,7 @@ fn flush<S: Site>(engine: &mut Flusher<S>, batch: Batch) -> Result<(), Failed>
     requires room { engine.old.used < room_limit }
     ensures { MatchResult result
         (λ _. Flushes S.Site batch engine.old engine.new)
-        (λ f. GivesUp S.Site (LeadsTo S.Site) (events_in batch) engine.old engine.new f.fault) }
+        (λ f. FlushFails S.Site batch engine.old engine.new f.fault) }
 {
     if batch.len() > 0 {
         engine.flush(batch)?;

@@ -62,6 +62,7 @@ impl Cluster {
             Line::Carry(delivery) => self.carry(alloc, delivery, output),
             Line::CarryAll { limit } => self.carry_all(alloc, limit, output),
             Line::Again { node, standing } => self.put_again(node, standing, output),
+            Line::Checkpoint { node } => self.checkpoint(node, output),
             Line::Crash { node, choice } => self.crash(alloc, node, &choice, output),
         }
     }
@@ -209,6 +210,19 @@ impl Cluster {
             self.note_next(from, to, &mut waiting)?;
         }
         Ok(Played::Good)
+    }
+
+    fn checkpoint<W: Write>(&mut self, node: u32, output: &mut W) -> Result<Played, PlayFault> {
+        let Some(station) = self.station_mut(node) else {
+            return Ok(Played::Bad);
+        };
+        match station.checkpoint() {
+            Ok(()) => {
+                writeln!(output, "{node} checkpoint")?;
+                Ok(Played::Good)
+            }
+            Err(fault) => tell(node, fault, output),
+        }
     }
 
     fn crash<W: Write>(

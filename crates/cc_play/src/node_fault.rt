@@ -1,7 +1,7 @@
 //! What ends a script at one node.
 
 use cc_checkpoint::OpenFault;
-use cc_flush::{Failed, FormatFault};
+use cc_flush::{CheckpointFault, Failed, FormatFault};
 use cc_views::NoMemory;
 use std::fmt;
 
@@ -14,6 +14,8 @@ pub enum NodeFault {
     Open(OpenFault),
     /// A disk call failed, which ended its engine.
     Engine(Failed),
+    /// The generation that its site is in use under is the last one.
+    Spent,
     /// Its site lost an output.
     Outlet,
     /// A growth was refused.
@@ -27,6 +29,7 @@ impl fmt::Display for NodeFault {
             NodeFault::Format(fault) => write!(f, "{fault}"),
             NodeFault::Open(fault) => write!(f, "{fault}"),
             NodeFault::Engine(failed) => write!(f, "{failed}"),
+            NodeFault::Spent => write!(f, "Spent"),
             NodeFault::Outlet => write!(f, "Outlet"),
             NodeFault::NoMemory => write!(f, "NoMemory"),
         }
@@ -36,5 +39,14 @@ impl fmt::Display for NodeFault {
 impl From<NoMemory> for NodeFault {
     fn from(_e: NoMemory) -> NodeFault {
         NodeFault::NoMemory
+    }
+}
+
+impl From<CheckpointFault> for NodeFault {
+    fn from(fault: CheckpointFault) -> NodeFault {
+        match fault {
+            CheckpointFault::Failed(failed) => NodeFault::Engine(failed),
+            CheckpointFault::Spent => NodeFault::Spent,
+        }
     }
 }

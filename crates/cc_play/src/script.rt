@@ -25,6 +25,8 @@ pub enum Line {
     CarryAll { limit: u64 },
     /// A node puts out again what stands in it.
     Again { node: u32, standing: Standing },
+    /// A node is moved to the other side of its site.
+    Checkpoint { node: u32 },
     /// A node crashes, which leaves of its site what is chosen, and is opened again.
     Crash { node: u32, choice: Choice },
 }
@@ -69,12 +71,14 @@ fn carried_line(words: &[&str]) -> Option<Line> {
         ["resend", node] => again(node, Some(Standing::Posts)),
         ["again", node, session] => again(node, answer(session)),
         ["reack", node, peer] => again(node, ack(peer)),
-        _ => crash_line(words),
+        _ => disk_line(words),
     }
 }
 
-fn crash_line(words: &[&str]) -> Option<Line> {
+// The line of these words, where it is of a node's disk alone.
+fn disk_line(words: &[&str]) -> Option<Line> {
     match words {
+        ["checkpoint", node] => checkpoint(node),
         ["crash", node] => crash(node, Some(Choice::Read)),
         ["crash", node, "fill", filler] => crash(node, filled(filler)),
         _ => None,
@@ -160,6 +164,12 @@ fn answer(session: &str) -> Option<Standing> {
 fn ack(peer: &str) -> Option<Standing> {
     Some(Standing::Ack {
         peer: NodeId::new(small_number(peer)?)?,
+    })
+}
+
+fn checkpoint(node: &str) -> Option<Line> {
+    Some(Line::Checkpoint {
+        node: small_number(node)?,
     })
 }
 

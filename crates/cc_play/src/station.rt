@@ -208,6 +208,12 @@ impl Station {
         Ok(Outcome::Accepted)
     }
 
+    /// Moves the node to the other side of its site.
+    pub fn checkpoint(&mut self) -> Result<(), NodeFault> {
+        self.engine.checkpoint()?;
+        Ok(())
+    }
+
     /// Crashes the node, and opens what the crash left of its site.
     pub fn crash(&mut self, alloc: Global, choice: &Choice) -> Result<(), NodeFault> {
         self.engine = self.reopened(alloc, choice)?;

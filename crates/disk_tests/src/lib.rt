@@ -1,9 +1,15 @@
-//! Tests of a site in memory, of records and of states, by their public calls alone.
+//! Tests of sites in memory and of files, of records and of states, by their public calls alone.
 #![tactic(auto)]
 
+#[cfg(test)]
+mod checkpoints;
+#[cfg(test)]
+mod files;
 #[cfg(test)]
 mod memory_sites;
 #[cfg(test)]
 mod records;
 #[cfg(test)]
 mod states;
+#[cfg(test)]
+mod windows;

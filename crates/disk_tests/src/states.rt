@@ -55,7 +55,12 @@ fn entrant(alloc: Global) -> Result<Vec<u8>, Fail> {
     Ok(out)
 }
 
-fn opened(alloc: Global, me: u32, initial: &[u32], contacts: &[u32]) -> Result<Node, Fail> {
+pub(crate) fn opened(
+    alloc: Global,
+    me: u32,
+    initial: &[u32],
+    contacts: &[u32],
+) -> Result<Node, Fail> {
     let share = Fraction { num: 4, den: 5 };
     let opening = Opening {
         me,
@@ -67,7 +72,7 @@ fn opened(alloc: Global, me: u32, initial: &[u32], contacts: &[u32]) -> Result<N
     Ok(Node::fresh(alloc, &opening)?)
 }
 
-fn encoded(alloc: Global, node: &Node) -> Result<Vec<u8>, Fail> {
+pub(crate) fn encoded(alloc: Global, node: &Node) -> Result<Vec<u8>, Fail> {
     let mut bytes = Vec::new(alloc);
     encode_state(node, &mut bytes)?;
     Ok(bytes)
@@ -253,7 +258,7 @@ fn link_count(alloc: Global, bytes: &[u8]) -> Result<usize, Fail> {
 }
 
 // Takes the event in, which isn't refused.
-fn take(alloc: Global, node: &mut Node, event: Event) -> Result<(), Fail> {
+pub(crate) fn take(alloc: Global, node: &mut Node, event: Event) -> Result<(), Fail> {
     node.core().decide(&event)?;
     let made = node.core().made(alloc, &event)?;
     node.settle(event, made);
@@ -261,7 +266,7 @@ fn take(alloc: Global, node: &mut Node, event: Event) -> Result<(), Fail> {
 }
 
 // The node's own post of that number comes back to it.
-fn deliver(alloc: Global, node: &mut Node, number: u64) -> Result<(), Fail> {
+pub(crate) fn deliver(alloc: Global, node: &mut Node, number: u64) -> Result<(), Fail> {
     let from = NodeId::new(1).ok_or("1 is an id")?;
     let post = node.outbox().post(number).ok_or("there is no such post")?;
     let message = post.copy(alloc)?;
@@ -298,10 +303,15 @@ fn storing_back(alloc: Global) -> Result<Vec<u8>, Fail> {
     encoded(alloc, &node)
 }
 
-// The state of member 1 of 1, whose collect is answered.
-fn answered(alloc: Global) -> Result<Vec<u8>, Fail> {
+// Member 1 of 1, whose collect is answered.
+pub(crate) fn answered_node(alloc: Global) -> Result<Node, Fail> {
     let mut node = opened(alloc, 1, &[1], &[])?;
     collect_whole(alloc, &mut node)?;
+    Ok(node)
+}
+
+fn answered(alloc: Global) -> Result<Vec<u8>, Fail> {
+    let node = answered_node(alloc)?;
     encoded(alloc, &node)
 }
 

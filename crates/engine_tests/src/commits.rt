@@ -14,8 +14,8 @@ use cc_wire::{Answer, Command, Event, Message, Output, Refusal};
 use std::alloc::Global;
 use std::test::*;
 
-// Member 1 of 1, which has never been opened.
-fn member(alloc: Global) -> Result<MemorySite, Fail> {
+/// Member 1 of 1, which has never been opened.
+pub fn member(alloc: Global) -> Result<MemorySite, Fail> {
     match formatted(alloc, MemorySite::new(alloc, 16)?, 1, &[1], &[]) {
         Ok(site) => Ok(site),
         Err(Back { site: _, fault }) => Err(fault)?,
@@ -49,8 +49,8 @@ fn add(
     Ok(())
 }
 
-// What node 1 sent itself comes over its link.
-fn delivery(alloc: Global, number: u64, post: Option<&Message>) -> Result<Event, Fail> {
+/// What node 1 sent itself comes over its link.
+pub fn delivery(alloc: Global, number: u64, post: Option<&Message>) -> Result<Event, Fail> {
     let from = NodeId::new(1).ok_or("1 is an id")?;
     let post = post.ok_or("there is no post")?;
     let message = post.copy(alloc)?;
@@ -61,13 +61,13 @@ fn delivery(alloc: Global, number: u64, post: Option<&Message>) -> Result<Event,
     })
 }
 
-// The post that the last event of a batch makes.
-fn last_post(batch: &Batch) -> Option<&Message> {
+/// The post that the last event of a batch makes.
+pub fn last_post(batch: &Batch) -> Option<&Message> {
     batch.entries().last()?.made.post.as_ref()
 }
 
-// A client stores `a` in session 7, as its first request.
-fn ask() -> Result<Event, Fail> {
+/// A client stores `a` in session 7, as its first request.
+pub fn ask() -> Result<Event, Fail> {
     let text = Text::new(b"a").ok_or("a is a text")?;
     Ok(Event::Ask {
         session: 7,
@@ -76,10 +76,10 @@ fn ask() -> Result<Event, Fail> {
     })
 }
 
-// Which batch is committed: the ask of a store, its post as it comes back and the acknowledgement of that; the ask alone;
-// or the two deliveries that follow the ask.
+/// Which batch is committed: the ask of a store, its post as it comes back and the acknowledgement of that; the ask alone;
+/// or the two deliveries that follow the ask.
 #[derive(Clone, Copy)]
-enum Part {
+pub enum Part {
     Store,
     Ask,
     Deliveries,
@@ -166,8 +166,8 @@ fn turn(
     }
 }
 
-// Opens a site and commits those batches. Beside the site it gives the disk call that failed, if one did.
-fn turned(
+/// Opens a site and commits those batches. Beside the site it gives the disk call that failed, if one did.
+pub fn turned(
     alloc: Global,
     site: MemorySite,
     parts: &[Part],
@@ -182,8 +182,8 @@ fn turned(
     Ok((flusher.close(), outcome?))
 }
 
-// What a node has made: how many posts, and the own number.
-type Progress = (u64, u64);
+/// What a node has made: how many posts, and the own number.
+pub type Progress = (u64, u64);
 
 // What the node has made that is opened where a crash left this of a site.
 fn left(alloc: Global, site: &MemorySite, choice: &Choice) -> Result<Progress, Fail> {
@@ -199,8 +199,8 @@ const BEFORE: Progress = (0, 0);
 
 const AFTER: Progress = (2, 1);
 
-// What five crashes leave of a site: touched places as they are read, and full of 00, of A5 and of FF, and cut away.
-fn crashes(alloc: Global, site: &MemorySite) -> Result<[Progress; 5], Fail> {
+/// What five crashes leave of a site: touched places as they are read, and full of 00, of A5 and of FF, and cut away.
+pub fn crashes(alloc: Global, site: &MemorySite) -> Result<[Progress; 5], Fail> {
     Ok([
         left(alloc, site, &Choice::Read)?,
         left(alloc, site, &Choice::Fill(0))?,

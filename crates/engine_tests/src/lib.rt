@@ -2,6 +2,10 @@
 #![tactic(auto)]
 
 #[cfg(test)]
+mod checkpoints;
+#[cfg(test)]
 mod commits;
+#[cfg(test)]
+mod lives;
 #[cfg(test)]
 mod openings;

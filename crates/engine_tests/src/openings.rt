@@ -52,7 +52,7 @@ fn begun_again(alloc: Global, site: MemorySite) -> Result<MemorySite, FormatFaul
     }
 }
 
-fn entrant(alloc: Global) -> Result<MemorySite, Fail> {
+pub fn entrant(alloc: Global) -> Result<MemorySite, Fail> {
     Ok(begun(alloc, MemorySite::new(alloc, 8)?)?)
 }
 
@@ -64,7 +64,7 @@ pub fn opened(alloc: Global, site: MemorySite) -> Result<Flusher<MemorySite>, Op
 }
 
 // How many posts the node of a site has made: 0 for an entrant as it begins, and 1 once it has entered.
-fn posts(alloc: Global, site: MemorySite) -> Result<u64, OpenFault> {
+pub fn posts(alloc: Global, site: MemorySite) -> Result<u64, OpenFault> {
     let flusher = opened(alloc, site)?;
     let posts = flusher.twin().core().posts();
     let _ = flusher.close();
@@ -95,14 +95,14 @@ fn enter(alloc: Global, flusher: &mut Flusher<MemorySite>) -> Result<Option<Devi
 }
 
 // Opens a site and commits an Enter. Beside the site it gives the disk call that failed, if one did.
-fn entered(alloc: Global, site: MemorySite) -> Result<(MemorySite, Option<DeviceFault>), Fail> {
+pub fn entered(alloc: Global, site: MemorySite) -> Result<(MemorySite, Option<DeviceFault>), Fail> {
     let mut flusher = opened(alloc, site)?;
     let outcome = enter(alloc, &mut flusher);
     let site = flusher.close();
     Ok((site, outcome?))
 }
 
-fn contents<S: Site>(alloc: Global, site: &mut S, side: Side) -> Result<Vec<u8>, Fail> {
+pub fn contents<S: Site>(alloc: Global, site: &mut S, side: Side) -> Result<Vec<u8>, Fail> {
     let length = site.length(side).or(Err("the length can't be read"))?;
     let mut bytes = vec![in alloc; 0; length as usize]?;
     site.read(side, 0, &mut bytes).or(Err("the read failed"))?;
@@ -330,8 +330,8 @@ fn a_version_that_is_not_known_is_told(rt: HostRuntime) -> Result<(), Fail> {
     Ok(())
 }
 
-// Entrant 4 on side B, and side A is armed too, under that generation, with nothing behind it that can be read.
-fn armed_twice(alloc: Global, a: u8, b: u8) -> Result<MemorySite, Fail> {
+/// Entrant 4 on side B, and side A is armed too, under that generation, with nothing behind it that can be read.
+pub fn armed_twice(alloc: Global, a: u8, b: u8) -> Result<MemorySite, Fail> {
     let mut first = entrant(alloc)?;
     let mut bytes = contents(alloc, &mut first, Side::A)?;
     if let Some(generation) = bytes.get_mut(8) {
@@ -526,7 +526,7 @@ fn left_of_enter(alloc: Global, at: u64) -> Result<[u64; 5], Fail> {
     crashes(alloc, &site)
 }
 
-fn crashes(alloc: Global, site: &MemorySite) -> Result<[u64; 5], Fail> {
+pub fn crashes(alloc: Global, site: &MemorySite) -> Result<[u64; 5], Fail> {
     Ok([
         left(alloc, site, &Choice::Read)?,
         left(alloc, site, &Choice::Fill(0))?,

@@ -11,8 +11,20 @@ const NO_COMMANDS: &str = "
 play
 Member 2 of 2
 1
-checkpoint 1
 retire 1 2";
+
+const NO_CHECKPOINTS: &str = "\
+checkpoint
+checkpoint\x20
+checkpoint 2
+checkpoint 0
+checkpoint 01
+checkpoint a
+checkpoint 1\x20
+checkpoint 1 2
+checkpoint 1,1
+checkpoint 4294967296
+Checkpoint 1";
 
 const NO_CRASHES: &str = "\
 crash
@@ -220,6 +232,7 @@ fn a_bad_line_ends_the_script(rt: HostRuntime) -> Result<(), Fail> {
         NO_EVENTS,
         NO_ASKS,
         NO_CARRIES,
+        NO_CHECKPOINTS,
         NO_CRASHES,
         NOTHING_AGAIN,
     ] {

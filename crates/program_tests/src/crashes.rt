@@ -38,19 +38,19 @@ fn a_member_stores_through_crashes(rt: HostRuntime) -> Result<(), Fail> {
     Ok(())
 }
 
-// The script STORE with this crash after each line but the first.
-fn store_with(alloc: Global, crash: &str) -> Result<String, Fail> {
+/// The script STORE with these lines after each line but the first.
+pub fn store_with(alloc: Global, lines: &str) -> Result<String, Fail> {
     let mut script = String::new(alloc);
     for (i, line) in STORE.lines().enumerate() {
         push_line(&mut script, line)?;
         if i > 0 {
-            push_line(&mut script, crash)?;
+            push_line(&mut script, lines)?;
         }
     }
     Ok(script)
 }
 
-fn push_line(script: &mut String, line: &str) -> Result<(), Fail> {
+pub fn push_line(script: &mut String, line: &str) -> Result<(), Fail> {
     script.push_str(line)?;
     script.push('\n')?;
     Ok(())

@@ -4,6 +4,8 @@
 #[cfg(test)]
 mod bad_lines;
 #[cfg(test)]
+mod checkpoints;
+#[cfg(test)]
 mod clusters;
 #[cfg(test)]
 mod crashes;

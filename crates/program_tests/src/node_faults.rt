@@ -13,7 +13,7 @@ const FAILING: DeviceFault = DeviceFault {
 };
 
 // Each kind of fault, and its text.
-const TEXTS: [(NodeFault, &str); 7] = [
+const TEXTS: [(NodeFault, &str); 8] = [
     (
         NodeFault::Format(FormatFault::Device(FAILING)),
         "Device A Sync",
@@ -31,6 +31,7 @@ const TEXTS: [(NodeFault, &str); 7] = [
         NodeFault::Engine(Failed { fault: FAILING }),
         "Failed A Sync",
     ),
+    (NodeFault::Spent, "Spent"),
     (NodeFault::Outlet, "Outlet"),
     (NodeFault::NoMemory, "NoMemory"),
 ];

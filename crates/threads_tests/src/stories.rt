@@ -4,7 +4,7 @@ use crate::crashes::after_crash;
 use crate::fixtures::{Disk, drawn};
 use crate::holding::Hold;
 use crate::repeats::repeat;
-use crate::turns::{batches, full_queue};
+use crate::turns::{batches, full_queue, moves};
 use crate::workers::many;
 use cc_intake::{Intake, Lane, Life, Queue, Share, Turner};
 use std::alloc::Global;
@@ -16,6 +16,7 @@ use std::thread::Threads;
 #[derive(Clone, Copy)]
 pub(crate) enum Story {
     Batches,
+    Moves,
     FullQueue,
     Repeat,
     AfterCrash,
@@ -53,6 +54,7 @@ fn play_alone<L: Life, Q: Lane, R: Wait>(
 ) -> Result<(), Fail> {
     match story {
         Story::Batches => batches(rt, alloc, hooks, lock, turner, queue, share),
+        Story::Moves => moves(rt, alloc, lock, turner, queue, share),
         Story::FullQueue => full_queue(rt, alloc, lock, turner, queue, share),
         Story::Repeat => repeat(rt, alloc, hooks, lock, queue, share),
         Story::AfterCrash => after_crash(rt, alloc, lock, turner, queue, share),

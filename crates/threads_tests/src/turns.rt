@@ -5,6 +5,7 @@ use crate::holding::{Hold, Holding};
 use crate::lives::lives;
 use crate::stories::Story;
 use cc_intake::{Intake, Lane, Life, Queue, Share, Turned, Turner};
+use cc_site::{Side, Site};
 use cc_wire::Refusal;
 use std::alloc::Global;
 use std::sync::atomic::Ordering;
@@ -54,6 +55,34 @@ fn turns_take_64_then_1_then_none(rt: HostRuntime) -> Result<(), Fail> {
     let expected = [65, 65, 65, 0];
     let site = lives(&rt, rt.alloc(), Holding::Nothing, Story::Batches, expected)?;
     check(site.outputs().len() == 65, "each event is acknowledged")
+}
+
+/// 65 events are accepted, and taken by turns, with a checkpoint behind each.
+pub(crate) fn moves<L: Life, Q: Lane, R: Wait>(
+    rt: &R,
+    alloc: Global,
+    lock: &Mutex<Intake<L, Q>>,
+    turner: &mut Turner<Disk<'_>, L, Q>,
+    queue: &Queue<L, Q>,
+    share: &mut Share<L>,
+) -> Result<(), Fail> {
+    let all = hears_all(rt, alloc, lock, queue, share, 65);
+    check(all, "65 events are accepted")?;
+    for events in [64, 1] {
+        let turned = taken(rt, turner, queue);
+        check(turned == Some(events), "a turn takes a whole batch")?;
+        check(turner.checkpoint() == Ok(()), "a checkpoint is made")?;
+    }
+    Ok(())
+}
+
+// Side A is in use again, and side B is one closed byte.
+#[test]
+fn a_checkpoint_goes_between_two_turns(rt: HostRuntime) -> Result<(), Fail> {
+    let expected = [65, 65, 65, 0];
+    let mut site = lives(&rt, rt.alloc(), Holding::Nothing, Story::Moves, expected)?;
+    check(site.outputs().len() == 65, "each event is acknowledged")?;
+    check(site.length(Side::B) == Ok(1), "side B is closed")
 }
 
 /// The queue takes 256 events, and another one after a turn.

@@ -1,0 +1,129 @@
+//! A state in pieces, and the steps of a checkpoint.
+
+use crate::states::{answered_node, encoded, opened};
+use cc_checkpoint::{Piece, Pieces, arm, fill, retire, state_length};
+use cc_node::Node;
+use cc_site::{Failing, MemorySite, Side, Site, write_durably};
+use std::alloc::Global;
+use std::test::*;
+
+// What the pieces of a node's state are together. They end within a hundred.
+fn joined(alloc: Global, node: &Node) -> Result<Vec<u8>, Fail> {
+    let mut piece = Piece::new(alloc)?;
+    let mut all = Vec::new(alloc);
+    let mut pieces = Pieces::new(node);
+    for _ in 0..100 {
+        pieces.next(&mut piece);
+        all.extend_from_slice(piece.as_slice())?;
+    }
+    Ok(all)
+}
+
+// Whether the pieces of a node's state are its plain spelling, as long as is told.
+fn comes_in_pieces(alloc: Global, node: &Node) -> Result<bool, Fail> {
+    let pieces = joined(alloc, node)?;
+    let plain = encoded(alloc, node)?;
+    let length = state_length(node);
+    Ok(pieces.as_slice() == plain.as_slice() && length == plain.len() as u64)
+}
+
+#[test]
+fn a_state_comes_in_pieces(rt: HostRuntime) -> Result<(), Fail> {
+    let member = opened(rt.alloc(), 1, &[1], &[])?;
+    assert_eq!(rt; state_length(&member), 118);
+    assert!(rt; comes_in_pieces(rt.alloc(), &member)?);
+    Ok(())
+}
+
+#[test]
+fn what_a_node_keeps_comes_in_pieces(rt: HostRuntime) -> Result<(), Fail> {
+    let node = answered_node(rt.alloc())?;
+    assert!(rt; comes_in_pieces(rt.alloc(), &node)?);
+    Ok(())
+}
+
+// Fills a side that has a byte. Whether that was done.
+pub(crate) fn fills<S: Site>(
+    site: &mut S,
+    side: Side,
+    generation: u64,
+    node: &Node,
+    piece: &mut Piece,
+) -> bool {
+    let Ok(length) = site.length(side) else {
+        return false;
+    };
+    length > 0 && generation > 0 && fill(site, side, generation, node, piece).is_ok()
+}
+
+// The node on side A under generation 1, then on side B under generation 2, and side A as one closed byte. Whether all that
+// was done.
+fn moves_over<S: Site>(site: &mut S, node: &Node, piece: &mut Piece) -> bool {
+    fills(site, Side::A, 1, node, piece)
+        && arm(site, Side::A).is_ok()
+        && fills(site, Side::B, 2, node, piece)
+        && arm(site, Side::B).is_ok()
+        && retire(site, Side::A).is_ok()
+}
+
+// Two sides of one closed byte each.
+pub(crate) fn two_sides(alloc: Global) -> Result<MemorySite, Fail> {
+    let mut site = MemorySite::new(alloc, 0)?;
+    write_durably(&mut site, Side::A, 0, &[0]).or(Err("the write failed"))?;
+    write_durably(&mut site, Side::B, 0, &[0]).or(Err("the write failed"))?;
+    Ok(site)
+}
+
+fn bytes_of<S: Site>(alloc: Global, site: &mut S, side: Side) -> Result<Vec<u8>, Fail> {
+    let length = site.length(side).or(Err("the length can't be read"))?;
+    let mut bytes = vec![in alloc; 0; length as usize]?;
+    site.read(side, 0, &mut bytes).or(Err("the read failed"))?;
+    Ok(bytes)
+}
+
+// What a whole checkpoint leaves of side A, and of side B.
+fn moved_over(alloc: Global, node: &Node) -> Result<(Vec<u8>, Vec<u8>), Fail> {
+    let mut piece = Piece::new(alloc)?;
+    let mut site = two_sides(alloc)?;
+    if !moves_over(&mut site, node, &mut piece) {
+        return Err("the checkpoint stopped")?;
+    }
+    let old = bytes_of(alloc, &mut site, Side::A)?;
+    let new = bytes_of(alloc, &mut site, Side::B)?;
+    Ok((old, new))
+}
+
+// What stands before the state of 118 bytes: an open gate, generation 2, version 1, and that length.
+const HEAD: [u8; 14] = [0xA5, 0, 0, 0, 0, 0, 0, 0, 2, 1, 0, 0, 0, 0x76];
+
+#[test]
+fn a_checkpoint_moves_to_the_other_side(rt: HostRuntime) -> Result<(), Fail> {
+    let member = opened(rt.alloc(), 1, &[1], &[])?;
+    let (old, new) = moved_over(rt.alloc(), &member)?;
+    let state = encoded(rt.alloc(), &member)?;
+    assert_eq!(rt; old.as_slice(), [0].as_slice());
+    assert_eq!(rt; new.len(), 133);
+    assert_eq!(rt; new.get(..14), Some(HEAD.as_slice()));
+    assert_eq!(rt; new.get(14..132), Some(state.as_slice()));
+    assert_eq!(rt; new.get(132), Some(&0));
+    Ok(())
+}
+
+// Whether a checkpoint is done where that disk call fails, and all after it.
+fn is_done_in_spite_of(alloc: Global, node: &Node, call: u64) -> Result<bool, Fail> {
+    let mut piece = Piece::new(alloc)?;
+    let mut site = two_sides(alloc)?;
+    site.fuse(call, Failing::Stop);
+    Ok(moves_over(&mut site, node, &mut piece))
+}
+
+// The calls 0 to 3 made the sides. To fill a side takes 7, to arm it 2, and to retire one 4.
+#[test]
+fn a_checkpoint_tells_each_failed_call(rt: HostRuntime) -> Result<(), Fail> {
+    let member = opened(rt.alloc(), 1, &[1], &[])?;
+    for call in 4..26 {
+        assert!(rt; !is_done_in_spite_of(rt.alloc(), &member, call)?);
+    }
+    assert!(rt; is_done_in_spite_of(rt.alloc(), &member, 26)?);
+    Ok(())
+}

@@ -1,0 +1,179 @@
+//! A site of two files: what it does with a folder, and with files that fail or give too little.
+
+ghost use Rattle.std.specs.Prelude.{◌≤◌, IfOk};
+
+use cc_files::{FileSite, NoOutlet, SiteFault, read_whole, write_whole};
+use cc_site::{Call, DeviceFault, Side, Site};
+use std::cell::Cell;
+use std::os::unix::fs::FileExt;
+use std::test::*;
+use std::{fs, io};
+
+// A file of which a call moves so many bytes at most, and the call with that number fails.
+#[derive(Drop)]
+struct Scant {
+    calls: Cell<u64>,
+    most: usize,
+    fails_at: u64,
+}
+
+impl Scant {
+    fn new(most: usize, fails_at: u64) -> Self {
+        Scant {
+            calls: Cell::new(0),
+            most,
+            fails_at,
+        }
+    }
+
+    fn count(&self, asked: usize) -> io::Result<usize>
+        ensures { IfOk result (λ n. n ≤ asked) }
+    {
+        let call = self.calls.get();
+        self.calls.set(call.wrapping_add(1));
+        if call == self.fails_at {
+            return Err(io::ErrorKind::Interrupted.into());
+        }
+        Ok(asked.min(self.most))
+    }
+}
+
+impl FileExt for Scant {
+    fn read_at(&self, buf: &mut [u8], _offset: u64) -> io::Result<usize> {
+        let count = self.count(buf.len())?;
+        buf[..count].fill(7);
+        Ok(count)
+    }
+
+    fn write_at(&self, buf: &[u8], _offset: u64) -> io::Result<usize> {
+        self.count(buf.len())
+    }
+}
+
+#[test]
+fn what_a_call_leaves_is_asked_for_next(rt: HostRuntime) -> Result<(), Fail> {
+    let file = Scant::new(3, 9);
+    assert!(rt; write_whole(&file, 0, b"abcdefgh"));
+    assert_eq!(rt; file.calls.get(), 3);
+    let mut into = [0; 8];
+    let file = Scant::new(3, 9);
+    assert!(rt; read_whole(&file, 0, &mut into));
+    assert_eq!(rt; file.calls.get(), 3);
+    assert_eq!(rt; into, [7; 8]);
+    Ok(())
+}
+
+#[test]
+fn nothing_is_tried_twice(rt: HostRuntime) -> Result<(), Fail> {
+    let mut into = [0; 8];
+    for fails_at in 0..3 {
+        let file = Scant::new(3, fails_at);
+        assert!(rt; !write_whole(&file, 0, b"abcdefgh"));
+        assert_eq!(rt; file.calls.get(), fails_at + 1);
+        let file = Scant::new(3, fails_at);
+        assert!(rt; !read_whole(&file, 0, &mut into));
+        assert_eq!(rt; file.calls.get(), fails_at + 1);
+    }
+    Ok(())
+}
+
+#[test]
+fn a_call_that_moves_nothing_ends_it(rt: HostRuntime) -> Result<(), Fail> {
+    let mut into = [0; 8];
+    let file = Scant::new(0, 9);
+    assert!(rt; !read_whole(&file, 0, &mut into));
+    assert!(rt; !write_whole(&file, 0, b"abcdefgh"));
+    assert_eq!(rt; file.calls.get(), 2);
+    Ok(())
+}
+
+// Why the folder can't be opened, if it can't.
+fn refused(rt: &HostRuntime, folder: &str) -> Option<SiteFault> {
+    FileSite::open(rt, rt.alloc(), folder, NoOutlet).err()
+}
+
+// The site of a folder.
+fn site(rt: &HostRuntime, folder: &str) -> Result<FileSite<NoOutlet>, Fail> {
+    Ok(FileSite::open(rt, rt.alloc(), folder, NoOutlet)?)
+}
+
+// The call Length of a side, as a fault.
+fn unopened(side: Side) -> Option<SiteFault> {
+    let call = Call::Length;
+    Some(SiteFault::Device(DeviceFault { side, call }))
+}
+
+// A new folder.
+fn made(rt: &HostRuntime, folder: &str) -> Result<(), Fail> {
+    let _ = fs::remove_dir_all(rt, folder);
+    fs::create_dir(rt, folder)?;
+    Ok(())
+}
+
+#[test]
+fn a_folder_has_to_exist(rt: HostRuntime) -> Result<(), Fail> {
+    let fault = refused(&rt, "no-such-folder");
+    assert_eq!(rt; fault, unopened(Side::A));
+    Ok(())
+}
+
+// Writes six bytes, cuts two off, and reads the other four.
+fn written_and_cut(site: &mut FileSite<NoOutlet>) -> Result<[u8; 4], DeviceFault> {
+    let mut into = [0; 4];
+    site.write_at(Side::B, 0, b"abcdef")?;
+    site.cut(Side::B, 4)?;
+    site.sync(Side::B)?;
+    site.read(Side::B, 0, &mut into)?;
+    Ok(into)
+}
+
+// How long both sides are.
+fn lengths(site: &mut FileSite<NoOutlet>) -> Result<(u64, u64), DeviceFault> {
+    Ok((site.length(Side::A)?, site.length(Side::B)?))
+}
+
+#[test]
+fn a_folder_is_a_site(rt: HostRuntime) -> Result<(), Fail> {
+    const FOLDER: &str = "file_site_test";
+    made(&rt, FOLDER)?;
+    let mut first = site(&rt, FOLDER)?;
+    assert_eq!(rt; lengths(&mut first), Ok((0, 0)));
+    assert_eq!(rt; written_and_cut(&mut first), Ok(*b"abcd"));
+    // While it is open, no other one opens the folder.
+    assert_eq!(rt; refused(&rt, FOLDER), unopened(Side::A));
+    drop(first);
+    let mut second = site(&rt, FOLDER)?;
+    assert_eq!(rt; lengths(&mut second), Ok((0, 4)));
+    drop(second);
+    fs::remove_dir_all(&rt, FOLDER)?;
+    Ok(())
+}
+
+// A read past the end gives nothing too early, and a side is named by its file.
+#[test]
+fn a_site_of_files_names_its_faults(rt: HostRuntime) -> Result<(), Fail> {
+    const FOLDER: &str = "file_site_faults";
+    made(&rt, FOLDER)?;
+    let mut short = site(&rt, FOLDER)?;
+    let mut into = [0; 4];
+    let fault = short.read(Side::B, 0, &mut into);
+    drop(short);
+    let side = Side::B;
+    let call = Call::Read;
+    assert_eq!(rt; fault, Err(DeviceFault { side, call }));
+    fs::remove_file(&rt, "file_site_faults/side-b")?;
+    fs::create_dir(&rt, "file_site_faults/side-b")?;
+    assert_eq!(rt; refused(&rt, FOLDER), unopened(Side::B));
+    fs::remove_dir_all(&rt, FOLDER)?;
+    Ok(())
+}
+
+#[test]
+fn faults_of_a_folder_print_their_names(rt: HostRuntime) -> Result<(), Fail> {
+    let fault = unopened(Side::B).ok_or("a fault")?;
+    let text = format!(in rt.alloc(); "{fault}")?;
+    assert_eq!(rt; text.as_str(), "Device B Length");
+    let text = format!(in rt.alloc(); "{}", SiteFault::NoMemory)?;
+    assert_eq!(rt; text.as_str(), "NoMemory");
+    Ok(())
+}

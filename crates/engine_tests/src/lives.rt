@@ -1,0 +1,190 @@
+//! Lives of an engine with checkpoints between their batches.
+
+ghost use Rattle.std.specs.Prelude.{◌≡◌, ◌≤◌, length, IfOk};
+ghost use Rattle.cc_node.specs.Node.{Node as NodeValue, after};
+ghost use Rattle.cc_journal.specs.Batches.{AreLawful, events_in};
+ghost use Rattle.cc_flush.specs.Lives.{AreTurnsLawful};
+
+use crate::checkpoints::{calls_of_opening, last_member};
+use crate::commits::{Progress, ask, crashes, delivery, last_post, member};
+use crate::openings::{contents, opened};
+use cc_flush::{Action, Failed, Flusher};
+use cc_journal::{Batch, Entry};
+use cc_node::{Core, Node};
+use cc_site::{Call, Choice, DeviceFault, Failing, MemorySite, Side};
+use cc_wire::{Event, Message, Output};
+use std::alloc::Global;
+use std::process::Abort;
+use std::test::*;
+
+// The batch of an event, which a core takes in.
+fn batch_of(alloc: Global, live: &mut Core, event: Event) -> Result<Batch, Fail>
+    ensures lawful { IfOk result (λ b. (node : NodeValue) → node.core ≡ live.old → AreLawful node b) }
+    ensures live { IfOk result (λ b. (node : NodeValue) → node.core ≡ live.old → (after node (events_in b)).core ≡ live.new) }
+    ensures some { IfOk result (λ b. 1 ≤ length b) }
+{
+    let entry = Entry::of(alloc, live, event)?;
+    live.apply(&entry.event);
+    Ok(Batch::of_one(entry))
+}
+
+// The ask of a store and the post that it makes, as it comes back: a batch each, and a checkpoint behind each. What is kept
+// then is put again.
+fn actions_from(alloc: Global, live: &mut Core) -> Result<Vec<Action>, Fail>
+    ensures { IfOk result (λ actions. (node : NodeValue) → node.core ≡ live.old → AreTurnsLawful node actions.items) }
+{
+    let first = batch_of(alloc, live, ask()?)?;
+    let post = delivery(alloc, 1, last_post(&first))?;
+    let second = batch_of(alloc, live, post)?;
+    Ok(vec![in alloc;
+        Action::Turn(first),
+        Action::Checkpoint,
+        Action::Turn(second),
+        Action::Checkpoint,
+        Action::Resend,
+    ]?)
+}
+
+fn actions(alloc: Global, node: &Node) -> Result<Vec<Action>, Fail>
+    ensures { IfOk result (λ actions. AreTurnsLawful node.now actions.items) }
+{
+    let mut live = node.core().copy(alloc)?;
+    actions_from(alloc, &mut live)
+}
+
+// The disk call that failed, if one did.
+fn live(alloc: Global, flusher: &mut Flusher<MemorySite>) -> Result<Option<DeviceFault>, Fail> {
+    if flusher.owes() {
+        return Err("outputs are owed")?;
+    }
+    let actions = actions(alloc, flusher.twin())?;
+    match flusher.run_life(actions) {
+        Ok(()) => Ok(None),
+        Err(Failed { fault }) => Ok(Some(fault)),
+    }
+}
+
+// Opens a site and lives on it. Beside the site it gives the disk call that failed, if one did.
+fn lived(alloc: Global, site: MemorySite) -> Result<(MemorySite, Option<DeviceFault>), Fail> {
+    let mut flusher = opened(alloc, site)?;
+    let outcome = live(alloc, &mut flusher);
+    let site = flusher.close();
+    Ok((site, outcome?))
+}
+
+// Whether a message is sent over the own link under that number: a store under 1, or its acknowledgement under 2.
+fn is_sent(output: Option<&Output>, wanted: u64) -> bool {
+    let Some(
+        Output::Send {
+            to: _,
+            number,
+            message,
+        },
+    ) = output
+    else {
+        return false;
+    };
+    match message {
+        Message::Store { .. } => *number == 1 && wanted == 1,
+        Message::StoreAck { .. } => *number == 2 && wanted == 2,
+        _ => false,
+    }
+}
+
+// The store, the acknowledgement of its post and what comes of that; then both posts are put again.
+fn check_outputs<R: Abort + AllocGlobal>(rt: &R, outputs: &[Output]) -> Result<(), Fail> {
+    assert_eq!(rt; outputs.len(), 5);
+    for (at, number) in [(0, 1), (2, 2), (3, 1), (4, 2)] {
+        assert!(rt; is_sent(outputs.get(at), number));
+    }
+    assert!(rt; matches!(outputs.get(1), Some(Output::Ack { .. })));
+    Ok(())
+}
+
+// What the node has made after the ask, and after the delivery.
+const ASKED: Progress = (1, 1);
+
+const DELIVERED: Progress = (2, 1);
+
+#[test]
+fn a_life_goes_on_behind_a_checkpoint(rt: HostRuntime) -> Result<(), Fail> {
+    let alloc = rt.alloc();
+    let (mut site, failed) = lived(alloc, member(alloc)?)?;
+    assert_eq!(rt; failed, None);
+    check_outputs(&rt, site.outputs())?;
+    assert_eq!(rt; crashes(alloc, &site)?, [DELIVERED; 5]);
+    let used = contents(alloc, &mut site, Side::A)?;
+    assert_eq!(rt;
+        used.get(..9),
+        Some([0xA5, 0, 0, 0, 0, 0, 0, 0, 3].as_slice())
+    );
+    let other = contents(alloc, &mut site, Side::B)?;
+    assert_eq!(rt; other.as_slice(), [0].as_slice());
+    Ok(())
+}
+
+// No generation is left for a checkpoint. All else is as before.
+#[test]
+fn a_life_goes_on_where_checkpoints_are_spent(rt: HostRuntime) -> Result<(), Fail> {
+    let alloc = rt.alloc();
+    let (mut site, failed) = lived(alloc, last_member(alloc)?)?;
+    assert_eq!(rt; failed, None);
+    check_outputs(&rt, site.outputs())?;
+    assert_eq!(rt; crashes(alloc, &site)?, [DELIVERED; 5]);
+    let used = contents(alloc, &mut site, Side::A)?;
+    assert_eq!(rt;
+        used.get(..9),
+        Some([0xA5, 0x40, 0, 0, 0, 0, 0, 0, 0].as_slice())
+    );
+    let other = contents(alloc, &mut site, Side::B)?;
+    assert_eq!(rt; other.as_slice(), [0].as_slice());
+    Ok(())
+}
+
+// A life of which the disk call with that number behind its opening fails: the call, how many outputs there are, and what a
+// crash leaves.
+fn failed_life(
+    alloc: Global,
+    at: u64,
+    failing: Failing,
+) -> Result<(Option<DeviceFault>, usize, [Progress; 5]), Fail> {
+    let mut site = member(alloc)?.image(alloc, &Choice::Read)?;
+    let first = calls_of_opening(alloc, &site)?;
+    site.fuse(first.saturating_add(at), failing);
+    let (site, failed) = lived(alloc, site)?;
+    Ok((failed, site.outputs().len(), crashes(alloc, &site)?))
+}
+
+// The calls of the two batches are 0 to 3 and 17 to 20, those of the two checkpoints 4 to 16 and 21 to 33.
+#[test]
+fn each_call_of_a_checkpoint_may_end_a_life(rt: HostRuntime) -> Result<(), Fail> {
+    let alloc = rt.alloc();
+    for failing in [Failing::Once, Failing::Stop] {
+        for at in 4..17 {
+            let (failed, outputs, left) = failed_life(alloc, at, failing)?;
+            assert!(rt; failed.is_some());
+            assert_eq!(rt; (outputs, left), (1, [ASKED; 5]));
+        }
+        for at in 21..34 {
+            let (failed, outputs, left) = failed_life(alloc, at, failing)?;
+            assert!(rt; failed.is_some());
+            assert_eq!(rt; (outputs, left), (3, [DELIVERED; 5]));
+        }
+    }
+    let (failed, outputs, _) = failed_life(alloc, 34, Failing::Stop)?;
+    assert_eq!(rt; (failed, outputs), (None, 5));
+    Ok(())
+}
+
+// The batch behind a checkpoint goes to the other side, and its gate is written by call 19.
+#[test]
+fn a_batch_behind_a_checkpoint_stands_or_not(rt: HostRuntime) -> Result<(), Fail> {
+    let write = DeviceFault {
+        side: Side::B,
+        call: Call::Write,
+    };
+    let outcome = failed_life(rt.alloc(), 19, Failing::Once)?;
+    let left = [ASKED, ASKED, DELIVERED, ASKED, ASKED];
+    assert_eq!(rt; outcome, (Some(write), 1, left));
+    Ok(())
+}
