@@ -1,21 +1,18 @@
 # The commands of the README. The toolchain is Rattle's kit, with its command rt on the PATH.
 .PHONY: try run test check bench edits refused-growths costs
 
-# As many crates side by side as there are processors, four at most: each takes up to 5 GB of memory.
-JOBS = $(shell n=$$(nproc); [ $$n -lt 4 ] && echo $$n || echo 4)
-
 # Plays the script that ships with the program before any proof.
 try:
 	@echo 'unproved: compiling and playing crates/ccnode/stdin ...'
 	@cd crates/ccnode && rt try -- play < stdin
 
-# Proves and builds a program and what it stands on; the words behind it make it do little.
-BUILD = build() { (cd crates/$$1 && rt all check --jobs $(JOBS) && rt run -- $$2 < /dev/null) > $$1.log 2>&1 || { cat $$1.log; exit 1; }; rm -f $$1.log; }
+# Proves and builds a program and what it stands on.
+BUILD = build() { bash tools/prove.sh $$1 > $$1.log 2>&1 || { cat $$1.log; exit 1; }; rm -f $$1.log; }
 
 # Builds the program, proves it on the way, and plays the script that ships with it.
 run:
 	@echo 'proving and building ccnode (the first run takes long: see README.md) ...'
-	@$(BUILD); build ccnode play
+	@$(BUILD); build ccnode
 	@echo '$$ ccnode play < crates/ccnode/stdin'
 	@./crates/ccnode/out/ccnode play < crates/ccnode/stdin
 
@@ -25,14 +22,15 @@ test:
 
 # Proves one crate and what it stands on: make check CRATE=cc_wire
 check:
-	cd crates/$(CRATE) && rt all check --jobs $(JOBS)
+	bash tools/prove.sh $(CRATE)
 
-# Times single events, the engine in memory and on the disk, and a script of 10,000 lines over 16 nodes. It prints figures
-# and fails nothing.
+# Times single events, the engine and its checkpoints in memory and on the disk, and a script of 10,000 lines over 16
+# nodes. It prints figures and fails nothing.
 bench:
-	@$(BUILD); build cc_bench --help; build ccnode play
+	@$(BUILD); build cc_bench; build ccnode
 	@./crates/cc_bench/out/cc_bench events
 	@./crates/cc_bench/out/cc_bench engine
+	@./crates/cc_bench/out/cc_bench checkpoints
 	@sh bench/largest_script.sh > largest_script.log
 	@echo 'a script of 10,000 lines over 16 nodes:'
 	@bash -c 'time ./crates/ccnode/out/ccnode play < largest_script.log | wc -lc'
