@@ -40,9 +40,11 @@ prove() {
     fi
 }
 
-# Copies of the tree that share its files: a proof makes new ones, in the folder `out` of its crate.
+# Copies of the tree that share its files: a proof makes new ones, in the folder `out` of its crate. Each gets twice its
+# share of the processors, so that none is idle when the shorter proofs have ended.
 side_by_side() {
-    local share=$((cores > $# ? cores / $# : 1))
+    local share=$((2 * cores / $#))
+    share=$((share > cores ? cores : share > 0 ? share : 1))
     for crate; do
         mkdir "$copies/$crate"
         cp -al crates crates.txt HANDLES "$copies/$crate"

@@ -66,7 +66,7 @@ fn store(alloc: Global, node: &mut Node, request: u64, post: u64) -> Result<(), 
     };
     take(alloc, node, asked)?;
     deliver(alloc, node, post)?;
-    deliver(alloc, node, post + 1)
+    deliver(alloc, node, post.saturating_add(1))
 }
 
 // Six stores are kept, each with a view of 256 rows.
