@@ -1,4 +1,5 @@
 use cc_checkpoint::OpenFault;
+use cc_files::SiteFault;
 use cc_flush::{CheckpointFault, Failed, FormatFault};
 use cc_journal::Entry;
 use cc_site::DeviceFault;
@@ -45,6 +46,16 @@ impl From<CheckpointFault> for BenchFault {
 impl From<DeviceFault> for BenchFault {
     fn from(_e: DeviceFault) -> BenchFault {
         BenchFault::System
+    }
+}
+
+/// The files of the bench.
+impl From<SiteFault> for BenchFault {
+    fn from(fault: SiteFault) -> BenchFault {
+        match fault {
+            SiteFault::Device(_) => BenchFault::System,
+            SiteFault::NoMemory => BenchFault::NoMemory,
+        }
     }
 }
 

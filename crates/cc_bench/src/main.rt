@@ -6,13 +6,12 @@ mod bench_fault;
 mod checkpoint_bench;
 mod disk_bench;
 mod engine_bench;
-mod two_files;
 
 use bench::{Kind, event_nanoseconds};
 use cc_site::MemorySite;
 use checkpoint_bench::{MovedNode, checkpoint_times};
 use clap::{ArgMatches, Command};
-use disk_bench::{FOLDER, new_sides, sync_nanoseconds};
+use disk_bench::{FOLDER, new_sides, plain_sync_nanoseconds, site_sync_nanoseconds};
 use engine_bench::{EngineLoad, Hundredths, ROUND, SECOND, engine_times};
 use std::alloc::{AllocError, Global};
 use std::fs;
@@ -116,11 +115,11 @@ fn print_engine_times(rt: &HostRuntime) -> anyhow::Result<()> {
 }
 
 fn print_engine_table(rt: &HostRuntime) -> anyhow::Result<()> {
-    let sync = sync_nanoseconds(rt)?.max(1);
-    let syncs = SECOND / sync;
-    println!(rt;
-        "the engine, beside a disk that makes {syncs} syncs a second, each store in a batch:"
-    )?;
+    let sync = plain_sync_nanoseconds(rt)?.max(1);
+    let plain = SECOND / sync;
+    let through = SECOND / site_sync_nanoseconds(rt)?.max(1);
+    println!(rt; "syncs a second: {plain} by a plain loop, {through} through a site of two files")?;
+    println!(rt; "the engine, each store in a batch:")?;
     for nodes in [1, 16, 256] {
         // A record doesn't take 64 stores of 256 rows.
         let (stores, most) = match nodes {

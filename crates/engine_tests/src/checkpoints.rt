@@ -9,8 +9,8 @@ use std::alloc::Global;
 use std::process::Abort;
 use std::test::*;
 
-// Makes a checkpoint. Why it wasn't made, if it wasn't.
-fn checkpoint(flusher: &mut Flusher<MemorySite>) -> Result<Option<CheckpointFault>, Fail> {
+/// Makes a checkpoint. Why it wasn't made, if it wasn't.
+pub fn checkpoint(flusher: &mut Flusher<MemorySite>) -> Result<Option<CheckpointFault>, Fail> {
     if flusher.owes() {
         return Err("outputs are owed")?;
     }
@@ -110,8 +110,8 @@ fn state_of(alloc: Global, flusher: &Flusher<MemorySite>) -> Result<Vec<u8>, Fai
     Ok(state)
 }
 
-// The state of the node that is opened where a crash left this of a site.
-fn state_left(alloc: Global, site: &MemorySite, choice: &Choice) -> Result<Vec<u8>, Fail> {
+/// The state of the node that is opened where a crash left this of a site.
+pub fn state_left(alloc: Global, site: &MemorySite, choice: &Choice) -> Result<Vec<u8>, Fail> {
     let flusher = opened(alloc, site.image(alloc, choice)?)?;
     let state = state_of(alloc, &flusher);
     let _ = flusher.close();

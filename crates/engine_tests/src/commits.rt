@@ -76,13 +76,24 @@ pub fn ask() -> Result<Event, Fail> {
     })
 }
 
+/// A client collects in session 7, as its second request.
+pub fn second_ask() -> Event {
+    Event::Ask {
+        session: 7,
+        request: 2,
+        command: Command::Collect,
+    }
+}
+
 /// Which batch is committed: the ask of a store, its post as it comes back and the acknowledgement of that; the ask alone;
-/// or the two deliveries that follow the ask.
+/// the two deliveries that follow the ask; the ask of a collect after them; or the node's leaving.
 #[derive(Clone, Copy)]
 pub enum Part {
     Store,
     Ask,
     Deliveries,
+    Collect,
+    Leave,
 }
 
 // Adds the delivery under that number of the post that the batch's last event makes.
@@ -120,6 +131,8 @@ fn fill(
     let first = match part {
         Part::Store | Part::Ask => ask()?,
         Part::Deliveries => delivery(alloc, 1, node.outbox().post(1))?,
+        Part::Collect => second_ask(),
+        Part::Leave => Event::Leave,
     };
     add(alloc, node, live, batch, first)?;
     match part {
@@ -127,8 +140,8 @@ fn fill(
             add_delivery(alloc, node, live, batch, 1)?;
             add_delivery(alloc, node, live, batch, 2)
         }
-        Part::Ask => Ok(()),
         Part::Deliveries => add_delivery(alloc, node, live, batch, 2),
+        Part::Ask | Part::Collect | Part::Leave => Ok(()),
     }
 }
 
@@ -150,8 +163,8 @@ fn batch_of(alloc: Global, node: &Node, part: Part) -> Result<Batch, Fail>
     }
 }
 
-// Commits that batch, and releases it where it landed, by one call. The disk call that failed, if one did.
-fn turn(
+/// Commits that batch, and releases it where it landed, by one call. The disk call that failed, if one did.
+pub fn turn(
     alloc: Global,
     flusher: &mut Flusher<MemorySite>,
     part: Part,
@@ -344,8 +357,8 @@ fn a_commit_that_was_not_released_stands(rt: HostRuntime) -> Result<(), Fail> {
     Ok(())
 }
 
-// Puts the kept posts again: how many outputs those were, or the fault that ended the engine.
-fn resend(flusher: &mut Flusher<MemorySite>) -> Result<Result<u64, DeviceFault>, Fail> {
+/// Puts the kept posts again: how many outputs those were, or the fault that ended the engine.
+pub fn resend(flusher: &mut Flusher<MemorySite>) -> Result<Result<u64, DeviceFault>, Fail> {
     if flusher.owes() {
         return Err("outputs are owed")?;
     }

@@ -9,3 +9,4 @@ mod commits;
 mod lives;
 #[cfg(test)]
 mod openings;
+mod whole_life;
