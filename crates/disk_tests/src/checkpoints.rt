@@ -5,6 +5,7 @@ use cc_checkpoint::{Piece, Pieces, arm, fill, retire, state_length};
 use cc_node::Node;
 use cc_site::{Failing, MemorySite, Side, Site, write_durably};
 use std::alloc::Global;
+use std::process::Abort;
 use std::test::*;
 
 // What the pieces of a node's state are together. They end within a hundred.
@@ -27,12 +28,17 @@ fn comes_in_pieces(alloc: Global, node: &Node) -> Result<bool, Fail> {
     Ok(pieces.as_slice() == plain.as_slice() && length == plain.len() as u64)
 }
 
+// A state of 118 bytes comes in pieces.
+fn check_pieces<R: Abort + AllocGlobal>(rt: &R, member: &Node) -> Result<(), Fail> {
+    assert_eq!(rt; state_length(member), 118);
+    assert!(rt; comes_in_pieces(rt.alloc(), member)?);
+    Ok(())
+}
+
 #[test]
 fn a_state_comes_in_pieces(rt: HostRuntime) -> Result<(), Fail> {
     let member = opened(rt.alloc(), 1, &[1], &[])?;
-    assert_eq!(rt; state_length(&member), 118);
-    assert!(rt; comes_in_pieces(rt.alloc(), &member)?);
-    Ok(())
+    check_pieces(&rt, &member)
 }
 
 #[test]
@@ -96,17 +102,26 @@ fn moved_over(alloc: Global, node: &Node) -> Result<(Vec<u8>, Vec<u8>), Fail> {
 // What stands before the state of 118 bytes: an open gate, generation 2, version 1, and that length.
 const HEAD: [u8; 14] = [0xA5, 0, 0, 0, 0, 0, 0, 0, 2, 1, 0, 0, 0, 0x76];
 
+// What a checkpoint leaves of both sides, for a node of that state.
+fn check_sides<R: Abort>(rt: &R, old: &[u8], new: &[u8], state: &[u8]) {
+    assert_eq!(rt; old, [0].as_slice());
+    assert_eq!(rt; new.len(), 133);
+    assert_eq!(rt; new.get(..14), Some(HEAD.as_slice()));
+    assert_eq!(rt; new.get(14..132), Some(state));
+    assert_eq!(rt; new.get(132), Some(&0));
+}
+
+fn check_checkpoint<R: Abort + AllocGlobal>(rt: &R, member: &Node) -> Result<(), Fail> {
+    let state = encoded(rt.alloc(), member)?;
+    let (old, new) = moved_over(rt.alloc(), member)?;
+    check_sides(rt, &old, &new, &state);
+    Ok(())
+}
+
 #[test]
 fn a_checkpoint_moves_to_the_other_side(rt: HostRuntime) -> Result<(), Fail> {
     let member = opened(rt.alloc(), 1, &[1], &[])?;
-    let (old, new) = moved_over(rt.alloc(), &member)?;
-    let state = encoded(rt.alloc(), &member)?;
-    assert_eq!(rt; old.as_slice(), [0].as_slice());
-    assert_eq!(rt; new.len(), 133);
-    assert_eq!(rt; new.get(..14), Some(HEAD.as_slice()));
-    assert_eq!(rt; new.get(14..132), Some(state.as_slice()));
-    assert_eq!(rt; new.get(132), Some(&0));
-    Ok(())
+    check_checkpoint(&rt, &member)
 }
 
 // Whether a checkpoint is done where that disk call fails, and all after it.
@@ -118,12 +133,16 @@ fn is_done_in_spite_of(alloc: Global, node: &Node, call: u64) -> Result<bool, Fa
 }
 
 // The calls 0 to 3 made the sides. To fill a side takes 7, to arm it 2, and to retire one 4.
+fn check_failed_calls<R: Abort + AllocGlobal>(rt: &R, member: &Node) -> Result<(), Fail> {
+    for call in 4..26 {
+        assert!(rt; !is_done_in_spite_of(rt.alloc(), member, call)?);
+    }
+    assert!(rt; is_done_in_spite_of(rt.alloc(), member, 26)?);
+    Ok(())
+}
+
 #[test]
 fn a_checkpoint_tells_each_failed_call(rt: HostRuntime) -> Result<(), Fail> {
     let member = opened(rt.alloc(), 1, &[1], &[])?;
-    for call in 4..26 {
-        assert!(rt; !is_done_in_spite_of(rt.alloc(), &member, call)?);
-    }
-    assert!(rt; is_done_in_spite_of(rt.alloc(), &member, 26)?);
-    Ok(())
+    check_failed_calls(&rt, &member)
 }

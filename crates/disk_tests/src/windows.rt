@@ -9,6 +9,7 @@ use cc_site::{MemorySite, Side, write_durably};
 use cc_views::{NodeId, Text, View};
 use cc_wire::{Command, Event, Message, decode_view};
 use std::alloc::Global;
+use std::process::Abort;
 use std::test::*;
 
 // The view that shows a text of 64 bytes of each of 256 nodes, all under number 1.
@@ -150,11 +151,9 @@ fn fault(alloc: Global, bytes: &[u8]) -> Result<Option<OpenFault>, Fail> {
     Ok(read_state(alloc, &mut site, Side::A, &mut piece).err())
 }
 
-#[test]
-fn each_cut_of_a_side_is_damaged(rt: HostRuntime) -> Result<(), Fail> {
-    let node = answered_node(rt.alloc())?;
-    let length = encoded(rt.alloc(), &node)?.len();
-    let side = front(rt.alloc(), &node, length as u32)?;
+fn check_cuts<R: Abort + AllocGlobal>(rt: &R, node: &Node) -> Result<(), Fail> {
+    let length = encoded(rt.alloc(), node)?.len();
+    let side = front(rt.alloc(), node, length as u32)?;
     for len in 0..side.len() {
         // No version stands there, or no length, or that goes past the end.
         let place = if len < 10 { 9 } else { 10 };
@@ -166,11 +165,15 @@ fn each_cut_of_a_side_is_damaged(rt: HostRuntime) -> Result<(), Fail> {
 }
 
 #[test]
-fn each_part_of_a_state_is_damaged(rt: HostRuntime) -> Result<(), Fail> {
+fn each_cut_of_a_side_is_damaged(rt: HostRuntime) -> Result<(), Fail> {
     let node = answered_node(rt.alloc())?;
-    let length = encoded(rt.alloc(), &node)?.len();
+    check_cuts(&rt, &node)
+}
+
+fn check_parts<R: Abort + AllocGlobal>(rt: &R, node: &Node) -> Result<(), Fail> {
+    let length = encoded(rt.alloc(), node)?.len();
     for told in 0..length {
-        let side = front(rt.alloc(), &node, told as u32)?;
+        let side = front(rt.alloc(), node, told as u32)?;
         let cut = fault(rt.alloc(), &side[..14 + told])?;
         assert_eq!(rt; cut, Some(OpenFault::Damaged(Side::A, 14)));
         // What is behind the state that is told doesn't matter.
@@ -178,4 +181,10 @@ fn each_part_of_a_state_is_damaged(rt: HostRuntime) -> Result<(), Fail> {
         assert_eq!(rt; more, Some(OpenFault::Damaged(Side::A, 14)));
     }
     Ok(())
+}
+
+#[test]
+fn each_part_of_a_state_is_damaged(rt: HostRuntime) -> Result<(), Fail> {
+    let node = answered_node(rt.alloc())?;
+    check_parts(&rt, &node)
 }

@@ -198,31 +198,34 @@ fn stopped_at(
     moved(alloc, site)
 }
 
-// The node of that state is found again, whatever a crash leaves of a checkpoint that fails at that call.
-fn check_stop<R: Abort + AllocGlobal>(
-    rt: &R,
+// Why such a checkpoint wasn't made, if it wasn't, and whether the node has that state again after each crash.
+fn stop(
+    alloc: Global,
     from: &MemorySite,
     at: u64,
     failing: Failing,
     state: &[u8],
-) -> Result<(), Fail> {
-    let (site, fault) = stopped_at(rt.alloc(), from, at, failing)?;
-    assert!(rt; matches!(fault, Some(CheckpointFault::Failed(_))));
-    assert_eq!(rt; is_left_by_crashes(rt.alloc(), &site, state)?, [true; 5]);
-    Ok(())
+) -> Result<(Option<CheckpointFault>, [bool; 5]), Fail> {
+    let (site, fault) = stopped_at(alloc, from, at, failing)?;
+    let left = is_left_by_crashes(alloc, &site, state);
+    drop(site);
+    Ok((fault, left?))
 }
 
-// The same of each of the disk calls of a checkpoint, of which there are so many.
+// The node is found again, whatever a crash leaves of a checkpoint that fails at any of its disk calls, of which there are so
+// many.
 fn check_stops<R: Abort + AllocGlobal>(rt: &R, from: &MemorySite, calls: u64) -> Result<(), Fail> {
-    let state = state_left(rt.alloc(), from, &Choice::Read)?;
     let first = calls_of_opening(rt.alloc(), from)?;
     let last = first.saturating_add(calls);
+    let state = state_left(rt.alloc(), from, &Choice::Read)?;
     for failing in [Failing::Once, Failing::Stop] {
         for at in first..last {
-            check_stop(rt, from, at, failing, &state)?;
+            let (fault, left) = stop(rt.alloc(), from, at, failing, &state)?;
+            assert!(rt; matches!(fault, Some(CheckpointFault::Failed(_))));
+            assert_eq!(rt; left, [true; 5]);
         }
-        let (_, fault) = stopped_at(rt.alloc(), from, last, failing)?;
-        assert_eq!(rt; fault, None);
+        let (fault, left) = stop(rt.alloc(), from, last, failing, &state)?;
+        assert_eq!(rt; (fault, left), (None, [true; 5]));
     }
     Ok(())
 }

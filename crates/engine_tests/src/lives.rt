@@ -141,18 +141,35 @@ fn a_life_goes_on_where_checkpoints_are_spent(rt: HostRuntime) -> Result<(), Fai
     Ok(())
 }
 
-// A life of which the disk call with that number behind its opening fails: the call, how many outputs there are, and what a
-// crash leaves.
+// Member 1 of 1, of which the disk call with that number behind its opening fails.
+fn failing(alloc: Global, at: u64, failing: Failing) -> Result<MemorySite, Fail> {
+    let from = member(alloc)?;
+    failing_image(alloc, &from, at, failing)
+}
+
+fn failing_image(
+    alloc: Global,
+    from: &MemorySite,
+    at: u64,
+    failing: Failing,
+) -> Result<MemorySite, Fail> {
+    let first = calls_of_opening(alloc, from)?;
+    let mut site = from.image(alloc, &Choice::Read)?;
+    site.fuse(first.saturating_add(at), failing);
+    Ok(site)
+}
+
+// A life of which that disk call fails: the call, how many outputs there are, and what a crash leaves.
 fn failed_life(
     alloc: Global,
     at: u64,
-    failing: Failing,
+    kind: Failing,
 ) -> Result<(Option<DeviceFault>, usize, [Progress; 5]), Fail> {
-    let mut site = member(alloc)?.image(alloc, &Choice::Read)?;
-    let first = calls_of_opening(alloc, &site)?;
-    site.fuse(first.saturating_add(at), failing);
-    let (site, failed) = lived(alloc, site)?;
-    Ok((failed, site.outputs().len(), crashes(alloc, &site)?))
+    let (site, failed) = lived(alloc, failing(alloc, at, kind)?)?;
+    let left = crashes(alloc, &site);
+    let outputs = site.outputs().len();
+    drop(site);
+    Ok((failed, outputs, left?))
 }
 
 // The calls of the two batches are 0 to 3 and 17 to 20, those of the two checkpoints 4 to 16 and 21 to 33.
