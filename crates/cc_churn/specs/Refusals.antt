@@ -1,4 +1,5 @@
--- Why a node can't enter, leave, hear or be asked, as far as its own coming and going says.
+-- Why a node can't enter, leave, hear, be asked or retire another, as far as its own coming and going says, and whose it
+-- knows of.
 --     left, already_entered, not_entered, not_joined      one reason each
 use Rattle.std.specs.Prelude.{ℕ, not, Option}
 use Rattle.std.specs.Bool.{then_some}

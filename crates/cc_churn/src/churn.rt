@@ -135,7 +135,8 @@ impl Churn {
         self.changes.add_enter(id);
     }
 
-    /// The node is known to have left: a node's own leaving (CCC, churn management).
+    /// The node is known to have left: a node's own leaving (CCC, churn management), or the retiring of one that is
+    /// dead.
     pub fn leave(&mut self, id: NodeId)
         requires { FitsRoom (churn.with_left id self.old).changes }
         ensures { self.new ≡ churn.with_left id self.old }
@@ -304,6 +305,16 @@ impl Churn {
     pub fn decide_leave(&self, me: NodeId) -> Result<(), Refusal>
         ensures { result ≡ decided (first_of (left me self.now ∷ not_entered me self.now ∷ [])) }
     {
+        self.decide_inside(me)
+    }
+
+    /// Why the node `me` can't retire a node, itself maybe, if it can't: one of them has left, or `me` hasn't entered.
+    pub fn decide_retire(&self, me: NodeId, node: NodeId) -> Result<(), Refusal>
+        ensures { result ≡ decided (first_of (left me self.now ∷ left node self.now ∷ not_entered me self.now ∷ [])) }
+    {
+        if self.has_left(me) || self.has_left(node) {
+            return Err(Refusal::Left);
+        }
         self.decide_inside(me)
     }
 

@@ -54,6 +54,7 @@ view_grows c event.Leave = at_most_same c.ops.view
 view_grows c (event.Deliver from n m) = message_grows c.me _ m c.ops
 view_grows c (event.Acked peer n) = at_most_same c.ops.view
 view_grows c (event.Ask s r command) = ask_grows c.me _ _ c.ops
+view_grows c (event.Retire q) = at_most_same c.ops.view
 
 pub own_number : (c : Core) (e : Event) → (next c e).ops.number ≡ c.ops.number + writes e
 unfolding next
@@ -62,6 +63,7 @@ own_number c event.Leave = sym (add-zero c.ops.number)
 own_number c (event.Deliver from n m) = (message_keeps c.me _ m c.ops).number ∙ sym (add-zero c.ops.number)
 own_number c (event.Acked peer n) = sym (add-zero c.ops.number)
 own_number c (event.Ask s r command) = ask_number c.me _ _ c.ops
+own_number c (event.Retire q) = sym (add-zero c.ops.number)
 
 pub own_value : (c : Core) (e : Event) → (next c e).ops.mine ≡ mine_after e c.ops.mine
 unfolding next
@@ -70,6 +72,7 @@ own_value c event.Leave = refl
 own_value c (event.Deliver from n m) = (message_keeps c.me _ m c.ops).mine
 own_value c (event.Acked peer n) = refl
 own_value c (event.Ask s r k) = ask_mine c.me (quorum c) (record { session = s; request = r; command = k }) c.ops
+own_value c (event.Retire q) = refl
 
 -- ---- along a list of events
 

@@ -159,6 +159,11 @@ unfolding next
 spent_ack c peer n = ap (λ b. then_some b refusal.Spent)
     (any_of _ _ _ _ _ false false false false false (stays c.ops.number) (stays c.ops.tag) (stays_at c.posts (c.posts + 0) (omega arith)) (stays c.churn.echoes) refl)
 
+pub spent_retire : (c : Core) (q : ℕ) → spent c (event.Retire q) ≡ None
+unfolding next
+spent_retire c q = ap (λ b. then_some b refusal.Spent)
+    (any_of _ _ _ _ _ false false false false false (stays c.ops.number) (stays c.ops.tag) (stays_at c.posts (c.posts + 0) (omega arith)) (stays c.churn.echoes) refl)
+
 -- a delivery of the next number
 pub spent_delivery : (c : Core) (from n : ℕ) (m : Message) → n ≡ heard_from from c.links + 1
     → any_overruns c (next c (event.Deliver from n m)) (event.Deliver from n m)

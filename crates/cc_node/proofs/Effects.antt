@@ -1,5 +1,5 @@
 -- What each event makes of a core, part by part, and that the parts have room for it.
---     next_enter, .._leave, .._delivery, .._ack, .._ask    the core after an event, by its parts
+--     next_enter, .._leave, .._delivery, .._ack, .._ask, .._retire    the core after an event, by its parts
 --     .._room                                              that each part's call has what it asks for
 use Rattle.std.proofs.Common.{◌≡◌, ℕ, ◌+◌, ◌-◌, ◌<◌, ◌≤◌, Bool, true, false, cond, ◌&&◌, [], ◌∷◌, refl, sym, ap, subst, ◌∙◌, arith, add-zero}
 use Rattle.std.specs.Prelude.{Option, Some, None, is_some, IsTrue, IsFalse, ◌==◌}
@@ -31,7 +31,7 @@ use Rattle.cc_node.specs.Lawful.{IsLawfulCore, IsLawfulNode}
 use Rattle.cc_node.specs.Refusals.{decides}
 use Rattle.cc_node.proofs.KeptLaws.{posts_forget}
 use Rattle.cc_node.proofs.LawfulLaws.{next_core, quorum_fits, step_lawful}
-use Rattle.cc_node.proofs.RefusalLaws.{takes_delivery, takes_ask, takes_any}
+use Rattle.cc_node.proofs.RefusalLaws.{takes_delivery, takes_ask, takes_retire, takes_any}
 
 -- ---- what a lawful core has room for
 
@@ -75,6 +75,12 @@ pub next_ask : (c : Core) (s r : ℕ) (k : Command) → next c (event.Ask s r k)
     ≡ record c { ops = ops.after_ask c.me (quorum c) (asked_of s r k) c.ops; posts = c.posts + 1; sessions = table.insert c.sessions s r }
 unfolding next
 next_ask c s r k = refl
+
+pub next_retire : {c s : Core} {d : churn.Churn} {ls : Links} (q : ℕ) → c ≡ s → ls ≡ add_all c.posts (q ∷ []) c.links → d ≡ churn.with_left q c.churn
+    → record c { churn = d; links = ls } ≡ next s (event.Retire q)
+unfolding next
+next_retire {c} q is linked made =
+    (λ i. record c { churn = made i; links = linked i; posts = sym (add-zero c.posts) i }) ∙ ap (λ (d : Core). next d (event.Retire q)) is
 
 -- ---- what the parts ask for
 
@@ -134,6 +140,19 @@ ask_room {c} {d} {s} {r} {k} is accepted h =
       view = λ e. rw (e, ← is) (view_fits _ after);
       number = λ e. rw (e, ← is) after.counts.number;
       tag = λ e. rw (e, ← is) after.counts.tag;
+    }
+
+pub record RetireRoom (c : Core) (q : ℕ) : Type 0 where
+  pub links : table.len (add_all c.posts (q ∷ []) c.links) ≤ 256
+  pub changes : FitsRoom (churn.with_left q c.churn).changes
+
+pub retire_room : {c s : Core} (q : ℕ) → c ≡ s → decides s (event.Retire q) ≡ None → IsLawfulCore c → RetireRoom c q
+unfolding next
+retire_room {c} q is d h =
+    let none = rw (← is) at d in
+    record {
+      links = ltb-false known_limit (table.len (add_all c.posts (q ∷ []) c.links)) (takes_retire c q none).nodes;
+      changes = changes_fit _ (next_core c (event.Retire q) none h);
     }
 
 -- ---- lists of a set

@@ -61,6 +61,7 @@ posts_forget event.Leave o = refl
 posts_forget (event.Deliver from n m) o = refl
 posts_forget (event.Acked peer n) o = refl
 posts_forget (event.Ask s r command) o = refl
+posts_forget (event.Retire q) o = refl
 
 forgotten : (low posts : ℕ) (e : Event) (o : Outbox) → KeepsTo low posts o → KeepsTo low posts (forget_asked e o)
 forgotten low posts event.Enter o h = h
@@ -68,6 +69,7 @@ forgotten low posts event.Leave o h = h
 forgotten low posts (event.Deliver from n m) o h = h
 forgotten low posts (event.Acked peer n) o h = h
 forgotten low posts (event.Ask s r command) o h = record { last = h.last; kept = h.kept }
+forgotten low posts (event.Retire q) o h = h
 
 answered : (low posts : ℕ) (r : Option Reply) (o : Outbox) → KeepsTo low posts o → KeepsTo low posts (keep r o)
 answered low posts None o h = h

@@ -43,7 +43,7 @@ use Rattle.cc_node.specs.Lawful.{CountsWithin, KeepsAnswers, IsLawfulCore, IsLaw
 use Rattle.cc_node.proofs.CoreLaws.{own_number, own_value}
 use Rattle.cc_node.proofs.KnownLaws.{same_number, AllListed, tail_listed, MessageKnown, message_known, among_more, KeepsChanges, enter_changes, leave_changes, KeepsChurn, members_fit, message_churn, left_stays, KeepsOps, ops_more, message_ops, ask_ops}
 use Rattle.cc_node.proofs.KeptLaws.{step_posts, posted, message_answers, ask_answers}
-use Rattle.cc_node.proofs.RefusalLaws.{Fits, takes_enter, takes_leave, takes_delivery, takes_ack, takes_ask, takes_any, stays_within, none_overruns}
+use Rattle.cc_node.proofs.RefusalLaws.{Fits, takes_enter, takes_leave, takes_delivery, takes_ack, takes_ask, takes_retire, takes_any, stays_within, none_overruns}
 
 -- ---- counters rise by one at most
 
@@ -53,6 +53,7 @@ writes_one event.Leave = omega arith
 writes_one (event.Deliver from n m) = omega arith
 writes_one (event.Acked peer n) = omega arith
 writes_one (event.Ask s r command) = cond_both (is_writing command) 1 0 (λ n. n ≤ 1) (λ _. omega arith) (λ _. omega arith)
+writes_one (event.Retire q) = omega arith
 
 one_post : (p : Option Message) → option_len p ≤ 1
 one_post None = omega arith
@@ -91,6 +92,7 @@ tag_next c (event.Ask s r command) =
     let a : Asked = record { session = s; request = r; command = command } in
     cond_both (is_writing command) (ops.next_round (Storing (ops.begun (quorum c) a)) (ops.with_own_row c.me (ops.with_written command c.ops)))
     (ops.next_round (Querying (ops.begun (quorum c) a)) c.ops) (λ t. t.tag ≤ c.ops.tag + 1) (λ _. omega arith) (λ _. omega arith)
+tag_next c (event.Retire q) = omega arith
 
 message_echoes : (me : ℕ) (gamma : Fraction) (m : Message) (s : Churn) → (churn.after_message me gamma m s).echoes ≤ s.echoes + 1
 message_echoes me gamma (message.Enter q) s = omega arith
@@ -118,6 +120,7 @@ echoes_next c event.Leave = omega arith
 echoes_next c (event.Deliver from n m) = message_echoes c.me c.gamma m c.churn
 echoes_next c (event.Acked peer n) = omega arith
 echoes_next c (event.Ask s r command) = omega arith
+echoes_next c (event.Retire q) = omega arith
 
 posts_next : (c : Core) (e : Event) → (next c e).posts ≤ c.posts + 1
 unfolding next
@@ -265,6 +268,33 @@ ack_core c peer n d h =
       set = h.set;
     }
 
+retire_core : (c : Core) (q : ℕ) → decides c (event.Retire q) ≡ None → IsLawfulCore c → IsLawfulCore (next c (event.Retire q))
+unfolding next
+retire_core c q d h =
+    let takes = takes_retire c q d in
+    let ls = add_all c.posts (q ∷ []) c.links in
+    let more : IsWithin c.links ls = go_within c.posts c.links ls (add_all_goes c.posts (q ∷ []) c.links) in
+    let there : IsTrue (table.contains_key ls q) = contains-add_all c.posts (q ∷ []) c.links q ∙ ap (λ b. (b || false) || table.contains_key c.links q) (same_number q) in
+    let k : KeepsChanges ls (add_leave c.churn.changes q) = leave_changes ls c.churn.changes q there
+    (record { known = among_more c.links ls c.churn.changes more h.changes; joined = h.joined }) in
+    let o : KeepsOps ls c.sessions c.ops = ops_more c.links ls c.sessions c.ops more (record { view = h.view; phase = h.phase }) in
+    record {
+      beta = h.beta;
+      gamma = h.gamma;
+      me = more c.me h.me;
+      changes = k.known;
+      view = o.view;
+      link_count = ltb-false _ _ takes.nodes;
+      joined = k.joined;
+      links = links_more_posts c.posts (c.posts + 0) ls (omega arith) (add_all_links c.posts (q ∷ []) c.links h.links);
+      phase = o.phase;
+      sessions = h.sessions;
+      session_count = h.session_count;
+      counts = counts_next c (event.Retire q) takes.fits h.counts;
+      need = h.need;
+      set = h.set;
+    }
+
 own_set : (c : Core) (e : Event) (v : Value) → (next c e).ops.mine ≡ v → set.len v.set ≤ set_limit → set.len (next c e).ops.mine.set ≤ set_limit
 own_set c e v same h = subst (λ x. set.len x.set ≤ set_limit) (sym same) h
 
@@ -374,6 +404,7 @@ next_core c event.Leave d h = leave_core c d h
 next_core c (event.Deliver from n m) d h = deliver_core c from n m d h
 next_core c (event.Acked peer n) d h = ack_core c peer n d h
 next_core c (event.Ask s r k) d h = ask_core c s r k d h
+next_core c (event.Retire q) d h = retire_core c q d h
 
 -- ---- the node
 
@@ -384,6 +415,7 @@ links_go_on c event.Leave d = go_same c.posts c.links
 links_go_on c (event.Deliver from n m) d = linked_goes c from n m d
 links_go_on c (event.Acked peer n) d = ack_goes c.posts peer n c.links (takes_ack c peer n d).awaited
 links_go_on c (event.Ask s r k) d = go_same c.posts c.links
+links_go_on c (event.Retire q) d = add_all_goes c.posts (q ∷ []) c.links
 
 pub left_grows : (c : Core) (e : Event) → IsWithin c.churn.changes.left (next c e).churn.changes.left
 unfolding next
@@ -392,6 +424,7 @@ left_grows c event.Leave q h = within_insert c.churn.changes.left c.me tt q h
 left_grows c (event.Deliver from n m) q h = left_stays c.me c.gamma m c.churn q h
 left_grows c (event.Acked peer n) q h = h
 left_grows c (event.Ask s r k) q h = h
+left_grows c (event.Retire p) q h = within_insert c.churn.changes.left p tt q h
 
 pub lowest_next : (c : Core) (e : Event) → decides c e ≡ None → LinksWithin c.posts c.links → lowest c ≤ lowest (next c e)
 unfolding next
@@ -412,6 +445,7 @@ step_answers n (event.Acked peer k) h = h.answers
 step_answers n (event.Ask s r k) h =
     let c = n.core in
     ask_answers c.sessions c.me (quorum c) (record { session = s; request = r; command = k }) c.ops c.ops.phase n.outbox.answers h.answers
+step_answers n (event.Retire q) h = h.answers
 
 pub step_lawful : (n : Node) (e : Event) → decides n.core e ≡ None → IsLawfulNode n → IsLawfulNode (step n e)
 unfolding step next

@@ -200,6 +200,7 @@ ack_follows c event.Enter x d past = tt
 ack_follows c event.Leave x d past = tt
 ack_follows c (event.Acked peer n) x d past = tt
 ack_follows c (event.Ask s r k) x d past = tt
+ack_follows c (event.Retire q) x d past = tt
 ack_follows c (event.Deliver from n m) (output.Send to number k) d past = (tt, tt)
 ack_follows c (event.Deliver from n m) (output.Reply s request a) d past = (tt, tt)
 ack_follows c (event.Deliver from n m) (output.Ack to number) d past =
@@ -212,6 +213,7 @@ ack_past c event.Enter = tt
 ack_past c event.Leave = tt
 ack_past c (event.Acked peer n) = tt
 ack_past c (event.Ask s r k) = tt
+ack_past c (event.Retire q) = tt
 ack_past c (event.Deliver from n m) = (subst (λ k. k ≤ heard_from from (next c (event.Deliver from n m)).links) (hears_now c from n m) (omega arith), tt)
 
 -- ---- replies
@@ -271,6 +273,7 @@ reply_follows c event.Enter x h past = tt
 reply_follows c event.Leave x h past = tt
 reply_follows c (event.Acked peer n) x h past = tt
 reply_follows c (event.Ask s r k) x h past = tt
+reply_follows c (event.Retire q) x h past = tt
 reply_follows c (event.Deliver from n m) (output.Send to number k) h past =
     each_reply (Follows (output.Send to number k)) (ops.reply_of c.me m c.ops) (if_more (ops.reply_of c.me m c.ops) (Ends c.sessions c.ops.phase (ops.after_message c.me (quorum c) m c.ops).phase) (λ r. ⊤) (λ r ends. tt) (reply_ends c.links c.sessions c.me (quorum c) m c.ops h.phase))
 reply_follows c (event.Deliver from n m) (output.Ack to number) h past =
@@ -289,6 +292,7 @@ reply_past c event.Enter h = tt
 reply_past c event.Leave h = tt
 reply_past c (event.Acked peer n) h = tt
 reply_past c (event.Ask s r k) h = tt
+reply_past c (event.Retire q) h = tt
 reply_past c (event.Deliver from n m) h =
     let after = (ops.after_message c.me (quorum c) m c.ops).phase in
     each_reply (IsPast (next c (event.Deliver from n m))) (ops.reply_of c.me m c.ops) (if_more (ops.reply_of c.me m c.ops) (Ends c.sessions c.ops.phase after)
@@ -369,6 +373,7 @@ answered_stays c event.Leave s request d past = past
 answered_stays c (event.Acked peer n) s request d past = past
 answered_stays c (event.Deliver from n m) s request d past = record { begun = past.begun; ended = λ t. past.ended (message_pending c.me (quorum c) m c.ops s t) }
 answered_stays c (event.Ask y r k) s request d past = answered_asked c y r k s request d past
+answered_stays c (event.Retire q) s request d past = past
 
 -- ---- all outputs of an event
 

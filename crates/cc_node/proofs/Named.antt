@@ -3,16 +3,19 @@
 --     named_links, named_room      links for all of them, and that there is room on the way
 --     marks_too_many, marks_then   known ids with these and with more of them
 --     echo_ids, too_many           all that an EnterEcho names; whether the known ids and these are too many
-use Rattle.std.proofs.Common.{◌≡◌, ℕ, ◌≤◌, Bool, true, false, not, nat_lt, List, [], ◌∷◌, ◌++◌, map, refl, sym, ap, ◌∙◌, arith}
-use Rattle.std.specs.Prelude.{◌↔◌, IsTrue}
+--     has_link, one_too_many       whether one node has a link; whether it and the known ones are too many
+use Rattle.std.proofs.Common.{◌≡◌, ℕ, ◌+◌, ◌≤◌, Bool, true, false, cond, not, nat_lt, List, [], ◌∷◌, ◌++◌, map, refl, sym, ap, ◌∙◌, inl, inr, arith}
+use Rattle.std.specs.Prelude.{◌↔◌, ◌==◌, ◌&&◌, Option, Some, None, IsTrue, is_some, option_map}
+use Rattle.std.specs.Cmp.{nat_cmp_total}
 use Rattle.std.specs.FinMap as table
 use Rattle.std.proofs.lemmas.Bool.{le-ltb, lt-ltb}
+use Rattle.std.proofs.lemmas.Bool.Decides.{eqb_tells}
 use Rattle.std.proofs.lemmas.List.{append_assoc}
 use Rattle.cc_views.specs.NatSets as set
 use Rattle.cc_views.specs.NatSets.{NatSet, insert_all-append}
 use Rattle.cc_views.specs.Rows.{Pair, ViewMap, rows_of, row_of}
 use Rattle.cc_changes.specs.ChangeSets.{ChangeSets}
-use Rattle.cc_links.specs.Links.{Links, add, add_all}
+use Rattle.cc_links.specs.Links.{Link, Links, new_link, add_absent, add, add_all}
 use Rattle.cc_links.specs.LinkLaws.{add_all-append, len_add_all}
 use Rattle.cc_links.specs.KnownIds.{len-add_all}
 use Rattle.cc_links.specs.Rows.{nodes_of}
@@ -115,3 +118,25 @@ too_many posts from m ls b t h =
     let same : set.len (set.insert_all set.empty ((from ∷ []) ++ (ids_of m ++ table.keys ls))) ≡ table.len (add_all posts (from ∷ ids_of m) ls) =
     ap set.len (insert_all-append set.empty (from ∷ ids_of m) (table.keys ls)) ∙ sym (len-add_all posts (from ∷ ids_of m) ls) in
     fits_or_not (table.len (add_all posts (from ∷ ids_of m) ls)) b (λ k. omega (arith, same, h.fits.0 k), λ k. h.fits.1 (omega (arith, same, k)))
+
+-- ---- one node
+
+pub has_link : {X : Type 0} (f : X → Link) (row : Option X) (o : Option Link) → option_map f row ≡ o → is_some o ≡ is_some row
+has_link f None o e = ap is_some (sym e)
+has_link f (Some x) o e = ap is_some (sym e)
+
+full : (n : ℕ) → n ≤ 256 → nat_lt 256 (n + 1) ≡ (n == 256)
+full n few =
+    elim (eqb_tells n 256) as (λ _. nat_lt 256 (n + 1) ≡ (n == 256)) [
+      | inl t ↦ lt-ltb 256 (n + 1) (omega (arith, t.1)) ∙ sym t.0
+      | inr t ↦ le-ltb 256 (n + 1) (omega (arith, few, t.1)) ∙ sym t.0
+    ]
+
+-- a node is one too many where it has no link, and there are as many as may be
+pub one_too_many : (posts q : ℕ) (ls : Links) (o : Option Link) → table.get ls q ≡ o → table.len ls ≤ 256
+    → nat_lt 256 (table.len (add_absent posts q o ls)) ≡ (not (is_some o) && (table.len ls == 256))
+one_too_many posts q ls (Some l) e few = le-ltb 256 (table.len ls) few
+one_too_many posts q ls None e few =
+    let n = table.len ls in
+    let more : table.len (table.insert ls q (new_link posts)) ≡ n + 1 = table.len-insert nat_cmp_total ls q (new_link posts) ∙ ap (λ b. cond b n (n + 1)) (ap is_some e) in
+    ap (nat_lt 256) more ∙ full n few

@@ -1,5 +1,5 @@
 -- What is known of an event that isn't refused.
---     takes_delivery, takes_ack, takes_ask     what each check that passed says
+--     takes_delivery, takes_ack, takes_ask, takes_retire     what each check that passed says
 --     takes_any                                no post is too many, and no counter goes past its limit
 --     stays_within, none_overruns              a counter that isn't spent stays within its limit
 use Rattle.std.proofs.Common.{◌≡◌, ℕ, ◌+◌, ◌-◌, ◌≤◌, Bool, true, false, not, ◌&&◌, nat_lt, nat_le, List, [], ◌∷◌, refl, inl, inr, arith}
@@ -22,7 +22,7 @@ use Rattle.cc_ops.specs.Ops.{is_idle}
 use Rattle.cc_links.specs.Links.{heard_from, awaits_ack}
 use Rattle.cc_sessions.specs.Sessions as requests
 use Rattle.cc_sessions.specs.Sessions.{last_request, is_stale, is_skip}
-use Rattle.cc_node.specs.Core.{Core, next, post, lowest, with_links}
+use Rattle.cc_node.specs.Core.{Core, next, post, lowest, ids_of, with_links}
 use Rattle.cc_outbox.specs.Outbox.{post_limit}
 use Rattle.cc_node.specs.Refusals.{left, already_entered, not_entered, outbox_full, spent, any_overruns, row_overruns, reasons, decides}
 
@@ -44,7 +44,7 @@ pub record Fits (c : Core) (e : Event) : Type 0 where
 pub record TakesDelivery (c : Core) (from n : ℕ) (m : Message) : Type 0 where
   pub new : nat_le n (heard_from from c.links) ≡ false
   pub next : nat_lt (heard_from from c.links + 1) n ≡ false
-  pub nodes : nat_lt known_limit (table.len (with_links from m c).links) ≡ false
+  pub nodes : nat_lt known_limit (table.len (with_links (from ∷ ids_of m) c).links) ≡ false
   pub fits : Fits c (event.Deliver from n m)
 
 pub record TakesAck (c : Core) (peer n : ℕ) : Type 0 where
@@ -59,6 +59,10 @@ pub record TakesAsk (c : Core) (s r : ℕ) (command : Command) : Type 0 where
   pub idle : not (is_idle c.ops.phase) ≡ false
   pub room : finds_no_room c.ops.mine command ≡ false
   pub fits : Fits c (event.Ask s r command)
+
+pub record TakesRetire (c : Core) (q : ℕ) : Type 0 where
+  pub nodes : nat_lt known_limit (table.len (with_links (q ∷ []) c).links) ≡ false
+  pub fits : Fits c (event.Retire q)
 
 -- where none of two reasons, of a full outbox and of a spent counter holds
 fits_after : (c : Core) (e : Event) (a b : Option Refusal) → first_of (a ∷ b ∷ outbox_full c e ∷ spent c e ∷ []) ≡ None → Fits c e
@@ -109,12 +113,19 @@ takes_ask c s r command h =
       fits = record { posts = fails refusal.OutboxFull _ rest.1.1.1.1.0; counts = fails refusal.Spent _ rest.1.1.1.1.1.0 };
     }
 
+pub takes_retire : (c : Core) (q : ℕ) → decides c (event.Retire q) ≡ None → TakesRetire c q
+unfolding decides
+takes_retire c q h =
+    let all = (all_none (reasons c (event.Retire q)) h).1.1.1 in
+    record { nodes = fails refusal.TooManyNodes _ all.0; fits = record { posts = refl; counts = fails refusal.Spent _ all.1.0 } }
+
 pub takes_any : (c : Core) (e : Event) → decides c e ≡ None → Fits c e
 takes_any c event.Enter h = takes_enter c h
 takes_any c event.Leave h = takes_leave c h
 takes_any c (event.Deliver from n m) h = (takes_delivery c from n m h).fits
 takes_any c (event.Acked peer n) h = (takes_ack c peer n h).fits
 takes_any c (event.Ask s r command) h = (takes_ask c s r command h).fits
+takes_any c (event.Retire q) h = (takes_retire c q h).fits
 
 -- a counter that may not pass its limit
 pub stays_within : (limit before after : ℕ) → ((before == limit) && nat_lt before after) ≡ false → before ≤ limit → after ≤ before + 1 → after ≤ limit

@@ -75,6 +75,7 @@ last_forget event.Leave o = refl
 last_forget (event.Deliver from n m) o = refl
 last_forget (event.Acked peer n) o = refl
 last_forget (event.Ask s r command) o = refl
+last_forget (event.Retire q) o = refl
 
 kept_or_new : (p : Option Message) (o : Outbox) (number : ℕ) (m : Message) → table.get (add p o).posts number ≡ Some m
     → (table.get o.posts number ≡ Some m) ⊎ ((number ≡ o.last + 1) × (p ≡ Some m))
@@ -200,6 +201,10 @@ step_ack n (event.Acked peer k) to heard s =
     inl (of_heard (table.get c.links to) heard
     (sym (ack_heard_of to peer k (table.get c.links peer) c.links refl) ∙ ap (λ o. option_map_or (λ (l : Link). l.heard) o 0) s.1 ∙ s.2) s.3)
 step_ack n (event.Ask x r k) to heard s = inl s
+step_ack n (event.Retire q) to heard s =
+    let c = n.core in
+    inl (of_heard (table.get c.links to) heard
+    (sym (add_all_heard c.posts (q ∷ []) c.links to) ∙ ap (λ o. option_map_or (λ (l : Link). l.heard) o 0) s.1 ∙ s.2) s.3)
 
 -- ---- answers
 
@@ -280,6 +285,7 @@ step_reply n (event.Ask y r k) x q a h s =
         ap (λ b. cond b (Some r) (table.get c.sessions x)) (sym t) ∙ sym (get-insert_key c.sessions y r x) ∙ s.1,
       )
     ] refl
+step_reply n (event.Retire y) x q a h s = inl s
 
 -- ---- along a list
 

@@ -52,9 +52,9 @@ ids_of (message.QueryReply v tag q) = q ∷ table.keys v
 ids_of (message.Store v tag q) = q ∷ table.keys v
 ids_of (message.StoreAck tag q) = q ∷ []
 
--- who is known after this message from that peer
-abbrev pub with_links : ℕ → Message → Core → Core
-with_links from m c = record c { links = links.add_all c.posts (from ∷ ids_of m) c.links }
+-- with a link to each of these nodes
+abbrev pub with_links : List ℕ → Core → Core
+with_links ids c = record c { links = links.add_all c.posts ids c.links }
 
 abbrev pub with_heard : ℕ → ℕ → Core → Core
 with_heard from n c = record c { links = links.hear from n c.links }
@@ -69,12 +69,13 @@ with_message m c = record c {
 abbrev pub handled : Core → Event → Core
 handled c event.Enter = record c { churn = churn.with_entered c.me c.churn }
 handled c event.Leave = record c { churn = churn.with_left c.me c.churn }
-handled c (event.Deliver from n m) = with_message m (with_heard from n (with_links from m c))
+handled c (event.Deliver from n m) = with_message m (with_heard from n (with_links (from ∷ ids_of m) c))
 handled c (event.Acked peer n) = record c { links = links.ack peer n c.links }
 handled c (event.Ask s r command) = record c {
   ops = ops.after_ask c.me (quorum c) (record { session = s; request = r; command = command }) c.ops;
   sessions = table.insert c.sessions s r;
 }
+handled c (event.Retire q) = record (with_links (q ∷ []) c) { churn = churn.with_left q c.churn }
 
 -- what a message is answered with
 abbrev pub post_to : Message → Core → Core → Option Message
@@ -90,6 +91,7 @@ post c (event.Deliver from n m) = post_to m c (handled c (event.Deliver from n m
 post c (event.Acked peer n) = None
 post c (event.Ask s r command) =
     Some (ops.first_post c.me (record { session = s; request = r; command = command }) (handled c (event.Ask s r command)).ops)
+post c (event.Retire q) = None
 
 unfoldable pub next : Core → Event → Core
 next c e = record (handled c e) { posts = c.posts + option_len (post c e) }
@@ -101,6 +103,7 @@ ack event.Leave = None
 ack (event.Deliver from n m) = Some (record { to = from; number = n })
 ack (event.Acked peer n) = None
 ack (event.Ask s r command) = None
+ack (event.Retire q) = None
 
 abbrev pub reply : Core → Event → Option Reply
 reply c event.Enter = None
@@ -108,6 +111,7 @@ reply c event.Leave = None
 reply c (event.Deliver from n m) = ops.reply_of c.me m c.ops
 reply c (event.Acked peer n) = None
 reply c (event.Ask s r command) = None
+reply c (event.Retire q) = None
 
 abbrev pub made : Core → Event → Made
 made c e = record { ack = ack e; post = post c e; answer = reply c e }

@@ -7,7 +7,6 @@ use Rattle.cc_views.specs.Limits.{known_limit, overruns}
 use Rattle.cc_wire.specs.declared.command.Command.{Command}
 use Rattle.cc_wire.specs.declared.event.Event.{Event}
 use Rattle.cc_wire.specs.declared.event.Event.TheVariants as event
-use Rattle.cc_wire.specs.declared.message.Message.{Message}
 use Rattle.cc_wire.specs.declared.refusal.Refusal.{Refusal}
 use Rattle.cc_wire.specs.declared.refusal.Refusal.TheVariants as refusal
 use Rattle.cc_wire.specs.Refusals.{first_of}
@@ -18,10 +17,14 @@ use Rattle.cc_links.specs.Links as links
 use Rattle.cc_outbox.specs.Outbox.{post_limit}
 use Rattle.cc_sessions.specs.Sessions as sessions
 use Rattle.cc_sessions.specs.Sessions.{last_request}
-use Rattle.cc_node.specs.Core.{Core, next, post, lowest, with_links}
+use Rattle.cc_node.specs.Core.{Core, next, post, lowest, ids_of, with_links}
 
 abbrev pub left : Core → Option Refusal
 left c = coming.left c.me c.churn
+
+-- of a node to retire
+abbrev pub has_gone : Core → ℕ → Option Refusal
+has_gone c q = coming.left q c.churn
 
 abbrev pub not_entered : Core → Option Refusal
 not_entered c = coming.not_entered c.me c.churn
@@ -41,8 +44,8 @@ gap c from n = let heard = links.heard_from from c.links in then_some (nat_lt (h
 abbrev pub nothing_to_ack : Core → ℕ → ℕ → Option Refusal
 nothing_to_ack c peer n = then_some (not (option_map_or (links.awaits_ack c.posts n) (table.get c.links peer) false)) refusal.NothingToAck
 
-abbrev pub too_many_nodes : Core → ℕ → Message → Option Refusal
-too_many_nodes c from m = then_some (nat_lt known_limit (table.len (with_links from m c).links)) refusal.TooManyNodes
+abbrev pub too_many_nodes : Core → List ℕ → Option Refusal
+too_many_nodes c ids = then_some (nat_lt known_limit (table.len (with_links ids c).links)) refusal.TooManyNodes
 
 abbrev pub too_many_sessions : Core → ℕ → Option Refusal
 too_many_sessions c s = then_some (sessions.finds_no_room c.sessions s) refusal.TooManySessions
@@ -73,6 +76,7 @@ row_overruns c d event.Leave = false
 row_overruns c d (event.Deliver from n m) = overruns (links.heard_from from c.links) (links.heard_from from d.links)
 row_overruns c d (event.Acked peer n) = false
 row_overruns c d (event.Ask s r command) = overruns (last_request c.sessions s) (last_request d.sessions s)
+row_overruns c d (event.Retire q) = false
 
 abbrev pub any_overruns : Core → Core → Event → Bool
 any_overruns c d e =
@@ -88,12 +92,13 @@ reasons c event.Enter = left c ∷ already_entered c ∷ outbox_full c event.Ent
 reasons c event.Leave = left c ∷ not_entered c ∷ outbox_full c event.Leave ∷ spent c event.Leave ∷ []
 reasons c (event.Deliver from n m) =
     let e = event.Deliver from n m in
-    left c ∷ not_entered c ∷ old c from n ∷ gap c from n ∷ too_many_nodes c from m ∷ outbox_full c e ∷ spent c e ∷ []
+    left c ∷ not_entered c ∷ old c from n ∷ gap c from n ∷ too_many_nodes c (from ∷ ids_of m) ∷ outbox_full c e ∷ spent c e ∷ []
 reasons c (event.Acked peer n) = nothing_to_ack c peer n ∷ spent c (event.Acked peer n) ∷ []
 reasons c (event.Ask s r command) =
     let e = event.Ask s r command in
     left c ∷ not_entered c ∷ not_joined c ∷ too_many_sessions c s ∷ repeat c s r ∷ stale c s r ∷ skip c s r
     ∷ busy c ∷ set_full c command ∷ outbox_full c e ∷ spent c e ∷ []
+reasons c (event.Retire q) = left c ∷ has_gone c q ∷ not_entered c ∷ too_many_nodes c (q ∷ []) ∷ spent c (event.Retire q) ∷ []
 
 -- none, or the reason for which an event is refused
 unfoldable pub decides : Core → Event → Option Refusal

@@ -14,6 +14,7 @@ writes event.Leave = 0
 writes (event.Deliver from n m) = 0
 writes (event.Acked peer n) = 0
 writes (event.Ask s r command) = if is_writing command then 1 else 0
+writes (event.Retire q) = 0
 
 abbrev pub mine_after : Event → Value → Value
 mine_after event.Enter mine = mine
@@ -21,6 +22,7 @@ mine_after event.Leave mine = mine
 mine_after (event.Deliver from n m) mine = mine
 mine_after (event.Acked peer n) mine = mine
 mine_after (event.Ask s r command) mine = written command mine
+mine_after (event.Retire q) mine = mine
 
 abbrev pub mine_along : Value → List Event → Value
 mine_along mine [] = mine

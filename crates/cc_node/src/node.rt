@@ -214,7 +214,11 @@ fn forget_asked(outbox: &mut Outbox, event: &Event)
 {
     match event {
         Event::Ask { session, .. } => outbox.forget(*session),
-        Event::Enter | Event::Leave | Event::Deliver { .. } | Event::Acked { .. } => {}
+        Event::Enter
+        | Event::Leave
+        | Event::Deliver { .. }
+        | Event::Acked { .. }
+        | Event::Retire { .. } => {}
     }
 }
 

@@ -250,6 +250,7 @@ impl Core {
                 request,
                 command,
             } => self.decide_ask(*session, *request, command),
+            Event::Retire { node } => self.decide_retire(*node),
         }
     }
 
@@ -298,7 +299,7 @@ impl Core {
     // Why the message, the next on its link, can't be taken, if it can't.
     fn decide_message(&self, from: NodeId, message: &Message) -> Result<(), Refusal>
         ensures { (n : ℕ) → n ≡ links.heard_from from self.now.links + 1
-            → result ≡ decided (first_of (reasons.too_many_nodes self.now from message.now ∷ reasons.outbox_full self.now (event.Deliver from n message.now)
+            → result ≡ decided (first_of (reasons.too_many_nodes self.now (from ∷ machine.ids_of message.now) ∷ reasons.outbox_full self.now (event.Deliver from n message.now)
             ∷ reasons.spent self.now (event.Deliver from n message.now) ∷ [])) }
     {
         if self.knows_too_many(from, message) {
@@ -337,7 +338,7 @@ impl Core {
 
     // Whether the sender, the nodes that the message names and the known ones are too many together.
     fn knows_too_many(&self, from: NodeId, message: &Message) -> bool
-        ensures { then_some result refusal.TooManyNodes ≡ reasons.too_many_nodes self.now from message.now }
+        ensures { then_some result refusal.TooManyNodes ≡ reasons.too_many_nodes self.now (from ∷ machine.ids_of message.now) }
     {
         let mut known = KnownIds::new();
         if !known.add_peers(self.links.rows()) {
@@ -439,6 +440,26 @@ impl Core {
         self.posts == COUNTER_LIMIT || request > COUNTER_LIMIT
     }
 
+    fn decide_retire(&self, node: NodeId) -> Result<(), Refusal>
+        ensures { result ≡ decided (decides self.now (event.Retire node)) }
+    {
+        self.churn.decide_retire(self.me, node)?;
+        if self.knows_too_many_with(node) {
+            return Err(Refusal::TooManyNodes);
+        }
+        Ok(())
+    }
+
+    // Whether that node and the known ones are too many together.
+    fn knows_too_many_with(&self, node: NodeId) -> bool
+        ensures { then_some result refusal.TooManyNodes ≡ reasons.too_many_nodes self.now (node ∷ []) }
+    {
+        if self.links.get(node).is_some() {
+            return false;
+        }
+        self.links.len() == Links::MAX_ROWS
+    }
+
     /// What the event makes, which isn't refused: the acknowledgement, the post and the answer. The only error is a
     /// refused growth.
     pub fn made(&self, alloc: Global, event: &Event) -> Result<Made, NoMemory>
@@ -453,7 +474,7 @@ impl Core {
                 number,
                 message,
             } => self.made_of_delivery(alloc, *from, *number, message),
-            Event::Acked { .. } => Ok(Made::nothing()),
+            Event::Acked { .. } | Event::Retire { .. } => Ok(Made::nothing()),
             Event::Ask {
                 session,
                 request,
@@ -536,6 +557,7 @@ impl Core {
                 request,
                 command,
             } => self.ask(*session, *request, command),
+            Event::Retire { node } => self.retire(*node),
         }
     }
 
@@ -588,5 +610,13 @@ impl Core {
         self.ops.ask(self.me, self.churn.quorum(self.beta), &asked);
         self.sessions.begin(session, request);
         self.posts += 1;
+    }
+
+    fn retire(&mut self, node: NodeId)
+        requires { decides self.old (event.Retire node) ≡ None }
+        ensures { self.new ≡ machine.next self.old (event.Retire node) }
+    {
+        self.links.add(node, self.posts);
+        self.churn.leave(node);
     }
 }

@@ -160,6 +160,7 @@ length-event events.Leave is = omega arith
 length-event (events.Deliver from n m) is = omega (arith, length-delivery from n m is)
 length-event (events.Acked peer n) is = omega arith
 length-event (events.Ask session request c) is = omega (arith, length-asked session request c is)
+length-event (events.Retire node) is = omega arith
 
 -- a place and an answer
 length-replied : (session request : ℕ) (a : Answer) → IsReplied session request a → length (replied_spelling session request a) ≤ 55059
@@ -173,6 +174,7 @@ length-body (frames.Ask session request c) is = omega (arith, length-asked sessi
 length-body (frames.Reply session request a) is = omega (arith, length-replied session request a is)
 length-body (frames.Refused session request refusal value) is = omega arith
 length-body frames.Leave is = omega arith
+length-body (frames.Retire node) is = omega arith
 
 -- and at least its kind
 pub length-body-positive : (f : Frame) → 1 ≤ length (body_spelling f)
@@ -182,3 +184,4 @@ length-body-positive (frames.Ask session request c) = omega arith
 length-body-positive (frames.Reply session request a) = omega arith
 length-body-positive (frames.Refused session request refusal value) = omega arith
 length-body-positive frames.Leave = omega arith
+length-body-positive (frames.Retire node) = omega arith

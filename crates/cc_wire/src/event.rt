@@ -39,6 +39,10 @@ pub enum Event {
         request: u64,
         command: Command,
     },
+    /// The operator tells that a node, maybe this one, is dead for good: from now on it counts as one that left.
+    Retire {
+        node: NodeId,
+    },
 }
 
 impl Event {
@@ -71,6 +75,7 @@ impl Event {
                 request: *request,
                 command: *command,
             }),
+            Event::Retire { node } => Ok(Event::Retire { node: *node }),
         }
     }
 }
@@ -138,6 +143,10 @@ impl<'a> Reader<'a> {
                     request,
                     command,
                 })
+            }
+            6 => {
+                let node = self.id(1)?;
+                Ok(Event::Retire { node })
             }
             kind => Err(WireFault::BadKind(kind)),
         }
@@ -221,6 +230,10 @@ pub(crate) fn put_event(out: &mut Vec<u8>, event: &Event) -> Result<(), AllocErr
         } => {
             put_u8(out, 5)?;
             put_asked(out, *session, *request, command)
+        }
+        Event::Retire { node } => {
+            put_u8(out, 6)?;
+            put_id(out, *node)
         }
     }
 }

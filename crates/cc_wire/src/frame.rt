@@ -9,6 +9,7 @@ ghost use Rattle.cc_wire.specs.Reading.{Gives, whole};
 ghost use Rattle.cc_wire.specs.Frames.{replied_spelling, IsReplied, refused_spelling, IsRefused, body_spelling, frame_spelling, IsFrame, SpellsFrame, body_at, body_fields, replied_at, refused_at, body_length_at, enclosed_at, frame_at};
 
 use crate::answer::{Answer, put_answer};
+use crate::changes_bytes::put_id;
 use crate::command::Command;
 use crate::event::{put_asked, put_delivery, put_numbered, put_place};
 use crate::fault::WireFault;
@@ -54,6 +55,10 @@ pub enum Frame {
     },
     /// The node is to leave the cluster.
     Leave,
+    /// The operator tells the node that another, or it itself, is dead for good.
+    Retire {
+        node: NodeId,
+    },
 }
 
 impl Frame {
@@ -127,6 +132,10 @@ impl<'a> Reader<'a> {
                 })
             }
             6 => Ok(Frame::Leave),
+            7 => {
+                let node = self.id(1)?;
+                Ok(Frame::Retire { node })
+            }
             kind => Err(WireFault::BadKind(kind)),
         }
     }
@@ -261,6 +270,10 @@ fn put_body(out: &mut Vec<u8>, frame: &Frame) -> Result<(), AllocError>
             put_refused(out, *session, *request, *refusal, *value)
         }
         Frame::Leave => put_u8(out, 6),
+        Frame::Retire { node } => {
+            put_u8(out, 7)?;
+            put_id(out, *node)
+        }
     }
 }
 

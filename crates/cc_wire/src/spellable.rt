@@ -195,5 +195,6 @@ pub fn event_is_spellable(event: &Event)
             number_fits(*request);
             command_is_spellable(command);
         }
+        Event::Retire { node } => id_is_spellable(*node),
     }
 }

@@ -145,5 +145,6 @@ pub fn event_len(event: &Event) -> usize
         Event::Deliver { message, .. } => KIND + ID + NUMBER + message_len(message),
         Event::Acked { .. } => KIND + ID + NUMBER,
         Event::Ask { command, .. } => KIND + NUMBER + NUMBER + command_len(command),
+        Event::Retire { .. } => KIND + ID,
     }
 }

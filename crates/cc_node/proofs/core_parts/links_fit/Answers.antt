@@ -1,10 +1,7 @@
-use Rattle.std.proofs.Common.{sym, ap, ◌∙◌, arith, length}
-use Rattle.std.specs.List.{list_all}
+use Rattle.std.proofs.Common.{ap, arith, length}
 use Rattle.std.specs.FinMap as table
 use Rattle.std.proofs.lemmas.List.{length-map}
-use Rattle.cc_links.specs.Rows.{link_of, row_of}
-use Rattle.cc_links.specs.declared.link_row.LinkRow.{LinkRow}
-use Rattle.cc_node.specs.Parts.{is_link_within}
+use Rattle.cc_links.specs.Rows.{row_of}
 use Rattle.cc_node.proofs.Restoring.{links_pass}
 use Rattle.cc_node.proofs.core_parts.links_fit.Goals as goal
 

@@ -29,3 +29,8 @@ pub returns-in_ok-put_u8-in-Refused-clause-writes : goal.returns-in_ok-put_u8-in
 returns-in_ok-put_u8-in-Refused-clause-writes c =
     subst (λ (f : Frame). Writes c.args.out.now c.put_refused.new.out (body_spelling f) c.put_refused.result) (sym c.in-Refused.is)
     (writes_then c.args.out.now c.put_u8-in-Refused.new.out c.put_refused.new.out (5 ∷ []) _ c.put_refused.result c.in_ok-put_u8-in-Refused.ensures c.put_refused.ensures.writes)
+
+pub returns-in_ok-put_u8-in-Retire-clause-writes : goal.returns-in_ok-put_u8-in-Retire-clause-writes
+returns-in_ok-put_u8-in-Retire-clause-writes c =
+    subst (λ (f : Frame). Writes c.args.out.now c.put_id.new.out (body_spelling f) c.put_id.result) (sym c.in-Retire.is)
+    (writes_then c.args.out.now c.put_u8-in-Retire.new.out c.put_id.new.out (7 ∷ []) _ c.put_id.result c.in_ok-put_u8-in-Retire.ensures c.put_id.ensures.writes)

@@ -23,7 +23,7 @@ returns-then-not-add_peers c =
     ap (λ b. then_some b refusal.TooManyNodes) (too_many a.posts c.args.from c.args.message.now a.links false _
     (marks_too_many set.empty c.add_peers.new.self (ids ++ table.keys a.links) (c.args.from ∷ []) false refl
     (marks_too_many set.empty c.add_peers.new.self (table.keys a.links) ids c.add_peers.result c.if-not-add_peers.true peers)))
-    ∙ ap (λ (s : Core). too_many_nodes s c.args.from c.args.message.now) c.self.view_is
+    ∙ ap (λ (s : Core). too_many_nodes s (c.args.from ∷ ids_of c.args.message.now)) c.self.view_is
 
 pub returns-then-not-mark_named : goal.returns-then-not-mark_named
 returns-then-not-mark_named c =
@@ -37,7 +37,7 @@ returns-then-not-mark_named c =
     marks_then set.empty c.add_peers.new.self c.mark_named.new.known (table.keys a.links) ids c.add_peers.result c.mark_named.result c.if-not-add_peers.false peers c.mark_named.ensures in
     ap (λ b. then_some b refusal.TooManyNodes) (too_many a.posts c.args.from c.args.message.now a.links false _
     (marks_too_many set.empty c.mark_named.new.known (ids ++ table.keys a.links) (c.args.from ∷ []) c.mark_named.result c.if-not-mark_named.true named))
-    ∙ ap (λ (s : Core). too_many_nodes s c.args.from c.args.message.now) c.self.view_is
+    ∙ ap (λ (s : Core). too_many_nodes s (c.args.from ∷ ids_of c.args.message.now)) c.self.view_is
 
 pub returns : goal.returns
 returns c =
@@ -52,4 +52,4 @@ returns c =
     ap (λ b. then_some b refusal.TooManyNodes) (too_many a.posts c.args.from c.args.message.now a.links c.add.result _
     (marks_then set.empty c.mark_named.new.known c.add.new.self (ids ++ table.keys a.links) (c.args.from ∷ []) c.mark_named.result c.add.result c.if-not-mark_named.false named
     (record { fits = c.add.ensures.fits; added = c.add.ensures.added })))
-    ∙ ap (λ (s : Core). too_many_nodes s c.args.from c.args.message.now) c.self.view_is
+    ∙ ap (λ (s : Core). too_many_nodes s (c.args.from ∷ ids_of c.args.message.now)) c.self.view_is
