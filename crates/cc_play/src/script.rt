@@ -59,6 +59,7 @@ fn plain_line(words: &[&str]) -> Option<Line> {
             event_at(node, ask(session, request, command))
         }
         ["acked", node, peer, number] => event_at(node, acked(peer, number)),
+        ["retire", node, retired] => event_at(node, retire(retired)),
         _ => carried_line(words),
     }
 }
@@ -131,6 +132,12 @@ fn acked(peer: &str, n: &str) -> Option<Event> {
     Some(Event::Acked {
         peer: NodeId::new(small_number(peer)?)?,
         number: number(n)?,
+    })
+}
+
+fn retire(node: &str) -> Option<Event> {
+    Some(Event::Retire {
+        node: NodeId::new(small_number(node)?)?,
     })
 }
 
