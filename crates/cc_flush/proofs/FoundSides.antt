@@ -9,7 +9,7 @@ use Rattle.cc_site.specs.Sides.{SideState, MayLeave, other, settled}
 use Rattle.cc_site.specs.SideLaws.{settled_only}
 use Rattle.cc_site.specs.Moments.{Contents}
 use Rattle.cc_node.specs.Node.{Node}
-use Rattle.cc_node.specs.Sides.{StandsAt}
+use Rattle.cc_node.specs.Sides.{StandsAt, Yields}
 use Rattle.cc_checkpoint.specs.declared.choosing.InUse.{InUse}
 use Rattle.cc_checkpoint.specs.declared.open_fault.OpenFault.{OpenFault}
 use Rattle.cc_checkpoint.specs.Choosing.{chosen}
@@ -18,14 +18,15 @@ use Rattle.cc_checkpoint.proofs.ChoosingLaws.{chosen_takes}
 use Rattle.cc_checkpoint.proofs.HeadLaws.{head_spelled}
 use Rattle.cc_journal.specs.Journals.{Position}
 use Rattle.cc_journal.specs.Scanning.{ScansTo}
+use Rattle.cc_flush.specs.declared.opened.Opened.{Opened}
 use Rattle.cc_flush.specs.declared.opening.Found.{Found}
 use Rattle.cc_flush.specs.Engine.{IsSettled, StandsNow}
-use Rattle.cc_flush.specs.Opening.{AreSettled, IsFound, SideFails, ReadingFails, OpenFails}
+use Rattle.cc_flush.specs.Opening.{AreSettled, HoldsRecords, IsFound, SideFails, ReadingFails, OpenFails}
 
 module _ (left : Contents) (used : InUse) (start node : Node) (first size records events : ℕ) (bytes : (side : Side) → IsBytes (left side)) (chose : chosen (left A) (left B) ≡ Ok used) (at_head : HeadAt (left used.side) start first)
     (scans : ScansTo (drop first (left used.side)) start node size records events) where
-  pub held : StandsAt (left used.side) (left (other used.side)) used.generation (first + size) node
-  held =
+  counted : HoldsRecords (left used.side) used.generation node (first + size) records events
+  counted =
       let in_use = chosen_takes left used chose in
       let head = head_spelled (left used.side) used.generation start first (bytes used.side) in_use.armed in_use.from_one in_use.is at_head in
       record {
@@ -48,17 +49,25 @@ module _ (left : Contents) (used : InUse) (start node : Node) (first size record
             leads_to = scans.leads_to;
           };
         };
-        yields = in_use.yields;
+        record_count = scans.record_count;
+        event_count = scans.event_count;
       }
 
-pub found_stands : (left : Contents) (used : InUse) (start node : Node) (first records events : ℕ) (at : Position) → ((side : Side) → IsBytes (left side)) → chosen (left A) (left B) ≡ Ok used → HeadAt (left used.side) start first
-    → at.side ≡ used.side → first ≤ at.place → ScansTo (drop first (left used.side)) start node (at.place - first) records events → StandsAt (left at.side) (left (other at.side)) used.generation at.place node
-found_stands left used start node first records events at bytes chose head same onward scans =
-    subst (λ (s : Side). StandsAt (left s) (left (other s)) used.generation at.place node) (sym same)
-    (subst (λ (n : ℕ). StandsAt (left used.side) (left (other used.side)) used.generation n node) place (held left used start node first (at.place - first) records events bytes chose head scans))
+  pub held : StandsAt (left used.side) (left (other used.side)) used.generation (first + size) node
+  held = record { holds = counted.holds; yields = (chosen_takes left used chose).yields }
+
+pub found_holds : (left : Contents) (used : InUse) (start node : Node) (first records events : ℕ) (at : Position) → ((side : Side) → IsBytes (left side)) → chosen (left A) (left B) ≡ Ok used → HeadAt (left used.side) start first
+    → at.side ≡ used.side → first ≤ at.place → ScansTo (drop first (left used.side)) start node (at.place - first) records events → HoldsRecords (left at.side) used.generation node at.place records events
+found_holds left used start node first records events at bytes chose head same onward scans =
+    subst (λ (s : Side). HoldsRecords (left s) used.generation node at.place records events) (sym same)
+    (subst (λ (n : ℕ). HoldsRecords (left used.side) used.generation node n records events) place (counted left used start node first (at.place - first) records events bytes chose head scans))
   where
     place : first + (at.place - first) ≡ at.place
     place = omega (arith, onward)
+
+-- the side that isn't in use yields to the one that is
+pub found_yields : (left : Contents) (used : InUse) (at : Position) → chosen (left A) (left B) ≡ Ok used → at.side ≡ used.side → Yields (left (other at.side)) used.generation
+found_yields left used at chose same = subst (λ (s : Side). Yields (left (other s)) used.generation) (sym same) (chosen_takes left used chose).yields
 
 pub same_bytes : (mid old : Side → SideState) → mid A ≡ settled (old A) → mid B ≡ settled (old B) → (side : Side) → (mid side).bytes ≡ (old side).bytes
 same_bytes mid old a b A = ap (λ (t : SideState). t.bytes) a
@@ -82,9 +91,13 @@ opened_stands old mid new node at generation a b same stands bytes others may ma
     now side left possible = only_these mid old a b side left (subst (λ (t : Side → SideState). MayLeave (t side) left) same possible)
 
 -- the same of contents that are the same on each side
-pub same_found : (mid old : Contents) (node : Node) (at : Position) (generation used : ℕ) → ((side : Side) → mid side ≡ old side) → IsFound mid node at generation used → IsFound old node at generation used
-same_found mid old node at generation used same found = record {
+pub same_found : (mid old : Contents) (node : Node) (at : Position) (generation used : ℕ) (opened : Opened) → ((side : Side) → mid side ≡ old side) → IsFound mid node at generation used opened → IsFound old node at generation used opened
+same_found mid old node at generation used opened same found = record {
   stands = subst (λ (l : List ℕ). StandsAt l (old (other at.side)) generation at.place node) (same at.side) (subst (λ (l : List ℕ). StandsAt (mid at.side) l generation at.place node) (same (other at.side)) found.stands);
+  counted = record {
+    side = found.counted.side;
+    holds = subst (λ (l : List ℕ). HoldsRecords l generation node at.place opened.records opened.events) (same at.side) found.counted.holds;
+  };
   length = found.length ∙ ap length (same at.side);
 }
 
@@ -103,8 +116,8 @@ same_fails mid old (Ok found) same fails = tt
 same_fails mid old (Err fault) same fails = λ is. same_reading mid old fault same (fails is)
 
 pub if_found : (result : Result Found OpenFault) (old mid new : Side → SideState) → mid A ≡ settled (old A) → mid B ≡ settled (old B) → new ≡ mid
-    → IfOk result (λ found. IsFound (λ side. (mid side).bytes) found.node found.journal found.generation found.used) → IfOk result (λ found. StandsNow new found.journal found.generation found.node)
+    → IfOk result (λ found. IsFound (λ side. (mid side).bytes) found.node found.journal found.generation found.used found.opened) → IfOk result (λ found. StandsNow new found.journal found.generation found.node)
 if_found (Ok found) old mid new a b same is =
     opened_stands old mid new found.node found.journal found.generation a b same
-    (same_found (λ side. (mid side).bytes) (λ side. (old side).bytes) found.node found.journal found.generation found.used (same_bytes mid old a b) is).stands
+    (same_found (λ side. (mid side).bytes) (λ side. (old side).bytes) found.node found.journal found.generation found.used found.opened (same_bytes mid old a b) is).stands
 if_found (Err fault) old mid new a b same is = tt

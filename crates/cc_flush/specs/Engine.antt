@@ -1,5 +1,6 @@
 -- An engine: a node kept on the two sides of a site.
---     Engine              its site, its node, where the next record goes, whether outputs are owed, and the fault that ended it
+--     Engine              its site, its node, where the next record goes, whether outputs are owed, the fault that ended it, and
+--                         what opening found
 --     IsSettled           a side with no unsynced change
 --     StandsNow           whatever a crash leaves now, the sides stand for that node
 --     IsSound             what every engine keeps
@@ -19,6 +20,8 @@ use Rattle.cc_journal.specs.declared.entry.Entry.{Entry}
 use Rattle.cc_journal.specs.Batches.{AreLawful, events_in}
 use Rattle.cc_journal.specs.Journals.{Position}
 use Rattle.cc_journal.specs.Codes.{position_code}
+use Rattle.cc_flush.specs.declared.opened.Opened.{Opened}
+use Rattle.cc_flush.specs.contracts.opened.Opened as opened_type
 
 pub record Engine (D : Type 0) : Type 0 where
   pub site : D
@@ -31,13 +34,15 @@ pub record Engine (D : Type 0) : Type 0 where
   -- whether a batch is durable whose outputs weren't put
   pub owes : Bool
   pub failed : Option DeviceFault
+  -- what opening found
+  pub opened : Opened
 
 abbrev pub engine_code : {D : Type 0} → Coded D → Coded (Engine D)
 engine_code {D} site_code =
-    code_by (D × (Node × (Position × (ℕ × (ℕ × (Bool × Option DeviceFault))))))
-    (coded× site_code (coded× node_code (coded× position_code (coded× coded_ℕ (coded× coded_ℕ (coded× coded_bool (coded_option (device_fault.the_row).coded)))))))
-    (λ e. (e.site, (e.twin, (e.at, (e.generation, (e.used, (e.owes, e.failed)))))))
-    (λ p. record { site = p.0; twin = p.1.0; at = p.1.1.0; generation = p.1.1.1.0; used = p.1.1.1.1.0; owes = p.1.1.1.1.1.0; failed = p.1.1.1.1.1.1 }) (λ _. refl)
+    code_by (D × (Node × (Position × (ℕ × (ℕ × (Bool × (Option DeviceFault × Opened)))))))
+    (coded× site_code (coded× node_code (coded× position_code (coded× coded_ℕ (coded× coded_ℕ (coded× coded_bool (coded× (coded_option (device_fault.the_row).coded) (opened_type.the_row).coded)))))))
+    (λ e. (e.site, (e.twin, (e.at, (e.generation, (e.used, (e.owes, (e.failed, e.opened))))))))
+    (λ p. record { site = p.0; twin = p.1.0; at = p.1.1.0; generation = p.1.1.1.0; used = p.1.1.1.1.0; owes = p.1.1.1.1.1.0; failed = p.1.1.1.1.1.1.0; opened = p.1.1.1.1.1.1.1 }) (λ _. refl)
 
 -- a sync of the side would leave it as it is
 abbrev pub IsSettled : SideState → Type 0

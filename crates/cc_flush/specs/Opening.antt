@@ -1,4 +1,6 @@
 -- What opening a site finds, and why it can't be opened.
+--     HoldsRecords    a side holds the node by so many records, of so many events
+--     IsCounted       that is told of the side in use
 --     IsFound         the contents stand for a node, whose next record goes there
 --     of_scan         a fault of the records of a side, as one of the site
 --     IsReadingFault  a fault that the contents are the reason of
@@ -14,7 +16,7 @@ use Rattle.cc_site.specs.declared.site.Call.TheVariants.{Sync}
 use Rattle.cc_site.specs.Sides.{SideState, other, settled}
 use Rattle.cc_site.specs.Moments.{Contents}
 use Rattle.cc_site.specs.Telling.{Looks, LooksAtEither}
-use Rattle.cc_node.specs.Sides.{StandsAt}
+use Rattle.cc_node.specs.Sides.{Holds, StandsAt, events_of}
 use Rattle.cc_node.specs.Node.{Node}
 use Rattle.cc_checkpoint.specs.declared.choosing.InUse.{InUse}
 use Rattle.cc_checkpoint.specs.declared.open_fault.OpenFault.{OpenFault}
@@ -25,9 +27,22 @@ use Rattle.cc_journal.specs.declared.scanning.ScanFault.{ScanFault}
 use Rattle.cc_journal.specs.declared.scanning.ScanFault.TheVariants as scans
 use Rattle.cc_journal.specs.Journals.{Position}
 use Rattle.cc_journal.specs.Scanning.{StopsAt}
+use Rattle.cc_flush.specs.declared.opened.Opened.{Opened}
 
-pub record IsFound (left : Contents) (node : Node) (at : Position) (generation used : ℕ) : Type 0 where
+-- Behind the state of the side stand so many records, of so many events in all. They lead to the node, up to the closed gate
+-- at `place`.
+pub record HoldsRecords (bytes : List ℕ) (generation : ℕ) (node : Node) (place records events : ℕ) : Type 0 where
+  pub holds : Holds bytes generation node place
+  pub record_count : records ≡ length holds.is_front.batches
+  pub event_count : events ≡ length (events_of holds.is_front.batches)
+
+pub record IsCounted (left : Contents) (node : Node) (at : Position) (generation : ℕ) (opened : Opened) : Type 0 where
+  pub side : opened.side ≡ at.side
+  pub holds : HoldsRecords (left at.side) generation node at.place opened.records opened.events
+
+pub record IsFound (left : Contents) (node : Node) (at : Position) (generation used : ℕ) (opened : Opened) : Type 0 where
   pub stands : StandsAt (left at.side) (left (other at.side)) generation at.place node
+  pub counted : IsCounted left node at generation opened
   pub length : used ≡ length (left at.side)
 
 abbrev pub of_scan : Side → ScanFault → OpenFault

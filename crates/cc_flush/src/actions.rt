@@ -40,6 +40,7 @@ impl<S: Site> Flusher<S> {
         ensures tells { S.tells self.new.site → S.tells self.old.site }
         // How many actions were carried out, what those came to, and each moment of them.
         ensures run { HasRun S.Site actions.items self.old self.new result }
+        ensures same_opened { self.new.opened ≡ self.old.opened }
         ensures count { self.old.failed ≡ None → MatchResult result (λ _. S.failures self.new.site ≡ S.failures self.old.site) (λ _. Rose (S.failures self.old.site) (S.failures self.new.site)) }
     {
         if let Some(fault) = self.fault() {
@@ -73,7 +74,8 @@ impl<S: Site> Flusher<S> {
         requires goes_on { self.old.failed ≡ None }
         requires lawful { IsTurnLawful self.old.twin action }
         requires room { HasRoom self.old.used action }
-        ensures { Acts S.Site action self.old self.new result }
+        ensures acts { Acts S.Site action self.old self.new result }
+        ensures same_opened { self.new.opened ≡ self.old.opened }
     {
         match action {
             Action::Turn(batch) => {
@@ -99,7 +101,8 @@ impl<S: Site> Flusher<S> {
     fn checkpoint_unless_spent(&mut self) -> Result<(), Failed>
         requires owes { self.old.owes ≡ false }
         requires goes_on { self.old.failed ≡ None }
-        ensures { Acts S.Site Action.Checkpoint self.old self.new result }
+        ensures acts { Acts S.Site Action.Checkpoint self.old self.new result }
+        ensures same_opened { self.new.opened ≡ self.old.opened }
     {
         match self.checkpoint() {
             Ok(()) => Ok(()),

@@ -21,12 +21,13 @@ ghost use Rattle.cc_flush.specs.Engine.{IsOwed};
 ghost use Rattle.cc_flush.specs.Flushing.{FlushFails, Flushes, LeadsTo, LeadsToOwed, PutsAgain};
 ghost use Rattle.cc_flush.specs.declared.flusher.CheckpointFault.TheVariants as checkpoint_faults;
 ghost use Rattle.cc_flush.specs.Moving.{Moves, MoveStops};
-ghost use Rattle.cc_flush.specs.Opening.{AreSettled, OpenFails, OpenStops, Opens};
+ghost use Rattle.cc_flush.specs.Opening.{AreSettled, IsCounted, OpenFails, OpenStops, Opens};
 ghost use Rattle.cc_flush.specs.Standing.{resends, reply_again, ack_again};
 
 use crate::back::Back;
 use crate::committing::make_durable;
 use crate::moving::move_over;
+use crate::opened::Opened;
 use crate::opening::{Found, open_sides};
 use crate::outlet::put_entries;
 use crate::standing::{put_ack_again, put_kept_answer, put_kept_posts};
@@ -98,6 +99,7 @@ pub struct Flusher<S: Site> {
     // Whether a batch is durable whose outputs weren't put.
     owes: bool,
     failed: Option<DeviceFault>,
+    opened: Opened,
     // What a checkpoint writes through.
     piece: Piece,
 }
@@ -109,9 +111,9 @@ impl<S: Site> Model for Flusher<S> {
 
     ghost coded = { engine_code S.code };
 
-    ghost view = { λ f. record { site = f.site; twin = f.node; at = f.journal; generation = f.generation; used = f.used; owes = f.owes; failed = f.failed } };
+    ghost view = { λ f. record { site = f.site; twin = f.node; at = f.journal; generation = f.generation; used = f.used; owes = f.owes; failed = f.failed; opened = f.opened } };
 
-    ghost invariant = { λ f. IsSound S.Site (record { site = f.site; twin = f.node; at = f.journal; generation = f.generation; used = f.used; owes = f.owes; failed = f.failed }) };
+    ghost invariant = { λ f. IsSound S.Site (record { site = f.site; twin = f.node; at = f.journal; generation = f.generation; used = f.used; owes = f.owes; failed = f.failed; opened = f.opened }) };
 }
 
 // Up to how many bytes of a side there is room for a record.
@@ -146,6 +148,13 @@ impl<S: Site> Flusher<S> {
         self.owes
     }
 
+    /// What `open` found: the side that was in use, how many records counted on it, and how many events they held.
+    pub fn opened(&self) -> Opened
+        ensures { result ≡ self.now.opened }
+    {
+        self.opened
+    }
+
     /// How many bytes the side in use has.
     pub fn used(&self) -> u64
         ensures used { result ≡ self.now.used }
@@ -169,6 +178,7 @@ impl<S: Site> Flusher<S> {
         ensures outlet { MatchResult result (λ opened. KeepsOutlet S.Site site opened.0.site) (λ b. KeepsOutlet S.Site site b.site) }
         ensures engine { IfOk result (λ opened. (opened.0.failed ≡ None) × (opened.0.owes ≡ false) × (opened.1 ≡ opened.0.twin.core)) }
         ensures stands { S.honest site → IfOk result (λ opened. StandsAt (S.state site opened.0.at.side).bytes (S.state site (other opened.0.at.side)).bytes opened.0.generation opened.0.at.place opened.0.twin) }
+        ensures counted { S.honest site → IfOk result (λ opened. IsCounted (bytes_of S.Site site) opened.0.twin opened.0.at opened.0.generation opened.0.opened) }
         ensures faults { S.honest site → IfErr result (λ b. OpenFails (bytes_of S.Site site) b.fault) }
         ensures settled { S.honest site → MatchResult result (λ opened. AreSettled (S.state site) (S.state opened.0.site)) (λ b. OpenStops (S.state site) (S.state b.site) b.fault) }
         // At each moment a crash leaves what it might have left at the start, and nothing is put.
@@ -184,6 +194,7 @@ impl<S: Site> Flusher<S> {
             journal,
             generation,
             used,
+            opened,
             piece,
         } = match open_sides(alloc, &mut site) {
             Ok(found) => found,
@@ -207,6 +218,7 @@ impl<S: Site> Flusher<S> {
                 used,
                 owes: false,
                 failed: None,
+                opened,
                 piece,
             },
             core,
@@ -239,6 +251,7 @@ impl<S: Site> Flusher<S> {
         ensures goes_on { OnOk result (self.new.failed ≡ None) }
         ensures failed { IfErr result (λ f. self.new.failed ≡ Some f.fault) }
         ensures same_generation { self.new.generation ≡ self.old.generation }
+        ensures same_opened { self.new.opened ≡ self.old.opened }
         ensures honest { S.honest self.old.site ↔ S.honest self.new.site }
         ensures tells { (S.tells self.old.site ↔ S.tells self.new.site) × (S.sent self.new.site ≡ S.sent self.old.site) }
         ensures other_side { S.honest self.old.site → S.state self.new.site (other self.old.at.side) ≡ S.state self.old.site (other self.old.at.side) }
@@ -269,6 +282,7 @@ impl<S: Site> Flusher<S> {
         ensures twin { self.new.twin ≡ after self.old.twin (events_in landed) }
         ensures owes { self.new.owes ≡ false }
         ensures same { (self.new.at ≡ self.old.at) × (self.new.generation ≡ self.old.generation) × (self.new.used ≡ self.old.used) × (self.new.failed ≡ self.old.failed) }
+        ensures same_opened { self.new.opened ≡ self.old.opened }
         ensures honest { S.honest self.old.site ↔ S.honest self.new.site }
         ensures same_sides { S.honest self.old.site → S.state self.new.site ≡ S.state self.old.site }
         ensures told { S.tells self.new.site → S.tells self.old.site × (S.sent self.new.site ≡ S.sent self.old.site ++ line self.old.twin (events_in landed)) }
@@ -290,6 +304,7 @@ impl<S: Site> Flusher<S> {
         ensures flushed { self.old.failed ≡ None → MatchResult result
             (λ _. Flushes S.Site batch self.old self.new)
             (λ f. FlushFails S.Site batch self.old self.new f.fault) }
+        ensures same_opened { self.new.opened ≡ self.old.opened }
     {
         let landed = self.commit(batch)?;
         self.release(landed);
@@ -306,6 +321,7 @@ impl<S: Site> Flusher<S> {
         ensures spent { self.old.failed ≡ None → counter_limit ≤ self.old.generation → (result ≡ Err checkpoint_faults.Spent) × (self.new ≡ self.old) }
         ensures moves { self.old.failed ≡ None → self.old.generation < counter_limit → MatchResult result (λ _. Moves S.Site self.old self.new) (MoveStops S.Site self.old self.new) }
         ensures same_twin { self.new.twin ≡ self.old.twin }
+        ensures same_opened { self.new.opened ≡ self.old.opened }
         ensures owes { self.new.owes ≡ false }
         ensures honest { S.honest self.old.site ↔ S.honest self.new.site }
         ensures tells { (S.tells self.old.site ↔ S.tells self.new.site) × (S.sent self.new.site ≡ S.sent self.old.site) }
@@ -344,6 +360,7 @@ impl<S: Site> Flusher<S> {
         ensures ended { (fault : DeviceFault) → self.old.failed ≡ Some fault → (result ≡ Err (record { fault = fault })) × (self.new ≡ self.old) }
         ensures count { self.old.failed ≡ None → result ≡ Ok (length (resends self.old.twin)) }
         ensures puts { self.old.failed ≡ None → PutsAgain S.Site (resends self.old.twin) self.old self.new }
+        ensures same_opened { self.new.opened ≡ self.old.opened }
     {
         self.check()?;
         Ok(put_kept_posts(&self.node, &mut self.site))
@@ -356,6 +373,7 @@ impl<S: Site> Flusher<S> {
         ensures ended { (fault : DeviceFault) → self.old.failed ≡ Some fault → (result ≡ Err (record { fault = fault })) × (self.new ≡ self.old) }
         ensures kept { self.old.failed ≡ None → result ≡ Ok (table.contains_key self.old.twin.outbox.answers session) }
         ensures puts { self.old.failed ≡ None → PutsAgain S.Site (reply_again session self.old.twin) self.old self.new }
+        ensures same_opened { self.new.opened ≡ self.old.opened }
     {
         self.check()?;
         Ok(put_kept_answer(&self.node, &mut self.site, session))
@@ -368,6 +386,7 @@ impl<S: Site> Flusher<S> {
         ensures ended { (fault : DeviceFault) → self.old.failed ≡ Some fault → (result ≡ Err (record { fault = fault })) × (self.new ≡ self.old) }
         ensures heard { self.old.failed ≡ None → result ≡ Ok (nat_lt 0 (heard_from peer self.old.twin.core.links)) }
         ensures puts { self.old.failed ≡ None → PutsAgain S.Site (ack_again peer self.old.twin) self.old self.new }
+        ensures same_opened { self.new.opened ≡ self.old.opened }
     {
         self.check()?;
         Ok(put_ack_again(&self.node, &mut self.site, peer))
@@ -385,6 +404,7 @@ impl<S: Site> Flusher<S> {
             used: _,
             owes: _,
             failed: _,
+            opened: _,
             piece: _,
         } = self;
         site

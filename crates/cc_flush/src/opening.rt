@@ -13,20 +13,22 @@ ghost use Rattle.cc_journal.specs.Reading.{IsScanned};
 ghost use Rattle.cc_flush.specs.Engine.{StandsNow};
 ghost use Rattle.cc_flush.specs.Opening.{AreSettled, IsFound, IsReadingFault, OpenFails, OpenStops, Opens, RecordsFail, Syncs, of_scan};
 
+use crate::opened::Opened;
 use cc_checkpoint::{InUse, OpenFault, Piece, choose, read_state};
 use cc_journal::{Journal, ScanFault, Scanned, scan};
 use cc_node::Node;
 use cc_site::{DeviceFault, Side, Site, length_of};
 use std::alloc::Global;
 
-// What two sides hold: the node, where its next record goes, under which generation, and how long the side in use is. The
-// piece is the one that the state was read through.
+// What two sides hold: the node, where its next record goes, under which generation, how long the side in use is, and what
+// counts on it. The piece is the one that the state was read through.
 #[derive(Drop)]
 pub(crate) struct Found {
     pub node: Node,
     pub journal: Journal,
     pub generation: u64,
     pub used: u64,
+    pub opened: Opened,
     pub piece: Piece,
 }
 
@@ -83,7 +85,7 @@ fn greatest(m: u64, n: u64) -> u64
 
 // Reads what both sides hold, the state through the piece.
 fn read_sides<S: Site>(alloc: Global, site: &mut S, piece: Piece) -> Result<Found, OpenFault>
-    ensures found { S.honest site.old → IfOk result (λ found. IsFound (bytes_of S.Site site.old) found.node found.journal found.generation found.used) }
+    ensures found { S.honest site.old → IfOk result (λ found. IsFound (bytes_of S.Site site.old) found.node found.journal found.generation found.used found.opened) }
     ensures reaches { IfOk result (λ found. found.journal.place ≤ found.used) }
     ensures failed { S.honest site.old → IfErr result (OpenFails (bytes_of S.Site site.old)) }
     ensures reads { OnlyReads S.Site site.old site.new }
@@ -92,14 +94,25 @@ fn read_sides<S: Site>(alloc: Global, site: &mut S, piece: Piece) -> Result<Foun
     let mut piece = piece;
     let InUse { side, generation } = choose(site)?;
     let (start, first) = read_state(alloc, site, side, &mut piece)?;
-    let Scanned { journal, node, .. } = read_records(alloc, site, side, first, start)?;
+    let Scanned {
+        journal,
+        node,
+        records,
+        events,
+    } = read_records(alloc, site, side, first, start)?;
     let len = length_of(site, side)?;
     let used = greatest(len, journal.place());
+    let opened = Opened {
+        side,
+        records,
+        events,
+    };
     Ok(Found {
         node,
         journal,
         generation,
         used,
+        opened,
         piece,
     })
 }
@@ -108,7 +121,7 @@ fn read_sides<S: Site>(alloc: Global, site: &mut S, piece: Piece) -> Result<Foun
 pub(crate) fn open_sides<S: Site>(alloc: Global, site: &mut S) -> Result<Found, OpenFault>
     ensures honest { S.honest site.old ↔ S.honest site.new }
     ensures tells { (S.tells site.old ↔ S.tells site.new) × (S.sent site.new ≡ S.sent site.old) }
-    ensures found { S.honest site.old → IfOk result (λ found. IsFound (bytes_of S.Site site.old) found.node found.journal found.generation found.used) }
+    ensures found { S.honest site.old → IfOk result (λ found. IsFound (bytes_of S.Site site.old) found.node found.journal found.generation found.used found.opened) }
     ensures reaches { IfOk result (λ found. found.journal.place ≤ found.used) }
     ensures failed { S.honest site.old → IfErr result (OpenFails (bytes_of S.Site site.old)) }
     ensures every_moment { S.honest site.old → EachMoment S.Site site.old site.new (Possible (S.state site.old) (S.sent site.old)) }

@@ -6,6 +6,8 @@ mod checkpoints;
 #[cfg(test)]
 mod commits;
 #[cfg(test)]
+mod counts;
+#[cfg(test)]
 mod lives;
 #[cfg(test)]
 mod openings;

@@ -4,7 +4,7 @@ use Rattle.cc_site.specs.Reads.{bytes_of, reads_then}
 use Rattle.cc_checkpoint.specs.Heads.{HeadAt}
 use Rattle.cc_journal.specs.Reading.{IsScanned}
 use Rattle.cc_flush.specs.Opening.{RecordsFail}
-use Rattle.cc_flush.proofs.FoundSides.{found_stands}
+use Rattle.cc_flush.proofs.FoundSides.{found_holds, found_yields}
 use Rattle.cc_flush.proofs.opening.read_sides.Goals as goal
 
 furthest : (m n : ℕ) → n ≤ m → max m n ≡ m
@@ -50,8 +50,10 @@ returns-clause-found g c honest =
     let head = subst (λ st. HeadAt (st used.side).bytes c.in_ok-start.start c.in_ok-start.first) same1 (c.in_ok-start.ensures.exact h1) in
     let scanned = subst (λ st. IsScanned (st used.side).bytes used.side c.in_ok-start.first c.in_ok-start.start found) same2 (c.in_ok-journal.ensures.scanned h2) in
     let len_is = c.in_ok-len.ensures.value h3 ∙ ap (λ st. length (st used.side).bytes) same3 in
+    let holds = found_holds (bytes_of s old) used c.in_ok-start.start found.node c.in_ok-start.first found.records found.events found.journal (g.met.S.Site.are_bytes old honest) (c.in_ok-side.ensures.exact honest) head scanned.same_side scanned.onward scanned.scans in
     record {
-      stands = found_stands (bytes_of s old) used c.in_ok-start.start found.node c.in_ok-start.first found.records found.events found.journal (g.met.S.Site.are_bytes old honest) (c.in_ok-side.ensures.exact honest) head scanned.same_side scanned.onward scanned.scans;
+      stands = record { holds = holds.holds; yields = found_yields (bytes_of s old) used found.journal (c.in_ok-side.ensures.exact honest) scanned.same_side };
+      counted = record { side = sym scanned.same_side; holds = holds };
       length = c.greatest-used.ensures ∙ furthest c.in_ok-len.len c.place.result (omega (arith, len_is, scanned.within, c.place.ensures, ap (λ p. p.place) c.journal.view_is)) ∙ len_is ∙ ap (λ side. length (s.state old side).bytes) (sym scanned.same_side);
     }
 

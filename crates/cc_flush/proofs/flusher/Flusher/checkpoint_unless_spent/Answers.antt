@@ -3,8 +3,8 @@ use Rattle.cc_flush.specs.Moving.{MoveStops}
 use Rattle.cc_flush.proofs.Advancing.{KeepsNode, move_advances, spent_advances, move_given_up}
 use Rattle.cc_flush.proofs.flusher.Flusher.checkpoint_unless_spent.Goals as goal
 
-pub returns-in-Ok : goal.returns-in-Ok
-returns-in-Ok g c =
+pub returns-in-Ok-clause-acts : goal.returns-in-Ok-clause-acts
+returns-in-Ok-clause-acts g c =
     let s = g.S.Site in
     let old = c.args.self.now in
     let new = c.checkpoint.new.self in
@@ -13,8 +13,8 @@ returns-in-Ok g c =
     let keeps : KeepsNode s old new = record { twin = e.same_twin; owes = e.owes; same_honest = e.honest; told = e.tells; good = λ h. e.good h none } in
     move_advances s old new keeps (λ less. e.moves none less) (λ spent. let is = (e.spent none spent).0 in cc)
 
-pub returns-in-Err-Spent : goal.returns-in-Err-Spent
-returns-in-Err-Spent g c =
+pub returns-in-Err-Spent-clause-acts : goal.returns-in-Err-Spent-clause-acts
+returns-in-Err-Spent-clause-acts g c =
     let s = g.S.Site in
     let old = c.args.self.now in
     let new = c.checkpoint.new.self in
@@ -23,8 +23,8 @@ returns-in-Err-Spent g c =
     let keeps : KeepsNode s old new = record { twin = e.same_twin; owes = e.owes; same_honest = e.honest; told = e.tells; good = λ h. e.good h none } in
     spent_advances s old new keeps none (λ less. subst (MoveStops s old new) c.in-Err-Spent.field-0-is (e.moves none less)) (λ spent. (e.spent none spent).1)
 
-pub returns-in-Err-Failed : goal.returns-in-Err-Failed
-returns-in-Err-Failed g c =
+pub returns-in-Err-Failed-clause-acts : goal.returns-in-Err-Failed-clause-acts
+returns-in-Err-Failed-clause-acts g c =
     let s = g.S.Site in
     let old = c.args.self.now in
     let new = c.checkpoint.new.self in

@@ -27,6 +27,9 @@ invariant_of-result g c =
 pub returns-clause-stands : goal.returns-clause-stands
 returns-clause-stands g c honest = (c.in-Ok.ensures.found honest).stands
 
+pub returns-clause-counted : goal.returns-clause-counted
+returns-clause-counted g c honest = (c.in-Ok.ensures.found honest).counted
+
 pub returns-clause-at_rest : goal.returns-clause-at_rest
 returns-clause-at_rest g c honest there =
     let s = g.S.Site in

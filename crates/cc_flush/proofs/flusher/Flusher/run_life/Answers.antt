@@ -39,6 +39,7 @@ loop-action-init g c =
       count = search rules;
       lawful = search rules;
       run = stays s (HasLived s) old (λ start events opening was. was.good) c.requires.owes (sym c.fault.ensures ∙ c.in_default.is) (g.met.S.Site.only_now old.site);
+      same_opened = refl;
     }
 
 pub loop-action-preserved : goal.loop-action-preserved
@@ -49,12 +50,13 @@ loop-action-preserved g c =
     let rest = into_iter_items c.next.new.self in
     let steps : into_iter_items at.action-iterator ≡ action ∷ rest = c.in-Some-action.ensures.steps.0 in
     let lawful = subst (AreTurnsLawful at.self.twin) steps at.invariant.lawful in
-    let acted = c.in_ok-act.ensures in
+    let acted = c.in_ok-act.ensures.acts in
     record {
       parts = at.invariant.parts ∙ ap (λ l. at.yielded ++ l) steps ∙ sym (append_assoc at.yielded (action ∷ []) rest);
       count = omega (arith, at.invariant.count, c.in-Some-action.ensures.steps.1, ap length steps);
       lawful = subst (λ n. AreTurnsLawful n rest) (sym acted.twin) lawful.1;
       run = done_more s c.args.self.now at.self c.act.new.self at.yielded action at.invariant.run acted;
+      same_opened = c.in_ok-act.ensures.same_opened ∙ at.invariant.same_opened;
     }
 
 pub returns-then-not-has_room_for-clause-run : goal.returns-then-not-has_room_for-clause-run
@@ -77,7 +79,7 @@ returns-in_err-act-clause-run g c =
     let steps : into_iter_items at.action-iterator ≡ action ∷ rest = c.in-Some-action.ensures.steps.0 in
     let p = err_from_is_err_and c.from_residual.result c.from_residual.ensures.1 in
     rw (p.1, p.2) (run_failed s c.args.self.now at.self c.act.new.self c.args.actions.items at.yielded action rest c.in_err-act.field-0.0
-    (at.invariant.parts ∙ ap (λ l. at.yielded ++ l) steps) at.invariant.run c.in_err-act.ensures)
+    (at.invariant.parts ∙ ap (λ l. at.yielded ++ l) steps) at.invariant.run c.in_err-act.ensures.acts)
 
 pub returns-clause-run : goal.returns-clause-run
 returns-clause-run g c =

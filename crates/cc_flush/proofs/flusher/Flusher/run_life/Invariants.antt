@@ -12,4 +12,5 @@ invariant-loop-action g l =
       count : into_iter_len l.action-iterator ≡ length (into_iter_items l.action-iterator);
       lawful : AreTurnsLawful l.self.twin (into_iter_items l.action-iterator);
       run : Advances s (HasLived s) (events_of l.yielded) (outputs_of l.fn.self.twin l.yielded) (generation_after l.fn.self.generation l.yielded) l.fn.self l.self;
+      same_opened : l.self.opened ≡ l.fn.self.opened;
     }
