@@ -1,5 +1,5 @@
 # The commands of the README. The toolchain is Rattle's kit, with its command rt on the PATH.
-.PHONY: try run test check bench edits refused-growths costs
+.PHONY: try run test check bench edits refused-growths kill-files costs
 
 # Plays the script that ships with the program before any proof.
 try:
@@ -48,6 +48,13 @@ refused-growths:
 	@for crate in $(CRATES); do (cd crates/$$crate && rt test) > growths.log 2>&1 || { cat growths.log; exit 1; }; done
 	@rm -f growths.log
 	@bash tools/refused_growths.sh $(CRATES)
+
+# Kills a node that writes on two files a thousand times with SIGKILL, and opens it again: about two minutes. KILLS=100 does
+# fewer.
+KILLS = 1000
+kill-files:
+	@$(BUILD); build ccnode; build file_writer
+	@bash tools/kill_files.sh crates/file_writer/out/file_writer crates/ccnode/out/ccnode $(KILLS)
 
 # Prints what each crate costs: its proof, its tests and its edits, in processor seconds with one job. CRATES=cc_ops does one.
 costs:
