@@ -21,7 +21,9 @@ fn main(rt: HostRuntime) -> anyhow::Result<ExitCode> {
             Ok(ExitCode::SUCCESS)
         }
         None => {
-            println!(rt; "usage: file_writer DIR, where `ccnode format DIR 1 --initial 1` was run before")?;
+            println!(rt;
+                "usage: file_writer DIR, where `ccnode format DIR 1 --initial 1` was run before"
+            )?;
             Ok(ExitCode::from(BAD_COMMAND_LINE))
         }
     }
