@@ -2,6 +2,7 @@
 
 use cc_changes::Fraction;
 use cc_node::{Core, Fresh, Node, Opening};
+use cc_ops::Stage;
 use cc_views::NodeId;
 use cc_wire::{Command, Event, Message, Refusal};
 use std::alloc::Global;
@@ -146,6 +147,50 @@ fn check_ask<R: Abort + AllocGlobal>(rt: &R, node: &mut Node) -> Result<(), Fail
 fn an_ask_is_taken_in(rt: HostRuntime) -> Result<(), Fail> {
     let mut node = Node::fresh(rt.alloc(), &opening(1, &[1], &[]))?;
     check_ask(&rt, &mut node)
+}
+
+// Node 2 never acknowledges the Store. Once node 1 itself has, retiring node 2 drops it.
+fn check_retired<R: Abort>(rt: &R, node: &Node, dead: NodeId) {
+    assert!(rt; !node.core().is_live(dead));
+    assert_eq!(rt; node.kept(), 0);
+    assert_eq!(rt; node.core().posts(), 1);
+    assert!(rt; matches!(node.phase(), Stage::Storing(pending) if pending.need == 2));
+    let again = refusal(node, Event::Retire { node: dead });
+    assert_eq!(rt; again, Some(Refusal::Left));
+}
+
+fn retire<R: Abort + AllocGlobal>(rt: &R, node: &mut Node, dead: NodeId) -> Result<(), Fail> {
+    let peer = node.me();
+    take(rt.alloc(), node, ask(1, Command::SetFlag))?;
+    take(rt.alloc(), node, Event::Acked { peer, number: 1 })?;
+    assert_eq!(rt; node.kept(), 1);
+    take(rt.alloc(), node, Event::Retire { node: dead })
+}
+
+#[test]
+fn a_retire_keeps_the_need_and_drops_posts(rt: HostRuntime) -> Result<(), Fail> {
+    let dead = NodeId::new(2).ok_or("2 is an id")?;
+    let mut node = Node::fresh(rt.alloc(), &opening(1, &[1, 2], &[]))?;
+    retire(&rt, &mut node, dead)?;
+    check_retired(&rt, &node, dead);
+    Ok(())
+}
+
+// With no live link nothing is kept, and nothing is asked any more.
+fn check_itself<R: Abort + AllocGlobal>(rt: &R, node: &mut Node) -> Result<(), Fail> {
+    let me = node.me();
+    take(rt.alloc(), node, ask(1, Command::SetFlag))?;
+    take(rt.alloc(), node, Event::Retire { node: me })?;
+    assert_eq!(rt; node.kept(), 0);
+    assert!(rt; !node.core().is_live(me));
+    assert_eq!(rt; refusal(node, Event::Leave), Some(Refusal::Left));
+    Ok(())
+}
+
+#[test]
+fn a_node_retires_itself(rt: HostRuntime) -> Result<(), Fail> {
+    let mut node = Node::fresh(rt.alloc(), &opening(1, &[1], &[]))?;
+    check_itself(&rt, &mut node)
 }
 
 fn check_enter<R: Abort + AllocGlobal>(rt: &R, node: &mut Node) -> Result<(), Fail> {
