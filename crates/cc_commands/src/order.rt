@@ -1,0 +1,76 @@
+//! How a folder is to be formatted.
+
+use crate::word_fault::WordFault;
+use cc_changes::Fraction;
+use cc_node::Opening;
+use cc_words::{fraction, list, small_number};
+use std::alloc::Global;
+
+// The fractions of a node where no word says others.
+const FOUR_FIFTHS: Fraction = Fraction { num: 4, den: 5 };
+
+/// The words of `format` behind its folder, as they are given. None for an option that isn't.
+#[derive(Clone, Copy, Debug)]
+pub struct FormatWords<'a> {
+    pub id: &'a str,
+    pub initial: Option<&'a str>,
+    pub contacts: Option<&'a str>,
+    pub beta: Option<&'a str>,
+    pub gamma: Option<&'a str>,
+}
+
+/// The node that a folder is to keep.
+#[derive(Debug, Drop, PartialEq, Eq)]
+pub struct FormatOrder {
+    pub id: u32,
+    /// The members at the start. None for a node that enters later.
+    pub initial: Vec<u32>,
+    /// Whom else it can reach.
+    pub contacts: Vec<u32>,
+    pub beta: Fraction,
+    pub gamma: Fraction,
+}
+
+impl FormatOrder {
+    /// What these words ask for: lists are empty and fractions 4/5 where their words aren't given. The fault names the
+    /// first word of another form. Whether a node can begin so is told by formatting alone.
+    pub fn parse(alloc: Global, words: &FormatWords<'_>) -> Result<Self, WordFault> {
+        let id = small_number(words.id).ok_or(WordFault::Id)?;
+        let beta = share(words.beta).ok_or(WordFault::Beta)?;
+        let gamma = share(words.gamma).ok_or(WordFault::Gamma)?;
+        let initial = ids(alloc, words.initial, WordFault::Initial)?;
+        let contacts = ids(alloc, words.contacts, WordFault::Contacts)?;
+        Ok(FormatOrder {
+            id,
+            initial,
+            contacts,
+            beta,
+            gamma,
+        })
+    }
+
+    /// What the node is told.
+    pub fn opening(&self) -> Opening<'_> {
+        Opening {
+            me: self.id,
+            initial: &self.initial,
+            contacts: &self.contacts,
+            beta: self.beta,
+            gamma: self.gamma,
+        }
+    }
+}
+
+fn share(word: Option<&str>) -> Option<Fraction> {
+    match word {
+        Some(word) => fraction(word),
+        None => Some(FOUR_FIFTHS),
+    }
+}
+
+fn ids(alloc: Global, word: Option<&str>, fault: WordFault) -> Result<Vec<u32>, WordFault> {
+    match word {
+        Some(word) => list(alloc, word)?.ok_or(fault),
+        None => Ok(Vec::new(alloc)),
+    }
+}
