@@ -159,11 +159,7 @@ fn check_retired<R: Abort>(rt: &R, node: &Node, dead: NodeId) {
     assert_eq!(rt; again, Some(Refusal::Left));
 }
 
-fn check_retire<R: Abort + AllocGlobal>(
-    rt: &R,
-    node: &mut Node,
-    dead: NodeId,
-) -> Result<(), Fail> {
+fn check_retire<R: Abort + AllocGlobal>(rt: &R, node: &mut Node, dead: NodeId) -> Result<(), Fail> {
     let peer = node.me();
     take(rt.alloc(), node, ask(1, Command::SetFlag))?;
     take(rt.alloc(), node, Event::Acked { peer, number: 1 })?;
