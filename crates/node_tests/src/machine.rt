@@ -159,21 +159,21 @@ fn check_retired<R: Abort>(rt: &R, node: &Node, dead: NodeId) {
     assert_eq!(rt; again, Some(Refusal::Left));
 }
 
-fn retire<R: Abort + AllocGlobal>(rt: &R, node: &mut Node, dead: NodeId) -> Result<(), Fail> {
+fn check_retire<R: Abort + AllocGlobal>(rt: &R, node: &mut Node, dead: NodeId) -> Result<(), Fail> {
     let peer = node.me();
     take(rt.alloc(), node, ask(1, Command::SetFlag))?;
     take(rt.alloc(), node, Event::Acked { peer, number: 1 })?;
     assert_eq!(rt; node.kept(), 1);
-    take(rt.alloc(), node, Event::Retire { node: dead })
+    take(rt.alloc(), node, Event::Retire { node: dead })?;
+    check_retired(rt, node, dead);
+    Ok(())
 }
 
 #[test]
 fn a_retire_keeps_the_need_and_drops_posts(rt: HostRuntime) -> Result<(), Fail> {
     let dead = NodeId::new(2).ok_or("2 is an id")?;
     let mut node = Node::fresh(rt.alloc(), &opening(1, &[1, 2], &[]))?;
-    retire(&rt, &mut node, dead)?;
-    check_retired(&rt, &node, dead);
-    Ok(())
+    check_retire(&rt, &mut node, dead)
 }
 
 // With no live link nothing is kept, and nothing is asked any more.
