@@ -6,6 +6,7 @@ use cc_changes::Fraction;
 use cc_site::Choice;
 use cc_views::{NodeId, Text};
 use cc_wire::{Command, Event};
+use cc_words::{fraction, list, number, small_number};
 use std::alloc::{AllocError, Global};
 
 /// What one line asks for.
@@ -43,8 +44,8 @@ pub fn parse(alloc: Global, bytes: &[u8]) -> Result<Option<Line>, AllocError> {
 // The line of these words.
 fn line_of(alloc: Global, words: &[&str]) -> Result<Option<Line>, AllocError> {
     match words {
-        ["member", id, "of", list] => member(alloc, id, list),
-        ["entrant", id, "via", list] => entrant(alloc, id, list),
+        ["member", id, "of", ids] => member(alloc, id, ids),
+        ["entrant", id, "via", ids] => entrant(alloc, id, ids),
         _ => Ok(plain_line(words)),
     }
 }
@@ -93,21 +94,21 @@ fn fractions(beta: &str, gamma: &str) -> Option<Line> {
     })
 }
 
-fn member(alloc: Global, id: &str, list: &str) -> Result<Option<Line>, AllocError> {
+fn member(alloc: Global, id: &str, ids: &str) -> Result<Option<Line>, AllocError> {
     let Some(id) = small_number(id) else {
         return Ok(None);
     };
-    match ids(alloc, list)? {
+    match list(alloc, ids)? {
         Some(initial) => Ok(Some(Line::Member { id, initial })),
         None => Ok(None),
     }
 }
 
-fn entrant(alloc: Global, id: &str, list: &str) -> Result<Option<Line>, AllocError> {
+fn entrant(alloc: Global, id: &str, ids: &str) -> Result<Option<Line>, AllocError> {
     let Some(id) = small_number(id) else {
         return Ok(None);
     };
-    match ids(alloc, list)? {
+    match list(alloc, ids)? {
         Some(contacts) => Ok(Some(Line::Entrant { id, contacts })),
         None => Ok(None),
     }
@@ -213,41 +214,6 @@ fn stored_text(word: &str) -> Option<Text> {
         return None;
     }
     Text::new(bytes)
-}
-
-// Two numbers with a slash between them. Whether it is a share of the whole is up to the node that it is for.
-fn fraction(word: &str) -> Option<Fraction> {
-    let (num, den) = word.split_once('/')?;
-    Some(Fraction {
-        num: small_number(num)?,
-        den: small_number(den)?,
-    })
-}
-
-// Ids joined by commas.
-fn ids(alloc: Global, list: &str) -> Result<Option<Vec<u32>>, AllocError> {
-    let mut ids = Vec::new(alloc);
-    for word in list.split(',') {
-        match small_number(word) {
-            Some(id) => ids.push(id)?,
-            None => return Ok(None),
-        }
-    }
-    Ok(Some(ids))
-}
-
-fn small_number(word: &str) -> Option<u32> {
-    u32::try_from(number(word)?).ok()
-}
-
-// Plain decimal digits, without leading zeros.
-fn number(word: &str) -> Option<u64> {
-    let digits = word.as_bytes();
-    let is_plain = digits.iter().all(|digit| digit.is_ascii_digit());
-    if !is_plain || (digits.len() > 1 && digits.first() == Some(&b'0')) {
-        return None;
-    }
-    word.parse().ok()
 }
 
 // Two lower case hexadecimal digits.

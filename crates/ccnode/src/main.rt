@@ -1,9 +1,14 @@
-//! The command line of a node of a store-collect cluster. It plays scripts over clusters in memory.
+//! The command line of a node of a store-collect cluster: it plays scripts over clusters in memory, formats the folder of a
+//! node, and tells what stands there.
 #![tactic(auto)]
 
+mod command_line;
+
+use cc_commands::{FormatOrder, FormatWords, WordFault, dump_folder, format_folder};
 use cc_play::{PlayFault, play};
-use clap::Command;
-use std::alloc::{AllocError, Global};
+use clap::ArgMatches;
+use command_line::command_line;
+use std::alloc::Global;
 use std::io::BufWriter;
 use std::process::ExitCode;
 
@@ -13,6 +18,19 @@ const BAD_COMMAND_LINE: u8 = 2;
 // A fault ended the run.
 const FAULT: u8 = 1;
 
+// What a command line asks for.
+#[derive(Clone, Copy)]
+enum Order<'a> {
+    Play,
+    Format {
+        folder: &'a str,
+        words: FormatWords<'a>,
+    },
+    Dump {
+        folder: &'a str,
+    },
+}
+
 fn main(rt: HostRuntime) -> anyhow::Result<ExitCode> {
     let words: Vec<String> = std::env::args(&rt)?.collect(rt.alloc())?;
     obey(&rt, &words)
@@ -21,26 +39,45 @@ fn main(rt: HostRuntime) -> anyhow::Result<ExitCode> {
 // Does what the words of a command line ask for.
 fn obey(rt: &HostRuntime, words: &[String]) -> anyhow::Result<ExitCode> {
     match parse(rt.alloc(), words) {
-        Ok(()) => play_input(rt),
+        Ok(Order::Play) => play_input(rt),
+        Ok(Order::Format { folder, words }) => format(rt, folder, &words),
+        Ok(Order::Dump { folder }) => dump(rt, folder),
         Err(error) => print_error(rt, &error),
     }
 }
 
-// Whether the words ask for the one thing that there is.
-fn parse(alloc: Global, words: &[String]) -> Result<(), clap::Error> {
+fn parse<'a>(alloc: Global, words: &'a [String]) -> Result<Order<'a>, clap::Error> {
     let command = command_line(alloc)?;
-    let _matches = command.try_get_matches_from(words)?;
-    Ok(())
+    let matches = command.try_get_matches_from(words)?;
+    Ok(order_of(&matches))
 }
 
-fn command_line<'a>(alloc: Global) -> Result<Command<'a>, AllocError> {
-    let player = Command::new(alloc, "play").about(
-        "Plays the script on standard input over a cluster in memory",
-    );
-    Command::new(alloc, "ccnode")
-        .about("A durable node of a store-collect cluster")
-        .subcommand_required(true)
-        .subcommand(player)
+fn order_of<'a>(matches: &ArgMatches<'a>) -> Order<'a> {
+    match matches.subcommand() {
+        Some(("format", words)) => Order::Format {
+            folder: required(words, "DIR"),
+            words: format_words(words),
+        },
+        Some(("dump", words)) => Order::Dump {
+            folder: required(words, "DIR"),
+        },
+        _ => Order::Play,
+    }
+}
+
+fn format_words<'a>(words: &ArgMatches<'a>) -> FormatWords<'a> {
+    FormatWords {
+        id: required(words, "ID"),
+        initial: words.get_str("initial"),
+        contacts: words.get_str("contacts"),
+        beta: words.get_str("beta"),
+        gamma: words.get_str("gamma"),
+    }
+}
+
+// A word without which no command line is taken.
+fn required<'a>(words: &ArgMatches<'a>, name: &str) -> &'a str {
+    words.get_str(name).unwrap_or("")
 }
 
 // Prints the help that was asked for, or what is wrong with the command line.
@@ -66,4 +103,31 @@ fn played(rt: &HostRuntime) -> anyhow::Result<Result<u8, PlayFault>> {
 fn print_fault(rt: &HostRuntime, fault: &PlayFault) -> anyhow::Result<ExitCode> {
     eprintln!(rt; "ccnode: {fault}")?;
     Ok(ExitCode::from(FAULT))
+}
+
+fn format(rt: &HostRuntime, folder: &str, words: &FormatWords<'_>) -> anyhow::Result<ExitCode> {
+    match FormatOrder::parse(rt.alloc(), words) {
+        Ok(order) => format_as(rt, folder, &order),
+        Err(fault) => print_word_fault(rt, fault),
+    }
+}
+
+// Formats a folder: the status of that.
+fn format_as(rt: &HostRuntime, folder: &str, order: &FormatOrder) -> anyhow::Result<ExitCode> {
+    let mut output = std::io::writer(rt);
+    let status = format_folder(rt, rt.alloc(), folder, order, &mut output)?;
+    Ok(ExitCode::from(status))
+}
+
+// Prints which word isn't of its form.
+fn print_word_fault(rt: &HostRuntime, fault: WordFault) -> anyhow::Result<ExitCode> {
+    eprintln!(rt; "ccnode: {fault}")?;
+    let is_bad = fault != WordFault::NoMemory;
+    Ok(ExitCode::from(if is_bad { BAD_COMMAND_LINE } else { FAULT }))
+}
+
+fn dump(rt: &HostRuntime, folder: &str) -> anyhow::Result<ExitCode> {
+    let mut output = std::io::writer(rt);
+    let status = dump_folder(rt, rt.alloc(), folder, &mut output)?;
+    Ok(ExitCode::from(status))
 }

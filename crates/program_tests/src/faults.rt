@@ -26,8 +26,8 @@ impl Read for Broken<'_> {
 
 /// Takes so many writes, and then gives an error.
 #[derive(Drop)]
-struct Full {
-    writes: u32,
+pub struct Full {
+    pub writes: u32,
 }
 
 impl Write for Full {

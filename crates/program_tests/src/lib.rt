@@ -14,6 +14,8 @@ mod disks;
 #[cfg(test)]
 mod faults;
 #[cfg(test)]
+mod folders;
+#[cfg(test)]
 mod limits;
 #[cfg(test)]
 mod node_faults;
@@ -22,4 +24,8 @@ mod objects;
 #[cfg(test)]
 mod played;
 #[cfg(test)]
+mod sites;
+#[cfg(test)]
 mod standing;
+#[cfg(test)]
+mod words;
