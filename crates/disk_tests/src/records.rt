@@ -208,7 +208,7 @@ fn a_side_is_damaged_at_the_length_of_a_record(rt: HostRuntime) -> Result<(), Fa
         1
     );
     assert_eq!(rt;
-        damaged(alloc, &[0xA5, 0, 0, 0, 6, 1, 0, 0, 0, 1, 6, 0])?,
+        damaged(alloc, &[0xA5, 0, 0, 0, 6, 1, 0, 0, 0, 1, 7, 0])?,
         1
     );
     assert_eq!(rt; damaged(alloc, &[0xA5, 0, 0, 0, 5, 1, 0, 0, 0, 0, 0])?, 1);

@@ -143,6 +143,7 @@ fn is_copied(alloc: Global, churn: &Churn, me: NodeId) -> Result<bool, Fail> {
 fn check_joined<R: Abort + AllocGlobal>(rt: &R, churn: &Churn, me: NodeId) -> Result<(), Fail> {
     assert_eq!(rt; churn.decide_ask(me), Ok(()));
     assert_eq!(rt; churn.decide_enter(me), Err(Refusal::AlreadyEntered));
+    assert_eq!(rt; churn.decide_retire(me, me), Ok(()));
     assert_eq!(rt; churn.quorum(GAMMA), 1);
     let copied = is_copied(rt.alloc(), churn, me)?;
     assert!(rt; copied);
@@ -156,6 +157,7 @@ fn a_node_joins_and_is_asked(rt: HostRuntime) -> Result<(), Fail> {
     assert!(rt; echoed);
     let mut churn = Churn::new(rt.alloc())?;
     assert_eq!(rt; churn.decide_ask(me), Err(Refusal::NotEntered));
+    assert_eq!(rt; churn.decide_retire(me, id(2)?), Err(Refusal::NotEntered));
     let join = Message::Join { node: me };
     churn.apply(me, GAMMA, &join);
     drop(join);

@@ -298,9 +298,13 @@ fn put_small_events(out: &mut Vec<u8>) -> Result<(), Fail> {
     let peer = NodeId::new(7).ok_or("7 is an id")?;
     encode_event(&Event::Enter, out)?;
     encode_event(&Event::Leave, out)?;
-    let acked = Event::Acked { peer, number: 8 };
-    let put = encode_event(&acked, out);
-    drop(acked);
+    put_one(Event::Acked { peer, number: 8 }, out)?;
+    put_one(Event::Retire { node: peer }, out)
+}
+
+fn put_one(event: Event, out: &mut Vec<u8>) -> Result<(), Fail> {
+    let put = encode_event(&event, out);
+    drop(event);
     Ok(put?)
 }
 
@@ -319,11 +323,36 @@ fn small_events(rt: HostRuntime) -> Result<(), Fail> {
     let out = bytes_of_small_events(rt.alloc())?;
     assert_eq!(rt;
         out.as_slice(),
-        [1, 2, 4, 0, 0, 0, 7, 0, 0, 0, 0, 0, 0, 0, 8].as_slice()
+        [1, 2, 4, 0, 0, 0, 7, 0, 0, 0, 0, 0, 0, 0, 8, 6, 0, 0, 0, 7].as_slice()
     );
     drop(out);
-    let fault = event_fault(rt.alloc(), &[6, 0, 0, 0, 1]);
-    assert_eq!(rt; fault, Some(WireFault::BadKind(6)));
+    Ok(())
+}
+
+// The event Retire of node 9.
+const RETIRE: [u8; 5] = [6, 0, 0, 0, 9];
+
+#[test]
+fn a_retire_is_copied_and_read_again(rt: HostRuntime) -> Result<(), Fail> {
+    let out = copied_event(rt.alloc(), &RETIRE)?;
+    assert_eq!(rt; out.as_slice(), RETIRE.as_slice());
+    drop(out);
+    Ok(())
+}
+
+#[test]
+fn faults_of_an_event(rt: HostRuntime) -> Result<(), Fail> {
+    let cases: [(&[u8], WireFault); 6] = [
+        (&[0], WireFault::BadKind(0)),
+        (&[7, 0, 0, 0, 1], WireFault::BadKind(7)),
+        (&[6, 0, 0, 0, 0], WireFault::NotAscending),
+        (&[6, 0, 0, 0], WireFault::Short),
+        (&[6], WireFault::Short),
+        (&[6, 0, 0, 0, 1, 0], WireFault::Trailing),
+    ];
+    for (bytes, fault) in cases {
+        assert_eq!(rt; event_fault(rt.alloc(), bytes), Some(fault));
+    }
     Ok(())
 }
 
@@ -349,6 +378,11 @@ fn len_of_join(alloc: Global) -> Result<usize, Fail> {
     Ok(len_of(join))
 }
 
+fn len_of_retire() -> Result<usize, Fail> {
+    let node = NodeId::new(9).ok_or("9 is an id")?;
+    Ok(len_of(Event::Retire { node }))
+}
+
 fn len_of_ask() -> Result<usize, Fail> {
     let text = Text::new(b"a").ok_or("the text is short")?;
     Ok(len_of(Event::Ask {
@@ -365,7 +399,9 @@ fn sizes_of_events(rt: HostRuntime) -> Result<(), Fail> {
     let store = len_of_store(rt.alloc())?;
     let join = len_of_join(rt.alloc())?;
     let asked = len_of_ask()?;
-    assert_eq!(rt; [enter, store, join, asked], [1, 52, DELIVER.len(), 20]);
+    let retire = len_of_retire()?;
+    let found = [enter, store, join, asked, retire];
+    assert_eq!(rt; found, [1, 52, DELIVER.len(), 20, RETIRE.len()]);
     Ok(())
 }
 
@@ -499,13 +535,16 @@ fn frames_are_read_whole(rt: HostRuntime) -> Result<(), Fail> {
     drop(out);
     // An unknown kind, and a body that is longer than its fields.
     let found = [
-        frame_fault(rt.alloc(), &[0, 0, 0, 5, 7, 0, 0, 0, 1]),
+        frame_fault(rt.alloc(), &[0, 0, 0, 5, 8, 0, 0, 0, 1]),
         frame_fault(rt.alloc(), &[0, 0, 0, 2, 6, 6]),
+        frame_fault(rt.alloc(), &[0, 0, 0, 5, 7, 0, 0, 0, 0]),
     ];
-    assert_eq!(rt;
-        found,
-        [Some(WireFault::BadKind(7)), Some(WireFault::Trailing)]
-    );
+    let faults = [
+        WireFault::BadKind(8),
+        WireFault::Trailing,
+        WireFault::NotAscending,
+    ];
+    assert_eq!(rt; found, faults.map(Some));
     Ok(())
 }
 
@@ -514,7 +553,7 @@ fn frames_are_read_whole(rt: HostRuntime) -> Result<(), Fail> {
 fn a_bad_field_of_a_cut_off_body_is_the_fault(rt: HostRuntime) -> Result<(), Fail> {
     let cases: [(&[u8], WireFault); 6] = [
         (&[0, 0, 0, 5], WireFault::Short),
-        (&[0, 0, 0, 5, 7], WireFault::BadKind(7)),
+        (&[0, 0, 0, 5, 8], WireFault::BadKind(8)),
         (&[0, 0, 0, 5, 1, 0, 0, 0], WireFault::Short),
         (&[0, 0, 0, 9, 1, 0, 0, 0, 0], WireFault::NotAscending),
         (&[0, 0, 0, 2, 6], WireFault::Short),
@@ -552,10 +591,10 @@ fn a_bad_length_breaks_a_stream(rt: HostRuntime) -> Result<(), Fail> {
     Ok(())
 }
 
-// A frame of each kind: Leave, an Ack, and a Post of Leave 1.
-const NEWS: [u8; 44] = [
+// A frame of each kind: Leave, an Ack, a Post of Leave 1, and Retire 9.
+const NEWS: [u8; 53] = [
     0, 0, 0, 1, 6, 0, 0, 0, 0x0D, 2, 0, 0, 0, 2, 0, 0, 0, 0, 0, 0, 0, 3, 0, 0, 0, 0x12, 1, 0, 0, 0,
-    1, 0, 0, 0, 0, 0, 0, 0, 1, 5, 0, 0, 0, 1,
+    1, 0, 0, 0, 0, 0, 0, 0, 1, 5, 0, 0, 0, 1, 0, 0, 0, 5, 7, 0, 0, 0, 9,
 ];
 
 fn put_others(bytes: &mut Vec<u8>) -> Result<(), Fail> {
@@ -600,7 +639,7 @@ fn write_frames(
     out: &mut Vec<u8>,
 ) -> Result<(), Fail> {
     let mut rest = piece;
-    for _ in 0..7 {
+    for _ in 0..8 {
         let used = write_frame(reader, alloc, rest, out)?;
         rest = &rest[used..];
     }

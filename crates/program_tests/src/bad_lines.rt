@@ -10,8 +10,23 @@ const NO_COMMANDS: &str = "
 \x20
 play
 Member 2 of 2
-1
-retire 1 2";
+1";
+
+const NO_RETIREMENTS: &str = "\
+retire
+retire 1
+retire 1\x20
+retire 2 1
+retire 0 1
+retire 1 0
+retire 01 2
+retire 1 02
+retire 1 a
+retire 1 2\x20
+retire 1 2 3
+retire 1 2,3
+retire 1 4294967296
+Retire 1 2";
 
 const NO_CHECKPOINTS: &str = "\
 checkpoint
@@ -234,6 +249,7 @@ fn a_bad_line_ends_the_script(rt: HostRuntime) -> Result<(), Fail> {
         NO_CARRIES,
         NO_CHECKPOINTS,
         NO_CRASHES,
+        NO_RETIREMENTS,
         NOTHING_AGAIN,
     ] {
         for line in lines.split('\n') {

@@ -24,6 +24,8 @@ mod objects;
 #[cfg(test)]
 mod played;
 #[cfg(test)]
+mod retirements;
+#[cfg(test)]
 mod sites;
 #[cfg(test)]
 mod standing;

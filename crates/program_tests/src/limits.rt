@@ -67,9 +67,9 @@ fn a_cluster_has_room_for_16_nodes(rt: HostRuntime) -> Result<(), Fail> {
     Ok(())
 }
 
-// The script of a member by itself that finishes so many stores. Each makes two posts.
-fn stores(alloc: Global, count: u64) -> Result<String, Fail> {
-    let mut script = String::from_str(alloc, "member 1 of 1\n")?;
+// The script of a member that is made so, and that finishes so many stores by itself. Each makes two posts.
+fn stores(alloc: Global, member: &str, count: u64) -> Result<String, Fail> {
+    let mut script = String::from_str(alloc, member)?;
     for request in 1..=count {
         let lines = format!(in alloc; "ask 1 7 {request} store a\nall 2\n")?;
         script.push_str(&lines)?;
@@ -89,11 +89,41 @@ const FULL_OUTBOX: &str = "\
 
 #[test]
 fn an_outbox_has_room_for_512_posts(rt: HostRuntime) -> Result<(), Fail> {
-    let mut script = stores(rt.alloc(), 256)?;
+    let mut script = stores(rt.alloc(), "member 1 of 1\n", 256)?;
     script.push_str("ask 1 7 257 collect\nacked 1 1 1\nask 1 7 257 collect\n")?;
     let (status, output) = played(rt.alloc(), &script)?;
     assert_eq!(rt; status, 0);
     assert!(rt; output.ends_with(FULL_OUTBOX));
+    Ok(())
+}
+
+// A member that needs one acknowledgement of two, and what it prints once the other one is retired.
+const NEEDS_ONE: &str = "fractions 1/5 4/5\nmember 1 of 1,2\n";
+
+const RETIRE: &str = "\
+acked 1 1 512
+ask 1 7 257 collect
+retire 1 2
+ask 1 7 257 collect
+retire 1 2
+";
+
+const RETIRED: &str = "\
+1 accepted
+1 refused 15 OutboxFull
+1 accepted
+1 accepted
+1 send 1 513 Query 257 1
+1 refused 1 Left
+";
+
+#[test]
+fn a_dead_node_fills_an_outbox_until_it_is_retired(rt: HostRuntime) -> Result<(), Fail> {
+    let mut script = stores(rt.alloc(), NEEDS_ONE, 256)?;
+    script.push_str(RETIRE)?;
+    let (status, output) = played(rt.alloc(), &script)?;
+    assert_eq!(rt; status, 0);
+    assert!(rt; output.ends_with(RETIRED));
     Ok(())
 }
 
