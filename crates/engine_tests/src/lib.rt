@@ -11,4 +11,5 @@ mod counts;
 mod lives;
 #[cfg(test)]
 mod openings;
+#[cfg(test)]
 mod whole_life;
