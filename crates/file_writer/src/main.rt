@@ -1,6 +1,8 @@
 //! Opens the node in a folder and writes on it until it is killed: `make kill-files` does so a thousand times.
 #![tactic(auto)]
 
+ghost use Rattle.std.specs.Prelude.{◌≡◌, false, IfOk};
+
 mod writer;
 mod writer_fault;
 
@@ -36,7 +38,9 @@ fn write_on_folder(rt: &HostRuntime, folder: &str) -> Result<(), WriterFault> {
     outcome
 }
 
-fn opened(rt: &HostRuntime, folder: &str) -> Result<Flusher<FileSite<NoOutlet>>, WriterFault> {
+fn opened(rt: &HostRuntime, folder: &str) -> Result<Flusher<FileSite<NoOutlet>>, WriterFault>
+    ensures { IfOk result (λ engine. engine.owes ≡ false) }
+{
     let site = FileSite::open(rt, rt.alloc(), folder, NoOutlet)?;
     match Flusher::open(rt.alloc(), site) {
         Ok((engine, _)) => Ok(engine),
