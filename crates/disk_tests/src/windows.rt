@@ -135,7 +135,8 @@ fn a_short_state_is_read_back(rt: HostRuntime) -> Result<(), Fail> {
 }
 
 // What an armed side has up to the end of the node's state, of which so many bytes are told.
-fn front(alloc: Global, node: &Node, told: u32) -> Result<Vec<u8>, Fail> {
+fn front(alloc: Global, node: &Node, told: usize) -> Result<Vec<u8>, Fail> {
+    let told = u32::try_from(told).or(Err("no state is so long"))?;
     let mut bytes = Vec::from_slice(alloc, &[0xA5, 0, 0, 0, 0, 0, 0, 0, 1, 1])?;
     bytes.extend_from_slice(&told.to_be_bytes())?;
     let state = encoded(alloc, node)?;
@@ -153,7 +154,7 @@ fn fault(alloc: Global, bytes: &[u8]) -> Result<Option<OpenFault>, Fail> {
 
 fn check_cuts<R: Abort + AllocGlobal>(rt: &R, node: &Node) -> Result<(), Fail> {
     let length = encoded(rt.alloc(), node)?.len();
-    let side = front(rt.alloc(), node, length as u32)?;
+    let side = front(rt.alloc(), node, length)?;
     for len in 0..side.len() {
         // No version stands there, or no length, or that goes past the end.
         let place = if len < 10 { 9 } else { 10 };
@@ -173,8 +174,11 @@ fn each_cut_of_a_side_is_damaged(rt: HostRuntime) -> Result<(), Fail> {
 fn check_parts<R: Abort + AllocGlobal>(rt: &R, node: &Node) -> Result<(), Fail> {
     let length = encoded(rt.alloc(), node)?.len();
     for told in 0..length {
-        let side = front(rt.alloc(), node, told as u32)?;
-        let cut = fault(rt.alloc(), &side[..14 + told])?;
+        let side = front(rt.alloc(), node, told)?;
+        let told_part = side
+            .get(..told.saturating_add(14))
+            .ok_or("no state stands there")?;
+        let cut = fault(rt.alloc(), told_part)?;
         assert_eq!(rt; cut, Some(OpenFault::Damaged(Side::A, 14)));
         // What is behind the state that is told doesn't matter.
         let more = fault(rt.alloc(), &side)?;

@@ -118,7 +118,10 @@ fn retires_past(alloc: Global, count: u32) -> Result<String, Fail> {
         let more = format!(in alloc; ",{id}")?;
         script.push_str(&more)?;
     }
-    let lines = format!(in alloc; "\nretire 1 {count}\nretire 1 {}\n", count + 1)?;
+    let lines = format!(in alloc;
+        "\nretire 1 {count}\nretire 1 {}\n",
+        count.saturating_add(1)
+    )?;
     script.push_str(&lines)?;
     Ok(script)
 }
