@@ -17,6 +17,8 @@ last_of() {
 
 durable=0 opened=0 ahead=0 idle=0
 for ((kill = 1; kill <= kills; kill++)); do
+    # Whoever is killed early enough has not even emptied it.
+    : > "$folder/told"
     "$writer" "$folder/node" > "$folder/told" &
     pid=$!
     sleep "0.0$((RANDOM % 9))$((RANDOM % 10))"
