@@ -2,14 +2,14 @@
 --     front_4, front_8     the first bytes are those of the number that they are read as
 --     head_spelled         an armed side with a generation and a state has a head
 --     head_found           what a head spells is at the places where it is read
-use Rattle.std.proofs.Common.{◌≡◌, ℕ, ◌+◌, ◌<◌, ◌≤◌, ◌^◌, List, ◌∷◌, ◌++◌, length, take, drop, get_or, refl, sym, ◌∙◌, ap, subst, arith, length-append, length-drop, take-append-drop}
+use Rattle.std.proofs.Common.{◌≡◌, ℕ, ◌+◌, ◌<◌, ◌≤◌, ◌^◌, List, ◌∷◌, ◌++◌, length, take, drop, slice_index, refl, sym, ◌∙◌, ap, subst, arith, length-append, length-drop, take-append-drop}
 use Rattle.std.specs.Int.{to_be_bytes, from_be_bytes, w32, w64}
 use Rattle.std.proofs.lemmas.Nat.{from_be_bytes-to_be_bytes_4, be_bytes_4, be_bytes_8}
 use Rattle.std.proofs.lemmas.List.{drop_more, drop-drop, length-take-le, take_at}
 use Rattle.cc_wire.proofs.Spelled.{IsBytes, IsBytes-drop, IsBytes-take}
 use Rattle.cc_node.specs.Node.{Node}
-use Rattle.cc_node.specs.Sides.{OPEN, VERSION, IsArmed, generation_of, SpellsHead}
-use Rattle.cc_node.specs.States.{SpellsNode}
+use Rattle.cc_node.specs.Sides.{OPEN, IsVersion, IsArmed, generation_of, SpellsHead}
+use Rattle.cc_node.specs.States.{has_line, SpellsNode}
 use Rattle.cc_checkpoint.specs.Heads.{size_of, state_of, HeadAt}
 
 -- a front of four or eight bytes is a number
@@ -34,7 +34,7 @@ pub record FrontHead (bytes : List ℕ) (generation : ℕ) (node : Node) (place 
   pub head : List ℕ
   pub parts : bytes ≡ head ++ drop place bytes
   pub size : length head ≡ place
-  pub spelled : SpellsHead VERSION head generation node
+  pub spelled : SpellsHead (slice_index bytes 9) head generation node
 
 pub head_spelled : (bytes : List ℕ) (generation : ℕ) (node : Node) (place : ℕ) → IsBytes bytes → IsArmed bytes → 1 ≤ generation → generation_of bytes ≡ generation → HeadAt bytes node place → FrontHead bytes generation node place
 head_spelled bytes generation node place fits armed from_one is at =
@@ -47,24 +47,25 @@ head_spelled bytes generation node place fits armed from_one is at =
     let behind_version = drop 10 bytes in
     let sized = front_4 behind_version (IsBytes-drop 10 bytes fits) (omega (arith, length-drop 10 bytes, long)) in
     let tail = drop (14 + size) bytes in
+    let version = slice_index bytes 9 in
     let at_state : drop 14 bytes ≡ state ++ tail = sym (take-append-drop size (drop 14 bytes)) ∙ ap (λ (l : List ℕ). state ++ l) (drop-drop size 14 bytes) in
     let at_size : drop 10 bytes ≡ to_be_bytes w32 size ++ (state ++ tail) =
     sym (take-append-drop 4 behind_version) ∙ ap (λ (l : List ℕ). l ++ drop 4 behind_version) (sym sized.0) ∙ ap (λ (l : List ℕ). to_be_bytes w32 size ++ l) (drop-drop 4 10 bytes ∙ at_state) in
-    let at_version : drop 9 bytes ≡ VERSION ∷ (to_be_bytes w32 size ++ (state ++ tail)) =
-    drop_more bytes 9 0 (omega (arith, long)) ∙ ap (λ (v : ℕ). v ∷ drop 10 bytes) at.version ∙ ap (λ (l : List ℕ). VERSION ∷ l) at_size in
-    let at_number : drop 1 bytes ≡ to_be_bytes w64 generation ++ (VERSION ∷ (to_be_bytes w32 size ++ (state ++ tail))) =
+    let at_version : drop 9 bytes ≡ version ∷ (to_be_bytes w32 size ++ (state ++ tail)) =
+    drop_more bytes 9 0 (omega (arith, long)) ∙ ap (λ (l : List ℕ). version ∷ l) at_size in
+    let at_number : drop 1 bytes ≡ to_be_bytes w64 generation ++ (version ∷ (to_be_bytes w32 size ++ (state ++ tail))) =
     sym (take-append-drop 8 behind_gate)
     ∙ ap (λ (l : List ℕ). l ++ drop 8 behind_gate) (sym number.0 ∙ ap (to_be_bytes w64) is)
     ∙ ap (λ (l : List ℕ). to_be_bytes w64 generation ++ l) (drop-drop 8 1 bytes ∙ at_version) in
-    let all : bytes ≡ OPEN ∷ (to_be_bytes w64 generation ++ (VERSION ∷ (to_be_bytes w32 size ++ (state ++ tail)))) =
+    let all : bytes ≡ OPEN ∷ (to_be_bytes w64 generation ++ (version ∷ (to_be_bytes w32 size ++ (state ++ tail)))) =
     drop_more bytes 0 0 (omega (arith, long)) ∙ ap (λ (v : ℕ). v ∷ drop 1 bytes) armed ∙ ap (λ (l : List ℕ). OPEN ∷ l) at_number in
     subst (λ (p : ℕ). FrontHead bytes generation node p) (sym at.is) (record {
-      head = OPEN ∷ (to_be_bytes w64 generation ++ VERSION ∷ (to_be_bytes w32 size ++ state));
+      head = OPEN ∷ (to_be_bytes w64 generation ++ version ∷ (to_be_bytes w32 size ++ state));
       parts = all;
       size = omega (arith, counted);
       spelled = record {
         state = state;
-        parts = ap (λ (n : ℕ). OPEN ∷ (to_be_bytes w64 generation ++ VERSION ∷ (to_be_bytes w32 n ++ state))) (sym counted);
+        parts = ap (λ (n : ℕ). OPEN ∷ (to_be_bytes w64 generation ++ version ∷ (to_be_bytes w32 n ++ state))) (sym counted);
         from_one = from_one;
         fits = omega (arith, number.1, is);
         short = omega (arith, counted, sized.1);
@@ -72,16 +73,18 @@ head_spelled bytes generation node place fits armed from_one is at =
       };
     })
 
--- a side that begins with a head has the state that it spells
-pub head_found : (head rest : List ℕ) (generation : ℕ) (node : Node) → SpellsHead VERSION head generation node → HeadAt (head ++ rest) node (length head)
-head_found head rest generation node spelled =
+-- a side that begins with a head of a known version has the state that it spells
+pub head_found : (version : ℕ) (head rest : List ℕ) (generation : ℕ) (node : Node) → IsVersion version → SpellsHead version head generation node → HeadAt (head ++ rest) node (length head)
+head_found version head rest generation node known spelled =
     let size = length spelled.state in
-    let all : head ++ rest ≡ OPEN ∷ (to_be_bytes w64 generation ++ (VERSION ∷ (to_be_bytes w32 size ++ (spelled.state ++ rest)))) = ap (λ (l : List ℕ). l ++ rest) spelled.parts in
+    let all : head ++ rest ≡ OPEN ∷ (to_be_bytes w64 generation ++ (version ∷ (to_be_bytes w32 size ++ (spelled.state ++ rest)))) = ap (λ (l : List ℕ). l ++ rest) spelled.parts in
     let long : length head ≡ 14 + size = ap length spelled.parts ∙ omega arith in
     let told : size_of (head ++ rest) ≡ size = ap size_of all ∙ from_be_bytes-to_be_bytes_4 size spelled.short in
+    let there : slice_index (head ++ rest) 9 ≡ version = ap (λ (l : List ℕ). slice_index l 9) all in
+    let found : state_of (head ++ rest) ≡ spelled.state = ap (λ (n : ℕ). take n (drop 14 (head ++ rest))) told ∙ ap (λ (l : List ℕ). take size (drop 14 l)) all ∙ take_at spelled.state rest size refl in
     record {
-      version = ap (λ (l : List ℕ). get_or l 9 0) all;
+      version = subst IsVersion (sym there) known;
       is = omega (arith, long, told);
       long = omega (arith, long, told, length-append head rest);
-      state = subst (λ (l : List ℕ). SpellsNode l node) (sym (ap (λ (n : ℕ). take n (drop 14 (head ++ rest))) told ∙ ap (λ (l : List ℕ). take size (drop 14 l)) all ∙ take_at spelled.state rest size refl)) spelled.spelled;
+      state = subst (λ (v : ℕ). SpellsNode (has_line v) (state_of (head ++ rest)) node) (sym there) (subst (λ (l : List ℕ). SpellsNode (has_line version) l node) (sym found) spelled.spelled);
     }

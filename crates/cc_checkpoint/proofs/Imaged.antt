@@ -1,5 +1,5 @@
 -- An image: how it is spelled, how long it is, and of what parts.
-use Rattle.std.proofs.Common.{◌≡◌, ◌+◌, ◌<◌, ◌≤◌, ◌^◌, List, ℕ, [], ◌∷◌, ◌++◌, length, take, get_or, refl, sym, ap, ◌∙◌, append_assoc, length-append, arith}
+use Rattle.std.proofs.Common.{◌≡◌, true, ◌+◌, ◌<◌, ◌≤◌, ◌^◌, List, ℕ, [], ◌∷◌, ◌++◌, length, take, get_or, refl, sym, ap, ◌∙◌, append_assoc, length-append, arith}
 use Rattle.std.specs.Int.{w32, w64, to_be_bytes}
 use Rattle.std.proofs.lemmas.List.{length-take}
 use Rattle.cc_site.specs.Sides.{SideState, overwritten, written, settled, durable}
@@ -12,7 +12,7 @@ use Rattle.cc_checkpoint.specs.Checkpoints.{image_of, IsFilled}
 use Rattle.cc_checkpoint.proofs.StateLengths.{length-node}
 use Rattle.cc_checkpoint.proofs.BehindRuns.{at_end}
 
-pub image_spelled : (generation : ℕ) (state : List ℕ) (node : Node) → 1 ≤ generation → generation < 2 ^ 64 → SpellsNode state node → length state < 2 ^ 32 → SpellsImage (image_spelling generation state) generation node
+pub image_spelled : (generation : ℕ) (state : List ℕ) (node : Node) → 1 ≤ generation → generation < 2 ^ 64 → SpellsNode true state node → length state < 2 ^ 32 → SpellsImage (image_spelling generation state) generation node
 unfolding head_spelling
 image_spelled generation state node from_one fits spelled short = record {
   head = head_spelling generation state;
@@ -45,25 +45,25 @@ image_parts first generation size state is =
 
 module _ (old first second : SideState) (front : List ℕ) (generation size end : ℕ) (node : Node) where
   pub laid_end : 1 ≤ length old.bytes → front ≡ to_be_bytes w64 generation ++ VERSION ∷ to_be_bytes w32 size → first.bytes ≡ take 1 old.bytes ++ front
-      → second.bytes ≡ first.bytes ++ state_spelling (state_of node) → end ≡ 14 + length (state_spelling (state_of node)) → end ≡ length second.bytes
+      → second.bytes ≡ first.bytes ++ state_spelling true (state_of node) → end ≡ 14 + length (state_spelling true (state_of node)) → end ≡ length second.bytes
   laid_end there front_is begun written is =
       omega (
         arith,
         is,
         there,
         ap length written,
-        length-append first.bytes (state_spelling (state_of node)),
+        length-append first.bytes (state_spelling true (state_of node)),
         ap length begun,
         length-append (take 1 old.bytes) front,
         length-take 1 old.bytes,
         ap length front_is,
       )
 
-pub image_laid : (old first second new : SideState) (front : List ℕ) (generation size end : ℕ) (node : Node) → size ≡ length (state_spelling (state_of node))
-    → front ≡ to_be_bytes w64 generation ++ VERSION ∷ to_be_bytes w32 size → first.bytes ≡ take 1 old.bytes ++ front → second.bytes ≡ first.bytes ++ state_spelling (state_of node) → end ≡ length second.bytes
+pub image_laid : (old first second new : SideState) (front : List ℕ) (generation size end : ℕ) (node : Node) → size ≡ length (state_spelling true (state_of node))
+    → front ≡ to_be_bytes w64 generation ++ VERSION ∷ to_be_bytes w32 size → first.bytes ≡ take 1 old.bytes ++ front → second.bytes ≡ first.bytes ++ state_spelling true (state_of node) → end ≡ length second.bytes
     → new ≡ settled (written second end (0 ∷ [])) → new ≡ durable (take 1 old.bytes ++ image_of generation node)
 image_laid old first second new front generation size end node size_is front_is begun written_all end_is wrote =
-    let state = state_spelling (state_of node) in
+    let state = state_spelling true (state_of node) in
     let all : overwritten second.bytes end (0 ∷ []) ≡ take 1 old.bytes ++ image_of generation node =
     at_end second.bytes (0 ∷ []) end (sym end_is)
     ∙ ap (λ (l : List ℕ). l ++ 0 ∷ []) (written_all ∙ ap (λ (l : List ℕ). l ++ state) (begun ∙ ap (λ (l : List ℕ). take 1 old.bytes ++ l) front_is))
@@ -75,11 +75,11 @@ pub first_byte : (bytes : List ℕ) → 1 ≤ length bytes → take 1 bytes ≡ 
 first_byte [] there = absurd (omega (arith, there))
 first_byte (b ∷ bytes) there = refl
 
-pub filled_by : (old new : SideState) (generation : ℕ) (node : Node) → 1 ≤ length old.bytes → IsShut old.bytes → 1 ≤ generation → generation < 2 ^ 64 → SpellsNode (state_spelling (state_of node)) node
+pub filled_by : (old new : SideState) (generation : ℕ) (node : Node) → 1 ≤ length old.bytes → IsShut old.bytes → 1 ≤ generation → generation < 2 ^ 64 → SpellsNode true (state_spelling true (state_of node)) node
     → new ≡ durable (take 1 old.bytes ++ image_of generation node) → IsFilled new generation node
 filled_by old new generation node there shut from_one fits spelled is = record {
   gate = get_or old.bytes 0 0;
   closed = shut;
   is = is ∙ ap (λ (l : List ℕ). durable (l ++ image_of generation node)) (first_byte old.bytes there);
-  spelled = image_spelled generation (state_spelling (state_of node)) node from_one fits spelled (omega (arith, length-node (state_spelling (state_of node)) node spelled));
+  spelled = image_spelled generation (state_spelling true (state_of node)) node from_one fits spelled (omega (arith, length-node true (state_spelling true (state_of node)) node spelled));
 }

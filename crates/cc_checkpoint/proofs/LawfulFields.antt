@@ -1,5 +1,5 @@
 -- Of the fields of each lawful state the parts of a node can be made.
-use Rattle.std.proofs.Common.{◌≤◌, ◌-◌, length, arith}
+use Rattle.std.proofs.Common.{◌≡◌, ◌≤◌, ◌-◌, length, refl, subst, arith}
 use Rattle.std.specs.FinMap as table
 use Rattle.cc_views.specs.NatSets.{len_within}
 use Rattle.cc_views.specs.Rows.{ViewMap}
@@ -13,12 +13,18 @@ use Rattle.cc_ops.specs.declared.pending.Pending.{Pending}
 use Rattle.cc_ops.specs.declared.stage.Stage.{Stage}
 use Rattle.cc_ops.specs.declared.stage.Stage.TheVariants as stage
 use Rattle.cc_ops.specs.Ops.{IsWaiting}
-use Rattle.cc_ops.specs.Stages.{phase_of, HasWaiting}
+use Rattle.cc_ops.specs.Stages.{phase_of, stage_of, HasWaiting, WaitsBehind}
 use Rattle.cc_node.specs.Node.{Node}
 use Rattle.cc_node.specs.Lawful.{IsPendingIn, IsPhaseOf, IsLawfulNode}
 use Rattle.cc_node.specs.States.{node_of}
 use Rattle.cc_checkpoint.specs.declared.fields.Fields.{Fields}
 use Rattle.cc_checkpoint.specs.Fields.{state_in, AreRead, CanBuild}
+
+stage_again : (at : Stage) (seen : ViewMap) → stage_of (phase_of at seen) ≡ at
+stage_again stage.Idle seen = refl
+stage_again (stage.Storing p) seen = refl
+stage_again (stage.Querying p) seen = refl
+stage_again (stage.StoringBack p) seen = refl
 
 waits_in : (sessions : Requests) (p : Pending) → IsPendingIn sessions p → IsWaiting p
 waits_in sessions p is = record { count = is.count; need = is.need }
@@ -48,4 +54,6 @@ lawful_builds f read is =
       tag = is.core.counts.tag;
       echoes = is.core.counts.echoes;
       waits = waits_at _ _ f.work.round.stage f.work.round.seen is.core.phase;
+      behind = subst (λ (at : Stage). WaitsBehind at f.work.round.line) (stage_again f.work.round.stage f.work.round.seen) is.core.line.behind;
+      room = is.core.set;
     }

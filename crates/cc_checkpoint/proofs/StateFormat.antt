@@ -1,5 +1,5 @@
 -- States are read as they are spelled.
-use Rattle.std.proofs.Common.{◌≡◌, ℕ, zero, suc, ◌+◌, ◌<◌, ◌≤◌, ◌^◌, nat_lt, cond, eqb, List, [], ◌∷◌, ◌++◌, length, Ok, refl, sym, ap, subst, ◌∙◌, append_assoc, arith}
+use Rattle.std.proofs.Common.{◌≡◌, ℕ, zero, suc, ◌+◌, ◌<◌, ◌≤◌, ◌^◌, nat_lt, cond, eqb, Bool, true, false, List, [], ◌∷◌, ◌++◌, length, Result, Ok, refl, sym, ap, subst, ◌∙◌, append_assoc, arith}
 use Rattle.std.specs.Int.{w16, w64, to_be_bytes}
 use Rattle.std.specs.List.{flat_map, AllByRecursion}
 use Rattle.std.specs.Ordering.{nat_cmp}
@@ -12,11 +12,13 @@ use Rattle.cc_views.specs.declared.value.Value.{Value}
 use Rattle.cc_views.specs.Entries.{from_T, ascending_of_sorted, sorted_of_ascending, entries_back}
 use Rattle.cc_changes.specs.ChangeSets.{ChangeSets}
 use Rattle.cc_changes.specs.declared.fraction.Fraction.{Fraction}
+use Rattle.cc_wire.specs.declared.fault.WireFault.{WireFault}
 use Rattle.cc_wire.specs.declared.fault.WireFault.TheVariants.{NotAscending}
 use Rattle.cc_wire.specs.declared.message.Message.{Message}
 use Rattle.cc_wire.specs.declared.command.Command.{Command}
 use Rattle.cc_wire.specs.declared.answer.Answer.{Answer}
 use Rattle.cc_wire.specs.Reading.{◌>>=◌, Reading, via, byte_at, items_at}
+use Rattle.cc_ops.specs.declared.pending.Asked.{Asked}
 use Rattle.cc_ops.specs.declared.pending.Pending.{Pending}
 use Rattle.cc_ops.specs.Ops.{Phase, Idle, Storing, Querying, StoringBack}
 use Rattle.cc_links.specs.Links.{Link, Links}
@@ -28,7 +30,7 @@ use Rattle.cc_wire.proofs.AnswerFormat.{answer_spelled}
 use Rattle.cc_wire.proofs.EventFormat.{asked_spelled}
 use Rattle.cc_wire.specs.Spelling.{value_spelling, IsValue}
 use Rattle.cc_checkpoint.specs.Fields.{own_at}
-use Rattle.cc_node.specs.States.{Membership, Work, Tables, State, entering_spelling, entering_at, fraction_spelling, IsFraction, fraction_with, fraction_at, membership_spelling, IsMembership, membership_with, membership_at, pending_spelling, IsPending, pending_with, pending_at, phase_spelling, IsPhase, phase_fields, phase_at, work_spelling, IsWork, work_with, work_at, table_spelling, IsTableOf, row_list_at, table_at, link_spelling, IsLink, link_with, link_at, session_from, session_spelling, IsSession, session_at, kept_answer_spelling, IsKeptAnswer, kept_answer_at, kept_spelling, IsKeptPosts, kept_at, most_rows, tables_spelling, IsTables, tables_with, tables_at, state_spelling, IsState, state_with, state_at}
+use Rattle.cc_node.specs.States.{Membership, Work, Tables, State, entering_spelling, entering_at, fraction_spelling, IsFraction, fraction_with, fraction_at, membership_spelling, IsMembership, membership_with, membership_at, pending_spelling, IsPending, pending_with, pending_at, phase_spelling, IsPhase, phase_fields, phase_at, ask_spelling, IsAsk, ask_with, ask_at, some_line_at, line_spelling, IsLine, IsLineOf, line_at, round_spelling, round_at, work_spelling, IsWork, work_with, work_at, table_spelling, IsTableOf, row_list_at, table_at, link_spelling, IsLink, link_with, link_at, session_from, session_spelling, IsSession, session_at, kept_answer_spelling, IsKeptAnswer, kept_answer_at, kept_spelling, IsKeptPosts, kept_at, most_rows, tables_spelling, IsTables, tables_with, tables_at, state_spelling, IsState, state_with, state_at}
 
 -- ---- fractions
 
@@ -95,6 +97,71 @@ phase_again (StoringBack p seen) rest is = rw ((both pending_spelled view_spelle
 pub phase_spelled : Spelled phase_at IsPhase phase_spelling
 phase_spelled = record { takes = phase_takes; again = phase_again }
 
+-- ---- items in any order
+
+module _ {X : Type 0} {read : Reading X} {Is : X → Type 0} {f : X → List ℕ} (each : Spelled read Is f) where
+  abbrev many_at : ℕ → ℕ → Reading (List X)
+  many_at n least = items_at (λ _. read) (λ _. 0) n least
+
+  many_take : (n least : ℕ) (bytes : List ℕ) (xs : List X) (rest : List ℕ) → IsBytes bytes → many_at n least bytes ≡ Ok (xs, rest) → Takes bytes (flat_map f xs) rest × ((length xs ≡ n) × AllByRecursion Is xs)
+  unfolding items_at
+  many_take zero least bytes xs rest fits e =
+      subst (λ (y : List X × List ℕ). Takes bytes (flat_map f y.0) y.1 × ((length y.0 ≡ 0) × AllByRecursion Is y.0)) (ok_is ([], bytes) (xs, rest) e) (record { parts = refl; left = fits }, (refl, tt))
+  many_take (suc n) least bytes xs rest fits e =
+      let a = bind_ok (read bytes) (λ first. many_at n 1 first.1 >>= λ others. Ok (first.0 ∷ others.0, others.1)) (xs, rest) e in
+      let b = bind_ok (many_at n 1 a.0.1) (λ others. Ok (a.0.0 ∷ others.0, others.1)) (xs, rest) a.2 in
+      let t = each.takes bytes a.0.0 a.0.1 fits a.1 in
+      let u = many_take n 1 a.0.1 b.0.0 b.0.1 t.0.left b.1 in
+      let all = Takes-then bytes (f a.0.0) a.0.1 (flat_map f b.0.0) b.0.1 t.0 u.0 in
+      let made : List X × List ℕ = (a.0.0 ∷ b.0.0, b.0.1) in
+      subst (λ (y : List X × List ℕ). Takes bytes (flat_map f y.0) y.1 × ((length y.0 ≡ suc n) × AllByRecursion Is y.0)) (ok_is made (xs, rest) b.2) (rw flat_map-cons all, (ap suc u.1.0, (t.1, u.1.1)))
+
+  many_again : (xs : List X) (least : ℕ) (rest : List ℕ) → AllByRecursion Is xs → many_at (length xs) least (flat_map f xs ++ rest) ≡ Ok (xs, rest)
+  unfolding items_at
+  many_again [] least rest fits = refl
+  many_again (x ∷ xs) least rest fits =
+      let regrouped : flat_map f (x ∷ xs) ++ rest ≡ f x ++ (flat_map f xs ++ rest) = ap (λ (t : List ℕ). t ++ rest) (flat_map-cons f x xs) ∙ append_assoc (f x) (flat_map f xs) rest in
+      ap (many_at (suc (length xs)) least) regrouped ∙ rw (each.again x (flat_map f xs ++ rest) fits.0, many_again xs 1 rest fits.1) refl
+
+  pub many_spelled : (n : ℕ) → Spelled (many_at n 0) (λ xs. (length xs ≡ n) × AllByRecursion Is xs) (flat_map f)
+  many_spelled n = record {
+    takes = λ bytes xs rest fits e. many_take n 0 bytes xs rest fits e;
+    again = λ xs rest fits. subst (λ (k : ℕ). many_at k 0 (flat_map f xs ++ rest) ≡ Ok (xs, rest)) fits.0 (many_again xs 0 rest fits.1);
+  }
+
+-- ---- the asks that wait
+
+abbrev ask_fields : Asked → (ℕ × ℕ) × Command
+ask_fields a = ((a.session, a.request), a.command)
+
+ask_spelled : Spelled ask_at IsAsk ask_spelling
+unfolding ask_at
+ask_spelled = as_fields ask_with ask_fields (λ _. refl) (λ _ _. refl) asked_spelled
+
+pub some_line_spelled : Spelled some_line_at IsLine (line_spelling true)
+unfolding some_line_at
+some_line_spelled = as_facts IsLine
+    (λ line h. record { fits = h.0.1; each = h.1 })
+    (λ line h. ((omega (arith, h.fits), h.fits), h.each))
+    (counted length (limited_spelled 32 byte_spelled) (λ n. many_spelled ask_spelled n))
+
+abbrev read_line : List Asked × List ℕ → Result (List Asked × List ℕ) WireFault
+read_line read = Ok read
+
+no_line_takes : (bytes : List ℕ) (line : List Asked) (rest : List ℕ) → IsBytes bytes → read_line ([], bytes) ≡ Ok (line, rest) → Takes bytes [] rest × (line ≡ [])
+no_line_takes bytes line rest fits e =
+    subst (λ (y : List Asked × List ℕ). Takes bytes [] y.1 × (y.0 ≡ [])) (ok_is ([], bytes) (line, rest) e) (record { parts = refl; left = fits }, refl)
+
+no_line_again : (line : List Asked) (rest : List ℕ) → line ≡ [] → read_line ([], rest) ≡ Ok (line, rest)
+no_line_again line rest is = ap (λ (l : List Asked). read_line (l, rest)) (sym is)
+
+pub line_spelled : (lined : Bool) → Spelled (line_at lined) (IsLineOf lined) (line_spelling lined)
+line_spelled true = some_line_spelled
+line_spelled false = record { takes = no_line_takes; again = no_line_again }
+
+pub round_spelled : (lined : Bool) → Spelled (round_at lined) (λ r. IsPhase r.0 × IsLineOf lined r.1) (λ r. round_spelling lined r.0 r.1)
+round_spelled lined = both phase_spelled (line_spelled lined)
+
 -- ---- the second part
 
 pub own_spelled : Spelled own_at (λ own. (own.0 < 2 ^ 64) × (IsValue own.1.0 × (own.1.1 < 2 ^ 64))) (λ own. to_be_bytes w64 own.0 ++ (value_spelling own.1.0 ++ to_be_bytes w64 own.1.1))
@@ -103,16 +170,16 @@ own_spelled = both u64_spelled (both value_spelled u64_spelled)
 pub entering_spelled : Spelled entering_at (λ entering. (entering.0 < 2 ^ 64) × (entering.1 < 2 ^ 16)) (λ entering. entering_spelling entering.0 entering.1)
 entering_spelled = both u64_spelled u16_spelled
 
-abbrev work_fields : Work → (ViewMap × (ℕ × (Value × ℕ))) × ((ℕ × ℕ) × Phase)
-work_fields w = ((w.view, (w.number, (w.mine, w.tag))), ((w.echoes, w.need), w.phase))
+abbrev work_fields : Work → (ViewMap × (ℕ × (Value × ℕ))) × ((ℕ × ℕ) × (Phase × List Asked))
+work_fields w = ((w.view, (w.number, (w.mine, w.tag))), ((w.echoes, w.need), (w.phase, w.line)))
 
-pub work_spelled : Spelled work_at IsWork work_spelling
+pub work_spelled : (lined : Bool) → Spelled (work_at lined) (IsWork lined) (work_spelling lined)
 unfolding work_at
-work_spelled = as_facts IsWork
-    (λ w h. record { view = h.0.0; number = h.0.1.0; mine = h.0.1.1.0; tag = h.0.1.1.1; echoes = h.1.0.0; need = h.1.0.1; phase = h.1.1 })
-    (λ w h. ((h.view, (h.number, (h.mine, h.tag))), ((h.echoes, h.need), h.phase)))
+work_spelled lined = as_facts (IsWork lined)
+    (λ w h. record { view = h.0.0; number = h.0.1.0; mine = h.0.1.1.0; tag = h.0.1.1.1; echoes = h.1.0.0; need = h.1.0.1; phase = h.1.1.0; line = h.1.1.1 })
+    (λ w h. ((h.view, (h.number, (h.mine, h.tag))), ((h.echoes, h.need), (h.phase, h.line))))
     (as_fields work_with work_fields (λ _. refl) (λ _ _. refl)
-    (both (both view_spelled own_spelled) (both entering_spelled phase_spelled)))
+    (both (both view_spelled own_spelled) (both entering_spelled (round_spelled lined))))
 
 -- ---- tables
 
@@ -209,37 +276,7 @@ pub kept_answers_spelled : Spelled (table_at kept_answer_at most_rows 0) (IsTabl
 kept_answers_spelled =
     table_spelled kept_answer_at IsKeptAnswer IsKeptAnswer kept_answer_spelling 0 kept_answer_spelled (λ e h le. h) (λ e is. (is, omega arith)) most_rows (omega arith)
 
--- ---- items in any order
-
-module _ {X : Type 0} {read : Reading X} {Is : X → Type 0} {f : X → List ℕ} (each : Spelled read Is f) where
-  abbrev many_at : ℕ → ℕ → Reading (List X)
-  many_at n least = items_at (λ _. read) (λ _. 0) n least
-
-  many_take : (n least : ℕ) (bytes : List ℕ) (xs : List X) (rest : List ℕ) → IsBytes bytes → many_at n least bytes ≡ Ok (xs, rest) → Takes bytes (flat_map f xs) rest × ((length xs ≡ n) × AllByRecursion Is xs)
-  unfolding items_at
-  many_take zero least bytes xs rest fits e =
-      subst (λ (y : List X × List ℕ). Takes bytes (flat_map f y.0) y.1 × ((length y.0 ≡ 0) × AllByRecursion Is y.0)) (ok_is ([], bytes) (xs, rest) e) (record { parts = refl; left = fits }, (refl, tt))
-  many_take (suc n) least bytes xs rest fits e =
-      let a = bind_ok (read bytes) (λ first. many_at n 1 first.1 >>= λ others. Ok (first.0 ∷ others.0, others.1)) (xs, rest) e in
-      let b = bind_ok (many_at n 1 a.0.1) (λ others. Ok (a.0.0 ∷ others.0, others.1)) (xs, rest) a.2 in
-      let t = each.takes bytes a.0.0 a.0.1 fits a.1 in
-      let u = many_take n 1 a.0.1 b.0.0 b.0.1 t.0.left b.1 in
-      let all = Takes-then bytes (f a.0.0) a.0.1 (flat_map f b.0.0) b.0.1 t.0 u.0 in
-      let made : List X × List ℕ = (a.0.0 ∷ b.0.0, b.0.1) in
-      subst (λ (y : List X × List ℕ). Takes bytes (flat_map f y.0) y.1 × ((length y.0 ≡ suc n) × AllByRecursion Is y.0)) (ok_is made (xs, rest) b.2) (rw flat_map-cons all, (ap suc u.1.0, (t.1, u.1.1)))
-
-  many_again : (xs : List X) (least : ℕ) (rest : List ℕ) → AllByRecursion Is xs → many_at (length xs) least (flat_map f xs ++ rest) ≡ Ok (xs, rest)
-  unfolding items_at
-  many_again [] least rest fits = refl
-  many_again (x ∷ xs) least rest fits =
-      let regrouped : flat_map f (x ∷ xs) ++ rest ≡ f x ++ (flat_map f xs ++ rest) = ap (λ (t : List ℕ). t ++ rest) (flat_map-cons f x xs) ∙ append_assoc (f x) (flat_map f xs) rest in
-      ap (many_at (suc (length xs)) least) regrouped ∙ rw (each.again x (flat_map f xs ++ rest) fits.0, many_again xs 1 rest fits.1) refl
-
-  pub many_spelled : (n : ℕ) → Spelled (many_at n 0) (λ xs. (length xs ≡ n) × AllByRecursion Is xs) (flat_map f)
-  many_spelled n = record {
-    takes = λ bytes xs rest fits e. many_take n 0 bytes xs rest fits e;
-    again = λ xs rest fits. subst (λ (k : ℕ). many_at k 0 (flat_map f xs ++ rest) ≡ Ok (xs, rest)) fits.0 (many_again xs 0 rest fits.1);
-  }
+-- ---- kept posts
 
 pub kept_spelled : Spelled kept_at IsKeptPosts kept_spelling
 unfolding kept_at
@@ -265,9 +302,9 @@ tables_spelled = as_facts IsTables
 abbrev state_fields : State → Membership × (Work × Tables)
 state_fields s = (s.membership, (s.work, s.tables))
 
-pub state_spelled : Spelled state_at IsState state_spelling
+pub state_spelled : (lined : Bool) → Spelled (state_at lined) (IsState lined) (state_spelling lined)
 unfolding state_at
-state_spelled = as_facts IsState
+state_spelled lined = as_facts (IsState lined)
     (λ s h. record { membership = h.0; work = h.1.0; tables = h.1.1 })
     (λ s h. (h.membership, (h.work, h.tables)))
-    (as_fields state_with state_fields (λ _. refl) (λ _ _. refl) (both membership_spelled (both work_spelled tables_spelled)))
+    (as_fields state_with state_fields (λ _. refl) (λ _ _. refl) (both membership_spelled (both (work_spelled lined) tables_spelled)))

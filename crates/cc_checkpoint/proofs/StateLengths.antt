@@ -1,5 +1,5 @@
 -- How long the spelling of a node's state is at most.
-use Rattle.std.proofs.Common.{ℕ, ◌+◌, ◌*◌, ◌<◌, ◌≤◌, ◌^◌, List, ◌++◌, length, arith, ap}
+use Rattle.std.proofs.Common.{ℕ, Bool, true, false, ◌+◌, ◌*◌, ◌<◌, ◌≤◌, ◌^◌, List, ◌++◌, length, arith, ap}
 use Rattle.std.specs.Int.{w64, to_be_bytes}
 use Rattle.std.specs.List.{AllByRecursion}
 use Rattle.std.specs.Ordering.{nat_cmp}
@@ -14,10 +14,11 @@ use Rattle.cc_wire.specs.declared.answer.Answer.{Answer}
 use Rattle.cc_wire.specs.declared.message.Message.{Message}
 use Rattle.cc_wire.proofs.Lengths.{length-pieces, length-value, length-view, length-changes, length-message, length-answer, length-asked}
 use Rattle.cc_links.specs.Links.{Link}
+use Rattle.cc_ops.specs.declared.pending.Asked.{Asked}
 use Rattle.cc_ops.specs.declared.pending.Pending.{Pending}
 use Rattle.cc_ops.specs.Ops.{Phase, Idle, Storing, Querying, StoringBack}
 use Rattle.cc_node.specs.Node.{Node}
-use Rattle.cc_node.specs.States.{Membership, Work, Tables, membership_spelling, IsMembership, counts_spelling, pending_spelling, IsPending, phase_spelling, IsPhase, stored_spelling, entering_spelling, work_spelling, IsWork, table_spelling, IsTableOf, link_spelling, IsLink, session_spelling, IsSession, kept_answer_spelling, IsKeptAnswer, kept_spelling, IsKeptPosts, tables_spelling, IsTables, SpellsNode, state_of}
+use Rattle.cc_node.specs.States.{Membership, Work, Tables, membership_spelling, IsMembership, counts_spelling, pending_spelling, IsPending, phase_spelling, IsPhase, ask_spelling, IsAsk, line_spelling, IsLineOf, round_spelling, stored_spelling, entering_spelling, work_spelling, IsWork, table_spelling, IsTableOf, link_spelling, IsLink, session_spelling, IsSession, kept_answer_spelling, IsKeptAnswer, kept_spelling, IsKeptPosts, tables_spelling, IsTables, SpellsNode, state_of}
 use Rattle.cc_checkpoint.proofs.LawfulFields.{answers_within}
 
 pub length-membership : (m : Membership) → IsMembership m → length (membership_spelling m) ≤ 3098
@@ -34,16 +35,26 @@ length-phase (Storing p) is = omega (arith, length-pending p is)
 length-phase (Querying p) is = omega (arith, length-pending p is)
 length-phase (StoringBack p seen) is = omega (arith, length-append (pending_spelling p) (view_spelling seen), length-pending p is.0, length-view seen is.1)
 
-length-work : (w : Work) → IsWork w → length (work_spelling w) ≤ 110400
-length-work w is =
+length-ask : (a : Asked) → IsAsk a → length (ask_spelling a) ≤ 82
+length-ask a is = length-asked a.session a.request a.command is
+
+pub length-line : (lined : Bool) (line : List Asked) → IsLineOf lined line → length (line_spelling lined line) ≤ 2625
+length-line true line is = omega (arith, length-pieces IsAsk ask_spelling 82 length-ask line is.each, is.fits)
+length-line false line is = omega arith
+
+pub length-round : (lined : Bool) (r : Phase × List Asked) → IsPhase r.0 × IsLineOf lined r.1 → length (round_spelling lined r.0 r.1) ≤ 57754
+length-round lined r is = omega (arith, length-append (phase_spelling r.0) (line_spelling lined r.1), length-phase r.0 is.0, length-line lined r.1 is.1)
+
+length-work : (lined : Bool) (w : Work) → IsWork lined w → length (work_spelling lined w) ≤ 113025
+length-work lined w is =
     omega (
       arith,
-      length-append (stored_spelling w.view w.number w.mine w.tag) (entering_spelling w.echoes w.need ++ phase_spelling w.phase),
+      length-append (stored_spelling w.view w.number w.mine w.tag) (entering_spelling w.echoes w.need ++ round_spelling lined w.phase w.line),
       length-append (view_spelling w.view) (to_be_bytes w64 w.number ++ (value_spelling w.mine ++ to_be_bytes w64 w.tag)),
       length-append (value_spelling w.mine) (to_be_bytes w64 w.tag),
       length-view w.view is.view,
       length-value w.mine is.mine,
-      length-phase w.phase is.phase,
+      length-round lined (w.phase, w.line) (is.phase, is.line),
     )
 
 pub length-link : (e : ℕ × Link) → IsLink e → length (link_spelling e) ≤ 28
@@ -86,16 +97,16 @@ length-tables t is links answers =
 pub length-sessions : (m : FinMap nat_cmp ℕ) → IsTableOf IsSession 256 m → length (table_spelling session_spelling m) ≤ 4098
 length-sessions m is = omega (arith, length-table IsSession session_spelling 16 length-session m is.rows, is.fits)
 
-pub length-node : (bytes : List ℕ) (n : Node) → SpellsNode bytes n → length bytes ≤ 43978346
-length-node bytes n is =
+pub length-node : (lined : Bool) (bytes : List ℕ) (n : Node) → SpellsNode lined bytes n → length bytes ≤ 43980971
+length-node lined bytes n is =
     let s = state_of n in
     let fits = is.state.fits in
     omega (
       arith,
       ap length is.state.spelled,
-      length-append (membership_spelling s.membership) (work_spelling s.work ++ tables_spelling s.tables),
-      length-append (work_spelling s.work) (tables_spelling s.tables),
+      length-append (membership_spelling s.membership) (work_spelling lined s.work ++ tables_spelling s.tables),
+      length-append (work_spelling lined s.work) (tables_spelling s.tables),
       length-membership s.membership fits.membership,
-      length-work s.work fits.work,
+      length-work lined s.work fits.work,
       length-tables s.tables fits.tables is.lawful.core.link_count (answers_within n is.lawful),
     )

@@ -6,7 +6,8 @@ use Rattle.cc_wire.specs.declared.message.Message.{Message}
 use Rattle.cc_wire.specs.Messages.{message_at}
 use Rattle.cc_wire.specs.Reading.{Reading, items_at}
 use Rattle.cc_wire.proofs.Items.{with_front, goes_on}
-use Rattle.cc_node.specs.States.{rows_at, posts_at}
+use Rattle.cc_ops.specs.declared.pending.Asked.{Asked}
+use Rattle.cc_node.specs.States.{rows_at, ask_at, asks_at, posts_at}
 
 module _ {X Row : Type 0} (entry : Row → ℕ × X) where
   pub rows_go_on : (item : ℕ → Reading (ℕ × X)) (rows : List Row) (count i least : ℕ) (bytes : List ℕ) (row : Row) (after : List ℕ) (total : Result (List (ℕ × X) × List ℕ) WireFault)
@@ -25,6 +26,13 @@ any_least : {X : Type 0} (read : Reading X) (count : ℕ) (bytes : List ℕ) →
 unfolding items_at
 any_least read zero bytes = refl
 any_least read (suc count) bytes = refl
+
+pub asks_go_on : (asks : List Asked) (count i : ℕ) (bytes : List ℕ) (a : Asked) (after : List ℕ) (total : Result (List Asked × List ℕ) WireFault)
+    → i < count → ask_at bytes ≡ Ok (a, after) → with_front asks (asks_at (count - i) bytes) ≡ total
+    → with_front (asks ++ a ∷ []) (asks_at (count - (i + 1)) after) ≡ total
+asks_go_on asks count i bytes a after total lt read so_far =
+    ap (with_front (asks ++ a ∷ [])) (any_least ask_at (count - (i + 1)) after)
+    ∙ goes_on (λ _. ask_at) (λ _. 0) asks count i 0 bytes a after total lt read so_far
 
 pub posts_go_on : (posts : List Message) (count i : ℕ) (bytes : List ℕ) (post : Message) (after : List ℕ) (total : Result (List Message × List ℕ) WireFault)
     → i < count → message_at bytes ≡ Ok (post, after) → with_front posts (posts_at (count - i) bytes) ≡ total

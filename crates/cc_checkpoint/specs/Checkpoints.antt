@@ -6,7 +6,7 @@
 --     RestsOff, RestsNow, KeepsOff     the other side holds the node, and this one yields;  from every history for which it does so, at each moment
 --     IsGood                    the moment is good, with all events durable
 --     ArmsFor                   a history after which a side that was filled may be armed
-use Rattle.std.specs.Prelude.{◌≡◌, ◌≢◌, ◌<◌, ℕ, List, ◌∷◌, length, take}
+use Rattle.std.specs.Prelude.{true, ◌≡◌, ◌≢◌, ◌<◌, ℕ, List, ◌∷◌, length, take}
 use Rattle.cc_wire.specs.declared.event.Event.{Event}
 use Rattle.cc_wire.specs.declared.output.Output.{Output}
 use Rattle.cc_site.specs.declared.site.Side.{Side}
@@ -30,7 +30,7 @@ abbrev pub IsSurelyShut : SideState → Type 0
 IsSurelyShut s = IsShut s.bytes → IsShutNow s
 
 abbrev pub image_of : ℕ → Node → List ℕ
-image_of generation node = image_spelling generation (state_spelling (state_of node))
+image_of generation node = image_spelling generation (state_spelling true (state_of node))
 
 -- a closed gate and the image, all of it made sure of
 pub record IsFilled (s : SideState) (generation : ℕ) (node : Node) : Type 0 where

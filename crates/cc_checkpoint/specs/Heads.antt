@@ -4,12 +4,12 @@
 --     HeadFails              there is none, for this reason
 --     fault_of               why the state of a side can't be read, as a fault of the sides
 --     NodeFound              what reading a state tells
-use Rattle.std.specs.Prelude.{◌≡◌, ◌≢◌, ◌⊎◌, ℕ, ◌+◌, ◌<◌, ◌≤◌, List, length, take, drop, slice_index, Result, Ok, Err}
+use Rattle.std.specs.Prelude.{◌≡◌, ◌⊎◌, ℕ, ◌+◌, ◌<◌, ◌≤◌, Bool, List, length, take, drop, slice_index, Result, Ok, Err}
 use Rattle.std.specs.Int.{from_be_bytes, w32}
 use Rattle.cc_site.specs.declared.site.Side.{Side}
 use Rattle.cc_node.specs.Node.{Node}
-use Rattle.cc_node.specs.Sides.{VERSION}
-use Rattle.cc_node.specs.States.{SpellsNode}
+use Rattle.cc_node.specs.Sides.{IsVersion}
+use Rattle.cc_node.specs.States.{has_line, SpellsNode}
 use Rattle.cc_checkpoint.specs.declared.read_fault.ReadFault.{ReadFault}
 use Rattle.cc_checkpoint.specs.declared.read_fault.ReadFault.TheVariants as read_faults
 use Rattle.cc_checkpoint.specs.declared.open_fault.OpenFault.{OpenFault}
@@ -22,15 +22,15 @@ abbrev pub state_of : List ℕ → List ℕ
 state_of bytes = take (size_of bytes) (drop 14 bytes)
 
 pub record HeadAt (bytes : List ℕ) (node : Node) (place : ℕ) : Type 0 where
-  pub version : slice_index bytes 9 ≡ VERSION
+  pub version : IsVersion (slice_index bytes 9)
   pub is : place ≡ 14 + size_of bytes
   pub long : 14 + size_of bytes ≤ length bytes
-  pub state : SpellsNode (state_of bytes) node
+  pub state : SpellsNode (has_line (slice_index bytes 9)) (state_of bytes) node
 
 -- the version stands there, and is known
 pub record HasVersion (bytes : List ℕ) : Type 0 where
   pub there : 10 ≤ length bytes
-  pub known : slice_index bytes 9 ≡ VERSION
+  pub known : IsVersion (slice_index bytes 9)
 
 -- a state of the length that is told stands there
 pub record HasState (bytes : List ℕ) : Type 0 where
@@ -43,8 +43,8 @@ HeadFails side bytes (Damaged on place) =
     (on ≡ side)
     × (((place ≡ 9) × (length bytes < 10))
     ⊎ ((place ≡ 10) × HasVersion bytes × ((length bytes < 14) ⊎ (length bytes < 14 + size_of bytes)))
-    ⊎ ((place ≡ 14) × HasState bytes × ((node : Node) → SpellsNode (state_of bytes) node → ⊥)))
-HeadFails side bytes (Version version) = (10 ≤ length bytes) × (slice_index bytes 9 ≡ version) × (version ≢ VERSION)
+    ⊎ ((place ≡ 14) × HasState bytes × ((node : Node) → SpellsNode (has_line (slice_index bytes 9)) (state_of bytes) node → ⊥)))
+HeadFails side bytes (Version version) = (10 ≤ length bytes) × (slice_index bytes 9 ≡ version) × (¬ IsVersion version)
 HeadFails side bytes NotFormatted = ⊥
 HeadFails side bytes (Device fault) = Unit {0}
 HeadFails side bytes NoMemory = Unit {0}
@@ -56,8 +56,8 @@ fault_of side read_faults.NoMemory = NoMemory
 fault_of side read_faults.NoState = Damaged side 14
 
 -- the node of that state is found, or there is none, but for want of memory and faults of the disk
-abbrev pub NodeFound : List ℕ → Result Node ReadFault → Type 0
-NodeFound bytes (Ok node) = SpellsNode bytes node
-NodeFound bytes (Err read_faults.NoState) = (node : Node) → SpellsNode bytes node → ⊥
-NodeFound bytes (Err read_faults.NoMemory) = Unit {0}
-NodeFound bytes (Err (read_faults.Device fault)) = Unit {0}
+abbrev pub NodeFound : Bool → List ℕ → Result Node ReadFault → Type 0
+NodeFound lined bytes (Ok node) = SpellsNode lined bytes node
+NodeFound lined bytes (Err read_faults.NoState) = (node : Node) → SpellsNode lined bytes node → ⊥
+NodeFound lined bytes (Err read_faults.NoMemory) = Unit {0}
+NodeFound lined bytes (Err (read_faults.Device fault)) = Unit {0}

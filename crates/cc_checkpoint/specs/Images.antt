@@ -3,7 +3,7 @@
 --     SpellsImage         the bytes are that, of the one spelling of the node's state
 --     image_holds         with an open gate before it, the side holds the node
 use Rattle.std.specs.Prelude.{◌≡◌, ◌≢◌, ℕ, List, [], ◌∷◌, ◌++◌, length}
-use Rattle.std.proofs.Common.{refl, sym, ap, arith, length-append}
+use Rattle.std.proofs.Common.{refl, inr, sym, ap, arith, length-append}
 use Rattle.std.proofs.lemmas.List.{append-nil}
 use Rattle.std.specs.Int.{to_be_bytes, w32, w64}
 use Rattle.cc_node.specs.Node.{Node}
@@ -35,6 +35,8 @@ image_holds image generation node spells = record {
     batches = [];
     head = OPEN ∷ spells.head;
     records = [];
+    version = VERSION;
+    known = inr refl;
     parts = sym (append-nil (OPEN ∷ spells.head));
     head_spelled = spells.spelled;
     records_spelled = refl;

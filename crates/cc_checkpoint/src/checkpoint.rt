@@ -1,7 +1,7 @@
 //! A checkpoint, step by step: the side that isn't in use is filled behind its closed gate, the gate is opened, and the
 //! other side is retired. A crash at any moment leaves two sides that stand for the node.
 
-ghost use Rattle.std.specs.Prelude.{ℕ, List, ◌≡◌, ◌↔◌, ◌+◌, ◌≤◌, ◌++◌, ◌∷◌, [], length, take, OnOk, IfOk};
+ghost use Rattle.std.specs.Prelude.{true, ℕ, List, ◌≡◌, ◌↔◌, ◌+◌, ◌≤◌, ◌++◌, ◌∷◌, [], length, take, OnOk, IfOk};
 ghost use Rattle.cc_wire.specs.declared.event.Event.{Event};
 ghost use Rattle.cc_site.specs.declared.site.Call.TheVariants.{Read, Write, Cut, Sync};
 ghost use Rattle.cc_site.specs.Sides.{durable, other, settled, written};
@@ -70,12 +70,12 @@ fn write_pieces<S: Site>(
     requires from { S.honest site.old → from ≡ length (S.state site.old side).bytes }
     requires there { 1 ≤ from }
     requires short { from ≤ 14 }
-    requires spelled { SpellsNode (state_spelling (state_of node.now)) node.now }
+    requires spelled { SpellsNode true (state_spelling true (state_of node.now)) node.now }
     ensures honest { S.honest site.old ↔ S.honest site.new }
     ensures tells { (S.tells site.old ↔ S.tells site.new) × (S.sent site.new ≡ S.sent site.old) }
     ensures other_side { S.honest site.old → S.state site.new (other side) ≡ S.state site.old (other side) }
-    ensures value { S.honest site.old → OnOk result ((S.state site.new side).bytes ≡ (S.state site.old side).bytes ++ state_spelling (state_of node.now)) }
-    ensures end { IfOk result (λ end. end ≡ from + length (state_spelling (state_of node.now))) }
+    ensures value { S.honest site.old → OnOk result ((S.state site.new side).bytes ≡ (S.state site.old side).bytes ++ state_spelling true (state_of node.now)) }
+    ensures end { IfOk result (λ end. end ≡ from + length (state_spelling true (state_of node.now))) }
     ensures every_moment { S.honest site.old → StaysBehind S.Site side site.old site.new }
     ensures fault { CountsCalls (IsOn side) (S.failures site.old) (S.failures site.new) result }
 {
@@ -98,7 +98,7 @@ fn write_image<S: Site>(
     piece: &mut Piece,
 ) -> Result<(), DeviceFault>
     requires there { S.honest site.old → 1 ≤ length (S.state site.old side).bytes }
-    requires spelled { SpellsNode (state_spelling (state_of node.now)) node.now }
+    requires spelled { SpellsNode true (state_spelling true (state_of node.now)) node.now }
     ensures honest { S.honest site.old ↔ S.honest site.new }
     ensures tells { (S.tells site.old ↔ S.tells site.new) × (S.sent site.new ≡ S.sent site.old) }
     ensures other_side { S.honest site.old → S.state site.new (other side) ≡ S.state site.old (other side) }

@@ -8,11 +8,11 @@ ghost use Rattle.cc_wire.specs.Reading.{Gives, number_at, view_at};
 ghost use Rattle.cc_links.specs.Rows as links;
 ghost use Rattle.cc_sessions.specs.Rows as sessions;
 ghost use Rattle.cc_outbox.specs.Rows as answers;
-ghost use Rattle.cc_node.specs.States.{membership_at, entering_at, phase_at, phase_spelling, table_at, link_at, session_at, kept_answer_at};
-ghost use Rattle.cc_checkpoint.specs.Fields.{membership_in, own_at, own_in, entering_in, phase_in};
+ghost use Rattle.cc_node.specs.States.{membership_at, entering_at, round_at, phase_spelling, round_spelling, table_at, link_at, session_at, kept_answer_at};
+ghost use Rattle.cc_checkpoint.specs.Fields.{membership_in, own_at, own_in, entering_in, round_in};
 
 use crate::fields::{Entering, Membership, Own, Round};
-use crate::parts::{COUNT, FRACTION, ID, LINK, NUMBER, SESSION, pending_len};
+use crate::parts::{COUNT, FRACTION, ID, LINK, NUMBER, SESSION, line_len, pending_len};
 use crate::piece::Piece;
 use crate::state_reader::{
     read_entering, read_kept_answer, read_link, read_membership, read_own, read_round,
@@ -62,8 +62,9 @@ pub(crate) fn take_entering(piece: &mut Piece) -> Result<Entering, WireFault>
     Ok(entering)
 }
 
-fn round_len(round: &Round) -> usize
-    ensures { result ≡ length (phase_spelling (phase_in round.now)) }
+fn phase_len(round: &Round) -> usize
+    ensures len { result ≡ length (phase_spelling (round_in round.now).0) }
+    ensures fits { result ≤ 55129 }
 {
     match round.stage {
         Stage::Idle => 1,
@@ -72,12 +73,23 @@ fn round_len(round: &Round) -> usize
     }
 }
 
-pub(crate) fn take_round(alloc: Global, piece: &mut Piece) -> Result<Round, WireFault>
-    ensures { Gives (λ x. (phase_in x, piece.new)) result (phase_at piece.old) }
+// How many bytes it has, in a format that has a place for asks that wait or not.
+fn round_len(round: &Round, lined: bool) -> usize
+    ensures { result ≡ length (round_spelling lined (round_in round.now).0 (round_in round.now).1) }
+{
+    if lined {
+        phase_len(round) + line_len(&round.line)
+    } else {
+        phase_len(round)
+    }
+}
+
+pub(crate) fn take_round(alloc: Global, piece: &mut Piece, lined: bool) -> Result<Round, WireFault>
+    ensures { Gives (λ x. (round_in x, piece.new)) result (round_at lined piece.old) }
 {
     let mut reader = piece.reader();
-    let round = read_round(alloc, &mut reader)?;
-    piece.advance(round_len(&round));
+    let round = read_round(alloc, &mut reader, lined)?;
+    piece.advance(round_len(&round, lined));
     Ok(round)
 }
 

@@ -2,7 +2,7 @@
 
 use cc_changes::{Changes, Fraction};
 use cc_links::LinkRow;
-use cc_ops::Stage;
+use cc_ops::{Stage, WaitingLine};
 use cc_outbox::KeptAnswer;
 use cc_sessions::SessionRow;
 use cc_views::{NodeId, Value, View};
@@ -31,11 +31,13 @@ pub(crate) struct Entering {
     pub need: u16,
 }
 
-/// How far the pending operation has come, and what it stores back; where it stores nothing back, a view without rows.
+/// How far the pending operation has come, what it stores back (where it stores nothing back, a view without rows), and
+/// the asks that wait behind it.
 #[derive(Debug, Drop)]
 pub(crate) struct Round {
     pub stage: Stage,
     pub seen: View,
+    pub line: WaitingLine,
 }
 
 #[derive(Debug, Drop)]

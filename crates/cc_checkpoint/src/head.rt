@@ -1,6 +1,7 @@
 //! The state of an armed side.
 
-ghost use Rattle.std.specs.Prelude.{◌≡◌, ◌≤◌, ◌+◌, length, take, drop, IfOk, MatchResult};
+ghost use Rattle.std.specs.Prelude.{◌≡◌, ◌≤◌, ◌+◌, length, slice_index, take, drop, IfOk, MatchResult};
+ghost use Rattle.cc_node.specs.States.{has_line};
 ghost use Rattle.cc_site.specs.Reads.{OnlyReads};
 ghost use Rattle.cc_site.specs.Telling.{LooksAt};
 ghost use Rattle.cc_checkpoint.specs.Faults.{CountsDevice};
@@ -38,10 +39,11 @@ fn read_node<S: Site>(
     site: &mut S,
     side: Side,
     size: u32,
+    lined: bool,
     piece: &mut Piece,
 ) -> Result<Node, ReadFault>
     requires { S.honest site.old → 14 + size ≤ length (S.state site.old side).bytes }
-    ensures found { S.honest site.old → NodeFound (take size (drop 14 (S.state site.old side).bytes)) result }
+    ensures found { S.honest site.old → NodeFound lined (take size (drop 14 (S.state site.old side).bytes)) result }
     ensures reads { OnlyReads S.Site site.old site.new }
     ensures fault { CountsRead side (S.failures site.old) (S.failures site.new) result }
 {
@@ -51,14 +53,15 @@ fn read_node<S: Site>(
         place: STATE_PLACE,
         end: STATE_PLACE + u64::from(size),
     };
-    let fields = read_off(alloc, site, piece, &mut unread)?;
+    let fields = read_off(alloc, site, piece, &mut unread, lined)?;
     let node = restore(alloc, fields)?;
     node.ok_or(ReadFault::NoState)
 }
 
-// How long the state is, where a known version stands before it.
-fn state_size<S: Site>(site: &mut S, side: Side) -> Result<u32, OpenFault>
-    ensures exact { S.honest site.old → MatchResult result (λ size. HasState (S.state site.old side).bytes × (size ≡ size_of (S.state site.old side).bytes)) (HeadFails side (S.state site.old side).bytes) }
+// Whether the version that stands before the state has a place for asks that wait, where it is known, and how long the
+// state is.
+fn state_size<S: Site>(site: &mut S, side: Side) -> Result<(bool, u32), OpenFault>
+    ensures exact { S.honest site.old → MatchResult result (λ found. HasState (S.state site.old side).bytes × (found.0 ≡ has_line (slice_index (S.state site.old side).bytes 9)) × (found.1 ≡ size_of (S.state site.old side).bytes)) (HeadFails side (S.state site.old side).bytes) }
     ensures reads { OnlyReads S.Site site.old site.new }
     ensures fault { CountsDevice (LooksAt side) (S.failures site.old) (S.failures site.new) result }
 {
@@ -68,7 +71,7 @@ fn state_size<S: Site>(site: &mut S, side: Side) -> Result<u32, OpenFault>
     }
     let mut version = [0];
     read_into(site, side, 9, &mut version)?;
-    if version[0] != VERSION {
+    if version[0] != 1 && version[0] != VERSION {
         return Err(OpenFault::Version(version[0]));
     }
     if len < 14 {
@@ -80,7 +83,7 @@ fn state_size<S: Site>(site: &mut S, side: Side) -> Result<u32, OpenFault>
     if len < 14 + u64::from(size) {
         return Err(OpenFault::Damaged(side, 10));
     }
-    Ok(size)
+    Ok((version[0] != 1, size))
 }
 
 /// Reads the state of an armed side: the node, and the place of the gate behind its state. Damaged at place 9 where no
@@ -97,8 +100,8 @@ pub fn read_state<S: Site>(
     ensures reads { OnlyReads S.Site site.old site.new }
     ensures fault { CountsDevice (LooksAt side) (S.failures site.old) (S.failures site.new) result }
 {
-    let size = state_size(site, side)?;
-    match read_node(alloc, site, side, size, piece) {
+    let (lined, size) = state_size(site, side)?;
+    match read_node(alloc, site, side, size, lined, piece) {
         Ok(node) => Ok((node, STATE_PLACE + u64::from(size))),
         Err(fault) => Err(fault_of(side, fault)),
     }

@@ -11,8 +11,8 @@ use cc_views::NoMemory;
 use cc_wire::{put_u8, put_u32, put_u64};
 use std::alloc::{AllocError, Global};
 
-/// The version of the format of states.
-pub const VERSION: u8 = 1;
+/// The version of the format in which states are written. Version 1, which has no place for asks that wait, is read too.
+pub const VERSION: u8 = 2;
 
 // Puts the generation, the version, the state behind its length, and a closed gate.
 #[tactic(auto, unfolding(crate::specs::Images::head_spelling))]

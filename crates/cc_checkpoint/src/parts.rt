@@ -1,17 +1,19 @@
 //! A node's state in the parts that it is written in, each of which a piece has room for.
 
-ghost use Rattle.std.specs.Prelude.{◌≡◌, ◌≤◌, ◌<◌, ◌^◌, ℕ, [], get_or, length};
+ghost use Rattle.std.specs.Prelude.{true, ◌≡◌, ◌≤◌, ◌<◌, ◌*◌, ◌^◌, ℕ, [], get_or, length};
+ghost use Rattle.std.specs.List.{flat_map};
+ghost use Rattle.cc_ops.specs.Waiting.{line_limit};
 ghost use Rattle.std.specs.FinMap as table;
 ghost use Rattle.cc_wire.specs.Writing.{Writes};
-ghost use Rattle.cc_node.specs.States.{membership_spelling, membership_of, pending_spelling, phase_spelling};
+ghost use Rattle.cc_node.specs.States.{membership_spelling, membership_of, pending_spelling, phase_spelling, ask_spelling, line_spelling, round_spelling};
 ghost use Rattle.cc_checkpoint.specs.Parts.{own_spelling, front_spelling, kept_parts, parts_of};
 
 use crate::state_writer::{
-    put_entering, put_kept_answer, put_link_table, put_membership, put_phase, put_session_table,
-    put_stored,
+    put_entering, put_kept_answer, put_link_table, put_membership, put_operations,
+    put_session_table, put_stored,
 };
 use cc_node::{Core, Node};
-use cc_ops::{Ops, Pending, Stage};
+use cc_ops::{Asked, Ops, Pending, Stage, WaitingLine};
 use cc_outbox::Outbox;
 use cc_wire::{
     Message, answer_len, changes_len, command_len, message_len, put_message, put_u16, put_u64,
@@ -76,6 +78,40 @@ fn phase_len(ops: &Ops) -> usize
     }
 }
 
+fn ask_len(asked: &Asked) -> usize
+    ensures len { result ≡ length (ask_spelling asked.now) }
+    ensures fits { result ≤ 82 }
+{
+    2 * NUMBER + command_len(&asked.command)
+}
+
+fn asks_len(asks: &[Asked]) -> usize
+    requires { length asks.now ≤ line_limit }
+    ensures len { result ≡ length (flat_map ask_spelling asks.now) }
+    ensures fits { result ≤ 82 * length asks.now }
+{
+    match asks.split_first() {
+        Some((asked, behind)) => ask_len(asked) + asks_len(behind),
+        None => 0,
+    }
+}
+
+/// How many bytes the asks that wait have.
+pub(crate) fn line_len(line: &WaitingLine) -> usize
+    ensures len { result ≡ length (line_spelling true line.now) }
+    ensures fits { result ≤ 2625 }
+{
+    1 + asks_len(line.asks())
+}
+
+fn operations_len(ops: &Ops) -> usize
+    ensures len { result ≡ length (round_spelling true ops.now.phase ops.now.line) }
+    ensures some { 1 ≤ result }
+    ensures fits { result ≤ 57754 }
+{
+    phase_len(ops) + line_len(ops.line())
+}
+
 fn front_len(core: &Core) -> usize
     ensures len { (kept : ℕ) → result ≡ length (front_spelling core.now kept) }
     ensures fits { result ≤ 11278 }
@@ -123,7 +159,7 @@ pub(crate) fn part_len(node: &Node, at: usize) -> usize
     match at {
         0 => membership_len(core),
         1 => own_len(core),
-        2 => phase_len(core.ops()),
+        2 => operations_len(core.ops()),
         3 => front_len(core),
         _ => kept_len(node.outbox(), at - 4),
     }
@@ -174,7 +210,7 @@ pub(crate) fn put_part(out: &mut Vec<u8>, node: &Node, at: usize) -> Result<(), 
     match at {
         0 => put_membership(out, core),
         1 => put_own(out, core),
-        2 => put_phase(out, core.ops()),
+        2 => put_operations(out, core.ops()),
         3 => put_front(out, core, outbox.post_count()),
         _ => put_kept(out, outbox, at - 4),
     }

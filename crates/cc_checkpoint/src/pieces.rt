@@ -1,6 +1,6 @@
 //! A node's state in pieces, so that it is written through one buffer, however long it is.
 
-ghost use Rattle.std.specs.Prelude.{◌≡◌, ◌≤◌, ◌<◌, ◌^◌, ◌++◌, [], length};
+ghost use Rattle.std.specs.Prelude.{true, ◌≡◌, ◌≤◌, ◌<◌, ◌^◌, ◌++◌, [], length};
 ghost use Rattle.cc_node.specs.States.{state_spelling, state_of};
 ghost use Rattle.cc_checkpoint.specs.Parts.{piece_limit};
 
@@ -11,7 +11,7 @@ use std::marker::Model;
 
 /// How many bytes the spelling of a node's state has: so few that four bytes tell it.
 pub fn state_length(node: &Node) -> u64
-    ensures len { result ≡ length (state_spelling (state_of node.now)) }
+    ensures len { result ≡ length (state_spelling true (state_of node.now)) }
     ensures short { result < 2 ^ 32 }
 {
     let mut length = 0;
@@ -43,7 +43,7 @@ impl<'a> Model for Pieces<'a> {
 impl<'a> Pieces<'a> {
     /// The whole state of the node.
     pub fn new(node: &'a Node) -> Self
-        ensures { result ≡ state_spelling (state_of node.now) }
+        ensures { result ≡ state_spelling true (state_of node.now) }
     {
         Pieces { node, at: 0 }
     }

@@ -6,19 +6,19 @@ ghost use Rattle.cc_views.specs.Tables.{IsRising, table_of};
 ghost use Rattle.cc_links.specs.Rows as links;
 ghost use Rattle.cc_sessions.specs.Rows as sessions;
 ghost use Rattle.cc_outbox.specs.Rows as kept_rows;
-ghost use Rattle.cc_ops.specs.Stages.{HasWaiting};
+ghost use Rattle.cc_ops.specs.Stages.{HasWaiting, WaitsBehind, HasRoom};
 ghost use Rattle.cc_node.specs.Lawful.{IsLawfulNode};
 ghost use Rattle.cc_node.specs.States.{numbered_to, node_of};
-ghost use Rattle.cc_checkpoint.specs.Fields.{phase_in, state_in, AreRead, CanBuild};
+ghost use Rattle.cc_checkpoint.specs.Fields.{round_in, state_in, AreRead, CanBuild};
 
 use crate::fields::{Fields, Membership, Round, Tables, Work};
 use cc_churn::Churn;
 use cc_links::{LinkRow, Links};
 use cc_node::{CoreParts, Node};
-use cc_ops::{Ops, Stage};
+use cc_ops::{Ops, Stage, WaitingLine};
 use cc_outbox::{KeptAnswer, Outbox};
 use cc_sessions::{SessionRow, Sessions};
-use cc_views::{COUNTER_LIMIT, NoMemory};
+use cc_views::{COUNTER_LIMIT, NoMemory, Value};
 use cc_wire::Message;
 use std::alloc::Global;
 
@@ -58,7 +58,29 @@ fn can_build(fields: &Fields) -> bool
     if work.echoes > COUNTER_LIMIT {
         return false;
     }
-    has_waiting(work.round.stage)
+    if !has_waiting(work.round.stage) {
+        return false;
+    }
+    line_fits(&work.round, &work.mine)
+}
+
+// Whether asks wait only behind a pending operation, and the own set has room for what they put in.
+fn line_fits(round: &Round, mine: &Value) -> bool
+    ensures { IsTrue result ↔ (WaitsBehind round.now.stage round.now.line × HasRoom round.now.line mine.now) }
+{
+    if !waits_behind(round.stage, &round.line) {
+        return false;
+    }
+    round.line.last_value(mine).is_some()
+}
+
+fn waits_behind(stage: Stage, line: &WaitingLine) -> bool
+    ensures { IsTrue result ↔ WaitsBehind stage line.now }
+{
+    match stage {
+        Stage::Idle => line.asks().is_empty(),
+        Stage::Storing(_) | Stage::Querying(_) | Stage::StoringBack(_) => true,
+    }
 }
 
 fn links_of(alloc: Global, rows: Vec<LinkRow>) -> Result<Links, NoMemory>
@@ -114,7 +136,9 @@ fn ops_of(work: Work) -> Ops
     requires number { work.number ≤ 2 ^ 62 }
     requires tag { work.tag ≤ 2 ^ 62 }
     requires waits { HasWaiting work.round.stage }
-    ensures { result ≡ record { view = work.view; number = work.number; mine = work.mine; tag = work.tag; phase = phase_in work.round } }
+    requires behind { WaitsBehind work.round.stage work.round.line }
+    requires room { HasRoom work.round.line work.mine }
+    ensures { result ≡ record { view = work.view; number = work.number; mine = work.mine; tag = work.tag; phase = (round_in work.round).0; line = (round_in work.round).1 } }
 {
     let Work {
         view,
@@ -124,8 +148,8 @@ fn ops_of(work: Work) -> Ops
         round,
         ..
     } = work;
-    let Round { stage, seen } = round;
-    Ops::from_parts(view, number, mine, tag, stage, seen)
+    let Round { stage, seen, line } = round;
+    Ops::from_parts(view, number, mine, tag, stage, seen, line)
 }
 
 /// The node whose state the fields are. None where no node can be in that state.

@@ -8,8 +8,8 @@ ghost use Rattle.cc_wire.specs.Reading.{number_at, view_at, whole};
 ghost use Rattle.cc_links.specs.Rows as links;
 ghost use Rattle.cc_sessions.specs.Rows as sessions;
 ghost use Rattle.cc_outbox.specs.Rows as answers;
-ghost use Rattle.cc_node.specs.States.{membership_at, entering_at, phase_at, work_at, rows_at, table_at, link_at, session_at, kept_answer_at, posts_at, kept_at, most_rows, tables_at, state_at};
-ghost use Rattle.cc_checkpoint.specs.Fields.{membership_in, own_at, own_in, entering_in, phase_in, work_in, tables_in, state_in, AreRead};
+ghost use Rattle.cc_node.specs.States.{membership_at, entering_at, round_at, work_at, rows_at, table_at, link_at, session_at, kept_answer_at, posts_at, kept_at, most_rows, tables_at, state_at};
+ghost use Rattle.cc_checkpoint.specs.Fields.{membership_in, own_at, own_in, entering_in, round_in, work_in, tables_in, state_in, AreRead};
 ghost use Rattle.cc_checkpoint.specs.Windows.{Finds, LiesOn, ReadsOff, Runs, ahead, at, seen_by};
 
 use crate::elements::{
@@ -39,7 +39,7 @@ const OWN: usize = 219;
 
 const ENTERING: usize = NUMBER + COUNT;
 
-const ROUND: usize = 55_129;
+const ROUND: usize = 57_754;
 
 const SESSION_TABLE: usize = 4_098;
 
@@ -98,12 +98,13 @@ fn read_round<S: Site>(
     site: &mut S,
     piece: &mut Piece,
     unread: &mut Unread,
+    lined: bool,
 ) -> Result<Round, ReadFault>
     requires { LiesOn S.Site site.old unread.old }
-    ensures { ReadsOff S.Site phase_at (at site.old piece.old unread.old) (at site.new piece.new unread.new) (seen_by phase_in result) }
+    ensures { ReadsOff S.Site (round_at lined) (at site.old piece.old unread.old) (at site.new piece.new unread.new) (seen_by round_in result) }
 {
     refill(site, piece, unread, ROUND)?;
-    Ok(take_round(alloc, piece)?)
+    Ok(take_round(alloc, piece, lined)?)
 }
 
 fn read_number<S: Site>(
@@ -299,14 +300,15 @@ fn read_work<S: Site>(
     site: &mut S,
     piece: &mut Piece,
     unread: &mut Unread,
+    lined: bool,
 ) -> Result<Work, ReadFault>
     requires { LiesOn S.Site site.old unread.old }
-    ensures { ReadsOff S.Site work_at (at site.old piece.old unread.old) (at site.new piece.new unread.new) (seen_by work_in result) }
+    ensures { ReadsOff S.Site (work_at lined) (at site.old piece.old unread.old) (at site.new piece.new unread.new) (seen_by work_in result) }
 {
     let view = read_view(alloc, site, piece, unread)?;
     let Own { number, mine, tag } = read_own(site, piece, unread)?;
     let Entering { echoes, need } = read_entering(site, piece, unread)?;
-    let round = read_round(alloc, site, piece, unread)?;
+    let round = read_round(alloc, site, piece, unread, lined)?;
     Ok(Work {
         view,
         number,
@@ -347,13 +349,14 @@ fn read_fields<S: Site>(
     site: &mut S,
     piece: &mut Piece,
     unread: &mut Unread,
+    lined: bool,
 ) -> Result<Fields, ReadFault>
     requires { LiesOn S.Site site.old unread.old }
-    ensures exact { ReadsOff S.Site state_at (at site.old piece.old unread.old) (at site.new piece.new unread.new) (seen_by state_in result) }
+    ensures exact { ReadsOff S.Site (state_at lined) (at site.old piece.old unread.old) (at site.new piece.new unread.new) (seen_by state_in result) }
     ensures read { IfOk result (λ x. AreRead x.tables) }
 {
     let membership = read_membership(alloc, site, piece, unread)?;
-    let work = read_work(alloc, site, piece, unread)?;
+    let work = read_work(alloc, site, piece, unread, lined)?;
     let tables = read_tables(alloc, site, piece, unread)?;
     Ok(Fields {
         membership,
@@ -375,13 +378,14 @@ pub(crate) fn read_off<S: Site>(
     site: &mut S,
     piece: &mut Piece,
     unread: &mut Unread,
+    lined: bool,
 ) -> Result<Fields, ReadFault>
     requires { LiesOn S.Site site.old unread.old }
-    ensures exact { S.honest site.old → Finds state_in result (whole state_at (ahead S.Site (at site.old piece.old unread.old))) }
+    ensures exact { S.honest site.old → Finds state_in result (whole (state_at lined) (ahead S.Site (at site.old piece.old unread.old))) }
     ensures read { IfOk result (λ x. AreRead x.tables) }
     ensures run { Runs S.Site (at site.old piece.old unread.old) (at site.new piece.new unread.new) result }
 {
-    let fields = read_fields(alloc, site, piece, unread)?;
+    let fields = read_fields(alloc, site, piece, unread, lined)?;
     if !is_all_read(piece, unread) {
         return Err(ReadFault::NoState);
     }

@@ -1,20 +1,20 @@
 //! Every state of a node has a spelling. These functions change nothing and answer nothing: their contracts are what they
 //! are for.
 
-ghost use Rattle.std.specs.Prelude.{◌≡◌, ◌<◌, ◌^◌};
+ghost use Rattle.std.specs.Prelude.{true, ◌≡◌, ◌<◌, ◌^◌};
 ghost use Rattle.std.specs.List.{AllByRecursion};
 ghost use Rattle.std.specs.FinMap as table;
 ghost use Rattle.cc_wire.specs.Messages.{IsMessage};
 ghost use Rattle.cc_links.specs.Rows as links;
 ghost use Rattle.cc_sessions.specs.Rows as sessions;
 ghost use Rattle.cc_outbox.specs.Rows as answers;
-ghost use Rattle.cc_node.specs.States.{IsFraction, IsMembership, membership_of, IsPending, IsPhase, IsWork, work_of, IsTableOf, IsLink, IsSession, IsKeptAnswer, IsKeptPosts, IsState, state_of, state_spelling, SpellsNode};
+ghost use Rattle.cc_node.specs.States.{IsFraction, IsMembership, membership_of, IsPending, IsPhase, IsAsk, IsLine, IsWork, work_of, IsTableOf, IsLink, IsSession, IsKeptAnswer, IsKeptPosts, IsState, state_of, state_spelling, SpellsNode};
 
 use crate::parts::kept_post;
 use cc_changes::Fraction;
 use cc_links::{LinkRow, Links};
 use cc_node::{Core, Node};
-use cc_ops::{Ops, Pending, Stage};
+use cc_ops::{Asked, Ops, Pending, Stage, WaitingLine};
 use cc_outbox::{KeptAnswer, Outbox};
 use cc_sessions::{SessionRow, Sessions};
 use cc_wire::{
@@ -62,9 +62,31 @@ fn phase_is_spellable(ops: &Ops)
     }
 }
 
+fn ask_is_spellable(asked: &Asked)
+    ensures { IsAsk asked.now }
+{
+    number_fits(asked.session);
+    number_fits(asked.request);
+    command_is_spellable(&asked.command);
+}
+
+fn asks_are_spellable(asks: &[Asked])
+    ensures { AllByRecursion IsAsk asks.now }
+{
+    for asked in asks {
+        ask_is_spellable(asked);
+    }
+}
+
+fn line_is_spellable(line: &WaitingLine)
+    ensures { IsLine line.now }
+{
+    asks_are_spellable(line.asks());
+}
+
 fn work_is_spellable(core: &Core)
     requires { core.now.churn.need < 2 ^ 16 }
-    ensures { IsWork (work_of core.now) }
+    ensures { IsWork true (work_of core.now) }
 {
     let ops = core.ops();
     view_is_spellable(ops.view());
@@ -73,6 +95,7 @@ fn work_is_spellable(core: &Core)
     let _ = ops.tag();
     let _ = core.churn().echoes();
     phase_is_spellable(ops);
+    line_is_spellable(ops.line());
 }
 
 fn link_is_spellable(row: &LinkRow)
@@ -150,7 +173,7 @@ fn answers_are_spellable(outbox: &Outbox)
 
 /// Every state of a node has a spelling.
 pub(crate) fn node_is_spellable(node: &Node)
-    ensures { SpellsNode (state_spelling (state_of node.now)) node.now }
+    ensures { SpellsNode true (state_spelling true (state_of node.now)) node.now }
 {
     let core = node.core();
     let outbox = node.outbox();

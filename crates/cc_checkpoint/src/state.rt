@@ -1,6 +1,6 @@
 //! States of nodes as bytes.
 
-ghost use Rattle.std.specs.Prelude.{◌≡◌, ◌≤◌, ◌+◌, ◌++◌, length, OnOk, OnErr, Ok, Err, IsOk, vec_len};
+ghost use Rattle.std.specs.Prelude.{true, ◌≡◌, ◌≤◌, ◌+◌, ◌++◌, length, OnOk, OnErr, Ok, Err, IsOk, vec_len};
 ghost use Rattle.std.specs.Vec.{vec_capacity};
 ghost use Rattle.cc_wire.specs.Writing.{Writes};
 ghost use Rattle.cc_node.specs.Node as machine;
@@ -19,7 +19,7 @@ use std::alloc::{AllocError, Global};
 
 // Appends the parts of a node's state, one after the other.
 fn put_state(out: &mut Vec<u8>, node: &Node) -> Result<(), AllocError>
-    ensures { Writes out.old out.new (state_spelling (state_of node.now)) result }
+    ensures { Writes out.old out.new (state_spelling true (state_of node.now)) result }
 {
     for at in 0..part_count(node) {
         put_part(out, node, at)?;
@@ -29,10 +29,10 @@ fn put_state(out: &mut Vec<u8>, node: &Node) -> Result<(), AllocError>
 
 /// Appends the spelling of a node's state. On an `Err` nothing has changed.
 pub fn encode_state(node: &Node, out: &mut Vec<u8>) -> Result<(), NoMemory>
-    ensures spelled { OnOk result (SpellsNode (state_spelling (state_of node.now)) node.now) }
-    ensures ok { OnOk result (out.new.items ≡ out.old.items ++ state_spelling (state_of node.now)) }
+    ensures spelled { OnOk result (SpellsNode true (state_spelling true (state_of node.now)) node.now) }
+    ensures ok { OnOk result (out.new.items ≡ out.old.items ++ state_spelling true (state_of node.now)) }
     ensures err { OnErr result (out.new.items ≡ out.old.items) }
-    ensures room { vec_len out.old + length (state_spelling (state_of node.now)) ≤ vec_capacity out.old → IsOk result }
+    ensures room { vec_len out.old + length (state_spelling true (state_of node.now)) ≤ vec_capacity out.old → IsOk result }
 {
     node_is_spellable(node);
     let start = out.len();
@@ -43,23 +43,24 @@ pub fn encode_state(node: &Node, out: &mut Vec<u8>) -> Result<(), NoMemory>
     Ok(())
 }
 
-fn decode_all(alloc: Global, bytes: &[u8]) -> Result<Node, StateFault>
-    ensures { Decodes bytes.now result }
+fn decode_all(alloc: Global, bytes: &[u8], lined: bool) -> Result<Node, StateFault>
+    ensures { Decodes lined bytes.now result }
 {
-    let fields = read_all(alloc, bytes)?;
+    let fields = read_all(alloc, bytes, lined)?;
     let node = restore(alloc, fields)?;
     node.ok_or(StateFault::Unlawful)
 }
 
 /// The node whose state the bytes spell, all of the bytes. A fault of the wire is that of the first field, from left to
-/// right, that can't be read; Unlawful comes where all can be read, and no node can be in that state.
-pub fn decode_state(alloc: Global, bytes: &[u8]) -> Result<Node, StateFault>
+/// right, that can't be read; Unlawful comes where all can be read, and no node can be in that state. `lined` tells whether
+/// the format has a place for asks that wait: version 1 has none.
+pub fn decode_state(alloc: Global, bytes: &[u8], lined: bool) -> Result<Node, StateFault>
     // What each answer tells of the bytes.
-    ensures answer { Decodes bytes.now result }
+    ensures answer { Decodes lined bytes.now result }
     // A node whose state is spelled so is found, unless memory runs out.
-    ensures only { (n : machine.Node) → SpellsNode bytes.now n → Is result (Ok n) }
+    ensures only { (n : machine.Node) → SpellsNode lined bytes.now n → Is result (Ok n) }
     // So is it told where no node can be in the state that is spelled so.
-    ensures unlawful { SpellsUnlawful bytes.now → Is result (Err faults.Unlawful) }
+    ensures unlawful { SpellsUnlawful lined bytes.now → Is result (Err faults.Unlawful) }
 {
-    decode_all(alloc, bytes)
+    decode_all(alloc, bytes, lined)
 }

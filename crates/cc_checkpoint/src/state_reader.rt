@@ -1,22 +1,24 @@
 //! Reading a node's state, part by part.
 
-ghost use Rattle.std.specs.Prelude.{◌≡◌, ◌≤◌, length, map, IfOk};
+ghost use Rattle.std.specs.Prelude.{◌≡◌, ◌≤◌, [], length, map, IfOk};
 ghost use Rattle.cc_views.specs.Tables.{IsRising, table_of};
 ghost use Rattle.cc_wire.specs.Reading.{Gives, whole};
+ghost use Rattle.cc_ops.specs.Stages.{phase_of};
+ghost use Rattle.cc_ops.specs.Waiting.{line_limit};
 ghost use Rattle.cc_links.specs.Rows as links;
 ghost use Rattle.cc_sessions.specs.Rows as sessions;
 ghost use Rattle.cc_outbox.specs.Rows as answers;
-ghost use Rattle.cc_node.specs.States.{fraction_at, membership_at, pending_at, phase_at, entering_at, work_at, rows_at, row_list_at, table_at, link_at, session_from, session_at, kept_answer_at, posts_at, kept_at, most_rows, tables_at, state_at};
-ghost use Rattle.cc_checkpoint.specs.Fields.{membership_in, own_at, own_in, entering_in, phase_in, work_in, tables_in, state_in, AreRead};
+ghost use Rattle.cc_node.specs.States.{fraction_at, membership_at, pending_at, phase_at, ask_at, asks_at, line_at, round_at, entering_at, work_at, rows_at, row_list_at, table_at, link_at, session_from, session_at, kept_answer_at, posts_at, kept_at, most_rows, tables_at, state_at};
+ghost use Rattle.cc_checkpoint.specs.Fields.{membership_in, own_at, own_in, entering_in, round_in, work_in, tables_in, state_in, AreRead};
 
 use crate::fields::{Entering, Fields, Membership, Own, Round, Tables, Work};
 use cc_changes::Fraction;
 use cc_links::LinkRow;
-use cc_ops::{Asked, Pending, Stage};
+use cc_ops::{Asked, Pending, Stage, WaitingLine};
 use cc_outbox::{KeptAnswer, Outbox};
 use cc_sessions::{SessionRow, Sessions};
 use cc_views::View;
-use cc_wire::{Message, Reader, WireFault};
+use cc_wire::{Command, Message, Reader, WireFault};
 use std::alloc::Global;
 
 #[tactic(auto, unfolding(cc_node::specs::States::fraction_at))]
@@ -67,33 +69,89 @@ fn read_pending(reader: &mut Reader<'_>) -> Result<Pending, WireFault>
     })
 }
 
+// How far a pending operation has come, and what it stores back.
 #[tactic(auto, unfolding(cc_node::specs::States::phase_at))]
-pub(crate) fn read_round(alloc: Global, reader: &mut Reader<'_>) -> Result<Round, WireFault>
-    ensures { Gives (λ x. (phase_in x, reader.new)) result (phase_at reader.old) }
+fn read_phase(alloc: Global, reader: &mut Reader<'_>) -> Result<(Stage, View), WireFault>
+    ensures { Gives (λ x. (phase_of x.0 x.1, reader.new)) result (phase_at reader.old) }
 {
     match reader.u8()? {
         0 => {
             let stage = Stage::Idle;
             let seen = View::new(alloc)?;
-            Ok(Round { stage, seen })
+            Ok((stage, seen))
         }
         1 => {
             let stage = Stage::Storing(read_pending(reader)?);
             let seen = View::new(alloc)?;
-            Ok(Round { stage, seen })
+            Ok((stage, seen))
         }
         2 => {
             let stage = Stage::Querying(read_pending(reader)?);
             let seen = View::new(alloc)?;
-            Ok(Round { stage, seen })
+            Ok((stage, seen))
         }
         3 => {
             let stage = Stage::StoringBack(read_pending(reader)?);
             let seen = reader.view(alloc)?;
-            Ok(Round { stage, seen })
+            Ok((stage, seen))
         }
         kind => Err(WireFault::BadKind(kind)),
     }
+}
+
+// The session, the request and the command of an ask.
+#[tactic(auto, unfolding(cc_node::specs::States::ask_at))]
+fn read_ask(reader: &mut Reader<'_>) -> Result<(u64, u64, Command), WireFault>
+    ensures { Gives (λ x. (record { session = x.0; request = x.1; command = x.2 }, reader.new)) result (ask_at reader.old) }
+{
+    let session = reader.u64()?;
+    let request = reader.u64()?;
+    let command = reader.command()?;
+    Ok((session, request, command))
+}
+
+fn read_asks(line: &mut WaitingLine, reader: &mut Reader<'_>, count: u8) -> Result<(), WireFault>
+    requires empty { line.old ≡ [] }
+    requires few { count ≤ line_limit }
+    ensures { Gives (λ _. (line.new, reader.new)) result (asks_at count reader.old) }
+{
+    for _ in 0..count {
+        let (session, request, command) = read_ask(reader)?;
+        line.push(&Asked {
+            session,
+            request,
+            command,
+        });
+    }
+    Ok(())
+}
+
+// The asks that wait, where the format has a place for them; else none.
+#[tactic(auto, unfolding(cc_node::specs::States::some_line_at))]
+fn read_line(alloc: Global, reader: &mut Reader<'_>, lined: bool) -> Result<WaitingLine, WireFault>
+    ensures { Gives (λ x. (x, reader.new)) result (line_at lined reader.old) }
+{
+    let mut line = WaitingLine::new(alloc)?;
+    if lined {
+        let count = reader.u8()?;
+        if usize::from(count) > WaitingLine::MAX_ASKS {
+            return Err(WireFault::TooLarge);
+        }
+        read_asks(&mut line, reader, count)?;
+    }
+    Ok(line)
+}
+
+pub(crate) fn read_round(
+    alloc: Global,
+    reader: &mut Reader<'_>,
+    lined: bool,
+) -> Result<Round, WireFault>
+    ensures { Gives (λ x. (round_in x, reader.new)) result (round_at lined reader.old) }
+{
+    let (stage, seen) = read_phase(alloc, reader)?;
+    let line = read_line(alloc, reader, lined)?;
+    Ok(Round { stage, seen, line })
 }
 
 pub(crate) fn read_own(reader: &mut Reader<'_>) -> Result<Own, WireFault>
@@ -114,13 +172,13 @@ pub(crate) fn read_entering(reader: &mut Reader<'_>) -> Result<Entering, WireFau
 }
 
 #[tactic(auto, unfolding(cc_node::specs::States::work_at))]
-fn read_work(alloc: Global, reader: &mut Reader<'_>) -> Result<Work, WireFault>
-    ensures { Gives (λ x. (work_in x, reader.new)) result (work_at reader.old) }
+fn read_work(alloc: Global, reader: &mut Reader<'_>, lined: bool) -> Result<Work, WireFault>
+    ensures { Gives (λ x. (work_in x, reader.new)) result (work_at lined reader.old) }
 {
     let view = reader.view(alloc)?;
     let Own { number, mine, tag } = read_own(reader)?;
     let Entering { echoes, need } = read_entering(reader)?;
-    let round = read_round(alloc, reader)?;
+    let round = read_round(alloc, reader, lined)?;
     Ok(Work {
         view,
         number,
@@ -315,12 +373,12 @@ fn read_tables(alloc: Global, reader: &mut Reader<'_>) -> Result<Tables, WireFau
 }
 
 #[tactic(auto, unfolding(cc_node::specs::States::state_at))]
-fn read_fields(alloc: Global, reader: &mut Reader<'_>) -> Result<Fields, WireFault>
-    ensures exact { Gives (λ x. (state_in x, reader.new)) result (state_at reader.old) }
+fn read_fields(alloc: Global, reader: &mut Reader<'_>, lined: bool) -> Result<Fields, WireFault>
+    ensures exact { Gives (λ x. (state_in x, reader.new)) result (state_at lined reader.old) }
     ensures read { IfOk result (λ x. AreRead x.tables) }
 {
     let membership = read_membership(alloc, reader)?;
-    let work = read_work(alloc, reader)?;
+    let work = read_work(alloc, reader, lined)?;
     let tables = read_tables(alloc, reader)?;
     Ok(Fields {
         membership,
@@ -331,12 +389,12 @@ fn read_fields(alloc: Global, reader: &mut Reader<'_>) -> Result<Fields, WireFau
 
 /// The fields that the bytes spell, all of the bytes.
 #[tactic(auto, unfolding(cc_wire::specs::Reading::whole))]
-pub(crate) fn read_all(alloc: Global, bytes: &[u8]) -> Result<Fields, WireFault>
-    ensures exact { Gives state_in result (whole state_at bytes.now) }
+pub(crate) fn read_all(alloc: Global, bytes: &[u8], lined: bool) -> Result<Fields, WireFault>
+    ensures exact { Gives state_in result (whole (state_at lined) bytes.now) }
     ensures read { IfOk result (λ x. AreRead x.tables) }
 {
     let mut reader = Reader::new(bytes);
-    let fields = read_fields(alloc, &mut reader)?;
+    let fields = read_fields(alloc, &mut reader, lined)?;
     reader.end()?;
     Ok(fields)
 }

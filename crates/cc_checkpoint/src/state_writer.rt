@@ -1,18 +1,18 @@
 //! Writing what a node's state is made of at the end of a vector.
 
-ghost use Rattle.std.specs.Prelude.{◌<◌, ◌^◌, ◌++◌, ◌∷◌};
+ghost use Rattle.std.specs.Prelude.{true, ◌<◌, ◌^◌, ◌++◌, ◌∷◌};
 ghost use Rattle.std.specs.List.{flat_map};
 ghost use Rattle.cc_wire.specs.Writing.{Writes};
 ghost use Rattle.cc_links.specs.Rows as links;
 ghost use Rattle.cc_sessions.specs.Rows as sessions;
 ghost use Rattle.cc_outbox.specs.Rows as answers;
-ghost use Rattle.cc_node.specs.States.{fraction_spelling, membership_spelling, membership_of, counts_spelling, pending_spelling, phase_spelling, stored_spelling, entering_spelling};
+ghost use Rattle.cc_node.specs.States.{fraction_spelling, membership_spelling, membership_of, counts_spelling, pending_spelling, phase_spelling, ask_spelling, line_spelling, round_spelling, stored_spelling, entering_spelling};
 ghost use Rattle.cc_node.specs.States.{table_spelling, link_spelling, session_spelling, kept_answer_spelling};
 
 use cc_changes::{Changes, Fraction};
 use cc_links::{LinkRow, Links};
 use cc_node::Core;
-use cc_ops::{Ops, Pending, Stage};
+use cc_ops::{Asked, Ops, Pending, Stage, WaitingLine};
 use cc_outbox::KeptAnswer;
 use cc_sessions::{SessionRow, Sessions};
 use cc_views::{NodeId, Value, View};
@@ -80,7 +80,7 @@ fn put_round(out: &mut Vec<u8>, kind: u8, pending: &Pending) -> Result<(), Alloc
     put_pending(out, pending)
 }
 
-pub(crate) fn put_phase(out: &mut Vec<u8>, ops: &Ops) -> Result<(), AllocError>
+fn put_phase(out: &mut Vec<u8>, ops: &Ops) -> Result<(), AllocError>
     ensures { Writes out.old out.new (phase_spelling ops.now.phase) result }
 {
     let stage = ops.stage();
@@ -93,6 +93,37 @@ pub(crate) fn put_phase(out: &mut Vec<u8>, ops: &Ops) -> Result<(), AllocError>
             put_view(out, ops.seen().unwrap())
         }
     }
+}
+
+fn put_ask(out: &mut Vec<u8>, asked: &Asked) -> Result<(), AllocError>
+    ensures { Writes out.old out.new (ask_spelling asked.now) result }
+{
+    put_asked(out, asked.session, asked.request, &asked.command)
+}
+
+fn put_asks(out: &mut Vec<u8>, asks: &[Asked]) -> Result<(), AllocError>
+    ensures { Writes out.old out.new (flat_map ask_spelling asks.now) result }
+{
+    for asked in asks {
+        put_ask(out, asked)?;
+    }
+    Ok(())
+}
+
+fn put_line(out: &mut Vec<u8>, line: &WaitingLine) -> Result<(), AllocError>
+    ensures { Writes out.old out.new (line_spelling true line.now) result }
+{
+    let asks = line.asks();
+    put_u8(out, asks.len() as u8)?;
+    put_asks(out, asks)
+}
+
+/// The pending operation, and the asks that wait behind it.
+pub(crate) fn put_operations(out: &mut Vec<u8>, ops: &Ops) -> Result<(), AllocError>
+    ensures { Writes out.old out.new (round_spelling true ops.now.phase ops.now.line) result }
+{
+    put_phase(out, ops)?;
+    put_line(out, ops.line())
 }
 
 pub(crate) fn put_stored(

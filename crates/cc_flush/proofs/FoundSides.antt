@@ -1,5 +1,5 @@
 -- What reading two sides found stands there, and opening them leaves it so.
-use Rattle.std.proofs.Common.{◌≡◌, inl, inr, ℕ, ◌+◌, ◌-◌, ◌≤◌, List, ◌∷◌, ◌++◌, length, drop, Result, Ok, Err, refl, sym, ◌∙◌, ap, subst, arith, length-append}
+use Rattle.std.proofs.Common.{slice_index, ◌≡◌, inl, inr, ℕ, ◌+◌, ◌-◌, ◌≤◌, List, ◌∷◌, ◌++◌, length, drop, Result, Ok, Err, refl, sym, ◌∙◌, ap, subst, arith, length-append}
 use Rattle.std.specs.Prelude.{IfOk, IfErr}
 use Rattle.std.proofs.lemmas.List.{append_assoc}
 use Rattle.cc_wire.proofs.Spelled.{IsBytes}
@@ -42,7 +42,9 @@ module _ (left : Contents) (used : InUse) (start node : Node) (first size record
             batches = scans.batches;
             head = head.head;
             records = scans.front;
+            version = slice_index (left used.side) 9;
             parts = refl;
+            known = at_head.version;
             head_spelled = head.spelled;
             records_spelled = scans.spelled;
             lawful = scans.lawful;

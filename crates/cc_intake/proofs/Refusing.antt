@@ -15,7 +15,8 @@ use Rattle.cc_wire.specs.declared.refusal.Refusal.TheVariants as refusal
 use Rattle.cc_wire.specs.Refusals.{first_of}
 use Rattle.cc_node.specs.Core.{Core}
 use Rattle.cc_node.specs.Node.{Node}
-use Rattle.cc_node.specs.Refusals.{reasons, decides}
+use Rattle.cc_ops.specs.Waiting.{line_limit}
+use Rattle.cc_node.specs.Refusals.{reasons, decides, decides_within}
 use Rattle.cc_journal.specs.declared.entry.Entry.{Entry}
 use Rattle.cc_intake.specs.Accepting.{Accepting}
 use Rattle.cc_intake.specs.Histories.{life_limit, core_after}
@@ -36,7 +37,7 @@ first_own [] all = tt
 first_own (None ∷ rs) all = first_own rs all.1
 first_own (Some r ∷ rs) all = all.0
 
-own_reasons : (c : Core) (e : Event) → AllByRecursion (λ r. IfSome r IsOwn) (reasons c e)
+own_reasons : (c : Core) (e : Event) → AllByRecursion (λ r. IfSome r IsOwn) (reasons line_limit c e)
 own_reasons c event.Enter = (own_if _ _ tt, (own_if _ _ tt, (own_if _ _ tt, (own_if _ _ tt, tt))))
 own_reasons c event.Leave = (own_if _ _ tt, (own_if _ _ tt, (own_if _ _ tt, (own_if _ _ tt, tt))))
 own_reasons c (event.Deliver from n m) = (own_if _ _ tt, (own_if _ _ tt, (own_if _ _ tt, (own_if _ _ tt, (own_if _ _ tt, (own_if _ _ tt, (own_if _ _ tt, tt)))))))
@@ -45,8 +46,8 @@ own_reasons c (event.Ask s r command) = (own_if _ _ tt, (own_if _ _ tt, (own_if 
 own_reasons c (event.Retire q) = (own_if _ _ tt, (own_if _ _ tt, (own_if _ _ tt, (own_if _ _ tt, (own_if _ _ tt, tt)))))
 
 own_reason : (c : Core) (e : Event) → IfSome (decides c e) IsOwn
-unfolding decides
-own_reason c e = first_own (reasons c e) (own_reasons c e)
+unfolding decides decides_within
+own_reason c e = first_own (reasons line_limit c e) (own_reasons c e)
 
 is_own : (c : Core) (e : Event) (r : Refusal) → decides c e ≡ Some r → IsOwn r
 is_own c e r is = subst (λ d. IfSome d IsOwn) is (own_reason c e)

@@ -1,25 +1,27 @@
 -- What one event does to the view and to the own value.
 --     view_grows               the view only grows
---     own_number, own_value    the own number counts the writes, and the own value is as the commands made it
+--     own_number, own_value    the own number counts the writes that begin, and the own value is as their commands made it
 --     .._along                 the same along a list of events
 use Rattle.std.proofs.Common.{◌≡◌, ℕ, ◌+◌, Bool, true, false, List, [], ◌∷◌, refl, sym, ap, ◌∙◌, add-zero, add_assoc}
 use Rattle.std.specs.Prelude.{if◌then◌else◌}
-use Rattle.std.specs.List.{sum_by}
-use Rattle.std.proofs.lemmas.List.Sums.{sum_by-cons}
+use Rattle.std.specs.Prelude.{Option, Some, None}
 use Rattle.cc_views.specs.Rows.{ViewMap}
 use Rattle.cc_views.specs.Merge.{IsAtMost}
 use Rattle.cc_views.specs.MergeLaws.{at_most_same, at_most_merge, at_most_trans}
+use Rattle.cc_views.specs.declared.value.Value.{Value}
 use Rattle.cc_wire.specs.declared.event.Event.{Event}
 use Rattle.cc_wire.specs.declared.event.Event.TheVariants as event
 use Rattle.cc_wire.specs.declared.message.Message.{Message}
 use Rattle.cc_wire.specs.declared.message.Message.TheVariants as message
 use Rattle.cc_ops.specs.declared.pending.Asked.{Asked}
 use Rattle.cc_ops.specs.Commands.{is_writing}
-use Rattle.cc_ops.specs.Ops.{Ops, Phase, Idle, Storing, Querying, StoringBack, after_ask, after_reply, after_message}
-use Rattle.cc_ops.specs.OwnLaws.{message_keeps, ask_number, ask_mine}
-use Rattle.cc_node.specs.Core.{Core, quorum, next}
+use Rattle.cc_ops.specs.Ops.{Ops, Phase, Idle, Storing, Querying, StoringBack, is_idle, with_begun, after_ask, after_reply, after_last, after_ack, after_message}
+use Rattle.cc_ops.specs.OwnLaws.{message_number, message_mine, ask_number, ask_mine}
+use Rattle.cc_ops.specs.Waiting.{led_by, writes, mine_after, writes_by, written_by}
+use Rattle.cc_ops.specs.WaitingLaws.{writes_led}
+use Rattle.cc_node.specs.Core.{Core, quorum, asked_of, begun, next}
 use Rattle.cc_node.specs.Node.{Node, step, after}
-use Rattle.cc_node.specs.Writes.{writes, mine_after, mine_along}
+use Rattle.cc_node.specs.Writes.{begun_along}
 
 -- one of two states, of which each has at least the view
 either_grows : (b : Bool) (v : ViewMap) (s t : Ops) → IsAtMost v s.view → IsAtMost v t.view → IsAtMost v (if b then s else t).view
@@ -32,6 +34,19 @@ reply_grows quorum v (Storing p) s = at_most_same s.view
 reply_grows quorum v (Querying p) s = either_grows _ s.view _ _ (at_most_merge s.view v) (at_most_merge s.view v)
 reply_grows quorum v (StoringBack p seen) s = at_most_same s.view
 
+begun_grows : (me quorum : ℕ) (a : Asked) (s : Ops) → IsAtMost s.view (with_begun me quorum a s).view
+begun_grows me quorum a s = either_grows (is_writing a.command) s.view _ _ (at_most_merge s.view _) (at_most_same s.view)
+
+last_grows : (me quorum : ℕ) (line : List Asked) (s : Ops) → IsAtMost s.view (after_last me quorum line s).view
+last_grows me quorum [] s = at_most_same s.view
+last_grows me quorum (a ∷ line) s = begun_grows me quorum a (record s { line = line })
+
+ack_grows : (me quorum : ℕ) (phase : Phase) (s : Ops) → IsAtMost s.view (after_ack me quorum phase s).view
+ack_grows me quorum Idle s = at_most_same s.view
+ack_grows me quorum (Storing p) s = either_grows _ s.view _ _ (last_grows me quorum s.line s) (at_most_same s.view)
+ack_grows me quorum (Querying p) s = at_most_same s.view
+ack_grows me quorum (StoringBack p seen) s = either_grows _ s.view _ _ (last_grows me quorum s.line s) (at_most_same s.view)
+
 message_grows : (me quorum : ℕ) (m : Message) (s : Ops) → IsAtMost s.view (after_message me quorum m s).view
 message_grows me quorum (message.Enter q) s = at_most_same s.view
 message_grows me quorum (message.EnterEcho c v j q) s = at_most_merge s.view v
@@ -42,10 +57,10 @@ message_grows me quorum (message.LeaveEcho q) s = at_most_same s.view
 message_grows me quorum (message.Query tag q) s = at_most_same s.view
 message_grows me quorum (message.QueryReply v tag q) s = either_grows _ s.view _ _ (reply_grows quorum v s.phase s) (at_most_same s.view)
 message_grows me quorum (message.Store v tag q) s = at_most_merge s.view v
-message_grows me quorum (message.StoreAck tag q) s = either_grows _ s.view _ _ (at_most_same s.view) (at_most_same s.view)
+message_grows me quorum (message.StoreAck tag q) s = either_grows _ s.view _ _ (ack_grows me quorum s.phase s) (at_most_same s.view)
 
 ask_grows : (me quorum : ℕ) (a : Asked) (s : Ops) → IsAtMost s.view (after_ask me quorum a s).view
-ask_grows me quorum a s = either_grows (is_writing a.command) s.view _ _ (at_most_merge s.view _) (at_most_same s.view)
+ask_grows me quorum a s = either_grows (is_idle s.phase) s.view _ _ (begun_grows me quorum a s) (at_most_same s.view)
 
 pub view_grows : (c : Core) (e : Event) → IsAtMost c.ops.view (next c e).ops.view
 unfolding next
@@ -56,22 +71,22 @@ view_grows c (event.Acked peer n) = at_most_same c.ops.view
 view_grows c (event.Ask s r command) = ask_grows c.me _ _ c.ops
 view_grows c (event.Retire q) = at_most_same c.ops.view
 
-pub own_number : (c : Core) (e : Event) → (next c e).ops.number ≡ c.ops.number + writes e
+pub own_number : (c : Core) (e : Event) → (next c e).ops.number ≡ c.ops.number + writes (begun c e)
 unfolding next
 own_number c event.Enter = sym (add-zero c.ops.number)
 own_number c event.Leave = sym (add-zero c.ops.number)
-own_number c (event.Deliver from n m) = (message_keeps c.me _ m c.ops).number ∙ sym (add-zero c.ops.number)
+own_number c (event.Deliver from n m) = message_number c.me (quorum c) m c.ops
 own_number c (event.Acked peer n) = sym (add-zero c.ops.number)
-own_number c (event.Ask s r command) = ask_number c.me _ _ c.ops
+own_number c (event.Ask s r k) = ask_number c.me (quorum c) (asked_of s r k) c.ops
 own_number c (event.Retire q) = sym (add-zero c.ops.number)
 
-pub own_value : (c : Core) (e : Event) → (next c e).ops.mine ≡ mine_after e c.ops.mine
+pub own_value : (c : Core) (e : Event) → (next c e).ops.mine ≡ mine_after (begun c e) c.ops.mine
 unfolding next
 own_value c event.Enter = refl
 own_value c event.Leave = refl
-own_value c (event.Deliver from n m) = (message_keeps c.me _ m c.ops).mine
+own_value c (event.Deliver from n m) = message_mine c.me (quorum c) m c.ops
 own_value c (event.Acked peer n) = refl
-own_value c (event.Ask s r k) = ask_mine c.me (quorum c) (record { session = s; request = r; command = k }) c.ops
+own_value c (event.Ask s r k) = ask_mine c.me (quorum c) (asked_of s r k) c.ops
 own_value c (event.Retire q) = refl
 
 -- ---- along a list of events
@@ -82,14 +97,21 @@ view_grows_along n [] = at_most_same n.core.ops.view
 view_grows_along n (e ∷ es) =
     at_most_trans n.core.ops.view (next n.core e).ops.view (after (step n e) es).core.ops.view (view_grows n.core e) (view_grows_along (step n e) es)
 
-pub own_number_along : (n : Node) (es : List Event) → (after n es).core.ops.number ≡ n.core.ops.number + sum_by writes es
+pub own_number_along : (n : Node) (es : List Event) → (after n es).core.ops.number ≡ n.core.ops.number + writes_by (begun_along n es)
 unfolding step
 own_number_along n [] = sym (add-zero n.core.ops.number)
 own_number_along n (e ∷ es) =
-    own_number_along (step n e) es ∙ ap (λ k. k + sum_by writes es) (own_number n.core e)
-    ∙ add_assoc n.core.ops.number (writes e) (sum_by writes es) ∙ sym (ap (λ k. n.core.ops.number + k) (sum_by-cons writes e es))
+    let later = writes_by (begun_along (step n e) es) in
+    own_number_along (step n e) es ∙ ap (λ k. k + later) (own_number n.core e)
+    ∙ add_assoc n.core.ops.number (writes (begun n.core e)) later ∙ sym (ap (λ k. n.core.ops.number + k) (writes_led (begun n.core e) (begun_along (step n e) es)))
 
-pub own_value_along : (n : Node) (es : List Event) → (after n es).core.ops.mine ≡ mine_along n.core.ops.mine es
+written_led : (o : Option Asked) (asks : List Asked) (mine : Value) → written_by asks (mine_after o mine) ≡ written_by (led_by o asks) mine
+written_led None asks mine = refl
+written_led (Some a) asks mine = refl
+
+pub own_value_along : (n : Node) (es : List Event) → (after n es).core.ops.mine ≡ written_by (begun_along n es) n.core.ops.mine
 unfolding step
 own_value_along n [] = refl
-own_value_along n (e ∷ es) = own_value_along (step n e) es ∙ ap (λ v. mine_along v es) (own_value n.core e)
+own_value_along n (e ∷ es) =
+    own_value_along (step n e) es ∙ ap (λ v. written_by (begun_along (step n e) es) v) (own_value n.core e)
+    ∙ written_led (begun n.core e) (begun_along (step n e) es) n.core.ops.mine

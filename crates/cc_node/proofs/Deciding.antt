@@ -1,6 +1,6 @@
 -- What the parts' decisions say of an event, and which counters it would raise.
 use Rattle.std.proofs.Common.{◌≡◌, ℕ, ◌+◌, ◌<◌, ◌≤◌, ◌⊎◌, Bool, true, false, ◌&&◌, ◌||◌, nat_lt, nat_le, List, [], ◌∷◌, ◌++◌, refl, sym, ap, ◌∙◌, inl, inr, arith}
-use Rattle.std.specs.Prelude.{Option, Some, None, Result, Ok, Err, IsErrAnd, is_some, ◌==◌}
+use Rattle.std.specs.Prelude.{Option, Some, None, Result, Ok, Err, IsErrAnd, is_some, option_map, ◌==◌}
 use Rattle.std.specs.Option.{option_len, option_or}
 use Rattle.std.specs.Bool.{then_some}
 use Rattle.std.proofs.lemmas.Bool.Decides.{eqb_tells}
@@ -15,13 +15,12 @@ use Rattle.cc_wire.specs.declared.refusal.Refusal.TheVariants as refusal
 use Rattle.cc_wire.specs.Refusals.{first_of, decided}
 use Rattle.cc_churn.specs.Churn as churn
 use Rattle.cc_ops.specs.Ops as ops
-use Rattle.cc_ops.specs.OwnLaws.{message_keeps}
+use Rattle.cc_ops.specs.declared.pending.Asked.{Asked}
 use Rattle.cc_links.specs.Links.{heard_from, hear, add_all}
 use Rattle.cc_sessions.specs.Sessions.{last_request, is_stale, is_skip, is_repeat, finds_no_room}
 use Rattle.cc_wire.specs.declared.command.Command.{Command}
-use Rattle.cc_node.specs.Core.{Core, next, post, quorum, ids_of}
-use Rattle.cc_node.specs.Refusals.{any_overruns, spent, decides, old, gap, nothing_to_ack, too_many_sessions, repeat, stale, skip}
-use Rattle.cc_node.proofs.Effects.{asked_of}
+use Rattle.cc_node.specs.Core.{Core, asked_of, handled, next, post, quorum, ids_of}
+use Rattle.cc_node.specs.Refusals.{any_overruns, spent, decides, decides_within, old, gap, nothing_to_ack, too_many_sessions, repeat, stale, skip}
 use Rattle.cc_node.proofs.LawfulLaws.{hears_now, request_now}
 
 -- ---- reasons, one list after the other
@@ -167,12 +166,15 @@ spent_retire c q = ap (λ b. then_some b refusal.Spent)
 -- a delivery of the next number
 pub spent_delivery : (c : Core) (from n : ℕ) (m : Message) → n ≡ heard_from from c.links + 1
     → any_overruns c (next c (event.Deliver from n m)) (event.Deliver from n m)
-    ≡ (overruns c.ops.tag (ops.after_message c.me (quorum c) m c.ops).tag || (is_some (post c (event.Deliver from n m)) && (c.posts == counter_limit))
+    ≡ ((overruns c.ops.number (ops.after_message c.me (quorum c) m c.ops).number || overruns c.ops.tag (ops.after_message c.me (quorum c) m c.ops).tag) || (is_some (post c (event.Deliver from n m)) && (c.posts == counter_limit))
     || overruns c.churn.echoes (churn.after_message c.me c.gamma m c.churn).echoes || (heard_from from c.links == counter_limit))
 unfolding next
 spent_delivery c from n m e =
     let heard : heard_from from (hear from n (add_all c.posts (from ∷ ids_of m) c.links)) ≡ heard_from from c.links + 1 = hears_now c from n m ∙ e in
-    any_of _ _ _ _ _ false _ _ _ _ (stays_at c.ops.number _ (message_keeps c.me (quorum c) m c.ops).number) refl (rises_with c.posts (post c (event.Deliver from n m))) refl
+    let number = overruns c.ops.number (ops.after_message c.me (quorum c) m c.ops).number in
+    let tag = overruns c.ops.tag (ops.after_message c.me (quorum c) m c.ops).tag in
+    let echoes = overruns c.churn.echoes (churn.after_message c.me c.gamma m c.churn).echoes in
+    any_of number tag _ echoes _ number tag _ echoes _ refl refl (rises_with c.posts (post c (event.Deliver from n m))) refl
     (ap (overruns (heard_from from c.links)) heard ∙ rises (heard_from from c.links))
 
 last_one : (last r : ℕ) → r ≡ last + 1 → last ≤ counter_limit → overruns last r ≡ nat_lt counter_limit r
@@ -186,23 +188,32 @@ last_or_next : (last r : ℕ) → (r ≡ last) ⊎ (r ≡ last + 1) → last ≤
 last_or_next last r (inl e) h = stays_at last r e ∙ sym (le-ltb counter_limit r (omega (arith, e, h)))
 last_or_next last r (inr e) h = last_one last r e h
 
+-- an ask is posted where it begins
+pub posts_if_idle : (c : Core) (s r : ℕ) (k : Command) → is_some (post c (event.Ask s r k)) ≡ ops.is_idle c.ops.phase
+posts_if_idle c s r k = one_if (ops.is_idle c.ops.phase) (asked_of s r k) (λ asked. ops.first_post c.me asked (handled c (event.Ask s r k)).ops)
+  where
+    one_if : (b : Bool) (a : Asked) (f : Asked → Message) → is_some (option_map f (then_some b a)) ≡ b
+    one_if true a f = refl
+    one_if false a f = refl
+
 -- an ask of the last request or of the next one
 pub spent_ask : (c : Core) (s r : ℕ) (k : Command) → (r ≡ last_request c.sessions s) ⊎ (r ≡ last_request c.sessions s + 1) → last_request c.sessions s ≤ counter_limit
     → any_overruns c (next c (event.Ask s r k)) (event.Ask s r k)
     ≡ ((overruns c.ops.number (ops.after_ask c.me (quorum c) (asked_of s r k) c.ops).number || overruns c.ops.tag (ops.after_ask c.me (quorum c) (asked_of s r k) c.ops).tag)
-    || (c.posts == counter_limit) || nat_lt counter_limit r)
+    || (ops.is_idle c.ops.phase && (c.posts == counter_limit)) || nat_lt counter_limit r)
 unfolding next
 spent_ask c s r k e h =
     let number = overruns c.ops.number (ops.after_ask c.me (quorum c) (asked_of s r k) c.ops).number in
     let tag = overruns c.ops.tag (ops.after_ask c.me (quorum c) (asked_of s r k) c.ops).tag in
-    any_of number tag _ _ _ number tag _ false _ refl refl (rises c.posts) (stays c.churn.echoes)
+    any_of number tag _ _ _ number tag _ false _ refl refl
+    (rises_with c.posts (post c (event.Ask s r k)) ∙ ap (λ b. b && (c.posts == counter_limit)) (posts_if_idle c s r k)) (stays c.churn.echoes)
     (ap (overruns (last_request c.sessions s)) (request_now c.sessions s r) ∙ last_or_next (last_request c.sessions s) r e h)
     ∙ ap (λ b. b || nat_lt counter_limit r) (or-false _)
 
 -- ---- of the reasons, the first
 
 pub ack_refused : (c : Core) (peer n : ℕ) → nothing_to_ack c peer n ≡ decides c (event.Acked peer n)
-unfolding decides
+unfolding decides decides_within
 ack_refused c peer n = sym (ap (λ o. first_of (nothing_to_ack c peer n ∷ o ∷ [])) (spent_ack c peer n) ∙ first_but_none (nothing_to_ack c peer n))
   where
     first_but_none : (o : Option Refusal) → first_of (o ∷ None ∷ []) ≡ o

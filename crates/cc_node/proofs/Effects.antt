@@ -1,8 +1,9 @@
 -- What each event makes of a core, part by part, and that the parts have room for it.
 --     next_enter, .._leave, .._delivery, .._ack, .._ask, .._retire    the core after an event, by its parts
 --     .._room                                              that each part's call has what it asks for
-use Rattle.std.proofs.Common.{◌≡◌, ℕ, ◌+◌, ◌-◌, ◌<◌, ◌≤◌, Bool, true, false, cond, ◌&&◌, [], ◌∷◌, refl, sym, ap, subst, ◌∙◌, arith, add-zero}
-use Rattle.std.specs.Prelude.{Option, Some, None, is_some, IsTrue, IsFalse, ◌==◌}
+use Rattle.std.proofs.Common.{◌≡◌, ℕ, ◌+◌, ◌-◌, ◌<◌, ◌≤◌, Bool, true, false, cond, ◌&&◌, List, [], ◌∷◌, ◌++◌, refl, sym, ap, subst, ◌∙◌, arith, add-zero}
+use Rattle.std.specs.Prelude.{Option, Some, None, is_some, IsTrue, IsFalse, ◌==◌, option_map, if◌then◌else◌}
+use Rattle.std.specs.Bool.{then_some}
 use Rattle.std.specs.Option.{option_len}
 use mir.Val.{bool_byte}
 use Rattle.std.specs.FinMap as table
@@ -18,18 +19,22 @@ use Rattle.cc_links.specs.LinkLaws.{len_add_all}
 use Rattle.cc_ops.specs.Ops as ops
 use Rattle.cc_ops.specs.Commands.{finds_no_room}
 use Rattle.cc_ops.specs.declared.pending.Asked.{Asked}
+use Rattle.cc_ops.specs.Refusals.{busy}
+use Rattle.cc_ops.specs.Waiting.{line_limit, written_by}
 use Rattle.cc_sessions.specs.Sessions.{finds_no_room as finds_no_session}
 use Rattle.cc_wire.specs.declared.command.Command.{Command}
 use Rattle.cc_wire.specs.declared.event.Event.{Event}
 use Rattle.cc_wire.specs.declared.event.Event.TheVariants as event
 use Rattle.cc_wire.specs.declared.message.Message.{Message}
+use Rattle.cc_wire.specs.declared.refusal.Refusal.TheVariants as refusal
 use Rattle.cc_outbox.specs.Outbox.{post_limit}
 use Rattle.cc_outbox.specs.OutboxLaws.{room_for_post}
-use Rattle.cc_node.specs.Core.{Core, handled, next, post, reply, quorum, ids_of, lowest}
+use Rattle.cc_node.specs.Core.{Core, asked_of, handled, next, post, reply, quorum, ids_of, lowest}
 use Rattle.cc_node.specs.Node.{Node, step, add, keep, forget_asked}
 use Rattle.cc_node.specs.Lawful.{IsLawfulCore, IsLawfulNode}
 use Rattle.cc_node.specs.Refusals.{decides}
 use Rattle.cc_node.proofs.KeptLaws.{posts_forget}
+use Rattle.cc_node.proofs.KnownLaws.{none_waits}
 use Rattle.cc_node.proofs.LawfulLaws.{next_core, quorum_fits, step_lawful}
 use Rattle.cc_node.proofs.RefusalLaws.{takes_delivery, takes_ask, takes_retire, takes_any}
 
@@ -68,13 +73,17 @@ pub next_delivery : (c : Core) (from n : ℕ) (m : Message) → next c (event.De
 unfolding next
 next_delivery c from n m = ap (λ (k : ℕ). record (handled c (event.Deliver from n m)) { posts = c.posts + k }) (len_is (post c (event.Deliver from n m)))
 
-abbrev pub asked_of : ℕ → ℕ → Command → Asked
-asked_of s r k = record { session = s; request = r; command = k }
+begins_one : (b : Bool) (a : Asked) (f : Asked → Message) → option_len (option_map f (then_some b a)) ≡ cond b 1 0
+begins_one true a f = refl
+begins_one false a f = refl
 
 pub next_ask : (c : Core) (s r : ℕ) (k : Command) → next c (event.Ask s r k)
-    ≡ record c { ops = ops.after_ask c.me (quorum c) (asked_of s r k) c.ops; posts = c.posts + 1; sessions = table.insert c.sessions s r }
+    ≡ record c { ops = ops.after_ask c.me (quorum c) (asked_of s r k) c.ops; posts = c.posts + cond (ops.is_idle c.ops.phase) 1 0; sessions = table.insert c.sessions s r }
 unfolding next
-next_ask c s r k = refl
+next_ask c s r k =
+    let e = event.Ask s r k in
+    ap (λ (n : ℕ). record (handled c e) { posts = c.posts + n })
+    (begins_one (ops.is_idle c.ops.phase) (asked_of s r k) (λ asked. ops.first_post c.me asked (handled c e).ops))
 
 pub next_retire : {c s : Core} {d : churn.Churn} {ls : Links} (q : ℕ) → c ≡ s → ls ≡ add_all c.posts (q ∷ []) c.links → d ≡ churn.with_left q c.churn
     → record c { churn = d; links = ls } ≡ next s (event.Retire q)
@@ -101,6 +110,7 @@ pub record DeliveryRoom (c s : Core) (from : ℕ) (m : Message) : Type 0 where
   pub echoes : (churn.after_message c.me c.gamma m c.churn).echoes ≤ counter_limit
   pub few : {q : ℕ} → q ≡ quorum s → q ≤ 256
   pub view : {q : ℕ} → q ≡ quorum s → table.len (ops.after_message c.me q m c.ops).view ≤ 256
+  pub number : {q : ℕ} → q ≡ quorum s → (ops.after_message c.me q m c.ops).number ≤ counter_limit
   pub tag : {q : ℕ} → q ≡ quorum s → (ops.after_message c.me q m c.ops).tag ≤ counter_limit
 
 pub delivery_room : {c s : Core} {from : ℕ} {m : Message} (n : ℕ) → c ≡ s → decides s (event.Deliver from n m) ≡ None → IsLawfulCore c → DeliveryRoom c s from m
@@ -116,11 +126,13 @@ delivery_room {c} {s} {from} {m} n is d h =
       echoes = after.counts.echoes;
       few = λ e. rw (e, ← is) (quorum_fits c h);
       view = λ e. rw (e, ← is) (view_fits _ after);
+      number = λ e. rw (e, ← is) after.counts.number;
       tag = λ e. rw (e, ← is) after.counts.tag;
     }
 
 pub record AskRoom (c d : Core) (s r : ℕ) (k : Command) : Type 0 where
-  pub set : IsFalse (finds_no_room c.ops.mine k)
+  pub free : busy line_limit s c.ops ≡ None
+  pub set : IsFalse (finds_no_room (ops.mine_at_last c.ops) k)
   pub session : IsFalse (finds_no_session c.sessions s)
   pub few : {q : ℕ} → q ≡ quorum d → q ≤ 256
   pub view : {q : ℕ} → q ≡ quorum d → table.len (ops.after_ask c.me q (asked_of s r k) c.ops).view ≤ 256
@@ -134,12 +146,35 @@ ask_room {c} {d} {s} {r} {k} is accepted h =
     let after = next_core c (event.Ask s r k) none h in
     let takes = takes_ask c s r k none in
     record {
+      free = ap (λ b. then_some b refusal.Busy) takes.free;
       set = takes.room;
       session = takes.sessions;
       few = λ e. rw (e, ← is) (quorum_fits c h);
       view = λ e. rw (e, ← is) (view_fits _ after);
       number = λ e. rw (e, ← is) after.counts.number;
       tag = λ e. rw (e, ← is) after.counts.tag;
+    }
+
+-- an ask that begins, where nothing is pending
+pub record BeginRoom (c d : Core) (s r : ℕ) (k : Command) : Type 0 where
+  pub set : IsFalse (finds_no_room c.ops.mine k)
+  pub view : {q : ℕ} → q ≡ quorum d → table.len (ops.with_begun c.me q (asked_of s r k) c.ops).view ≤ 256
+  pub number : {q : ℕ} → q ≡ quorum d → (ops.with_begun c.me q (asked_of s r k) c.ops).number ≤ counter_limit
+  pub tag : {q : ℕ} → q ≡ quorum d → (ops.with_begun c.me q (asked_of s r k) c.ops).tag ≤ counter_limit
+
+pub begins_now : (me q : ℕ) (a : Asked) (o : ops.Ops) → ops.is_idle o.phase ≡ true → ops.after_ask me q a o ≡ ops.with_begun me q a o
+begins_now me q a o idle = ap (λ b. if b then ops.with_begun me q a o else record o { line = o.line ++ a ∷ [] }) idle
+
+pub begin_room : {c d : Core} {s r : ℕ} {k : Command} → c ≡ d → decides d (event.Ask s r k) ≡ None → IsLawfulCore c → ops.is_idle c.ops.phase ≡ true → BeginRoom c d s r k
+begin_room {c} {d} {s} {r} {k} is accepted h idle =
+    let room = ask_room is accepted h in
+    let now = λ (q : ℕ). begins_now c.me q (asked_of s r k) c.ops idle in
+    let none = none_waits c.ops.phase c.ops.line idle h.line.behind in
+    record {
+      set = ap (λ (l : List Asked). finds_no_room (written_by l c.ops.mine) k) (sym none) ∙ room.set;
+      view = λ {q} e. subst (λ (o : ops.Ops). table.len o.view ≤ 256) (now q) (room.view e);
+      number = λ {q} e. subst (λ (o : ops.Ops). o.number ≤ counter_limit) (now q) (room.number e);
+      tag = λ {q} e. subst (λ (o : ops.Ops). o.tag ≤ counter_limit) (now q) (room.tag e);
     }
 
 pub record RetireRoom (c : Core) (q : ℕ) : Type 0 where

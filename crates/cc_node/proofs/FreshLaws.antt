@@ -66,6 +66,7 @@ fresh_lawful o h =
         joined = λ q k. k;
         links = add_all_links 0 (ids_of o) table.empty (get-empty (λ _. IsLinkWithin 0));
         phase = tt;
+        line = record { behind = refl; few = omega arith; apart = tt; last = tt };
         sessions = get-empty (λ _ last. (0 < last) × (last ≤ counter_limit));
         session_count = omega (arith, table.len-empty nat_cmp ℕ);
         counts = record { number = omega arith; tag = omega arith; posts = omega arith; echoes = omega arith };

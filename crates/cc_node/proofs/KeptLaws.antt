@@ -1,36 +1,30 @@
--- What a node keeps after an event: the posts above lowest, and answers of sessions that aren't pending.
+-- What a node keeps after an event: the posts above lowest, and answers of sessions of which each ask is answered.
 --     step_posts                     the posts after a step, and how many were made
---     message_answers, ask_answers   the answers after a message, and after an ask
---     reply_pending, ask_pending     the session of the operation that pends after a reply, and after an ask
-use Rattle.std.proofs.Common.{◌≡◌, ℕ, ◌+◌, ◌-◌, ◌≤◌, true, false, ◌&&◌, nat_eq, refl, sym, ap, subst, ◌∙◌, inl, inr, arith, add-zero}
-use Rattle.std.specs.Prelude.{Option, Some, None, IsTrue, is_some, if◌then◌else◌, ◌==◌}
-use Rattle.std.specs.Bool.{then_some}
+--     first_answers, last_answers    the answers after the first ask is answered, and after one more
+use Rattle.std.proofs.Common.{◌≡◌, ℕ, ◌+◌, ◌-◌, ◌≤◌, true, false, ◌&&◌, nat_eq, List, [], ◌∷◌, ◌++◌, refl, sym, ap, subst, ◌∙◌, inl, inr, arith, add-zero}
+use Rattle.std.specs.Prelude.{Option, Some, None, IsTrue, is_some, ◌==◌}
+use Rattle.std.specs.List.{AllByRecursion}
 use Rattle.std.specs.Option.{option_len}
 use Rattle.std.specs.Ordering.{nat_cmp}
 use Rattle.std.specs.FinMap as table
 use Rattle.std.specs.FinMap.{FinMap}
-use Rattle.std.proofs.lemmas.Bool.{cond_both, and_parts, eqb-true, eqb-false, or_cases, not-true}
+use Rattle.std.proofs.lemmas.Bool.{and_parts, eqb-true, or_cases, or_parts, not-true}
 use Rattle.cc_views.specs.NatSets.{contains-remove, contains-insert_key}
 use Rattle.cc_views.specs.MapLaws.{within_insert}
-use Rattle.cc_views.specs.Rows.{ViewMap}
-use Rattle.cc_views.specs.Merge.{merge}
 use Rattle.cc_wire.specs.declared.answer.Answer.{Answer}
 use Rattle.cc_wire.specs.declared.event.Event.{Event}
 use Rattle.cc_wire.specs.declared.event.Event.TheVariants as event
 use Rattle.cc_wire.specs.declared.message.Message.{Message}
-use Rattle.cc_wire.specs.declared.message.Message.TheVariants as message
-use Rattle.cc_ops.specs.Commands.{is_writing}
-use Rattle.cc_ops.specs.Ops as ops
-use Rattle.cc_ops.specs.Ops.{Ops, Phase, Idle, Storing, Querying, StoringBack}
+use Rattle.cc_ops.specs.OwnLaws.{AnswersFirst}
+use Rattle.cc_ops.specs.Waiting.{has_session, AreApart}
+use Rattle.cc_ops.specs.WaitingLaws.{none_last}
 use Rattle.cc_ops.specs.declared.pending.Asked.{Asked}
-use Rattle.cc_ops.specs.declared.pending.Pending.{Pending}
 use Rattle.cc_ops.specs.declared.pending.Reply.{Reply}
-use Rattle.cc_links.specs.Links.{Links}
 use Rattle.cc_sessions.specs.Sessions.{Requests}
 use Rattle.cc_outbox.specs.Outbox.{Outbox, post_limit, trim}
 use Rattle.cc_outbox.specs.OutboxLaws.{KeepsPosts, keeps_add, keeps_trim, room_for_post}
 use Rattle.cc_node.specs.Node.{add, keep, forget_asked}
-use Rattle.cc_node.specs.Lawful.{IsPendingIn, IsPhaseOf, pending_session, KeepsAnswers}
+use Rattle.cc_node.specs.Lawful.{IsLastOf, KeepsAnswers}
 
 -- ---- posts
 
@@ -85,77 +79,39 @@ step_posts low high posts e p r o h up start full =
 -- ---- answers
 
 -- a post changes no answer
-pub posted : (ss : Requests) (phase : Phase) (p : Option Message) (r : Option Reply) (o : Outbox)
-    → KeepsAnswers ss phase (keep r o).answers → KeepsAnswers ss phase (keep r (add p o)).answers
-posted ss phase None r o h = h
-posted ss phase (Some m) None o h = h
-posted ss phase (Some m) (Some r) o h = h
-
-done_answers : (ss : Requests) (p : Pending) (a : Answer) (kept : FinMap nat_cmp Answer) (phase : Phase) → IsPendingIn ss p → KeepsAnswers ss phase kept
-    → KeepsAnswers ss Idle (table.insert kept p.asked.session a)
-done_answers ss p a kept phase i h x j =
-    elim (or_cases (nat_eq x p.asked.session) (table.contains_key kept x) (sym (contains-insert_key kept p.asked.session a x) ∙ j)) as (λ _. IsTrue (table.contains_key ss x) × (pending_session Idle ≡ Some x → ⊥)) [
-      | inl e ↦ (subst (λ k. IsTrue (table.contains_key ss k)) (sym (eqb-true x p.asked.session e)) (ap is_some i.session), λ t. cc)
-      | inr e ↦ ((h x e).0, λ t. cc)
-    ]
-
-ack_answers : (ls : Links) (ss : Requests) (phase : Phase) (v : ViewMap) (o : Outbox) → IsPhaseOf ls ss phase → KeepsAnswers ss phase o.answers
-    → KeepsAnswers ss (ops.after_ack phase) (keep (ops.reply_in v phase) o).answers
-ack_answers ls ss Idle v o i h = h
-ack_answers ls ss (Storing p) v o i h =
-    elim (ops.is_last p) as (λ b. KeepsAnswers ss (if b then Idle else Storing (ops.counted p)) (keep (then_some b (ops.told p v)) o).answers) [
-      | true ↦ done_answers ss p (ops.told p v).answer o.answers (Storing p) i.0 h
-      | false ↦ h
-    ]
-ack_answers ls ss (Querying p) v o i h = h
-ack_answers ls ss (StoringBack p seen) v o i h =
-    elim (ops.is_last p) as (λ b. KeepsAnswers ss (if b then Idle else StoringBack (ops.counted p) seen) (keep (then_some b (ops.told p seen)) o).answers) [
-      | true ↦ done_answers ss p (ops.told p seen).answer o.answers (StoringBack p seen) i.0 h
-      | false ↦ h
-    ]
-
-same_pending : (ss : Requests) (p q : Phase) (kept : FinMap nat_cmp Answer) → pending_session q ≡ pending_session p → KeepsAnswers ss p kept → KeepsAnswers ss q kept
-same_pending ss p q kept e h x j = ((h x j).0, λ t. (h x j).1 (sym e ∙ t))
-
-pub reply_pending : (quorum : ℕ) (v : ViewMap) (phase : Phase) (s : Ops) → s.phase ≡ phase → pending_session (ops.after_reply quorum v phase s).phase ≡ pending_session phase
-reply_pending quorum v Idle s e = ap pending_session e
-reply_pending quorum v (Storing p) s e = ap pending_session e
-reply_pending quorum v (Querying p) s e =
-    cond_both (ops.is_last p)
-    (ops.next_round (StoringBack (ops.begun quorum p.asked) (merge s.view v)) (ops.merged v s))
-    (record (ops.merged v s) { phase = Querying (ops.counted p) })
-    (λ t. pending_session t.phase ≡ Some p.asked.session) (λ _. refl) (λ _. refl)
-reply_pending quorum v (StoringBack p seen) s e = ap pending_session e
-
-pub message_answers : (ls : Links) (ss : Requests) (me quorum : ℕ) (m : Message) (s : Ops) (o : Outbox) → IsPhaseOf ls ss s.phase → KeepsAnswers ss s.phase o.answers
-    → KeepsAnswers ss (ops.after_message me quorum m s).phase (keep (ops.reply_of me m s) o).answers
-message_answers ls ss me quorum (message.Enter q) s o i h = h
-message_answers ls ss me quorum (message.EnterEcho c v j q) s o i h = h
-message_answers ls ss me quorum (message.Join q) s o i h = h
-message_answers ls ss me quorum (message.JoinEcho q) s o i h = h
-message_answers ls ss me quorum (message.Leave q) s o i h = h
-message_answers ls ss me quorum (message.LeaveEcho q) s o i h = h
-message_answers ls ss me quorum (message.Query tag q) s o i h = h
-message_answers ls ss me quorum (message.QueryReply v tag q) s o i h =
-    cond_both (ops.is_own me tag q s) (ops.after_reply quorum v s.phase s) s (λ t. KeepsAnswers ss t.phase o.answers)
-    (λ _. same_pending ss s.phase _ o.answers (reply_pending quorum v s.phase s refl) h) (λ _. h)
-message_answers ls ss me quorum (message.Store v tag q) s o i h = h
-message_answers ls ss me quorum (message.StoreAck tag q) s o i h =
-    elim (ops.is_own me tag q s) as (λ b. KeepsAnswers ss (if b then record s { phase = ops.after_ack s.phase } else s).phase (keep (if b then ops.reply_in s.view s.phase else None) o).answers) [
-      | true ↦ ack_answers ls ss s.phase s.view o i h
-      | false ↦ h
-    ]
-
-pub ask_pending : (me quorum : ℕ) (a : Asked) (s : Ops) → pending_session (ops.after_ask me quorum a s).phase ≡ Some a.session
-ask_pending me quorum a s =
-    cond_both (is_writing a.command) (ops.next_round (Storing (ops.begun quorum a)) (ops.with_own_row me (ops.with_written a.command s)))
-    (ops.next_round (Querying (ops.begun quorum a)) s) (λ t. pending_session t.phase ≡ Some a.session) (λ _. refl) (λ _. refl)
+pub posted : (ss : Requests) (asks : List Asked) (p : Option Message) (r : Option Reply) (o : Outbox)
+    → KeepsAnswers ss asks (keep r o).answers → KeepsAnswers ss asks (keep r (add p o)).answers
+posted ss asks None r o h = h
+posted ss asks (Some m) None o h = h
+posted ss asks (Some m) (Some r) o h = h
 
 pub same_some : {X : Type 0} (x y : X) → Some x ≡ Some y → x ≡ y
 same_some x y e = cc
 
-pub ask_answers : (ss : Requests) (me quorum : ℕ) (a : Asked) (s : Ops) (phase : Phase) (kept : FinMap nat_cmp Answer) → KeepsAnswers ss phase kept
-    → KeepsAnswers (table.insert ss a.session a.request) (ops.after_ask me quorum a s).phase (table.remove kept a.session)
-ask_answers ss me quorum a s phase kept h x j =
+-- the first of the asks that aren't answered is, and its session has no other
+first_kept : (ss : Requests) (a : Asked) (asks : List Asked) (answer : Answer) (kept : FinMap nat_cmp Answer) → IsLastOf ss a → has_session a.session asks ≡ false
+    → KeepsAnswers ss (a ∷ asks) kept → KeepsAnswers ss asks (table.insert kept a.session answer)
+first_kept ss a asks answer kept last alone h x j =
+    elim (or_cases (nat_eq x a.session) (table.contains_key kept x) (sym (contains-insert_key kept a.session answer x) ∙ j))
+    as (λ _. IsTrue (table.contains_key ss x) × (has_session x asks ≡ false)) [
+      | inl e ↦
+          let same : a.session ≡ x = sym (eqb-true x a.session e) in
+          (subst (λ k. IsTrue (table.contains_key ss k)) same (ap is_some last), subst (λ k. has_session k asks ≡ false) same alone)
+      | inr e ↦ ((h x e).0, (or_parts _ _ (h x e).1).1)
+    ]
+
+-- so it is with each reply that answers the first
+pub first_answers : (ss : Requests) (before after : List Asked) (r : Option Reply) (o : Outbox) → AnswersFirst before after r → AreApart before → AllByRecursion (IsLastOf ss) before
+    → KeepsAnswers ss before o.answers → KeepsAnswers ss after (keep r o).answers
+first_answers ss before after None o e apart last h = subst (λ (l : List Asked). KeepsAnswers ss l o.answers) (sym e) h
+first_answers ss before after (Some r) o e apart last h =
+    let a = e.0 in
+    subst (λ (s : ℕ). KeepsAnswers ss after (table.insert o.answers s r.answer)) e.2
+    (first_kept ss a after r.answer o.answers (subst (AllByRecursion (IsLastOf ss)) e.1 last).0 (subst AreApart e.1 apart).0 (subst (λ (l : List Asked). KeepsAnswers ss l o.answers) e.1 h))
+
+-- one more ask isn't answered yet, and its session's answer is forgotten
+pub last_answers : (ss : Requests) (asks : List Asked) (a : Asked) (kept : FinMap nat_cmp Answer) → KeepsAnswers ss asks kept
+    → KeepsAnswers (table.insert ss a.session a.request) (asks ++ a ∷ []) (table.remove kept a.session)
+last_answers ss asks a kept h x j =
     let both = and_parts _ _ (sym (contains-remove kept a.session x) ∙ j) in
-    (within_insert ss a.session a.request x (h x both.0).0, λ t. eqb-false x a.session (not-true _ both.1) (sym (same_some a.session x (sym (ask_pending me quorum a s) ∙ t))))
+    (within_insert ss a.session a.request x (h x both.0).0, none_last x asks a (h x both.0).1 (not-true _ both.1))

@@ -2,14 +2,16 @@
 --     AllListed, message_known           each id of a list has a link;  so each id of a message has one
 --     KeepsChurn, message_churn          what coming and going keeps
 --     left_stays                         who left has left for good
---     KeepsOps, message_ops, ask_ops     what the client and the server keep
-use Rattle.std.proofs.Common.{◌≡◌, ℕ, ◌+◌, ◌<◌, ◌≤◌, Bool, true, false, cond, ◌&&◌, nat_eq, List, [], ◌∷◌, ◌++◌, refl, sym, ap, ◌∙◌, inl, inr, arith}
-use Rattle.std.specs.Prelude.{IsTrue, Some, ◌==◌}
-use Rattle.std.specs.List.{list_any}
+--     KeepsOps, message_ops, ask_ops     what the client and the server keep, and the asks that wait
+--     all_last, same_tests               each ask that isn't answered is its session's last request;  two numbers apart
+use Rattle.std.proofs.Common.{◌≡◌, ℕ, ◌+◌, ◌<◌, ◌≤◌, Bool, true, false, cond, not, ◌&&◌, ◌||◌, nat_eq, nat_le, List, [], ◌∷◌, ◌++◌, length, length-append, refl, sym, ap, subst, ◌∙◌, inl, inr, arith}
+use Rattle.std.specs.Prelude.{Option, Some, None, IsTrue, ◌==◌}
+use Rattle.std.specs.List.{list_any, AllByRecursion}
 use Rattle.std.specs.Ordering.{nat_cmp}
 use Rattle.std.specs.FinMap as table
 use Rattle.std.specs.FinMap.{FinMap}
-use Rattle.std.proofs.lemmas.Bool.{cond_both, eq-eqb, eqb-false, or_cases, or_left, or_right}
+use Rattle.std.proofs.lemmas.Bool.{cond_both, eq-eqb, ne_eqb, eqb-false, leb-false, or_cases, or_parts, or_left, or_right}
+use Rattle.std.proofs.lemmas.List.{append_assoc}
 use Rattle.std.proofs.lemmas.List.Folds.{list_any-append}
 use Rattle.cc_views.specs.Limits.{known_limit}
 use Rattle.cc_views.specs.NatSets as set
@@ -29,12 +31,17 @@ use Rattle.cc_churn.specs.Churn.{Churn}
 use Rattle.cc_ops.specs.Commands.{is_writing}
 use Rattle.cc_ops.specs.Ops as ops
 use Rattle.cc_ops.specs.Ops.{Ops, Phase, Idle, Storing, Querying, StoringBack}
+use Rattle.cc_ops.specs.OwnLaws.{AnswersFirst, begun_line, begun_unanswered, message_line, message_answers}
+use Rattle.cc_ops.specs.Stages.{stage_of, WaitsBehind}
+use Rattle.cc_ops.specs.Waiting.{line_limit, led_by, has_session, AreApart}
+use Rattle.cc_ops.specs.WaitingLaws.{apart_last}
 use Rattle.cc_ops.specs.declared.pending.Asked.{Asked}
 use Rattle.cc_ops.specs.declared.pending.Pending.{Pending}
+use Rattle.cc_ops.specs.declared.pending.Reply.{Reply}
 use Rattle.cc_links.specs.Links.{Links}
 use Rattle.cc_sessions.specs.Sessions.{Requests}
 use Rattle.cc_node.specs.Core.{ids_of}
-use Rattle.cc_node.specs.Lawful.{IsKnown, IsPendingIn, IsPhaseOf}
+use Rattle.cc_node.specs.Lawful.{IsKnown, IsPendingIn, IsPhaseOf, IsLastOf, IsLineOf}
 
 pub same_number : (n : ℕ) → nat_eq n n ≡ true
 same_number n = eq-eqb n n refl
@@ -204,12 +211,112 @@ phase_more ls ms ss (Storing p) more h = h
 phase_more ls ms ss (Querying p) more h = h
 phase_more ls ms ss (StoringBack p seen) more h = (h.0, h.1, λ q k. more q (h.2 q k))
 
-pub record KeepsOps (ls : Links) (ss : Requests) (s : Ops) : Type 0 where
+-- ---- asks that wait
+
+pub same_tests : (x y : ℕ) → nat_eq x y ≡ false → nat_eq y x ≡ false
+same_tests x y e = let apart : x ≡ y → ⊥ = eqb-false x y e in ne_eqb y x (λ t. apart (sym t))
+
+-- each ask that isn't answered is its session's last request
+pub all_last : (ls : Links) (ss : Requests) (phase : Phase) (line : List Asked) → IsPhaseOf ls ss phase → AllByRecursion (IsLastOf ss) line → AllByRecursion (IsLastOf ss) (ops.asked_in phase ++ line)
+all_last ls ss Idle line h k = k
+all_last ls ss (Storing p) line h k = (h.0.session, k)
+all_last ls ss (Querying p) line h k = (h.0.session, k)
+all_last ls ss (StoringBack p seen) line h k = (h.0.session, k)
+
+-- nothing waits where nothing is pending; anything may where something is
+pub none_waits : (phase : Phase) (line : List Asked) → ops.is_idle phase ≡ true → WaitsBehind (stage_of phase) line → line ≡ []
+none_waits Idle line idle h = h
+none_waits (Storing p) line idle h = cc
+none_waits (Querying p) line idle h = cc
+none_waits (StoringBack p seen) line idle h = cc
+
+may_wait : (phase : Phase) (line : List Asked) → ops.is_idle phase ≡ false → WaitsBehind (stage_of phase) line
+may_wait Idle line busy = cc
+may_wait (Storing p) line busy = tt
+may_wait (Querying p) line busy = tt
+may_wait (StoringBack p seen) line busy = tt
+
+begun_behind : (me quorum : ℕ) (a : Asked) (s : Ops) → WaitsBehind (stage_of (ops.with_begun me quorum a s).phase) (ops.with_begun me quorum a s).line
+begun_behind me quorum a s =
+    cond_both (is_writing a.command) (ops.next_round (Storing (ops.round_of quorum a)) (ops.with_own_row me (ops.with_written a.command s)))
+    (ops.next_round (Querying (ops.round_of quorum a)) s) (λ (t : Ops). WaitsBehind (stage_of t.phase) t.line) (λ _. tt) (λ _. tt)
+
+last_behind : (me quorum : ℕ) (line : List Asked) (s : Ops) → s.line ≡ line → WaitsBehind (stage_of (ops.after_last me quorum line s).phase) (ops.after_last me quorum line s).line
+last_behind me quorum [] s e = e
+last_behind me quorum (a ∷ line) s e = begun_behind me quorum a (record s { line = line })
+
+ack_behind : (me quorum : ℕ) (phase : Phase) (s : Ops) → WaitsBehind (stage_of s.phase) s.line
+    → WaitsBehind (stage_of (ops.after_ack me quorum phase s).phase) (ops.after_ack me quorum phase s).line
+ack_behind me quorum Idle s h = h
+ack_behind me quorum (Storing p) s h =
+    cond_both (ops.is_last p) (ops.after_last me quorum s.line s) (record s { phase = Storing (ops.counted p) }) (λ (t : Ops). WaitsBehind (stage_of t.phase) t.line)
+    (λ _. last_behind me quorum s.line s refl) (λ _. tt)
+ack_behind me quorum (Querying p) s h = h
+ack_behind me quorum (StoringBack p seen) s h =
+    cond_both (ops.is_last p) (ops.after_last me quorum s.line s) (record s { phase = StoringBack (ops.counted p) seen }) (λ (t : Ops). WaitsBehind (stage_of t.phase) t.line)
+    (λ _. last_behind me quorum s.line s refl) (λ _. tt)
+
+reply_behind : (quorum : ℕ) (v : ViewMap) (phase : Phase) (s : Ops) → WaitsBehind (stage_of s.phase) s.line
+    → WaitsBehind (stage_of (ops.after_reply quorum v phase s).phase) (ops.after_reply quorum v phase s).line
+reply_behind quorum v Idle s h = h
+reply_behind quorum v (Storing p) s h = h
+reply_behind quorum v (Querying p) s h =
+    cond_both (ops.is_last p)
+    (ops.next_round (StoringBack (ops.round_of quorum p.asked) (merge s.view v)) (ops.merged v s))
+    (record (ops.merged v s) { phase = Querying (ops.counted p) }) (λ (t : Ops). WaitsBehind (stage_of t.phase) t.line) (λ _. tt) (λ _. tt)
+reply_behind quorum v (StoringBack p seen) s h = h
+
+message_behind : (me quorum : ℕ) (m : Message) (s : Ops) → WaitsBehind (stage_of s.phase) s.line
+    → WaitsBehind (stage_of (ops.after_message me quorum m s).phase) (ops.after_message me quorum m s).line
+message_behind me quorum (message.Enter q) s h = h
+message_behind me quorum (message.EnterEcho c v j q) s h = h
+message_behind me quorum (message.Join q) s h = h
+message_behind me quorum (message.JoinEcho q) s h = h
+message_behind me quorum (message.Leave q) s h = h
+message_behind me quorum (message.LeaveEcho q) s h = h
+message_behind me quorum (message.Query tag q) s h = h
+message_behind me quorum (message.QueryReply v tag q) s h =
+    cond_both (ops.is_own me tag q s) (ops.after_reply quorum v s.phase s) s (λ (t : Ops). WaitsBehind (stage_of t.phase) t.line) (λ _. reply_behind quorum v s.phase s h) (λ _. h)
+message_behind me quorum (message.Store v tag q) s h = h
+message_behind me quorum (message.StoreAck tag q) s h =
+    cond_both (ops.is_own me tag q s) (ops.after_ack me quorum s.phase s) s (λ (t : Ops). WaitsBehind (stage_of t.phase) t.line) (λ _. ack_behind me quorum s.phase s h) (λ _. h)
+
+-- of the asks that wait the first begins, or none
+shorter : (o : Option Asked) (line : List Asked) → length line ≤ length (led_by o line)
+shorter None line = omega arith
+shorter (Some a) line = omega arith
+
+behind_first : (P : Asked → Type 0) (o : Option Asked) (line : List Asked) → AllByRecursion P (led_by o line) → AllByRecursion P line
+behind_first P None line h = h
+behind_first P (Some a) line h = h.1
+
+left_apart : (before after : List Asked) (r : Option Reply) → AnswersFirst before after r → AreApart before → AreApart after
+left_apart before after None e h = subst AreApart (sym e) h
+left_apart before after (Some r) e h = (subst AreApart e.1 h).1
+
+message_line_of : (ss : Requests) (me quorum : ℕ) (m : Message) (s : Ops) → IsLineOf ss s → IsLineOf ss (ops.after_message me quorum m s)
+message_line_of ss me quorum m s h =
+    let t = ops.after_message me quorum m s in
+    let front : s.line ≡ led_by (ops.begun_by me m s) t.line = message_line me quorum m s in
+    record {
+      behind = message_behind me quorum m s h.behind;
+      few = let less = shorter (ops.begun_by me m s) t.line in omega (arith, less, ap length front, h.few);
+      apart = left_apart (ops.unanswered s) (ops.unanswered t) (ops.reply_of me m s) (message_answers me quorum m s) h.apart;
+      last = behind_first (IsLastOf ss) (ops.begun_by me m s) t.line (subst (AllByRecursion (IsLastOf ss)) front h.last);
+    }
+
+-- what a view and a phase keep
+pub record KeepsRound (ls : Links) (ss : Requests) (s : Ops) : Type 0 where
   pub view : IsWithin s.view ls
   pub phase : IsPhaseOf ls ss s.phase
 
+pub record KeepsOps (ls : Links) (ss : Requests) (s : Ops) : Type 0 where
+  pub view : IsWithin s.view ls
+  pub phase : IsPhaseOf ls ss s.phase
+  pub line : IsLineOf ss s
+
 pub ops_more : (ls ms : Links) (ss : Requests) (s : Ops) → IsWithin ls ms → KeepsOps ls ss s → KeepsOps ms ss s
-ops_more ls ms ss s more h = record { view = λ q k. more q (h.view q k); phase = phase_more ls ms ss s.phase more h.phase }
+ops_more ls ms ss s more h = record { view = λ q k. more q (h.view q k); phase = phase_more ls ms ss s.phase more h.phase; line = h.line }
 
 counted_more : (ss : Requests) (p : Pending) → ops.is_last p ≡ false → IsPendingIn ss p → IsPendingIn ss (ops.counted p)
 counted_more ss p last h = record {
@@ -218,56 +325,149 @@ counted_more ss p last h = record {
   count = let apart : p.count + 1 ≡ p.need → ⊥ = eqb-false (p.count + 1) p.need last in omega (arith, h.count, apart);
 }
 
-reply_ops : (ls : Links) (ss : Requests) (quorum : ℕ) (v : ViewMap) (phase : Phase) (s : Ops) → 0 < quorum → quorum ≤ known_limit → IsWithin v ls
-    → KeepsOps ls ss s → IsPhaseOf ls ss phase → KeepsOps ls ss (ops.after_reply quorum v phase s)
-reply_ops ls ss quorum v Idle s some few k h i = h
-reply_ops ls ss quorum v (Storing p) s some few k h i = h
-reply_ops ls ss quorum v (Querying p) s some few k h i =
+reply_round : (ls : Links) (ss : Requests) (quorum : ℕ) (v : ViewMap) (phase : Phase) (s : Ops) → 0 < quorum → quorum ≤ known_limit → IsWithin v ls
+    → KeepsRound ls ss s → IsPhaseOf ls ss phase → KeepsRound ls ss (ops.after_reply quorum v phase s)
+reply_round ls ss quorum v Idle s some few k h i = h
+reply_round ls ss quorum v (Storing p) s some few k h i = h
+reply_round ls ss quorum v (Querying p) s some few k h i =
     let all : IsWithin (merge s.view v) ls = merge_within s.view v ls h.view k in
     cond_both (ops.is_last p)
-    (ops.next_round (StoringBack (ops.begun quorum p.asked) (merge s.view v)) (ops.merged v s))
+    (ops.next_round (StoringBack (ops.round_of quorum p.asked) (merge s.view v)) (ops.merged v s))
     (record (ops.merged v s) { phase = Querying (ops.counted p) })
-    (KeepsOps ls ss)
+    (KeepsRound ls ss)
     (λ _. record { view = all; phase = (record { session = i.0.session; need = few; count = some }, i.1, all) })
     (λ last. record { view = all; phase = (counted_more ss p last i.0, i.1) })
-reply_ops ls ss quorum v (StoringBack p seen) s some few k h i = h
+reply_round ls ss quorum v (StoringBack p seen) s some few k h i = h
 
-ack_phase : (ls : Links) (ss : Requests) (phase : Phase) → IsPhaseOf ls ss phase → IsPhaseOf ls ss (ops.after_ack phase)
-ack_phase ls ss Idle h = tt
-ack_phase ls ss (Storing p) h = cond_both (ops.is_last p) Idle (Storing (ops.counted p)) (IsPhaseOf ls ss) (λ _. tt) (λ last. (counted_more ss p last h.0, h.1))
-ack_phase ls ss (Querying p) h = h
-ack_phase ls ss (StoringBack p seen) h =
-    cond_both (ops.is_last p) Idle (StoringBack (ops.counted p) seen) (IsPhaseOf ls ss) (λ _. tt) (λ last. (counted_more ss p last h.0, h.1, h.2))
-
-pub message_ops : (ls : Links) (ss : Requests) (me quorum : ℕ) (m : Message) (s : Ops) → 0 < quorum → quorum ≤ known_limit → MessageKnown ls m
-    → KeepsOps ls ss s → KeepsOps ls ss (ops.after_message me quorum m s)
-message_ops ls ss me quorum (message.Enter q) s some few k h = h
-message_ops ls ss me quorum (message.EnterEcho c v j q) s some few k h = record { view = merge_within s.view v ls h.view k.1; phase = h.phase }
-message_ops ls ss me quorum (message.Join q) s some few k h = h
-message_ops ls ss me quorum (message.JoinEcho q) s some few k h = h
-message_ops ls ss me quorum (message.Leave q) s some few k h = h
-message_ops ls ss me quorum (message.LeaveEcho q) s some few k h = h
-message_ops ls ss me quorum (message.Query tag q) s some few k h = h
-message_ops ls ss me quorum (message.QueryReply v tag q) s some few k h =
-    cond_both (ops.is_own me tag q s) (ops.after_reply quorum v s.phase s) s (KeepsOps ls ss) (λ _. reply_ops ls ss quorum v s.phase s some few k h h.phase) (λ _. h)
-message_ops ls ss me quorum (message.Store v tag q) s some few k h = record { view = merge_within s.view v ls h.view k; phase = h.phase }
-message_ops ls ss me quorum (message.StoreAck tag q) s some few k h =
-    cond_both (ops.is_own me tag q s) (record s { phase = ops.after_ack s.phase }) s (KeepsOps ls ss)
-    (λ _. record { view = h.view; phase = ack_phase ls ss s.phase h.phase }) (λ _. h)
-
-pub ask_ops : (ls : Links) (ss : Requests) (me quorum : ℕ) (a : Asked) (s : Ops) → 0 < quorum → quorum ≤ known_limit → IsKnown ls me
-    → KeepsOps ls ss s → KeepsOps ls (table.insert ss a.session a.request) (ops.after_ask me quorum a s)
-ask_ops ls ss me quorum a s some few own h =
-    let now = table.insert ss a.session a.request in
-    let pending : IsPendingIn now (ops.begun quorum a) = record {
-      session = get-insert_key ss a.session a.request a.session ∙ ap (λ b. cond b (Some a.request) (table.get ss a.session)) (same_number a.session);
-      need = few;
-      count = some;
-    } in
+begun_round : (ls : Links) (ss : Requests) (me quorum : ℕ) (a : Asked) (s : Ops) → 0 < quorum → quorum ≤ known_limit → IsKnown ls me → IsWithin s.view ls → IsLastOf ss a
+    → KeepsRound ls ss (ops.with_begun me quorum a s)
+begun_round ls ss me quorum a s some few own view last =
+    let pending : IsPendingIn ss (ops.round_of quorum a) = record { session = last; need = few; count = some } in
     let w = ops.with_own_row me (ops.with_written a.command s) in
-    cond_both (is_writing a.command) (ops.next_round (Storing (ops.begun quorum a)) w) (ops.next_round (Querying (ops.begun quorum a)) s) (KeepsOps ls now)
+    cond_both (is_writing a.command) (ops.next_round (Storing (ops.round_of quorum a)) w) (ops.next_round (Querying (ops.round_of quorum a)) s) (KeepsRound ls ss)
     (λ writes. record {
-      view = merge_within s.view (single (record { node = me; number = s.number + 1; value = w.mine })) ls h.view (insert_within table.empty ls me (s.number + 1, w.mine) (empty_within Pair ls) own);
+      view = merge_within s.view (single (record { node = me; number = s.number + 1; value = w.mine })) ls view (insert_within table.empty ls me (s.number + 1, w.mine) (empty_within Pair ls) own);
       phase = (pending, writes);
     })
-    (λ reads. record { view = h.view; phase = (pending, reads) })
+    (λ reads. record { view = view; phase = (pending, reads) })
+
+last_round : (ls : Links) (ss : Requests) (me quorum : ℕ) (line : List Asked) (s : Ops) → 0 < quorum → quorum ≤ known_limit → IsKnown ls me → IsWithin s.view ls
+    → AllByRecursion (IsLastOf ss) line → KeepsRound ls ss (ops.after_last me quorum line s)
+last_round ls ss me quorum [] s some few own view last = record { view = view; phase = tt }
+last_round ls ss me quorum (a ∷ line) s some few own view last = begun_round ls ss me quorum a (record s { line = line }) some few own view last.0
+
+ack_round : (ls : Links) (ss : Requests) (me quorum : ℕ) (phase : Phase) (s : Ops) → 0 < quorum → quorum ≤ known_limit → IsKnown ls me → KeepsRound ls ss s
+    → AllByRecursion (IsLastOf ss) s.line → IsPhaseOf ls ss phase → KeepsRound ls ss (ops.after_ack me quorum phase s)
+ack_round ls ss me quorum Idle s some few own h last i = h
+ack_round ls ss me quorum (Storing p) s some few own h last i =
+    cond_both (ops.is_last p) (ops.after_last me quorum s.line s) (record s { phase = Storing (ops.counted p) }) (KeepsRound ls ss)
+    (λ _. last_round ls ss me quorum s.line s some few own h.view last) (λ more. record { view = h.view; phase = (counted_more ss p more i.0, i.1) })
+ack_round ls ss me quorum (Querying p) s some few own h last i = h
+ack_round ls ss me quorum (StoringBack p seen) s some few own h last i =
+    cond_both (ops.is_last p) (ops.after_last me quorum s.line s) (record s { phase = StoringBack (ops.counted p) seen }) (KeepsRound ls ss)
+    (λ _. last_round ls ss me quorum s.line s some few own h.view last) (λ more. record { view = h.view; phase = (counted_more ss p more i.0, i.1, i.2) })
+
+message_round : (ls : Links) (ss : Requests) (me quorum : ℕ) (m : Message) (s : Ops) → 0 < quorum → quorum ≤ known_limit → IsKnown ls me → MessageKnown ls m
+    → AllByRecursion (IsLastOf ss) s.line → KeepsRound ls ss s → KeepsRound ls ss (ops.after_message me quorum m s)
+message_round ls ss me quorum (message.Enter q) s some few own k last h = h
+message_round ls ss me quorum (message.EnterEcho c v j q) s some few own k last h = record { view = merge_within s.view v ls h.view k.1; phase = h.phase }
+message_round ls ss me quorum (message.Join q) s some few own k last h = h
+message_round ls ss me quorum (message.JoinEcho q) s some few own k last h = h
+message_round ls ss me quorum (message.Leave q) s some few own k last h = h
+message_round ls ss me quorum (message.LeaveEcho q) s some few own k last h = h
+message_round ls ss me quorum (message.Query tag q) s some few own k last h = h
+message_round ls ss me quorum (message.QueryReply v tag q) s some few own k last h =
+    cond_both (ops.is_own me tag q s) (ops.after_reply quorum v s.phase s) s (KeepsRound ls ss) (λ _. reply_round ls ss quorum v s.phase s some few k h h.phase) (λ _. h)
+message_round ls ss me quorum (message.Store v tag q) s some few own k last h = record { view = merge_within s.view v ls h.view k; phase = h.phase }
+message_round ls ss me quorum (message.StoreAck tag q) s some few own k last h =
+    cond_both (ops.is_own me tag q s) (ops.after_ack me quorum s.phase s) s (KeepsRound ls ss) (λ _. ack_round ls ss me quorum s.phase s some few own h last h.phase) (λ _. h)
+
+pub message_ops : (ls : Links) (ss : Requests) (me quorum : ℕ) (m : Message) (s : Ops) → 0 < quorum → quorum ≤ known_limit → IsKnown ls me → MessageKnown ls m
+    → KeepsOps ls ss s → KeepsOps ls ss (ops.after_message me quorum m s)
+message_ops ls ss me quorum m s some few own k h =
+    let round = message_round ls ss me quorum m s some few own k h.line.last (record { view = h.view; phase = h.phase }) in
+    record { view = round.view; phase = round.phase; line = message_line_of ss me quorum m s h.line }
+
+-- ---- an ask
+
+begun_last : (ss : Requests) (a : Asked) → IsLastOf (table.insert ss a.session a.request) a
+begun_last ss a = get-insert_key ss a.session a.request a.session ∙ ap (λ b. cond b (Some a.request) (table.get ss a.session)) (same_number a.session)
+
+other_last : (ss : Requests) (s r x : ℕ) (o : Option ℕ) → nat_eq s x ≡ false → table.get ss x ≡ o → table.get (table.insert ss s r) x ≡ o
+other_last ss s r x o apart e = get-insert_key ss s r x ∙ ap (λ b. cond b (Some r) (table.get ss x)) (same_tests s x apart) ∙ e
+
+others_last : (ss : Requests) (s r : ℕ) (line : List Asked) → has_session s line ≡ false → AllByRecursion (IsLastOf ss) line → AllByRecursion (IsLastOf (table.insert ss s r)) line
+others_last ss s r [] apart h = tt
+others_last ss s r (a ∷ line) apart h =
+    let parts = or_parts _ _ apart in (other_last ss s r a.session (Some a.request) parts.0 h.0, others_last ss s r line parts.1 h.1)
+
+all_behind : (P : Asked → Type 0) (line : List Asked) (a : Asked) → AllByRecursion P line → P a → AllByRecursion P (line ++ a ∷ [])
+all_behind P [] a h k = (k, tt)
+all_behind P (b ∷ line) a h k = (h.0, all_behind P line a h.1 k)
+
+other_pending : (ss : Requests) (s r : ℕ) (p : Pending) → nat_eq s p.asked.session ≡ false → IsPendingIn ss p → IsPendingIn (table.insert ss s r) p
+other_pending ss s r p apart h = record { session = other_last ss s r p.asked.session (Some p.asked.request) apart h.session; need = h.need; count = h.count }
+
+other_phase : (ls : Links) (ss : Requests) (s r : ℕ) (phase : Phase) (line : List Asked) → has_session s (ops.asked_in phase ++ line) ≡ false → IsPhaseOf ls ss phase
+    → IsPhaseOf ls (table.insert ss s r) phase × (has_session s line ≡ false)
+other_phase ls ss s r Idle line apart h = (tt, apart)
+other_phase ls ss s r (Storing p) line apart h = let parts = or_parts _ _ apart in ((other_pending ss s r p parts.0 h.0, h.1), parts.1)
+other_phase ls ss s r (Querying p) line apart h = let parts = or_parts _ _ apart in ((other_pending ss s r p parts.0 h.0, h.1), parts.1)
+other_phase ls ss s r (StoringBack p seen) line apart h = let parts = or_parts _ _ apart in ((other_pending ss s r p parts.0 h.0, h.1, h.2), parts.1)
+
+-- where an operation is pending, fewer wait than may, and none of the session
+pub record MayWait (s : ℕ) (o : Ops) : Type 0 where
+  pub few : length o.line < line_limit
+  pub apart : has_session s (ops.unanswered o) ≡ false
+
+busy_parts : (idle full there : Bool) → idle ≡ false → (not idle && (full || there)) ≡ false → (full ≡ false) × (there ≡ false)
+busy_parts true full there e h = cc
+busy_parts false full there e h = or_parts full there h
+
+pub waits_then : (s : ℕ) (o : Ops) → (not (ops.is_idle o.phase) && (nat_le line_limit (length o.line) || has_session s (ops.unanswered o))) ≡ false → ops.is_idle o.phase ≡ false → MayWait s o
+waits_then s o h pends =
+    let both = busy_parts (ops.is_idle o.phase) (nat_le line_limit (length o.line)) (has_session s (ops.unanswered o)) pends h in
+    record { few = leb-false line_limit (length o.line) both.0; apart = both.1 }
+
+begins_ops : (ls : Links) (ss : Requests) (me quorum : ℕ) (a : Asked) (s : Ops) → 0 < quorum → quorum ≤ known_limit → IsKnown ls me → s.line ≡ []
+    → KeepsOps ls ss s → KeepsOps ls (table.insert ss a.session a.request) (ops.with_begun me quorum a s)
+begins_ops ls ss me quorum a s some few own none h =
+    let now = table.insert ss a.session a.request in
+    let t = ops.with_begun me quorum a s in
+    let round = begun_round ls now me quorum a s some few own h.view (begun_last ss a) in
+    let empty : t.line ≡ [] = begun_line me quorum a s ∙ none in
+    let alone : ops.unanswered t ≡ a ∷ [] = begun_unanswered me quorum a s ∙ ap (λ (l : List Asked). a ∷ l) none in
+    record {
+      view = round.view;
+      phase = round.phase;
+      line = record {
+        behind = begun_behind me quorum a s;
+        few = omega (arith, ap length empty);
+        apart = subst AreApart (sym alone) (refl, tt);
+        last = subst (AllByRecursion (IsLastOf now)) (sym empty) tt;
+      };
+    }
+
+waits_ops : (ls : Links) (ss : Requests) (a : Asked) (s : Ops) → ops.is_idle s.phase ≡ false → MayWait a.session s
+    → KeepsOps ls ss s → KeepsOps ls (table.insert ss a.session a.request) (record s { line = s.line ++ a ∷ [] })
+waits_ops ls ss a s pends may h =
+    let now = table.insert ss a.session a.request in
+    let others = other_phase ls ss a.session a.request s.phase s.line may.apart h.phase in
+    record {
+      view = h.view;
+      phase = others.0;
+      line = record {
+        behind = may_wait s.phase (s.line ++ a ∷ []) pends;
+        few = omega (arith, length-append s.line (a ∷ []), may.few);
+        apart = subst AreApart (append_assoc (ops.asked_in s.phase) s.line (a ∷ [])) (apart_last (ops.unanswered s) a h.line.apart may.apart);
+        last = all_behind (IsLastOf now) s.line a (others_last ss a.session a.request s.line others.1 h.line.last) (begun_last ss a);
+      };
+    }
+
+pub ask_ops : (ls : Links) (ss : Requests) (me quorum : ℕ) (a : Asked) (s : Ops) → 0 < quorum → quorum ≤ known_limit → IsKnown ls me
+    → (not (ops.is_idle s.phase) && (nat_le line_limit (length s.line) || has_session a.session (ops.unanswered s))) ≡ false
+    → KeepsOps ls ss s → KeepsOps ls (table.insert ss a.session a.request) (ops.after_ask me quorum a s)
+ask_ops ls ss me quorum a s some few own free h =
+    cond_both (ops.is_idle s.phase) (ops.with_begun me quorum a s) (record s { line = s.line ++ a ∷ [] }) (KeepsOps ls (table.insert ss a.session a.request))
+    (λ idle. begins_ops ls ss me quorum a s some few own (none_waits s.phase s.line idle h.line.behind) h)
+    (λ pends. waits_ops ls ss a s pends (waits_then a.session s free pends) h)

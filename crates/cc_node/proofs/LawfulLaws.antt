@@ -2,7 +2,7 @@
 --     next_core, step_lawful        the core, and the node
 --     lowest_next                   lowest doesn't fall
 --     links_go_on, left_grows       no link is lost or falls back, and who left has left for good
-use Rattle.std.proofs.Common.{◌≡◌, ℕ, ◌+◌, ◌<◌, ◌≤◌, Bool, true, false, cond, not, ◌||◌, ◌&&◌, nat_eq, nat_lt, List, [], ◌∷◌, refl, sym, ap, subst, ◌∙◌, inl, inr, arith}
+use Rattle.std.proofs.Common.{◌≡◌, ℕ, ◌+◌, ◌<◌, ◌≤◌, Bool, true, false, cond, not, ◌||◌, ◌&&◌, nat_eq, nat_lt, List, [], ◌∷◌, ◌++◌, refl, sym, ap, subst, ◌∙◌, inl, inr, arith}
 use Rattle.std.specs.Prelude.{Option, Some, None, IfSome, IsTrue, is_some, ◌==◌}
 use Rattle.std.specs.Option.{option_len, option_map_or, unwrap_or}
 use Rattle.std.specs.List.{list_any}
@@ -21,50 +21,67 @@ use Rattle.cc_changes.specs.ChangeSets.{ChangeSets, add_enter, add_join, add_lea
 use Rattle.cc_changes.specs.ChangeLaws.{need_within, need_positive}
 use Rattle.cc_changes.specs.Need.{needed}
 use Rattle.cc_wire.specs.declared.command.Command.{Command}
-use Rattle.cc_wire.specs.declared.command.Command.TheVariants as command
 use Rattle.cc_wire.specs.declared.event.Event.{Event}
 use Rattle.cc_wire.specs.declared.event.Event.TheVariants as event
 use Rattle.cc_wire.specs.declared.message.Message.{Message}
 use Rattle.cc_wire.specs.declared.message.Message.TheVariants as message
 use Rattle.cc_churn.specs.Churn as churn
 use Rattle.cc_churn.specs.Churn.{Churn}
-use Rattle.cc_ops.specs.Commands.{is_writing, written, finds_no_room}
+use Rattle.cc_ops.specs.Commands.{is_writing}
 use Rattle.cc_ops.specs.Ops as ops
-use Rattle.cc_ops.specs.Ops.{Ops, Phase, Idle, Storing, Querying, StoringBack}
+use Rattle.cc_ops.specs.Ops.{Ops, Phase, Idle, Storing, Querying, StoringBack, unanswered, mine_at_last}
+use Rattle.cc_ops.specs.OwnLaws.{message_last, message_answers, ask_last, ask_unanswered}
+use Rattle.cc_ops.specs.Waiting.{writes}
+use Rattle.cc_ops.specs.WaitingLaws.{written_fits}
 use Rattle.cc_ops.specs.declared.pending.Asked.{Asked}
 use Rattle.cc_links.specs.Links.{Link, Links, new_link, with_row, add_absent, add_all, hear, ack, heard_from, IsLinkWithin, LinksWithin}
 use Rattle.cc_links.specs.LinkLaws.{LinksGoOn, go_same, go_then, add_all_goes, hear_goes, ack_goes, go_within, lowest_within, lowest_grows, links_more_posts, add_all_links, hear_links, ack_links, contains-add_all, hear_len, ack_len}
 use Rattle.cc_sessions.specs.Sessions.{Requests, last_request, begin_fits}
-use Rattle.cc_node.specs.Core.{Core, quorum, ids_of, next, post, reply, lowest}
-use Rattle.cc_node.specs.Writes.{writes}
+use Rattle.cc_outbox.specs.Outbox.{forget}
+use Rattle.cc_node.specs.Core.{Core, quorum, ids_of, asked_of, begun, next, post, reply, lowest}
 use Rattle.cc_node.specs.Refusals.{decides}
 use Rattle.cc_node.specs.Node.{Node, step}
 use Rattle.cc_node.specs.Lawful.{CountsWithin, KeepsAnswers, IsLawfulCore, IsLawfulNode}
-use Rattle.cc_node.proofs.CoreLaws.{own_number, own_value}
-use Rattle.cc_node.proofs.KnownLaws.{same_number, AllListed, tail_listed, MessageKnown, message_known, among_more, KeepsChanges, enter_changes, leave_changes, KeepsChurn, members_fit, message_churn, left_stays, KeepsOps, ops_more, message_ops, ask_ops}
-use Rattle.cc_node.proofs.KeptLaws.{step_posts, posted, message_answers, ask_answers}
+use Rattle.cc_node.proofs.CoreLaws.{own_number}
+use Rattle.cc_node.proofs.KnownLaws.{same_number, AllListed, tail_listed, MessageKnown, message_known, among_more, KeepsChanges, enter_changes, leave_changes, KeepsChurn, members_fit, message_churn, left_stays, KeepsOps, ops_more, message_ops, ask_ops, all_last, none_waits}
+use Rattle.cc_node.proofs.KeptLaws.{step_posts, posted, first_answers, last_answers}
 use Rattle.cc_node.proofs.RefusalLaws.{Fits, takes_enter, takes_leave, takes_delivery, takes_ack, takes_ask, takes_retire, takes_any, stays_within, none_overruns}
 
 -- ---- counters rise by one at most
 
-writes_one : (e : Event) → writes e ≤ 1
-writes_one event.Enter = omega arith
-writes_one event.Leave = omega arith
-writes_one (event.Deliver from n m) = omega arith
-writes_one (event.Acked peer n) = omega arith
-writes_one (event.Ask s r command) = cond_both (is_writing command) 1 0 (λ n. n ≤ 1) (λ _. omega arith) (λ _. omega arith)
-writes_one (event.Retire q) = omega arith
+writes_one : (o : Option Asked) → writes o ≤ 1
+writes_one None = omega arith
+writes_one (Some a) = cond_both (is_writing a.command) 1 0 (λ n. n ≤ 1) (λ _. omega arith) (λ _. omega arith)
 
 one_post : (p : Option Message) → option_len p ≤ 1
 one_post None = omega arith
 one_post (Some m) = omega arith
+
+begun_tag : (me quorum : ℕ) (a : Asked) (s : Ops) → (ops.with_begun me quorum a s).tag ≤ s.tag + 1
+begun_tag me quorum a s =
+    cond_both (is_writing a.command) (ops.next_round (Storing (ops.round_of quorum a)) (ops.with_own_row me (ops.with_written a.command s)))
+    (ops.next_round (Querying (ops.round_of quorum a)) s) (λ t. t.tag ≤ s.tag + 1) (λ _. omega arith) (λ _. omega arith)
+
+last_tag : (me quorum : ℕ) (line : List Asked) (s : Ops) → (ops.after_last me quorum line s).tag ≤ s.tag + 1
+last_tag me quorum [] s = omega arith
+last_tag me quorum (a ∷ line) s = begun_tag me quorum a (record s { line = line })
+
+ack_tag : (me quorum : ℕ) (phase : Phase) (s : Ops) → (ops.after_ack me quorum phase s).tag ≤ s.tag + 1
+ack_tag me quorum Idle s = omega arith
+ack_tag me quorum (Storing p) s =
+    cond_both (ops.is_last p) (ops.after_last me quorum s.line s) (record s { phase = Storing (ops.counted p) }) (λ t. t.tag ≤ s.tag + 1)
+    (λ _. last_tag me quorum s.line s) (λ _. omega arith)
+ack_tag me quorum (Querying p) s = omega arith
+ack_tag me quorum (StoringBack p seen) s =
+    cond_both (ops.is_last p) (ops.after_last me quorum s.line s) (record s { phase = StoringBack (ops.counted p) seen }) (λ t. t.tag ≤ s.tag + 1)
+    (λ _. last_tag me quorum s.line s) (λ _. omega arith)
 
 reply_tag : (quorum : ℕ) (v : ViewMap) (phase : Phase) (s : Ops) → (ops.after_reply quorum v phase s).tag ≤ s.tag + 1
 reply_tag quorum v Idle s = omega arith
 reply_tag quorum v (Storing p) s = omega arith
 reply_tag quorum v (Querying p) s =
     cond_both (ops.is_last p)
-    (ops.next_round (StoringBack (ops.begun quorum p.asked) (merge s.view v)) (ops.merged v s))
+    (ops.next_round (StoringBack (ops.round_of quorum p.asked) (merge s.view v)) (ops.merged v s))
     (record (ops.merged v s) { phase = Querying (ops.counted p) }) (λ t. t.tag ≤ s.tag + 1) (λ _. omega arith) (λ _. omega arith)
 reply_tag quorum v (StoringBack p seen) s = omega arith
 
@@ -80,7 +97,7 @@ message_tag me quorum (message.QueryReply v tag q) s =
     cond_both (ops.is_own me tag q s) (ops.after_reply quorum v s.phase s) s (λ t. t.tag ≤ s.tag + 1) (λ _. reply_tag quorum v s.phase s) (λ _. omega arith)
 message_tag me quorum (message.Store v tag q) s = omega arith
 message_tag me quorum (message.StoreAck tag q) s =
-    cond_both (ops.is_own me tag q s) (record s { phase = ops.after_ack s.phase }) s (λ t. t.tag ≤ s.tag + 1) (λ _. omega arith) (λ _. omega arith)
+    cond_both (ops.is_own me tag q s) (ops.after_ack me quorum s.phase s) s (λ t. t.tag ≤ s.tag + 1) (λ _. ack_tag me quorum s.phase s) (λ _. omega arith)
 
 tag_next : (c : Core) (e : Event) → (next c e).ops.tag ≤ c.ops.tag + 1
 unfolding next
@@ -88,10 +105,10 @@ tag_next c event.Enter = omega arith
 tag_next c event.Leave = omega arith
 tag_next c (event.Deliver from n m) = message_tag c.me (quorum c) m c.ops
 tag_next c (event.Acked peer n) = omega arith
-tag_next c (event.Ask s r command) =
-    let a : Asked = record { session = s; request = r; command = command } in
-    cond_both (is_writing command) (ops.next_round (Storing (ops.begun (quorum c) a)) (ops.with_own_row c.me (ops.with_written command c.ops)))
-    (ops.next_round (Querying (ops.begun (quorum c) a)) c.ops) (λ t. t.tag ≤ c.ops.tag + 1) (λ _. omega arith) (λ _. omega arith)
+tag_next c (event.Ask s r k) =
+    let a = asked_of s r k in
+    cond_both (ops.is_idle c.ops.phase) (ops.with_begun c.me (quorum c) a c.ops) (record c.ops { line = c.ops.line ++ a ∷ [] }) (λ t. t.tag ≤ c.ops.tag + 1)
+    (λ _. begun_tag c.me (quorum c) a c.ops) (λ _. omega arith)
 tag_next c (event.Retire q) = omega arith
 
 message_echoes : (me : ℕ) (gamma : Fraction) (m : Message) (s : Churn) → (churn.after_message me gamma m s).echoes ≤ s.echoes + 1
@@ -129,7 +146,7 @@ posts_next c e = let one = one_post (post c e) in omega arith
 counts_next : (c : Core) (e : Event) → Fits c e → CountsWithin c → CountsWithin (next c e)
 counts_next c e fits h =
     let none = none_overruns c (next c e) e fits.counts in
-    let up : (next c e).ops.number ≤ c.ops.number + 1 = omega (arith, own_number c e, writes_one e) in
+    let up : (next c e).ops.number ≤ c.ops.number + 1 = omega (arith, own_number c e, writes_one (begun c e)) in
     record {
       number = stays_within counter_limit c.ops.number (next c e).ops.number none.number h.number up;
       tag = stays_within counter_limit c.ops.tag (next c e).ops.tag none.tag h.tag (tag_next c e);
@@ -223,6 +240,7 @@ changed_core c known k counts h = record {
   joined = k.joined;
   links = links_more_posts c.posts (c.posts + 1) c.links (omega arith) h.links;
   phase = h.phase;
+  line = h.line;
   sessions = h.sessions;
   session_count = h.session_count;
   counts = counts;
@@ -248,7 +266,7 @@ ack_core c peer n d h =
     let takes = takes_ack c peer n d in
     let ls = ack peer n c.links in
     let more : IsWithin c.links ls = go_within c.posts c.links ls (ack_goes c.posts peer n c.links takes.awaited) in
-    let o : KeepsOps ls c.sessions c.ops = ops_more c.links ls c.sessions c.ops more (record { view = h.view; phase = h.phase }) in
+    let o : KeepsOps ls c.sessions c.ops = ops_more c.links ls c.sessions c.ops more (record { view = h.view; phase = h.phase; line = h.line }) in
     let len : table.len ls ≤ table.len c.links = ack_len peer n c.links in
     let few = h.link_count in
     record {
@@ -261,6 +279,7 @@ ack_core c peer n d h =
       joined = h.joined;
       links = links_more_posts c.posts (c.posts + 0) ls (omega arith) (ack_links c.posts peer n c.links takes.awaited h.links);
       phase = o.phase;
+      line = o.line;
       sessions = h.sessions;
       session_count = h.session_count;
       counts = counts_next c (event.Acked peer n) takes.fits h.counts;
@@ -277,7 +296,7 @@ retire_core c q d h =
     let there : IsTrue (table.contains_key ls q) = contains-add_all c.posts (q ∷ []) c.links q ∙ ap (λ b. (b || false) || table.contains_key c.links q) (same_number q) in
     let k : KeepsChanges ls (add_leave c.churn.changes q) = leave_changes ls c.churn.changes q there
     (record { known = among_more c.links ls c.churn.changes more h.changes; joined = h.joined }) in
-    let o : KeepsOps ls c.sessions c.ops = ops_more c.links ls c.sessions c.ops more (record { view = h.view; phase = h.phase }) in
+    let o : KeepsOps ls c.sessions c.ops = ops_more c.links ls c.sessions c.ops more (record { view = h.view; phase = h.phase; line = h.line }) in
     record {
       beta = h.beta;
       gamma = h.gamma;
@@ -288,15 +307,13 @@ retire_core c q d h =
       joined = k.joined;
       links = links_more_posts c.posts (c.posts + 0) ls (omega arith) (add_all_links c.posts (q ∷ []) c.links h.links);
       phase = o.phase;
+      line = o.line;
       sessions = h.sessions;
       session_count = h.session_count;
       counts = counts_next c (event.Retire q) takes.fits h.counts;
       need = h.need;
       set = h.set;
     }
-
-own_set : (c : Core) (e : Event) (v : Value) → (next c e).ops.mine ≡ v → set.len v.set ≤ set_limit → set.len (next c e).ops.mine.set ≤ set_limit
-own_set c e v same h = subst (λ x. set.len x.set ≤ set_limit) (sym same) h
 
 deliver_core : (c : Core) (from n : ℕ) (m : Message) → decides c (event.Deliver from n m) ≡ None → IsLawfulCore c → IsLawfulCore (next c (event.Deliver from n m))
 unfolding next
@@ -312,8 +329,8 @@ deliver_core c from n m d h =
     let k : KeepsChurn ls (churn.after_message c.me c.gamma m c.churn) = message_churn ls c.me c.gamma m c.churn h.gamma few own named
     (record { changes = record { known = among_more c.links ls c.churn.changes more h.changes; joined = h.joined }; need = h.need }) in
     let o : KeepsOps ls c.sessions (ops.after_message c.me (quorum c) m c.ops) =
-    message_ops ls c.sessions c.me (quorum c) m c.ops (need_positive c.beta _) (quorum_fits c h) named
-    (ops_more c.links ls c.sessions c.ops more (record { view = h.view; phase = h.phase })) in
+    message_ops ls c.sessions c.me (quorum c) m c.ops (need_positive c.beta _) (quorum_fits c h) own named
+    (ops_more c.links ls c.sessions c.ops more (record { view = h.view; phase = h.phase; line = h.line })) in
     record {
       beta = h.beta;
       gamma = h.gamma;
@@ -325,33 +342,15 @@ deliver_core c from n m d h =
       links = links_more_posts c.posts (c.posts + option_len (post c e)) ls (omega arith)
           (hear_links c.posts from n (linked c from m) (heard_fits c from n m d h) (add_all_links c.posts (from ∷ ids_of m) c.links h.links));
       phase = o.phase;
+      line = o.line;
       sessions = h.sessions;
       session_count = h.session_count;
       counts = counts_next c e takes.fits h.counts;
       need = k.need;
-      set = own_set c e c.ops.mine (own_value c e) h.set;
+      set = subst (λ (v : Value). set.len v.set ≤ set_limit) (sym (message_last c.me (quorum c) m c.ops)) h.set;
     }
 
 -- ---- an ask
-
-more_members : (s k : ℕ) (b : Bool) → ((s == set_limit) && not b) ≡ false → s ≤ set_limit → k ≡ cond b s (s + 1) → k ≤ set_limit
-more_members s k true h a e = omega arith
-more_members s k false h a e =
-    elim (and_cases (s == set_limit) true h) as (λ _. k ≤ set_limit) [
-      | inl t ↦ let apart : s ≡ set_limit → ⊥ = eqb-false s set_limit t in omega (arith, apart)
-      | inr t ↦ cc
-    ]
-
-pub written_set : (k : Command) (mine : Value) → finds_no_room mine k ≡ false → set.len mine.set ≤ set_limit → set.len (written k mine).set ≤ set_limit
-written_set (command.Store text) mine e h = h
-written_set command.Collect mine e h = h
-written_set (command.WriteMax x) mine e h = h
-written_set command.ReadMax mine e h = h
-written_set command.SetFlag mine e h = h
-written_set command.ReadFlag mine e h = h
-written_set (command.AddMember x) mine e h =
-    more_members (set.len mine.set) (set.len (set.insert mine.set x)) (set.contains mine.set x) e h (set.len-insert mine.set x)
-written_set command.ReadSet mine e h = h
 
 pub last_within : (o : Option ℕ) → IfSome o (λ last. (0 < last) × (last ≤ counter_limit)) → unwrap_or o 0 ≤ counter_limit
 last_within None h = omega arith
@@ -378,9 +377,9 @@ unfolding next
 ask_core c s r k d h =
     let takes = takes_ask c s r k d in
     let e = event.Ask s r k in
-    let a : Asked = record { session = s; request = r; command = k } in
+    let a = asked_of s r k in
     let o : KeepsOps c.links (table.insert c.sessions s r) (ops.after_ask c.me (quorum c) a c.ops) =
-    ask_ops c.links c.sessions c.me (quorum c) a c.ops (need_positive c.beta _) (quorum_fits c h) h.me (record { view = h.view; phase = h.phase }) in
+    ask_ops c.links c.sessions c.me (quorum c) a c.ops (need_positive c.beta _) (quorum_fits c h) h.me takes.free (record { view = h.view; phase = h.phase; line = h.line }) in
     record {
       beta = h.beta;
       gamma = h.gamma;
@@ -389,13 +388,16 @@ ask_core c s r k d h =
       view = o.view;
       link_count = h.link_count;
       joined = h.joined;
-      links = links_more_posts c.posts (c.posts + 1) c.links (omega arith) h.links;
+      links = links_more_posts c.posts (c.posts + option_len (post c e)) c.links (omega arith) h.links;
       phase = o.phase;
+      line = o.line;
       sessions = all_insert (λ _ last. (0 < last) × (last ≤ counter_limit)) c.sessions s r h.sessions (request_fits c s r k d h);
       session_count = begin_fits c.sessions s r takes.sessions h.session_count;
       counts = counts_next c e takes.fits h.counts;
       need = h.need;
-      set = own_set c e (written k c.ops.mine) (own_value c e) (written_set k c.ops.mine takes.room h.set);
+      set = subst (λ (v : Value). set.len v.set ≤ set_limit)
+          (sym (ask_last c.me (quorum c) a c.ops (λ idle. none_waits c.ops.phase c.ops.line idle h.line.behind)))
+          (written_fits k (mine_at_last c.ops) takes.room h.set);
     }
 
 pub next_core : (c : Core) (e : Event) → decides c e ≡ None → IsLawfulCore c → IsLawfulCore (next c e)
@@ -432,19 +434,27 @@ lowest_next c e d h =
     lowest_grows c.churn.changes.left (next c e).churn.changes.left c.posts (c.posts + option_len (post c e)) c.links (next c e).links
     (left_grows c e) (links_go_on c e d) h (omega arith)
 
-step_answers : (n : Node) (e : Event) → IsLawfulNode n → KeepsAnswers (next n.core e).sessions (next n.core e).ops.phase (step n e).outbox.answers
+step_answers : (n : Node) (e : Event) → IsLawfulNode n → KeepsAnswers (next n.core e).sessions (unanswered (next n.core e).ops) (step n e).outbox.answers
 unfolding step next
 step_answers n event.Enter h = h.answers
 step_answers n event.Leave h = h.answers
 step_answers n (event.Deliver from k m) h =
     let c = n.core in
     let e = event.Deliver from k m in
-    posted c.sessions (ops.after_message c.me (quorum c) m c.ops).phase (post c e) (ops.reply_of c.me m c.ops) n.outbox
-    (message_answers c.links c.sessions c.me (quorum c) m c.ops n.outbox h.core.phase h.answers)
+    let after = ops.after_message c.me (quorum c) m c.ops in
+    posted c.sessions (unanswered after) (post c e) (ops.reply_of c.me m c.ops) n.outbox
+    (first_answers c.sessions (unanswered c.ops) (unanswered after) (ops.reply_of c.me m c.ops) n.outbox (message_answers c.me (quorum c) m c.ops) h.core.line.apart
+    (all_last c.links c.sessions c.ops.phase c.ops.line h.core.phase h.core.line.last) h.answers)
 step_answers n (event.Acked peer k) h = h.answers
 step_answers n (event.Ask s r k) h =
     let c = n.core in
-    ask_answers c.sessions c.me (quorum c) (record { session = s; request = r; command = k }) c.ops c.ops.phase n.outbox.answers h.answers
+    let e = event.Ask s r k in
+    let a = asked_of s r k in
+    let asks = table.insert c.sessions s r in
+    posted asks (unanswered (ops.after_ask c.me (quorum c) a c.ops)) (post c e) None (forget s n.outbox)
+    (subst (λ (l : List Asked). KeepsAnswers asks l (table.remove n.outbox.answers s))
+    (sym (ask_unanswered c.me (quorum c) a c.ops (λ idle. none_waits c.ops.phase c.ops.line idle h.core.line.behind)))
+    (last_answers c.sessions (unanswered c.ops) a n.outbox.answers h.answers))
 step_answers n (event.Retire q) h = h.answers
 
 pub step_lawful : (n : Node) (e : Event) → decides n.core e ≡ None → IsLawfulNode n → IsLawfulNode (step n e)

@@ -9,6 +9,7 @@ pub mod LawfulLaws
 pub mod LineLaws
 pub mod Named
 pub mod Openings
+pub mod OrderLaws
 pub mod RefusalLaws
 pub mod StandingLaws
 mod Restoring

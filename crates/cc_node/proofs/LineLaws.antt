@@ -5,44 +5,46 @@
 --     outputs_rise          they follow one another
 --     outputs_follow_each_other, no_output_twice     so do all outputs along a list
 --     standing_followed     and they follow all that stood before it
-use Rattle.std.proofs.Common.{◌≡◌, ◌≢◌, ℕ, ◌+◌, ◌-◌, ◌<◌, ◌≤◌, Bool, true, false, cond, not, List, [], ◌∷◌, ◌++◌, refl, sym, ap, subst, ◌∙◌, inl, inr, arith}
-use Rattle.std.specs.Prelude.{Option, Some, None, IfSome, T, is_some, ⊤, ◌==◌, nat_lt, if◌then◌else◌}
-use Rattle.std.specs.Bool.{then_some}
+use Rattle.std.proofs.Common.{◌≡◌, ◌≢◌, ℕ, ◌+◌, ◌-◌, ◌<◌, ◌≤◌, Bool, true, false, cond, not, nat_eq, List, [], ◌∷◌, ◌++◌, refl, sym, ap, subst, ◌∙◌, inl, inr, arith}
+use Rattle.std.specs.Prelude.{Option, Some, None, IfSome, T, is_some, ⊤, ◌==◌, nat_lt}
 use Rattle.std.specs.Option.{option_len, option_map_or, unwrap_or}
 use Rattle.std.specs.List.{All, AllByRecursion, AllPairs}
 use Rattle.std.specs.Ordering.{nat_cmp, is_lt}
 use Rattle.std.specs.FinMap as table
 use Rattle.std.specs.FinMap.{is_sorted}
 use Rattle.std.specs.FinMap.Entries.{below_all}
-use Rattle.std.proofs.lemmas.Bool.{cond_both, and_cases, eqb-false, ltb-false, leb-false, or_parts}
+use Rattle.std.proofs.lemmas.Bool.{and_cases, eq-eqb, eqb-false, ltb-false, leb-false, or_parts, or_left, or_right}
 use Rattle.std.proofs.lemmas.Bool.Decides.{eqb_tells, nat_tests}
 use Rattle.std.proofs.lemmas.List.Elements.{All-from_recursion}
 use Rattle.std.proofs.lemmas.List.Kept.{AllPairs-cons}
 use Rattle.cc_views.specs.NatSets as set
 use Rattle.cc_views.specs.NatSets.{NatSet, get-insert_key, lt_both}
 use Rattle.cc_views.specs.MapLaws.{all_entries}
-use Rattle.cc_views.specs.Rows.{ViewMap}
 use Rattle.cc_wire.specs.declared.command.Command.{Command}
 use Rattle.cc_wire.specs.declared.event.Event.{Event}
 use Rattle.cc_wire.specs.declared.event.Event.TheVariants as event
 use Rattle.cc_wire.specs.declared.message.Message.{Message}
-use Rattle.cc_wire.specs.declared.message.Message.TheVariants as message
 use Rattle.cc_wire.specs.declared.output.Output.{Output}
 use Rattle.cc_wire.specs.declared.output.Output.TheVariants as output
 use Rattle.cc_ops.specs.Ops as ops
-use Rattle.cc_ops.specs.Ops.{Ops, Phase, Idle, Storing, Querying, StoringBack}
+use Rattle.cc_ops.specs.Ops.{Ops, unanswered}
+use Rattle.cc_ops.specs.OwnLaws.{AnswersFirst, message_answers, ask_unanswered}
+use Rattle.cc_ops.specs.Waiting.{has_session, AreApart}
+use Rattle.cc_ops.specs.WaitingLaws.{none_last}
+use Rattle.cc_ops.specs.declared.pending.Asked.{Asked}
 use Rattle.cc_ops.specs.declared.pending.Reply.{Reply}
 use Rattle.cc_links.specs.Links.{Link, Links, heard_from, live, IsLinkWithin}
 use Rattle.cc_links.specs.LinkLaws.{LinkGoesOn, get-live}
 use Rattle.cc_sessions.specs.Sessions.{Requests, last_request, is_repeat, is_stale}
 use Rattle.cc_node.specs.declared.made.LinkAck.{LinkAck}
 use Rattle.cc_node.specs.Core as core
-use Rattle.cc_node.specs.Core.{Core, quorum, next, post, reply, outputs, sends, send_post, send_ack, send_reply, live_links}
+use Rattle.cc_node.specs.Core.{Core, quorum, asked_of, next, post, reply, outputs, sends, send_post, send_ack, send_reply, live_links}
 use Rattle.cc_node.specs.Refusals.{decides}
 use Rattle.cc_node.specs.Node.{Node, step, line, HasOutput, IsLawful}
 use Rattle.cc_node.specs.Lines.{Follows}
-use Rattle.cc_node.specs.Lawful.{IsPhaseOf, pending_session, IsLawfulCore, IsLawfulNode}
-use Rattle.cc_node.proofs.KeptLaws.{same_some, reply_pending, ask_pending}
+use Rattle.cc_node.specs.Lawful.{IsLastOf, IsLawfulCore, IsLawfulNode}
+use Rattle.cc_node.proofs.KeptLaws.{same_some}
+use Rattle.cc_node.proofs.KnownLaws.{all_last, none_waits}
 use Rattle.cc_node.proofs.LawfulLaws.{links_go_on, hears_now, request_now, step_lawful}
 use Rattle.cc_node.proofs.RefusalLaws.{takes_delivery, takes_ask}
 
@@ -86,14 +88,15 @@ record IsSent (ls : Links) (posts to number : ℕ) : Type 0 where
   there : table.get ls to ≡ Some link
   posted : number ≤ posts - link.start
 
-record IsAnswered (ss : Requests) (phase : Phase) (s request : ℕ) : Type 0 where
+-- asks are those that aren't answered yet
+record IsAnswered (ss : Requests) (asks : List Asked) (s request : ℕ) : Type 0 where
   begun : request ≤ last_request ss s
-  ended : pending_session phase ≡ Some s → request < last_request ss s
+  ended : has_session s asks ≡ true → request < last_request ss s
 
 abbrev IsPast : Core → Output → Type 0
 IsPast c (output.Send to number m) = IsSent c.links c.posts to number
 IsPast c (output.Ack to number) = number ≤ heard_from to c.links
-IsPast c (output.Reply s request a) = IsAnswered c.sessions c.ops.phase s request
+IsPast c (output.Reply s request a) = IsAnswered c.sessions (unanswered c.ops) s request
 
 -- ---- sends
 
@@ -218,42 +221,30 @@ ack_past c (event.Deliver from n m) = (subst (λ k. k ≤ heard_from from (next 
 
 -- ---- replies
 
--- a reply ends the pending operation, which was asked for by its session's last request
-record Ends (ss : Requests) (before after : Phase) (r : Reply) : Type 0 where
+-- a reply answers the first of the asks that aren't answered, which is its session's last request and its only one
+record Ends (ss : Requests) (before after : List Asked) (r : Reply) : Type 0 where
   last : table.get ss r.session ≡ Some r.request
-  pending : pending_session before ≡ Some r.session
-  done : pending_session after ≡ None
+  pending : has_session r.session before ≡ true
+  done : has_session r.session after ≡ false
 
-ack_ends : (ls : Links) (ss : Requests) (v : ViewMap) (phase : Phase) → IsPhaseOf ls ss phase → IfSome (ops.reply_in v phase) (Ends ss phase (ops.after_ack phase))
-ack_ends ls ss v Idle h = tt
-ack_ends ls ss v (Storing p) h =
-    elim (ops.is_last p) as (λ b. IfSome (then_some b (ops.told p v)) (Ends ss (Storing p) (if b then Idle else Storing (ops.counted p)))) [
-      | true ↦ record { last = h.0.session; pending = refl; done = refl }
-      | false ↦ tt
-    ]
-ack_ends ls ss v (Querying p) h = tt
-ack_ends ls ss v (StoringBack p seen) h =
-    elim (ops.is_last p) as (λ b. IfSome (then_some b (ops.told p seen)) (Ends ss (StoringBack p seen) (if b then Idle else StoringBack (ops.counted p) seen))) [
-      | true ↦ record { last = h.0.session; pending = refl; done = refl }
-      | false ↦ tt
-    ]
+first_ends : (ss : Requests) (before after : List Asked) (o : Option Reply) → AnswersFirst before after o → AreApart before → AllByRecursion (IsLastOf ss) before
+    → IfSome o (Ends ss before after)
+first_ends ss before after None e apart last = tt
+first_ends ss before after (Some r) e apart last =
+    let a = e.0 in
+    let is_last : table.get ss a.session ≡ Some a.request = (subst (AllByRecursion (IsLastOf ss)) e.1 last).0 in
+    let there : has_session r.session (a ∷ after) ≡ true = or_left _ _ (eq-eqb r.session a.session (sym e.2)) in
+    record {
+      last = ap (table.get ss) (sym e.2) ∙ is_last ∙ ap (λ (q : ℕ). Some q) e.3;
+      pending = ap (has_session r.session) e.1 ∙ there;
+      done = subst (λ (s : ℕ). has_session s after ≡ false) e.2 (subst AreApart e.1 apart).0;
+    }
 
-reply_ends : (ls : Links) (ss : Requests) (me quorum : ℕ) (m : Message) (s : Ops) → IsPhaseOf ls ss s.phase → IfSome (ops.reply_of me m s) (Ends ss s.phase (ops.after_message me quorum m s).phase)
-reply_ends ls ss me quorum (message.Enter q) s h = tt
-reply_ends ls ss me quorum (message.EnterEcho c v j q) s h = tt
-reply_ends ls ss me quorum (message.Join q) s h = tt
-reply_ends ls ss me quorum (message.JoinEcho q) s h = tt
-reply_ends ls ss me quorum (message.Leave q) s h = tt
-reply_ends ls ss me quorum (message.LeaveEcho q) s h = tt
-reply_ends ls ss me quorum (message.Query tag q) s h = tt
-reply_ends ls ss me quorum (message.QueryReply v tag q) s h = tt
-reply_ends ls ss me quorum (message.Store v tag q) s h = tt
-reply_ends ls ss me quorum (message.StoreAck tag q) s h =
-    elim (ops.is_own me tag q s)
-    as (λ b. IfSome (if b then ops.reply_in s.view s.phase else None) (Ends ss s.phase (if b then record s { phase = ops.after_ack s.phase } else s).phase)) [
-      | true ↦ ack_ends ls ss s.view s.phase h
-      | false ↦ tt
-    ]
+reply_ends : (c : Core) (m : Message) → IsLawfulCore c
+    → IfSome (ops.reply_of c.me m c.ops) (Ends c.sessions (unanswered c.ops) (unanswered (ops.after_message c.me (quorum c) m c.ops)))
+reply_ends c m h =
+    first_ends c.sessions (unanswered c.ops) (unanswered (ops.after_message c.me (quorum c) m c.ops)) (ops.reply_of c.me m c.ops) (message_answers c.me (quorum c) m c.ops)
+    h.line.apart (all_last c.links c.sessions c.ops.phase c.ops.line h.phase h.line.last)
 
 each_reply : (P : Output → Type 0) (r : Option Reply) → IfSome r (λ r. P (output.Reply r.session r.request r.answer)) → AllByRecursion P (send_reply r)
 each_reply P None h = tt
@@ -262,9 +253,9 @@ each_reply P (Some r) h = (h, tt)
 last_is : (ss : Requests) (s r : ℕ) → table.get ss s ≡ Some r → last_request ss s ≡ r
 last_is ss s r e = ap (λ o. unwrap_or o 0) e
 
-request_below : (ss : Requests) (before after : Phase) (s request : ℕ) (r : Reply) → IsAnswered ss before s request → Ends ss before after r → s ≡ r.session → request < r.request
+request_below : (ss : Requests) (before after : List Asked) (s request : ℕ) (r : Reply) → IsAnswered ss before s request → Ends ss before after r → s ≡ r.session → request < r.request
 request_below ss before after s request r past ends same =
-    let less : request < last_request ss s = past.ended (ends.pending ∙ ap Some (sym same)) in
+    let less : request < last_request ss s = past.ended (ap (λ (k : ℕ). has_session k before) same ∙ ends.pending) in
     let last : last_request ss s ≡ r.request = ap (last_request ss) same ∙ last_is ss r.session r.request ends.last in
     subst (λ n. request < n) last less
 
@@ -275,16 +266,17 @@ reply_follows c (event.Acked peer n) x h past = tt
 reply_follows c (event.Ask s r k) x h past = tt
 reply_follows c (event.Retire q) x h past = tt
 reply_follows c (event.Deliver from n m) (output.Send to number k) h past =
-    each_reply (Follows (output.Send to number k)) (ops.reply_of c.me m c.ops) (if_more (ops.reply_of c.me m c.ops) (Ends c.sessions c.ops.phase (ops.after_message c.me (quorum c) m c.ops).phase) (λ r. ⊤) (λ r ends. tt) (reply_ends c.links c.sessions c.me (quorum c) m c.ops h.phase))
+    each_reply (Follows (output.Send to number k)) (ops.reply_of c.me m c.ops) (if_more (ops.reply_of c.me m c.ops) (Ends c.sessions (unanswered c.ops) (unanswered (ops.after_message c.me (quorum c) m c.ops))) (λ r. ⊤) (λ r ends. tt) (reply_ends c m h))
 reply_follows c (event.Deliver from n m) (output.Ack to number) h past =
-    each_reply (Follows (output.Ack to number)) (ops.reply_of c.me m c.ops) (if_more (ops.reply_of c.me m c.ops) (Ends c.sessions c.ops.phase (ops.after_message c.me (quorum c) m c.ops).phase) (λ r. ⊤) (λ r ends. tt) (reply_ends c.links c.sessions c.me (quorum c) m c.ops h.phase))
+    each_reply (Follows (output.Ack to number)) (ops.reply_of c.me m c.ops) (if_more (ops.reply_of c.me m c.ops) (Ends c.sessions (unanswered c.ops) (unanswered (ops.after_message c.me (quorum c) m c.ops))) (λ r. ⊤) (λ r ends. tt) (reply_ends c m h))
 reply_follows c (event.Deliver from n m) (output.Reply s request a) h past =
-    let after = (ops.after_message c.me (quorum c) m c.ops).phase in
-    each_reply (Follows (output.Reply s request a)) (ops.reply_of c.me m c.ops) (if_more (ops.reply_of c.me m c.ops) (Ends c.sessions c.ops.phase after) (λ r. s ≡ r.session → request < r.request)
-    (λ r ends same. request_below c.sessions c.ops.phase after s request r past ends same) (reply_ends c.links c.sessions c.me (quorum c) m c.ops h.phase))
+    let after = unanswered (ops.after_message c.me (quorum c) m c.ops) in
+    each_reply (Follows (output.Reply s request a)) (ops.reply_of c.me m c.ops) (if_more (ops.reply_of c.me m c.ops) (Ends c.sessions (unanswered c.ops) after) (λ r. s ≡ r.session → request < r.request)
+    (λ r ends same. request_below c.sessions (unanswered c.ops) after s request r past ends same) (reply_ends c m h))
 
-none_pending : (s : ℕ) (o : Option ℕ) → o ≡ None → o ≡ Some s → ⊥
-none_pending s o e t = cc
+both_ways : (b : Bool) → b ≡ false → b ≡ true → ⊥
+both_ways true e t = cc
+both_ways false e t = cc
 
 reply_past : (c : Core) (e : Event) → IsLawfulCore c → AllByRecursion (IsPast (next c e)) (send_reply (reply c e))
 unfolding next
@@ -294,39 +286,30 @@ reply_past c (event.Acked peer n) h = tt
 reply_past c (event.Ask s r k) h = tt
 reply_past c (event.Retire q) h = tt
 reply_past c (event.Deliver from n m) h =
-    let after = (ops.after_message c.me (quorum c) m c.ops).phase in
-    each_reply (IsPast (next c (event.Deliver from n m))) (ops.reply_of c.me m c.ops) (if_more (ops.reply_of c.me m c.ops) (Ends c.sessions c.ops.phase after)
+    let after = unanswered (ops.after_message c.me (quorum c) m c.ops) in
+    each_reply (IsPast (next c (event.Deliver from n m))) (ops.reply_of c.me m c.ops) (if_more (ops.reply_of c.me m c.ops) (Ends c.sessions (unanswered c.ops) after)
     (λ r. IsAnswered c.sessions after r.session r.request)
     (λ r ends. record {
       begun = subst (λ k. r.request ≤ k) (sym (last_is c.sessions r.session r.request ends.last)) (omega arith);
-      ended = λ t. absurd (none_pending r.session (pending_session after) ends.done t);
+      ended = λ t. absurd (both_ways (has_session r.session after) ends.done t);
     })
-    (reply_ends c.links c.sessions c.me (quorum c) m c.ops h.phase))
+    (reply_ends c m h))
 
-ack_pending : (phase : Phase) (x : ℕ) → pending_session (ops.after_ack phase) ≡ Some x → pending_session phase ≡ Some x
-ack_pending Idle x e = e
-ack_pending (Storing p) x e =
-    cond_both (ops.is_last p) Idle (Storing (ops.counted p)) (λ t. pending_session t ≡ Some x → pending_session (Storing p) ≡ Some x) (λ _ t. cc) (λ _ t. t) e
-ack_pending (Querying p) x e = e
-ack_pending (StoringBack p seen) x e =
-    cond_both (ops.is_last p) Idle (StoringBack (ops.counted p) seen) (λ t. pending_session t ≡ Some x → pending_session (StoringBack p seen) ≡ Some x) (λ _ t. cc) (λ _ t. t) e
+still_there : (x : ℕ) (before after : List Asked) (o : Option Reply) → AnswersFirst before after o → has_session x after ≡ true → has_session x before ≡ true
+still_there x before after None e h = ap (has_session x) (sym e) ∙ h
+still_there x before after (Some r) e h = ap (has_session x) e.1 ∙ or_right _ _ h
 
--- a message begins no operation
-message_pending : (me quorum : ℕ) (m : Message) (s : Ops) (x : ℕ) → pending_session (ops.after_message me quorum m s).phase ≡ Some x → pending_session s.phase ≡ Some x
-message_pending me quorum (message.Enter q) s x e = e
-message_pending me quorum (message.EnterEcho c v j q) s x e = e
-message_pending me quorum (message.Join q) s x e = e
-message_pending me quorum (message.JoinEcho q) s x e = e
-message_pending me quorum (message.Leave q) s x e = e
-message_pending me quorum (message.LeaveEcho q) s x e = e
-message_pending me quorum (message.Query tag q) s x e = e
-message_pending me quorum (message.QueryReply v tag q) s x e =
-    cond_both (ops.is_own me tag q s) (ops.after_reply quorum v s.phase s) s (λ t. pending_session t.phase ≡ Some x → pending_session s.phase ≡ Some x)
-    (λ _ t. sym (reply_pending quorum v s.phase s refl) ∙ t) (λ _ t. t) e
-message_pending me quorum (message.Store v tag q) s x e = e
-message_pending me quorum (message.StoreAck tag q) s x e =
-    cond_both (ops.is_own me tag q s) (record s { phase = ops.after_ack s.phase }) s (λ t. pending_session t.phase ≡ Some x → pending_session s.phase ≡ Some x)
-    (λ _ t. ack_pending s.phase x t) (λ _ t. t) e
+-- a message brings no ask
+message_there : (me quorum : ℕ) (m : Message) (s : Ops) (x : ℕ) → has_session x (unanswered (ops.after_message me quorum m s)) ≡ true → has_session x (unanswered s) ≡ true
+message_there me quorum m s x h = still_there x (unanswered s) (unanswered (ops.after_message me quorum m s)) (ops.reply_of me m s) (message_answers me quorum m s) h
+
+-- one more ask is of its own session
+there_before : (s : ℕ) (asks : List Asked) (a : Asked) → nat_eq s a.session ≡ false → has_session s (asks ++ a ∷ []) ≡ true → has_session s asks ≡ true
+there_before s asks a apart h =
+    elim (has_session s asks) as (λ b. has_session s asks ≡ b → has_session s asks ≡ true) [
+      | true ↦ λ e. e
+      | false ↦ λ e. absurd (both_ways (has_session s (asks ++ a ∷ [])) (none_last s asks a e apart) h)
+    ] refl
 
 last_none : (o : Option ℕ) → is_some o ≡ false → unwrap_or o 0 ≡ 0
 last_none None e = refl
@@ -345,16 +328,17 @@ request_rises ss s r fresh new =
       | inr e ↦ let apart : r ≡ last_request ss s → ⊥ = eqb-false r (last_request ss s) e in omega (arith, apart)
     ]
 
-answered_asked : (c : Core) (y r : ℕ) (k : Command) (s request : ℕ) → decides c (event.Ask y r k) ≡ None → IsAnswered c.sessions c.ops.phase s request
-    → IsAnswered (next c (event.Ask y r k)).sessions (next c (event.Ask y r k)).ops.phase s request
+answered_asked : (c : Core) (y r : ℕ) (k : Command) (s request : ℕ) → decides c (event.Ask y r k) ≡ None → IsLawfulCore c → IsAnswered c.sessions (unanswered c.ops) s request
+    → IsAnswered (next c (event.Ask y r k)).sessions (unanswered (next c (event.Ask y r k)).ops) s request
 unfolding next
-answered_asked c y r k s request d past =
+answered_asked c y r k s request d h past =
     let e = event.Ask y r k in
+    let a = asked_of y r k in
     let takes = takes_ask c y r k d in
     let above : last_request c.sessions y < r = request_rises c.sessions y r takes.repeat takes.new in
     let old : request ≤ last_request c.sessions s = past.begun in
-    let pending : pending_session (next c e).ops.phase ≡ Some y = ask_pending c.me (quorum c) (record { session = y; request = r; command = k }) c.ops in
-    elim (eqb_tells s y) as (λ _. IsAnswered (next c e).sessions (next c e).ops.phase s request) [
+    let more : unanswered (next c e).ops ≡ unanswered c.ops ++ a ∷ [] = ask_unanswered c.me (quorum c) a c.ops (λ idle. none_waits c.ops.phase c.ops.line idle h.line.behind) in
+    elim (eqb_tells s y) as (λ _. IsAnswered (next c e).sessions (unanswered (next c e).ops) s request) [
       | inl t ↦
           let now : last_request (next c e).sessions s ≡ r = ap (last_request (next c e).sessions) t.1 ∙ request_now c.sessions y r in
           let was : last_request c.sessions s ≡ last_request c.sessions y = ap (last_request c.sessions) t.1 in
@@ -362,18 +346,22 @@ answered_asked c y r k s request d past =
       | inr t ↦
           let same : last_request (next c e).sessions s ≡ last_request c.sessions s =
           ap (λ o. unwrap_or o 0) (get-insert_key c.sessions y r s ∙ ap (λ b. cond b (Some r) (table.get c.sessions s)) t.0) in
-          record { begun = omega arith; ended = λ now. absurd (t.1 (same_some s y (sym now ∙ pending))) }
+          record {
+            begun = omega arith;
+            ended = λ now.
+                let less : request < last_request c.sessions s = past.ended (there_before s (unanswered c.ops) a t.0 (sym (ap (has_session s) more) ∙ now)) in omega (arith, less, same);
+          }
     ]
 
-answered_stays : (c : Core) (e : Event) (s request : ℕ) → decides c e ≡ None → IsAnswered c.sessions c.ops.phase s request
-    → IsAnswered (next c e).sessions (next c e).ops.phase s request
+answered_stays : (c : Core) (e : Event) (s request : ℕ) → decides c e ≡ None → IsLawfulCore c → IsAnswered c.sessions (unanswered c.ops) s request
+    → IsAnswered (next c e).sessions (unanswered (next c e).ops) s request
 unfolding next
-answered_stays c event.Enter s request d past = past
-answered_stays c event.Leave s request d past = past
-answered_stays c (event.Acked peer n) s request d past = past
-answered_stays c (event.Deliver from n m) s request d past = record { begun = past.begun; ended = λ t. past.ended (message_pending c.me (quorum c) m c.ops s t) }
-answered_stays c (event.Ask y r k) s request d past = answered_asked c y r k s request d past
-answered_stays c (event.Retire q) s request d past = past
+answered_stays c event.Enter s request d h past = past
+answered_stays c event.Leave s request d h past = past
+answered_stays c (event.Acked peer n) s request d h past = past
+answered_stays c (event.Deliver from n m) s request d h past = record { begun = past.begun; ended = λ t. past.ended (message_there c.me (quorum c) m c.ops s t) }
+answered_stays c (event.Ask y r k) s request d h past = answered_asked c y r k s request d h past
+answered_stays c (event.Retire q) s request d h past = past
 
 -- ---- all outputs of an event
 
@@ -390,11 +378,11 @@ outputs_past c e h =
     (each_post (IsPast (next c e)) (next c e) (post c e) (λ m made q l there. record { link = l; there = there; posted = omega arith })))
     (reply_past c e h)
 
-past_stays : (c : Core) (e : Event) (x : Output) → decides c e ≡ None → IsPast c x → IsPast (next c e) x
-past_stays c e (output.Send to number m) d past = sent_stays c e to number d past
-past_stays c e (output.Ack to number) d past =
+past_stays : (c : Core) (e : Event) (x : Output) → decides c e ≡ None → IsLawfulCore c → IsPast c x → IsPast (next c e) x
+past_stays c e (output.Send to number m) d h past = sent_stays c e to number d past
+past_stays c e (output.Ack to number) d h past =
     let up : heard_from to c.links ≤ heard_from to (next c e).links = heard_goes c.posts (table.get c.links to) (table.get (next c e).links to) (links_go_on c e d to) in omega (arith, past)
-past_stays c e (output.Reply s request a) d past = answered_stays c e s request d past
+past_stays c e (output.Reply s request a) d h past = answered_stays c e s request d h past
 
 ack_then : (c : Core) (k : Option LinkAck) (p : Option Message) → AllFollow (send_ack k) (send_post c p)
 ack_then c None p = tt
@@ -436,7 +424,7 @@ unfolding step
 line_follows n [] x h d past = tt
 line_follows n (e ∷ es) x h d past =
     all_both (Follows x) (outputs n.core e) (line (step n e) es) (outputs_follow n.core e x d.0 h.core past)
-    (line_follows (step n e) es x (step_lawful n e d.0 h) d.1 (past_stays n.core e x d.0 past))
+    (line_follows (step n e) es x (step_lawful n e d.0 h) d.1 (past_stays n.core e x d.0 h.core past))
 
 line_rises : (n : Node) (es : List Event) → IsLawfulNode n → IsLawful n es → EachRises (line n es)
 unfolding step
@@ -461,7 +449,7 @@ standing_past n (output.Ack to heard) h s =
     let now : heard_from to n.core.links ≡ heard = ap (λ o. option_map_or (λ (l : Link). l.heard) o 0) s.1 ∙ s.2 in omega (arith, now)
 standing_past n (output.Reply x r a) h s = record {
   begun = omega (arith, last_is n.core.sessions x r s.1);
-  ended = λ t. absurd ((h.answers x (ap is_some s.0)).1 t);
+  ended = λ t. absurd (both_ways (has_session x (unanswered n.core.ops)) (h.answers x (ap is_some s.0)).1 t);
 }
 
 pub outputs_follow_each_other : (n : Node) (es : List Event) → IsLawfulNode n → IsLawful n es → AllPairs Follows (line n es)

@@ -2,7 +2,7 @@
 --     takes_delivery, takes_ack, takes_ask, takes_retire     what each check that passed says
 --     takes_any                                no post is too many, and no counter goes past its limit
 --     stays_within, none_overruns              a counter that isn't spent stays within its limit
-use Rattle.std.proofs.Common.{◌≡◌, ℕ, ◌+◌, ◌-◌, ◌≤◌, Bool, true, false, not, ◌&&◌, nat_lt, nat_le, List, [], ◌∷◌, refl, inl, inr, arith}
+use Rattle.std.proofs.Common.{◌≡◌, ℕ, ◌+◌, ◌-◌, ◌≤◌, Bool, true, false, not, ◌&&◌, ◌||◌, nat_lt, nat_le, List, [], ◌∷◌, length, refl, inl, inr, arith}
 use Rattle.std.specs.Prelude.{Option, Some, None, is_some, ◌==◌}
 use Rattle.std.specs.Option.{option_map_or}
 use Rattle.std.specs.Bool.{then_some}
@@ -18,13 +18,14 @@ use Rattle.cc_wire.specs.declared.refusal.Refusal.{Refusal}
 use Rattle.cc_wire.specs.declared.refusal.Refusal.TheVariants as refusal
 use Rattle.cc_wire.specs.Refusals.{first_of}
 use Rattle.cc_ops.specs.Commands.{finds_no_room}
-use Rattle.cc_ops.specs.Ops.{is_idle}
+use Rattle.cc_ops.specs.Ops.{is_idle, unanswered, mine_at_last}
+use Rattle.cc_ops.specs.Waiting.{line_limit, has_session}
 use Rattle.cc_links.specs.Links.{heard_from, awaits_ack}
 use Rattle.cc_sessions.specs.Sessions as requests
 use Rattle.cc_sessions.specs.Sessions.{last_request, is_stale, is_skip}
 use Rattle.cc_node.specs.Core.{Core, next, post, lowest, ids_of, with_links}
 use Rattle.cc_outbox.specs.Outbox.{post_limit}
-use Rattle.cc_node.specs.Refusals.{left, already_entered, not_entered, outbox_full, spent, any_overruns, row_overruns, reasons, decides}
+use Rattle.cc_node.specs.Refusals.{left, already_entered, not_entered, busy, outbox_full, spent, any_overruns, row_overruns, reasons, decides, decides_within}
 
 all_none : (rs : List (Option Refusal)) → first_of rs ≡ None → AllByRecursion (λ r. r ≡ None) rs
 all_none [] h = tt
@@ -56,8 +57,8 @@ pub record TakesAsk (c : Core) (s r : ℕ) (command : Command) : Type 0 where
   pub repeat : requests.is_repeat c.sessions s r ≡ false
   pub new : is_stale c.sessions s r ≡ false
   pub next : is_skip c.sessions s r ≡ false
-  pub idle : not (is_idle c.ops.phase) ≡ false
-  pub room : finds_no_room c.ops.mine command ≡ false
+  pub free : (not (is_idle c.ops.phase) && (nat_le line_limit (length c.ops.line) || has_session s (unanswered c.ops))) ≡ false
+  pub room : finds_no_room (mine_at_last c.ops) command ≡ false
   pub fits : Fits c (event.Ask s r command)
 
 pub record TakesRetire (c : Core) (q : ℕ) : Type 0 where
@@ -71,18 +72,18 @@ fits_after c e a b h =
     record { posts = fails refusal.OutboxFull _ all.0; counts = fails refusal.Spent _ all.1.0 }
 
 pub takes_enter : (c : Core) → decides c event.Enter ≡ None → Fits c event.Enter
-unfolding decides
+unfolding decides decides_within
 takes_enter c h = fits_after c event.Enter (left c) (already_entered c) h
 
 pub takes_leave : (c : Core) → decides c event.Leave ≡ None → Fits c event.Leave
-unfolding decides
+unfolding decides decides_within
 takes_leave c h = fits_after c event.Leave (left c) (not_entered c) h
 
 pub takes_delivery : (c : Core) (from n : ℕ) (m : Message) → decides c (event.Deliver from n m) ≡ None → TakesDelivery c from n m
-unfolding decides
+unfolding decides decides_within
 takes_delivery c from n m h =
     let e = event.Deliver from n m in
-    let all = (all_none (reasons c e) h).1.1 in
+    let all = (all_none (reasons line_limit c e) h).1.1 in
     record {
       new = fails (refusal.Old (heard_from from c.links)) _ all.0;
       next = fails (refusal.Gap (heard_from from c.links)) _ all.1.0;
@@ -91,32 +92,37 @@ takes_delivery c from n m h =
     }
 
 pub takes_ack : (c : Core) (peer n : ℕ) → decides c (event.Acked peer n) ≡ None → TakesAck c peer n
-unfolding decides
+unfolding decides decides_within
 takes_ack c peer n h =
     let e = event.Acked peer n in
-    let all = all_none (reasons c e) h in
+    let all = all_none (reasons line_limit c e) h in
     record { awaited = fails refusal.NothingToAck _ all.0; fits = record { posts = refl; counts = fails refusal.Spent _ all.1.0 } }
 
 pub takes_ask : (c : Core) (s r : ℕ) (command : Command) → decides c (event.Ask s r command) ≡ None → TakesAsk c s r command
-unfolding decides
+unfolding decides decides_within
 takes_ask c s r command h =
     let e = event.Ask s r command in
-    let all = (all_none (reasons c e) h).1.1.1 in
+    let all = (all_none (reasons line_limit c e) h).1.1.1 in
     let rest = all.1.1 in
     record {
       sessions = fails refusal.TooManySessions _ all.0;
       repeat = fails refusal.Repeat _ all.1.0;
       new = fails (refusal.Stale (last_request c.sessions s)) _ rest.0;
       next = fails (refusal.Skip (last_request c.sessions s)) _ rest.1.0;
-      idle = fails refusal.Busy _ rest.1.1.0;
+      free = fails refusal.Busy _ rest.1.1.0;
       room = fails refusal.SetFull _ rest.1.1.1.0;
       fits = record { posts = fails refusal.OutboxFull _ rest.1.1.1.1.0; counts = fails refusal.Spent _ rest.1.1.1.1.1.0 };
     }
 
+-- where no more than so many asks may wait, the node isn't busy
+pub free_within : (limit : ℕ) (c : Core) (s r : ℕ) (command : Command) → decides_within limit c (event.Ask s r command) ≡ None → busy limit c s ≡ None
+unfolding decides_within
+free_within limit c s r command h = (all_none (reasons limit c (event.Ask s r command)) h).1.1.1.1.1.1.1.0
+
 pub takes_retire : (c : Core) (q : ℕ) → decides c (event.Retire q) ≡ None → TakesRetire c q
-unfolding decides
+unfolding decides decides_within
 takes_retire c q h =
-    let all = (all_none (reasons c (event.Retire q)) h).1.1.1 in
+    let all = (all_none (reasons line_limit c (event.Retire q)) h).1.1.1 in
     record { nodes = fails refusal.TooManyNodes _ all.0; fits = record { posts = refl; counts = fails refusal.Spent _ all.1.0 } }
 
 pub takes_any : (c : Core) (e : Event) → decides c e ≡ None → Fits c e

@@ -1,15 +1,16 @@
 -- Tests of rows, and what they say of the tables that the rows make.
 --     entries_pass                       a test of each entry, and what then holds at each key
---     ids_within, view_within, answers_within     rows that all name a key of another table
+--     ids_within, view_within            rows that all name a key of another table
 --     links_pass, sessions_pass          rows within their bounds
---     has_answer, answers_kept, answers_free       which answers are kept
+--     answers_finished, asks_pass        which answers are kept; asks that are their sessions' last requests
 use Rattle.std.proofs.Common.{◌≡◌, ℕ, ◌-◌, ◌<◌, ◌≤◌, Bool, true, false, not, ◌&&◌, List, [], ◌∷◌, map, refl, sym, ap, subst, ◌∙◌}
-use Rattle.std.specs.Prelude.{◌↔◌, Option, Some, None, IfSome, IsTrue, is_some, option_map}
+use Rattle.std.specs.Prelude.{◌↔◌, ◌==◌, Option, Some, None, IfSome, IsTrue, is_some}
+use Rattle.std.specs.Option.{option_map_or}
 use Rattle.std.specs.List.{list_all, AllByRecursion}
 use Rattle.std.specs.Ordering.{nat_cmp}
 use Rattle.std.specs.FinMap as table
 use Rattle.std.specs.FinMap.{FinMap}
-use Rattle.std.proofs.lemmas.Bool.{and_parts, and_from, leb-true, le-leb, ltb-true, lt-ltb}
+use Rattle.std.proofs.lemmas.Bool.{and_parts, and_from, eqb-true, eq-eqb, leb-true, le-leb, ltb-true, lt-ltb, not-true, not_from_false}
 use Rattle.cc_views.specs.Limits.{counter_limit}
 use Rattle.cc_views.specs.MapLaws.{all_entries, each_entry}
 use Rattle.cc_views.specs.NatSets as set
@@ -17,7 +18,6 @@ use Rattle.cc_views.specs.NatSets.{NatSet, IsWithin}
 use Rattle.cc_views.specs.Rows as views
 use Rattle.cc_views.specs.Rows.{ViewMap}
 use Rattle.cc_views.specs.declared.row.Row.{Row}
-use Rattle.cc_wire.specs.declared.answer.Answer.{Answer}
 use Rattle.cc_links.specs.Links.{Link, Links, IsLinkWithin, LinksWithin}
 use Rattle.cc_links.specs.Rows as links
 use Rattle.cc_links.specs.Rows.{link_of}
@@ -28,9 +28,10 @@ use Rattle.cc_sessions.specs.declared.session_row.SessionRow.{SessionRow}
 use Rattle.cc_outbox.specs.Outbox.{Outbox}
 use Rattle.cc_outbox.specs.Rows as kept
 use Rattle.cc_outbox.specs.declared.kept_answer.KeptAnswer.{KeptAnswer}
-use Rattle.cc_ops.specs.Ops.{Phase}
-use Rattle.cc_node.specs.Lawful.{SessionsWithin, KeepsAnswers, pending_session}
-use Rattle.cc_node.specs.Parts.{is_link_within, is_request_within}
+use Rattle.cc_ops.specs.Waiting.{has_session}
+use Rattle.cc_ops.specs.declared.pending.Asked.{Asked}
+use Rattle.cc_node.specs.Lawful.{SessionsWithin, IsLastOf, KeepsAnswers}
+use Rattle.cc_node.specs.Parts.{is_link_within, is_request_within, is_last_of}
 
 list_all-map : {X Y : Type 0} (p : Y → Bool) (f : X → Y) (xs : List X) → list_all p (map f xs) ≡ list_all (λ x. p (f x)) xs
 list_all-map p f [] = refl
@@ -81,9 +82,6 @@ ids_within s n = rows_tested (λ q. table.contains_key n q) (λ (e : ℕ × Unit
 pub view_within : {Y : Type 0} (v : ViewMap) (n : FinMap nat_cmp Y) → IsTrue (list_all (λ (row : Row). table.contains_key n row.node) (views.rows_of v)) ↔ IsWithin v n
 view_within v n = rows_tested (λ (row : Row). table.contains_key n row.node) views.row_of (table.entries v) (IsWithin v n) (keys_within v n)
 
-pub answers_within : {Y : Type 0} (o : Outbox) (n : FinMap nat_cmp Y) → IsTrue (list_all (λ (row : KeptAnswer). table.contains_key n row.session) (kept.answers_of o)) ↔ IsWithin o.answers n
-answers_within o n = rows_tested (λ (row : KeptAnswer). table.contains_key n row.session) kept.row_of (table.entries o.answers) (IsWithin o.answers n) (keys_within o.answers n)
-
 -- ---- bounds
 
 link_passes : (posts : ℕ) (l : Link) → IsTrue (is_link_within posts l) → IsLinkWithin posts l
@@ -121,39 +119,33 @@ sessions_pass ss =
       λ h. pass.1 (λ s. if_some_more (table.get ss s) (λ last. (0 < last) × (last ≤ counter_limit)) (λ last. IsTrue (is_request_within last)) request_passed (h s)),
     )
 
--- ---- kept answers
+-- ---- kept answers, and asks that wait
 
-found_in : {X Y : Type 0} (f : Y → X) (r : Option Y) (o : Option X) → option_map f r ≡ o → is_some o ≡ is_some r
-found_in f None o e = sym (ap is_some e)
-found_in f (Some y) o e = sym (ap is_some e)
+-- kept answers are of sessions that have a request, and no ask that isn't answered
+abbrev pub is_finished : Requests → List Asked → ℕ → Bool
+is_finished ss asks q = table.contains_key ss q && not (has_session q asks)
 
--- whether an answer is found is whether one is kept
-pub has_answer : {Y : Type 0} (f : Y → Answer) (r : Option Y) (m : FinMap nat_cmp Answer) (s : ℕ) → option_map f r ≡ table.get m s → table.contains_key m s ≡ is_some r
-has_answer f r m s e = found_in f r (table.get m s) e
+pub answers_finished : (o : Outbox) (ss : Requests) (asks : List Asked)
+    → IsTrue (list_all (λ (row : KeptAnswer). is_finished ss asks row.session) (kept.answers_of o)) ↔ KeepsAnswers ss asks o.answers
+answers_finished o ss asks =
+    let pass = entries_pass (λ q _. is_finished ss asks q) o.answers in
+    rows_tested (λ (row : KeptAnswer). is_finished ss asks row.session) kept.row_of (table.entries o.answers) (KeepsAnswers ss asks o.answers) (
+      λ h q there. let both = and_parts _ _ (at_some (table.get o.answers q) (IsTrue (is_finished ss asks q)) (pass.0 h q) there) in (both.0, not-true _ both.1),
+      λ h. pass.1 (λ q. if_some (table.get o.answers q) (IsTrue (is_finished ss asks q)) (λ there. and_from _ _ (h q there).0 (not_from_false _ (h q there).1))),
+    )
 
-same_session : (pending : Option ℕ) (s q : ℕ) → pending ≡ Some s → pending ≡ Some q → s ≡ q
-same_session pending s q a b = cc
+last_passes : (o : Option ℕ) (r : ℕ) → IsTrue (option_map_or (λ last. last == r) o false) ↔ (o ≡ Some r)
+last_passes None r = (λ h. cc, λ h. cc)
+last_passes (Some last) r = (λ h. ap (λ (n : ℕ). Some n) (eqb-true last r h), λ h. eq-eqb last r (same_last last r h))
+  where
+    same_last : (x y : ℕ) → Some x ≡ Some y → x ≡ y
+    same_last x y e = cc
 
-kept_apart : (b gone : Bool) → b ≡ not gone → gone ≡ true → b ≡ true → ⊥
-kept_apart b true e h k = cc
-kept_apart b false e h k = cc
-
-apart_kept : (b gone : Bool) → b ≡ not gone → (b ≡ true → ⊥) → gone ≡ true
-apart_kept b true e h = refl
-apart_kept b false e h = absurd (h e)
-
--- where an operation pends, its session has no kept answer
-pub answers_kept : (ss : Requests) (phase : Phase) (m : FinMap nat_cmp Answer) (s : ℕ) (gone : Bool) → IsWithin m ss → pending_session phase ≡ Some s → table.contains_key m s ≡ not gone
-    → IsTrue gone ↔ KeepsAnswers ss phase m
-answers_kept ss phase m s gone within pends is = (
-  λ h q there. (
-    within q there,
-    λ pends_there. kept_apart (table.contains_key m s) gone is h
-        (ap (table.contains_key m) (same_session (pending_session phase) s q pends pends_there) ∙ there),
-  ),
-  λ keeps. apart_kept (table.contains_key m s) gone is (λ there. (keeps s there).1 pends),
-)
-
--- where none pends, each session may have one
-pub answers_free : (ss : Requests) (phase : Phase) (m : FinMap nat_cmp Answer) → IsWithin m ss → pending_session phase ≡ None → KeepsAnswers ss phase m
-answers_free ss phase m within none q there = (within q there, λ pends. let both : None ≡ Some q = sym none ∙ pends in absurd cc)
+pub asks_pass : (ss : Requests) (asks : List Asked) → IsTrue (list_all (is_last_of ss) asks) ↔ AllByRecursion (IsLastOf ss) asks
+asks_pass ss [] = (λ h. tt, λ h. refl)
+asks_pass ss (a ∷ asks) =
+    let one = last_passes (table.get ss a.session) a.request in
+    let others = asks_pass ss asks in (
+      λ h. let both = and_parts _ _ h in (one.0 both.0, others.0 both.1),
+      λ h. and_from _ _ (one.1 h.0) (others.1 h.1),
+    )

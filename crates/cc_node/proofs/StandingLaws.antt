@@ -4,9 +4,8 @@
 --     get-above                   the posts above a number
 use Rattle.std.proofs.Common.{◌≡◌, ℕ, ◌+◌, ◌-◌, ◌<◌, ◌≤◌, ◌⊎◌, Bool, true, false, cond, not, nat_eq, nat_lt, List, [], ◌∷◌, ◌++◌, refl, sym, ap, subst, ◌∙◌, inl, inr, arith}
 use Rattle.std.specs.Prelude.{Option, Some, None, IfSome, is_some}
-use Rattle.std.specs.Bool.{then_some}
 use Rattle.std.specs.Option.{option_len, option_map_or}
-use Rattle.std.specs.List.{Contains}
+use Rattle.std.specs.List.{Contains, AllByRecursion}
 use Rattle.std.specs.Ordering.{nat_cmp}
 use Rattle.std.specs.Cmp.{nat_cmp_total, unsigned_tied}
 use Rattle.std.specs.FinMap as table
@@ -16,26 +15,26 @@ use Rattle.std.proofs.lemmas.Bool.Decides.{eqb_tells}
 use Rattle.std.proofs.lemmas.List.Elements.{Contains-append_left, Contains-append_right}
 use Rattle.cc_views.specs.NatSets as set
 use Rattle.cc_views.specs.NatSets.{get-insert_key}
-use Rattle.cc_views.specs.Rows.{ViewMap}
 use Rattle.cc_wire.specs.declared.answer.Answer.{Answer}
 use Rattle.cc_wire.specs.declared.event.Event.{Event}
 use Rattle.cc_wire.specs.declared.event.Event.TheVariants as event
 use Rattle.cc_wire.specs.declared.message.Message.{Message}
-use Rattle.cc_wire.specs.declared.message.Message.TheVariants as message
 use Rattle.cc_wire.specs.declared.output.Output.{Output}
 use Rattle.cc_wire.specs.declared.output.Output.TheVariants as output
 use Rattle.cc_ops.specs.Ops as ops
-use Rattle.cc_ops.specs.Ops.{Ops, Phase, Idle, Storing, Querying, StoringBack}
+use Rattle.cc_ops.specs.OwnLaws.{AnswersFirst, message_answers}
+use Rattle.cc_ops.specs.declared.pending.Asked.{Asked}
 use Rattle.cc_ops.specs.declared.pending.Reply.{Reply}
 use Rattle.cc_links.specs.Links.{Link, Links, with_row, add_all, hear, heard_from}
 use Rattle.cc_links.specs.LinkLaws.{LinkGoesOn, get-live}
 use Rattle.cc_sessions.specs.Sessions.{Requests}
-use Rattle.cc_outbox.specs.Outbox.{Outbox}
+use Rattle.cc_outbox.specs.Outbox.{Outbox, forget}
 use Rattle.cc_node.specs.Core as core
-use Rattle.cc_node.specs.Core.{ids_of, next, post, reply, outputs, sends, send_post, send_ack, send_reply, lowest, live_links}
+use Rattle.cc_node.specs.Core.{Core, quorum, ids_of, next, post, reply, outputs, sends, send_post, send_ack, send_reply, lowest, live_links}
 use Rattle.cc_node.specs.Refusals.{decides}
 use Rattle.cc_node.specs.Node.{Node, step, after, line, keep, add, forget_asked, HasOutput, MayBeOut, IsLawful}
-use Rattle.cc_node.specs.Lawful.{IsPhaseOf, IsLawfulNode}
+use Rattle.cc_node.specs.Lawful.{IsLastOf, IsLawfulCore, IsLawfulNode}
+use Rattle.cc_node.proofs.KnownLaws.{all_last}
 use Rattle.cc_node.proofs.KeptLaws.{same_some, posts_forget}
 use Rattle.cc_node.proofs.LawfulLaws.{links_go_on, left_grows, add_all_heard, hears_now, step_lawful}
 
@@ -208,35 +207,19 @@ step_ack n (event.Retire q) to heard s =
 
 -- ---- answers
 
-either_some : {X : Type 0} (Q : X → Type 0) (b : Bool) (x y : Option X) → IfSome x Q → IfSome y Q → IfSome (cond b x y) Q
-either_some Q true x y h k = h
-either_some Q false x y h k = k
-
-if_then : {X : Type 0} (Q : X → Type 0) (b : Bool) (x : X) → Q x → IfSome (then_some b x) Q
-if_then Q true x h = h
-if_then Q false x h = tt
-
 abbrev IsLast : Requests → Reply → Type 0
 IsLast ss r = table.get ss r.session ≡ Some r.request
 
-reply_in_last : (ls : Links) (ss : Requests) (v : ViewMap) (phase : Phase) → IsPhaseOf ls ss phase → IfSome (ops.reply_in v phase) (IsLast ss)
-reply_in_last ls ss v Idle h = tt
-reply_in_last ls ss v (Storing p) h = if_then (IsLast ss) (ops.is_last p) (ops.told p v) h.0.session
-reply_in_last ls ss v (Querying p) h = tt
-reply_in_last ls ss v (StoringBack p seen) h = if_then (IsLast ss) (ops.is_last p) (ops.told p seen) h.0.session
+first_is_last : (ss : Requests) (before after : List Asked) (o : Option Reply) → AnswersFirst before after o → AllByRecursion (IsLastOf ss) before → IfSome o (IsLast ss)
+first_is_last ss before after None e h = tt
+first_is_last ss before after (Some r) e h =
+    let last : table.get ss (e.0).session ≡ Some (e.0).request = (subst (AllByRecursion (IsLastOf ss)) e.1 h).0 in
+    ap (table.get ss) (sym e.2) ∙ last ∙ ap (λ (q : ℕ). Some q) e.3
 
-reply_last : (ls : Links) (ss : Requests) (me : ℕ) (m : Message) (s : Ops) → IsPhaseOf ls ss s.phase → IfSome (ops.reply_of me m s) (IsLast ss)
-reply_last ls ss me (message.Enter q) s h = tt
-reply_last ls ss me (message.EnterEcho c v j q) s h = tt
-reply_last ls ss me (message.Join q) s h = tt
-reply_last ls ss me (message.JoinEcho q) s h = tt
-reply_last ls ss me (message.Leave q) s h = tt
-reply_last ls ss me (message.LeaveEcho q) s h = tt
-reply_last ls ss me (message.Query tag q) s h = tt
-reply_last ls ss me (message.QueryReply v tag q) s h = tt
-reply_last ls ss me (message.Store v tag q) s h = tt
-reply_last ls ss me (message.StoreAck tag q) s h =
-    either_some (IsLast ss) (ops.is_own me tag q s) (ops.reply_in s.view s.phase) None (reply_in_last ls ss s.view s.phase h) tt
+reply_last : (c : Core) (m : Message) → IsLawfulCore c → IfSome (ops.reply_of c.me m c.ops) (IsLast c.sessions)
+reply_last c m h =
+    first_is_last c.sessions (ops.unanswered c.ops) (ops.unanswered (ops.after_message c.me (quorum c) m c.ops)) (ops.reply_of c.me m c.ops) (message_answers c.me (quorum c) m c.ops)
+    (all_last c.links c.sessions c.ops.phase c.ops.line h.phase h.line.last)
 
 answers_add : (p : Option Message) (r : Option Reply) (o : Outbox) → (keep r (add p o)).answers ≡ (keep r o).answers
 answers_add None r o = refl
@@ -268,7 +251,7 @@ step_reply n event.Leave x q a h s = inl s
 step_reply n (event.Deliver from k m) x q a h s =
     let c = n.core in
     let e = event.Deliver from k m in
-    elim (kept_or_told c.sessions (reply c e) n.outbox x q a (reply_last c.links c.sessions c.me m c.ops h.core.phase)
+    elim (kept_or_told c.sessions (reply c e) n.outbox x q a (reply_last c m h.core)
     (ap (λ o. table.get o x) (sym (answers_add (post c e) (reply c e) n.outbox)) ∙ s.0) s.1)
     as (λ _. HasOutput n (output.Reply x q a) ⊎ Contains (outputs n.core e) (output.Reply x q a)) [
       | inl old ↦ inl (old, s.1)
@@ -277,11 +260,13 @@ step_reply n (event.Deliver from k m) x q a h s =
 step_reply n (event.Acked peer k) x q a h s = inl s
 step_reply n (event.Ask y r k) x q a h s =
     let c = n.core in
+    let e = event.Ask y r k in
+    let kept : table.get (table.remove n.outbox.answers y) x ≡ Some a = ap (λ m. table.get m x) (sym (answers_add (post c e) None (forget y n.outbox))) ∙ s.0 in
     elim (nat_eq x y) as (λ b. nat_eq x y ≡ b → HasOutput n (output.Reply x q a) ⊎ Contains (outputs n.core (event.Ask y r k)) (output.Reply x q a)) [
       | true ↦ λ t.
-          let gone : None ≡ Some a = ap (λ b. cond b None (table.get n.outbox.answers x)) (sym t) ∙ sym (get-remove_key n.outbox.answers y x) ∙ s.0 in cc
+          let gone : None ≡ Some a = ap (λ b. cond b None (table.get n.outbox.answers x)) (sym t) ∙ sym (get-remove_key n.outbox.answers y x) ∙ kept in cc
       | false ↦ λ t. inl (
-        ap (λ b. cond b None (table.get n.outbox.answers x)) (sym t) ∙ sym (get-remove_key n.outbox.answers y x) ∙ s.0,
+        ap (λ b. cond b None (table.get n.outbox.answers x)) (sym t) ∙ sym (get-remove_key n.outbox.answers y x) ∙ kept,
         ap (λ b. cond b (Some r) (table.get c.sessions x)) (sym t) ∙ sym (get-insert_key c.sessions y r x) ∙ s.1,
       )
     ] refl

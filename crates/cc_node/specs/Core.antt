@@ -1,13 +1,15 @@
 -- The core of a node, and what one event makes of it and puts out.
 --     Core            the plain state
+--     begun C e       the ask that an event begins, if it begins one
 --     next C e        the state after an event
 --     made C e        the acknowledgement, the post and the answer that it makes
 --     outputs C e     what is put out for it, in order
-use Rattle.std.specs.Prelude.{ℕ, ◌+◌, ◌-◌, List, [], ◌∷◌, ◌++◌, map, Option, Some, None}
+use Rattle.std.specs.Prelude.{ℕ, ◌+◌, ◌-◌, List, [], ◌∷◌, ◌++◌, map, Option, Some, None, option_map}
 use Rattle.std.specs.Option.{option_len, option_or}
 use Rattle.std.specs.FinMap as table
 use Rattle.cc_views.specs.NatSets as set
 use Rattle.cc_changes.specs.declared.fraction.Fraction.{Fraction}
+use Rattle.cc_wire.specs.declared.command.Command.{Command}
 use Rattle.cc_wire.specs.declared.event.Event.{Event}
 use Rattle.cc_wire.specs.declared.event.Event.TheVariants as event
 use Rattle.cc_wire.specs.declared.message.Message.{Message}
@@ -19,6 +21,7 @@ use Rattle.cc_ops.specs.Ops as ops
 use Rattle.cc_links.specs.Links as links
 use Rattle.cc_links.specs.Links.{Link, Links}
 use Rattle.cc_sessions.specs.Sessions.{Requests}
+use Rattle.cc_ops.specs.declared.pending.Asked.{Asked}
 use Rattle.cc_ops.specs.declared.pending.Reply.{Reply}
 use Rattle.cc_node.specs.declared.made.LinkAck.{LinkAck}
 use Rattle.cc_node.specs.declared.made.Made.{Made}
@@ -65,6 +68,18 @@ with_message m c = record c {
   ops = ops.after_message c.me (quorum c) m c.ops;
 }
 
+abbrev pub asked_of : ℕ → ℕ → Command → Asked
+asked_of s r command = record { session = s; request = r; command = command }
+
+-- the ask that an event begins, if it begins one: itself, or one that waited for the last acknowledgement
+abbrev pub begun : Core → Event → Option Asked
+begun c event.Enter = None
+begun c event.Leave = None
+begun c (event.Deliver from n m) = ops.begun_by c.me m c.ops
+begun c (event.Acked peer n) = None
+begun c (event.Ask s r command) = ops.begun_by_ask (asked_of s r command) c.ops
+begun c (event.Retire q) = None
+
 -- the state after an event, its post not yet counted
 abbrev pub handled : Core → Event → Core
 handled c event.Enter = record c { churn = churn.with_entered c.me c.churn }
@@ -72,7 +87,7 @@ handled c event.Leave = record c { churn = churn.with_left c.me c.churn }
 handled c (event.Deliver from n m) = with_message m (with_heard from n (with_links (from ∷ ids_of m) c))
 handled c (event.Acked peer n) = record c { links = links.ack peer n c.links }
 handled c (event.Ask s r command) = record c {
-  ops = ops.after_ask c.me (quorum c) (record { session = s; request = r; command = command }) c.ops;
+  ops = ops.after_ask c.me (quorum c) (asked_of s r command) c.ops;
   sessions = table.insert c.sessions s r;
 }
 handled c (event.Retire q) = record (with_links (q ∷ []) c) { churn = churn.with_left q c.churn }
@@ -90,7 +105,7 @@ post c event.Leave = Some (message.Leave c.me)
 post c (event.Deliver from n m) = post_to m c (handled c (event.Deliver from n m))
 post c (event.Acked peer n) = None
 post c (event.Ask s r command) =
-    Some (ops.first_post c.me (record { session = s; request = r; command = command }) (handled c (event.Ask s r command)).ops)
+    option_map (λ asked. ops.first_post c.me asked (handled c (event.Ask s r command)).ops) (begun c (event.Ask s r command))
 post c (event.Retire q) = None
 
 unfoldable pub next : Core → Event → Core

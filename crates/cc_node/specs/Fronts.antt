@@ -9,7 +9,7 @@ use Rattle.std.proofs.lemmas.Nat.{from_be_bytes-to_be_bytes_8}
 use Rattle.std.proofs.lemmas.List.{append_assoc, append-nil, take_at, drop_at, set_at, set-set, set-get_or}
 use Rattle.cc_wire.specs.declared.event.Event.{Event}
 use Rattle.cc_node.specs.Node.{Node, after, IsLawful}
-use Rattle.cc_node.specs.Sides.{OPEN, VERSION, IsArmed, generation_of, SpellsRecord, SpellsRecords, SpellsBatch, StandsBehind, events_of, IsFront, Holds}
+use Rattle.cc_node.specs.Sides.{OPEN, IsArmed, generation_of, SpellsRecord, SpellsRecords, SpellsBatch, StandsBehind, events_of, IsFront, Holds}
 use Rattle.cc_node.specs.Histories.{after-append, IsLawful-append}
 
 -- one batch more
@@ -38,6 +38,8 @@ front_more bytes generation node body events front spelled lawful = record {
   batches = front.batches ++ events ∷ [];
   head = front.head;
   records = front.records ++ OPEN ∷ body;
+  version = front.version;
+  known = front.known;
   parts = ap (λ (l : List ℕ). l ++ OPEN ∷ body) front.parts ∙ append_assoc front.head front.records (OPEN ∷ body);
   head_spelled = front.head_spelled;
   records_spelled = records_push front.records front.batches body events front.records_spelled spelled;
@@ -115,7 +117,7 @@ generation_held bytes generation node place holds =
     let front = holds.is_front in
     let head = front.head_spelled in
     let number = to_be_bytes w64 generation in
-    let tail = VERSION ∷ (to_be_bytes w32 (length head.state) ++ head.state) in
+    let tail = front.version ∷ (to_be_bytes w32 (length head.state) ++ head.state) in
     let all : bytes ≡ OPEN ∷ (number ++ (tail ++ (front.records ++ holds.gate ∷ holds.rest))) =
     holds.parts
     ∙ ap (λ (l : List ℕ). l ++ holds.gate ∷ holds.rest) (front.parts ∙ ap (λ (l : List ℕ). l ++ front.records) head.parts)
@@ -133,7 +135,7 @@ pub held_armed : (bytes : List ℕ) (generation : ℕ) (node : Node) (place : �
 held_armed bytes generation node place holds =
     let front = holds.is_front in
     let head = front.head_spelled in
-    let rest = to_be_bytes w64 generation ++ VERSION ∷ (to_be_bytes w32 (length head.state) ++ head.state) in
+    let rest = to_be_bytes w64 generation ++ front.version ∷ (to_be_bytes w32 (length head.state) ++ head.state) in
     let all : bytes ≡ ((OPEN ∷ rest) ++ front.records) ++ holds.gate ∷ holds.rest =
     holds.parts ∙ ap (λ (l : List ℕ). l ++ holds.gate ∷ holds.rest) (front.parts ∙ ap (λ (l : List ℕ). l ++ front.records) head.parts) in
     ap (λ (l : List ℕ). get_or l 0 0) all

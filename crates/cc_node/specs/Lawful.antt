@@ -1,23 +1,27 @@
 -- Which states a node can be in.
 --     IsLawfulCore, IsLawfulNode         a core, and a node with what it keeps
---     IsPhaseOf, pending_session         an operation pends for its session's last request
+--     IsPhaseOf                          an operation pends for its session's last request
+--     IsLineOf                           asks wait, each for its session's last request, and no two of one session
 --     SessionsWithin, CountsWithin       counters are within their limit
 --     KeepsAnswers                       for which sessions an answer is kept
-use Rattle.std.specs.Prelude.{◌≡◌, ℕ, ◌<◌, ◌≤◌, IsTrue, IsFalse, Option, Some, None, ⊤, IfSome}
+use Rattle.std.specs.Prelude.{◌≡◌, ℕ, ◌<◌, ◌≤◌, IsTrue, IsFalse, List, length, Some, ⊤, IfSome}
+use Rattle.std.specs.List.{AllByRecursion}
 use Rattle.std.specs.Ordering.{nat_cmp}
 use Rattle.std.specs.FinMap as table
 use Rattle.std.specs.FinMap.{FinMap}
 use Rattle.cc_changes.specs.ChangeLaws.{IsAmong}
-use Rattle.cc_views.specs.NatSets as set
 use Rattle.cc_views.specs.NatSets.{IsWithin}
 use Rattle.cc_changes.specs.Need.{IsShare}
 use Rattle.cc_wire.specs.declared.answer.Answer.{Answer}
 use Rattle.cc_ops.specs.Commands.{is_writing}
+use Rattle.cc_ops.specs.declared.pending.Asked.{Asked}
 use Rattle.cc_ops.specs.declared.pending.Pending.{Pending}
-use Rattle.cc_ops.specs.Ops.{Phase, Idle, Storing, Querying, StoringBack}
+use Rattle.cc_ops.specs.Ops.{Ops, Phase, Idle, Storing, Querying, StoringBack, unanswered}
+use Rattle.cc_ops.specs.Stages.{stage_of, WaitsBehind, HasRoom}
+use Rattle.cc_ops.specs.Waiting.{line_limit, has_session, AreApart}
 use Rattle.cc_links.specs.Links.{Links, LinksWithin}
 use Rattle.cc_sessions.specs.Sessions.{Requests}
-use Rattle.cc_views.specs.Limits.{counter_limit, known_limit, session_limit, set_limit}
+use Rattle.cc_views.specs.Limits.{counter_limit, known_limit, session_limit}
 use Rattle.cc_node.specs.Core.{Core, lowest}
 use Rattle.cc_outbox.specs.OutboxLaws.{KeepsPosts}
 use Rattle.cc_node.specs.Node.{Node}
@@ -37,12 +41,16 @@ IsPhaseOf ls sessions (Storing p) = IsPendingIn sessions p × IsTrue (is_writing
 IsPhaseOf ls sessions (Querying p) = IsPendingIn sessions p × IsFalse (is_writing p.asked.command)
 IsPhaseOf ls sessions (StoringBack p seen) = IsPendingIn sessions p × IsFalse (is_writing p.asked.command) × IsWithin seen ls
 
--- the session of the pending operation
-abbrev pub pending_session : Phase → Option ℕ
-pending_session Idle = None
-pending_session (Storing p) = Some p.asked.session
-pending_session (Querying p) = Some p.asked.session
-pending_session (StoringBack p seen) = Some p.asked.session
+-- an ask is its session's last request
+abbrev pub IsLastOf : Requests → Asked → Type 0
+IsLastOf sessions a = table.get sessions a.session ≡ Some a.request
+
+-- asks wait only behind a pending operation, and no two that aren't answered are of one session
+pub record IsLineOf (sessions : Requests) (s : Ops) : Type 0 where
+  pub behind : WaitsBehind (stage_of s.phase) s.line
+  pub few : length s.line ≤ line_limit
+  pub apart : AreApart (unanswered s)
+  pub last : AllByRecursion (IsLastOf sessions) s.line
 
 abbrev pub SessionsWithin : Requests → Type 0
 SessionsWithin sessions = (s : ℕ) → IfSome (table.get sessions s) (λ last. (0 < last) × (last ≤ counter_limit))
@@ -63,19 +71,20 @@ pub record IsLawfulCore (c : Core) : Type 0 where
   pub joined : IsWithin c.churn.changes.joined c.churn.changes.entered
   pub links : LinksWithin c.posts c.links
   pub phase : IsPhaseOf c.links c.sessions c.ops.phase
+  pub line : IsLineOf c.sessions c.ops
   pub sessions : SessionsWithin c.sessions
   pub session_count : table.len c.sessions ≤ session_limit
   pub counts : CountsWithin c
   pub need : c.churn.need ≤ known_limit
-  pub set : set.len c.ops.mine.set ≤ set_limit
+  pub set : HasRoom c.ops.line c.ops.mine
 
--- kept answers are of sessions with a row, and not of the one that is pending
-abbrev pub KeepsAnswers : Requests → Phase → FinMap nat_cmp Answer → Type 0
-KeepsAnswers sessions phase kept =
-    (s : ℕ) → IsTrue (table.contains_key kept s) → IsTrue (table.contains_key sessions s) × (pending_session phase ≡ Some s → ⊥)
+-- kept answers are of sessions with a row, and of none that has an ask which isn't answered
+abbrev pub KeepsAnswers : Requests → List Asked → FinMap nat_cmp Answer → Type 0
+KeepsAnswers sessions asks kept =
+    (s : ℕ) → IsTrue (table.contains_key kept s) → IsTrue (table.contains_key sessions s) × IsFalse (has_session s asks)
 
 pub record IsLawfulNode (n : Node) : Type 0 where
   pub core : IsLawfulCore n.core
   pub last : n.outbox.last ≡ n.core.posts
   pub posts : KeepsPosts (lowest n.core) n.core.posts n.outbox.posts
-  pub answers : KeepsAnswers n.core.sessions n.core.ops.phase n.outbox.answers
+  pub answers : KeepsAnswers n.core.sessions (unanswered n.core.ops) n.outbox.answers

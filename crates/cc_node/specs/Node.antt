@@ -3,7 +3,7 @@
 --     after N es       after a list of events
 --     line N es        all that is put out along the list
 --     HasOutput N o       what a node may put out again
---     IsLawful N es    no event of the list is refused
+--     IsLawful N es    no event of the list is refused;  IsLawfulWithin: nor is it where no more than so many asks wait
 use Rattle.std.specs.Prelude.{◌≡◌, ℕ, ◌-◌, ◌<◌, ◌⊎◌, List, [], ◌∷◌, ◌++◌, Option, Some, None}
 use Rattle.std.specs.List.{Contains}
 use Rattle.std.specs.FinMap as table
@@ -17,7 +17,7 @@ use Rattle.cc_outbox.specs.Outbox as kept
 use Rattle.cc_outbox.specs.Outbox.{Outbox, trim, forget}
 use Rattle.cc_ops.specs.declared.pending.Reply.{Reply}
 use Rattle.cc_node.specs.Core.{Core, next, post, reply, outputs, lowest, live_links}
-use Rattle.cc_node.specs.Refusals.{decides}
+use Rattle.cc_node.specs.Refusals.{decides, decides_within}
 
 pub record Node : Type 0 where
   pub core : Core
@@ -76,3 +76,7 @@ MayBeOut n es o = HasOutput n o ⊎ Contains (line n es) o
 abbrev pub IsLawful : Node → List Event → Type 0
 IsLawful n [] = Unit {0}
 IsLawful n (e ∷ es) = (decides n.core e ≡ None) × IsLawful (step n e) es
+
+abbrev pub IsLawfulWithin : ℕ → Node → List Event → Type 0
+IsLawfulWithin limit n [] = Unit {0}
+IsLawfulWithin limit n (e ∷ es) = (decides_within limit n.core e ≡ None) × IsLawfulWithin limit (step n e) es

@@ -2,9 +2,14 @@
 --     core_of p                the core that has these parts
 --     is_link_within           whether a link's counts fit so many posts
 --     is_request_within        whether a request is one that a session can have
-use Rattle.std.specs.Prelude.{ℕ, ◌-◌, Bool, ◌&&◌, nat_le, nat_lt}
+--     is_last_of               whether an ask is its session's last request
+use Rattle.std.specs.Prelude.{ℕ, ◌-◌, ◌==◌, Bool, false, ◌&&◌, nat_le, nat_lt}
+use Rattle.std.specs.Option.{option_map_or}
+use Rattle.std.specs.FinMap as table
 use Rattle.cc_views.specs.Limits.{counter_limit}
 use Rattle.cc_links.specs.Links.{Link}
+use Rattle.cc_ops.specs.declared.pending.Asked.{Asked}
+use Rattle.cc_sessions.specs.Sessions.{Requests}
 use Rattle.cc_node.specs.Core.{Core}
 use Rattle.cc_node.specs.declared.core_parts.CoreParts.{CoreParts}
 
@@ -25,3 +30,6 @@ is_link_within posts l = nat_le l.start posts && (nat_le l.acked (posts - l.star
 
 abbrev pub is_request_within : ℕ → Bool
 is_request_within last = nat_lt 0 last && nat_le last counter_limit
+
+abbrev pub is_last_of : Requests → Asked → Bool
+is_last_of sessions a = option_map_or (λ last. last == a.request) (table.get sessions a.session) false

@@ -1,4 +1,6 @@
 -- When an event is refused, and why: of the reasons that hold, the first in the order given here.
+--     decides_within limit    the rule by which no more than `limit` asks wait
+--     decides                 the rule, by which no more than 32 do
 use Rattle.std.specs.Prelude.{◌==◌, ℕ, ◌+◌, ◌-◌, Bool, false, ◌&&◌, ◌||◌, not, nat_lt, nat_le, List, [], ◌∷◌, Option, is_some}
 use Rattle.std.specs.Option.{option_map_or}
 use Rattle.std.specs.Bool.{then_some}
@@ -13,6 +15,7 @@ use Rattle.cc_wire.specs.Refusals.{first_of}
 pub use Rattle.cc_wire.specs.Refusals.{decided}
 use Rattle.cc_churn.specs.Refusals as coming
 use Rattle.cc_ops.specs.Refusals as pending
+use Rattle.cc_ops.specs.Waiting.{line_limit}
 use Rattle.cc_links.specs.Links as links
 use Rattle.cc_outbox.specs.Outbox.{post_limit}
 use Rattle.cc_sessions.specs.Sessions as sessions
@@ -59,8 +62,8 @@ stale c s r = then_some (sessions.is_stale c.sessions s r) (refusal.Stale (last_
 abbrev pub skip : Core → ℕ → ℕ → Option Refusal
 skip c s r = then_some (sessions.is_skip c.sessions s r) (refusal.Skip (last_request c.sessions s))
 
-abbrev pub busy : Core → Option Refusal
-busy c = pending.busy c.ops
+abbrev pub busy : ℕ → Core → ℕ → Option Refusal
+busy limit c s = pending.busy limit s c.ops
 
 abbrev pub set_full : Core → Command → Option Refusal
 set_full c command = pending.set_full command c.ops
@@ -87,19 +90,22 @@ abbrev pub spent : Core → Event → Option Refusal
 spent c e = then_some (any_overruns c (next c e) e) refusal.Spent
 
 -- the reasons that may apply to an event, in the order in which they are looked at
-abbrev pub reasons : Core → Event → List (Option Refusal)
-reasons c event.Enter = left c ∷ already_entered c ∷ outbox_full c event.Enter ∷ spent c event.Enter ∷ []
-reasons c event.Leave = left c ∷ not_entered c ∷ outbox_full c event.Leave ∷ spent c event.Leave ∷ []
-reasons c (event.Deliver from n m) =
+abbrev pub reasons : ℕ → Core → Event → List (Option Refusal)
+reasons limit c event.Enter = left c ∷ already_entered c ∷ outbox_full c event.Enter ∷ spent c event.Enter ∷ []
+reasons limit c event.Leave = left c ∷ not_entered c ∷ outbox_full c event.Leave ∷ spent c event.Leave ∷ []
+reasons limit c (event.Deliver from n m) =
     let e = event.Deliver from n m in
     left c ∷ not_entered c ∷ old c from n ∷ gap c from n ∷ too_many_nodes c (from ∷ ids_of m) ∷ outbox_full c e ∷ spent c e ∷ []
-reasons c (event.Acked peer n) = nothing_to_ack c peer n ∷ spent c (event.Acked peer n) ∷ []
-reasons c (event.Ask s r command) =
+reasons limit c (event.Acked peer n) = nothing_to_ack c peer n ∷ spent c (event.Acked peer n) ∷ []
+reasons limit c (event.Ask s r command) =
     let e = event.Ask s r command in
     left c ∷ not_entered c ∷ not_joined c ∷ too_many_sessions c s ∷ repeat c s r ∷ stale c s r ∷ skip c s r
-    ∷ busy c ∷ set_full c command ∷ outbox_full c e ∷ spent c e ∷ []
-reasons c (event.Retire q) = left c ∷ has_gone c q ∷ not_entered c ∷ too_many_nodes c (q ∷ []) ∷ spent c (event.Retire q) ∷ []
+    ∷ busy limit c s ∷ set_full c command ∷ outbox_full c e ∷ spent c e ∷ []
+reasons limit c (event.Retire q) = left c ∷ has_gone c q ∷ not_entered c ∷ too_many_nodes c (q ∷ []) ∷ spent c (event.Retire q) ∷ []
 
--- none, or the reason for which an event is refused
+-- none, or the reason for which an event is refused, where no more than so many asks wait
+unfoldable pub decides_within : ℕ → Core → Event → Option Refusal
+decides_within limit c e = first_of (reasons limit c e)
+
 unfoldable pub decides : Core → Event → Option Refusal
-decides c e = first_of (reasons c e)
+decides c e = decides_within line_limit c e

@@ -1,5 +1,6 @@
 -- What the bytes of a side hold, and what two sides stand for.
 --     OPEN, IsArmed, generation_of         the open gate;  a side that begins with it, and its generation
+--     VERSION, IsVersion                   the version in which states are written;  one that is known
 --     SpellsHead, SpellsRecords, IsFront   a state behind its gate, generation and version;  records behind open gates;  both
 --     SpellsRecord, SpellsBatch            a list of events;  the same, and the closed gate of the next one
 --     Holds, Yields                        a node up to a closed gate;  a side that counts less than a generation
@@ -10,15 +11,18 @@ use Rattle.std.specs.Int.{to_be_bytes, from_be_bytes, w32, w64}
 use Rattle.cc_wire.specs.declared.event.Event.{Event}
 use Rattle.cc_wire.specs.Events.{event_spelling, IsEvent}
 use Rattle.cc_node.specs.Node.{Node, after, IsLawful}
-use Rattle.cc_node.specs.States.{SpellsNode}
+use Rattle.cc_node.specs.States.{has_line, SpellsNode}
 
 -- the gate byte that is open; every other byte is closed
 abbrev pub OPEN : ℕ
 OPEN = 165
 
--- the version of a state's format
+-- the version of the format in which states are written; that without a place for asks that wait is known too
 abbrev pub VERSION : ℕ
-VERSION = 1
+VERSION = 2
+
+abbrev pub IsVersion : ℕ → Type 0
+IsVersion version = (version ≡ 1) ⊎ (version ≡ VERSION)
 
 -- how many events a record has at most, and how many bytes behind its length
 abbrev pub batch_limit : ℕ
@@ -42,7 +46,7 @@ pub record SpellsHead (version : ℕ) (bytes : List ℕ) (generation : ℕ) (sta
   pub from_one : 1 ≤ generation
   pub fits : generation < 2 ^ 64
   pub short : length state < 2 ^ 32
-  pub spelled : SpellsNode state start
+  pub spelled : SpellsNode (has_line version) state start
 
 -- an event behind its size
 abbrev pub sized_spelling : Event → List ℕ
@@ -87,8 +91,10 @@ pub record IsFront (bytes : List ℕ) (generation : ℕ) (node : Node) : Type 0 
   pub batches : List (List Event)
   pub head : List ℕ
   pub records : List ℕ
+  pub version : ℕ
   pub parts : bytes ≡ head ++ records
-  pub head_spelled : SpellsHead VERSION head generation start
+  pub known : IsVersion version
+  pub head_spelled : SpellsHead version head generation start
   pub records_spelled : SpellsRecords records batches
   pub lawful : IsLawful start (events_of batches)
   pub leads_to : node ≡ after start (events_of batches)

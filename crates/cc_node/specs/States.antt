@@ -1,11 +1,12 @@
 -- The bytes of a node's state: its fields in order, and which bytes spell a node.
 --     State                            the fields, in three parts: Membership, Work and Tables
 --     state_spelling, IsState          the one spelling of a state, and which states have one
---     SpellsState bytes s              the bytes spell the state
+--     SpellsState lined bytes s        the bytes spell the state, with a place for asks that wait or without
 --     state_at                         reading a state
 --     node_of s, state_of n            the node of a state, and the state of a node
---     SpellsNode bytes n               the bytes spell the state of a node that can be
-use Rattle.std.specs.Prelude.{◌≡◌, ℕ, ◌-◌, ◌<◌, ◌≤◌, ◌^◌, List, [], ◌∷◌, ◌++◌, length, Ok, Err, nat_lt, ◌==◌, if◌then◌else◌}
+--     has_line version                 whether a version of the format has a place for asks that wait
+--     SpellsNode lined bytes n         the bytes spell the state of a node that can be
+use Rattle.std.specs.Prelude.{◌≡◌, ℕ, ◌-◌, ◌<◌, ◌≤◌, ◌^◌, List, [], ◌∷◌, ◌++◌, length, Ok, Err, nat_lt, Bool, true, false, not, ◌==◌, if◌then◌else◌}
 use Rattle.std.specs.Int.{w16, w32, w64, to_be_bytes}
 use Rattle.std.specs.List.{flat_map, AllByRecursion}
 use Rattle.std.specs.Ordering.{nat_cmp}
@@ -25,8 +26,10 @@ use Rattle.cc_wire.specs.Spelling.{IsId, value_spelling, IsValue, view_spelling,
 use Rattle.cc_wire.specs.Messages.{message_spelling, IsMessage, message_at}
 use Rattle.cc_wire.specs.Answers.{answer_spelling, IsAnswer, answer_at}
 use Rattle.cc_wire.specs.Events.{asked_spelling, IsAsked, asked_at}
+use Rattle.cc_ops.specs.declared.pending.Asked.{Asked}
 use Rattle.cc_ops.specs.declared.pending.Pending.{Pending}
 use Rattle.cc_ops.specs.Ops.{Phase, Idle, Storing, Querying, StoringBack}
+use Rattle.cc_ops.specs.Waiting.{line_limit}
 use Rattle.cc_links.specs.Links.{Link, Links}
 use Rattle.cc_sessions.specs.Sessions.{Requests}
 use Rattle.cc_outbox.specs.Outbox.{Outbox, post_limit}
@@ -44,7 +47,7 @@ pub record Membership : Type 0 where
   pub gamma : Fraction
   pub changes : ChangeSets
 
--- what is stored, how far the own entering has come, and the pending operation
+-- what is stored, how far the own entering has come, the pending operation, and the asks that wait behind it
 pub record Work : Type 0 where
   pub view : ViewMap
   pub number : ℕ
@@ -53,6 +56,7 @@ pub record Work : Type 0 where
   pub echoes : ℕ
   pub need : ℕ
   pub phase : Phase
+  pub line : List Asked
 
 -- what passed between the node and others; of the kept posts the last has the number `posts`
 pub record Tables : Type 0 where
@@ -141,6 +145,54 @@ phase_fields kind =
 unfoldable pub phase_at : Reading Phase
 phase_at bytes = byte_at bytes >>= λ kind. phase_fields kind.0 kind.1
 
+-- ---- the asks that wait: a count, and so many asks. Version 1 has no place for them
+
+-- whether a version has a place for asks that wait
+abbrev pub has_line : ℕ → Bool
+has_line version = not (version == 1)
+
+abbrev pub ask_spelling : Asked → List ℕ
+ask_spelling a = asked_spelling a.session a.request a.command
+
+abbrev pub IsAsk : Asked → Type 0
+IsAsk a = IsAsked a.session a.request a.command
+
+abbrev pub ask_with : (ℕ × ℕ) × Command → Asked
+ask_with f = record { session = f.0.0; request = f.0.1; command = f.1 }
+
+unfoldable pub ask_at : Reading Asked
+ask_at = via ask_with asked_at
+
+abbrev pub asks_at : ℕ → Reading (List Asked)
+asks_at count = items_at (λ _. ask_at) (λ _. 0) count 0
+
+abbrev pub line_spelling : Bool → List Asked → List ℕ
+line_spelling true line = (length line ∷ []) ++ flat_map ask_spelling line
+line_spelling false line = []
+
+-- so few, each in its place; without a place there is none
+pub record IsLine (line : List Asked) : Type 0 where
+  pub fits : length line ≤ line_limit
+  pub each : AllByRecursion IsAsk line
+
+abbrev pub IsLineOf : Bool → List Asked → Type 0
+IsLineOf true line = IsLine line
+IsLineOf false line = line ≡ []
+
+unfoldable pub some_line_at : Reading (List Asked)
+some_line_at bytes = limited line_limit byte_at bytes >>= λ n. asks_at n.0 n.1
+
+abbrev pub line_at : Bool → Reading (List Asked)
+line_at true = some_line_at
+line_at false = via (λ _. []) nothing_at
+
+-- the pending operation, and those behind it
+abbrev pub round_spelling : Bool → Phase → List Asked → List ℕ
+round_spelling lined phase line = phase_spelling phase ++ line_spelling lined line
+
+abbrev pub round_at : Bool → Reading (Phase × List Asked)
+round_at lined = phase_at ⊗ line_at lined
+
 -- ---- the second part
 
 -- the view, the own value under its number, and the tag
@@ -151,10 +203,10 @@ stored_spelling view number mine tag = view_spelling view ++ (to_be_bytes w64 nu
 abbrev pub entering_spelling : ℕ → ℕ → List ℕ
 entering_spelling echoes need = to_be_bytes w64 echoes ++ to_be_bytes w16 need
 
-abbrev pub work_spelling : Work → List ℕ
-work_spelling w = stored_spelling w.view w.number w.mine w.tag ++ (entering_spelling w.echoes w.need ++ phase_spelling w.phase)
+abbrev pub work_spelling : Bool → Work → List ℕ
+work_spelling lined w = stored_spelling w.view w.number w.mine w.tag ++ (entering_spelling w.echoes w.need ++ round_spelling lined w.phase w.line)
 
-pub record IsWork (w : Work) : Type 0 where
+pub record IsWork (lined : Bool) (w : Work) : Type 0 where
   pub view : IsView w.view
   pub number : w.number < 2 ^ 64
   pub mine : IsValue w.mine
@@ -162,6 +214,7 @@ pub record IsWork (w : Work) : Type 0 where
   pub echoes : w.echoes < 2 ^ 64
   pub need : w.need < 2 ^ 16
   pub phase : IsPhase w.phase
+  pub line : IsLineOf lined w.line
 
 abbrev pub stored_at : Reading (ViewMap × (ℕ × (Value × ℕ)))
 stored_at = view_at ⊗ number_at w64 ⊗ value_at ⊗ number_at w64
@@ -169,11 +222,11 @@ stored_at = view_at ⊗ number_at w64 ⊗ value_at ⊗ number_at w64
 abbrev pub entering_at : Reading (ℕ × ℕ)
 entering_at = number_at w64 ⊗ number_at w16
 
-abbrev pub work_with : (ViewMap × (ℕ × (Value × ℕ))) × ((ℕ × ℕ) × Phase) → Work
-work_with f = record { view = f.0.0; number = f.0.1.0; mine = f.0.1.1.0; tag = f.0.1.1.1; echoes = f.1.0.0; need = f.1.0.1; phase = f.1.1 }
+abbrev pub work_with : (ViewMap × (ℕ × (Value × ℕ))) × ((ℕ × ℕ) × (Phase × List Asked)) → Work
+work_with f = record { view = f.0.0; number = f.0.1.0; mine = f.0.1.1.0; tag = f.0.1.1.1; echoes = f.1.0.0; need = f.1.0.1; phase = f.1.1.0; line = f.1.1.1 }
 
-unfoldable pub work_at : Reading Work
-work_at = via work_with (stored_at ⊗ entering_at ⊗ phase_at)
+unfoldable pub work_at : Bool → Reading Work
+work_at lined = via work_with (stored_at ⊗ entering_at ⊗ round_at lined)
 
 -- ---- tables: a count, and rows whose keys rise
 
@@ -282,24 +335,24 @@ tables_at =
 
 -- ---- states
 
-abbrev pub state_spelling : State → List ℕ
-state_spelling s = membership_spelling s.membership ++ (work_spelling s.work ++ tables_spelling s.tables)
+abbrev pub state_spelling : Bool → State → List ℕ
+state_spelling lined s = membership_spelling s.membership ++ (work_spelling lined s.work ++ tables_spelling s.tables)
 
-pub record IsState (s : State) : Type 0 where
+pub record IsState (lined : Bool) (s : State) : Type 0 where
   pub membership : IsMembership s.membership
-  pub work : IsWork s.work
+  pub work : IsWork lined s.work
   pub tables : IsTables s.tables
 
--- the bytes spell the state
-pub record SpellsState (bytes : List ℕ) (s : State) : Type 0 where
-  pub fits : IsState s
-  pub spelled : bytes ≡ state_spelling s
+-- the bytes spell the state, with a place for asks that wait or without
+pub record SpellsState (lined : Bool) (bytes : List ℕ) (s : State) : Type 0 where
+  pub fits : IsState lined s
+  pub spelled : bytes ≡ state_spelling lined s
 
 abbrev pub state_with : Membership × (Work × Tables) → State
 state_with f = record { membership = f.0; work = f.1.0; tables = f.1.1 }
 
-unfoldable pub state_at : Reading State
-state_at = via state_with (membership_at ⊗ work_at ⊗ tables_at)
+unfoldable pub state_at : Bool → Reading State
+state_at lined = via state_with (membership_at ⊗ work_at lined ⊗ tables_at)
 
 -- ---- nodes
 
@@ -309,7 +362,7 @@ core_of s = record {
   beta = s.membership.beta;
   gamma = s.membership.gamma;
   churn = record { changes = s.membership.changes; echoes = s.work.echoes; need = s.work.need };
-  ops = record { view = s.work.view; number = s.work.number; mine = s.work.mine; tag = s.work.tag; phase = s.work.phase };
+  ops = record { view = s.work.view; number = s.work.number; mine = s.work.mine; tag = s.work.tag; phase = s.work.phase; line = s.work.line };
   posts = s.tables.posts;
   links = s.tables.links;
   sessions = s.tables.sessions;
@@ -337,6 +390,7 @@ work_of c = record {
   echoes = c.churn.echoes;
   need = c.churn.need;
   phase = c.ops.phase;
+  line = c.ops.line;
 }
 
 abbrev pub tables_of : Node → Tables
@@ -352,6 +406,6 @@ abbrev pub state_of : Node → State
 state_of n = record { membership = membership_of n.core; work = work_of n.core; tables = tables_of n }
 
 -- the bytes spell the state of a node that can be
-pub record SpellsNode (bytes : List ℕ) (n : Node) : Type 0 where
+pub record SpellsNode (lined : Bool) (bytes : List ℕ) (n : Node) : Type 0 where
   pub lawful : IsLawfulNode n
-  pub state : SpellsState bytes (state_of n)
+  pub state : SpellsState lined bytes (state_of n)

@@ -1,29 +1,27 @@
--- Which events write the node's own value.
---     writes e           how often an event writes it
---     mine_after e v     what an event makes of it
---     mine_along v es    what a list of events makes of it
-use Rattle.std.specs.Prelude.{ℕ, List, [], ◌∷◌, if◌then◌else◌}
-use Rattle.cc_views.specs.declared.value.Value.{Value}
+-- Which asks are accepted along a list of events, and which begin.
+--     asked_by e           the ask that an event is, if it is one
+--     asked_along es       the asks among a list of events, in order
+--     begun_along n es     those that begin along it
+use Rattle.std.specs.Prelude.{List, [], ◌∷◌, Option, Some, None}
 use Rattle.cc_wire.specs.declared.event.Event.{Event}
 use Rattle.cc_wire.specs.declared.event.Event.TheVariants as event
-use Rattle.cc_ops.specs.Commands.{is_writing, written}
+use Rattle.cc_ops.specs.declared.pending.Asked.{Asked}
+use Rattle.cc_ops.specs.Waiting.{led_by}
+use Rattle.cc_node.specs.Core.{asked_of, begun}
+use Rattle.cc_node.specs.Node.{Node, step}
 
-abbrev pub writes : Event → ℕ
-writes event.Enter = 0
-writes event.Leave = 0
-writes (event.Deliver from n m) = 0
-writes (event.Acked peer n) = 0
-writes (event.Ask s r command) = if is_writing command then 1 else 0
-writes (event.Retire q) = 0
+abbrev pub asked_by : Event → Option Asked
+asked_by event.Enter = None
+asked_by event.Leave = None
+asked_by (event.Deliver from n m) = None
+asked_by (event.Acked peer n) = None
+asked_by (event.Ask s r command) = Some (asked_of s r command)
+asked_by (event.Retire q) = None
 
-abbrev pub mine_after : Event → Value → Value
-mine_after event.Enter mine = mine
-mine_after event.Leave mine = mine
-mine_after (event.Deliver from n m) mine = mine
-mine_after (event.Acked peer n) mine = mine
-mine_after (event.Ask s r command) mine = written command mine
-mine_after (event.Retire q) mine = mine
+abbrev pub asked_along : List Event → List Asked
+asked_along [] = []
+asked_along (e ∷ es) = led_by (asked_by e) (asked_along es)
 
-abbrev pub mine_along : Value → List Event → Value
-mine_along mine [] = mine
-mine_along mine (e ∷ es) = mine_along (mine_after e mine) es
+abbrev pub begun_along : Node → List Event → List Asked
+begun_along n [] = []
+begun_along n (e ∷ es) = led_by (begun n.core e) (begun_along (step n e) es)

@@ -3,7 +3,7 @@
 ghost use Rattle.std.specs.Prelude.{◌≡◌, ◌≤◌, ◌↔◌, Some, IsTrue, IsFalse};
 ghost use Rattle.std.specs.List.{list_all};
 ghost use Rattle.std.specs.FinMap as table;
-ghost use Rattle.cc_views.specs.Limits.{known_limit, session_limit, set_limit};
+ghost use Rattle.cc_views.specs.Limits.{known_limit, session_limit};
 ghost use Rattle.cc_views.specs.NatSets as set;
 ghost use Rattle.cc_views.specs.NatSets.{IsWithin};
 ghost use Rattle.cc_views.specs.Rows.{ViewMap};
@@ -12,15 +12,16 @@ ghost use Rattle.cc_links.specs.Links.{LinksWithin};
 ghost use Rattle.cc_links.specs.Rows.{link_of};
 ghost use Rattle.cc_ops.specs.Commands.{is_writing};
 ghost use Rattle.cc_ops.specs.Ops.{IsWaiting, seen_in};
-ghost use Rattle.cc_node.specs.Lawful.{CountsWithin, IsLawfulCore, IsPendingIn, IsPhaseOf, SessionsWithin};
-ghost use Rattle.cc_node.specs.Parts.{core_of, is_link_within, is_request_within};
+ghost use Rattle.cc_ops.specs.Stages.{HasRoom};
+ghost use Rattle.cc_node.specs.Lawful.{CountsWithin, IsLawfulCore, IsLineOf, IsPendingIn, IsPhaseOf, SessionsWithin};
+ghost use Rattle.cc_node.specs.Parts.{core_of, is_link_within, is_request_within, is_last_of};
 
 use cc_changes::{Changes, Fraction};
 use cc_churn::Churn;
 use cc_links::{LinkRow, Links};
-use cc_ops::{Ops, Pending, Stage, is_writing};
+use cc_ops::{Asked, Ops, Pending, Stage, is_writing};
 use cc_sessions::{SessionRow, Sessions};
-use cc_views::{COUNTER_LIMIT, NodeId, NumberSet, Row, View};
+use cc_views::{COUNTER_LIMIT, NodeId, Row, View};
 
 /// What a core is put together from: the state of a node, up to what it keeps to put out again. Not all
 /// parts make a lawful core.
@@ -34,7 +35,7 @@ pub struct CoreParts {
     pub gamma: Fraction,
     /// Who entered, joined and left.
     pub churn: Churn,
-    /// The view, the own value and the pending operation.
+    /// The view, the own value, the pending operation and the asks that wait.
     pub ops: Ops,
     /// How many posts were ever made.
     pub posts: u64,
@@ -76,10 +77,20 @@ impl CoreParts {
         if !phase_fits(&self.links, &self.sessions, &self.ops) {
             return false;
         }
+        if !line_fits(&self.sessions, &self.ops) {
+            return false;
+        }
         if !self.counts_fit() {
             return false;
         }
-        self.sizes_fit()
+        self.need_fits()
+    }
+
+    // Whether no more echoes are needed than nodes are known at most.
+    fn need_fits(&self) -> bool
+        ensures { IsTrue result ↔ (self.now.churn.need ≤ known_limit) }
+    {
+        self.churn.need() <= Links::MAX_ROWS as u64
     }
 
     // Whether no counter is past its limit.
@@ -93,16 +104,6 @@ impl CoreParts {
             self.churn.echoes(),
         ];
         counters.iter().all(|counter| *counter <= COUNTER_LIMIT)
-    }
-
-    // Whether no more echoes are needed than nodes are known at most, and the own set has its room.
-    fn sizes_fit(&self) -> bool
-        ensures { IsTrue result ↔ ((self.now.churn.need ≤ known_limit) × (set.len self.now.ops.mine.set ≤ set_limit)) }
-    {
-        if self.churn.need() > Links::MAX_ROWS as u64 {
-            return false;
-        }
-        self.ops.mine().set.len() <= NumberSet::MAX_LEN
     }
 }
 
@@ -222,8 +223,31 @@ fn is_last_request(sessions: &Sessions, pending: &Pending) -> bool
     requires { IsWaiting pending.now }
     ensures { IsTrue result ↔ IsPendingIn sessions.now pending.now }
 {
-    match sessions.finish(pending.asked.session) {
-        Some(last) => last == pending.asked.request,
+    is_last(sessions, &pending.asked)
+}
+
+// Whether no two asks that aren't answered are of one session, and each that waits is its session's last request. The
+// others don't wait, or wait where they may.
+fn line_fits(sessions: &Sessions, ops: &Ops) -> bool
+    ensures fits { IsTrue result ↔ IsLineOf sessions.now ops.now }
+    ensures room { HasRoom ops.now.line ops.now.mine }
+{
+    let asks = ops.line().asks();
+    ops.are_apart() && are_last_requests(sessions, asks)
+}
+
+fn are_last_requests(sessions: &Sessions, asks: &[Asked]) -> bool
+    ensures { result ≡ list_all (is_last_of sessions.now) asks.now }
+{
+    asks.iter().all(|asked| is_last(sessions, asked))
+}
+
+// Whether the ask is its session's last request.
+fn is_last(sessions: &Sessions, asked: &Asked) -> bool
+    ensures { result ≡ is_last_of sessions.now asked.now }
+{
+    match sessions.finish(asked.session) {
+        Some(last) => last == asked.request,
         None => false,
     }
 }

@@ -1,18 +1,19 @@
 //! The laws of a node's histories. Each is a function with an empty body, whose contract is the law.
 
-ghost use Rattle.std.specs.Prelude.{◌≡◌, ◌≢◌, ◌+◌, ◌++◌, ℕ, List, None};
-ghost use Rattle.std.specs.List.{All, AllPairs, sum_by};
+ghost use Rattle.std.specs.Prelude.{◌≡◌, ◌≢◌, ◌+◌, ◌++◌, ℕ, List, [], None};
+ghost use Rattle.std.specs.List.{All, AllPairs};
 ghost use Rattle.cc_views.specs.Merge.{IsAtMost};
 ghost use Rattle.cc_wire.specs.declared.event.Event.{Event};
 ghost use Rattle.cc_wire.specs.declared.output.Output.{Output};
-ghost use Rattle.cc_node.specs.Core.{Core, next};
-ghost use Rattle.cc_node.specs.Node.{Node, step, after, line, HasOutput, MayBeOut, IsLawful};
-ghost use Rattle.cc_node.specs.Refusals.{decides};
+ghost use Rattle.cc_ops.specs.Waiting.{writes, mine_after, writes_by, written_by};
+ghost use Rattle.cc_node.specs.Core.{Core, begun, next};
+ghost use Rattle.cc_node.specs.Node.{Node, step, after, line, HasOutput, MayBeOut, IsLawful, IsLawfulWithin};
+ghost use Rattle.cc_node.specs.Refusals.{decides, decides_within};
 ghost use Rattle.cc_node.specs.Sides.{SpellsRecord};
 ghost use Rattle.cc_node.specs.Lawful.{IsLawfulNode};
 ghost use Rattle.cc_node.specs.Opening.{Opening, IsOpening, fresh};
 ghost use Rattle.cc_node.specs.Lines.{Follows};
-ghost use Rattle.cc_node.specs.Writes.{writes, mine_after, mine_along};
+ghost use Rattle.cc_node.specs.Writes.{asked_along, begun_along};
 
 /// A node begins lawful, and no event that isn't refused makes it unlawful.
 pub fn lawful_kept()
@@ -27,12 +28,25 @@ pub fn view_only_grows()
     ensures after { (n : Node) (es : List Event) → IsAtMost n.core.ops.view (after n es).core.ops.view }
 {}
 
-/// The own number counts the asks that write the own value, and nothing but their commands changes that value.
+/// The own number counts the writes that begin, and nothing but their commands changes the own value.
 pub fn own_number_counts_writes()
-    ensures number { (c : Core) (e : Event) → (next c e).ops.number ≡ c.ops.number + writes e }
-    ensures value { (c : Core) (e : Event) → (next c e).ops.mine ≡ mine_after e c.ops.mine }
-    ensures number_after { (n : Node) (es : List Event) → (after n es).core.ops.number ≡ n.core.ops.number + sum_by writes es }
-    ensures value_after { (n : Node) (es : List Event) → (after n es).core.ops.mine ≡ mine_along n.core.ops.mine es }
+    ensures number { (c : Core) (e : Event) → (next c e).ops.number ≡ c.ops.number + writes (begun c e) }
+    ensures value { (c : Core) (e : Event) → (next c e).ops.mine ≡ mine_after (begun c e) c.ops.mine }
+    ensures number_after { (n : Node) (es : List Event) → (after n es).core.ops.number ≡ n.core.ops.number + writes_by (begun_along n es) }
+    ensures value_after { (n : Node) (es : List Event) → (after n es).core.ops.mine ≡ written_by (begun_along n es) n.core.ops.mine }
+{}
+
+/// Asks begin in the order in which they were accepted: those that waited at the start and those that were accepted since
+/// are those that began since and those that wait still.
+pub fn asks_begin_in_order()
+    ensures { (n : Node) (es : List Event) → IsLawfulNode n → IsLawful n es → n.core.ops.line ++ asked_along es ≡ begun_along n es ++ (after n es).core.ops.line }
+{}
+
+/// What isn't refused where no ask may wait isn't refused where 32 may; and then none waits.
+pub fn lines_may_grow()
+    ensures event { (c : Core) (e : Event) → decides_within 0 c e ≡ None → decides c e ≡ None }
+    ensures lawful { (n : Node) (es : List Event) → IsLawfulWithin 0 n es → IsLawful n es }
+    ensures none_waits { (n : Node) (es : List Event) → n.core.ops.line ≡ [] → IsLawfulWithin 0 n es → (after n es).core.ops.line ≡ [] }
 {}
 
 /// What a node may put out again stood at the start, or was made for an event since.

@@ -1,17 +1,19 @@
 //! A node: its core, and what it keeps to put out again.
 
-ghost use Rattle.std.specs.Prelude.{◌≡◌, ◌≤◌, ◌<◌, ◌↔◌, None, IfOk, IfSome, OnOk, IsErrOf, IsTrue, is_some};
+ghost use Rattle.std.specs.Prelude.{◌≡◌, ◌≤◌, ◌<◌, ◌↔◌, ◌&&◌, not, None, IfOk, IfSome, OnOk, IsErrOf, IsTrue, is_some};
 ghost use Rattle.std.specs.List.{list_all};
 ghost use Rattle.std.specs.FinMap as table;
 ghost use Rattle.cc_views.specs.Limits.{counter_limit, session_limit};
 ghost use Rattle.cc_churn.specs.Churn as churn;
 ghost use Rattle.cc_links.specs.Links as links;
+ghost use Rattle.cc_ops.specs.Ops.{unanswered};
 ghost use Rattle.cc_ops.specs.Stages.{stage_of};
+ghost use Rattle.cc_ops.specs.Waiting.{has_session};
 ghost use Rattle.cc_outbox.specs.Outbox.{post_limit};
 ghost use Rattle.cc_outbox.specs.OutboxLaws.{KeepsPosts};
 ghost use Rattle.cc_node.specs.declared.opening.Fresh.TheVariants as faults;
 ghost use Rattle.cc_node.specs.Core as machine;
-ghost use Rattle.cc_node.specs.Lawful.{IsLawfulCore, IsLawfulNode, KeepsAnswers, pending_session};
+ghost use Rattle.cc_node.specs.Lawful.{IsLawfulCore, IsLawfulNode, KeepsAnswers};
 ghost use Rattle.cc_node.specs.Node.{step, add, keep, forget_asked};
 ghost use Rattle.cc_node.specs.Opening.{told, fresh, IsOpening};
 ghost use Rattle.cc_node.specs.Parts.{core_of};
@@ -175,37 +177,26 @@ fn keeps_posts(outbox: &Outbox, lowest: u64) -> bool
     outbox.post_count() as u64 == outbox.last() - lowest
 }
 
-// Whether the kept answers are of sessions that have a request, and not of the one whose request is pending.
+// Whether the kept answers are of sessions that have a request, and none that isn't answered.
 fn keeps_answers(outbox: &Outbox, sessions: &Sessions, ops: &Ops) -> bool
-    ensures { IsTrue result ↔ KeepsAnswers sessions.now ops.now.phase outbox.now.answers }
+    ensures { IsTrue result ↔ KeepsAnswers sessions.now (unanswered ops.now) outbox.now.answers }
 {
-    if !have_requests(outbox.answers(), sessions) {
-        return false;
-    }
-    match pending_session(ops) {
-        Some(session) => outbox.answer(session).is_none(),
-        None => true,
-    }
+    are_finished(outbox.answers(), sessions, ops)
 }
 
-fn have_requests(answers: &[KeptAnswer], sessions: &Sessions) -> bool
-    ensures { result ≡ list_all (λ kept. table.contains_key sessions.now kept.session) answers.now }
+fn are_finished(answers: &[KeptAnswer], sessions: &Sessions, ops: &Ops) -> bool
+    ensures { result ≡ list_all (λ kept. table.contains_key sessions.now kept.session && not (has_session kept.session (unanswered ops.now))) answers.now }
 {
     answers
         .iter()
-        .all(|kept| sessions.finish(kept.session).is_some())
+        .all(|kept| is_finished(kept.session, sessions, ops))
 }
 
-fn pending_session(ops: &Ops) -> Option<u64>
-    ensures { result ≡ pending_session ops.now.phase }
+// Whether the session has a request, and none that isn't answered.
+fn is_finished(session: u64, sessions: &Sessions, ops: &Ops) -> bool
+    ensures { result ≡ (table.contains_key sessions.now session && not (has_session session (unanswered ops.now))) }
 {
-    let stage = ops.stage();
-    match stage {
-        Stage::Idle => None,
-        Stage::Storing(pending) => Some(pending.asked.session),
-        Stage::Querying(pending) => Some(pending.asked.session),
-        Stage::StoringBack(pending) => Some(pending.asked.session),
-    }
+    sessions.finish(session).is_some() && !ops.is_unanswered(session)
 }
 
 // Beginning a request forgets the session's kept answer.

@@ -397,7 +397,7 @@ impl Core {
     {
         self.churn.decide_ask(self.me)?;
         self.decide_request(session, request)?;
-        self.ops.decide_ask(command)?;
+        self.ops.decide_ask(session, command)?;
         self.decide_command(request, command)
     }
 
@@ -415,12 +415,12 @@ impl Core {
         }
     }
 
-    // Why the command, under the next request of its session, can't begin, if it can't.
+    // Why the command, under the next request of its session, can't begin, if it can't. One that waits needs nothing yet.
     fn decide_command(&self, request: u64, command: &Command) -> Result<(), Refusal>
         ensures { (s : ℕ) → first_of (reasons.stale self.now s request ∷ reasons.skip self.now s request ∷ []) ≡ None
             → result ≡ decided (first_of (reasons.outbox_full self.now (event.Ask s request command.now) ∷ reasons.spent self.now (event.Ask s request command.now) ∷ [])) }
     {
-        if self.is_outbox_full() {
+        if self.has_no_room(self.ops.is_idle()) {
             return Err(Refusal::OutboxFull);
         }
         if self.ask_is_spent(request, command) {
@@ -437,7 +437,10 @@ impl Core {
         if self.ops.ask_is_spent(command) {
             return true;
         }
-        self.posts == COUNTER_LIMIT || request > COUNTER_LIMIT
+        if self.posts_are_spent(self.ops.is_idle()) {
+            return true;
+        }
+        request > COUNTER_LIMIT
     }
 
     fn decide_retire(&self, node: NodeId) -> Result<(), Refusal>
@@ -529,6 +532,9 @@ impl Core {
         requires { decides self.now (event.Ask session request command.now) ≡ None }
         ensures { IfOk result (λ m. m ≡ machine.made self.now (event.Ask session request command.now)) }
     {
+        if !self.ops.is_idle() {
+            return Ok(Made::nothing());
+        }
         let asked = Asked {
             session,
             request,
@@ -607,9 +613,10 @@ impl Core {
             request,
             command: *command,
         };
+        let made = u64::from(self.ops.is_idle());
         self.ops.ask(self.me, self.churn.quorum(self.beta), &asked);
         self.sessions.begin(session, request);
-        self.posts += 1;
+        self.posts += made;
     }
 
     fn retire(&mut self, node: NodeId)

@@ -1,11 +1,13 @@
--- How the state of a client and server is stored.
-use Rattle.std.specs.Prelude.{◌≡◌, ℕ, zero, suc, refl}
-use Rattle.std.specs.Coded.{Coded, code_by, coded×, coded_ℕ}
+-- How a line of asks, and the state of a client and server, are stored.
+use Rattle.std.specs.Prelude.{◌≡◌, ℕ, zero, suc, List, refl}
+use Rattle.std.specs.Coded.{Coded, code_by, coded_list, coded×, coded_ℕ}
 use Rattle.cc_views.specs.Rows.{ViewMap, view_code, value_code}
 use Rattle.cc_views.specs.declared.value.Value.{Value}
 use Rattle.std.specs.FinMap as map
 use Rattle.cc_wire.specs.declared.command.Command.TheVariants as command
+use Rattle.cc_ops.specs.declared.pending.Asked.{Asked}
 use Rattle.cc_ops.specs.declared.pending.Pending.{Pending}
+use Rattle.cc_ops.specs.contracts.pending.Asked as asked
 use Rattle.cc_ops.specs.contracts.pending.Pending as pending
 use Rattle.cc_ops.specs.Ops.{Phase, Idle, Storing, Querying, StoringBack, Ops}
 
@@ -33,7 +35,12 @@ phase_back (StoringBack p seen) = refl
 abbrev pub phase_code : Coded Phase
 phase_code = code_by (ℕ × (Pending × ViewMap)) (coded× coded_ℕ (coded× (pending.the_row).coded view_code)) phase_fields (λ f. phase_with f.0 f.1.0 f.1.1) phase_back
 
+abbrev pub line_code : Coded (List Asked)
+line_code = coded_list (asked.the_row).coded
+
 abbrev pub ops_code : Coded Ops
 ops_code =
-    code_by (ViewMap × (ℕ × (Value × (ℕ × Phase)))) (coded× view_code (coded× coded_ℕ (coded× value_code (coded× coded_ℕ phase_code))))
-    (λ s. (s.view, (s.number, (s.mine, (s.tag, s.phase))))) (λ p. record { view = p.0; number = p.1.0; mine = p.1.1.0; tag = p.1.1.1.0; phase = p.1.1.1.1 }) (λ _. refl)
+    code_by (ViewMap × (ℕ × (Value × (ℕ × (Phase × List Asked)))))
+    (coded× view_code (coded× coded_ℕ (coded× value_code (coded× coded_ℕ (coded× phase_code line_code)))))
+    (λ s. (s.view, (s.number, (s.mine, (s.tag, (s.phase, s.line))))))
+    (λ p. record { view = p.0; number = p.1.0; mine = p.1.1.0; tag = p.1.1.1.0; phase = p.1.1.1.1.0; line = p.1.1.1.1.1 }) (λ _. refl)

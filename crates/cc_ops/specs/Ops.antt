@@ -1,11 +1,15 @@
 -- The client and the server of the store-collect object.
---     Phase, Ops                   how far the pending operation has come; the view, the own value under its number, the tag and the phase
---     after_ask me quorum a s      a new operation begins
---     after_message me quorum m s  what a message makes of it
+--     Phase, Ops                   how far the pending operation has come; the view, the own value under its number, the tag,
+--                                  the phase, and the asks that wait behind it
+--     with_begun me quorum a s     a new operation begins
+--     after_ask me quorum a s      so it does where none is pending; else the ask waits
+--     after_message me quorum m s  what a message makes of it; the last acknowledgement lets the first ask that waits begin
+--     begun_by_ask, begun_by       the ask that begins, if one does
 --     post_of, first_post          what is posted in return, or as an operation begins
 --     reply_of                     what the client is told
-use Rattle.std.specs.Prelude.{◌==◌, ℕ, ◌+◌, ◌<◌, ◌≤◌, Bool, true, false, ◌&&◌, if◌then◌else◌, []}
-use Rattle.std.specs.Prelude.{Option, Some, None}
+--     unanswered, mine_at_last     the pending ask and those behind it; the own value once all of these have begun
+use Rattle.std.specs.Prelude.{◌==◌, ℕ, ◌+◌, ◌<◌, ◌≤◌, Bool, true, false, ◌&&◌, if◌then◌else◌, List, [], ◌∷◌, ◌++◌}
+use Rattle.std.specs.Prelude.{Option, Some, None, option_map}
 use Rattle.std.specs.Bool.{then_some}
 use Rattle.std.specs.FinMap as map
 use Rattle.cc_views.specs.Limits.{known_limit}
@@ -20,6 +24,7 @@ use Rattle.cc_ops.specs.declared.pending.Asked.{Asked}
 use Rattle.cc_ops.specs.declared.pending.Pending.{Pending}
 use Rattle.cc_ops.specs.declared.pending.Reply.{Reply}
 use Rattle.cc_ops.specs.Commands.{is_writing, written, answer_of}
+use Rattle.cc_ops.specs.Waiting.{first_in, written_by}
 
 -- how far the client's operation has come; the last holds the view that is stored back
 pub data Phase : Type 0 where
@@ -35,13 +40,15 @@ pub record Ops : Type 0 where
   pub mine : Value
   pub tag : ℕ
   pub phase : Phase
+  -- the asks that wait until the pending operation has ended, in the order in which they were accepted
+  pub line : List Asked
 
 abbrev pub nothing_stored : Value
 nothing_stored = record { text = []; max = 0; flag = false; set = set.empty }
 
 -- nothing stored, and no operation pending
 abbrev pub nothing_done : Ops
-nothing_done = record { view = map.empty; number = 0; mine = nothing_stored; tag = 0; phase = Idle }
+nothing_done = record { view = map.empty; number = 0; mine = nothing_stored; tag = 0; phase = Idle; line = [] }
 
 abbrev pub is_idle : Phase → Bool
 is_idle Idle = true
@@ -56,8 +63,9 @@ seen_in (Storing p) = None
 seen_in (Querying p) = None
 seen_in (StoringBack p seen) = Some seen
 
-abbrev pub begun : ℕ → Asked → Pending
-begun quorum asked = record { asked = asked; need = quorum; count = 0 }
+-- a round of an operation, of which no answer has come
+abbrev pub round_of : ℕ → Asked → Pending
+round_of quorum asked = record { asked = asked; need = quorum; count = 0 }
 
 abbrev pub counted : Pending → Pending
 counted p = record p { count = p.count + 1 }
@@ -81,11 +89,21 @@ with_written command s = record s { number = s.number + 1; mine = written comman
 abbrev pub with_own_row : ℕ → Ops → Ops
 with_own_row me s = merged (single (record { node = me; number = s.number; value = s.mine })) s
 
+-- a new operation begins
+abbrev pub with_begun : ℕ → ℕ → Asked → Ops → Ops
+with_begun me quorum asked s =
+    if is_writing asked.command
+    then next_round (Storing (round_of quorum asked)) (with_own_row me (with_written asked.command s))
+    else next_round (Querying (round_of quorum asked)) s
+
+-- where an operation is pending, the ask waits behind the others
 abbrev pub after_ask : ℕ → ℕ → Asked → Ops → Ops
 after_ask me quorum asked s =
-    if is_writing asked.command
-    then next_round (Storing (begun quorum asked)) (with_own_row me (with_written asked.command s))
-    else next_round (Querying (begun quorum asked)) s
+    if is_idle s.phase then with_begun me quorum asked s else record s { line = s.line ++ asked ∷ [] }
+
+-- the ask that an ask begins
+abbrev pub begun_by_ask : Asked → Ops → Option Asked
+begun_by_ask asked s = then_some (is_idle s.phase) asked
 
 -- what an operation begins with
 abbrev pub first_post : ℕ → Asked → Ops → Message
@@ -102,16 +120,28 @@ after_reply quorum v Idle s = s
 after_reply quorum v (Storing p) s = s
 after_reply quorum v (Querying p) s =
     if is_last p
-    then next_round (StoringBack (begun quorum p.asked) (merge s.view v)) (merged v s)
+    then next_round (StoringBack (round_of quorum p.asked) (merge s.view v)) (merged v s)
     else record (merged v s) { phase = Querying (counted p) }
 after_reply quorum v (StoringBack p seen) s = s
 
+-- the operation is done: the first of the asks that wait begins
+abbrev pub after_last : ℕ → ℕ → List Asked → Ops → Ops
+after_last me quorum [] s = record s { phase = Idle }
+after_last me quorum (asked ∷ line) s = with_begun me quorum asked (record s { line = line })
+
 -- one more acknowledgement of the store: with the last one the operation is done
-abbrev pub after_ack : Phase → Phase
-after_ack Idle = Idle
-after_ack (Storing p) = if is_last p then Idle else Storing (counted p)
-after_ack (Querying p) = Querying p
-after_ack (StoringBack p seen) = if is_last p then Idle else StoringBack (counted p) seen
+abbrev pub after_ack : ℕ → ℕ → Phase → Ops → Ops
+after_ack me quorum Idle s = s
+after_ack me quorum (Storing p) s = if is_last p then after_last me quorum s.line s else record s { phase = Storing (counted p) }
+after_ack me quorum (Querying p) s = s
+after_ack me quorum (StoringBack p seen) s = if is_last p then after_last me quorum s.line s else record s { phase = StoringBack (counted p) seen }
+
+-- whether one more acknowledgement ends the operation
+abbrev pub ends_store : Phase → Bool
+ends_store Idle = false
+ends_store (Storing p) = is_last p
+ends_store (Querying p) = false
+ends_store (StoringBack p seen) = is_last p
 
 abbrev pub after_message : ℕ → ℕ → Message → Ops → Ops
 after_message me quorum (message.Enter q) s = s
@@ -123,7 +153,24 @@ after_message me quorum (message.LeaveEcho q) s = s
 after_message me quorum (message.Query tag q) s = s
 after_message me quorum (message.QueryReply v tag q) s = if is_own me tag q s then after_reply quorum v s.phase s else s
 after_message me quorum (message.Store v tag q) s = merged v s
-after_message me quorum (message.StoreAck tag q) s = if is_own me tag q s then record s { phase = after_ack s.phase } else s
+after_message me quorum (message.StoreAck tag q) s = if is_own me tag q s then after_ack me quorum s.phase s else s
+
+-- the ask that begins with one more acknowledgement
+abbrev pub begun_in : Phase → List Asked → Option Asked
+begun_in phase line = if ends_store phase then first_in line else None
+
+-- the ask that a message lets begin
+abbrev pub begun_by : ℕ → Message → Ops → Option Asked
+begun_by me (message.Enter q) s = None
+begun_by me (message.EnterEcho c v from_joined q) s = None
+begun_by me (message.Join q) s = None
+begun_by me (message.JoinEcho q) s = None
+begun_by me (message.Leave q) s = None
+begun_by me (message.LeaveEcho q) s = None
+begun_by me (message.Query tag q) s = None
+begun_by me (message.QueryReply v tag q) s = None
+begun_by me (message.Store v tag q) s = None
+begun_by me (message.StoreAck tag q) s = if is_own me tag q s then begun_in s.phase s.line else None
 
 -- whether a reply ends the query
 abbrev pub ends_query : Phase → Bool
@@ -144,7 +191,8 @@ post_of me is_joined (message.Query tag q) before after = then_some is_joined (m
 post_of me is_joined (message.QueryReply v tag q) before after =
     then_some (is_own me tag q before && ends_query before.phase) (message.Store after.view after.tag me)
 post_of me is_joined (message.Store v tag q) before after = then_some is_joined (message.StoreAck tag q)
-post_of me is_joined (message.StoreAck tag q) before after = None
+post_of me is_joined (message.StoreAck tag q) before after =
+    option_map (λ asked. first_post me asked after) (begun_by me (message.StoreAck tag q) before)
 
 -- the answer of an operation, read from that view
 abbrev pub told : Pending → ViewMap → Reply
@@ -173,3 +221,18 @@ reply_of me (message.StoreAck tag q) s = if is_own me tag q s then reply_in s.vi
 pub record IsWaiting (p : Pending) : Type 0 where
   pub count : p.count < p.need
   pub need : p.need ≤ known_limit
+
+-- what the pending operation was asked by
+abbrev pub asked_in : Phase → List Asked
+asked_in Idle = []
+asked_in (Storing p) = p.asked ∷ []
+asked_in (Querying p) = p.asked ∷ []
+asked_in (StoringBack p seen) = p.asked ∷ []
+
+-- the asks that are not answered yet
+abbrev pub unanswered : Ops → List Asked
+unanswered s = asked_in s.phase ++ s.line
+
+-- the own value once all that wait have begun
+abbrev pub mine_at_last : Ops → Value
+mine_at_last s = written_by s.line s.mine

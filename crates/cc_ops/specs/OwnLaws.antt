@@ -1,8 +1,14 @@
--- What a message and an ask make of the own value and its number.
---     message_keeps            a message leaves both
---     ask_number, ask_mine     a writing ask writes the value, under the next number; a reading one leaves both
-use Rattle.std.specs.Prelude.{◌≡◌, ℕ, ◌+◌, Bool, true, false, if◌then◌else◌, refl}
-use Rattle.std.proofs.Common.{sym, ◌∙◌, add-zero}
+-- What a message and an ask make of the own value, its number and the asks that wait: what the ask that begins makes of them.
+--     .._number, .._mine       a write puts the value under the next number; a read leaves both
+--     .._line                  the ask that begins is the first of those that wait, one that waits stands behind them
+--     .._last                  the value once all that wait have begun
+--     .._unanswered            which asks are pending or wait
+--     AnswersFirst, message_answers   the first of these is answered, or none is
+use Rattle.std.specs.Prelude.{◌≡◌, ℕ, ◌+◌, Bool, true, false, if◌then◌else◌, List, [], ◌∷◌, ◌++◌, Option, Some, None, refl}
+use Rattle.std.specs.Bool.{then_some}
+use Rattle.std.proofs.Common.{sym, ap, ◌∙◌, add-zero}
+use Rattle.std.proofs.lemmas.Bool.{cond_both}
+use Rattle.std.proofs.lemmas.List.{append_assoc}
 use Rattle.cc_views.specs.Rows.{ViewMap}
 use Rattle.cc_views.specs.Merge.{merge}
 use Rattle.cc_views.specs.declared.value.Value.{Value}
@@ -11,40 +17,11 @@ use Rattle.cc_wire.specs.declared.command.Command.TheVariants as command
 use Rattle.cc_wire.specs.declared.message.Message.{Message}
 use Rattle.cc_wire.specs.declared.message.Message.TheVariants as message
 use Rattle.cc_ops.specs.declared.pending.Asked.{Asked}
+use Rattle.cc_ops.specs.declared.pending.Reply.{Reply}
 use Rattle.cc_ops.specs.Commands.{is_writing, written}
-use Rattle.cc_ops.specs.Ops.{Ops, Phase, Idle, Storing, Querying, StoringBack, begun, counted, is_last, is_own, merged, next_round, after_ask, after_reply, after_ack, after_message}
-
--- a message leaves the own value and its number
-pub record KeepsOwn (s t : Ops) : Type 0 where
-  pub number : t.number ≡ s.number
-  pub mine : t.mine ≡ s.mine
-
-same_own : (s : Ops) → KeepsOwn s s
-same_own s = record { number = refl; mine = refl }
-
-either_keeps : (b : Bool) (s t u : Ops) → KeepsOwn s t → KeepsOwn s u → KeepsOwn s (if b then t else u)
-either_keeps true s t u h k = h
-either_keeps false s t u h k = k
-
-reply_keeps : (quorum : ℕ) (v : ViewMap) (phase : Phase) (s : Ops) → KeepsOwn s (after_reply quorum v phase s)
-reply_keeps quorum v Idle s = same_own s
-reply_keeps quorum v (Storing p) s = same_own s
-reply_keeps quorum v (Querying p) s =
-    either_keeps (is_last p) s (next_round (StoringBack (begun quorum p.asked) (merge s.view v)) (merged v s)) (record (merged v s) { phase = Querying (counted p) })
-    (record { number = refl; mine = refl }) (record { number = refl; mine = refl })
-reply_keeps quorum v (StoringBack p seen) s = same_own s
-
-pub message_keeps : (me quorum : ℕ) (m : Message) (s : Ops) → KeepsOwn s (after_message me quorum m s)
-message_keeps me quorum (message.Enter q) s = same_own s
-message_keeps me quorum (message.EnterEcho c v j q) s = record { number = refl; mine = refl }
-message_keeps me quorum (message.Join q) s = same_own s
-message_keeps me quorum (message.JoinEcho q) s = same_own s
-message_keeps me quorum (message.Leave q) s = same_own s
-message_keeps me quorum (message.LeaveEcho q) s = same_own s
-message_keeps me quorum (message.Query tag q) s = same_own s
-message_keeps me quorum (message.QueryReply v tag q) s = either_keeps (is_own me tag q s) s (after_reply quorum v s.phase s) s (reply_keeps quorum v s.phase s) (same_own s)
-message_keeps me quorum (message.Store v tag q) s = record { number = refl; mine = refl }
-message_keeps me quorum (message.StoreAck tag q) s = either_keeps (is_own me tag q s) s (record s { phase = after_ack s.phase }) s (record { number = refl; mine = refl }) (same_own s)
+use Rattle.cc_ops.specs.Waiting.{first_in, led_by, writes, mine_after, written_by}
+use Rattle.cc_ops.specs.WaitingLaws.{written_last}
+use Rattle.cc_ops.specs.Ops.{Ops, Phase, Idle, Storing, Querying, StoringBack, is_idle, round_of, counted, is_last, is_own, merged, next_round, with_begun, with_own_row, with_written, after_ask, after_reply, after_last, after_ack, after_message, begun_by_ask, begun_in, begun_by, told, reply_in, reply_of, asked_in, unanswered, mine_at_last}
 
 -- a reading command leaves the own value
 pub reading_leaves : (k : Command) (mine : Value) → is_writing k ≡ false → mine ≡ written k mine
@@ -65,8 +42,200 @@ either_mine : (b : Bool) (s t : Ops) (x : Value) → s.mine ≡ x → (b ≡ fal
 either_mine true s t x h k = h
 either_mine false s t x h k = k refl
 
-pub ask_number : (me quorum : ℕ) (a : Asked) (s : Ops) → (after_ask me quorum a s).number ≡ s.number + (if is_writing a.command then 1 else 0)
-ask_number me quorum a s = either_number (is_writing a.command) _ _ s.number refl refl
+-- ---- an operation begins
 
-pub ask_mine : (me quorum : ℕ) (a : Asked) (s : Ops) → (after_ask me quorum a s).mine ≡ written a.command s.mine
-ask_mine me quorum a s = either_mine (is_writing a.command) _ _ (written a.command s.mine) refl (reading_leaves a.command s.mine)
+pub begun_number : (me quorum : ℕ) (a : Asked) (s : Ops) → (with_begun me quorum a s).number ≡ s.number + writes (Some a)
+begun_number me quorum a s = either_number (is_writing a.command) _ _ s.number refl refl
+
+pub begun_mine : (me quorum : ℕ) (a : Asked) (s : Ops) → (with_begun me quorum a s).mine ≡ written a.command s.mine
+begun_mine me quorum a s = either_mine (is_writing a.command) _ _ (written a.command s.mine) refl (reading_leaves a.command s.mine)
+
+pub begun_line : (me quorum : ℕ) (a : Asked) (s : Ops) → (with_begun me quorum a s).line ≡ s.line
+begun_line me quorum a s =
+    cond_both (is_writing a.command) (next_round (Storing (round_of quorum a)) (with_own_row me (with_written a.command s))) (next_round (Querying (round_of quorum a)) s)
+    (λ (t : Ops). t.line ≡ s.line) (λ _. refl) (λ _. refl)
+
+pub begun_unanswered : (me quorum : ℕ) (a : Asked) (s : Ops) → unanswered (with_begun me quorum a s) ≡ a ∷ s.line
+begun_unanswered me quorum a s =
+    cond_both (is_writing a.command) (next_round (Storing (round_of quorum a)) (with_own_row me (with_written a.command s))) (next_round (Querying (round_of quorum a)) s)
+    (λ (t : Ops). unanswered t ≡ a ∷ s.line) (λ _. refl) (λ _. refl)
+
+begun_last : (me quorum : ℕ) (a : Asked) (s : Ops) → mine_at_last (with_begun me quorum a s) ≡ written_by s.line (written a.command s.mine)
+begun_last me quorum a s = λ i. written_by (begun_line me quorum a s i) (begun_mine me quorum a s i)
+
+-- ---- the last acknowledgement
+
+last_number : (me quorum : ℕ) (line : List Asked) (s : Ops) → (after_last me quorum line s).number ≡ s.number + writes (first_in line)
+last_number me quorum [] s = sym (add-zero s.number)
+last_number me quorum (a ∷ line) s = begun_number me quorum a (record s { line = line })
+
+last_mine : (me quorum : ℕ) (line : List Asked) (s : Ops) → (after_last me quorum line s).mine ≡ mine_after (first_in line) s.mine
+last_mine me quorum [] s = refl
+last_mine me quorum (a ∷ line) s = begun_mine me quorum a (record s { line = line })
+
+last_line : (me quorum : ℕ) (line : List Asked) (s : Ops) → s.line ≡ line → line ≡ led_by (first_in line) (after_last me quorum line s).line
+last_line me quorum [] s e = sym e
+last_line me quorum (a ∷ line) s e = ap (λ (l : List Asked). a ∷ l) (sym (begun_line me quorum a (record s { line = line })))
+
+last_last : (me quorum : ℕ) (line : List Asked) (s : Ops) → s.line ≡ line → mine_at_last (after_last me quorum line s) ≡ written_by line s.mine
+last_last me quorum [] s e = ap (λ (l : List Asked). written_by l s.mine) e
+last_last me quorum (a ∷ line) s e = begun_last me quorum a (record s { line = line })
+
+-- the pending ask is answered, and those behind it are left
+pub last_unanswered : (me quorum : ℕ) (line : List Asked) (s : Ops) → s.line ≡ line → unanswered (after_last me quorum line s) ≡ line
+last_unanswered me quorum [] s e = e
+last_unanswered me quorum (a ∷ line) s e = begun_unanswered me quorum a (record s { line = line })
+
+-- what holds of an acknowledgement, by whether it is the last one
+either_ack : (P : Ops → Option Asked → Type 0) (b : Bool) (last more : Ops) (line : List Asked) → P last (first_in line) → P more None
+    → P (if b then last else more) (if b then first_in line else None)
+either_ack P true last more line h k = h
+either_ack P false last more line h k = k
+
+each_ack : (P : Ops → Option Asked → Type 0) (me quorum : ℕ) (phase : Phase) (s : Ops) → P s None → P (after_last me quorum s.line s) (first_in s.line)
+    → ((p : Phase) → P (record s { phase = p }) None) → P (after_ack me quorum phase s) (begun_in phase s.line)
+each_ack P me quorum Idle s same last more = same
+each_ack P me quorum (Storing p) s same last more =
+    either_ack P (is_last p) (after_last me quorum s.line s) (record s { phase = Storing (counted p) }) s.line last (more (Storing (counted p)))
+each_ack P me quorum (Querying p) s same last more = same
+each_ack P me quorum (StoringBack p seen) s same last more =
+    either_ack P (is_last p) (after_last me quorum s.line s) (record s { phase = StoringBack (counted p) seen }) s.line last (more (StoringBack (counted p) seen))
+
+-- ---- a message
+
+either_reply : (P : Ops → Type 0) (quorum : ℕ) (v : ViewMap) (phase : Phase) (s : Ops) → P s
+    → ((p : Phase) (tag : ℕ) → P (record (merged v s) { phase = p; tag = tag })) → P (after_reply quorum v phase s)
+either_reply P quorum v Idle s same more = same
+either_reply P quorum v (Storing p) s same more = same
+either_reply P quorum v (Querying p) s same more =
+    cond_both (is_last p) (next_round (StoringBack (round_of quorum p.asked) (merge s.view v)) (merged v s)) (record (merged v s) { phase = Querying (counted p) }) P
+    (λ _. more (StoringBack (round_of quorum p.asked) (merge s.view v)) (s.tag + 1)) (λ _. more (Querying (counted p)) s.tag)
+either_reply P quorum v (StoringBack p seen) s same more = same
+
+either_own : (P : Ops → Option Asked → Type 0) (b : Bool) (t s : Ops) (o : Option Asked) → P t o → P s None → P (if b then t else s) (if b then o else None)
+either_own P true t s o h k = h
+either_own P false t s o h k = k
+
+-- what holds of each message: it holds of states that differ in the view, the phase and the tag alone, and of the last
+-- acknowledgement
+each_message : (P : Ops → Option Asked → Type 0) (me quorum : ℕ) (m : Message) (s : Ops)
+    → ((v : ViewMap) (p : Phase) (tag : ℕ) → P (record s { view = v; phase = p; tag = tag }) None) → P (after_last me quorum s.line s) (first_in s.line)
+    → P (after_message me quorum m s) (begun_by me m s)
+each_message P me quorum (message.Enter q) s more last = more s.view s.phase s.tag
+each_message P me quorum (message.EnterEcho c v j q) s more last = more (merge s.view v) s.phase s.tag
+each_message P me quorum (message.Join q) s more last = more s.view s.phase s.tag
+each_message P me quorum (message.JoinEcho q) s more last = more s.view s.phase s.tag
+each_message P me quorum (message.Leave q) s more last = more s.view s.phase s.tag
+each_message P me quorum (message.LeaveEcho q) s more last = more s.view s.phase s.tag
+each_message P me quorum (message.Query tag q) s more last = more s.view s.phase s.tag
+each_message P me quorum (message.QueryReply v tag q) s more last =
+    cond_both (is_own me tag q s) (after_reply quorum v s.phase s) s (λ t. P t None)
+    (λ _. either_reply (λ t. P t None) quorum v s.phase s (more s.view s.phase s.tag) (λ p t. more (merge s.view v) p t)) (λ _. more s.view s.phase s.tag)
+each_message P me quorum (message.Store v tag q) s more last = more (merge s.view v) s.phase s.tag
+each_message P me quorum (message.StoreAck tag q) s more last =
+    either_own P (is_own me tag q s) (after_ack me quorum s.phase s) s (begun_in s.phase s.line)
+    (each_ack P me quorum s.phase s (more s.view s.phase s.tag) last (λ p. more s.view p s.tag)) (more s.view s.phase s.tag)
+
+pub message_number : (me quorum : ℕ) (m : Message) (s : Ops) → (after_message me quorum m s).number ≡ s.number + writes (begun_by me m s)
+message_number me quorum m s =
+    each_message (λ t o. t.number ≡ s.number + writes o) me quorum m s (λ v p tag. sym (add-zero s.number)) (last_number me quorum s.line s)
+
+pub message_mine : (me quorum : ℕ) (m : Message) (s : Ops) → (after_message me quorum m s).mine ≡ mine_after (begun_by me m s) s.mine
+message_mine me quorum m s = each_message (λ t o. t.mine ≡ mine_after o s.mine) me quorum m s (λ v p tag. refl) (last_mine me quorum s.line s)
+
+pub message_line : (me quorum : ℕ) (m : Message) (s : Ops) → s.line ≡ led_by (begun_by me m s) (after_message me quorum m s).line
+message_line me quorum m s = each_message (λ t o. s.line ≡ led_by o t.line) me quorum m s (λ v p tag. refl) (last_line me quorum s.line s refl)
+
+pub message_last : (me quorum : ℕ) (m : Message) (s : Ops) → mine_at_last (after_message me quorum m s) ≡ mine_at_last s
+message_last me quorum m s = each_message (λ t o. mine_at_last t ≡ mine_at_last s) me quorum m s (λ v p tag. refl) (last_last me quorum s.line s refl)
+
+-- ---- an ask
+
+either_idle : (P : Ops → Option Asked → Type 0) (b : Bool) (t u : Ops) (a : Asked) → (b ≡ true → P t (Some a)) → P u None → P (if b then t else u) (then_some b a)
+either_idle P true t u a h k = h refl
+either_idle P false t u a h k = k
+
+pub ask_number : (me quorum : ℕ) (a : Asked) (s : Ops) → (after_ask me quorum a s).number ≡ s.number + writes (begun_by_ask a s)
+ask_number me quorum a s =
+    either_idle (λ t o. t.number ≡ s.number + writes o) (is_idle s.phase) (with_begun me quorum a s) (record s { line = s.line ++ a ∷ [] }) a
+    (λ _. begun_number me quorum a s) (sym (add-zero s.number))
+
+pub ask_mine : (me quorum : ℕ) (a : Asked) (s : Ops) → (after_ask me quorum a s).mine ≡ mine_after (begun_by_ask a s) s.mine
+ask_mine me quorum a s =
+    either_idle (λ t o. t.mine ≡ mine_after o s.mine) (is_idle s.phase) (with_begun me quorum a s) (record s { line = s.line ++ a ∷ [] }) a
+    (λ _. begun_mine me quorum a s) refl
+
+pub ask_line : (me quorum : ℕ) (a : Asked) (s : Ops) → (is_idle s.phase ≡ true → s.line ≡ []) → s.line ++ a ∷ [] ≡ led_by (begun_by_ask a s) (after_ask me quorum a s).line
+ask_line me quorum a s none =
+    either_idle (λ t o. s.line ++ a ∷ [] ≡ led_by o t.line) (is_idle s.phase) (with_begun me quorum a s) (record s { line = s.line ++ a ∷ [] }) a
+    (λ idle. ap (λ (l : List Asked). l ++ a ∷ []) (none idle) ∙ ap (λ (l : List Asked). a ∷ l) (sym (begun_line me quorum a s ∙ none idle))) refl
+
+pub ask_last : (me quorum : ℕ) (a : Asked) (s : Ops) → (is_idle s.phase ≡ true → s.line ≡ []) → mine_at_last (after_ask me quorum a s) ≡ written a.command (mine_at_last s)
+ask_last me quorum a s none =
+    either_idle (λ t o. mine_at_last t ≡ written a.command (mine_at_last s)) (is_idle s.phase) (with_begun me quorum a s) (record s { line = s.line ++ a ∷ [] }) a
+    (λ idle. begun_last me quorum a s ∙ ap (λ (l : List Asked). written_by l (written a.command s.mine)) (none idle)
+    ∙ ap (λ (l : List Asked). written a.command (written_by l s.mine)) (sym (none idle)))
+    (written_last s.line a s.mine)
+
+none_asked : (phase : Phase) → is_idle phase ≡ true → asked_in phase ≡ []
+none_asked Idle e = refl
+none_asked (Storing p) e = cc
+none_asked (Querying p) e = cc
+none_asked (StoringBack p seen) e = cc
+
+-- one more ask isn't answered yet, the last of them
+pub ask_unanswered : (me quorum : ℕ) (a : Asked) (s : Ops) → (is_idle s.phase ≡ true → s.line ≡ []) → unanswered (after_ask me quorum a s) ≡ unanswered s ++ a ∷ []
+ask_unanswered me quorum a s none =
+    either_idle (λ t o. unanswered t ≡ unanswered s ++ a ∷ []) (is_idle s.phase) (with_begun me quorum a s) (record s { line = s.line ++ a ∷ [] }) a
+    (λ idle. begun_unanswered me quorum a s ∙ ap (λ (l : List Asked). a ∷ l) (none idle)
+    ∙ sym (λ i. (none_asked s.phase idle i ++ none idle i) ++ a ∷ []))
+    (sym (append_assoc (asked_in s.phase) s.line (a ∷ [])))
+
+-- ---- answers
+
+-- the first of the asks that aren't answered is, where there is a reply
+abbrev pub AnswersFirst : List Asked → List Asked → Option Reply → Type 0
+AnswersFirst before after None = after ≡ before
+AnswersFirst before after (Some r) = (a : Asked) × (before ≡ a ∷ after) × (a.session ≡ r.session) × (a.request ≡ r.request)
+
+reply_unanswered : (quorum : ℕ) (v : ViewMap) (phase : Phase) (s : Ops) → s.phase ≡ phase → unanswered (after_reply quorum v phase s) ≡ asked_in phase ++ s.line
+reply_unanswered quorum v Idle s e = ap (λ (p : Phase). asked_in p ++ s.line) e
+reply_unanswered quorum v (Storing p) s e = ap (λ (q : Phase). asked_in q ++ s.line) e
+reply_unanswered quorum v (Querying p) s e =
+    cond_both (is_last p) (next_round (StoringBack (round_of quorum p.asked) (merge s.view v)) (merged v s)) (record (merged v s) { phase = Querying (counted p) })
+    (λ (t : Ops). unanswered t ≡ p.asked ∷ s.line) (λ _. refl) (λ _. refl)
+reply_unanswered quorum v (StoringBack p seen) s e = ap (λ (q : Phase). asked_in q ++ s.line) e
+
+ack_answers : (me quorum : ℕ) (v : ViewMap) (phase : Phase) (s : Ops) → s.phase ≡ phase → AnswersFirst (asked_in phase ++ s.line) (unanswered (after_ack me quorum phase s)) (reply_in v phase)
+ack_answers me quorum v Idle s e = ap (λ (p : Phase). asked_in p ++ s.line) e
+ack_answers me quorum v (Storing p) s e =
+    elim (is_last p)
+    as (λ b. AnswersFirst (p.asked ∷ s.line) (unanswered (if b then after_last me quorum s.line s else record s { phase = Storing (counted p) })) (then_some b (told p v))) [
+      | true ↦ (p.asked, ap (λ (l : List Asked). p.asked ∷ l) (sym (last_unanswered me quorum s.line s refl)), refl, refl)
+      | false ↦ refl
+    ]
+ack_answers me quorum v (Querying p) s e = ap (λ (q : Phase). asked_in q ++ s.line) e
+ack_answers me quorum v (StoringBack p seen) s e =
+    elim (is_last p)
+    as (λ b. AnswersFirst (p.asked ∷ s.line) (unanswered (if b then after_last me quorum s.line s else record s { phase = StoringBack (counted p) seen })) (then_some b (told p seen))) [
+      | true ↦ (p.asked, ap (λ (l : List Asked). p.asked ∷ l) (sym (last_unanswered me quorum s.line s refl)), refl, refl)
+      | false ↦ refl
+    ]
+
+pub message_answers : (me quorum : ℕ) (m : Message) (s : Ops) → AnswersFirst (unanswered s) (unanswered (after_message me quorum m s)) (reply_of me m s)
+message_answers me quorum (message.Enter q) s = refl
+message_answers me quorum (message.EnterEcho c v j q) s = refl
+message_answers me quorum (message.Join q) s = refl
+message_answers me quorum (message.JoinEcho q) s = refl
+message_answers me quorum (message.Leave q) s = refl
+message_answers me quorum (message.LeaveEcho q) s = refl
+message_answers me quorum (message.Query tag q) s = refl
+message_answers me quorum (message.QueryReply v tag q) s =
+    cond_both (is_own me tag q s) (after_reply quorum v s.phase s) s (λ (t : Ops). unanswered t ≡ unanswered s) (λ _. reply_unanswered quorum v s.phase s refl) (λ _. refl)
+message_answers me quorum (message.Store v tag q) s = refl
+message_answers me quorum (message.StoreAck tag q) s =
+    elim (is_own me tag q s)
+    as (λ b. AnswersFirst (unanswered s) (unanswered (if b then after_ack me quorum s.phase s else s)) (if b then reply_in s.view s.phase else None)) [
+      | true ↦ ack_answers me quorum s.view s.phase s refl
+      | false ↦ refl
+    ]

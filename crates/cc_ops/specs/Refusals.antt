@@ -1,15 +1,18 @@
 -- Why a command can't begin, as far as the pending operation and the own value say.
---     busy, set_full      one reason each
-use Rattle.std.specs.Prelude.{not, Option}
+--     busy limit, set_full      one reason each; no more than `limit` asks may wait
+use Rattle.std.specs.Prelude.{ℕ, nat_le, not, ◌&&◌, ◌||◌, length, Option}
 use Rattle.std.specs.Bool.{then_some}
 use Rattle.cc_wire.specs.declared.command.Command.{Command}
 use Rattle.cc_wire.specs.declared.refusal.Refusal.{Refusal}
 use Rattle.cc_wire.specs.declared.refusal.Refusal.TheVariants as refusal
 use Rattle.cc_ops.specs.Commands.{finds_no_room}
-use Rattle.cc_ops.specs.Ops.{Ops, is_idle}
+use Rattle.cc_ops.specs.Ops.{Ops, is_idle, unanswered, mine_at_last}
+use Rattle.cc_ops.specs.Waiting.{has_session}
 
-abbrev pub busy : Ops → Option Refusal
-busy s = then_some (not (is_idle s.phase)) refusal.Busy
+-- an operation is pending, and as many asks wait as may, or one of the session isn't answered yet
+abbrev pub busy : ℕ → ℕ → Ops → Option Refusal
+busy limit session s = then_some (not (is_idle s.phase) && (nat_le limit (length s.line) || has_session session (unanswered s))) refusal.Busy
 
+-- of the own value as it will be once all that wait have begun
 abbrev pub set_full : Command → Ops → Option Refusal
-set_full command s = then_some (finds_no_room s.mine command) refusal.SetFull
+set_full command s = then_some (finds_no_room (mine_at_last s) command) refusal.SetFull

@@ -1,12 +1,18 @@
 -- What an `Ops` keeps.
 --     phase_of stage seen      the phase, by its stage and the view that is stored back
---     IsKept inside            the counters within their limits, and an operation that waits for more answers than it has
-use Rattle.std.specs.Prelude.{ℕ, ◌≤◌, ⊤}
-use Rattle.cc_views.specs.Limits.{counter_limit}
+--     WaitsBehind              asks wait only behind a pending operation
+--     HasRoom line mine        the own set has room for what those that wait will put in
+--     IsKept inside            both, the counters within their limits, and an operation that waits for more answers than it has
+use Rattle.std.specs.Prelude.{◌≡◌, ℕ, ◌≤◌, List, [], ⊤}
+use Rattle.cc_views.specs.Limits.{counter_limit, set_limit}
+use Rattle.cc_views.specs.NatSets as set
 use Rattle.cc_views.specs.Rows.{ViewMap}
+use Rattle.cc_views.specs.declared.value.Value.{Value}
+use Rattle.cc_ops.specs.declared.pending.Asked.{Asked}
 use Rattle.cc_ops.specs.declared.stage.Stage.{Stage}
 use Rattle.cc_ops.specs.declared.stage.Stage.TheVariants as stage
 use Rattle.cc_ops.specs.Ops.{Phase, Idle, Storing, Querying, StoringBack, IsWaiting}
+use Rattle.cc_ops.specs.Waiting.{written_by}
 
 abbrev pub phase_of : Stage → ViewMap → Phase
 phase_of stage.Idle seen = Idle
@@ -28,7 +34,18 @@ HasWaiting (stage.Storing p) = IsWaiting p
 HasWaiting (stage.Querying p) = IsWaiting p
 HasWaiting (stage.StoringBack p) = IsWaiting p
 
-pub record IsKept (written rounds : ℕ) (at : Stage) : Type 0 where
+abbrev pub WaitsBehind : Stage → List Asked → Type 0
+WaitsBehind stage.Idle line = line ≡ []
+WaitsBehind (stage.Storing p) line = ⊤
+WaitsBehind (stage.Querying p) line = ⊤
+WaitsBehind (stage.StoringBack p) line = ⊤
+
+abbrev pub HasRoom : List Asked → Value → Type 0
+HasRoom line mine = set.len (written_by line mine).set ≤ set_limit
+
+pub record IsKept (written rounds : ℕ) (mine : Value) (at : Stage) (line : List Asked) : Type 0 where
   pub number : written ≤ counter_limit
   pub tag : rounds ≤ counter_limit
   pub waits : HasWaiting at
+  pub behind : WaitsBehind at line
+  pub room : HasRoom line mine

@@ -1,16 +1,20 @@
 //! What a client's command does: it begins an operation, writes the own value, and is answered.
 
-ghost use Rattle.std.specs.Prelude.{◌≡◌, ℕ, ◌+◌, ◌≤◌, ◌||◌, [], ◌∷◌, IfOk, IsFalse};
+ghost use Rattle.std.specs.Prelude.{◌≡◌, ℕ, ◌+◌, ◌≤◌, ◌||◌, [], ◌∷◌, IfOk, IsFalse, None};
 ghost use Rattle.std.specs.FinMap.{len};
 ghost use Rattle.cc_views.specs.Limits.{counter_limit, known_limit, overruns};
 ghost use Rattle.cc_objects.specs.Objects as objects;
 ghost use Rattle.cc_wire.specs.Refusals.{first_of, decided};
+ghost use Rattle.cc_wire.specs.declared.refusal.Refusal.TheVariants as refusal;
+ghost use Rattle.std.specs.Bool.{then_some};
 ghost use Rattle.cc_ops.specs.Commands as commands;
 ghost use Rattle.cc_ops.specs.Ops as ops;
+ghost use Rattle.cc_ops.specs.Stages.{HasRoom};
 ghost use Rattle.cc_ops.specs.Refusals.{busy, set_full};
+ghost use Rattle.cc_ops.specs.Waiting.{line_limit};
 
 use crate::ops::Ops;
-use crate::pending::{Asked, begun};
+use crate::pending::{Asked, round_of};
 use crate::stage::Stage;
 use cc_objects::{add_member, flag_of, max_of, set_flag, set_of, write_max, write_text};
 use cc_views::{COUNTER_LIMIT, NoMemory, NodeId, NumberSet, Row, Value, View};
@@ -18,23 +22,27 @@ use cc_wire::{Answer, Command, Message, NumberList, Refusal};
 use std::alloc::Global;
 
 impl Ops {
-    /// Whether the command would put a 33rd number into the own set.
+    /// Whether the command would put a 33rd number into the own set, once all that wait have begun.
     pub fn is_set_full(&self, command: &Command) -> bool
-        ensures { result ≡ commands.finds_no_room self.now.mine command.now }
+        ensures { result ≡ commands.finds_no_room (ops.mine_at_last self.now) command.now }
     {
-        match command {
-            Command::AddMember(member) => {
-                self.mine.set.len() == NumberSet::MAX_LEN && !self.mine.set.contains(*member)
-            }
-            _ => false,
-        }
+        let mine = self.line.last_value(&self.mine).unwrap();
+        finds_no_room(command, &mine)
     }
 
-    /// Why the command can't begin, if it can't: another operation is pending, or the own set has no room.
-    pub fn decide_ask(&self, command: &Command) -> Result<(), Refusal>
-        ensures { result ≡ decided (first_of (busy self.now ∷ set_full command.now self.now ∷ [])) }
+    // Whether an operation is pending, and as many asks wait as may, or one of the session isn't answered yet.
+    fn is_busy(&self, session: u64) -> bool
+        ensures { then_some result refusal.Busy ≡ busy line_limit session self.now }
     {
-        if !self.is_idle() {
+        !self.is_idle() && (self.line.is_full() || self.is_unanswered(session))
+    }
+
+    /// Why the command can neither begin nor wait, if it can't: too many wait already, the session has one that isn't
+    /// answered yet, or the own set has no room.
+    pub fn decide_ask(&self, session: u64, command: &Command) -> Result<(), Refusal>
+        ensures { result ≡ decided (first_of (busy line_limit session self.now ∷ set_full command.now self.now ∷ [])) }
+    {
+        if self.is_busy(session) {
             return Err(Refusal::Busy);
         }
         if self.is_set_full(command) {
@@ -43,18 +51,27 @@ impl Ops {
         Ok(())
     }
 
-    /// Whether an ask of the command would raise a counter that stands at its limit, `2 ^ 62`.
-    pub fn ask_is_spent(&self, command: &Command) -> bool
-        ensures { (me quorum session request : ℕ) → result ≡ (overruns self.now.number (ops.after_ask me quorum (record { session = session; request = request; command = command.now }) self.now).number
-            || overruns self.now.tag (ops.after_ask me quorum (record { session = session; request = request; command = command.now }) self.now).tag) }
+    // Whether an operation of the command would raise a counter that stands at its limit, as it begins.
+    pub(crate) fn begin_is_spent(&self, command: &Command) -> bool
+        ensures { (me quorum session request : ℕ) → result ≡ (overruns self.now.number (ops.with_begun me quorum (record { session = session; request = request; command = command.now }) self.now).number
+            || overruns self.now.tag (ops.with_begun me quorum (record { session = session; request = request; command = command.now }) self.now).tag) }
     {
         self.tag == COUNTER_LIMIT || (is_writing(command) && self.number == COUNTER_LIMIT)
     }
 
-    /// Begins an operation that needs so many answers: a write stores the own value under its next number, a read asks
-    /// for the views of others (CCC, client).
+    /// Whether an ask of the command would raise a counter that stands at its limit, `2 ^ 62`. One that waits raises none.
+    pub fn ask_is_spent(&self, command: &Command) -> bool
+        ensures { (me quorum session request : ℕ) → result ≡ (overruns self.now.number (ops.after_ask me quorum (record { session = session; request = request; command = command.now }) self.now).number
+            || overruns self.now.tag (ops.after_ask me quorum (record { session = session; request = request; command = command.now }) self.now).tag) }
+    {
+        self.is_idle() && self.begin_is_spent(command)
+    }
+
+    /// Takes an ask, which isn't refused: its operation begins where none is pending, and waits behind the others where
+    /// one is. It takes no memory.
     pub fn ask(&mut self, me: NodeId, quorum: u64, asked: &Asked)
-        requires room { IsFalse (commands.finds_no_room self.old.mine asked.now.command) }
+        requires free { busy line_limit asked.now.session self.old ≡ None }
+        requires room { IsFalse (commands.finds_no_room (ops.mine_at_last self.old) asked.now.command) }
         requires some { 1 ≤ quorum }
         requires few { quorum ≤ known_limit }
         requires fits { len (ops.after_ask me quorum asked.now self.old).view ≤ known_limit }
@@ -62,11 +79,30 @@ impl Ops {
         requires tag { (ops.after_ask me quorum asked.now self.old).tag ≤ counter_limit }
         ensures { self.new ≡ ops.after_ask me quorum asked.now self.old }
     {
+        if self.is_idle() {
+            self.begin(me, quorum, asked);
+        } else {
+            self.line.push(asked);
+        }
+    }
+
+    // Begins an operation that needs so many answers: a write stores the own value under its next number, a read asks
+    // for the views of others (CCC, client).
+    pub(crate) fn begin(&mut self, me: NodeId, quorum: u64, asked: &Asked)
+        requires room { IsFalse (commands.finds_no_room self.old.mine asked.now.command) }
+        requires later { HasRoom self.old.line (commands.written asked.now.command self.old.mine) }
+        requires some { 1 ≤ quorum }
+        requires few { quorum ≤ known_limit }
+        requires fits { len (ops.with_begun me quorum asked.now self.old).view ≤ known_limit }
+        requires number { (ops.with_begun me quorum asked.now self.old).number ≤ counter_limit }
+        requires tag { (ops.with_begun me quorum asked.now self.old).tag ≤ counter_limit }
+        ensures { self.new ≡ ops.with_begun me quorum asked.now self.old }
+    {
         if is_writing(&asked.command) {
             self.write(me, &asked.command);
-            self.stage = Stage::Storing(begun(asked, quorum));
+            self.stage = Stage::Storing(round_of(asked, quorum));
         } else {
-            self.stage = Stage::Querying(begun(asked, quorum));
+            self.stage = Stage::Querying(round_of(asked, quorum));
         }
         self.tag += 1;
     }
@@ -74,6 +110,7 @@ impl Ops {
     // Writes the own value, under the next number, and its row in the view.
     fn write(&mut self, me: NodeId, command: &Command)
         requires room { IsFalse (commands.finds_no_room self.old.mine command.now) }
+        requires later { HasRoom self.old.line (commands.written command.now self.old.mine) }
         requires fits { len (ops.with_own_row me (ops.with_written command.now self.old)).view ≤ known_limit }
         requires number { self.old.number + 1 ≤ counter_limit }
         ensures { self.new ≡ ops.with_own_row me (ops.with_written command.now self.old) }
@@ -97,10 +134,10 @@ impl Ops {
         asked: &Asked,
     ) -> Result<Message, NoMemory>
         requires room { IsFalse (commands.finds_no_room self.now.mine asked.now.command) }
-        requires fits { len (ops.after_ask me quorum asked.now self.now).view ≤ known_limit }
-        requires number { (ops.after_ask me quorum asked.now self.now).number ≤ counter_limit }
-        requires tag { (ops.after_ask me quorum asked.now self.now).tag ≤ counter_limit }
-        ensures { IfOk result (λ m. m ≡ ops.first_post me asked.now (ops.after_ask me quorum asked.now self.now)) }
+        requires fits { len (ops.with_begun me quorum asked.now self.now).view ≤ known_limit }
+        requires number { (ops.with_begun me quorum asked.now self.now).number ≤ counter_limit }
+        requires tag { (ops.with_begun me quorum asked.now self.now).tag ≤ counter_limit }
+        ensures { IfOk result (λ m. m ≡ ops.first_post me asked.now (ops.with_begun me quorum asked.now self.now)) }
     {
         if !is_writing(&asked.command) {
             return Ok(Message::Query {
@@ -132,7 +169,19 @@ pub fn is_writing(command: &Command) -> bool
     }
 }
 
-fn written(command: &Command, mine: &Value) -> Value
+// Whether the command would put a 33rd number into the set of this value.
+pub(crate) fn finds_no_room(command: &Command, mine: &Value) -> bool
+    ensures { result ≡ commands.finds_no_room mine.now command.now }
+{
+    match command {
+        Command::AddMember(member) => {
+            mine.set.len() == NumberSet::MAX_LEN && !mine.set.contains(*member)
+        }
+        _ => false,
+    }
+}
+
+pub(crate) fn written(command: &Command, mine: &Value) -> Value
     requires { IsFalse (commands.finds_no_room mine.now command.now) }
     ensures { result ≡ commands.written command.now mine.now }
 {

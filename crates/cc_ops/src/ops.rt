@@ -1,17 +1,20 @@
 //! The state of a client and server.
 
-ghost use Rattle.std.specs.Prelude.{◌≡◌, ◌≤◌, IfOk};
+ghost use Rattle.std.specs.Prelude.{◌≡◌, ◌≤◌, ◌↔◌, IfOk, IsTrue};
 ghost use Rattle.std.specs.Option.{option_map};
 ghost use Rattle.cc_views.specs.Limits.{counter_limit};
 ghost use Rattle.cc_ops.specs.Ops as ops;
-ghost use Rattle.cc_ops.specs.Stages.{stage_of, phase_of, HasWaiting};
+ghost use Rattle.cc_ops.specs.Stages.{stage_of, phase_of, HasWaiting, WaitsBehind, HasRoom};
+ghost use Rattle.cc_ops.specs.Waiting.{has_session, AreApart};
 
 use crate::stage::Stage;
+use crate::waiting_line::{WaitingLine, are_apart};
 use cc_views::{NoMemory, Value, View};
 use std::alloc::Global;
 use std::marker::Model;
 
-/// The view, the own value under its number, and the pending operation (CCC, client and server).
+/// The view, the own value under its number, the pending operation, and the asks that wait behind it (CCC, client and
+/// server).
 #[derive(Debug, Drop)]
 pub struct Ops {
     pub(crate) view: View,
@@ -21,6 +24,7 @@ pub struct Ops {
     pub(crate) stage: Stage,
     // What is stored back, where the stage says so. Its room is made at the start.
     pub(crate) seen: View,
+    pub(crate) line: WaitingLine,
 }
 
 impl Model for Ops {
@@ -32,9 +36,9 @@ impl Model for Ops {
 
     ghost coded = { ops_code };
 
-    ghost view = { λ a. record { view = a.view; number = a.number; mine = a.mine; tag = a.tag; phase = phase_of a.stage a.seen } };
+    ghost view = { λ a. record { view = a.view; number = a.number; mine = a.mine; tag = a.tag; phase = phase_of a.stage a.seen; line = a.line } };
 
-    ghost invariant = { λ a. IsKept a.number a.tag a.stage };
+    ghost invariant = { λ a. IsKept a.number a.tag a.mine a.stage a.line };
 }
 
 impl Ops {
@@ -49,11 +53,12 @@ impl Ops {
             tag: 0,
             stage: Stage::Idle,
             seen: View::new(alloc)?,
+            line: WaitingLine::new(alloc)?,
         })
     }
 
     /// These parts, and `seen` is what is stored back, where the stage says that something is; it has its room from the
-    /// start. For a decoder of states.
+    /// start. Asks wait only where an operation is pending, and the own set has room for theirs. For a decoder of states.
     pub fn from_parts(
         view: View,
         number: u64,
@@ -61,11 +66,14 @@ impl Ops {
         tag: u64,
         stage: Stage,
         seen: View,
+        line: WaitingLine,
     ) -> Self
         requires number { number ≤ counter_limit }
         requires tag { tag ≤ counter_limit }
         requires waits { HasWaiting stage }
-        ensures { result ≡ record { view = view; number = number; mine = mine; tag = tag; phase = phase_of stage seen } }
+        requires behind { WaitsBehind stage line }
+        requires room { HasRoom line mine }
+        ensures { result ≡ record { view = view; number = number; mine = mine; tag = tag; phase = phase_of stage seen; line = line } }
     {
         Ops {
             view,
@@ -74,6 +82,7 @@ impl Ops {
             tag,
             stage,
             seen,
+            line,
         }
     }
 
@@ -88,6 +97,7 @@ impl Ops {
             tag: self.tag,
             stage: self.stage,
             seen: self.seen.copy(alloc)?,
+            line: self.line.copy(alloc)?,
         })
     }
 
@@ -148,6 +158,45 @@ impl Ops {
         match stage {
             Stage::Idle => true,
             Stage::Storing(_) | Stage::Querying(_) | Stage::StoringBack(_) => false,
+        }
+    }
+
+    /// The asks that wait until the pending operation has ended. None waits where none is pending, and the own set has
+    /// room for what those that wait will put in.
+    pub fn line(&self) -> &WaitingLine
+        ensures line { result.now ≡ self.now.line }
+        ensures behind { WaitsBehind (stage_of self.now.phase) result.now }
+        ensures room { HasRoom result.now self.now.mine }
+    {
+        &self.line
+    }
+
+    /// Whether an ask of the session is pending or waits.
+    pub fn is_unanswered(&self, session: u64) -> bool
+        ensures { result ≡ has_session session (ops.unanswered self.now) }
+    {
+        let stage = self.stage;
+        match stage {
+            Stage::Idle => self.line.has_session(session),
+            Stage::Storing(pending) | Stage::Querying(pending) | Stage::StoringBack(pending) => {
+                session == pending.asked.session || self.line.has_session(session)
+            }
+        }
+    }
+
+    /// Whether no two asks that aren't answered yet are of one session.
+    pub fn are_apart(&self) -> bool
+        ensures { IsTrue result ↔ AreApart (ops.unanswered self.now) }
+    {
+        if !are_apart(self.line.asks()) {
+            return false;
+        }
+        let stage = self.stage;
+        match stage {
+            Stage::Idle => true,
+            Stage::Storing(pending) | Stage::Querying(pending) | Stage::StoringBack(pending) => {
+                !self.line.has_session(pending.asked.session)
+            }
         }
     }
 }

@@ -30,9 +30,9 @@ pub struct Reply {
     pub answer: Answer,
 }
 
-// A round of an operation, which needs so many answers.
-pub(crate) fn begun(asked: &Asked, quorum: u64) -> Pending
-    ensures { result ≡ ops.begun quorum asked.now }
+// A round of an operation, of which no answer has come.
+pub(crate) fn round_of(asked: &Asked, quorum: u64) -> Pending
+    ensures { result ≡ ops.round_of quorum asked.now }
 {
     Pending {
         asked: *asked,

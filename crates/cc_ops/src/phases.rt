@@ -1,28 +1,31 @@
 //! How an operation goes from phase to phase and ends, and what is posted and told on the way.
 
-ghost use Rattle.std.specs.Prelude.{◌≡◌, ℕ, ◌≤◌, IfOk, is_some};
+ghost use Rattle.std.specs.Prelude.{◌≡◌, ℕ, ◌≤◌, ◌||◌, IfOk, IfSome, IsFalse, is_some, option_map};
 ghost use Rattle.std.specs.Bool.{then_some};
 ghost use Rattle.std.specs.FinMap.{len};
 ghost use Rattle.cc_views.specs.Limits.{counter_limit, known_limit, overruns};
 ghost use Rattle.cc_wire.specs.declared.message.Message.TheVariants as message;
+ghost use Rattle.cc_ops.specs.Commands as commands;
 ghost use Rattle.cc_ops.specs.Ops as ops;
 ghost use Rattle.cc_ops.specs.Ops.{IsWaiting};
 
 use crate::commands::answer_of;
 use crate::ops::Ops;
-use crate::pending::{Pending, Reply, begun, counted, is_last};
-use crate::stage::{Stage, acknowledged};
+use crate::pending::{Asked, Pending, Reply, counted, is_last, round_of};
+use crate::stage::Stage;
 use cc_views::{COUNTER_LIMIT, NoMemory, NodeId, View};
 use cc_wire::Message;
 use std::alloc::Global;
 
 impl Ops {
     /// Takes a message: views that it carries are merged, and an operation goes on only by answers to its own tag. A
-    /// read that has its replies needs `quorum` acknowledgements of what it stores back (CCC, client and server).
+    /// read that has its replies needs `quorum` acknowledgements of what it stores back (CCC, client and server). With the
+    /// last acknowledgement the first ask that waits begins. It takes no memory.
     pub fn apply(&mut self, me: NodeId, quorum: u64, message: &Message)
         requires some { 1 ≤ quorum }
         requires few { quorum ≤ known_limit }
         requires fits { len (ops.after_message me quorum message.now self.old).view ≤ known_limit }
+        requires number { (ops.after_message me quorum message.now self.old).number ≤ counter_limit }
         requires tag { (ops.after_message me quorum message.now self.old).tag ≤ counter_limit }
         ensures { self.new ≡ ops.after_message me quorum message.now self.old }
     {
@@ -36,7 +39,7 @@ impl Ops {
             }
             Message::StoreAck { tag, node } => {
                 if *node == me && *tag == self.tag {
-                    self.stage = acknowledged(&self.stage);
+                    self.take_ack(me, quorum);
                 }
             }
             Message::Enter { .. }
@@ -62,15 +65,51 @@ impl Ops {
             if is_last(&pending) {
                 self.seen.copy_from(&self.view);
                 self.tag += 1;
-                self.stage = Stage::StoringBack(begun(&pending.asked, quorum));
+                self.stage = Stage::StoringBack(round_of(&pending.asked, quorum));
             } else {
                 self.stage = Stage::Querying(counted(&pending));
             }
         }
     }
 
+    // One more acknowledgement of the store. With the last one the operation is done.
+    fn take_ack(&mut self, me: NodeId, quorum: u64)
+        requires some { 1 ≤ quorum }
+        requires few { quorum ≤ known_limit }
+        requires fits { len (ops.after_ack me quorum self.old.phase self.old).view ≤ known_limit }
+        requires number { (ops.after_ack me quorum self.old.phase self.old).number ≤ counter_limit }
+        requires tag { (ops.after_ack me quorum self.old.phase self.old).tag ≤ counter_limit }
+        ensures { self.new ≡ ops.after_ack me quorum self.old.phase self.old }
+    {
+        let stage = self.stage;
+        match stage {
+            Stage::Idle | Stage::Querying(_) => {}
+            Stage::Storing(pending) if is_last(&pending) => self.begin_first(me, quorum),
+            Stage::Storing(pending) => self.stage = Stage::Storing(counted(&pending)),
+            Stage::StoringBack(pending) if is_last(&pending) => self.begin_first(me, quorum),
+            Stage::StoringBack(pending) => self.stage = Stage::StoringBack(counted(&pending)),
+        }
+    }
+
+    // The operation is done: the first of the asks that wait begins.
+    fn begin_first(&mut self, me: NodeId, quorum: u64)
+        requires pending { IsFalse (ops.is_idle self.old.phase) }
+        requires some { 1 ≤ quorum }
+        requires few { quorum ≤ known_limit }
+        requires fits { len (ops.after_last me quorum self.old.line self.old).view ≤ known_limit }
+        requires number { (ops.after_last me quorum self.old.line self.old).number ≤ counter_limit }
+        requires tag { (ops.after_last me quorum self.old.line self.old).tag ≤ counter_limit }
+        ensures { self.new ≡ ops.after_last me quorum self.old.line self.old }
+    {
+        match self.line.take_first() {
+            Some(asked) => self.begin(me, quorum, &asked),
+            None => self.stage = Stage::Idle,
+        }
+    }
+
     /// What a message is answered with. A node serves others only once it has joined (CCC, server); the last reply to the
-    /// own query is answered with a Store of what is seen by then (CCC, client). The only error is a refused growth.
+    /// own query is answered with a Store of what is seen by then (CCC, client), and the last acknowledgement with what
+    /// the first ask that waits begins with. The only error is a refused growth.
     pub fn post(
         &self,
         alloc: Global,
@@ -80,6 +119,7 @@ impl Ops {
         message: &Message,
     ) -> Result<Option<Message>, NoMemory>
         requires fits { len (ops.after_message me quorum message.now self.now).view ≤ known_limit }
+        requires number { (ops.after_message me quorum message.now self.now).number ≤ counter_limit }
         requires tag { (ops.after_message me quorum message.now self.now).tag ≤ counter_limit }
         ensures { IfOk result (λ p. p ≡ ops.post_of me is_joined message.now self.now (ops.after_message me quorum message.now self.now)) }
     {
@@ -95,6 +135,9 @@ impl Ops {
             })),
             Message::QueryReply { view, tag, node } if *node == me && *tag == self.tag => {
                 self.post_of_reply(alloc, me, quorum, view)
+            }
+            Message::StoreAck { tag, node } if *node == me && *tag == self.tag => {
+                self.post_of_ack(alloc, me, quorum)
             }
             _ => Ok(None),
         }
@@ -126,6 +169,36 @@ impl Ops {
             }
         }
         Ok(None)
+    }
+
+    // With the last acknowledgement, what the first ask that waits begins with.
+    fn post_of_ack(
+        &self,
+        alloc: Global,
+        me: NodeId,
+        quorum: u64,
+    ) -> Result<Option<Message>, NoMemory>
+        requires fits { len (ops.after_ack me quorum self.now.phase self.now).view ≤ known_limit }
+        requires number { (ops.after_ack me quorum self.now.phase self.now).number ≤ counter_limit }
+        requires tag { (ops.after_ack me quorum self.now.phase self.now).tag ≤ counter_limit }
+        ensures { IfOk result (λ p. p ≡ option_map (λ asked. ops.first_post me asked (ops.after_ack me quorum self.now.phase self.now))
+            (ops.begun_in self.now.phase self.now.line)) }
+    {
+        match self.begun_by_ack() {
+            Some(asked) => Ok(Some(self.first_post(alloc, me, quorum, asked)?)),
+            None => Ok(None),
+        }
+    }
+
+    // The ask that begins with one more acknowledgement.
+    fn begun_by_ack(&self) -> Option<&Asked>
+        ensures asked { option_map (λ asked. asked.now) result ≡ ops.begun_in self.now.phase self.now.line }
+        ensures room { IfSome result (λ asked. IsFalse (commands.finds_no_room self.now.mine asked.now.command)) }
+    {
+        if !self.ends_store() {
+            return None;
+        }
+        self.line.first()
     }
 
     /// What the client is told on a message: the answer, where this is the last acknowledgement of its operation. A read
@@ -166,19 +239,37 @@ impl Ops {
             Message::QueryReply { tag, node, .. } if *node == me && *tag == self.tag => {
                 self.ends_query()
             }
+            Message::StoreAck { tag, node } if *node == me && *tag == self.tag => {
+                self.begun_by_ack().is_some()
+            }
             _ => false,
         }
     }
 
     /// Whether the message would raise a counter that stands at its limit, `2 ^ 62`.
     pub fn is_spent(&self, me: NodeId, quorum: u64, message: &Message) -> bool
-        ensures { result ≡ overruns self.now.tag (ops.after_message me quorum message.now self.now).tag }
+        ensures { result ≡ (overruns self.now.number (ops.after_message me quorum message.now self.now).number
+            || overruns self.now.tag (ops.after_message me quorum message.now self.now).tag) }
     {
         match message {
             Message::QueryReply { tag, node, .. } if *node == me && *tag == self.tag => {
                 self.tag == COUNTER_LIMIT && self.ends_query()
             }
+            Message::StoreAck { tag, node } if *node == me && *tag == self.tag => {
+                self.ack_is_spent()
+            }
             _ => false,
+        }
+    }
+
+    // Whether one more acknowledgement would raise a counter that stands at its limit.
+    fn ack_is_spent(&self) -> bool
+        ensures { (me quorum : ℕ) → result ≡ (overruns self.now.number (ops.after_ack me quorum self.now.phase self.now).number
+            || overruns self.now.tag (ops.after_ack me quorum self.now.phase self.now).tag) }
+    {
+        match self.begun_by_ack() {
+            Some(asked) => self.begin_is_spent(&asked.command),
+            None => false,
         }
     }
 
@@ -190,6 +281,17 @@ impl Ops {
         match stage {
             Stage::Querying(pending) => is_last(&pending),
             _ => false,
+        }
+    }
+
+    // Whether one more acknowledgement ends the operation.
+    fn ends_store(&self) -> bool
+        ensures { result ≡ ops.ends_store self.now.phase }
+    {
+        let stage = self.stage;
+        match stage {
+            Stage::Storing(pending) | Stage::StoringBack(pending) => is_last(&pending),
+            Stage::Idle | Stage::Querying(_) => false,
         }
     }
 }

@@ -28,23 +28,27 @@ fn comes_in_pieces(alloc: Global, node: &Node) -> Result<bool, Fail> {
     Ok(pieces.as_slice() == plain.as_slice() && length == plain.len() as u64)
 }
 
-// A state of 118 bytes comes in pieces.
+// A state of 119 bytes comes in pieces.
 fn check_pieces<R: Abort + AllocGlobal>(rt: &R, member: &Node) -> Result<(), Fail> {
-    assert_eq!(rt; state_length(member), 118);
-    assert!(rt; comes_in_pieces(rt.alloc(), member)?);
+    let comes_in_pieces = comes_in_pieces(rt.alloc(), member)?;
+    assert_eq!(rt; (state_length(member), comes_in_pieces), (119, true));
     Ok(())
 }
 
 #[test]
 fn a_state_comes_in_pieces(rt: HostRuntime) -> Result<(), Fail> {
     let member = opened(rt.alloc(), 1, &[1], &[])?;
-    check_pieces(&rt, &member)
+    let checked = check_pieces(&rt, &member);
+    drop(member);
+    checked
 }
 
 #[test]
 fn what_a_node_keeps_comes_in_pieces(rt: HostRuntime) -> Result<(), Fail> {
     let node = answered_node(rt.alloc())?;
-    assert!(rt; comes_in_pieces(rt.alloc(), &node)?);
+    let comes_in_pieces = comes_in_pieces(rt.alloc(), &node);
+    drop(node);
+    assert!(rt; comes_in_pieces?);
     Ok(())
 }
 
@@ -72,11 +76,18 @@ fn moves_over<S: Site>(site: &mut S, node: &Node, piece: &mut Piece) -> bool {
         && retire(site, Side::A).is_ok()
 }
 
+// Writes one closed byte on each side. Whether that was done.
+fn shuts<S: Site>(site: &mut S) -> bool {
+    write_durably(site, Side::A, 0, &[0]).is_ok() && write_durably(site, Side::B, 0, &[0]).is_ok()
+}
+
 // Two sides of one closed byte each.
 pub(crate) fn two_sides(alloc: Global) -> Result<MemorySite, Fail> {
     let mut site = MemorySite::new(alloc, 0)?;
-    write_durably(&mut site, Side::A, 0, &[0]).or(Err("the write failed"))?;
-    write_durably(&mut site, Side::B, 0, &[0]).or(Err("the write failed"))?;
+    if !shuts(&mut site) {
+        drop(site);
+        return Err("the write failed")?;
+    }
     Ok(site)
 }
 
@@ -87,28 +98,43 @@ fn bytes_of<S: Site>(alloc: Global, site: &mut S, side: Side) -> Result<Vec<u8>,
     Ok(bytes)
 }
 
-// What a whole checkpoint leaves of side A, and of side B.
-fn moved_over(alloc: Global, node: &Node) -> Result<(Vec<u8>, Vec<u8>), Fail> {
+// Whether a whole checkpoint is done, from the first side on.
+fn is_moved(alloc: Global, site: &mut MemorySite, node: &Node) -> Result<bool, Fail> {
     let mut piece = Piece::new(alloc)?;
-    let mut site = two_sides(alloc)?;
-    if !moves_over(&mut site, node, &mut piece) {
+    let is_moved = moves_over(site, node, &mut piece);
+    drop(piece);
+    Ok(is_moved)
+}
+
+// What a whole checkpoint leaves of side A, and of side B.
+fn sides_of_moved(
+    alloc: Global,
+    site: &mut MemorySite,
+    node: &Node,
+) -> Result<(Vec<u8>, Vec<u8>), Fail> {
+    if !is_moved(alloc, site, node)? {
         return Err("the checkpoint stopped")?;
     }
-    let old = bytes_of(alloc, &mut site, Side::A)?;
-    let new = bytes_of(alloc, &mut site, Side::B)?;
+    let old = bytes_of(alloc, site, Side::A)?;
+    let new = bytes_of(alloc, site, Side::B)?;
     Ok((old, new))
 }
 
-// What stands before the state of 118 bytes: an open gate, generation 2, version 1, and that length.
-const HEAD: [u8; 14] = [0xA5, 0, 0, 0, 0, 0, 0, 0, 2, 1, 0, 0, 0, 0x76];
+fn moved_over(alloc: Global, node: &Node) -> Result<(Vec<u8>, Vec<u8>), Fail> {
+    let mut site = two_sides(alloc)?;
+    let sides = sides_of_moved(alloc, &mut site, node);
+    drop(site);
+    sides
+}
+
+// What stands before the state of 119 bytes: an open gate, generation 2, version 2, and that length.
+const HEAD: [u8; 14] = [0xA5, 0, 0, 0, 0, 0, 0, 0, 2, 2, 0, 0, 0, 0x77];
 
 // What a checkpoint leaves of both sides, for a node of that state.
 fn check_sides<R: Abort>(rt: &R, old: &[u8], new: &[u8], state: &[u8]) {
-    assert_eq!(rt; old, [0].as_slice());
-    assert_eq!(rt; new.len(), 133);
-    assert_eq!(rt; new.get(..14), Some(HEAD.as_slice()));
-    assert_eq!(rt; new.get(14..132), Some(state));
-    assert_eq!(rt; new.get(132), Some(&0));
+    let parts = (new.get(..14), new.get(14..133), new.get(133..));
+    let wanted = (Some(HEAD.as_slice()), Some(state), Some([0].as_slice()));
+    assert_eq!(rt; (old, parts), ([0].as_slice(), wanted));
 }
 
 fn check_checkpoint<R: Abort + AllocGlobal>(rt: &R, member: &Node) -> Result<(), Fail> {
@@ -121,28 +147,36 @@ fn check_checkpoint<R: Abort + AllocGlobal>(rt: &R, member: &Node) -> Result<(),
 #[test]
 fn a_checkpoint_moves_to_the_other_side(rt: HostRuntime) -> Result<(), Fail> {
     let member = opened(rt.alloc(), 1, &[1], &[])?;
-    check_checkpoint(&rt, &member)
+    let checked = check_checkpoint(&rt, &member);
+    drop(member);
+    checked
 }
 
 // Whether a checkpoint is done where that disk call fails, and all after it.
 fn is_done_in_spite_of(alloc: Global, node: &Node, call: u64) -> Result<bool, Fail> {
-    let mut piece = Piece::new(alloc)?;
     let mut site = two_sides(alloc)?;
     site.fuse(call, Failing::Stop);
-    Ok(moves_over(&mut site, node, &mut piece))
+    let is_done = is_moved(alloc, &mut site, node);
+    drop(site);
+    is_done
+}
+
+// The first disk call that may fail without stopping a checkpoint, from a call on.
+fn first_unneeded(alloc: Global, node: &Node, from: u64) -> Result<u64, Fail> {
+    for call in from..100 {
+        if is_done_in_spite_of(alloc, node, call)? {
+            return Ok(call);
+        }
+    }
+    Err("the checkpoint doesn't end")?
 }
 
 // The calls 0 to 3 made the sides. To fill a side takes 7, to arm it 2, and to retire one 4.
-fn check_failed_calls<R: Abort + AllocGlobal>(rt: &R, member: &Node) -> Result<(), Fail> {
-    for call in 4..26 {
-        assert!(rt; !is_done_in_spite_of(rt.alloc(), member, call)?);
-    }
-    assert!(rt; is_done_in_spite_of(rt.alloc(), member, 26)?);
-    Ok(())
-}
-
 #[test]
 fn a_checkpoint_tells_each_failed_call(rt: HostRuntime) -> Result<(), Fail> {
     let member = opened(rt.alloc(), 1, &[1], &[])?;
-    check_failed_calls(&rt, &member)
+    let calls = first_unneeded(rt.alloc(), &member, 4);
+    drop(member);
+    assert_eq!(rt; calls?, 26);
+    Ok(())
 }

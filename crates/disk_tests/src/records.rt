@@ -61,45 +61,63 @@ fn lands<S: Site>(journal: &mut Journal, site: &mut S, batch: Batch) -> bool {
     landed.into_batch().len() == count
 }
 
-// What a scan of these bytes finds: the place of the journal, and how many records and events there are.
-fn found(alloc: Global, bytes: &[u8]) -> Result<(u64, u64, u64), Fail> {
-    let mut site = holding(alloc, bytes)?;
-    let Ok(scanned) = scan(alloc, &mut site, Side::A, 0, entrant(alloc)?) else {
-        return Err("the side is damaged")?;
-    };
-    Ok((scanned.journal.place(), scanned.records, scanned.events))
+// What a scan finds: the place of the journal, and how many records and events there are.
+type Found = (u64, u64, u64);
+
+fn found_in(scanned: &Scanned) -> Found {
+    (scanned.journal.place(), scanned.records, scanned.events)
 }
 
-// Where a scan of these bytes stops.
-fn damaged(alloc: Global, bytes: &[u8]) -> Result<u64, Fail> {
-    let mut site = holding(alloc, bytes)?;
-    let place = stop_of_scan(alloc, &mut site)?;
-    Ok(place.ok_or("nothing is damaged")?)
-}
-
-fn stop_of_scan(alloc: Global, site: &mut MemorySite) -> Result<Option<u64>, Fail> {
-    let node = entrant(alloc)?;
-    Ok(place_of(scan(alloc, site, Side::A, 0, node)))
-}
-
-fn place_of(outcome: Result<Scanned, ScanFault>) -> Option<u64> {
+fn found_or_fault(outcome: Result<Scanned, ScanFault>) -> Result<Found, ScanFault> {
     match outcome {
-        Err(ScanFault::Damaged(place)) => Some(place),
-        _ => None,
+        Ok(scanned) => {
+            let found = found_in(&scanned);
+            drop(scanned);
+            Ok(found)
+        }
+        Err(fault) => Err(fault),
     }
+}
+
+fn scanned(alloc: Global, site: &mut MemorySite) -> Result<Result<Found, ScanFault>, Fail> {
+    let node = entrant(alloc)?;
+    Ok(found_or_fault(scan(alloc, site, Side::A, 0, node)))
+}
+
+// What a scan of these bytes finds, or why it stops.
+fn found(alloc: Global, bytes: &[u8]) -> Result<Result<Found, ScanFault>, Fail> {
+    let mut site = holding(alloc, bytes)?;
+    let found = scanned(alloc, &mut site);
+    drop(site);
+    found
+}
+
+// Damage at that place.
+const fn damaged(place: u64) -> Result<Found, ScanFault> {
+    Err(ScanFault::Damaged(place))
+}
+
+// Writes an Enter behind a closed gate, and another one. The bytes after the first, and the places after both.
+fn entered_twice(alloc: Global, site: &mut MemorySite) -> Result<(Vec<u8>, [u64; 2]), Fail> {
+    let mut journal = Journal::new(alloc, Side::A, 0)?;
+    let first = enters(&mut journal, site).then_some(journal.place());
+    let bytes = contents(alloc, site);
+    let second = enters(&mut journal, site).then_some(journal.place());
+    drop(journal);
+    let bytes = bytes?;
+    let (Some(first), Some(second)) = (first, second) else {
+        return Err("a batch didn't land")?;
+    };
+    Ok((bytes, [first, second]))
 }
 
 #[test]
 fn a_record_stands_behind_its_open_gate(rt: HostRuntime) -> Result<(), Fail> {
-    let alloc = rt.alloc();
-    let mut site = holding(alloc, &[0])?;
-    let mut journal = Journal::new(alloc, Side::A, 0)?;
-    assert!(rt; enters(&mut journal, &mut site));
-    let bytes = contents(alloc, &mut site)?;
-    assert_eq!(rt; bytes.as_slice(), ENTERED.as_slice());
-    assert_eq!(rt; journal.place(), 11);
-    assert!(rt; enters(&mut journal, &mut site));
-    assert_eq!(rt; journal.place(), 22);
+    let mut site = holding(rt.alloc(), &[0])?;
+    let entered = entered_twice(rt.alloc(), &mut site);
+    drop(site);
+    let (bytes, places) = entered?;
+    assert_eq!(rt; (bytes.as_slice(), places), (ENTERED.as_slice(), [11, 22]));
     Ok(())
 }
 
@@ -114,51 +132,90 @@ fn batch_of(limit: usize) -> Batch {
     batch
 }
 
+// How many entries a batch has, and the size of its record.
+fn measure(batch: &Batch) -> (usize, usize, usize) {
+    (batch.len(), batch.entries().len(), batch.size())
+}
+
+// The measures of a batch of 64 entries, once one is taken out, and once another one is put in.
+fn measures() -> [(usize, usize, usize); 3] {
+    let mut batch = batch_of(65);
+    let full = measure(&batch);
+    drop(batch.take_first());
+    let taken = measure(&batch);
+    let _ = batch.push(Entry::default());
+    let again = measure(&batch);
+    drop(batch);
+    [full, taken, again]
+}
+
 #[test]
 fn a_batch_takes_64_entries(rt: HostRuntime) -> Result<(), Fail> {
-    let mut batch = batch_of(65);
-    assert_eq!(rt; batch.len(), 64);
     // a count, and the size and the byte of each event
-    assert_eq!(rt; batch.size(), 1 + 64 * 5);
-    assert!(rt; batch.take_first().is_some());
-    assert_eq!(rt; batch.len(), 63);
-    assert_eq!(rt; batch.entries().len(), 63);
-    assert!(rt; batch.push(Entry::default()).is_ok());
-    assert_eq!(rt; batch.size(), 1 + 64 * 5);
+    let full = (64, 64, 1 + 64 * 5);
+    assert_eq!(rt; measures(), [full, (63, 63, 1 + 63 * 5), full]);
     Ok(())
 }
 
 // Two events share a record, a gate and two syncs: the calls 0 and 1 made the side, 2 is its length, 3 the write, 4 the
 // sync of the record, 5 the gate, and 6 its sync.
-#[test]
-fn a_batch_of_two_has_one_record(rt: HostRuntime) -> Result<(), Fail> {
-    let alloc = rt.alloc();
-    let mut site = holding(alloc, &[0])?;
+fn two_entered(alloc: Global, site: &mut MemorySite) -> Result<u64, Fail> {
     site.fuse(7, Failing::Stop);
     let mut journal = Journal::new(alloc, Side::B, 9)?;
     journal.move_to(Side::A, 0);
-    assert!(rt; lands(&mut journal, &mut site, batch_of(2)));
-    assert_eq!(rt; journal.place(), 16);
-    let image = site.image(alloc, &Choice::Fill(0xA5))?;
-    let mut site = image;
-    let bytes = contents(alloc, &mut site)?;
+    let lands = lands(&mut journal, site, batch_of(2));
+    let place = journal.place();
+    drop(journal);
+    if !lands {
+        return Err("the batch didn't land")?;
+    }
+    Ok(place)
+}
+
+// What is sure of a site.
+fn sure(alloc: Global, site: &MemorySite) -> Result<Vec<u8>, Fail> {
+    let mut image = site.image(alloc, &Choice::Fill(0xA5))?;
+    let bytes = contents(alloc, &mut image);
+    drop(image);
+    bytes
+}
+
+fn sure_of_two(alloc: Global, site: &mut MemorySite) -> Result<(u64, Vec<u8>), Fail> {
+    let place = two_entered(alloc, site)?;
+    Ok((place, sure(alloc, site)?))
+}
+
+#[test]
+fn a_batch_of_two_has_one_record(rt: HostRuntime) -> Result<(), Fail> {
+    let mut site = holding(rt.alloc(), &[0])?;
+    let sure = sure_of_two(rt.alloc(), &mut site);
+    drop(site);
+    let (place, bytes) = sure?;
     let record = [0xA5, 0, 0, 0, 11, 2, 0, 0, 0, 1, 1, 0, 0, 0, 1, 1, 0];
-    assert_eq!(rt; bytes.as_slice(), record.as_slice());
+    assert_eq!(rt; (place, bytes.as_slice()), (16, record.as_slice()));
     Ok(())
+}
+
+// The side, the place, the records and the events of a scan, and how many posts its node has made.
+fn read_again(alloc: Global, site: &mut MemorySite) -> Result<(Side, Found, u64), Fail> {
+    let node = entrant(alloc)?;
+    match scan(alloc, site, Side::A, 0, node) {
+        Ok(scanned) => {
+            let posts = scanned.node.core().posts();
+            let read = (scanned.journal.side(), found_in(&scanned), posts);
+            drop(scanned);
+            Ok(read)
+        }
+        Err(_) => Err("the side is damaged")?,
+    }
 }
 
 #[test]
 fn a_record_is_read_again(rt: HostRuntime) -> Result<(), Fail> {
-    let alloc = rt.alloc();
-    let mut site = holding(alloc, &ENTERED)?;
-    let Ok(scanned) = scan(alloc, &mut site, Side::A, 0, entrant(alloc)?) else {
-        return Err("the side is damaged")?;
-    };
-    assert_eq!(rt; scanned.journal.side(), Side::A);
-    assert_eq!(rt; scanned.journal.place(), 11);
-    assert_eq!(rt; scanned.records, 1);
-    assert_eq!(rt; scanned.events, 1);
-    assert_eq!(rt; scanned.node.core().posts(), 1);
+    let mut site = holding(rt.alloc(), &ENTERED)?;
+    let read = read_again(rt.alloc(), &mut site);
+    drop(site);
+    assert_eq!(rt; read?, (Side::A, (11, 1, 1), 1));
     Ok(())
 }
 
@@ -168,9 +225,9 @@ fn records_are_read_up_to_a_closed_gate(rt: HostRuntime) -> Result<(), Fail> {
     let two = [
         0xA5, 0, 0, 0, 6, 1, 0, 0, 0, 1, 1, 0xA5, 0, 0, 0, 6, 1, 0, 0, 0, 1, 2, 0xFF, 0xA5,
     ];
-    assert_eq!(rt; found(alloc, &two)?, (22, 2, 2));
     let of_two = [0xA5, 0, 0, 0, 11, 2, 0, 0, 0, 1, 1, 0, 0, 0, 1, 2, 0];
-    assert_eq!(rt; found(alloc, &of_two)?, (16, 1, 2));
+    let found = [found(alloc, &two)?, found(alloc, &of_two)?];
+    assert_eq!(rt; found, [Ok((22, 2, 2)), Ok((16, 1, 2))]);
     Ok(())
 }
 
@@ -180,42 +237,41 @@ fn a_record_behind_a_closed_gate_is_not_read(rt: HostRuntime) -> Result<(), Fail
     for gate in [0, 1, 0xA4, 0xFF] {
         let mut bytes = ENTERED;
         bytes[0] = gate;
-        assert_eq!(rt; found(alloc, &bytes)?, (0, 0, 0));
+        assert_eq!(rt; found(alloc, &bytes)?, Ok((0, 0, 0)));
     }
     let behind = [0, 0xA5, 0, 0, 0, 6, 1, 0, 0, 0, 1, 1, 0xA5];
-    assert_eq!(rt; found(alloc, &behind)?, (0, 0, 0));
+    assert_eq!(rt; found(alloc, &behind)?, Ok((0, 0, 0)));
     Ok(())
 }
 
 #[test]
 fn a_side_is_damaged_where_a_gate_is_missing(rt: HostRuntime) -> Result<(), Fail> {
     let alloc = rt.alloc();
-    assert_eq!(rt; damaged(alloc, &[])?, 0);
-    assert_eq!(rt; damaged(alloc, &ENTERED[..11])?, 11);
+    let found = [found(alloc, &[])?, found(alloc, &ENTERED[..11])?];
+    assert_eq!(rt; found, [damaged(0), damaged(11)]);
+    Ok(())
+}
+
+#[test]
+fn a_record_that_is_cut_off_is_damage(rt: HostRuntime) -> Result<(), Fail> {
+    let alloc = rt.alloc();
+    let found = [found(alloc, &ENTERED[..4])?, found(alloc, &ENTERED[..10])?];
+    assert_eq!(rt; found, [damaged(1); 2]);
     Ok(())
 }
 
 #[test]
 fn a_side_is_damaged_at_the_length_of_a_record(rt: HostRuntime) -> Result<(), Fail> {
     let alloc = rt.alloc();
-    // cut off
-    assert_eq!(rt; damaged(alloc, &ENTERED[..4])?, 1);
-    assert_eq!(rt; damaged(alloc, &ENTERED[..10])?, 1);
-    // no event, 65 events, no such event, an event of no byte, a byte too many
-    assert_eq!(rt; damaged(alloc, &[0xA5, 0, 0, 0, 1, 0, 0])?, 1);
-    assert_eq!(rt;
-        damaged(alloc, &[0xA5, 0, 0, 0, 6, 65, 0, 0, 0, 1, 1, 0])?,
-        1
-    );
-    assert_eq!(rt;
-        damaged(alloc, &[0xA5, 0, 0, 0, 6, 1, 0, 0, 0, 1, 7, 0])?,
-        1
-    );
-    assert_eq!(rt; damaged(alloc, &[0xA5, 0, 0, 0, 5, 1, 0, 0, 0, 0, 0])?, 1);
-    assert_eq!(rt;
-        damaged(alloc, &[0xA5, 0, 0, 0, 7, 1, 0, 0, 0, 1, 1, 0, 0])?,
-        1
-    );
+    let found = [
+        // no event, 65 events, no such event, an event of no byte, a byte too many
+        found(alloc, &[0xA5, 0, 0, 0, 1, 0, 0])?,
+        found(alloc, &[0xA5, 0, 0, 0, 6, 65, 0, 0, 0, 1, 1, 0])?,
+        found(alloc, &[0xA5, 0, 0, 0, 6, 1, 0, 0, 0, 1, 7, 0])?,
+        found(alloc, &[0xA5, 0, 0, 0, 5, 1, 0, 0, 0, 0, 0])?,
+        found(alloc, &[0xA5, 0, 0, 0, 7, 1, 0, 0, 0, 1, 1, 0, 0])?,
+    ];
+    assert_eq!(rt; found, [damaged(1); 5]);
     Ok(())
 }
 
@@ -225,37 +281,52 @@ fn an_event_that_is_refused_is_damage(rt: HostRuntime) -> Result<(), Fail> {
     let twice = [
         0xA5, 0, 0, 0, 6, 1, 0, 0, 0, 1, 1, 0xA5, 0, 0, 0, 6, 1, 0, 0, 0, 1, 1, 0,
     ];
-    assert_eq!(rt; damaged(rt.alloc(), &twice)?, 12);
+    assert_eq!(rt; found(rt.alloc(), &twice)?, damaged(12));
     Ok(())
+}
+
+// What a scan comes to whose disk call of that number fails.
+fn found_failing(alloc: Global, at: u64) -> Result<Result<Found, ScanFault>, Fail> {
+    let mut site = holding(alloc, &ENTERED)?;
+    site.fuse(at, Failing::Once);
+    let found = scanned(alloc, &mut site);
+    drop(site);
+    found
 }
 
 // The calls 0 and 1 made the side, 2 is its length, 3 the gate, and 4 the record's length.
 #[test]
 fn a_scan_tells_a_failed_call(rt: HostRuntime) -> Result<(), Fail> {
-    let alloc = rt.alloc();
+    let side = Side::A;
     for (at, call) in [(2, Call::Length), (3, Call::Read), (4, Call::Read)] {
-        let mut site = holding(alloc, &ENTERED)?;
-        site.fuse(at, Failing::Once);
-        let fault = scan(alloc, &mut site, Side::A, 0, entrant(alloc)?).err();
-        let device = DeviceFault {
-            side: Side::A,
-            call,
-        };
-        assert_eq!(rt; fault, Some(ScanFault::Device(device)));
+        let device = DeviceFault { side, call };
+        let found = found_failing(rt.alloc(), at)?;
+        assert_eq!(rt; found, Err(ScanFault::Device(device)));
     }
     Ok(())
+}
+
+// Whether an Enter lands whose disk call of that number fails, with all after it, and the place of its journal then.
+fn entered_failing(alloc: Global, at: u64) -> Result<(bool, u64), Fail> {
+    let mut site = holding(alloc, &[0])?;
+    site.fuse(at, Failing::Stop);
+    let entered = entered_on(alloc, &mut site);
+    drop(site);
+    entered
+}
+
+fn entered_on(alloc: Global, site: &mut MemorySite) -> Result<(bool, u64), Fail> {
+    let mut journal = Journal::new(alloc, Side::A, 0)?;
+    let entered = (enters(&mut journal, site), journal.place());
+    drop(journal);
+    Ok(entered)
 }
 
 // The calls 0 and 1 made the side, 2 is its length, 3 the write, and 4 the sync of the record.
 #[test]
 fn a_failed_call_forfeits_the_batch(rt: HostRuntime) -> Result<(), Fail> {
-    let alloc = rt.alloc();
     for at in [3, 4, 5, 6] {
-        let mut site = holding(alloc, &[0])?;
-        site.fuse(at, Failing::Stop);
-        let mut journal = Journal::new(alloc, Side::A, 0)?;
-        assert!(rt; !enters(&mut journal, &mut site));
-        assert_eq!(rt; journal.place(), 0);
+        assert_eq!(rt; entered_failing(rt.alloc(), at)?, (false, 0));
     }
     Ok(())
 }

@@ -19,8 +19,8 @@ fn put_zeros(out: &mut Vec<u8>, count: usize) -> Result<(), Fail> {
 
 // Appends the fields from the own number to the count of posts, where nothing was done yet.
 fn put_nothing_done(out: &mut Vec<u8>) -> Result<(), Fail> {
-    // The number, the own value, the tag, the echoes and how many are needed, the phase, and the posts.
-    put_zeros(out, 8 + 11 + 8 + 10 + 1 + 8)
+    // The number, the own value, the tag, the echoes and how many are needed, the phase, the asks that wait, and the posts.
+    put_zeros(out, 8 + 11 + 8 + 10 + 1 + 1 + 8)
 }
 
 // The opening state of member 1 of 1, both shares 4/5.
@@ -79,17 +79,36 @@ pub(crate) fn encoded(alloc: Global, node: &Node) -> Result<Vec<u8>, Fail> {
 }
 
 fn decoded(alloc: Global, bytes: &[u8]) -> Result<Node, Fail> {
-    Ok(decode_state(alloc, bytes)?)
+    Ok(decode_state(alloc, bytes, true)?)
 }
 
 // The state of the node that the bytes are decoded to.
 fn stored_again(alloc: Global, bytes: &[u8]) -> Result<Vec<u8>, Fail> {
     let node = decoded(alloc, bytes)?;
-    encoded(alloc, &node)
+    let state = encoded(alloc, &node);
+    drop(node);
+    state
 }
 
 fn fault(alloc: Global, bytes: &[u8]) -> Option<StateFault> {
-    decode_state(alloc, bytes).err()
+    match decode_state(alloc, bytes, true) {
+        Ok(node) => {
+            drop(node);
+            None
+        }
+        Err(fault) => Some(fault),
+    }
+}
+
+/// The node, where what was done with it came to its end.
+pub(crate) fn led_to(node: Node, done: Result<(), Fail>) -> Result<Node, Fail> {
+    match done {
+        Ok(()) => Ok(node),
+        Err(fault) => {
+            drop(node);
+            Err(fault)
+        }
+    }
 }
 
 // The bytes, with another one at that place.
@@ -117,33 +136,78 @@ fn begins_as(
     bytes: &[u8],
 ) -> Result<bool, Fail> {
     let node = opened(alloc, me, initial, contacts)?;
-    is_stored_as(alloc, &node, bytes)
+    let is_stored = is_stored_as(alloc, &node, bytes);
+    drop(node);
+    is_stored
 }
 
 #[test]
-fn a_member_begins_with_118_bytes(rt: HostRuntime) -> Result<(), Fail> {
+fn a_member_begins_with_119_bytes(rt: HostRuntime) -> Result<(), Fail> {
     let bytes = member(rt.alloc())?;
-    assert_eq!(rt; bytes.len(), 118);
+    assert_eq!(rt; bytes.len(), 119);
     let begins = begins_as(rt.alloc(), 1, &[1], &[], &bytes)?;
     assert!(rt; begins);
     Ok(())
 }
 
 #[test]
-fn an_entrant_begins_with_138_bytes(rt: HostRuntime) -> Result<(), Fail> {
+fn an_entrant_begins_with_139_bytes(rt: HostRuntime) -> Result<(), Fail> {
     let bytes = entrant(rt.alloc())?;
-    assert_eq!(rt; bytes.len(), 138);
+    assert_eq!(rt; bytes.len(), 139);
     let begins = begins_as(rt.alloc(), 4, &[], &[1], &bytes)?;
     assert!(rt; begins);
     Ok(())
 }
 
+// An opening state as version 1 has it, without the count of asks that wait: one of the zeros around place 74.
+fn without_line(alloc: Global, bytes: &[u8]) -> Result<Vec<u8>, Fail> {
+    let mut first = Vec::new(alloc);
+    for (at, byte) in bytes.iter().enumerate() {
+        if at != 74 {
+            first.push(*byte)?;
+        }
+    }
+    Ok(first)
+}
+
+// The state of the node whose state these bytes of version 1 are.
+fn from_version_1(alloc: Global, bytes: &[u8]) -> Result<Vec<u8>, Fail> {
+    let node = decode_state(alloc, bytes, false)?;
+    let state = encoded(alloc, &node);
+    drop(node);
+    state
+}
+
+// Whether an opening state that has so many bytes in version 1 is read as that, and stored as it is in version 2.
+fn is_stored_anew(alloc: Global, length: usize, second: &[u8]) -> Result<bool, Fail> {
+    let first = without_line(alloc, second)?;
+    let again = from_version_1(alloc, &first)?;
+    Ok(first.len() == length && again.as_slice() == second)
+}
+
+#[test]
+fn a_state_of_version_1_has_no_line(rt: HostRuntime) -> Result<(), Fail> {
+    let of_member = member(rt.alloc())?;
+    let of_entrant = entrant(rt.alloc())?;
+    let stored = (
+        is_stored_anew(rt.alloc(), 118, &of_member)?,
+        is_stored_anew(rt.alloc(), 138, &of_entrant)?,
+    );
+    assert_eq!(rt; stored, (true, true));
+    Ok(())
+}
+
 #[test]
 fn an_entrant_is_read(rt: HostRuntime) -> Result<(), Fail> {
-    let node = decoded(rt.alloc(), &entrant(rt.alloc())?)?;
-    assert_eq!(rt; node.me().number(), 4);
-    assert!(rt; !node.is_joined());
-    assert_eq!(rt; node.core().links().len(), 2);
+    let bytes = entrant(rt.alloc())?;
+    let node = decoded(rt.alloc(), &bytes)?;
+    let read = (
+        node.me().number(),
+        node.is_joined(),
+        node.core().links().len(),
+    );
+    drop(node);
+    assert_eq!(rt; read, (4, false, 2));
     Ok(())
 }
 
@@ -157,28 +221,34 @@ fn each_prefix_of_a_state_is_short(rt: HostRuntime) -> Result<(), Fail> {
     Ok(())
 }
 
+// A byte of the opening state of member 1 of 1, and the fault that the decoder then meets.
+const FAULTS: [(usize, u8, WireFault); 12] = [
+    // The node itself, who entered, and a link to no node.
+    (3, 0, WireFault::NotAscending),
+    (25, 0, WireFault::NotAscending),
+    (88, 0, WireFault::NotAscending),
+    // The text and the flag of the own value, and the phase.
+    (44, 65, WireFault::TooLarge),
+    (53, 2, WireFault::BadKind(2)),
+    (73, 4, WireFault::BadKind(4)),
+    // More than 32 asks that wait, and one that isn't there.
+    (74, 33, WireFault::TooLarge),
+    (74, 1, WireFault::BadKind(0)),
+    // More than 256 rows of a view, than 256 sessions and than 512 kept posts.
+    (34, 2, WireFault::TooLarge),
+    (113, 2, WireFault::TooLarge),
+    (115, 3, WireFault::TooLarge),
+    // One kept answer that isn't there.
+    (118, 1, WireFault::Short),
+];
+
 #[test]
 fn faults_of_the_wire_come_before_unlawful(rt: HostRuntime) -> Result<(), Fail> {
-    for (at, byte, wire) in [
-        // The node itself, who entered, and a link to no node.
-        (3, 0, WireFault::NotAscending),
-        (25, 0, WireFault::NotAscending),
-        (87, 0, WireFault::NotAscending),
-        // The text and the flag of the own value.
-        (44, 65, WireFault::TooLarge),
-        (53, 2, WireFault::BadKind(2)),
-        (73, 4, WireFault::BadKind(4)),
-        // More than 256 rows of a view, than 256 sessions and than 512 kept posts.
-        (34, 2, WireFault::TooLarge),
-        (112, 2, WireFault::TooLarge),
-        (114, 3, WireFault::TooLarge),
-        // One kept answer that isn't there.
-        (117, 1, WireFault::Short),
-    ] {
-        // With a share of nothing the state is unlawful too.
-        let nothing = turned(rt.alloc(), &member(rt.alloc())?, 7, 0)?;
-        let bytes = turned(rt.alloc(), &nothing, at, byte)?;
-        assert_eq!(rt; fault(rt.alloc(), &bytes), Some(StateFault::Wire(wire)));
+    // With a share of nothing the state is unlawful too.
+    let nothing = turned(rt.alloc(), &member(rt.alloc())?, 7, 0)?;
+    for (at, byte, wire) in FAULTS {
+        let fault = fault_with(rt.alloc(), &nothing, at, byte)?;
+        assert_eq!(rt; fault, Some(StateFault::Wire(wire)));
     }
     Ok(())
 }
@@ -194,45 +264,60 @@ fn no_byte_follows_a_state(rt: HostRuntime) -> Result<(), Fail> {
     Ok(())
 }
 
+// A byte of the opening state of member 1 of 1 that makes it the state of no node.
+const UNLAWFUL: [(usize, u8); 17] = [
+    // Shares of nothing, and of more than all.
+    (7, 0),
+    (7, 6),
+    (15, 0),
+    (15, 6),
+    // A node without a link, one that joined and hasn't entered, and one that left and isn't known.
+    (3, 2),
+    (25, 2),
+    (31, 2),
+    (88, 2),
+    // Counters past their limit: the number, the tag, the echoes, the posts, and what was heard.
+    (36, 0x80),
+    (55, 0x80),
+    (63, 0x80),
+    (75, 0x80),
+    (105, 0x80),
+    // 512 echoes are needed.
+    (71, 2),
+    // A post was made, and isn't kept.
+    (82, 1),
+    // A link begins after the last post, and one has acknowledged more than was sent.
+    (96, 1),
+    (104, 1),
+];
+
+// The fault of a state with another byte at that place.
+fn fault_with(
+    alloc: Global,
+    state: &[u8],
+    at: usize,
+    byte: u8,
+) -> Result<Option<StateFault>, Fail> {
+    let bytes = turned(alloc, state, at, byte)?;
+    Ok(fault(alloc, &bytes))
+}
+
 #[test]
 fn states_in_which_no_node_can_be(rt: HostRuntime) -> Result<(), Fail> {
-    for (at, byte) in [
-        // Shares of nothing, and of more than all.
-        (7, 0),
-        (7, 6),
-        (15, 0),
-        (15, 6),
-        // A node without a link, one that joined and hasn't entered, and one that left and isn't known.
-        (3, 2),
-        (25, 2),
-        (31, 2),
-        (87, 2),
-        // Counters past their limit: the number, the tag, the echoes, the posts, and what was heard.
-        (36, 0x80),
-        (55, 0x80),
-        (63, 0x80),
-        (74, 0x80),
-        (104, 0x80),
-        // 512 echoes are needed.
-        (71, 2),
-        // A post was made, and isn't kept.
-        (81, 1),
-        // A link begins after the last post, and one has acknowledged more than was sent.
-        (95, 1),
-        (103, 1),
-    ] {
-        let bytes = turned(rt.alloc(), &member(rt.alloc())?, at, byte)?;
-        assert_eq!(rt; fault(rt.alloc(), &bytes), Some(StateFault::Unlawful));
+    let state = member(rt.alloc())?;
+    for (at, byte) in UNLAWFUL {
+        let fault = fault_with(rt.alloc(), &state, at, byte)?;
+        assert_eq!(rt; fault, Some(StateFault::Unlawful));
     }
-    let heard = turned(rt.alloc(), &member(rt.alloc())?, 111, 1)?;
-    assert!(rt; decode_state(rt.alloc(), &heard).is_ok());
+    // Something was heard.
+    assert_eq!(rt; fault_with(rt.alloc(), &state, 112, 1)?, None);
     Ok(())
 }
 
 // The opening state of member 1 of 1 with links to the nodes up to that one.
 fn linked_to(alloc: Global, nodes: u16) -> Result<Vec<u8>, Fail> {
     let mut bytes = member(alloc)?;
-    bytes.truncate(82);
+    bytes.truncate(83);
     bytes.extend_from_slice(&nodes.to_be_bytes())?;
     for peer in 0..nodes {
         bytes.extend_from_slice(&(u32::from(peer) + 1).to_be_bytes())?;
@@ -254,7 +339,9 @@ fn more_than_256_links_are_unlawful(rt: HostRuntime) -> Result<(), Fail> {
 // How many links the node of a state has.
 fn link_count(alloc: Global, bytes: &[u8]) -> Result<usize, Fail> {
     let node = decoded(alloc, bytes)?;
-    Ok(node.core().links().len())
+    let count = node.core().links().len();
+    drop(node);
+    Ok(count)
 }
 
 // Takes the event in, which isn't refused.
@@ -296,23 +383,31 @@ fn collect_whole(alloc: Global, node: &mut Node) -> Result<(), Fail> {
     deliver(alloc, node, 4)
 }
 
+fn state_of_collect(alloc: Global, node: &mut Node) -> Result<Vec<u8>, Fail> {
+    collect(alloc, node)?;
+    encoded(alloc, node)
+}
+
 // The state of member 1 of 1 that stores back what its collect has seen.
 fn storing_back(alloc: Global) -> Result<Vec<u8>, Fail> {
     let mut node = opened(alloc, 1, &[1], &[])?;
-    collect(alloc, &mut node)?;
-    encoded(alloc, &node)
+    let state = state_of_collect(alloc, &mut node);
+    drop(node);
+    state
 }
 
 // Member 1 of 1, whose collect is answered.
 pub(crate) fn answered_node(alloc: Global) -> Result<Node, Fail> {
     let mut node = opened(alloc, 1, &[1], &[])?;
-    collect_whole(alloc, &mut node)?;
-    Ok(node)
+    let collected = collect_whole(alloc, &mut node);
+    led_to(node, collected)
 }
 
 fn answered(alloc: Global) -> Result<Vec<u8>, Fail> {
     let node = answered_node(alloc)?;
-    encoded(alloc, &node)
+    let state = encoded(alloc, &node);
+    drop(node);
+    state
 }
 
 #[test]
@@ -328,20 +423,70 @@ fn a_pending_collect_is_stored(rt: HostRuntime) -> Result<(), Fail> {
     Ok(())
 }
 
+// The state of the same node, with the first request of session 8 waiting behind it, a flag to set.
+fn waiting(alloc: Global) -> Result<Vec<u8>, Fail> {
+    let mut node = opened(alloc, 1, &[1], &[])?;
+    let state = state_of_waiting(alloc, &mut node);
+    drop(node);
+    state
+}
+
+fn state_of_waiting(alloc: Global, node: &mut Node) -> Result<Vec<u8>, Fail> {
+    collect(alloc, node)?;
+    let asked = Event::Ask {
+        session: 8,
+        request: 1,
+        command: Command::SetFlag,
+    };
+    take(alloc, node, asked)?;
+    encoded(alloc, node)
+}
+
+#[test]
+fn an_ask_that_waits_is_stored(rt: HostRuntime) -> Result<(), Fail> {
+    let bytes = waiting(rt.alloc())?;
+    let again = stored_again(rt.alloc(), &bytes)?;
+    let line = [1, 0, 0, 0, 0, 0, 0, 0, 8, 0, 0, 0, 0, 0, 0, 0, 1, 5];
+    assert_eq!(rt; bytes.get(97..115), Some(line.as_slice()));
+    assert_eq!(rt; again.as_slice(), bytes.as_slice());
+    Ok(())
+}
+
+// A byte of that state which no node can have there.
+const NOT_WAITING: [(usize, u8); 3] = [
+    // The pending session, one without a request, and another request than the last one.
+    (105, 7),
+    (105, 9),
+    (113, 2),
+];
+
+#[test]
+fn asks_that_wait_in_no_node(rt: HostRuntime) -> Result<(), Fail> {
+    let state = waiting(rt.alloc())?;
+    for (at, byte) in NOT_WAITING {
+        let fault = fault_with(rt.alloc(), &state, at, byte)?;
+        assert_eq!(rt; fault, Some(StateFault::Unlawful));
+    }
+    Ok(())
+}
+
+// A byte of the state that stores back which no node can have there.
+const NOT_PENDING: [(usize, u8); 4] = [
+    // Another session, and another request than the session's last one.
+    (81, 8),
+    (89, 2),
+    // A command that writes, in a phase of reading.
+    (90, 5),
+    // As many answers as are needed.
+    (94, 1),
+];
+
 #[test]
 fn operations_that_no_node_has_pending(rt: HostRuntime) -> Result<(), Fail> {
-    let bytes = storing_back(rt.alloc())?;
-    for (at, byte) in [
-        // Another session, and another request than the session's last one.
-        (81, 8),
-        (89, 2),
-        // A command that writes, in a phase of reading.
-        (90, 5),
-        // As many answers as are needed.
-        (94, 1),
-    ] {
-        let other = turned(rt.alloc(), &bytes, at, byte)?;
-        assert_eq!(rt; fault(rt.alloc(), &other), Some(StateFault::Unlawful));
+    let state = storing_back(rt.alloc())?;
+    for (at, byte) in NOT_PENDING {
+        let fault = fault_with(rt.alloc(), &state, at, byte)?;
+        assert_eq!(rt; fault, Some(StateFault::Unlawful));
     }
     Ok(())
 }
@@ -364,7 +509,9 @@ fn keeps_an_answer(node: &Node) -> bool {
 fn what_a_node_keeps_is_read(rt: HostRuntime) -> Result<(), Fail> {
     let bytes = answered(rt.alloc())?;
     let node = decoded(rt.alloc(), &bytes)?;
-    assert!(rt; keeps_an_answer(&node));
+    let keeps_an_answer = keeps_an_answer(&node);
+    drop(node);
+    assert!(rt; keeps_an_answer);
     Ok(())
 }
 

@@ -1,7 +1,7 @@
 //! States that are read off a side through one buffer.
 
 use crate::checkpoints::{fills, two_sides};
-use crate::states::{answered_node, deliver, encoded, take};
+use crate::states::{answered_node, deliver, encoded, led_to, take};
 use cc_changes::Fraction;
 use cc_checkpoint::{OpenFault, Piece, arm, read_state};
 use cc_node::{Node, Opening};
@@ -82,40 +82,52 @@ fn store_six_times(alloc: Global, node: &mut Node) -> Result<(), Fail> {
 
 fn long_node(alloc: Global) -> Result<Node, Fail> {
     let mut node = member_of_256(alloc)?;
-    store_six_times(alloc, &mut node)?;
-    Ok(node)
+    let stored = store_six_times(alloc, &mut node);
+    led_to(node, stored)
 }
 
 // Side A holds the node. Whether that was done.
-fn holds(site: &mut MemorySite, node: &Node, piece: &mut Piece) -> bool {
-    fills(site, Side::A, 1, node, piece) && arm(site, Side::A).is_ok()
+fn holds(alloc: Global, site: &mut MemorySite, node: &Node) -> Result<bool, Fail> {
+    let mut piece = Piece::new(alloc)?;
+    let holds = fills(site, Side::A, 1, node, &mut piece) && arm(site, Side::A).is_ok();
+    drop(piece);
+    Ok(holds)
 }
 
-fn held_by_side_a(alloc: Global, node: &Node) -> Result<MemorySite, Fail> {
+// The node that is read off side A, and the place behind its state.
+fn read(alloc: Global, site: &mut MemorySite) -> Result<(Node, u64), OpenFault> {
     let mut piece = Piece::new(alloc)?;
-    let mut site = two_sides(alloc)?;
-    if !holds(&mut site, node, &mut piece) {
+    let read = read_state(alloc, site, Side::A, &mut piece);
+    drop(piece);
+    read
+}
+
+// The same of a side that was made to hold it.
+fn held_and_read(alloc: Global, site: &mut MemorySite, node: &Node) -> Result<(Node, u64), Fail> {
+    if !holds(alloc, site, node)? {
         return Err("the side wasn't armed")?;
     }
-    Ok(site)
+    Ok(read(alloc, site)?)
 }
 
-// The node that is read back, and the place behind its state.
-fn read_back(alloc: Global, node: &Node) -> Result<(Node, u64), Fail> {
-    let mut site = held_by_side_a(alloc, node)?;
-    let mut piece = Piece::new(alloc)?;
-    let read = read_state(alloc, &mut site, Side::A, &mut piece).or(Err("no state was read"))?;
-    Ok(read)
+// The state of the node that is read back, and the place behind it.
+fn read_back(alloc: Global, node: &Node) -> Result<(Vec<u8>, u64), Fail> {
+    let mut site = two_sides(alloc)?;
+    let read = held_and_read(alloc, &mut site, node);
+    drop(site);
+    let (again, place) = read?;
+    let state = encoded(alloc, &again);
+    drop(again);
+    Ok((state?, place))
 }
 
 // Whether a node whose state is so long is read back.
 fn is_read_back(alloc: Global, node: &Node, at_least: usize) -> Result<bool, Fail> {
     let state = encoded(alloc, node)?;
     let (again, place) = read_back(alloc, node)?;
-    let read = encoded(alloc, &again)?;
     Ok(
         state.len() >= at_least
-            && read.as_slice() == state.as_slice()
+            && again.as_slice() == state.as_slice()
             && place == 14 + state.len() as u64,
     )
 }
@@ -123,72 +135,94 @@ fn is_read_back(alloc: Global, node: &Node, at_least: usize) -> Result<bool, Fai
 #[test]
 fn a_state_of_two_pieces_and_more_is_read_back(rt: HostRuntime) -> Result<(), Fail> {
     let node = long_node(rt.alloc())?;
-    assert!(rt; is_read_back(rt.alloc(), &node, 131_073)?);
+    let is_read_back = is_read_back(rt.alloc(), &node, 131_073);
+    drop(node);
+    assert!(rt; is_read_back?);
     Ok(())
 }
 
 #[test]
 fn a_short_state_is_read_back(rt: HostRuntime) -> Result<(), Fail> {
     let node = answered_node(rt.alloc())?;
-    assert!(rt; is_read_back(rt.alloc(), &node, 1)?);
+    let is_read_back = is_read_back(rt.alloc(), &node, 1);
+    drop(node);
+    assert!(rt; is_read_back?);
     Ok(())
 }
 
-// What an armed side has up to the end of the node's state, of which so many bytes are told.
-fn front(alloc: Global, node: &Node, told: usize) -> Result<Vec<u8>, Fail> {
+// What an armed side has up to the end of a state, of which so many bytes are told.
+fn front(alloc: Global, state: &[u8], told: usize) -> Result<Vec<u8>, Fail> {
     let told = u32::try_from(told).or(Err("no state is so long"))?;
-    let mut bytes = Vec::from_slice(alloc, &[0xA5, 0, 0, 0, 0, 0, 0, 0, 1, 1])?;
+    let mut bytes = Vec::from_slice(alloc, &[0xA5, 0, 0, 0, 0, 0, 0, 0, 1, 2])?;
     bytes.extend_from_slice(&told.to_be_bytes())?;
-    let state = encoded(alloc, node)?;
-    bytes.extend_from_slice(&state)?;
+    bytes.extend_from_slice(state)?;
     Ok(bytes)
 }
 
 // Why the state of side A can't be read, where the side has just these bytes.
 fn fault(alloc: Global, bytes: &[u8]) -> Result<Option<OpenFault>, Fail> {
     let mut site = MemorySite::new(alloc, 0)?;
-    write_durably(&mut site, Side::A, 0, bytes).or(Err("the write failed"))?;
-    let mut piece = Piece::new(alloc)?;
-    Ok(read_state(alloc, &mut site, Side::A, &mut piece).err())
+    let written = write_durably(&mut site, Side::A, 0, bytes);
+    let fault = why_unread(alloc, &mut site);
+    drop(site);
+    written.or(Err("the write failed"))?;
+    Ok(fault)
 }
 
-fn check_cuts<R: Abort + AllocGlobal>(rt: &R, node: &Node) -> Result<(), Fail> {
-    let length = encoded(rt.alloc(), node)?.len();
-    let side = front(rt.alloc(), node, length)?;
+fn why_unread(alloc: Global, site: &mut MemorySite) -> Option<OpenFault> {
+    match read(alloc, site) {
+        Ok((node, _)) => {
+            drop(node);
+            None
+        }
+        Err(fault) => Some(fault),
+    }
+}
+
+// A side of that node is cut off at each byte.
+fn check_cuts<R: Abort + AllocGlobal>(rt: &R, side: &[u8]) -> Result<(), Fail> {
     for len in 0..side.len() {
         // No version stands there, or no length, or that goes past the end.
         let place = if len < 10 { 9 } else { 10 };
         let cut = fault(rt.alloc(), &side[..len])?;
         assert_eq!(rt; cut, Some(OpenFault::Damaged(Side::A, place)));
     }
-    assert_eq!(rt; fault(rt.alloc(), &side)?, None);
+    assert_eq!(rt; fault(rt.alloc(), side)?, None);
     Ok(())
+}
+
+// The state of a node that keeps an answer and posts.
+fn kept_state(alloc: Global) -> Result<Vec<u8>, Fail> {
+    let node = answered_node(alloc)?;
+    let state = encoded(alloc, &node);
+    drop(node);
+    state
 }
 
 #[test]
 fn each_cut_of_a_side_is_damaged(rt: HostRuntime) -> Result<(), Fail> {
-    let node = answered_node(rt.alloc())?;
-    check_cuts(&rt, &node)
+    let state = kept_state(rt.alloc())?;
+    let side = front(rt.alloc(), &state, state.len())?;
+    check_cuts(&rt, &side)
 }
 
-fn check_parts<R: Abort + AllocGlobal>(rt: &R, node: &Node) -> Result<(), Fail> {
-    let length = encoded(rt.alloc(), node)?.len();
-    for told in 0..length {
-        let side = front(rt.alloc(), node, told)?;
-        let told_part = side
-            .get(..told.saturating_add(14))
-            .ok_or("no state stands there")?;
-        let cut = fault(rt.alloc(), told_part)?;
-        assert_eq!(rt; cut, Some(OpenFault::Damaged(Side::A, 14)));
-        // What is behind the state that is told doesn't matter.
-        let more = fault(rt.alloc(), &side)?;
-        assert_eq!(rt; more, Some(OpenFault::Damaged(Side::A, 14)));
-    }
+// Of the state that long a part is told, whatever stands behind it.
+fn check_part<R: Abort + AllocGlobal>(rt: &R, state: &[u8], told: usize) -> Result<(), Fail> {
+    let side = front(rt.alloc(), state, told)?;
+    let part = side
+        .get(..told.saturating_add(14))
+        .ok_or("no state stands there")?;
+    let faults = (fault(rt.alloc(), part)?, fault(rt.alloc(), &side)?);
+    let damage = Some(OpenFault::Damaged(Side::A, 14));
+    assert_eq!(rt; faults, (damage, damage));
     Ok(())
 }
 
 #[test]
 fn each_part_of_a_state_is_damaged(rt: HostRuntime) -> Result<(), Fail> {
-    let node = answered_node(rt.alloc())?;
-    check_parts(&rt, &node)
+    let state = kept_state(rt.alloc())?;
+    for told in 0..state.len() {
+        check_part(&rt, &state, told)?;
+    }
+    Ok(())
 }

@@ -1,10 +1,12 @@
 //! A checkpoint of the engine, and what a crash leaves of it.
 
 use crate::commits::{Part, member, turned};
-use crate::openings::{armed_twice, contents, crashes, entered, entrant, opened, posts};
+use crate::openings::{
+    armed_twice, contents, crashes, entered, entrant, opened, posts, with_sides,
+};
 use cc_checkpoint::encode_state;
 use cc_flush::{CheckpointFault, Failed, Flusher};
-use cc_site::{Call, Choice, DeviceFault, Failing, MemorySite, Side, write_durably};
+use cc_site::{Call, Choice, DeviceFault, Failing, MemorySite, Side};
 use std::alloc::Global;
 use std::process::Abort;
 use std::test::*;
@@ -31,18 +33,43 @@ pub fn moved(
 // What a checkpoint of member 1 of 1 leaves of a side.
 fn side_of_moved(alloc: Global, side: Side) -> Result<Vec<u8>, Fail> {
     let (mut site, _) = moved(alloc, member(alloc)?)?;
-    contents(alloc, &mut site, side)
+    let side = contents(alloc, &mut site, side);
+    drop(site);
+    side
 }
 
-// What stands before the state of 118 bytes: an open gate, generation 2, version 1, and that length.
-const HEAD: [u8; 14] = [0xA5, 0, 0, 0, 0, 0, 0, 0, 2, 1, 0, 0, 0, 0x76];
+// What stands before the state of 119 bytes: an open gate, generation 2, version 2, and that length.
+const HEAD: [u8; 14] = [0xA5, 0, 0, 0, 0, 0, 0, 0, 2, 2, 0, 0, 0, 0x77];
 
 #[test]
 fn a_checkpoint_changes_sides(rt: HostRuntime) -> Result<(), Fail> {
     let old = side_of_moved(rt.alloc(), Side::A)?;
-    assert_eq!(rt; old.as_slice(), [0].as_slice());
     let new = side_of_moved(rt.alloc(), Side::B)?;
-    assert_eq!(rt; new.len(), 133);
+    assert_eq!(rt; old.as_slice(), [0].as_slice());
+    assert_eq!(rt; (new.len(), new.get(..14)), (134, Some(HEAD.as_slice())));
+    Ok(())
+}
+
+// Side A of member 1 of 1 as version 1 lays it out: without the count of asks that wait, in 118 bytes.
+fn side_of_version_1(alloc: Global) -> Result<Vec<u8>, Fail> {
+    let second = side_of_member(alloc)?;
+    let mut first = Vec::new(alloc);
+    for (at, byte) in second.iter().enumerate() {
+        match at {
+            9 => first.push(1)?,
+            13 => first.push(0x76)?,
+            88 => {}
+            _ => first.push(*byte)?,
+        }
+    }
+    Ok(first)
+}
+
+#[test]
+fn a_side_of_version_1_is_moved_to_version_2(rt: HostRuntime) -> Result<(), Fail> {
+    let first = side_of_version_1(rt.alloc())?;
+    let (fault, _, new) = moved_sides(rt.alloc(), with_sides(rt.alloc(), &first, &[0])?)?;
+    assert_eq!(rt; (fault, first.len(), new.len()), (None, 133, 134));
     assert_eq!(rt; new.get(..14), Some(HEAD.as_slice()));
     Ok(())
 }
@@ -63,9 +90,18 @@ fn a_node_goes_on_behind_a_checkpoint(rt: HostRuntime) -> Result<(), Fail> {
 
 // A checkpoint of entrant 4, of which the disk call with that number fails, and all after it, from its opening on.
 fn stopped(alloc: Global, at: u64) -> Result<(MemorySite, Option<CheckpointFault>), Fail> {
-    let mut site = entrant(alloc)?.image(alloc, &Choice::Read)?;
-    site.fuse(at, Failing::Stop);
-    moved(alloc, site)
+    let site = entrant(alloc)?;
+    let stopped = stopped_at(alloc, &site, at, Failing::Stop);
+    drop(site);
+    stopped
+}
+
+// Why that checkpoint wasn't made, if it wasn't, and how many posts the node has that a crash leaves.
+fn outcome_of_stop(alloc: Global, at: u64) -> Result<(Option<CheckpointFault>, [u64; 5]), Fail> {
+    let (site, fault) = stopped(alloc, at)?;
+    let left = crashes(alloc, &site);
+    drop(site);
+    Ok((fault, left?))
 }
 
 // The calls of opening are 0 to 13. Whatever a crash leaves, the node is found again.
@@ -90,16 +126,11 @@ fn each_call_of_a_checkpoint_may_fail(rt: HostRuntime) -> Result<(), Fail> {
         (25, Side::A, Call::Cut),
         (26, Side::A, Call::Sync),
     ] {
-        let (site, fault) = stopped(alloc, at)?;
         let device = DeviceFault { side, call };
-        assert_eq!(rt;
-            fault,
-            Some(CheckpointFault::Failed(Failed { fault: device }))
-        );
-        assert_eq!(rt; crashes(alloc, &site)?, [0; 5]);
+        let failed = CheckpointFault::Failed(Failed { fault: device });
+        assert_eq!(rt; outcome_of_stop(alloc, at)?, (Some(failed), [0; 5]));
     }
-    let (_, fault) = stopped(alloc, 27)?;
-    assert_eq!(rt; fault, None);
+    assert_eq!(rt; outcome_of_stop(alloc, 27)?, (None, [0; 5]));
     Ok(())
 }
 
@@ -114,7 +145,7 @@ fn state_of(alloc: Global, flusher: &Flusher<MemorySite>) -> Result<Vec<u8>, Fai
 pub fn state_left(alloc: Global, site: &MemorySite, choice: &Choice) -> Result<Vec<u8>, Fail> {
     let flusher = opened(alloc, site.image(alloc, choice)?)?;
     let state = state_of(alloc, &flusher);
-    let _ = flusher.close();
+    drop(flusher.close());
     state
 }
 
@@ -141,6 +172,14 @@ fn stored(alloc: Global) -> Result<MemorySite, Fail> {
     Ok(site)
 }
 
+// The same where nothing was put yet.
+fn stored_image(alloc: Global) -> Result<MemorySite, Fail> {
+    let site = stored(alloc)?;
+    let image = site.image(alloc, &Choice::Read);
+    drop(site);
+    Ok(image?)
+}
+
 // The states before a checkpoint and after it.
 fn states_around(
     alloc: Global,
@@ -151,23 +190,36 @@ fn states_around(
     Ok((before, state_of(alloc, flusher)?))
 }
 
+// Checks what a crash leaves of a checkpoint, which puts nothing.
+fn check_moved<R: Abort + AllocGlobal>(
+    rt: &R,
+    site: &MemorySite,
+    states: (Vec<u8>, Vec<u8>),
+) -> Result<(), Fail> {
+    let (before, after) = states;
+    let left = is_left_by_crashes(rt.alloc(), site, &before)?;
+    assert_eq!(rt; before.as_slice(), after.as_slice());
+    assert_eq!(rt; (left, site.outputs().len()), ([true; 5], 0));
+    Ok(())
+}
+
 #[test]
 fn a_checkpoint_keeps_the_node(rt: HostRuntime) -> Result<(), Fail> {
-    let alloc = rt.alloc();
-    let mut flusher = opened(alloc, stored(alloc)?.image(alloc, &Choice::Read)?)?;
-    let states = states_around(alloc, &mut flusher);
+    let mut flusher = opened(rt.alloc(), stored_image(rt.alloc())?)?;
+    let states = states_around(rt.alloc(), &mut flusher);
     let site = flusher.close();
-    let (before, after) = states?;
-    assert_eq!(rt; before.as_slice(), after.as_slice());
-    assert_eq!(rt; is_left_by_crashes(alloc, &site, &before)?, [true; 5]);
-    assert_eq!(rt; site.outputs().len(), 0);
-    Ok(())
+    let checked = match states {
+        Ok(states) => check_moved(&rt, &site, states),
+        Err(fault) => Err(fault),
+    };
+    drop(site);
+    checked
 }
 
 fn opens(alloc: Global, site: MemorySite) -> bool {
     match opened(alloc, site) {
         Ok(flusher) => {
-            let _ = flusher.close();
+            drop(flusher.close());
             true
         }
         Err(_) => false,
@@ -198,18 +250,18 @@ fn stopped_at(
     moved(alloc, site)
 }
 
-// Why such a checkpoint wasn't made, if it wasn't, and whether the node has that state again after each crash.
+// Whether such a checkpoint failed, and whether the node has that state again after each crash.
 fn stop(
     alloc: Global,
     from: &MemorySite,
     at: u64,
     failing: Failing,
     state: &[u8],
-) -> Result<(Option<CheckpointFault>, [bool; 5]), Fail> {
+) -> Result<(bool, [bool; 5]), Fail> {
     let (site, fault) = stopped_at(alloc, from, at, failing)?;
     let left = is_left_by_crashes(alloc, &site, state);
     drop(site);
-    Ok((fault, left?))
+    Ok((matches!(fault, Some(CheckpointFault::Failed(_))), left?))
 }
 
 // The node is found again, whatever a crash leaves of a checkpoint that fails at any of its disk calls, of which there are so
@@ -220,48 +272,75 @@ fn check_stops<R: Abort + AllocGlobal>(rt: &R, from: &MemorySite, calls: u64) ->
     let state = state_left(rt.alloc(), from, &Choice::Read)?;
     for failing in [Failing::Once, Failing::Stop] {
         for at in first..last {
-            let (fault, left) = stop(rt.alloc(), from, at, failing, &state)?;
-            assert!(rt; matches!(fault, Some(CheckpointFault::Failed(_))));
-            assert_eq!(rt; left, [true; 5]);
+            let stopped = stop(rt.alloc(), from, at, failing, &state)?;
+            assert_eq!(rt; stopped, (true, [true; 5]));
         }
-        let (fault, left) = stop(rt.alloc(), from, last, failing, &state)?;
-        assert_eq!(rt; (fault, left), (None, [true; 5]));
+        let stopped = stop(rt.alloc(), from, last, failing, &state)?;
+        assert_eq!(rt; stopped, (false, [true; 5]));
     }
     Ok(())
 }
 
-// From side A to side B, and back again.
+// From side A to side B.
 #[test]
 fn a_checkpoint_may_stop_at_each_call(rt: HostRuntime) -> Result<(), Fail> {
-    let alloc = rt.alloc();
-    let first = member(alloc)?;
-    check_stops(&rt, &first, 13)?;
-    let (second, _) = moved(alloc, first)?;
-    check_stops(&rt, &second, 13)
+    let site = member(rt.alloc())?;
+    let checked = check_stops(&rt, &site, 13);
+    drop(site);
+    checked
+}
+
+// From side B to side A.
+#[test]
+fn a_checkpoint_back_may_stop_at_each_call(rt: HostRuntime) -> Result<(), Fail> {
+    let (site, _) = moved(rt.alloc(), member(rt.alloc())?)?;
+    let checked = check_stops(&rt, &site, 13);
+    drop(site);
+    checked
 }
 
 #[test]
 fn a_checkpoint_after_a_store_may_stop_at_each_call(rt: HostRuntime) -> Result<(), Fail> {
-    let first = stored(rt.alloc())?;
-    check_stops(&rt, &first, 13)
+    let site = stored(rt.alloc())?;
+    let checked = check_stops(&rt, &site, 13);
+    drop(site);
+    checked
 }
 
 // Side A is armed too, under the lower generation 4: its gate is closed, and made sure of, before anything else.
 #[test]
+fn a_checkpoint_over_an_armed_side_may_stop_at_each_call(rt: HostRuntime) -> Result<(), Fail> {
+    let site = armed_twice(rt.alloc(), 4, 5)?;
+    let checked = check_stops(&rt, &site, 15);
+    drop(site);
+    checked
+}
+
+// What stands on the sides of a site.
+fn sides_of(alloc: Global, site: &mut MemorySite) -> Result<(Vec<u8>, Vec<u8>), Fail> {
+    let a = contents(alloc, site, Side::A)?;
+    let b = contents(alloc, site, Side::B)?;
+    Ok((a, b))
+}
+
+// What a checkpoint leaves of the sides of a site, beside why it wasn't made, if it wasn't.
+fn moved_sides(
+    alloc: Global,
+    site: MemorySite,
+) -> Result<(Option<CheckpointFault>, Vec<u8>, Vec<u8>), Fail> {
+    let (mut site, fault) = moved(alloc, site)?;
+    let sides = sides_of(alloc, &mut site);
+    drop(site);
+    let (a, b) = sides?;
+    Ok((fault, a, b))
+}
+
+#[test]
 fn a_checkpoint_goes_over_an_armed_side(rt: HostRuntime) -> Result<(), Fail> {
-    let alloc = rt.alloc();
-    let armed = armed_twice(alloc, 4, 5)?;
-    check_stops(&rt, &armed, 15)?;
-    let (mut site, fault) = moved(alloc, armed)?;
-    assert_eq!(rt; fault, None);
-    let new = contents(alloc, &mut site, Side::A)?;
-    assert_eq!(rt; new.len(), 153);
-    assert_eq!(rt;
-        new.get(..9),
-        Some([0xA5, 0, 0, 0, 0, 0, 0, 0, 6].as_slice())
-    );
-    let old = contents(alloc, &mut site, Side::B)?;
-    assert_eq!(rt; old.as_slice(), [0].as_slice());
+    let (fault, a, b) = moved_sides(rt.alloc(), armed_twice(rt.alloc(), 4, 5)?)?;
+    assert_eq!(rt; (fault, a.len(), b.as_slice()), (None, 154, [0].as_slice()));
+    let head = [0xA5, 0, 0, 0, 0, 0, 0, 0, 6];
+    assert_eq!(rt; a.get(..9), Some(head.as_slice()));
     Ok(())
 }
 
@@ -275,41 +354,36 @@ pub fn last_member(alloc: Global) -> Result<MemorySite, Fail> {
     member_under(alloc, LAST)
 }
 
+// Side A of member 1 of 1.
+fn side_of_member(alloc: Global) -> Result<Vec<u8>, Fail> {
+    let mut site = member(alloc)?;
+    let side = contents(alloc, &mut site, Side::A);
+    drop(site);
+    side
+}
+
 // Member 1 of 1 under that generation.
 fn member_under(alloc: Global, generation: [u8; 8]) -> Result<MemorySite, Fail> {
-    let mut first = member(alloc)?;
-    let mut bytes = contents(alloc, &mut first, Side::A)?;
+    let mut bytes = side_of_member(alloc)?;
     for (place, byte) in bytes.iter_mut().skip(1).zip(generation.iter()) {
         *place = *byte;
     }
-    let mut site = MemorySite::new(alloc, 8)?;
-    write_durably(&mut site, Side::A, 0, &bytes).or(Err("the write failed"))?;
-    write_durably(&mut site, Side::B, 0, &[0]).or(Err("the write failed"))?;
-    Ok(site)
+    with_sides(alloc, &bytes, &[0])
 }
 
 #[test]
 fn a_spent_checkpoint_changes_nothing(rt: HostRuntime) -> Result<(), Fail> {
-    let alloc = rt.alloc();
-    let (mut site, fault) = moved(alloc, last_member(alloc)?)?;
-    assert_eq!(rt; fault, Some(CheckpointFault::Spent));
-    let used = contents(alloc, &mut site, Side::A)?;
-    assert_eq!(rt; used.len(), 133);
-    assert_eq!(rt; used.get(1..9), Some(LAST.as_slice()));
-    let other = contents(alloc, &mut site, Side::B)?;
-    assert_eq!(rt; other.as_slice(), [0].as_slice());
+    let (fault, used, other) = moved_sides(rt.alloc(), last_member(rt.alloc())?)?;
+    assert_eq!(rt; (fault, used.len()), (Some(CheckpointFault::Spent), 134));
+    let sides = (used.get(1..9), other.as_slice());
+    assert_eq!(rt; sides, (Some(LAST.as_slice()), [0].as_slice()));
     Ok(())
 }
 
 #[test]
 fn a_checkpoint_may_reach_the_last_generation(rt: HostRuntime) -> Result<(), Fail> {
-    let alloc = rt.alloc();
-    let (mut site, fault) = moved(alloc, member_under(alloc, LAST_BUT_ONE)?)?;
-    assert_eq!(rt; fault, None);
-    let new = contents(alloc, &mut site, Side::B)?;
-    assert_eq!(rt; new.get(1..9), Some(LAST.as_slice()));
-    let (_, fault) = moved(alloc, site)?;
-    assert_eq!(rt; fault, Some(CheckpointFault::Spent));
+    let (fault, _, new) = moved_sides(rt.alloc(), member_under(rt.alloc(), LAST_BUT_ONE)?)?;
+    assert_eq!(rt; (fault, new.get(1..9)), (None, Some(LAST.as_slice())));
     Ok(())
 }
 

@@ -203,7 +203,7 @@ fn left(alloc: Global, site: &MemorySite, choice: &Choice) -> Result<Progress, F
     let flusher = opened(alloc, site.image(alloc, choice)?)?;
     let core = flusher.twin().core();
     let progress = (core.posts(), core.ops().number());
-    let _ = flusher.close();
+    drop(flusher.close());
     Ok(progress)
 }
 
@@ -253,36 +253,43 @@ fn is_stored(output: Option<&Output>) -> bool {
     (*session, *request) == (7, 1) && matches!(answer, Answer::Stored)
 }
 
+// What commits of a site came to: the disk call that failed, if one did, how many outputs were put, and what a crash leaves.
+type Outcome = (Option<DeviceFault>, usize, [Progress; 5]);
+
+// Commits those batches on a site.
+fn outcome_of(alloc: Global, site: MemorySite, parts: &[Part]) -> Result<Outcome, Fail> {
+    let (site, failed) = turned(alloc, site, parts)?;
+    let put = site.outputs().len();
+    let left = crashes(alloc, &site);
+    drop(site);
+    Ok((failed, put, left?))
+}
+
+// The store, an acknowledgement and one more message, and an acknowledgement and the reply.
 #[test]
 fn a_store_is_one_batch(rt: HostRuntime) -> Result<(), Fail> {
-    let alloc = rt.alloc();
-    let (site, failed) = turned(alloc, member(alloc)?, &[Part::Store])?;
-    assert_eq!(rt; failed, None);
-    assert_eq!(rt; crashes(alloc, &site)?, [AFTER; 5]);
-    // The store, an acknowledgement and one more message, and an acknowledgement and the reply.
-    assert_eq!(rt; site.outputs().len(), 5);
-    assert!(rt; is_store(site.outputs().first()));
-    assert!(rt; is_stored(site.outputs().last()));
+    let outcome = outcome_of(rt.alloc(), member(rt.alloc())?, &[Part::Store])?;
+    assert_eq!(rt; outcome, (None, 5, [AFTER; 5]));
+    Ok(())
+}
+
+#[test]
+fn a_store_is_sent_first_and_replied_to_last(rt: HostRuntime) -> Result<(), Fail> {
+    let (site, _) = turned(rt.alloc(), member(rt.alloc())?, &[Part::Store])?;
+    let ends = (
+        is_store(site.outputs().first()),
+        is_stored(site.outputs().last()),
+    );
+    drop(site);
+    assert_eq!(rt; ends, (true, true));
     Ok(())
 }
 
 // The calls of opening are 0 to 13. What a crash leaves after each call of a commit failed is none of its events or all.
-fn failed_commit(
-    alloc: Global,
-    at: u64,
-    failing: Failing,
-) -> Result<(Call, usize, [Progress; 5]), Fail> {
-    let (site, failed) = turned(alloc, member_failing(alloc, at, failing)?, &[Part::Store])?;
-    let fault = failed.ok_or("no disk call failed")?;
-    if fault.side != Side::A {
-        return Err("the other side failed")?;
-    }
-    Ok((fault.call, site.outputs().len(), crashes(alloc, &site)?))
-}
-
 #[test]
 fn each_call_of_a_commit_may_fail(rt: HostRuntime) -> Result<(), Fail> {
     let alloc = rt.alloc();
+    let side = Side::A;
     for failing in [Failing::Once, Failing::Stop] {
         for (at, call, crashes) in [
             // The record, and its sync.
@@ -292,8 +299,9 @@ fn each_call_of_a_commit_may_fail(rt: HostRuntime) -> Result<(), Fail> {
             (16, Call::Write, [BEFORE, BEFORE, AFTER, BEFORE, BEFORE]),
             (17, Call::Sync, [AFTER, BEFORE, AFTER, BEFORE, AFTER]),
         ] {
-            let outcome = failed_commit(alloc, at, failing)?;
-            assert_eq!(rt; outcome, (call, 0, crashes));
+            let outcome = outcome_of(alloc, member_failing(alloc, at, failing)?, &[Part::Store])?;
+            let device = DeviceFault { side, call };
+            assert_eq!(rt; outcome, (Some(device), 0, crashes));
         }
     }
     Ok(())
@@ -304,15 +312,17 @@ fn each_call_of_a_commit_may_fail(rt: HostRuntime) -> Result<(), Fail> {
 fn both_deliveries_stand_or_neither(rt: HostRuntime) -> Result<(), Fail> {
     let alloc = rt.alloc();
     let site = member_failing(alloc, 20, Failing::Once)?;
-    let (site, failed) = turned(alloc, site, &[Part::Ask, Part::Deliveries])?;
+    let outcome = outcome_of(alloc, site, &[Part::Ask, Part::Deliveries])?;
     let write = DeviceFault {
         side: Side::A,
         call: Call::Write,
     };
-    assert_eq!(rt; failed, Some(write));
-    assert_eq!(rt; site.outputs().len(), 1);
-    assert_eq!(rt; left(alloc, &site, &Choice::Fill(0xA5))?, AFTER);
-    assert_eq!(rt; left(alloc, &site, &Choice::Fill(0))?, (1, 1));
+    // After the ask, and after the deliveries too.
+    let asked = (1, 1);
+    assert_eq!(rt;
+        outcome,
+        (Some(write), 1, [asked, asked, AFTER, asked, asked])
+    );
     Ok(())
 }
 
@@ -342,18 +352,25 @@ fn repeated(flusher: &mut Flusher<MemorySite>) -> Result<(Option<Refusal>, bool,
     Ok((refusal, is_put, flusher.twin().core().ops().number()))
 }
 
+// Member 1 of 1 that crashed between the commit of a store and its release.
+fn crashed(alloc: Global) -> Result<MemorySite, Fail> {
+    let mut flusher = opened(alloc, member(alloc)?)?;
+    let image = unreleased(alloc, &mut flusher);
+    drop(flusher.close());
+    image
+}
+
 #[test]
 fn a_commit_that_was_not_released_stands(rt: HostRuntime) -> Result<(), Fail> {
-    let alloc = rt.alloc();
-    let mut crashed = opened(alloc, member(alloc)?)?;
-    let image = unreleased(alloc, &mut crashed);
-    let _ = crashed.close();
-    let mut flusher = opened(alloc, image?)?;
+    let mut flusher = opened(rt.alloc(), crashed(rt.alloc())?)?;
     let outcome = repeated(&mut flusher);
     let site = flusher.close();
-    assert_eq!(rt; outcome?, (Some(Refusal::Repeat), true, 1));
-    assert_eq!(rt; site.outputs().len(), 1);
-    assert!(rt; is_stored(site.outputs().first()));
+    let put = (site.outputs().len(), is_stored(site.outputs().first()));
+    drop(site);
+    assert_eq!(rt;
+        (outcome?, put),
+        ((Some(Refusal::Repeat), true, 1), (1, true))
+    );
     Ok(())
 }
 
@@ -383,12 +400,13 @@ fn a_failed_engine_puts_nothing_again(rt: HostRuntime) -> Result<(), Fail> {
     let mut flusher = opened(alloc, member_failing(alloc, 15, Failing::Once)?)?;
     let outcome = stored_and_resent(alloc, &mut flusher);
     let site = flusher.close();
+    let put = site.outputs().len();
+    drop(site);
     let sync = DeviceFault {
         side: Side::A,
         call: Call::Sync,
     };
-    assert_eq!(rt; outcome?, (Some(sync), Err(sync)));
-    assert_eq!(rt; site.outputs().len(), 0);
+    assert_eq!(rt; (outcome?, put), ((Some(sync), Err(sync)), 0));
     Ok(())
 }
 
@@ -397,10 +415,20 @@ fn resent(alloc: Global, site: &MemorySite, choice: &Choice) -> Result<u64, Fail
     let mut flusher = opened(alloc, site.image(alloc, choice)?)?;
     let outcome = resend(&mut flusher);
     let site = flusher.close();
+    let put = site.outputs().len() as u64;
+    drop(site);
     match outcome? {
-        Ok(count) if count == site.outputs().len() as u64 => Ok(count),
+        Ok(count) if count == put => Ok(count),
         _ => Err("another count was put again")?,
     }
+}
+
+// Where a crash leaves the places that are touched full of A5, and of 00.
+fn resent_of_crashes(alloc: Global, site: &MemorySite) -> Result<[u64; 2], Fail> {
+    Ok([
+        resent(alloc, site, &Choice::Fill(0xA5))?,
+        resent(alloc, site, &Choice::Fill(0))?,
+    ])
 }
 
 // Where the second sync failed, a crash leaves the whole batch or nothing of it.
@@ -409,12 +437,12 @@ fn what_stands_is_put_again(rt: HostRuntime) -> Result<(), Fail> {
     let alloc = rt.alloc();
     let site = member_failing(alloc, 17, Failing::Once)?;
     let (site, failed) = turned(alloc, site, &[Part::Store])?;
+    let resent = resent_of_crashes(alloc, &site);
+    drop(site);
     let sync = DeviceFault {
         side: Side::A,
         call: Call::Sync,
     };
-    assert_eq!(rt; failed, Some(sync));
-    assert_eq!(rt; resent(alloc, &site, &Choice::Fill(0xA5))?, 2);
-    assert_eq!(rt; resent(alloc, &site, &Choice::Fill(0))?, 0);
+    assert_eq!(rt; (failed, resent?), (Some(sync), [2, 0]));
     Ok(())
 }

@@ -91,14 +91,14 @@ fn is_sent(output: Option<&Output>, wanted: u64) -> bool {
     }
 }
 
-// The store, the acknowledgement of its post and what comes of that; then both posts are put again.
-fn check_outputs<R: Abort + AllocGlobal>(rt: &R, outputs: &[Output]) -> Result<(), Fail> {
-    assert_eq!(rt; outputs.len(), 5);
-    for (at, number) in [(0, 1), (2, 2), (3, 1), (4, 2)] {
-        assert!(rt; is_sent(outputs.get(at), number));
-    }
-    assert!(rt; matches!(outputs.get(1), Some(Output::Ack { .. })));
-    Ok(())
+// Whether they are the store, the acknowledgement of its post and what comes of that; and then both posts again.
+fn are_all(outputs: &[Output]) -> bool {
+    outputs.len() == 5
+        && is_sent(outputs.first(), 1)
+        && matches!(outputs.get(1), Some(Output::Ack { .. }))
+        && is_sent(outputs.get(2), 2)
+        && is_sent(outputs.get(3), 1)
+        && is_sent(outputs.get(4), 2)
 }
 
 // What the node has made after the ask, and after the delivery.
@@ -106,45 +106,60 @@ const ASKED: Progress = (1, 1);
 
 const DELIVERED: Progress = (2, 1);
 
+// What a life leaves of its sides: the gate and the generation of side A, and side B.
+fn ends_of(alloc: Global, site: &mut MemorySite) -> Result<(Vec<u8>, Vec<u8>), Fail> {
+    let mut used = contents(alloc, site, Side::A)?;
+    used.truncate(9);
+    let other = contents(alloc, site, Side::B)?;
+    Ok((used, other))
+}
+
+// Checks a whole life, at the end of which side A is in use under that generation.
+fn check_life<R: Abort + AllocGlobal>(
+    rt: &R,
+    site: &mut MemorySite,
+    generation: [u8; 8],
+) -> Result<(), Fail> {
+    let left = crashes(rt.alloc(), site)?;
+    assert_eq!(rt; (are_all(site.outputs()), left), (true, [DELIVERED; 5]));
+    let (used, other) = ends_of(rt.alloc(), site)?;
+    assert_eq!(rt;
+        (used.first(), other.as_slice()),
+        (Some(&0xA5), [0].as_slice())
+    );
+    assert_eq!(rt; used.get(1..), Some(generation.as_slice()));
+    Ok(())
+}
+
+fn check_lived<R: Abort + AllocGlobal>(
+    rt: &R,
+    site: MemorySite,
+    generation: [u8; 8],
+) -> Result<(), Fail> {
+    let (mut site, failed) = lived(rt.alloc(), site)?;
+    let checked = check_life(rt, &mut site, generation);
+    drop(site);
+    assert_eq!(rt; failed, None);
+    checked
+}
+
 #[test]
 fn a_life_goes_on_behind_a_checkpoint(rt: HostRuntime) -> Result<(), Fail> {
-    let alloc = rt.alloc();
-    let (mut site, failed) = lived(alloc, member(alloc)?)?;
-    assert_eq!(rt; failed, None);
-    check_outputs(&rt, site.outputs())?;
-    assert_eq!(rt; crashes(alloc, &site)?, [DELIVERED; 5]);
-    let used = contents(alloc, &mut site, Side::A)?;
-    assert_eq!(rt;
-        used.get(..9),
-        Some([0xA5, 0, 0, 0, 0, 0, 0, 0, 3].as_slice())
-    );
-    let other = contents(alloc, &mut site, Side::B)?;
-    assert_eq!(rt; other.as_slice(), [0].as_slice());
-    Ok(())
+    check_lived(&rt, member(rt.alloc())?, [0, 0, 0, 0, 0, 0, 0, 3])
 }
 
 // No generation is left for a checkpoint. All else is as before.
 #[test]
 fn a_life_goes_on_where_checkpoints_are_spent(rt: HostRuntime) -> Result<(), Fail> {
-    let alloc = rt.alloc();
-    let (mut site, failed) = lived(alloc, last_member(alloc)?)?;
-    assert_eq!(rt; failed, None);
-    check_outputs(&rt, site.outputs())?;
-    assert_eq!(rt; crashes(alloc, &site)?, [DELIVERED; 5]);
-    let used = contents(alloc, &mut site, Side::A)?;
-    assert_eq!(rt;
-        used.get(..9),
-        Some([0xA5, 0x40, 0, 0, 0, 0, 0, 0, 0].as_slice())
-    );
-    let other = contents(alloc, &mut site, Side::B)?;
-    assert_eq!(rt; other.as_slice(), [0].as_slice());
-    Ok(())
+    check_lived(&rt, last_member(rt.alloc())?, [0x40, 0, 0, 0, 0, 0, 0, 0])
 }
 
 // Member 1 of 1, of which the disk call with that number behind its opening fails.
 fn failing(alloc: Global, at: u64, failing: Failing) -> Result<MemorySite, Fail> {
     let from = member(alloc)?;
-    failing_image(alloc, &from, at, failing)
+    let image = failing_image(alloc, &from, at, failing);
+    drop(from);
+    image
 }
 
 fn failing_image(

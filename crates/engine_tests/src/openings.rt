@@ -67,7 +67,7 @@ pub fn opened(alloc: Global, site: MemorySite) -> Result<Flusher<MemorySite>, Op
 pub fn posts(alloc: Global, site: MemorySite) -> Result<u64, OpenFault> {
     let flusher = opened(alloc, site)?;
     let posts = flusher.twin().core().posts();
-    let _ = flusher.close();
+    drop(flusher.close());
     Ok(posts)
 }
 
@@ -112,10 +112,10 @@ pub fn contents<S: Site>(alloc: Global, site: &mut S, side: Side) -> Result<Vec<
 // Writes behind the state of entrant 4, or over what is there.
 fn keep<S: Site>(site: &mut S, bytes: &[u8]) -> Result<(), Fail> {
     let length = site.length(Side::A).or(Err("the length can't be read"))?;
-    if length < 152 {
+    if length < 153 {
         return Err("the side is too short")?;
     }
-    write_durably(site, Side::A, 152, bytes).or(Err("the write failed"))?;
+    write_durably(site, Side::A, 153, bytes).or(Err("the write failed"))?;
     Ok(())
 }
 
@@ -132,42 +132,61 @@ fn side_of_entrant(alloc: Global, side: Side) -> Result<Vec<u8>, Fail> {
     contents(alloc, &mut site, side)
 }
 
+// What stands before the state of entrant 4: an open gate, generation 1, version 2, and its 139 bytes.
+const HEAD: [u8; 14] = [0xA5, 0, 0, 0, 0, 0, 0, 0, 1, 2, 0, 0, 0, 0x8B];
+
 #[test]
 fn an_entrant_is_formatted(rt: HostRuntime) -> Result<(), Fail> {
-    let alloc = rt.alloc();
-    let a = side_of_entrant(alloc, Side::A)?;
-    assert_eq!(rt; a.len(), 153);
-    let head = [0xA5, 0, 0, 0, 0, 0, 0, 0, 1, 1, 0, 0, 0, 0x8A];
-    assert_eq!(rt; a.get(..14), Some(head.as_slice()));
+    let a = side_of_entrant(rt.alloc(), Side::A)?;
+    let b = side_of_entrant(rt.alloc(), Side::B)?;
+    assert_eq!(rt; (a.len(), a.get(..14)), (154, Some(HEAD.as_slice())));
     assert_eq!(rt; a.last(), Some(&0));
-    let b = side_of_entrant(alloc, Side::B)?;
     assert_eq!(rt; b.as_slice(), [0].as_slice());
     Ok(())
 }
 
+// How long the sides are of a site that member 1 of 1 was formatted on.
+fn lengths_of_member(alloc: Global) -> Result<[Result<u64, DeviceFault>; 2], Fail> {
+    let site = MemorySite::new(alloc, 0)?;
+    match formatted(alloc, site, 1, &[1], &[]) {
+        Ok(mut site) => {
+            let lengths = [site.length(Side::A), site.length(Side::B)];
+            drop(site);
+            Ok(lengths)
+        }
+        Err(Back { site, fault }) => {
+            drop(site);
+            Err(fault)?
+        }
+    }
+}
+
 #[test]
 fn a_member_is_formatted(rt: HostRuntime) -> Result<(), Fail> {
-    let alloc = rt.alloc();
-    match formatted(alloc, MemorySite::new(alloc, 0)?, 1, &[1], &[]) {
-        Ok(mut site) => {
-            assert_eq!(rt; site.length(Side::A), Ok(133));
-            assert_eq!(rt; site.length(Side::B), Ok(1));
-            Ok(())
+    assert_eq!(rt; lengths_of_member(rt.alloc())?, [Ok(134), Ok(1)]);
+    Ok(())
+}
+
+// Why no node without a name is formatted.
+fn fault_without_a_name(alloc: Global) -> Result<Option<FormatFault>, Fail> {
+    let site = MemorySite::new(alloc, 0)?;
+    match formatted(alloc, site, 0, &[], &[1]) {
+        Ok(site) => {
+            drop(site);
+            Ok(None)
         }
-        Err(Back { site: _, fault }) => Err(fault)?,
+        Err(Back { site, fault }) => {
+            drop(site);
+            Ok(Some(fault))
+        }
     }
 }
 
 #[test]
 fn a_node_without_a_name_is_not_formatted(rt: HostRuntime) -> Result<(), Fail> {
-    let alloc = rt.alloc();
-    match formatted(alloc, MemorySite::new(alloc, 0)?, 0, &[], &[1]) {
-        Ok(_) => Err("it is formatted")?,
-        Err(Back { site: _, fault }) => {
-            assert_eq!(rt; fault, FormatFault::BadOpening);
-            Ok(())
-        }
-    }
+    let fault = fault_without_a_name(rt.alloc())?;
+    assert_eq!(rt; fault, Some(FormatFault::BadOpening));
+    Ok(())
 }
 
 #[test]
@@ -177,15 +196,26 @@ fn a_node_is_opened_as_it_began(rt: HostRuntime) -> Result<(), Fail> {
     Ok(())
 }
 
+// Side A of entrant 4 once it has entered.
+fn side_of_entered(alloc: Global) -> Result<Vec<u8>, Fail> {
+    let (mut site, _) = entered(alloc, entrant(alloc)?)?;
+    let side = contents(alloc, &mut site, Side::A);
+    drop(site);
+    side
+}
+
 #[test]
 fn an_enter_stands_behind_its_open_gate(rt: HostRuntime) -> Result<(), Fail> {
-    let alloc = rt.alloc();
-    let (mut site, failed) = entered(alloc, entrant(alloc)?)?;
-    assert_eq!(rt; failed, None);
-    let a = contents(alloc, &mut site, Side::A)?;
-    assert_eq!(rt; a.len(), 164);
-    assert_eq!(rt; a.get(152..), Some(ENTERED.as_slice()));
-    assert_eq!(rt; posts(alloc, site), Ok(1));
+    let side = side_of_entered(rt.alloc())?;
+    assert_eq!(rt; side.get(153..), Some(ENTERED.as_slice()));
+    Ok(())
+}
+
+#[test]
+fn an_enter_is_read_again(rt: HostRuntime) -> Result<(), Fail> {
+    let (site, failed) = entered(rt.alloc(), entrant(rt.alloc())?)?;
+    let posts = posts(rt.alloc(), site);
+    assert_eq!(rt; (failed, posts), (None, Ok(1)));
     Ok(())
 }
 
@@ -204,13 +234,22 @@ fn is_enter(output: Option<&Output>, peer: u32) -> bool {
     to.number() == peer && node.number() == 4
 }
 
+// Whether the outputs are the Enter of entrant 4 to each of these peers.
+fn are_enters(outputs: &[Output], peers: &[u32]) -> bool {
+    for (at, peer) in peers.iter().enumerate() {
+        if !is_enter(outputs.get(at), *peer) {
+            return false;
+        }
+    }
+    outputs.len() == peers.len()
+}
+
 #[test]
 fn an_enter_is_sent_once_it_is_durable(rt: HostRuntime) -> Result<(), Fail> {
-    let alloc = rt.alloc();
-    let (site, _) = entered(alloc, entrant(alloc)?)?;
-    assert_eq!(rt; site.outputs().len(), 2);
-    assert!(rt; is_enter(site.outputs().first(), 1));
-    assert!(rt; is_enter(site.outputs().get(1), 4));
+    let (site, _) = entered(rt.alloc(), entrant(rt.alloc())?)?;
+    let are_enters = are_enters(site.outputs(), &[1, 4]);
+    drop(site);
+    assert!(rt; are_enters);
     Ok(())
 }
 
@@ -236,15 +275,12 @@ fn live(alloc: Global, flusher: &mut Flusher<MemorySite>) -> Result<Option<Devic
 // No peer has acknowledged the Enter, no session has an answer, and peer 4 has sent nothing.
 #[test]
 fn a_life_sends_an_enter_and_sends_it_again(rt: HostRuntime) -> Result<(), Fail> {
-    let alloc = rt.alloc();
-    let mut flusher = opened(alloc, entrant(alloc)?)?;
-    let outcome = live(alloc, &mut flusher);
+    let mut flusher = opened(rt.alloc(), entrant(rt.alloc())?)?;
+    let outcome = live(rt.alloc(), &mut flusher);
     let site = flusher.close();
-    assert_eq!(rt; outcome?, None);
-    assert_eq!(rt; site.outputs().len(), 4);
-    for (at, peer) in [(0, 1), (1, 4), (2, 1), (3, 4)] {
-        assert!(rt; is_enter(site.outputs().get(at), peer));
-    }
+    let are_enters = are_enters(site.outputs(), &[1, 4, 1, 4]);
+    drop(site);
+    assert_eq!(rt; (outcome?, are_enters), (None, true));
     Ok(())
 }
 
@@ -261,44 +297,77 @@ fn a_record_behind_a_closed_gate_is_not_kept(rt: HostRuntime) -> Result<(), Fail
     Ok(())
 }
 
+// Why an entrant isn't formatted on such a site, if it isn't.
+fn fault_of_format(alloc: Global, site: MemorySite) -> Option<FormatFault> {
+    match begun(alloc, site) {
+        Ok(site) => {
+            drop(site);
+            None
+        }
+        Err(fault) => Some(fault),
+    }
+}
+
 #[test]
 fn an_armed_side_is_not_formatted(rt: HostRuntime) -> Result<(), Fail> {
     let alloc = rt.alloc();
     for gate in [0, 0xFF, 0xA5] {
-        let fault = begun(alloc, kept(alloc, &[gate, 0xA5])?).err();
+        let fault = fault_of_format(alloc, kept(alloc, &[gate, 0xA5])?);
         assert_eq!(rt; fault, Some(FormatFault::AlreadyFormatted));
     }
-    let (site, _) = entered(alloc, entrant(alloc)?)?;
-    let fault = begun(alloc, site).err();
+    Ok(())
+}
+
+#[test]
+fn a_side_with_an_event_is_not_formatted(rt: HostRuntime) -> Result<(), Fail> {
+    let (site, _) = entered(rt.alloc(), entrant(rt.alloc())?)?;
+    let fault = fault_of_format(rt.alloc(), site);
     assert_eq!(rt; fault, Some(FormatFault::AlreadyFormatted));
     Ok(())
+}
+
+// Entrant 4 whose gate is closed.
+fn closed(alloc: Global) -> Result<MemorySite, Fail> {
+    let mut site = entrant(alloc)?;
+    let written = write_durably(&mut site, Side::A, 0, &[0]);
+    written_to(site, written)
+}
+
+// The site, where that was written.
+fn written_to(site: MemorySite, written: Result<(), DeviceFault>) -> Result<MemorySite, Fail> {
+    match written {
+        Ok(()) => Ok(site),
+        Err(_) => {
+            drop(site);
+            Err("the write failed")?
+        }
+    }
 }
 
 #[test]
 fn sides_that_are_not_armed_are_not_opened(rt: HostRuntime) -> Result<(), Fail> {
     let alloc = rt.alloc();
-    let empty = MemorySite::new(alloc, 0)?;
-    assert_eq!(rt; posts(alloc, empty), Err(OpenFault::NotFormatted));
-    let mut closed = entrant(alloc)?;
-    write_durably(&mut closed, Side::A, 0, &[0]).or(Err("the write failed"))?;
-    assert_eq!(rt; posts(alloc, closed), Err(OpenFault::NotFormatted));
+    let of_empty = posts(alloc, MemorySite::new(alloc, 0)?);
+    let of_closed = posts(alloc, closed(alloc)?);
+    let nothing = Err(OpenFault::NotFormatted);
+    assert_eq!(rt; [of_empty, of_closed], [nothing; 2]);
     Ok(())
 }
 
+// The length field of the record stands at 154.
 #[test]
 fn a_record_that_is_cut_off_is_damage(rt: HostRuntime) -> Result<(), Fail> {
-    let alloc = rt.alloc();
-    let mut site = kept(alloc, &[0xA5, 0, 0, 1, 0])?;
-    assert_eq!(rt; site.length(Side::A), Ok(157));
-    let damage = OpenFault::Damaged(Side::A, 153);
-    assert_eq!(rt; posts(alloc, site), Err(damage));
+    let site = kept(rt.alloc(), &[0xA5, 0, 0, 1, 0])?;
+    let damage = OpenFault::Damaged(Side::A, 154);
+    assert_eq!(rt; posts(rt.alloc(), site), Err(damage));
     Ok(())
 }
 
 // Why a site can't be opened whose side A has these bytes, and side B none.
 fn fault_of(alloc: Global, bytes: &[u8]) -> Result<Option<OpenFault>, Fail> {
     let mut site = MemorySite::new(alloc, 0)?;
-    write_durably(&mut site, Side::A, 0, bytes).or(Err("the write failed"))?;
+    let written = write_durably(&mut site, Side::A, 0, bytes);
+    let site = written_to(site, written)?;
     Ok(posts(alloc, site).err())
 }
 
@@ -306,19 +375,17 @@ fn fault_of(alloc: Global, bytes: &[u8]) -> Result<Option<OpenFault>, Fail> {
 #[test]
 fn a_side_that_cannot_be_read_is_damaged(rt: HostRuntime) -> Result<(), Fail> {
     let alloc = rt.alloc();
-    let place = |at| Some(OpenFault::Damaged(Side::A, at));
-    assert_eq!(rt; fault_of(alloc, &[0xA5])?, place(1));
-    assert_eq!(rt;
+    let damage = |at| Some(OpenFault::Damaged(Side::A, at));
+    let faults = [
+        fault_of(alloc, &[0xA5])?,
         fault_of(alloc, &[0xA5, 0, 0, 0, 0, 0, 0, 0, 0, 1])?,
-        place(1)
-    );
-    assert_eq!(rt; fault_of(alloc, &[0xA5, 0, 0, 0, 0, 0, 0, 0, 1])?, place(9));
-    let short = [0xA5, 0, 0, 0, 0, 0, 0, 0, 1, 1, 0, 0];
-    assert_eq!(rt; fault_of(alloc, &short)?, place(10));
-    let past = [0xA5, 0, 0, 0, 0, 0, 0, 0, 1, 1, 0, 0, 0, 2, 0];
-    assert_eq!(rt; fault_of(alloc, &past)?, place(10));
-    let nothing = [0xA5, 0, 0, 0, 0, 0, 0, 0, 1, 1, 0, 0, 0, 0, 0];
-    assert_eq!(rt; fault_of(alloc, &nothing)?, place(14));
+        fault_of(alloc, &[0xA5, 0, 0, 0, 0, 0, 0, 0, 1])?,
+        fault_of(alloc, &[0xA5, 0, 0, 0, 0, 0, 0, 0, 1, 1, 0, 0])?,
+        fault_of(alloc, &[0xA5, 0, 0, 0, 0, 0, 0, 0, 1, 1, 0, 0, 0, 2, 0])?,
+        fault_of(alloc, &[0xA5, 0, 0, 0, 0, 0, 0, 0, 1, 1, 0, 0, 0, 0, 0])?,
+    ];
+    let places = [1, 1, 9, 10, 10, 14];
+    assert_eq!(rt; faults, places.map(damage));
     Ok(())
 }
 
@@ -337,21 +404,33 @@ pub fn armed_twice(alloc: Global, a: u8, b: u8) -> Result<MemorySite, Fail> {
     if let Some(generation) = bytes.get_mut(8) {
         *generation = b;
     }
-    let mut site = MemorySite::new(alloc, 0)?;
-    write_durably(&mut site, Side::B, 0, &bytes).or(Err("the write failed"))?;
     let garbage = [0xA5, 0, 0, 0, 0, 0, 0, 0, a, 0xFF, 0xA5];
-    write_durably(&mut site, Side::A, 0, &garbage).or(Err("the write failed"))?;
-    Ok(site)
+    with_sides(alloc, &garbage, &bytes)
+}
+
+/// A site whose sides have these bytes.
+pub fn with_sides(alloc: Global, a: &[u8], b: &[u8]) -> Result<MemorySite, Fail> {
+    let mut site = MemorySite::new(alloc, 8)?;
+    let written = write_sides(&mut site, a, b);
+    written_to(site, written)
+}
+
+fn write_sides<S: Site>(site: &mut S, a: &[u8], b: &[u8]) -> Result<(), DeviceFault> {
+    write_durably(site, Side::B, 0, b)?;
+    write_durably(site, Side::A, 0, a)
 }
 
 #[test]
 fn the_side_of_the_greater_generation_is_opened(rt: HostRuntime) -> Result<(), Fail> {
     let alloc = rt.alloc();
-    assert_eq!(rt; posts(alloc, armed_twice(alloc, 4, 5)?), Ok(0));
-    let version = posts(alloc, armed_twice(alloc, 6, 5)?);
-    assert_eq!(rt; version, Err(OpenFault::Version(0xFF)));
-    let damage = posts(alloc, armed_twice(alloc, 5, 5)?);
-    assert_eq!(rt; damage, Err(OpenFault::Damaged(Side::B, 1)));
+    let posts = [
+        posts(alloc, armed_twice(alloc, 4, 5)?),
+        posts(alloc, armed_twice(alloc, 6, 5)?),
+        posts(alloc, armed_twice(alloc, 5, 5)?),
+    ];
+    let version = Err(OpenFault::Version(0xFF));
+    let damage = Err(OpenFault::Damaged(Side::B, 1));
+    assert_eq!(rt; posts, [Ok(0), version, damage]);
     Ok(())
 }
 
@@ -386,11 +465,11 @@ fn each_call_of_formatting_may_fail(rt: HostRuntime) -> Result<(), Fail> {
         (14, Side::A, Call::Write),
         (15, Side::A, Call::Sync),
     ] {
-        let fault = begun(alloc, failing(alloc, at)?).err();
+        let fault = fault_of_format(alloc, failing(alloc, at)?);
         let device = DeviceFault { side, call };
         assert_eq!(rt; fault, Some(FormatFault::Device(device)));
     }
-    assert_eq!(rt; begun(alloc, failing(alloc, 16)?).err(), None);
+    assert_eq!(rt; fault_of_format(alloc, failing(alloc, 16)?), None);
     Ok(())
 }
 
@@ -402,18 +481,25 @@ fn formatting_may_be_tried_again(rt: HostRuntime) -> Result<(), Fail> {
         let site = begun_again(alloc, failing(alloc, at)?)?;
         assert_eq!(rt; posts(alloc, site), Ok(0));
     }
-    let fault = begun_again(alloc, failing(alloc, 15)?).err();
-    assert_eq!(rt; fault, Some(FormatFault::AlreadyFormatted));
-    Ok(())
+    let site = failing(alloc, 15)?;
+    match begun_again(alloc, site) {
+        Ok(site) => {
+            drop(site);
+            Err("it is formatted twice")?
+        }
+        Err(fault) => {
+            assert_eq!(rt; fault, FormatFault::AlreadyFormatted);
+            Ok(())
+        }
+    }
 }
 
 // A site each side of which begins with a closed gate. Its disk calls fail from that number on.
 fn shut_failing(alloc: Global, at: u64) -> Result<MemorySite, Fail> {
-    let mut shut = MemorySite::new(alloc, 0)?;
-    for side in [Side::A, Side::B] {
-        write_durably(&mut shut, side, 0, &[0, 0xA5, 0xFF]).or(Err("the write failed"))?;
-    }
-    let mut site = shut.image(alloc, &Choice::Read)?;
+    let shut = with_sides(alloc, &[0, 0xA5, 0xFF], &[0, 0xA5, 0xFF])?;
+    let image = shut.image(alloc, &Choice::Read);
+    drop(shut);
+    let mut site = image?;
     site.fuse(at, Failing::Stop);
     Ok(site)
 }
@@ -432,8 +518,15 @@ fn posts_left(alloc: Global, site: &MemorySite) -> Result<[Result<u64, OpenFault
 // The same after formatting such a site failed at that call.
 fn half_formatted(alloc: Global, at: u64) -> Result<[Result<u64, OpenFault>; 4], Fail> {
     match formatted(alloc, shut_failing(alloc, at)?, 4, &[], &[1]) {
-        Ok(_) => Err("it is formatted")?,
-        Err(Back { site, fault: _ }) => posts_left(alloc, &site),
+        Ok(site) => {
+            drop(site);
+            Err("it is formatted")?
+        }
+        Err(Back { site, fault: _ }) => {
+            let left = posts_left(alloc, &site);
+            drop(site);
+            left
+        }
     }
 }
 
@@ -491,26 +584,29 @@ fn each_call_of_opening_may_fail(rt: HostRuntime) -> Result<(), Fail> {
     Ok(())
 }
 
+// The disk call that fails in an Enter, where that one is to fail, and how many outputs are put.
+fn outcome_of_enter(alloc: Global, at: u64) -> Result<(Option<DeviceFault>, usize), Fail> {
+    let (site, failed) = entered(alloc, opened_failing(alloc, at)?)?;
+    let put = site.outputs().len();
+    drop(site);
+    Ok((failed, put))
+}
+
 // The calls of opening are 0 to 13.
 #[test]
 fn each_call_of_an_enter_may_fail(rt: HostRuntime) -> Result<(), Fail> {
     let alloc = rt.alloc();
+    let side = Side::A;
     for (at, call) in [
         (14, Call::Write),
         (15, Call::Sync),
         (16, Call::Write),
         (17, Call::Sync),
     ] {
-        let (site, failed) = entered(alloc, opened_failing(alloc, at)?)?;
-        let device = DeviceFault {
-            side: Side::A,
-            call,
-        };
-        assert_eq!(rt; failed, Some(device));
-        assert_eq!(rt; site.outputs().len(), 0);
+        let device = DeviceFault { side, call };
+        assert_eq!(rt; outcome_of_enter(alloc, at)?, (Some(device), 0));
     }
-    let (_, failed) = entered(alloc, opened_failing(alloc, 18)?)?;
-    assert_eq!(rt; failed, None);
+    assert_eq!(rt; outcome_of_enter(alloc, 18)?, (None, 2));
     Ok(())
 }
 
@@ -523,7 +619,9 @@ fn left(alloc: Global, site: &MemorySite, choice: &Choice) -> Result<u64, Fail> 
 // away.
 fn left_of_enter(alloc: Global, at: u64) -> Result<[u64; 5], Fail> {
     let (site, _) = entered(alloc, opened_failing(alloc, at)?)?;
-    crashes(alloc, &site)
+    let left = crashes(alloc, &site);
+    drop(site);
+    left
 }
 
 pub fn crashes(alloc: Global, site: &MemorySite) -> Result<[u64; 5], Fail> {
@@ -568,13 +666,12 @@ fn a_failed_disk_call_ends_the_engine(rt: HostRuntime) -> Result<(), Fail> {
     let mut flusher = opened(alloc, opened_failing(alloc, 16)?)?;
     let outcome = enter_twice(alloc, &mut flusher);
     let put = flusher.site().outputs().len();
-    let _ = flusher.close();
+    drop(flusher.close());
     let device = DeviceFault {
         side: Side::A,
         call: Call::Write,
     };
-    assert_eq!(rt; outcome?, [Some(device); 3]);
-    assert_eq!(rt; put, 0);
+    assert_eq!(rt; (outcome?, put), ([Some(device); 3], 0));
     Ok(())
 }
 

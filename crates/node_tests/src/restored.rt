@@ -1,12 +1,13 @@
 //! States that a node can be restored from, and states with one flaw.
+ghost use Rattle.std.specs.Prelude.{[]};
 ghost use Rattle.cc_ops.specs.Ops.{IsWaiting};
-ghost use Rattle.cc_ops.specs.Stages.{HasWaiting};
+ghost use Rattle.cc_ops.specs.Stages.{HasWaiting, WaitsBehind};
 
 use cc_changes::{Changes, Fraction, IdSet};
 use cc_churn::Churn;
 use cc_links::{LinkRow, Links};
 use cc_node::{CoreParts, Node};
-use cc_ops::{Asked, Ops, Pending, Stage};
+use cc_ops::{Asked, Ops, Pending, Stage, WaitingLine};
 use cc_outbox::Outbox;
 use cc_sessions::Sessions;
 use cc_views::{NodeId, Row, Value, View};
@@ -68,11 +69,14 @@ fn pending(command: Command) -> Pending
 
 // With a view of one node, and another of one node to be stored back.
 fn ops(alloc: Global, node: u32, stage: Stage, seen: u32) -> Result<Ops, Fail>
-    requires { HasWaiting stage }
+    requires waits { HasWaiting stage }
+    requires behind { WaitsBehind stage [] }
 {
+    let line = WaitingLine::new(alloc)?;
     let known = view(alloc, node)?;
     let seen = view(alloc, seen)?;
-    Ok(Ops::from_parts(known, 1, Value::empty(), 1, stage, seen))
+    let mine = Value::empty();
+    Ok(Ops::from_parts(known, 1, mine, 1, stage, seen, line))
 }
 
 // The link of node 1 to itself.
@@ -147,7 +151,8 @@ fn with_ops(alloc: Global, ops: Ops) -> Result<CoreParts, Fail> {
 
 // The same with an operation in this round.
 fn in_round(alloc: Global, stage: Stage, seen: u32) -> Result<CoreParts, Fail>
-    requires { HasWaiting stage }
+    requires waits { HasWaiting stage }
+    requires behind { WaitsBehind stage [] }
 {
     let ops = ops(alloc, 1, stage, seen)?;
     with_ops(alloc, ops)

@@ -95,16 +95,16 @@ fn joins_by(
 
 #[test]
 fn four_echoes_are_needed_of_four_nodes(rt: HostRuntime) -> Result<(), Fail> {
-    for (echoes, need, is_joined, want) in [
-        (2, 0, true, false),
-        (3, 0, true, true),
-        (3, 0, false, false),
-        (2, 4, false, false),
-        (3, 4, false, true),
-    ] {
-        let found = joins(rt.alloc(), echoes, need, is_joined)?;
-        assert_eq!(rt; found, want, "after {echoes} echoes, at a need of {need}");
-    }
+    let alloc = rt.alloc();
+    // After so many echoes, at that need, and whether the last one came from a node that has joined.
+    let found = [
+        joins(alloc, 2, 0, true)?,
+        joins(alloc, 3, 0, true)?,
+        joins(alloc, 3, 0, false)?,
+        joins(alloc, 2, 4, false)?,
+        joins(alloc, 3, 4, false)?,
+    ];
+    assert_eq!(rt; found, [false, true, false, false, true]);
     Ok(())
 }
 
@@ -140,24 +140,36 @@ fn is_copied(alloc: Global, churn: &Churn, me: NodeId) -> Result<bool, Fail> {
     Ok(is_copied)
 }
 
+// The node hasn't entered, and is neither asked nor retires one.
+fn check_outside<R: Abort>(rt: &R, churn: &Churn, me: NodeId, other: NodeId) {
+    let decided = (churn.decide_ask(me), churn.decide_retire(me, other));
+    assert_eq!(rt; decided, (Err(Refusal::NotEntered), Err(Refusal::NotEntered)));
+}
+
 fn check_joined<R: Abort + AllocGlobal>(rt: &R, churn: &Churn, me: NodeId) -> Result<(), Fail> {
-    assert_eq!(rt; churn.decide_ask(me), Ok(()));
-    assert_eq!(rt; churn.decide_enter(me), Err(Refusal::AlreadyEntered));
-    assert_eq!(rt; churn.decide_retire(me, me), Ok(()));
-    assert_eq!(rt; churn.quorum(GAMMA), 1);
-    let copied = is_copied(rt.alloc(), churn, me)?;
-    assert!(rt; copied);
+    let decided = (
+        churn.decide_ask(me),
+        churn.decide_enter(me),
+        churn.decide_retire(me, me),
+    );
+    let is_copied = is_copied(rt.alloc(), churn, me)?;
+    assert_eq!(rt; decided, (Ok(()), Err(Refusal::AlreadyEntered), Ok(())));
+    assert_eq!(rt; (churn.quorum(GAMMA), is_copied), (1, true));
+    Ok(())
+}
+
+#[test]
+fn a_node_echoes_its_own_join(rt: HostRuntime) -> Result<(), Fail> {
+    let is_echoed = is_echoed(rt.alloc(), id(1)?)?;
+    assert!(rt; is_echoed);
     Ok(())
 }
 
 #[test]
 fn a_node_joins_and_is_asked(rt: HostRuntime) -> Result<(), Fail> {
-    let me = id(1)?;
-    let echoed = is_echoed(rt.alloc(), me)?;
-    assert!(rt; echoed);
+    let (me, other) = (id(1)?, id(2)?);
     let mut churn = Churn::new(rt.alloc())?;
-    assert_eq!(rt; churn.decide_ask(me), Err(Refusal::NotEntered));
-    assert_eq!(rt; churn.decide_retire(me, id(2)?), Err(Refusal::NotEntered));
+    check_outside(&rt, &churn, me, other);
     let join = Message::Join { node: me };
     churn.apply(me, GAMMA, &join);
     drop(join);

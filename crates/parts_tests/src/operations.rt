@@ -7,7 +7,7 @@ ghost use Rattle.cc_ops.specs.Ops as ops;
 ghost use Rattle.cc_wire.specs.declared.command.Command.TheVariants as command;
 ghost use Rattle.cc_wire.specs.declared.message.Message.TheVariants as message;
 
-use cc_ops::{Asked, Ops, Pending, Reply, Stage, is_writing};
+use cc_ops::{Asked, Ops, Pending, Reply, Stage, WaitingLine, is_writing};
 use cc_views::{NodeId, Row, Text, Value, View};
 use cc_wire::{Answer, Command, Message};
 use std::alloc::Global;
@@ -118,7 +118,8 @@ fn parts_are_put_together(rt: HostRuntime) -> Result<(), Fail> {
     });
     let view = View::new(rt.alloc())?;
     let seen = View::new(rt.alloc())?;
-    let ops = Ops::from_parts(view, 3, Value::empty(), 5, stage, seen);
+    let line = WaitingLine::new(rt.alloc())?;
+    let ops = Ops::from_parts(view, 3, Value::empty(), 5, stage, seen, line);
     check_parts(&rt, &ops, &stage);
     drop(ops);
     Ok(())
@@ -207,6 +208,7 @@ fn a_store_begins_with_its_row(rt: HostRuntime) -> Result<(), Fail> {
 // What a message is answered with.
 fn answered(alloc: Global, server: &Ops, message: &Message) -> Result<Said, Fail>
     requires fits { map.len (ops.after_message 1 1 message.now server.now).view ≤ 256 }
+    requires number { (ops.after_message 1 1 message.now server.now).number ≤ 2 ^ 62 }
     requires tag { (ops.after_message 1 1 message.now server.now).tag ≤ 2 ^ 62 }
 {
     let me = me()?;

@@ -1,4 +1,4 @@
-use Rattle.std.proofs.Common.{◌≡◌, ◌++◌, List, ℕ, length, sym, ap, ◌∙◌, append_assoc, arith}
+use Rattle.std.proofs.Common.{true, ◌≡◌, ◌++◌, List, ℕ, length, sym, ap, ◌∙◌, append_assoc, arith}
 use Rattle.std.proofs.lemmas.List.{length-append}
 use Rattle.cc_checkpoint.proofs.StateLengths.{length-node}
 use Rattle.cc_checkpoint.proofs.BehindRuns.{written_behind, then_behind, grown}
@@ -20,7 +20,7 @@ overflow_add-place g c =
     omega (
       arith,
       c.loop-pieces.invariant.place,
-      length-node _ _ c.requires.spelled,
+      length-node true _ _ c.requires.spelled,
       c.requires.short,
       ap length c.as_slice-bytes.ensures,
       c.next.ensures.fits,

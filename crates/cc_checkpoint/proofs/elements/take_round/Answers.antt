@@ -1,11 +1,11 @@
 use Rattle.std.proofs.Common.{ℕ, ◌≡◌, length, arith}
-use Rattle.cc_checkpoint.specs.Fields.{phase_in}
-use Rattle.cc_checkpoint.proofs.StateFormat.{phase_spelled}
+use Rattle.cc_checkpoint.specs.Fields.{round_in}
+use Rattle.cc_checkpoint.proofs.StateFormat.{round_spelled}
 use Rattle.cc_checkpoint.proofs.Ahead.{used, taken}
 use Rattle.cc_checkpoint.proofs.elements.take_round.Goals as goal
 
 pub advance-requires : goal.advance-requires
-advance-requires c = used phase_spelled c.args.piece.now _ (phase_in c.in_ok-round.round) _ _ c.reader-reader.ensures.value c.reader-reader.ensures.bytes c.in_ok-round.ensures (c.round_len.ensures)
+advance-requires c = used (round_spelled c.args.lined) c.args.piece.now _ (round_in c.in_ok-round.round) _ _ c.reader-reader.ensures.value c.reader-reader.ensures.bytes c.in_ok-round.ensures (c.round_len.ensures)
 
 pub returns : goal.returns
-returns c = taken phase_spelled c.args.piece.now _ (phase_in c.in_ok-round.round) _ _ _ c.reader-reader.ensures.value c.reader-reader.ensures.bytes c.in_ok-round.ensures (c.round_len.ensures) c.advance.ensures
+returns c = taken (round_spelled c.args.lined) c.args.piece.now _ (round_in c.in_ok-round.round) _ _ _ c.reader-reader.ensures.value c.reader-reader.ensures.bytes c.in_ok-round.ensures (c.round_len.ensures) c.advance.ensures

@@ -1,12 +1,12 @@
-use Rattle.std.proofs.Common.{◌<◌, ◌^◌, List, ℕ, length, arith}
+use Rattle.std.proofs.Common.{true, ◌<◌, ◌^◌, List, ℕ, length, arith}
 use Rattle.cc_node.specs.Node.{Node}
 use Rattle.cc_node.specs.States.{SpellsNode}
 use Rattle.cc_checkpoint.proofs.StateLengths.{length-node}
 use Rattle.cc_checkpoint.proofs.Imaged.{image_spelled}
 use Rattle.cc_checkpoint.proofs.image.encode_image.Goals as goal
 
-short : (n : Node) (bytes : List ℕ) → SpellsNode bytes n → length bytes < 2 ^ 32
-short n bytes spelled = omega (arith, length-node bytes n spelled)
+short : (n : Node) (bytes : List ℕ) → SpellsNode true bytes n → length bytes < 2 ^ 32
+short n bytes spelled = omega (arith, length-node true bytes n spelled)
 
 pub put_image-requires-clause-short : goal.put_image-requires-clause-short
 put_image-requires-clause-short c = rw (c.deref.ensures.value, c.in_ok-encode_state.ensures.ok, c.new-state.ensures.items) (short _ _ c.in_ok-encode_state.ensures.spelled)

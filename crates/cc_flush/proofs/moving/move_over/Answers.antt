@@ -1,4 +1,4 @@
-use Rattle.std.proofs.Common.{◌≡◌, ℕ, ◌+◌, ◌≤◌, List, length, refl, ap, arith}
+use Rattle.std.proofs.Common.{true, ◌≡◌, ℕ, ◌+◌, ◌≤◌, List, length, refl, ap, arith}
 use Rattle.cc_wire.specs.declared.event.Event.{Event}
 use Rattle.cc_site.specs.Sides.{other}
 use Rattle.cc_site.specs.Moments.{Possible}
@@ -20,7 +20,7 @@ overflow_add-state_length g c = omega (arith, c.state_length.ensures.short)
 pub returns-clause-moved : goal.returns-clause-moved
 returns-clause-moved g c =
     let place : 14 + c.state_length.result ≡ length (image_of c.args.generation c.args.node.now) =
-    omega (arith, c.state_length.ensures.len, length-image c.args.generation (state_spelling (state_of c.args.node.now))) in
+    omega (arith, c.state_length.ensures.len, length-image c.args.generation (state_spelling true (state_of c.args.node.now))) in
     rw (c.move_to.ensures, c.other-side.ensures, c.side-old.ensures, place) refl
 
 pub returns-clause-short : goal.returns-clause-short

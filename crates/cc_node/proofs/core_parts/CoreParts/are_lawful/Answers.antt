@@ -6,7 +6,7 @@ use Rattle.cc_node.proofs.core_parts.CoreParts.are_lawful.Goals as goal
 pub returns : goal.returns
 returns c =
     let p = c.args.self.now in (
-      λ h. let sizes = c.sizes_fit.ensures.0 h in record {
+      λ h. record {
         beta = c.is_share.ensures.0 c.if-not-is_share.false;
         gamma = c.is_share-2.ensures.0 c.if-not-is_share-2.false;
         me = sym c.is_known.ensures ∙ c.if-not-is_known.false;
@@ -18,9 +18,10 @@ returns c =
         phase = c.phase_fits.ensures.0 c.if-not-phase_fits.false;
         sessions = c.sessions_fit.ensures.fit.0 c.if-not-sessions_fit.false;
         session_count = c.sessions_fit.ensures.few;
+        line = c.line_fits.ensures.fits.0 c.if-not-line_fits.false;
         counts = c.counts_fit.ensures.0 c.if-not-counts_fit.false;
-        need = sizes.0;
-        set = sizes.1;
+        need = c.need_fits.ensures.0 h;
+        set = c.line_fits.ensures.room;
       },
-      λ lawful. c.sizes_fit.ensures.1 (lawful.need, lawful.set),
+      λ lawful. c.need_fits.ensures.1 lawful.need,
     )

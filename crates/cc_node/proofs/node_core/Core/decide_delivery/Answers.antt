@@ -3,7 +3,7 @@ use Rattle.std.specs.Prelude.{Option}
 use Rattle.cc_wire.specs.declared.refusal.Refusal.{Refusal}
 use Rattle.cc_wire.specs.Refusals.{first_of, decided}
 use Rattle.cc_node.specs.Core.{Core}
-use Rattle.cc_node.specs.Refusals.{decides, left, not_entered, old, gap}
+use Rattle.cc_node.specs.Refusals.{decides, decides_within, left, not_entered, old, gap}
 use Rattle.cc_node.proofs.Deciding.{err_there, ok_later, ok_none, next_number}
 use Rattle.cc_node.proofs.node_core.Core.decide_delivery.Goals as goal
 
@@ -11,14 +11,14 @@ abbrev outside : Core → List (Option Refusal)
 outside s = left s ∷ not_entered s ∷ []
 
 pub returns-in_err-decide_delivery : goal.returns-in_err-decide_delivery
-unfolding decides
+unfolding decides decides_within
 returns-in_err-decide_delivery c =
     let s = c.args.self.now in
     let churned = c.decide_delivery.ensures ∙ ap (λ (k : Core). decided (first_of (outside k))) c.self.view_is in
     err_there (outside s) _ _ c.from_residual.result c.from_residual.ensures.1 (sym churned ∙ c.in_err-decide_delivery.was)
 
 pub returns-in_err-decide_number : goal.returns-in_err-decide_number
-unfolding decides
+unfolding decides decides_within
 returns-in_err-decide_number c =
     let s = c.args.self.now in
     let churned = c.decide_delivery.ensures ∙ ap (λ (k : Core). decided (first_of (outside k))) c.self.view_is in
@@ -26,7 +26,7 @@ returns-in_err-decide_number c =
     ∙ ok_later (outside s) _ (sym churned ∙ c.in_ok-decide_delivery.was)
 
 pub returns : goal.returns
-unfolding decides
+unfolding decides decides_within
 returns c =
     let s = c.args.self.now in
     let churned = c.decide_delivery.ensures ∙ ap (λ (k : Core). decided (first_of (outside k))) c.self.view_is in

@@ -4,7 +4,7 @@ use Rattle.cc_wire.specs.declared.event.Event.TheVariants as event
 use Rattle.cc_wire.specs.declared.refusal.Refusal.{Refusal}
 use Rattle.cc_wire.specs.Refusals.{first_of, decided}
 use Rattle.cc_node.specs.Core.{Core}
-use Rattle.cc_node.specs.Refusals.{decides, left, already_entered, outbox_full}
+use Rattle.cc_node.specs.Refusals.{decides, decides_within, left, already_entered, outbox_full}
 use Rattle.cc_node.proofs.Deciding.{err_there, ok_later, spent_enter}
 use Rattle.cc_node.proofs.node_core.Core.decide_enter.Goals as goal
 
@@ -12,14 +12,14 @@ abbrev outside : Core → List (Option Refusal)
 outside s = left s ∷ already_entered s ∷ []
 
 pub returns-in_err-decide_enter : goal.returns-in_err-decide_enter
-unfolding decides
+unfolding decides decides_within
 returns-in_err-decide_enter c =
     let s = c.args.self.now in
     let churned = c.decide_enter.ensures ∙ ap (λ (k : Core). decided (first_of (outside k))) c.self.view_is in
     err_there (outside s) _ _ c.from_residual.result c.from_residual.ensures.1 (sym churned ∙ c.in_err-decide_enter.was)
 
 pub returns : goal.returns
-unfolding decides
+unfolding decides decides_within
 returns c =
     let s = c.args.self.now in
     let churned = c.decide_enter.ensures ∙ ap (λ (k : Core). decided (first_of (outside k))) c.self.view_is in

@@ -4,7 +4,7 @@ use Rattle.cc_wire.specs.declared.refusal.Refusal.{Refusal}
 use Rattle.cc_wire.specs.declared.refusal.Refusal.TheVariants as refusal
 use Rattle.cc_wire.specs.Refusals.{first_of, decided}
 use Rattle.cc_node.specs.Core.{Core}
-use Rattle.cc_node.specs.Refusals.{decides, left, has_gone, not_entered}
+use Rattle.cc_node.specs.Refusals.{decides, decides_within, left, has_gone, not_entered}
 use Rattle.cc_node.proofs.Deciding.{err_there, ok_later, first_holds, first_passes, spent_retire}
 use Rattle.cc_node.proofs.node_core.Core.decide_retire.Goals as goal
 
@@ -12,14 +12,14 @@ abbrev outside : ℕ → Core → List (Option Refusal)
 outside q s = left s ∷ has_gone s q ∷ not_entered s ∷ []
 
 pub returns-in_err-decide_retire : goal.returns-in_err-decide_retire
-unfolding decides
+unfolding decides decides_within
 returns-in_err-decide_retire c =
     let s = c.args.self.now in
     let churned = c.decide_retire.ensures ∙ ap (λ (k : Core). decided (first_of (outside c.args.node k))) c.self.view_is in
     err_there (outside c.args.node s) _ _ c.from_residual.result c.from_residual.ensures.1 (sym churned ∙ c.in_err-decide_retire.was)
 
 pub returns-then-knows_too_many_with : goal.returns-then-knows_too_many_with
-unfolding decides
+unfolding decides decides_within
 returns-then-knows_too_many_with c =
     let s = c.args.self.now in
     let churned = c.decide_retire.ensures ∙ ap (λ (k : Core). decided (first_of (outside c.args.node k))) c.self.view_is in
@@ -27,7 +27,7 @@ returns-then-knows_too_many_with c =
     ∙ ok_later (outside c.args.node s) _ (sym churned ∙ c.in_ok-decide_retire.was)
 
 pub returns : goal.returns
-unfolding decides
+unfolding decides decides_within
 returns c =
     let s = c.args.self.now in
     let churned = c.decide_retire.ensures ∙ ap (λ (k : Core). decided (first_of (outside c.args.node k))) c.self.view_is in

@@ -21,7 +21,7 @@ pub apply-requires-2 : goal.apply-requires-2
 apply-requires-2 c =
     let room = delivery_room c.args.number c.self.view_is c.requires c.self.invariant in
     let needed = c.quorum-quorum.ensures in
-    record { some = search rules; few = room.few needed; fits = room.view needed; tag = room.tag needed }
+    record { some = search rules; few = room.few needed; fits = room.view needed; number = room.number needed; tag = room.tag needed }
 
 -- the fields are then those of the next core
 after : (c : After-apply-2) → let a = the_view c.self.inside in

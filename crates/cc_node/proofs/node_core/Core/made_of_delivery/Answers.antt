@@ -12,7 +12,7 @@ post-requires-clause-fits c = (delivery_room c.args.number c.self.view_is c.requ
 pub post-requires-2 : goal.post-requires-2
 post-requires-2 c =
     let room = delivery_room c.args.number c.self.view_is c.requires c.self.invariant in
-    record { fits = room.view c.quorum.ensures; tag = room.tag c.quorum.ensures }
+    record { fits = room.view c.quorum.ensures; number = room.number c.quorum.ensures; tag = room.tag c.quorum.ensures }
 
 pub returns : goal.returns
 returns c =

@@ -1,0 +1,136 @@
+-- Asks begin in the order in which they were accepted; and what is taken where none may wait is taken where some may.
+--     begin_in_order             what waited and what was accepted is what began and what waits still
+--     taken_within, taken_along  what isn't refused where no ask may wait isn't refused;  the same along a list
+--     none_waiting_along         and none waits then
+use Rattle.std.proofs.Common.{◌≡◌, ℕ, ◌≤◌, Bool, true, false, not, ◌&&◌, ◌||◌, nat_le, List, [], ◌∷◌, ◌++◌, length, refl, sym, ap, ◌∙◌, arith}
+use Rattle.std.specs.Prelude.{Option, Some, None, if◌then◌else◌}
+use Rattle.std.specs.Bool.{then_some}
+use Rattle.std.proofs.lemmas.Bool.{le-leb}
+use Rattle.std.proofs.lemmas.List.{append_assoc, append-nil}
+use Rattle.cc_wire.specs.declared.command.Command.{Command}
+use Rattle.cc_wire.specs.declared.event.Event.{Event}
+use Rattle.cc_wire.specs.declared.event.Event.TheVariants as event
+use Rattle.cc_wire.specs.declared.refusal.Refusal.{Refusal}
+use Rattle.cc_wire.specs.declared.refusal.Refusal.TheVariants as refusal
+use Rattle.cc_wire.specs.Refusals.{first_of}
+use Rattle.cc_ops.specs.declared.pending.Asked.{Asked}
+use Rattle.cc_ops.specs.Ops as ops
+use Rattle.cc_ops.specs.OwnLaws.{begun_line, message_line, ask_line}
+use Rattle.cc_ops.specs.Waiting.{line_limit, led_by, has_session}
+use Rattle.cc_node.specs.Core.{Core, quorum, asked_of, begun, next}
+use Rattle.cc_node.specs.Refusals.{decides, decides_within, left, not_entered, not_joined, too_many_sessions, repeat, stale, skip, busy, set_full, outbox_full, spent}
+use Rattle.cc_node.specs.Node.{Node, step, after, IsLawful, IsLawfulWithin}
+use Rattle.cc_node.specs.Writes.{asked_by, asked_along, begun_along}
+use Rattle.cc_node.specs.Lawful.{IsLawfulCore, IsLawfulNode}
+use Rattle.cc_node.proofs.KnownLaws.{none_waits}
+use Rattle.cc_node.proofs.LawfulLaws.{step_lawful}
+use Rattle.cc_node.proofs.RefusalLaws.{free_within}
+
+-- ---- the order of asks
+
+led_more : (o : Option Asked) (xs ys : List Asked) → led_by o (xs ++ ys) ≡ led_by o xs ++ ys
+led_more None xs ys = refl
+led_more (Some a) xs ys = refl
+
+then_more : (line : List Asked) (o : Option Asked) (ys : List Asked) → line ++ led_by o ys ≡ (line ++ led_by o []) ++ ys
+then_more line None ys = ap (λ (l : List Asked). l ++ ys) (sym (append-nil line))
+then_more line (Some a) ys = sym (append_assoc line (a ∷ []) ys)
+
+one_in_order : (c : Core) (e : Event) → IsLawfulCore c → c.ops.line ++ led_by (asked_by e) [] ≡ led_by (begun c e) (next c e).ops.line
+unfolding next
+one_in_order c event.Enter h = append-nil c.ops.line
+one_in_order c event.Leave h = append-nil c.ops.line
+one_in_order c (event.Deliver from n m) h = append-nil c.ops.line ∙ message_line c.me (quorum c) m c.ops
+one_in_order c (event.Acked peer n) h = append-nil c.ops.line
+one_in_order c (event.Ask s r k) h = ask_line c.me (quorum c) (asked_of s r k) c.ops (λ idle. none_waits c.ops.phase c.ops.line idle h.line.behind)
+one_in_order c (event.Retire q) h = append-nil c.ops.line
+
+pub begin_in_order : (n : Node) (es : List Event) → IsLawfulNode n → IsLawful n es → n.core.ops.line ++ asked_along es ≡ begun_along n es ++ (after n es).core.ops.line
+unfolding step
+begin_in_order n [] h d = append-nil n.core.ops.line
+begin_in_order n (e ∷ es) h d =
+    let b = begun n.core e in
+    let line = (next n.core e).ops.line in
+    then_more n.core.ops.line (asked_by e) (asked_along es)
+    ∙ ap (λ (l : List Asked). l ++ asked_along es) (one_in_order n.core e h.core)
+    ∙ sym (led_more b line (asked_along es))
+    ∙ ap (led_by b) (begin_in_order (step n e) es (step_lawful n e d.0 h) d.1)
+    ∙ led_more b (begun_along (step n e) es) (after (step n e) es).core.ops.line
+
+-- ---- where no ask may wait
+
+-- more may wait, so it isn't busy
+not_busy : (idle full more there : Bool) → (not idle && (true || more)) ≡ false → (not idle && (full || there)) ≡ false
+not_busy true full more there h = refl
+not_busy false full more there h = cc
+
+-- no more may wait than none
+from_none : (n : ℕ) → nat_le 0 n ≡ true
+from_none n = le-leb 0 n (omega arith)
+
+free_more : (c : Core) (s : ℕ) → busy 0 c s ≡ None → busy line_limit c s ≡ None
+free_more c s h = ap (λ b. then_some b refusal.Busy)
+    (not_busy (ops.is_idle c.ops.phase) (nat_le line_limit (length c.ops.line)) (has_session s (ops.unanswered c.ops)) (has_session s (ops.unanswered c.ops))
+    (sym (ap (λ z. not (ops.is_idle c.ops.phase) && (z || has_session s (ops.unanswered c.ops))) (from_none (length c.ops.line))) ∙ none_is _ h))
+  where
+    none_is : (b : Bool) → then_some b refusal.Busy ≡ None → b ≡ false
+    none_is true e = cc
+    none_is false e = refl
+
+-- a reason in the middle of a list may be another that doesn't hold
+either_none : (o p : Option Refusal) (rs : List (Option Refusal)) → (o ≡ None → p ≡ None) → first_of (o ∷ rs) ≡ None → first_of (p ∷ rs) ≡ None
+either_none None p rs f h = ap (λ (q : Option Refusal). first_of (q ∷ rs)) (f refl) ∙ h
+either_none (Some r) p rs f h = cc
+
+passes : (o : Option Refusal) (xs ys : List (Option Refusal)) → (first_of xs ≡ None → first_of ys ≡ None) → first_of (o ∷ xs) ≡ None → first_of (o ∷ ys) ≡ None
+passes None xs ys f h = f h
+passes (Some r) xs ys f h = cc
+
+pub taken_within : (c : Core) (e : Event) → decides_within 0 c e ≡ None → decides c e ≡ None
+unfolding decides decides_within
+taken_within c event.Enter d = d
+taken_within c event.Leave d = d
+taken_within c (event.Deliver from n m) d = d
+taken_within c (event.Acked peer n) d = d
+taken_within c (event.Ask s r k) d =
+    let e = event.Ask s r k in
+    let rest = set_full c k ∷ outbox_full c e ∷ spent c e ∷ [] in
+    passes (left c) _ _ (passes (not_entered c) _ _ (passes (not_joined c) _ _ (passes (too_many_sessions c s) _ _ (passes (repeat c s r) _ _
+    (passes (stale c s r) _ _ (passes (skip c s r) _ _ (either_none (busy 0 c s) (busy line_limit c s) rest (free_more c s)))))))) d
+taken_within c (event.Retire q) d = d
+
+pub taken_along : (n : Node) (es : List Event) → IsLawfulWithin 0 n es → IsLawful n es
+taken_along n [] d = tt
+taken_along n (e ∷ es) d = (taken_within n.core e d.0, taken_along (step n e) es d.1)
+
+none_behind : (o : Option Asked) (line : List Asked) → [] ≡ led_by o line → line ≡ []
+none_behind None line e = sym e
+none_behind (Some a) line e = cc
+
+none_asked : (c : Core) (s r : ℕ) (k : Command) → c.ops.line ≡ [] → ops.is_idle c.ops.phase ≡ true → (ops.after_ask c.me (quorum c) (asked_of s r k) c.ops).line ≡ []
+none_asked c s r k none idle =
+    let a = asked_of s r k in
+    ap (λ b. (if b then ops.with_begun c.me (quorum c) a c.ops else record c.ops { line = c.ops.line ++ a ∷ [] }).line) idle ∙ begun_line c.me (quorum c) a c.ops ∙ none
+
+none_waiting : (c : Core) (e : Event) → c.ops.line ≡ [] → decides_within 0 c e ≡ None → (next c e).ops.line ≡ []
+unfolding next
+none_waiting c event.Enter none d = none
+none_waiting c event.Leave none d = none
+none_waiting c (event.Deliver from n m) none d = none_behind (ops.begun_by c.me m c.ops) _ (sym none ∙ message_line c.me (quorum c) m c.ops)
+none_waiting c (event.Acked peer n) none d = none
+none_waiting c (event.Ask s r k) none d =
+    let there = has_session s (ops.unanswered c.ops) in
+    let idle = ops.is_idle c.ops.phase in
+    none_asked c s r k none (must_idle idle there
+    (sym (ap (λ z. then_some (not idle && (z || there)) refusal.Busy) (from_none (length c.ops.line))) ∙ free_within 0 c s r k d))
+  where
+    must_idle : (idle there : Bool) → then_some (not idle && (true || there)) refusal.Busy ≡ None → idle ≡ true
+    must_idle true there e = refl
+    must_idle false there e = cc
+none_waiting c (event.Retire q) none d = none
+
+-- where none may wait, none does
+pub none_waiting_along : (n : Node) (es : List Event) → n.core.ops.line ≡ [] → IsLawfulWithin 0 n es → (after n es).core.ops.line ≡ []
+unfolding step
+none_waiting_along n [] none d = none
+none_waiting_along n (e ∷ es) none d = none_waiting_along (step n e) es (none_waiting n.core e none d.0) d.1

@@ -1,0 +1,7 @@
+use Rattle.std.proofs.Common.{refl, arith}
+use Rattle.cc_views.specs.NatSets as set
+use Rattle.cc_ops.proofs.ops.Ops.new.Goals as goal
+
+pub invariant_of-result : goal.invariant_of-result
+invariant_of-result c =
+    rw (c.in_ok-new-3.ensures, c.empty.ensures) (record { number = omega arith; tag = omega arith; waits = tt; behind = refl; room = omega (arith, set.len-empty) })
