@@ -1,6 +1,6 @@
 //! A folder begins to keep a node.
 
-use crate::order::FormatOrder;
+use crate::format_order::FormatOrder;
 use crate::status::{GOOD, REFUSED};
 use cc_files::{FileSite, NoOutlet};
 use cc_flush::{Back, format};

@@ -1,13 +1,16 @@
-//! What the program does with the folder of a node: it formats it, and tells what stands there.
+//! What the program does with the folder of a node: it formats it, and tells what stands there. And what its command line
+//! asks for beside that.
 #![tactic(auto)]
 
 mod dumping;
+mod format_order;
 mod formatting;
-mod order;
+mod network_orders;
 mod status;
 mod word_fault;
 
 pub use dumping::{dump_folder, dump_site};
+pub use format_order::{FormatOrder, FormatWords};
 pub use formatting::{format_folder, format_site};
-pub use order::{FormatOrder, FormatWords};
+pub use network_orders::{AskOrder, AskWords, LeaveOrder, RetireOrder, RunOrder};
 pub use word_fault::WordFault;

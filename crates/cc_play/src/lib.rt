@@ -9,7 +9,6 @@ mod player;
 mod script;
 mod sent;
 mod station;
-mod texts;
 
 pub use cluster::{Cluster, Played};
 pub use delivery::Delivery;

@@ -4,9 +4,9 @@ use crate::delivery::Delivery;
 use crate::station::Standing;
 use cc_changes::Fraction;
 use cc_site::Choice;
-use cc_views::{NodeId, Text};
-use cc_wire::{Command, Event};
-use cc_words::{fraction, list, number, small_number};
+use cc_views::NodeId;
+use cc_wire::Event;
+use cc_words::{command, fraction, list, number, small_number};
 use std::alloc::{AllocError, Global};
 
 /// What one line asks for.
@@ -56,8 +56,8 @@ fn plain_line(words: &[&str]) -> Option<Line> {
         ["fractions", beta, gamma] => fractions(beta, gamma),
         ["enter", node] => event_at(node, Some(Event::Enter)),
         ["leave", node] => event_at(node, Some(Event::Leave)),
-        ["ask", node, session, request, command @ ..] => {
-            event_at(node, ask(session, request, command))
+        ["ask", node, session, request, asked @ ..] => {
+            event_at(node, ask(session, request, asked))
         }
         ["acked", node, peer, number] => event_at(node, acked(peer, number)),
         ["retire", node, retired] => event_at(node, retire(retired)),
@@ -190,30 +190,6 @@ fn crash(node: &str, choice: Option<Choice>) -> Option<Line> {
 
 fn filled(filler: &str) -> Option<Choice> {
     Some(Choice::Fill(byte(filler)?))
-}
-
-fn command(words: &[&str]) -> Option<Command> {
-    match words {
-        ["store", word] => Some(Command::Store(stored_text(word)?)),
-        ["collect"] => Some(Command::Collect),
-        ["max", n] => Some(Command::WriteMax(number(n)?)),
-        ["readmax"] => Some(Command::ReadMax),
-        ["flag"] => Some(Command::SetFlag),
-        ["readflag"] => Some(Command::ReadFlag),
-        ["add", n] => Some(Command::AddMember(small_number(n)?)),
-        ["readset"] => Some(Command::ReadSet),
-        _ => None,
-    }
-}
-
-// A word of 1 to 64 visible ASCII characters.
-fn stored_text(word: &str) -> Option<Text> {
-    let bytes = word.as_bytes();
-    let is_visible = bytes.iter().all(|byte| byte.is_ascii_graphic());
-    if bytes.is_empty() || !is_visible {
-        return None;
-    }
-    Text::new(bytes)
 }
 
 // Two lower case hexadecimal digits.

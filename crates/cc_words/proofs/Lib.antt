@@ -1,3 +1,4 @@
+pub mod AddressWords
 pub mod Digits
 pub mod Parts
 pub mod Slash

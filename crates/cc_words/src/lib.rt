@@ -1,10 +1,15 @@
-//! The words of scripts and of the command line: numbers, lists of numbers, and fractions.
+//! The words of scripts and of the command line: numbers, lists of numbers, fractions, commands of
+//! clients, addresses and peers.
 #![tactic(auto)]
 
+mod addresses;
+mod commands;
 mod fractions;
 mod lists;
 mod numbers;
 
+pub use addresses::{Peer, address, peers};
+pub use commands::command;
 pub use fractions::fraction;
 pub use lists::list;
-pub use numbers::{number, small_number};
+pub use numbers::{number, port_number, small_number};

@@ -24,6 +24,16 @@ pub fn small_number(word: &str) -> Option<u32>
     word.parse().ok()
 }
 
+/// The same below 2^16.
+pub fn port_number(word: &str) -> Option<u16>
+    ensures { MatchOption result (NoNumber 16 word.now) (λ n. word.now ≡ decimal n) }
+{
+    if !is_plain(word.as_bytes()) {
+        return None;
+    }
+    word.parse().ok()
+}
+
 // Whether these are digits alone, and no zero before other digits.
 fn is_plain(bytes: &[u8]) -> bool
     ensures { IsTrue result ↔ IsPlain bytes.now }

@@ -36,6 +36,50 @@ why the folder can't be opened. It changes nothing but that it makes files that 
 missing. Statuses: 0 opened, 1 after a fault, 2 after a command line that it doesn't
 take.";
 
+const RUN_HELP: &str = "\
+Example: ccnode run node-1 --listen 127.0.0.1:7001 \\
+             --peers 2=127.0.0.1:7002,3=127.0.0.1:7003
+
+Runs the node of a folder that was formatted, until the program is ended, by SIGTERM
+or else: what was answered is on the disk, and the next run goes on from there.
+A peer that isn't named gets nothing from this node. Whoever can reach ADDR may ask,
+tell the node to leave, or send it messages: keep it in a network that you trust.
+
+It notes its start and its end on standard error. Statuses: 1 where the folder can't
+be opened (NotFormatted, Damaged, Version, Device, NoMemory), a disk call fails
+(Failed) or ADDR can't be listened at (Listen), 2 after a command line that it
+doesn't take, the node among its own peers included.";
+
+const ASK_HELP: &str = "\
+Examples: ccnode ask 127.0.0.1:7001 7 store a
+          ccnode ask 127.0.0.1:7001 7 collect
+
+Commands, and what they print:
+  store WORD      stores a text of 1 to 64 visible characters: Stored
+  collect         the last value of each node: Seen [NODE:NUMBER=TEXT/MAX/FLAG/SET,..]
+  max N, readmax  writes a number, and reads the greatest of all nodes: Stored, Max N
+  flag, readflag  sets a flag, and reads whether any node did: Stored, Flag 1
+  add N, readset  adds a number to a set, and reads those of all nodes: Stored, Set [N,..]
+
+It asks again where the node is busy or the connection breaks, under the same number,
+so that nothing is done twice. Else it prints `refused` and why, as `refused 4
+NotJoined`, or `no answer`. Statuses: 0 after an answer, 1 after none, 2 after a command
+line that it doesn't take.";
+
+const LEAVE_HELP: &str = "\
+Example: ccnode leave 127.0.0.1:7001
+
+Prints `left`, also where it had left before, `refused` and why, or `no answer`. The
+node tells the others, which don't wait for it any more. Statuses: 0 left, 1 not, 2
+after a command line that it doesn't take.";
+
+const RETIRE_HELP: &str = "\
+Example: ccnode retire 127.0.0.1:7001 3
+
+To be done at each node that lives, once it is sure that the dead one never comes back.
+Prints `retired 3`, `refused` and why, or `no answer`. Statuses: 0 retired, 1 not, 2
+after a command line that it doesn't take.";
+
 /// The program's subcommands and their words. The help has the program's own name, whatever its file is called.
 pub fn command_line<'a>(alloc: Global) -> Result<Command<'a>, AllocError> {
     Command::new(alloc, "ccnode")
@@ -44,6 +88,10 @@ pub fn command_line<'a>(alloc: Global) -> Result<Command<'a>, AllocError> {
         .bin_name("ccnode")?
         .subcommand(player(alloc))?
         .subcommand(formatter(alloc)?)?
+        .subcommand(runner(alloc)?)?
+        .subcommand(asker(alloc)?)?
+        .subcommand(leaver(alloc)?)?
+        .subcommand(retirer(alloc)?)?
         .subcommand(dumper(alloc)?)
 }
 
@@ -76,6 +124,58 @@ fn formatter<'a>(alloc: Global) -> Result<Command<'a>, AllocError> {
     ))
 }
 
+fn runner<'a>(alloc: Global) -> Result<Command<'a>, AllocError> {
+    let listen = option(alloc, "listen", "ADDR")
+        .required(true)
+        .help("Where it listens: an IPv4 address and a port");
+    let peers = option(alloc, "peers", "ID=ADDR,..").help(
+        "Where the other nodes listen [default: none]",
+    );
+    Command::new(alloc, "run")
+        .about("Runs a node over TCP")
+        .after_help(RUN_HELP)
+        .arg(folder(alloc))?
+        .arg(listen)?
+        .arg(peers)
+}
+
+fn asker<'a>(alloc: Global) -> Result<Command<'a>, AllocError> {
+    let session = Arg::new(alloc, "SESSION")
+        .required(true)
+        .help("The client's session: any number, no other client's");
+    let command = Arg::new(alloc, "COMMAND")
+        .required(true)
+        .help("What is to be done, as below");
+    let value = Arg::new(alloc, "VALUE").help("The word that some commands have");
+    let timeout = option(alloc, "timeout", "SECONDS").help("How long it waits [default: 10]");
+    Command::new(alloc, "ask")
+        .about("Has a node do something, and prints its answer")
+        .after_help(ASK_HELP)
+        .arg(address(alloc))?
+        .arg(session)?
+        .arg(command)?
+        .arg(value)?
+        .arg(timeout)
+}
+
+fn leaver<'a>(alloc: Global) -> Result<Command<'a>, AllocError> {
+    Command::new(alloc, "leave")
+        .about("Has a node leave the cluster for good")
+        .after_help(LEAVE_HELP)
+        .arg(address(alloc))
+}
+
+fn retirer<'a>(alloc: Global) -> Result<Command<'a>, AllocError> {
+    let node = Arg::new(alloc, "ID")
+        .required(true)
+        .help("The number of the node that is dead for good");
+    Command::new(alloc, "retire")
+        .about("Tells a node that another one is dead for good")
+        .after_help(RETIRE_HELP)
+        .arg(address(alloc))?
+        .arg(node)
+}
+
 fn dumper<'a>(alloc: Global) -> Result<Command<'a>, AllocError> {
     Command::new(alloc, "dump")
         .about("Tells what stands in a node's folder")
@@ -87,6 +187,12 @@ fn folder<'a>(alloc: Global) -> Arg<'a> {
     Arg::new(alloc, "DIR")
         .required(true)
         .help("The node's folder, which has to exist")
+}
+
+fn address<'a>(alloc: Global) -> Arg<'a> {
+    Arg::new(alloc, "ADDR")
+        .required(true)
+        .help("Where the node listens, such as 127.0.0.1:7001")
 }
 
 fn option<'a>(alloc: Global, name: &'a str, value: &'a str) -> Arg<'a> {

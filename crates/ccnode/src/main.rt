@@ -1,16 +1,25 @@
 //! The command line of a node of a store-collect cluster: it plays scripts over clusters in memory, formats the folder of a
-//! node, and tells what stands there.
+//! node, runs it over TCP, and tells what stands there.
 #![tactic(auto)]
 
 mod command_line;
+mod network;
 
-use cc_commands::{FormatOrder, FormatWords, WordFault, dump_folder, format_folder};
+use cc_commands::{FormatOrder, FormatWords, RunOrder, WordFault, dump_folder, format_folder};
+use cc_intake::NoHooks;
 use cc_play::{PlayFault, play};
+use cc_server::{Config, RunFault, Stop, run_node};
 use clap::ArgMatches;
 use command_line::command_line;
+use network::{Asked, ask, leave, retire};
 use std::alloc::Global;
+use std::fs::{File, Files};
 use std::io::BufWriter;
+use std::net::{Net, TcpListener, TcpStream};
 use std::process::ExitCode;
+use std::sync::Wait;
+use std::thread::Threads;
+use std::time::Clock;
 
 // The command line isn't as it should be.
 const BAD_COMMAND_LINE: u8 = 2;
@@ -26,6 +35,19 @@ enum Order<'a> {
         folder: &'a str,
         words: FormatWords<'a>,
     },
+    Run {
+        folder: &'a str,
+        listen: &'a str,
+        peers: Option<&'a str>,
+    },
+    Ask(Asked<'a>),
+    Leave {
+        address: &'a str,
+    },
+    Retire {
+        address: &'a str,
+        node: &'a str,
+    },
     Dump {
         folder: &'a str,
     },
@@ -33,16 +55,28 @@ enum Order<'a> {
 
 fn main(rt: HostRuntime) -> anyhow::Result<ExitCode> {
     let words: Vec<String> = std::env::args(&rt)?.collect(rt.alloc())?;
-    obey(&rt, &words)
+    match parse(rt.alloc(), &words) {
+        Ok(
+            Order::Run {
+                folder,
+                listen,
+                peers,
+            },
+        ) => run(&rt, folder, listen, peers),
+        Ok(order) => obey(&rt, order),
+        Err(error) => print_error(&rt, &error),
+    }
 }
 
-// Does what the words of a command line ask for.
-fn obey(rt: &HostRuntime, words: &[String]) -> anyhow::Result<ExitCode> {
-    match parse(rt.alloc(), words) {
-        Ok(Order::Play) => play_input(rt),
-        Ok(Order::Format { folder, words }) => format(rt, folder, &words),
-        Ok(Order::Dump { folder }) => dump(rt, folder),
-        Err(error) => print_error(rt, &error),
+// Does what needs no threads.
+fn obey(rt: &HostRuntime, order: Order<'_>) -> anyhow::Result<ExitCode> {
+    match order {
+        Order::Format { folder, words } => format(rt, folder, &words),
+        Order::Ask(asked) => ask(rt, &asked),
+        Order::Leave { address } => leave(rt, address),
+        Order::Retire { address, node } => retire(rt, address, node),
+        Order::Dump { folder } => dump(rt, folder),
+        Order::Play | Order::Run { .. } => play_input(rt),
     }
 }
 
@@ -58,6 +92,19 @@ fn order_of<'a>(matches: &ArgMatches<'a>) -> Order<'a> {
             folder: required(words, "DIR"),
             words: format_words(words),
         },
+        Some(("run", words)) => Order::Run {
+            folder: required(words, "DIR"),
+            listen: required(words, "listen"),
+            peers: words.get_str("peers"),
+        },
+        Some(("ask", words)) => Order::Ask(asked_words(words)),
+        Some(("leave", words)) => Order::Leave {
+            address: required(words, "ADDR"),
+        },
+        Some(("retire", words)) => Order::Retire {
+            address: required(words, "ADDR"),
+            node: required(words, "ID"),
+        },
         Some(("dump", words)) => Order::Dump {
             folder: required(words, "DIR"),
         },
@@ -72,6 +119,16 @@ fn format_words<'a>(words: &ArgMatches<'a>) -> FormatWords<'a> {
         contacts: words.get_str("contacts"),
         beta: words.get_str("beta"),
         gamma: words.get_str("gamma"),
+    }
+}
+
+fn asked_words<'a>(words: &ArgMatches<'a>) -> Asked<'a> {
+    Asked {
+        address: required(words, "ADDR"),
+        session: required(words, "SESSION"),
+        command: required(words, "COMMAND"),
+        value: words.get_str("VALUE"),
+        timeout: words.get_str("timeout"),
     }
 }
 
@@ -120,7 +177,7 @@ fn format_as(rt: &HostRuntime, folder: &str, order: &FormatOrder) -> anyhow::Res
 }
 
 // Prints which word isn't of its form.
-fn print_word_fault(rt: &HostRuntime, fault: WordFault) -> anyhow::Result<ExitCode> {
+fn print_word_fault<R: Eprint>(rt: &R, fault: WordFault) -> anyhow::Result<ExitCode> {
     eprintln!(rt; "ccnode: {fault}")?;
     let is_bad = fault != WordFault::NoMemory;
     Ok(ExitCode::from(if is_bad { BAD_COMMAND_LINE } else { FAULT }))
@@ -130,4 +187,38 @@ fn dump(rt: &HostRuntime, folder: &str) -> anyhow::Result<ExitCode> {
     let mut output = std::io::writer(rt);
     let status = dump_folder(rt, rt.alloc(), folder, &mut output)?;
     Ok(ExitCode::from(status))
+}
+
+// Runs the node of a folder: the status of that.
+fn run<R>(rt: &R, folder: &str, listen: &str, peers: Option<&str>) -> anyhow::Result<ExitCode>
+where
+    R: Files<File = File>
+        + Net<Listener = TcpListener, Stream = TcpStream>
+        + AllocGlobal
+        + Eprint
+        + Threads
+        + Wait
+        + Clock
+        + Sync,
+{
+    let order = match RunOrder::parse(rt.alloc(), listen, peers) {
+        Ok(order) => order,
+        Err(fault) => return print_word_fault(rt, fault),
+    };
+    let RunOrder { listen, peers } = order;
+    let config = Config {
+        dir: folder,
+        listen,
+        peers,
+    };
+    match run_node(rt, rt.alloc(), &config, &Stop::new(), &NoHooks) {
+        Ok(_) => Ok(ExitCode::SUCCESS),
+        Err(fault) => print_run_fault(rt, fault),
+    }
+}
+
+fn print_run_fault<R: Eprint>(rt: &R, fault: RunFault) -> anyhow::Result<ExitCode> {
+    eprintln!(rt; "ccnode: {fault}")?;
+    let is_bad = fault == RunFault::OwnPeer;
+    Ok(ExitCode::from(if is_bad { BAD_COMMAND_LINE } else { FAULT }))
 }

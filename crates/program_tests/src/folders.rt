@@ -78,8 +78,8 @@ fn entrant<R: Abort + AllocGlobal + Files<File = File>>(
     check_format(rt, folder, &ENTRANT, 0, "formatted 4\n")?;
     let path = format!(in rt.alloc(); "{folder}/side-a")?;
     let mut side = fs::read(rt, path.as_str())?;
-    assert_eq!(rt; side.len(), 153);
-    side.truncate(152);
+    assert_eq!(rt; side.len(), 154);
+    side.truncate(153);
     side.extend_from_slice(bytes)?;
     fs::write(rt, path.as_str(), &side)?;
     Ok(())
@@ -111,7 +111,7 @@ fn a_folder_is_dumped_after_an_enter(rt: HostRuntime) -> Result<(), Fail> {
 fn a_damaged_side_is_dumped(rt: HostRuntime) -> Result<(), Fail> {
     const FOLDER: &str = "damaged_folder";
     entrant(&rt, FOLDER, &[0xA5, 0, 0, 1, 0])?;
-    let wanted = "A armed 1\nB closed\nfault Damaged A 153\n";
+    let wanted = "A armed 1\nB closed\nfault Damaged A 154\n";
     check_dump(&rt, FOLDER, 1, wanted)?;
     fs::remove_dir_all(&rt, FOLDER)?;
     Ok(())

@@ -18,6 +18,8 @@ mod folders;
 #[cfg(test)]
 mod limits;
 #[cfg(test)]
+mod lines;
+#[cfg(test)]
 mod node_faults;
 #[cfg(test)]
 mod objects;

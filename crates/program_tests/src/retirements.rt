@@ -32,7 +32,7 @@ const OTHER_RETIRED: &str = "\
 1 ack 1 2
 1 opened
 1 checkpoint
-1 refused 13 Busy
+1 accepted
 1 refused 1 Left
 1 accepted
 ";

@@ -1,8 +1,13 @@
 //! The words of the command line.
 
 use cc_changes::Fraction;
-use cc_commands::{FormatOrder, FormatWords, WordFault};
-use cc_words::{fraction, list, number, small_number};
+use cc_commands::{
+    AskOrder, AskWords, FormatOrder, FormatWords, LeaveOrder, RetireOrder, RunOrder, WordFault,
+};
+use cc_views::NodeId;
+use cc_wire::Command;
+use cc_words::{Peer, fraction, list, number, small_number};
+use std::net::{Ipv4Addr, SocketAddr, SocketAddrV4};
 use std::test::*;
 
 #[test]
@@ -49,6 +54,127 @@ fn fractions_are_numbers_and_a_slash(rt: HostRuntime) -> Result<(), Fail> {
     ] {
         assert_eq!(rt; fraction(word), None, "{word}");
     }
+    Ok(())
+}
+
+fn local(port: u16) -> SocketAddr {
+    SocketAddr::V4(SocketAddrV4::new(Ipv4Addr::new(127, 0, 0, 1), port))
+}
+
+fn peer(id: u32, port: u16) -> Result<Peer, Fail> {
+    Ok(Peer {
+        id: NodeId::new(id).ok_or("ids begin at 1")?,
+        address: local(port),
+    })
+}
+
+#[test]
+fn run_listens_and_knows_its_peers(rt: HostRuntime) -> Result<(), Fail> {
+    let order = RunOrder::parse(rt.alloc(), "127.0.0.1:7001", Some("2=127.0.0.1:7002"))?;
+    let [two, three] = [peer(2, 7002)?, peer(3, 7003)?];
+    assert_eq!(rt;
+        (order.listen, order.peers.as_slice()),
+        (local(7001), [two].as_slice())
+    );
+    assert!(rt; order.names(two.id) && !order.names(three.id));
+    let alone = RunOrder::parse(rt.alloc(), "127.0.0.1:7001", None)?;
+    assert!(rt; alone.peers.is_empty());
+    for (listen, peers, fault) in [
+        ("7001", None, WordFault::Listen),
+        ("127.0.0.1:7001", Some(""), WordFault::Peers),
+        (
+            "127.0.0.1:7001",
+            Some("2=127.0.0.1:7002,2=127.0.0.1:7003"),
+            WordFault::PeerTwice,
+        ),
+    ] {
+        let refused = RunOrder::parse(rt.alloc(), listen, peers).err();
+        assert_eq!(rt; refused, Some(fault));
+    }
+    Ok(())
+}
+
+const COLLECT: AskWords<'_> = AskWords {
+    address: "127.0.0.1:7001",
+    session: "7",
+    command: &["collect"],
+    timeout: None,
+};
+
+#[test]
+fn ask_waits_ten_seconds_by_itself(rt: HostRuntime) -> Result<(), Fail> {
+    let collect = AskOrder {
+        address: local(7001),
+        session: 7,
+        command: Command::Collect,
+        timeout: 10,
+    };
+    assert_eq!(rt; AskOrder::parse(&COLLECT)?, collect);
+    let patient = AskOrder::parse(&AskWords {
+        timeout: Some("60"),
+        ..COLLECT
+    })?;
+    assert_eq!(rt;
+        patient,
+        AskOrder {
+            timeout: 60,
+            ..collect
+        }
+    );
+    Ok(())
+}
+
+#[test]
+fn the_address_of_ask_is_checked(rt: HostRuntime) -> Result<(), Fail> {
+    let order = AskOrder::parse(&AskWords {
+        address: "7001",
+        ..COLLECT
+    });
+    assert_eq!(rt; order, Err(WordFault::Address));
+    Ok(())
+}
+
+#[test]
+fn the_session_of_ask_is_checked(rt: HostRuntime) -> Result<(), Fail> {
+    let order = AskOrder::parse(&AskWords {
+        session: "07",
+        ..COLLECT
+    });
+    assert_eq!(rt; order, Err(WordFault::Session));
+    Ok(())
+}
+
+#[test]
+fn the_command_of_ask_is_checked(rt: HostRuntime) -> Result<(), Fail> {
+    let order = AskOrder::parse(&AskWords {
+        command: &["collects"],
+        ..COLLECT
+    });
+    assert_eq!(rt; order, Err(WordFault::Command));
+    Ok(())
+}
+
+#[test]
+fn the_timeout_of_ask_is_checked(rt: HostRuntime) -> Result<(), Fail> {
+    let order = AskOrder::parse(&AskWords {
+        timeout: Some("1.5"),
+        ..COLLECT
+    });
+    assert_eq!(rt; order, Err(WordFault::Timeout));
+    Ok(())
+}
+
+#[test]
+fn the_operator_names_a_node(rt: HostRuntime) -> Result<(), Fail> {
+    let order = LeaveOrder::parse("127.0.0.1:7001")?;
+    assert_eq!(rt; order.address, local(7001));
+    assert_eq!(rt; LeaveOrder::parse("").err(), Some(WordFault::Address));
+    let order = RetireOrder::parse("127.0.0.1:7001", "3")?;
+    assert_eq!(rt; (order.address, order.node.number()), (local(7001), 3));
+    assert_eq!(rt;
+        RetireOrder::parse("127.0.0.1:7001", "0").err(),
+        Some(WordFault::Node)
+    );
     Ok(())
 }
 

@@ -158,7 +158,7 @@ fn print_echo<W: fmt::Write>(
 
 /// `Stored`, `Seen VIEW`, `Max N`, `Flag 0`, `Flag 1` or `Set [N,..]`.
 #[derive(Clone, Copy)]
-struct PrintedAnswer<'a>(&'a Answer);
+pub struct PrintedAnswer<'a>(pub &'a Answer);
 
 impl fmt::Display for PrintedAnswer<'_> {
     fn fmt<W: fmt::Write>(&self, f: &mut fmt::Formatter<W>) -> fmt::Result {

@@ -1,0 +1,122 @@
+//! A command that is done at a node.
+
+use crate::deadline::Deadline;
+use crate::sending::{connect, pause, receive, send};
+use cc_commands::AskOrder;
+use cc_protocol::{Client, Heard, Incoming, Step};
+use cc_texts::PrintedAnswer;
+use cc_wire::{Answer, Refusal};
+use std::alloc::Global;
+use std::io;
+use std::io::Write;
+use std::net::{Net, TcpStream};
+use std::time::Clock;
+
+/// Has a command done: it asks, again where the node is busy or the connection breaks, and always under one number, so that
+/// nothing is done twice. It prints the answer, `refused` and why, or `no answer` where none came in time. The answer is the
+/// status to end with: 0 after an answer, else 1.
+pub fn ask_node<R: Net<Stream = TcpStream> + Clock, W: Write>(
+    rt: &R,
+    alloc: Global,
+    order: &AskOrder,
+    output: &mut W,
+) -> io::Result<u8> {
+    let mut asking = Asking {
+        client: Client::new(order.session, order.command),
+        refusal: None,
+    };
+    let ended = asking.ask(rt, alloc, order);
+    print_ended(ended, asking.refusal, output)
+}
+
+// A client, and why it has to try again, where a refusal is why.
+#[derive(Drop)]
+struct Asking {
+    client: Client,
+    refusal: Option<Refusal>,
+}
+
+// How a client's asking ended.
+#[derive(Drop)]
+enum Ended {
+    Answered(Answer),
+    Refused(Refusal),
+}
+
+impl Asking {
+    // None where nothing came in time.
+    fn ask<R: Net<Stream = TcpStream> + Clock>(
+        &mut self,
+        rt: &R,
+        alloc: Global,
+        order: &AskOrder,
+    ) -> Option<Ended> {
+        let deadline = Deadline::new(rt, order.timeout);
+        for _ in 0..u64::MAX {
+            if let Some(stream) = connect(rt, &order.address) {
+                let ended = self.converse(rt, alloc, &stream, &deadline);
+                if ended.is_some() {
+                    return ended;
+                }
+            }
+            self.client.hear(Heard::Broken);
+            deadline.left(rt)?;
+            pause(rt);
+        }
+        None
+    }
+
+    // Asks over one connection. None where it breaks, or the time is over.
+    fn converse<R: Clock>(
+        &mut self,
+        rt: &R,
+        alloc: Global,
+        stream: &TcpStream,
+        deadline: &Deadline,
+    ) -> Option<Ended> {
+        let mut incoming = Incoming::new(alloc, stream).ok()?;
+        let mut heard = Heard::Ready;
+        for _ in 0..u64::MAX {
+            match self.client.hear(heard) {
+                Step::Send(frame) => send(alloc, stream, &frame)?,
+                Step::Wait => {}
+                Step::Retry(why) => {
+                    self.refusal = why;
+                    pause(rt);
+                    heard = Heard::Ready;
+                    continue;
+                }
+                Step::Done(answer) => return Some(Ended::Answered(answer)),
+                Step::Refused(why) => return Some(Ended::Refused(why)),
+            }
+            heard = Heard::Came(receive(rt, stream, &mut incoming, deadline)?);
+        }
+        None
+    }
+}
+
+fn print_ended<W: Write>(
+    ended: Option<Ended>,
+    last: Option<Refusal>,
+    output: &mut W,
+) -> io::Result<u8> {
+    match ended {
+        Some(Ended::Answered(answer)) => {
+            writeln!(output, "{}", PrintedAnswer(&answer))?;
+            output.flush()?;
+            Ok(0)
+        }
+        Some(Ended::Refused(why)) => print_refusal(Some(why), output),
+        None => print_refusal(last, output),
+    }
+}
+
+/// Prints why a request was refused, or that nothing came in time. The status to end with.
+pub fn print_refusal<W: Write>(why: Option<Refusal>, output: &mut W) -> io::Result<u8> {
+    match why {
+        Some(why) => writeln!(output, "refused {why}")?,
+        None => writeln!(output, "no answer")?,
+    }
+    output.flush()?;
+    Ok(1)
+}

@@ -1,0 +1,27 @@
+//! Until when a client waits.
+
+use std::time::{Clock, Duration, Instant};
+
+/// So long from its start on.
+#[derive(Clone, Copy)]
+pub struct Deadline {
+    start: Option<Instant>,
+    whole: Duration,
+}
+
+impl Deadline {
+    /// It starts now, and is over in so many seconds.
+    pub fn new<R: Clock>(rt: &R, seconds: u64) -> Self {
+        Deadline {
+            start: Instant::now(rt).ok(),
+            whole: Duration::from_secs(seconds),
+        }
+    }
+
+    /// What is left of it. None once it is over, and where the clock can't be read.
+    pub fn left<R: Clock>(&self, rt: &R) -> Option<Duration> {
+        let elapsed = self.start?.elapsed(rt).ok()?;
+        let left = self.whole.saturating_sub(elapsed);
+        (left > Duration::ZERO).then_some(left)
+    }
+}

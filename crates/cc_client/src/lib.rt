@@ -1,0 +1,10 @@
+//! A client of a node over TCP: it has one command done, or brings the operator's request.
+#![tactic(auto)]
+
+mod asking;
+mod deadline;
+mod operating;
+mod sending;
+
+pub use asking::ask_node;
+pub use operating::{leave_node, retire_node};

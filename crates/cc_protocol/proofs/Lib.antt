@@ -1,0 +1,5 @@
+mod AskingLaws
+mod LearningLaws
+mod OperatingLaws
+mod RoutingLaws
+mod StirLaws

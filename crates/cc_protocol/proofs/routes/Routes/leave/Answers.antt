@@ -1,0 +1,7 @@
+use Rattle.cc_protocol.proofs.RoutingLaws.{closed_kept}
+use Rattle.cc_protocol.proofs.routes.Routes.leave.Goals as goal
+
+pub invariant_of-self : goal.invariant_of-self
+invariant_of-self c =
+    rw (c.remove_door.ensures.items, c.remove_door.ensures.capacity, c.remove_routes.ensures.items, c.remove_routes.ensures.capacity)
+    (closed_kept _ _ _ _ _ _ c.self.invariant)

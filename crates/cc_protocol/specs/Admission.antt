@@ -1,0 +1,31 @@
+-- What may be handed to a node, so that there is room left for what others need of it.
+--     free_posts          how many posts may still be kept
+--     may_hand_over       whether an event may be handed over now
+--     is_furthest_behind  whether a peer's acknowledgement would free a post
+use Rattle.std.specs.Prelude.{ℕ, ◌-◌, ◌==◌, ◌&&◌, ◌||◌, not, nat_le, Bool, true, false}
+use Rattle.std.specs.Option.{option_map_or}
+use Rattle.std.specs.FinMap as table
+use Rattle.cc_wire.specs.declared.event.Event.{Event}
+use Rattle.cc_wire.specs.declared.event.Event.TheVariants as event
+use Rattle.cc_links.specs.Links.{reach}
+use Rattle.cc_node.specs.Core.{Core, live_links, lowest}
+use Rattle.cc_protocol.specs.Heeding.{message_may_stir}
+
+-- a node keeps 512 posts at most
+abbrev pub free_posts : ℕ → ℕ
+free_posts kept = 512 - kept
+
+-- an ask leaves room for 384 posts, unless it waited ten seconds, and then the node decides; a message that may be answered
+-- leaves room for 256, unless it comes from one of the peers that are furthest behind: they are read on, since their
+-- acknowledgements, which come behind it, are what makes room
+abbrev pub may_hand_over : ℕ → Event → ℕ → Bool → ℕ → Bool
+may_hand_over me event.Enter kept is_furthest waited = true
+may_hand_over me event.Leave kept is_furthest waited = true
+may_hand_over me (event.Deliver from number m) kept is_furthest waited = not (message_may_stir me m) || (is_furthest || nat_le 256 (free_posts kept))
+may_hand_over me (event.Acked peer number) kept is_furthest waited = true
+may_hand_over me (event.Ask session request command) kept is_furthest waited = nat_le 10 waited || nat_le 384 (free_posts kept)
+may_hand_over me (event.Retire node) kept is_furthest waited = true
+
+-- of the links to peers that haven't left, its link is one of those that have come least far
+abbrev pub is_furthest_behind : Core → ℕ → Bool
+is_furthest_behind c peer = table.contains_key (live_links c) peer && option_map_or (λ l. reach l == lowest c) (table.get c.links peer) false

@@ -1,0 +1,6 @@
+pub mod Frames
+pub mod Heeding
+pub mod Admission
+pub mod Asking
+pub mod Operating
+pub mod Routing

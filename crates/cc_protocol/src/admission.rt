@@ -1,0 +1,64 @@
+//! What may be handed to a node, so that there is room left for what others need of it.
+
+ghost use Rattle.std.specs.Prelude.{◌≡◌, ◌-◌, nat_le, false, None};
+ghost use Rattle.cc_wire.specs.declared.event.Event.{Event};
+ghost use Rattle.cc_node.specs.Core as machine;
+ghost use Rattle.cc_node.specs.Core.{Core};
+ghost use Rattle.cc_protocol.specs.Heeding.{may_stir};
+ghost use Rattle.cc_protocol.specs.Admission.{free_posts, may_hand_over, is_furthest_behind};
+
+use crate::heeding::message_may_stir;
+use cc_node::Core;
+use cc_views::NodeId;
+use cc_wire::Event;
+
+// How many posts a node keeps at most.
+const MAX_POSTS: u64 = 512;
+
+// How many posts an ask leaves room for.
+const ROOM_BESIDE_ASKS: u64 = 384;
+
+// How many posts a message leaves room for.
+const ROOM_BESIDE_MESSAGES: u64 = 256;
+
+// After so many seconds an ask is handed over, whatever room there is.
+const PATIENCE: u64 = 10;
+
+/// Whether an event may be handed to the node `me` now, which keeps so many posts. `is_furthest` tells whether what
+/// brings it is one of the peers that are furthest behind, and `waited` for how many seconds it has been held back.
+pub fn may_hand_over(me: NodeId, event: &Event, kept: u64, is_furthest: bool, waited: u64) -> bool
+    ensures { result ≡ may_hand_over me event.now kept is_furthest waited }
+{
+    match event {
+        Event::Ask { .. } => waited >= PATIENCE || leaves_room(kept, ROOM_BESIDE_ASKS),
+        Event::Deliver { message, .. } => {
+            !message_may_stir(me, message) || is_furthest || leaves_room(kept, ROOM_BESIDE_MESSAGES)
+        }
+        Event::Enter | Event::Leave | Event::Acked { .. } | Event::Retire { .. } => true,
+    }
+}
+
+fn leaves_room(kept: u64, room: u64) -> bool
+    ensures { result ≡ nat_le room (free_posts kept) }
+{
+    MAX_POSTS.saturating_sub(kept) >= room
+}
+
+/// Whether a peer is one of those that are furthest behind: no peer that hasn't left has acknowledged less of the node's
+/// posts.
+pub fn is_furthest_behind(core: &Core, peer: NodeId) -> bool
+    ensures { result ≡ is_furthest_behind core.now peer }
+{
+    if !core.is_live(peer) {
+        return false;
+    }
+    match core.links().get(peer) {
+        Some(row) => row.start.checked_add(row.acked) == Some(core.lowest()),
+        None => false,
+    }
+}
+
+/// What needn't wake the flusher makes no post and no answer, in any state of a node.
+pub fn nothing_rides_but_acknowledgements()
+    ensures { (c : Core) (e : Event) → may_stir c.me e ≡ false → machine.made c e ≡ record { ack = machine.ack e; post = None; answer = None } }
+{}

@@ -1,0 +1,23 @@
+//! What a server and a client of a node decide, apart from threads, sockets and files.
+#![tactic(auto)]
+
+mod admission;
+mod asking;
+mod frames;
+mod heeding;
+mod incoming;
+mod operating;
+mod route;
+mod routes;
+
+pub use admission::{is_furthest_behind, may_hand_over, nothing_rides_but_acknowledgements};
+pub use asking::{
+    Client, Heard, Step, asks_under_one_number, number_zero_tells_the_last, refusal_of,
+    refusals_are_told,
+};
+pub use frames::{ack_frame, event_of, post_frame, refused_frame, reply_frame};
+pub use heeding::{Duty, heed, may_stir};
+pub use incoming::Incoming;
+pub use operating::{Outcome, outcome_of, second_request_is_left};
+pub use route::Route;
+pub use routes::{Routes, answers_follow_asks};

@@ -1,0 +1,104 @@
+//! One connection: its worker and its writer.
+
+use crate::caller::serve;
+use crate::doors::Door;
+use crate::office::Office;
+use crate::writing::write_frames;
+use cc_intake::{Hooks, Lane, Life};
+use crossbeam_channel::{Receiver, bounded};
+use std::alloc::Global;
+use std::net::{Shutdown, SocketAddr, TcpStream};
+use std::sync::atomic::AtomicU64;
+use std::sync::{Arc, Wait};
+use std::thread;
+use std::thread::Threads;
+use std::time::{Clock, Duration};
+
+// How many frames wait for a connection's writer at most.
+const DOOR_ROOM: usize = 256;
+
+// How long a client may take nothing, in milliseconds.
+const PATIENCE_MS: u64 = 5000;
+
+/// Serves a connection from that address, with a writer of its own.
+pub fn attend<L: Life + Send + Sync, Q: Lane + Send + Sync, R, H: Hooks + Sync>(
+    office: &Office<'_, R, H, L, Q>,
+    stream: TcpStream,
+    from: SocketAddr,
+)
+where
+    R: Threads + Wait + Clock + Sync,
+{
+    let rt = office.rt;
+    let _ = stream.set_nodelay(true);
+    let _ = stream.set_write_timeout(Some(Duration::from_millis(PATIENCE_MS)));
+    let Some((pen, door)) = opened(office.alloc, stream) else {
+        return;
+    };
+    let Some(ticket) = admitted(office, &door, from) else {
+        return;
+    };
+    thread::join(
+        rt,
+        move || write_out(rt, pen),
+        move || serve_in(office, door, ticket),
+    );
+}
+
+/// What a connection's writer has.
+#[derive(Drop)]
+struct Pen {
+    stream: Arc<TcpStream>,
+    from: Receiver<Vec<u8>>,
+    waiting: Arc<AtomicU64>,
+}
+
+// The writer's end of a connection, and its door.
+fn opened(alloc: Global, stream: TcpStream) -> Option<(Pen, Arc<Door>)> {
+    let stream = Arc::new(alloc, stream).ok()?;
+    let waiting = Arc::new(alloc, AtomicU64::new(0)).ok()?;
+    let (to, from) = bounded(alloc, DOOR_ROOM).ok()?;
+    let pen = Pen {
+        stream: Arc::try_clone(&stream).ok()?,
+        from,
+        waiting: Arc::try_clone(&waiting).ok()?,
+    };
+    let door = Arc::new(alloc, Door::new(stream, to, waiting)).ok()?;
+    Some((pen, door))
+}
+
+// The ticket of a connection. None where there are too many.
+fn admitted<R: Wait, H: Hooks, L: Life, Q: Lane>(
+    office: &Office<'_, R, H, L, Q>,
+    door: &Arc<Door>,
+    from: SocketAddr,
+) -> Option<u64> {
+    let known = Arc::try_clone(door).ok()?;
+    let is_peer = office
+        .peers
+        .iter()
+        .any(|peer| peer.address.ip() == from.ip());
+    office.shared.doors.enter(office.rt, known, is_peer)
+}
+
+// Writes what is for a connection, and closes it where a write fails.
+fn write_out<R: Wait>(rt: &R, pen: Pen) {
+    let to: &TcpStream = &pen.stream;
+    write_frames(rt, &pen.from, to, &pen.waiting);
+    let _ = pen.stream.shutdown(Shutdown::Both);
+}
+
+// Serves with a share out of the pool, or a new one. The door is closed at the return, and so the channel to the writer,
+// which then ends.
+fn serve_in<R: Wait, H: Hooks, L: Life, Q: Lane>(
+    office: &Office<'_, R, H, L, Q>,
+    door: Arc<Door>,
+    ticket: u64,
+) {
+    let inside: &Door = &door;
+    if let Some(mut share) = office.draw() {
+        serve(office, inside, ticket, inside.reader(), &mut share);
+        office.give_back(share);
+    }
+    office.shared.doors.leave(office.rt, ticket);
+}

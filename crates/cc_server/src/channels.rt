@@ -1,0 +1,94 @@
+//! The outlet of a node: the lines to its peers and to itself, and its connections.
+
+use crate::lines::{Line, Parcel};
+use crate::shared::Shared;
+use crate::spelling::bytes_of;
+use cc_files::Outlet;
+use cc_protocol::{post_frame, reply_frame};
+use cc_views::NodeId;
+use cc_wire::{Answer, Event, Message};
+use std::alloc::Global;
+use std::sync::Wait;
+
+/// Passes outputs on. What finds no room is lost.
+#[derive(Drop)]
+pub struct Channels<'a, R: Wait> {
+    pub rt: &'a R,
+    pub alloc: Global,
+    pub shared: &'a Shared,
+}
+
+impl<R: Wait> Channels<'_, R> {
+    fn line_to(&self, peer: NodeId) -> Option<&Line> {
+        self.shared.lines.iter().find(|line| line.peer == peer)
+    }
+
+    fn is_me(&self, node: NodeId) -> bool {
+        self.shared.me.get() == Some(&node)
+    }
+
+    // Hands an event to the worker of the node's own messages.
+    fn hear(&self, event: Event) {
+        self.shared.own.put(self.rt, event);
+    }
+
+    fn deliver(&self, from: NodeId, number: u64, message: &Message) {
+        if let Ok(message) = message.copy(self.alloc) {
+            self.hear(Event::Deliver {
+                from,
+                number,
+                message,
+            });
+        }
+    }
+
+    fn post(&self, line: &Line, number: u64, message: &Message) {
+        if line.is_muted() {
+            return;
+        }
+        if let Some(bytes) = self.posted(number, message) {
+            line.put(self.rt, Parcel::Post(bytes));
+        }
+    }
+
+    // The bytes of a message as a peer reads them.
+    fn posted(&self, number: u64, message: &Message) -> Option<Vec<u8>> {
+        let me = self.shared.me.get()?;
+        let frame = post_frame(self.alloc, *me, number, message).ok()?;
+        bytes_of(self.alloc, &frame).ok()
+    }
+
+    // The bytes of an answer as its client reads them.
+    fn replied(&self, session: u64, request: u64, answer: &Answer) -> Option<Vec<u8>> {
+        let frame = reply_frame(self.alloc, session, request, answer).ok()?;
+        bytes_of(self.alloc, &frame).ok()
+    }
+
+    fn acknowledge(&self, line: &Line, number: u64) {
+        line.put(self.rt, Parcel::Ack(number));
+    }
+}
+
+impl<R: Wait> Outlet for Channels<'_, R> {
+    fn send(&mut self, to: NodeId, number: u64, message: &Message) {
+        if self.is_me(to) {
+            self.deliver(to, number, message);
+        } else if let Some(line) = self.line_to(to) {
+            self.post(line, number, message);
+        }
+    }
+
+    fn ack(&mut self, to: NodeId, number: u64) {
+        if self.is_me(to) {
+            self.hear(Event::Acked { peer: to, number });
+        } else if let Some(line) = self.line_to(to) {
+            self.acknowledge(line, number);
+        }
+    }
+
+    fn reply(&mut self, session: u64, request: u64, answer: &Answer) {
+        if let Some(bytes) = self.replied(session, request, answer) {
+            self.shared.doors.pass(self.rt, session, bytes);
+        }
+    }
+}

@@ -1,0 +1,15 @@
+//! What a node is run with.
+
+use cc_words::Peer;
+use std::net::SocketAddr;
+
+/// What a node is run with.
+#[derive(Debug, Drop)]
+pub struct Config<'a> {
+    /// The node's folder.
+    pub dir: &'a str,
+    /// Where the node listens.
+    pub listen: SocketAddr,
+    /// Where other nodes listen. What is for one that isn't among them is lost.
+    pub peers: Vec<Peer>,
+}

@@ -1,0 +1,116 @@
+//! The flusher's thread.
+
+use crate::room::Room;
+use crate::shared::{Shared, Wish};
+use cc_flush::{CheckpointFault, Failed};
+use cc_intake::{Lane, Life, Queue, Turner};
+use cc_site::Site;
+use crossbeam_channel::Receiver;
+use crossbeam_utils::sync::Parker;
+use std::sync::Wait;
+
+// How many wishes are granted between two turns at most.
+const MOST_WISHES: u64 = 64;
+
+// Above how many bytes the side in use is left for the other one.
+const PLENTY: u64 = 4_194_304;
+
+/// What the flusher looks at.
+#[derive(Drop)]
+pub struct Watch<'x> {
+    pub parker: Parker,
+    pub wishes: Receiver<Wish>,
+    pub shared: &'x Shared,
+}
+
+/// Takes turns until nothing is left after `done` was set. An idle flusher sleeps.
+pub fn flush_all<S: Site, L: Life, Q: Lane, R: Wait>(
+    rt: &R,
+    turner: &mut Turner<S, L, Q>,
+    queue: &Queue<L, Q>,
+    watch: &Watch<'_>,
+) -> Result<(), Failed> {
+    let mut is_fresh = true;
+    for _ in rt.forever() {
+        let is_done = watch.shared.done.is_set();
+        watch.shared.bell.look();
+        let events = turn(rt, turner, queue, &watch.shared.room)?;
+        let wishes = grant(rt, turner, &watch.wishes)?;
+        is_fresh &= events == 0;
+        if watch.shared.ticked.take() {
+            watch.shared.room.tick(rt);
+            resend(turner, watch.shared)?;
+            if !is_fresh {
+                is_fresh = spare(turner)?;
+            }
+        }
+        if events == 0 && wishes == 0 {
+            if is_done {
+                return Ok(());
+            }
+            watch.parker.park(rt);
+        }
+    }
+    unreachable!()
+}
+
+// A turn. How many events it flushed, whose seats are free then.
+fn turn<S: Site, L: Life, Q: Lane, R: Wait>(
+    rt: &R,
+    turner: &mut Turner<S, L, Q>,
+    queue: &Queue<L, Q>,
+    room: &Room,
+) -> Result<u64, Failed> {
+    let events = turner.turn(rt, queue)?.events as u64;
+    if events > 0 {
+        room.turned(rt, events, turner.engine().twin());
+    }
+    Ok(events)
+}
+
+// Grants wishes that wait. How many.
+fn grant<S: Site, L: Life, Q: Lane, R: Wait>(
+    rt: &R,
+    turner: &mut Turner<S, L, Q>,
+    wishes: &Receiver<Wish>,
+) -> Result<u64, Failed> {
+    for count in 0..MOST_WISHES {
+        let Ok(wish) = wishes.try_recv(rt) else {
+            return Ok(count);
+        };
+        match wish {
+            Wish::Reack(peer) => turner.reack(peer)?,
+            Wish::Again(session) => turner.again(session)?,
+        };
+    }
+    Ok(MOST_WISHES)
+}
+
+// Sends again what wasn't acknowledged, but nothing to those for whom something waits already.
+fn resend<S: Site, L: Life, Q: Lane>(
+    turner: &mut Turner<S, L, Q>,
+    shared: &Shared,
+) -> Result<(), Failed> {
+    for line in &shared.lines {
+        line.mute();
+    }
+    shared.own.mute();
+    let resent = turner.resend();
+    shared.own.unmute();
+    for line in &shared.lines {
+        line.unmute();
+    }
+    resent?;
+    Ok(())
+}
+
+// Moves to the other side where the one in use is long. Whether it was moved.
+fn spare<S: Site, L: Life, Q: Lane>(turner: &mut Turner<S, L, Q>) -> Result<bool, Failed> {
+    if turner.engine().used() <= PLENTY {
+        return Ok(false);
+    }
+    match turner.checkpoint() {
+        Ok(()) | Err(CheckpointFault::Spent) => Ok(true),
+        Err(CheckpointFault::Failed(failed)) => Err(failed),
+    }
+}

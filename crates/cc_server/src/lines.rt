@@ -1,0 +1,124 @@
+//! The lines on which a node's outputs wait for their writers.
+
+use crate::stop::Stop;
+use cc_views::NodeId;
+use cc_wire::Event;
+use cc_words::Peer;
+use crossbeam_channel::{Receiver, Sender, bounded};
+use std::alloc::{AllocError, Global};
+use std::net::SocketAddr;
+use std::sync::Wait;
+
+// How many parcels wait for a peer's writer at most.
+const LINE_ROOM: usize = 256;
+
+// How many events wait for the worker of the node's own messages at most.
+const OWN_ROOM: usize = 4096;
+
+/// What a peer's writer is to write.
+#[derive(Debug, Drop)]
+pub enum Parcel {
+    /// The bytes of a Post frame.
+    Post(Vec<u8>),
+    /// The number of an acknowledgement.
+    Ack(u64),
+}
+
+/// The line to a peer.
+#[derive(Drop)]
+pub struct Line {
+    pub peer: NodeId,
+    to: Sender<Parcel>,
+    // Nothing is put on it.
+    is_muted: Stop,
+}
+
+impl Line {
+    /// Puts a parcel on the line. What finds no room is lost: links resend.
+    pub fn put<R: Wait>(&self, rt: &R, parcel: Parcel) {
+        if !self.is_muted.is_set() {
+            let _ = self.to.try_send(rt, parcel);
+        }
+    }
+
+    /// Mutes the line where something waits on it.
+    pub fn mute(&self) {
+        self.is_muted.put(!self.to.is_empty());
+    }
+
+    pub fn unmute(&self) {
+        self.is_muted.put(false);
+    }
+
+    /// Whether it takes nothing now.
+    pub fn is_muted(&self) -> bool {
+        self.is_muted.is_set()
+    }
+}
+
+/// The line to the node itself. None ends its worker.
+#[derive(Drop)]
+pub struct OwnLine {
+    to: Sender<Option<Event>>,
+    is_muted: Stop,
+}
+
+impl OwnLine {
+    /// Puts an event on the line. What finds no room is lost: links resend.
+    pub fn put<R: Wait>(&self, rt: &R, event: Event) {
+        if !self.is_muted.is_set() {
+            let _ = self.to.try_send(rt, Some(event));
+        }
+    }
+
+    /// Ends the worker, once it has taken what waits.
+    pub fn end<R: Wait>(&self, rt: &R) {
+        let _ = self.to.send(rt, None);
+    }
+
+    pub fn mute(&self) {
+        self.is_muted.put(!self.to.is_empty());
+    }
+
+    pub fn unmute(&self) {
+        self.is_muted.put(false);
+    }
+}
+
+/// The far end of a line: a peer's address, and what its writer is to write.
+#[derive(Drop)]
+pub struct FarEnd {
+    pub address: SocketAddr,
+    pub from: Receiver<Parcel>,
+}
+
+/// The lines to these peers, and their far ends.
+pub fn lines_to(alloc: Global, peers: &[Peer]) -> Result<(Vec<Line>, Vec<FarEnd>), AllocError> {
+    let mut lines = Vec::new(alloc);
+    let mut ends = Vec::new(alloc);
+    for peer in peers {
+        let (to, from) = bounded(alloc, LINE_ROOM)?;
+        lines.push(Line {
+            peer: peer.id,
+            to,
+            is_muted: Stop::new(),
+        })?;
+        ends.push(FarEnd {
+            address: peer.address,
+            from,
+        })?;
+    }
+    Ok((lines, ends))
+}
+
+/// The line of a node to itself, and what its worker takes.
+pub fn own_line(alloc: Global) -> Result<(OwnLine, Receiver<Option<Event>>), AllocError> {
+    let (to, from) = bounded(alloc, OWN_ROOM)?;
+    Ok((
+        OwnLine {
+            to,
+            is_muted: Stop::new(),
+        },
+        from,
+    ))
+}

@@ -1,0 +1,45 @@
+//! What the workers of a node share.
+
+use crate::shared::Shared;
+use cc_intake::{Hooks, Intake, Lane, Life, Queue, Share, Source, work};
+use cc_views::NodeId;
+use cc_words::Peer;
+use std::alloc::Global;
+use std::sync::{Mutex, Wait};
+
+/// What all workers share.
+#[derive(Drop)]
+pub struct Office<'x, R: Wait, H: Hooks, L: Life, Q: Lane> {
+    pub rt: &'x R,
+    pub alloc: Global,
+    pub me: NodeId,
+    pub hooks: &'x H,
+    pub peers: &'x [Peer],
+    pub shared: &'x Shared,
+    pub lock: &'x Mutex<Intake<L, Q>>,
+    pub queue: &'x Queue<L, Q>,
+    pub shares: &'x Mutex<Vec<Share<L>>>,
+}
+
+impl<R: Wait, H: Hooks, L: Life, Q: Lane> Office<'_, R, H, L, Q> {
+    /// A share out of the pool, or a new one.
+    pub fn draw(&self) -> Option<Share<L>> {
+        let pooled = self.shares.lock(self.rt).pop();
+        match pooled {
+            Some(share) => Some(share),
+            None => self.lock.lock(self.rt).share(),
+        }
+    }
+
+    /// Brings each event of a source to the intake.
+    pub fn work<S: Source>(&self, share: &mut Share<L>, source: &mut S) {
+        work(
+            self.rt, self.alloc, self.lock, self.queue, share, self.hooks, source,
+        );
+    }
+
+    /// Puts a share back into the pool, which has room for one of each worker.
+    pub fn give_back(&self, share: Share<L>) {
+        let _ = self.shares.lock(self.rt).push(share);
+    }
+}

@@ -1,0 +1,89 @@
+//! The worker of what a node sends to itself.
+
+use crate::office::Office;
+use crate::shared::{Shared, Wish};
+use cc_intake::{Hooks, Lane, Life, Source};
+use cc_protocol::{Duty, heed};
+use cc_views::NodeId;
+use cc_wire::{Event, Refusal};
+use crossbeam_channel::Receiver;
+use std::alloc::Global;
+use std::sync::Wait;
+
+/// The events of the node's own messages, until None comes.
+#[derive(Drop)]
+struct Own<'a, R: Wait> {
+    rt: &'a R,
+    alloc: Global,
+    me: NodeId,
+    shared: &'a Shared,
+    from: Receiver<Option<Event>>,
+    // The event that was given last.
+    given: Option<Event>,
+    // It is to be given again.
+    is_due: bool,
+}
+
+impl<R: Wait> Own<'_, R> {
+    fn event(&mut self) -> Option<Event> {
+        if self.is_due {
+            return self.given.take();
+        }
+        self.from.recv(self.rt).unwrap_or(None)
+    }
+}
+
+impl<R: Wait> Source for Own<'_, R> {
+    ghost gives = { λ s e t. Unit {0} };
+
+    ghost hears = { λ s a t. Unit {0} };
+
+    fn next(&mut self) -> Option<Event> {
+        let event = self.event()?;
+        let kept = event.copy(self.alloc).ok()?;
+        if !self.shared.room.sit_first(self.rt) {
+            return None;
+        }
+        self.given = Some(kept);
+        Some(event)
+    }
+
+    fn told(&mut self, answer: Result<u64, Refusal>) {
+        let Some(event) = self.given.take() else {
+            return;
+        };
+        if answer.is_err() {
+            self.shared.room.leave(self.rt);
+        }
+        self.is_due = false;
+        match heed(self.me, &event, answer) {
+            Duty::Wake => self.shared.bell.ring(),
+            Duty::Nothing if answer.is_ok() => self.shared.bell.ride(),
+            Duty::Reack(peer) => self.shared.wish(self.rt, Wish::Reack(peer)),
+            Duty::BringAgain => self.is_due = true,
+            _ => {}
+        }
+        self.given = Some(event);
+    }
+}
+
+/// Brings what the node sends to itself to the intake, until None comes.
+pub fn serve_own<R: Wait, H: Hooks, L: Life, Q: Lane>(
+    office: &Office<'_, R, H, L, Q>,
+    from: Receiver<Option<Event>>,
+) {
+    let Some(mut share) = office.draw() else {
+        return;
+    };
+    let mut own = Own {
+        rt: office.rt,
+        alloc: office.alloc,
+        me: office.me,
+        shared: office.shared,
+        from,
+        given: None,
+        is_due: false,
+    };
+    office.work(&mut share, &mut own);
+    office.give_back(share);
+}

@@ -1,0 +1,134 @@
+//! Room in the queue and among the posts, which workers wait for: so none of them finds the queue full.
+
+use cc_node::Node;
+use cc_protocol::{is_furthest_behind, may_hand_over};
+use cc_views::NodeId;
+use cc_wire::Event;
+use std::alloc::{AllocError, Global};
+use std::sync::{Condvar, Mutex, Wait};
+
+// How many entries the queue has.
+const SEATS: u64 = 256;
+
+// How many peers that are furthest behind are known by name.
+const MOST_FURTHEST: usize = 256;
+
+/// One seat for each entry of the queue. An event takes one before it is handed over, and leaves it when it is refused or
+/// flushed.
+#[derive(Drop)]
+pub struct Room {
+    seats: Mutex<Seats>,
+    changed: Condvar,
+}
+
+#[derive(Drop)]
+struct Seats {
+    taken: u64,
+    // How many posts the node kept after the last turn, and which peers were furthest behind then.
+    kept: u64,
+    furthest: Vec<NodeId>,
+    // How many seconds have passed.
+    ticks: u64,
+    is_closed: bool,
+}
+
+impl Seats {
+    // Whether there is a seat for an event that has waited since that tick.
+    fn has_one_for(&self, me: NodeId, event: &Event, since: u64) -> bool {
+        let kept = self.kept.saturating_add(self.taken);
+        let waited = self.ticks.saturating_sub(since);
+        self.taken < SEATS && may_hand_over(me, event, kept, self.is_furthest(event), waited)
+    }
+
+    fn is_furthest(&self, event: &Event) -> bool {
+        match event {
+            Event::Deliver { from, .. } => self.furthest.iter().any(|peer| peer == from),
+            _ => false,
+        }
+    }
+}
+
+impl Room {
+    pub fn new(alloc: Global) -> Result<Self, AllocError> {
+        Ok(Room {
+            seats: Mutex::new(Seats {
+                taken: 0,
+                kept: 0,
+                furthest: Vec::with_capacity(alloc, MOST_FURTHEST)?,
+                ticks: 0,
+                is_closed: false,
+            }),
+            changed: Condvar::new(),
+        })
+    }
+
+    /// Waits until the event may be handed to the node `me`, and takes a seat for it. False where the room is closed.
+    pub fn sit<R: Wait>(&self, rt: &R, me: NodeId, event: &Event) -> bool {
+        let mut seats = self.seats.lock(rt);
+        let since = seats.ticks;
+        for _ in rt.forever() {
+            if seats.is_closed {
+                return false;
+            }
+            if seats.has_one_for(me, event, since) {
+                seats.taken = seats.taken.saturating_add(1);
+                return true;
+            }
+            seats = self.changed.wait(rt, seats);
+        }
+        unreachable!()
+    }
+
+    /// Waits for a seat, whatever it is for. False where the room is closed.
+    pub fn sit_first<R: Wait>(&self, rt: &R) -> bool {
+        let mut seats = self.seats.lock(rt);
+        for _ in rt.forever() {
+            if seats.is_closed {
+                return false;
+            }
+            if seats.taken < SEATS {
+                seats.taken = seats.taken.saturating_add(1);
+                return true;
+            }
+            seats = self.changed.wait(rt, seats);
+        }
+        unreachable!()
+    }
+
+    /// An event was refused: its seat is free.
+    pub fn leave<R: Wait>(&self, rt: &R) {
+        let mut seats = self.seats.lock(rt);
+        seats.taken = seats.taken.saturating_sub(1);
+        drop(seats);
+        self.changed.notify_one();
+    }
+
+    /// So many events were flushed, and left the node like this: their seats are free.
+    pub fn turned<R: Wait>(&self, rt: &R, events: u64, node: &Node) {
+        let mut seats = self.seats.lock(rt);
+        seats.taken = seats.taken.saturating_sub(events);
+        seats.kept = node.kept() as u64;
+        seats.furthest.clear();
+        for link in node.core().links().rows() {
+            if is_furthest_behind(node.core(), link.peer) {
+                let _ = seats.furthest.push(link.peer);
+            }
+        }
+        drop(seats);
+        self.changed.notify_all();
+    }
+
+    /// A second has passed.
+    pub fn tick<R: Wait>(&self, rt: &R) {
+        let mut seats = self.seats.lock(rt);
+        seats.ticks = seats.ticks.saturating_add(1);
+        drop(seats);
+        self.changed.notify_all();
+    }
+
+    /// Nobody waits any more.
+    pub fn close<R: Wait>(&self, rt: &R) {
+        self.seats.lock(rt).is_closed = true;
+        self.changed.notify_all();
+    }
+}

@@ -1,0 +1,72 @@
+//! Why a node doesn't run.
+
+use cc_checkpoint::OpenFault;
+use cc_files::SiteFault;
+use cc_flush::Failed;
+use cc_views::NoMemory;
+use std::alloc::{AllocError, AllocFailed};
+use std::error::Error;
+use std::fmt;
+
+/// Why a node doesn't run, or has ended.
+#[derive(Clone, Copy, Debug, PartialEq, Eq)]
+pub enum RunFault {
+    /// Its folder can't be opened.
+    Open(OpenFault),
+    /// A disk call failed.
+    Failed(Failed),
+    /// It can't listen at its address.
+    Listen,
+    /// It is named among its own peers.
+    OwnPeer,
+    /// A growth was refused, or a thread.
+    NoMemory,
+}
+
+/// The fault of opening, `Failed` and the disk call, `Listen`, `OwnPeer` or `NoMemory`.
+impl fmt::Display for RunFault {
+    fn fmt<W: fmt::Write>(&self, f: &mut fmt::Formatter<W>) -> fmt::Result {
+        match self {
+            RunFault::Open(fault) => write!(f, "{fault}"),
+            RunFault::Failed(failed) => write!(f, "{failed}"),
+            RunFault::Listen => write!(f, "Listen"),
+            RunFault::OwnPeer => write!(f, "OwnPeer"),
+            RunFault::NoMemory => write!(f, "NoMemory"),
+        }
+    }
+}
+
+impl Error for RunFault {}
+
+impl From<AllocError> for RunFault {
+    fn from(_: AllocError) -> Self {
+        RunFault::NoMemory
+    }
+}
+
+impl<T: Drop> From<AllocFailed<T>> for RunFault {
+    fn from(_: AllocFailed<T>) -> Self {
+        RunFault::NoMemory
+    }
+}
+
+impl From<NoMemory> for RunFault {
+    fn from(_: NoMemory) -> Self {
+        RunFault::NoMemory
+    }
+}
+
+impl From<OpenFault> for RunFault {
+    fn from(fault: OpenFault) -> Self {
+        RunFault::Open(fault)
+    }
+}
+
+impl From<SiteFault> for RunFault {
+    fn from(fault: SiteFault) -> Self {
+        match fault {
+            SiteFault::Device(fault) => RunFault::Open(OpenFault::Device(fault)),
+            SiteFault::NoMemory => RunFault::NoMemory,
+        }
+    }
+}

@@ -1,0 +1,91 @@
+//! What the threads of a node pass things on by.
+
+use crate::bell::Bell;
+use crate::doors::Doors;
+use crate::lines::{FarEnd, Line, OwnLine, lines_to, own_line};
+use crate::room::Room;
+use crate::run_fault::RunFault;
+use crate::stop::Stop;
+use cc_views::NodeId;
+use cc_wire::Event;
+use cc_words::Peer;
+use crossbeam_channel::{Receiver, Sender, bounded};
+use crossbeam_utils::sync::Parker;
+use std::alloc::Global;
+use std::sync::{OnceLock, Wait};
+
+// How many wishes wait for the flusher at most.
+const WISH_ROOM: usize = 1024;
+
+/// What a worker asks of the flusher.
+#[derive(Clone, Copy, Debug, PartialEq, Eq)]
+pub enum Wish {
+    /// To tell a peer again what was heard from it.
+    Reack(NodeId),
+    /// To give a session's kept answer again.
+    Again(u64),
+}
+
+/// What the threads of a node pass things on by.
+#[derive(Drop)]
+pub struct Shared {
+    /// The node, once its folder was read.
+    pub me: OnceLock<NodeId>,
+    pub doors: Doors,
+    pub lines: Vec<Line>,
+    pub own: OwnLine,
+    pub bell: Bell,
+    pub room: Room,
+    pub wishes: Sender<Wish>,
+    /// A second has passed.
+    pub ticked: Stop,
+    /// No worker is left.
+    pub done: Stop,
+    /// The flusher has ended.
+    pub ended: Stop,
+}
+
+/// The other ends: what a thread takes out of.
+#[derive(Drop)]
+pub struct Inlets {
+    pub parker: Parker,
+    pub wished: Receiver<Wish>,
+    pub far: Vec<FarEnd>,
+    pub own: Receiver<Option<Event>>,
+}
+
+impl Shared {
+    /// What the threads of a node with these peers need, and the other ends of it.
+    pub fn new(alloc: Global, peers: &[Peer]) -> Result<(Self, Inlets), RunFault> {
+        let (lines, far) = lines_to(alloc, peers)?;
+        let (own, taken) = own_line(alloc)?;
+        let (wishes, wished) = bounded(alloc, WISH_ROOM)?;
+        let parker = Parker::new(alloc)?;
+        let bell = Bell::new(parker.unparker().clone()?);
+        let shared = Shared {
+            me: OnceLock::new(),
+            doors: Doors::new(alloc)?,
+            lines,
+            own,
+            bell,
+            room: Room::new(alloc)?,
+            wishes,
+            ticked: Stop::new(),
+            done: Stop::new(),
+            ended: Stop::new(),
+        };
+        let inlets = Inlets {
+            parker,
+            wished,
+            far,
+            own: taken,
+        };
+        Ok((shared, inlets))
+    }
+
+    /// Asks something of the flusher. A wish that finds no room is lost: who waits for it asks again.
+    pub fn wish<R: Wait>(&self, rt: &R, wish: Wish) {
+        let _ = self.wishes.try_send(rt, wish);
+        self.bell.ring();
+    }
+}

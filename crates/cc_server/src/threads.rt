@@ -1,0 +1,182 @@
+//! The threads of a node: who starts them, and in which order they end.
+
+ghost use Rattle.std.specs.Thread.{IsSend};
+
+use crate::attending::attend;
+use crate::flushing::{Watch, flush_all};
+use crate::lines::FarEnd;
+use crate::office::Office;
+use crate::own::serve_own;
+use crate::shared::Shared;
+use crate::stop::Stop;
+use crate::writing::write_peer;
+use cc_flush::Failed;
+use cc_intake::{Hooks, Lane, Life, Queue, Turner};
+use cc_site::Site;
+use cc_views::NodeId;
+use cc_wire::Event;
+use crossbeam_channel::Receiver;
+use std::net::{Net, SocketAddr, TcpListener, TcpStream};
+use std::sync::Wait;
+use std::thread;
+use std::thread::{Scope, Threads};
+use std::time::{Clock, Duration};
+
+// How long a tick takes, in milliseconds.
+const TICK_MS: u64 = 1000;
+
+// How long the acceptor pauses after a connection that can't be accepted, in milliseconds.
+const PAUSE_MS: u64 = 50;
+
+/// What the writers of the peers and the worker of the own messages take out of.
+#[derive(Drop)]
+pub struct Ends {
+    pub me: NodeId,
+    pub far: Vec<FarEnd>,
+    pub own: Receiver<Option<Event>>,
+}
+
+/// Starts the flusher and the ticker, serves, and ends them. None where a thread can't be made.
+pub fn live<'x, L: Life + Send + Sync, Q: Lane + Send + Sync, S: Site + Send, R, H: Hooks + Sync>(
+    office: &'x Office<'x, R, H, L, Q>,
+    turner: &'x mut Turner<S, L, Q>,
+    watch: Watch<'x>,
+    ends: Ends,
+    listener: &'x TcpListener,
+    stop: &'x Stop,
+) -> Option<Result<(), Failed>>
+where
+    R: Net<Listener = TcpListener, Stream = TcpStream> + Threads + Wait + Clock + Sync,
+{
+    let rt = office.rt;
+    let queue = office.queue;
+    let shared = office.shared;
+    let address = listener.local_addr().ok();
+    let turner = &mut *turner;
+    thread::scope(
+        thread::scope_env(),
+        rt,
+        move |scope| -> Option<Result<(), Failed>>
+            requires { IsSend L.row × IsSend Q.row × IsSend S.row }
+        {
+            let flusher = scope
+                .spawn(move || flush_until(rt, turner, queue, &watch))
+                .ok()?;
+            let ticks = scope
+                .spawn(move || tick_until(rt, shared, address, stop))
+                .is_ok();
+            if ticks {
+                serve_all(office, ends, listener, stop);
+            }
+            shared.done.set();
+            shared.bell.ring();
+            Some(flusher.join(rt))
+        },
+    )
+}
+
+// Flushes, and has all end where that fails.
+fn flush_until<S: Site, L: Life, Q: Lane, R: Wait>(
+    rt: &R,
+    turner: &mut Turner<S, L, Q>,
+    queue: &Queue<L, Q>,
+    watch: &Watch<'_>,
+) -> Result<(), Failed> {
+    let outcome = flush_all(rt, turner, queue, watch);
+    watch.shared.ended.set();
+    watch.shared.room.close(rt);
+    outcome
+}
+
+// Ticks until all is done. Once it is to end, each tick wakes the acceptor too.
+fn tick_until<R: Wait + Clock + Net<Stream = TcpStream>>(
+    rt: &R,
+    shared: &Shared,
+    address: Option<SocketAddr>,
+    stop: &Stop,
+) {
+    for _ in rt.forever() {
+        thread::sleep(rt, Duration::from_millis(TICK_MS));
+        shared.ticked.set();
+        shared.bell.ring();
+        if shared.done.is_set() {
+            return;
+        }
+        if stop.is_set() || shared.ended.is_set() {
+            knock(rt, address);
+        }
+    }
+    unreachable!()
+}
+
+// Wakes the acceptor, which then looks at the flags.
+fn knock<R: Net<Stream = TcpStream>>(rt: &R, address: Option<SocketAddr>) {
+    if let Some(address) = address {
+        let _ = TcpStream::connect_timeout(rt, &address, Duration::from_secs(1));
+    }
+}
+
+// Starts the writers and the worker of the own messages, accepts connections until a flag is set, and then ends the writers
+// first and the workers next.
+fn serve_all<L: Life + Send + Sync, Q: Lane + Send + Sync, R, H: Hooks + Sync>(
+    office: &Office<'_, R, H, L, Q>,
+    ends: Ends,
+    listener: &TcpListener,
+    stop: &Stop,
+)
+where
+    R: Net<Listener = TcpListener, Stream = TcpStream> + Threads + Wait + Clock + Sync,
+{
+    let rt = office.rt;
+    let alloc = office.alloc;
+    let over = Stop::new();
+    let over = &over;
+    let Ends { me, far, own } = ends;
+    thread::scope(
+        thread::scope_env(),
+        rt,
+        |scope| -> ()
+            requires { IsSend L.row × IsSend Q.row }
+        {
+            let mut writers = Vec::new(alloc);
+            for end in far {
+                let writer = scope.spawn(move || write_peer(rt, alloc, me, end, over));
+                if let Ok(writer) = writer {
+                    let _ = writers.push(writer);
+                }
+            }
+            let _ = scope.spawn(move || serve_own(office, own));
+            accept_all(scope, office, listener, stop);
+            over.set();
+            for writer in writers {
+                writer.join(rt);
+            }
+            office.shared.own.end(rt);
+            office.shared.doors.close(rt);
+        },
+    );
+}
+
+fn accept_all<'s, 'e: 's, L: Life + Send + Sync, Q: Lane + Send + Sync, R, H: Hooks + Sync>(
+    scope: &'s Scope<'s, &'e ()>,
+    office: &'e Office<'e, R, H, L, Q>,
+    listener: &TcpListener,
+    stop: &Stop,
+)
+where
+    R: Net<Listener = TcpListener, Stream = TcpStream> + Threads + Wait + Clock + Sync,
+{
+    for _ in office.rt.forever() {
+        let accepted = listener.accept();
+        if stop.is_set() || office.shared.ended.is_set() {
+            return;
+        }
+        match accepted {
+            Ok((stream, from)) => {
+                let _ = scope.spawn(move || attend(office, stream, from));
+            }
+            Err(_) => thread::sleep(office.rt, Duration::from_millis(PAUSE_MS)),
+        }
+    }
+    unreachable!()
+}

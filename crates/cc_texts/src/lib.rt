@@ -1,0 +1,6 @@
+//! How answers and outputs are printed, in scripts and for clients.
+#![tactic(auto)]
+
+mod texts;
+
+pub use texts::{PrintedAnswer, PrintedOutput};

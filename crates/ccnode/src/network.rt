@@ -1,0 +1,59 @@
+//! What is asked of a node over TCP.
+
+use crate::print_word_fault;
+use cc_client::{ask_node, leave_node, retire_node};
+use cc_commands::{AskOrder, AskWords, LeaveOrder, RetireOrder};
+use std::process::ExitCode;
+
+/// The words of `ask`.
+#[derive(Clone, Copy)]
+pub struct Asked<'a> {
+    pub address: &'a str,
+    pub session: &'a str,
+    pub command: &'a str,
+    pub value: Option<&'a str>,
+    pub timeout: Option<&'a str>,
+}
+
+/// Has a command done: the status of that.
+pub fn ask(rt: &HostRuntime, asked: &Asked<'_>) -> anyhow::Result<ExitCode> {
+    match asked.value {
+        Some(value) => ask_words(rt, asked, &[asked.command, value]),
+        None => ask_words(rt, asked, &[asked.command]),
+    }
+}
+
+fn ask_words(rt: &HostRuntime, asked: &Asked<'_>, command: &[&str]) -> anyhow::Result<ExitCode> {
+    let words = AskWords {
+        address: asked.address,
+        session: asked.session,
+        command,
+        timeout: asked.timeout,
+    };
+    let order = match AskOrder::parse(&words) {
+        Ok(order) => order,
+        Err(fault) => return print_word_fault(rt, fault),
+    };
+    let mut output = std::io::writer(rt);
+    Ok(ExitCode::from(ask_node(rt, rt.alloc(), &order, &mut output)?))
+}
+
+/// Has a node leave: the status of that.
+pub fn leave(rt: &HostRuntime, address: &str) -> anyhow::Result<ExitCode> {
+    let order = match LeaveOrder::parse(address) {
+        Ok(order) => order,
+        Err(fault) => return print_word_fault(rt, fault),
+    };
+    let mut output = std::io::writer(rt);
+    Ok(ExitCode::from(leave_node(rt, rt.alloc(), &order, &mut output)?))
+}
+
+/// Tells a node that another is dead: the status of that.
+pub fn retire(rt: &HostRuntime, address: &str, node: &str) -> anyhow::Result<ExitCode> {
+    let order = match RetireOrder::parse(address, node) {
+        Ok(order) => order,
+        Err(fault) => return print_word_fault(rt, fault),
+    };
+    let mut output = std::io::writer(rt);
+    Ok(ExitCode::from(retire_node(rt, rt.alloc(), &order, &mut output)?))
+}

@@ -1,0 +1,187 @@
+//! Which event a frame is, and which frames a node sends.
+
+use crate::bytes::{ASK, SKIPPED, STORED, is_spelled};
+use cc_protocol::{
+    Outcome, ack_frame, event_of, outcome_of, post_frame, refused_frame, reply_frame,
+};
+use cc_views::NodeId;
+use cc_wire::{Answer, Command, Event, Frame, Message, Refusal, decode_frame};
+use std::alloc::Global;
+use std::test::*;
+
+fn node(id: u32) -> Result<NodeId, Fail> {
+    Ok(NodeId::new(id).ok_or("ids begin at 1")?)
+}
+
+// What an event is about, without its message or command.
+#[derive(Clone, Copy, Debug, PartialEq, Eq)]
+enum About {
+    Nothing,
+    Enter,
+    Leave,
+    Delivery(u32, u64),
+    Acknowledgement(u32, u64),
+    Ask(u64, u64),
+    Retirement(u32),
+}
+
+fn about_frame(frame: Frame) -> About {
+    let event = event_of(frame);
+    let about = about_event(&event);
+    drop(event);
+    about
+}
+
+fn about_event(event: &Option<Event>) -> About {
+    match event {
+        None => About::Nothing,
+        Some(Event::Enter) => About::Enter,
+        Some(Event::Leave) => About::Leave,
+        Some(Event::Deliver { from, number, .. }) => About::Delivery(from.number(), *number),
+        Some(Event::Acked { peer, number }) => About::Acknowledgement(peer.number(), *number),
+        Some(
+            Event::Ask {
+                session,
+                request,
+                ..
+            },
+        ) => About::Ask(*session, *request),
+        Some(Event::Retire { node }) => About::Retirement(node.number()),
+    }
+}
+
+fn about_bytes(alloc: Global, bytes: &[u8]) -> Result<About, Fail> {
+    Ok(about_frame(decode_frame(alloc, bytes)?))
+}
+
+#[test]
+fn what_a_client_sends_is_an_event(rt: HostRuntime) -> Result<(), Fail> {
+    assert_eq!(rt; about_bytes(rt.alloc(), &ASK)?, About::Ask(7, 1));
+    assert_eq!(rt; about_frame(Frame::Leave), About::Leave);
+    let node = node(3)?;
+    assert_eq!(rt; about_frame(Frame::Retire { node }), About::Retirement(3));
+    Ok(())
+}
+
+#[test]
+fn what_a_peer_sends_is_an_event(rt: HostRuntime) -> Result<(), Fail> {
+    let from = node(2)?;
+    assert_eq!(rt;
+        about_frame(Frame::Ack { from, number: 9 }),
+        About::Acknowledgement(2, 9)
+    );
+    let post = Frame::Post {
+        from,
+        number: 4,
+        message: Message::Join { node: from },
+    };
+    assert_eq!(rt; about_frame(post), About::Delivery(2, 4));
+    Ok(())
+}
+
+#[test]
+fn what_a_node_sends_to_clients_is_none(rt: HostRuntime) -> Result<(), Fail> {
+    assert_eq!(rt; about_bytes(rt.alloc(), &STORED)?, About::Nothing);
+    assert_eq!(rt; about_bytes(rt.alloc(), &SKIPPED)?, About::Nothing);
+    Ok(())
+}
+
+// The acknowledgement of a store with tag 1, as post 2 of node 1.
+const POST: [u8; 30] = [
+    0, 0, 0, 0x1A, 1, 0, 0, 0, 1, 0, 0, 0, 0, 0, 0, 0, 2, 0x0A, 0, 0, 0, 0, 0, 0, 0, 1, 0, 0, 0, 1,
+];
+
+// Node 1 has what it was sent up to number 9.
+const ACK: [u8; 17] = [0, 0, 0, 0x0D, 2, 0, 0, 0, 1, 0, 0, 0, 0, 0, 0, 0, 9];
+
+fn posted(alloc: Global, me: NodeId) -> Result<Frame, Fail> {
+    Ok(post_frame(alloc, me, 2, &Message::StoreAck { tag: 1, node: me })?)
+}
+
+fn replied(alloc: Global) -> Result<Frame, Fail> {
+    Ok(reply_frame(alloc, 7, 1, &Answer::Stored)?)
+}
+
+#[test]
+fn outputs_are_frames_of_their_sender(rt: HostRuntime) -> Result<(), Fail> {
+    let me = node(1)?;
+    assert!(rt; is_spelled(rt.alloc(), posted(rt.alloc(), me)?, &POST)?);
+    assert!(rt; is_spelled(rt.alloc(), ack_frame(me, 9), &ACK)?);
+    assert!(rt; is_spelled(rt.alloc(), replied(rt.alloc())?, &STORED)?);
+    Ok(())
+}
+
+// The operator's request is refused, since the node has left.
+const LEFT: [u8; 30] = [
+    0, 0, 0, 0x1A, 5, 0, 0, 0, 0, 0, 0, 0, 0, 0, 0, 0, 0, 0, 0, 0, 0, 1, 0, 0, 0, 0, 0, 0, 0, 0,
+];
+
+// Whether what is told of a refused event is spelled so. None where nothing is told.
+fn is_told(
+    alloc: Global,
+    event: &Event,
+    refusal: Refusal,
+    bytes: &[u8],
+) -> Result<Option<bool>, Fail> {
+    match refused_frame(event, refusal) {
+        Some(frame) => Ok(Some(is_spelled(alloc, frame, bytes)?)),
+        None => Ok(None),
+    }
+}
+
+const THIRD: Event = Event::Ask {
+    session: 7,
+    request: 3,
+    command: Command::Collect,
+};
+
+#[test]
+fn refusals_are_told_to_who_asked(rt: HostRuntime) -> Result<(), Fail> {
+    let node = node(3)?;
+    let retire = Event::Retire { node };
+    let acked = Event::Acked {
+        peer: node,
+        number: 1,
+    };
+    let told = [
+        is_told(rt.alloc(), &THIRD, Refusal::Skip(1), &SKIPPED)?,
+        is_told(rt.alloc(), &Event::Leave, Refusal::Left, &LEFT)?,
+        is_told(rt.alloc(), &retire, Refusal::Left, &LEFT)?,
+    ];
+    assert_eq!(rt; told, [Some(true), Some(true), Some(true)]);
+    let untold = is_told(rt.alloc(), &acked, Refusal::NothingToAck, &LEFT)?;
+    assert_eq!(rt; untold, None);
+    Ok(())
+}
+
+fn outcome(alloc: Global, bytes: &[u8]) -> Result<Option<Outcome>, Fail> {
+    let frame = decode_frame(alloc, bytes)?;
+    let outcome = outcome_of(&frame);
+    drop(frame);
+    Ok(outcome)
+}
+
+fn outcome_refused(refusal: u8) -> Option<Outcome> {
+    let frame = Frame::Refused {
+        session: 0,
+        request: 0,
+        refusal,
+        value: 0,
+    };
+    let outcome = outcome_of(&frame);
+    drop(frame);
+    outcome
+}
+
+#[test]
+fn the_operator_is_told_by_a_refusal(rt: HostRuntime) -> Result<(), Fail> {
+    assert_eq!(rt; outcome(rt.alloc(), &LEFT)?, Some(Outcome::Done));
+    assert_eq!(rt; outcome(rt.alloc(), &SKIPPED)?, None);
+    assert_eq!(rt; outcome(rt.alloc(), &STORED)?, None);
+    assert_eq!(rt;
+        outcome_refused(15),
+        Some(Outcome::Refused(Refusal::OutboxFull))
+    );
+    assert_eq!(rt; outcome_refused(19), None);
+    Ok(())
+}

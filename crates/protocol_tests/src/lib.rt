@@ -1,0 +1,18 @@
+//! Tests of what a server and a client of a node decide, and of the words of commands and addresses, by the public calls
+//! alone.
+#![tactic(auto)]
+
+#[cfg(test)]
+mod admission;
+#[cfg(test)]
+mod bytes;
+#[cfg(test)]
+mod clients;
+#[cfg(test)]
+mod duties;
+#[cfg(test)]
+mod frames;
+#[cfg(test)]
+mod routes;
+#[cfg(test)]
+mod words;

@@ -1,0 +1,39 @@
+//! Hostile connections.
+
+use crate::clients::{FIRST_ASK, FIRST_REPLY, THIRD_REFUSED, connected, is_closed_after};
+use crate::nodes::check;
+use std::io::Write;
+use std::net::{Net, SocketAddr, TcpStream};
+use std::test::Fail;
+
+/// What such connections send. Each of them has to be closed by the node, but for those that close themselves.
+pub(crate) fn attack<R: Net<Stream = TcpStream>>(rt: &R, to: SocketAddr) -> Result<(), Fail> {
+    cuts(rt, to)?;
+    let long = [0, 1, 0, 1];
+    check(is_closed_after(rt, to, &long)?, "a length of 65,537")?;
+    check(is_closed_after(rt, to, &[0, 0, 0, 1, 0])?, "kind 0")?;
+    check(is_closed_after(rt, to, &[0, 0, 0, 1, 8])?, "kind 8")?;
+    check(is_closed_after(rt, to, &FIRST_REPLY)?, "kind 4")?;
+    check(is_closed_after(rt, to, &THIRD_REFUSED)?, "kind 5")?;
+    zeros(rt, to)
+}
+
+// The beginnings of a request, each on a connection that is closed then.
+fn cuts<R: Net<Stream = TcpStream>>(rt: &R, to: SocketAddr) -> Result<(), Fail> {
+    for cut in 0..FIRST_ASK.len() {
+        let mut stream = connected(rt, to)?;
+        stream.write_all(FIRST_ASK.get(..cut).ok_or("a beginning")?)?;
+    }
+    Ok(())
+}
+
+// Zeros without an end, until the node has closed the connection.
+fn zeros<R: Net<Stream = TcpStream>>(rt: &R, to: SocketAddr) -> Result<(), Fail> {
+    let mut stream = connected(rt, to)?;
+    for _ in 0..100_000u32 {
+        if stream.write_all(&[0; 4096]).is_err() {
+            return Ok(());
+        }
+    }
+    Err("zeros without an end")?
+}

@@ -1,0 +1,120 @@
+//! Nodes on loopback.
+
+use cc_commands::{FormatOrder, FormatWords, format_folder};
+use cc_intake::{Finished, NoHooks};
+use cc_server::{Config, RunFault, Stop, run_on};
+use cc_views::NodeId;
+use cc_words::Peer;
+use std::alloc::Global;
+use std::fs;
+use std::fs::{File, Files};
+use std::net::{Net, SocketAddr, TcpListener, TcpStream};
+use std::sync::Wait;
+use std::test::Fail;
+use std::thread::Threads;
+use std::time::Clock;
+
+/// Fails the test where something isn't so.
+pub(crate) fn check(holds: bool, what: &'static str) -> Result<(), Fail> {
+    if holds { Ok(()) } else { Err(what)? }
+}
+
+/// A new folder that keeps a member of {1,2}.
+pub(crate) fn format_member<R: AllocGlobal + Files<File = File>>(
+    rt: &R,
+    folder: &str,
+    id: &str,
+) -> Result<(), Fail> {
+    let _ = fs::remove_dir_all(rt, folder);
+    fs::create_dir(rt, folder)?;
+    let words = FormatWords {
+        id,
+        initial: Some("1,2"),
+        contacts: None,
+        beta: None,
+        gamma: None,
+    };
+    let order = FormatOrder::parse(rt.alloc(), &words)?;
+    let mut output = Vec::new(rt.alloc());
+    let status = format_folder(rt, rt.alloc(), folder, &order, &mut output)?;
+    check(status == 0, "the folder is formatted")
+}
+
+/// Where two nodes listen.
+#[derive(Drop)]
+pub(crate) struct Places {
+    pub first: TcpListener,
+    pub second: TcpListener,
+    pub one: SocketAddr,
+    pub two: SocketAddr,
+}
+
+/// Two listeners at ports that are free.
+pub(crate) fn free_places<R: Net<Listener = TcpListener, Stream = TcpStream>>(
+    rt: &R,
+) -> Result<Places, Fail> {
+    let first = TcpListener::bind(rt, "127.0.0.1:0")?;
+    let second = TcpListener::bind(rt, "127.0.0.1:0")?;
+    let one = first.local_addr()?;
+    let two = second.local_addr()?;
+    Ok(Places {
+        first,
+        second,
+        one,
+        two,
+    })
+}
+
+/// Runs the node of a folder, whose peer listens there, until the flag is set.
+pub(crate) fn run<R>(
+    rt: &R,
+    alloc: Global,
+    dir: &str,
+    listener: TcpListener,
+    peer: (u32, SocketAddr),
+    stop: &Stop,
+) -> Result<Finished<()>, RunFault>
+where
+    R: Files<File = File>
+        + Net<Listener = TcpListener, Stream = TcpStream>
+        + Threads
+        + Wait
+        + Clock
+        + Eprint
+        + Sync,
+{
+    let (number, address) = peer;
+    let peers = match NodeId::new(number) {
+        Some(node) => vec![in alloc; Peer { id: node, address }]?,
+        None => Vec::new(alloc),
+    };
+    let config = Config {
+        dir,
+        listen: address,
+        peers,
+    };
+    run_on(rt, alloc, &config, listener, stop, &NoHooks)
+}
+
+/// Ends nodes that listen there.
+pub(crate) fn end<R: Net<Stream = TcpStream>>(
+    rt: &R,
+    stop: &Stop,
+    one: SocketAddr,
+    two: SocketAddr,
+) {
+    stop.set();
+    let _ = TcpStream::connect(rt, one);
+    let _ = TcpStream::connect(rt, two);
+}
+
+/// What a node came to: each accepted event was told and flushed.
+pub(crate) fn check_end(ended: Result<Finished<()>, RunFault>) -> Result<(), Fail> {
+    let ended = ended?;
+    check(ended.accepted == ended.told, "each accepted event is told")?;
+    check(
+        ended.accepted == ended.flushed,
+        "each accepted event is flushed",
+    )?;
+    check(ended.rest == 0, "nothing is left")
+}
