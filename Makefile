@@ -1,5 +1,5 @@
 # The commands of the README. The toolchain is Rattle's kit, with its command rt on the PATH.
-.PHONY: try run test check bench edits refused-growths kill-files costs
+.PHONY: try run test check bench edits refused-growths kill-files cluster costs
 
 # Plays the script that ships with the program before any proof.
 try:
@@ -55,6 +55,12 @@ KILLS = 1000
 kill-files:
 	@$(BUILD); build ccnode; build file_writer
 	@bash tools/kill_files.sh crates/file_writer/out/file_writer crates/ccnode/out/ccnode $(KILLS)
+
+# Runs three nodes on loopback, asks each, kills one, asks on, starts it again, and shows that all three collect the same.
+# It takes a few seconds, once the program is built, and ends all that it started.
+cluster:
+	@$(BUILD); build ccnode
+	@bash tools/cluster.sh crates/ccnode/out/ccnode
 
 # Prints what each crate costs: its proof, its tests and its edits, in processor seconds with one job. CRATES=cc_ops does one.
 costs:
