@@ -143,7 +143,10 @@ fn is_copied(alloc: Global, churn: &Churn, me: NodeId) -> Result<bool, Fail> {
 // The node hasn't entered, and is neither asked nor retires one.
 fn check_outside<R: Abort>(rt: &R, churn: &Churn, me: NodeId, other: NodeId) {
     let decided = (churn.decide_ask(me), churn.decide_retire(me, other));
-    assert_eq!(rt; decided, (Err(Refusal::NotEntered), Err(Refusal::NotEntered)));
+    assert_eq!(rt;
+        decided,
+        (Err(Refusal::NotEntered), Err(Refusal::NotEntered))
+    );
 }
 
 fn check_joined<R: Abort + AllocGlobal>(rt: &R, churn: &Churn, me: NodeId) -> Result<(), Fail> {
