@@ -323,8 +323,8 @@ fn sides_of(alloc: Global, site: &mut MemorySite) -> Result<(Vec<u8>, Vec<u8>), 
     Ok((a, b))
 }
 
-// What a checkpoint leaves of the sides of a site, beside why it wasn't made, if it wasn't.
-fn moved_sides(
+/// What a checkpoint leaves of the sides of a site, beside why it wasn't made, if it wasn't.
+pub fn moved_sides(
     alloc: Global,
     site: MemorySite,
 ) -> Result<(Option<CheckpointFault>, Vec<u8>, Vec<u8>), Fail> {

@@ -12,4 +12,6 @@ mod lives;
 #[cfg(test)]
 mod openings;
 #[cfg(test)]
+mod versions;
+#[cfg(test)]
 mod whole_life;
