@@ -132,9 +132,11 @@ class NoAnswer(Exception):
 class Session:
     """A client of one node: one request at a time, each under one number, whatever breaks."""
 
-    def __init__(self, address, number):
+    def __init__(self, address, number, patience=2.0):
         host, port = address.rsplit(":", 1)
         self.address, self.number = (host, int(port)), number
+        # After how many seconds without an answer it connects again.
+        self.patience = patience
         self.connection, self.request = None, None
         # Why it was refused last, the connections that broke, and until when it goes on asking.
         self.refusal, self.breaks, self.is_over = None, 0, False
@@ -145,7 +147,7 @@ class Session:
         self.connection = None
 
     def connect(self):
-        self.connection = socket.create_connection(self.address, timeout=2)
+        self.connection = socket.create_connection(self.address, timeout=self.patience)
         self.connection.setsockopt(socket.IPPROTO_TCP, socket.TCP_NODELAY, 1)
 
     def learn(self, command):
