@@ -22,12 +22,15 @@ class Relays:
         return (node in self.cut) != (peer in self.cut)
 
     async def pass_on(self, way, reader, writer):
-        while data := await reader.read(PIECE):
-            # What comes over a way that is cut is lost, and so is its connection, once the halves are joined.
-            while self.is_cut(*way):
-                await asyncio.sleep(0.05)
-            writer.write(data)
-            await writer.drain()
+        try:
+            while data := await reader.read(PIECE):
+                # What comes over a way that is cut is lost, and so is its connection, once the halves are joined.
+                while self.is_cut(*way):
+                    await asyncio.sleep(0.05)
+                writer.write(data)
+                await writer.drain()
+        except OSError:
+            return
 
     async def serve(self, way, port, reader, writer):
         flow = asyncio.current_task()
