@@ -1,5 +1,5 @@
 # The commands of the README. The toolchain is Rattle's kit, with its command rt on the PATH.
-.PHONY: try run test check bench edits refused-growths kill-files cluster costs
+.PHONY: try run test check bench edits refused-growths kill-files cluster load kill-cluster soak many-sessions costs
 
 # Plays the script that ships with the program before any proof.
 try:
@@ -61,6 +61,29 @@ kill-files:
 cluster:
 	@$(BUILD); build ccnode
 	@bash tools/cluster.sh crates/ccnode/out/ccnode
+
+# Measures three nodes on loopback under 1, 8 and 64 clients beside the disk's own syncs: about two minutes. It fails nothing.
+load:
+	@$(BUILD); build ccnode
+	@python3 tools/load.py crates/ccnode/out/ccnode
+
+# Kills nodes of a cluster under load 200 times with SIGKILL, starts each again, and checks what clients are told: about
+# three minutes. KILLS=20 does fewer.
+kill-cluster: KILLS = 200
+kill-cluster:
+	@$(BUILD); build ccnode
+	@python3 tools/kill_cluster.py crates/ccnode/out/ccnode $(KILLS)
+
+# Runs five nodes under load through a slow disk, a stopped node, two halves and a dead node: about three minutes. It needs
+# a C compiler.
+soak:
+	@$(BUILD); build ccnode
+	@python3 tools/soak.py crates/ccnode/out/ccnode
+
+# Plays a script of nearly 10,000 lines over 16 nodes with four sessions each, and checks the answers: half a minute.
+many-sessions:
+	@$(BUILD); build ccnode
+	@python3 tools/many_sessions.py crates/ccnode/out/ccnode
 
 # Prints what each crate costs: its proof, its tests and its edits, in processor seconds with one job. CRATES=cc_ops does one.
 costs:

@@ -1,0 +1,182 @@
+"""Nodes of a cluster on loopback, in a fresh folder, and clients of them: what the tools beside this file share.
+
+A Cluster ends all that it started when its `with` block is left, in whichever way.
+"""
+import os
+import pathlib
+import random
+import shutil
+import signal
+import socket
+import subprocess
+import sys
+import tempfile
+import time
+
+sys.path.insert(0, str(pathlib.Path(__file__).resolve().parent.parent / "examples"))
+import client  # noqa: E402  (the example client has the frames)
+
+LOOPBACK = "127.0.0.1"
+PASSING = (client.BUSY, client.OUTBOX_FULL, client.QUEUE_FULL)
+TICKS_A_SECOND = os.sysconf("SC_CLK_TCK")
+
+
+def say(text):
+    print(text, flush=True)
+
+
+def end_on_signals():
+    """SIGTERM and SIGHUP leave `with` blocks as Ctrl-C does."""
+    for name in (signal.SIGTERM, signal.SIGHUP):
+        signal.signal(name, lambda *_: sys.exit(130))
+
+
+def free_ports(count):
+    """Ports that nothing listens at now."""
+    listeners = [socket.create_server((LOOPBACK, 0)) for _ in range(count)]
+    ports = [listener.getsockname()[1] for listener in listeners]
+    for listener in listeners:
+        listener.close()
+    return ports
+
+
+class Cluster:
+    """Nodes 1 to `count`, formatted with that share beta. `preloads` gives a node a library of its own (LD_PRELOAD)."""
+
+    def __init__(self, program, count, beta="4/5", preloads=None):
+        self.program = os.path.realpath(program)
+        self.nodes = range(1, count + 1)
+        self.beta, self.preloads = beta, preloads or {}
+        self.ports = dict(zip(self.nodes, free_ports(count)))
+        self.folder = pathlib.Path(tempfile.mkdtemp(prefix="ccnode-"))
+        self.running = {}
+
+    def __enter__(self):
+        try:
+            self.format_all()
+        except BaseException:
+            self.__exit__()
+            raise
+        return self
+
+    def __exit__(self, *_):
+        for node in list(self.running):
+            self.kill(node)
+        shutil.rmtree(self.folder, ignore_errors=True)
+
+    def format_all(self):
+        members = ",".join(map(str, self.nodes))
+        for node in self.nodes:
+            (self.folder / f"node-{node}").mkdir()
+            words = ["format", f"node-{node}", str(node), "--initial", members, "--beta", self.beta]
+            subprocess.run([self.program, *words], cwd=self.folder, check=True, stdout=subprocess.DEVNULL)
+
+    def address(self, node):
+        return f"{LOOPBACK}:{self.ports[node]}"
+
+    def way(self, node, peer):
+        """Where a node reaches a peer. Relays put themselves between."""
+        return self.address(peer)
+
+    def start(self, node):
+        peers = ",".join(f"{peer}={self.way(node, peer)}" for peer in self.nodes if peer != node)
+        words = ["run", f"node-{node}", "--listen", self.address(node), "--peers", peers]
+        settings = {**os.environ, "LD_PRELOAD": self.preloads[node]} if node in self.preloads else None
+        with open(self.folder / f"log-{node}", "ab") as log:
+            self.running[node] = subprocess.Popen(
+                [self.program, *words], cwd=self.folder, stdin=subprocess.DEVNULL, stdout=log, stderr=log,
+                env=settings, start_new_session=True,
+            )
+
+    def start_all(self):
+        for node in self.nodes:
+            self.start(node)
+
+    def signal(self, node, number):
+        self.running[node].send_signal(number)
+
+    def kill(self, node):
+        process = self.running.pop(node)
+        process.kill()
+        process.wait()
+
+    def wait_until_ready(self, seconds=20):
+        """Each node has answered a collect."""
+        for node in self.nodes:
+            Session(self.address(node), 900_000 + node).ask(["collect"], seconds)
+
+    def has_ended(self):
+        """The nodes that ended by themselves, and what they said."""
+        dead = [node for node, process in self.running.items() if process.poll() is not None]
+        return {node: (self.folder / f"log-{node}").read_text().strip().splitlines()[-1:] for node in dead}
+
+    def processor_seconds(self):
+        return sum(processor_seconds(process.pid) for process in self.running.values())
+
+    def memory(self, node):
+        """VmRSS and VmHWM, in kilobytes."""
+        lines = pathlib.Path(f"/proc/{self.running[node].pid}/status").read_text().splitlines()
+        rows = dict(line.split(":", 1) for line in lines)
+        return tuple(int(rows[name].split()[0]) for name in ("VmRSS", "VmHWM"))
+
+
+def processor_seconds(pid):
+    fields = pathlib.Path(f"/proc/{pid}/stat").read_text().rsplit(")", 1)[1].split()
+    return (int(fields[11]) + int(fields[12])) / TICKS_A_SECOND
+
+
+class NoAnswer(Exception):
+    """Nothing came in time, or the request was refused for good."""
+
+
+class Session:
+    """A client of one node: one request at a time, each under one number, whatever breaks."""
+
+    def __init__(self, address, number, patience=2.0):
+        host, port = address.rsplit(":", 1)
+        self.address, self.number = (host, int(port)), number
+        # After how many seconds without an answer it connects again.
+        self.patience = patience
+        self.connection, self.request = None, None
+        # Why it was refused last, the connections that broke, and until when it goes on asking.
+        self.refusal, self.breaks, self.is_over = None, 0, False
+
+    def close(self):
+        if self.connection:
+            self.connection.close()
+        self.connection = None
+
+    def connect(self):
+        self.connection = socket.create_connection(self.address, timeout=self.patience)
+        self.connection.setsockopt(socket.IPPROTO_TCP, socket.TCP_NODELAY, 1)
+
+    def learn(self, command):
+        """The number of the session's last request, which the refusal of request 0 tells."""
+        _, refusal, last = client.answer_to(self.connection, self.number, 0, command)
+        if refusal != client.STALE:
+            raise ConnectionError(f"refused {refusal}")
+        self.request = last
+
+    def ask(self, words, seconds=10.0):
+        """The answer to a command. It is asked again, under its number, where a connection breaks or a refusal passes."""
+        command, end = client.command_bytes(words), time.monotonic() + seconds
+        is_numbered = False
+        while not self.is_over and time.monotonic() < end:
+            try:
+                if not self.connection:
+                    self.connect()
+                if self.request is None:
+                    self.learn(command)
+                if not is_numbered:
+                    self.request, is_numbered = self.request + 1, True
+                answer, self.refusal, last = client.answer_to(self.connection, self.number, self.request, command)
+                if answer:
+                    return answer
+                if self.refusal not in PASSING:
+                    raise NoAnswer(f"session {self.number}, request {self.request}: refused {self.refusal} {last}")
+                time.sleep(0.02)
+            except OSError:
+                self.breaks += 1
+                self.close()
+                time.sleep(0.01 + random.random() * 0.04)
+        raise NoAnswer(f"session {self.number}: no answer to {' '.join(words)} in {seconds} s")

@@ -1,0 +1,216 @@
+#!/usr/bin/env python3
+"""Runs five nodes under 8 clients each through bad times, prints operations a second, and says whether they went on.
+
+    soak.py crates/ccnode/out/ccnode
+
+A node whose syncs take five milliseconds more, for a minute; a node that is stopped for 20 seconds under load (SIGSTOP) and
+continued; two halves that can't reach each other for 10 seconds, and then can; a node that is killed for good, what clients
+are told then, and `ccnode retire` at the others. It needs a C compiler. The status is 1 where operations didn't go on.
+"""
+import pathlib
+import signal
+import subprocess
+import sys
+import threading
+import time
+
+from nodes import Cluster, NoAnswer, Session, end_on_signals, free_ports, say
+
+HERE = pathlib.Path(__file__).resolve().parent
+CLIENTS = 8
+GOES_ON_WITHIN = 5.0
+NODES = range(1, 6)
+# What may be told of an operation that a dead node holds up.
+TOLD = ("no answer", "refused 15 OutboxFull")
+
+
+class Load:
+    """Clients that store and collect by turns, and how many answers those of each node got."""
+
+    def __init__(self, cluster):
+        self.answers = {node: 0 for node in cluster.nodes}
+        self.sessions, self.faults, self.refused = [], [], 0
+        self.lock = threading.Lock()
+        for node in cluster.nodes:
+            for place in range(CLIENTS):
+                session = Session(cluster.address(node), 100 * node + place, patience=15.0)
+                self.sessions.append(session)
+                threading.Thread(target=self.run, args=(node, session), daemon=True).start()
+
+    def run(self, node, session):
+        count = 0
+        while not session.is_over:
+            count += 1
+            try:
+                session.ask(["collect"] if count % 4 == 0 else ["store", f"w{count}"], 600)
+            except NoAnswer as why:
+                if not session.is_over:
+                    self.faults.append(str(why))
+                return
+            with self.lock:
+                self.answers[node] += 1
+
+    def end(self):
+        for session in self.sessions:
+            session.is_over = True
+
+    def total(self):
+        return sum(self.answers.values())
+
+    def watch(self, label, seconds, step=5.0):
+        """Prints operations a second over time. The least of them."""
+        least, end = None, time.monotonic() + seconds
+        while time.monotonic() < end - 0.1:
+            before = self.total()
+            time.sleep(min(step, end - time.monotonic()))
+            rate = (self.total() - before) / step
+            least = rate if least is None else min(least, rate)
+            say(f"  {label}: {rate:.0f} operations a second")
+        return least
+
+    def goes_on(self, nodes):
+        """After how many seconds a client of some node and one of each of these nodes was answered."""
+        start, before, first = time.monotonic(), dict(self.answers), None
+        left = set(nodes)
+        while left and time.monotonic() - start < 30:
+            time.sleep(0.02)
+            left = {node for node in left if self.answers[node] == before[node]}
+            if first is None and len(left) < len(nodes):
+                first = time.monotonic() - start
+        return first, None if left else time.monotonic() - start
+
+
+class Verdicts:
+    def __init__(self):
+        self.lines, self.is_good = [], True
+
+    def add(self, is_good, text):
+        self.is_good &= bool(is_good)
+        self.lines.append(f"{'ok ' if is_good else 'NOT'} {text}")
+        say(self.lines[-1])
+
+    def goes_on(self, load, nodes, after):
+        first, everywhere = load.goes_on(nodes)
+        told = [f"{seconds:.1f} s" if seconds is not None else "not in 30 s" for seconds in (first, everywhere)]
+        self.add(
+            everywhere is not None and everywhere <= GOES_ON_WITHIN,
+            f"{after}: operations go on after {told[0]}, at each node that runs after {told[1]}",
+        )
+
+
+class RelayedCluster(Cluster):
+    """Nodes that reach each other over relays."""
+
+    def __init__(self, program, count):
+        super().__init__(program, count)
+        ways = [(node, peer) for node in self.nodes for peer in self.nodes if node != peer]
+        self.ways = dict(zip(ways, free_ports(len(ways))))
+        self.relays = None
+
+    def way(self, node, peer):
+        return f"127.0.0.1:{self.ways[node, peer]}"
+
+    def start_relays(self):
+        words = [f"{node}:{port}={peer}:{self.ports[peer]}" for (node, peer), port in self.ways.items()]
+        self.relays = subprocess.Popen(
+            [sys.executable, HERE / "relays.py", *words], stdin=subprocess.PIPE, stdout=subprocess.PIPE, text=True
+        )
+        self.relays.stdout.readline()
+
+    def command(self, line):
+        self.relays.stdin.write(line + "\n")
+        self.relays.stdin.flush()
+
+    def __exit__(self, *_):
+        super().__exit__()
+        if self.relays:
+            self.relays.kill()
+            self.relays.wait()
+
+
+def built_shim(folder):
+    library = folder / "slow_sync.so"
+    subprocess.run(["cc", "-shared", "-fPIC", "-O2", "-o", library, HERE / "slow_sync.c"], check=True)
+    return library
+
+
+def slow_and_stopped(program, verdicts):
+    with Cluster(program, len(NODES)) as cluster:
+        cluster.preloads[5] = str(built_shim(cluster.folder))
+        cluster.start_all()
+        cluster.wait_until_ready(60)
+        say("node 5's syncs take five milliseconds more")
+        load = Load(cluster)
+        try:
+            least = load.watch("one slow disk", 60)
+            verdicts.add(least > 0, f"a slow disk: at least {least:.0f} operations a second in each five seconds of a minute")
+            say("node 2 is stopped for 20 seconds")
+            cluster.signal(2, signal.SIGSTOP)
+            load.watch("node 2 stopped", 20)
+            cluster.signal(2, signal.SIGCONT)
+            verdicts.goes_on(load, cluster.nodes, "node 2 continued")
+            load.watch("node 2 goes on", 10)
+            report(cluster, load, verdicts)
+        finally:
+            load.end()
+
+
+def halves_and_dead(program, verdicts):
+    with RelayedCluster(program, len(NODES)) as cluster:
+        cluster.start_relays()
+        cluster.start_all()
+        cluster.wait_until_ready(60)
+        load = Load(cluster)
+        try:
+            load.watch("all reach each other", 5)
+            say("1 and 2 can't reach 3, 4 and 5 for 10 seconds")
+            cluster.command("cut 1,2")
+            load.watch("two halves", 10)
+            cluster.command("join")
+            verdicts.goes_on(load, cluster.nodes, "the halves joined")
+            load.watch("joined", 10)
+            dead_for_good(cluster, load, verdicts)
+            report(cluster, load, verdicts)
+        finally:
+            load.end()
+
+
+def dead_for_good(cluster, load, verdicts):
+    say("node 5 is killed for good")
+    cluster.kill(5)
+    load.watch("node 5 dead", 20)
+    told = printed(cluster, ["ask", cluster.address(1), "999", "store", "x", "--timeout", "30"])
+    verdicts.add(told in TOLD, f"what a client of node 1 is told then, after 30 seconds: {told}")
+    for node in (1, 2, 3, 4):
+        verdicts.add(printed(cluster, ["retire", cluster.address(node), "5"]) == "retired 5", f"node {node} was told to retire 5")
+    verdicts.goes_on(load, (1, 2, 3, 4), "node 5 retired")
+    load.watch("node 5 retired", 10)
+
+
+def printed(cluster, words):
+    done = subprocess.run([cluster.program, *words], capture_output=True, text=True, timeout=60)
+    return (done.stdout + done.stderr).strip()
+
+
+def report(cluster, load, verdicts):
+    for node in cluster.running:
+        say("  node {}: VmRSS {} kB, VmHWM {} kB".format(node, *cluster.memory(node)))
+    for fault in load.faults:
+        verdicts.add(False, fault)
+    for node, text in cluster.has_ended().items():
+        verdicts.add(False, f"node {node} ended: {text}")
+
+
+def main():
+    end_on_signals()
+    verdicts = Verdicts()
+    slow_and_stopped(sys.argv[1], verdicts)
+    halves_and_dead(sys.argv[1], verdicts)
+    say("verdicts:")
+    for line in verdicts.lines:
+        say(line)
+    sys.exit(not verdicts.is_good)
+
+
+if __name__ == "__main__":
+    main()
