@@ -1,4 +1,5 @@
 mod AskingLaws
+mod IncomingLaws
 mod LearningLaws
 mod OperatingLaws
 mod RoutingLaws

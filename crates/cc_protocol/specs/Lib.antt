@@ -4,3 +4,5 @@ pub mod Admission
 pub mod Asking
 pub mod Operating
 pub mod Routing
+pub mod Incoming
+pub mod Bundles

@@ -3,7 +3,7 @@
 --     door_of                    the connection that a session's answers go to
 --     may_enter, entered         whether one more connection is let in, and what is open then
 --     may_route, routed          whether a session's answers can go to a connection, and where answers go then
---     shows_no_session           whether a refusal tells that the node keeps nothing of a session
+--     shows_no_session           whether the refusal of a request tells that the node keeps nothing of a session
 --     taken_back, closed         without the route of one session to one connection;  without a connection and its routes
 --     IsRouting                  how many there are, that routes lead to open connections, and that tickets were given
 use Rattle.std.specs.Prelude.{◌≤◌, ℕ, ◌+◌, ◌^◌, ◌==◌, ◌&&◌, nat_lt, not, Bool, true, false, List, [], ◌∷◌, ◌++◌, length, filter, find, Option, if◌then◌else◌, option_map, IsTrue}
@@ -60,21 +60,27 @@ routed session ticket g =
     then record g { routes = others session g.routes ++ record { session = session; ticket = ticket } ∷ [] }
     else g
 
--- no request of it was ever accepted
-abbrev pub shows_no_session : Refusal → Bool
-shows_no_session refusal.NotEntered = true
-shows_no_session refusal.NotJoined = true
-shows_no_session refusal.TooManySessions = true
-shows_no_session (refusal.Stale last) = last == 0
-shows_no_session (refusal.Skip last) = last == 0
-shows_no_session _ = false
+-- No request of it was ever accepted: the refusal says so, or it is one that a request in turn is refused with, and the
+-- request is the first.
+abbrev pub shows_no_session : ℕ → Refusal → Bool
+shows_no_session request refusal.NotEntered = true
+shows_no_session request refusal.NotJoined = true
+shows_no_session request refusal.TooManySessions = true
+shows_no_session request (refusal.Stale last) = last == 0
+shows_no_session request (refusal.Skip last) = last == 0
+shows_no_session request refusal.Busy = request == 1
+shows_no_session request refusal.SetFull = request == 1
+shows_no_session request refusal.OutboxFull = request == 1
+shows_no_session request refusal.Spent = request == 1
+shows_no_session request refusal.QueueFull = request == 1
+shows_no_session request _ = false
 
 abbrev pub is_route : ℕ → ℕ → Route → Bool
 is_route session ticket r = (r.session == session) && (r.ticket == ticket)
 
-abbrev pub taken_back : ℕ → ℕ → Refusal → Routing → Routing
-taken_back session ticket why g =
-    if shows_no_session why then record g { routes = filter (λ r. not (is_route session ticket r)) g.routes } else g
+abbrev pub taken_back : ℕ → ℕ → ℕ → Refusal → Routing → Routing
+taken_back session request ticket why g =
+    if shows_no_session request why then record g { routes = filter (λ r. not (is_route session ticket r)) g.routes } else g
 
 abbrev pub closed : ℕ → Routing → Routing
 closed ticket g = record g {

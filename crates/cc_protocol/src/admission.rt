@@ -45,15 +45,16 @@ fn leaves_room(kept: u64, room: u64) -> bool
 }
 
 /// Whether a peer is one of those that are furthest behind: no peer that hasn't left has acknowledged less of the node's
-/// posts.
-pub fn is_furthest_behind(core: &Core, peer: NodeId) -> bool
+/// posts. `least` is what these have acknowledged, which is the same for all peers: `core.lowest()`.
+pub fn is_furthest_behind(core: &Core, least: u64, peer: NodeId) -> bool
+    requires { least ≡ machine.lowest core.now }
     ensures { result ≡ is_furthest_behind core.now peer }
 {
     if !core.is_live(peer) {
         return false;
     }
     match core.links().get(peer) {
-        Some(row) => row.start.checked_add(row.acked) == Some(core.lowest()),
+        Some(row) => row.start.checked_add(row.acked) == Some(least),
         None => false,
     }
 }

@@ -3,6 +3,7 @@
 
 mod admission;
 mod asking;
+mod bundle;
 mod frames;
 mod heeding;
 mod incoming;
@@ -15,9 +16,10 @@ pub use asking::{
     Client, Heard, Step, asks_under_one_number, number_zero_tells_the_last, refusal_of,
     refusals_are_told,
 };
+pub use bundle::{Bundle, Parcel};
 pub use frames::{ack_frame, event_of, post_frame, refused_frame, reply_frame};
 pub use heeding::{Duty, heed, may_stir};
-pub use incoming::Incoming;
+pub use incoming::{Ending, Incoming};
 pub use operating::{Outcome, outcome_of, second_request_is_left};
 pub use route::Route;
 pub use routes::{Routes, answers_follow_asks};

@@ -102,12 +102,12 @@ impl Routes {
         door_in(&self.routes, session)
     }
 
-    /// What the refusal of an ask leaves of its route: nothing, where it tells that the node keeps nothing of the
-    /// session, and where no other connection asked in it since.
-    pub fn take_back(&mut self, session: u64, ticket: u64, refusal: Refusal)
-        ensures { self.new ≡ taken_back session ticket refusal self.old }
+    /// What the refusal of an ask under that number leaves of its route: nothing, where it tells that the node keeps
+    /// nothing of the session, and where no other connection asked in it since.
+    pub fn take_back(&mut self, session: u64, request: u64, ticket: u64, refusal: Refusal)
+        ensures { self.new ≡ taken_back session request ticket refusal self.old }
     {
-        if shows_no_session(refusal) {
+        if shows_no_session(request, refusal) {
             remove_route(&mut self.routes, session, ticket);
         }
     }
@@ -171,13 +171,18 @@ fn remove_door(doors: &mut Vec<u64>, ticket: u64)
     doors.retain(|door| *door != ticket);
 }
 
-// Whether a refusal tells that no request of the session was ever accepted.
-fn shows_no_session(refusal: Refusal) -> bool
-    ensures { result ≡ shows_no_session refusal }
+// Whether the refusal of a request tells that no request of the session was ever accepted.
+fn shows_no_session(request: u64, refusal: Refusal) -> bool
+    ensures { result ≡ shows_no_session request refusal }
 {
     match refusal {
         Refusal::NotEntered | Refusal::NotJoined | Refusal::TooManySessions => true,
         Refusal::Stale(last) | Refusal::Skip(last) => last == 0,
+        Refusal::Busy
+        | Refusal::SetFull
+        | Refusal::OutboxFull
+        | Refusal::Spent
+        | Refusal::QueueFull => request == 1,
         _ => false,
     }
 }

@@ -97,7 +97,7 @@ fn serve_in<R: Wait, H: Hooks, L: Life, Q: Lane>(
 ) {
     let inside: &Door = &door;
     if let Some(mut share) = office.draw() {
-        serve(office, inside, ticket, inside.reader(), &mut share);
+        let _ = serve(office, inside, ticket, inside.reader(), &mut share);
         office.give_back(share);
     }
     office.shared.doors.leave(office.rt, ticket);

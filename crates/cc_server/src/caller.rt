@@ -1,11 +1,15 @@
 //! A worker of one connection.
 
+ghost use Rattle.std.specs.Prelude.{◌≡◌, ◌+◌, List, None, IfSome, MatchOption};
+ghost use Rattle.cc_intake.specs.Talks.{Answer, places_of, PlacesRise};
+ghost use Rattle.cc_server.specs.Serving.{brings_again, Takes, Stops, Brings};
+
 use crate::doors::Replies;
 use crate::office::Office;
 use crate::shared::{Shared, Wish};
 use crate::spelling::bytes_of;
 use cc_intake::{Hooks, Lane, Life, Share, Source};
-use cc_protocol::{Duty, Incoming, event_of, heed};
+use cc_protocol::{Duty, Ending, Incoming, event_of, heed};
 use cc_views::NodeId;
 use cc_wire::{Event, Frame, Refusal};
 use std::alloc::Global;
@@ -22,19 +26,33 @@ pub struct Caller<'a, R: Wait, I: Read, D: Replies> {
     door: &'a D,
     ticket: u64,
     frames: Incoming<I>,
-    // The event that was given last, until it was answered.
+    // The event that was given last, until it is answered.
     given: Option<Event>,
-    // It is to be given again.
-    is_due: bool,
+    // The event that is to be given again.
+    due: Option<Event>,
+    // Why the reader gave no further frame.
+    ended: Option<Ending>,
 }
 
 impl<R: Wait, I: Read, D: Replies> Caller<'_, R, I, D> {
     // The event that is to be given next.
-    fn event(&mut self) -> Option<Event> {
-        if self.is_due {
-            return self.given.take();
+    fn event(&mut self) -> Option<Event>
+        ensures next { MatchOption result
+            (Stops self.old.due self.old.frames self.new.ended)
+            (λ e. Takes self.old.due self.old.frames e self.new.frames × (self.new.ended ≡ None)) }
+        ensures me { self.new.me ≡ self.old.me }
+    {
+        self.ended = None;
+        if let Some(event) = self.due.take() {
+            return Some(event);
         }
-        event_of(self.frames.next_frame()?)
+        match self.frames.read_frame() {
+            Ok(frame) => event_of(frame),
+            Err(why) => {
+                self.ended = Some(why);
+                None
+            }
+        }
     }
 
     // Replies to what is asked come here from now on, before the flusher can make them.
@@ -46,10 +64,14 @@ impl<R: Wait, I: Read, D: Replies> Caller<'_, R, I, D> {
 
     // A session without a row leaves no route.
     fn unroute(&self, event: &Event, refusal: Refusal) {
-        if let Event::Ask { session, .. } = event {
-            self.shared
-                .doors
-                .take_back(self.rt, *session, self.ticket, refusal);
+        if let Event::Ask {
+            session,
+            request,
+            ..
+        } = event
+        {
+            let doors = &self.shared.doors;
+            doors.take_back(self.rt, *session, *request, self.ticket, refusal);
         }
     }
 
@@ -60,7 +82,9 @@ impl<R: Wait, I: Read, D: Replies> Caller<'_, R, I, D> {
     }
 
     // Does what an answer asks for. Whether the event is to be given again.
-    fn act(&self, duty: Duty, is_accepted: bool) -> bool {
+    fn act(&self, duty: Duty, is_accepted: bool) -> bool
+        ensures { result ≡ brings_again duty }
+    {
         match duty {
             Duty::Wake => self.shared.bell.ring(),
             Duty::Nothing if is_accepted => self.shared.bell.ride(),
@@ -75,9 +99,15 @@ impl<R: Wait, I: Read, D: Replies> Caller<'_, R, I, D> {
 }
 
 impl<R: Wait, I: Read, D: Replies> Source for Caller<'_, R, I, D> {
-    ghost gives = { λ s e t. Unit {0} };
+    ghost use Rattle.cc_server.specs.Serving.{Gives, Hears};
 
-    ghost hears = { λ s a t. Unit {0} };
+    ghost gives = { λ s e t. Gives
+        (record { me = s.me; due = s.due; given = s.given; ahead = s.frames; ended = s.ended }) e
+        (record { me = t.me; due = t.due; given = t.given; ahead = t.frames; ended = t.ended }) };
+
+    ghost hears = { λ s a t. Hears
+        (record { me = s.me; due = s.due; given = s.given; ahead = s.frames; ended = s.ended }) a
+        (record { me = t.me; due = t.due; given = t.given; ahead = t.frames; ended = t.ended }) };
 
     fn next(&mut self) -> Option<Event> {
         let event = self.event()?;
@@ -98,33 +128,41 @@ impl<R: Wait, I: Read, D: Replies> Source for Caller<'_, R, I, D> {
             self.shared.room.leave(self.rt);
             self.unroute(&event, refusal);
         }
-        self.is_due = self.act(heed(self.me, &event, answer), answer.is_ok());
-        self.given = Some(event);
+        let is_due = self.act(heed(self.me, &event, answer), answer.is_ok());
+        self.due = if is_due { Some(event) } else { None };
     }
 }
 
 /// Brings what comes from a reader to the intake, until it ends: at the end of input, where a read fails, at bytes that
-/// spell no frame, at a frame that a node only sends, and after 2^32 feeds.
+/// spell no frame, at a frame that a node only sends, and after 2^32 feeds. Of bytes that are known it brings the events of
+/// their frames, one after the other, each again where the queue was full; the share counts those that were accepted. It
+/// tells why the reader gave no further frame; None where something else is why.
 pub fn serve<R: Wait, H: Hooks, L: Life, Q: Lane, I: Read + Drop, D: Replies>(
     office: &Office<'_, R, H, L, Q>,
     door: &D,
     ticket: u64,
     reader: I,
     share: &mut Share<L>,
-) {
+) -> Option<Ending>
+    ensures { (answers : List Answer) × (share.new ≡ share.old + places_of answers) × PlacesRise share.old answers
+        × IfSome (I.remaining reader) (λ bytes. Brings office.now.me result None bytes answers) }
+{
     let alloc = office.alloc;
-    if let Ok(frames) = Incoming::new(alloc, reader) {
-        let mut caller = Caller {
-            rt: office.rt,
-            alloc,
-            me: office.me,
-            shared: office.shared,
-            door,
-            ticket,
-            frames,
-            given: None,
-            is_due: false,
-        };
-        office.work(share, &mut caller);
-    }
+    let Ok(frames) = Incoming::new(alloc, reader) else {
+        return None;
+    };
+    let mut caller = Caller {
+        rt: office.rt,
+        alloc,
+        me: office.me,
+        shared: office.shared,
+        door,
+        ticket,
+        frames,
+        given: None,
+        due: None,
+        ended: None,
+    };
+    office.work(share, &mut caller);
+    caller.ended
 }

@@ -1,10 +1,10 @@
 //! The outlet of a node: the lines to its peers and to itself, and its connections.
 
-use crate::lines::{Line, Parcel};
+use crate::lines::Line;
 use crate::shared::Shared;
 use crate::spelling::bytes_of;
 use cc_files::Outlet;
-use cc_protocol::{post_frame, reply_frame};
+use cc_protocol::{Parcel, post_frame, reply_frame};
 use cc_views::NodeId;
 use cc_wire::{Answer, Event, Message};
 use std::alloc::Global;

@@ -131,11 +131,16 @@ impl Doors {
     }
 
     /// What the refusal of an ask leaves of its route: nothing, where the node keeps nothing of the session.
-    pub fn take_back<R: Wait>(&self, rt: &R, session: u64, ticket: u64, refusal: Refusal) {
-        self.table
-            .lock(rt)
-            .routes
-            .take_back(session, ticket, refusal);
+    pub fn take_back<R: Wait>(
+        &self,
+        rt: &R,
+        session: u64,
+        request: u64,
+        ticket: u64,
+        refusal: Refusal,
+    ) {
+        let mut table = self.table.lock(rt);
+        table.routes.take_back(session, request, ticket, refusal);
     }
 
     /// Passes bytes on to the connection that last asked in the session.

@@ -1,6 +1,7 @@
 //! The lines on which a node's outputs wait for their writers.
 
 use crate::stop::Stop;
+use cc_protocol::Parcel;
 use cc_views::NodeId;
 use cc_wire::Event;
 use cc_words::Peer;
@@ -14,15 +15,6 @@ const LINE_ROOM: usize = 256;
 
 // How many events wait for the worker of the node's own messages at most.
 const OWN_ROOM: usize = 4096;
-
-/// What a peer's writer is to write.
-#[derive(Debug, Drop)]
-pub enum Parcel {
-    /// The bytes of a Post frame.
-    Post(Vec<u8>),
-    /// The number of an acknowledgement.
-    Ack(u64),
-}
 
 /// The line to a peer.
 #[derive(Drop)]

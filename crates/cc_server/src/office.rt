@@ -1,5 +1,8 @@
 //! What the workers of a node share.
 
+ghost use Rattle.std.specs.Prelude.{◌≡◌, ◌+◌, List};
+ghost use Rattle.cc_intake.specs.Talks.{Answer, Talks, places_of, PlacesRise};
+
 use crate::shared::Shared;
 use cc_intake::{Hooks, Intake, Lane, Life, Queue, Share, Source, work};
 use cc_views::NodeId;
@@ -32,7 +35,9 @@ impl<R: Wait, H: Hooks, L: Life, Q: Lane> Office<'_, R, H, L, Q> {
     }
 
     /// Brings each event of a source to the intake.
-    pub fn work<S: Source>(&self, share: &mut Share<L>, source: &mut S) {
+    pub fn work<S: Source>(&self, share: &mut Share<L>, source: &mut S)
+        ensures { (answers : List Answer) × Talks S.gives S.hears source.old answers source.new × (share.new ≡ share.old + places_of answers) × PlacesRise share.old answers }
+    {
         work(
             self.rt, self.alloc, self.lock, self.queue, share, self.hooks, source,
         );

@@ -109,8 +109,10 @@ impl Room {
         seats.taken = seats.taken.saturating_sub(events);
         seats.kept = node.kept() as u64;
         seats.furthest.clear();
-        for link in node.core().links().rows() {
-            if is_furthest_behind(node.core(), link.peer) {
+        let core = node.core();
+        let least = core.lowest();
+        for link in core.links().rows() {
+            if is_furthest_behind(core, least, link.peer) {
                 let _ = seats.furthest.push(link.peer);
             }
         }

@@ -6,12 +6,11 @@ ghost use Rattle.cc_intake.specs.Accepting.{share_limit};
 
 use crate::channels::Channels;
 use crate::config::Config;
-use crate::flushing::Watch;
 use crate::office::Office;
 use crate::run_fault::RunFault;
 use crate::shared::{Inlets, Shared};
 use crate::stop::Stop;
-use crate::threads::{Ends, live};
+use crate::threads::live;
 use cc_files::FileSite;
 use cc_flush::{Back, Failed, Flusher};
 use cc_intake::{
@@ -22,7 +21,6 @@ use cc_protocol::Routes;
 use cc_site::Site;
 use cc_views::NodeId;
 use cc_wire::Event;
-use cc_words::Peer;
 use log::sink::Console;
 use log::{Level, Logged, info};
 use std::alloc::Global;
@@ -39,12 +37,12 @@ const MOST_WORKERS: usize = Routes::MAX_DOORS + 1;
 
 /// Runs the node of a folder, which listens once the folder is open, until the flag is set or a disk call fails. What it came
 /// to is told without its site. It notes its start and its end on standard error.
-pub fn run_node<R, H: Hooks + Sync>(
-    rt: &R,
+pub fn run_node<'a, R, H: Hooks + Sync>(
+    rt: &'a R,
     alloc: Global,
-    config: &Config<'_>,
-    stop: &Stop,
-    hooks: &H,
+    config: &'a Config<'a>,
+    stop: &'a Stop,
+    hooks: &'a H,
 ) -> Result<Finished<()>, RunFault>
 where
     R: Files<File = File>
@@ -55,37 +53,17 @@ where
         + Eprint
         + Sync,
 {
-    run_from(rt, alloc, config, None, stop, hooks)
+    run_on(rt, alloc, config, None, stop, hooks)
 }
 
-/// The same on a listener that is there already.
-pub fn run_on<R, H: Hooks + Sync>(
-    rt: &R,
+/// The same, on a listener that is there already, if one is given.
+pub fn run_on<'a, R, H: Hooks + Sync>(
+    rt: &'a R,
     alloc: Global,
-    config: &Config<'_>,
-    listener: TcpListener,
-    stop: &Stop,
-    hooks: &H,
-) -> Result<Finished<()>, RunFault>
-where
-    R: Files<File = File>
-        + Net<Listener = TcpListener, Stream = TcpStream>
-        + Threads
-        + Wait
-        + Clock
-        + Eprint
-        + Sync,
-{
-    run_from(rt, alloc, config, Some(listener), stop, hooks)
-}
-
-fn run_from<R, H: Hooks + Sync>(
-    rt: &R,
-    alloc: Global,
-    config: &Config<'_>,
+    config: &'a Config<'a>,
     listener: Option<TcpListener>,
-    stop: &Stop,
-    hooks: &H,
+    stop: &'a Stop,
+    hooks: &'a H,
 ) -> Result<Finished<()>, RunFault>
 where
     R: Files<File = File>
@@ -100,25 +78,44 @@ where
     let shared = &shared;
     let channels = Channels { rt, alloc, shared };
     let site = FileSite::open(rt, alloc, config.dir, channels)?;
+    let run = Run {
+        rt,
+        alloc,
+        config,
+        stop,
+        hooks,
+        shared,
+    };
     match Flusher::open(alloc, Hooked { site, hooks }) {
-        Ok((engine, core)) => {
-            run_opened(
-                rt, alloc, config, listener, stop, hooks, shared, inlets, engine, core,
-            )
-        }
+        Ok((engine, core)) => run_opened(&run, listener, inlets, engine, core),
         Err(Back { site: _, fault }) => Err(RunFault::Open(fault)),
     }
 }
 
-// The same once the folder is open.
-fn run_opened<R, H: Hooks + Sync, S: Site + Send + Drop>(
-    rt: &R,
+// What a run goes by.
+#[derive(Drop)]
+struct Run<'a, R, H> {
+    rt: &'a R,
     alloc: Global,
-    config: &Config<'_>,
+    config: &'a Config<'a>,
+    stop: &'a Stop,
+    hooks: &'a H,
+    shared: &'a Shared,
+}
+
+// A node that is ready to serve.
+#[derive(Drop)]
+struct Ready<S: Site> {
+    engine: Flusher<S>,
+    core: Core,
+    listener: TcpListener,
+    inlets: Inlets,
+}
+
+// Runs a node whose folder is open.
+fn run_opened<R, H: Hooks + Sync, S: Site + Send + Drop>(
+    run: &Run<'_, R, H>,
     listener: Option<TcpListener>,
-    stop: &Stop,
-    hooks: &H,
-    shared: &Shared,
     inlets: Inlets,
     engine: Flusher<S>,
     core: Core,
@@ -128,24 +125,18 @@ where
     requires core { core ≡ engine.twin.core }
     requires owes { engine.owes ≡ false }
 {
-    let me = core.me();
-    match ready(rt, config, listener, shared, &core) {
+    match prepare(run, listener, &core) {
         Ok(listener) => {
-            note(rt, config, me, "runs");
-            let outcome = run_as::<Brand, S, R, H>(
-                rt,
-                alloc,
-                &config.peers,
-                &listener,
-                stop,
-                hooks,
-                shared,
-                inlets,
+            let me = core.me();
+            let ready = Ready {
                 engine,
                 core,
-                Blank::new(1 << 20),
-            );
-            note(rt, config, me, "ends");
+                listener,
+                inlets,
+            };
+            note(run, me, "runs");
+            let outcome = run_as::<Brand, S, R, H>(run, ready, Blank::new(1 << 20));
+            note(run, me, "ends");
             outcome
         }
         Err(fault) => {
@@ -157,124 +148,106 @@ where
 }
 
 // Makes ready to serve: it is known who the node is, it is told to enter where it hasn't, and listens.
-fn ready<R>(
-    rt: &R,
-    config: &Config<'_>,
+fn prepare<R, H>(
+    run: &Run<'_, R, H>,
     listener: Option<TcpListener>,
-    shared: &Shared,
     core: &Core,
 ) -> Result<TcpListener, RunFault>
 where
     R: Net<Listener = TcpListener, Stream = TcpStream> + Wait,
 {
     let me = core.me();
-    if config.peers.iter().any(|peer| peer.id == me) {
+    if run.config.peers.iter().any(|peer| peer.id == me) {
         return Err(RunFault::OwnPeer);
     }
-    let _ = shared.me.try_set(me);
+    let _ = run.shared.me.try_set(me);
     if !core.churn().has_entered(me) {
-        shared.own.put(rt, Event::Enter);
+        run.shared.own.put(run.rt, Event::Enter);
     }
     match listener {
         Some(listener) => Ok(listener),
-        None => TcpListener::bind(rt, config.listen).or(Err(RunFault::Listen)),
+        None => TcpListener::bind(run.rt, run.config.listen).or(Err(RunFault::Listen)),
     }
 }
 
-fn note<R: Eprint>(rt: &R, config: &Config<'_>, me: NodeId, what: &str) {
-    let logged = Logged::new(rt, Level::Info, Console(rt));
-    info!(logged; "node {} {} at {}", me.number(), what, config.listen);
+fn note<R: Eprint, H>(run: &Run<'_, R, H>, me: NodeId, what: &str) {
+    let logged = Logged::new(run.rt, Level::Info, Console(run.rt));
+    info!(logged; "node {} {} at {}", me.number(), what, run.config.listen);
 }
 
 fn run_as<L: Life + Send + Sync, S: Site + Send + Drop, R, H: Hooks + Sync>(
-    rt: &R,
-    alloc: Global,
-    peers: &[Peer],
-    listener: &TcpListener,
-    stop: &Stop,
-    hooks: &H,
-    shared: &Shared,
-    inlets: Inlets,
-    engine: Flusher<S>,
-    core: Core,
+    run: &Run<'_, R, H>,
+    ready: Ready<S>,
     blank: Blank,
 ) -> Result<Finished<()>, RunFault>
 where
     R: Net<Listener = TcpListener, Stream = TcpStream> + Threads + Wait + Clock + Sync,
-    requires core { core ≡ L.opening.core }
-    requires owes { engine.owes ≡ false }
-    requires twin { engine.failed ≡ None → engine.twin ≡ L.opening }
+    requires core { ready.core ≡ L.opening.core }
+    requires owes { ready.engine.owes ≡ false }
+    requires twin { ready.engine.failed ≡ None → ready.engine.twin ≡ L.opening }
     requires ledger { (blank.name ≡ L.name) × (blank.parts ≡ L.parts) × (L.parts ≡ share_limit) }
     requires reached { (list : List EntryValue) → L.reached list }
     requires taken { (list : List EntryValue) → L.taken list }
 {
-    match (lane::<L>(alloc), Vec::with_capacity(alloc, MOST_WORKERS)) {
-        (Ok(ends), Ok(shares)) => run_at::<L, Brand, S, R, H>(
-            rt, alloc, peers, listener, stop, hooks, shared, inlets, engine, core, blank, ends,
-            shares,
-        ),
+    match (
+        lane::<L>(run.alloc),
+        Vec::with_capacity(run.alloc, MOST_WORKERS),
+    ) {
+        (Ok(ends), Ok(shares)) => run_at::<L, Brand, S, R, H>(run, ready, blank, ends, shares),
         _ => {
-            drop(engine);
-            drop(core);
+            drop(ready);
             Err(RunFault::NoMemory)
         }
     }
 }
 
 fn run_at<L: Life + Send + Sync, Q: Lane + Send + Sync, S: Site + Send + Drop, R, H: Hooks + Sync>(
-    rt: &R,
-    alloc: Global,
-    peers: &[Peer],
-    listener: &TcpListener,
-    stop: &Stop,
-    hooks: &H,
-    shared: &Shared,
-    inlets: Inlets,
-    engine: Flusher<S>,
-    core: Core,
+    run: &Run<'_, R, H>,
+    ready: Ready<S>,
     blank: Blank,
     queue_ends: QueueEnds<L>,
     shares: Vec<Share<L>>,
 ) -> Result<Finished<()>, RunFault>
 where
     R: Net<Listener = TcpListener, Stream = TcpStream> + Threads + Wait + Clock + Sync,
-    requires core { core ≡ L.opening.core }
-    requires owes { engine.owes ≡ false }
-    requires twin { engine.failed ≡ None → engine.twin ≡ L.opening }
+    requires core { ready.core ≡ L.opening.core }
+    requires owes { ready.engine.owes ≡ false }
+    requires twin { ready.engine.failed ≡ None → ready.engine.twin ≡ L.opening }
     requires ledger { (blank.name ≡ L.name) × (blank.parts ≡ L.parts) × (L.parts ≡ share_limit) }
     requires reached { (list : List EntryValue) → L.reached list }
     requires taken { (list : List EntryValue) → L.taken list }
     requires lane { queue_ends ≡ Q.table }
 {
+    let Ready {
+        engine,
+        core,
+        listener,
+        inlets,
+    } = ready;
     let me = core.me();
-    let Inlets {
-        parker,
-        wished,
-        far,
-        own,
-    } = inlets;
     let (intake, mut turner, queue) = start::<S, L, Q>(engine, core, blank, queue_ends);
     let lock = Mutex::new(intake);
     let shares = Mutex::new(shares);
     let office = Office {
-        rt,
-        alloc,
+        rt: run.rt,
+        alloc: run.alloc,
         me,
-        hooks,
-        peers,
-        shared,
+        hooks: run.hooks,
+        peers: &run.config.peers,
+        shared: run.shared,
         lock: &lock,
         queue: &queue,
         shares: &shares,
     };
-    let watch = Watch {
-        parker,
-        wishes: wished,
-        shared,
-    };
-    let ends = Ends { me, far, own };
-    let outcome = live(&office, &mut turner, watch, ends, listener, stop);
-    let finished = finish(rt, lock.into_inner(), shares.into_inner(), turner, queue);
+    let (watch, ends) = inlets.cut(me, run.shared);
+    let outcome = live(&office, &mut turner, watch, ends, &listener, run.stop);
+    let finished = finish(
+        run.rt,
+        lock.into_inner(),
+        shares.into_inner(),
+        turner,
+        queue,
+    );
     came_to(without_site(finished), outcome)
 }
 

@@ -2,10 +2,12 @@
 
 use crate::bell::Bell;
 use crate::doors::Doors;
+use crate::flushing::Watch;
 use crate::lines::{FarEnd, Line, OwnLine, lines_to, own_line};
 use crate::room::Room;
 use crate::run_fault::RunFault;
 use crate::stop::Stop;
+use crate::threads::Ends;
 use cc_views::NodeId;
 use cc_wire::Event;
 use cc_words::Peer;
@@ -87,5 +89,23 @@ impl Shared {
     pub fn wish<R: Wait>(&self, rt: &R, wish: Wish) {
         let _ = self.wishes.try_send(rt, wish);
         self.bell.ring();
+    }
+}
+
+impl Inlets {
+    /// What the flusher takes out of, and what the workers and writers of the node `me` do.
+    pub fn cut(self, me: NodeId, shared: &Shared) -> (Watch<'_>, Ends) {
+        let Inlets {
+            parker,
+            wished,
+            far,
+            own,
+        } = self;
+        let watch = Watch {
+            parker,
+            wishes: wished,
+            shared,
+        };
+        (watch, Ends { me, far, own })
     }
 }

@@ -1,10 +1,9 @@
 //! Writers: each writes to a stream what comes out of a channel.
 
-use crate::lines::{FarEnd, Parcel};
+use crate::lines::FarEnd;
 use crate::stop::Stop;
-use cc_protocol::ack_frame;
+use cc_protocol::{Bundle, Parcel};
 use cc_views::{NoMemory, NodeId};
-use cc_wire::encode_frame;
 use crossbeam_channel::Receiver;
 use std::alloc::Global;
 use std::io::Write;
@@ -58,39 +57,6 @@ fn gather<R: Wait>(rt: &R, from: &Receiver<Vec<u8>>, batch: &mut Vec<u8>) -> usi
         let _ = batch.extend_from_slice(bytes.as_slice());
     }
     taken
-}
-
-/// What a peer is to get in one write: posts in their order, and behind them the last acknowledgement.
-#[derive(Debug, Drop)]
-struct Bundle {
-    bytes: Vec<u8>,
-    ack: Option<u64>,
-}
-
-impl Bundle {
-    fn new(alloc: Global) -> Self {
-        Bundle {
-            bytes: Vec::new(alloc),
-            ack: None,
-        }
-    }
-
-    fn add(&mut self, parcel: Parcel) -> Result<(), NoMemory> {
-        match parcel {
-            Parcel::Post(bytes) => self.bytes.extend_from_slice(bytes.as_slice())?,
-            Parcel::Ack(number) => self.ack = Some(number),
-        }
-        Ok(())
-    }
-
-    // The bytes of all that it holds.
-    fn close(self, me: NodeId) -> Result<Vec<u8>, NoMemory> {
-        let Bundle { mut bytes, ack } = self;
-        if let Some(number) = ack {
-            encode_frame(&ack_frame(me, number), &mut bytes)?;
-        }
-        Ok(bytes)
-    }
 }
 
 /// Writes to one peer, which it connects to again after a failure, until the flag is set.
@@ -154,7 +120,7 @@ fn bundled<R: Wait>(
     let mut bundle = Bundle::new(alloc);
     bundle.add(first)?;
     for _ in 0..PLENTY {
-        if bundle.bytes.len() >= PLENTY {
+        if bundle.len() >= PLENTY {
             break;
         }
         let Ok(parcel) = from.try_recv(rt) else {

@@ -78,11 +78,16 @@ fn take(alloc: Global, node: &mut Node, event: Event) -> Result<(), Fail> {
     Ok(())
 }
 
+fn is_behind(member: &Node, peer: NodeId) -> bool {
+    let core = member.core();
+    is_furthest_behind(core, core.lowest(), peer)
+}
+
 fn check_behind<R: Abort + AllocGlobal>(rt: &R, member: &mut Node) -> Result<(), Fail> {
     let (one, two, three) = (node(1)?, node(2)?, node(3)?);
     take(rt.alloc(), member, asked())?;
-    assert!(rt; is_furthest_behind(member.core(), one) && is_furthest_behind(member.core(), two));
-    assert!(rt; !is_furthest_behind(member.core(), three));
+    assert!(rt; is_behind(member, one) && is_behind(member, two));
+    assert!(rt; !is_behind(member, three));
     take(
         rt.alloc(),
         member,
@@ -91,9 +96,9 @@ fn check_behind<R: Abort + AllocGlobal>(rt: &R, member: &mut Node) -> Result<(),
             number: 1,
         },
     )?;
-    assert!(rt; !is_furthest_behind(member.core(), one) && is_furthest_behind(member.core(), two));
+    assert!(rt; !is_behind(member, one) && is_behind(member, two));
     take(rt.alloc(), member, Event::Retire { node: two })?;
-    assert!(rt; is_furthest_behind(member.core(), one) && !is_furthest_behind(member.core(), two));
+    assert!(rt; is_behind(member, one) && !is_behind(member, two));
     Ok(())
 }
 

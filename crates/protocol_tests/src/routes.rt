@@ -47,10 +47,10 @@ fn check_taken_back<R: Abort>(rt: &R, routes: &mut Routes) -> Result<(), Fail> {
         Refusal::Skip(1),
         Refusal::QueueFull,
     ] {
-        routes.take_back(7, one, refusal);
+        routes.take_back(7, 2, one, refusal);
         assert_eq!(rt; routes.door_of(7), Some(one));
     }
-    routes.take_back(7, two, Refusal::Stale(0));
+    routes.take_back(7, 1, two, Refusal::Stale(0));
     assert_eq!(rt; routes.door_of(7), Some(one));
     for refusal in [
         Refusal::Stale(0),
@@ -58,9 +58,14 @@ fn check_taken_back<R: Abort>(rt: &R, routes: &mut Routes) -> Result<(), Fail> {
         Refusal::TooManySessions,
         Refusal::NotJoined,
         Refusal::NotEntered,
+        Refusal::Busy,
+        Refusal::SetFull,
+        Refusal::OutboxFull,
+        Refusal::Spent,
+        Refusal::QueueFull,
     ] {
         assert!(rt; routes.route(7, one));
-        routes.take_back(7, one, refusal);
+        routes.take_back(7, 1, one, refusal);
         assert_eq!(rt; routes.door_of(7), None);
     }
     Ok(())

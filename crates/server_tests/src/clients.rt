@@ -27,6 +27,16 @@ pub(crate) const THIRD_REFUSED: [u8; 30] = [
     0, 0, 0, 26, 5, 0, 0, 0, 0, 0, 0, 0, 7, 0, 0, 0, 0, 0, 0, 0, 3, 12, 0, 0, 0, 0, 0, 0, 0, 1,
 ];
 
+/// Session 8 asks under number 1: store `a`.
+pub(crate) const OTHER_ASK: [u8; 24] = [
+    0, 0, 0, 20, 3, 0, 0, 0, 0, 0, 0, 0, 8, 0, 0, 0, 0, 0, 0, 0, 1, 1, 1, 97,
+];
+
+/// Its answer.
+pub(crate) const OTHER_REPLY: [u8; 22] = [
+    0, 0, 0, 18, 4, 0, 0, 0, 0, 0, 0, 0, 8, 0, 0, 0, 0, 0, 0, 0, 1, 1,
+];
+
 /// A connection on which a read or a write takes ten seconds at most.
 pub(crate) fn connected<R: Net<Stream = TcpStream>>(
     rt: &R,
@@ -49,6 +59,11 @@ pub(crate) fn exchange<R: Net<Stream = TcpStream>>(
 ) -> Result<(), Fail> {
     let mut stream = connected(rt, to)?;
     stream.write_all(sent)?;
+    reads(alloc, &mut stream, wanted)
+}
+
+/// Reads these bytes.
+pub(crate) fn reads(alloc: Global, stream: &mut TcpStream, wanted: &[u8]) -> Result<(), Fail> {
     let mut read = vec![in alloc; 0u8; wanted.len()]?;
     stream.read_exact(read.as_mut_slice())?;
     check(read.as_slice() == wanted, "what the node answers")

@@ -15,7 +15,7 @@ pub(crate) fn attack<R: Net<Stream = TcpStream>>(rt: &R, to: SocketAddr) -> Resu
     check(is_closed_after(rt, to, &[0, 0, 0, 1, 8])?, "kind 8")?;
     check(is_closed_after(rt, to, &FIRST_REPLY)?, "kind 4")?;
     check(is_closed_after(rt, to, &THIRD_REFUSED)?, "kind 5")?;
-    zeros(rt, to)
+    without_end(rt, to, &[0; 4096])
 }
 
 // The beginnings of a request, each on a connection that is closed then.
@@ -27,13 +27,17 @@ fn cuts<R: Net<Stream = TcpStream>>(rt: &R, to: SocketAddr) -> Result<(), Fail> 
     Ok(())
 }
 
-// Zeros without an end, until the node has closed the connection.
-fn zeros<R: Net<Stream = TcpStream>>(rt: &R, to: SocketAddr) -> Result<(), Fail> {
+// The same bytes again and again, whose answers nobody reads, until the node has closed the connection.
+fn without_end<R: Net<Stream = TcpStream>>(
+    rt: &R,
+    to: SocketAddr,
+    bytes: &[u8],
+) -> Result<(), Fail> {
     let mut stream = connected(rt, to)?;
     for _ in 0..100_000u32 {
-        if stream.write_all(&[0; 4096]).is_err() {
+        if stream.write_all(bytes).is_err() {
             return Ok(());
         }
     }
-    Err("zeros without an end")?
+    Err("bytes without an end")?
 }

@@ -4,6 +4,10 @@
 #[cfg(test)]
 mod clients;
 #[cfg(test)]
+mod held;
+#[cfg(test)]
+mod holding;
+#[cfg(test)]
 mod hostile;
 #[cfg(test)]
 mod nodes;

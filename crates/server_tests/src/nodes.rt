@@ -1,7 +1,7 @@
 //! Nodes on loopback.
 
 use cc_commands::{FormatOrder, FormatWords, format_folder};
-use cc_intake::{Finished, NoHooks};
+use cc_intake::{Finished, Hooks};
 use cc_server::{Config, RunFault, Stop, run_on};
 use cc_views::NodeId;
 use cc_words::Peer;
@@ -19,8 +19,36 @@ pub(crate) fn check(holds: bool, what: &'static str) -> Result<(), Fail> {
     if holds { Ok(()) } else { Err(what)? }
 }
 
-/// A new folder that keeps a member of {1,2}.
-pub(crate) fn format_member<R: AllocGlobal + Files<File = File>>(
+/// Where the nodes 1 and 2 listen.
+#[derive(Drop)]
+pub(crate) struct Places {
+    pub first: TcpListener,
+    pub second: TcpListener,
+    pub one: SocketAddr,
+    pub two: SocketAddr,
+}
+
+/// Two members in new folders, with listeners at ports that are free.
+pub(crate) fn set_up<R>(rt: &R, folder: &str, other: &str) -> Result<Places, Fail>
+where
+    R: AllocGlobal + Files<File = File> + Net<Listener = TcpListener, Stream = TcpStream>,
+{
+    format_member(rt, folder, "1")?;
+    format_member(rt, other, "2")?;
+    let first = TcpListener::bind(rt, "127.0.0.1:0")?;
+    let second = TcpListener::bind(rt, "127.0.0.1:0")?;
+    let one = first.local_addr()?;
+    let two = second.local_addr()?;
+    Ok(Places {
+        first,
+        second,
+        one,
+        two,
+    })
+}
+
+// A new folder that keeps a member of {1,2}.
+fn format_member<R: AllocGlobal + Files<File = File>>(
     rt: &R,
     folder: &str,
     id: &str,
@@ -40,39 +68,15 @@ pub(crate) fn format_member<R: AllocGlobal + Files<File = File>>(
     check(status == 0, "the folder is formatted")
 }
 
-/// Where two nodes listen.
-#[derive(Drop)]
-pub(crate) struct Places {
-    pub first: TcpListener,
-    pub second: TcpListener,
-    pub one: SocketAddr,
-    pub two: SocketAddr,
-}
-
-/// Two listeners at ports that are free.
-pub(crate) fn free_places<R: Net<Listener = TcpListener, Stream = TcpStream>>(
-    rt: &R,
-) -> Result<Places, Fail> {
-    let first = TcpListener::bind(rt, "127.0.0.1:0")?;
-    let second = TcpListener::bind(rt, "127.0.0.1:0")?;
-    let one = first.local_addr()?;
-    let two = second.local_addr()?;
-    Ok(Places {
-        first,
-        second,
-        one,
-        two,
-    })
-}
-
-/// Runs the node of a folder, whose peer listens there, until the flag is set.
-pub(crate) fn run<R>(
+/// Runs the node of a folder, with a peer that listens there, until the flag is set.
+pub(crate) fn run<R, H: Hooks + Sync>(
     rt: &R,
     alloc: Global,
-    dir: &str,
+    folder: &str,
     listener: TcpListener,
     peer: (u32, SocketAddr),
     stop: &Stop,
+    hooks: &H,
 ) -> Result<Finished<()>, RunFault>
 where
     R: Files<File = File>
@@ -85,15 +89,15 @@ where
 {
     let (number, address) = peer;
     let peers = match NodeId::new(number) {
-        Some(node) => vec![in alloc; Peer { id: node, address }]?,
+        Some(id) => vec![in alloc; Peer { id, address }]?,
         None => Vec::new(alloc),
     };
     let config = Config {
-        dir,
-        listen: address,
+        dir: folder,
+        listen: listener.local_addr().unwrap_or(address),
         peers,
     };
-    run_on(rt, alloc, &config, listener, stop, &NoHooks)
+    run_on(rt, alloc, &config, Some(listener), stop, hooks)
 }
 
 /// Ends nodes that listen there.

@@ -1,0 +1,7 @@
+use Rattle.std.proofs.Common.{◌++◌, ap, ◌∙◌}
+use Rattle.cc_wire.specs.declared.frame.Frame.{Frame}
+use Rattle.cc_wire.specs.Frames.{frame_spelling}
+use Rattle.cc_protocol.proofs.bundle.acknowledged.Goals as goal
+
+pub returns : goal.returns
+returns c = c.in_ok-encode_frame.ensures.ok ∙ ap (λ (f : Frame). c.args.bytes.items ++ frame_spelling f) (c.ack_frame.ensures 0)

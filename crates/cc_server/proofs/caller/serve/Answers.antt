@@ -1,0 +1,12 @@
+use Rattle.std.proofs.Common.{List, ℕ, Option, None, subst}
+use Rattle.std.specs.Prelude.{IfSome}
+use Rattle.cc_server.specs.Serving.{Brings}
+use Rattle.cc_server.proofs.ServingLaws.{brings}
+use Rattle.cc_server.proofs.caller.serve.Goals as goal
+
+pub returns : goal.returns
+returns g c =
+    let talk = c.work.ensures in
+    let end = c.work.new.source in
+    let served = brings _ end (λ s. record { me = s.me; due = s.due; given = s.given; ahead = s.frames; ended = s.ended }) talk.0 talk.1 in
+    (talk.0, talk.2, talk.3, subst (λ (x : Option (List ℕ)). IfSome x (λ bytes. Brings c.args.office.now.me end.ended None bytes talk.0)) c.in-Ok.ensures served)
