@@ -195,6 +195,7 @@ where
     R: Files<File = File>
         + Net<Listener = TcpListener, Stream = TcpStream>
         + AllocGlobal
+        + Print
         + Eprint
         + Threads
         + Wait
@@ -217,8 +218,12 @@ where
     }
 }
 
-fn print_run_fault<R: Eprint>(rt: &R, fault: RunFault) -> anyhow::Result<ExitCode> {
-    eprintln!(rt; "ccnode: {fault}")?;
-    let is_bad = fault == RunFault::OwnPeer;
-    Ok(ExitCode::from(if is_bad { BAD_COMMAND_LINE } else { FAULT }))
+// Prints why the node doesn't run, or has ended. A node among its own peers is a fault of the command line.
+fn print_run_fault<R: Print + Eprint>(rt: &R, fault: RunFault) -> anyhow::Result<ExitCode> {
+    if fault == RunFault::OwnPeer {
+        eprintln!(rt; "ccnode: {fault}")?;
+        return Ok(ExitCode::from(BAD_COMMAND_LINE));
+    }
+    println!(rt; "{fault}")?;
+    Ok(ExitCode::from(FAULT))
 }
