@@ -237,6 +237,17 @@ struct Shown {
     views: Vec<View>,
 }
 
+impl Shown {
+    // No view yet.
+    fn new(alloc: Global) -> Self {
+        Shown {
+            count: 0,
+            are_in_line: true,
+            views: Vec::new(alloc),
+        }
+    }
+}
+
 const fn view_in(output: &Output) -> Option<&View> {
     match output {
         Output::Send { message, .. } => view_of(message),
@@ -320,26 +331,21 @@ fn roomy_member(alloc: Global) -> Result<MemorySite, Fail> {
     }
 }
 
-// Ten lives, and one more on the disk as they began it, where that is asked for.
-fn show(alloc: Global, shown: &mut Shown, again: bool) -> Result<(), Fail> {
+fn show_ten_lives(alloc: Global, shown: &mut Shown) -> Result<(), Fail> {
     let mut site = roomy_member(alloc)?;
-    live_ten_times(alloc, &mut site, shown)?;
-    if again {
-        site = next_life(alloc, &roomy_member(alloc)?, 10, 9)?;
-        take_in_life(alloc, shown, &site)?;
-    }
+    let lived = live_ten_times(alloc, &mut site, shown);
     drop(site);
-    Ok(())
+    lived
 }
 
-fn shown_by_lives(alloc: Global, again: bool) -> Result<Shown, Fail> {
-    let mut shown = Shown {
-        count: 0,
-        are_in_line: true,
-        views: Vec::new(alloc),
-    };
-    show(alloc, &mut shown, again)?;
-    Ok(shown)
+// One more life, on a disk that knows nothing of the others.
+fn show_life_on_fresh_disk(alloc: Global, shown: &mut Shown) -> Result<(), Fail> {
+    let fresh = roomy_member(alloc)?;
+    let site = next_life(alloc, &fresh, 10, 9)?;
+    drop(fresh);
+    let taken = take_in_life(alloc, shown, &site);
+    drop(site);
+    taken
 }
 
 // The views have rows of nodes 1 and 2.
@@ -349,17 +355,12 @@ fn has_both(view: &View) -> bool {
 
 #[test]
 fn views_of_ten_lives_are_in_line(rt: HostRuntime) -> Result<(), Fail> {
-    let shown = shown_by_lives(rt.alloc(), false)?;
+    let mut shown = Shown::new(rt.alloc());
+    show_ten_lives(rt.alloc(), &mut shown)?;
     assert!(rt; shown.are_in_line);
     assert!(rt; shown.count >= 500 && shown.views.len() >= 20);
     assert!(rt; shown.views.iter().any(has_both));
-    Ok(())
-}
-
-// What the lives before had put isn't known on such a disk.
-#[test]
-fn views_of_a_life_on_an_older_disk_are_not(rt: HostRuntime) -> Result<(), Fail> {
-    let shown = shown_by_lives(rt.alloc(), true)?;
+    show_life_on_fresh_disk(rt.alloc(), &mut shown)?;
     assert!(rt; !shown.are_in_line);
     Ok(())
 }
