@@ -1,5 +1,6 @@
 # The commands of the README. The toolchain is Rattle's kit, with its command rt on the PATH.
-.PHONY: try run test check bench edits refused-growths kill-files cluster load kill-cluster soak many-sessions costs
+.PHONY: try run test check bench edits refused-growths kill-files cluster load kill-cluster soak many-sessions costs \
+    worked-rows
 
 # Plays the script that ships with the program before any proof.
 try:
@@ -88,3 +89,7 @@ many-sessions:
 # Prints what each crate costs: its proof, its tests and its edits, in processor seconds with one job. CRATES=cc_ops does one.
 costs:
 	@bash tools/costs.sh $(CRATES)
+
+# Tries the definitions on worked examples, by computation: a wrong value is refused. It takes a minute, and proves no crate.
+worked-rows:
+	@bash tools/worked_rows.sh

@@ -226,16 +226,26 @@ fn opens(alloc: Global, site: MemorySite) -> bool {
     }
 }
 
-/// How many disk calls it takes to open a site.
+// Whether a site is opened where that disk call fails, and all after it.
+fn opens_before(alloc: Global, site: &MemorySite, at: u64) -> Result<bool, Fail> {
+    let mut image = site.image(alloc, &Choice::Read)?;
+    image.fuse(at, Failing::Stop);
+    Ok(opens(alloc, image))
+}
+
+// The halves of 1,024, down to 1.
+const HALVES: [u64; 10] = [512, 256, 128, 64, 32, 16, 8, 4, 2, 1];
+
+/// How many disk calls it takes to open a site, of which there are fewer than 1,024.
 pub fn calls_of_opening(alloc: Global, site: &MemorySite) -> Result<u64, Fail> {
-    for at in 0..100 {
-        let mut image = site.image(alloc, &Choice::Read)?;
-        image.fuse(at, Failing::Once);
-        if opens(alloc, image) {
-            return Ok(at);
+    let mut calls: u64 = 0;
+    for half in HALVES {
+        let next = calls.saturating_add(half);
+        if !opens_before(alloc, site, next.saturating_sub(1))? {
+            calls = next;
         }
     }
-    Err("the site isn't opened")?
+    Ok(calls)
 }
 
 // A checkpoint of this site, of which the disk call with that number fails, from its opening on.

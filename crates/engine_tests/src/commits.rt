@@ -29,8 +29,8 @@ fn member_failing(alloc: Global, at: u64, failing: Failing) -> Result<MemorySite
     Ok(site)
 }
 
-// Adds an event to a batch that is lawful from a node on, and to the core that the batch leads to.
-fn add(
+/// Adds an event to a batch that is lawful from a node on, and to the core that the batch leads to.
+pub fn add(
     alloc: Global,
     node: &Node,
     live: &mut Core,

@@ -12,6 +12,8 @@ mod lives;
 #[cfg(test)]
 mod openings;
 #[cfg(test)]
+mod ten_lives;
+#[cfg(test)]
 mod versions;
 #[cfg(test)]
 mod whole_life;

@@ -17,8 +17,8 @@ use std::alloc::Global;
 use std::process::Abort;
 use std::test::*;
 
-// The batch of an event, which a core takes in.
-fn batch_of(alloc: Global, live: &mut Core, event: Event) -> Result<Batch, Fail>
+/// The batch of an event, which a core takes in.
+pub fn batch_of(alloc: Global, live: &mut Core, event: Event) -> Result<Batch, Fail>
     ensures lawful { IfOk result (λ b. (node : NodeValue) → node.core ≡ live.old → AreLawful node b) }
     ensures live { IfOk result (λ b. (node : NodeValue) → node.core ≡ live.old → (after node (events_in b)).core ≡ live.new) }
     ensures some { IfOk result (λ b. 1 ≤ length b) }

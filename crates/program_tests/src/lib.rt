@@ -14,6 +14,8 @@ mod disks;
 #[cfg(test)]
 mod faults;
 #[cfg(test)]
+mod five_nodes;
+#[cfg(test)]
 mod folders;
 #[cfg(test)]
 mod limits;

@@ -1,0 +1,187 @@
+//! Five nodes, each of which crashes, and all rows that are printed.
+
+use crate::played::played;
+use std::alloc::Global;
+use std::process::Abort;
+use std::test::*;
+
+// Three members and two entrants are asked for everything. Messages are lost, come twice, and are sent again; each node
+// crashes again and again, of which some crashes leave A5 where nothing was made sure of, and some nodes change sides.
+const SCRIPT: &str = "\
+member 1 of 1,2,3
+member 2 of 1,2,3
+member 3 of 1,2,3
+entrant 4 via 1,2,3
+entrant 5 via 1,2,3
+ask 1 7 1 store a
+ask 2 7 1 max 9
+ask 3 7 1 flag
+carry 1 1 1
+carry 1 2 1
+carry 1 2 1
+crash 1 fill a5
+carry 2 1 1
+crash 2
+resend 1
+all 200
+checkpoint 1
+crash 1
+crash 2 fill a5
+crash 3 fill a5
+enter 4
+carry 4 1 1
+carry 1 4 1
+crash 4
+carry 1 4 1
+ask 1 7 2 collect
+ask 1 8 1 store b
+all 200
+crash 3
+crash 4 fill a5
+ask 4 7 1 add 4
+ask 4 8 1 add 44
+resend 4
+checkpoint 4
+all 3
+crash 4
+resend 4
+enter 5
+all 200
+crash 5 fill a5
+ask 5 7 1 store e
+ask 5 8 1 max 55
+ask 2 7 2 readmax
+ask 3 7 2 readset
+all 40
+crash 5
+crash 2 fill a5
+again 2 7
+resend 5
+resend 2
+carry 1 5 1
+carry 1 5 1
+all 200
+ask 4 7 2 readflag
+ask 5 7 2 collect
+ask 1 7 3 store c
+checkpoint 5
+all 200
+crash 1 fill a5
+crash 2
+crash 3 fill a5
+crash 4 fill a5
+crash 5 fill a5
+resend 1
+resend 2
+resend 3
+resend 4
+resend 5
+all 200
+retire 2 3
+ask 2 7 3 store d
+ask 2 8 1 collect
+ask 4 7 3 readset
+ask 5 7 3 flag
+all 200
+crash 2
+checkpoint 2
+crash 3
+crash 4
+reack 4 2
+again 5 7
+ask 1 7 4 collect
+all 200
+resend 1
+resend 2
+all 200
+ask 5 7 4 collect
+all 200
+";
+
+// What clients are told, at least: of each kind of answer one.
+const ANSWERS: [&str; 6] = [
+    "\n5 reply 7 1 Stored\n",
+    "\n2 reply 7 2 Max 9\n",
+    "\n4 reply 7 2 Flag 1\n",
+    "\n3 reply 7 2 Set [4,44]\n",
+    "\n1 reply 7 2 Seen [1:1=a/0/0/,2:1=/9/0/,3:1=/0/1/]\n",
+    "\n5 reply 7 4 Seen [1:3=c/0/0/,2:2=d/9/0/,3:1=/0/1/,4:2=/0/0/4+44,5:3=e/55/1/]\n",
+];
+
+// The beginnings of the rows of each node.
+const NODES: [&str; 5] = ["1:", "2:", "3:", "4:", "5:"];
+
+// Adds the rows of a word, if it is a view, each as `NODE:NUMBER` and the value.
+fn push_rows<'a>(rows: &mut Vec<(&'a str, &'a str)>, word: &'a str) -> Result<(), Fail> {
+    let Some(opened) = word.strip_prefix('[') else {
+        return Ok(());
+    };
+    let Some(list) = opened.strip_suffix(']') else {
+        return Ok(());
+    };
+    for row in list.split(',') {
+        if let Some(parts) = row.split_once('=') {
+            rows.push(parts)?;
+        }
+    }
+    Ok(())
+}
+
+// All rows of the views that are printed.
+fn rows_of<'a>(alloc: Global, output: &'a str) -> Result<Vec<(&'a str, &'a str)>, Fail> {
+    let mut rows = Vec::new(alloc);
+    for line in output.lines() {
+        for word in line.split(' ') {
+            push_rows(&mut rows, word)?;
+        }
+    }
+    Ok(rows)
+}
+
+// Whether rows of equal node and number have equal values.
+fn are_equal(rows: &[(&str, &str)]) -> bool {
+    rows.iter().all(|(name, value)| {
+        rows.iter()
+            .all(|(other, its)| name != other || value == its)
+    })
+}
+
+// How many rows are of that node.
+fn count_of(rows: &[(&str, &str)], node: &str) -> usize {
+    rows.iter()
+        .filter(|(name, _)| name.starts_with(node))
+        .count()
+}
+
+fn check_rows<R: Abort + AllocGlobal>(rt: &R, output: &str) -> Result<(), Fail> {
+    let rows = rows_of(rt.alloc(), output)?;
+    assert!(rt; are_equal(&rows));
+    for node in NODES {
+        assert!(rt; count_of(&rows, node) >= 300, "{node}");
+    }
+    Ok(())
+}
+
+#[test]
+fn five_nodes_show_one_value_of_each_number(rt: HostRuntime) -> Result<(), Fail> {
+    let (status, output) = played(rt.alloc(), SCRIPT)?;
+    assert_eq!(rt; status, 0);
+    for answer in ANSWERS {
+        assert!(rt; output.contains(answer), "{answer}");
+    }
+    check_rows(&rt, &output)
+}
+
+// Two values of number 1 of node 1, in a message and in an answer.
+const TWO_VALUES: &str = "\
+1 send 2 4 EnterEcho [1,2] [1] [] [1:1=a/0/0/] 1 2
+2 reply 7 1 Seen [1:1=b/0/0/,2:1=a/0/0/]
+";
+
+#[test]
+fn two_values_of_one_number_are_told(rt: HostRuntime) -> Result<(), Fail> {
+    let rows = rows_of(rt.alloc(), TWO_VALUES)?;
+    assert_eq!(rt; (rows.len(), are_equal(&rows)), (3, false));
+    assert!(rt; are_equal(rows.get(1..).ok_or("there are three")?));
+    Ok(())
+}
