@@ -4,6 +4,7 @@ use crate::room::Room;
 use crate::shared::{Shared, Wish};
 use cc_flush::{CheckpointFault, Failed};
 use cc_intake::{Lane, Life, Queue, Turner};
+use cc_journal::Batch;
 use cc_site::Site;
 use crossbeam_channel::Receiver;
 use crossbeam_utils::sync::Parker;
@@ -23,7 +24,8 @@ pub struct Watch<'x> {
     pub shared: &'x Shared,
 }
 
-/// Takes turns until nothing is left after `done` was set. An idle flusher sleeps.
+/// Takes a turn each time that it is woken, and more where one batch didn't take all that waited, until nothing is left after
+/// `done` was set. What nobody woke it for waits for the next turn.
 pub fn flush_all<S: Site, L: Life, Q: Lane, R: Wait>(
     rt: &R,
     turner: &mut Turner<S, L, Q>,
@@ -44,12 +46,13 @@ pub fn flush_all<S: Site, L: Life, Q: Lane, R: Wait>(
                 is_fresh = spare(turner)?;
             }
         }
-        if events == 0 && wishes == 0 {
-            if is_done {
-                return Ok(());
-            }
-            watch.parker.park(rt);
+        if events >= Batch::MAX_ENTRIES as u64 || turner.keeps_one() || wishes >= MOST_WISHES {
+            continue;
         }
+        if is_done {
+            return Ok(());
+        }
+        watch.parker.park(rt);
     }
     unreachable!()
 }
