@@ -10,6 +10,7 @@ mod incoming;
 mod operating;
 mod route;
 mod routes;
+mod wishes;
 
 pub use admission::{is_furthest_behind, may_hand_over, what_needs_no_room_makes_no_post};
 pub use asking::{
@@ -23,3 +24,4 @@ pub use incoming::{Ending, Incoming};
 pub use operating::{Outcome, outcome_of, second_request_is_left};
 pub use route::Route;
 pub use routes::{Routes, answers_follow_asks};
+pub use wishes::Wishes;

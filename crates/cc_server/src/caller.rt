@@ -7,7 +7,7 @@ ghost use Rattle.cc_server.specs.Serving.{brings_again, Takes, Stops, Brings};
 use crate::doors::Replies;
 use crate::duties::duty_of;
 use crate::office::Office;
-use crate::shared::{Shared, Wish};
+use crate::shared::Shared;
 use crate::spelling::bytes_of;
 use cc_intake::{Accepted, Hooks, Lane, Life, Share, Source};
 use cc_protocol::{Duty, Ending, Incoming, event_of};
@@ -89,8 +89,8 @@ impl<R: Wait, I: Read, D: Replies> Caller<'_, R, I, D> {
             Duty::Wake => self.shared.bell.ring(),
             Duty::Ride => self.shared.bell.ride(),
             Duty::Nothing => {}
-            Duty::Reack(peer) => self.shared.wish(self.rt, Wish::Reack(peer)),
-            Duty::Again(session) => self.shared.wish(self.rt, Wish::Again(session)),
+            Duty::Reack(peer) => self.shared.reack(self.rt, peer),
+            Duty::Again(session) => self.shared.again(self.rt, session),
             Duty::Refuse(frame) => self.refuse(&frame),
             Duty::BringAgain => return true,
         }

@@ -2,7 +2,7 @@
 
 use crate::duties::duty_of;
 use crate::office::Office;
-use crate::shared::{Shared, Wish};
+use crate::shared::Shared;
 use cc_intake::{Accepted, Hooks, Lane, Life, Source};
 use cc_protocol::Duty;
 use cc_wire::{Event, Refusal};
@@ -58,7 +58,7 @@ impl<R: Wait> Source for Own<'_, R> {
         match duty_of(&event, answer) {
             Duty::Wake => self.shared.bell.ring(),
             Duty::Ride => self.shared.bell.ride(),
-            Duty::Reack(peer) => self.shared.wish(self.rt, Wish::Reack(peer)),
+            Duty::Reack(peer) => self.shared.reack(self.rt, peer),
             Duty::BringAgain => self.is_due = true,
             _ => {}
         }
