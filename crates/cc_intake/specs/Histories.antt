@@ -2,10 +2,12 @@
 --     life_limit              how many there are at most
 --     core_after              the core after them
 --     entry_at                the next one, for an event
-use Rattle.std.specs.Prelude.{ℕ, ◌^◌, List}
+--     stirs                   whether an event makes a post or an answer
+use Rattle.std.specs.Prelude.{ℕ, ◌^◌, ◌||◌, Bool, List, is_some}
 use Rattle.cc_wire.specs.declared.event.Event.{Event}
 use Rattle.cc_node.specs.Core.{Core, made}
 use Rattle.cc_node.specs.Node.{Node, after}
+use Rattle.cc_node.specs.declared.made.Made.{Made}
 use Rattle.cc_journal.specs.declared.entry.Entry.{Entry}
 use Rattle.cc_journal.specs.Batches.{events_in}
 
@@ -18,3 +20,7 @@ core_after opening entries = (after opening (events_in entries)).core
 -- the event with what it makes of this core
 abbrev pub entry_at : Core → Event → Entry
 entry_at core event = record { event = event; made = made core event }
+
+-- beside an acknowledgement, which nobody waits for, there is a post or an answer in what an event makes
+abbrev pub stirs : Made → Bool
+stirs m = is_some m.post || is_some m.answer

@@ -1,14 +1,15 @@
 //! The intake, which threads share under a lock, and their shares of what it accepted.
 
 ghost use Rattle.std.specs.Prelude.{◌≡◌, ◌≤◌, ◌<◌, ◌+◌, [], ◌∷◌, ◌++◌, length, sum, IfOk, IfErr, OnErr, MatchOption};
-ghost use Rattle.cc_intake.specs.Histories.{life_limit, core_after, entry_at};
+ghost use Rattle.cc_node.specs.Core.{made};
+ghost use Rattle.cc_intake.specs.Histories.{life_limit, core_after, entry_at, stirs};
 ghost use Rattle.cc_intake.specs.Accepting.{share_limit};
 ghost use Rattle.cc_intake.specs.Refusals.{MayAccept, Refuses};
 
 use crate::ends::{Producer, Queue};
 use crate::rule::{Lane, Life};
 use cc_journal::Entry;
-use cc_node::Core;
+use cc_node::{Core, Made};
 use cc_wire::{Event, Refusal};
 use std::alloc::Global;
 use std::marker::Model;
@@ -20,6 +21,22 @@ const SHARE_LIMIT: u64 = 1 << 20;
 
 // How many events are accepted in one life at most.
 const LIFE_LIMIT: u64 = 1 << 61;
+
+/// What is told of an accepted event.
+#[derive(Clone, Copy, Debug, PartialEq, Eq)]
+pub struct Accepted {
+    /// Its place in this life, from 1.
+    pub place: u64,
+    /// Whether it makes a post or an answer, for which somebody waits.
+    pub stirs: bool,
+}
+
+// Whether there is a post or an answer in what an event makes.
+fn stirs(made: &Made) -> bool
+    ensures { result ≡ stirs made.now }
+{
+    made.post.is_some() || made.answer.is_some()
+}
 
 /// How many events one thread has had accepted. Contracts see the number.
 #[derive(Drop)]
@@ -157,9 +174,10 @@ impl<L: Life, Q: Lane> Intake<L, Q> {
         Some(Share { mark, count: 0 })
     }
 
-    /// Accepts an event, as one step on the queue, and counts it for the share. Its place in this life, from 1. A refused
-    /// event is given up, and has changed nothing: it is refused for the core's reason, else Spent after 2^61 events of this
-    /// life, else NoMemory where a growth was refused, else QueueFull where a look found the queue full.
+    /// Accepts an event, as one step on the queue, and counts it for the share. Its place in this life, and whether it
+    /// makes a post or an answer there. A refused event is given up, and has changed nothing: it is refused for the core's
+    /// reason, else Spent after 2^61 events of this life, else NoMemory where a growth was refused, else QueueFull where a
+    /// look found the queue full.
     pub fn accept<R: Wait>(
         &mut self,
         rt: &R,
@@ -167,10 +185,11 @@ impl<L: Life, Q: Lane> Intake<L, Q> {
         share: &mut Share<L>,
         queue: &Queue<L, Q>,
         event: Event,
-    ) -> Result<u64, Refusal>
-        ensures accepted { IfOk result (λ n. MayAccept L.opening self.old event × (n ≡ length self.new.entries)
+    ) -> Result<Accepted, Refusal>
+        ensures accepted { IfOk result (λ a. MayAccept L.opening self.old event × (a.place ≡ length self.new.entries)
             × (self.new ≡ record { entries = self.old.entries ++ entry_at (core_after L.opening self.old.entries) event ∷ []; finds = self.old.finds; issued = self.old.issued })) }
-        ensures counted { IfOk result (λ n. (share.new ≡ share.old + 1) × (share.old < n)) }
+        ensures stirs { IfOk result (λ a. a.stirs ≡ stirs (made (core_after L.opening self.old.entries) event)) }
+        ensures counted { IfOk result (λ a. (share.new ≡ share.old + 1) × (share.old < a.place)) }
         ensures refused { IfErr result (λ r. Refuses L.opening L.taken self.old event r self.new) }
         ensures uncounted { OnErr result (share.new ≡ share.old) }
     {
@@ -187,21 +206,26 @@ impl<L: Life, Q: Lane> Intake<L, Q> {
         share: &mut Share<L>,
         queue: &Queue<L, Q>,
         event: &Event,
-    ) -> Result<u64, Refusal>
-        ensures accepted { IfOk result (λ n. MayAccept L.opening self.old event.now × (n ≡ length self.new.entries)
+    ) -> Result<Accepted, Refusal>
+        ensures accepted { IfOk result (λ a. MayAccept L.opening self.old event.now × (a.place ≡ length self.new.entries)
             × (self.new ≡ record { entries = self.old.entries ++ entry_at (core_after L.opening self.old.entries) event.now ∷ []; finds = self.old.finds; issued = self.old.issued })) }
-        ensures counted { IfOk result (λ n. (share.new ≡ share.old + 1) × (share.old < n)) }
+        ensures stirs { IfOk result (λ a. a.stirs ≡ stirs (made (core_after L.opening self.old.entries) event.now)) }
+        ensures counted { IfOk result (λ a. (share.new ≡ share.old + 1) × (share.old < a.place)) }
         ensures refused { IfErr result (λ r. Refuses L.opening L.taken self.old event.now r self.new) }
         ensures uncounted { OnErr result (share.new ≡ share.old) }
     {
         let entry = self.prepared(alloc, event)?;
+        let stirs = stirs(&entry.made);
         let Ok(()) = self.producer.push(rt, queue, entry) else {
             return Err(Refusal::QueueFull);
         };
         self.core.apply(event);
         self.accepted += 1;
         share.raise(&mut self.book);
-        Ok(self.accepted)
+        Ok(Accepted {
+            place: self.accepted,
+            stirs,
+        })
     }
 
     // The queue's entry of an event that may be accepted, in memory of its own. All growths of an accept are here.

@@ -1,6 +1,6 @@
 //! The turner, which hands what it pops to its engine, batch by batch. Nothing here takes the lock of the intake.
 
-ghost use Rattle.std.specs.Prelude.{◌≡◌, ◌↔◌, ◌≤◌, ◌<◌, ◌^◌, [], None, Some, Ok, Err, false, nat_lt, length, IsTrue, IfOk, IfErr, OnOk, MatchResult};
+ghost use Rattle.std.specs.Prelude.{◌≡◌, ◌↔◌, ◌≤◌, ◌<◌, ◌^◌, [], None, Some, Ok, Err, false, nat_lt, length, is_some, IsTrue, IfOk, IfErr, OnOk, MatchResult};
 ghost use Rattle.std.specs.FinMap as table;
 ghost use Rattle.cc_views.specs.Limits.{counter_limit};
 ghost use Rattle.cc_links.specs.Links.{heard_from};
@@ -93,6 +93,13 @@ impl<S: Site, L: Life, Q: Lane> Turner<S, L, Q> {
         ensures twin { result.now.failed ≡ None → result.now.twin ≡ after L.opening (events_in self.now.handed) }
     {
         &self.engine
+    }
+
+    /// Whether it keeps an entry for the next turn, since no record took it yet.
+    pub fn keeps_one(&self) -> bool
+        ensures { result ≡ is_some self.now.kept }
+    {
+        self.kept.is_some()
     }
 
     /// Takes what waits in the queue, up to one batch of 64 events that one record takes, makes it durable and puts its

@@ -5,7 +5,7 @@ ghost use Rattle.cc_intake.specs.Talks.{Answer, Talks, places_of, PlacesRise, st
 
 use crate::ends::Queue;
 use crate::hooks::Hooks;
-use crate::intake::{Intake, Share};
+use crate::intake::{Accepted, Intake, Share};
 use crate::rule::{Lane, Life};
 use cc_wire::{Event, Refusal};
 use std::alloc::Global;
@@ -28,7 +28,7 @@ pub trait Source {
         ensures { gives self.old result self.new };
 
     /// The answer to the event that was given last.
-    fn told(&mut self, answer: Result<u64, Refusal>)
+    fn told(&mut self, answer: Result<Accepted, Refusal>)
         ensures { hears self.old answer self.new };
 }
 
@@ -65,7 +65,7 @@ fn bring<L: Life, Q: Lane, R: Wait>(
     queue: &Queue<L, Q>,
     share: &mut Share<L>,
     event: Event,
-) -> Result<u64, Refusal>
+) -> Result<Accepted, Refusal>
     ensures count { share.new ≡ step result share.old }
     ensures above { IsAbove result share.old }
 {

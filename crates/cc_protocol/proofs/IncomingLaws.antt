@@ -2,8 +2,8 @@
 --     fed_begins, fed_step          what the reader holds then, and what it gives, whatever follows
 --     start_begins, ahead_start     before the first one
 --     unused_step                   what is left of a piece
-use Rattle.std.proofs.Common.{◌≡◌, ℕ, ◌+◌, ◌-◌, ◌≤◌, ◌<◌, true, false, cond, List, [], ◌∷◌, ◌++◌, length, take, drop, Option, Some, None, Result, Ok, Err, refl, sym, ap, subst, ◌∙◌, append_assoc, arith}
-use Rattle.std.specs.Prelude.{IsTrue, IfSome, MatchResult}
+use Rattle.std.proofs.Common.{◌≡◌, ℕ, ◌+◌, ◌-◌, ◌≤◌, ◌<◌, true, cond, List, [], ◌∷◌, ◌++◌, length, take, drop, Option, Some, None, Result, Ok, Err, refl, sym, ap, subst, ◌∙◌, append_assoc, arith}
+use Rattle.std.specs.Prelude.{IfSome, MatchResult}
 use Rattle.std.specs.List.{flat_map, AllByRecursion}
 use Rattle.std.proofs.lemmas.List.{take-append-drop, take_all, drop-take, length-append, append-nil}
 use Rattle.std.proofs.Math.Seq.{drop-drop}
@@ -13,7 +13,7 @@ use Rattle.cc_wire.specs.declared.fault.WireFault.TheVariants.{Short, BadKind, N
 use Rattle.cc_wire.specs.declared.frame.Frame.{Frame}
 use Rattle.cc_wire.specs.declared.frame_reader.Fed.{Fed}
 use Rattle.cc_wire.specs.Reading.{Gives}
-use Rattle.cc_wire.specs.Frames.{frame_spelling, IsFrame, frame_at}
+use Rattle.cc_wire.specs.Frames.{frame_spelling, frame_at}
 use Rattle.cc_wire.specs.Held.{is_partial}
 use Rattle.cc_wire.specs.Streams.{fed, rest_after, held_after, at_start, frames_of, Feed, AreFeeds, Reads, Refuses}
 use Rattle.cc_wire.proofs.Feeds.{given_of, nothing_partial}

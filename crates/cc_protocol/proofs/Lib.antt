@@ -4,3 +4,4 @@ mod LearningLaws
 mod OperatingLaws
 mod RoutingLaws
 mod StirLaws
+mod WishingLaws

@@ -1,5 +1,6 @@
 -- What may be handed to a node, so that there is room left for what others need of it.
 --     free_posts          how many posts may still be kept
+--     may_stir            whether the node `me` may make a post or an answer of a message, in one state or another
 --     may_hand_over       whether an event may be handed over now
 --     is_furthest_behind  whether a peer's acknowledgement would free a post
 use Rattle.std.specs.Prelude.{ℕ, ◌-◌, ◌==◌, ◌&&◌, ◌||◌, not, nat_le, Bool, true, false}
@@ -7,13 +8,27 @@ use Rattle.std.specs.Option.{option_map_or}
 use Rattle.std.specs.FinMap as table
 use Rattle.cc_wire.specs.declared.event.Event.{Event}
 use Rattle.cc_wire.specs.declared.event.Event.TheVariants as event
+use Rattle.cc_wire.specs.declared.message.Message.{Message}
+use Rattle.cc_wire.specs.declared.message.Message.TheVariants as message
 use Rattle.cc_links.specs.Links.{reach}
 use Rattle.cc_node.specs.Core.{Core, live_links, lowest}
-use Rattle.cc_protocol.specs.Heeding.{message_may_stir}
 
 -- a node keeps 512 posts at most
 abbrev pub free_posts : ℕ → ℕ
 free_posts kept = 512 - kept
+
+-- the two echoes that end what they echo are never answered, and answers to the operation of another node are its alone
+abbrev pub may_stir : ℕ → Message → Bool
+may_stir me (message.Enter q) = true
+may_stir me (message.EnterEcho changes view from_joined q) = true
+may_stir me (message.Join q) = true
+may_stir me (message.JoinEcho q) = false
+may_stir me (message.Leave q) = true
+may_stir me (message.LeaveEcho q) = false
+may_stir me (message.Query tag q) = true
+may_stir me (message.QueryReply view tag q) = q == me
+may_stir me (message.Store view tag q) = true
+may_stir me (message.StoreAck tag q) = q == me
 
 -- an ask leaves room for 384 posts, unless it waited ten seconds, and then the node decides; a message that may be answered
 -- leaves room for 256, unless it comes from one of the peers that are furthest behind: they are read on, since their
@@ -21,7 +36,7 @@ free_posts kept = 512 - kept
 abbrev pub may_hand_over : ℕ → Event → ℕ → Bool → ℕ → Bool
 may_hand_over me event.Enter kept is_furthest waited = true
 may_hand_over me event.Leave kept is_furthest waited = true
-may_hand_over me (event.Deliver from number m) kept is_furthest waited = not (message_may_stir me m) || (is_furthest || nat_le 256 (free_posts kept))
+may_hand_over me (event.Deliver from number m) kept is_furthest waited = not (may_stir me m) || (is_furthest || nat_le 256 (free_posts kept))
 may_hand_over me (event.Acked peer number) kept is_furthest waited = true
 may_hand_over me (event.Ask session request command) kept is_furthest waited = nat_le 10 waited || nat_le 384 (free_posts kept)
 may_hand_over me (event.Retire node) kept is_furthest waited = true

@@ -6,3 +6,4 @@ pub mod Operating
 pub mod Routing
 pub mod Incoming
 pub mod Bundles
+pub mod Wishing

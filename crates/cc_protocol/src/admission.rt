@@ -1,16 +1,15 @@
 //! What may be handed to a node, so that there is room left for what others need of it.
 
-ghost use Rattle.std.specs.Prelude.{◌≡◌, ◌-◌, nat_le, false, None};
-ghost use Rattle.cc_wire.specs.declared.event.Event.{Event};
+ghost use Rattle.std.specs.Prelude.{◌≡◌, ◌-◌, ℕ, nat_le, false, None};
+ghost use Rattle.cc_wire.specs.declared.event.Event.TheVariants as event;
+ghost use Rattle.cc_wire.specs.declared.message.Message.{Message};
 ghost use Rattle.cc_node.specs.Core as machine;
 ghost use Rattle.cc_node.specs.Core.{Core};
-ghost use Rattle.cc_protocol.specs.Heeding.{may_stir};
-ghost use Rattle.cc_protocol.specs.Admission.{free_posts, may_hand_over, is_furthest_behind};
+ghost use Rattle.cc_protocol.specs.Admission.{free_posts, may_stir, may_hand_over, is_furthest_behind};
 
-use crate::heeding::message_may_stir;
 use cc_node::Core;
 use cc_views::NodeId;
-use cc_wire::Event;
+use cc_wire::{Event, Message};
 
 // How many posts a node keeps at most.
 const MAX_POSTS: u64 = 512;
@@ -32,9 +31,21 @@ pub fn may_hand_over(me: NodeId, event: &Event, kept: u64, is_furthest: bool, wa
     match event {
         Event::Ask { .. } => waited >= PATIENCE || leaves_room(kept, ROOM_BESIDE_ASKS),
         Event::Deliver { message, .. } => {
-            !message_may_stir(me, message) || is_furthest || leaves_room(kept, ROOM_BESIDE_MESSAGES)
+            !may_stir(me, message) || is_furthest || leaves_room(kept, ROOM_BESIDE_MESSAGES)
         }
         Event::Enter | Event::Leave | Event::Acked { .. } | Event::Retire { .. } => true,
+    }
+}
+
+// Whether the node `me` may make a post or an answer of a message, in one state or another.
+fn may_stir(me: NodeId, message: &Message) -> bool
+    ensures { result ≡ may_stir me message.now }
+{
+    match message {
+        Message::JoinEcho { .. } | Message::LeaveEcho { .. } => false,
+        Message::QueryReply { node, .. } => *node == me,
+        Message::StoreAck { node, .. } => *node == me,
+        _ => true,
     }
 }
 
@@ -59,7 +70,8 @@ pub fn is_furthest_behind(core: &Core, least: u64, peer: NodeId) -> bool
     }
 }
 
-/// What needn't wake the flusher makes no post and no answer, in any state of a node.
-pub fn nothing_rides_but_acknowledgements()
-    ensures { (c : Core) (e : Event) → may_stir c.me e ≡ false → machine.made c e ≡ record { ack = machine.ack e; post = None; answer = None } }
+/// A message that is handed over whatever room there is, and whoever sent it, makes no post and no answer, in any state of
+/// a node.
+pub fn what_needs_no_room_makes_no_post()
+    ensures { (c : Core) (from number : ℕ) (m : Message) → may_stir c.me m ≡ false → machine.made c (event.Deliver from number m) ≡ record { ack = machine.ack (event.Deliver from number m); post = None; answer = None } }
 {}

@@ -1,19 +1,21 @@
 //! What a worker does once it has the answer to an event that it brought.
 
 ghost use Rattle.std.specs.Prelude.{◌≡◌};
-ghost use Rattle.cc_protocol.specs.Heeding.{message_may_stir, may_stir, heed_undelivered, heed_unasked, heed_refused, heed_of};
+ghost use Rattle.cc_protocol.specs.Heeding.{heed_undelivered, heed_unasked, heed_refused, heed_of};
 
 use crate::frames::refusing;
 use cc_views::NodeId;
-use cc_wire::{Event, Frame, Message, Refusal};
+use cc_wire::{Event, Frame, Refusal};
 
 /// What an answer asks of the worker that brought the event.
 #[derive(Debug, Drop)]
 pub enum Duty {
-    /// Nothing: what was accepted rides with the next batch, and what was refused is sent again by its link.
+    /// Nothing: what was refused is sent again by its link.
     Nothing,
-    /// Wake the flusher: a post or an answer may be waiting for it.
+    /// Wake the flusher: a post or an answer waits for it.
     Wake,
+    /// Let the event ride with the next batch: it made no post and no answer.
+    Ride,
     /// Have the flusher tell this peer again what was heard from it.
     Reack(NodeId),
     /// Have the flusher put out the answer of this session's last request again.
@@ -24,36 +26,15 @@ pub enum Duty {
     BringAgain,
 }
 
-/// What the answer to an event asks of a worker of the node `me`.
-pub fn heed(me: NodeId, event: &Event, answer: Result<u64, Refusal>) -> Duty
-    ensures { result ≡ heed_of me event.now answer }
+/// What the answer to an event asks: of one that was accepted it tells whether it stirs, which is whether it made a post or
+/// an answer.
+pub fn heed(event: &Event, answer: Result<bool, Refusal>) -> Duty
+    ensures { result ≡ heed_of event.now answer }
 {
     match answer {
-        Ok(_) if may_stir(me, event) => Duty::Wake,
-        Ok(_) => Duty::Nothing,
+        Ok(true) => Duty::Wake,
+        Ok(false) => Duty::Ride,
         Err(refusal) => heed_refused(event, refusal),
-    }
-}
-
-/// Whether the node `me` may make a post or an answer of an event, in one state or another.
-pub fn may_stir(me: NodeId, event: &Event) -> bool
-    ensures { result ≡ may_stir me event.now }
-{
-    match event {
-        Event::Enter | Event::Leave | Event::Ask { .. } => true,
-        Event::Deliver { message, .. } => message_may_stir(me, message),
-        Event::Acked { .. } | Event::Retire { .. } => false,
-    }
-}
-
-pub(crate) fn message_may_stir(me: NodeId, message: &Message) -> bool
-    ensures { result ≡ message_may_stir me message.now }
-{
-    match message {
-        Message::JoinEcho { .. } | Message::LeaveEcho { .. } => false,
-        Message::QueryReply { node, .. } => *node == me,
-        Message::StoreAck { node, .. } => *node == me,
-        _ => true,
     }
 }
 

@@ -10,16 +10,18 @@ mod incoming;
 mod operating;
 mod route;
 mod routes;
+mod wishes;
 
-pub use admission::{is_furthest_behind, may_hand_over, nothing_rides_but_acknowledgements};
+pub use admission::{is_furthest_behind, may_hand_over, what_needs_no_room_makes_no_post};
 pub use asking::{
     Client, Heard, Step, asks_under_one_number, number_zero_tells_the_last, refusal_of,
     refusals_are_told,
 };
 pub use bundle::{Bundle, Parcel};
 pub use frames::{ack_frame, event_of, post_frame, refused_frame, reply_frame};
-pub use heeding::{Duty, heed, may_stir};
+pub use heeding::{Duty, heed};
 pub use incoming::{Ending, Incoming};
 pub use operating::{Outcome, outcome_of, second_request_is_left};
 pub use route::Route;
 pub use routes::{Routes, answers_follow_asks};
+pub use wishes::Wishes;

@@ -1,6 +1,6 @@
 -- What a worker brings.
 --     brings       of one that gives and hears so
-use Rattle.std.proofs.Common.{◌≡◌, ℕ, List, [], ◌∷◌, Option, Some, None, refl, sym, ap, subst, ◌∙◌}
+use Rattle.std.proofs.Common.{◌≡◌, ℕ, List, [], ◌∷◌, Option, Some, None, sym, subst}
 use Rattle.std.specs.Prelude.{IfSome}
 use Rattle.cc_wire.specs.declared.event.Event.{Event}
 use Rattle.cc_intake.specs.Talks.{Answer, Spoke, Talks}
@@ -11,19 +11,19 @@ stopped : (due : Option Event) (ahead : Option (List ℕ)) (ended : Option Endin
 stopped due None ended stops = tt
 stopped due (Some bytes) ended stops = stops
 
-one_more : (me : ℕ) (ended : Option Ending) (due : Option Event) (before after : Option (List ℕ)) (e : Event) (answer : Answer) (rest : List Answer)
-    → Takes due before e after → IfSome after (λ bytes. Brings me ended (due_after me e answer) bytes rest) → IfSome before (λ bytes. Brings me ended due bytes (answer ∷ rest))
-one_more me ended (Some d) before after e answer rest takes more =
-    subst (λ (x : Event). IfSome before (λ bytes. Brings me ended (due_after me x answer) bytes rest)) takes.0
-    (subst (λ (x : Option (List ℕ)). IfSome x (λ bytes. Brings me ended (due_after me e answer) bytes rest)) takes.1 more)
-one_more me ended None None after e answer rest takes more = tt
-one_more me ended None (Some bytes) after e answer rest takes more =
+one_more : (ended : Option Ending) (due : Option Event) (before after : Option (List ℕ)) (e : Event) (answer : Answer) (rest : List Answer)
+    → Takes due before e after → IfSome after (λ bytes. Brings ended (due_after e answer) bytes rest) → IfSome before (λ bytes. Brings ended due bytes (answer ∷ rest))
+one_more ended (Some d) before after e answer rest takes more =
+    subst (λ (x : Event). IfSome before (λ bytes. Brings ended (due_after x answer) bytes rest)) takes.0
+    (subst (λ (x : Option (List ℕ)). IfSome x (λ bytes. Brings ended (due_after e answer) bytes rest)) takes.1 more)
+one_more ended None None after e answer rest takes more = tt
+one_more ended None (Some bytes) after e answer rest takes more =
     let next = takes.1 in
-    (takes.0, e, next.1, next.0, next.3, takes.2, subst (λ (x : Option (List ℕ)). IfSome x (λ left. Brings me ended (due_after me e answer) left rest)) next.2 more)
+    (takes.0, e, next.1, next.0, next.3, takes.2, subst (λ (x : Option (List ℕ)). IfSome x (λ left. Brings ended (due_after e answer) left rest)) next.2 more)
 
 module _ {S : Type 0} (worker : S → Worker) where
   brings_then : (s : S) (answers : List Answer) (t end : S) → Spoke (λ s e t. Gives (worker s) e (worker t)) (λ s a t. Hears (worker s) a (worker t)) s answers t
-      → Gives (worker t) None (worker end) → IfSome (worker s).ahead (λ bytes. Brings (worker s).me (worker end).ended (worker s).due bytes answers)
+      → Gives (worker t) None (worker end) → IfSome (worker s).ahead (λ bytes. Brings (worker end).ended (worker s).due bytes answers)
   brings_then s [] t end spoke last =
       stopped (worker s).due (worker s).ahead (worker end).ended (subst (λ (x : S). Gives (worker x) None (worker end)) (sym spoke) last)
   brings_then s (answer ∷ rest) t end spoke last =
@@ -33,15 +33,13 @@ module _ {S : Type 0} (worker : S → Worker) where
       let ended = (worker end).ended in
       let g = spoke.3 in
       let h = spoke.4 in
-      let due : (worker w).due ≡ due_after (worker u).me e answer = subst (λ (x : Option Event). IfSome x (λ e. (worker w).due ≡ due_after (worker u).me e answer)) g.1 h.2 in
-      let me : (worker w).me ≡ (worker s).me = h.0 ∙ g.0 in
-      let more : IfSome (worker u).ahead (λ bytes. Brings (worker w).me ended (worker w).due bytes rest) =
-      subst (λ (x : Option (List ℕ)). IfSome x (λ bytes. Brings (worker w).me ended (worker w).due bytes rest)) h.1 (brings_then w rest t end spoke.5 last) in
-      one_more (worker s).me ended (worker s).due (worker s).ahead (worker u).ahead e answer rest g.2
-      (subst (λ (n : ℕ). IfSome (worker u).ahead (λ bytes. Brings n ended (due_after n e answer) bytes rest)) me
-      (subst (λ (d : Option Event). IfSome (worker u).ahead (λ bytes. Brings (worker w).me ended d bytes rest)) (due ∙ ap (λ n. due_after n e answer) (sym h.0)) more))
+      let due : (worker w).due ≡ due_after e answer = subst (λ (x : Option Event). IfSome x (λ e. (worker w).due ≡ due_after e answer)) g.0 h.1 in
+      let more : IfSome (worker u).ahead (λ bytes. Brings ended (worker w).due bytes rest) =
+      subst (λ (x : Option (List ℕ)). IfSome x (λ bytes. Brings ended (worker w).due bytes rest)) h.0 (brings_then w rest t end spoke.5 last) in
+      one_more ended (worker s).due (worker s).ahead (worker u).ahead e answer rest g.1
+      (subst (λ (d : Option Event). IfSome (worker u).ahead (λ bytes. Brings ended d bytes rest)) due more)
 
 pub brings : {S : Type 0} (s end : S) (worker : S → Worker) (answers : List Answer)
     → Talks (λ s e t. Gives (worker s) e (worker t)) (λ s a t. Hears (worker s) a (worker t)) s answers end
-    → IfSome (worker s).ahead (λ bytes. Brings (worker s).me (worker end).ended (worker s).due bytes answers)
+    → IfSome (worker s).ahead (λ bytes. Brings (worker end).ended (worker s).due bytes answers)
 brings s end worker answers talks = brings_then worker s answers talks.0 end talks.1 talks.2

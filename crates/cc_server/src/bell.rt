@@ -3,7 +3,7 @@
 use crossbeam_utils::sync::Unparker;
 use std::sync::atomic::{AtomicU64, Ordering};
 
-// How many events that need nothing at once ride along before the flusher is woken: a batch.
+// How many events ride along before the flusher is woken: a batch.
 const MOST_RIDERS: u64 = 64;
 
 /// Wakes the flusher.
@@ -27,9 +27,10 @@ impl Bell {
         self.unparker.unpark();
     }
 
-    /// An event was accepted that nobody waits for: it wakes the flusher where it fills a batch.
+    /// An event was accepted that makes no post and no answer: it wakes the flusher where it fills a batch.
     pub fn ride(&self) {
-        if self.riders.fetch_add(1, Ordering::SeqCst) >= MOST_RIDERS {
+        let before = self.riders.fetch_add(1, Ordering::SeqCst);
+        if before.saturating_add(1) >= MOST_RIDERS {
             self.ring();
         }
     }

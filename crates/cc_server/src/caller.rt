@@ -5,11 +5,12 @@ ghost use Rattle.cc_intake.specs.Talks.{Answer, places_of, PlacesRise};
 ghost use Rattle.cc_server.specs.Serving.{brings_again, Takes, Stops, Brings};
 
 use crate::doors::Replies;
+use crate::duties::duty_of;
 use crate::office::Office;
-use crate::shared::{Shared, Wish};
+use crate::shared::Shared;
 use crate::spelling::bytes_of;
-use cc_intake::{Hooks, Lane, Life, Share, Source};
-use cc_protocol::{Duty, Ending, Incoming, event_of, heed};
+use cc_intake::{Accepted, Hooks, Lane, Life, Share, Source};
+use cc_protocol::{Duty, Ending, Incoming, event_of};
 use cc_views::NodeId;
 use cc_wire::{Event, Frame, Refusal};
 use std::alloc::Global;
@@ -40,7 +41,6 @@ impl<R: Wait, I: Read, D: Replies> Caller<'_, R, I, D> {
         ensures next { MatchOption result
             (Stops self.old.due self.old.frames self.new.ended)
             (λ e. Takes self.old.due self.old.frames e self.new.frames × (self.new.ended ≡ None)) }
-        ensures me { self.new.me ≡ self.old.me }
     {
         self.ended = None;
         if let Some(event) = self.due.take() {
@@ -82,15 +82,15 @@ impl<R: Wait, I: Read, D: Replies> Caller<'_, R, I, D> {
     }
 
     // Does what an answer asks for. Whether the event is to be given again.
-    fn act(&self, duty: Duty, is_accepted: bool) -> bool
+    fn act(&self, duty: Duty) -> bool
         ensures { result ≡ brings_again duty }
     {
         match duty {
             Duty::Wake => self.shared.bell.ring(),
-            Duty::Nothing if is_accepted => self.shared.bell.ride(),
+            Duty::Ride => self.shared.bell.ride(),
             Duty::Nothing => {}
-            Duty::Reack(peer) => self.shared.wish(self.rt, Wish::Reack(peer)),
-            Duty::Again(session) => self.shared.wish(self.rt, Wish::Again(session)),
+            Duty::Reack(peer) => self.shared.reack(self.rt, peer),
+            Duty::Again(session) => self.shared.again(self.rt, session),
             Duty::Refuse(frame) => self.refuse(&frame),
             Duty::BringAgain => return true,
         }
@@ -102,12 +102,12 @@ impl<R: Wait, I: Read, D: Replies> Source for Caller<'_, R, I, D> {
     ghost use Rattle.cc_server.specs.Serving.{Gives, Hears};
 
     ghost gives = { λ s e t. Gives
-        (record { me = s.me; due = s.due; given = s.given; ahead = s.frames; ended = s.ended }) e
-        (record { me = t.me; due = t.due; given = t.given; ahead = t.frames; ended = t.ended }) };
+        (record { due = s.due; given = s.given; ahead = s.frames; ended = s.ended }) e
+        (record { due = t.due; given = t.given; ahead = t.frames; ended = t.ended }) };
 
     ghost hears = { λ s a t. Hears
-        (record { me = s.me; due = s.due; given = s.given; ahead = s.frames; ended = s.ended }) a
-        (record { me = t.me; due = t.due; given = t.given; ahead = t.frames; ended = t.ended }) };
+        (record { due = s.due; given = s.given; ahead = s.frames; ended = s.ended }) a
+        (record { due = t.due; given = t.given; ahead = t.frames; ended = t.ended }) };
 
     fn next(&mut self) -> Option<Event> {
         let event = self.event()?;
@@ -120,7 +120,7 @@ impl<R: Wait, I: Read, D: Replies> Source for Caller<'_, R, I, D> {
         Some(event)
     }
 
-    fn told(&mut self, answer: Result<u64, Refusal>) {
+    fn told(&mut self, answer: Result<Accepted, Refusal>) {
         let Some(event) = self.given.take() else {
             return;
         };
@@ -128,7 +128,7 @@ impl<R: Wait, I: Read, D: Replies> Source for Caller<'_, R, I, D> {
             self.shared.room.leave(self.rt);
             self.unroute(&event, refusal);
         }
-        let is_due = self.act(heed(self.me, &event, answer), answer.is_ok());
+        let is_due = self.act(duty_of(&event, answer));
         self.due = if is_due { Some(event) } else { None };
     }
 }
@@ -145,7 +145,7 @@ pub fn serve<R: Wait, H: Hooks, L: Life, Q: Lane, I: Read + Drop, D: Replies>(
     share: &mut Share<L>,
 ) -> Option<Ending>
     ensures { (answers : List Answer) × (share.new ≡ share.old + places_of answers) × PlacesRise share.old answers
-        × IfSome (I.remaining reader) (λ bytes. Brings office.now.me result None bytes answers) }
+        × IfSome (I.remaining reader) (λ bytes. Brings result None bytes answers) }
 {
     let alloc = office.alloc;
     let Ok(frames) = Incoming::new(alloc, reader) else {

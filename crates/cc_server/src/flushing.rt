@@ -1,15 +1,15 @@
 //! The flusher's thread.
 
 use crate::room::Room;
-use crate::shared::{Shared, Wish};
+use crate::shared::Shared;
 use cc_flush::{CheckpointFault, Failed};
 use cc_intake::{Lane, Life, Queue, Turner};
+use cc_journal::Batch;
 use cc_site::Site;
-use crossbeam_channel::Receiver;
 use crossbeam_utils::sync::Parker;
 use std::sync::Wait;
 
-// How many wishes are granted between two turns at most.
+// How many wishes of either kind are granted between two turns at most.
 const MOST_WISHES: u64 = 64;
 
 // Above how many bytes the side in use is left for the other one.
@@ -19,11 +19,11 @@ const PLENTY: u64 = 4_194_304;
 #[derive(Drop)]
 pub struct Watch<'x> {
     pub parker: Parker,
-    pub wishes: Receiver<Wish>,
     pub shared: &'x Shared,
 }
 
-/// Takes turns until nothing is left after `done` was set. An idle flusher sleeps.
+/// Takes a turn each time that it is woken, and more where one batch didn't take all that waited, until nothing is left after
+/// `done` was set. What nobody woke it for waits for the next turn.
 pub fn flush_all<S: Site, L: Life, Q: Lane, R: Wait>(
     rt: &R,
     turner: &mut Turner<S, L, Q>,
@@ -35,7 +35,7 @@ pub fn flush_all<S: Site, L: Life, Q: Lane, R: Wait>(
         let is_done = watch.shared.done.is_set();
         watch.shared.bell.look();
         let events = turn(rt, turner, queue, &watch.shared.room)?;
-        let wishes = grant(rt, turner, &watch.wishes)?;
+        let is_wished = grant(rt, turner, watch.shared)?;
         is_fresh &= events == 0;
         if watch.shared.ticked.take() {
             watch.shared.room.tick(rt);
@@ -44,12 +44,13 @@ pub fn flush_all<S: Site, L: Life, Q: Lane, R: Wait>(
                 is_fresh = spare(turner)?;
             }
         }
-        if events == 0 && wishes == 0 {
-            if is_done {
-                return Ok(());
-            }
-            watch.parker.park(rt);
+        if events >= Batch::MAX_ENTRIES as u64 || turner.keeps_one() || is_wished {
+            continue;
         }
+        if is_done {
+            return Ok(());
+        }
+        watch.parker.park(rt);
     }
     unreachable!()
 }
@@ -68,22 +69,26 @@ fn turn<S: Site, L: Life, Q: Lane, R: Wait>(
     Ok(events)
 }
 
-// Grants wishes that wait. How many.
+// Grants wishes that wait. Whether there may be more.
 fn grant<S: Site, L: Life, Q: Lane, R: Wait>(
     rt: &R,
     turner: &mut Turner<S, L, Q>,
-    wishes: &Receiver<Wish>,
-) -> Result<u64, Failed> {
-    for count in 0..MOST_WISHES {
-        let Ok(wish) = wishes.try_recv(rt) else {
-            return Ok(count);
-        };
-        match wish {
-            Wish::Reack(peer) => turner.reack(peer)?,
-            Wish::Again(session) => turner.again(session)?,
-        };
+    shared: &Shared,
+) -> Result<bool, Failed> {
+    for _ in 0..MOST_WISHES {
+        let peer = shared.wishes.lock(rt).next_peer();
+        let session = shared.wishes.lock(rt).next_session();
+        if peer.is_none() && session.is_none() {
+            return Ok(false);
+        }
+        if let Some(peer) = peer {
+            turner.reack(peer)?;
+        }
+        if let Some(session) = session {
+            turner.again(session)?;
+        }
     }
-    Ok(MOST_WISHES)
+    Ok(true)
 }
 
 // Sends again what wasn't acknowledged, but nothing to those for whom something waits already.

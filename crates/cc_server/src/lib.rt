@@ -8,6 +8,7 @@ mod caller;
 mod channels;
 mod config;
 mod doors;
+mod duties;
 mod flushing;
 mod lines;
 mod office;

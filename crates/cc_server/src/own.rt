@@ -1,10 +1,10 @@
 //! The worker of what a node sends to itself.
 
+use crate::duties::duty_of;
 use crate::office::Office;
-use crate::shared::{Shared, Wish};
-use cc_intake::{Hooks, Lane, Life, Source};
-use cc_protocol::{Duty, heed};
-use cc_views::NodeId;
+use crate::shared::Shared;
+use cc_intake::{Accepted, Hooks, Lane, Life, Source};
+use cc_protocol::Duty;
 use cc_wire::{Event, Refusal};
 use crossbeam_channel::Receiver;
 use std::alloc::Global;
@@ -15,7 +15,6 @@ use std::sync::Wait;
 struct Own<'a, R: Wait> {
     rt: &'a R,
     alloc: Global,
-    me: NodeId,
     shared: &'a Shared,
     from: Receiver<Option<Event>>,
     // The event that was given last.
@@ -48,7 +47,7 @@ impl<R: Wait> Source for Own<'_, R> {
         Some(event)
     }
 
-    fn told(&mut self, answer: Result<u64, Refusal>) {
+    fn told(&mut self, answer: Result<Accepted, Refusal>) {
         let Some(event) = self.given.take() else {
             return;
         };
@@ -56,10 +55,10 @@ impl<R: Wait> Source for Own<'_, R> {
             self.shared.room.leave(self.rt);
         }
         self.is_due = false;
-        match heed(self.me, &event, answer) {
+        match duty_of(&event, answer) {
             Duty::Wake => self.shared.bell.ring(),
-            Duty::Nothing if answer.is_ok() => self.shared.bell.ride(),
-            Duty::Reack(peer) => self.shared.wish(self.rt, Wish::Reack(peer)),
+            Duty::Ride => self.shared.bell.ride(),
+            Duty::Reack(peer) => self.shared.reack(self.rt, peer),
             Duty::BringAgain => self.is_due = true,
             _ => {}
         }
@@ -78,7 +77,6 @@ pub fn serve_own<R: Wait, H: Hooks, L: Life, Q: Lane>(
     let mut own = Own {
         rt: office.rt,
         alloc: office.alloc,
-        me: office.me,
         shared: office.shared,
         from,
         given: None,

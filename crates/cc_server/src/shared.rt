@@ -8,25 +8,14 @@ use crate::room::Room;
 use crate::run_fault::RunFault;
 use crate::stop::Stop;
 use crate::threads::Ends;
+use cc_protocol::Wishes;
 use cc_views::NodeId;
 use cc_wire::Event;
 use cc_words::Peer;
-use crossbeam_channel::{Receiver, Sender, bounded};
+use crossbeam_channel::Receiver;
 use crossbeam_utils::sync::Parker;
 use std::alloc::Global;
-use std::sync::{OnceLock, Wait};
-
-// How many wishes wait for the flusher at most.
-const WISH_ROOM: usize = 1024;
-
-/// What a worker asks of the flusher.
-#[derive(Clone, Copy, Debug, PartialEq, Eq)]
-pub enum Wish {
-    /// To tell a peer again what was heard from it.
-    Reack(NodeId),
-    /// To give a session's kept answer again.
-    Again(u64),
-}
+use std::sync::{Mutex, OnceLock, Wait};
 
 /// What the threads of a node pass things on by.
 #[derive(Drop)]
@@ -38,7 +27,7 @@ pub struct Shared {
     pub own: OwnLine,
     pub bell: Bell,
     pub room: Room,
-    pub wishes: Sender<Wish>,
+    pub wishes: Mutex<Wishes>,
     /// A second has passed.
     pub ticked: Stop,
     /// No worker is left.
@@ -51,7 +40,6 @@ pub struct Shared {
 #[derive(Drop)]
 pub struct Inlets {
     pub parker: Parker,
-    pub wished: Receiver<Wish>,
     pub far: Vec<FarEnd>,
     pub own: Receiver<Option<Event>>,
 }
@@ -61,7 +49,6 @@ impl Shared {
     pub fn new(alloc: Global, peers: &[Peer]) -> Result<(Self, Inlets), RunFault> {
         let (lines, far) = lines_to(alloc, peers)?;
         let (own, taken) = own_line(alloc)?;
-        let (wishes, wished) = bounded(alloc, WISH_ROOM)?;
         let parker = Parker::new(alloc)?;
         let bell = Bell::new(parker.unparker().clone()?);
         let shared = Shared {
@@ -71,23 +58,28 @@ impl Shared {
             own,
             bell,
             room: Room::new(alloc)?,
-            wishes,
+            wishes: Mutex::new(Wishes::new(alloc)?),
             ticked: Stop::new(),
             done: Stop::new(),
             ended: Stop::new(),
         };
         let inlets = Inlets {
             parker,
-            wished,
             far,
             own: taken,
         };
         Ok((shared, inlets))
     }
 
-    /// Asks something of the flusher. A wish that finds no room is lost: who waits for it asks again.
-    pub fn wish<R: Wait>(&self, rt: &R, wish: Wish) {
-        let _ = self.wishes.try_send(rt, wish);
+    /// Has the flusher tell a peer again what was heard from it.
+    pub fn reack<R: Wait>(&self, rt: &R, peer: NodeId) {
+        self.wishes.lock(rt).reack(peer);
+        self.bell.ring();
+    }
+
+    /// Has the flusher put out the last answer of a session again.
+    pub fn again<R: Wait>(&self, rt: &R, session: u64) {
+        self.wishes.lock(rt).again(session);
         self.bell.ring();
     }
 }
@@ -95,17 +87,8 @@ impl Shared {
 impl Inlets {
     /// What the flusher takes out of, and what the workers and writers of the node `me` do.
     pub fn cut(self, me: NodeId, shared: &Shared) -> (Watch<'_>, Ends) {
-        let Inlets {
-            parker,
-            wished,
-            far,
-            own,
-        } = self;
-        let watch = Watch {
-            parker,
-            wishes: wished,
-            shared,
-        };
+        let Inlets { parker, far, own } = self;
+        let watch = Watch { parker, shared };
         (watch, Ends { me, far, own })
     }
 }

@@ -21,12 +21,16 @@ fn node(id: u32) -> Result<NodeId, Fail> {
     Ok(NodeId::new(id).ok_or("ids begin at 1")?)
 }
 
-fn joined(node: NodeId) -> Event {
+fn delivered(from: NodeId, message: Message) -> Event {
     Event::Deliver {
-        from: node,
+        from,
         number: 1,
-        message: Message::Join { node },
+        message,
     }
+}
+
+fn joined(node: NodeId) -> Event {
+    delivered(node, Message::Join { node })
 }
 
 // Whether the event, which is let go, may be handed to node 1.
@@ -67,6 +71,20 @@ fn what_posts_nothing_is_never_held_back(rt: HostRuntime) -> Result<(), Fail> {
     };
     assert!(rt; may(acked, 512, false, 0)?);
     assert!(rt; may(Event::Retire { node }, 512, false, 0)?);
+    let join_echo = delivered(node, Message::JoinEcho { node });
+    assert!(rt; may(join_echo, 512, false, 0)?);
+    let leave_echo = delivered(node, Message::LeaveEcho { node });
+    assert!(rt; may(leave_echo, 512, false, 0)?);
+    let of_another = delivered(node, Message::StoreAck { tag: 1, node });
+    assert!(rt; may(of_another, 512, false, 0)?);
+    Ok(())
+}
+
+#[test]
+fn what_ends_an_operation_of_the_node_may_be_held_back(rt: HostRuntime) -> Result<(), Fail> {
+    let (me, peer) = (node(1)?, node(2)?);
+    let of_its_own = delivered(peer, Message::StoreAck { tag: 1, node: me });
+    assert!(rt; !may(of_its_own, 257, false, 0)?);
     Ok(())
 }
 

@@ -1,6 +1,6 @@
 //! What a worker does after an answer.
 
-use cc_protocol::{Duty, heed, may_stir};
+use cc_protocol::{Duty, heed};
 use cc_views::NodeId;
 use cc_wire::{Command, Event, Frame, Message, Refusal};
 use std::test::*;
@@ -14,6 +14,7 @@ fn node(id: u32) -> Result<NodeId, Fail> {
 enum Does {
     Nothing,
     Wakes,
+    Rides,
     Reacks(u32),
     AnswersAgain(u64),
     Refuses(u64, u64, u8, u64),
@@ -21,9 +22,9 @@ enum Does {
     BringsAgain,
 }
 
-// What a worker of the node `me` does.
-fn does_after(me: NodeId, event: Event, answer: Result<u64, Refusal>) -> Does {
-    let duty = heed(me, &event, answer);
+// What a worker does.
+fn does_after(event: Event, answer: Result<bool, Refusal>) -> Does {
+    let duty = heed(&event, answer);
     drop(event);
     let does = does_in(&duty);
     drop(duty);
@@ -34,6 +35,7 @@ fn does_in(duty: &Duty) -> Does {
     match duty {
         Duty::Nothing => Does::Nothing,
         Duty::Wake => Does::Wakes,
+        Duty::Ride => Does::Rides,
         Duty::Reack(peer) => Does::Reacks(peer.number()),
         Duty::Again(session) => Does::AnswersAgain(*session),
         Duty::Refuse(frame) => sends(frame),
@@ -73,44 +75,31 @@ fn joined(node: NodeId) -> Event {
     delivered(node, Message::Join { node })
 }
 
-fn stored(from: NodeId, node: NodeId) -> Event {
-    delivered(from, Message::StoreAck { tag: 1, node })
-}
-
-fn stirs(me: NodeId, event: Event) -> bool {
-    let stirs = may_stir(me, &event);
-    drop(event);
-    stirs
-}
-
 #[test]
-fn an_accepted_event_wakes_the_flusher(rt: HostRuntime) -> Result<(), Fail> {
-    let [me, peer] = [node(1)?, node(2)?];
-    assert_eq!(rt; does_after(me, asked(1), Ok(1)), Does::Wakes);
-    assert_eq!(rt; does_after(me, Event::Enter, Ok(1)), Does::Wakes);
-    assert_eq!(rt; does_after(me, joined(peer), Ok(1)), Does::Wakes);
-    assert_eq!(rt; does_after(me, stored(peer, me), Ok(1)), Does::Wakes);
+fn what_stirs_wakes_the_flusher(rt: HostRuntime) -> Result<(), Fail> {
+    let peer = node(2)?;
+    assert_eq!(rt; does_after(asked(1), Ok(true)), Does::Wakes);
+    assert_eq!(rt; does_after(Event::Enter, Ok(true)), Does::Wakes);
+    assert_eq!(rt; does_after(joined(peer), Ok(true)), Does::Wakes);
     Ok(())
 }
 
 #[test]
 fn what_makes_nothing_rides_along(rt: HostRuntime) -> Result<(), Fail> {
-    let [me, peer] = [node(1)?, node(2)?];
+    let peer = node(2)?;
     let acked = Event::Acked { peer, number: 1 };
-    assert_eq!(rt; does_after(me, acked, Ok(1)), Does::Nothing);
-    assert_eq!(rt; does_after(me, stored(peer, peer), Ok(1)), Does::Nothing);
-    assert!(rt; !stirs(me, Event::Retire { node: peer }));
-    assert!(rt; !stirs(me, delivered(peer, Message::JoinEcho { node: peer })));
-    assert!(rt; !stirs(me, delivered(peer, Message::LeaveEcho { node: peer })));
+    assert_eq!(rt; does_after(acked, Ok(false)), Does::Rides);
+    assert_eq!(rt; does_after(asked(1), Ok(false)), Does::Rides);
+    assert_eq!(rt; does_after(joined(peer), Ok(false)), Does::Rides);
     Ok(())
 }
 
 #[test]
 fn a_message_is_acknowledged_again_or_brought_again(rt: HostRuntime) -> Result<(), Fail> {
-    let [me, peer] = [node(1)?, node(2)?];
-    let old = does_after(me, joined(peer), Err(Refusal::Old(4)));
+    let peer = node(2)?;
+    let old = does_after(joined(peer), Err(Refusal::Old(4)));
     assert_eq!(rt; old, Does::Reacks(2));
-    let full = does_after(me, joined(peer), Err(Refusal::QueueFull));
+    let full = does_after(joined(peer), Err(Refusal::QueueFull));
     assert_eq!(rt; full, Does::BringsAgain);
     for refusal in [
         Refusal::Gap(2),
@@ -118,21 +107,20 @@ fn a_message_is_acknowledged_again_or_brought_again(rt: HostRuntime) -> Result<(
         Refusal::Left,
         Refusal::NoMemory,
     ] {
-        assert_eq!(rt; does_after(me, joined(peer), Err(refusal)), Does::Nothing);
+        assert_eq!(rt; does_after(joined(peer), Err(refusal)), Does::Nothing);
     }
     Ok(())
 }
 
 #[test]
 fn a_client_is_answered_again_or_told_why_not(rt: HostRuntime) -> Result<(), Fail> {
-    let me = node(1)?;
-    let again = does_after(me, asked(1), Err(Refusal::Repeat));
+    let again = does_after(asked(1), Err(Refusal::Repeat));
     assert_eq!(rt; again, Does::AnswersAgain(7));
-    let skipped = does_after(me, asked(3), Err(Refusal::Skip(1)));
+    let skipped = does_after(asked(3), Err(Refusal::Skip(1)));
     assert_eq!(rt; skipped, Does::Refuses(7, 3, 12, 1));
-    let full = does_after(me, asked(3), Err(Refusal::QueueFull));
+    let full = does_after(asked(3), Err(Refusal::QueueFull));
     assert_eq!(rt; full, Does::Refuses(7, 3, 18, 0));
-    let left = does_after(me, Event::Leave, Err(Refusal::Left));
+    let left = does_after(Event::Leave, Err(Refusal::Left));
     assert_eq!(rt; left, Does::Refuses(0, 0, 1, 0));
     Ok(())
 }

@@ -8,7 +8,7 @@ use crate::holding::{Hold, Holding};
 use crate::lives::{counts, live};
 use crate::stories::Story;
 use cc_flush::Flusher;
-use cc_intake::{Finished, Intake, Lane, Life, Queue, Share, Turner};
+use cc_intake::{Accepted, Finished, Intake, Lane, Life, Queue, Share, Turner};
 use cc_journal::{Batch, Entry};
 use cc_site::{Choice, MemorySite};
 use cc_wire::{Answer, Event, Output, Refusal};
@@ -112,7 +112,7 @@ fn ask_again<L: Life, Q: Lane, R: Wait>(
     lock: &Mutex<Intake<L, Q>>,
     queue: &Queue<L, Q>,
     share: &mut Share<L>,
-) -> Option<Result<u64, Refusal>> {
+) -> Option<Result<Accepted, Refusal>> {
     let event = store_a()?;
     Some(lock.lock(rt).accept(rt, alloc, share, queue, event))
 }

@@ -5,7 +5,7 @@ ghost use Rattle.std.specs.Prelude.{◌≡◌, ◌<◌, None, false, IfOk};
 use crate::holding::Hold;
 use cc_changes::Fraction;
 use cc_flush::{Back, Flusher, format};
-use cc_intake::{Hooked, Intake, Lane, Life, Queue, Share};
+use cc_intake::{Accepted, Hooked, Intake, Lane, Life, Queue, Share};
 use cc_node::{Core, Opening};
 use cc_site::MemorySite;
 use cc_views::{NodeId, Text};
@@ -93,8 +93,16 @@ pub(crate) fn hear<L: Life, Q: Lane, R: Wait>(
     queue: &Queue<L, Q>,
     share: &mut Share<L>,
     number: u64,
-) -> Result<u64, Refusal> {
+) -> Result<Accepted, Refusal> {
     lock.lock(rt).accept(rt, alloc, share, queue, echo(number))
+}
+
+/// What is told of a message that is accepted at that place, and not answered.
+pub(crate) fn at(place: u64) -> Accepted {
+    Accepted {
+        place,
+        stirs: false,
+    }
 }
 
 /// Whether messages 1 to `last` are accepted at the places of their numbers.
@@ -108,7 +116,7 @@ pub(crate) fn hears_all<L: Life, Q: Lane, R: Wait>(
 ) -> bool {
     for i in 0..last {
         let number = i.saturating_add(1);
-        if hear(rt, alloc, lock, queue, share, number) != Ok(number) {
+        if hear(rt, alloc, lock, queue, share, number) != Ok(at(number)) {
             return false;
         }
     }

@@ -4,7 +4,7 @@ use crate::fixtures::{check, store_a};
 use crate::holding::{Hold, Holding};
 use crate::lives::lives;
 use crate::stories::Story;
-use cc_intake::{Intake, Lane, Life, Queue, Share, Source, work};
+use cc_intake::{Accepted, Intake, Lane, Life, Queue, Share, Source, work};
 use cc_wire::{Event, Refusal};
 use std::alloc::Global;
 use std::sync::{Mutex, Wait};
@@ -14,8 +14,8 @@ use std::test::*;
 #[derive(Drop)]
 struct Twice {
     asked: usize,
-    first: Option<Result<u64, Refusal>>,
-    second: Option<Result<u64, Refusal>>,
+    first: Option<Result<Accepted, Refusal>>,
+    second: Option<Result<Accepted, Refusal>>,
 }
 
 impl Source for Twice {
@@ -31,7 +31,7 @@ impl Source for Twice {
         store_a()
     }
 
-    fn told(&mut self, answer: Result<u64, Refusal>) {
+    fn told(&mut self, answer: Result<Accepted, Refusal>) {
         if self.first.is_none() {
             self.first = Some(answer);
         } else {
@@ -55,7 +55,11 @@ pub(crate) fn repeat<L: Life, Q: Lane, R: Wait>(
         second: None,
     };
     work(rt, alloc, lock, queue, share, hooks, &mut source);
-    check(source.first == Some(Ok(1)), "an ask is accepted")?;
+    let stored = Some(Ok(Accepted {
+        place: 1,
+        stirs: true,
+    }));
+    check(source.first == stored, "an ask is accepted, and posted")?;
     let again = Some(Err(Refusal::Repeat));
     check(source.second == again, "the same ask is a repeat")?;
     check(share.count() == 1, "the share counts one")

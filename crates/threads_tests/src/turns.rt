@@ -1,6 +1,6 @@
 //! Whole turns, and a queue that is full.
 
-use crate::fixtures::{Disk, check, hear, hears_all};
+use crate::fixtures::{Disk, at, check, hear, hears_all};
 use crate::holding::{Hold, Holding};
 use crate::lives::lives;
 use crate::stories::Story;
@@ -106,7 +106,7 @@ pub(crate) fn full_queue<L: Life, Q: Lane, R: Wait>(
     let turned = taken(rt, turner, queue);
     check(turned == Some(64), "a turn makes room")?;
     let answer = hear(rt, alloc, lock, queue, share, 257);
-    check(answer == Ok(257), "the event is accepted at place 257")?;
+    check(answer == Ok(at(257)), "the event is accepted at place 257")?;
     check(share.count() == 257, "the share counts 257")
 }
 

@@ -4,7 +4,7 @@ use crate::fixtures::{Disk, check, drawn, opened};
 use crate::holding::{Hold, Holding, TURNS};
 use crate::lives::lives;
 use crate::stories::Story;
-use cc_intake::{Intake, Lane, Life, Queue, Share, Source, Turner, work};
+use cc_intake::{Accepted, Intake, Lane, Life, Queue, Share, Source, Turner, work};
 use cc_node::Core;
 use cc_site::{Choice, MemorySite};
 use cc_views::NodeId;
@@ -48,7 +48,7 @@ impl Source for Peer<'_> {
         })
     }
 
-    fn told(&mut self, answer: Result<u64, Refusal>) {
+    fn told(&mut self, answer: Result<Accepted, Refusal>) {
         match answer {
             Ok(_) => {
                 self.next = self.next.saturating_add(1);

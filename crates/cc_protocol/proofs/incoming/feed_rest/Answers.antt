@@ -1,4 +1,4 @@
-use Rattle.std.proofs.Common.{◌-◌, ◌≤◌, drop, Option, List, ℕ, length, subst, arith}
+use Rattle.std.proofs.Common.{◌-◌, ◌≤◌, drop, List, ℕ, subst, arith}
 use Rattle.std.specs.Prelude.{IfSome}
 use Rattle.std.proofs.lemmas.List.{length-take-le, length-drop}
 use Rattle.cc_protocol.specs.Incoming.{ahead, unused, Passes}
