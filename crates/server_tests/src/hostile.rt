@@ -1,20 +1,13 @@
 //! Hostile connections.
 
-use crate::clients::{
-    FIRST_ASK, FIRST_REPLY, THIRD_ASK, THIRD_REFUSED, connected, is_closed_after,
-};
+use crate::clients::{FIRST_ASK, FIRST_REPLY, THIRD_REFUSED, connected, is_closed_after};
 use crate::nodes::check;
-use std::alloc::{AllocError, Global};
 use std::io::Write;
 use std::net::{Net, SocketAddr, TcpStream};
 use std::test::Fail;
 
 /// What such connections send. Each of them has to be closed by the node, but for those that close themselves.
-pub(crate) fn attack<R: Net<Stream = TcpStream>>(
-    rt: &R,
-    alloc: Global,
-    to: SocketAddr,
-) -> Result<(), Fail> {
+pub(crate) fn attack<R: Net<Stream = TcpStream>>(rt: &R, to: SocketAddr) -> Result<(), Fail> {
     cuts(rt, to)?;
     let long = [0, 1, 0, 1];
     check(is_closed_after(rt, to, &long)?, "a length of 65,537")?;
@@ -22,34 +15,7 @@ pub(crate) fn attack<R: Net<Stream = TcpStream>>(
     check(is_closed_after(rt, to, &[0, 0, 0, 1, 8])?, "kind 8")?;
     check(is_closed_after(rt, to, &FIRST_REPLY)?, "kind 4")?;
     check(is_closed_after(rt, to, &THIRD_REFUSED)?, "kind 5")?;
-    without_end(rt, to, &[0; 4096])?;
-    at_once(rt, alloc, to, &FIRST_ASK)?;
-    at_once(rt, alloc, to, &THIRD_ASK)?;
-    let asks = repeated(alloc, &THIRD_ASK, 1000)?;
-    without_end(rt, to, asks.as_slice())
-}
-
-// So many times the same bytes.
-fn repeated(alloc: Global, bytes: &[u8], count: usize) -> Result<Vec<u8>, AllocError> {
-    let mut all = Vec::new(alloc);
-    for _ in 0..count {
-        all.extend_from_slice(bytes)?;
-    }
-    Ok(all)
-}
-
-// 10,000 requests in one write, whose answers nobody reads.
-fn at_once<R: Net<Stream = TcpStream>>(
-    rt: &R,
-    alloc: Global,
-    to: SocketAddr,
-    ask: &[u8],
-) -> Result<(), Fail> {
-    let asks = repeated(alloc, ask, 10_000)?;
-    let mut stream = connected(rt, to)?;
-    // The node may close the connection meanwhile.
-    let _ = stream.write_all(asks.as_slice());
-    Ok(())
+    without_end(rt, to, &[0; 4096])
 }
 
 // The beginnings of a request, each on a connection that is closed then.
