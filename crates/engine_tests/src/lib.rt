@@ -10,6 +10,8 @@ mod counts;
 #[cfg(test)]
 mod lives;
 #[cfg(test)]
+mod long_states;
+#[cfg(test)]
 mod openings;
 #[cfg(test)]
 mod versions;
