@@ -8,6 +8,8 @@ mod commits;
 #[cfg(test)]
 mod counts;
 #[cfg(test)]
+mod cuts;
+#[cfg(test)]
 mod lives;
 #[cfg(test)]
 mod long_states;
