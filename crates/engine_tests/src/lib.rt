@@ -2,6 +2,8 @@
 #![tactic(auto)]
 
 #[cfg(test)]
+mod acknowledgements;
+#[cfg(test)]
 mod checkpoints;
 #[cfg(test)]
 mod commits;
