@@ -1,0 +1,115 @@
+-- Each own row in a node's view is one that it wrote, as long as no view is delivered that has another one.
+--     last_write        the value after some asks is that of the last write among them
+--     own_last          the one in the view is that of the last write
+--     own_written       an own row at a point of a history was written by the ask of its number
+use Rattle.std.proofs.Common.{◌≡◌, ℕ, ◌+◌, zero, suc, true, false, List, [], ◌∷◌, take, drop, length, refl, sym, ap, subst, ◌∙◌, arith, take-append-drop}
+use Rattle.std.specs.Prelude.{Some, if◌then◌else◌, slice_get}
+use Rattle.std.specs.FinMap as table
+use Rattle.std.specs.Ordering.{nat_cmp}
+use Rattle.std.proofs.lemmas.List.{take_all}
+use Rattle.cc_views.specs.Rows.{Pair}
+use Rattle.cc_views.specs.declared.value.Value.{Value}
+use Rattle.cc_wire.specs.declared.event.Event.{Event}
+use Rattle.cc_ops.specs.declared.pending.Asked.{Asked}
+use Rattle.cc_ops.specs.Commands.{is_writing, written}
+use Rattle.cc_ops.specs.Ops.{nothing_stored}
+use Rattle.cc_ops.specs.OwnLaws.{reading_leaves}
+use Rattle.cc_ops.specs.Waiting.{writes_by, written_by}
+use Rattle.cc_node.specs.Node.{Node, step, after, IsLawful}
+use Rattle.cc_node.specs.Opening.{Opening, IsOpening, fresh}
+use Rattle.cc_node.specs.Histories.{lawful_parts}
+use Rattle.cc_node.specs.Writes.{begun_along}
+use Rattle.cc_node.proofs.CoreLaws.{own_number_along, own_value_along}
+use Rattle.cc_laws.specs.Shown.{Has}
+use Rattle.cc_laws.specs.Histories.{view_at, BringsOldRows}
+use Rattle.cc_laws.specs.Written.{values_of, IsWriteOf}
+use Rattle.cc_laws.proofs.OwnRows.{own_pair, HasOwnRow, own_step}
+use Rattle.cc_laws.proofs.Following.{same_pair}
+use Rattle.cc_laws.proofs.Steps.{me_next}
+use Rattle.cc_laws.proofs.Writing.{begun_write, write_front, fresh_me, fresh_number, fresh_mine}
+
+no_writes : (asks : List Asked) (mine : Value) → writes_by asks ≡ 0 → written_by asks mine ≡ mine
+no_writes [] mine none = refl
+no_writes (a ∷ asks) mine none =
+    elim (is_writing a.command)
+    as (λ b. is_writing a.command ≡ b → (if b then 1 else 0) + writes_by asks ≡ 0 → written_by asks (written a.command mine) ≡ mine) [
+      | true ↦ λ _ some. absurd (omega (arith, some))
+      | false ↦ λ reads more. ap (written_by asks) (sym (reading_leaves a.command mine reads)) ∙ no_writes asks mine (omega (arith, more))
+    ] refl none
+
+-- one more write before these asks
+behind : (asks : List Asked) (w : Value) (n : ℕ) → writes_by asks ≡ n
+    → ((m : ℕ) → writes_by asks ≡ suc m → slice_get (values_of w asks) m ≡ Some (written_by asks w))
+    → slice_get (w ∷ values_of w asks) n ≡ Some (written_by asks w)
+behind asks w zero none later = ap Some (sym (no_writes asks w none))
+behind asks w (suc m) is later = later m is
+
+last_write : (asks : List Asked) (mine : Value) (n : ℕ) → writes_by asks ≡ suc n → slice_get (values_of mine asks) n ≡ Some (written_by asks mine)
+last_write [] mine n is = absurd (omega (arith, is))
+last_write (a ∷ asks) mine n is =
+    let w = written a.command mine in
+    elim (is_writing a.command)
+    as (λ b. is_writing a.command ≡ b → (if b then 1 else 0) + writes_by asks ≡ suc n
+    → slice_get (if b then w ∷ values_of w asks else values_of mine asks) n ≡ Some (written_by asks w)) [
+      | true ↦ λ _ more. behind asks w n (omega (arith, more)) (last_write asks w)
+      | false ↦ λ reads more. last_write asks mine n (omega (arith, more)) ∙ ap (λ v. Some (written_by asks v)) (reading_leaves a.command mine reads)
+    ] refl is
+
+own_along : (n : Node) (es : List Event) → HasOwnRow n.core.me n.core.ops → BringsOldRows n es → (j : ℕ)
+    → HasOwnRow (after n (take j es)).core.me (after n (take j es)).core.ops
+unfolding step
+own_along n es own old zero = own
+own_along n [] own old (suc j) = own
+own_along n (e ∷ es) own old (suc j) = own_along (step n e) es (own_step n.core e own old.0) old.1 j
+
+me_along : (n : Node) (es : List Event) → (after n es).core.me ≡ n.core.me
+unfolding step
+me_along n [] = refl
+me_along n (e ∷ es) = me_along (step n e) es ∙ me_next n.core e
+
+fresh_own : (o : Opening) → HasOwnRow (fresh o).core.me (fresh o).core.ops
+unfolding fresh
+fresh_own o = table.get-empty nat_cmp o.me
+
+-- the own pair is that of a write
+at_own : (number : ℕ) (mine x : Value) (k : ℕ) → own_pair number mine ≡ Some (k, x) → (before : ℕ) × (number ≡ suc before) × (k ≡ before + 1) × (mine ≡ x)
+at_own zero mine x k is = cc
+at_own (suc n) mine x k is =
+    let same = same_pair (suc n, mine) (k, x) is in
+    let number : suc n ≡ k = ap (λ (p : Pair). p.0) same in
+    (n, refl, omega (arith, number), ap (λ (p : Pair). p.1) same)
+
+own_row : (o : Opening) (es : List Event) → BringsOldRows (fresh o) es → (j : ℕ)
+    → table.get (view_at (fresh o) es j) o.me ≡ own_pair (after (fresh o) (take j es)).core.ops.number (after (fresh o) (take j es)).core.ops.mine
+own_row o es old j =
+    let n = after (fresh o) (take j es) in
+    let me : n.core.me ≡ o.me = me_along (fresh o) (take j es) ∙ fresh_me o in
+    subst (λ (q : ℕ). table.get n.core.ops.view q ≡ own_pair n.core.ops.number n.core.ops.mine) me (own_along (fresh o) es (fresh_own o) old j)
+
+pub own_last : (o : Opening) (es : List Event) → BringsOldRows (fresh o) es → (k : ℕ) (x : Value) → Has (after (fresh o) es).core.ops.view o.me k x
+    → ((after (fresh o) es).core.ops.number ≡ k) × ((after (fresh o) es).core.ops.mine ≡ x)
+own_last o es old k x here =
+    let n = after (fresh o) es in
+    let all : take (length es) es ≡ es = take_all (length es) es (omega arith) in
+    let own : table.get n.core.ops.view o.me ≡ own_pair n.core.ops.number n.core.ops.mine =
+    subst (λ (l : List Event). table.get (after (fresh o) l).core.ops.view o.me ≡ own_pair (after (fresh o) l).core.ops.number (after (fresh o) l).core.ops.mine) all
+    (own_row o es old (length es)) in
+    let write = at_own n.core.ops.number n.core.ops.mine x k (sym own ∙ here) in
+    (omega (arith, write.1, write.2), write.3)
+
+pub own_written : (o : Opening) (es : List Event) → IsOpening o → IsLawful (fresh o) es → BringsOldRows (fresh o) es → (j k : ℕ) (x : Value)
+    → Has (view_at (fresh o) es j) o.me k x → IsWriteOf es k x
+own_written o es opens lawful old j k x here =
+    let front = take j es in
+    let n = after (fresh o) front in
+    let number = n.core.ops.number in
+    let mine = n.core.ops.mine in
+    let asks = begun_along (fresh o) front in
+    let write = at_own number mine x k (sym (own_row o es old j) ∙ here) in
+    let count : number ≡ writes_by asks = omega (arith, own_number_along (fresh o) front, fresh_number o) in
+    let value : mine ≡ written_by asks nothing_stored = own_value_along (fresh o) front ∙ ap (written_by asks) (fresh_mine o) in
+    let last = last_write asks nothing_stored write.0 (sym count ∙ write.1) ∙ ap Some (sym value ∙ write.3) in
+    let parts = take-append-drop j es in
+    let lawful_front = (lawful_parts (fresh o) front (drop j es) (subst (IsLawful (fresh o)) (sym parts) lawful)).0 in
+    subst (λ (l : List Event). IsWriteOf l k x) parts
+    (write_front front (drop j es) k x (begun_write o front opens lawful_front k x (write.0, write.2, last)))

@@ -1,0 +1,188 @@
+-- What one event makes shows no view but the node's own after it, or one that it stored back before it.
+--     OfPhase, OfMessage, OfAnswer, OfOutput, OfReply   Q holds of the view that is in one, if one is
+--     handled_phase, post_shows, reply_shows            so it does of the phase, the post and the answer of an event
+use Rattle.std.proofs.Common.{ℕ, Bool, true, false, List, [], ◌∷◌}
+use Rattle.std.specs.Prelude.{None, IfSome, if◌then◌else◌}
+use Rattle.cc_views.specs.Rows.{ViewMap}
+use Rattle.cc_views.specs.Merge.{merge}
+use Rattle.cc_wire.specs.declared.answer.Answer.{Answer}
+use Rattle.cc_wire.specs.declared.command.Command.{Command}
+use Rattle.cc_wire.specs.declared.command.Command.TheVariants as command
+use Rattle.cc_wire.specs.declared.event.Event.{Event}
+use Rattle.cc_wire.specs.declared.event.Event.TheVariants as event
+use Rattle.cc_wire.specs.declared.message.Message.{Message}
+use Rattle.cc_wire.specs.declared.message.Message.TheVariants as message
+use Rattle.cc_wire.specs.declared.output.Output.{Output}
+use Rattle.cc_churn.specs.Churn as churn
+use Rattle.cc_ops.specs.declared.pending.Asked.{Asked}
+use Rattle.cc_ops.specs.declared.pending.Reply.{Reply}
+use Rattle.cc_ops.specs.Commands.{is_writing, answer_of}
+use Rattle.cc_ops.specs.Ops as ops
+use Rattle.cc_ops.specs.Ops.{Ops, Phase, Idle, Storing, Querying, StoringBack, seen_in}
+use Rattle.cc_node.specs.Core.{Core, quorum, asked_of, begun, handled, post, reply}
+use Rattle.cc_node.specs.Node.{line}
+use Rattle.cc_laws.specs.Shown.{in_message, in_answer, in_output}
+use Rattle.cc_laws.proofs.Lists.{some_if, some_of, some_or, some_mapped}
+
+module _ (Q : ViewMap → Type 0) where
+  abbrev pub OfPhase : Phase → Type 0
+  OfPhase phase = IfSome (seen_in phase) Q
+
+  abbrev pub OfMessage : Message → Type 0
+  OfMessage m = IfSome (in_message m) Q
+
+  abbrev pub OfAnswer : Answer → Type 0
+  OfAnswer a = IfSome (in_answer a) Q
+
+  abbrev pub OfOutput : Output → Type 0
+  OfOutput o = IfSome (in_output o) Q
+
+  -- ---- the phase
+
+  taken_phase : (b : Bool) (s t : Ops) → (Q s.view → OfPhase s.phase) → (Q t.view → OfPhase t.phase) → Q (if b then s else t).view → OfPhase (if b then s else t).phase
+  taken_phase true s t h k q = h q
+  taken_phase false s t h k q = k q
+
+  begun_phase : (me quorum : ℕ) (a : Asked) (s : Ops) → OfPhase (ops.with_begun me quorum a s).phase
+  begun_phase me quorum a s =
+      elim (is_writing a.command)
+      as (λ b. OfPhase (if b then ops.next_round (Storing (ops.round_of quorum a)) (ops.with_own_row me (ops.with_written a.command s)) else ops.next_round (Querying (ops.round_of quorum a)) s).phase) [
+        | true ↦ tt
+        | false ↦ tt
+      ]
+
+  last_phase : (me quorum : ℕ) (line : List Asked) (s : Ops) → OfPhase (ops.after_last me quorum line s).phase
+  last_phase me quorum [] s = tt
+  last_phase me quorum (a ∷ line) s = begun_phase me quorum a (record s { line = line })
+
+  reply_phase : (quorum : ℕ) (v : ViewMap) (phase : Phase) (s : Ops) → OfPhase s.phase → Q (ops.after_reply quorum v phase s).view → OfPhase (ops.after_reply quorum v phase s).phase
+  reply_phase quorum v Idle s h q = h
+  reply_phase quorum v (Storing p) s h q = h
+  reply_phase quorum v (Querying p) s h q =
+      taken_phase (ops.is_last p)
+      (ops.next_round (StoringBack (ops.round_of quorum p.asked) (merge s.view v)) (ops.merged v s))
+      (record (ops.merged v s) { phase = Querying (ops.counted p) })
+      (λ seen. seen) (λ _. tt) q
+  reply_phase quorum v (StoringBack p seen) s h q = h
+
+  either_last : (me quorum : ℕ) (b : Bool) (phase : Phase) (s : Ops) → OfPhase phase → OfPhase (if b then ops.after_last me quorum s.line s else record s { phase = phase }).phase
+  either_last me quorum true phase s h = last_phase me quorum s.line s
+  either_last me quorum false phase s h = h
+
+  ack_phase : (me quorum : ℕ) (phase : Phase) (s : Ops) → OfPhase s.phase → OfPhase phase → OfPhase (ops.after_ack me quorum phase s).phase
+  ack_phase me quorum Idle s h k = h
+  ack_phase me quorum (Storing p) s h k = either_last me quorum (ops.is_last p) (Storing (ops.counted p)) s tt
+  ack_phase me quorum (Querying p) s h k = h
+  ack_phase me quorum (StoringBack p seen) s h k = either_last me quorum (ops.is_last p) (StoringBack (ops.counted p) seen) s k
+
+  message_phase : (me quorum : ℕ) (m : Message) (s : Ops) → OfPhase s.phase → Q (ops.after_message me quorum m s).view → OfPhase (ops.after_message me quorum m s).phase
+  message_phase me quorum (message.Enter q) s h k = h
+  message_phase me quorum (message.EnterEcho c v j q) s h k = h
+  message_phase me quorum (message.Join q) s h k = h
+  message_phase me quorum (message.JoinEcho q) s h k = h
+  message_phase me quorum (message.Leave q) s h k = h
+  message_phase me quorum (message.LeaveEcho q) s h k = h
+  message_phase me quorum (message.Query tag q) s h k = h
+  message_phase me quorum (message.QueryReply v tag q) s h k =
+      taken_phase (ops.is_own me tag q s) (ops.after_reply quorum v s.phase s) s (reply_phase quorum v s.phase s h) (λ _. h) k
+  message_phase me quorum (message.Store v tag q) s h k = h
+  message_phase me quorum (message.StoreAck tag q) s h k =
+      taken_phase (ops.is_own me tag q s) (ops.after_ack me quorum s.phase s) s (λ _. ack_phase me quorum s.phase s h h) (λ _. h) k
+
+  ask_phase : (me quorum : ℕ) (b : Bool) (a : Asked) (s : Ops) (line : List Asked) → OfPhase s.phase → OfPhase (if b then ops.with_begun me quorum a s else record s { line = line }).phase
+  ask_phase me quorum true a s line h = begun_phase me quorum a s
+  ask_phase me quorum false a s line h = h
+
+  pub handled_phase : (c : Core) (e : Event) → OfPhase c.ops.phase → Q (handled c e).ops.view → OfPhase (handled c e).ops.phase
+  handled_phase c event.Enter h k = h
+  handled_phase c event.Leave h k = h
+  handled_phase c (event.Deliver from n m) h k = message_phase c.me (quorum c) m c.ops h k
+  handled_phase c (event.Acked peer n) h k = h
+  handled_phase c (event.Ask s r command) h k = ask_phase c.me (quorum c) (ops.is_idle c.ops.phase) (asked_of s r command) c.ops _ h
+  handled_phase c (event.Retire q) h k = h
+
+  -- ---- the post
+
+  churn_post : (me : ℕ) (v : ViewMap) (m : Message) (s t : churn.Churn) → Q v → IfSome (churn.post_of me v m s t) OfMessage
+  churn_post me v (message.Enter q) s t h = h
+  churn_post me v (message.EnterEcho c w j q) s t h = some_if OfMessage _ (message.Join me) tt
+  churn_post me v (message.Join q) s t h = tt
+  churn_post me v (message.JoinEcho q) s t h = tt
+  churn_post me v (message.Leave q) s t h = tt
+  churn_post me v (message.LeaveEcho q) s t h = tt
+  churn_post me v (message.Query tag q) s t h = tt
+  churn_post me v (message.QueryReply w tag q) s t h = tt
+  churn_post me v (message.Store w tag q) s t h = tt
+  churn_post me v (message.StoreAck tag q) s t h = tt
+
+  first_post : (me : ℕ) (a : Asked) (s : Ops) → Q s.view → OfMessage (ops.first_post me a s)
+  first_post me a s h =
+      elim (is_writing a.command) as (λ b. OfMessage (if b then message.Store s.view s.tag me else message.Query s.tag me)) [
+        | true ↦ h
+        | false ↦ tt
+      ]
+
+  ops_post : (me : ℕ) (joined : Bool) (m : Message) (s t : Ops) → Q t.view → IfSome (ops.post_of me joined m s t) OfMessage
+  ops_post me joined (message.Enter q) s t h = tt
+  ops_post me joined (message.EnterEcho c w j q) s t h = tt
+  ops_post me joined (message.Join q) s t h = tt
+  ops_post me joined (message.JoinEcho q) s t h = tt
+  ops_post me joined (message.Leave q) s t h = tt
+  ops_post me joined (message.LeaveEcho q) s t h = tt
+  ops_post me joined (message.Query tag q) s t h = some_if OfMessage joined (message.QueryReply t.view tag q) h
+  ops_post me joined (message.QueryReply w tag q) s t h = some_if OfMessage _ (message.Store t.view t.tag me) h
+  ops_post me joined (message.Store w tag q) s t h = some_if OfMessage joined (message.StoreAck tag q) tt
+  ops_post me joined (message.StoreAck tag q) s t h = some_mapped OfMessage (λ a. ops.first_post me a t) (ops.begun_by me (message.StoreAck tag q) s) (λ a. first_post me a t h)
+
+  pub post_shows : (c : Core) (e : Event) → Q (handled c e).ops.view → IfSome (post c e) OfMessage
+  post_shows c event.Enter h = tt
+  post_shows c event.Leave h = tt
+  post_shows c (event.Deliver from n m) h =
+      let d = handled c (event.Deliver from n m) in
+      some_or OfMessage _ _ (churn_post d.me d.ops.view m c.churn d.churn h) (ops_post d.me _ m c.ops d.ops h)
+  post_shows c (event.Acked peer n) h = tt
+  post_shows c (event.Ask s r command) h =
+      let d = handled c (event.Ask s r command) in
+      some_mapped OfMessage (λ a. ops.first_post c.me a d.ops) (begun c (event.Ask s r command)) (λ a. first_post c.me a d.ops h)
+  post_shows c (event.Retire q) h = tt
+
+  -- ---- the answer
+
+  answer_shows : (k : Command) (v : ViewMap) → Q v → OfAnswer (answer_of k v)
+  answer_shows (command.Store text) v h = tt
+  answer_shows command.Collect v h = h
+  answer_shows (command.WriteMax x) v h = tt
+  answer_shows command.ReadMax v h = tt
+  answer_shows command.SetFlag v h = tt
+  answer_shows command.ReadFlag v h = tt
+  answer_shows (command.AddMember x) v h = tt
+  answer_shows command.ReadSet v h = tt
+
+  abbrev pub OfReply : Reply → Type 0
+  OfReply r = OfAnswer r.answer
+
+  reply_in : (v : ViewMap) (phase : Phase) → Q v → OfPhase phase → IfSome (ops.reply_in v phase) OfReply
+  reply_in v Idle h k = tt
+  reply_in v (Storing p) h k = some_if OfReply (ops.is_last p) (ops.told p v) (answer_shows p.asked.command v h)
+  reply_in v (Querying p) h k = tt
+  reply_in v (StoringBack p seen) h k = some_if OfReply (ops.is_last p) (ops.told p seen) (answer_shows p.asked.command seen k)
+
+  reply_of : (me : ℕ) (m : Message) (s : Ops) → Q s.view → OfPhase s.phase → IfSome (ops.reply_of me m s) OfReply
+  reply_of me (message.Enter q) s h k = tt
+  reply_of me (message.EnterEcho c v j q) s h k = tt
+  reply_of me (message.Join q) s h k = tt
+  reply_of me (message.JoinEcho q) s h k = tt
+  reply_of me (message.Leave q) s h k = tt
+  reply_of me (message.LeaveEcho q) s h k = tt
+  reply_of me (message.Query tag q) s h k = tt
+  reply_of me (message.QueryReply v tag q) s h k = tt
+  reply_of me (message.Store v tag q) s h k = tt
+  reply_of me (message.StoreAck tag q) s h k = some_of OfReply (ops.is_own me tag q s) (ops.reply_in s.view s.phase) None (reply_in s.view s.phase h k) tt
+
+  pub reply_shows : (c : Core) (e : Event) → Q c.ops.view → OfPhase c.ops.phase → IfSome (reply c e) OfReply
+  reply_shows c event.Enter h k = tt
+  reply_shows c event.Leave h k = tt
+  reply_shows c (event.Deliver from n m) h k = reply_of c.me m c.ops h k
+  reply_shows c (event.Acked peer n) h k = tt
+  reply_shows c (event.Ask s r command) h k = tt
+  reply_shows c (event.Retire q) h k = tt

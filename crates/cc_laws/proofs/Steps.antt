@@ -1,0 +1,123 @@
+-- What one event makes of the view: it is as before, or has one more own row, or is merged with what the event brings.
+--     with_row me s o      the view with the own row of the write that begins, if one begins
+--     ViewStep, view_step
+use Rattle.std.proofs.Common.{◌≡◌, ◌⊎◌, inl, inr, ℕ, ◌+◌, Bool, true, false, List, [], ◌∷◌, refl}
+use Rattle.std.specs.Prelude.{Option, Some, None, if◌then◌else◌}
+use Rattle.std.specs.Bool.{then_some}
+use Rattle.cc_views.specs.Rows.{ViewMap, single}
+use Rattle.cc_views.specs.Merge.{merge}
+use Rattle.cc_wire.specs.declared.event.Event.{Event}
+use Rattle.cc_wire.specs.declared.event.Event.TheVariants as event
+use Rattle.cc_wire.specs.declared.message.Message.{Message}
+use Rattle.cc_wire.specs.declared.message.Message.TheVariants as message
+use Rattle.cc_ops.specs.declared.pending.Asked.{Asked}
+use Rattle.cc_ops.specs.Commands.{is_writing, written}
+use Rattle.cc_ops.specs.Ops.{Ops, Phase, Idle, Storing, Querying, StoringBack, is_idle, is_last, is_own, round_of, counted, merged, next_round, with_written, with_own_row, with_begun, after_reply, after_last, after_ack, after_message, begun_in, begun_by}
+use Rattle.cc_ops.specs.Waiting.{first_in}
+use Rattle.cc_node.specs.Core.{Core, quorum, asked_of, begun, next}
+use Rattle.cc_laws.specs.Shown.{in_message, in_event}
+
+-- the own row of a write, under the next number
+abbrev pub row_of : ℕ → Ops → Asked → ViewMap
+row_of me s a = single (record { node = me; number = s.number + 1; value = written a.command s.mine })
+
+abbrev pub with_row : ℕ → Ops → Option Asked → ViewMap
+with_row me s None = s.view
+with_row me s (Some a) = if is_writing a.command then merge s.view (row_of me s a) else s.view
+
+begun_view : (me quorum : ℕ) (a : Asked) (s : Ops) → (with_begun me quorum a s).view ≡ with_row me s (Some a)
+begun_view me quorum a s =
+    elim (is_writing a.command)
+    as (λ b. (if b then next_round (Storing (round_of quorum a)) (with_own_row me (with_written a.command s)) else next_round (Querying (round_of quorum a)) s).view
+    ≡ (if b then merge s.view (row_of me s a) else s.view)) [
+      | true ↦ refl
+      | false ↦ refl
+    ]
+
+last_view : (me quorum : ℕ) (line : List Asked) (s : Ops) → (after_last me quorum line s).view ≡ with_row me s (first_in line)
+last_view me quorum [] s = refl
+last_view me quorum (a ∷ line) s = begun_view me quorum a (record s { line = line })
+
+either_last : (me quorum : ℕ) (b : Bool) (phase : Phase) (s : Ops)
+    → (if b then after_last me quorum s.line s else record s { phase = phase }).view ≡ with_row me s (if b then first_in s.line else None)
+either_last me quorum true phase s = last_view me quorum s.line s
+either_last me quorum false phase s = refl
+
+ack_view : (me quorum : ℕ) (phase : Phase) (s : Ops) → (after_ack me quorum phase s).view ≡ with_row me s (begun_in phase s.line)
+ack_view me quorum Idle s = refl
+ack_view me quorum (Storing p) s = either_last me quorum (is_last p) (Storing (counted p)) s
+ack_view me quorum (Querying p) s = refl
+ack_view me quorum (StoringBack p seen) s = either_last me quorum (is_last p) (StoringBack (counted p) seen) s
+
+own_ack_view : (me quorum : ℕ) (b : Bool) (s : Ops) → (if b then after_ack me quorum s.phase s else s).view ≡ with_row me s (if b then begun_in s.phase s.line else None)
+own_ack_view me quorum true s = ack_view me quorum s.phase s
+own_ack_view me quorum false s = refl
+
+ask_view : (me quorum : ℕ) (b : Bool) (a : Asked) (s : Ops) (line : List Asked)
+    → (if b then with_begun me quorum a s else record s { line = line }).view ≡ with_row me s (then_some b a)
+ask_view me quorum true a s line = begun_view me quorum a s
+ask_view me quorum false a s line = refl
+
+-- before s, and after
+abbrev IsAsBefore : ViewMap → ViewMap → ViewMap → Type 0
+IsAsBefore before v after = (after ≡ before) ⊎ (after ≡ merge before v)
+
+either_view : (b : Bool) (before v : ViewMap) (t u : Ops) → IsAsBefore before v t.view → IsAsBefore before v u.view → IsAsBefore before v (if b then t else u).view
+either_view true before v t u h k = h
+either_view false before v t u h k = k
+
+reply_view : (quorum : ℕ) (v : ViewMap) (phase : Phase) (s : Ops) → IsAsBefore s.view v (after_reply quorum v phase s).view
+reply_view quorum v Idle s = inl refl
+reply_view quorum v (Storing p) s = inl refl
+reply_view quorum v (Querying p) s =
+    either_view (is_last p) s.view v (next_round (StoringBack (round_of quorum p.asked) (merge s.view v)) (merged v s)) (record (merged v s) { phase = Querying (counted p) }) (inr refl) (inr refl)
+reply_view quorum v (StoringBack p seen) s = inl refl
+
+-- what an event may bring, whether it lets an ask begin, the view that this leaves, and the view after it
+pub record Brings (brought : Option ViewMap) (o : Option Asked) (before after : ViewMap) : Type 0 where
+  pub view : ViewMap
+  pub is_brought : brought ≡ Some view
+  pub none_begins : o ≡ None
+  pub merges : after ≡ merge before view
+
+abbrev pub ViewStep : ℕ → Ops → Option ViewMap → Option Asked → ViewMap → Type 0
+ViewStep me s brought o after = (after ≡ with_row me s o) ⊎ Brings brought o s.view after
+
+brings : (s : Ops) (v after : ViewMap) → after ≡ merge s.view v → Brings (Some v) None s.view after
+brings s v after is = record { view = v; is_brought = refl; none_begins = refl; merges = is }
+
+-- where nothing begins
+as_before : (me : ℕ) (s : Ops) (v after : ViewMap) → IsAsBefore s.view v after → ViewStep me s (Some v) None after
+as_before me s v after (inl same) = inl same
+as_before me s v after (inr more) = inr (brings s v after more)
+
+message_step : (me quorum : ℕ) (m : Message) (s : Ops) → ViewStep me s (in_message m) (begun_by me m s) (after_message me quorum m s).view
+message_step me quorum (message.Enter q) s = inl refl
+message_step me quorum (message.EnterEcho c v j q) s = inr (brings s v _ refl)
+message_step me quorum (message.Join q) s = inl refl
+message_step me quorum (message.JoinEcho q) s = inl refl
+message_step me quorum (message.Leave q) s = inl refl
+message_step me quorum (message.LeaveEcho q) s = inl refl
+message_step me quorum (message.Query tag q) s = inl refl
+message_step me quorum (message.QueryReply v tag q) s =
+    as_before me s v _ (either_view (is_own me tag q s) s.view v (after_reply quorum v s.phase s) s (reply_view quorum v s.phase s) (inl refl))
+message_step me quorum (message.Store v tag q) s = inr (brings s v _ refl)
+message_step me quorum (message.StoreAck tag q) s = inl (own_ack_view me quorum (is_own me tag q s) s)
+
+pub view_step : (c : Core) (e : Event) → ViewStep c.me c.ops (in_event e) (begun c e) (next c e).ops.view
+unfolding next
+view_step c event.Enter = inl refl
+view_step c event.Leave = inl refl
+view_step c (event.Deliver from n m) = message_step c.me (quorum c) m c.ops
+view_step c (event.Acked peer n) = inl refl
+view_step c (event.Ask s r command) = inl (ask_view c.me (quorum c) (is_idle c.ops.phase) (asked_of s r command) c.ops _)
+view_step c (event.Retire q) = inl refl
+
+pub me_next : (c : Core) (e : Event) → (next c e).me ≡ c.me
+unfolding next
+me_next c event.Enter = refl
+me_next c event.Leave = refl
+me_next c (event.Deliver from n m) = refl
+me_next c (event.Acked peer n) = refl
+me_next c (event.Ask s r command) = refl
+me_next c (event.Retire q) = refl

@@ -1,0 +1,10 @@
+use Rattle.cc_laws.proofs.Following.{next_follows, views_follow, comparable, one_value}
+use Rattle.cc_laws.proofs.histories.views_follow.Goals as goal
+
+pub returns : goal.returns
+returns c = record {
+  event = next_follows;
+  goes_on = views_follow;
+  comparable = comparable;
+  one_value = one_value;
+}

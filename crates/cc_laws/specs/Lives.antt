@@ -1,0 +1,53 @@
+-- The lives of a node, from one opening to the next. A life ends as a crash leaves it, or as a process does that ends.
+--     Life                       its events, which of them are surely durable, and what its last moment left
+--     IsLifeOf n l               the node lived so: its events weren't refused, and its last moment was good for them
+--     LivesFrom n ls m           a node lived so, life after life, and opening what the last left gives m
+--     put_by, put_along          the outputs that a life put;  that lives put
+--     IsPut ls v                 a view that they put
+--     IsHistoryOf n ls m es      one list of events is the history of all these lives
+use Rattle.std.specs.Prelude.{◌≡◌, ℕ, List, [], ◌∷◌, ◌++◌, drop, Some}
+use Rattle.std.specs.List.{Contains}
+use Rattle.cc_views.specs.Rows.{ViewMap}
+use Rattle.cc_wire.specs.declared.event.Event.{Event}
+use Rattle.cc_wire.specs.declared.output.Output.{Output}
+use Rattle.cc_site.specs.declared.site.Side.TheVariants.{A, B}
+use Rattle.cc_site.specs.Moments.{Contents}
+use Rattle.cc_node.specs.Node.{Node, after, MayBeOut, IsLawful}
+use Rattle.cc_node.specs.Sides.{Stands}
+use Rattle.cc_node.specs.Good.{IsGoodAt}
+use Rattle.cc_laws.specs.Shown.{in_output}
+
+pub record Life : Type 0 where
+  pub events : List Event
+  -- the first so many events were said to be durable
+  pub durable : ℕ
+  -- how much the outlet had got when the life began
+  pub opening : ℕ
+  -- what the last moment left of both sides, and all that the outlet had got by then
+  pub left : Contents
+  pub told : List Output
+
+-- each call's contract says of each moment that it is good, whatever a crash leaves then
+pub record IsLifeOf (n : Node) (l : Life) : Type 0 where
+  pub lawful : IsLawful n l.events
+  pub good : IsGoodAt n l.events l.durable l.opening (l.left A) (l.left B) l.told
+
+abbrev pub LivesFrom : Node → List Life → Node → Type 0
+LivesFrom n [] m = m ≡ n
+LivesFrom n (l ∷ ls) m = IsLifeOf n l × (next : Node) × Stands (l.left A) (l.left B) next × LivesFrom next ls m
+
+abbrev pub put_by : Life → List Output
+put_by l = drop l.opening l.told
+
+abbrev pub put_along : List Life → List Output
+put_along [] = []
+put_along (l ∷ ls) = put_by l ++ put_along ls
+
+abbrev pub IsPut : List Life → ViewMap → Type 0
+IsPut ls v = (o : Output) × Contains (put_along ls) o × (in_output o ≡ Some v)
+
+-- no event of it is refused, it leads from the first start to the last opening, and what the lives put was made along it
+pub record IsHistoryOf (n : Node) (ls : List Life) (m : Node) (es : List Event) : Type 0 where
+  pub lawful : IsLawful n es
+  pub leads_to : m ≡ after n es
+  pub made : (o : Output) → Contains (put_along ls) o → MayBeOut n es o

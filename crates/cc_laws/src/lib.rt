@@ -1,0 +1,10 @@
+//! The laws of a node's whole life, crashes included, and of a cluster. Each is a function whose contract is the law.
+#![tactic(auto)]
+
+mod clusters;
+mod histories;
+mod lives;
+
+pub use clusters::cluster_agrees;
+pub use histories::{one_line, outputs_have_events, views_follow};
+pub use lives::{lives_hold, lives_join, moments_end_lives};
