@@ -4,6 +4,8 @@
 #[cfg(test)]
 mod checkpoints;
 #[cfg(test)]
+mod choosing;
+#[cfg(test)]
 mod files;
 #[cfg(test)]
 mod memory_sites;

@@ -248,8 +248,8 @@ pub fn calls_of_opening(alloc: Global, site: &MemorySite) -> Result<u64, Fail> {
     Ok(calls)
 }
 
-// A checkpoint of this site, of which the disk call with that number fails, from its opening on.
-fn stopped_at(
+/// A checkpoint of this site, of which the disk call with that number fails, from its opening on.
+pub fn stopped_at(
     alloc: Global,
     from: &MemorySite,
     at: u64,

@@ -2,13 +2,19 @@
 #![tactic(auto)]
 
 #[cfg(test)]
+mod acknowledgements;
+#[cfg(test)]
 mod checkpoints;
 #[cfg(test)]
 mod commits;
 #[cfg(test)]
 mod counts;
 #[cfg(test)]
+mod cuts;
+#[cfg(test)]
 mod lives;
+#[cfg(test)]
+mod long_states;
 #[cfg(test)]
 mod openings;
 #[cfg(test)]

@@ -14,8 +14,8 @@ use cc_wire::{Event, Message, Output};
 use std::alloc::Global;
 use std::test::*;
 
-// The gate behind the state of entrant 4, open, the record of one Enter, and the next gate.
-const ENTERED: [u8; 12] = [0xA5, 0, 0, 0, 6, 1, 0, 0, 0, 1, 1, 0];
+/// The gate behind the state of entrant 4, open, the record of one Enter, and the next gate.
+pub const ENTERED: [u8; 12] = [0xA5, 0, 0, 0, 6, 1, 0, 0, 0, 1, 1, 0];
 
 // Formats a site for a node that begins so, with both shares 4/5.
 pub fn formatted(

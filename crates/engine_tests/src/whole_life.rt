@@ -163,7 +163,8 @@ fn event_at(alloc: Global, node: &Node, at: usize) -> Result<Event, Fail> {
     }
 }
 
-fn settle(alloc: Global, node: &mut Node, event: Event) -> Result<(), Fail> {
+/// A node takes an event in, which it doesn't refuse.
+pub fn settle(alloc: Global, node: &mut Node, event: Event) -> Result<(), Fail> {
     node.core().decide(&event)?;
     let made = node.core().made(alloc, &event)?;
     node.settle(event, made);

@@ -103,3 +103,40 @@ fn who_left_is_not_present(rt: HostRuntime) -> Result<(), Fail> {
     drop(changes);
     checked
 }
+
+// Node 4 has entered, node 6 has joined, and node 7 has left.
+fn known(alloc: Global) -> Result<Changes, Fail> {
+    let entered = only(alloc, 4)?;
+    let joined = only(alloc, 6)?;
+    let left = only(alloc, 7)?;
+    Ok(Changes::from_sets(entered, joined, left))
+}
+
+fn check_known<R: Abort>(rt: &R, mine: &Changes, other: &Changes) -> Result<(), Fail> {
+    let (six, seven) = (id(6)?, id(7)?);
+    assert_eq!(rt;
+        (mine.joined(), mine.left()),
+        ([six].as_slice(), [seven].as_slice())
+    );
+    // Nodes 4, 2 and 1, of which none has left.
+    assert_eq!(rt;
+        (mine.present_count_with(other), mine.present_count()),
+        (3, 1)
+    );
+    Ok(())
+}
+
+fn check_other<R: Abort + AllocGlobal>(rt: &R, mine: &Changes) -> Result<(), Fail> {
+    let other = told(rt.alloc(), 2, 1)?;
+    let checked = check_known(rt, mine, &other);
+    drop(other);
+    checked
+}
+
+#[test]
+fn what_is_told_would_make_more_present(rt: HostRuntime) -> Result<(), Fail> {
+    let mine = known(rt.alloc())?;
+    let checked = check_other(&rt, &mine);
+    drop(mine);
+    checked
+}

@@ -180,3 +180,36 @@ fn a_node_joins_and_is_asked(rt: HostRuntime) -> Result<(), Fail> {
     drop(churn);
     checked
 }
+
+// Node 4 has entered and left.
+fn gone(alloc: Global) -> Result<Changes, Fail> {
+    let entered = only(alloc, 4)?;
+    let joined = IdSet::new(alloc)?;
+    let left = only(alloc, 4)?;
+    Ok(Changes::from_sets(entered, joined, left))
+}
+
+// Why a node with these changes and three echoes can't leave and can't take a message, and how many echoes it tells.
+fn decided(changes: Changes, me: NodeId) -> (Result<(), Refusal>, Result<(), Refusal>, u64) {
+    let churn = Churn::from_parts(changes, 3, 4);
+    let decided = (
+        churn.decide_leave(me),
+        churn.decide_delivery(me),
+        churn.echoes(),
+    );
+    drop(churn);
+    decided
+}
+
+#[test]
+fn only_who_is_inside_leaves_and_hears(rt: HostRuntime) -> Result<(), Fail> {
+    let (four, five) = (id(4)?, id(5)?);
+    let of_four = decided(entered(rt.alloc())?, four);
+    let of_five = decided(entered(rt.alloc())?, five);
+    let of_gone = decided(gone(rt.alloc())?, four);
+    let (outside, left) = (Err(Refusal::NotEntered), Err(Refusal::Left));
+    assert_eq!(rt; of_four, (Ok(()), Ok(()), 3));
+    assert_eq!(rt; of_five, (outside, outside, 3));
+    assert_eq!(rt; of_gone, (left, left, 3));
+    Ok(())
+}

@@ -8,6 +8,8 @@ mod churn;
 #[cfg(test)]
 mod formats;
 #[cfg(test)]
+mod lines;
+#[cfg(test)]
 mod links;
 #[cfg(test)]
 mod objects;

@@ -5,7 +5,7 @@ ghost use Rattle.std.specs.FinMap.{len};
 ghost use Rattle.cc_links.specs.Links.{ReachesWithin};
 
 use cc_links::{KnownIds, LinkRow, Links};
-use cc_views::NodeId;
+use cc_views::{NodeId, Row, Value};
 use std::alloc::Global;
 use std::process::Abort;
 use std::test::*;
@@ -136,6 +136,31 @@ fn rows_stand_by_ascending_peer(rt: HostRuntime) -> Result<(), Fail> {
     links.add_all(&[fifth, third, fifth], 0);
     check_rows(&rt, &links);
     drop(links);
+    Ok(())
+}
+
+// A row of a view, with nothing in it.
+fn row_of_view(node: u32) -> Result<Row, Fail> {
+    Ok(Row {
+        node: id(node)?,
+        number: 0,
+        value: Value::empty(),
+    })
+}
+
+#[test]
+#[tactic(auto, using(cc_links::specs::LinkLaws::len_add))]
+fn the_nodes_of_a_view_get_links(rt: HostRuntime) -> Result<(), Fail> {
+    let (third, fifth) = (row_of_view(3)?, row_of_view(5)?);
+    let mut links = Links::new(rt.alloc())?;
+    links.add_nodes(&[third, fifth], 2);
+    check_rows(&rt, &links);
+    let numbers = (
+        links.wire_number(third.node, 3),
+        links.wire_number(fifth.node, 2),
+    );
+    drop(links);
+    assert_eq!(rt; numbers, (Some(1), None));
     Ok(())
 }
 

@@ -3,9 +3,10 @@
 ghost use Rattle.std.specs.Prelude.{◌≡◌, ◌+◌, ◌≤◌, IfOk};
 ghost use Rattle.std.specs.FinMap.{len};
 
-use cc_objects::{SetFull, add_member, set_of};
-use cc_views::{NodeId, Row, Value, View};
+use cc_objects::{SetFull, add_member, flag_of, max_of, set_flag, set_of, write_max, write_text};
+use cc_views::{NodeId, Row, Text, Value, View};
 use std::alloc::Global;
+use std::process::Abort;
 use std::test::*;
 
 // A row with number 0 and these members.
@@ -57,4 +58,57 @@ fn a_full_set_takes_only_its_members(rt: HostRuntime) -> Result<(), Fail> {
     assert_eq!(rt; add_member(&value, 32), Err(SetFull));
     assert_eq!(rt; add_member(&value, 7)?, value);
     Ok(())
+}
+
+#[test]
+fn a_write_changes_one_slot(rt: HostRuntime) -> Result<(), Fail> {
+    let text = Text::new(b"a").ok_or("a is a text")?;
+    let empty = Value::empty();
+    let named = write_text(&empty, text);
+    let raised = write_max(&write_max(&named, 5), 3);
+    let flagged = set_flag(&raised);
+    assert_eq!(rt; (named.text, named.max, named.flag), (text, 0, false));
+    assert_eq!(rt; (raised.text, raised.max, raised.flag), (text, 5, false));
+    assert_eq!(rt; (flagged.text, flagged.max, flagged.flag), (text, 5, true));
+    assert_eq!(rt;
+        (empty.text, empty.set, flagged.set),
+        (Text::empty(), empty.set, empty.set)
+    );
+    Ok(())
+}
+
+// A row with number 0, that maximum, and that flag.
+fn row_of(node: u32, max: u64, is_set: bool) -> Result<Row, Fail> {
+    let value = write_max(&Value::empty(), max);
+    Ok(Row {
+        node: NodeId::new(node).ok_or("an id is at least 1")?,
+        number: 0,
+        value: if is_set { set_flag(&value) } else { value },
+    })
+}
+
+// Checks what is read of no row, of the first one, and of both.
+#[tactic(auto, using(cc_views::specs::MergeLaws::merge_row_is_no_larger))]
+fn check_reads<R: Abort>(rt: &R, view: &mut View) -> Result<(), Fail>
+    requires { len view.old ≡ 0 }
+{
+    let (first, second) = (row_of(1, 9, false)?, row_of(2, 5, true)?);
+    let of_none = (max_of(view), flag_of(view));
+    view.merge_row(first);
+    let of_one = (max_of(view), flag_of(view));
+    view.merge_row(second);
+    let of_both = (max_of(view), flag_of(view));
+    assert_eq!(rt;
+        [of_none, of_one, of_both],
+        [(0, false), (9, false), (9, true)]
+    );
+    Ok(())
+}
+
+#[test]
+fn a_read_goes_over_all_rows(rt: HostRuntime) -> Result<(), Fail> {
+    let mut view = View::new(rt.alloc())?;
+    let checked = check_reads(&rt, &mut view);
+    drop(view);
+    checked
 }

@@ -111,3 +111,30 @@ fn a_copy_stays_as_it_was(rt: HostRuntime) -> Result<(), Fail> {
     drop(view);
     checked
 }
+
+// The node and the text of a view's only row.
+fn only_row(view: &View) -> Option<(u32, Text)> {
+    let [row] = view.rows() else {
+        return None;
+    };
+    Some((row.node.number(), row.value.text))
+}
+
+fn take_over(alloc: Global, to: &mut View) -> Result<(), Fail> {
+    let other = view(alloc, 2, b"b")?;
+    to.copy_from(&other);
+    drop(other);
+    Ok(())
+}
+
+#[test]
+fn rows_are_taken_over(rt: HostRuntime) -> Result<(), Fail> {
+    let text = Text::new(b"b").ok_or("b is a text")?;
+    let mut view = view(rt.alloc(), 1, b"a")?;
+    let taken = take_over(rt.alloc(), &mut view);
+    let row = only_row(&view);
+    drop(view);
+    taken?;
+    assert_eq!(rt; row, Some((2, text)));
+    Ok(())
+}
