@@ -1,5 +1,5 @@
 # The commands of the README. The toolchain is Rattle's kit, with its command rt on the PATH.
-.PHONY: try run test check bench edits refused-growths kill-files cluster load kill-cluster soak many-sessions costs \
+.PHONY: try run test check bench edits refused-growths kill-files cluster load kill-cluster soak hostile many-sessions costs \
     worked-rows
 
 # Plays the script that ships with the program before any proof.
@@ -80,6 +80,12 @@ kill-cluster:
 soak:
 	@$(BUILD); build ccnode
 	@python3 tools/soak.py crates/ccnode/out/ccnode
+
+# Has clients misuse a node on loopback: idle connections, a flood of asks, one that never reads, zeros without end. It
+# fails where the node doesn't answer afterwards: a minute at most.
+hostile:
+	@$(BUILD); build ccnode
+	@python3 tools/hostile.py crates/ccnode/out/ccnode
 
 # Plays a script of nearly 10,000 lines over 16 nodes with four sessions each, and checks the answers: half a minute.
 many-sessions:
