@@ -1,5 +1,5 @@
 #!/usr/bin/env python3
-"""Runs a node on loopback, has clients misuse it in turn, and asks it after each whether it still serves.
+"""Runs two nodes on loopback, has clients misuse one of them in turn, and asks it after each whether it still serves.
 
 usage: hostile.py PROGRAM
 
@@ -17,8 +17,8 @@ import nodes
 from nodes import client, say
 
 CONNECTIONS = 1_100
-# A part of 1,024 connections is kept for the machines of peers.
-STRANGERS = 768
+# How many connections a node takes. Here all come from the machine of its peer.
+LIMIT = 1_024
 ASKS = 10_000
 # A client that never reads is closed once so many bytes wait for it, beside what the system's buffers hold.
 NEVER_READ = 400_000
@@ -35,7 +35,7 @@ def connected(address):
 
 
 def idle_connections(address):
-    """Opens connections that say nothing. The node closes those above its limit for strangers."""
+    """Opens connections that say nothing. The node closes those above its limit."""
     idle = [connected(address) for _ in range(CONNECTIONS)]
     time.sleep(2)
     poll = select.poll()
@@ -44,7 +44,7 @@ def idle_connections(address):
     closed = len(poll.poll(0))
     for connection in idle:
         connection.close()
-    if CONNECTIONS - closed != STRANGERS:
+    if CONNECTIONS - closed > LIMIT:
         raise Failure(f"{closed} of {CONNECTIONS} were closed")
     return f"{CONNECTIONS} opened, {closed} closed by the node"
 
@@ -109,7 +109,7 @@ def check(cluster):
 def main(program):
     files = resource.getrlimit(resource.RLIMIT_NOFILE)[1]
     resource.setrlimit(resource.RLIMIT_NOFILE, (min(4096, files), files))
-    with nodes.Cluster(program, 1) as cluster:
+    with nodes.Cluster(program, 2) as cluster:
         cluster.start_all()
         cluster.wait_until_ready()
         host, port = cluster.address(1).rsplit(":", 1)
