@@ -1,6 +1,6 @@
 # The commands of the README. The toolchain is Rattle's kit, with its command rt on the PATH.
-.PHONY: try run test check bench edits refused-growths kill-files cluster load kill-cluster soak hostile many-sessions costs \
-    worked-rows
+.PHONY: try run install test check bench edits refused-growths kill-files cluster load kill-cluster soak hostile \
+    many-sessions costs worked-rows
 
 # Plays the script that ships with the program before any proof.
 try:
@@ -16,6 +16,12 @@ run:
 	@$(BUILD); build ccnode
 	@echo '$$ ccnode play < crates/ccnode/stdin'
 	@./crates/ccnode/out/ccnode play < crates/ccnode/stdin
+
+# Installs the program that `make run` has built, and its man page. PREFIX=/opt/ccnode puts them elsewhere.
+PREFIX = /usr/local
+install:
+	install -D crates/ccnode/out/ccnode $(DESTDIR)$(PREFIX)/bin/ccnode
+	install -D -m 644 docs/ccnode.1 $(DESTDIR)$(PREFIX)/share/man/man1/ccnode.1
 
 # Proves every crate from nothing, tries the edits that must fail, and runs the tests and the programs.
 test:
@@ -37,7 +43,8 @@ bench:
 	@bash -c 'time ./crates/ccnode/out/ccnode play < largest_script.log | wc -lc'
 	@rm -f largest_script.log
 
-# Tries all edits of some crates, those of the gate and those beside it: make edits CRATES="cc_views cc_wire", or CRATES=all
+# Tries all edits of some crates, those of the gate and those beside it: make edits CRATES="cc_views cc_wire", or
+# CRATES=all.
 edits:
 	@bash tools/edits.sh $(CRATES)
 
@@ -50,20 +57,21 @@ refused-growths:
 	@rm -f growths.log
 	@bash tools/refused_growths.sh $(CRATES)
 
-# Kills a node that writes on two files a thousand times with SIGKILL, and opens it again: about two minutes. KILLS=100 does
-# fewer.
+# Kills a node that writes on two files a thousand times with SIGKILL, and opens it again: about two minutes. KILLS=100
+# does fewer.
 KILLS = 1000
 kill-files:
 	@$(BUILD); build ccnode; build file_writer
 	@bash tools/kill_files.sh crates/file_writer/out/file_writer crates/ccnode/out/ccnode $(KILLS)
 
-# Runs three nodes on loopback, asks each, kills one, asks on, starts it again, and shows that all three collect the same.
-# It takes a few seconds, once the program is built, and ends all that it started.
+# Runs three nodes on loopback, asks each, kills one, asks on, starts it again, and shows that all three collect the
+# same. It takes a few seconds, once the program is built, and ends all that it started.
 cluster:
 	@$(BUILD); build ccnode
 	@bash tools/cluster.sh crates/ccnode/out/ccnode
 
-# Measures three nodes on loopback under 1, 8 and 64 clients beside the disk's own syncs: about two minutes. It fails nothing.
+# Measures three nodes on loopback under 1, 8 and 64 clients beside the disk's own syncs: about two minutes. It fails
+# nothing.
 load:
 	@$(BUILD); build ccnode
 	@python3 tools/load.py crates/ccnode/out/ccnode
@@ -75,8 +83,8 @@ kill-cluster:
 	@$(BUILD); build ccnode
 	@python3 tools/kill_cluster.py crates/ccnode/out/ccnode $(KILLS)
 
-# Runs five nodes under load through a slow disk, a stopped node, two halves and a dead node: about three minutes. It needs
-# a C compiler.
+# Runs five nodes under load through a slow disk, a stopped node, two halves and a dead node: about three minutes. It
+# needs a C compiler.
 soak:
 	@$(BUILD); build ccnode
 	@python3 tools/soak.py crates/ccnode/out/ccnode
@@ -92,10 +100,12 @@ many-sessions:
 	@$(BUILD); build ccnode
 	@python3 tools/many_sessions.py crates/ccnode/out/ccnode
 
-# Prints what each crate costs: its proof, its tests and its edits, in processor seconds with one job. CRATES=cc_ops does one.
+# Prints what each crate costs: its proof, its tests and its edits, in processor seconds with one job.
+# CRATES=cc_ops does one.
 costs:
 	@bash tools/costs.sh $(CRATES)
 
-# Tries the definitions on worked examples, by computation: a wrong value is refused. It takes a minute, and proves no crate.
+# Tries the definitions on worked examples, by computation: a wrong value is refused. It takes a minute, and proves no
+# crate.
 worked-rows:
 	@bash tools/worked_rows.sh

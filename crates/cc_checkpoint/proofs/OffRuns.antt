@@ -25,7 +25,7 @@ use Rattle.cc_node.specs.Fronts.{generation_held}
 use Rattle.cc_node.specs.Good.{AllMade, IsGoodAt, RestsAt}
 use Rattle.cc_node.specs.GoodLaws.{good_other_way, whole_good}
 use Rattle.cc_checkpoint.specs.Images.{image_holds}
-use Rattle.cc_checkpoint.specs.Checkpoints.{image_of, RestsOff, RestsNow, KeepsOff, ArmsFor, IsGood}
+use Rattle.cc_checkpoint.specs.Checkpoints.{image_of, RestsOff, RestsOn, KeepsOff, ArmsFor, IsGoodForAll}
 
 armed_there : (bytes : List ℕ) → IsArmed bytes → 1 ≤ length bytes
 armed_there [] is = absurd cc
@@ -46,7 +46,7 @@ gate_opened gate bytes new old read opened is =
 
 module _ {D : Type 0} (s : Ghosts D) (side : Side) where
   pub rest_after : (old new : D) → KeepsOff s side old new → CountsNow s new → (generation place : ℕ) (start : Node) (events : List Event) (opening : ℕ)
-      → RestsNow s old (other side) generation place start events opening → RestsNow s new (other side) generation place start events opening
+      → RestsOn s old (other side) generation place start events opening → RestsOn s new (other side) generation place start events opening
   rest_after old new keeps counts generation place start events opening rest =
       now_has s old new (RestsOff side generation place start events opening) (keeps generation place start events opening rest) counts
 
@@ -112,7 +112,7 @@ module _ {D : Type 0} (s : Ghosts D) (side : Side) (old : D) (next : ℕ) (start
         made = subst (AllMade start events opening) (sym outlet) before.made;
       }
 
-  pub arming_good : (left : Contents) (told : List Output) → Within side (touch (s.state old side) 0 1) (s.state old) (s.sent old) left told → IsGood start events opening left told
+  pub arming_good : (left : Contents) (told : List Output) → Within side (touch (s.state old side) 0 1) (s.state old) (s.sent old) left told → IsGoodForAll start events opening left told
   arming_good left told within =
       elim (gate_written arms.filled.gate (image_of next (after start events)) (left side) (subst (λ (state : SideState). MayLeave (touch state 0 1) (left side)) arms.filled.is within.this)) [
         | inl shut ↦
@@ -138,7 +138,7 @@ module _ {D : Type 0} (s : Ghosts D) (side : Side) (old : D) (next : ℕ) (start
           omega (arith, is.no_shorter, firm-touch (durable (arms.filled.gate ∷ image_of next (after start events))) 0 1)
 
   pub armed_rest : (new : D) → s.state new side ≡ settled (written (s.state old side) 0 (OPEN ∷ [])) → s.state new (other side) ≡ s.state old (other side) → s.sent new ≡ s.sent old
-      → RestsNow s new side next (length (image_of next (after start events))) start events opening
+      → RestsOn s new side next (length (image_of next (after start events))) start events opening
   armed_rest new opened same outlet left told possible =
       let whole : s.state new side ≡ durable (OPEN ∷ image_of next (after start events)) = opened ∙ ap (λ (state : SideState). settled (written state 0 (OPEN ∷ []))) arms.filled.is in
       let now : left side ≡ OPEN ∷ image_of next (after start events) = durable_only (OPEN ∷ image_of next (after start events)) (left side) (subst (λ (state : SideState). MayLeave state (left side)) whole (possible.each side)) in

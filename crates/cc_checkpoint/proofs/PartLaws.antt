@@ -4,7 +4,9 @@
 --     post_part, count_part, answer_part     which part stands at each place behind those of the core
 --     kept_row             the row at a place of the kept answers
 --     length-session_table, length-front     how long the table of sessions is;  how long the front of the tables is
---     next_part, joined_more   what is to come from a part on, and what came up to it
+--     one_part_more       what was put from a part on, with one part more
+--     joined_rest         what is left, where some parts were put
+--     joined_more         what came up to a part
 use Rattle.std.proofs.Common.{◌≡◌, true, ℕ, ◌+◌, ◌*◌, ◌-◌, ◌<◌, List, [], ◌∷◌, ◌++◌, length, map, get_or, take, drop, drop-cons, suc, add-one, refl, sym, ap, ◌∙◌, append_assoc, arith}
 use Rattle.std.specs.Int.{w16, w64, to_be_bytes}
 use Rattle.std.specs.List.{flat_map}
@@ -164,11 +166,29 @@ length-front c kept =
 
 -- ---- what is to come
 
-pub next_part : (parts : List (List ℕ)) (i : ℕ) → i < length parts → joined (drop i parts) ≡ get_or parts i [] ++ joined (drop (i + 1) parts)
-next_part parts i lt =
-    ap joined (drop-cons parts i [] lt)
-    ∙ flat_map-cons (λ part. part) (get_or parts i []) (drop (suc i) parts)
-    ∙ ap (λ (n : ℕ). get_or parts i [] ++ joined (drop n parts)) (sym (add-one i))
+-- these parts with one more behind them
+joined_one : (put : List (List ℕ)) (part : List ℕ) → joined (put ++ part ∷ []) ≡ joined put ++ part
+joined_one put part =
+    flat_map-append (λ part. part) put (part ∷ []) ∙ ap (λ (l : List ℕ). joined put ++ l) (flat_map-cons (λ part. part) part [] ∙ append-nil part)
+
+-- the parts from one on are those that were put, and those from a later one on
+abbrev pub Puts : List (List ℕ) → ℕ → ℕ → List ℕ → Type 0
+Puts parts from at bytes = (put : List (List ℕ)) × (drop from parts ≡ put ++ drop at parts) × (bytes ≡ joined put)
+
+pub one_part_more : (parts : List (List ℕ)) (from i : ℕ) (old new : List ℕ) → i < length parts → new ≡ old ++ get_or parts i []
+    → Puts parts from i old → Puts parts from (i + 1) new
+one_part_more parts from i old new lt put (before, is, was) =
+    let part = get_or parts i [] in
+    let next : drop i parts ≡ part ∷ drop (i + 1) parts = drop-cons parts i [] lt ∙ ap (λ (n : ℕ). part ∷ drop n parts) (sym (add-one i)) in (
+      before ++ part ∷ [],
+      is ∙ ap (λ (l : List (List ℕ)). before ++ l) next ∙ sym (append_assoc before (part ∷ []) (drop (i + 1) parts)),
+      put ∙ ap (λ (l : List ℕ). l ++ part) was ∙ sym (joined_one before part),
+    )
+
+-- what is left is what some parts are, and the rest
+pub joined_rest : (left rest : List (List ℕ)) (bytes : List ℕ) → (put : List (List ℕ)) × (left ≡ put ++ rest) × (bytes ≡ joined put) → joined left ≡ bytes ++ joined rest
+joined_rest left rest bytes (put, is, are) =
+    ap joined is ∙ flat_map-append (λ part. part) put rest ∙ ap (λ (l : List ℕ). l ++ joined rest) (sym are)
 
 -- what was put, up to a part and with it
 pub joined_more : (parts : List (List ℕ)) (i : ℕ) → i < length parts → joined (take (i + 1) parts) ≡ joined (take i parts) ++ get_or parts i []

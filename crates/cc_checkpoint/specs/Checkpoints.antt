@@ -3,8 +3,8 @@
 --     IsShutNow, IsSurelyShut   a crash leaves no open gate;  it leaves none where a read gives none
 --     image_of, IsFilled        what stands behind the gate of a side that holds the node and no record;  the side has that, behind a closed gate
 --     Behind, StaysBehind       what changes lies behind the gate of one side;  so it is at each moment
---     RestsOff, RestsNow, KeepsOff     the other side holds the node, and this one yields;  from every history for which it does so, at each moment
---     IsGood                    the moment is good, with all events durable
+--     RestsOff, RestsOn, KeepsOff     the other side holds the node, and this one yields;  from every history for which it does so, at each moment
+--     IsGoodForAll                    the moment is good, with all events durable
 --     ArmsFor                   a history after which a side that was filled may be armed
 use Rattle.std.specs.Prelude.{true, ◌≡◌, ◌≢◌, ◌<◌, ℕ, List, ◌∷◌, length, take}
 use Rattle.cc_wire.specs.declared.event.Event.{Event}
@@ -52,26 +52,26 @@ abbrev pub RestsOff : Side → ℕ → ℕ → Node → List Event → ℕ → C
 RestsOff side generation place start events opening = SeenFrom (other side) (RestsAt generation place start events opening)
 
 -- the moment is good, with all events durable
-abbrev pub IsGood : Node → List Event → ℕ → Contents → List Output → Type 0
-IsGood start events opening = SeenFrom A (IsGoodAt start events (length events) opening)
+abbrev pub IsGoodForAll : Node → List Event → ℕ → Contents → List Output → Type 0
+IsGoodForAll start events opening = SeenFrom A (IsGoodAt start events (length events) opening)
 
 module _ {D : Type 0} (s : Ghosts D) where
   -- so it is at each moment
   abbrev pub StaysBehind : Side → D → D → Type 0
   StaysBehind side old new = EachMoment s old new (SeenFrom side (Behind (s.state old side) (s.state old (other side)) (s.sent old)))
 
-  abbrev pub RestsNow : D → Side → ℕ → ℕ → Node → List Event → ℕ → Type 0
-  RestsNow site side generation place start events opening = AfterCrash (s.state site) (s.sent site) (SeenFrom side (RestsAt generation place start events opening))
+  abbrev pub RestsOn : D → Side → ℕ → ℕ → Node → List Event → ℕ → Type 0
+  RestsOn site side generation place start events opening = AfterCrash (s.state site) (s.sent site) (SeenFrom side (RestsAt generation place start events opening))
 
   abbrev pub KeepsOff : Side → D → D → Type 0
   KeepsOff side old new =
-      (generation place : ℕ) (start : Node) (events : List Event) (opening : ℕ) → RestsNow old (other side) generation place start events opening
+      (generation place : ℕ) (start : Node) (events : List Event) (opening : ℕ) → RestsOn old (other side) generation place start events opening
       → EachMoment s old new (RestsOff side generation place start events opening)
 
   -- the other side holds the node under a lower generation than this one was filled with
   pub record ArmsFor (side : Side) (site : D) (next : ℕ) (start : Node) (events : List Event) (opening : ℕ) : Type 0 where
     pub generation : ℕ
     pub place : ℕ
-    pub rests : RestsNow site (other side) generation place start events opening
+    pub rests : RestsOn site (other side) generation place start events opening
     pub filled : IsFilled (s.state site side) next (after start events)
     pub above : generation < next

@@ -5,13 +5,14 @@
 --     CanBuild f      whether the parts of a node can be made of them
 use Rattle.std.specs.Prelude.{◌≤◌, ℕ, List, length}
 use Rattle.std.specs.Int.{w64}
-use Rattle.cc_views.specs.Limits.{counter_limit}
+use Rattle.cc_views.specs.Limits.{counter_limit, known_limit, session_limit}
 use Rattle.cc_views.specs.Tables.{IsRising, table_of}
 use Rattle.cc_views.specs.declared.value.Value.{Value}
 use Rattle.cc_wire.specs.Reading.{Reading, ◌⊗◌, number_at, value_at}
 use Rattle.cc_links.specs.Rows as links
 use Rattle.cc_sessions.specs.Rows as sessions
 use Rattle.cc_outbox.specs.Rows as answers
+use Rattle.cc_outbox.specs.Outbox.{post_limit}
 use Rattle.cc_ops.specs.Ops.{Phase}
 use Rattle.cc_ops.specs.Stages.{phase_of, HasWaiting, WaitsBehind, HasRoom}
 use Rattle.cc_ops.specs.declared.pending.Asked.{Asked}
@@ -58,14 +59,14 @@ state_in f = record { membership = membership_in f.membership; work = work_in f.
 pub record AreRead (t : Tables) : Type 0 where
   pub links : IsRising links.entry_of t.links.items
   pub sessions : IsRising sessions.entry_of t.sessions.items
-  pub session_count : length t.sessions.items ≤ 256
-  pub kept_count : length t.kept.items ≤ 512
+  pub session_count : length t.sessions.items ≤ session_limit
+  pub kept_count : length t.kept.items ≤ post_limit
   pub answers : IsRising answers.entry_of t.answers.items
 
 -- the parts of a node can be made of the fields
 pub record CanBuild (f : Fields) : Type 0 where
-  pub links : length f.tables.links.items ≤ 256
-  pub answers : length f.tables.answers.items ≤ 256
+  pub links : length f.tables.links.items ≤ known_limit
+  pub answers : length f.tables.answers.items ≤ session_limit
   pub kept : length f.tables.kept.items ≤ f.tables.posts
   pub number : f.work.number ≤ counter_limit
   pub tag : f.work.tag ≤ counter_limit

@@ -12,7 +12,7 @@ ghost use Rattle.cc_site.specs.Telling.{CountsCalls, IsOn};
 ghost use Rattle.cc_node.specs.Node.{Node as NodeState, after};
 ghost use Rattle.cc_node.specs.States.{state_spelling, state_of, SpellsNode};
 ghost use Rattle.cc_node.specs.Sides.{IsArmed, OPEN};
-ghost use Rattle.cc_checkpoint.specs.Checkpoints.{IsShutNow, IsSurelyShut, IsFilled, StaysBehind, KeepsOff, RestsNow, ArmsFor, IsGood, image_of};
+ghost use Rattle.cc_checkpoint.specs.Checkpoints.{IsShutNow, IsSurelyShut, IsFilled, StaysBehind, KeepsOff, RestsOn, ArmsFor, IsGoodForAll, image_of};
 
 use crate::piece::Piece;
 use crate::pieces::{Pieces, state_length};
@@ -144,9 +144,9 @@ pub fn arm<S: Site>(site: &mut S, side: Side) -> Result<(), DeviceFault>
     ensures other_side { S.honest site.old → S.state site.new (other side) ≡ S.state site.old (other side) }
     ensures value { S.honest site.old → OnOk result (S.state site.new side ≡ settled (written (S.state site.old side) 0 (OPEN ∷ []))) }
     ensures every_moment { S.honest site.old → (next : ℕ) (start : NodeState) (events : List Event) (opening : ℕ) → ArmsFor S.Site side site.old next start events opening
-        → EachMoment S.Site site.old site.new (IsGood start events opening) }
+        → EachMoment S.Site site.old site.new (IsGoodForAll start events opening) }
     ensures at_rest { S.honest site.old → (next : ℕ) (start : NodeState) (events : List Event) (opening : ℕ) → ArmsFor S.Site side site.old next start events opening
-        → OnOk result (RestsNow S.Site site.new side next (length (image_of next (after start events))) start events opening) }
+        → OnOk result (RestsOn S.Site site.new side next (length (image_of next (after start events))) start events opening) }
     ensures fault { CountsOneFault (S.failures site.old) (S.failures site.new) side Write Sync result }
 {
     write_durably(site, side, 0, &[OPEN_GATE])

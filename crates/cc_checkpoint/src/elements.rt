@@ -2,6 +2,7 @@
 
 ghost use Rattle.std.specs.Prelude.{◌≡◌, ◌≤◌, length, IfOk};
 ghost use Rattle.std.specs.Int.{w16, w64};
+ghost use Rattle.cc_views.specs.Limits.{session_limit};
 ghost use Rattle.cc_views.specs.Tables.{IsRising, table_of};
 ghost use Rattle.cc_wire.specs.Messages.{message_at};
 ghost use Rattle.cc_wire.specs.Reading.{Gives, number_at, view_at};
@@ -126,9 +127,9 @@ pub(crate) fn take_session_table(
     alloc: Global,
     piece: &mut Piece,
 ) -> Result<Vec<SessionRow>, WireFault>
-    ensures exact { Gives (λ rows. (table_of sessions.entry_of rows.items, piece.new)) result (table_at session_at 256 0 piece.old) }
+    ensures exact { Gives (λ rows. (table_of sessions.entry_of rows.items, piece.new)) result (table_at session_at session_limit 0 piece.old) }
     ensures rising { IfOk result (λ rows. IsRising sessions.entry_of rows.items) }
-    ensures few { IfOk result (λ rows. length rows.items ≤ 256) }
+    ensures few { IfOk result (λ rows. length rows.items ≤ session_limit) }
 {
     let mut reader = piece.reader();
     let rows = read_session_table(alloc, &mut reader)?;

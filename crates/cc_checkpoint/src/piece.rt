@@ -1,6 +1,6 @@
 //! The buffer that a node's state is written and read through.
 
-ghost use Rattle.std.specs.Prelude.{◌≡◌, ◌≤◌, ◌+◌, ◌++◌, ◌∷◌, [], length, take, drop, vec_len, IfOk, OnOk};
+ghost use Rattle.std.specs.Prelude.{ℕ, List, ◌≡◌, ◌≤◌, ◌+◌, ◌++◌, ◌∷◌, [], length, take, drop, vec_len, IfOk, OnOk};
 ghost use Rattle.std.specs.Int.{to_be_bytes, w32, w64};
 ghost use Rattle.std.specs.Vec.{vec_capacity};
 ghost use Rattle.cc_wire.specs.Writing.{Writes};
@@ -56,7 +56,7 @@ fn put_parts(out: &mut Vec<u8>, node: &Node, from: usize) -> usize
     requires empty { out.old.items ≡ [] }
     requires room { piece_limit ≤ vec_capacity out.old }
     ensures within { (from ≤ result) × (result ≤ length (parts_of node.now)) }
-    ensures parts { joined (drop from (parts_of node.now)) ≡ out.new.items ++ joined (drop result (parts_of node.now)) }
+    ensures parts { (parts : List (List ℕ)) × (drop from (parts_of node.now) ≡ parts ++ drop result (parts_of node.now)) × (out.new.items ≡ joined parts) }
     ensures fits { length out.new.items ≤ piece_limit }
     ensures end { length out.new.items ≡ 0 → from ≡ length (parts_of node.now) }
     ensures room { vec_capacity out.old ≤ vec_capacity out.new }
@@ -189,7 +189,7 @@ impl Piece {
     pub(crate) fn take_parts(&mut self, node: &Node, from: usize) -> usize
         requires { from ≤ length (parts_of node.now) }
         ensures within { result ≤ length (parts_of node.now) }
-        ensures parts { joined (drop from (parts_of node.now)) ≡ self.new ++ joined (drop result (parts_of node.now)) }
+        ensures parts { (parts : List (List ℕ)) × (drop from (parts_of node.now) ≡ parts ++ drop result (parts_of node.now)) × (self.new ≡ joined parts) }
         ensures fits { length self.new ≤ piece_limit }
         ensures end { length self.new ≡ 0 → from ≡ length (parts_of node.now) }
     {

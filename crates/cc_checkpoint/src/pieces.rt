@@ -1,8 +1,8 @@
 //! A node's state in pieces, so that it is written through one buffer, however long it is.
 
-ghost use Rattle.std.specs.Prelude.{true, ◌≡◌, ◌≤◌, ◌<◌, ◌^◌, ◌++◌, [], length};
+ghost use Rattle.std.specs.Prelude.{true, ℕ, List, ◌≡◌, ◌≤◌, ◌<◌, ◌^◌, ◌++◌, [], length};
 ghost use Rattle.cc_node.specs.States.{state_spelling, state_of};
-ghost use Rattle.cc_checkpoint.specs.Parts.{piece_limit};
+ghost use Rattle.cc_checkpoint.specs.Parts.{parts_of, joined, piece_limit};
 
 use crate::parts::{part_count, part_len};
 use crate::piece::Piece;
@@ -21,7 +21,7 @@ pub fn state_length(node: &Node) -> u64
     length
 }
 
-/// The state of a node that is still to come: seen as the rest of its spelling. It takes no memory.
+/// The state of a node that is still to come: seen as the spellings of the parts that are left. It takes no memory.
 #[derive(Drop)]
 pub struct Pieces<'a> {
     node: &'a Node,
@@ -31,27 +31,28 @@ pub struct Pieces<'a> {
 
 impl<'a> Model for Pieces<'a> {
     ghost use Rattle.std.specs.Prelude.{ℕ, List, drop, length, ◌≤◌};
-    ghost use Rattle.cc_checkpoint.specs.Parts.{parts_of, joined};
+    ghost use Rattle.cc_checkpoint.specs.Parts.{parts_of};
 
-    ghost Value = { List ℕ };
+    ghost Value = { List (List ℕ) };
 
-    ghost view = { λ p. joined (drop p.at (parts_of p.node.now)) };
+    ghost view = { λ p. drop p.at (parts_of p.node.now) };
 
     ghost invariant = { λ p. p.at ≤ length (parts_of p.node.now) };
 }
 
 impl<'a> Pieces<'a> {
-    /// The whole state of the node.
+    /// The whole state of the node: its parts one after the other are its spelling.
     pub fn new(node: &'a Node) -> Self
-        ensures { result ≡ state_spelling true (state_of node.now) }
+        ensures parts { result ≡ parts_of node.now }
+        ensures whole { joined result ≡ state_spelling true (state_of node.now) }
     {
         Pieces { node, at: 0 }
     }
 
-    /// The next piece, in place of what the buffer holds. How many bytes it has: 0 at the end, and nowhere else. A piece ends
-    /// between two of a state's elements: fields, rows, messages and answers.
+    /// The next piece, in place of what the buffer holds: parts as a whole, so that it ends between two of a state's elements.
+    /// How many bytes it has: 0 at the end, and nowhere else.
     pub fn next(&mut self, into: &mut Piece) -> usize
-        ensures piece { self.old ≡ into.new ++ self.new }
+        ensures piece { (parts : List (List ℕ)) × (self.old ≡ parts ++ self.new) × (into.new ≡ joined parts) }
         ensures length { result ≡ length into.new }
         ensures fits { result ≤ piece_limit }
         ensures end { result ≡ 0 → self.old ≡ [] }

@@ -2,9 +2,11 @@
 
 ghost use Rattle.std.specs.Prelude.{◌≡◌, ◌-◌, ◌≤◌, ◌<◌, ◌^◌, ◌↔◌, length, IfOk, IfSome, IsTrue, is_some};
 ghost use Rattle.std.specs.FinMap as table;
+ghost use Rattle.cc_views.specs.Limits.{counter_limit, known_limit, session_limit};
 ghost use Rattle.cc_views.specs.Tables.{IsRising, table_of};
 ghost use Rattle.cc_links.specs.Rows as links;
 ghost use Rattle.cc_sessions.specs.Rows as sessions;
+ghost use Rattle.cc_outbox.specs.Outbox.{post_limit};
 ghost use Rattle.cc_outbox.specs.Rows as kept_rows;
 ghost use Rattle.cc_ops.specs.Stages.{HasWaiting, WaitsBehind, HasRoom};
 ghost use Rattle.cc_node.specs.Lawful.{IsLawfulNode};
@@ -85,7 +87,7 @@ fn waits_behind(stage: Stage, line: &WaitingLine) -> bool
 
 fn links_of(alloc: Global, rows: Vec<LinkRow>) -> Result<Links, NoMemory>
     requires rising { IsRising links.entry_of rows.items }
-    requires few { length rows.items ≤ 256 }
+    requires few { length rows.items ≤ known_limit }
     ensures { IfOk result (λ l. l ≡ table_of links.entry_of rows.items) }
 {
     let mut links = Links::new(alloc)?;
@@ -97,7 +99,7 @@ fn links_of(alloc: Global, rows: Vec<LinkRow>) -> Result<Links, NoMemory>
 
 fn sessions_of(alloc: Global, rows: Vec<SessionRow>) -> Result<Sessions, NoMemory>
     requires rising { IsRising sessions.entry_of rows.items }
-    requires few { length rows.items ≤ 256 }
+    requires few { length rows.items ≤ session_limit }
     ensures { IfOk result (λ s. s ≡ table_of sessions.entry_of rows.items) }
 {
     let mut sessions = Sessions::new(alloc)?;
@@ -109,7 +111,7 @@ fn sessions_of(alloc: Global, rows: Vec<SessionRow>) -> Result<Sessions, NoMemor
 
 // The posts that have the numbers up to `posts`.
 fn kept_up_to(alloc: Global, posts: u64, kept: Vec<Message>) -> Result<Outbox, NoMemory>
-    requires few { length kept.items ≤ 512 }
+    requires few { length kept.items ≤ post_limit }
     requires numbers { length kept.items ≤ posts }
     ensures { IfOk result (λ o. o ≡ record { last = posts; posts = numbered_to posts kept.items; answers = table.empty }) }
 {
@@ -123,7 +125,7 @@ fn kept_up_to(alloc: Global, posts: u64, kept: Vec<Message>) -> Result<Outbox, N
 
 fn keep_answers(outbox: &mut Outbox, answers: Vec<KeptAnswer>)
     requires rising { IsRising kept_rows.entry_of answers.items }
-    requires few { length answers.items ≤ 256 }
+    requires few { length answers.items ≤ session_limit }
     requires none { outbox.old.answers ≡ table.empty }
     ensures { outbox.new ≡ record { last = outbox.old.last; posts = outbox.old.posts; answers = table_of kept_rows.entry_of answers.items } }
 {
@@ -133,8 +135,8 @@ fn keep_answers(outbox: &mut Outbox, answers: Vec<KeptAnswer>)
 }
 
 fn ops_of(work: Work) -> Ops
-    requires number { work.number ≤ 2 ^ 62 }
-    requires tag { work.tag ≤ 2 ^ 62 }
+    requires number { work.number ≤ counter_limit }
+    requires tag { work.tag ≤ counter_limit }
     requires waits { HasWaiting work.round.stage }
     requires behind { WaitsBehind work.round.stage work.round.line }
     requires room { HasRoom work.round.line work.mine }

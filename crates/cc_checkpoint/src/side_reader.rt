@@ -2,11 +2,13 @@
 
 ghost use Rattle.std.specs.Prelude.{◌≡◌, ◌⊎◌, ◌<◌, ◌≤◌, length, map, IfOk, MatchBool};
 ghost use Rattle.std.specs.Int.{w16, w64};
+ghost use Rattle.cc_views.specs.Limits.{session_limit};
 ghost use Rattle.cc_views.specs.Tables.{IsRising, table_of};
 ghost use Rattle.cc_wire.specs.Messages.{message_at};
 ghost use Rattle.cc_wire.specs.Reading.{number_at, view_at, whole};
 ghost use Rattle.cc_links.specs.Rows as links;
 ghost use Rattle.cc_sessions.specs.Rows as sessions;
+ghost use Rattle.cc_outbox.specs.Outbox.{post_limit};
 ghost use Rattle.cc_outbox.specs.Rows as answers;
 ghost use Rattle.cc_node.specs.States.{membership_at, entering_at, round_at, work_at, rows_at, table_at, link_at, session_at, kept_answer_at, posts_at, kept_at, most_rows, tables_at, state_at};
 ghost use Rattle.cc_checkpoint.specs.Fields.{membership_in, own_at, own_in, entering_in, round_in, work_in, tables_in, state_in, AreRead};
@@ -153,9 +155,9 @@ fn read_session_table<S: Site>(
     unread: &mut Unread,
 ) -> Result<Vec<SessionRow>, ReadFault>
     requires { LiesOn S.Site site.old unread.old }
-    ensures exact { ReadsOff S.Site (table_at session_at 256 0) (at site.old piece.old unread.old) (at site.new piece.new unread.new) (seen_by (λ rows. table_of sessions.entry_of rows.items) result) }
+    ensures exact { ReadsOff S.Site (table_at session_at session_limit 0) (at site.old piece.old unread.old) (at site.new piece.new unread.new) (seen_by (λ rows. table_of sessions.entry_of rows.items) result) }
     ensures rising { IfOk result (λ rows. IsRising sessions.entry_of rows.items) }
-    ensures few { IfOk result (λ rows. length rows.items ≤ 256) }
+    ensures few { IfOk result (λ rows. length rows.items ≤ session_limit) }
 {
     refill(site, piece, unread, SESSION_TABLE)?;
     Ok(take_session_table(alloc, piece)?)
@@ -272,7 +274,7 @@ fn read_kept<S: Site>(
 ) -> Result<Vec<Message>, ReadFault>
     requires { LiesOn S.Site site.old unread.old }
     ensures exact { ReadsOff S.Site kept_at (at site.old piece.old unread.old) (at site.new piece.new unread.new) (seen_by (λ posts. posts.items) result) }
-    ensures few { IfOk result (λ posts. length posts.items ≤ 512) }
+    ensures few { IfOk result (λ posts. length posts.items ≤ post_limit) }
 {
     let count = read_count(site, piece, unread)?;
     if usize::from(count) > Outbox::MAX_POSTS {

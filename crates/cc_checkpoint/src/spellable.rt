@@ -4,6 +4,7 @@
 ghost use Rattle.std.specs.Prelude.{true, ◌≡◌, ◌<◌, ◌^◌};
 ghost use Rattle.std.specs.List.{AllByRecursion};
 ghost use Rattle.std.specs.FinMap as table;
+ghost use Rattle.cc_views.specs.Limits.{known_limit, session_limit};
 ghost use Rattle.cc_wire.specs.Messages.{IsMessage};
 ghost use Rattle.cc_links.specs.Rows as links;
 ghost use Rattle.cc_sessions.specs.Rows as sessions;
@@ -116,7 +117,7 @@ fn link_rows_are_spellable(rows: &[LinkRow])
 }
 
 fn links_are_spellable(links: &Links)
-    ensures { IsTableOf IsLink 256 links.now }
+    ensures { IsTableOf IsLink known_limit links.now }
 {
     link_rows_are_spellable(links.rows());
 }
@@ -137,7 +138,7 @@ fn session_rows_are_spellable(rows: &[SessionRow])
 }
 
 fn sessions_are_spellable(sessions: &Sessions)
-    ensures { IsTableOf IsSession 256 sessions.now }
+    ensures { IsTableOf IsSession session_limit sessions.now }
 {
     session_rows_are_spellable(sessions.rows());
 }
@@ -166,7 +167,7 @@ fn answer_rows_are_spellable(rows: &[KeptAnswer])
 }
 
 fn answers_are_spellable(outbox: &Outbox)
-    ensures { IsTableOf IsKeptAnswer 256 outbox.now.answers }
+    ensures { IsTableOf IsKeptAnswer session_limit outbox.now.answers }
 {
     answer_rows_are_spellable(outbox.answers());
 }

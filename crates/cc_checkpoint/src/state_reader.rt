@@ -1,12 +1,14 @@
 //! Reading a node's state, part by part.
 
 ghost use Rattle.std.specs.Prelude.{◌≡◌, ◌≤◌, [], length, map, IfOk};
+ghost use Rattle.cc_views.specs.Limits.{session_limit};
 ghost use Rattle.cc_views.specs.Tables.{IsRising, table_of};
 ghost use Rattle.cc_wire.specs.Reading.{Gives, whole};
 ghost use Rattle.cc_ops.specs.Stages.{phase_of};
 ghost use Rattle.cc_ops.specs.Waiting.{line_limit};
 ghost use Rattle.cc_links.specs.Rows as links;
 ghost use Rattle.cc_sessions.specs.Rows as sessions;
+ghost use Rattle.cc_outbox.specs.Outbox.{post_limit};
 ghost use Rattle.cc_outbox.specs.Rows as answers;
 ghost use Rattle.cc_node.specs.States.{fraction_at, membership_at, pending_at, phase_at, ask_at, asks_at, line_at, round_at, entering_at, work_at, rows_at, row_list_at, table_at, link_at, session_from, session_at, kept_answer_at, posts_at, kept_at, most_rows, tables_at, state_at};
 ghost use Rattle.cc_checkpoint.specs.Fields.{membership_in, own_at, own_in, entering_in, round_in, work_in, tables_in, state_in, AreRead};
@@ -321,9 +323,9 @@ pub(crate) fn read_session_table(
     alloc: Global,
     reader: &mut Reader<'_>,
 ) -> Result<Vec<SessionRow>, WireFault>
-    ensures exact { Gives (λ rows. (table_of sessions.entry_of rows.items, reader.new)) result (table_at session_at 256 0 reader.old) }
+    ensures exact { Gives (λ rows. (table_of sessions.entry_of rows.items, reader.new)) result (table_at session_at session_limit 0 reader.old) }
     ensures rising { IfOk result (λ rows. IsRising sessions.entry_of rows.items) }
-    ensures few { IfOk result (λ rows. length rows.items ≤ 256) }
+    ensures few { IfOk result (λ rows. length rows.items ≤ session_limit) }
 {
     let count = reader.u16()?;
     if usize::from(count) > Sessions::MAX_ROWS {
@@ -344,7 +346,7 @@ fn read_answer_table(alloc: Global, reader: &mut Reader<'_>) -> Result<Vec<KeptA
 #[tactic(auto, unfolding(cc_node::specs::States::kept_at))]
 fn read_kept(alloc: Global, reader: &mut Reader<'_>) -> Result<Vec<Message>, WireFault>
     ensures exact { Gives (λ posts. (posts.items, reader.new)) result (kept_at reader.old) }
-    ensures few { IfOk result (λ posts. length posts.items ≤ 512) }
+    ensures few { IfOk result (λ posts. length posts.items ≤ post_limit) }
 {
     let count = reader.u16()?;
     if usize::from(count) > Outbox::MAX_POSTS {

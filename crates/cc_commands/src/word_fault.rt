@@ -32,7 +32,7 @@ pub enum WordFault {
     Command,
     #[error("--timeout isn't a number of seconds, such as 10")]
     Timeout,
-    #[error("Q isn't the id of a node, such as 3")]
+    #[error("ID isn't the id of a node, such as 3")]
     Node,
     /// A growth was refused.
     #[error("out of memory")]

@@ -71,7 +71,7 @@ module _ {D : Type 0} (s : Ghosts D) where
         (λ left told possible. rests_whole_good at lower start events opening (length events) left told (omega arith) (led.rests left told possible))
 
     module _ (first : D) (h_first : s.honest first) (same : s.state first ≡ s.state old) (outlet : s.sent first ≡ s.sent old) where
-      rests_first : checkpoints.RestsNow s first (other (other at.side)) lower at.place start events opening
+      rests_first : checkpoints.RestsOn s first (other (other at.side)) lower at.place start events opening
       rests_first left told possible =
           seen_forth at.side (RestsAt lower at.place start events opening) left told
           (led.rests left told (record { each = λ side. subst (λ (t : Side → SideState). MayLeave (t side) (left side)) same (possible.each side); outlet = possible.outlet ∙ outlet }))
@@ -91,7 +91,7 @@ module _ {D : Type 0} (s : Ghosts D) where
         above = below;
       }
 
-    pub retired_good : (third fourth : D) (next place : ℕ) → checkpoints.RestsNow s third (other at.side) next place start events opening → KeepsOff s at.side third fourth → EachMoment s third fourth (IsGood start events (length events) opening)
+    pub retired_good : (third fourth : D) (next place : ℕ) → checkpoints.RestsOn s third (other at.side) next place start events opening → KeepsOff s at.side third fourth → EachMoment s third fourth (IsGood start events (length events) opening)
     retired_good third fourth next place rests keeps =
         weaker s third fourth (RestsOff at.side next place start events opening) (IsGood start events (length events) opening) (keeps next place start events opening rests)
         (λ left told off. rests_whole_good (record { side = other at.side; place = place }) next start events opening (length events) left told (omega arith) off)

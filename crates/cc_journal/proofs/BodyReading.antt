@@ -6,18 +6,18 @@ use Rattle.std.proofs.lemmas.Bool.{cases_Bool, eqb-true, eqb-false}
 use Rattle.std.proofs.lemmas.Nat.{from_be_bytes-to_be_bytes_4}
 use Rattle.std.proofs.lemmas.List.{append_assoc, get_or-take, length-take, length-drop}
 use Rattle.cc_wire.proofs.Spelled.{IsBytes}
-use Rattle.cc_journal.specs.Reading.{BodyStands, NoBody, IsOpened, IsShut}
+use Rattle.cc_journal.specs.Reading.{BodyStands, NoBody, BeginsOpen, BeginsClosed}
 use Rattle.cc_journal.proofs.EventReading.{first_byte, number_back}
 
 -- ---- a gate (its byte stands here as the number that the code has: compared under its name it takes minutes)
 
-pub gate_read : (rest gate : List ℕ) → 1 ≤ length rest → gate ≡ take 1 rest → MatchBool (eqb (get_or gate 0 0) 165) (IsOpened rest) (IsShut rest)
+pub gate_read : (rest gate : List ℕ) → 1 ≤ length rest → gate ≡ take 1 rest → MatchBool (eqb (get_or gate 0 0) 165) (BeginsOpen rest) (BeginsClosed rest)
 gate_read rest gate some read =
     let byte : get_or gate 0 0 ≡ get_or rest 0 0 = ap (λ (l : List ℕ). get_or l 0 0) read ∙ get_or-take 1 rest 0 0 (omega arith) in
     let stands : rest ≡ get_or gate 0 0 ∷ drop 1 rest = first_byte rest some ∙ ap (λ (b : ℕ). b ∷ drop 1 rest) (sym byte) in
     elim (cases_Bool (eqb (get_or gate 0 0) 165)) [
-      | inl is ↦ subst (λ b. MatchBool b (IsOpened rest) (IsShut rest)) (sym is) (stands ∙ ap (λ (b : ℕ). b ∷ drop 1 rest) (eqb-true _ _ is))
-      | inr is_not ↦ subst (λ b. MatchBool b (IsOpened rest) (IsShut rest)) (sym is_not) (get_or gate 0 0, stands, eqb-false _ _ is_not)
+      | inl is ↦ subst (λ b. MatchBool b (BeginsOpen rest) (BeginsClosed rest)) (sym is) (stands ∙ ap (λ (b : ℕ). b ∷ drop 1 rest) (eqb-true _ _ is))
+      | inr is_not ↦ subst (λ b. MatchBool b (BeginsOpen rest) (BeginsClosed rest)) (sym is_not) (get_or gate 0 0, stands, eqb-false _ _ is_not)
     ]
 
 -- ---- a length, and so many bytes

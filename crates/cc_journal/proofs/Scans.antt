@@ -7,7 +7,7 @@ use Rattle.cc_node.specs.Histories.{after-append, IsLawful-append}
 use Rattle.cc_node.specs.Sides.{OPEN, SpellsRecords, events_of}
 use Rattle.cc_node.specs.Fronts.{records_push, events_push}
 use Rattle.cc_journal.specs.Scanning.{ScansTo, StopsAt, NoRecord}
-use Rattle.cc_journal.specs.Reading.{RecordLeads, IsOpened, IsShut, IsStopped}
+use Rattle.cc_journal.specs.Reading.{RecordLeads, BeginsOpen, BeginsClosed, IsStopped}
 
 -- records of lawful events begin the bytes: so many bytes with their gates, so many records and events
 pub record SoFar (bytes : List ℕ) (start node : Node) (size records events : ℕ) : Type 0 where
@@ -112,7 +112,7 @@ pub behind_place : (bytes : List ℕ) (place : ℕ) → drop 1 (drop place bytes
 behind_place bytes place = drop-drop 1 place bytes
 
 module _ (bytes : List ℕ) (from place : ℕ) (start node : Node) (records events : ℕ) (onward : from ≤ place) (so_far : SoFar (drop from bytes) start node (place - from) records events) where
-  pub goes_on : (next : Node) (more count : ℕ) → IsOpened (drop place bytes) → RecordLeads (drop (place + 1) bytes) node next more count → SoFar (drop from bytes) start next (place + (1 + more) - from) (records + 1) (events + count)
+  pub goes_on : (next : Node) (more count : ℕ) → BeginsOpen (drop place bytes) → RecordLeads (drop (place + 1) bytes) node next more count → SoFar (drop from bytes) start next (place + (1 + more) - from) (records + 1) (events + count)
   goes_on next more count opened leads =
       let further : place - from + (1 + more) ≡ place + (1 + more) - from = omega (arith, onward) in
       subst (λ (n : ℕ). SoFar (drop from bytes) start next n (records + 1) (events + count)) further
@@ -120,10 +120,10 @@ module _ (bytes : List ℕ) (from place : ℕ) (start node : Node) (records even
       (from_earlier bytes from place onward ∙ opened)
       (subst (λ (l : List ℕ). RecordLeads l node next more count) (sym (behind_place bytes place)) leads))
 
-  pub ends_shut : IsShut (drop place bytes) → ScansTo (drop from bytes) start node (place - from) records events
+  pub ends_shut : BeginsClosed (drop place bytes) → ScansTo (drop from bytes) start node (place - from) records events
   ends_shut shut = scanned (drop from bytes) start node (place - from) records events so_far shut.0 (drop 1 (drop place bytes)) (from_earlier bytes from place onward ∙ shut.1) shut.2
 
-  pub stops_behind : IsOpened (drop place bytes) → NoRecord (drop (place + 1) bytes) node → IsStopped bytes from start (place + 1)
+  pub stops_behind : BeginsOpen (drop place bytes) → NoRecord (drop (place + 1) bytes) node → IsStopped bytes from start (place + 1)
   stops_behind opened none =
       let further : place - from + 1 ≡ place + 1 - from = omega (arith, onward) in
       record {

@@ -4,10 +4,10 @@
 --     Leads                   from one node to another by lawful events, so many
 --     RecordLeads             the same by the record that begins the bytes
 --     BodyStands, NoBody      what a record's length says stands behind it;  nothing does
---     IsOpened, IsShut        an open gate, a closed one
+--     BeginsOpen, BeginsClosed   an open gate, a closed one
 --     IsScanned, IsStopped    what a scan found;  where it stopped
 --     IfDamaged               what a fault tells by its place
---     CountsDevice            the count of failures, and the fault that is told
+--     CountsScanFault         the count of failures, and the fault that is told
 use Rattle.std.specs.Prelude.{◌≡◌, ◌≢◌, ⊤, ℕ, ◌+◌, ◌-◌, ◌≤◌, List, ◌∷◌, ◌++◌, length, drop, Result, MatchResult}
 use Rattle.std.specs.Int.{to_be_bytes, w32}
 use Rattle.std.specs.List.{AllByRecursion}
@@ -72,11 +72,11 @@ pub record BodyStands (bytes body : List ℕ) : Type 0 where
 abbrev pub NoBody : List ℕ → Type 0
 NoBody bytes = (body : List ℕ) → BodyStands bytes body → ⊥
 
-abbrev pub IsOpened : List ℕ → Type 0
-IsOpened bytes = bytes ≡ OPEN ∷ drop 1 bytes
+abbrev pub BeginsOpen : List ℕ → Type 0
+BeginsOpen bytes = bytes ≡ OPEN ∷ drop 1 bytes
 
-abbrev pub IsShut : List ℕ → Type 0
-IsShut bytes = (gate : ℕ) × (bytes ≡ gate ∷ drop 1 bytes) × (gate ≢ OPEN)
+abbrev pub BeginsClosed : List ℕ → Type 0
+BeginsClosed bytes = (gate : ℕ) × (bytes ≡ gate ∷ drop 1 bytes) × (gate ≢ OPEN)
 
 -- the records from the gate at `place` on lead to the node, up to a closed gate within the side
 pub record IsScanned (bytes : List ℕ) (side : Side) (place : ℕ) (start : Node) (found : Scanned) : Type 0 where
@@ -97,10 +97,10 @@ IfDamaged P (Device fault) = ⊤
 IfDamaged P NoMemory = ⊤
 
 -- a device fault names a look at this side, and is answered where the count of failures rose, and only there
-abbrev pub FaultRose : Side → ℕ → ℕ → ScanFault → Type 0
-FaultRose side before now (Damaged place) = now ≡ before
-FaultRose side before now (Device fault) = Tells (LooksAt side) before now fault
-FaultRose side before now NoMemory = now ≡ before
+abbrev pub ScanFaultRose : Side → ℕ → ℕ → ScanFault → Type 0
+ScanFaultRose side before now (Damaged place) = now ≡ before
+ScanFaultRose side before now (Device fault) = Tells (LooksAt side) before now fault
+ScanFaultRose side before now NoMemory = now ≡ before
 
-abbrev pub CountsDevice : {T : Type 0} → Side → ℕ → ℕ → Result T ScanFault → Type 0
-CountsDevice side before now result = MatchResult result (λ _. now ≡ before) (FaultRose side before now)
+abbrev pub CountsScanFault : {T : Type 0} → Side → ℕ → ℕ → Result T ScanFault → Type 0
+CountsScanFault side before now result = MatchResult result (λ _. now ≡ before) (ScanFaultRose side before now)

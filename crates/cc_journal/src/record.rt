@@ -6,6 +6,7 @@ ghost use Rattle.std.specs.Vec.{vec_capacity};
 ghost use Rattle.cc_wire.specs.Events.{IsEvent};
 ghost use Rattle.cc_node.specs.Sides.{SpellsRecord, record_spelling, sized_spelling, record_limit};
 ghost use Rattle.cc_journal.specs.Batches.{events_in, batch_bytes};
+ghost use Rattle.cc_journal.specs.Journals.{record_room};
 
 use crate::batch::Batch;
 use crate::entry::Entry;
@@ -15,10 +16,10 @@ use cc_wire::{encode_event, event_len, put_u8, put_u32};
 // Puts the record of a batch, and a closed gate behind it, in place of what was there.
 pub(crate) fn put_record(text: &mut Vec<u8>, batch: &Batch)
     requires some { 1 ≤ length batch.now }
-    requires room { 262149 ≤ vec_capacity text.old }
+    requires room { record_room ≤ vec_capacity text.old }
     ensures bytes { text.new.items ≡ batch_bytes batch.now }
     ensures spelled { SpellsRecord (record_spelling (events_in batch.now)) (events_in batch.now) }
-    ensures room { 262149 ≤ vec_capacity text.new }
+    ensures room { record_room ≤ vec_capacity text.new }
 {
     text.clear();
     put_u32(text, batch.size() as u32).unwrap();

@@ -3,7 +3,7 @@
 ghost use Rattle.std.specs.Prelude.{◌≡◌, ◌≤◌, ◌<◌, ◌+◌, length, take, drop, vec_len, OnOk, IfOk, IfErr, MatchBool};
 ghost use Rattle.cc_journal.specs.declared.scanning.ScanFault.TheVariants as faults;
 ghost use Rattle.cc_journal.specs.Scanning.{NoRecord};
-ghost use Rattle.cc_journal.specs.Reading.{RecordLeads, BodyStands, NoBody, IsOpened, IsShut, IsScanned, IsStopped, IfDamaged, CountsDevice};
+ghost use Rattle.cc_journal.specs.Reading.{RecordLeads, BodyStands, NoBody, BeginsOpen, BeginsClosed, IsScanned, IsStopped, IfDamaged, CountsScanFault};
 ghost use Rattle.cc_site.specs.declared.site.Call.TheVariants.{Read};
 ghost use Rattle.cc_site.specs.Moments.{CountsFault};
 ghost use Rattle.cc_site.specs.Reads.{OnlyReads};
@@ -74,7 +74,7 @@ struct Taken {
 // Whether the gate at a place is open.
 fn gate_is_open<S: Site>(site: &mut S, side: Side, place: u64) -> Result<bool, DeviceFault>
     requires { S.honest site.old → place < length (S.state site.old side).bytes }
-    ensures value { S.honest site.old → IfOk result (λ is_open. MatchBool is_open (IsOpened (drop place (S.state site.old side).bytes)) (IsShut (drop place (S.state site.old side).bytes))) }
+    ensures value { S.honest site.old → IfOk result (λ is_open. MatchBool is_open (BeginsOpen (drop place (S.state site.old side).bytes)) (BeginsClosed (drop place (S.state site.old side).bytes))) }
     ensures reads { OnlyReads S.Site site.old site.new }
     ensures fault { CountsFault (S.failures site.old) (S.failures site.new) side Read result }
 {
@@ -97,7 +97,7 @@ fn read_body<S: Site>(
     ensures damaged { S.honest site.old → IfErr result (IfDamaged (λ p. (p ≡ place) × NoBody (drop place (S.state site.old side).bytes))) }
     ensures within { OnOk result (place + 4 + vec_len body.new ≤ len) }
     ensures reads { OnlyReads S.Site site.old site.new }
-    ensures fault { CountsDevice side (S.failures site.old) (S.failures site.new) result }
+    ensures fault { CountsScanFault side (S.failures site.old) (S.failures site.new) result }
 {
     if len - place < 4 {
         return Err(ScanFault::Damaged(place));
@@ -133,7 +133,7 @@ fn read_record<S: Site>(
     ensures within { IfOk result (λ taken. place + taken.size ≤ len) }
     ensures few { IfOk result (λ taken. taken.events ≤ taken.size) }
     ensures reads { OnlyReads S.Site site.old site.new }
-    ensures fault { CountsDevice side (S.failures site.old) (S.failures site.new) result }
+    ensures fault { CountsScanFault side (S.failures site.old) (S.failures site.new) result }
 {
     read_body(site, side, place, len, body)?;
     let Some(events) = take_events(alloc, node, body)? else {
@@ -164,7 +164,7 @@ fn scan_into<S: Site>(
     ensures scanned { S.honest site.old → IfOk result (λ e. IsScanned (S.state site.old side).bytes side place node.old (record { journal = e.journal; node = node.new; records = e.records; events = e.events })) }
     ensures damaged { S.honest site.old → IfErr result (IfDamaged (IsStopped (S.state site.old side).bytes place node.old)) }
     ensures reads { OnlyReads S.Site site.old site.new }
-    ensures fault { CountsDevice side (S.failures site.old) (S.failures site.new) result }
+    ensures fault { CountsScanFault side (S.failures site.old) (S.failures site.new) result }
 {
     let len = length_of(site, side)?;
     let mut body = Vec::with_capacity(alloc, Batch::MAX_BYTES)?;
@@ -185,7 +185,7 @@ fn scan_records<S: Site>(
     ensures scanned { S.honest site.old → IfOk result (λ e. IsScanned (S.state site.old side).bytes side place node.old (record { journal = e.journal; node = node.new; records = e.records; events = e.events })) }
     ensures damaged { S.honest site.old → IfErr result (IfDamaged (IsStopped (S.state site.old side).bytes place node.old)) }
     ensures reads { OnlyReads S.Site site.old site.new }
-    ensures fault { CountsDevice side (S.failures site.old) (S.failures site.new) result }
+    ensures fault { CountsScanFault side (S.failures site.old) (S.failures site.new) result }
 {
     let mut place = place;
     let mut records = 0;
@@ -220,7 +220,7 @@ pub fn scan<S: Site>(
     ensures scanned { S.honest site.old → IfOk result (IsScanned (S.state site.old side).bytes side place node) }
     ensures damaged { S.honest site.old → IfErr result (IfDamaged (IsStopped (S.state site.old side).bytes place node)) }
     ensures reads { OnlyReads S.Site site.old site.new }
-    ensures fault { CountsDevice side (S.failures site.old) (S.failures site.new) result }
+    ensures fault { CountsScanFault side (S.failures site.old) (S.failures site.new) result }
 {
     let mut node = node;
     let Ended {

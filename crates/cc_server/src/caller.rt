@@ -75,7 +75,11 @@ impl<R: Wait, I: Read, D: Replies> Caller<'_, R, I, D> {
         }
     }
 
+    // Tells a client why not, once all is durable that this was judged by.
     fn refuse(&self, frame: &Frame) {
+        if !self.shared.room.settle(self.rt, &self.shared.bell) {
+            return;
+        }
         if let Ok(bytes) = bytes_of(self.alloc, frame) {
             self.door.answer(self.rt, bytes);
         }

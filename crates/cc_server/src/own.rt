@@ -30,6 +30,17 @@ impl<R: Wait> Own<'_, R> {
         }
         self.from.recv(self.rt).unwrap_or(None)
     }
+
+    // The next event, and a copy of it. An event that there is no memory to copy is lost: links resend.
+    fn pair(&mut self) -> Option<(Event, Event)> {
+        for _ in self.rt.forever() {
+            let event = self.event()?;
+            if let Ok(kept) = event.copy(self.alloc) {
+                return Some((event, kept));
+            }
+        }
+        unreachable!()
+    }
 }
 
 impl<R: Wait> Source for Own<'_, R> {
@@ -38,8 +49,7 @@ impl<R: Wait> Source for Own<'_, R> {
     ghost hears = { λ s a t. Unit {0} };
 
     fn next(&mut self) -> Option<Event> {
-        let event = self.event()?;
-        let kept = event.copy(self.alloc).ok()?;
+        let (event, kept) = self.pair()?;
         if !self.shared.room.sit_first(self.rt) {
             return None;
         }

@@ -1,5 +1,6 @@
 //! Room in the queue and among the posts, which workers wait for: so none of them finds the queue full.
 
+use crate::bell::Bell;
 use cc_node::Node;
 use cc_protocol::{is_furthest_behind, may_hand_over};
 use cc_views::NodeId;
@@ -18,12 +19,17 @@ const MOST_FURTHEST: usize = 256;
 #[derive(Drop)]
 pub struct Room {
     seats: Mutex<Seats>,
+    // A seat may be free, or what waits for one may be let in.
     changed: Condvar,
+    // Events were flushed or refused.
+    settled: Condvar,
 }
 
 #[derive(Drop)]
 struct Seats {
     taken: u64,
+    // How many events were flushed since the start.
+    flushed: u64,
     // How many posts the node kept after the last turn, and which peers were furthest behind then.
     kept: u64,
     furthest: Vec<NodeId>,
@@ -40,6 +46,11 @@ impl Seats {
         self.taken < SEATS && may_hand_over(me, event, kept, self.is_furthest(event), waited)
     }
 
+    // How many events are flushed, at most, once each that was accepted so far is: those that have a seat may be refused yet.
+    fn last(&self) -> u64 {
+        self.flushed.saturating_add(self.taken)
+    }
+
     fn is_furthest(&self, event: &Event) -> bool {
         match event {
             Event::Deliver { from, .. } => self.furthest.iter().any(|peer| peer == from),
@@ -53,12 +64,14 @@ impl Room {
         Ok(Room {
             seats: Mutex::new(Seats {
                 taken: 0,
+                flushed: 0,
                 kept: 0,
                 furthest: Vec::with_capacity(alloc, MOST_FURTHEST)?,
                 ticks: 0,
                 is_closed: false,
             }),
             changed: Condvar::new(),
+            settled: Condvar::new(),
         })
     }
 
@@ -101,12 +114,35 @@ impl Room {
         seats.taken = seats.taken.saturating_sub(1);
         drop(seats);
         self.changed.notify_one();
+        self.settled.notify_all();
+    }
+
+    /// Waits until each event that was accepted so far is durable, and wakes the flusher where one isn't. False where the room
+    /// is closed before that.
+    pub fn settle<R: Wait>(&self, rt: &R, bell: &Bell) -> bool {
+        let mut seats = self.seats.lock(rt);
+        let mut last = seats.last();
+        if seats.flushed < last {
+            bell.ring();
+        }
+        for _ in rt.forever() {
+            if seats.flushed >= last {
+                return true;
+            }
+            if seats.is_closed {
+                return false;
+            }
+            seats = self.settled.wait(rt, seats);
+            last = last.min(seats.last());
+        }
+        unreachable!()
     }
 
     /// So many events were flushed, and left the node like this: their seats are free.
     pub fn turned<R: Wait>(&self, rt: &R, events: u64, node: &Node) {
         let mut seats = self.seats.lock(rt);
         seats.taken = seats.taken.saturating_sub(events);
+        seats.flushed = seats.flushed.saturating_add(events);
         seats.kept = node.kept() as u64;
         seats.furthest.clear();
         let core = node.core();
@@ -118,6 +154,7 @@ impl Room {
         }
         drop(seats);
         self.changed.notify_all();
+        self.settled.notify_all();
     }
 
     /// A second has passed.
@@ -132,5 +169,6 @@ impl Room {
     pub fn close<R: Wait>(&self, rt: &R) {
         self.seats.lock(rt).is_closed = true;
         self.changed.notify_all();
+        self.settled.notify_all();
     }
 }

@@ -128,6 +128,7 @@ where
     match prepare(run, listener, &core) {
         Ok(listener) => {
             let me = core.me();
+            run.shared.room.turned(run.rt, 0, engine.twin());
             let ready = Ready {
                 engine,
                 core,

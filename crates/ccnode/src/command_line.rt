@@ -3,6 +3,9 @@
 use clap::{Arg, Command};
 use std::alloc::{AllocError, Global};
 
+/// The program's version.
+const VERSION: &str = "0.1.0";
+
 const PLAY_HELP: &str = "\
 Example: ccnode play < my-script
 
@@ -15,10 +18,13 @@ Examples: ccnode format node-1 1 --initial 1,2,3
           ccnode format node-4 4 --contacts 1,2,3
 
 A LIST is numbers joined by commas, ascending. A member is in its own initial list.
-A node without one enters later, and needs somebody to reach.
+A node without one enters later, and needs all living members as contacts: enough
+that a share --gamma of those present, itself among them, answers it. --beta and
+--gamma are those of the cluster: the same at every node.
 
-Prints `formatted ID`, or why the folder isn't formatted: BadOpening, NoMemory,
-AlreadyFormatted, or Device with the side and the disk call that failed.
+Prints `formatted ID`, or why the folder isn't formatted: BadOpening (no node begins
+so: a list that doesn't ascend, a share above 1, a member that isn't in its list),
+NoMemory, AlreadyFormatted, or Device with the side and the disk call that failed.
 Statuses: 0 formatted, 1 not formatted, 2 after a command line that it doesn't
 take, and then no file was touched.";
 
@@ -32,9 +38,9 @@ Prints three lines:
   B closed                      the same of side B
   opened A records 2 events 3   the side in use, and what counts behind its state
 In place of the last line, or of all that are still to come, it prints `fault` and
-why the folder can't be opened. It changes nothing but that it makes files that are
-missing. Statuses: 0 opened, 1 after a fault, 2 after a command line that it doesn't
-take.";
+why the folder can't be opened: `Device A Length` where it is missing, or a node runs
+on it. It changes nothing but that it makes files that are missing. Statuses: 0 opened,
+1 after a fault, 2 after a command line that it doesn't take.";
 
 const RUN_HELP: &str = "\
 Example: ccnode run node-1 --listen 127.0.0.1:7001 \\
@@ -45,10 +51,11 @@ or else: what was answered is on the disk, and the next run goes on from there.
 A peer that isn't named gets nothing from this node. Whoever can reach ADDR may ask,
 tell the node to leave, or send it messages: keep it in a network that you trust.
 
-It notes its start and its end on standard error. Statuses: 1 where the folder can't
-be opened (NotFormatted, Damaged, Version, Device, NoMemory), a disk call fails
-(Failed) or ADDR can't be listened at (Listen), 2 after a command line that it
-doesn't take, the node among its own peers included.";
+It notes its start on standard error, and its end where a disk call fails. It prints
+why it doesn't run, or has ended. Statuses: 1 where the folder can't be opened
+(NotFormatted, Damaged, Version, Device, NoMemory), a disk call fails (Failed) or ADDR
+can't be listened at (Listen), 2 after a command line that it doesn't take, the node
+among its own peers included.";
 
 const ASK_HELP: &str = "\
 Examples: ccnode ask 127.0.0.1:7001 7 store a
@@ -63,7 +70,8 @@ Commands, and what they print:
 
 It asks again where the node is busy or the connection breaks, under the same number,
 so that nothing is done twice. Else it prints `refused` and why, as `refused 4
-NotJoined`, or `no answer`. Statuses: 0 after an answer, 1 after none, 2 after a command
+NotJoined`, or `no answer`: then it may still be done, and asking again does it once
+more. Statuses: 0 after an answer, 1 after a refusal or no answer, 2 after a command
 line that it doesn't take.";
 
 const LEAVE_HELP: &str = "\
@@ -77,13 +85,15 @@ const RETIRE_HELP: &str = "\
 Example: ccnode retire 127.0.0.1:7001 3
 
 To be done at each node that lives, once it is sure that the dead one never comes back.
-Prints `retired 3`, `refused` and why, or `no answer`. Statuses: 0 retired, 1 not, 2
-after a command line that it doesn't take.";
+Prints `retired 3`, also where it was retired before or has left, and where the node
+that is asked has left itself; else `refused` and why, or `no answer`. Statuses: 0
+retired, 1 not, 2 after a command line that it doesn't take.";
 
 /// The program's subcommands and their words. The help has the program's own name, whatever its file is called.
 pub fn command_line<'a>(alloc: Global) -> Result<Command<'a>, AllocError> {
     Command::new(alloc, "ccnode")
         .about("A durable node of a store-collect cluster")
+        .version(VERSION)
         .subcommand_required(true)
         .bin_name("ccnode")?
         .subcommand(player(alloc))?
@@ -114,7 +124,7 @@ fn formatter<'a>(alloc: Global) -> Result<Command<'a>, AllocError> {
         "The members at the start [default: none, for a node that enters later]",
     ))?;
     let command = command.arg(option(alloc, "contacts", "LIST").help(
-        "Whom else it can reach [default: none]",
+        "Whom an entering node can reach: all living members [default: none]",
     ))?;
     let command = command.arg(option(alloc, "beta", "N/D").help(
         "The share of the members whose answers an operation waits for [default: 4/5]",
@@ -140,9 +150,9 @@ fn runner<'a>(alloc: Global) -> Result<Command<'a>, AllocError> {
 }
 
 fn asker<'a>(alloc: Global) -> Result<Command<'a>, AllocError> {
-    let session = Arg::new(alloc, "SESSION")
-        .required(true)
-        .help("The client's session: any number, no other client's");
+    let session = Arg::new(alloc, "SESSION").required(true).help(
+        "The client's session: a number of its own. A node serves 256 of them in its life",
+    );
     let command = Arg::new(alloc, "COMMAND")
         .required(true)
         .help("What is to be done, as below");

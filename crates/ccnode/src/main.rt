@@ -1,5 +1,5 @@
-//! The command line of a node of a store-collect cluster: it plays scripts over clusters in memory, formats the folder of a
-//! node, runs it over TCP, and tells what stands there.
+//! The command line of a node of a store-collect cluster: it plays scripts over clusters in memory, formats the folder of
+//! a node, runs it over TCP, asks one that runs, and tells what stands in a folder.
 #![tactic(auto)]
 
 mod command_line;
@@ -221,8 +221,7 @@ where
 // Prints why the node doesn't run, or has ended. A node among its own peers is a fault of the command line.
 fn print_run_fault<R: Print + Eprint>(rt: &R, fault: RunFault) -> anyhow::Result<ExitCode> {
     if fault == RunFault::OwnPeer {
-        eprintln!(rt; "ccnode: {fault}")?;
-        return Ok(ExitCode::from(BAD_COMMAND_LINE));
+        return print_word_fault(rt, WordFault::PeerItself);
     }
     println!(rt; "{fault}")?;
     Ok(ExitCode::from(FAULT))

@@ -2,12 +2,25 @@
 
 use crate::clients::{FIRST_ASK, FIRST_REPLY, THIRD_REFUSED, connected, is_closed_after};
 use crate::nodes::check;
+use std::alloc::Global;
 use std::io::Write;
 use std::net::{Net, SocketAddr, TcpStream};
 use std::test::Fail;
 
+// How many requests come in one write.
+const REQUESTS: usize = 10_000;
+
+// Session 9 asks under number 3, and never asked before.
+const OUT_OF_TURN: [u8; 24] = [
+    0, 0, 0, 20, 3, 0, 0, 0, 0, 0, 0, 0, 9, 0, 0, 0, 0, 0, 0, 0, 3, 1, 1, 97,
+];
+
 /// What such connections send. Each of them has to be closed by the node, but for those that close themselves.
-pub(crate) fn attack<R: Net<Stream = TcpStream>>(rt: &R, to: SocketAddr) -> Result<(), Fail> {
+pub(crate) fn attack<R: Net<Stream = TcpStream>>(
+    rt: &R,
+    alloc: Global,
+    to: SocketAddr,
+) -> Result<(), Fail> {
     cuts(rt, to)?;
     let long = [0, 1, 0, 1];
     check(is_closed_after(rt, to, &long)?, "a length of 65,537")?;
@@ -15,7 +28,8 @@ pub(crate) fn attack<R: Net<Stream = TcpStream>>(rt: &R, to: SocketAddr) -> Resu
     check(is_closed_after(rt, to, &[0, 0, 0, 1, 8])?, "kind 8")?;
     check(is_closed_after(rt, to, &FIRST_REPLY)?, "kind 4")?;
     check(is_closed_after(rt, to, &THIRD_REFUSED)?, "kind 5")?;
-    without_end(rt, to, &[0; 4096])
+    without_end(rt, to, &[0; 4096])?;
+    flood(rt, alloc, to)
 }
 
 // The beginnings of a request, each on a connection that is closed then.
@@ -40,4 +54,15 @@ fn without_end<R: Net<Stream = TcpStream>>(
         }
     }
     Err("bytes without an end")?
+}
+
+// Many requests out of turn in one write, each of which is refused. Nobody reads why.
+fn flood<R: Net<Stream = TcpStream>>(rt: &R, alloc: Global, to: SocketAddr) -> Result<(), Fail> {
+    let mut requests = Vec::with_capacity(alloc, REQUESTS * OUT_OF_TURN.len())?;
+    for _ in 0..REQUESTS {
+        requests.extend_from_slice(&OUT_OF_TURN)?;
+    }
+    let mut stream = connected(rt, to)?;
+    stream.write_all(requests.as_slice())?;
+    Ok(())
 }

@@ -1,8 +1,12 @@
-//! Tests of running nodes on loopback: what clients are told, hostile bytes, and that all threads end.
+//! Tests of running nodes on loopback: what clients are told, hostile bytes, why a node doesn't run, and that all threads end.
 #![tactic(auto)]
 
 #[cfg(test)]
+mod asking;
+#[cfg(test)]
 mod clients;
+#[cfg(test)]
+mod faults;
 #[cfg(test)]
 mod held;
 #[cfg(test)]
@@ -11,5 +15,7 @@ mod holding;
 mod hostile;
 #[cfg(test)]
 mod nodes;
+#[cfg(test)]
+mod retiring;
 #[cfg(test)]
 mod vectors;

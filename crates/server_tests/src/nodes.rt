@@ -47,8 +47,8 @@ where
     })
 }
 
-// A new folder that keeps a member of {1,2}.
-fn format_member<R: AllocGlobal + Files<File = File>>(
+/// A new folder that keeps a member of {1,2}.
+pub(crate) fn format_member<R: AllocGlobal + Files<File = File>>(
     rt: &R,
     folder: &str,
     id: &str,

@@ -1,6 +1,8 @@
 //! What a client of node 1 sends and reads, whatever others send.
 
-use crate::clients::{FIRST_ASK, FIRST_REPLY, THIRD_ASK, THIRD_REFUSED, exchange};
+use crate::clients::{
+    FIRST_ASK, FIRST_REPLY, OTHER_ASK, OTHER_REPLY, THIRD_ASK, THIRD_REFUSED, exchange,
+};
 use crate::hostile::attack;
 use crate::nodes::{Places, check_end, end, run, set_up};
 use cc_intake::NoHooks;
@@ -20,8 +22,9 @@ fn ask_all<R: Net<Stream = TcpStream>>(rt: &R, alloc: Global, one: SocketAddr) -
 // What clients do.
 fn talk<R: Net<Stream = TcpStream>>(rt: &R, alloc: Global, one: SocketAddr) -> Result<(), Fail> {
     ask_all(rt, alloc, one)?;
-    attack(rt, one)?;
-    ask_all(rt, alloc, one)
+    attack(rt, alloc, one)?;
+    ask_all(rt, alloc, one)?;
+    exchange(rt, alloc, one, &OTHER_ASK, &OTHER_REPLY)
 }
 
 #[test]

@@ -1,7 +1,7 @@
 use Rattle.cc_site.specs.Sides.{touch}
 use Rattle.cc_site.specs.Moments.{Within}
 use Rattle.cc_site.specs.Runs.{weaker}
-use Rattle.cc_checkpoint.specs.Checkpoints.{IsGood}
+use Rattle.cc_checkpoint.specs.Checkpoints.{IsGoodForAll}
 use Rattle.cc_checkpoint.proofs.TableWrites.{on_ok}
 use Rattle.cc_checkpoint.proofs.OffRuns.{arming_good, armed_rest}
 use Rattle.cc_checkpoint.proofs.checkpoint.arm.Goals as goal
@@ -10,7 +10,7 @@ pub returns-clause-every_moment : goal.returns-clause-every_moment
 returns-clause-every_moment g c honest next start events opening arms =
     let s = g.S.Site in
     let old = c.args.site.now in
-    weaker s old c.write_durably.new.site (Within c.args.side (touch (s.state old c.args.side) 0 1) (s.state old) (s.sent old)) (IsGood start events opening) (c.write_durably.ensures.every_moment honest)
+    weaker s old c.write_durably.new.site (Within c.args.side (touch (s.state old c.args.side) 0 1) (s.state old) (s.sent old)) (IsGoodForAll start events opening) (c.write_durably.ensures.every_moment honest)
     (arming_good s c.args.side old next start events opening arms)
 
 pub returns-clause-at_rest : goal.returns-clause-at_rest

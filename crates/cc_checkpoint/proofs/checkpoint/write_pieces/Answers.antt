@@ -1,5 +1,7 @@
 use Rattle.std.proofs.Common.{true, ◌≡◌, ◌++◌, List, ℕ, length, sym, ap, ◌∙◌, append_assoc, arith}
 use Rattle.std.proofs.lemmas.List.{length-append}
+use Rattle.cc_checkpoint.specs.Parts.{joined}
+use Rattle.cc_checkpoint.proofs.PartLaws.{joined_rest}
 use Rattle.cc_checkpoint.proofs.StateLengths.{length-node}
 use Rattle.cc_checkpoint.proofs.BehindRuns.{written_behind, then_behind, grown}
 use Rattle.cc_checkpoint.proofs.checkpoint.write_pieces.Goals as goal
@@ -35,7 +37,8 @@ loop-pieces-preserved g c =
     let new = c.write_at.new.self in
     let so_far = c.loop-pieces.invariant in
     let piece = c.next.new.into in
-    let rest = c.next.new.self in
+    let rest = joined c.next.new.self in
+    let split : joined c.loop-pieces.pieces ≡ piece ++ rest = joined_rest c.loop-pieces.pieces c.next.new.self piece c.next.ensures.piece in
     let is : c.as_slice-bytes.result.now ≡ piece = c.as_slice-bytes.ensures in
     let wrote : s.honest c.args.site.now → (s.state new side).bytes ≡ (s.state mid side).bytes ++ c.as_slice-bytes.result.now =
     λ honest. grown (s.state mid side) (s.state new side) c.loop-pieces.place c.as_slice-bytes.result.now (so_far.within honest) (c.in_ok-write_at.ensures.value (so_far.honest.0 honest)) in
@@ -47,9 +50,9 @@ loop-pieces-preserved g c =
       other_side = λ honest. c.write_at.ensures.other_side (so_far.honest.0 honest) ∙ so_far.other_side honest;
       value = λ honest. ap (λ (l : List ℕ). l ++ rest) (wrote honest ∙ ap (λ (l : List ℕ). (s.state mid side).bytes ++ l) is)
           ∙ append_assoc (s.state mid side).bytes piece rest
-          ∙ ap (λ (l : List ℕ). (s.state mid side).bytes ++ l) (sym c.next.ensures.piece)
+          ∙ ap (λ (l : List ℕ). (s.state mid side).bytes ++ l) (sym split)
           ∙ so_far.value honest;
-      place = omega (arith, so_far.place, ap length is, ap length c.next.ensures.piece, longer);
+      place = omega (arith, so_far.place, ap length is, ap length split, longer);
       within = λ honest. omega (arith, so_far.within honest, ap length (wrote honest), length-append (s.state mid side).bytes c.as_slice-bytes.result.now, ap length is);
       from = omega (arith, so_far.from);
       moments = λ honest.

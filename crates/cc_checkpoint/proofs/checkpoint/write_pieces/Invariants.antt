@@ -2,6 +2,7 @@ use Rattle.std.proofs.Common.{true, ◌≡◌, ◌≤◌, ◌+◌, ◌++◌, len
 use Rattle.std.specs.Prelude.{◌↔◌}
 use Rattle.cc_site.specs.Sides.{other}
 use Rattle.cc_node.specs.States.{state_spelling, state_of}
+use Rattle.cc_checkpoint.specs.Parts.{joined}
 use Rattle.cc_checkpoint.specs.Checkpoints.{StaysBehind}
 use Rattle.cc_checkpoint.proofs.checkpoint.write_pieces.Given as goal
 
@@ -11,8 +12,8 @@ invariant-loop-pieces g l = let s = g.S.Site in let old = l.fn.site in record {
   tells : s.tells old ↔ s.tells l.site;
   sent : s.sent l.site ≡ s.sent old;
   other_side : s.honest old → s.state l.site (other l.side) ≡ s.state old (other l.side);
-  value : s.honest old → (s.state l.site l.side).bytes ++ l.pieces ≡ (s.state old l.side).bytes ++ state_spelling true (state_of l.node);
-  place : l.place + length l.pieces ≡ l.fn.from + length (state_spelling true (state_of l.node));
+  value : s.honest old → (s.state l.site l.side).bytes ++ joined l.pieces ≡ (s.state old l.side).bytes ++ state_spelling true (state_of l.node);
+  place : l.place + length (joined l.pieces) ≡ l.fn.from + length (state_spelling true (state_of l.node));
   within : s.honest old → l.place ≡ length (s.state l.site l.side).bytes;
   from : l.fn.from ≤ l.place;
   moments : s.honest old → StaysBehind s l.side old l.site;
@@ -20,4 +21,4 @@ invariant-loop-pieces g l = let s = g.S.Site in let old = l.fn.site in record {
 }
 
 abbrev pub decreases-loop-pieces : goal.decreases-loop-pieces
-decreases-loop-pieces g l = length l.pieces
+decreases-loop-pieces g l = length (joined l.pieces)

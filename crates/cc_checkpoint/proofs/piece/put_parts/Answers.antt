@@ -1,7 +1,7 @@
-use Rattle.std.proofs.Common.{◌≡◌, ◌<◌, ◌+◌, ◌++◌, [], List, ℕ, get_or, drop, length, sym, ap, ◌∙◌, append_assoc, arith}
+use Rattle.std.proofs.Common.{◌≡◌, ◌<◌, ◌+◌, ◌++◌, [], List, ℕ, get_or, drop, length, sym, ap, ◌∙◌, arith}
 use Rattle.std.proofs.lemmas.List.{length-append}
-use Rattle.cc_checkpoint.specs.Parts.{parts_of, joined}
-use Rattle.cc_checkpoint.proofs.PartLaws.{next_part}
+use Rattle.cc_checkpoint.specs.Parts.{parts_of}
+use Rattle.cc_checkpoint.proofs.PartLaws.{one_part_more}
 use Rattle.cc_checkpoint.proofs.piece.put_parts.Goals as goal
 
 pub loop-at-preserved : goal.loop-at-preserved
@@ -15,8 +15,7 @@ loop-at-preserved c =
     record {
       from = omega (arith, c.loop-at.invariant.from);
       within = omega (arith, within);
-      parts = c.loop-at.invariant.parts ∙ ap (λ (l : List ℕ). old ++ l) (next_part parts c.loop-at.at within)
-          ∙ sym (append_assoc old part (joined (drop (c.loop-at.at + 1) parts))) ∙ ap (λ (l : List ℕ). l ++ joined (drop (c.loop-at.at + 1) parts)) (sym put);
+      parts = one_part_more parts c.args.from c.loop-at.at old new within put c.loop-at.invariant.parts;
       fits = omega (arith, ap length put, length-append old part, c.part_len.ensures.len, c.len.ensures, c.if-len-part_len-le-MAX_LEN.true);
       some = λ _. omega (arith, ap length put, length-append old part, c.part_len.ensures.len, c.part_len.ensures.some);
       none = λ is. absurd (omega (arith, is, c.loop-at.invariant.from));

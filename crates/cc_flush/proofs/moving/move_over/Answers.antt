@@ -99,7 +99,7 @@ returns-in_err-retire-clause-good g c h settled lower below =
     let fourth = c.retire.new.site in
     let h_third = c.arm.ensures.honest.0 h_second in
     let rests : (next : ℕ) (start : Node) (events : List Event) (opening : ℕ) → ArmsFor s (other at.side) second next start events opening
-    → checkpoints.RestsNow s third (other at.side) next (length (image_of next (after start events))) start events opening = rw (c.other-side.ensures, c.side-old.ensures) at (c.in_ok-arm.ensures.at_rest h_second) in
+    → checkpoints.RestsOn s third (other at.side) next (length (image_of next (after start events))) start events opening = rw (c.other-side.ensures, c.side-old.ensures) at (c.in_ok-arm.ensures.at_rest h_second) in
     let filled_other : s.state second (other (other at.side)) ≡ s.state first (other (other at.side)) = rw (c.other-side.ensures, c.side-old.ensures) at (c.fill.ensures.other_side h_first) in
     let armed_other : s.state third (other (other at.side)) ≡ s.state second (other (other at.side)) = rw (c.other-side.ensures, c.side-old.ensures) at (c.arm.ensures.other_side h_second) in
     let retires : IsArmed (s.state third at.side).bytes → KeepsOff s at.side third fourth = rw c.side-old.ensures at (c.retire.ensures.every_moment h_third) in
@@ -134,7 +134,7 @@ returns-clause-good g c h settled lower below =
     let fourth = c.retire.new.site in
     let h_third = c.arm.ensures.honest.0 h_second in
     let rests : (next : ℕ) (start : Node) (events : List Event) (opening : ℕ) → ArmsFor s (other at.side) second next start events opening
-    → checkpoints.RestsNow s third (other at.side) next (length (image_of next (after start events))) start events opening = rw (c.other-side.ensures, c.side-old.ensures) at (c.in_ok-arm.ensures.at_rest h_second) in
+    → checkpoints.RestsOn s third (other at.side) next (length (image_of next (after start events))) start events opening = rw (c.other-side.ensures, c.side-old.ensures) at (c.in_ok-arm.ensures.at_rest h_second) in
     let filled_other : s.state second (other (other at.side)) ≡ s.state first (other (other at.side)) = rw (c.other-side.ensures, c.side-old.ensures) at (c.fill.ensures.other_side h_first) in
     let armed_other : s.state third (other (other at.side)) ≡ s.state second (other (other at.side)) = rw (c.other-side.ensures, c.side-old.ensures) at (c.arm.ensures.other_side h_second) in
     let retires : IsArmed (s.state third at.side).bytes → KeepsOff s at.side third fourth = rw c.side-old.ensures at (c.retire.ensures.every_moment h_third) in

@@ -1,5 +1,5 @@
 use Rattle.cc_checkpoint.proofs.PartLaws.{parts_spell}
 use Rattle.cc_checkpoint.proofs.pieces.Pieces.new.Goals as goal
 
-pub returns : goal.returns
-returns c = parts_spell c.args.node.now
+pub returns-clause-whole : goal.returns-clause-whole
+returns-clause-whole c = parts_spell c.args.node.now

@@ -1,0 +1,148 @@
+//! Clients of a node that runs: what they print, and the status that they end with.
+
+use crate::nodes::{Places, check, check_end, end, run, set_up};
+use cc_client::{ask_node, leave_node, retire_node};
+use cc_commands::{AskOrder, LeaveOrder, RetireOrder};
+use cc_intake::NoHooks;
+use cc_server::Stop;
+use cc_views::NodeId;
+use cc_words::command;
+use std::alloc::Global;
+use std::net::{Net, SocketAddr, TcpListener, TcpStream};
+use std::test::*;
+use std::thread;
+use std::time::Clock;
+
+// What is asked of node 1 in turn, and what its client prints.
+const ASKED: [(&[&str], &str); 9] = [
+    (&["store", "a=b"], "Stored\n"),
+    (&["max", "9"], "Stored\n"),
+    (&["max", "3"], "Stored\n"),
+    (&["flag"], "Stored\n"),
+    (&["add", "5"], "Stored\n"),
+    (&["collect"], "Seen [1:5=a%3db/9/1/5]\n"),
+    (&["readmax"], "Max 9\n"),
+    (&["readflag"], "Flag 1\n"),
+    (&["readset"], "Set [5]\n"),
+];
+
+// Asks for so many seconds at most. The client prints this, and ends with that status.
+fn check_asked<R: Net<Stream = TcpStream> + Clock>(
+    rt: &R,
+    alloc: Global,
+    order: &AskOrder,
+    status: u8,
+    wanted: &'static str,
+) -> Result<(), Fail> {
+    let mut output = Vec::new(alloc);
+    let ended = ask_node(rt, alloc, order, &mut output)?;
+    check(output.as_slice() == wanted.as_bytes(), wanted)?;
+    check(ended == status, "the status of a client")
+}
+
+fn order(address: SocketAddr, words: &[&str], timeout: u64) -> Result<AskOrder, Fail> {
+    Ok(AskOrder {
+        address,
+        session: 7,
+        command: command(words).ok_or("a command")?,
+        timeout,
+    })
+}
+
+// All commands, one after the other, in one session.
+fn ask_all<R: Net<Stream = TcpStream> + Clock>(
+    rt: &R,
+    alloc: Global,
+    one: SocketAddr,
+) -> Result<(), Fail> {
+    for (words, wanted) in ASKED {
+        check_asked(rt, alloc, &order(one, words, 20)?, 0, wanted)?;
+    }
+    Ok(())
+}
+
+fn check_retired<R: Net<Stream = TcpStream> + Clock>(
+    rt: &R,
+    alloc: Global,
+    one: SocketAddr,
+) -> Result<(), Fail> {
+    let order = RetireOrder {
+        address: one,
+        node: NodeId::new(2).ok_or("an id")?,
+    };
+    let mut output = Vec::new(alloc);
+    let status = retire_node(rt, alloc, &order, &mut output)?;
+    check(output.as_slice() == b"retired 2\n".as_slice(), "retired 2")?;
+    check(status == 0, "the status of a retire")
+}
+
+fn check_left<R: Net<Stream = TcpStream> + Clock>(
+    rt: &R,
+    alloc: Global,
+    one: SocketAddr,
+) -> Result<(), Fail> {
+    let order = LeaveOrder { address: one };
+    let mut output = Vec::new(alloc);
+    let status = leave_node(rt, alloc, &order, &mut output)?;
+    check(output.as_slice() == b"left\n".as_slice(), "left")?;
+    check(status == 0, "the status of a leave")
+}
+
+// Clients and the operator at node 1. What was done before is told once more, and who has left serves no client.
+fn talk<R: Net<Stream = TcpStream> + Clock>(
+    rt: &R,
+    alloc: Global,
+    one: SocketAddr,
+) -> Result<(), Fail> {
+    ask_all(rt, alloc, one)?;
+    check_retired(rt, alloc, one)?;
+    check_retired(rt, alloc, one)?;
+    check_left(rt, alloc, one)?;
+    check_left(rt, alloc, one)?;
+    let late = order(one, &["collect"], 20)?;
+    check_asked(rt, alloc, &late, 1, "refused 1 Left\n")
+}
+
+#[test]
+fn clients_print_what_a_node_answers(rt: HostRuntime) -> Result<(), Fail> {
+    let Places {
+        first,
+        second,
+        one,
+        two,
+    } = set_up(&rt, "asked-1", "asked-2")?;
+    let stop = Stop::new();
+    let alloc = rt.alloc();
+    let ((ended_1, ended_2), talked) = thread::join(
+        &rt,
+        || {
+            thread::join(
+                &rt,
+                || run(&rt, alloc, "asked-1", first, (2, two), &stop, &NoHooks),
+                || run(&rt, alloc, "asked-2", second, (1, one), &stop, &NoHooks),
+            )
+        },
+        || {
+            let talked = talk(&rt, alloc, one);
+            end(&rt, &stop, one, two);
+            talked
+        },
+    );
+    talked?;
+    check_end(ended_1)?;
+    check_end(ended_2)
+}
+
+// Nothing listens at the port of a listener that is gone.
+#[test]
+fn clients_give_up_where_no_answer_comes(rt: HostRuntime) -> Result<(), Fail> {
+    let listener = TcpListener::bind(&rt, "127.0.0.1:0")?;
+    let address = listener.local_addr()?;
+    drop(listener);
+    let order = order(address, &["collect"], 1)?;
+    check_asked(&rt, rt.alloc(), &order, 1, "no answer\n")?;
+    let mut output = Vec::new(rt.alloc());
+    let status = leave_node(&rt, rt.alloc(), &LeaveOrder { address }, &mut output)?;
+    check(output.as_slice() == b"no answer\n".as_slice(), "no answer")?;
+    check(status == 1, "the status of a leave")
+}

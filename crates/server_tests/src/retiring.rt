@@ -1,0 +1,99 @@
+//! What the operator is told is durable.
+
+use crate::clients::{THIRD_ASK, connected, exchange, reads};
+use crate::nodes::{Places, check, check_end, end, run, set_up};
+use cc_intake::{Hooks, NoHooks};
+use cc_server::Stop;
+use std::alloc::Global;
+use std::io::Write;
+use std::net::{Net, SocketAddr, TcpStream};
+use std::sync::atomic::{AtomicU64, Ordering};
+use std::test::*;
+use std::thread;
+
+// Node 2 is to be retired, twice over one connection.
+const RETIRE_TWICE: [u8; 18] = [0, 0, 0, 5, 7, 0, 0, 0, 2, 0, 0, 0, 5, 7, 0, 0, 0, 2];
+
+// The second request is refused: Left, under session 0 and request 0.
+const REFUSED: [u8; 30] = [
+    0, 0, 0, 26, 5, 0, 0, 0, 0, 0, 0, 0, 0, 0, 0, 0, 0, 0, 0, 0, 0, 1, 0, 0, 0, 0, 0, 0, 0, 0,
+];
+
+// Nothing was asked in session 7, so request 3 is refused: Skip.
+const SKIPPED: [u8; 30] = [
+    0, 0, 0, 26, 5, 0, 0, 0, 0, 0, 0, 0, 7, 0, 0, 0, 0, 0, 0, 0, 3, 12, 0, 0, 0, 0, 0, 0, 0, 0,
+];
+
+/// Counts the syncs that a node has made.
+#[derive(Drop)]
+struct Syncs {
+    count: AtomicU64,
+}
+
+impl Syncs {
+    fn count(&self) -> u64 {
+        self.count.load(Ordering::SeqCst)
+    }
+}
+
+impl Hooks for Syncs {
+    fn before_accept(&self) {}
+
+    fn after_accept(&self) {}
+
+    fn before_sync(&self) {}
+
+    fn after_sync(&self) {
+        self.count.fetch_add(1, Ordering::SeqCst);
+    }
+}
+
+// Once the node serves: the first request makes nothing that anyone waits for, and yet its two syncs are made before the
+// second is answered.
+fn retire<R: Net<Stream = TcpStream>>(
+    rt: &R,
+    alloc: Global,
+    one: SocketAddr,
+    syncs: &Syncs,
+) -> Result<(), Fail> {
+    exchange(rt, alloc, one, &THIRD_ASK, &SKIPPED)?;
+    let mut stream = connected(rt, one)?;
+    let before = syncs.count();
+    stream.write_all(&RETIRE_TWICE)?;
+    reads(alloc, &mut stream, &REFUSED)?;
+    let made = syncs.count().saturating_sub(before);
+    check(made >= 2, "what is told is durable")
+}
+
+#[test]
+fn a_retire_is_durable_before_it_is_told(rt: HostRuntime) -> Result<(), Fail> {
+    let Places {
+        first,
+        second,
+        one,
+        two,
+    } = set_up(&rt, "retiring-1", "retiring-2")?;
+    let stop = Stop::new();
+    let syncs = Syncs {
+        count: AtomicU64::new(0),
+    };
+    let alloc = rt.alloc();
+    let ((ended_1, ended_2), talked) = thread::join(
+        &rt,
+        || {
+            thread::join(
+                &rt,
+                || run(&rt, alloc, "retiring-1", first, (2, two), &stop, &syncs),
+                || run(&rt, alloc, "retiring-2", second, (1, one), &stop, &NoHooks),
+            )
+        },
+        || {
+            let talked = retire(&rt, alloc, one, &syncs);
+            end(&rt, &stop, one, two);
+            talked
+        },
+    );
+    talked?;
+    check_end(ended_1)?;
+    check_end(ended_2)
+}
