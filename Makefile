@@ -1,6 +1,6 @@
 # The commands of the README. The toolchain is Rattle's kit, with its command rt on the PATH.
-.PHONY: try run install test check bench edits refused-growths kill-files cluster load kill-cluster soak hostile \
-    many-sessions costs worked-rows
+.PHONY: try run install test check bench edits refused-growths failing-calls kill-files cluster load kill-cluster soak \
+    hostile many-sessions costs worked-rows
 
 # Plays the script that ships with the program before any proof.
 try:
@@ -56,6 +56,12 @@ refused-growths:
 	@for crate in $(CRATES); do (cd crates/$$crate && rt test) > growths.log 2>&1 || { cat growths.log; exit 1; }; done
 	@rm -f growths.log
 	@bash tools/refused_growths.sh $(CRATES)
+
+# Has each disk call of a node on two files fail in turn, and each read and write in turn move a single byte, and opens it
+# again: two minutes. It needs a C compiler.
+failing-calls:
+	@$(BUILD); build ccnode
+	@python3 tools/failing_calls.py crates/ccnode/out/ccnode
 
 # Kills a node that writes on two files a thousand times with SIGKILL, and opens it again: about two minutes. KILLS=100
 # does fewer.

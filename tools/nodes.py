@@ -80,7 +80,7 @@ class Cluster:
 
     def start(self, node):
         peers = ",".join(f"{peer}={self.way(node, peer)}" for peer in self.nodes if peer != node)
-        words = ["run", f"node-{node}", "--listen", self.address(node), "--peers", peers]
+        words = ["run", f"node-{node}", "--listen", self.address(node), *(["--peers", peers] if peers else [])]
         settings = {**os.environ, "LD_PRELOAD": self.preloads[node]} if node in self.preloads else None
         with open(self.folder / f"log-{node}", "ab") as log:
             self.running[node] = subprocess.Popen(
