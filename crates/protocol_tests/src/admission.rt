@@ -33,34 +33,51 @@ fn joined(node: NodeId) -> Event {
     delivered(node, Message::Join { node })
 }
 
-// Whether the event, which is let go, may be handed to node 1.
-fn may(event: Event, kept: u64, is_furthest: bool, waited: u64) -> Result<bool, Fail> {
-    let Some(me) = NodeId::new(1) else {
-        drop(event);
-        return Err(Fail::from("ids begin at 1"));
-    };
-    let may = may_hand_over(me, &event, kept, is_furthest, waited);
-    drop(event);
-    Ok(may)
+// How many posts node 1 keeps, whether the sender is furthest behind, how long the event has waited, and whether it may
+// be handed over then.
+type Case = (u64, bool, u64, bool);
+
+fn check_cases<R: Abort>(rt: &R, event: &Event, cases: &[Case]) -> Result<(), Fail> {
+    let me = node(1)?;
+    for (kept, is_furthest, waited, may) in cases {
+        let handed = may_hand_over(me, event, *kept, *is_furthest, *waited);
+        assert_eq!(rt; handed, *may, "with {kept} posts");
+    }
+    Ok(())
 }
+
+// Checks when the event, which is let go, may be handed to node 1.
+fn check_handing<R: Abort>(rt: &R, event: Event, cases: &[Case]) -> Result<(), Fail> {
+    let checked = check_cases(rt, &event, cases);
+    drop(event);
+    checked
+}
+
+const ASKS: [Case; 4] = [
+    (128, false, 0, true),
+    (129, false, 0, false),
+    (512, true, 9, false),
+    (512, false, 10, true),
+];
 
 #[test]
 fn an_ask_leaves_room_for_384_posts(rt: HostRuntime) -> Result<(), Fail> {
-    assert!(rt; may(asked(), 128, false, 0)?);
-    assert!(rt; !may(asked(), 129, false, 0)?);
-    assert!(rt; !may(asked(), 512, true, 9)?);
-    assert!(rt; may(asked(), 512, false, 10)?);
-    Ok(())
+    check_handing(&rt, asked(), &ASKS)
 }
+
+const MESSAGES: [Case; 3] = [
+    (256, false, 0, true),
+    (257, false, 60, false),
+    (512, true, 0, true),
+];
 
 #[test]
 fn a_message_leaves_room_for_256_posts(rt: HostRuntime) -> Result<(), Fail> {
     let node = node(2)?;
-    assert!(rt; may(joined(node), 256, false, 0)?);
-    assert!(rt; !may(joined(node), 257, false, 60)?);
-    assert!(rt; may(joined(node), 512, true, 0)?);
-    Ok(())
+    check_handing(&rt, joined(node), &MESSAGES)
 }
+
+const NEVER_HELD: [Case; 1] = [(512, false, 0, true)];
 
 #[test]
 fn what_posts_nothing_is_never_held_back(rt: HostRuntime) -> Result<(), Fail> {
@@ -69,54 +86,72 @@ fn what_posts_nothing_is_never_held_back(rt: HostRuntime) -> Result<(), Fail> {
         peer: node,
         number: 1,
     };
-    assert!(rt; may(acked, 512, false, 0)?);
-    assert!(rt; may(Event::Retire { node }, 512, false, 0)?);
+    check_handing(&rt, acked, &NEVER_HELD)?;
+    check_handing(&rt, Event::Retire { node }, &NEVER_HELD)?;
     let join_echo = delivered(node, Message::JoinEcho { node });
-    assert!(rt; may(join_echo, 512, false, 0)?);
+    check_handing(&rt, join_echo, &NEVER_HELD)?;
     let leave_echo = delivered(node, Message::LeaveEcho { node });
-    assert!(rt; may(leave_echo, 512, false, 0)?);
+    check_handing(&rt, leave_echo, &NEVER_HELD)?;
     let of_another = delivered(node, Message::StoreAck { tag: 1, node });
-    assert!(rt; may(of_another, 512, false, 0)?);
-    Ok(())
+    check_handing(&rt, of_another, &NEVER_HELD)
 }
 
 #[test]
 fn what_ends_an_operation_of_the_node_may_be_held_back(rt: HostRuntime) -> Result<(), Fail> {
     let (me, peer) = (node(1)?, node(2)?);
     let of_its_own = delivered(peer, Message::StoreAck { tag: 1, node: me });
-    assert!(rt; !may(of_its_own, 257, false, 0)?);
-    Ok(())
+    check_handing(&rt, of_its_own, &[(257, false, 0, false)])
 }
 
 // Takes the event in, which isn't refused.
 fn take(alloc: Global, node: &mut Node, event: Event) -> Result<(), Fail> {
-    node.core().decide(&event)?;
-    let made = node.core().made(alloc, &event)?;
-    node.settle(event, made);
-    Ok(())
+    match node.core().made_or_refused(alloc, &event) {
+        Ok(made) => {
+            node.settle(event, made);
+            Ok(())
+        }
+        Err(refusal) => {
+            drop(event);
+            Err(refusal)?
+        }
+    }
 }
 
-fn is_behind(member: &Node, peer: NodeId) -> bool {
+// Which of nodes 1, 2 and 3 are furthest behind.
+fn behind(member: &Node) -> Result<[bool; 3], Fail> {
+    let (one, two, three) = (node(1)?, node(2)?, node(3)?);
     let core = member.core();
-    is_furthest_behind(core, core.lowest(), peer)
+    let lowest = core.lowest();
+    Ok([
+        is_furthest_behind(core, lowest, one),
+        is_furthest_behind(core, lowest, two),
+        is_furthest_behind(core, lowest, three),
+    ])
+}
+
+// Takes the event in. Which of nodes 1, 2 and 3 are furthest behind then.
+fn behind_after(alloc: Global, member: &mut Node, event: Event) -> Result<[bool; 3], Fail> {
+    take(alloc, member, event)?;
+    behind(member)
 }
 
 fn check_behind<R: Abort + AllocGlobal>(rt: &R, member: &mut Node) -> Result<(), Fail> {
-    let (one, two, three) = (node(1)?, node(2)?, node(3)?);
-    take(rt.alloc(), member, asked())?;
-    assert!(rt; is_behind(member, one) && is_behind(member, two));
-    assert!(rt; !is_behind(member, three));
-    take(
-        rt.alloc(),
-        member,
-        Event::Acked {
-            peer: one,
-            number: 1,
-        },
-    )?;
-    assert!(rt; !is_behind(member, one) && is_behind(member, two));
-    take(rt.alloc(), member, Event::Retire { node: two })?;
-    assert!(rt; is_behind(member, one) && !is_behind(member, two));
+    let (one, two) = (node(1)?, node(2)?);
+    let after_ask = behind_after(rt.alloc(), member, asked())?;
+    let acked = Event::Acked {
+        peer: one,
+        number: 1,
+    };
+    let after_ack = behind_after(rt.alloc(), member, acked)?;
+    let after_retire = behind_after(rt.alloc(), member, Event::Retire { node: two })?;
+    assert_eq!(rt;
+        [after_ask, after_ack, after_retire],
+        [
+            [true, true, false],
+            [false, true, false],
+            [true, false, false]
+        ]
+    );
     Ok(())
 }
 

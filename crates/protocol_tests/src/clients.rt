@@ -5,6 +5,7 @@ use cc_protocol::{Client, Heard, Step, refusal_of};
 use cc_views::Text;
 use cc_wire::{Answer, Command, Frame, Refusal, decode_frame};
 use std::alloc::Global;
+use std::process::Abort;
 use std::test::*;
 
 // What a client did.
@@ -59,83 +60,119 @@ fn sent(alloc: Global, frame: &Frame) -> Result<Did, Fail> {
     })
 }
 
-fn frame_of(alloc: Global, bytes: &[u8]) -> Result<Heard, Fail> {
-    Ok(Heard::Came(decode_frame(alloc, bytes)?))
+// What a client is told: that its connection is open or broke, a refusal (the session, the request, its number and its
+// value), or the bytes of a frame.
+#[derive(Clone, Copy)]
+enum Told {
+    Ready,
+    Broken,
+    Refused(u64, u64, u8, u64),
+    Bytes(&'static [u8]),
 }
 
-fn came(alloc: Global, client: &mut Client, bytes: &[u8]) -> Result<Did, Fail> {
-    let heard = frame_of(alloc, bytes)?;
-    done_by(alloc, client, heard)
+fn heard(alloc: Global, told: Told) -> Result<Heard, Fail> {
+    match told {
+        Told::Ready => Ok(Heard::Ready),
+        Told::Broken => Ok(Heard::Broken),
+        Told::Refused(session, request, refusal, value) => Ok(Heard::Came(Frame::Refused {
+            session,
+            request,
+            refusal,
+            value,
+        })),
+        Told::Bytes(bytes) => Ok(Heard::Came(decode_frame(alloc, bytes)?)),
+    }
 }
 
-fn refused(session: u64, request: u64, refusal: u8, value: u64) -> Heard {
-    Heard::Came(Frame::Refused {
-        session,
-        request,
-        refusal,
-        value,
-    })
+// Checks what the client does each time that it is told something.
+fn check_talk<R: Abort + AllocGlobal>(
+    rt: &R,
+    client: &mut Client,
+    talk: &[(Told, Did)],
+) -> Result<(), Fail> {
+    for (told, wanted) in talk {
+        let heard = heard(rt.alloc(), *told)?;
+        let did = done_by(rt.alloc(), client, heard)?;
+        assert_eq!(rt; did, *wanted);
+    }
+    Ok(())
 }
 
 #[test]
 fn a_client_learns_its_number_and_is_answered(rt: HostRuntime) -> Result<(), Fail> {
     let mut client = client(None)?;
-    assert_eq!(rt;
-        done_by(rt.alloc(), &mut client, Heard::Ready)?,
-        Did::Learned
-    );
-    assert_eq!(rt;
-        done_by(rt.alloc(), &mut client, refused(7, 0, 11, 0))?,
-        Did::Asked
-    );
+    let learning = [
+        (Told::Ready, Did::Learned),
+        (Told::Refused(7, 0, 11, 0), Did::Asked),
+    ];
+    check_talk(&rt, &mut client, &learning)?;
     assert_eq!(rt; client.request, Some(1));
-    assert_eq!(rt; came(rt.alloc(), &mut client, &STORED)?, Did::WasStored);
-    Ok(())
+    check_talk(&rt, &mut client, &[(Told::Bytes(&STORED), Did::WasStored)])
 }
+
+// It is refused as Busy, OutboxFull and QueueFull, and then its connection breaks.
+const PAUSES: [(Told, Did); 8] = [
+    (
+        Told::Refused(7, 1, 13, 0),
+        Did::Retried(Some(Refusal::Busy)),
+    ),
+    (Told::Ready, Did::Asked),
+    (
+        Told::Refused(7, 1, 15, 0),
+        Did::Retried(Some(Refusal::OutboxFull)),
+    ),
+    (Told::Ready, Did::Asked),
+    (
+        Told::Refused(7, 1, 18, 0),
+        Did::Retried(Some(Refusal::QueueFull)),
+    ),
+    (Told::Ready, Did::Asked),
+    (Told::Broken, Did::Retried(None)),
+    (Told::Ready, Did::Asked),
+];
 
 #[test]
 fn it_asks_again_under_the_same_number(rt: HostRuntime) -> Result<(), Fail> {
     let mut client = client(Some(1))?;
-    for refusal in [Refusal::Busy, Refusal::OutboxFull, Refusal::QueueFull] {
-        let heard = refused(7, 1, refusal.number(), 0);
-        assert_eq!(rt;
-            done_by(rt.alloc(), &mut client, heard)?,
-            Did::Retried(Some(refusal))
-        );
-        assert_eq!(rt; done_by(rt.alloc(), &mut client, Heard::Ready)?, Did::Asked);
-    }
-    assert_eq!(rt;
-        done_by(rt.alloc(), &mut client, Heard::Broken)?,
-        Did::Retried(None)
-    );
-    assert_eq!(rt; done_by(rt.alloc(), &mut client, Heard::Ready)?, Did::Asked);
+    check_talk(&rt, &mut client, &PAUSES)?;
+    assert_eq!(rt; client.request, Some(1));
     Ok(())
 }
 
 #[test]
 fn other_refusals_end_it(rt: HostRuntime) -> Result<(), Fail> {
     let mut client = client(Some(3))?;
-    let skipped = came(rt.alloc(), &mut client, &SKIPPED)?;
-    assert_eq!(rt; skipped, Did::WasRefused(Refusal::Skip(1)));
-    let stale = done_by(rt.alloc(), &mut client, refused(7, 3, 11, 9))?;
-    assert_eq!(rt;
-        (stale, client.request),
-        (Did::WasRefused(Refusal::Stale(9)), Some(3))
+    let refused = [
+        (Told::Bytes(&SKIPPED), Did::WasRefused(Refusal::Skip(1))),
+        (
+            Told::Refused(7, 3, 11, 9),
+            Did::WasRefused(Refusal::Stale(9)),
+        ),
+    ];
+    check_talk(&rt, &mut client, &refused)?;
+    assert_eq!(rt; client.request, Some(3));
+    let full = (
+        Told::Refused(7, 3, 14, 0),
+        Did::WasRefused(Refusal::SetFull),
     );
-    let full = done_by(rt.alloc(), &mut client, refused(7, 3, 14, 0))?;
-    assert_eq!(rt; full, Did::WasRefused(Refusal::SetFull));
-    Ok(())
+    check_talk(&rt, &mut client, &[full])
 }
+
+// Refusals of another session, of other requests and of no kind, an answer to another request, and no answer.
+const OF_OTHERS: [(Told, Did); 7] = [
+    (Told::Refused(8, 2, 14, 5), Did::Waited),
+    (Told::Refused(7, 0, 11, 5), Did::Waited),
+    (Told::Refused(7, 3, 14, 5), Did::Waited),
+    (Told::Refused(7, 2, 0, 5), Did::Waited),
+    (Told::Refused(7, 2, 19, 5), Did::Waited),
+    (Told::Bytes(&STORED), Did::Waited),
+    (Told::Bytes(&ASK), Did::Waited),
+];
 
 #[test]
 fn frames_of_others_are_passed_over(rt: HostRuntime) -> Result<(), Fail> {
     let mut client = client(Some(2))?;
-    for (session, request, refusal) in [(8, 2, 14), (7, 0, 11), (7, 3, 14), (7, 2, 0), (7, 2, 19)] {
-        let heard = refused(session, request, refusal, 5);
-        assert_eq!(rt; done_by(rt.alloc(), &mut client, heard)?, Did::Waited);
-    }
-    assert_eq!(rt; came(rt.alloc(), &mut client, &STORED)?, Did::Waited);
-    assert_eq!(rt; came(rt.alloc(), &mut client, &ASK)?, Did::Waited);
+    check_talk(&rt, &mut client, &OF_OTHERS)?;
     assert_eq!(rt; client.request, Some(2));
     Ok(())
 }
@@ -143,28 +180,30 @@ fn frames_of_others_are_passed_over(rt: HostRuntime) -> Result<(), Fail> {
 #[test]
 fn there_is_no_number_after_the_last_one(rt: HostRuntime) -> Result<(), Fail> {
     let mut client = client(None)?;
-    let last = done_by(rt.alloc(), &mut client, refused(7, 0, 11, u64::MAX))?;
-    assert_eq!(rt;
-        (last, client.request),
-        (Did::WasRefused(Refusal::Stale(u64::MAX)), None)
+    let last = (
+        Told::Refused(7, 0, 11, u64::MAX),
+        Did::WasRefused(Refusal::Stale(u64::MAX)),
     );
+    check_talk(&rt, &mut client, &[last])?;
+    assert_eq!(rt; client.request, None);
     Ok(())
 }
 
+// Refusals with what they carry, which their numbers and values spell.
+const REFUSALS: [Refusal; 6] = [
+    Refusal::Left,
+    Refusal::Old(4),
+    Refusal::Gap(0),
+    Refusal::Stale(9),
+    Refusal::Skip(1),
+    Refusal::QueueFull,
+];
+
 #[test]
 fn a_refusal_is_known_by_its_number(rt: HostRuntime) -> Result<(), Fail> {
-    for refusal in [
-        Refusal::Left,
-        Refusal::Old(4),
-        Refusal::Gap(0),
-        Refusal::Stale(9),
-        Refusal::Skip(1),
-        Refusal::QueueFull,
-    ] {
-        assert_eq!(rt;
-            refusal_of(refusal.number(), refusal.value()),
-            Some(refusal)
-        );
+    for refusal in REFUSALS {
+        let known = refusal_of(refusal.number(), refusal.value());
+        assert_eq!(rt; known, Some(refusal));
     }
     assert_eq!(rt; (refusal_of(0, 1), refusal_of(19, 1)), (None, None));
     Ok(())

@@ -78,49 +78,62 @@ fn joined(node: NodeId) -> Event {
 #[test]
 fn what_stirs_wakes_the_flusher(rt: HostRuntime) -> Result<(), Fail> {
     let peer = node(2)?;
-    assert_eq!(rt; does_after(asked(1), Ok(true)), Does::Wakes);
-    assert_eq!(rt; does_after(Event::Enter, Ok(true)), Does::Wakes);
-    assert_eq!(rt; does_after(joined(peer), Ok(true)), Does::Wakes);
+    let does = [
+        does_after(asked(1), Ok(true)),
+        does_after(Event::Enter, Ok(true)),
+        does_after(joined(peer), Ok(true)),
+    ];
+    assert_eq!(rt; does, [Does::Wakes; 3]);
     Ok(())
 }
 
 #[test]
 fn what_makes_nothing_rides_along(rt: HostRuntime) -> Result<(), Fail> {
     let peer = node(2)?;
-    let acked = Event::Acked { peer, number: 1 };
-    assert_eq!(rt; does_after(acked, Ok(false)), Does::Rides);
-    assert_eq!(rt; does_after(asked(1), Ok(false)), Does::Rides);
-    assert_eq!(rt; does_after(joined(peer), Ok(false)), Does::Rides);
+    let does = [
+        does_after(Event::Acked { peer, number: 1 }, Ok(false)),
+        does_after(asked(1), Ok(false)),
+        does_after(joined(peer), Ok(false)),
+    ];
+    assert_eq!(rt; does, [Does::Rides; 3]);
     Ok(())
 }
+
+// Why a message of node 2 is refused, and what is done then.
+const REFUSED_MESSAGES: [(Refusal, Does); 6] = [
+    (Refusal::Old(4), Does::Reacks(2)),
+    (Refusal::QueueFull, Does::BringsAgain),
+    (Refusal::Gap(2), Does::Nothing),
+    (Refusal::OutboxFull, Does::Nothing),
+    (Refusal::Left, Does::Nothing),
+    (Refusal::NoMemory, Does::Nothing),
+];
 
 #[test]
 fn a_message_is_acknowledged_again_or_brought_again(rt: HostRuntime) -> Result<(), Fail> {
     let peer = node(2)?;
-    let old = does_after(joined(peer), Err(Refusal::Old(4)));
-    assert_eq!(rt; old, Does::Reacks(2));
-    let full = does_after(joined(peer), Err(Refusal::QueueFull));
-    assert_eq!(rt; full, Does::BringsAgain);
-    for refusal in [
-        Refusal::Gap(2),
-        Refusal::OutboxFull,
-        Refusal::Left,
-        Refusal::NoMemory,
-    ] {
-        assert_eq!(rt; does_after(joined(peer), Err(refusal)), Does::Nothing);
+    for (refusal, does) in REFUSED_MESSAGES {
+        assert_eq!(rt; does_after(joined(peer), Err(refusal)), does);
     }
     Ok(())
 }
 
 #[test]
 fn a_client_is_answered_again_or_told_why_not(rt: HostRuntime) -> Result<(), Fail> {
-    let again = does_after(asked(1), Err(Refusal::Repeat));
-    assert_eq!(rt; again, Does::AnswersAgain(7));
-    let skipped = does_after(asked(3), Err(Refusal::Skip(1)));
-    assert_eq!(rt; skipped, Does::Refuses(7, 3, 12, 1));
-    let full = does_after(asked(3), Err(Refusal::QueueFull));
-    assert_eq!(rt; full, Does::Refuses(7, 3, 18, 0));
-    let left = does_after(Event::Leave, Err(Refusal::Left));
-    assert_eq!(rt; left, Does::Refuses(0, 0, 1, 0));
+    let does = [
+        does_after(asked(1), Err(Refusal::Repeat)),
+        does_after(asked(3), Err(Refusal::Skip(1))),
+        does_after(asked(3), Err(Refusal::QueueFull)),
+        does_after(Event::Leave, Err(Refusal::Left)),
+    ];
+    assert_eq!(rt;
+        does,
+        [
+            Does::AnswersAgain(7),
+            Does::Refuses(7, 3, 12, 1),
+            Does::Refuses(7, 3, 18, 0),
+            Does::Refuses(0, 0, 1, 0)
+        ]
+    );
     Ok(())
 }

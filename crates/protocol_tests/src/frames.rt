@@ -56,33 +56,48 @@ fn about_bytes(alloc: Global, bytes: &[u8]) -> Result<About, Fail> {
 
 #[test]
 fn what_a_client_sends_is_an_event(rt: HostRuntime) -> Result<(), Fail> {
-    assert_eq!(rt; about_bytes(rt.alloc(), &ASK)?, About::Ask(7, 1));
-    assert_eq!(rt; about_frame(Frame::Leave), About::Leave);
     let node = node(3)?;
-    assert_eq!(rt; about_frame(Frame::Retire { node }), About::Retirement(3));
+    let about = [
+        about_bytes(rt.alloc(), &ASK)?,
+        about_frame(Frame::Leave),
+        about_frame(Frame::Retire { node }),
+    ];
+    assert_eq!(rt;
+        about,
+        [About::Ask(7, 1), About::Leave, About::Retirement(3)]
+    );
     Ok(())
+}
+
+fn posted_join(from: NodeId) -> Frame {
+    Frame::Post {
+        from,
+        number: 4,
+        message: Message::Join { node: from },
+    }
 }
 
 #[test]
 fn what_a_peer_sends_is_an_event(rt: HostRuntime) -> Result<(), Fail> {
     let from = node(2)?;
-    assert_eq!(rt;
+    let about = [
         about_frame(Frame::Ack { from, number: 9 }),
-        About::Acknowledgement(2, 9)
+        about_frame(posted_join(from)),
+    ];
+    assert_eq!(rt;
+        about,
+        [About::Acknowledgement(2, 9), About::Delivery(2, 4)]
     );
-    let post = Frame::Post {
-        from,
-        number: 4,
-        message: Message::Join { node: from },
-    };
-    assert_eq!(rt; about_frame(post), About::Delivery(2, 4));
     Ok(())
 }
 
 #[test]
 fn what_a_node_sends_to_clients_is_none(rt: HostRuntime) -> Result<(), Fail> {
-    assert_eq!(rt; about_bytes(rt.alloc(), &STORED)?, About::Nothing);
-    assert_eq!(rt; about_bytes(rt.alloc(), &SKIPPED)?, About::Nothing);
+    let about = [
+        about_bytes(rt.alloc(), &STORED)?,
+        about_bytes(rt.alloc(), &SKIPPED)?,
+    ];
+    assert_eq!(rt; about, [About::Nothing; 2]);
     Ok(())
 }
 
@@ -95,7 +110,10 @@ const POST: [u8; 30] = [
 const ACK: [u8; 17] = [0, 0, 0, 0x0D, 2, 0, 0, 0, 1, 0, 0, 0, 0, 0, 0, 0, 9];
 
 fn posted(alloc: Global, me: NodeId) -> Result<Frame, Fail> {
-    Ok(post_frame(alloc, me, 2, &Message::StoreAck { tag: 1, node: me })?)
+    let message = Message::StoreAck { tag: 1, node: me };
+    let frame = post_frame(alloc, me, 2, &message);
+    drop(message);
+    Ok(frame?)
 }
 
 fn replied(alloc: Global) -> Result<Frame, Fail> {
@@ -105,9 +123,12 @@ fn replied(alloc: Global) -> Result<Frame, Fail> {
 #[test]
 fn outputs_are_frames_of_their_sender(rt: HostRuntime) -> Result<(), Fail> {
     let me = node(1)?;
-    assert!(rt; is_spelled(rt.alloc(), posted(rt.alloc(), me)?, &POST)?);
-    assert!(rt; is_spelled(rt.alloc(), ack_frame(me, 9), &ACK)?);
-    assert!(rt; is_spelled(rt.alloc(), replied(rt.alloc())?, &STORED)?);
+    let are_spelled = [
+        is_spelled(rt.alloc(), posted(rt.alloc(), me)?, &POST)?,
+        is_spelled(rt.alloc(), ack_frame(me, 9), &ACK)?,
+        is_spelled(rt.alloc(), replied(rt.alloc())?, &STORED)?,
+    ];
+    assert_eq!(rt; are_spelled, [true; 3]);
     Ok(())
 }
 
@@ -116,41 +137,43 @@ const LEFT: [u8; 30] = [
     0, 0, 0, 0x1A, 5, 0, 0, 0, 0, 0, 0, 0, 0, 0, 0, 0, 0, 0, 0, 0, 0, 1, 0, 0, 0, 0, 0, 0, 0, 0,
 ];
 
-// Whether what is told of a refused event is spelled so. None where nothing is told.
+// Whether what is told of a refused event, which is let go, is spelled so. None where nothing is told.
 fn is_told(
     alloc: Global,
-    event: &Event,
+    event: Event,
     refusal: Refusal,
     bytes: &[u8],
 ) -> Result<Option<bool>, Fail> {
-    match refused_frame(event, refusal) {
+    let told = refused_frame(&event, refusal);
+    drop(event);
+    match told {
         Some(frame) => Ok(Some(is_spelled(alloc, frame, bytes)?)),
         None => Ok(None),
     }
 }
 
-const THIRD: Event = Event::Ask {
-    session: 7,
-    request: 3,
-    command: Command::Collect,
-};
+fn third_request() -> Event {
+    Event::Ask {
+        session: 7,
+        request: 3,
+        command: Command::Collect,
+    }
+}
 
 #[test]
 fn refusals_are_told_to_who_asked(rt: HostRuntime) -> Result<(), Fail> {
     let node = node(3)?;
-    let retire = Event::Retire { node };
+    let told = [
+        is_told(rt.alloc(), third_request(), Refusal::Skip(1), &SKIPPED)?,
+        is_told(rt.alloc(), Event::Leave, Refusal::Left, &LEFT)?,
+        is_told(rt.alloc(), Event::Retire { node }, Refusal::Left, &LEFT)?,
+    ];
     let acked = Event::Acked {
         peer: node,
         number: 1,
     };
-    let told = [
-        is_told(rt.alloc(), &THIRD, Refusal::Skip(1), &SKIPPED)?,
-        is_told(rt.alloc(), &Event::Leave, Refusal::Left, &LEFT)?,
-        is_told(rt.alloc(), &retire, Refusal::Left, &LEFT)?,
-    ];
-    assert_eq!(rt; told, [Some(true), Some(true), Some(true)]);
-    let untold = is_told(rt.alloc(), &acked, Refusal::NothingToAck, &LEFT)?;
-    assert_eq!(rt; untold, None);
+    let untold = is_told(rt.alloc(), acked, Refusal::NothingToAck, &LEFT)?;
+    assert_eq!(rt; (told, untold), ([Some(true); 3], None));
     Ok(())
 }
 
@@ -175,13 +198,22 @@ fn outcome_refused(refusal: u8) -> Option<Outcome> {
 
 #[test]
 fn the_operator_is_told_by_a_refusal(rt: HostRuntime) -> Result<(), Fail> {
-    assert_eq!(rt; outcome(rt.alloc(), &LEFT)?, Some(Outcome::Done));
-    assert_eq!(rt; outcome(rt.alloc(), &SKIPPED)?, None);
-    assert_eq!(rt; outcome(rt.alloc(), &STORED)?, None);
-    assert_eq!(rt;
+    let outcomes = [
+        outcome(rt.alloc(), &LEFT)?,
+        outcome(rt.alloc(), &SKIPPED)?,
+        outcome(rt.alloc(), &STORED)?,
         outcome_refused(15),
-        Some(Outcome::Refused(Refusal::OutboxFull))
+        outcome_refused(19),
+    ];
+    assert_eq!(rt;
+        outcomes,
+        [
+            Some(Outcome::Done),
+            None,
+            None,
+            Some(Outcome::Refused(Refusal::OutboxFull)),
+            None
+        ]
     );
-    assert_eq!(rt; outcome_refused(19), None);
     Ok(())
 }

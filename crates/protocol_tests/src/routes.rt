@@ -5,89 +5,111 @@ use cc_wire::Refusal;
 use std::process::Abort;
 use std::test::*;
 
-fn check_routes<R: Abort>(rt: &R, routes: &mut Routes) -> Result<(), Fail> {
-    let one = routes.enter(false).ok_or("there is room")?;
-    let two = routes.enter(true).ok_or("there is room")?;
-    assert_eq!(rt; (one, two), (1, 2));
-    assert!(rt; routes.route(7, one) && routes.route(8, one) && routes.route(9, two));
+// Where the answers of sessions 7, 8 and 9 go.
+fn doors(routes: &Routes) -> [Option<u64>; 3] {
+    [routes.door_of(7), routes.door_of(8), routes.door_of(9)]
+}
+
+// Connections 1 and 2 enter, and session 7 asks over the first and then over the second.
+fn check_asks<R: Abort>(rt: &R, routes: &mut Routes) {
+    let entered = [routes.enter(false), routes.enter(true)];
+    let are_routed = [routes.route(7, 1), routes.route(8, 1), routes.route(9, 2)];
+    let first = doors(routes);
+    let is_routed = routes.route(7, 2);
     assert_eq!(rt;
-        (routes.door_of(7), routes.door_of(9)),
-        (Some(one), Some(two))
+        (entered, are_routed, is_routed),
+        ([Some(1), Some(2)], [true; 3], true)
     );
-    assert!(rt; routes.route(7, two));
     assert_eq!(rt;
-        (routes.door_of(7), routes.door_of(8)),
-        (Some(two), Some(one))
+        [first, doors(routes)],
+        [[Some(1), Some(1), Some(2)], [Some(2), Some(1), Some(2)]]
     );
-    routes.leave(two);
-    assert_eq!(rt;
-        (routes.door_of(7), routes.door_of(8), routes.door_of(9)),
-        (None, Some(one), None)
-    );
-    assert!(rt; !routes.route(7, two) && !routes.route(7, 3));
+}
+
+// The second leaves, and nothing is routed to it or to one that never entered.
+fn check_leaves<R: Abort>(rt: &R, routes: &mut Routes) {
+    routes.leave(2);
+    let left = doors(routes);
+    let are_routed = [routes.route(7, 2), routes.route(7, 3)];
+    assert_eq!(rt; (left, are_routed), ([None, Some(1), None], [false; 2]));
     assert_eq!(rt; (routes.door_of(7), routes.enter(false)), (None, Some(3)));
-    Ok(())
 }
 
 #[test]
 fn answers_go_to_who_asked_last(rt: HostRuntime) -> Result<(), Fail> {
     let mut routes = Routes::new(rt.alloc())?;
-    let checked = check_routes(&rt, &mut routes);
+    check_asks(&rt, &mut routes);
+    check_leaves(&rt, &mut routes);
     drop(routes);
-    checked
+    Ok(())
 }
 
-fn check_taken_back<R: Abort>(rt: &R, routes: &mut Routes) -> Result<(), Fail> {
-    let one = routes.enter(false).ok_or("there is room")?;
-    let two = routes.enter(false).ok_or("there is room")?;
-    assert!(rt; routes.route(7, one));
-    for refusal in [
-        Refusal::Busy,
-        Refusal::Stale(1),
-        Refusal::Skip(1),
-        Refusal::QueueFull,
-    ] {
-        routes.take_back(7, 2, one, refusal);
-        assert_eq!(rt; routes.door_of(7), Some(one));
+// What doesn't take a route back from connection 1: the request, the connection, and the refusal.
+const KEEPING: [(u64, u64, Refusal); 5] = [
+    (2, 1, Refusal::Busy),
+    (2, 1, Refusal::Stale(1)),
+    (2, 1, Refusal::Skip(1)),
+    (2, 1, Refusal::QueueFull),
+    (1, 2, Refusal::Stale(0)),
+];
+
+fn check_kept<R: Abort>(rt: &R, routes: &mut Routes) {
+    for (request, ticket, refusal) in KEEPING {
+        routes.take_back(7, request, ticket, refusal);
+        assert_eq!(rt; routes.door_of(7), Some(1));
     }
-    routes.take_back(7, 1, two, Refusal::Stale(0));
-    assert_eq!(rt; routes.door_of(7), Some(one));
-    for refusal in [
-        Refusal::Stale(0),
-        Refusal::Skip(0),
-        Refusal::TooManySessions,
-        Refusal::NotJoined,
-        Refusal::NotEntered,
-        Refusal::Busy,
-        Refusal::SetFull,
-        Refusal::OutboxFull,
-        Refusal::Spent,
-        Refusal::QueueFull,
-    ] {
-        assert!(rt; routes.route(7, one));
-        routes.take_back(7, 1, one, refusal);
-        assert_eq!(rt; routes.door_of(7), None);
+}
+
+// What takes the route of a first request back.
+const TAKING_BACK: [Refusal; 10] = [
+    Refusal::Stale(0),
+    Refusal::Skip(0),
+    Refusal::TooManySessions,
+    Refusal::NotJoined,
+    Refusal::NotEntered,
+    Refusal::Busy,
+    Refusal::SetFull,
+    Refusal::OutboxFull,
+    Refusal::Spent,
+    Refusal::QueueFull,
+];
+
+fn check_taken_back<R: Abort>(rt: &R, routes: &mut Routes) {
+    for refusal in TAKING_BACK {
+        let is_routed = routes.route(7, 1);
+        routes.take_back(7, 1, 1, refusal);
+        assert_eq!(rt; (is_routed, routes.door_of(7)), (true, None));
     }
-    Ok(())
+}
+
+// Two connections enter, and session 7 asks over the first.
+fn check_first_route<R: Abort>(rt: &R, routes: &mut Routes) {
+    let entered = [routes.enter(false), routes.enter(false)];
+    let is_routed = routes.route(7, 1);
+    assert_eq!(rt; (entered, is_routed), ([Some(1), Some(2)], true));
 }
 
 #[test]
 fn a_session_that_the_node_does_not_know_leaves_no_route(rt: HostRuntime) -> Result<(), Fail> {
     let mut routes = Routes::new(rt.alloc())?;
-    let checked = check_taken_back(&rt, &mut routes);
+    check_first_route(&rt, &mut routes);
+    check_kept(&rt, &mut routes);
+    check_taken_back(&rt, &mut routes);
     drop(routes);
-    checked
+    Ok(())
+}
+
+// So many connections enter, and one more doesn't.
+fn check_full<R: Abort>(rt: &R, routes: &mut Routes, is_peer: bool, count: u64) {
+    for _ in 0..count {
+        assert!(rt; routes.enter(is_peer).is_some());
+    }
+    assert_eq!(rt; routes.enter(is_peer), None);
 }
 
 fn check_doors<R: Abort>(rt: &R, routes: &mut Routes) {
-    for _ in 0..768 {
-        assert!(rt; routes.enter(false).is_some());
-    }
-    assert_eq!(rt; routes.enter(false), None);
-    for _ in 768..1024 {
-        assert!(rt; routes.enter(true).is_some());
-    }
-    assert_eq!(rt; routes.enter(true), None);
+    check_full(rt, routes, false, 768);
+    check_full(rt, routes, true, 256);
     routes.leave(5);
     assert_eq!(rt;
         (routes.enter(false), routes.enter(true)),
@@ -108,12 +130,9 @@ fn check_sessions<R: Abort>(rt: &R, routes: &mut Routes) -> Result<(), Fail> {
     for session in 0..1280 {
         assert!(rt; routes.route(session, one));
     }
-    assert!(rt; !routes.route(1280, one));
-    assert_eq!(rt;
-        (routes.door_of(1279), routes.door_of(1280)),
-        (Some(one), None)
-    );
-    assert!(rt; routes.route(3, one));
+    let are_routed = [routes.route(1280, one), routes.route(3, one)];
+    let doors = [routes.door_of(1279), routes.door_of(1280)];
+    assert_eq!(rt; (are_routed, doors), ([false, true], [Some(one), None]));
     Ok(())
 }
 
