@@ -26,59 +26,94 @@ fn is_bad(alloc: Global, opening: &Opening<'_>) -> bool {
     Node::fresh(alloc, opening).err() == Some(Fresh::BadOpening)
 }
 
+fn check_bad<R: Abort + AllocGlobal>(rt: &R, openings: &[Opening<'_>]) {
+    for opening in openings {
+        assert!(rt; is_bad(rt.alloc(), opening));
+    }
+}
+
 #[test]
 fn lists_of_an_opening_ascend_from_one(rt: HostRuntime) -> Result<(), Fail> {
-    for bad in [
+    let falling = [
         opening(0, &[0], &[]),
         opening(1, &[0, 1], &[]),
         opening(2, &[2, 1], &[]),
         opening(1, &[1, 1], &[]),
         opening(3, &[], &[2, 1]),
         opening(3, &[], &[0]),
-    ] {
-        assert!(rt; is_bad(rt.alloc(), &bad));
-    }
+    ];
+    check_bad(&rt, &falling);
     Ok(())
 }
 
 #[test]
 fn a_member_is_one_of_the_first_and_no_contact_of_its_own(rt: HostRuntime) -> Result<(), Fail> {
-    assert!(rt; is_bad(rt.alloc(), &opening(1, &[2], &[])));
-    assert!(rt; is_bad(rt.alloc(), &opening(1, &[], &[1])));
     let nothing = Opening {
         beta: Fraction { num: 0, den: 5 },
         ..opening(1, &[1], &[])
     };
-    assert!(rt; is_bad(rt.alloc(), &nothing));
     let beyond = Opening {
         gamma: Fraction { num: 6, den: 5 },
         ..opening(1, &[1], &[])
     };
-    assert!(rt; is_bad(rt.alloc(), &beyond));
+    let bad = [
+        opening(1, &[2], &[]),
+        opening(1, &[], &[1]),
+        nothing,
+        beyond,
+    ];
+    check_bad(&rt, &bad);
     Ok(())
+}
+
+fn push_contacts(contacts: &mut Vec<u32>, last: u32) -> Result<(), Fail> {
+    for id in 2..=last {
+        contacts.push(id)?;
+    }
+    Ok(())
+}
+
+// The contacts from node 2 to the last one.
+fn contacts(alloc: Global, last: u32) -> Result<Vec<u32>, Fail> {
+    let mut contacts = Vec::new(alloc);
+    push_contacts(&mut contacts, last)?;
+    Ok(contacts)
+}
+
+// Whether node 1 can't begin with the contacts up to the last one.
+fn is_bad_up_to(alloc: Global, last: u32) -> Result<bool, Fail> {
+    let contacts = contacts(alloc, last)?;
+    let is_bad = is_bad(alloc, &opening(1, &[], &contacts));
+    drop(contacts);
+    Ok(is_bad)
 }
 
 #[test]
 fn an_opening_names_up_to_256_nodes(rt: HostRuntime) -> Result<(), Fail> {
-    let mut contacts = Vec::new(rt.alloc());
-    for id in 2..257 {
-        contacts.push(id)?;
-    }
-    assert!(rt; !is_bad(rt.alloc(), &opening(1, &[], &contacts)));
-    contacts.push(257)?;
-    assert!(rt; is_bad(rt.alloc(), &opening(1, &[], &contacts)));
+    let are_bad = [
+        is_bad_up_to(rt.alloc(), 256)?,
+        is_bad_up_to(rt.alloc(), 257)?,
+    ];
+    assert_eq!(rt; are_bad, [false, true]);
     Ok(())
 }
 
 fn check_member<R: Abort>(rt: &R, node: &Node, contact: NodeId) {
-    assert_eq!(rt; node.me().number(), 2);
-    assert!(rt; node.is_joined());
-    assert!(rt; node.view().rows().is_empty());
-    assert_eq!(rt; node.kept(), 0);
-    assert_eq!(rt; node.core().links().len(), 3);
-    assert!(rt; node.core().is_live(contact));
-    assert_eq!(rt; node.heard(contact), 0);
-    assert!(rt; node.core().link(3).is_none());
+    let core = node.core();
+    let numbers = (
+        node.me().number(),
+        node.kept(),
+        node.heard(contact),
+        core.links().len(),
+    );
+    assert_eq!(rt; numbers, (2, 0, 0, 3));
+    let facts = [
+        node.is_joined(),
+        node.view().rows().is_empty(),
+        core.is_live(contact),
+        core.link(3).is_none(),
+    ];
+    assert_eq!(rt; facts, [true; 4]);
 }
 
 #[test]
@@ -86,17 +121,20 @@ fn a_member_begins(rt: HostRuntime) -> Result<(), Fail> {
     let seventh = NodeId::new(7).ok_or("7 is an id")?;
     let node = Node::fresh(rt.alloc(), &opening(2, &[1, 2], &[7]))?;
     check_member(&rt, &node, seventh);
+    drop(node);
     Ok(())
 }
 
 #[test]
 fn faults_print_their_names(rt: HostRuntime) -> Result<(), Fail> {
-    let bad = Fresh::BadOpening;
-    let text = format!(in rt.alloc(); "{bad}")?;
-    assert_eq!(rt; text.as_str(), "BadOpening");
-    let full = Fresh::NoMemory;
-    let text = format!(in rt.alloc(); "{full}")?;
-    assert_eq!(rt; text.as_str(), "NoMemory");
+    for (fault, name) in [
+        (Fresh::BadOpening, "BadOpening"),
+        (Fresh::NoMemory, "NoMemory"),
+    ] {
+        let text = format!(in rt.alloc(); "{fault}")?;
+        assert_eq!(rt; text.as_str(), name);
+        drop(text);
+    }
     Ok(())
 }
 
@@ -110,31 +148,44 @@ fn ask(request: u64, command: Command) -> Event {
 
 // Takes the event in, which isn't refused.
 fn take(alloc: Global, node: &mut Node, event: Event) -> Result<(), Fail> {
-    node.core().decide(&event)?;
-    let made = node.core().made(alloc, &event)?;
-    node.settle(event, made);
-    Ok(())
+    match node.core().made_or_refused(alloc, &event) {
+        Ok(made) => {
+            node.settle(event, made);
+            Ok(())
+        }
+        Err(refusal) => {
+            drop(event);
+            Err(refusal)?
+        }
+    }
 }
 
-// Why the node refuses the event.
+// Why the node refuses the event, which is let go.
 fn refusal(node: &Node, event: Event) -> Option<Refusal> {
-    node.core().decide(&event).err()
+    let decided = node.core().decide(&event);
+    drop(event);
+    decided.err()
+}
+
+fn check_same_rows<R: Abort>(rt: &R, copy: &Core, core: &Core) {
+    assert_eq!(rt; copy.view().rows(), core.view().rows());
 }
 
 fn check_copy<R: Abort + AllocGlobal>(rt: &R, core: &Core) -> Result<(), Fail> {
     let copy = core.copy(rt.alloc())?;
-    assert_eq!(rt; copy.view().rows(), core.view().rows());
+    check_same_rows(rt, &copy, core);
+    drop(copy);
     Ok(())
 }
 
 fn check_asked<R: Abort>(rt: &R, node: &Node) {
     assert!(rt; matches!(node.outbox().post(1), Some(Message::Store { tag: 1, .. })));
-    assert_eq!(rt; node.core().posts(), 1);
-    assert_eq!(rt; node.kept(), 1);
-    let again = refusal(node, ask(1, Command::SetFlag));
-    assert_eq!(rt; again, Some(Refusal::Repeat));
-    let next = refusal(node, ask(2, Command::Collect));
-    assert_eq!(rt; next, Some(Refusal::Busy));
+    assert_eq!(rt; (node.core().posts(), node.kept()), (1, 1));
+    let refusals = [
+        refusal(node, ask(1, Command::SetFlag)),
+        refusal(node, ask(2, Command::Collect)),
+    ];
+    assert_eq!(rt; refusals, [Some(Refusal::Repeat), Some(Refusal::Busy)]);
 }
 
 fn check_ask<R: Abort + AllocGlobal>(rt: &R, node: &mut Node) -> Result<(), Fail> {
@@ -146,14 +197,18 @@ fn check_ask<R: Abort + AllocGlobal>(rt: &R, node: &mut Node) -> Result<(), Fail
 #[test]
 fn an_ask_is_taken_in(rt: HostRuntime) -> Result<(), Fail> {
     let mut node = Node::fresh(rt.alloc(), &opening(1, &[1], &[]))?;
-    check_ask(&rt, &mut node)
+    let checked = check_ask(&rt, &mut node);
+    drop(node);
+    checked
 }
 
 // Node 2 never acknowledges the Store. Once node 1 itself has, retiring node 2 drops it.
 fn check_retired<R: Abort>(rt: &R, node: &Node, dead: NodeId) {
-    assert!(rt; !node.core().is_live(dead));
-    assert_eq!(rt; node.kept(), 0);
-    assert_eq!(rt; node.core().posts(), 1);
+    let core = node.core();
+    assert_eq!(rt;
+        (core.is_live(dead), node.kept(), core.posts()),
+        (false, 0, 1)
+    );
     assert!(rt; matches!(node.phase(), Stage::Storing(pending) if pending.need == 2));
     let again = refusal(node, Event::Retire { node: dead });
     assert_eq!(rt; again, Some(Refusal::Left));
@@ -173,7 +228,9 @@ fn check_retire<R: Abort + AllocGlobal>(rt: &R, node: &mut Node, dead: NodeId) -
 fn a_retire_keeps_the_need_and_drops_posts(rt: HostRuntime) -> Result<(), Fail> {
     let dead = NodeId::new(2).ok_or("2 is an id")?;
     let mut node = Node::fresh(rt.alloc(), &opening(1, &[1, 2], &[]))?;
-    check_retire(&rt, &mut node, dead)
+    let checked = check_retire(&rt, &mut node, dead);
+    drop(node);
+    checked
 }
 
 // With no live link nothing is kept, and nothing is asked any more.
@@ -181,22 +238,24 @@ fn check_itself<R: Abort + AllocGlobal>(rt: &R, node: &mut Node) -> Result<(), F
     let me = node.me();
     take(rt.alloc(), node, ask(1, Command::SetFlag))?;
     take(rt.alloc(), node, Event::Retire { node: me })?;
-    assert_eq!(rt; node.kept(), 0);
-    assert!(rt; !node.core().is_live(me));
-    assert_eq!(rt; refusal(node, Event::Leave), Some(Refusal::Left));
+    let (kept, is_live) = (node.kept(), node.core().is_live(me));
+    let refused = refusal(node, Event::Leave);
+    assert_eq!(rt; (kept, is_live, refused), (0, false, Some(Refusal::Left)));
     Ok(())
 }
 
 #[test]
 fn a_node_retires_itself(rt: HostRuntime) -> Result<(), Fail> {
     let mut node = Node::fresh(rt.alloc(), &opening(1, &[1], &[]))?;
-    check_itself(&rt, &mut node)
+    let checked = check_itself(&rt, &mut node);
+    drop(node);
+    checked
 }
 
 fn check_enter<R: Abort + AllocGlobal>(rt: &R, node: &mut Node) -> Result<(), Fail> {
-    assert!(rt; !node.is_joined());
+    let is_joined = node.is_joined();
     let refused = refusal(node, ask(1, Command::Collect));
-    assert_eq!(rt; refused, Some(Refusal::NotEntered));
+    assert_eq!(rt; (is_joined, refused), (false, Some(Refusal::NotEntered)));
     take(rt.alloc(), node, Event::Enter)?;
     assert!(rt; matches!(node.outbox().post(1), Some(Message::Enter { .. })));
     assert_eq!(rt; refusal(node, Event::Enter), Some(Refusal::AlreadyEntered));
@@ -206,5 +265,7 @@ fn check_enter<R: Abort + AllocGlobal>(rt: &R, node: &mut Node) -> Result<(), Fa
 #[test]
 fn an_entrant_enters(rt: HostRuntime) -> Result<(), Fail> {
     let mut node = Node::fresh(rt.alloc(), &opening(4, &[], &[1, 2]))?;
-    check_enter(&rt, &mut node)
+    let checked = check_enter(&rt, &mut node);
+    drop(node);
+    checked
 }

@@ -21,6 +21,71 @@ const FOUR_FIFTHS: Fraction = Fraction { num: 4, den: 5 };
 // Past the limit of counters.
 const PAST: u64 = (1 << 62) + 1;
 
+// The round that an operation of session 7 is in.
+#[derive(Clone, Copy)]
+enum Round {
+    Idle,
+    Storing(Command),
+    Querying(Command),
+    StoringBack(Command),
+}
+
+// What a node keeps to put out again.
+#[derive(Clone, Copy)]
+enum Kept {
+    // One post, after so many that were dropped.
+    PostAfter(u8),
+    // No post, after so many that were dropped.
+    NoneAfter(u64),
+    // Post 1, and an answer of this session.
+    AnswerOf(u64),
+}
+
+// What a state is made of.
+#[derive(Clone, Copy)]
+struct State {
+    me: u32,
+    beta: Fraction,
+    gamma: Fraction,
+    // Who entered, joined and left, with 0 for nobody, and how many echoes are needed.
+    entered: u32,
+    joined: u32,
+    left: u32,
+    need: u64,
+    // The round, the node of the view, and that of the view to be stored back.
+    round: Round,
+    known: u32,
+    seen: u32,
+    posts: u64,
+    // The link of node 1 to itself.
+    start: u64,
+    acked: u64,
+    heard: u64,
+    // The last request of session 7.
+    last: u64,
+    kept: Kept,
+}
+
+// Node 1 alone, which has posted once and waits for its own acknowledgement.
+const LAWFUL: State = State {
+    me: 1,
+    beta: FOUR_FIFTHS,
+    gamma: FOUR_FIFTHS,
+    entered: 1,
+    joined: 1,
+    left: 0,
+    need: 0,
+    round: Round::Storing(Command::SetFlag),
+    known: 1,
+    seen: 1,
+    posts: 1,
+    start: 0,
+    acked: 0,
+    heard: 0,
+    last: 1,
+    kept: Kept::PostAfter(0),
+};
+
 fn id(number: u32) -> Result<NodeId, Fail> {
     Ok(NodeId::new(number).ok_or("an id is at least 1")?)
 }
@@ -28,27 +93,29 @@ fn id(number: u32) -> Result<NodeId, Fail> {
 // The set of one id, and of none for 0.
 fn ids(alloc: Global, number: u32) -> Result<IdSet, Fail> {
     let mut set = IdSet::new(alloc)?;
-    if number > 0 {
-        set.push(id(number)?);
+    if let Some(id) = NodeId::new(number) {
+        set.push(id);
     }
     Ok(set)
 }
 
-fn churn(alloc: Global, entered: u32, joined: u32, left: u32) -> Result<Churn, Fail> {
-    let entered = ids(alloc, entered)?;
-    let joined = ids(alloc, joined)?;
-    let left = ids(alloc, left)?;
-    Ok(Churn::from_parts(Changes::from_sets(entered, joined, left), 0, 0))
+fn churn(alloc: Global, state: &State) -> Result<Churn, Fail> {
+    let entered = ids(alloc, state.entered)?;
+    let joined = ids(alloc, state.joined)?;
+    let left = ids(alloc, state.left)?;
+    let changes = Changes::from_sets(entered, joined, left);
+    Ok(Churn::from_parts(changes, 0, state.need))
 }
 
 // The view of one node.
 fn view(alloc: Global, node: u32) -> Result<View, Fail> {
-    let mut view = View::new(alloc)?;
-    view.push(Row {
+    let row = Row {
         node: id(node)?,
         number: 1,
         value: Value::empty(),
-    });
+    };
+    let mut view = View::new(alloc)?;
+    view.push(row);
     Ok(view)
 }
 
@@ -67,28 +134,39 @@ fn pending(command: Command) -> Pending
     }
 }
 
-// With a view of one node, and another of one node to be stored back.
-fn ops(alloc: Global, node: u32, stage: Stage, seen: u32) -> Result<Ops, Fail>
-    requires waits { HasWaiting stage }
-    requires behind { WaitsBehind stage [] }
+fn stage(round: Round) -> Stage
+    ensures waits { HasWaiting result }
+    ensures behind { WaitsBehind result [] }
 {
-    let line = WaitingLine::new(alloc)?;
-    let known = view(alloc, node)?;
-    let seen = view(alloc, seen)?;
+    match round {
+        Round::Idle => Stage::Idle,
+        Round::Storing(command) => Stage::Storing(pending(command)),
+        Round::Querying(command) => Stage::Querying(pending(command)),
+        Round::StoringBack(command) => Stage::StoringBack(pending(command)),
+    }
+}
+
+// With a view of one node, and another of one node to be stored back.
+fn ops(alloc: Global, state: &State) -> Result<Ops, Fail> {
+    let stage = stage(state.round);
     let mine = Value::empty();
+    let line = WaitingLine::new(alloc)?;
+    let known = view(alloc, state.known)?;
+    let seen = view(alloc, state.seen)?;
     Ok(Ops::from_parts(known, 1, mine, 1, stage, seen, line))
 }
 
 // The link of node 1 to itself.
 #[tactic(auto, using(cc_views::specs::MapLaws::len_insert))]
-fn links(alloc: Global, start: u64, acked: u64, heard: u64) -> Result<Links, Fail> {
-    let mut links = Links::new(alloc)?;
-    links.insert(LinkRow {
+fn links(alloc: Global, state: &State) -> Result<Links, Fail> {
+    let row = LinkRow {
         peer: id(1)?,
-        start,
-        acked,
-        heard,
-    });
+        start: state.start,
+        acked: state.acked,
+        heard: state.heard,
+    };
+    let mut links = Links::new(alloc)?;
+    links.insert(row);
     Ok(links)
 }
 
@@ -99,258 +177,250 @@ fn sessions(alloc: Global, last: u64) -> Result<Sessions, Fail> {
     Ok(sessions)
 }
 
-// The outbox of one post, after so many that were dropped.
 #[tactic(auto, using(cc_views::specs::MapLaws::len_insert))]
-fn outbox(alloc: Global, dropped: u8) -> Result<Outbox, Fail> {
+fn post_after(alloc: Global, dropped: u8) -> Result<Outbox, Fail> {
+    let node = id(1)?;
     let mut outbox = Outbox::starting_after(alloc, u64::from(dropped))?;
-    outbox.add(Message::Join { node: id(1)? });
+    outbox.add(Message::Join { node });
     Ok(outbox)
 }
 
-// The outbox of no post, after so many that were dropped.
-fn dropped(alloc: Global, count: u64) -> Result<Outbox, Fail> {
-    Ok(Outbox::starting_after(alloc, count)?)
+fn none_after(alloc: Global, dropped: u64) -> Result<Outbox, Fail> {
+    Ok(Outbox::starting_after(alloc, dropped)?)
 }
 
-// The outbox of one post, and of an answer.
 #[tactic(auto, using(cc_views::specs::MapLaws::len_insert))]
 fn answered(alloc: Global, session: u64) -> Result<Outbox, Fail> {
+    let node = id(1)?;
     let mut outbox = Outbox::new(alloc)?;
-    outbox.add(Message::Join { node: id(1)? });
+    outbox.add(Message::Join { node });
     outbox.keep(session, Answer::Stored);
     Ok(outbox)
 }
 
-// Node 1 alone, which has posted once and waits for its own acknowledgement.
-fn parts(alloc: Global) -> Result<CoreParts, Fail> {
+fn outbox(alloc: Global, kept: Kept) -> Result<Outbox, Fail> {
+    match kept {
+        Kept::PostAfter(dropped) => post_after(alloc, dropped),
+        Kept::NoneAfter(dropped) => none_after(alloc, dropped),
+        Kept::AnswerOf(session) => answered(alloc, session),
+    }
+}
+
+// The smaller parts come first, since each that fails lets go of those before it.
+fn parts(alloc: Global, state: &State) -> Result<CoreParts, Fail> {
+    let me = id(state.me)?;
+    let sessions = sessions(alloc, state.last)?;
+    let links = links(alloc, state)?;
+    let churn = churn(alloc, state)?;
+    let ops = ops(alloc, state)?;
     Ok(CoreParts {
-        me: id(1)?,
-        beta: FOUR_FIFTHS,
-        gamma: FOUR_FIFTHS,
-        churn: churn(alloc, 1, 1, 0)?,
-        ops: ops(alloc, 1, Stage::Storing(pending(Command::SetFlag)), 1)?,
-        posts: 1,
-        links: links(alloc, 0, 0, 0)?,
-        sessions: sessions(alloc, 1)?,
+        me,
+        beta: state.beta,
+        gamma: state.gamma,
+        churn,
+        ops,
+        posts: state.posts,
+        links,
+        sessions,
     })
 }
 
-// The same with these operations.
-fn with_ops(alloc: Global, ops: Ops) -> Result<CoreParts, Fail> {
-    match parts(alloc) {
-        Ok(mut parts) => {
-            parts.ops = ops;
-            Ok(parts)
-        }
+// The node of this state. None where the state is not lawful.
+fn restored(alloc: Global, state: &State) -> Result<Option<Node>, Fail> {
+    let outbox = outbox(alloc, state.kept)?;
+    match parts(alloc, state) {
+        Ok(parts) => Ok(Node::restored(parts, outbox)),
         Err(fault) => {
-            drop(ops);
+            drop(outbox);
             Err(fault)
         }
     }
 }
 
-// The same with an operation in this round.
-fn in_round(alloc: Global, stage: Stage, seen: u32) -> Result<CoreParts, Fail>
-    requires waits { HasWaiting stage }
-    requires behind { WaitsBehind stage [] }
-{
-    let ops = ops(alloc, 1, stage, seen)?;
-    with_ops(alloc, ops)
+fn is_restored(alloc: Global, state: &State) -> Result<bool, Fail> {
+    let node = restored(alloc, state)?;
+    let is_restored = node.is_some();
+    drop(node);
+    Ok(is_restored)
 }
 
-// The same with these changes.
-fn with_churn(alloc: Global, churn: Churn) -> Result<CoreParts, Fail> {
-    match parts(alloc) {
-        Ok(mut parts) => {
-            parts.churn = churn;
-            Ok(parts)
-        }
-        Err(fault) => {
-            drop(churn);
-            Err(fault)
-        }
+// Checks whether nodes are restored from these states.
+fn check_states<R: Abort + AllocGlobal>(
+    rt: &R,
+    states: &[State],
+    are_lawful: bool,
+) -> Result<(), Fail> {
+    for state in states {
+        let is_restored = is_restored(rt.alloc(), state)?;
+        assert_eq!(rt; is_restored, are_lawful);
     }
-}
-
-fn with_link(alloc: Global, start: u64, acked: u64, heard: u64) -> Result<CoreParts, Fail> {
-    let links = links(alloc, start, acked, heard)?;
-    match parts(alloc) {
-        Ok(mut parts) => {
-            parts.links = links;
-            Ok(parts)
-        }
-        Err(fault) => {
-            drop(links);
-            Err(fault)
-        }
-    }
-}
-
-// The parts with session 7 at its last request.
-fn with_sessions(parts: Result<CoreParts, Fail>, sessions: Sessions) -> Result<CoreParts, Fail> {
-    match parts {
-        Ok(mut parts) => {
-            parts.sessions = sessions;
-            Ok(parts)
-        }
-        Err(fault) => {
-            drop(sessions);
-            Err(fault)
-        }
-    }
-}
-
-// The node of these parts that keeps what this outbox keeps. None where the state is not lawful.
-fn restored(parts: CoreParts, outbox: Result<Outbox, Fail>) -> Result<Option<Node>, Fail> {
-    match outbox {
-        Ok(outbox) => Ok(Node::restored(parts, outbox)),
-        Err(fault) => {
-            drop(parts);
-            Err(fault)
-        }
-    }
-}
-
-// Whether a node is restored that keeps post 1 and no answer.
-fn is_restored(alloc: Global, parts: CoreParts) -> Result<bool, Fail> {
-    is_restored_with(parts, outbox(alloc, 0))
-}
-
-// Whether a node is restored that keeps what this outbox keeps.
-fn is_restored_with(parts: CoreParts, outbox: Result<Outbox, Fail>) -> Result<bool, Fail> {
-    let node = restored(parts, outbox)?;
-    Ok(node.is_some())
+    Ok(())
 }
 
 fn check_restored<R: Abort>(rt: &R, node: &Node) {
     let core = node.core();
-    assert_eq!(rt; core.beta(), FOUR_FIFTHS);
-    assert_eq!(rt; core.gamma(), FOUR_FIFTHS);
+    assert_eq!(rt; (core.beta(), core.gamma()), (FOUR_FIFTHS, FOUR_FIFTHS));
     assert!(rt; core.churn().has_joined(core.me()));
-    assert_eq!(rt; core.ops().number(), 1);
-    assert_eq!(rt; core.sessions().finish(7), Some(1));
-    assert_eq!(rt; node.outbox().last(), 1);
+    let numbers = (
+        core.ops().number(),
+        core.sessions().finish(7),
+        node.outbox().last(),
+    );
+    assert_eq!(rt; numbers, (1, Some(1), 1));
 }
 
 #[test]
 fn a_lawful_state_is_restored(rt: HostRuntime) -> Result<(), Fail> {
-    let parts = parts(rt.alloc())?;
-    let node = restored(parts, outbox(rt.alloc(), 0))?;
+    let node = restored(rt.alloc(), &LAWFUL)?;
     let node = node.ok_or("the state is lawful")?;
     check_restored(&rt, &node);
+    drop(node);
     Ok(())
 }
 
+const IDLE: State = State {
+    round: Round::Idle,
+    ..LAWFUL
+};
+
+const STORING_BACK: State = State {
+    round: Round::StoringBack(Command::Collect),
+    ..LAWFUL
+};
+
 #[test]
 fn each_round_is_restored(rt: HostRuntime) -> Result<(), Fail> {
-    let idle = in_round(rt.alloc(), Stage::Idle, 1)?;
-    assert!(rt; is_restored(rt.alloc(), idle)?);
-    let querying = Stage::Querying(pending(Command::Collect));
-    let querying = in_round(rt.alloc(), querying, 1)?;
-    assert!(rt; is_restored(rt.alloc(), querying)?);
-    let storing_back = Stage::StoringBack(pending(Command::Collect));
-    let storing_back = in_round(rt.alloc(), storing_back, 1)?;
-    assert!(rt; is_restored(rt.alloc(), storing_back)?);
-    Ok(())
+    let querying = State {
+        round: Round::Querying(Command::Collect),
+        ..LAWFUL
+    };
+    check_states(&rt, &[IDLE, querying, STORING_BACK], true)
 }
 
 #[test]
 fn a_share_is_above_0_and_at_most_1(rt: HostRuntime) -> Result<(), Fail> {
-    let mut nothing = parts(rt.alloc())?;
-    nothing.beta = Fraction { num: 0, den: 5 };
-    assert!(rt; !is_restored(rt.alloc(), nothing)?);
-    let mut beyond = parts(rt.alloc())?;
-    beyond.gamma = Fraction { num: 6, den: 5 };
-    assert!(rt; !is_restored(rt.alloc(), beyond)?);
-    Ok(())
+    let nothing = State {
+        beta: Fraction { num: 0, den: 5 },
+        ..LAWFUL
+    };
+    let beyond = State {
+        gamma: Fraction { num: 6, den: 5 },
+        ..LAWFUL
+    };
+    check_states(&rt, &[nothing, beyond], false)
 }
 
 #[test]
 fn a_node_knows_itself_and_whom_it_has_seen(rt: HostRuntime) -> Result<(), Fail> {
-    let second = id(2)?;
-    let mut other = parts(rt.alloc())?;
-    other.me = second;
-    assert!(rt; !is_restored(rt.alloc(), other)?);
-    let seeing = with_ops(rt.alloc(), ops(rt.alloc(), 2, Stage::Idle, 1)?)?;
-    assert!(rt; !is_restored(rt.alloc(), seeing)?);
-    let storing_back = Stage::StoringBack(pending(Command::Collect));
-    let storing_back = in_round(rt.alloc(), storing_back, 2)?;
-    assert!(rt; !is_restored(rt.alloc(), storing_back)?);
-    Ok(())
+    let other = State { me: 2, ..LAWFUL };
+    let knowing = State { known: 2, ..IDLE };
+    let seeing = State {
+        seen: 2,
+        ..STORING_BACK
+    };
+    check_states(&rt, &[other, knowing, seeing], false)
 }
+
+// Who entered, joined and left.
+const UNKNOWN_OR_OUTSIDE: [(u32, u32, u32); 4] = [(2, 0, 0), (1, 2, 0), (1, 1, 2), (0, 1, 0)];
 
 #[test]
 fn who_comes_and_goes_is_known_and_has_entered(rt: HostRuntime) -> Result<(), Fail> {
-    for (entered, joined, left) in [(2, 0, 0), (1, 2, 0), (1, 1, 2), (0, 1, 0)] {
-        let churn = churn(rt.alloc(), entered, joined, left)?;
-        let parts = with_churn(rt.alloc(), churn)?;
-        assert!(rt; !is_restored(rt.alloc(), parts)?);
+    for (entered, joined, left) in UNKNOWN_OR_OUTSIDE {
+        let state = State {
+            entered,
+            joined,
+            left,
+            ..LAWFUL
+        };
+        check_states(&rt, &[state], false)?;
     }
     Ok(())
 }
 
+// Where a link starts, and what it has acknowledged and heard.
+const BEYOND_BOUNDS: [(u64, u64, u64); 3] = [(2, 0, 0), (0, 2, 0), (0, 0, PAST)];
+
 #[test]
 fn links_are_within_their_bounds(rt: HostRuntime) -> Result<(), Fail> {
-    for (start, acked, heard) in [(2, 0, 0), (0, 2, 0), (0, 0, PAST)] {
-        let parts = with_link(rt.alloc(), start, acked, heard)?;
-        assert!(rt; !is_restored(rt.alloc(), parts)?);
+    for (start, acked, heard) in BEYOND_BOUNDS {
+        let state = State {
+            start,
+            acked,
+            heard,
+            ..LAWFUL
+        };
+        check_states(&rt, &[state], false)?;
     }
     Ok(())
 }
 
 #[test]
 fn requests_are_within_their_bounds(rt: HostRuntime) -> Result<(), Fail> {
-    for last in [0, PAST] {
-        let sessions = sessions(rt.alloc(), last)?;
-        let parts = with_sessions(in_round(rt.alloc(), Stage::Idle, 1), sessions)?;
-        assert!(rt; !is_restored(rt.alloc(), parts)?);
-    }
-    Ok(())
+    let none = State { last: 0, ..IDLE };
+    let past = State { last: PAST, ..IDLE };
+    check_states(&rt, &[none, past], false)
 }
 
 #[test]
 fn counts_are_within_their_limits(rt: HostRuntime) -> Result<(), Fail> {
-    let churn = Churn::from_parts(Changes::new(rt.alloc())?, 0, 257);
-    let needing = with_churn(rt.alloc(), churn)?;
-    assert!(rt; !is_restored(rt.alloc(), needing)?);
-    let mut posting = with_link(rt.alloc(), PAST, 0, 0)?;
-    posting.posts = PAST;
-    assert!(rt; !is_restored_with(posting, dropped(rt.alloc(), PAST))?);
-    Ok(())
+    let needing = State {
+        entered: 0,
+        joined: 0,
+        need: 257,
+        ..LAWFUL
+    };
+    let posting = State {
+        posts: PAST,
+        start: PAST,
+        kept: Kept::NoneAfter(PAST),
+        ..LAWFUL
+    };
+    check_states(&rt, &[needing, posting], false)
 }
 
 #[test]
 fn the_last_request_pends_in_a_round_of_its_own(rt: HostRuntime) -> Result<(), Fail> {
-    let reading = Stage::Storing(pending(Command::Collect));
-    let reading = in_round(rt.alloc(), reading, 1)?;
-    assert!(rt; !is_restored(rt.alloc(), reading)?);
-    let writing = Stage::Querying(pending(Command::SetFlag));
-    let writing = in_round(rt.alloc(), writing, 1)?;
-    assert!(rt; !is_restored(rt.alloc(), writing)?);
-    let sessions = sessions(rt.alloc(), 2)?;
-    let earlier = with_sessions(parts(rt.alloc()), sessions)?;
-    assert!(rt; !is_restored(rt.alloc(), earlier)?);
-    Ok(())
+    let reading = State {
+        round: Round::Storing(Command::Collect),
+        ..LAWFUL
+    };
+    let writing = State {
+        round: Round::Querying(Command::SetFlag),
+        ..LAWFUL
+    };
+    let earlier = State { last: 2, ..LAWFUL };
+    check_states(&rt, &[reading, writing, earlier], false)
 }
 
 #[test]
 fn just_the_posts_not_acknowledged_are_kept(rt: HostRuntime) -> Result<(), Fail> {
-    let kept = parts(rt.alloc())?;
-    assert!(rt; !is_restored_with(kept, outbox(rt.alloc(), 1))?);
-    let kept = parts(rt.alloc())?;
-    assert!(rt; !is_restored_with(kept, dropped(rt.alloc(), 1))?);
-    let acknowledged = with_link(rt.alloc(), 0, 1, 0)?;
-    assert!(rt; !is_restored(rt.alloc(), acknowledged)?);
-    Ok(())
+    let later = State {
+        kept: Kept::PostAfter(1),
+        ..LAWFUL
+    };
+    let none = State {
+        kept: Kept::NoneAfter(1),
+        ..LAWFUL
+    };
+    let acknowledged = State { acked: 1, ..LAWFUL };
+    check_states(&rt, &[later, none, acknowledged], false)
 }
 
 #[test]
 fn answers_are_of_requests_that_are_done(rt: HostRuntime) -> Result<(), Fail> {
-    let idle = in_round(rt.alloc(), Stage::Idle, 1)?;
-    assert!(rt; is_restored_with(idle, answered(rt.alloc(), 7))?);
-    let idle = in_round(rt.alloc(), Stage::Idle, 1)?;
-    assert!(rt; !is_restored_with(idle, answered(rt.alloc(), 8))?);
-    let pending = parts(rt.alloc())?;
-    assert!(rt; !is_restored_with(pending, answered(rt.alloc(), 7))?);
-    Ok(())
+    let done = State {
+        kept: Kept::AnswerOf(7),
+        ..IDLE
+    };
+    check_states(&rt, &[done], true)?;
+    let unknown = State {
+        kept: Kept::AnswerOf(8),
+        ..IDLE
+    };
+    let pending = State {
+        kept: Kept::AnswerOf(7),
+        ..LAWFUL
+    };
+    check_states(&rt, &[unknown, pending], false)
 }
