@@ -1,43 +1,20 @@
 //! Who entered, joined and left.
 
-use cc_changes::{Changes, Fraction, IdSet, need};
-use cc_views::{NoMemory, NodeId};
-use std::alloc::Global;
+use crate::sets::{changes_of, id};
+use cc_changes::{Changes, Fraction, need};
+use cc_views::NoMemory;
 use std::process::Abort;
 use std::test::*;
 
-fn id(number: u32) -> Result<NodeId, Fail> {
-    Ok(NodeId::new(number).ok_or("an id is at least 1")?)
-}
-
-fn only(alloc: Global, number: u32) -> Result<IdSet, Fail> {
-    let id = id(number)?;
-    let mut set = IdSet::new(alloc)?;
-    set.push(id);
-    Ok(set)
-}
-
-// What is told of who entered and who joined.
-fn told(alloc: Global, entered: u32, joined: u32) -> Result<Changes, Fail> {
-    Ok(Changes::from_sets(
-        only(alloc, entered)?,
-        only(alloc, joined)?,
-        IdSet::new(alloc)?,
-    ))
-}
+// How many nodes there are, and four fifths of them.
+const NEEDS: [(u64, u64); 6] = [(0, 1), (1, 1), (2, 2), (3, 3), (4, 4), (10, 8)];
 
 #[test]
 fn a_need_is_rounded_up_and_at_least_one(rt: HostRuntime) {
-    let share = Fraction { num: 4, den: 5 };
-    let needed = [
-        need(share, 0),
-        need(share, 1),
-        need(share, 2),
-        need(share, 3),
-        need(share, 4),
-        need(share, 10),
-    ];
-    assert_eq!(rt; needed, [1, 1, 2, 3, 4, 8]);
+    for (count, needed) in NEEDS {
+        let share = Fraction { num: 4, den: 5 };
+        assert_eq!(rt; need(share, count), needed);
+    }
 }
 
 // Takes in what is told, where it fits. Whether it did.
@@ -51,11 +28,9 @@ fn takes(changes: &mut Changes, other: &Changes) -> bool {
 
 fn check_counts<R: Abort>(rt: &R, changes: &Changes) -> Result<(), Fail> {
     let (one, two) = (id(1)?, id(2)?);
-    assert_eq!(rt; (changes.present_count(), changes.member_count()), (2, 1));
-    assert_eq!(rt;
-        (changes.has_entered(one), changes.has_joined(two)),
-        (true, false)
-    );
+    let counts = (changes.present_count(), changes.member_count());
+    let has = (changes.has_entered(one), changes.has_joined(two));
+    assert_eq!(rt; (counts, has), ((2, 1), (true, false)));
     Ok(())
 }
 
@@ -70,7 +45,7 @@ fn check_told<R: Abort + AllocGlobal>(rt: &R, other: &Changes) -> Result<(), Fai
 
 #[test]
 fn who_joined_has_entered(rt: HostRuntime) -> Result<(), Fail> {
-    let other = told(rt.alloc(), 2, 1)?;
+    let other = changes_of(rt.alloc(), 2, 1, 0)?;
     let checked = check_told(&rt, &other);
     drop(other);
     checked
@@ -104,14 +79,6 @@ fn who_left_is_not_present(rt: HostRuntime) -> Result<(), Fail> {
     checked
 }
 
-// Node 4 has entered, node 6 has joined, and node 7 has left.
-fn known(alloc: Global) -> Result<Changes, Fail> {
-    let entered = only(alloc, 4)?;
-    let joined = only(alloc, 6)?;
-    let left = only(alloc, 7)?;
-    Ok(Changes::from_sets(entered, joined, left))
-}
-
 fn check_known<R: Abort>(rt: &R, mine: &Changes, other: &Changes) -> Result<(), Fail> {
     let (six, seven) = (id(6)?, id(7)?);
     assert_eq!(rt;
@@ -127,7 +94,7 @@ fn check_known<R: Abort>(rt: &R, mine: &Changes, other: &Changes) -> Result<(), 
 }
 
 fn check_other<R: Abort + AllocGlobal>(rt: &R, mine: &Changes) -> Result<(), Fail> {
-    let other = told(rt.alloc(), 2, 1)?;
+    let other = changes_of(rt.alloc(), 2, 1, 0)?;
     let checked = check_known(rt, mine, &other);
     drop(other);
     checked
@@ -135,7 +102,8 @@ fn check_other<R: Abort + AllocGlobal>(rt: &R, mine: &Changes) -> Result<(), Fai
 
 #[test]
 fn what_is_told_would_make_more_present(rt: HostRuntime) -> Result<(), Fail> {
-    let mine = known(rt.alloc())?;
+    // Node 4 has entered, node 6 has joined, and node 7 has left.
+    let mine = changes_of(rt.alloc(), 4, 6, 7)?;
     let checked = check_other(&rt, &mine);
     drop(mine);
     checked

@@ -1,6 +1,7 @@
 //! How a node joins.
 
-use cc_changes::{Changes, Fraction, IdSet};
+use crate::sets::{changes_of, id};
+use cc_changes::{Changes, Fraction};
 use cc_churn::Churn;
 use cc_views::{NodeId, View};
 use cc_wire::{Message, Refusal};
@@ -10,39 +11,18 @@ use std::test::*;
 
 const GAMMA: Fraction = Fraction { num: 4, den: 5 };
 
-fn id(number: u32) -> Result<NodeId, Fail> {
-    Ok(NodeId::new(number).ok_or("an id is at least 1")?)
-}
-
-fn only(alloc: Global, number: u32) -> Result<IdSet, Fail> {
-    let id = id(number)?;
-    let mut set = IdSet::new(alloc)?;
-    set.push(id);
-    Ok(set)
-}
-
 // Node 4 has entered.
 fn entered(alloc: Global) -> Result<Changes, Fail> {
-    let entered = only(alloc, 4)?;
-    let joined = IdSet::new(alloc)?;
-    let left = IdSet::new(alloc)?;
-    Ok(Changes::from_sets(entered, joined, left))
-}
-
-// A node has joined.
-fn joined(alloc: Global, number: u32) -> Result<Changes, Fail> {
-    let joined = only(alloc, number)?;
-    let entered = IdSet::new(alloc)?;
-    let left = IdSet::new(alloc)?;
-    Ok(Changes::from_sets(entered, joined, left))
+    changes_of(alloc, 4, 0, 0)
 }
 
 fn join_all(alloc: Global, changes: &mut Changes) -> Result<(), Fail> {
     for number in 1..4 {
-        let one = joined(alloc, number)?;
+        let one = changes_of(alloc, 0, number, 0)?;
         if changes.would_fit(&one) {
             changes.union(&one);
         }
+        drop(one);
     }
     Ok(())
 }
@@ -183,10 +163,7 @@ fn a_node_joins_and_is_asked(rt: HostRuntime) -> Result<(), Fail> {
 
 // Node 4 has entered and left.
 fn gone(alloc: Global) -> Result<Changes, Fail> {
-    let entered = only(alloc, 4)?;
-    let joined = IdSet::new(alloc)?;
-    let left = only(alloc, 4)?;
-    Ok(Changes::from_sets(entered, joined, left))
+    changes_of(alloc, 4, 0, 4)
 }
 
 // Why a node with these changes and three echoes can't leave and can't take a message, and how many echoes it tells.
@@ -208,8 +185,9 @@ fn only_who_is_inside_leaves_and_hears(rt: HostRuntime) -> Result<(), Fail> {
     let of_five = decided(entered(rt.alloc())?, five);
     let of_gone = decided(gone(rt.alloc())?, four);
     let (outside, left) = (Err(Refusal::NotEntered), Err(Refusal::Left));
-    assert_eq!(rt; of_four, (Ok(()), Ok(()), 3));
-    assert_eq!(rt; of_five, (outside, outside, 3));
-    assert_eq!(rt; of_gone, (left, left, 3));
+    assert_eq!(rt;
+        [of_four, of_five, of_gone],
+        [(Ok(()), Ok(()), 3), (outside, outside, 3), (left, left, 3)]
+    );
     Ok(())
 }

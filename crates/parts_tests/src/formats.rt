@@ -32,6 +32,18 @@ const STORE: [u8; 39] = [
     0, 0, 0, 1, 0, 0, 0, 1,
 ];
 
+// Checks what was written, which is let go.
+fn check_bytes<R: Abort>(
+    rt: &R,
+    written: Result<Vec<u8>, Fail>,
+    wanted: &[u8],
+) -> Result<(), Fail> {
+    let written = written?;
+    assert_eq!(rt; written.as_slice(), wanted);
+    drop(written);
+    Ok(())
+}
+
 fn message_bytes(alloc: Global, message: &Message) -> Result<Vec<u8>, Fail> {
     let mut out = Vec::new(alloc);
     encode_message(message, &mut out)?;
@@ -57,13 +69,8 @@ fn read_and_written(alloc: Global, bytes: &[u8]) -> Result<Vec<u8>, Fail> {
 
 #[test]
 fn a_store_is_written_and_read(rt: HostRuntime) -> Result<(), Fail> {
-    let written = store_bytes(rt.alloc())?;
-    assert_eq!(rt; written.as_slice(), STORE.as_slice());
-    drop(written);
-    let again = read_and_written(rt.alloc(), &STORE)?;
-    assert_eq!(rt; again.as_slice(), STORE.as_slice());
-    drop(again);
-    Ok(())
+    check_bytes(&rt, store_bytes(rt.alloc()), &STORE)?;
+    check_bytes(&rt, read_and_written(rt.alloc(), &STORE), &STORE)
 }
 
 fn view_fault(alloc: Global, bytes: &[u8]) -> Option<WireFault> {
@@ -134,10 +141,7 @@ const ECHO: [u8; 22] = [
 
 #[test]
 fn an_echo_is_read_as_it_is_spelled(rt: HostRuntime) -> Result<(), Fail> {
-    let again = read_and_written(rt.alloc(), &ECHO)?;
-    assert_eq!(rt; again.as_slice(), ECHO.as_slice());
-    drop(again);
-    Ok(())
+    check_bytes(&rt, read_and_written(rt.alloc(), &ECHO), &ECHO)
 }
 
 fn message_fault(alloc: Global, bytes: &[u8]) -> Option<WireFault> {
@@ -196,14 +200,11 @@ fn bytes_of_commands(alloc: Global) -> Result<Vec<u8>, Fail> {
     Ok(out)
 }
 
+const COMMANDS: [u8; 19] = [2, 3, 0, 0, 0, 0, 0, 0, 0, 9, 4, 5, 6, 7, 0, 0, 0, 3, 8];
+
 #[test]
 fn commands_are_written_by_kind(rt: HostRuntime) -> Result<(), Fail> {
-    let out = bytes_of_commands(rt.alloc())?;
-    assert_eq!(rt;
-        out.as_slice(),
-        [2, 3, 0, 0, 0, 0, 0, 0, 0, 9, 4, 5, 6, 7, 0, 0, 0, 3, 8].as_slice()
-    );
-    drop(out);
+    check_bytes(&rt, bytes_of_commands(rt.alloc()), &COMMANDS)?;
     assert_eq!(rt; decode_command(&[9]).err(), Some(WireFault::BadKind(9)));
     Ok(())
 }
@@ -234,10 +235,7 @@ fn copied_answer(alloc: Global, bytes: &[u8]) -> Result<Vec<u8>, Fail> {
 
 #[test]
 fn an_answer_is_copied_and_read_again(rt: HostRuntime) -> Result<(), Fail> {
-    let out = copied_answer(rt.alloc(), &SET)?;
-    assert_eq!(rt; out.as_slice(), SET.as_slice());
-    drop(out);
-    Ok(())
+    check_bytes(&rt, copied_answer(rt.alloc(), &SET), &SET)
 }
 
 fn answer_fault(alloc: Global, bytes: &[u8]) -> Option<WireFault> {
@@ -288,16 +286,13 @@ fn copied_event(alloc: Global, bytes: &[u8]) -> Result<Vec<u8>, Fail> {
 
 #[test]
 fn an_event_is_copied_and_read_again(rt: HostRuntime) -> Result<(), Fail> {
-    let out = copied_event(rt.alloc(), &DELIVER)?;
-    assert_eq!(rt; out.as_slice(), DELIVER.as_slice());
-    drop(out);
-    Ok(())
+    check_bytes(&rt, copied_event(rt.alloc(), &DELIVER), &DELIVER)
 }
 
 fn put_small_events(out: &mut Vec<u8>) -> Result<(), Fail> {
     let peer = NodeId::new(7).ok_or("7 is an id")?;
-    encode_event(&Event::Enter, out)?;
-    encode_event(&Event::Leave, out)?;
+    put_one(Event::Enter, out)?;
+    put_one(Event::Leave, out)?;
     put_one(Event::Acked { peer, number: 8 }, out)?;
     put_one(Event::Retire { node: peer }, out)
 }
@@ -318,15 +313,12 @@ fn event_fault(alloc: Global, bytes: &[u8]) -> Option<WireFault> {
     decode_event(alloc, bytes).err()
 }
 
+// Enter, Leave, Acked 7 8, and Retire 7.
+const SMALL_EVENTS: [u8; 20] = [1, 2, 4, 0, 0, 0, 7, 0, 0, 0, 0, 0, 0, 0, 8, 6, 0, 0, 0, 7];
+
 #[test]
 fn small_events(rt: HostRuntime) -> Result<(), Fail> {
-    let out = bytes_of_small_events(rt.alloc())?;
-    assert_eq!(rt;
-        out.as_slice(),
-        [1, 2, 4, 0, 0, 0, 7, 0, 0, 0, 0, 0, 0, 0, 8, 6, 0, 0, 0, 7].as_slice()
-    );
-    drop(out);
-    Ok(())
+    check_bytes(&rt, bytes_of_small_events(rt.alloc()), &SMALL_EVENTS)
 }
 
 // The event Retire of node 9.
@@ -334,10 +326,7 @@ const RETIRE: [u8; 5] = [6, 0, 0, 0, 9];
 
 #[test]
 fn a_retire_is_copied_and_read_again(rt: HostRuntime) -> Result<(), Fail> {
-    let out = copied_event(rt.alloc(), &RETIRE)?;
-    assert_eq!(rt; out.as_slice(), RETIRE.as_slice());
-    drop(out);
-    Ok(())
+    check_bytes(&rt, copied_event(rt.alloc(), &RETIRE), &RETIRE)
 }
 
 #[test]
@@ -422,10 +411,7 @@ fn copied_message(alloc: Global, bytes: &[u8]) -> Result<Vec<u8>, Fail> {
 
 #[test]
 fn a_message_is_copied(rt: HostRuntime) -> Result<(), Fail> {
-    let out = copied_message(rt.alloc(), &STORE)?;
-    assert_eq!(rt; out.as_slice(), STORE.as_slice());
-    drop(out);
-    Ok(())
+    check_bytes(&rt, copied_message(rt.alloc(), &STORE), &STORE)
 }
 
 fn view_bytes(alloc: Global, view: &View) -> Result<Vec<u8>, Fail> {
@@ -437,12 +423,9 @@ fn view_bytes(alloc: Global, view: &View) -> Result<Vec<u8>, Fail> {
 #[test]
 fn a_view_is_written(rt: HostRuntime) -> Result<(), Fail> {
     let view = one_row(rt.alloc())?;
-    let out = view_bytes(rt.alloc(), &view);
+    let written = view_bytes(rt.alloc(), &view);
     drop(view);
-    let out = out?;
-    assert_eq!(rt; out.as_slice(), &STORE[1..27]);
-    drop(out);
-    Ok(())
+    check_bytes(&rt, written, &STORE[1..27])
 }
 
 // Ask 7 1 Store a.
@@ -481,10 +464,7 @@ fn ask_bytes(alloc: Global) -> Result<Vec<u8>, Fail> {
 
 #[test]
 fn an_ask_is_written(rt: HostRuntime) -> Result<(), Fail> {
-    let out = ask_bytes(rt.alloc())?;
-    assert_eq!(rt; out.as_slice(), ASK.as_slice());
-    drop(out);
-    Ok(())
+    check_bytes(&rt, ask_bytes(rt.alloc()), &ASK)
 }
 
 fn reply_bytes(alloc: Global) -> Result<Vec<u8>, Fail> {
@@ -509,13 +489,8 @@ fn refused_bytes(alloc: Global) -> Result<Vec<u8>, Fail> {
 
 #[test]
 fn what_a_client_is_told_is_written(rt: HostRuntime) -> Result<(), Fail> {
-    let reply = reply_bytes(rt.alloc())?;
-    assert_eq!(rt; reply.as_slice(), REPLY.as_slice());
-    drop(reply);
-    let refused = refused_bytes(rt.alloc())?;
-    assert_eq!(rt; refused.as_slice(), REFUSED.as_slice());
-    drop(refused);
-    Ok(())
+    check_bytes(&rt, reply_bytes(rt.alloc()), &REPLY)?;
+    check_bytes(&rt, refused_bytes(rt.alloc()), &REFUSED)
 }
 
 // The bytes of the frame that these bytes spell.
@@ -530,9 +505,7 @@ fn frame_fault(alloc: Global, bytes: &[u8]) -> Option<WireFault> {
 
 #[test]
 fn frames_are_read_whole(rt: HostRuntime) -> Result<(), Fail> {
-    let out = frame_again(rt.alloc(), &ASK)?;
-    assert_eq!(rt; out.as_slice(), ASK.as_slice());
-    drop(out);
+    check_bytes(&rt, frame_again(rt.alloc(), &ASK), &ASK)?;
     // An unknown kind, and a body that is longer than its fields.
     let found = [
         frame_fault(rt.alloc(), &[0, 0, 0, 5, 8, 0, 0, 0, 1]),
@@ -716,10 +689,7 @@ fn read_each(alloc: Global, bytes: &[u8]) -> Result<Vec<u8>, Fail> {
 }
 
 fn check_each<R: Abort + AllocGlobal>(rt: &R, bytes: &[u8]) -> Result<(), Fail> {
-    let out = read_each(rt.alloc(), bytes)?;
-    assert_eq!(rt; out.as_slice(), bytes);
-    drop(out);
-    Ok(())
+    check_bytes(rt, read_each(rt.alloc(), bytes), bytes)
 }
 
 #[test]
@@ -732,13 +702,10 @@ fn a_stream_comes_byte_by_byte(rt: HostRuntime) -> Result<(), Fail> {
 
 #[test]
 fn refusals_print_their_number_and_name(rt: HostRuntime) -> Result<(), Fail> {
-    let gap = Refusal::Gap(1);
-    let text = format!(in rt.alloc(); "{gap}")?;
-    assert_eq!(rt; text.as_str(), "6 Gap 1");
-    drop(text);
-    let busy = Refusal::Busy;
-    let text = format!(in rt.alloc(); "{busy}")?;
-    assert_eq!(rt; text.as_str(), "13 Busy");
-    drop(text);
+    for (refusal, wanted) in [(Refusal::Gap(1), "6 Gap 1"), (Refusal::Busy, "13 Busy")] {
+        let text = format!(in rt.alloc(); "{refusal}")?;
+        assert_eq!(rt; text.as_str(), wanted);
+        drop(text);
+    }
     Ok(())
 }

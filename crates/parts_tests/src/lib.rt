@@ -20,4 +20,6 @@ mod outboxes;
 #[cfg(test)]
 mod sessions;
 #[cfg(test)]
+mod sets;
+#[cfg(test)]
 mod views;

@@ -36,5 +36,7 @@ fn a_line_tells_what_waits(rt: HostRuntime) -> Result<(), Fail> {
     let mut line = WaitingLine::new(rt.alloc())?;
     line.push(&first_request(7, Command::Store(text)));
     line.push(&first_request(8, Command::AddMember(5)));
-    check_line(&rt, &line, text)
+    let checked = check_line(&rt, &line, text);
+    drop(line);
+    checked
 }

@@ -4,15 +4,12 @@ ghost use Rattle.std.specs.Prelude.{◌≡◌, ◌≤◌, IfOk};
 ghost use Rattle.std.specs.FinMap.{len};
 ghost use Rattle.cc_links.specs.Links.{ReachesWithin};
 
+use crate::sets::id;
 use cc_links::{KnownIds, LinkRow, Links};
-use cc_views::{NodeId, Row, Value};
+use cc_views::{Row, Value};
 use std::alloc::Global;
 use std::process::Abort;
 use std::test::*;
-
-fn id(number: u32) -> Result<NodeId, Fail> {
-    Ok(NodeId::new(number).ok_or("an id is at least 1")?)
-}
 
 fn row(peer: u32, acked: u64) -> Result<LinkRow, Fail>
     ensures start { IfOk result (λ row. row.start ≡ 0) }
@@ -75,9 +72,12 @@ fn numbers_begin_at_one_on_each_link(rt: HostRuntime) -> Result<(), Fail> {
 fn only_live_links_hold_posts_back(rt: HostRuntime) -> Result<(), Fail> {
     let second = id(2)?;
     let links = two_links(rt.alloc())?;
-    assert_eq!(rt; links.lowest_needed(&[], 3), 1);
-    assert_eq!(rt; links.lowest_needed(&[second], 3), 2);
+    let needed = [
+        links.lowest_needed(&[], 3),
+        links.lowest_needed(&[second], 3),
+    ];
     drop(links);
+    assert_eq!(rt; needed, [1, 2]);
     Ok(())
 }
 
@@ -85,8 +85,9 @@ fn only_live_links_hold_posts_back(rt: HostRuntime) -> Result<(), Fail> {
 #[tactic(auto, using(cc_links::specs::LinkLaws::reaches_empty))]
 fn without_a_live_link_no_post_is_needed(rt: HostRuntime) -> Result<(), Fail> {
     let links = Links::new(rt.alloc())?;
-    assert_eq!(rt; links.lowest_needed(&[], 3), 3);
+    let needed = links.lowest_needed(&[], 3);
     drop(links);
+    assert_eq!(rt; needed, 3);
     Ok(())
 }
 

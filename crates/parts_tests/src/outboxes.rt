@@ -1,7 +1,7 @@
 //! Kept posts and answers.
 
+use crate::sets::id;
 use cc_outbox::Outbox;
-use cc_views::NodeId;
 use cc_wire::{Answer, Message};
 use std::alloc::Global;
 use std::process::Abort;
@@ -13,10 +13,6 @@ fn named(message: Option<&Message>) -> u32 {
         Some(Message::Join { node }) => node.number(),
         _ => 0,
     }
-}
-
-fn id(number: u32) -> Result<NodeId, Fail> {
-    Ok(NodeId::new(number).ok_or("an id is at least 1")?)
 }
 
 // Posts 5 and 6.
@@ -65,11 +61,11 @@ fn posts_up_to_a_number_are_dropped(rt: HostRuntime) -> Result<(), Fail> {
 }
 
 fn check_kept<R: Abort>(rt: &R, outbox: &mut Outbox) {
-    assert!(rt; outbox.answer(7).is_some());
-    assert!(rt; outbox.answer(8).is_none());
-    assert_eq!(rt; outbox.answers().len(), 1);
+    let has = [outbox.answer(7).is_some(), outbox.answer(8).is_some()];
+    let count = outbox.answers().len();
     outbox.forget(7);
-    assert!(rt; outbox.answer(7).is_none());
+    let has_then = outbox.answer(7).is_some();
+    assert_eq!(rt; (has, count, has_then), ([true, false], 1, false));
 }
 
 #[test]

@@ -81,15 +81,15 @@ fn equal_numbers_keep_the_left_row(rt: HostRuntime) -> Result<(), Fail> {
 #[test]
 fn both_nodes_stand_in_a_merge(rt: HostRuntime) -> Result<(), Fail> {
     let left = merged(rt.alloc(), 2)?;
-    assert_eq!(rt; left.rows().len(), 2);
+    let count = left.rows().len();
     drop(left);
+    assert_eq!(rt; count, 2);
     Ok(())
 }
 
 fn check_copy<R: Abort>(rt: &R, copy: &View, view: &View) {
-    assert_eq!(rt; copy.rows().len(), 1);
-    assert!(rt; copy.at_most(view));
-    assert!(rt; !view.at_most(copy));
+    let found = (copy.rows().len(), copy.at_most(view), view.at_most(copy));
+    assert_eq!(rt; found, (1, true, false));
 }
 
 #[tactic(auto, using(cc_views::specs::MergeLaws::merge_row_is_no_larger))]
