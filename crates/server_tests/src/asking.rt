@@ -133,16 +133,33 @@ fn clients_print_what_a_node_answers(rt: HostRuntime) -> Result<(), Fail> {
     check_end(ended_2)
 }
 
+fn check_no_answer<R: Net<Stream = TcpStream> + Clock>(
+    rt: &R,
+    alloc: Global,
+    nobody: SocketAddr,
+) -> Result<(), Fail> {
+    let asked = order(nobody, &["collect"], 1)?;
+    check_asked(rt, alloc, &asked, 1, "no answer\n")
+}
+
+fn check_not_left<R: Net<Stream = TcpStream> + Clock>(
+    rt: &R,
+    alloc: Global,
+    nobody: SocketAddr,
+) -> Result<(), Fail> {
+    let order = LeaveOrder { address: nobody };
+    let mut output = Vec::new(alloc);
+    let status = leave_node(rt, alloc, &order, &mut output)?;
+    check(output.as_slice() == b"no answer\n".as_slice(), "no answer")?;
+    check(status == 1, "the status of a leave")
+}
+
 // Nothing listens at the port of a listener that is gone.
 #[test]
 fn clients_give_up_where_no_answer_comes(rt: HostRuntime) -> Result<(), Fail> {
     let listener = TcpListener::bind(&rt, "127.0.0.1:0")?;
-    let address = listener.local_addr()?;
+    let nobody = listener.local_addr()?;
     drop(listener);
-    let order = order(address, &["collect"], 1)?;
-    check_asked(&rt, rt.alloc(), &order, 1, "no answer\n")?;
-    let mut output = Vec::new(rt.alloc());
-    let status = leave_node(&rt, rt.alloc(), &LeaveOrder { address }, &mut output)?;
-    check(output.as_slice() == b"no answer\n".as_slice(), "no answer")?;
-    check(status == 1, "the status of a leave")
+    check_no_answer(&rt, rt.alloc(), nobody)?;
+    check_not_left(&rt, rt.alloc(), nobody)
 }
