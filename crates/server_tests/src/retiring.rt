@@ -14,12 +14,12 @@ use std::thread;
 // Node 2 is to be retired, twice over one connection.
 const RETIRE_TWICE: [u8; 18] = [0, 0, 0, 5, 7, 0, 0, 0, 2, 0, 0, 0, 5, 7, 0, 0, 0, 2];
 
-// The second request is refused: Left, under session 0 and request 0.
+// The second request is refused: Left, with 0 for the session and the request.
 const REFUSED: [u8; 30] = [
     0, 0, 0, 26, 5, 0, 0, 0, 0, 0, 0, 0, 0, 0, 0, 0, 0, 0, 0, 0, 0, 1, 0, 0, 0, 0, 0, 0, 0, 0,
 ];
 
-// Nothing was asked in session 7, so request 3 is refused: Skip.
+// Nothing was asked in session 7, so a request under number 3 is refused: Skip.
 const SKIPPED: [u8; 30] = [
     0, 0, 0, 26, 5, 0, 0, 0, 0, 0, 0, 0, 7, 0, 0, 0, 0, 0, 0, 0, 3, 12, 0, 0, 0, 0, 0, 0, 0, 0,
 ];
