@@ -82,6 +82,7 @@ fn a_node_that_cannot_begin_says_why(rt: HostRuntime) -> Result<(), Fail> {
     let id = NodeId::new(1).ok_or("an id")?;
     let nobody = || Vec::new(rt.alloc());
     check_fault(&rt, "no-folder", listen, nobody(), NO_FOLDER)?;
+    let _ = fs::remove_dir_all(&rt, "empty-folder");
     fs::create_dir(&rt, "empty-folder")?;
     let not_formatted = RunFault::Open(OpenFault::NotFormatted);
     check_fault(&rt, "empty-folder", listen, nobody(), not_formatted)?;
