@@ -32,12 +32,13 @@ check:
 	bash tools/prove.sh $(CRATE)
 
 # Times single events, the engine and its checkpoints in memory and on the disk, and a script of 10,000 lines over 16
-# nodes. It prints figures and fails nothing.
+# nodes, and counts the bytes that a commit copies, for which it needs a C compiler. It prints figures and fails nothing.
 bench:
 	@$(BUILD); build cc_bench; build ccnode
 	@./crates/cc_bench/out/cc_bench events
 	@./crates/cc_bench/out/cc_bench engine
 	@./crates/cc_bench/out/cc_bench checkpoints
+	@python3 bench/copied_bytes.py crates/cc_bench/out/cc_bench
 	@sh bench/largest_script.sh > largest_script.log
 	@echo 'a script of 10,000 lines over 16 nodes:'
 	@bash -c 'time ./crates/ccnode/out/ccnode play < largest_script.log | wc -lc'
@@ -77,10 +78,11 @@ cluster:
 	@bash tools/cluster.sh crates/ccnode/out/ccnode
 
 # Measures three nodes on loopback under 1, 8 and 64 clients beside the disk's own syncs: about two minutes. It fails
-# nothing.
+# nothing. PAUSE=2000 makes each sync take so many microseconds more, as on a slower disk; that needs a C compiler.
+PAUSE = 0
 load:
 	@$(BUILD); build ccnode
-	@python3 tools/load.py crates/ccnode/out/ccnode
+	@python3 tools/load.py crates/ccnode/out/ccnode 10 $(PAUSE)
 
 # Kills nodes of a cluster under load 200 times with SIGKILL, starts each again, and checks what clients are told: about
 # three minutes. KILLS=20 does fewer.

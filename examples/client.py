@@ -1,11 +1,8 @@
 #!/usr/bin/env python3
-"""A client of one node, by docs/FORMATS.md and the standard library alone.
+"""A client of one node, by docs/FORMATS.md and the standard library alone: client.py 127.0.0.1:7001 7 store hello
 
-    client.py 127.0.0.1:7001 7 store hello
-    client.py 127.0.0.1:7002 8 collect
-
-Its words are those of `ccnode ask`: the node's address, a session, and a command: store WORD, collect, max N, readmax,
-flag, readflag, add N, readset. A session belongs to one client at a time. It prints the answer, or the refusal.
+Its words are those of `ccnode ask`: an address, a session, and store WORD, collect, max N, readmax, flag, readflag, add N
+or readset. It prints the answer, its texts as they are, or `refused`, the refusal's number and what it carries.
 """
 import socket
 import struct
@@ -33,58 +30,46 @@ def ask_frame(session, request, command):
 def read_exactly(connection, count):
     data = b""
     while len(data) < count:
-        piece = connection.recv(count - len(data))
+        data += (piece := connection.recv(count - len(data)))
         if not piece:
             raise ConnectionError("the node has closed the connection")
-        data += piece
     return data
 
 
 def read_frame(connection):
-    """The kind, the session, the request and the rest of the next frame."""
-    (length,) = struct.unpack(">I", read_exactly(connection, 4))
-    body = read_exactly(connection, length)
-    return body[0], *struct.unpack(">QQ", body[1:17]), body[17:]
+    return read_exactly(connection, int.from_bytes(read_exactly(connection, 4), "big"))
 
 
-def value_at(data, at):
-    length = data[at]
-    text = data[at + 1 : at + 1 + length].decode(errors="replace")
-    greatest, flag, count = struct.unpack_from(">QBB", data, at + 1 + length)
-    at += 11 + length
-    numbers = struct.unpack_from(f">{count}I", data, at)
-    return f"{text}/{greatest}/{flag}/{'+'.join(map(str, numbers))}", at + 4 * count
+def rows_of(data, count):
+    """The rows of a view, as text."""
+    at = 0
+    for _ in range(count):
+        node, number, length = struct.unpack_from(">IQB", data, at)
+        text, at = data[at + 13 : at + 13 + length].decode(errors="replace"), at + 13 + length
+        greatest, flag, size = struct.unpack_from(">QBB", data, at)
+        numbers, at = struct.unpack_from(f">{size}I", data, at + 10), at + 10 + 4 * size
+        yield f"{node}:{number}={text}/{greatest}/{flag}/{'+'.join(map(str, numbers))}"
 
 
 def answer_text(data):
-    kind = data[0]
-    if kind == 1:
-        return "Stored"
-    if kind == 2:
-        (count,), at, rows = struct.unpack_from(">H", data, 1), 3, []
-        for _ in range(count):
-            node, number = struct.unpack_from(">IQ", data, at)
-            value, at = value_at(data, at + 12)
-            rows.append(f"{node}:{number}={value}")
-        return f"Seen [{','.join(rows)}]"
-    if kind == 3:
-        return f"Max {struct.unpack('>Q', data[1:])[0]}"
-    if kind == 4:
-        return f"Flag {data[1]}"
-    (count,) = struct.unpack_from(">H", data, 1)
-    return f"Set [{','.join(map(str, struct.unpack_from(f'>{count}I', data, 3)))}]"
+    kind, fields = data[0], data[1:]
+    if kind in (2, 5):
+        (count,), rest = struct.unpack(">H", fields[:2]), fields[2:]
+        items = rows_of(rest, count) if kind == 2 else map(str, struct.unpack(f">{count}I", rest))
+        return f"{'Seen' if kind == 2 else 'Set'} [{','.join(items)}]"
+    return {1: "Stored", 3: "Max ", 4: "Flag "}[kind] + (str(int.from_bytes(fields, "big")) if fields else "")
 
 
 def answer_to(connection, session, request, command):
     """What the node says of this request: its answer, or the number of the refusal and what it carries."""
     connection.sendall(ask_frame(session, request, command))
     while True:
-        kind, its_session, its_request, rest = read_frame(connection)
-        if (its_session, its_request) == (session, request):
-            if kind == 4:
-                return answer_text(rest), None, None
-            if rest[0] != REPEAT:
-                return None, rest[0], struct.unpack(">Q", rest[1:])[0]
+        frame = read_frame(connection)
+        if struct.unpack(">QQ", frame[1:17]) == (session, request):
+            if frame[0] == 4:
+                return answer_text(frame[17:]), None, None
+            if frame[17] != REPEAT:
+                return None, frame[17], int.from_bytes(frame[18:], "big")
 
 
 def ask(address, session, words, seconds=10.0):

@@ -1,11 +1,12 @@
 #!/usr/bin/env python3
 """Measures three nodes on loopback under 1, 8 and 64 clients, and prints it beside the disk's own syncs. It fails nothing.
 
-    load.py crates/ccnode/out/ccnode [SECONDS]
+    load.py crates/ccnode/out/ccnode [SECONDS] [PAUSE]
 
 Each client has a session and a connection of its own, spread over the nodes, and asks again as soon as it was answered.
 Each count stores for SECONDS (10), and then collects for as long. A store is three commits of two syncs, one after the
-other, a collect five. TMPDIR says where the nodes' folders are made.
+other, a collect five. With PAUSE each sync takes so many microseconds more, those of the loops too, as it would on a
+slower disk; that needs a C compiler. TMPDIR says where the nodes' folders are made.
 """
 import os
 import selectors
@@ -15,24 +16,30 @@ import sys
 import time
 from concurrent.futures import ThreadPoolExecutor
 
-from nodes import Cluster, client, end_on_signals, say
+from nodes import Cluster, client, end_on_signals, say, slow_sync
 
 COUNTS = (1, 8, 64)
 SYNCS = {"store": 6, "collect": 10}
 SYNC_SECONDS = 2.0
 
 
-def write_and_sync(folder, name, seconds=SYNC_SECONDS):
+def sync(file, pause):
+    if pause:
+        time.sleep(pause / 1e6)
+    os.fdatasync(file)
+
+
+def write_and_sync(folder, name, pause):
     """What a commit does to its file, in a plain loop: a record is appended and synced, one byte before it is written over
     and synced. Microseconds a write with its sync, over the whole loop."""
     path, record, place, syncs = os.path.join(folder, name), bytes(150), 1, 0
     file = os.open(path, os.O_CREAT | os.O_RDWR)
     start = time.perf_counter()
-    while time.perf_counter() - start < seconds:
+    while time.perf_counter() - start < SYNC_SECONDS:
         os.pwrite(file, record, place)
-        os.fdatasync(file)
+        sync(file, pause)
         os.pwrite(file, b"\xa5", place - 1)
-        os.fdatasync(file)
+        sync(file, pause)
         place, syncs = place + len(record), syncs + 2
     took = time.perf_counter() - start
     os.close(file)
@@ -40,11 +47,11 @@ def write_and_sync(folder, name, seconds=SYNC_SECONDS):
     return took / syncs * 1e6
 
 
-def sync_times(folder):
+def sync_times(folder, pause):
     """Microseconds of a sync alone, and of one while three loops run beside each other, as three nodes on one disk do."""
-    alone = write_and_sync(folder, "alone")
+    alone = write_and_sync(folder, "alone", pause)
     with ThreadPoolExecutor(3) as pool:
-        three = pool.map(write_and_sync, [folder] * 3, ["beside-1", "beside-2", "beside-3"])
+        three = pool.map(write_and_sync, [folder] * 3, ["beside-1", "beside-2", "beside-3"], [pause] * 3)
         return alone, sum(three) / 3
 
 
@@ -147,11 +154,15 @@ def print_wanted(rows, alone):
 def main():
     end_on_signals()
     program, seconds = sys.argv[1], float(sys.argv[2]) if len(sys.argv) > 2 else 10.0
+    pause = int(sys.argv[3]) if len(sys.argv) > 3 else 0
     rows, session = [], 1
     with Cluster(program, 3) as cluster:
+        if pause:
+            os.environ["SLOW_SYNC"] = str(pause)
+            cluster.preloads = dict.fromkeys(cluster.nodes, slow_sync(cluster.folder))
         cluster.start_all()
         cluster.wait_until_ready()
-        alone, three = sync_times(cluster.folder)
+        alone, three = sync_times(cluster.folder, pause)
         say(f"nodes in {cluster.folder}; machine load before: {os.getloadavg()[0]:.2f}")
         say(f"a write with its sync: {alone:.0f} us alone, {three:.0f} us while three loops run beside each other")
         say("times in microseconds; syncs: 6 of a store, 10 of a collect; own: this program's share of a processor")
@@ -159,7 +170,7 @@ def main():
         for count in COUNTS:
             for kind in SYNCS:
                 # A loop beside each row, since the disk's pace changes.
-                alone, three = sync_times(cluster.folder)
+                alone, three = sync_times(cluster.folder, pause)
                 row = measure(cluster, count, kind, seconds, session)
                 session += count
                 row["alone"] = alone

@@ -13,7 +13,8 @@ import sys
 import tempfile
 import time
 
-sys.path.insert(0, str(pathlib.Path(__file__).resolve().parent.parent / "examples"))
+HERE = pathlib.Path(__file__).resolve().parent
+sys.path.insert(0, str(HERE.parent / "examples"))
 import client  # noqa: E402  (the example client has the frames)
 
 LOOPBACK = "127.0.0.1"
@@ -38,6 +39,13 @@ def free_ports(count):
     for listener in listeners:
         listener.close()
     return ports
+
+
+def slow_sync(folder):
+    """A library for `preloads` that makes syncs slower: by 5,000 microseconds, or as many as SLOW_SYNC says."""
+    library = folder / "slow_sync.so"
+    subprocess.run(["cc", "-shared", "-fPIC", "-O2", "-o", library, HERE / "slow_sync.c"], check=True)
+    return str(library)
 
 
 class Cluster:

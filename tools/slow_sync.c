@@ -1,14 +1,17 @@
-// Makes each sync of a program take five milliseconds more:
+// Makes each sync of a program take longer, by so many microseconds (5,000 where SLOW_SYNC doesn't say):
 //     cc -shared -fPIC -o slow_sync.so slow_sync.c
-//     LD_PRELOAD=./slow_sync.so ccnode run ..
+//     SLOW_SYNC=2000 LD_PRELOAD=./slow_sync.so ccnode run ..
 #define _GNU_SOURCE
+#include <stdlib.h>
 #include <sys/syscall.h>
 #include <time.h>
 #include <unistd.h>
 
 static void pause_first(void) {
-    struct timespec five_ms = {0, 5000000};
-    nanosleep(&five_ms, NULL);
+    const char *number = getenv("SLOW_SYNC");
+    long microseconds = number ? atol(number) : 5000;
+    struct timespec pause = {microseconds / 1000000, microseconds % 1000000 * 1000};
+    nanosleep(&pause, NULL);
 }
 
 int fsync(int file) {

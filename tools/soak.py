@@ -7,16 +7,14 @@ A node whose syncs take five milliseconds more, for a minute; a node that is sto
 continued; two halves that can't reach each other for 10 seconds, and then can; a node that is killed for good, what clients
 are told then, and `ccnode retire` at the others. It needs a C compiler. The status is 1 where operations didn't go on.
 """
-import pathlib
 import signal
 import subprocess
 import sys
 import threading
 import time
 
-from nodes import Cluster, NoAnswer, Session, end_on_signals, free_ports, say
+from nodes import HERE, Cluster, NoAnswer, Session, end_on_signals, free_ports, say, slow_sync
 
-HERE = pathlib.Path(__file__).resolve().parent
 CLIENTS = 8
 GOES_ON_WITHIN = 5.0
 NODES = range(1, 6)
@@ -128,15 +126,9 @@ class RelayedCluster(Cluster):
             self.relays.wait()
 
 
-def built_shim(folder):
-    library = folder / "slow_sync.so"
-    subprocess.run(["cc", "-shared", "-fPIC", "-O2", "-o", library, HERE / "slow_sync.c"], check=True)
-    return library
-
-
 def slow_and_stopped(program, verdicts):
     with Cluster(program, len(NODES)) as cluster:
-        cluster.preloads[5] = str(built_shim(cluster.folder))
+        cluster.preloads[5] = slow_sync(cluster.folder)
         cluster.start_all()
         cluster.wait_until_ready(60)
         say("node 5's syncs take five milliseconds more")

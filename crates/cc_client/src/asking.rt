@@ -78,7 +78,12 @@ impl Asking {
         let mut heard = Heard::Ready;
         for _ in 0..u64::MAX {
             match self.client.hear(heard) {
-                Step::Send(frame) => send(alloc, stream, &frame)?,
+                Step::Send(frame) => {
+                    deadline.left(rt)?;
+                    // From here on nobody knows what becomes of it.
+                    self.refusal = None;
+                    send(alloc, stream, &frame)?;
+                }
                 Step::Wait => {}
                 Step::Retry(why) => {
                     self.refusal = why;

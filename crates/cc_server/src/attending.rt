@@ -20,6 +20,9 @@ const DOOR_ROOM: usize = 256;
 // How long a client may take nothing, in milliseconds.
 const PATIENCE_MS: u64 = 5000;
 
+// How long a connection may say nothing, in seconds: it may lead to a machine that vanished.
+const SILENCE_S: u64 = 3600;
+
 /// Serves a connection from that address, with a writer of its own.
 pub fn attend<L: Life + Send + Sync, Q: Lane + Send + Sync, R, H: Hooks + Sync>(
     office: &Office<'_, R, H, L, Q>,
@@ -32,17 +35,20 @@ where
     let rt = office.rt;
     let _ = stream.set_nodelay(true);
     let _ = stream.set_write_timeout(Some(Duration::from_millis(PATIENCE_MS)));
+    let _ = stream.set_read_timeout(Some(Duration::from_secs(SILENCE_S)));
     let Some((pen, door)) = opened(office.alloc, stream) else {
         return;
     };
     let Some(ticket) = admitted(office, &door, from) else {
         return;
     };
-    thread::join(
-        rt,
-        move || write_out(rt, pen),
-        move || serve_in(office, door, ticket),
-    );
+    thread::scope(thread::scope_env(), rt, move |scope| -> () {
+        if scope.spawn(move || write_out(rt, pen)).is_ok() {
+            serve_in(office, door, ticket);
+        } else {
+            office.shared.doors.leave(rt, ticket);
+        }
+    });
 }
 
 /// What a connection's writer has.

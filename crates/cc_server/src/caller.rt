@@ -75,13 +75,24 @@ impl<R: Wait, I: Read, D: Replies> Caller<'_, R, I, D> {
         }
     }
 
+    // Waits for a seat. An ask under number 0 makes nothing, so it needs no more than that.
+    fn sit(&self, event: &Event) -> bool {
+        let room = &self.shared.room;
+        let bell = &self.shared.bell;
+        match event {
+            Event::Ask { request: 0, .. } => room.sit_anyway(self.rt, bell),
+            _ => room.sit(self.rt, bell, self.me, event),
+        }
+    }
+
     // Tells a client why not, once all is durable that this was judged by.
     fn refuse(&self, frame: &Frame) {
         if !self.shared.room.settle(self.rt, &self.shared.bell) {
             return;
         }
-        if let Ok(bytes) = bytes_of(self.alloc, frame) {
-            self.door.answer(self.rt, bytes);
+        match bytes_of(self.alloc, frame) {
+            Ok(bytes) => self.door.answer(self.rt, bytes),
+            Err(_) => self.door.give_up(),
         }
     }
 
@@ -117,7 +128,7 @@ impl<R: Wait, I: Read, D: Replies> Source for Caller<'_, R, I, D> {
         let event = self.event()?;
         let kept = event.copy(self.alloc).ok()?;
         self.route(&event);
-        if !self.shared.room.sit(self.rt, self.me, &event) {
+        if !self.sit(&event) {
             return None;
         }
         self.given = Some(kept);

@@ -87,8 +87,9 @@ impl<R: Wait> Outlet for Channels<'_, R> {
     }
 
     fn reply(&mut self, session: u64, request: u64, answer: &Answer) {
-        if let Some(bytes) = self.replied(session, request, answer) {
-            self.shared.doors.pass(self.rt, session, bytes);
+        match self.replied(session, request, answer) {
+            Some(bytes) => self.shared.doors.pass(self.rt, session, bytes),
+            None => self.shared.doors.give_up(self.rt, session),
         }
     }
 }

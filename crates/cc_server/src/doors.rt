@@ -17,6 +17,9 @@ const MOST_WAITING: u64 = 262_144;
 pub trait Replies {
     /// May wait for room: only the worker of this very connection calls it.
     fn answer<R: Wait>(&self, rt: &R, bytes: Vec<u8>);
+
+    /// An answer is lost for want of memory: its client has to ask again, over another connection.
+    fn give_up(&self);
 }
 
 /// One connection: its socket, and the channel to its writer.
@@ -32,6 +35,10 @@ impl Replies for Door {
     fn answer<R: Wait>(&self, rt: &R, bytes: Vec<u8>) {
         self.waiting.fetch_add(bytes.len() as u64, Ordering::SeqCst);
         let _ = self.out.send(rt, bytes);
+    }
+
+    fn give_up(&self) {
+        self.close();
     }
 }
 
@@ -148,6 +155,15 @@ impl Doors {
         let door = self.table.lock(rt).door_of(session);
         if let Some(door) = door {
             door.pass(rt, bytes);
+        }
+    }
+
+    /// Closes the connection that last asked in the session: its answer is lost for want of memory, so whoever asked has to
+    /// ask again.
+    pub fn give_up<R: Wait>(&self, rt: &R, session: u64) {
+        let door = self.table.lock(rt).door_of(session);
+        if let Some(door) = door {
+            door.close();
         }
     }
 

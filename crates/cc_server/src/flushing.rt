@@ -1,10 +1,12 @@
 //! The flusher's thread.
 
+use crate::lines::Line;
 use crate::room::Room;
 use crate::shared::Shared;
 use cc_flush::{CheckpointFault, Failed};
 use cc_intake::{Lane, Life, Queue, Turner};
 use cc_journal::Batch;
+use cc_node::Core;
 use cc_site::Site;
 use crossbeam_utils::sync::Parker;
 use std::sync::Wait;
@@ -12,8 +14,10 @@ use std::sync::Wait;
 // How many wishes of either kind are granted between two turns at most.
 const MOST_WISHES: u64 = 64;
 
-// Above how many bytes the side in use is left for the other one.
+// Above how many bytes the side in use is left for the other one, where it has grown by so many since it was begun.
 const PLENTY: u64 = 4_194_304;
+
+const GROWTH: u64 = 1_048_576;
 
 /// What the flusher looks at.
 #[derive(Drop)]
@@ -31,6 +35,7 @@ pub fn flush_all<S: Site, L: Life, Q: Lane, R: Wait>(
     watch: &Watch<'_>,
 ) -> Result<(), Failed> {
     let mut is_fresh = true;
+    let mut begun = 0;
     for _ in rt.forever() {
         let is_done = watch.shared.done.is_set();
         watch.shared.bell.look();
@@ -41,7 +46,7 @@ pub fn flush_all<S: Site, L: Life, Q: Lane, R: Wait>(
             watch.shared.room.tick(rt);
             resend(turner, watch.shared)?;
             if !is_fresh {
-                is_fresh = spare(turner)?;
+                is_fresh = spare(turner, &mut begun)?;
             }
         }
         if events >= Batch::MAX_ENTRIES as u64 || turner.keeps_one() || is_wished {
@@ -106,15 +111,32 @@ fn resend<S: Site, L: Life, Q: Lane>(
         line.unmute();
     }
     resent?;
+    note_progress(turner.engine().twin().core(), &shared.lines);
     Ok(())
 }
 
-// Moves to the other side where the one in use is long. Whether it was moved.
-fn spare<S: Site, L: Life, Q: Lane>(turner: &mut Turner<S, L, Q>) -> Result<bool, Failed> {
-    if turner.engine().used() <= PLENTY {
+// Looks which peers acknowledge what they are sent.
+fn note_progress(core: &Core, lines: &[Line]) {
+    for line in lines {
+        if let Some(row) = core.links().get(line.peer) {
+            let sent = core.posts().saturating_sub(row.start);
+            line.note_progress(row.acked, core.is_live(line.peer) && row.acked < sent);
+        }
+    }
+}
+
+// Moves to the other side where the one in use is long, and longer than it was `begun`. Whether it was moved.
+fn spare<S: Site, L: Life, Q: Lane>(
+    turner: &mut Turner<S, L, Q>,
+    begun: &mut u64,
+) -> Result<bool, Failed> {
+    let used = turner.engine().used();
+    if used <= PLENTY || used.saturating_sub(*begun) <= GROWTH {
         return Ok(false);
     }
-    match turner.checkpoint() {
+    let moved = turner.checkpoint();
+    *begun = turner.engine().used();
+    match moved {
         Ok(()) | Err(CheckpointFault::Spent) => Ok(true),
         Err(CheckpointFault::Failed(failed)) => Err(failed),
     }

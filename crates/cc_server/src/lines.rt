@@ -8,10 +8,14 @@ use cc_words::Peer;
 use crossbeam_channel::{Receiver, Sender, bounded};
 use std::alloc::{AllocError, Global};
 use std::net::SocketAddr;
-use std::sync::Wait;
+use std::sync::atomic::{AtomicU64, Ordering};
+use std::sync::{Arc, Wait};
 
 // How many parcels wait for a peer's writer at most.
 const LINE_ROOM: usize = 256;
+
+// After so many seconds in which a peer acknowledged nothing that it should, it is connected to anew.
+const MOST_SILENCE: u64 = 5;
 
 // How many events wait for the worker of the node's own messages at most.
 const OWN_ROOM: usize = 4096;
@@ -23,6 +27,11 @@ pub struct Line {
     to: Sender<Parcel>,
     // Nothing is put on it.
     is_muted: Stop,
+    // Its writer is to connect anew.
+    is_stale: Arc<Stop>,
+    // What the peer has acknowledged, and for how many seconds it acknowledged no more, though it should.
+    acked: AtomicU64,
+    silence: AtomicU64,
 }
 
 impl Line {
@@ -40,6 +49,21 @@ impl Line {
 
     pub fn unmute(&self) {
         self.is_muted.put(false);
+    }
+
+    /// A second has passed. What the peer has acknowledged, and whether it should acknowledge more: where it doesn't, its
+    /// connection may lead to a machine that vanished.
+    pub fn note_progress(&self, acked: u64, is_owing: bool) {
+        let before = self.acked.swap(acked, Ordering::SeqCst);
+        if !is_owing || acked != before {
+            self.silence.store(0, Ordering::SeqCst);
+            return;
+        }
+        let silence = self.silence.fetch_add(1, Ordering::SeqCst);
+        if silence.saturating_add(1) >= MOST_SILENCE {
+            self.silence.store(0, Ordering::SeqCst);
+            self.is_stale.set();
+        }
     }
 
     /// Whether it takes nothing now.
@@ -82,6 +106,8 @@ impl OwnLine {
 pub struct FarEnd {
     pub address: SocketAddr,
     pub from: Receiver<Parcel>,
+    /// The peer is to be connected to anew.
+    pub is_stale: Arc<Stop>,
 }
 
 /// The lines to these peers, and their far ends.
@@ -89,18 +115,32 @@ pub fn lines_to(alloc: Global, peers: &[Peer]) -> Result<(Vec<Line>, Vec<FarEnd>
     let mut lines = Vec::new(alloc);
     let mut ends = Vec::new(alloc);
     for peer in peers {
-        let (to, from) = bounded(alloc, LINE_ROOM)?;
-        lines.push(Line {
-            peer: peer.id,
-            to,
-            is_muted: Stop::new(),
-        })?;
-        ends.push(FarEnd {
-            address: peer.address,
-            from,
-        })?;
+        let (line, end) = line_to(alloc, peer)?;
+        lines.push(line)?;
+        ends.push(end)?;
     }
     Ok((lines, ends))
+}
+
+// The line to a peer, and its far end.
+fn line_to(alloc: Global, peer: &Peer) -> Result<(Line, FarEnd), AllocError> {
+    let is_stale = Arc::new(alloc, Stop::new()).or(Err(AllocError))?;
+    let seen = Arc::try_clone(&is_stale).or(Err(AllocError))?;
+    let (to, from) = bounded(alloc, LINE_ROOM)?;
+    let line = Line {
+        peer: peer.id,
+        to,
+        is_muted: Stop::new(),
+        is_stale,
+        acked: AtomicU64::new(0),
+        silence: AtomicU64::new(0),
+    };
+    let end = FarEnd {
+        address: peer.address,
+        from,
+        is_stale: seen,
+    };
+    Ok((line, end))
 }
 
 /// The line of a node to itself, and what its worker takes.

@@ -26,6 +26,7 @@ struct Own<'a, R: Wait> {
 impl<R: Wait> Own<'_, R> {
     fn event(&mut self) -> Option<Event> {
         if self.is_due {
+            self.is_due = false;
             return self.given.take();
         }
         self.from.recv(self.rt).unwrap_or(None)
@@ -50,7 +51,7 @@ impl<R: Wait> Source for Own<'_, R> {
 
     fn next(&mut self) -> Option<Event> {
         let (event, kept) = self.pair()?;
-        if !self.shared.room.sit_first(self.rt) {
+        if !self.shared.room.sit_anyway(self.rt, &self.shared.bell) {
             return None;
         }
         self.given = Some(kept);
@@ -64,7 +65,6 @@ impl<R: Wait> Source for Own<'_, R> {
         if answer.is_err() {
             self.shared.room.leave(self.rt);
         }
-        self.is_due = false;
         match duty_of(&event, answer) {
             Duty::Wake => self.shared.bell.ring(),
             Duty::Ride => self.shared.bell.ride(),

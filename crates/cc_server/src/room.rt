@@ -47,8 +47,15 @@ impl Seats {
     }
 
     // How many events are flushed, at most, once each that was accepted so far is: those that have a seat may be refused yet.
-    fn last(&self) -> u64 {
+    fn due(&self) -> u64 {
         self.flushed.saturating_add(self.taken)
+    }
+
+    // Wakes the flusher where something may lie in the queue.
+    fn wake(&self, bell: &Bell) {
+        if self.taken > 0 {
+            bell.ring();
+        }
     }
 
     fn is_furthest(&self, event: &Event) -> bool {
@@ -75,8 +82,9 @@ impl Room {
         })
     }
 
-    /// Waits until the event may be handed to the node `me`, and takes a seat for it. False where the room is closed.
-    pub fn sit<R: Wait>(&self, rt: &R, me: NodeId, event: &Event) -> bool {
+    /// Waits until the event may be handed to the node `me`, and takes a seat for it. It wakes the flusher, since what would
+    /// make room may lie in the queue. False where the room is closed.
+    pub fn sit<R: Wait>(&self, rt: &R, bell: &Bell, me: NodeId, event: &Event) -> bool {
         let mut seats = self.seats.lock(rt);
         let since = seats.ticks;
         for _ in rt.forever() {
@@ -87,13 +95,14 @@ impl Room {
                 seats.taken = seats.taken.saturating_add(1);
                 return true;
             }
+            seats.wake(bell);
             seats = self.changed.wait(rt, seats);
         }
         unreachable!()
     }
 
     /// Waits for a seat, whatever it is for. False where the room is closed.
-    pub fn sit_first<R: Wait>(&self, rt: &R) -> bool {
+    pub fn sit_anyway<R: Wait>(&self, rt: &R, bell: &Bell) -> bool {
         let mut seats = self.seats.lock(rt);
         for _ in rt.forever() {
             if seats.is_closed {
@@ -103,6 +112,7 @@ impl Room {
                 seats.taken = seats.taken.saturating_add(1);
                 return true;
             }
+            seats.wake(bell);
             seats = self.changed.wait(rt, seats);
         }
         unreachable!()
@@ -113,7 +123,7 @@ impl Room {
         let mut seats = self.seats.lock(rt);
         seats.taken = seats.taken.saturating_sub(1);
         drop(seats);
-        self.changed.notify_one();
+        self.changed.notify_all();
         self.settled.notify_all();
     }
 
@@ -121,19 +131,19 @@ impl Room {
     /// is closed before that.
     pub fn settle<R: Wait>(&self, rt: &R, bell: &Bell) -> bool {
         let mut seats = self.seats.lock(rt);
-        let mut last = seats.last();
-        if seats.flushed < last {
+        let mut due = seats.due();
+        if seats.flushed < due {
             bell.ring();
         }
         for _ in rt.forever() {
-            if seats.flushed >= last {
+            if seats.flushed >= due {
                 return true;
             }
             if seats.is_closed {
                 return false;
             }
             seats = self.settled.wait(rt, seats);
-            last = last.min(seats.last());
+            due = due.min(seats.due());
         }
         unreachable!()
     }

@@ -13,9 +13,7 @@ use crate::stop::Stop;
 use crate::threads::live;
 use cc_files::FileSite;
 use cc_flush::{Back, Failed, Flusher};
-use cc_intake::{
-    Ends as QueueEnds, Finished, Hooked, Hooks, Lane, Life, Share, finish, lane, start,
-};
+use cc_intake::{Ends, Finished, Hooked, Hooks, Lane, Life, Share, finish, lane, start};
 use cc_node::Core;
 use cc_protocol::Routes;
 use cc_site::Site;
@@ -158,7 +156,12 @@ where
     R: Net<Listener = TcpListener, Stream = TcpStream> + Wait,
 {
     let me = core.me();
-    if run.config.peers.iter().any(|peer| peer.id == me) {
+    let listen = run.config.listen;
+    let peers = &run.config.peers;
+    if peers
+        .iter()
+        .any(|peer| peer.id == me || peer.address == listen)
+    {
         return Err(RunFault::OwnPeer);
     }
     let _ = run.shared.me.try_set(me);
@@ -206,7 +209,7 @@ fn run_at<L: Life + Send + Sync, Q: Lane + Send + Sync, S: Site + Send + Drop, R
     run: &Run<'_, R, H>,
     ready: Ready<S>,
     blank: Blank,
-    queue_ends: QueueEnds<L>,
+    ends: Ends<L>,
     shares: Vec<Share<L>>,
 ) -> Result<Finished<()>, RunFault>
 where
@@ -217,7 +220,7 @@ where
     requires ledger { (blank.name ≡ L.name) × (blank.parts ≡ L.parts) × (L.parts ≡ share_limit) }
     requires reached { (list : List EntryValue) → L.reached list }
     requires taken { (list : List EntryValue) → L.taken list }
-    requires lane { queue_ends ≡ Q.table }
+    requires lane { ends ≡ Q.table }
 {
     let Ready {
         engine,
@@ -226,7 +229,7 @@ where
         inlets,
     } = ready;
     let me = core.me();
-    let (intake, mut turner, queue) = start::<S, L, Q>(engine, core, blank, queue_ends);
+    let (intake, mut turner, queue) = start::<S, L, Q>(engine, core, blank, ends);
     let lock = Mutex::new(intake);
     let shares = Mutex::new(shares);
     let office = Office {
@@ -240,8 +243,8 @@ where
         queue: &queue,
         shares: &shares,
     };
-    let (watch, ends) = inlets.cut(me, run.shared);
-    let outcome = live(&office, &mut turner, watch, ends, &listener, run.stop);
+    let (watch, far_ends) = inlets.cut(me, run.shared);
+    let outcome = live(&office, &mut turner, watch, far_ends, &listener, run.stop);
     let finished = finish(
         run.rt,
         lock.into_inner(),

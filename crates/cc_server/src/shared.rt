@@ -7,7 +7,7 @@ use crate::lines::{FarEnd, Line, OwnLine, lines_to, own_line};
 use crate::room::Room;
 use crate::run_fault::RunFault;
 use crate::stop::Stop;
-use crate::threads::Ends;
+use crate::threads::FarEnds;
 use cc_protocol::Wishes;
 use cc_views::NodeId;
 use cc_wire::Event;
@@ -86,9 +86,9 @@ impl Shared {
 
 impl Inlets {
     /// What the flusher takes out of, and what the workers and writers of the node `me` do.
-    pub fn cut(self, me: NodeId, shared: &Shared) -> (Watch<'_>, Ends) {
+    pub fn cut(self, me: NodeId, shared: &Shared) -> (Watch<'_>, FarEnds) {
         let Inlets { parker, far, own } = self;
         let watch = Watch { parker, shared };
-        (watch, Ends { me, far, own })
+        (watch, FarEnds { me, far, own })
     }
 }

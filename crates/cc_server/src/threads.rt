@@ -30,7 +30,7 @@ const PAUSE_MS: u64 = 50;
 
 /// What the writers of the peers and the worker of the own messages take out of.
 #[derive(Drop)]
-pub struct Ends {
+pub struct FarEnds {
     pub me: NodeId,
     pub far: Vec<FarEnd>,
     pub own: Receiver<Option<Event>>,
@@ -41,7 +41,7 @@ pub fn live<'x, L: Life + Send + Sync, Q: Lane + Send + Sync, S: Site + Send, R,
     office: &'x Office<'x, R, H, L, Q>,
     turner: &'x mut Turner<S, L, Q>,
     watch: Watch<'x>,
-    ends: Ends,
+    ends: FarEnds,
     listener: &'x TcpListener,
     stop: &'x Stop,
 ) -> Option<Result<(), Failed>>
@@ -65,12 +65,13 @@ where
             let ticks = scope
                 .spawn(move || tick_until(rt, shared, address, stop))
                 .is_ok();
-            if ticks {
-                serve_all(office, ends, listener, stop);
-            }
+            let is_served = ticks && serve_all(office, ends, listener, stop);
             shared.done.set();
             shared.bell.ring();
-            Some(flusher.join(rt))
+            match flusher.join(rt) {
+                Ok(()) if !is_served => None,
+                outcome => Some(outcome),
+            }
         },
     )
 }
@@ -117,13 +118,13 @@ fn knock<R: Net<Stream = TcpStream>>(rt: &R, address: Option<SocketAddr>) {
 }
 
 // Starts the writers and the worker of the own messages, accepts connections until a flag is set, and then ends the writers
-// first and the workers next.
+// first and the workers next. False, and nothing is accepted, where a thread of these can't be made.
 fn serve_all<L: Life + Send + Sync, Q: Lane + Send + Sync, R, H: Hooks + Sync>(
     office: &Office<'_, R, H, L, Q>,
-    ends: Ends,
+    ends: FarEnds,
     listener: &TcpListener,
     stop: &Stop,
-)
+) -> bool
 where
     R: Net<Listener = TcpListener, Stream = TcpStream> + Threads + Wait + Clock + Sync,
 {
@@ -131,30 +132,35 @@ where
     let alloc = office.alloc;
     let over = Stop::new();
     let over = &over;
-    let Ends { me, far, own } = ends;
+    let FarEnds { me, far, own } = ends;
     thread::scope(
         thread::scope_env(),
         rt,
-        |scope| -> ()
+        |scope| -> bool
             requires { IsSend L.row × IsSend Q.row }
         {
             let mut writers = Vec::new(alloc);
+            let mut is_whole = true;
             for end in far {
                 let writer = scope.spawn(move || write_peer(rt, alloc, me, end, over));
+                is_whole &= writer.is_ok();
                 if let Ok(writer) = writer {
                     let _ = writers.push(writer);
                 }
             }
-            let _ = scope.spawn(move || serve_own(office, own));
-            accept_all(scope, office, listener, stop);
+            is_whole &= scope.spawn(move || serve_own(office, own)).is_ok();
+            if is_whole {
+                accept_all(scope, office, listener, stop);
+            }
             over.set();
             for writer in writers {
                 writer.join(rt);
             }
             office.shared.own.end(rt);
             office.shared.doors.close(rt);
+            is_whole
         },
-    );
+    )
 }
 
 fn accept_all<'s, 'e: 's, L: Life + Send + Sync, Q: Lane + Send + Sync, R, H: Hooks + Sync>(

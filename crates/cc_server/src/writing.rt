@@ -5,7 +5,7 @@ use crate::stop::Stop;
 use cc_protocol::{Bundle, Parcel};
 use cc_views::{NoMemory, NodeId};
 use crossbeam_channel::Receiver;
-use std::alloc::Global;
+use std::alloc::{AllocError, Global};
 use std::io::Write;
 use std::net::{Net, TcpStream};
 use std::sync::Wait;
@@ -22,8 +22,12 @@ const PAUSE_MS: u64 = 100;
 // How long a peer may take nothing, in milliseconds.
 const PATIENCE_MS: u64 = 1000;
 
-/// Writes what comes out of the channel, until its senders are gone or a write fails. It takes what it has written off the
-/// count of bytes that wait.
+// For how many pauses there may be nothing for a peer: half an hour. Then its connection is made anew, long before the peer
+// takes this machine for one that vanished.
+const MOST_PAUSES: u64 = 18_000;
+
+/// Writes what comes out of the channel, until its senders are gone, a write fails or there is no memory. It takes what it
+/// has written off the count of bytes that wait.
 pub fn write_frames<R: Wait, W: Write + Drop>(
     rt: &R,
     from: &Receiver<Vec<u8>>,
@@ -34,18 +38,20 @@ pub fn write_frames<R: Wait, W: Write + Drop>(
         let Ok(mut batch) = from.recv(rt) else {
             return;
         };
-        let count = batch.len().saturating_add(gather(rt, from, &mut batch));
-        if to.write_all(batch.as_slice()).is_err() {
+        if gather(rt, from, &mut batch).is_err() || to.write_all(batch.as_slice()).is_err() {
             return;
         }
-        waiting.fetch_sub(count as u64, Ordering::SeqCst);
+        waiting.fetch_sub(batch.len() as u64, Ordering::SeqCst);
     }
     unreachable!()
 }
 
-// Adds what waits in the channel already, as far as there is memory. How many bytes it took out of the channel.
-fn gather<R: Wait>(rt: &R, from: &Receiver<Vec<u8>>, batch: &mut Vec<u8>) -> usize {
-    let mut taken: usize = 0;
+// Adds what waits in the channel already.
+fn gather<R: Wait>(
+    rt: &R,
+    from: &Receiver<Vec<u8>>,
+    batch: &mut Vec<u8>,
+) -> Result<(), AllocError> {
     for _ in 0..PLENTY {
         if batch.len() >= PLENTY {
             break;
@@ -53,10 +59,9 @@ fn gather<R: Wait>(rt: &R, from: &Receiver<Vec<u8>>, batch: &mut Vec<u8>) -> usi
         let Ok(bytes) = from.try_recv(rt) else {
             break;
         };
-        taken = taken.saturating_add(bytes.len());
-        let _ = batch.extend_from_slice(bytes.as_slice());
+        batch.extend_from_slice(bytes.as_slice())?;
     }
-    taken
+    Ok(())
 }
 
 /// Writes to one peer, which it connects to again after a failure, until the flag is set.
@@ -67,38 +72,47 @@ pub fn write_peer<R: Wait + Clock + Net<Stream = TcpStream>>(
     end: FarEnd,
     over: &Stop,
 ) {
-    let FarEnd { address, from } = end;
+    let FarEnd {
+        address,
+        from,
+        is_stale,
+    } = end;
     for _ in rt.forever() {
         if over.is_set() {
             return;
         }
-        match TcpStream::connect_timeout(rt, &address, Duration::from_secs(1)) {
-            Ok(stream) => write_while(rt, alloc, me, &from, &stream, over),
-            Err(_) => thread::sleep(rt, Duration::from_millis(PAUSE_MS)),
+        if let Ok(stream) = TcpStream::connect_timeout(rt, &address, Duration::from_secs(1)) {
+            let _ = is_stale.take();
+            write_while(rt, alloc, me, &from, &stream, &is_stale, over);
         }
+        thread::sleep(rt, Duration::from_millis(PAUSE_MS));
     }
     unreachable!()
 }
 
-// Writes until a write fails or the flag is set.
+// Writes until a write fails, there was nothing to write for too long, or a flag is set.
 fn write_while<R: Wait + Clock>(
     rt: &R,
     alloc: Global,
     me: NodeId,
     from: &Receiver<Parcel>,
     stream: &TcpStream,
+    is_stale: &Stop,
     over: &Stop,
 ) {
     let _ = stream.set_nodelay(true);
     let _ = stream.set_write_timeout(Some(Duration::from_millis(PATIENCE_MS)));
     let mut to: &TcpStream = stream;
+    let mut pauses: u64 = 0;
     for _ in rt.forever() {
-        if over.is_set() {
+        if over.is_set() || is_stale.take() || pauses >= MOST_PAUSES {
             return;
         }
         let Ok(first) = from.recv_timeout(rt, Duration::from_millis(PAUSE_MS)) else {
+            pauses = pauses.saturating_add(1);
             continue;
         };
+        pauses = 0;
         let Ok(bytes) = bundled(rt, alloc, me, from, first) else {
             continue;
         };

@@ -79,7 +79,6 @@ where
 fn a_node_that_cannot_begin_says_why(rt: HostRuntime) -> Result<(), Fail> {
     let taken = TcpListener::bind(&rt, "127.0.0.1:0")?;
     let listen = taken.local_addr()?;
-    let id = NodeId::new(1).ok_or("an id")?;
     let nobody = || Vec::new(rt.alloc());
     check_fault(&rt, "no-folder", listen, nobody(), NO_FOLDER)?;
     let _ = fs::remove_dir_all(&rt, "empty-folder");
@@ -87,12 +86,19 @@ fn a_node_that_cannot_begin_says_why(rt: HostRuntime) -> Result<(), Fail> {
     let not_formatted = RunFault::Open(OpenFault::NotFormatted);
     check_fault(&rt, "empty-folder", listen, nobody(), not_formatted)?;
     format_member(&rt, "own-folder", "1")?;
-    let own = vec![in rt.alloc();
-        Peer {
-            id,
-            address: listen
-        },
-    ]?;
-    check_fault(&rt, "own-folder", listen, own, RunFault::OwnPeer)?;
     check_fault(&rt, "own-folder", listen, nobody(), RunFault::Listen)
+}
+
+// The node's own id, and its own address under the id of another.
+#[test]
+fn a_node_is_no_peer_of_itself(rt: HostRuntime) -> Result<(), Fail> {
+    let listen = TcpListener::bind(&rt, "127.0.0.1:0")?.local_addr()?;
+    let elsewhere = TcpListener::bind(&rt, "127.0.0.1:0")?.local_addr()?;
+    format_member(&rt, "folder-of-a-peer", "1")?;
+    for (number, address) in [(1, elsewhere), (2, listen)] {
+        let id = NodeId::new(number).ok_or("an id")?;
+        let peers = vec![in rt.alloc(); Peer { id, address }]?;
+        check_fault(&rt, "folder-of-a-peer", listen, peers, RunFault::OwnPeer)?;
+    }
+    Ok(())
 }

@@ -2,4 +2,4 @@ use Rattle.cc_server.proofs.run.run_as.Given as goal
 
 -- the queue that was just made
 abbrev pub ghosts-run_at : goal.ghosts-run_at
-ghosts-run_at g a = record { table = a.queue_ends }
+ghosts-run_at g a = record { table = a.ends }
