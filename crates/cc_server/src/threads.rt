@@ -142,13 +142,16 @@ where
             let mut writers = Vec::new(alloc);
             let mut is_whole = true;
             for end in far {
-                let writer = scope.spawn(move || write_peer(rt, alloc, me, end, over));
-                is_whole &= writer.is_ok();
-                if let Ok(writer) = writer {
-                    let _ = writers.push(writer);
+                match scope.spawn(move || write_peer(rt, alloc, me, end, over)) {
+                    Ok(writer) => {
+                        let _ = writers.push(writer);
+                    }
+                    Err(_) => is_whole = false,
                 }
             }
-            is_whole &= scope.spawn(move || serve_own(office, own)).is_ok();
+            if let Err(_) = scope.spawn(move || serve_own(office, own)) {
+                is_whole = false;
+            }
             if is_whole {
                 accept_all(scope, office, listener, stop);
             }
