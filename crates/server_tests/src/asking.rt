@@ -1,14 +1,16 @@
 //! Clients of a node that runs: what they print, and the status that they end with.
 
-use crate::nodes::{check, with_two_nodes};
+use crate::nodes::{Places, check, check_end, end, run, set_up};
 use cc_client::{ask_node, leave_node, retire_node};
 use cc_commands::{AskOrder, LeaveOrder, RetireOrder};
 use cc_intake::NoHooks;
+use cc_server::Stop;
 use cc_views::NodeId;
 use cc_words::command;
 use std::alloc::Global;
 use std::net::{Net, SocketAddr, TcpListener, TcpStream};
 use std::test::*;
+use std::thread;
 use std::time::Clock;
 
 // What is asked of node 1 in turn, and what its client prints.
@@ -103,8 +105,32 @@ fn talk<R: Net<Stream = TcpStream> + Clock>(
 
 #[test]
 fn clients_print_what_a_node_answers(rt: HostRuntime) -> Result<(), Fail> {
-    let folders = ["asked-1", "asked-2"];
-    with_two_nodes(&rt, folders, &NoHooks, |one| talk(&rt, rt.alloc(), one))
+    let Places {
+        first,
+        second,
+        one,
+        two,
+    } = set_up(&rt, "asked-1", "asked-2")?;
+    let stop = Stop::new();
+    let alloc = rt.alloc();
+    let ((ended_1, ended_2), talked) = thread::join(
+        &rt,
+        || {
+            thread::join(
+                &rt,
+                || run(&rt, alloc, "asked-1", first, (2, two), &stop, &NoHooks),
+                || run(&rt, alloc, "asked-2", second, (1, one), &stop, &NoHooks),
+            )
+        },
+        || {
+            let talked = talk(&rt, alloc, one);
+            end(&rt, &stop, one, two);
+            talked
+        },
+    );
+    talked?;
+    check_end(ended_1)?;
+    check_end(ended_2)
 }
 
 fn check_no_answer<R: Net<Stream = TcpStream> + Clock>(

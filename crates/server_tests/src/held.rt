@@ -2,11 +2,14 @@
 
 use crate::clients::{FIRST_ASK, FIRST_REPLY, OTHER_ASK, OTHER_REPLY, connected, reads};
 use crate::holding::Hold;
-use crate::nodes::{check, with_two_nodes};
+use crate::nodes::{Places, check, check_end, end, run, set_up};
+use cc_intake::NoHooks;
+use cc_server::Stop;
 use std::alloc::Global;
 use std::io::Write;
 use std::net::{Net, SocketAddr, TcpStream};
 use std::test::*;
+use std::thread;
 
 // Two sessions ask, and read then.
 fn ask_both<R: Net<Stream = TcpStream>>(
@@ -24,11 +27,35 @@ fn ask_both<R: Net<Stream = TcpStream>>(
 
 #[test]
 fn accepts_are_answered_while_a_sync_is_held(rt: HostRuntime) -> Result<(), Fail> {
+    let Places {
+        first,
+        second,
+        one,
+        two,
+    } = set_up(&rt, "held-1", "held-2")?;
+    let stop = Stop::new();
     let hold = Hold::new();
-    let folders = ["held-1", "held-2"];
-    with_two_nodes(&rt, folders, &hold, |one| ask_both(&rt, rt.alloc(), one))?;
+    let alloc = rt.alloc();
+    let ((ended_1, ended_2), talked) = thread::join(
+        &rt,
+        || {
+            thread::join(
+                &rt,
+                || run(&rt, alloc, "held-1", first, (2, two), &stop, &hold),
+                || run(&rt, alloc, "held-2", second, (1, one), &stop, &NoHooks),
+            )
+        },
+        || {
+            let talked = ask_both(&rt, alloc, one);
+            end(&rt, &stop, one, two);
+            talked
+        },
+    );
+    talked?;
     check(
         hold.has_held(),
         "two accepts are answered while a sync is held",
-    )
+    )?;
+    check_end(ended_1)?;
+    check_end(ended_2)
 }

@@ -1,83 +1,35 @@
 //! Nodes on loopback.
 
 use cc_commands::{FormatOrder, FormatWords, format_folder};
-use cc_intake::{Finished, Hooks, NoHooks};
+use cc_intake::{Finished, Hooks};
 use cc_server::{Config, RunFault, Stop, run_on};
 use cc_views::NodeId;
 use cc_words::Peer;
 use std::alloc::Global;
+use std::fs;
 use std::fs::{File, Files};
 use std::net::{Net, SocketAddr, TcpListener, TcpStream};
 use std::sync::Wait;
 use std::test::Fail;
 use std::thread::Threads;
 use std::time::Clock;
-use std::{fs, thread};
 
 /// Fails the test where something isn't so.
 pub(crate) fn check(holds: bool, what: &'static str) -> Result<(), Fail> {
     if holds { Ok(()) } else { Err(what)? }
 }
 
-/// Runs the nodes 1 and 2 in new folders, the first one with these hooks, while a client talks to it. Each has to end well
-/// after that.
-pub(crate) fn with_two_nodes<R, H: Hooks + Sync, T>(
-    rt: &R,
-    folders: [&str; 2],
-    hooks: &H,
-    talk: T,
-) -> Result<(), Fail>
-where
-    R: AllocGlobal
-        + Files<File = File>
-        + Net<Listener = TcpListener, Stream = TcpStream>
-        + Threads
-        + Wait
-        + Clock
-        + Eprint
-        + Sync,
-    T: FnOnce(SocketAddr) -> Result<(), Fail> + Send,
-{
-    let [folder, other] = folders;
-    let Places {
-        first,
-        second,
-        one,
-        two,
-    } = set_up(rt, folder, other)?;
-    let stop = Stop::new();
-    let alloc = rt.alloc();
-    let ((ended_1, ended_2), talked) = thread::join(
-        rt,
-        || {
-            thread::join(
-                rt,
-                || run(rt, alloc, folder, first, (2, two), &stop, hooks),
-                || run(rt, alloc, other, second, (1, one), &stop, &NoHooks),
-            )
-        },
-        || {
-            let talked = talk(one);
-            end(rt, &stop, one, two);
-            talked
-        },
-    );
-    talked?;
-    check_end(ended_1)?;
-    check_end(ended_2)
-}
-
-// Where the nodes 1 and 2 listen.
+/// Where the nodes 1 and 2 listen.
 #[derive(Drop)]
-struct Places {
-    first: TcpListener,
-    second: TcpListener,
-    one: SocketAddr,
-    two: SocketAddr,
+pub(crate) struct Places {
+    pub first: TcpListener,
+    pub second: TcpListener,
+    pub one: SocketAddr,
+    pub two: SocketAddr,
 }
 
-// Two members in new folders, with listeners at ports that are free.
-fn set_up<R>(rt: &R, folder: &str, other: &str) -> Result<Places, Fail>
+/// Two members in new folders, with listeners at ports that are free.
+pub(crate) fn set_up<R>(rt: &R, folder: &str, other: &str) -> Result<Places, Fail>
 where
     R: AllocGlobal + Files<File = File> + Net<Listener = TcpListener, Stream = TcpStream>,
 {

@@ -1,13 +1,15 @@
 //! What the operator is told is durable.
 
 use crate::clients::{THIRD_ASK, connected, exchange, reads};
-use crate::nodes::{check, with_two_nodes};
-use cc_intake::Hooks;
+use crate::nodes::{Places, check, check_end, end, run, set_up};
+use cc_intake::{Hooks, NoHooks};
+use cc_server::Stop;
 use std::alloc::Global;
 use std::io::Write;
 use std::net::{Net, SocketAddr, TcpStream};
 use std::sync::atomic::{AtomicU64, Ordering};
 use std::test::*;
+use std::thread;
 
 // Node 2 is to be retired, twice over one connection.
 const RETIRE_TWICE: [u8; 18] = [0, 0, 0, 5, 7, 0, 0, 0, 2, 0, 0, 0, 5, 7, 0, 0, 0, 2];
@@ -65,14 +67,33 @@ fn retire<R: Net<Stream = TcpStream>>(
 
 #[test]
 fn a_retire_is_durable_before_it_is_told(rt: HostRuntime) -> Result<(), Fail> {
+    let Places {
+        first,
+        second,
+        one,
+        two,
+    } = set_up(&rt, "retiring-1", "retiring-2")?;
+    let stop = Stop::new();
     let syncs = Syncs {
         count: AtomicU64::new(0),
     };
-    let folders = ["retiring-1", "retiring-2"];
-    with_two_nodes(
+    let alloc = rt.alloc();
+    let ((ended_1, ended_2), talked) = thread::join(
         &rt,
-        folders,
-        &syncs,
-        |one| retire(&rt, rt.alloc(), one, &syncs),
-    )
+        || {
+            thread::join(
+                &rt,
+                || run(&rt, alloc, "retiring-1", first, (2, two), &stop, &syncs),
+                || run(&rt, alloc, "retiring-2", second, (1, one), &stop, &NoHooks),
+            )
+        },
+        || {
+            let talked = retire(&rt, alloc, one, &syncs);
+            end(&rt, &stop, one, two);
+            talked
+        },
+    );
+    talked?;
+    check_end(ended_1)?;
+    check_end(ended_2)
 }
