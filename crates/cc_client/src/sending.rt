@@ -1,8 +1,8 @@
 //! Frames on their way to a node, and the time that an answer has.
 
 use crate::deadline::Deadline;
+use cc_frames::{Frame, encode_frame};
 use cc_protocol::Incoming;
-use cc_wire::{Frame, encode_frame};
 use std::alloc::Global;
 use std::io::Write;
 use std::net::{Net, SocketAddr, TcpStream};

@@ -5,8 +5,8 @@
 use Rattle.std.proofs.Common.{◌≡◌, ◌⊎◌, inl, inr, refl, sym, subst, ℕ, Bool, true, false, List, [], ◌∷◌, Option, Some, None, if◌then◌else◌}
 use Rattle.std.specs.List.{AllByRecursion}
 use Rattle.cc_wire.specs.declared.command.Command.{Command}
-use Rattle.cc_wire.specs.declared.frame.Frame.{Frame}
-use Rattle.cc_wire.specs.declared.frame.Frame.TheVariants as frame
+use Rattle.cc_frames.specs.declared.frame.Frame.{Frame}
+use Rattle.cc_frames.specs.declared.frame.Frame.TheVariants as frame
 use Rattle.cc_wire.specs.declared.refusal.Refusal.{Refusal}
 use Rattle.cc_wire.specs.declared.refusal.Refusal.TheVariants as refusal
 use Rattle.cc_wire.specs.Refusals.{number_of, value_of}

@@ -1,5 +1,6 @@
 -- One feed of bytes that are known.
 --     fed_begins, fed_step          what the reader holds then, and what it gives, whatever follows
+--     fed_grows, held_fits          how much it holds
 --     start_begins, ahead_start     before the first one
 --     unused_step                   what is left of a piece
 use Rattle.std.proofs.Common.{◌≡◌, ℕ, ◌+◌, ◌-◌, ◌≤◌, ◌<◌, true, cond, List, [], ◌∷◌, ◌++◌, length, take, drop, Option, Some, None, Result, Ok, Err, refl, sym, ap, subst, ◌∙◌, append_assoc, arith}
@@ -10,16 +11,16 @@ use Rattle.std.proofs.Math.Seq.{drop-drop}
 use Rattle.std.proofs.lemmas.List.Concat.{flat_map-cons}
 use Rattle.cc_wire.specs.declared.fault.WireFault.{WireFault}
 use Rattle.cc_wire.specs.declared.fault.WireFault.TheVariants.{Short, BadKind, NotAscending, TooLarge, Trailing, NoMemory, Broken}
-use Rattle.cc_wire.specs.declared.frame.Frame.{Frame}
-use Rattle.cc_wire.specs.declared.frame_reader.Fed.{Fed}
+use Rattle.cc_frames.specs.declared.frame.Frame.{Frame}
+use Rattle.cc_frames.specs.declared.frame_reader.Fed.{Fed}
 use Rattle.cc_wire.specs.Reading.{Gives}
-use Rattle.cc_wire.specs.Frames.{frame_spelling, frame_at}
-use Rattle.cc_wire.specs.Held.{is_partial}
-use Rattle.cc_wire.specs.Streams.{fed, rest_after, held_after, at_start, frames_of, Feed, AreFeeds, Reads, Refuses}
-use Rattle.cc_wire.proofs.Feeds.{given_of, nothing_partial}
-use Rattle.cc_wire.proofs.StreamLaws.{feeds_read, feeds_refuse}
-use Rattle.cc_protocol.specs.declared.incoming.Ending.TheVariants as ending
-use Rattle.cc_protocol.specs.Incoming.{ahead, unused, Begins, Next, Passes, IsBad, Ends}
+use Rattle.cc_frames.specs.Frames.{frame_spelling, frame_at}
+use Rattle.cc_frames.specs.Held.{is_partial}
+use Rattle.cc_frames.specs.Streams.{fed, rest_after, held_after, at_start, frames_of, Feed, AreFeeds, Reads, Refuses}
+use Rattle.cc_frames.proofs.Fronts.{partial_fits}
+use Rattle.cc_frames.proofs.Feeds.{given_of, nothing_partial}
+use Rattle.cc_frames.proofs.StreamLaws.{feeds_read, feeds_refuse}
+use Rattle.cc_protocol.specs.Incoming.{ahead, unused, Begins, held_length, Grows, Next, Passes, IsBad, IsRefused}
 
 together : (a b : List ℕ) → AllByRecursion (λ x. x < 256) a → AllByRecursion (λ x. x < 256) b → AllByRecursion (λ x. x < 256) (a ++ b)
 together [] b p q = q
@@ -101,7 +102,7 @@ fed_begins (Some held) piece (Err Trailing) begins fits gives = tt
 fed_begins (Some held) piece (Err Broken) begins fits gives = tt
 
 pub fed_step : (held : Option (List ℕ)) (piece : List ℕ) (r : Result Fed WireFault) (rest : Option (List ℕ)) → Begins held → AllByRecursion (λ b. b < 256) piece → Gives (λ x. x) r (fed held piece)
-    → IfSome (ahead held piece rest) (λ bytes. MatchResult r (λ given. Passes bytes given.frame (ahead (held_after held piece r) (drop given.used piece) rest)) (λ fault. Ends bytes (ending.Bytes fault)))
+    → IfSome (ahead held piece rest) (λ bytes. MatchResult r (λ given. Passes bytes given.frame (ahead (held_after held piece r) (drop given.used piece) rest)) (λ fault. IsRefused bytes fault))
 fed_step None piece r rest begins fits gives = tt
 fed_step (Some held) piece r None begins fits gives = tt
 fed_step (Some held) piece (Ok given) (Some rest) begins fits gives = passes held piece begins.0 begins.1 fits given rest gives
@@ -112,6 +113,18 @@ fed_step (Some held) piece (Err NotAscending) (Some rest) begins fits gives = ba
 fed_step (Some held) piece (Err TooLarge) (Some rest) begins fits gives = bad held piece begins.0 begins.1 fits TooLarge rest gives
 fed_step (Some held) piece (Err Trailing) (Some rest) begins fits gives = bad held piece begins.0 begins.1 fits Trailing rest gives
 fed_step (Some held) piece (Err Broken) (Some rest) begins fits gives = bad held piece begins.0 begins.1 fits Broken rest gives
+
+pub fed_grows : (held : Option (List ℕ)) (piece : List ℕ) (given : Fed) → fed held piece ≡ Ok given → Grows held (length piece) given.frame (held_after held piece (Ok given))
+fed_grows None piece given gives = absurd cc
+fed_grows (Some held) piece given gives = by_frame given.frame
+  where
+    by_frame : (frame : Option Frame) → Grows (Some held) (length piece) frame (Some (rest_after held piece frame))
+    by_frame None = length-append held piece
+    by_frame (Some frame) = tt
+
+pub held_fits : (held : Option (List ℕ)) → Begins held → held_length held < 65540
+held_fits None begins = omega arith
+held_fits (Some held) begins = partial_fits held begins.0
 
 -- at the start
 pub start_begins : Begins (Some [])

@@ -7,8 +7,8 @@ use Rattle.std.specs.Prelude.{ℕ, Option, Some, None}
 use Rattle.cc_wire.specs.Refusals.{number_of, value_of}
 use Rattle.cc_wire.specs.declared.event.Event.{Event}
 use Rattle.cc_wire.specs.declared.event.Event.TheVariants as event
-use Rattle.cc_wire.specs.declared.frame.Frame.{Frame}
-use Rattle.cc_wire.specs.declared.frame.Frame.TheVariants as frame
+use Rattle.cc_frames.specs.declared.frame.Frame.{Frame}
+use Rattle.cc_frames.specs.declared.frame.Frame.TheVariants as frame
 use Rattle.cc_wire.specs.declared.output.Output.{Output}
 use Rattle.cc_wire.specs.declared.output.Output.TheVariants as output
 use Rattle.cc_wire.specs.declared.refusal.Refusal.{Refusal}

@@ -1,14 +1,16 @@
 -- The frames that come out of a reader.
 --     ahead              the bytes of all frames that are still to come, where they are known
+--     unused, IsUnused   the bytes of a piece that weren't used yet
 --     Next, Passes       what is known of the next frame, and of what one feed gives
---     Ends               why no further frame comes
-use Rattle.std.specs.Prelude.{◌≡◌, ◌<◌, ℕ, List, ◌++◌, slice_range, false, Option, None, Some, Err, IsTrue, IfSome, ⊤}
+--     Grows              how much is held after a feed that gave no frame
+--     IsRefused, Ends    why bytes are refused, and why no further frame comes
+use Rattle.std.specs.Prelude.{◌≡◌, ◌<◌, ◌≤◌, ◌+◌, ℕ, List, ◌++◌, length, slice_range, false, Option, None, Some, Err, IsTrue, IfSome, ⊤}
 use Rattle.std.specs.List.{AllByRecursion}
 use Rattle.cc_wire.specs.declared.fault.WireFault.{WireFault}
 use Rattle.cc_wire.specs.declared.fault.WireFault.TheVariants.{NoMemory}
-use Rattle.cc_wire.specs.declared.frame.Frame.{Frame}
-use Rattle.cc_wire.specs.Frames.{frame_spelling, IsFrame, frame_at}
-use Rattle.cc_wire.specs.Held.{is_partial}
+use Rattle.cc_frames.specs.declared.frame.Frame.{Frame}
+use Rattle.cc_frames.specs.Frames.{frame_spelling, IsFrame, frame_at}
+use Rattle.cc_frames.specs.Held.{is_partial}
 use Rattle.cc_protocol.specs.declared.incoming.Ending.{Ending}
 use Rattle.cc_protocol.specs.declared.incoming.Ending.TheVariants as ending
 
@@ -21,6 +23,11 @@ ahead None read rest = None
 -- so many bytes of a piece were read, and so many of these were used
 abbrev pub unused : List ℕ → ℕ → ℕ → List ℕ
 unused piece start end = slice_range piece start end
+
+pub record IsUnused (piece : List ℕ) (start end : ℕ) : Type 0 where
+  pub ordered : start ≤ end
+  pub within : end ≤ length piece
+  pub some : 0 < length piece
 
 -- what is held is a beginning of a frame
 abbrev pub Begins : Option (List ℕ) → Type 0
@@ -35,14 +42,26 @@ abbrev pub Passes : List ℕ → Option Frame → Option (List ℕ) → Type 0
 Passes bytes None after = after ≡ Some bytes
 Passes bytes (Some frame) after = Next bytes frame after
 
+abbrev pub held_length : Option (List ℕ) → ℕ
+held_length (Some held) = length held
+held_length None = 0
+
+-- where no frame came, as much more is held
+abbrev pub Grows : Option (List ℕ) → ℕ → Option Frame → Option (List ℕ) → Type 0
+Grows old more None new = held_length new ≡ held_length old + more
+Grows old more (Some frame) new = ⊤
+
 -- at their front stands a bad length, or a whole body that is bad
 abbrev pub IsBad : List ℕ → WireFault → Type 0
 IsBad bytes fault = (bad : List ℕ) × (more : List ℕ) × (bytes ≡ bad ++ more) × (is_partial bad ≡ false) × (frame_at bad ≡ Err fault)
 
--- why no frame comes next: at the end of input no whole frame is left; of memory and of failures nothing is known
-abbrev pub Ends : List ℕ → Ending → Type 0
-Ends bytes ending.Input = IsTrue (is_partial bytes)
-Ends bytes ending.Failure = ⊤
-Ends bytes (ending.Bytes NoMemory) = ⊤
-Ends bytes (ending.Bytes fault) = IsBad bytes fault
-Ends bytes ending.Feeds = ⊤
+-- why bytes are refused: want of memory, of which nothing is known, or what stands at their front
+abbrev pub IsRefused : List ℕ → WireFault → Type 0
+IsRefused bytes NoMemory = ⊤
+IsRefused bytes fault = IsBad bytes fault
+
+-- why no frame comes next: at the end of input no whole frame is left, and a read failed only where one can
+abbrev pub Ends : Type 0 → List ℕ → Ending → Type 0
+Ends fails bytes ending.Input = IsTrue (is_partial bytes)
+Ends fails bytes ending.Failure = fails
+Ends fails bytes (ending.Bytes fault) = IsRefused bytes fault

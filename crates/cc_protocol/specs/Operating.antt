@@ -2,8 +2,8 @@
 --     outcome_told     as the refusal says that came back: none but Left is of the first of the two
 --     outcome_in       as a frame says, if it is about that request
 use Rattle.std.specs.Prelude.{◌==◌, ◌&&◌, Option, Some, None, if◌then◌else◌}
-use Rattle.cc_wire.specs.declared.frame.Frame.{Frame}
-use Rattle.cc_wire.specs.declared.frame.Frame.TheVariants as frame
+use Rattle.cc_frames.specs.declared.frame.Frame.{Frame}
+use Rattle.cc_frames.specs.declared.frame.Frame.TheVariants as frame
 use Rattle.cc_wire.specs.declared.refusal.Refusal.{Refusal}
 use Rattle.cc_wire.specs.declared.refusal.Refusal.TheVariants as refusal
 use Rattle.cc_protocol.specs.Asking.{refusal_told}

@@ -11,7 +11,8 @@ ghost use Rattle.cc_node.specs.Refusals as reason;
 ghost use Rattle.cc_node.specs.Refusals.{decides};
 ghost use Rattle.cc_protocol.specs.Asking.{ask_of, is_about, knows_number, refusal_told, refused_step, refused_client, told_step, told_client, came_step, came_client, step_of, client_after, steps, AsksUnder};
 
-use cc_wire::{Answer, Command, Frame, Refusal};
+use cc_frames::Frame;
+use cc_wire::{Answer, Command, Refusal};
 
 /// One command of a client in its session. A session has one client at a time.
 #[derive(Clone, Copy, Debug, PartialEq, Eq)]

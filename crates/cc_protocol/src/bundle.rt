@@ -1,13 +1,13 @@
 //! What one write takes to a peer.
 
 ghost use Rattle.std.specs.Prelude.{◌≡◌, ◌++◌, length, IfOk, OnOk};
-ghost use Rattle.cc_wire.specs.declared.frame.Frame.TheVariants as frame;
-ghost use Rattle.cc_wire.specs.Frames.{frame_spelling};
+ghost use Rattle.cc_frames.specs.declared.frame.Frame.TheVariants as frame;
+ghost use Rattle.cc_frames.specs.Frames.{frame_spelling};
 ghost use Rattle.cc_protocol.specs.Bundles.{no_parcel, with_parcel, bundle_bytes};
 
 use crate::frames::ack_frame;
+use cc_frames::encode_frame;
 use cc_views::{NoMemory, NodeId};
-use cc_wire::encode_frame;
 use std::alloc::Global;
 use std::marker::Model;
 

@@ -4,8 +4,9 @@ ghost use Rattle.std.specs.Prelude.{◌≡◌, ℕ, IfOk};
 ghost use Rattle.cc_wire.specs.declared.output.Output.TheVariants as output;
 ghost use Rattle.cc_protocol.specs.Frames.{event_in, output_frame, refusing, refusal_frame};
 
+use cc_frames::Frame;
 use cc_views::{NoMemory, NodeId};
-use cc_wire::{Answer, Event, Frame, Message, Refusal};
+use cc_wire::{Answer, Event, Message, Refusal};
 use std::alloc::Global;
 
 /// The event that a frame brings. None for a frame that a node only sends: then the connection is to be closed.

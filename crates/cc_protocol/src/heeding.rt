@@ -4,8 +4,9 @@ ghost use Rattle.std.specs.Prelude.{◌≡◌};
 ghost use Rattle.cc_protocol.specs.Heeding.{heed_undelivered, heed_unasked, heed_refused, heed_of};
 
 use crate::frames::refusing;
+use cc_frames::Frame;
 use cc_views::NodeId;
-use cc_wire::{Event, Frame, Refusal};
+use cc_wire::{Event, Refusal};
 
 /// What an answer asks of the worker that brought the event.
 #[derive(Debug, Drop)]

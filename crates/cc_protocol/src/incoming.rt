@@ -1,42 +1,90 @@
 //! The frames that come out of a reader.
 
-ghost use Rattle.std.specs.Prelude.{◌≡◌, ◌≤◌, ◌<◌, List, ℕ, Option, Some, length, drop, take, IfOk, IfSome, IfErr, MatchResult};
+ghost use Rattle.std.specs.Prelude.{◌≡◌, ◌≤◌, ◌<◌, ◌-◌, List, ℕ, Option, Some, length, drop, take, IfOk, IfSome, OnErr, MatchResult};
+ghost use Rattle.std.specs.Io.{ReadsAtMost};
 ghost use Rattle.std.specs.Io.KnownBytes.{ReadConsumes};
-ghost use Rattle.cc_protocol.specs.declared.incoming.Ending.TheVariants as ending;
-ghost use Rattle.cc_protocol.specs.Incoming.{ahead, unused, Begins, Passes, Ends, Next};
+ghost use Rattle.cc_protocol.specs.Incoming.{ahead, unused, IsUnused, Begins, Grows, Passes, IsRefused, Ends, Next};
 
+use cc_frames::{Fed, Frame, FrameReader};
 use cc_views::NoMemory;
-use cc_wire::{Fed, Frame, FrameReader, WireFault};
+use cc_wire::WireFault;
 use std::alloc::Global;
 use std::io::Read;
 use std::marker::Model;
+use std::net::TcpStream;
 
 // How many bytes are read at once.
 const PIECE: usize = 4096;
 
+// How many feeds a frame takes at most: each but the last adds a byte to it.
+const MOST_FEEDS: usize = 65_540;
+
+/// What frames are read out of.
+pub trait Input {
+    ghost use Rattle.std.specs.Prelude.{ℕ, List, Option};
+
+    /// The bytes that it will give from here on, where they are known.
+    ghost remaining: { Self → Option (List ℕ) };
+
+    /// That a read of it can fail: so one of bytes in memory never does.
+    ghost may_fail: { Type 0 };
+
+    /// Reads into the buffer: how many bytes, and 0 at the end of input.
+    fn read_into(&mut self, buffer: &mut [u8]) -> std::io::Result<usize>
+        ensures bound { ReadsAtMost result buffer.new }
+        ensures bytes { ReadConsumes (remaining self.old) (remaining self.new) result buffer.new }
+        ensures failed { OnErr result may_fail };
+}
+
+impl Input for &[u8] {
+    ghost remaining = { λ s. Some s.now };
+
+    ghost may_fail = { ⊥ };
+
+    fn read_into(&mut self, buffer: &mut [u8]) -> std::io::Result<usize> {
+        self.read(buffer)
+    }
+}
+
+impl Input for &TcpStream {
+    ghost use Rattle.std.specs.Prelude.{None, ⊤};
+
+    ghost remaining = { λ _. None };
+
+    ghost may_fail = { ⊤ };
+
+    fn read_into(&mut self, buffer: &mut [u8]) -> std::io::Result<usize> {
+        self.read(buffer)
+    }
+}
+
 /// The frames that come out of a reader, one after the other. Contracts see the bytes that no frame was made of yet, from
 /// the end of the last frame on, where they are known: those of a reader in memory are.
 #[derive(Drop)]
-pub struct Incoming<I: Read> {
+pub struct Incoming<I: Input> {
     alloc: Global,
     reader: I,
     frames: FrameReader,
-    piece: Vec<u8>,
-    // Which bytes of the piece weren't used yet.
-    start: usize,
-    end: usize,
-    feeds: u64,
+    window: Window,
 }
 
-impl<I: Read> Model for Incoming<I> {
-    ghost use Rattle.std.specs.Prelude.{ℕ, ◌≤◌, ◌<◌, List, Option, length};
-    ghost use Rattle.cc_protocol.specs.Incoming.{ahead, unused, Begins};
+// A piece of input, and which of its bytes weren't used yet.
+#[derive(Drop)]
+struct Window {
+    piece: Vec<u8>,
+    start: usize,
+    end: usize,
+}
+
+impl<I: Input> Model for Incoming<I> {
+    ghost use Rattle.std.specs.Prelude.{ℕ, List, Option};
+    ghost use Rattle.cc_protocol.specs.Incoming.{ahead, unused, IsUnused, Begins};
 
     ghost Value = { Option (List ℕ) };
 
-    ghost view = { λ x. ahead x.frames (unused x.piece.items x.start x.end) (I.remaining x.reader) };
+    ghost view = { λ x. ahead x.frames (unused x.window.piece.items x.window.start x.window.end) (I.remaining x.reader) };
 
-    ghost invariant = { λ x. Begins x.frames × (x.start ≤ x.end) × (x.end ≤ length x.piece.items) × (0 < length x.piece.items) };
+    ghost invariant = { λ x. Begins x.frames × IsUnused x.window.piece.items x.window.start x.window.end };
 }
 
 /// Why no further frame comes.
@@ -48,14 +96,9 @@ pub enum Ending {
     Failure,
     /// Bytes came that spell no frame, or a growth was refused.
     Bytes(WireFault),
-    /// So many pieces of input were taken.
-    Feeds,
 }
 
-impl<I: Read> Incoming<I> {
-    /// How many pieces of input it takes at most, each of 4,096 bytes or what a read gives.
-    pub const MAX_FEEDS: u64 = 1 << 32;
-
+impl<I: Input> Incoming<I> {
     /// Nothing was read yet. NoMemory where a growth was refused.
     pub fn new(alloc: Global, reader: I) -> Result<Self, NoMemory>
     where
@@ -68,25 +111,25 @@ impl<I: Read> Incoming<I> {
             alloc,
             reader,
             frames,
-            piece,
-            start: 0,
-            end: 0,
-            feeds: 0,
+            window: Window {
+                piece,
+                start: 0,
+                end: 0,
+            },
         })
     }
 
     /// The next frame, whose bytes are the next ones, or why none comes: then no whole frame is left, or bytes stand there
-    /// that spell none, or a read failed, or after so many feeds.
+    /// that spell none, or a read failed.
     pub fn read_frame(&mut self) -> Result<Frame, Ending>
-        ensures { IfSome self.old (λ bytes. MatchResult result (λ frame. Next bytes frame self.new) (λ why. Ends bytes why)) }
+        ensures { IfSome self.old (λ bytes. MatchResult result (λ frame. Next bytes frame self.new) (λ why. Ends I.may_fail bytes why)) }
     {
-        for _ in 0..Self::MAX_FEEDS {
-            self.refill()?;
-            if let Some(frame) = self.feed()? {
-                return Ok(frame);
-            }
-        }
-        Err(Ending::Feeds)
+        read_whole(
+            self.alloc,
+            &mut self.reader,
+            &mut self.frames,
+            &mut self.window,
+        )
     }
 
     /// The next frame, as `read_frame`. None where none comes.
@@ -95,47 +138,56 @@ impl<I: Read> Incoming<I> {
     {
         self.read_frame().ok()
     }
+}
 
-    // Feeds what wasn't used of the piece.
-    fn feed(&mut self) -> Result<Option<Frame>, Ending>
-        ensures { IfSome self.old (λ bytes. MatchResult result (λ frame. Passes bytes frame self.new) (λ why. Ends bytes why)) }
-    {
-        if self.feeds >= Self::MAX_FEEDS {
-            return Err(Ending::Feeds);
+// The next frame, by as many feeds as it takes.
+fn read_whole<I: Input>(
+    alloc: Global,
+    reader: &mut I,
+    frames: &mut FrameReader,
+    window: &mut Window,
+) -> Result<Frame, Ending>
+    requires begins { Begins frames.old }
+    requires unused { IsUnused window.old.piece.items window.old.start window.old.end }
+    ensures begins { Begins frames.new }
+    ensures unused { IsUnused window.new.piece.items window.new.start window.new.end }
+    ensures gives { IfSome (ahead frames.old (unused window.old.piece.items window.old.start window.old.end) (I.remaining reader.old)) (λ bytes. MatchResult result
+        (λ frame. Next bytes frame (ahead frames.new (unused window.new.piece.items window.new.start window.new.end) (I.remaining reader.new)))
+        (λ why. Ends I.may_fail bytes why)) }
+{
+    for _ in 0..MOST_FEEDS {
+        refill(reader, window)?;
+        match feed_rest(frames, alloc, window) {
+            Ok(Some(frame)) => return Ok(frame),
+            Ok(None) => {}
+            Err(fault) => return Err(Ending::Bytes(fault)),
         }
-        self.feeds += 1;
-        let piece = self.piece.as_slice();
-        feed_rest(
-            &mut self.frames,
-            self.alloc,
-            piece,
-            &mut self.start,
-            self.end,
-        )
     }
+    unreachable!()
+}
 
-    // Reads a piece where all of the last one was used.
-    fn refill(&mut self) -> Result<(), Ending>
-        ensures { IfSome self.old (λ bytes. MatchResult result (λ _. self.new ≡ Some bytes) (λ why. Ends bytes why)) }
-    {
-        if self.start < self.end {
-            return Ok(());
-        }
-        match self.reader.read(self.piece.as_mut_slice()) {
-            Ok(count) => {
-                self.start = 0;
-                self.end = count;
-                if count == 0 {
-                    return Err(Ending::Input);
-                }
-                Ok(())
+// Reads a piece where all of the last one was used.
+fn refill<I: Input>(reader: &mut I, window: &mut Window) -> Result<(), Ending>
+    requires unused { IsUnused window.old.piece.items window.old.start window.old.end }
+    ensures unused { IsUnused window.new.piece.items window.new.start window.new.end }
+    ensures some { IfOk result (λ _. window.new.start < window.new.end) }
+    ensures gives { (held : Option (List ℕ)) → IfSome (ahead held (unused window.old.piece.items window.old.start window.old.end) (I.remaining reader.old)) (λ bytes. MatchResult result
+        (λ _. ahead held (unused window.new.piece.items window.new.start window.new.end) (I.remaining reader.new) ≡ Some bytes)
+        (λ why. Begins held → Ends I.may_fail bytes why)) }
+{
+    if window.start < window.end {
+        return Ok(());
+    }
+    match reader.read_into(window.piece.as_mut_slice()) {
+        Ok(count) => {
+            window.start = 0;
+            window.end = count;
+            if count == 0 {
+                return Err(Ending::Input);
             }
-            Err(_) => {
-                self.start = 0;
-                self.end = 0;
-                Err(Ending::Failure)
-            }
+            Ok(())
         }
+        Err(_) => Err(Ending::Failure),
     }
 }
 
@@ -144,34 +196,55 @@ fn feed(frames: &mut FrameReader, alloc: Global, piece: &[u8]) -> Result<Fed, Wi
     requires { Begins frames.old }
     ensures begins { Begins frames.new }
     ensures used { IfOk result (λ given. given.used ≤ length piece.now) }
+    ensures grows { IfOk result (λ given. Grows frames.old (length piece.now) given.frame frames.new) }
     ensures gives { (rest : Option (List ℕ)) → IfSome (ahead frames.old piece.now rest) (λ bytes. MatchResult result
         (λ given. Passes bytes given.frame (ahead frames.new (drop given.used piece.now) rest))
-        (λ fault. Ends bytes (ending.Bytes fault))) }
+        (λ fault. IsRefused bytes fault)) }
 {
     frames.feed(alloc, piece)
 }
 
-// Feeds the bytes of a piece that weren't used yet.
+// Feeds what wasn't used of a window.
 fn feed_rest(
+    frames: &mut FrameReader,
+    alloc: Global,
+    window: &mut Window,
+) -> Result<Option<Frame>, WireFault>
+    requires begins { Begins frames.old }
+    requires unused { IsUnused window.old.piece.items window.old.start window.old.end }
+    ensures begins { Begins frames.new }
+    ensures unused { IsUnused window.new.piece.items window.new.start window.new.end }
+    ensures grows { IfOk result (λ frame. Grows frames.old (window.old.end - window.old.start) frame frames.new) }
+    ensures gives { (rest : Option (List ℕ)) → IfSome (ahead frames.old (unused window.old.piece.items window.old.start window.old.end) rest) (λ bytes. MatchResult result
+        (λ frame. Passes bytes frame (ahead frames.new (unused window.new.piece.items window.new.start window.new.end) rest))
+        (λ fault. IsRefused bytes fault)) }
+{
+    let piece = window.piece.as_slice();
+    feed_from(frames, alloc, piece, &mut window.start, window.end)
+}
+
+// Feeds the bytes of a piece from `start` to `end`.
+fn feed_from(
     frames: &mut FrameReader,
     alloc: Global,
     piece: &[u8],
     start: &mut usize,
     end: usize,
-) -> Result<Option<Frame>, Ending>
+) -> Result<Option<Frame>, WireFault>
     requires begins { Begins frames.old }
     requires within { (start.old ≤ end) × (end ≤ length piece.now) }
     ensures begins { Begins frames.new }
     ensures start { start.new ≤ end }
+    ensures grows { IfOk result (λ frame. Grows frames.old (end - start.old) frame frames.new) }
     ensures gives { (rest : Option (List ℕ)) → IfSome (ahead frames.old (unused piece.now start.old end) rest) (λ bytes. MatchResult result
         (λ frame. Passes bytes frame (ahead frames.new (unused piece.now start.new end) rest))
-        (λ why. Ends bytes why)) }
+        (λ fault. IsRefused bytes fault)) }
 {
     match feed(frames, alloc, &piece[*start..end]) {
         Ok(given) => {
             *start += given.used;
             Ok(given.frame)
         }
-        Err(fault) => Err(Ending::Bytes(fault)),
+        Err(fault) => Err(fault),
     }
 }

@@ -20,7 +20,7 @@ pub use asking::{
 pub use bundle::{Bundle, Parcel};
 pub use frames::{ack_frame, event_of, post_frame, refused_frame, reply_frame};
 pub use heeding::{Duty, heed};
-pub use incoming::{Ending, Incoming};
+pub use incoming::{Ending, Incoming, Input};
 pub use operating::{Outcome, outcome_of, second_request_is_left};
 pub use route::Route;
 pub use routes::{Routes, answers_follow_asks};

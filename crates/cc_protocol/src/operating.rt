@@ -8,7 +8,8 @@ ghost use Rattle.cc_node.specs.Refusals.{decides};
 ghost use Rattle.cc_protocol.specs.Operating.{outcome_told, outcome_in};
 
 use crate::asking::refusal_of;
-use cc_wire::{Frame, Refusal};
+use cc_frames::Frame;
+use cc_wire::Refusal;
 
 /// What the operator's request came to.
 #[derive(Clone, Copy, Debug, PartialEq, Eq)]

@@ -1,10 +1,9 @@
 //! One connection: its worker and its writer.
 
 use crate::caller::serve;
-use crate::doors::Door;
 use crate::office::Office;
-use crate::writing::write_frames;
 use cc_intake::{Hooks, Lane, Life};
+use cc_lines::{Door, write_frames};
 use crossbeam_channel::{Receiver, bounded};
 use std::alloc::Global;
 use std::net::{Shutdown, SocketAddr, TcpStream};
@@ -103,7 +102,8 @@ fn serve_in<R: Wait, H: Hooks, L: Life, Q: Lane>(
 ) {
     let inside: &Door = &door;
     if let Some(mut share) = office.draw() {
-        let _ = serve(office, inside, ticket, inside.reader(), &mut share);
+        let seat = office.seat();
+        let _ = serve(office, &seat, inside, ticket, inside.reader(), &mut share);
         office.give_back(share);
     }
     office.shared.doors.leave(office.rt, ticket);

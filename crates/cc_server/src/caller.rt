@@ -1,29 +1,40 @@
 //! A worker of one connection.
 
-ghost use Rattle.std.specs.Prelude.{◌≡◌, ◌+◌, List, None, IfSome, MatchOption};
+ghost use Rattle.std.specs.Prelude.{◌≡◌, ◌+◌, List, Some, None, IfSome, MatchResult};
 ghost use Rattle.cc_intake.specs.Talks.{Answer, places_of, PlacesRise};
 ghost use Rattle.cc_server.specs.Serving.{brings_again, Takes, Stops, Brings};
 
-use crate::doors::Replies;
 use crate::duties::duty_of;
 use crate::office::Office;
 use crate::shared::Shared;
-use crate::spelling::bytes_of;
+use cc_frames::Frame;
 use cc_intake::{Accepted, Hooks, Lane, Life, Share, Source};
-use cc_protocol::{Duty, Ending, Incoming, event_of};
-use cc_views::NodeId;
-use cc_wire::{Event, Frame, Refusal};
+use cc_lines::{Replies, Seating, bytes_of};
+use cc_protocol::{Duty, Ending, Incoming, Input, event_of};
+use cc_wire::{Event, Refusal};
 use std::alloc::Global;
-use std::io::Read;
 use std::sync::Wait;
+
+/// Why a worker brings no further event.
+#[derive(Clone, Copy, Debug, PartialEq, Eq)]
+pub enum Done {
+    /// No further frame comes.
+    Frames(Ending),
+    /// A frame came that only a node sends.
+    Unasked,
+    /// The node takes no further event.
+    Closed,
+    /// A growth was refused.
+    NoMemory,
+}
 
 /// The events of one connection, and where their answers go.
 #[derive(Drop)]
-pub struct Caller<'a, R: Wait, I: Read, D: Replies> {
+pub struct Caller<'a, R: Wait, I: Input, S: Seating, D: Replies> {
     rt: &'a R,
     alloc: Global,
-    me: NodeId,
     shared: &'a Shared,
+    seating: &'a S,
     door: &'a D,
     ticket: u64,
     frames: Incoming<I>,
@@ -31,28 +42,42 @@ pub struct Caller<'a, R: Wait, I: Read, D: Replies> {
     given: Option<Event>,
     // The event that is to be given again.
     due: Option<Event>,
-    // Why the reader gave no further frame.
-    ended: Option<Ending>,
+    // Why no event came, once none did.
+    done: Done,
 }
 
-impl<R: Wait, I: Read, D: Replies> Caller<'_, R, I, D> {
-    // The event that is to be given next.
-    fn event(&mut self) -> Option<Event>
-        ensures next { MatchOption result
-            (Stops self.old.due self.old.frames self.new.ended)
-            (λ e. Takes self.old.due self.old.frames e self.new.frames × (self.new.ended ≡ None)) }
+impl<R: Wait, I: Input, S: Seating, D: Replies> Caller<'_, R, I, S, D> {
+    // The event that comes next, or why none does.
+    fn event(&mut self) -> Result<Event, Done>
+        ensures { MatchResult result
+            (λ e. Takes self.old.due self.old.frames e self.new.frames)
+            (λ done. Stops I.may_fail S.may_close self.old.due self.old.frames done) }
     {
-        self.ended = None;
         if let Some(event) = self.due.take() {
-            return Some(event);
+            return Ok(event);
         }
         match self.frames.read_frame() {
-            Ok(frame) => event_of(frame),
-            Err(why) => {
-                self.ended = Some(why);
-                None
-            }
+            Ok(frame) => event_of(frame).ok_or(Done::Unasked),
+            Err(why) => Err(Done::Frames(why)),
         }
+    }
+
+    // The event that comes next, which has a seat then, or why none does.
+    fn seated(&mut self) -> Result<Event, Done>
+        ensures { MatchResult result
+            (λ e. (self.new.given ≡ Some e) × Takes self.old.due self.old.frames e self.new.frames)
+            (λ done. Stops I.may_fail S.may_close self.old.due self.old.frames done) }
+    {
+        let event = self.event()?;
+        let Ok(kept) = event.copy(self.alloc) else {
+            return Err(Done::NoMemory);
+        };
+        self.route(&event);
+        if !self.seating.sit(self.rt, &event) {
+            return Err(Done::Closed);
+        }
+        self.given = Some(kept);
+        Ok(event)
     }
 
     // Replies to what is asked come here from now on, before the flusher can make them.
@@ -72,16 +97,6 @@ impl<R: Wait, I: Read, D: Replies> Caller<'_, R, I, D> {
         {
             let doors = &self.shared.doors;
             doors.take_back(self.rt, *session, *request, self.ticket, refusal);
-        }
-    }
-
-    // Waits for a seat. An ask under number 0 makes nothing, so it needs no more than that.
-    fn sit(&self, event: &Event) -> bool {
-        let room = &self.shared.room;
-        let bell = &self.shared.bell;
-        match event {
-            Event::Ask { request: 0, .. } => room.sit_anyway(self.rt, bell),
-            _ => room.sit(self.rt, bell, self.me, event),
         }
     }
 
@@ -113,26 +128,25 @@ impl<R: Wait, I: Read, D: Replies> Caller<'_, R, I, D> {
     }
 }
 
-impl<R: Wait, I: Read, D: Replies> Source for Caller<'_, R, I, D> {
+impl<R: Wait, I: Input, S: Seating, D: Replies> Source for Caller<'_, R, I, S, D> {
     ghost use Rattle.cc_server.specs.Serving.{Gives, Hears};
 
-    ghost gives = { λ s e t. Gives
-        (record { due = s.due; given = s.given; ahead = s.frames; ended = s.ended }) e
-        (record { due = t.due; given = t.given; ahead = t.frames; ended = t.ended }) };
+    ghost gives = { λ s e t. Gives I.may_fail S.may_close
+        (record { due = s.due; given = s.given; ahead = s.frames; done = s.done }) e
+        (record { due = t.due; given = t.given; ahead = t.frames; done = t.done }) };
 
     ghost hears = { λ s a t. Hears
-        (record { due = s.due; given = s.given; ahead = s.frames; ended = s.ended }) a
-        (record { due = t.due; given = t.given; ahead = t.frames; ended = t.ended }) };
+        (record { due = s.due; given = s.given; ahead = s.frames; done = s.done }) a
+        (record { due = t.due; given = t.given; ahead = t.frames; done = t.done }) };
 
     fn next(&mut self) -> Option<Event> {
-        let event = self.event()?;
-        let kept = event.copy(self.alloc).ok()?;
-        self.route(&event);
-        if !self.sit(&event) {
-            return None;
+        match self.seated() {
+            Ok(event) => Some(event),
+            Err(done) => {
+                self.done = done;
+                None
+            }
         }
-        self.given = Some(kept);
-        Some(event)
     }
 
     fn told(&mut self, answer: Result<Accepted, Refusal>) {
@@ -149,35 +163,37 @@ impl<R: Wait, I: Read, D: Replies> Source for Caller<'_, R, I, D> {
 }
 
 /// Brings what comes from a reader to the intake, until it ends: at the end of input, where a read fails, at bytes that
-/// spell no frame, at a frame that a node only sends, and after 2^32 feeds. Of bytes that are known it brings the events of
-/// their frames, one after the other, each again where the queue was full; the share counts those that were accepted. It
-/// tells why the reader gave no further frame; None where something else is why.
-pub fn serve<R: Wait, H: Hooks, L: Life, Q: Lane, I: Read + Drop, D: Replies>(
+/// spell no frame, at a frame that only a node sends, where the node takes no further event, and where a growth is refused.
+/// Of bytes that are known it brings the events of their frames, one after the other, each again where the queue was full;
+/// the share counts those that were accepted. It tells why it ended: that a read failed only where one can, and that the
+/// node takes no more only where it can close.
+pub fn serve<R: Wait, H: Hooks, L: Life, Q: Lane, I: Input + Drop, S: Seating, D: Replies>(
     office: &Office<'_, R, H, L, Q>,
+    seating: &S,
     door: &D,
     ticket: u64,
     reader: I,
     share: &mut Share<L>,
-) -> Option<Ending>
+) -> Done
     ensures { (answers : List Answer) × (share.new ≡ share.old + places_of answers) × PlacesRise share.old answers
-        × IfSome (I.remaining reader) (λ bytes. Brings result None bytes answers) }
+        × IfSome (I.remaining reader) (λ bytes. Brings I.may_fail S.may_close result None bytes answers) }
 {
     let alloc = office.alloc;
     let Ok(frames) = Incoming::new(alloc, reader) else {
-        return None;
+        return Done::NoMemory;
     };
     let mut caller = Caller {
         rt: office.rt,
         alloc,
-        me: office.me,
         shared: office.shared,
+        seating,
         door,
         ticket,
         frames,
         given: None,
         due: None,
-        ended: None,
+        done: Done::NoMemory,
     };
     office.work(share, &mut caller);
-    caller.ended
+    caller.done
 }

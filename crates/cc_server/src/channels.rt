@@ -1,9 +1,8 @@
 //! The outlet of a node: the lines to its peers and to itself, and its connections.
 
-use crate::lines::Line;
 use crate::shared::Shared;
-use crate::spelling::bytes_of;
 use cc_files::Outlet;
+use cc_lines::{Line, bytes_of};
 use cc_protocol::{Parcel, post_frame, reply_frame};
 use cc_views::NodeId;
 use cc_wire::{Answer, Event, Message};

@@ -1,11 +1,10 @@
 //! The flusher's thread.
 
-use crate::lines::Line;
-use crate::room::Room;
 use crate::shared::Shared;
 use cc_flush::{CheckpointFault, Failed};
 use cc_intake::{Lane, Life, Queue, Turner};
 use cc_journal::Batch;
+use cc_lines::{Line, Room};
 use cc_node::Core;
 use cc_site::Site;
 use crossbeam_utils::sync::Parker;

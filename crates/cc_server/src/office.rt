@@ -5,6 +5,7 @@ ghost use Rattle.cc_intake.specs.Talks.{Answer, Talks, places_of, PlacesRise};
 
 use crate::shared::Shared;
 use cc_intake::{Hooks, Intake, Lane, Life, Queue, Share, Source, work};
+use cc_lines::Seat;
 use cc_views::NodeId;
 use cc_words::Peer;
 use std::alloc::Global;
@@ -31,6 +32,15 @@ impl<R: Wait, H: Hooks, L: Life, Q: Lane> Office<'_, R, H, L, Q> {
         match pooled {
             Some(share) => Some(share),
             None => self.lock.lock(self.rt).share(),
+        }
+    }
+
+    /// Where what comes over a connection waits.
+    pub fn seat(&self) -> Seat<'_> {
+        Seat {
+            room: &self.shared.room,
+            bell: &self.shared.bell,
+            me: self.me,
         }
     }
 

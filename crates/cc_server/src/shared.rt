@@ -1,13 +1,9 @@
 //! What the threads of a node pass things on by.
 
-use crate::bell::Bell;
-use crate::doors::Doors;
 use crate::flushing::Watch;
-use crate::lines::{FarEnd, Line, OwnLine, lines_to, own_line};
-use crate::room::Room;
 use crate::run_fault::RunFault;
-use crate::stop::Stop;
 use crate::threads::FarEnds;
+use cc_lines::{Bell, Doors, FarEnd, Line, OwnLine, Room, Stop, lines_to, own_line};
 use cc_protocol::Wishes;
 use cc_views::NodeId;
 use cc_wire::Event;

@@ -4,14 +4,12 @@ ghost use Rattle.std.specs.Thread.{IsSend};
 
 use crate::attending::attend;
 use crate::flushing::{Watch, flush_all};
-use crate::lines::FarEnd;
 use crate::office::Office;
 use crate::own::serve_own;
 use crate::shared::Shared;
-use crate::stop::Stop;
-use crate::writing::write_peer;
 use cc_flush::Failed;
 use cc_intake::{Hooks, Lane, Life, Queue, Turner};
+use cc_lines::{FarEnd, Stop, write_peer};
 use cc_site::Site;
 use cc_views::NodeId;
 use cc_wire::Event;

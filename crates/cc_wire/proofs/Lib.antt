@@ -9,7 +9,3 @@ pub mod CommandFormat
 pub mod AnswerFormat
 pub mod EventFormat
 pub mod Lengths
-pub mod FrameFormat
-pub mod Fronts
-pub mod Feeds
-pub mod StreamLaws

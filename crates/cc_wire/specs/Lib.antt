@@ -7,7 +7,4 @@ pub mod Commands
 pub mod Answers
 pub mod Events
 pub mod Refusals
-pub mod Frames
 pub mod Sizes
-pub mod Held
-pub mod Streams

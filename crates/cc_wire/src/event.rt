@@ -81,8 +81,8 @@ impl Event {
 }
 
 impl<'a> Reader<'a> {
-    // A node and a number on the link to it.
-    pub(crate) fn numbered(&mut self) -> Result<(NodeId, u64), WireFault>
+    /// A node and a number on the link to it.
+    pub fn numbered(&mut self) -> Result<(NodeId, u64), WireFault>
         ensures { Gives (λ x. (x, self.new)) result (numbered_at self.old) }
     {
         let node = self.id(1)?;
@@ -90,8 +90,8 @@ impl<'a> Reader<'a> {
         Ok((node, number))
     }
 
-    // A message that came from a node under a number.
-    pub(crate) fn delivery(&mut self, alloc: Global) -> Result<((NodeId, u64), Message), WireFault>
+    /// A message that came from a node under a number.
+    pub fn delivery(&mut self, alloc: Global) -> Result<((NodeId, u64), Message), WireFault>
         ensures { Gives (λ x. (x, self.new)) result (delivery_at self.old) }
     {
         let numbered = self.numbered()?;
@@ -99,8 +99,8 @@ impl<'a> Reader<'a> {
         Ok((numbered, message))
     }
 
-    // The place of a command: a session, and the number of the request in it.
-    pub(crate) fn place(&mut self) -> Result<(u64, u64), WireFault>
+    /// The place of a command: a session, and the number of the request in it.
+    pub fn place(&mut self) -> Result<(u64, u64), WireFault>
         ensures { Gives (λ x. (x, self.new)) result (place_at self.old) }
     {
         let session = self.u64()?;
@@ -108,8 +108,8 @@ impl<'a> Reader<'a> {
         Ok((session, request))
     }
 
-    // A command at its place.
-    pub(crate) fn asked(&mut self) -> Result<((u64, u64), Command), WireFault>
+    /// A command at its place.
+    pub fn asked(&mut self) -> Result<((u64, u64), Command), WireFault>
         ensures { Gives (λ x. (x, self.new)) result (asked_at self.old) }
     {
         let place = self.place()?;
@@ -161,7 +161,8 @@ impl<'a> Reader<'a> {
     }
 }
 
-pub(crate) fn put_numbered(out: &mut Vec<u8>, node: NodeId, number: u64) -> Result<(), AllocError>
+/// Appends a node and a number on the link to it. On an `Err` a part may stand at the end.
+pub fn put_numbered(out: &mut Vec<u8>, node: NodeId, number: u64) -> Result<(), AllocError>
     ensures writes { Writes out.old out.new (numbered_spelling node number) result }
     ensures fits { OnOk result (IsNumbered node number) }
 {
@@ -169,7 +170,8 @@ pub(crate) fn put_numbered(out: &mut Vec<u8>, node: NodeId, number: u64) -> Resu
     put_u64(out, number)
 }
 
-pub(crate) fn put_delivery(
+/// Appends a message that came from a node under a number. On an `Err` a part may stand at the end.
+pub fn put_delivery(
     out: &mut Vec<u8>,
     from: NodeId,
     number: u64,
@@ -182,7 +184,8 @@ pub(crate) fn put_delivery(
     put_message(out, message)
 }
 
-pub(crate) fn put_place(out: &mut Vec<u8>, session: u64, request: u64) -> Result<(), AllocError>
+/// Appends a session, and the number of a request in it. On an `Err` a part may stand at the end.
+pub fn put_place(out: &mut Vec<u8>, session: u64, request: u64) -> Result<(), AllocError>
     ensures writes { Writes out.old out.new (place_spelling session request) result }
     ensures fits { IsPlace session request }
 {

@@ -1,5 +1,5 @@
-//! Messages, commands, answers, events and frames, and how these and views are spelled as bytes. The messages are those
-//! of CCC, and all formats are this project's own. Numbers are big-endian, and each value has one spelling.
+//! Messages, commands, answers and events, and how these and views are spelled as bytes. The messages are those of CCC,
+//! and all formats are this project's own. Numbers are big-endian, and each value has one spelling.
 #![tactic(auto)]
 
 mod answer;
@@ -7,8 +7,6 @@ mod changes_bytes;
 mod command;
 mod event;
 mod fault;
-mod frame;
-mod frame_reader;
 mod message;
 mod number_list;
 mod output;
@@ -25,10 +23,11 @@ mod writer;
 pub use answer::{Answer, decode_answer, encode_answer, one_spelling_of_answers, put_answer};
 pub use changes_bytes::{put_changes, put_id};
 pub use command::{Command, decode_command, encode_command, one_spelling_of_commands};
-pub use event::{Event, decode_event, encode_event, one_spelling_of_events, put_asked};
+pub use event::{
+    Event, decode_event, encode_event, one_spelling_of_events, put_asked, put_delivery,
+    put_numbered, put_place,
+};
 pub use fault::WireFault;
-pub use frame::{Frame, decode_frame, encode_frame, one_spelling_of_frames};
-pub use frame_reader::{Fed, FrameReader, feeds_any_cutting};
 pub use message::{Message, decode_message, encode_message, one_spelling_of_messages, put_message};
 pub use number_list::NumberList;
 pub use output::Output;
@@ -43,4 +42,4 @@ pub use spelling_lengths::{
     answer_len, changes_len, command_len, event_len, message_len, value_len, view_len,
 };
 pub use view_bytes::{decode_view, encode_view, one_spelling_of_views};
-pub use writer::{put_u8, put_u16, put_u32, put_u64, put_value, put_view};
+pub use writer::{put_u8, put_u16, put_u32, put_u64, put_value, put_view, settled};

@@ -48,7 +48,7 @@ impl<'a> Reader<'a> {
     }
 
     /// The next `count` bytes.
-    pub(crate) fn bytes(&mut self, count: usize) -> Result<&'a [u8], WireFault>
+    pub fn bytes(&mut self, count: usize) -> Result<&'a [u8], WireFault>
         ensures exact { Gives (λ x. (x.now, self.new)) result (bytes_at count self.old) }
         ensures free { TakesNoMemory result }
         ensures len { IfOk result (λ x. length x.now ≡ count) }
@@ -63,7 +63,7 @@ impl<'a> Reader<'a> {
     }
 
     /// The next `count` bytes, or all where there are fewer. They stay.
-    pub(crate) fn front(&self, count: usize) -> &'a [u8]
+    pub fn front(&self, count: usize) -> &'a [u8]
         ensures { result.now ≡ take count self.now }
     {
         &self.rest[..count.min(self.rest.len())]

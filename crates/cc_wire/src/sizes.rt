@@ -7,10 +7,8 @@ ghost use Rattle.cc_wire.specs.Commands.{command_spelling, IsCommand};
 ghost use Rattle.cc_wire.specs.Answers.{answer_spelling, IsAnswer};
 ghost use Rattle.cc_wire.specs.declared.answer.Answer.TheVariants as answers;
 ghost use Rattle.cc_wire.specs.Events.{event_spelling, IsEvent};
-ghost use Rattle.cc_wire.specs.Frames.{body_spelling, IsFrame};
 
-/// How many bytes the spelling of each thing has at most. So an event, and the body of a frame, always fits into
-/// 65,536 bytes.
+/// How many bytes the spelling of each thing has at most. So an event always fits into 65,536 bytes.
 pub fn largest_sizes()
     ensures value { TakesAtMost 203 IsValue value_spelling }
     ensures row { TakesAtMost 215 IsRow row_spelling }
@@ -20,5 +18,4 @@ pub fn largest_sizes()
     ensures set { TakesAtMost 32771 IsNumberList (λ numbers. answer_spelling (answers.Set numbers)) }
     ensures answer { TakesAtMost 55043 IsAnswer answer_spelling }
     ensures event { TakesAtMost 58139 IsEvent event_spelling }
-    ensures body { TakesAtMost 58139 IsFrame body_spelling }
 {}

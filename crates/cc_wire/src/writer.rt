@@ -11,12 +11,9 @@ use byteorder::{BigEndian, ByteOrder};
 use cc_views::{NoMemory, NumberSet, Row, Text, Value, View};
 use std::alloc::AllocError;
 
-// How an encoder ends: where its write failed, what stands behind the start is taken away.
-pub(crate) fn settled(
-    out: &mut Vec<u8>,
-    start: usize,
-    put: Result<(), AllocError>,
-) -> Result<(), NoMemory>
+/// How an encoder ends that began where `out` had `start` bytes: where its write failed, what stands behind them is taken
+/// away.
+pub fn settled(out: &mut Vec<u8>, start: usize, put: Result<(), AllocError>) -> Result<(), NoMemory>
     ensures ok { OnOk put (IsOk result × (out.new.items ≡ out.old.items)) }
     ensures err { OnErr put (IsErr result × (out.new.items ≡ take start out.old.items)) }
     ensures grows { vec_capacity out.old ≤ vec_capacity out.new }

@@ -2,17 +2,15 @@
 //! a node, runs it over TCP, asks one that runs, and tells what stands in a folder.
 #![tactic(auto)]
 
-mod command_line;
 mod network;
 
+use cc_arguments::{Order, parse};
 use cc_commands::{FormatOrder, FormatWords, RunOrder, WordFault, dump_folder, format_folder};
 use cc_intake::NoHooks;
+use cc_lines::Stop;
 use cc_play::{PlayFault, play};
-use cc_server::{Config, RunFault, Stop, run_node};
-use clap::ArgMatches;
-use command_line::command_line;
-use network::{Asked, ask, leave, retire};
-use std::alloc::Global;
+use cc_server::{Config, RunFault, run_node};
+use network::{ask, leave, retire};
 use std::fs::{File, Files};
 use std::io::BufWriter;
 use std::net::{Net, TcpListener, TcpStream};
@@ -26,32 +24,6 @@ const BAD_COMMAND_LINE: u8 = 2;
 
 // A fault ended the run.
 const FAULT: u8 = 1;
-
-// What a command line asks for.
-#[derive(Clone, Copy)]
-enum Order<'a> {
-    Play,
-    Format {
-        folder: &'a str,
-        words: FormatWords<'a>,
-    },
-    Run {
-        folder: &'a str,
-        listen: &'a str,
-        peers: Option<&'a str>,
-    },
-    Ask(Asked<'a>),
-    Leave {
-        address: &'a str,
-    },
-    Retire {
-        address: &'a str,
-        node: &'a str,
-    },
-    Dump {
-        folder: &'a str,
-    },
-}
 
 fn main(rt: HostRuntime) -> anyhow::Result<ExitCode> {
     let words: Vec<String> = std::env::args(&rt)?.collect(rt.alloc())?;
@@ -78,63 +50,6 @@ fn obey(rt: &HostRuntime, order: Order<'_>) -> anyhow::Result<ExitCode> {
         Order::Dump { folder } => dump(rt, folder),
         Order::Play | Order::Run { .. } => play_input(rt),
     }
-}
-
-fn parse<'a>(alloc: Global, words: &'a [String]) -> Result<Order<'a>, clap::Error> {
-    let command = command_line(alloc)?;
-    let matches = command.try_get_matches_from(words)?;
-    Ok(order_of(&matches))
-}
-
-fn order_of<'a>(matches: &ArgMatches<'a>) -> Order<'a> {
-    match matches.subcommand() {
-        Some(("format", words)) => Order::Format {
-            folder: required(words, "DIR"),
-            words: format_words(words),
-        },
-        Some(("run", words)) => Order::Run {
-            folder: required(words, "DIR"),
-            listen: required(words, "listen"),
-            peers: words.get_str("peers"),
-        },
-        Some(("ask", words)) => Order::Ask(asked_words(words)),
-        Some(("leave", words)) => Order::Leave {
-            address: required(words, "ADDR"),
-        },
-        Some(("retire", words)) => Order::Retire {
-            address: required(words, "ADDR"),
-            node: required(words, "ID"),
-        },
-        Some(("dump", words)) => Order::Dump {
-            folder: required(words, "DIR"),
-        },
-        _ => Order::Play,
-    }
-}
-
-fn format_words<'a>(words: &ArgMatches<'a>) -> FormatWords<'a> {
-    FormatWords {
-        id: required(words, "ID"),
-        initial: words.get_str("initial"),
-        contacts: words.get_str("contacts"),
-        beta: words.get_str("beta"),
-        gamma: words.get_str("gamma"),
-    }
-}
-
-fn asked_words<'a>(words: &ArgMatches<'a>) -> Asked<'a> {
-    Asked {
-        address: required(words, "ADDR"),
-        session: required(words, "SESSION"),
-        command: required(words, "COMMAND"),
-        value: words.get_str("VALUE"),
-        timeout: words.get_str("timeout"),
-    }
-}
-
-// A word without which no command line is taken.
-fn required<'a>(words: &ArgMatches<'a>, name: &str) -> &'a str {
-    words.get_str(name).unwrap_or("")
 }
 
 // Prints the help that was asked for, or what is wrong with the command line.

@@ -1,19 +1,10 @@
 //! What is asked of a node over TCP.
 
 use crate::print_word_fault;
+use cc_arguments::Asked;
 use cc_client::{ask_node, leave_node, retire_node};
 use cc_commands::{AskOrder, AskWords, LeaveOrder, RetireOrder};
 use std::process::ExitCode;
-
-/// The words of `ask`.
-#[derive(Clone, Copy)]
-pub struct Asked<'a> {
-    pub address: &'a str,
-    pub session: &'a str,
-    pub command: &'a str,
-    pub value: Option<&'a str>,
-    pub timeout: Option<&'a str>,
-}
 
 /// Has a command done: the status of that.
 pub fn ask(rt: &HostRuntime, asked: &Asked<'_>) -> anyhow::Result<ExitCode> {

@@ -2,11 +2,12 @@
 
 ghost use Rattle.std.specs.Prelude.{◌≤◌, IfOk, length};
 
+use cc_frames::{Frame, FrameReader, decode_frame, encode_frame};
 use cc_views::{NodeId, Row, Text, Value, View};
 use cc_wire::{
-    Answer, Command, Event, Frame, FrameReader, Message, Refusal, WireFault, decode_answer,
-    decode_command, decode_event, decode_frame, decode_message, decode_view, encode_answer,
-    encode_command, encode_event, encode_frame, encode_message, encode_view, event_len,
+    Answer, Command, Event, Message, Refusal, WireFault, decode_answer, decode_command,
+    decode_event, decode_message, decode_view, encode_answer, encode_command, encode_event,
+    encode_message, encode_view, event_len,
 };
 use std::alloc::Global;
 use std::process::Abort;

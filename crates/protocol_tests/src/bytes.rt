@@ -1,6 +1,6 @@
 //! Frames and their bytes.
 
-use cc_wire::{Frame, encode_frame};
+use cc_frames::{Frame, encode_frame};
 use std::alloc::Global;
 use std::test::*;
 

@@ -1,9 +1,10 @@
 //! A client and what it hears.
 
 use crate::bytes::{ASK, LEARN, SKIPPED, STORED, bytes_of};
+use cc_frames::{Frame, decode_frame};
 use cc_protocol::{Client, Heard, Step, refusal_of};
 use cc_views::Text;
-use cc_wire::{Answer, Command, Frame, Refusal, decode_frame};
+use cc_wire::{Answer, Command, Refusal};
 use std::alloc::Global;
 use std::process::Abort;
 use std::test::*;

@@ -1,11 +1,12 @@
 //! Which event a frame is, and which frames a node sends.
 
 use crate::bytes::{ASK, SKIPPED, STORED, is_spelled};
+use cc_frames::{Frame, decode_frame};
 use cc_protocol::{
     Outcome, ack_frame, event_of, outcome_of, post_frame, refused_frame, reply_frame,
 };
 use cc_views::NodeId;
-use cc_wire::{Answer, Command, Event, Frame, Message, Refusal, decode_frame};
+use cc_wire::{Answer, Command, Event, Message, Refusal};
 use std::alloc::Global;
 use std::test::*;
 

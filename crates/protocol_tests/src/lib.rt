@@ -13,6 +13,8 @@ mod duties;
 #[cfg(test)]
 mod frames;
 #[cfg(test)]
+mod incoming;
+#[cfg(test)]
 mod routes;
 #[cfg(test)]
 mod words;

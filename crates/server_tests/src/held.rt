@@ -4,7 +4,7 @@ use crate::clients::{FIRST_ASK, FIRST_REPLY, OTHER_ASK, OTHER_REPLY, connected, 
 use crate::holding::Hold;
 use crate::nodes::{Places, check, check_end, end, run, set_up};
 use cc_intake::NoHooks;
-use cc_server::Stop;
+use cc_lines::Stop;
 use std::alloc::Global;
 use std::io::Write;
 use std::net::{Net, SocketAddr, TcpStream};

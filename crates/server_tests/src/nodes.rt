@@ -2,7 +2,8 @@
 
 use cc_commands::{FormatOrder, FormatWords, format_folder};
 use cc_intake::{Finished, Hooks};
-use cc_server::{Config, RunFault, Stop, run_on};
+use cc_lines::Stop;
+use cc_server::{Config, RunFault, run_on};
 use cc_views::NodeId;
 use cc_words::Peer;
 use std::alloc::Global;

@@ -3,7 +3,7 @@
 use crate::clients::{THIRD_ASK, connected, exchange, reads};
 use crate::nodes::{Places, check, check_end, end, run, set_up};
 use cc_intake::{Hooks, NoHooks};
-use cc_server::Stop;
+use cc_lines::Stop;
 use std::alloc::Global;
 use std::io::Write;
 use std::net::{Net, SocketAddr, TcpStream};

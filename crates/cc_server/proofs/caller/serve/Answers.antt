@@ -8,5 +8,5 @@ pub returns : goal.returns
 returns g c =
     let talk = c.work.ensures in
     let end = c.work.new.source in
-    let served = brings _ end (λ s. record { due = s.due; given = s.given; ahead = s.frames; ended = s.ended }) talk.0 talk.1 in
-    (talk.0, talk.2, talk.3, subst (λ (x : Option (List ℕ)). IfSome x (λ bytes. Brings end.ended None bytes talk.0)) c.in-Ok.ensures served)
+    let served = brings g.I.Input.may_fail g.S.Seating.may_close _ end (λ s. record { due = s.due; given = s.given; ahead = s.frames; done = s.done }) talk.0 talk.1 in
+    (talk.0, talk.2, talk.3, subst (λ (x : Option (List ℕ)). IfSome x (λ bytes. Brings g.I.Input.may_fail g.S.Seating.may_close end.done None bytes talk.0)) c.in-Ok.ensures served)

@@ -1,0 +1,7 @@
+//! The command line of the program: its words, their help, and what a command line asks for.
+#![tactic(auto)]
+
+mod command_line;
+mod order;
+
+pub use order::{Asked, Order, parse};

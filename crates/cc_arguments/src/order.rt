@@ -1,0 +1,108 @@
+//! What a command line asks for.
+
+use crate::command_line::command_line;
+use cc_commands::FormatWords;
+use clap::ArgMatches;
+use std::alloc::Global;
+
+/// What a command line asks for. Its words are yet to be read.
+#[derive(Clone, Copy)]
+pub enum Order<'a> {
+    /// Play the script on standard input.
+    Play,
+    /// Format a folder.
+    Format {
+        folder: &'a str,
+        words: FormatWords<'a>,
+    },
+    /// Run the node of a folder.
+    Run {
+        folder: &'a str,
+        listen: &'a str,
+        peers: Option<&'a str>,
+    },
+    /// Ask a node that runs.
+    Ask(Asked<'a>),
+    /// Have a node leave.
+    Leave {
+        address: &'a str,
+    },
+    /// Tell a node that another is dead.
+    Retire {
+        address: &'a str,
+        node: &'a str,
+    },
+    /// Tell what stands in a folder.
+    Dump {
+        folder: &'a str,
+    },
+}
+
+/// The words of `ask`.
+#[derive(Clone, Copy)]
+pub struct Asked<'a> {
+    pub address: &'a str,
+    pub session: &'a str,
+    pub command: &'a str,
+    pub value: Option<&'a str>,
+    pub timeout: Option<&'a str>,
+}
+
+/// What a command line asks for, the program's name its first word. The error is the help that was asked for, or what is
+/// wrong.
+pub fn parse<'a>(alloc: Global, words: &'a [String]) -> Result<Order<'a>, clap::Error> {
+    let command = command_line(alloc)?;
+    let matches = command.try_get_matches_from(words)?;
+    Ok(order_of(&matches))
+}
+
+fn order_of<'a>(matches: &ArgMatches<'a>) -> Order<'a> {
+    match matches.subcommand() {
+        Some(("format", words)) => Order::Format {
+            folder: required(words, "DIR"),
+            words: format_words(words),
+        },
+        Some(("run", words)) => Order::Run {
+            folder: required(words, "DIR"),
+            listen: required(words, "listen"),
+            peers: words.get_str("peers"),
+        },
+        Some(("ask", words)) => Order::Ask(asked_words(words)),
+        Some(("leave", words)) => Order::Leave {
+            address: required(words, "ADDR"),
+        },
+        Some(("retire", words)) => Order::Retire {
+            address: required(words, "ADDR"),
+            node: required(words, "ID"),
+        },
+        Some(("dump", words)) => Order::Dump {
+            folder: required(words, "DIR"),
+        },
+        _ => Order::Play,
+    }
+}
+
+fn format_words<'a>(words: &ArgMatches<'a>) -> FormatWords<'a> {
+    FormatWords {
+        id: required(words, "ID"),
+        initial: words.get_str("initial"),
+        contacts: words.get_str("contacts"),
+        beta: words.get_str("beta"),
+        gamma: words.get_str("gamma"),
+    }
+}
+
+fn asked_words<'a>(words: &ArgMatches<'a>) -> Asked<'a> {
+    Asked {
+        address: required(words, "ADDR"),
+        session: required(words, "SESSION"),
+        command: required(words, "COMMAND"),
+        value: words.get_str("VALUE"),
+        timeout: words.get_str("timeout"),
+    }
+}
+
+// A word without which no command line is taken.
+fn required<'a>(words: &ArgMatches<'a>, name: &str) -> &'a str {
+    words.get_str(name).unwrap_or("")
+}

@@ -1,0 +1,5 @@
+pub mod BodyLengths
+pub mod FrameFormat
+pub mod Fronts
+pub mod Feeds
+pub mod StreamLaws

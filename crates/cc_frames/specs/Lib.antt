@@ -1,0 +1,4 @@
+pub mod Limits
+pub mod Frames
+pub mod Held
+pub mod Streams

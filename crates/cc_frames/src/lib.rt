@@ -1,0 +1,11 @@
+//! What goes over a connection: frames, how they are spelled as bytes, and how they are read out of a stream that comes in
+//! pieces. The format is this project's own. Numbers are big-endian, and each frame has one spelling.
+#![tactic(auto)]
+
+mod frame;
+mod frame_reader;
+mod sizes;
+
+pub use frame::{Frame, decode_frame, encode_frame, one_spelling_of_frames};
+pub use frame_reader::{Fed, FrameReader, feeds_any_cutting};
+pub use sizes::largest_body;

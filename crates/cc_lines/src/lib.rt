@@ -1,0 +1,19 @@
+//! What the threads of a node pass things on by: the lines to its peers and to itself, the connections that are open, the
+//! room that workers wait for, and the writers at the far ends.
+#![tactic(auto)]
+
+mod bell;
+mod doors;
+mod lines;
+mod room;
+mod spelling;
+mod stop;
+mod writing;
+
+pub use bell::Bell;
+pub use doors::{Door, Doors, Replies};
+pub use lines::{FarEnd, Line, OwnLine, lines_to, own_line};
+pub use room::{Room, Seat, Seating};
+pub use spelling::bytes_of;
+pub use stop::Stop;
+pub use writing::{write_frames, write_peer};
