@@ -1,6 +1,6 @@
 -- One feed of bytes that are known.
 --     fed_begins, fed_step          what the reader holds then, and what it gives, whatever follows
---     fed_grows, held_fits          how much it holds
+--     held_fits                     how much it holds
 --     start_begins, ahead_start     before the first one
 --     unused_step                   what is left of a piece
 use Rattle.std.proofs.Common.{◌≡◌, ℕ, ◌+◌, ◌-◌, ◌≤◌, ◌<◌, true, cond, List, [], ◌∷◌, ◌++◌, length, take, drop, Option, Some, None, Result, Ok, Err, refl, sym, ap, subst, ◌∙◌, append_assoc, arith}
@@ -20,7 +20,7 @@ use Rattle.cc_frames.specs.Streams.{fed, rest_after, held_after, at_start, frame
 use Rattle.cc_frames.proofs.Fronts.{partial_fits}
 use Rattle.cc_frames.proofs.Feeds.{given_of, nothing_partial}
 use Rattle.cc_frames.proofs.StreamLaws.{feeds_read, feeds_refuse}
-use Rattle.cc_protocol.specs.Incoming.{ahead, unused, Begins, held_length, Grows, Next, Passes, IsBad, IsRefused}
+use Rattle.cc_protocol.specs.Incoming.{ahead, unused, Begins, held_length, Next, Passes, IsBad, IsRefused}
 
 together : (a b : List ℕ) → AllByRecursion (λ x. x < 256) a → AllByRecursion (λ x. x < 256) b → AllByRecursion (λ x. x < 256) (a ++ b)
 together [] b p q = q
@@ -113,14 +113,6 @@ fed_step (Some held) piece (Err NotAscending) (Some rest) begins fits gives = ba
 fed_step (Some held) piece (Err TooLarge) (Some rest) begins fits gives = bad held piece begins.0 begins.1 fits TooLarge rest gives
 fed_step (Some held) piece (Err Trailing) (Some rest) begins fits gives = bad held piece begins.0 begins.1 fits Trailing rest gives
 fed_step (Some held) piece (Err Broken) (Some rest) begins fits gives = bad held piece begins.0 begins.1 fits Broken rest gives
-
-pub fed_grows : (held : Option (List ℕ)) (piece : List ℕ) (given : Fed) → fed held piece ≡ Ok given → Grows held (length piece) given.frame (held_after held piece (Ok given))
-fed_grows None piece given gives = absurd cc
-fed_grows (Some held) piece given gives = by_frame given.frame
-  where
-    by_frame : (frame : Option Frame) → Grows (Some held) (length piece) frame (Some (rest_after held piece frame))
-    by_frame None = length-append held piece
-    by_frame (Some frame) = tt
 
 pub held_fits : (held : Option (List ℕ)) → Begins held → held_length held < 65540
 held_fits None begins = omega arith

@@ -1,6 +1,6 @@
 //! The frames that come out of a reader.
 
-ghost use Rattle.std.specs.Prelude.{◌≡◌, ◌≤◌, ◌<◌, ◌-◌, List, ℕ, Option, Some, length, drop, take, IfOk, IfSome, OnErr, MatchResult};
+ghost use Rattle.std.specs.Prelude.{◌≡◌, ◌≤◌, ◌<◌, ◌-◌, List, ℕ, Option, Some, length, drop, IfOk, IfSome, OnErr, MatchResult};
 ghost use Rattle.std.specs.Io.{ReadsAtMost};
 ghost use Rattle.std.specs.Io.KnownBytes.{ReadConsumes};
 ghost use Rattle.cc_protocol.specs.Incoming.{ahead, unused, IsUnused, Begins, Grows, Passes, IsRefused, Ends, Next};

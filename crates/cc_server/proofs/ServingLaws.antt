@@ -1,11 +1,19 @@
 -- What a worker brings.
+--     unasked      of a frame that only a node sends
 --     brings       of one that gives and hears so
 use Rattle.std.proofs.Common.{◌≡◌, ℕ, List, [], ◌∷◌, Option, Some, None, sym, subst}
 use Rattle.std.specs.Prelude.{IfSome}
 use Rattle.cc_wire.specs.declared.event.Event.{Event}
 use Rattle.cc_intake.specs.Talks.{Answer, Spoke, Talks}
+use Rattle.cc_frames.specs.declared.frame.Frame.{Frame}
+use Rattle.cc_protocol.specs.Incoming.{Next}
+use Rattle.cc_protocol.specs.Frames.{event_in}
 use Rattle.cc_server.specs.declared.caller.Done.{Done}
-use Rattle.cc_server.specs.Serving.{due_after, Takes, Stops, Worker, Gives, Hears, Brings}
+use Rattle.cc_server.specs.Serving.{due_after, Takes, IsUnasked, Stops, Worker, Gives, Hears, Brings}
+
+pub unasked : (ahead : Option (List ℕ)) (frame : Frame) (after : Option (List ℕ)) → IfSome ahead (λ bytes. Next bytes frame after) → event_in frame ≡ None → IfSome ahead (λ bytes. IsUnasked bytes)
+unasked None frame after next none = tt
+unasked (Some bytes) frame after next none = (frame, after, next, none)
 
 module _ (fails closes : Type 0) where
   stopped : (due : Option Event) (ahead : Option (List ℕ)) (why : Done) → Stops fails closes due ahead why → IfSome ahead (λ bytes. Stops fails closes due (Some bytes) why)

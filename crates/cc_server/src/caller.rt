@@ -57,7 +57,10 @@ impl<R: Wait, I: Input, S: Seating, D: Replies> Caller<'_, R, I, S, D> {
             return Ok(event);
         }
         match self.frames.read_frame() {
-            Ok(frame) => event_of(frame).ok_or(Done::Unasked),
+            Ok(frame) => match event_of(frame) {
+                Some(event) => Ok(event),
+                None => Err(Done::Unasked),
+            },
             Err(why) => Err(Done::Frames(why)),
         }
     }

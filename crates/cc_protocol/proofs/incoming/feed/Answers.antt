@@ -1,6 +1,6 @@
 use Rattle.std.proofs.Common.{arith}
 use Rattle.cc_wire.proofs.Formats.{all_of_bytes}
-use Rattle.cc_protocol.proofs.IncomingLaws.{fed_begins, fed_step, fed_grows}
+use Rattle.cc_protocol.proofs.IncomingLaws.{fed_begins, fed_step}
 use Rattle.cc_protocol.proofs.incoming.feed.Goals as goal
 
 pub returns-clause-begins : goal.returns-clause-begins
