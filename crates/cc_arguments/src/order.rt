@@ -1,7 +1,6 @@
 //! What a command line asks for.
 
 use crate::command_line::command_line;
-use cc_commands::FormatWords;
 use clap::ArgMatches;
 use std::alloc::Global;
 
@@ -11,10 +10,7 @@ pub enum Order<'a> {
     /// Play the script on standard input.
     Play,
     /// Format a folder.
-    Format {
-        folder: &'a str,
-        words: FormatWords<'a>,
-    },
+    Format(Formatted<'a>),
     /// Run the node of a folder.
     Run {
         folder: &'a str,
@@ -38,6 +34,17 @@ pub enum Order<'a> {
     },
 }
 
+/// The words of `format`.
+#[derive(Clone, Copy)]
+pub struct Formatted<'a> {
+    pub folder: &'a str,
+    pub id: &'a str,
+    pub initial: Option<&'a str>,
+    pub contacts: Option<&'a str>,
+    pub beta: Option<&'a str>,
+    pub gamma: Option<&'a str>,
+}
+
 /// The words of `ask`.
 #[derive(Clone, Copy)]
 pub struct Asked<'a> {
@@ -58,10 +65,7 @@ pub fn parse<'a>(alloc: Global, words: &'a [String]) -> Result<Order<'a>, clap::
 
 fn order_of<'a>(matches: &ArgMatches<'a>) -> Order<'a> {
     match matches.subcommand() {
-        Some(("format", words)) => Order::Format {
-            folder: required(words, "DIR"),
-            words: format_words(words),
-        },
+        Some(("format", words)) => Order::Format(formatted_words(words)),
         Some(("run", words)) => Order::Run {
             folder: required(words, "DIR"),
             listen: required(words, "listen"),
@@ -82,8 +86,9 @@ fn order_of<'a>(matches: &ArgMatches<'a>) -> Order<'a> {
     }
 }
 
-fn format_words<'a>(words: &ArgMatches<'a>) -> FormatWords<'a> {
-    FormatWords {
+fn formatted_words<'a>(words: &ArgMatches<'a>) -> Formatted<'a> {
+    Formatted {
+        folder: required(words, "DIR"),
         id: required(words, "ID"),
         initial: words.get_str("initial"),
         contacts: words.get_str("contacts"),

@@ -4,7 +4,7 @@
 
 mod network;
 
-use cc_arguments::{Order, parse};
+use cc_arguments::{Formatted, Order, parse};
 use cc_commands::{FormatOrder, FormatWords, RunOrder, WordFault, dump_folder, format_folder};
 use cc_intake::NoHooks;
 use cc_lines::Stop;
@@ -43,7 +43,7 @@ fn main(rt: HostRuntime) -> anyhow::Result<ExitCode> {
 // Does what needs no threads.
 fn obey(rt: &HostRuntime, order: Order<'_>) -> anyhow::Result<ExitCode> {
     match order {
-        Order::Format { folder, words } => format(rt, folder, &words),
+        Order::Format(words) => format(rt, &words),
         Order::Ask(asked) => ask(rt, &asked),
         Order::Leave { address } => leave(rt, address),
         Order::Retire { address, node } => retire(rt, address, node),
@@ -77,9 +77,16 @@ fn print_fault(rt: &HostRuntime, fault: &PlayFault) -> anyhow::Result<ExitCode> 
     Ok(ExitCode::from(FAULT))
 }
 
-fn format(rt: &HostRuntime, folder: &str, words: &FormatWords<'_>) -> anyhow::Result<ExitCode> {
-    match FormatOrder::parse(rt.alloc(), words) {
-        Ok(order) => format_as(rt, folder, &order),
+fn format(rt: &HostRuntime, formatted: &Formatted<'_>) -> anyhow::Result<ExitCode> {
+    let words = FormatWords {
+        id: formatted.id,
+        initial: formatted.initial,
+        contacts: formatted.contacts,
+        beta: formatted.beta,
+        gamma: formatted.gamma,
+    };
+    match FormatOrder::parse(rt.alloc(), &words) {
+        Ok(order) => format_as(rt, formatted.folder, &order),
         Err(fault) => print_word_fault(rt, fault),
     }
 }

@@ -24,11 +24,21 @@ enum Came {
     Nothing(Ending),
 }
 
+fn frame_that_came(frame: &Frame) -> Came {
+    match frame {
+        Frame::Leave => Came::Leave,
+        Frame::Retire { node } => Came::Retire(node.number()),
+        _ => Came::Other,
+    }
+}
+
 fn told(read: Result<Frame, Ending>) -> Came {
     match read {
-        Ok(Frame::Leave) => Came::Leave,
-        Ok(Frame::Retire { node }) => Came::Retire(node.number()),
-        Ok(_) => Came::Other,
+        Ok(frame) => {
+            let came = frame_that_came(&frame);
+            drop(frame);
+            came
+        }
         Err(why) => Came::Nothing(why),
     }
 }
