@@ -44,5 +44,5 @@ pub fn receive<R: Clock>(
 ) -> Option<Frame> {
     let left = deadline.left(rt)?;
     stream.set_read_timeout(Some(left)).ok()?;
-    incoming.next_frame()
+    incoming.read_frame().ok()
 }

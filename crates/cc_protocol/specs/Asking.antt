@@ -1,5 +1,6 @@
 -- How a client has one command done in its session, whatever breaks meanwhile.
---     request_of           the number that it asks under: 0 until it knows the session's last one
+--     learning_number      the number under which it learns the session's last request
+--     request_of           the number that it asks under: that one until it knows the session's last one
 --     ask_of               what it sends
 --     is_about             whether an answer is to what it asks
 --     refusal_told         the refusal with that number, which carries that value
@@ -18,8 +19,12 @@ use Rattle.cc_protocol.specs.declared.asking.Heard.TheVariants as heard
 use Rattle.cc_protocol.specs.declared.asking.Step.{Step}
 use Rattle.cc_protocol.specs.declared.asking.Step.TheVariants as step
 
+-- no request has it, so a node refuses it, and tells the session's last one
+abbrev pub learning_number : ℕ
+learning_number = 0
+
 abbrev pub request_of : Client → ℕ
-request_of c = unwrap_or c.request 0
+request_of c = unwrap_or c.request learning_number
 
 abbrev pub ask_of : Client → Frame
 ask_of c = frame.Ask c.session (request_of c) c.command

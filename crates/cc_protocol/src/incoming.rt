@@ -131,13 +131,6 @@ impl<I: Input> Incoming<I> {
             &mut self.window,
         )
     }
-
-    /// The next frame, as `read_frame`. None where none comes.
-    pub fn next_frame(&mut self) -> Option<Frame>
-        ensures { IfSome self.old (λ bytes. IfSome result (λ frame. Next bytes frame self.new)) }
-    {
-        self.read_frame().ok()
-    }
 }
 
 // The next frame, by as many feeds as it takes.
