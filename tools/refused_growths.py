@@ -1,0 +1,103 @@
+#!/usr/bin/env python3
+"""Refuses each growth of each test of these crates once: refused_growths.py CRATE..
+
+A test may then pass, or answer an error: want of memory, or the failed call of a disk in memory, which can't grow. Where it
+compares an answer that is an error with another one, it stops at that line, which is counted. A test that ends in any other
+way, or not within a minute (status 142, or 124), is printed, and the status is 1. A test that runs threads is run anew for
+each growth; which growth has a number then depends on how they fall together. The tests are those that `rt test` built; as
+many are run side by side as there are processors."""
+import collections
+import concurrent.futures
+import os
+import re
+import subprocess
+import sys
+import tempfile
+
+SECONDS = 60
+COPIES = 3 * 60 * 60
+
+
+def run(tests, name, preloaded, **words):
+    """How a test ended, what it wrote, and what the preloaded code told."""
+    with tempfile.TemporaryDirectory() as room:
+        told = f"{room}/told"
+        env = {**os.environ, "LD_PRELOAD": preloaded, "GROWTHS_TOLD": told, "GROWTHS_SAID": f"{room}/said", **words}
+        limit = SECONDS if words else COPIES
+        how = {"cwd": os.path.dirname(os.path.dirname(tests)), "env": env, "timeout": limit, "errors": "replace"}
+        try:
+            ran = subprocess.run([tests, name], stdout=subprocess.PIPE, stderr=subprocess.STDOUT, **how)
+            ended, said = ran.returncode, ran.stdout
+        except subprocess.TimeoutExpired:
+            ended, said = 124, "it didn't end in time"
+        if not os.path.exists(told):
+            return ended, said, []
+        with open(told, errors="replace", newline="\n") as it:
+            return ended, said, it.read().rstrip("\n").split("\n")
+
+
+def kind_of(ended, said):
+    """What a refused growth came to: the test passed, answered an error, or stopped at a comparison, else None."""
+    if ended == 0:
+        return "passed"
+    if ended == 101 and "its result gives status 1" in said:
+        return "error"
+    return "stop" if ended in (134, -6) and "test stopped at src/" in said else None
+
+
+def ends_one_by_one(tests, name, preloaded):
+    """The ends of a test of which a run of its own refuses each growth."""
+    growth = 1
+    while True:
+        ended, said, told = run(tests, name, preloaded, REFUSED_GROWTH=str(growth))
+        if "refused" not in told:
+            return
+        yield growth, ended, said
+        growth += 1
+
+
+def ends_of(tests, name, preloaded):
+    """For each growth of a test its number, how the test ended that was refused it, and the end of what that wrote."""
+    ended, said, told = run(tests, name, preloaded)
+    if "threads" in told:
+        return list(ends_one_by_one(tests, name, preloaded))
+    ends = [(int(growth), int(status), text) for growth, status, text in (line.split(" ", 2) for line in told)]
+    # (the run itself is refused nothing)
+    return ends if ended == 0 else [*ends, (0, ended, said)]
+
+
+def names_of(tests):
+    """The names of the tests of a program."""
+    said = subprocess.run([tests, "--list"], stdout=subprocess.PIPE, stderr=subprocess.DEVNULL, text=True).stdout
+    return re.findall(r"^(.*): test$", said, re.M)
+
+
+def try_crate(crate, preloaded, pool):
+    """Refuses the growths of a crate's tests. Whether each ended as it may."""
+    tests = os.path.abspath(f"crates/{crate}/out/{crate}_tests")
+    names = names_of(tests)
+    if not names:
+        sys.exit(f"{crate}: {tests} lists no test")
+    kinds, is_well = collections.Counter(), True
+    for name, ends in zip(names, pool.map(lambda it: ends_of(tests, it, preloaded), names)):
+        for growth, ended, said in ends:
+            kind = kind_of(ended, said)
+            kinds[kind] += 1
+            if kind is None:
+                is_well = False
+                print(f"{crate} {name}: growth {growth} refused ends in status {ended}: {said[-200:].strip()}")
+    refused = sum(kinds.values())
+    print(f"{crate}: {refused} growths refused: {kinds['error']} answered as an error, {kinds['stop']} seen by a comparison", flush=True)
+    return is_well
+
+
+def main(crates):
+    os.chdir(os.path.dirname(os.path.dirname(os.path.abspath(__file__))))
+    with tempfile.TemporaryDirectory() as room, concurrent.futures.ThreadPoolExecutor(os.cpu_count()) as pool:
+        preloaded = f"{room}/refuse.so"
+        subprocess.run(["cc", "-O1", "-shared", "-fPIC", "-o", preloaded, "tools/refuse_growth.c", "-ldl"], check=True)
+        return 0 if all([try_crate(it, preloaded, pool) for it in crates]) else 1
+
+
+if __name__ == "__main__":
+    sys.exit(main(sys.argv[1:]))
