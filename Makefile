@@ -7,13 +7,13 @@ try:
 	@echo 'unproved: compiling and playing crates/ccnode/stdin ...'
 	@cd crates/ccnode && rt try -- play < stdin
 
-# Proves and builds a program and what it stands on.
-BUILD = build() { bash tools/prove.sh $$1 > $$1.log 2>&1 || { cat $$1.log; exit 1; }; rm -f $$1.log; }
+# Proves and builds programs and what they stand on.
+BUILD = python3 tools/prove.py
 
 # Builds the program, proves it on the way, and plays the script that ships with it.
 run:
 	@echo 'proving and building ccnode (the first run takes long: see README.md) ...'
-	@$(BUILD); build ccnode
+	@$(BUILD) ccnode
 	@echo '$$ ccnode play < crates/ccnode/stdin'
 	@./crates/ccnode/out/ccnode play < crates/ccnode/stdin
 
@@ -29,12 +29,12 @@ test:
 
 # Proves one crate and what it stands on: make check CRATE=cc_wire
 check:
-	bash tools/prove.sh $(CRATE)
+	@$(BUILD) $(CRATE)
 
 # Times single events, the engine and its checkpoints in memory and on the disk, and a script of 10,000 lines over 16
 # nodes, and counts the bytes that a commit copies, for which it needs a C compiler. It prints figures and fails nothing.
 bench:
-	@$(BUILD); build cc_bench; build ccnode
+	@$(BUILD) cc_bench ccnode
 	@./crates/cc_bench/out/cc_bench events
 	@./crates/cc_bench/out/cc_bench engine
 	@./crates/cc_bench/out/cc_bench checkpoints
@@ -62,51 +62,51 @@ refused-growths:
 # Has each disk call of a node on two files fail in turn, and each read and write in turn move a single byte, and opens it
 # again: two minutes. It needs a C compiler.
 failing-calls:
-	@$(BUILD); build ccnode
+	@$(BUILD) ccnode
 	@python3 tools/failing_calls.py crates/ccnode/out/ccnode
 
 # Kills a node that writes on two files a thousand times with SIGKILL, and opens it again: about two minutes. KILLS=100
 # does fewer.
 KILLS = 1000
 kill-files:
-	@$(BUILD); build ccnode; build file_writer
+	@$(BUILD) ccnode file_writer
 	@bash tools/kill_files.sh crates/file_writer/out/file_writer crates/ccnode/out/ccnode $(KILLS)
 
 # Runs three nodes on loopback, asks each, kills one, asks on, starts it again, and shows that all three collect the
 # same. It takes a few seconds, once the program is built, and ends all that it started.
 cluster:
-	@$(BUILD); build ccnode
+	@$(BUILD) ccnode
 	@bash tools/cluster.sh crates/ccnode/out/ccnode
 
 # Measures three nodes on loopback under 1, 8 and 64 clients beside the disk's own syncs: about two minutes. It fails
 # nothing. PAUSE=2000 makes each sync take so many microseconds more, as on a slower disk; that needs a C compiler.
 PAUSE = 0
 load:
-	@$(BUILD); build ccnode
+	@$(BUILD) ccnode
 	@python3 tools/load.py crates/ccnode/out/ccnode 10 $(PAUSE)
 
 # Kills nodes of a cluster under load 200 times with SIGKILL, starts each again, and checks what clients are told: about
 # three minutes. KILLS=20 does fewer.
 kill-cluster: KILLS = 200
 kill-cluster:
-	@$(BUILD); build ccnode
+	@$(BUILD) ccnode
 	@python3 tools/kill_cluster.py crates/ccnode/out/ccnode $(KILLS)
 
 # Runs five nodes under load through a slow disk, a stopped node, two halves and a dead node: about three minutes. It
 # needs a C compiler.
 soak:
-	@$(BUILD); build ccnode
+	@$(BUILD) ccnode
 	@python3 tools/soak.py crates/ccnode/out/ccnode
 
 # Has clients misuse a node on loopback: idle connections, a flood of asks, one that never reads, zeros without end. It
 # fails where the node doesn't answer afterwards: a minute at most.
 hostile:
-	@$(BUILD); build ccnode
+	@$(BUILD) ccnode
 	@python3 tools/hostile.py crates/ccnode/out/ccnode
 
 # Plays a script of nearly 10,000 lines over 16 nodes with four sessions each, and checks the answers: half a minute.
 many-sessions:
-	@$(BUILD); build ccnode
+	@$(BUILD) ccnode
 	@python3 tools/many_sessions.py crates/ccnode/out/ccnode
 
 # Prints what each crate costs: its proof, its tests and its edits, in processor seconds with one job.

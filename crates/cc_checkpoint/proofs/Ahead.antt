@@ -11,7 +11,7 @@
 --     all_of, not_all, none_of          reading all that is ahead
 --     few, too_many, uncounted          a count within its limit, and so many
 --     misses_along                      rows up to one that is missing
-use Rattle.std.proofs.Common.{◌≡◌, ℕ, suc, ◌+◌, ◌-◌, ◌<◌, ◌≤◌, ◌⊎◌, inl, inr, Bool, true, false, cond, ltb, eqb, List, [], ◌++◌, length, get_or, take, drop, Result, Ok, Err, refl, sym, ap, subst, ◌∙◌, append_assoc, take-add, arith}
+use Rattle.std.proofs.Common.{◌≡◌, ℕ, suc, ◌+◌, ◌-◌, ◌<◌, ◌≤◌, ◌⊎◌, inl, inr, true, false, ltb, eqb, List, [], ◌++◌, length, take, drop, Result, Ok, Err, refl, sym, ap, subst, ◌∙◌, append_assoc, take-add, arith}
 use Rattle.std.specs.Prelude.{slice_index}
 use Rattle.std.proofs.lemmas.Bool.{cases_lt, le-ltb, lt-ltb, ne_eqb}
 use Rattle.std.proofs.lemmas.List.{take_at, drop_at, take-append-le, take-append-drop, drop-drop, append-nil, nil_from_length, length-append, length-take, length-drop, get_or_append_left, get_or-append_right}
@@ -25,7 +25,7 @@ use Rattle.cc_site.specs.declared.site.Site.{Ghosts}
 use Rattle.cc_site.specs.Reads.{reads_none, reads_then}
 use Rattle.cc_checkpoint.specs.declared.read_fault.ReadFault.{ReadFault}
 use Rattle.cc_checkpoint.specs.declared.read_fault.ReadFault.TheVariants as faults
-use Rattle.cc_checkpoint.specs.Windows.{of_wire, IsMissing, Misses, Finds, seen_by, IsOfDevice, AreBytes, CountsRead, FaultRead, At, ahead, LiesOn, Runs, ReadsOff}
+use Rattle.cc_checkpoint.specs.Windows.{of_wire, IsMissing, Misses, seen_by, IsOfDevice, AreBytes, CountsRead, FaultRead, At, ahead, LiesOn, Runs, ReadsOff}
 
 -- ---- bytes
 

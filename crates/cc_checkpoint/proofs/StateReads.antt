@@ -3,7 +3,7 @@
 --     missing_node, restored    what is missing is no node's state;  the node of the fields that were read, if there is one
 --     still_counts, rose    the count of failures stays with these;  a fault of reading is one of the sides
 --     head_fails            where no node has the state, the head fails
-use Rattle.std.proofs.Common.{◌≡◌, ℕ, Bool, slice_index, ◌+◌, ◌-◌, List, [], ◌++◌, take, drop, Some, None, Result, Ok, Err, refl, ap, subst, ◌∙◌, inl, inr, arith}
+use Rattle.std.proofs.Common.{◌≡◌, ℕ, Bool, slice_index, ◌+◌, ◌-◌, List, [], ◌++◌, take, drop, Some, None, Ok, Err, refl, ap, subst, ◌∙◌, inr, arith}
 use Rattle.std.specs.Prelude.{◌↔◌, Option, IfSome, IsTrue, is_some}
 use Rattle.std.specs.Option.{ok_or}
 use Rattle.cc_wire.specs.Reading.{whole}
@@ -12,7 +12,7 @@ use Rattle.cc_site.specs.declared.site.Side.{Side}
 use Rattle.cc_site.specs.Telling.{LooksAt}
 use Rattle.cc_node.specs.Lawful.{IsLawfulNode}
 use Rattle.cc_node.specs.Node.{Node}
-use Rattle.cc_node.specs.States.{State, has_line, SpellsNode, state_at, node_of, state_of as state_of_node}
+use Rattle.cc_node.specs.States.{State, has_line, state_at, node_of, state_of as state_of_node}
 use Rattle.cc_checkpoint.specs.declared.read_fault.ReadFault.{ReadFault}
 use Rattle.cc_checkpoint.specs.declared.read_fault.ReadFault.TheVariants.{Device, NoMemory, NoState}
 use Rattle.cc_checkpoint.specs.Faults.{FaultRose}

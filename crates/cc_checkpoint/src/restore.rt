@@ -154,6 +154,40 @@ fn ops_of(work: Work) -> Ops
     Ops::from_parts(view, number, mine, tag, stage, seen, line)
 }
 
+// What a node has in tables.
+struct NodeTables {
+    links: Links,
+    sessions: Sessions,
+    outbox: Outbox,
+}
+
+fn tables_of(alloc: Global, tables: Tables) -> Result<NodeTables, NoMemory>
+    requires read { AreRead tables }
+    requires peers { length tables.links.items ≤ known_limit }
+    requires answers { length tables.answers.items ≤ session_limit }
+    requires numbers { length tables.kept.items ≤ tables.posts }
+    ensures links { IfOk result (λ t. t.links ≡ table_of links.entry_of tables.links.items) }
+    ensures sessions { IfOk result (λ t. t.sessions ≡ table_of sessions.entry_of tables.sessions.items) }
+    ensures outbox { IfOk result (λ t. t.outbox ≡ record { last = tables.posts; posts = numbered_to tables.posts tables.kept.items; answers = table_of kept_rows.entry_of tables.answers.items }) }
+{
+    let Tables {
+        posts,
+        links,
+        sessions,
+        kept,
+        answers,
+    } = tables;
+    let links = links_of(alloc, links)?;
+    let sessions = sessions_of(alloc, sessions)?;
+    let mut outbox = kept_up_to(alloc, posts, kept)?;
+    keep_answers(&mut outbox, answers);
+    Ok(NodeTables {
+        links,
+        sessions,
+        outbox,
+    })
+}
+
 /// The node whose state the fields are. None where no node can be in that state.
 pub(crate) fn restore(alloc: Global, fields: Fields) -> Result<Option<Node>, NoMemory>
     requires { AreRead fields.tables }
@@ -168,31 +202,24 @@ pub(crate) fn restore(alloc: Global, fields: Fields) -> Result<Option<Node>, NoM
         work,
         tables,
     } = fields;
+    let posts = tables.posts;
+    let NodeTables {
+        links,
+        sessions,
+        outbox,
+    } = tables_of(alloc, tables)?;
     let Membership {
         me,
         beta,
         gamma,
         changes,
     } = membership;
-    let churn = Churn::from_parts(changes, work.echoes, u64::from(work.need));
-    let ops = ops_of(work);
-    let Tables {
-        posts,
-        links,
-        sessions,
-        kept,
-        answers,
-    } = tables;
-    let links = links_of(alloc, links)?;
-    let sessions = sessions_of(alloc, sessions)?;
-    let mut outbox = kept_up_to(alloc, posts, kept)?;
-    keep_answers(&mut outbox, answers);
     let parts = CoreParts {
         me,
         beta,
         gamma,
-        churn,
-        ops,
+        churn: Churn::from_parts(changes, work.echoes, u64::from(work.need)),
+        ops: ops_of(work),
         posts,
         links,
         sessions,

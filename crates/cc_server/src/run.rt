@@ -73,21 +73,15 @@ where
         + Sync,
 {
     let (shared, inlets) = Shared::new(alloc, &config.peers)?;
-    let shared = &shared;
-    let channels = Channels { rt, alloc, shared };
-    let site = FileSite::open(rt, alloc, config.dir, channels)?;
     let run = Run {
         rt,
         alloc,
         config,
         stop,
         hooks,
-        shared,
+        shared: &shared,
     };
-    match Flusher::open(alloc, Hooked { site, hooks }) {
-        Ok((engine, core)) => run_opened(&run, listener, inlets, engine, core),
-        Err(Back { site: _, fault }) => Err(RunFault::Open(fault)),
-    }
+    open_and_run(&run, listener, inlets)
 }
 
 // What a run goes by.
@@ -108,6 +102,37 @@ struct Ready<S: Site> {
     core: Core,
     listener: TcpListener,
     inlets: Inlets,
+}
+
+// Opens the folder and runs the node that is found there.
+fn open_and_run<R, H: Hooks + Sync>(
+    run: &Run<'_, R, H>,
+    listener: Option<TcpListener>,
+    inlets: Inlets,
+) -> Result<Finished<()>, RunFault>
+where
+    R: Files<File = File>
+        + Net<Listener = TcpListener, Stream = TcpStream>
+        + Threads
+        + Wait
+        + Clock
+        + Eprint
+        + Sync,
+{
+    let channels = Channels {
+        rt: run.rt,
+        alloc: run.alloc,
+        shared: run.shared,
+    };
+    let site = FileSite::open(run.rt, run.alloc, run.config.dir, channels)?;
+    let hooked = Hooked {
+        site,
+        hooks: run.hooks,
+    };
+    match Flusher::open(run.alloc, hooked) {
+        Ok((engine, core)) => run_opened(run, listener, inlets, engine, core),
+        Err(Back { site: _, fault }) => Err(RunFault::Open(fault)),
+    }
 }
 
 // Runs a node whose folder is open.

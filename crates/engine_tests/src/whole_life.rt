@@ -118,7 +118,8 @@ fn live(alloc: Global, flusher: &mut Flusher<MemorySite>) -> Result<Lived, Fail>
 // Opens a site and lives on it.
 fn open_and_live(alloc: Global, site: MemorySite) -> Result<(MemorySite, Lived), Fail> {
     match Flusher::open(alloc, site) {
-        Ok((mut flusher, _)) => {
+        Ok((mut flusher, core)) => {
+            drop(core);
             let lived = live(alloc, &mut flusher);
             let site = flusher.close();
             Ok((site, lived?))

@@ -95,7 +95,8 @@ fn checkpoint(flusher: &mut Flusher<MemorySite>) -> Result<(), Fail> {
 fn moved(alloc: Global) -> Result<MemorySite, Fail> {
     let site = member(alloc)?;
     match Flusher::open(alloc, site) {
-        Ok((mut flusher, _)) => {
+        Ok((mut flusher, core)) => {
+            drop(core);
             let outcome = checkpoint(&mut flusher);
             let site = flusher.close();
             outcome?;

@@ -1,4 +1,4 @@
-use Rattle.std.proofs.Common.{ℕ, ◌≡◌, length, arith}
+use Rattle.std.proofs.Common.{arith}
 use Rattle.cc_wire.proofs.Formats.{u16_spelled}
 use Rattle.cc_checkpoint.proofs.Ahead.{used, taken}
 use Rattle.cc_checkpoint.proofs.elements.take_count.Goals as goal

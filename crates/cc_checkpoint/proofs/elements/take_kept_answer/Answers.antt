@@ -1,4 +1,4 @@
-use Rattle.std.proofs.Common.{ℕ, ◌≡◌, length, arith}
+use Rattle.std.proofs.Common.{arith}
 use Rattle.cc_outbox.specs.Rows.{entry_of}
 use Rattle.cc_checkpoint.proofs.StateFormat.{kept_answer_spelled}
 use Rattle.cc_checkpoint.proofs.Ahead.{used, taken}

@@ -1,4 +1,4 @@
-use Rattle.std.proofs.Common.{ℕ, ◌≡◌, length, arith}
+use Rattle.std.proofs.Common.{arith}
 use Rattle.cc_links.specs.Rows.{entry_of}
 use Rattle.cc_checkpoint.proofs.StateFormat.{link_spelled}
 use Rattle.cc_checkpoint.proofs.Ahead.{used, taken}

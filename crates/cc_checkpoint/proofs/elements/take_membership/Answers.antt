@@ -1,4 +1,4 @@
-use Rattle.std.proofs.Common.{ℕ, ◌≡◌, length, arith}
+use Rattle.std.proofs.Common.{arith}
 use Rattle.cc_checkpoint.specs.Fields.{membership_in}
 use Rattle.cc_checkpoint.proofs.StateFormat.{membership_spelled}
 use Rattle.cc_checkpoint.proofs.Ahead.{used, taken}

@@ -1,4 +1,4 @@
-use Rattle.std.proofs.Common.{ℕ, ◌≡◌, length, arith}
+use Rattle.std.proofs.Common.{arith}
 use Rattle.cc_wire.proofs.Formats.{u64_spelled}
 use Rattle.cc_checkpoint.proofs.Ahead.{used, taken}
 use Rattle.cc_checkpoint.proofs.elements.take_number.Goals as goal

@@ -1,4 +1,3 @@
-use Rattle.std.proofs.Common.{ℕ, ◌≡◌, length, arith}
 use Rattle.cc_checkpoint.specs.Fields.{round_in}
 use Rattle.cc_checkpoint.proofs.StateFormat.{round_spelled}
 use Rattle.cc_checkpoint.proofs.Ahead.{used, taken}

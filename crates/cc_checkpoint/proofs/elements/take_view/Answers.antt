@@ -1,4 +1,3 @@
-use Rattle.std.proofs.Common.{ℕ, ◌≡◌, length, arith}
 use Rattle.cc_wire.proofs.Formats.{view_spelled}
 use Rattle.cc_checkpoint.proofs.Ahead.{used, taken}
 use Rattle.cc_checkpoint.proofs.elements.take_view.Goals as goal

@@ -1,4 +1,4 @@
-use Rattle.std.proofs.Common.{◌≡◌, ℕ, ◌+◌, List, take, drop, Ok, subst, sym, arith}
+use Rattle.std.proofs.Common.{◌≡◌, ℕ, List, take, drop, Ok, subst, sym, arith}
 use Rattle.std.proofs.lemmas.Result.{err_from_is_err_and}
 use Rattle.cc_wire.specs.Reading.{whole}
 use Rattle.cc_wire.proofs.Spelled.{IsBytes-take, IsBytes-drop}

@@ -1,4 +1,4 @@
-use Rattle.std.proofs.Common.{◌≡◌, ◌<◌, ◌+◌, ◌++◌, [], List, ℕ, get_or, drop, length, sym, ap, ◌∙◌, arith}
+use Rattle.std.proofs.Common.{◌≡◌, ◌<◌, ◌++◌, [], get_or, length, ap, arith}
 use Rattle.std.proofs.lemmas.List.{length-append}
 use Rattle.cc_checkpoint.specs.Parts.{parts_of}
 use Rattle.cc_checkpoint.proofs.PartLaws.{one_part_more}

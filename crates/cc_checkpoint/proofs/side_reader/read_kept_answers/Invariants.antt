@@ -1,4 +1,4 @@
-use Rattle.std.proofs.Common.{◌≡◌, ◌-◌, ◌<◌, ◌≤◌, Ok, map}
+use Rattle.std.proofs.Common.{◌≡◌, ◌-◌, ◌<◌, Ok, map}
 use Rattle.std.specs.List.{AllByRecursion}
 use Rattle.cc_views.specs.Tables.{IsRising}
 use Rattle.cc_outbox.specs.Rows.{entry_of}

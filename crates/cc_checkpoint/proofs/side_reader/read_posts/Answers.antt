@@ -1,4 +1,4 @@
-use Rattle.std.proofs.Common.{◌∷◌, [], ◌+◌, ◌∙◌, arith, rules, ap, refl}
+use Rattle.std.proofs.Common.{◌∷◌, [], ◌+◌, ◌∙◌, rules, ap}
 use Rattle.std.proofs.lemmas.Result.{err_from_is_err_and}
 use Rattle.std.proofs.lemmas.List.{length-append}
 use Rattle.cc_wire.specs.Messages.{message_at}
