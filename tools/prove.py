@@ -30,14 +30,40 @@ def add_from_below(crate, uses, found):
         found[crate] = uses[crate]
 
 
-def count_lines(crate):
-    count = 0
+def walk(crate):
+    """The folders that a crate is proved from, each with the names of its files."""
     for part in ("src", "specs", "proofs"):
         for folder, _, names in os.walk(f"crates/{crate}/{part}"):
-            for name in names:
-                with open(f"{folder}/{name}", encoding="utf-8") as it:
-                    count += sum(1 for _ in it)
+            yield folder, names
+
+
+def count_lines(crate):
+    count = 0
+    for folder, names in walk(crate):
+        for name in names:
+            with open(f"{folder}/{name}", encoding="utf-8") as it:
+                count += sum(1 for _ in it)
     return count
+
+
+def made_of(crate):
+    """The file that stands there once a crate is proved."""
+    is_program = os.path.isfile(f"crates/{crate}/src/main.rt")
+    return f"crates/{crate}/out/{crate}" if is_program else f"crates/{crate}/out/rlib/stamp"
+
+
+def current_among(uses):
+    """The crates of which nothing changed since they were proved, nor of those below."""
+    current = set()
+    for crate, below in uses.items():
+        made = made_of(crate)
+        if os.path.isfile(made) and current.issuperset(below):
+            paths = ["crates.txt", *map(made_of, below)]
+            for folder, names in walk(crate):
+                paths += [folder, *(f"{folder}/{it}" for it in names)]
+            if max(os.stat(it).st_mtime_ns for it in paths) <= os.stat(made).st_mtime_ns:
+                current.add(crate)
+    return current
 
 
 def chains_of(uses):
@@ -75,6 +101,7 @@ def take_back(crate, room):
     """Moves what was made of a crate from the copy into the tree."""
     shutil.rmtree(f"crates/{crate}/out", ignore_errors=True)
     os.rename(f"{room}/{crate}/crates/{crate}/out", f"crates/{crate}/out")
+    os.utime(made_of(crate))
     shutil.rmtree(f"{room}/{crate}")
 
 
@@ -82,7 +109,8 @@ def prove_all(uses, room):
     """Proves crates, each once those that it uses are proved. Whether all of them are."""
     above, chain = chains_of(uses)
     cores = len(os.sched_getaffinity(0))
-    waiting, proved, running = sorted(uses, key=above.get, reverse=True), set(), {}
+    proved, running = current_among(uses), {}
+    waiting = sorted(uses.keys() - proved, key=above.get, reverse=True)
     with concurrent.futures.ThreadPoolExecutor(cores) as threads:
         while waiting or running:
             ready = [it for it in waiting if proved.issuperset(uses[it])]

@@ -91,18 +91,35 @@ retired, 1 not, 2 after a command line that it doesn't take.";
 
 /// The program's subcommands and their words. The help has the program's own name, whatever its file is called.
 pub fn command_line<'a>(alloc: Global) -> Result<Command<'a>, AllocError> {
+    let mut subcommands = Vec::new(alloc);
+    push_subcommands(alloc, &mut subcommands)?;
     Command::new(alloc, "ccnode")
         .about("A durable node of a store-collect cluster")
         .version(VERSION)
         .subcommand_required(true)
         .bin_name("ccnode")?
-        .subcommand(player(alloc))?
-        .subcommand(formatter(alloc)?)?
-        .subcommand(runner(alloc)?)?
-        .subcommand(asker(alloc)?)?
-        .subcommand(leaver(alloc)?)?
-        .subcommand(retirer(alloc)?)?
-        .subcommand(dumper(alloc)?)
+        .subcommands(subcommands)
+}
+
+fn push_subcommands<'a>(
+    alloc: Global,
+    subcommands: &mut Vec<Command<'a>>,
+) -> Result<(), AllocError> {
+    push(subcommands, Ok(player(alloc)))?;
+    push(subcommands, formatter(alloc))?;
+    push(subcommands, runner(alloc))?;
+    push(subcommands, asker(alloc))?;
+    push(subcommands, leaver(alloc))?;
+    push(subcommands, retirer(alloc))?;
+    push(subcommands, dumper(alloc))
+}
+
+fn push<'a>(
+    subcommands: &mut Vec<Command<'a>>,
+    subcommand: Result<Command<'a>, AllocError>,
+) -> Result<(), AllocError> {
+    subcommands.push(subcommand?)?;
+    Ok(())
 }
 
 fn player<'a>(alloc: Global) -> Command<'a> {
@@ -112,60 +129,56 @@ fn player<'a>(alloc: Global) -> Command<'a> {
 }
 
 fn formatter<'a>(alloc: Global) -> Result<Command<'a>, AllocError> {
-    let id = Arg::new(alloc, "ID")
-        .required(true)
-        .help("The node's number, 1 or more");
-    let command = Command::new(alloc, "format")
+    let args = vec![in alloc;
+        folder(alloc),
+        required(alloc, "ID").help("The node's number, 1 or more"),
+        option(alloc, "initial", "LIST").help(
+            "The members at the start [default: none, for a node that enters later]",
+        ),
+        option(alloc, "contacts", "LIST").help(
+            "Whom an entering node can reach: all living members [default: none]",
+        ),
+        option(alloc, "beta", "N/D").help(
+            "The share of the members whose answers an operation waits for [default: 4/5]",
+        ),
+        option(alloc, "gamma", "N/D").help(
+            "The share of those present whose echoes an entering node waits for [default: 4/5]",
+        ),
+    ]?;
+    Command::new(alloc, "format")
         .about("Makes a folder keep a node as it begins")
         .after_help(FORMAT_HELP)
-        .arg(folder(alloc))?
-        .arg(id)?;
-    let command = command.arg(option(alloc, "initial", "LIST").help(
-        "The members at the start [default: none, for a node that enters later]",
-    ))?;
-    let command = command.arg(option(alloc, "contacts", "LIST").help(
-        "Whom an entering node can reach: all living members [default: none]",
-    ))?;
-    let command = command.arg(option(alloc, "beta", "N/D").help(
-        "The share of the members whose answers an operation waits for [default: 4/5]",
-    ))?;
-    command.arg(option(alloc, "gamma", "N/D").help(
-        "The share of those present whose echoes an entering node waits for [default: 4/5]",
-    ))
+        .args(args)
 }
 
 fn runner<'a>(alloc: Global) -> Result<Command<'a>, AllocError> {
-    let listen = option(alloc, "listen", "ADDR")
-        .required(true)
-        .help("Where it listens: an IPv4 address and a port");
-    let peers = option(alloc, "peers", "ID=ADDR,..").help(
-        "Where the other nodes listen [default: none]",
-    );
+    let args = vec![in alloc;
+        folder(alloc),
+        option(alloc, "listen", "ADDR")
+            .required(true)
+            .help("Where it listens: an IPv4 address and a port"),
+        option(alloc, "peers", "ID=ADDR,..").help("Where the other nodes listen [default: none]"),
+    ]?;
     Command::new(alloc, "run")
         .about("Runs a node over TCP")
         .after_help(RUN_HELP)
-        .arg(folder(alloc))?
-        .arg(listen)?
-        .arg(peers)
+        .args(args)
 }
 
 fn asker<'a>(alloc: Global) -> Result<Command<'a>, AllocError> {
-    let session = Arg::new(alloc, "SESSION").required(true).help(
-        "The client's session: a number of its own. A node serves 256 of them in its life",
-    );
-    let command = Arg::new(alloc, "COMMAND")
-        .required(true)
-        .help("What is to be done, as below");
-    let value = Arg::new(alloc, "VALUE").help("The word that some commands have");
-    let timeout = option(alloc, "timeout", "SECONDS").help("How long it waits [default: 10]");
+    let args = vec![in alloc;
+        address(alloc),
+        required(alloc, "SESSION").help(
+            "The client's session: a number of its own. A node serves 256 of them in its life",
+        ),
+        required(alloc, "COMMAND").help("What is to be done, as below"),
+        Arg::new(alloc, "VALUE").help("The word that some commands have"),
+        option(alloc, "timeout", "SECONDS").help("How long it waits [default: 10]"),
+    ]?;
     Command::new(alloc, "ask")
         .about("Has a node do something, and prints its answer")
         .after_help(ASK_HELP)
-        .arg(address(alloc))?
-        .arg(session)?
-        .arg(command)?
-        .arg(value)?
-        .arg(timeout)
+        .args(args)
 }
 
 fn leaver<'a>(alloc: Global) -> Result<Command<'a>, AllocError> {
@@ -176,14 +189,14 @@ fn leaver<'a>(alloc: Global) -> Result<Command<'a>, AllocError> {
 }
 
 fn retirer<'a>(alloc: Global) -> Result<Command<'a>, AllocError> {
-    let node = Arg::new(alloc, "ID")
-        .required(true)
-        .help("The number of the node that is dead for good");
+    let args = vec![in alloc;
+        address(alloc),
+        required(alloc, "ID").help("The number of the node that is dead for good"),
+    ]?;
     Command::new(alloc, "retire")
         .about("Tells a node that another one is dead for good")
         .after_help(RETIRE_HELP)
-        .arg(address(alloc))?
-        .arg(node)
+        .args(args)
 }
 
 fn dumper<'a>(alloc: Global) -> Result<Command<'a>, AllocError> {
@@ -194,15 +207,15 @@ fn dumper<'a>(alloc: Global) -> Result<Command<'a>, AllocError> {
 }
 
 fn folder<'a>(alloc: Global) -> Arg<'a> {
-    Arg::new(alloc, "DIR")
-        .required(true)
-        .help("The node's folder, which has to exist")
+    required(alloc, "DIR").help("The node's folder, which has to exist")
 }
 
 fn address<'a>(alloc: Global) -> Arg<'a> {
-    Arg::new(alloc, "ADDR")
-        .required(true)
-        .help("Where the node listens, such as 127.0.0.1:7001")
+    required(alloc, "ADDR").help("Where the node listens, such as 127.0.0.1:7001")
+}
+
+fn required<'a>(alloc: Global, name: &'a str) -> Arg<'a> {
+    Arg::new(alloc, name).required(true)
 }
 
 fn option<'a>(alloc: Global, name: &'a str, value: &'a str) -> Arg<'a> {

@@ -64,25 +64,43 @@ pub fn parse<'a>(alloc: Global, words: &'a [String]) -> Result<Order<'a>, clap::
 }
 
 fn order_of<'a>(matches: &ArgMatches<'a>) -> Order<'a> {
-    match matches.subcommand() {
-        Some(("format", words)) => Order::Format(formatted_words(words)),
-        Some(("run", words)) => Order::Run {
+    let Some((name, words)) = matches.subcommand() else {
+        return Order::Play;
+    };
+    match order_at_folder(name, words) {
+        Some(order) => order,
+        None => order_at_node(name, words).unwrap_or(Order::Play),
+    }
+}
+
+// What has the folder of a node.
+fn order_at_folder<'a>(name: &str, words: &ArgMatches<'a>) -> Option<Order<'a>> {
+    match name {
+        "format" => Some(Order::Format(formatted_words(words))),
+        "run" => Some(Order::Run {
             folder: required(words, "DIR"),
             listen: required(words, "listen"),
             peers: words.get_str("peers"),
-        },
-        Some(("ask", words)) => Order::Ask(asked_words(words)),
-        Some(("leave", words)) => Order::Leave {
+        }),
+        "dump" => Some(Order::Dump {
+            folder: required(words, "DIR"),
+        }),
+        _ => None,
+    }
+}
+
+// What has the address of a node that runs.
+fn order_at_node<'a>(name: &str, words: &ArgMatches<'a>) -> Option<Order<'a>> {
+    match name {
+        "ask" => Some(Order::Ask(asked_words(words))),
+        "leave" => Some(Order::Leave {
             address: required(words, "ADDR"),
-        },
-        Some(("retire", words)) => Order::Retire {
+        }),
+        "retire" => Some(Order::Retire {
             address: required(words, "ADDR"),
             node: required(words, "ID"),
-        },
-        Some(("dump", words)) => Order::Dump {
-            folder: required(words, "DIR"),
-        },
-        _ => Order::Play,
+        }),
+        _ => None,
     }
 }
 

@@ -3,6 +3,7 @@
 use crate::deadline::Deadline;
 use crate::sending::{connect, pause, receive, send};
 use cc_commands::AskOrder;
+use cc_frames::Frame;
 use cc_protocol::{Client, Heard, Incoming, Step};
 use cc_texts::PrintedAnswer;
 use cc_wire::{Answer, Refusal};
@@ -34,6 +35,14 @@ pub fn ask_node<R: Net<Stream = TcpStream> + Clock, W: Write>(
 struct Asking {
     client: Client,
     refusal: Option<Refusal>,
+}
+
+// What a client does next on a connection.
+#[derive(Drop)]
+enum Next {
+    Listen,
+    Again,
+    End(Ended),
 }
 
 // How a client's asking ended.
@@ -75,28 +84,63 @@ impl Asking {
         deadline: &Deadline,
     ) -> Option<Ended> {
         let mut incoming = Incoming::new(alloc, stream).ok()?;
+        self.hear_out(rt, alloc, stream, &mut incoming, deadline)
+    }
+
+    fn hear_out<R: Clock>(
+        &mut self,
+        rt: &R,
+        alloc: Global,
+        stream: &TcpStream,
+        incoming: &mut Incoming<&TcpStream>,
+        deadline: &Deadline,
+    ) -> Option<Ended> {
         let mut heard = Heard::Ready;
         for _ in 0..u64::MAX {
-            match self.client.hear(heard) {
-                Step::Send(frame) => {
-                    deadline.left(rt)?;
-                    // From here on nobody knows what becomes of it.
-                    self.refusal = None;
-                    send(alloc, stream, &frame)?;
-                }
-                Step::Wait => {}
-                Step::Retry(why) => {
-                    self.refusal = why;
-                    pause(rt);
-                    heard = Heard::Ready;
-                    continue;
-                }
-                Step::Done(answer) => return Some(Ended::Answered(answer)),
-                Step::Refused(why) => return Some(Ended::Refused(why)),
+            match self.act(rt, alloc, stream, heard, deadline)? {
+                Next::Listen => heard = Heard::Came(receive(rt, stream, incoming, deadline)?),
+                Next::Again => heard = Heard::Ready,
+                Next::End(ended) => return Some(ended),
             }
-            heard = Heard::Came(receive(rt, stream, &mut incoming, deadline)?);
         }
         None
+    }
+
+    // Does what the client does next. None where the connection breaks, or the time is over.
+    fn act<R: Clock>(
+        &mut self,
+        rt: &R,
+        alloc: Global,
+        stream: &TcpStream,
+        heard: Heard,
+        deadline: &Deadline,
+    ) -> Option<Next> {
+        match self.client.hear(heard) {
+            Step::Send(frame) => { self.send(rt, alloc, stream, &frame, deadline) }
+            Step::Wait => Some(Next::Listen),
+            Step::Retry(why) => {
+                self.refusal = why;
+                pause(rt);
+                Some(Next::Again)
+            }
+            Step::Done(answer) => Some(Next::End(Ended::Answered(answer))),
+            Step::Refused(why) => Some(Next::End(Ended::Refused(why))),
+        }
+    }
+
+    fn send<R: Clock>(
+        &mut self,
+        rt: &R,
+        alloc: Global,
+        stream: &TcpStream,
+        frame: &Frame,
+        deadline: &Deadline,
+    ) -> Option<Next> {
+        deadline.left(rt)?;
+        // From here on nobody knows what becomes of it.
+        self.refusal = None;
+        send(alloc, stream, frame)?;
+        Some(Next::Listen)
     }
 }
 

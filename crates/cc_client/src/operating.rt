@@ -42,7 +42,8 @@ pub fn retire_node<R: Net<Stream = TcpStream> + Clock, W: Write>(
     output: &mut W,
 ) -> io::Result<u8> {
     let RetireOrder { address, node } = *order;
-    match bring(rt, alloc, &address, &Frame::Retire { node }) {
+    let brought = bring(rt, alloc, &address, &Frame::Retire { node });
+    match brought {
         Ok(()) => {
             writeln!(output, "retired {}", node.number())?;
             output.flush()?;
@@ -74,13 +75,24 @@ fn outcome<R: Clock>(
     stream: &TcpStream,
     request: &Frame,
 ) -> Option<Outcome> {
-    let deadline = Deadline::new(rt, PATIENCE);
     let mut incoming = Incoming::new(alloc, stream).ok()?;
+    exchange(rt, alloc, stream, &mut incoming, request)
+}
+
+fn exchange<R: Clock>(
+    rt: &R,
+    alloc: Global,
+    stream: &TcpStream,
+    incoming: &mut Incoming<&TcpStream>,
+    request: &Frame,
+) -> Option<Outcome> {
+    let deadline = Deadline::new(rt, PATIENCE);
     send(alloc, stream, request)?;
     send(alloc, stream, request)?;
     for _ in 0..u64::MAX {
-        let frame = receive(rt, stream, &mut incoming, &deadline)?;
+        let frame = receive(rt, stream, incoming, &deadline)?;
         let outcome = outcome_of(&frame);
+        drop(frame);
         if outcome.is_some() {
             return outcome;
         }
