@@ -84,10 +84,10 @@ impl Asking {
         deadline: &Deadline,
     ) -> Option<Ended> {
         let mut incoming = Incoming::new(alloc, stream).ok()?;
-        self.hear_out(rt, alloc, stream, &mut incoming, deadline)
+        self.exchange(rt, alloc, stream, &mut incoming, deadline)
     }
 
-    fn hear_out<R: Clock>(
+    fn exchange<R: Clock>(
         &mut self,
         rt: &R,
         alloc: Global,
@@ -116,7 +116,7 @@ impl Asking {
         deadline: &Deadline,
     ) -> Option<Next> {
         match self.client.hear(heard) {
-            Step::Send(frame) => { self.send(rt, alloc, stream, &frame, deadline) }
+            Step::Send(frame) => self.send(rt, alloc, stream, &frame, deadline),
             Step::Wait => Some(Next::Listen),
             Step::Retry(why) => {
                 self.refusal = why;
