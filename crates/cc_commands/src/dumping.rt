@@ -61,8 +61,16 @@ fn print_side<W: Write>(side: Side, peeked: Peeked, output: &mut W) -> io::Resul
 // What opening finds.
 fn found<S: Site + Drop>(alloc: Global, site: S) -> Result<Opened, OpenFault> {
     match Flusher::open(alloc, site) {
-        Ok((engine, _)) => Ok(engine.opened()),
-        Err(Back { site: _, fault }) => Err(fault),
+        Ok((engine, core)) => {
+            drop(core);
+            let opened = engine.opened();
+            drop(engine);
+            Ok(opened)
+        }
+        Err(Back { site, fault }) => {
+            drop(site);
+            Err(fault)
+        }
     }
 }
 
