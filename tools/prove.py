@@ -2,16 +2,19 @@
 """Proves crates and what they stand on, and builds those that are programs: prove.py CRATE..
 
 A crate is begun once those that it uses are proved. Those of the longest chain get all processors, and the others one
-at a time of what is left, as many at once as there are processors. What was proved before isn't proved again. A tree
-takes one rt at a time, so a crate is proved in a copy of the tree by hard links, and its folder `out` is moved back. A
-line is printed for each crate that is proved, and all that was said of one that isn't; the status is 1 then."""
+at a time of what is left, as many at once as there are processors. What was proved before isn't proved again, nor what
+stands below a program that is newer than all of it, as `make test` leaves one. A tree takes one rt at a time, so a crate
+is proved in a copy of the tree by hard links, and its folder `out` is moved back. A line is printed for each crate that
+is proved, and all that was said of one that isn't; the status is 1 then."""
 import concurrent.futures
+import itertools
 import os
 import re
 import shutil
 import subprocess
 import sys
 import tempfile
+import time
 
 
 def read_uses():
@@ -46,23 +49,36 @@ def count_lines(crate):
     return count
 
 
+def is_program(crate):
+    return os.path.isfile(f"crates/{crate}/src/main.rt")
+
+
 def made_of(crate):
     """The file that stands there once a crate is proved."""
-    is_program = os.path.isfile(f"crates/{crate}/src/main.rt")
-    return f"crates/{crate}/out/{crate}" if is_program else f"crates/{crate}/out/rlib/stamp"
+    return f"crates/{crate}/out/{crate}" if is_program(crate) else f"crates/{crate}/out/rlib/stamp"
+
+
+def is_newest(made, crates, others=()):
+    """Whether a file is there that is newer than these others, and than all that these crates are proved from."""
+    paths = ["crates.txt", *others]
+    for folder, names in itertools.chain.from_iterable(map(walk, crates)):
+        paths += [folder, *(f"{folder}/{it}" for it in names)]
+    return os.path.isfile(made) and max(map(os.path.getmtime, paths)) <= os.path.getmtime(made)
+
+
+def is_built(crate, uses):
+    """Whether it is a program of which nothing changed since it was built, nor of what it stands on."""
+    below = {}
+    add_from_below(crate, uses, below)
+    return is_program(crate) and is_newest(made_of(crate), below)
 
 
 def current_among(uses):
     """The crates of which nothing changed since they were proved, nor of those below."""
     current = set()
     for crate, below in uses.items():
-        made = made_of(crate)
-        if os.path.isfile(made) and current.issuperset(below):
-            paths = ["crates.txt", *map(made_of, below)]
-            for folder, names in walk(crate):
-                paths += [folder, *(f"{folder}/{it}" for it in names)]
-            if max(os.stat(it).st_mtime_ns for it in paths) <= os.stat(made).st_mtime_ns:
-                current.add(crate)
+        if current.issuperset(below) and is_newest(made_of(crate), [crate], map(made_of, below)):
+            current.add(crate)
     return current
 
 
@@ -90,18 +106,18 @@ def copy_tree(crate, room):
 
 def prove(folder, jobs, nice):
     """Proves the crate of a folder, and builds it where it is a program. The status, and what was said."""
-    is_program = os.path.isfile(f"{folder}/src/main.rt")
-    words = ["rt", "run", "--jobs", jobs, "--", "--help"] if is_program else ["rt", "lib", "--jobs", jobs]
+    builds = os.path.isfile(f"{folder}/src/main.rt")
+    words = ["rt", "run", "--jobs", jobs, "--", "--help"] if builds else ["rt", "lib", "--jobs", jobs]
     how = {"stdin": subprocess.DEVNULL, "stdout": subprocess.PIPE, "stderr": subprocess.STDOUT}
     ran = subprocess.run(["nice", "-n", nice, *words], cwd=folder, **how)
     return ran.returncode, ran.stdout.decode(errors="replace")
 
 
-def take_back(crate, room):
-    """Moves what was made of a crate from the copy into the tree."""
+def take_back(crate, room, begun):
+    """Moves what was made of a crate, from what stood there at that time, from the copy into the tree."""
     shutil.rmtree(f"crates/{crate}/out", ignore_errors=True)
     os.rename(f"{room}/{crate}/crates/{crate}/out", f"crates/{crate}/out")
-    os.utime(made_of(crate))
+    os.utime(made_of(crate), (begun, begun))
     shutil.rmtree(f"{room}/{crate}")
 
 
@@ -116,16 +132,17 @@ def prove_all(uses, room):
             ready = [it for it in waiting if proved.issuperset(uses[it])]
             for crate in ready[: cores - len(running)]:
                 waiting.remove(crate)
+                begun = time.time()
                 copy_tree(crate, room)
                 share = (str(cores), "0") if crate in chain else ("1", "10")
-                running[threads.submit(prove, f"{room}/{crate}/crates/{crate}", *share)] = crate
+                running[threads.submit(prove, f"{room}/{crate}/crates/{crate}", *share)] = crate, begun
             for each in concurrent.futures.wait(running, return_when=concurrent.futures.FIRST_COMPLETED).done:
-                crate, (status, said) = running.pop(each), each.result()
+                (crate, begun), (status, said) = running.pop(each), each.result()
                 if status:
                     print(said, end="", flush=True)
                     waiting.clear()
                     continue
-                take_back(crate, room)
+                take_back(crate, room, begun)
                 proved.add(crate)
                 if functions := re.search(r"^logic=proved functions=(\d+)", said, re.MULTILINE):
                     print(f"{len(proved)} of {len(uses)}: {crate}, {functions[1]} functions proved", flush=True)
@@ -138,7 +155,8 @@ def main(crates):
     if not crates or not uses.keys() >= {*crates}:
         sys.exit("say which of the crates of crates.txt: prove.py CRATE..")
     for it in crates:
-        add_from_below(it, uses, wanted)
+        if not is_built(it, uses):
+            add_from_below(it, uses, wanted)
     with tempfile.TemporaryDirectory(prefix="proving.", dir=".") as room:
         return 0 if prove_all(wanted, room) else 1
 

@@ -73,13 +73,16 @@ impl<R: Wait, I: Input, S: Seating, D: Replies> Caller<'_, R, I, S, D> {
     {
         let event = self.event()?;
         let Ok(kept) = event.copy(self.alloc) else {
+            drop(event);
             return Err(Done::NoMemory);
         };
         self.route(&event);
         if !self.seating.sit(self.rt, &event) {
+            drop(event);
+            drop(kept);
             return Err(Done::Closed);
         }
-        self.given = Some(kept);
+        drop(self.given.replace(kept));
         Ok(event)
     }
 

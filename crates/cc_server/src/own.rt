@@ -36,8 +36,9 @@ impl<R: Wait> Own<'_, R> {
     fn pair(&mut self) -> Option<(Event, Event)> {
         for _ in self.rt.forever() {
             let event = self.event()?;
-            if let Ok(kept) = event.copy(self.alloc) {
-                return Some((event, kept));
+            match event.copy(self.alloc) {
+                Ok(kept) => return Some((event, kept)),
+                Err(_) => drop(event),
             }
         }
         unreachable!()
@@ -52,27 +53,29 @@ impl<R: Wait> Source for Own<'_, R> {
     fn next(&mut self) -> Option<Event> {
         let (event, kept) = self.pair()?;
         if !self.shared.room.sit_anyway(self.rt, &self.shared.bell) {
+            drop(event);
+            drop(kept);
             return None;
         }
-        self.given = Some(kept);
+        drop(self.given.replace(kept));
         Some(event)
     }
 
     fn told(&mut self, answer: Result<Accepted, Refusal>) {
-        let Some(event) = self.given.take() else {
+        let Some(event) = &self.given else {
             return;
         };
+        let duty = duty_of(event, answer);
         if answer.is_err() {
             self.shared.room.leave(self.rt);
         }
-        match duty_of(&event, answer) {
+        match duty {
             Duty::Wake => self.shared.bell.ring(),
             Duty::Ride => self.shared.bell.ride(),
             Duty::Reack(peer) => self.shared.reack(self.rt, peer),
             Duty::BringAgain => self.is_due = true,
-            _ => {}
+            other => drop(other),
         }
-        self.given = Some(event);
     }
 }
 
