@@ -78,9 +78,7 @@ pub fn view_is_spellable(view: &View)
 /// Every id has a spelling.
 pub fn id_is_spellable(id: NodeId)
     ensures { IsId id }
-{
-    let _ = id.number();
-}
+{}
 
 fn ids_are_spellable(ids: &[NodeId])
     ensures { AllByRecursion IsId ids.now }

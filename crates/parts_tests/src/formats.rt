@@ -710,3 +710,24 @@ fn refusals_print_their_number_and_name(rt: HostRuntime) -> Result<(), Fail> {
     }
     Ok(())
 }
+
+#[test]
+fn faults_of_the_wire_print_what_is_wrong(rt: HostRuntime) -> Result<(), Fail> {
+    for (fault, wanted) in [
+        (WireFault::Short, "the bytes end inside a field"),
+        (WireFault::BadKind(7), "7 is no kind or flag"),
+        (
+            WireFault::NotAscending,
+            "a list isn't ascending, or an id is 0",
+        ),
+        (WireFault::TooLarge, "a length is above its limit"),
+        (WireFault::Trailing, "bytes are left"),
+        (WireFault::NoMemory, "out of memory"),
+        (WireFault::Broken, "the stream was refused before"),
+    ] {
+        let text = format!(in rt.alloc(); "{fault}")?;
+        assert_eq!(rt; text.as_str(), wanted);
+        drop(text);
+    }
+    Ok(())
+}
