@@ -16,3 +16,16 @@ mod Clustering
 mod Moving
 mod Agreeing
 mod Lines
+mod Places
+mod Says
+mod Traces
+mod Pending
+mod CountedAnswers
+mod Knowing
+mod Answering
+mod Regularity
+mod Steady
+mod Once
+mod Quorums
+mod Lasting
+mod ReadingBack

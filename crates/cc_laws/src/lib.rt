@@ -4,7 +4,12 @@
 mod clusters;
 mod histories;
 mod lives;
+mod regular;
 
 pub use clusters::cluster_agrees;
 pub use histories::{one_line, outputs_have_events, views_follow};
 pub use lives::{lives_hold, lives_join, moments_end_lives};
+pub use regular::{
+    collects_are_regular, members_collect_regularly, objects_are_regular, quorums_meet,
+    shared_nodes_tell,
+};
