@@ -24,6 +24,7 @@ mod CountedAnswers
 mod Knowing
 mod Answering
 mod Regularity
+mod Counting
 mod Steady
 mod Once
 mod Quorums

@@ -1,12 +1,11 @@
 -- Where nobody enters, leaves or is retired: every message is of a round, and every round needs as many answers as the first.
 --     IsQuiet, run_quiet        each event is so
---     Counted, round_size       a round that ended counted as many answers as it needs
-use Rattle.std.proofs.Common.{◌≡◌, inl, inr, ℕ, ◌+◌, ◌*◌, ◌<◌, Bool, true, false, List, [], ◌∷◌, ◌++◌, take, length, refl, sym, ap, subst, ◌∙◌, arith}
-use Rattle.std.specs.Prelude.{Some, IfSome, ⊤, ◌&&◌, not, if◌then◌else◌}
-use Rattle.std.specs.Bool.{then_some}
+--     Needs, round_size         a round that ended counted as many answers as the first one needs
+use Rattle.std.proofs.Common.{◌≡◌, inl, inr, ℕ, ◌*◌, ◌<◌, Bool, true, false, List, [], ◌∷◌, ◌++◌, take, length, refl, sym, ap, subst, ◌∙◌}
+use Rattle.std.specs.Prelude.{Some, is_some, IfSome, ⊤, ◌&&◌, not, if◌then◌else◌}
 use Rattle.std.specs.List.{Contains, AllByRecursion}
 use Rattle.std.specs.FinMap as table
-use Rattle.std.proofs.lemmas.Bool.{cond_both, eqb-true}
+use Rattle.std.proofs.lemmas.Bool.{cond_both}
 use Rattle.std.proofs.lemmas.List.Elements.{All-contains, All-from_recursion}
 use Rattle.cc_views.specs.NatSets as set
 use Rattle.cc_views.specs.NatSets.{same_ids, contains-difference, contains-empty}
@@ -21,7 +20,7 @@ use Rattle.cc_wire.specs.declared.output.Output.TheVariants as output
 use Rattle.cc_ops.specs.declared.pending.Asked.{Asked}
 use Rattle.cc_ops.specs.Commands.{is_writing}
 use Rattle.cc_ops.specs.Ops as ops
-use Rattle.cc_ops.specs.Ops.{Ops, Phase, Idle, Storing, Querying, StoringBack, is_idle, is_last, is_own, round_of, counted, merged, next_round, with_written, with_own_row, with_begun, after_reply, after_last, after_ack, after_message, ends_query, ends_store}
+use Rattle.cc_ops.specs.Ops.{Ops, Phase, Idle, Storing, Querying, StoringBack, is_idle, is_last, is_own, round_of, counted, merged, next_round, with_written, with_own_row, with_begun, after_reply, after_last, after_ack}
 use Rattle.cc_node.specs.Core.{Core, quorum, asked_of, begun, handled, next, post}
 use Rattle.cc_node.specs.Node.{Node, step, after, line}
 use Rattle.cc_node.specs.Opening.{Opening, fresh}
@@ -29,7 +28,9 @@ use Rattle.cc_laws.specs.Clusters.{Member, Cluster, with_member, accepting, IsOw
 use Rattle.cc_laws.specs.Runs.{Run, IsFreshCluster}
 use Rattle.cc_laws.specs.Fixed.{count_of, IsFixedMember, IsFixedCluster, StaysBy, Stays}
 use Rattle.cc_laws.specs.Regular.{released_events}
-use Rattle.cc_laws.specs.Rounds.{awaits_views, awaits_acks, counts, ends_by, ends_round, with_peer, peers_next, peers_along, Round, peers_of}
+use Rattle.cc_laws.specs.Rounds.{Round, peers_of}
+use Rattle.cc_laws.specs.Progress.{round_under, need_in}
+use Rattle.cc_laws.proofs.Counting.{ended_is, round_enough}
 use Rattle.cc_laws.proofs.Lists.{all_both, all_front, all_take, some_if, some_mapped, at_some}
 use Rattle.cc_laws.proofs.Clustering.{Holds, at_id, same_some}
 use Rattle.cc_laws.proofs.Moving.{move_holds}
@@ -107,7 +108,8 @@ member_quiet c q n h k p o is =
       | inr e ↦ h p o (sym e ∙ is)
     ]
 
-member_fixed : (all : List ℕ) (c : Cluster) (q : ℕ) (m n : Member) → IsFixedCluster all c → table.get c.members q ≡ Some m → n.opening ≡ m.opening → IsFixedCluster all (with_member q n c)
+member_fixed : (all : List ℕ) (c : Cluster) (q : ℕ) (m n : Member) → IsFixedCluster all c → table.get c.members q ≡ Some m → n.opening ≡ m.opening
+    → IsFixedCluster all (with_member q n c)
 member_fixed all c q m n h at opening p o is =
     elim (at_id c q n p) as (λ _. IsFixedMember all p o) [
       | inl e ↦
@@ -138,7 +140,8 @@ own_quiet (event.Acked peer n) h k = tt
 own_quiet (event.Ask s r command) h k = tt
 own_quiet (event.Retire q) h k = absurd k
 
-move_quiet : (c : Cluster) (q : ℕ) (m : Member) (move : Move) (d : Cluster) → Traces c → AreQuiet c → Stays move → table.get c.members q ≡ Some m → MovesBy c q m move d → AreQuiet d
+move_quiet : (c : Cluster) (q : ℕ) (m : Member) (move : Move) (d : Cluster) → Traces c → AreQuiet c → Stays move → table.get c.members q ≡ Some m
+    → MovesBy c q m move d → AreQuiet d
 move_quiet c q m (Accept e) d t h k at s =
     subst AreQuiet (sym s.2) (member_quiet c q (accepting e m) h (all_both IsQuiet m.events (e ∷ []) (h q m at) (own_quiet e s.0 k, tt)))
 move_quiet c q m (Receive from n x) d t h k at s =
@@ -150,7 +153,8 @@ move_quiet c q m (Resend o) d t h k at s = subst AreQuiet (sym s.1) h
 move_quiet c q m (Crash j) d t h k at s =
     subst AreQuiet (sym s.2) (member_quiet c q (record m { events = take j m.events; released = j; durable = j }) h (all_take IsQuiet j m.events (h q m at)))
 
-move_fixed : (all : List ℕ) (c : Cluster) (q : ℕ) (m : Member) (move : Move) (d : Cluster) → IsFixedCluster all c → table.get c.members q ≡ Some m → MovesBy c q m move d → IsFixedCluster all d
+move_fixed : (all : List ℕ) (c : Cluster) (q : ℕ) (m : Member) (move : Move) (d : Cluster) → IsFixedCluster all c → table.get c.members q ≡ Some m
+    → MovesBy c q m move d → IsFixedCluster all d
 move_fixed all c q m (Accept e) d h at s = subst (IsFixedCluster all) (sym s.2) (member_fixed all c q m (accepting e m) h at refl)
 move_fixed all c q m (Receive from n x) d h at s = subst (IsFixedCluster all) (sym s.2) (member_fixed all c q m (accepting (event.Deliver from n x) m) h at refl)
 move_fixed all c q m (Sync j) d h at s = subst (IsFixedCluster all) (sym s.2) (member_fixed all c q m (record m { durable = j }) h at refl)
@@ -159,7 +163,8 @@ move_fixed all c q m (Resend o) d h at s = subst (IsFixedCluster all) (sym s.1) 
 move_fixed all c q m (Crash j) d h at s =
     subst (IsFixedCluster all) (sym s.2) (member_fixed all c q m (record m { events = take j m.events; released = j; durable = j }) h at refl)
 
-pub run_steady : (all : List ℕ) (c : Cluster) (moves : List (ℕ × Move)) (d : Cluster) → Holds c → Traces c → AreQuiet c → IsFixedCluster all c → AllByRecursion (λ move. Stays move.1) moves → Run c moves d
+pub run_steady : (all : List ℕ) (c : Cluster) (moves : List (ℕ × Move)) (d : Cluster) → Holds c → Traces c → AreQuiet c → IsFixedCluster all c
+    → AllByRecursion (λ move. Stays move.1) moves → Run c moves d
     → AreQuiet d × IsFixedCluster all d
 run_steady all c [] d h t quiet fixed k r = (subst AreQuiet (sym r) quiet, subst (IsFixedCluster all) (sym r) fixed)
 run_steady all c (move ∷ moves) d h t quiet fixed k r =
@@ -204,138 +209,91 @@ pub fresh_quorum : (o : Opening) → quorum (fresh o).core ≡ needed o.beta (co
 unfolding fresh
 fresh_quorum o = ap (λ (s : set.NatSet). needed o.beta (set.len s)) (without_none (set.from_list o.initial))
 
--- ---- how many answers a round has
-
-abbrev pub CountsTo : ℕ → List ℕ → Phase → Type 0
-CountsTo need peers Idle = peers ≡ []
-CountsTo need peers (Storing p) = (p.count ≡ length peers) × (p.need ≡ need)
-CountsTo need peers (Querying p) = (p.count ≡ length peers) × (p.need ≡ need)
-CountsTo need peers (StoringBack p seen) = (p.count ≡ length peers) × (p.need ≡ need)
+abbrev pub Needs : ℕ → Phase → Type 0
+Needs need Idle = ⊤
+Needs need (Storing p) = p.need ≡ need
+Needs need (Querying p) = p.need ≡ need
+Needs need (StoringBack p seen) = p.need ≡ need
 
 module _ (need : ℕ) where
-  begun_counts : (me quorum : ℕ) (a : Asked) (s : Ops) → quorum ≡ need → CountsTo need [] (with_begun me quorum a s).phase
-  begun_counts me quorum a s is =
+  begun_needs : (me quorum : ℕ) (a : Asked) (s : Ops) → quorum ≡ need → Needs need (with_begun me quorum a s).phase
+  begun_needs me quorum a s is =
       cond_both (is_writing a.command) (next_round (Storing (round_of quorum a)) (with_own_row me (with_written a.command s))) (next_round (Querying (round_of quorum a)) s)
-      (λ (t : Ops). CountsTo need [] t.phase) (λ _. (refl, is)) (λ _. (refl, is))
+      (λ (t : Ops). Needs need t.phase) (λ _. is) (λ _. is)
 
-  last_counts : (me quorum : ℕ) (line : List Asked) (s : Ops) → quorum ≡ need → CountsTo need [] (after_last me quorum line s).phase
-  last_counts me quorum [] s is = refl
-  last_counts me quorum (a ∷ line) s is = begun_counts me quorum a (record s { line = line }) is
+  last_needs : (me quorum : ℕ) (line : List Asked) (s : Ops) → quorum ≡ need → Needs need (after_last me quorum line s).phase
+  last_needs me quorum [] s is = tt
+  last_needs me quorum (a ∷ line) s is = begun_needs me quorum a (record s { line = line }) is
 
-  same_counts : (peers : List ℕ) (s : Ops) (phase : Phase) → s.phase ≡ phase → CountsTo need peers phase → CountsTo need peers s.phase
-  same_counts peers s phase is h = subst (CountsTo need peers) (sym is) h
+  either_needs : (b : Bool) (s t : Ops) → Needs need s.phase → Needs need t.phase → Needs need (if b then s else t).phase
+  either_needs true s t h k = h
+  either_needs false s t h k = k
 
-  ack_counts : (me quorum from : ℕ) (peers : List ℕ) (s : Ops) → quorum ≡ need → (b : Bool) (phase : Phase) → s.phase ≡ phase → CountsTo need peers phase
-      → CountsTo need (if b && ends_store phase then [] else with_peer (then_some (b && awaits_acks phase) from) peers) (if b then after_ack me quorum phase s else s).phase
-  ack_counts me quorum from peers s same false phase is h = same_counts peers s phase is h
-  ack_counts me quorum from peers s same true Idle is h = same_counts peers s Idle is h
-  ack_counts me quorum from peers s same true (Storing p) is h =
-      elim (is_last p) as (λ b. CountsTo need (if b then [] else from ∷ peers) (if b then after_last me quorum s.line s else record s { phase = Storing (counted p) }).phase) [
-        | true ↦ last_counts me quorum s.line s same
-        | false ↦ (omega (arith, h.0), h.1)
-      ]
-  ack_counts me quorum from peers s same true (Querying p) is h = same_counts peers s (Querying p) is h
-  ack_counts me quorum from peers s same true (StoringBack p seen) is h =
-      elim (is_last p) as (λ b. CountsTo need (if b then [] else from ∷ peers) (if b then after_last me quorum s.line s else record s { phase = StoringBack (counted p) seen }).phase) [
-        | true ↦ last_counts me quorum s.line s same
-        | false ↦ (omega (arith, h.0), h.1)
-      ]
+  ack_needs : (me quorum : ℕ) (s : Ops) → quorum ≡ need → (phase : Phase) → Needs need phase → Needs need s.phase
+      → Needs need (after_ack me quorum phase s).phase
+  ack_needs me quorum s same Idle k h = h
+  ack_needs me quorum s same (Storing p) k h =
+      either_needs (is_last p) (after_last me quorum s.line s) (record s { phase = Storing (counted p) }) (last_needs me quorum s.line s same) k
+  ack_needs me quorum s same (Querying p) k h = h
+  ack_needs me quorum s same (StoringBack p seen) k h =
+      either_needs (is_last p) (after_last me quorum s.line s) (record s { phase = StoringBack (counted p) seen }) (last_needs me quorum s.line s same) k
 
-  reply_counts : (quorum from : ℕ) (v : ViewMap) (peers : List ℕ) (s : Ops) → quorum ≡ need → (b : Bool) (phase : Phase) → s.phase ≡ phase → CountsTo need peers phase
-      → CountsTo need (if b && ends_query phase then [] else with_peer (then_some (b && awaits_views phase) from) peers) (if b then after_reply quorum v phase s else s).phase
-  reply_counts quorum from v peers s same false phase is h = same_counts peers s phase is h
-  reply_counts quorum from v peers s same true Idle is h = same_counts peers s Idle is h
-  reply_counts quorum from v peers s same true (Storing p) is h = same_counts peers s (Storing p) is h
-  reply_counts quorum from v peers s same true (Querying p) is h =
-      elim (is_last p) as (λ b. CountsTo need (if b then [] else from ∷ peers)
-      (if b then next_round (StoringBack (round_of quorum p.asked) (merge s.view v)) (merged v s) else record (merged v s) { phase = Querying (counted p) }).phase) [
-        | true ↦ (refl, same)
-        | false ↦ (omega (arith, h.0), h.1)
-      ]
-  reply_counts quorum from v peers s same true (StoringBack p seen) is h = same_counts peers s (StoringBack p seen) is h
+  reply_needs : (quorum : ℕ) (v : ViewMap) (s : Ops) → quorum ≡ need → (phase : Phase) → Needs need phase → Needs need s.phase
+      → Needs need (after_reply quorum v phase s).phase
+  reply_needs quorum v s same Idle k h = h
+  reply_needs quorum v s same (Storing p) k h = h
+  reply_needs quorum v s same (Querying p) k h =
+      either_needs (is_last p) (next_round (StoringBack (round_of quorum p.asked) (merge s.view v)) (merged v s)) (record (merged v s) { phase = Querying (counted p) }) same k
+  reply_needs quorum v s same (StoringBack p seen) k h = h
 
-  ask_counts : (me quorum : ℕ) (a : Asked) (line : List Asked) (peers : List ℕ) (s : Ops) → quorum ≡ need → (phase : Phase) → s.phase ≡ phase → CountsTo need peers phase
-      → CountsTo need peers (if is_idle phase then with_begun me quorum a s else record s { line = line }).phase
-  ask_counts me quorum a line peers s same Idle is h = subst (λ (ps : List ℕ). CountsTo need ps (with_begun me quorum a s).phase) (sym h) (begun_counts me quorum a s same)
-  ask_counts me quorum a line peers s same (Storing p) is h = same_counts peers s (Storing p) is h
-  ask_counts me quorum a line peers s same (Querying p) is h = same_counts peers s (Querying p) is h
-  ask_counts me quorum a line peers s same (StoringBack p seen) is h = same_counts peers s (StoringBack p seen) is h
-
-  message_counts : (c : Core) (from n : ℕ) (m : Message) (peers : List ℕ) → quorum c ≡ need → CountsTo need peers c.ops.phase
-      → CountsTo need (peers_next c (event.Deliver from n m) peers) (next c (event.Deliver from n m)).ops.phase
+  message_needs : (c : Core) (from n : ℕ) (m : Message) → quorum c ≡ need → Needs need c.ops.phase → Needs need (next c (event.Deliver from n m)).ops.phase
   unfolding next
-  message_counts c from n (message.Enter q) peers same h = h
-  message_counts c from n (message.EnterEcho d v j q) peers same h = h
-  message_counts c from n (message.Join q) peers same h = h
-  message_counts c from n (message.JoinEcho q) peers same h = h
-  message_counts c from n (message.Leave q) peers same h = h
-  message_counts c from n (message.LeaveEcho q) peers same h = h
-  message_counts c from n (message.Query tag q) peers same h = h
-  message_counts c from n (message.QueryReply v tag q) peers same h = reply_counts (quorum c) from v peers c.ops same (is_own c.me tag q c.ops) c.ops.phase refl h
-  message_counts c from n (message.Store v tag q) peers same h = h
-  message_counts c from n (message.StoreAck tag q) peers same h = ack_counts c.me (quorum c) from peers c.ops same (is_own c.me tag q c.ops) c.ops.phase refl h
+  message_needs c from n (message.Enter q) same h = h
+  message_needs c from n (message.EnterEcho d v j q) same h = h
+  message_needs c from n (message.Join q) same h = h
+  message_needs c from n (message.JoinEcho q) same h = h
+  message_needs c from n (message.Leave q) same h = h
+  message_needs c from n (message.LeaveEcho q) same h = h
+  message_needs c from n (message.Query tag q) same h = h
+  message_needs c from n (message.QueryReply v tag q) same h =
+      either_needs (is_own c.me tag q c.ops) (after_reply (quorum c) v c.ops.phase c.ops) c.ops (reply_needs (quorum c) v c.ops same c.ops.phase h h) h
+  message_needs c from n (message.Store v tag q) same h = h
+  message_needs c from n (message.StoreAck tag q) same h =
+      either_needs (is_own c.me tag q c.ops) (after_ack c.me (quorum c) c.ops.phase c.ops) c.ops (ack_needs c.me (quorum c) c.ops same c.ops.phase h h) h
 
-  event_counts : (c : Core) (e : Event) (peers : List ℕ) → quorum c ≡ need → CountsTo need peers c.ops.phase → CountsTo need (peers_next c e peers) (next c e).ops.phase
+  event_needs : (c : Core) (e : Event) → quorum c ≡ need → Needs need c.ops.phase → Needs need (next c e).ops.phase
   unfolding next
-  event_counts c event.Enter peers same h = h
-  event_counts c event.Leave peers same h = h
-  event_counts c (event.Deliver from n m) peers same h = message_counts c from n m peers same h
-  event_counts c (event.Acked peer n) peers same h = h
-  event_counts c (event.Ask s r command) peers same h = ask_counts c.me (quorum c) (asked_of s r command) (c.ops.line ++ asked_of s r command ∷ []) peers c.ops same c.ops.phase refl h
-  event_counts c (event.Retire q) peers same h = h
+  event_needs c event.Enter same h = h
+  event_needs c event.Leave same h = h
+  event_needs c (event.Deliver from n m) same h = message_needs c from n m same h
+  event_needs c (event.Acked peer n) same h = h
+  event_needs c (event.Ask s r command) same h =
+      let a = asked_of s r command in
+      either_needs (is_idle c.ops.phase) (with_begun c.me (quorum c) a c.ops) (record c.ops { line = c.ops.line ++ a ∷ [] }) (begun_needs c.me (quorum c) a c.ops same) h
+  event_needs c (event.Retire q) same h = h
 
-  counts_along : (n : Node) (peers : List ℕ) (es : List Event) → quorum n.core ≡ need → AllByRecursion IsQuiet es → CountsTo need peers n.core.ops.phase
-      → CountsTo need (peers_along n peers es) (after n es).core.ops.phase
+  needs_along : (n : Node) (es : List Event) → quorum n.core ≡ need → AllByRecursion IsQuiet es → Needs need n.core.ops.phase
+      → Needs need (after n es).core.ops.phase
   unfolding step
-  counts_along n peers [] same quiet h = h
-  counts_along n peers (e ∷ es) same quiet h =
-      counts_along (step n e) (peers_next n.core e peers) es (same_quorum n.core e quiet.0 ∙ same) quiet.1 (event_counts n.core e peers same h)
+  needs_along n [] same quiet h = h
+  needs_along n (e ∷ es) same quiet h = needs_along (step n e) es (same_quorum n.core e quiet.0 ∙ same) quiet.1 (event_needs n.core e same h)
 
-  query_size : (peers : List ℕ) (from : ℕ) (b : Bool) (phase : Phase) → CountsTo need peers phase → (b && ends_query phase) ≡ true
-      → length (with_peer (then_some (b && awaits_views phase) from) peers) ≡ need
-  query_size peers from false phase h e = cc
-  query_size peers from true Idle h e = cc
-  query_size peers from true (Storing p) h e = cc
-  query_size peers from true (Querying p) h e = omega (arith, h.0, h.1, eqb-true (p.count + 1) p.need e)
-  query_size peers from true (StoringBack p seen) h e = cc
+  needs_is : (tag : ℕ) (phase : Phase) → is_some (round_under tag phase) ≡ true → Needs need phase → need_in phase ≡ need
+  needs_is tag Idle some h = cc
+  needs_is tag (Storing p) some h = h
+  needs_is tag (Querying p) some h = h
+  needs_is tag (StoringBack p seen) some h = h
 
-  store_size : (peers : List ℕ) (from : ℕ) (b : Bool) (phase : Phase) → CountsTo need peers phase → (b && ends_store phase) ≡ true
-      → length (with_peer (then_some (b && awaits_acks phase) from) peers) ≡ need
-  store_size peers from false phase h e = cc
-  store_size peers from true Idle h e = cc
-  store_size peers from true (Storing p) h e = omega (arith, h.0, h.1, eqb-true (p.count + 1) p.need e)
-  store_size peers from true (Querying p) h e = cc
-  store_size peers from true (StoringBack p seen) h e = omega (arith, h.0, h.1, eqb-true (p.count + 1) p.need e)
-
-  message_size : (c : Core) (from n : ℕ) (m : Message) (peers : List ℕ) → CountsTo need peers c.ops.phase → ends_by c.me m c.ops ≡ true
-      → length (with_peer (counts c (event.Deliver from n m)) peers) ≡ need
-  message_size c from n (message.Enter q) peers h e = cc
-  message_size c from n (message.EnterEcho d v j q) peers h e = cc
-  message_size c from n (message.Join q) peers h e = cc
-  message_size c from n (message.JoinEcho q) peers h e = cc
-  message_size c from n (message.Leave q) peers h e = cc
-  message_size c from n (message.LeaveEcho q) peers h e = cc
-  message_size c from n (message.Query tag q) peers h e = cc
-  message_size c from n (message.QueryReply v tag q) peers h e = query_size peers from (is_own c.me tag q c.ops) c.ops.phase h e
-  message_size c from n (message.Store v tag q) peers h e = cc
-  message_size c from n (message.StoreAck tag q) peers h e = store_size peers from (is_own c.me tag q c.ops) c.ops.phase h e
-
-  event_size : (c : Core) (e : Event) (peers : List ℕ) → CountsTo need peers c.ops.phase → ends_round c e ≡ true → length (with_peer (counts c e) peers) ≡ need
-  event_size c event.Enter peers h e = cc
-  event_size c event.Leave peers h e = cc
-  event_size c (event.Deliver from n m) peers h e = message_size c from n m peers h e
-  event_size c (event.Acked peer n) peers h e = cc
-  event_size c (event.Ask s r command) peers h e = cc
-  event_size c (event.Retire q) peers h e = cc
-
-fresh_counts : (need : ℕ) (o : Opening) → CountsTo need [] (fresh o).core.ops.phase
+fresh_needs : (need : ℕ) (o : Opening) → Needs need (fresh o).core.ops.phase
 unfolding fresh
-fresh_counts need o = refl
+fresh_needs need o = tt
 
 -- a round that ended counted as many answers as a round needs that begins
-pub round_size : (o : Opening) (es : List Event) → AllByRecursion IsQuiet es → (round : Round (fresh o) es) → length (peers_of (fresh o) es round) ≡ quorum (fresh o).core
+pub round_size : (o : Opening) (es : List Event) → AllByRecursion IsQuiet es → (round : Round (fresh o) es)
+    → length (peers_of (fresh o) es round) ≡ quorum (fresh o).core
 round_size o es quiet round =
     let need = quorum (fresh o).core in
     let front : AllByRecursion IsQuiet round.before = all_front IsQuiet round.before (round.last ∷ round.later) (subst (AllByRecursion IsQuiet) round.parts quiet) in
-    event_size need (after (fresh o) round.before).core round.last (peers_along (fresh o) [] round.before)
-    (counts_along need (fresh o) [] round.before refl front (fresh_counts need o)) round.ends
+    let c = (after (fresh o) round.before).core in
+    round_enough o es round
+    ∙ needs_is need c.ops.tag c.ops.phase ((ended_is c round.last).0 round.ends).pended (needs_along need (fresh o) round.before refl front (fresh_needs need o))

@@ -3,6 +3,7 @@
 --     ends_round c e          whether that is the last one that the round needs
 --     peers_along n ps es     the peers whose answers were counted for the round that pends after a list of events
 --     Round n es, peers_of    a round that ended along a list, and the peers whose answers it counted
+-- A law says that they are what the node's own state shows (Progress).
 use Rattle.std.specs.Prelude.{◌≡◌, ℕ, Bool, true, false, ◌&&◌, List, [], ◌∷◌, ◌++◌, Option, Some, None, if◌then◌else◌}
 use Rattle.std.specs.Bool.{then_some}
 use Rattle.cc_wire.specs.declared.event.Event.{Event}

@@ -5,6 +5,7 @@ mod clusters;
 mod histories;
 mod lives;
 mod regular;
+mod rounds;
 
 pub use clusters::cluster_agrees;
 pub use histories::{one_line, outputs_have_events, views_follow};
@@ -13,3 +14,4 @@ pub use regular::{
     collects_are_regular, members_collect_regularly, objects_are_regular, quorums_meet,
     shared_nodes_tell,
 };
+pub use rounds::rounds_are_shown;
