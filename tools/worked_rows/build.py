@@ -25,7 +25,7 @@ SPECS = """cc_views: NatSets Rows Merge Limits Tables
     cc_ops: Commands Waiting Ops Stages Refusals
     cc_site: Sides Moments
     cc_node: Core Refusals Node Opening Writes Lawful States Sides Good
-    cc_laws: Shown Orders Written Histories Lives Clusters Runs Rounds Progress Regular Fixed ReadBack"""
+    cc_laws: Shown Orders Written Histories Lives Clusters Runs"""
 
 
 def read(*path):

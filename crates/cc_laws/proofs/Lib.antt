@@ -30,3 +30,7 @@ mod Once
 mod Quorums
 mod Lasting
 mod ReadingBack
+mod Inserting
+mod TwoNodes
+mod Turns
+mod WorkedRun

@@ -135,6 +135,10 @@ heard_at start es before later e lawful parts f n m is =
 
 -- ---- a cluster
 
+goes_there : (start : Node) (before other : List Event) (e f : Event) → before ≡ other → e ≡ f → (to n : ℕ)
+    → GoesTo (next (after start before).core e) to n → GoesTo (next (after start other).core f) to n
+goes_there start before other e f same at to n goes = subst (λ (c : Core). GoesTo c to n) (λ i. next (after start (same i)).core (at i)) goes
+
 module _ (c : Cluster) (h : Holds c) (t : Traces c) where
   -- a message of a round that was delivered was posted by the round's node, as its tag rose
   record Begun (m : Member) (r w tag : ℕ) : Type 0 where
@@ -173,9 +177,29 @@ module _ (c : Cluster) (h : Holds c) (t : Traces c) where
       let lawful = lawful_front start m.events m.released (h.sound q m at).lawful in
       let one = at_once (λ n. n.core.ops.tag) tag_after start (released_events m) lawful a.before a.later b.before b.later a.raiser b.raiser a.parts b.parts tag
       a.under (omega (arith, a.raised)) b.under (omega (arith, b.raised)) in
-      let moved : GoesTo (next (after start b.before).core b.raiser) r w =
-      subst (λ (e : Event). GoesTo (next (after start b.before).core e) r w) one.1 (subst (λ (l : List Event). GoesTo (next (after start l).core a.raiser) r w) one.0 a.goes) in
-      one_number (next (after start b.before).core b.raiser) r w z moved b.goes
+      one_number (next (after start b.before).core b.raiser) r w z (goes_there start a.before b.before a.raiser b.raiser one.0 one.1 r w a.goes) b.goes
+
+  -- of an answer that was posted: which message of its round it answers, and that this was heard with it
+  record Made (q r : ℕ) (m x : Member) (tag n : ℕ) (k : Message) (p : Posted x q n k) : Type 0 where
+    wire : ℕ
+    begun : Begun m r wire tag
+    heard : HeardAt (fresh x.opening) p.before p.poster q wire
+
+  answer_made : (q : ℕ) (m : Member) → table.get c.members q ≡ Some m → (r : ℕ) (x : Member) → table.get c.members r ≡ Some x → (tag n : ℕ) (k : Message)
+      → IsAnswerTo tag q k → (p : Posted x q n k) → Made q r m x tag n k p
+  answer_made q m at r x there tag n k of_k p =
+      let start = fresh x.opening in
+      let lawful = lawful_front start x.events x.released (h.sound r x there).lawful in
+      let asks = answer_says (after start p.before).core p.poster tag q k of_k p.says in
+      let got : Contains x.events (event.Deliver asks.2.0 asks.2.1 asks.0) =
+      contains_front x.released x.events _ (subst (Contains (released_events x)) asks.2.2 (contains_at (released_events x) p.before p.later p.poster p.parts)) in
+      let begun = begun_of q m at r x there asks.2.0 asks.2.1 tag asks.0 asks.1 got in
+      record {
+        wire = asks.2.1;
+        begun = begun.1;
+        heard = subst (λ (f : ℕ). HeardAt start p.before p.poster f asks.2.1) begun.0
+            (heard_at start (released_events x) p.before p.later p.poster lawful p.parts asks.2.0 asks.2.1 asks.0 asks.2.2);
+      }
 
   pub one_answer : (q : ℕ) (m : Member) → table.get c.members q ≡ Some m → (tag r n i : ℕ) (k j : Message) → IsAnswerTo tag q k → IsAnswerTo tag q j
       → Contains m.events (event.Deliver r n k) → Contains m.events (event.Deliver r i j) → n ≡ i
@@ -188,24 +212,12 @@ module _ (c : Cluster) (h : Holds c) (t : Traces c) where
       let b : Posted x q i j = subst (λ (y : Member). Posted y q i j) is_x (posted made_j.0 q i j made_j.2) in
       let start = fresh x.opening in
       let lawful = lawful_front start x.events x.released (h.sound r x made_k.1).lawful in
-      let asks_a = answer_says (after start a.before).core a.poster tag q k of_k a.says in
-      let asks_b = answer_says (after start b.before).core b.poster tag q j of_j b.says in
-      let got_a : Contains x.events (event.Deliver asks_a.2.0 asks_a.2.1 asks_a.0) =
-      contains_front x.released x.events _ (subst (Contains (released_events x)) asks_a.2.2 (contains_at (released_events x) a.before a.later a.poster a.parts)) in
-      let got_b : Contains x.events (event.Deliver asks_b.2.0 asks_b.2.1 asks_b.0) =
-      contains_front x.released x.events _ (subst (Contains (released_events x)) asks_b.2.2 (contains_at (released_events x) b.before b.later b.poster b.parts)) in
-      let begun_a = begun_of q m at r x made_k.1 asks_a.2.0 asks_a.2.1 tag asks_a.0 asks_a.1 got_a in
-      let begun_b = begun_of q m at r x made_k.1 asks_b.2.0 asks_b.2.1 tag asks_b.0 asks_b.1 got_b in
-      let wires : asks_a.2.1 ≡ asks_b.2.1 = begun_once q m at r asks_a.2.1 asks_b.2.1 tag begun_a.1 begun_b.1 in
-      let heard_a : HeardAt start a.before a.poster q asks_a.2.1 =
-      subst (λ (f : ℕ). HeardAt start a.before a.poster f asks_a.2.1) begun_a.0 (heard_at start (released_events x) a.before a.later a.poster lawful a.parts asks_a.2.0 asks_a.2.1 asks_a.0 asks_a.2.2) in
-      let heard_b : HeardAt start b.before b.poster q asks_b.2.1 =
-      subst (λ (f : ℕ). HeardAt start b.before b.poster f asks_b.2.1) begun_b.0 (heard_at start (released_events x) b.before b.later b.poster lawful b.parts asks_b.2.0 asks_b.2.1 asks_b.0 asks_b.2.2) in
-      let one = at_once (λ s. heard_from q s.core.links) (heard_after q) start (released_events x) lawful a.before a.later b.before b.later a.poster b.poster a.parts b.parts asks_b.2.1
-      (omega (arith, heard_a.under, wires)) (omega (arith, heard_a.now, wires)) heard_b.under (omega (arith, heard_b.now)) in
-      let moved : GoesTo (next (after start b.before).core b.poster) q n =
-      subst (λ (e : Event). GoesTo (next (after start b.before).core e) q n) one.1 (subst (λ (l : List Event). GoesTo (next (after start l).core a.poster) q n) one.0 a.goes) in
-      one_number (next (after start b.before).core b.poster) q n i moved b.goes
+      let of_a = answer_made q m at r x made_k.1 tag n k of_k a in
+      let of_b = answer_made q m at r x made_k.1 tag i j of_j b in
+      let wires : of_a.wire ≡ of_b.wire = begun_once q m at r of_a.wire of_b.wire tag of_a.begun of_b.begun in
+      let one = at_once (λ s. heard_from q s.core.links) (heard_after q) start (released_events x) lawful a.before a.later b.before b.later a.poster b.poster a.parts b.parts of_b.wire
+      (omega (arith, of_a.heard.under, wires)) (omega (arith, of_a.heard.now, wires)) of_b.heard.under (omega (arith, of_b.heard.now)) in
+      one_number (next (after start b.before).core b.poster) q n i (goes_there start a.before b.before a.poster b.poster one.0 one.1 q n a.goes) b.goes
 
 -- ---- the peers of a round
 

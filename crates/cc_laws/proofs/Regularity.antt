@@ -156,7 +156,7 @@ reading c h t p s r a has read =
       }
     ]
 
-run_both : (a : Cluster) (xs : List (ℕ × Move)) (b : Cluster) (ys : List (ℕ × Move)) (e : Cluster) → Run a xs b → Run b ys e → Run a (xs ++ ys) e
+pub run_both : (a : Cluster) (xs : List (ℕ × Move)) (b : Cluster) (ys : List (ℕ × Move)) (e : Cluster) → Run a xs b → Run b ys e → Run a (xs ++ ys) e
 run_both a [] b ys e h k = subst (λ (z : Cluster). Run z ys e) h k
 run_both a (move ∷ xs) b ys e h k = (h.0, h.1, run_both h.0 xs b ys e h.2 k)
 

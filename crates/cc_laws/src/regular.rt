@@ -1,6 +1,6 @@
 //! The laws of collects in a cluster.
 
-ghost use Rattle.std.specs.Prelude.{◌≡◌, ◌≤◌, ℕ, Bool, true, List};
+ghost use Rattle.std.specs.Prelude.{◌≡◌, ◌≤◌, ℕ, Bool, true, List, [], ◌∷◌};
 ghost use Rattle.std.specs.List.{AllByRecursion};
 ghost use Rattle.cc_views.specs.NatSets as set;
 ghost use Rattle.cc_views.specs.NatSets.{NatSet};
@@ -73,4 +73,13 @@ pub fn objects_are_regular()
     ensures members_in_turn { (c mid d : Cluster) (first second : List (ℕ × Move)) → IsFreshCluster c → Run c first mid → Run mid second d → RoundsMeet d
         → (q s r : ℕ) (ys : NatSet) → IsAnswered mid q s r (answer.Set ys) → (p x y : ℕ) → IsAhead mid p x y
         → (zs : NatSet) → IsAnswered d p x y (answer.Set zs) → (k : ℕ) → set.contains ys k ≡ true → set.contains zs k ≡ true }
+{}
+
+/// The premises of `members_collect_regularly` can be met: two nodes that stay the only members store and collect. Node 1 is
+/// asked to store, in session 7, and is answered; node 2 hadn't been asked by then in session 9, is asked to collect, and is
+/// answered.
+pub fn two_nodes_collect()
+    ensures { (c mid d : Cluster) × (first second : List (ℕ × Move)) × (v : ViewMap) × IsFreshCluster c × Run c first mid × Run mid second d
+        × IsFixedCluster (1 ∷ 2 ∷ []) c × AllByRecursion (λ move. Stays move.1) first × AllByRecursion (λ move. Stays move.1) second
+        × IsStored mid 1 1 7 1 × IsAhead mid 2 9 1 × IsAnswered d 2 9 1 (answer.Seen v) }
 {}
