@@ -75,6 +75,25 @@ pub fn objects_are_regular()
         → (zs : NatSet) → IsAnswered d p x y (answer.Set zs) → (k : ℕ) → set.contains ys k ≡ true → set.contains zs k ≡ true }
 {}
 
+/// And the same of any two operations where one node acknowledged what the earlier one stored, and replied to the query of
+/// the later one: whoever enters, leaves or is retired meanwhile.
+pub fn shared_nodes_tell_readings()
+    ensures max { (c mid d : Cluster) (first second : List (ℕ × Move)) → IsFreshCluster c → Run c first mid → Run mid second d
+        → (q s r k : ℕ) → IsDone mid q s r (command.WriteMax k) → (p x y : ℕ) → IsAhead mid p x y → ShareNode mid d q s r p x y → (n : ℕ) → IsAnswered d p x y (answer.Max n) → k ≤ n }
+    ensures max_in_turn { (c mid d : Cluster) (first second : List (ℕ × Move)) → IsFreshCluster c → Run c first mid → Run mid second d
+        → (q s r k : ℕ) → IsAnswered mid q s r (answer.Max k) → (p x y : ℕ) → IsAhead mid p x y → ShareNode mid d q s r p x y → (n : ℕ) → IsAnswered d p x y (answer.Max n) → k ≤ n }
+    ensures flag { (c mid d : Cluster) (first second : List (ℕ × Move)) → IsFreshCluster c → Run c first mid → Run mid second d
+        → (q s r : ℕ) → IsDone mid q s r command.SetFlag → (p x y : ℕ) → IsAhead mid p x y → ShareNode mid d q s r p x y → (b : Bool) → IsAnswered d p x y (answer.Flag b) → b ≡ true }
+    ensures flag_in_turn { (c mid d : Cluster) (first second : List (ℕ × Move)) → IsFreshCluster c → Run c first mid → Run mid second d
+        → (q s r : ℕ) → IsAnswered mid q s r (answer.Flag true) → (p x y : ℕ) → IsAhead mid p x y → ShareNode mid d q s r p x y → (b : Bool) → IsAnswered d p x y (answer.Flag b) → b ≡ true }
+    ensures member { (c mid d : Cluster) (first second : List (ℕ × Move)) → IsFreshCluster c → Run c first mid → Run mid second d
+        → (q s r k : ℕ) → IsDone mid q s r (command.AddMember k) → (p x y : ℕ) → IsAhead mid p x y → ShareNode mid d q s r p x y
+        → (zs : NatSet) → IsAnswered d p x y (answer.Set zs) → set.contains zs k ≡ true }
+    ensures members_in_turn { (c mid d : Cluster) (first second : List (ℕ × Move)) → IsFreshCluster c → Run c first mid → Run mid second d
+        → (q s r : ℕ) (ys : NatSet) → IsAnswered mid q s r (answer.Set ys) → (p x y : ℕ) → IsAhead mid p x y → ShareNode mid d q s r p x y
+        → (zs : NatSet) → IsAnswered d p x y (answer.Set zs) → (k : ℕ) → set.contains ys k ≡ true → set.contains zs k ≡ true }
+{}
+
 /// The premises of `members_collect_regularly` can be met: two nodes that stay the only members store and collect. Node 1 is
 /// asked to store, in session 7, and is answered; node 2 hadn't been asked by then in session 9, is asked to collect, and is
 /// answered.
