@@ -4,9 +4,10 @@
     stale_collects.py crates/ccnode/out/ccnode [SCRIPTS]
 
 A cluster is cut in two again and again. In each round some node is asked, and of the messages that stand on each link
-within a part some are carried; some nodes crash, put out again what they keep, or get a message twice. A reading is stale
-where it misses a write that was answered, or something that a reading showed, before it was asked for. Where more than
-half of the members are enough, none may be; where half are, some must be found. The status is 1 if not so.
+within a part some are carried; some nodes crash, put out again what they keep, or get a message twice. A reading is
+stale where it misses a write that was answered, or something that a reading showed, before it was asked for. Where more
+than half of the members are enough, none may be; where half or fewer are, some must be found. The status is 1 if not
+so.
 """
 import random
 import re
@@ -21,7 +22,8 @@ CLUSTERS = [("2/3", 3, True), ("3/5", 4, True), ("3/5", 5, True), ("1/2", 4, Fal
 
 
 def play(program, script):
-    played = subprocess.run([program, "play"], input="\n".join(script) + "\n", capture_output=True, text=True, check=True)
+    lines = "\n".join(script) + "\n"
+    played = subprocess.run([program, "play"], input=lines, capture_output=True, text=True, check=True)
     return played.stdout.splitlines()
 
 
@@ -31,7 +33,8 @@ def last_numbers(printed):
     for line in printed:
         words = line.split(" ", 4)
         if words[1] == "send":
-            sent[int(words[0]), int(words[2])] = max(int(words[3]), sent.get((int(words[0]), int(words[2])), 0))
+            link = int(words[0]), int(words[2])
+            sent[link] = max(int(words[3]), sent.get(link, 0))
         elif words[1] == "ack":
             heard[int(words[2]), int(words[0])] = int(words[3])
     return sent, heard

@@ -28,6 +28,7 @@ const COMMANDS: [&str; 2] = ["store w", "collect"];
 
 // How often the cluster is cut anew, and how many rounds each cut lasts.
 const CUTS: usize = 5;
+
 const ROUNDS: usize = 12;
 
 /// A linear congruential generator.
@@ -51,8 +52,8 @@ impl Chance {
     }
 }
 
-/// A cluster, what was printed so far, and for each session how many lines of that stood there when it asked. A session asks
-/// once, and they are counted from 1.
+/// A cluster, what was printed so far, and for each session how many lines of that stood there when it asked. A session
+/// asks once, and they are counted from 1.
 #[derive(Drop)]
 struct Trial {
     cluster: Cluster,
@@ -185,7 +186,9 @@ fn number_of(view: &str, node: &str) -> u64 {
     for row in view.trim_matches(['[', ']']).split(',') {
         if let Some((name, rest)) = row.split_once(':') {
             if name == node {
-                return rest.split_once('=').map_or(0, |parts| number(parts.0).unwrap_or(0));
+                return rest
+                    .split_once('=')
+                    .map_or(0, |parts| number(parts.0).unwrap_or(0));
             }
         }
     }
@@ -309,7 +312,10 @@ fn a_stale_collect_is_told(rt: HostRuntime) -> Result<(), Fail> {
     assert!(rt; output.contains("\n1 reply 1 1 Stored\n"));
     assert!(rt; output.ends_with("\n3 reply 2 1 Seen []\n"));
     // What is printed up to the answer of the store.
-    let before = output.lines().take_while(|line| *line != "1 reply 1 1 Stored").count();
+    let before = output
+        .lines()
+        .take_while(|line| *line != "1 reply 1 1 Stored")
+        .count();
     assert_eq!(rt; answered_and_stale(&output, &[0, 0, before + 1]), (1, 1));
     assert_eq!(rt; answered_and_stale(&output, &[0, 0, before]), (1, 0));
     Ok(())
