@@ -61,18 +61,6 @@ struct Trial {
     asked: Vec<usize>,
 }
 
-fn begun(alloc: Global, fractions: &str) -> Result<Trial, Fail> {
-    let asked = vec![in alloc; 0]?;
-    let mut trial = Trial {
-        cluster: Cluster::new(alloc),
-        printed: Vec::new(alloc),
-        asked,
-    };
-    say_all(alloc, &mut trial, fractions)?;
-    say_all(alloc, &mut trial, MEMBERS)?;
-    Ok(trial)
-}
-
 fn say_all(alloc: Global, trial: &mut Trial, lines: &str) -> Result<(), Fail> {
     for line in lines.lines() {
         say(alloc, trial, line)?;
@@ -253,24 +241,45 @@ fn answered_and_stale(printed: &str, asked: &[usize]) -> (u64, u64) {
     (answered, stale)
 }
 
-// The same over some trials.
-fn tried(alloc: Global, fractions: &str, seeds: u64) -> Result<(u64, u64), Fail> {
-    let mut sums: (u64, u64) = (0, 0);
+// The same of a trial.
+fn tried(alloc: Global, fractions: &str, seed: u64) -> Result<(u64, u64), Fail> {
+    let asked = vec![in alloc; 0]?;
+    let mut trial = Trial {
+        cluster: Cluster::new(alloc),
+        printed: Vec::new(alloc),
+        asked,
+    };
+    try_out(alloc, &mut trial, fractions, seed)
+}
+
+fn try_out(
+    alloc: Global,
+    trial: &mut Trial,
+    fractions: &str,
+    seed: u64,
+) -> Result<(u64, u64), Fail> {
+    say_all(alloc, trial, fractions)?;
+    say_all(alloc, trial, MEMBERS)?;
+    play_rounds(alloc, trial, seed)?;
+    let printed = str::from_utf8(&trial.printed)?;
+    Ok(answered_and_stale(printed, &trial.asked))
+}
+
+// The same of so many trials.
+fn tried_all(alloc: Global, fractions: &str, seeds: u64) -> Result<(u64, u64), Fail> {
+    let mut answered: u64 = 0;
+    let mut stale: u64 = 0;
     for seed in 0..seeds {
-        let mut trial = begun(alloc, fractions)?;
-        play_rounds(alloc, &mut trial, seed)?;
-        let counts = answered_and_stale(str::from_utf8(&trial.printed)?, &trial.asked);
-        sums = (
-            sums.0.saturating_add(counts.0),
-            sums.1.saturating_add(counts.1),
-        );
+        let counts = tried(alloc, fractions, seed)?;
+        answered = answered.saturating_add(counts.0);
+        stale = stale.saturating_add(counts.1);
     }
-    Ok(sums)
+    Ok((answered, stale))
 }
 
 #[test]
 fn no_collect_is_stale_above_half(rt: HostRuntime) -> Result<(), Fail> {
-    let (answered, stale) = tried(rt.alloc(), ABOVE_HALF, 4)?;
+    let (answered, stale) = tried_all(rt.alloc(), ABOVE_HALF, 4)?;
     assert!(rt; answered >= 25, "{answered}");
     assert_eq!(rt; stale, 0);
     Ok(())
@@ -278,7 +287,7 @@ fn no_collect_is_stale_above_half(rt: HostRuntime) -> Result<(), Fail> {
 
 #[test]
 fn stale_collects_are_found_at_half(rt: HostRuntime) -> Result<(), Fail> {
-    let (answered, stale) = tried(rt.alloc(), AT_HALF, 4)?;
+    let (answered, stale) = tried_all(rt.alloc(), AT_HALF, 4)?;
     assert!(rt; answered >= 50, "{answered}");
     assert!(rt; stale >= 5, "{stale}");
     Ok(())
