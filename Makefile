@@ -1,6 +1,6 @@
 # The commands of the README. The toolchain is Rattle's kit, with its command rt on the PATH.
 .PHONY: try run install test check bench edits refused-growths failing-calls kill-files cluster load kill-cluster soak \
-    hostile many-sessions costs worked-rows
+    hostile many-sessions stale-collects costs worked-rows
 
 # Plays the script that ships with the program before any proof.
 try:
@@ -108,6 +108,14 @@ hostile:
 many-sessions:
 	@$(BUILD) ccnode
 	@python3 tools/many_sessions.py crates/ccnode/out/ccnode
+
+# Plays random scripts of clusters that are cut in two again and again, and compares each reading with what was answered
+# before it was asked for: none may miss any of it where more than half of the members are enough, and some must be found
+# that do where half are. About a minute; SCRIPTS=100 plays more of each kind.
+SCRIPTS = 10
+stale-collects:
+	@$(BUILD) ccnode
+	@python3 tools/stale_collects.py crates/ccnode/out/ccnode $(SCRIPTS)
 
 # Prints what each crate costs: its proof, its tests and its edits, in processor seconds with one job.
 # CRATES=cc_ops does one.

@@ -33,7 +33,7 @@ write_within es j k x is = subst (λ (l : List Event). IsWriteOf l k x) (take-ap
 released_written : (c : Cluster) (p k : ℕ) (x : Value) → Released c p k x → IsWrittenBy c p k x
 released_written c p k x r = (r.0, r.1, write_within r.0.events r.0.released k x r.2)
 
-occurring_rows : (c : Cluster) (v : ViewMap) → Holds c → Occurs c v → AllRows (IsWrittenBy c) v
+pub occurring_rows : (c : Cluster) (v : ViewMap) → Holds c → Occurs c v → AllRows (IsWrittenBy c) v
 occurring_rows c v h (at_member q m k at shows) =
     let P = IsWrittenBy c in
     let brought = events_changed (Released c) P (released_written c) m.events (h.brought q m at) in

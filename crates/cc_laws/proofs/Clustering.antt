@@ -40,7 +40,7 @@ abbrev pub IsLonger : Member → Member → Type 0
 IsLonger m n = (more : List Event) × (take n.released n.events ≡ take m.released m.events ++ more)
 
 -- who is at an id after the change of one
-at_id : (c : Cluster) (q : ℕ) (n : Member) (p : ℕ)
+pub at_id : (c : Cluster) (q : ℕ) (n : Member) (p : ℕ)
     → ((p ≡ q) × (table.get (with_member q n c).members p ≡ Some n)) ⊎ (table.get (with_member q n c).members p ≡ table.get c.members p)
 at_id c q n p =
     let is = get-insert_key c.members q n p in

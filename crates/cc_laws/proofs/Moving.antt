@@ -26,10 +26,10 @@ use Rattle.cc_laws.proofs.Standing.{has_shown}
 use Rattle.cc_laws.proofs.Members.{IsSound, lawful_front, front_parts, front_rows, rest_rows}
 use Rattle.cc_laws.proofs.Clustering.{Released, SentRows, Holds, IsLonger, member_holds, sent_holds}
 
-same_length : (m n : Member) → take n.released n.events ≡ take m.released m.events → IsLonger m n
+pub same_length : (m n : Member) → take n.released n.events ≡ take m.released m.events → IsLonger m n
 same_length m n is = ([], is ∙ sym (append-nil (take m.released m.events)))
 
-longer_by : (m n : Member) (k : ℕ) → m.released ≤ k → take n.released n.events ≡ take k m.events → IsLonger m n
+pub longer_by : (m n : Member) (k : ℕ) → m.released ≤ k → take n.released n.events ≡ take k m.events → IsLonger m n
 longer_by m n k le is = (drop m.released (take k m.events), is ∙ sym (front_parts m.released k m.events le))
 
 accept_holds : (c : Cluster) (q : ℕ) (m : Member) (e : Event) → Holds c → table.get c.members q ≡ Some m → decides (live_node m).core e ≡ None
@@ -100,7 +100,7 @@ own_rows P (event.Acked peer n) h = tt
 own_rows P (event.Ask s r command) h = tt
 own_rows P (event.Retire q) h = tt
 
-move_holds : (c : Cluster) (q : ℕ) (m : Member) (move : Move) (d : Cluster) → Holds c → table.get c.members q ≡ Some m → MovesBy c q m move d → Holds d
+pub move_holds : (c : Cluster) (q : ℕ) (m : Member) (move : Move) (d : Cluster) → Holds c → table.get c.members q ≡ Some m → MovesBy c q m move d → Holds d
 move_holds c q m (Accept e) d h at s = subst Holds (sym s.2) (accept_holds c q m e h at s.1 (own_rows (Released c) e s.0))
 move_holds c q m (Receive from n k) d h at s =
     subst Holds (sym s.2) (accept_holds c q m (event.Deliver from n k) h at s.1

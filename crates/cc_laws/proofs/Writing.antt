@@ -58,7 +58,7 @@ slice_get_front [] ys k x e = cc
 slice_get_front (y ∷ xs) ys zero x e = e
 slice_get_front (y ∷ xs) ys (suc k) x e = slice_get_front xs ys k x e
 
-slice_get_seam : (xs : List Value) (y : Value) (ys : List Value) → slice_get (xs ++ y ∷ ys) (length xs) ≡ Some y
+pub slice_get_seam : (xs : List Value) (y : Value) (ys : List Value) → slice_get (xs ++ y ∷ ys) (length xs) ≡ Some y
 slice_get_seam [] y ys = refl
 slice_get_seam (x ∷ xs) y ys = slice_get_seam xs y ys
 
@@ -67,7 +67,7 @@ write_in_front mine xs ys k x h =
     let rest = values_of (written_by xs mine) ys in
     (h.0, h.1, ap (λ l. slice_get l h.0) (values_both mine xs ys) ∙ slice_get_front (values_of mine xs) rest h.0 x h.2)
 
-asked_both : (xs ys : List Event) → asked_along (xs ++ ys) ≡ asked_along xs ++ asked_along ys
+pub asked_both : (xs ys : List Event) → asked_along (xs ++ ys) ≡ asked_along xs ++ asked_along ys
 asked_both [] ys = refl
 asked_both (e ∷ xs) ys = ap (led_by (asked_by e)) (asked_both xs ys) ∙ led_more (asked_by e) (asked_along xs) (asked_along ys)
   where
@@ -83,7 +83,7 @@ pub fresh_mine : (o : Opening) → (fresh o).core.ops.mine ≡ nothing_stored
 unfolding fresh
 fresh_mine o = refl
 
-fresh_line : (o : Opening) → (fresh o).core.ops.line ≡ []
+pub fresh_line : (o : Opening) → (fresh o).core.ops.line ≡ []
 unfolding fresh
 fresh_line o = refl
 

@@ -5,3 +5,8 @@ pub mod Histories
 pub mod Lives
 pub mod Clusters
 pub mod Runs
+pub mod Rounds
+pub mod Progress
+pub mod Regular
+pub mod Fixed
+pub mod ReadBack

@@ -8,6 +8,8 @@ mod checkpoints;
 #[cfg(test)]
 mod clusters;
 #[cfg(test)]
+mod collects;
+#[cfg(test)]
 mod crashes;
 #[cfg(test)]
 mod disks;

@@ -1,0 +1,374 @@
+-- An answer that left a node: by which rounds of its operation it came about.
+--     Ended, ended           the event that made the answer, and what pended before it
+--     IsWriteOp, IsReadOp, either_op     it was a writing one, or a reading one
+--     StoredRound            a round in which a view was stored, of which something holds
+--     ReadRound              a round in which a view was queried, with what was seen in it
+--     number_reached         a writing ask that was answered was counted
+use Rattle.std.proofs.Common.{◌≡◌, ◌⊎◌, ℕ, ◌+◌, ◌<◌, ◌≤◌, true, false, cond, nat_eq, List, [], ◌∷◌, ◌++◌, refl, sym, ap, subst, ◌∙◌, inl, inr, arith, append_assoc}
+use Rattle.std.specs.Prelude.{Option, Some, None, IfSome, ◌&&◌, ◌==◌, is_some, if◌then◌else◌}
+use Rattle.std.specs.Option.{unwrap_or}
+use Rattle.std.specs.List.{Contains, AllByRecursion}
+use Rattle.std.specs.FinMap as table
+use Rattle.std.proofs.lemmas.Bool.{ltb-false, eqb-false, or_parts, or_left, or_right, eq-eqb, both_ways}
+use Rattle.std.proofs.lemmas.Bool.Decides.{eqb_tells}
+use Rattle.std.proofs.lemmas.List.{append_cancel_left}
+use Rattle.std.proofs.lemmas.List.Elements.{All-contains, All-from_recursion, Contains-append_left}
+use Rattle.cc_views.specs.NatSets.{get-insert_key}
+use Rattle.cc_views.specs.Rows.{ViewMap}
+use Rattle.cc_views.specs.Merge.{IsAtMost}
+use Rattle.cc_views.specs.MergeLaws.{at_most_trans}
+use Rattle.cc_wire.specs.declared.answer.Answer.{Answer}
+use Rattle.cc_wire.specs.declared.answer.Answer.TheVariants as answer
+use Rattle.cc_wire.specs.declared.command.Command.{Command}
+use Rattle.cc_wire.specs.declared.command.Command.TheVariants as command
+use Rattle.cc_wire.specs.declared.event.Event.{Event}
+use Rattle.cc_wire.specs.declared.event.Event.TheVariants as event
+use Rattle.cc_wire.specs.declared.message.Message.TheVariants as message
+use Rattle.cc_wire.specs.declared.output.Output.TheVariants as output
+use Rattle.cc_ops.specs.declared.pending.Asked.{Asked}
+use Rattle.cc_ops.specs.declared.pending.Pending.{Pending}
+use Rattle.cc_ops.specs.declared.pending.Reply.{Reply}
+use Rattle.cc_ops.specs.Commands.{is_writing, answer_of}
+use Rattle.cc_ops.specs.Ops.{Phase, Idle, Storing, Querying, StoringBack, asked_in, unanswered}
+use Rattle.cc_ops.specs.Waiting.{has_session, AreApart, writes_by}
+use Rattle.cc_sessions.specs.Sessions.{Requests, last_request}
+use Rattle.cc_node.specs.Core.{Core, asked_of, next, reply, outputs}
+use Rattle.cc_node.specs.Node.{Node, step, after, line, IsLawful}
+use Rattle.cc_node.specs.Opening.{fresh}
+use Rattle.cc_node.specs.Histories.{lawful_parts}
+use Rattle.cc_node.specs.Lawful.{IsPhaseOf, IsLawfulNode}
+use Rattle.cc_node.specs.Refusals.{decides}
+use Rattle.cc_node.specs.Writes.{asked_along, begun_along}
+use Rattle.cc_node.proofs.CoreLaws.{view_grows, own_number_along}
+use Rattle.cc_node.proofs.FreshLaws.{fresh_lawful, after_lawful}
+use Rattle.cc_node.proofs.OrderLaws.{begin_in_order}
+use Rattle.cc_node.proofs.RefusalLaws.{takes_ask}
+use Rattle.cc_laws.specs.Clusters.{Member}
+use Rattle.cc_laws.specs.Regular.{released_events, IsWriteAsk, HasAtLeast, RoundOf, phase_in, IsRoundFor}
+use Rattle.cc_laws.specs.Rounds.{awaits_views, awaits_acks, counts, ends_round, with_peer, peers_along, peers_of}
+use Rattle.cc_laws.proofs.Lists.{at_some, some_changed, all_changed}
+use Rattle.cc_laws.proofs.Lines.{made_in}
+use Rattle.cc_laws.proofs.Members.{IsSound, lawful_front}
+use Rattle.cc_laws.proofs.Places.{after_parts, at_same, at_before, at_behind, split_order}
+use Rattle.cc_laws.proofs.Says.{Told, ReplySays, reply_says, OutputSays, outputs_say}
+use Rattle.cc_laws.proofs.Pending.{HasAck, HasReply, Raised, ReadBefore, IsQueryOf, Pends, core_push, pends}
+use Rattle.cc_laws.proofs.CountedAnswers.{IsAckFrom, IsReplyFrom, counted_ack, counted_reply}
+use Rattle.cc_laws.proofs.Knowing.{me_of, contains_at, contains_front, either_front}
+use Rattle.cc_laws.proofs.Writing.{asked_both, fresh_line, fresh_number}
+
+-- ---- lists
+
+with_all : (P : ℕ → Type 0) (o : Option ℕ) (peers : List ℕ) → IfSome o P → AllByRecursion P peers → AllByRecursion P (with_peer o peers)
+with_all P None peers h k = k
+with_all P (Some x) peers h k = (h, k)
+
+-- two places, one inside the front of the other
+inner_parts : {X : Type 0} (es before later in_before in_later : List X) (last in_last : X) → es ≡ before ++ last ∷ later
+    → before ≡ in_before ++ in_last ∷ in_later
+    → es ≡ in_before ++ in_last ∷ (in_later ++ last ∷ later)
+inner_parts es before later in_before in_later last in_last parts inside =
+    parts ∙ ap (λ l. l ++ last ∷ later) inside ∙ append_assoc in_before (in_last ∷ in_later) (last ∷ later)
+
+-- ---- the requests of a session
+
+request_new : (c : Core) (s r : ℕ) (k : Command) → decides c (event.Ask s r k) ≡ None → last_request c.sessions s < r
+request_new c s r k taken =
+    let t = takes_ask c s r k taken in
+    let parts = or_parts _ _ t.new in
+    let low : last_request c.sessions s ≤ r = ltb-false r (last_request c.sessions s) parts.0 in
+    below (table.get c.sessions s) low (eqb-false r 0 parts.1) t.repeat
+  where
+    below : (o : Option ℕ) → unwrap_or o 0 ≤ r → (r ≡ 0 → ⊥) → (is_some o && (r == unwrap_or o 0)) ≡ false → unwrap_or o 0 < r
+    below None low some apart = omega (arith, some)
+    below (Some last) low some apart = omega (arith, low, eqb-false r last apart)
+
+last_inserted : (ss : Requests) (x r s : ℕ) → (x ≡ s → last_request ss s < r) → last_request ss s ≤ last_request (table.insert ss x r) s
+last_inserted ss x r s up =
+    let is : table.get (table.insert ss x r) s ≡ cond (nat_eq s x) (Some r) (table.get ss s) = get-insert_key ss x r s in
+    elim (eqb_tells s x) as (λ _. last_request ss s ≤ last_request (table.insert ss x r) s) [
+      | inl e ↦
+          let now : last_request (table.insert ss x r) s ≡ r = ap (λ o. unwrap_or o 0) (is ∙ ap (λ b. cond b (Some r) (table.get ss s)) e.0) in
+          omega (arith, now, up (sym e.1))
+      | inr e ↦
+          let now : last_request (table.insert ss x r) s ≡ last_request ss s = ap (λ o. unwrap_or o 0) (is ∙ ap (λ b. cond b (Some r) (table.get ss s)) e.0) in
+          omega (arith, now)
+    ]
+
+last_next : (c : Core) (e : Event) (s : ℕ) → decides c e ≡ None → last_request c.sessions s ≤ last_request (next c e).sessions s
+unfolding next
+last_next c event.Enter s d = omega arith
+last_next c event.Leave s d = omega arith
+last_next c (event.Deliver from n m) s d = omega arith
+last_next c (event.Acked peer n) s d = omega arith
+last_next c (event.Ask x r k) s d = last_inserted c.sessions x r s (λ is. subst (λ (y : ℕ). last_request c.sessions y < r) is (request_new c x r k d))
+last_next c (event.Retire q) s d = omega arith
+
+pub last_after : (s : ℕ) (n : Node) (es : List Event) → IsLawful n es → last_request n.core.sessions s ≤ last_request (after n es).core.sessions s
+unfolding step
+last_after s n [] d = omega arith
+last_after s n (e ∷ es) d = omega (arith, last_next n.core e s d.0, last_after s (step n e) es d.1)
+
+-- ---- the event that made an answer
+
+pub record Ended (m : Member) (s r : ℕ) (a : Answer) : Type 0 where
+  pub front : List Event
+  pub last : Event
+  pub later : List Event
+  pub parts : released_events m ≡ front ++ last ∷ later
+  pub ends : ends_round (after (fresh m.opening) front).core last ≡ true
+  pub tells : Told (after (fresh m.opening) front).core.ops.view (after (fresh m.opening) front).core.ops.phase (record { session = s; request = r; answer = a })
+
+pub ended : (m : Member) (s r : ℕ) (a : Answer) → Contains (line (fresh m.opening) (released_events m)) (output.Reply s r a) → Ended m s r a
+ended m s r a has =
+    let made = made_in (fresh m.opening) (released_events m) (output.Reply s r a) has in
+    let c = (after (fresh m.opening) made.before).core in
+    let t : Reply = record { session = s; request = r; answer = a } in
+    let is : reply c made.event ≡ Some t = All-contains (OutputSays c made.event) (outputs c made.event) (output.Reply s r a)
+    (All-from_recursion (OutputSays c made.event) (outputs c made.event) (outputs_say c made.event)) made.makes in
+    let says = at_some (ReplySays c made.event) (reply c made.event) t is (reply_says c made.event) in
+    record { front = made.before; last = made.event; later = made.later; parts = made.parts; ends = says.0; tells = says.1 }
+
+abbrev pub IsWriteOp : Core → ℕ → ℕ → Answer → Type 0
+IsWriteOp c s r a = (p : Pending) × (c.ops.phase ≡ Storing p) × (p.asked.session ≡ s) × (p.asked.request ≡ r) × (a ≡ answer_of p.asked.command c.ops.view)
+
+abbrev pub IsReadOp : Core → ℕ → ℕ → Answer → Type 0
+IsReadOp c s r a = (p : Pending) × (seen : ViewMap) × (c.ops.phase ≡ StoringBack p seen) × (p.asked.session ≡ s) × (p.asked.request ≡ r) × (a ≡ answer_of p.asked.command seen)
+
+pub either_op : (c : Core) (s r : ℕ) (a : Answer) (phase : Phase) → c.ops.phase ≡ phase
+    → Told c.ops.view phase (record { session = s; request = r; answer = a })
+    → IsWriteOp c s r a ⊎ IsReadOp c s r a
+either_op c s r a Idle is t = absurd t
+either_op c s r a (Storing p) is t = inl (p, is, ap (λ (k : Reply). k.session) (sym t), ap (λ (k : Reply). k.request) (sym t), ap (λ (k : Reply). k.answer) t)
+either_op c s r a (Querying p) is t = absurd t
+either_op c s r a (StoringBack p seen) is t =
+    inr (p, seen, is, ap (λ (k : Reply). k.session) (sym t), ap (λ (k : Reply). k.request) (sym t), ap (λ (k : Reply). k.answer) t)
+
+-- which answers a reading command has, and a writing one
+pub reads_view : (k : Command) (v : ViewMap) → is_writing k ≡ false → answer.Stored ≡ answer_of k v → ⊥
+reads_view (command.Store text) v reads is = cc
+reads_view command.Collect v reads is = cc
+reads_view (command.WriteMax x) v reads is = cc
+reads_view command.ReadMax v reads is = cc
+reads_view command.SetFlag v reads is = cc
+reads_view command.ReadFlag v reads is = cc
+reads_view (command.AddMember x) v reads is = cc
+reads_view command.ReadSet v reads is = cc
+
+pub writes_stored : (k : Command) (v : ViewMap) → is_writing k ≡ true → answer_of k v ≡ answer.Stored
+writes_stored (command.Store text) v writes = refl
+writes_stored command.Collect v writes = cc
+writes_stored (command.WriteMax x) v writes = refl
+writes_stored command.ReadMax v writes = cc
+writes_stored command.SetFlag v writes = refl
+writes_stored command.ReadFlag v writes = cc
+writes_stored (command.AddMember x) v writes = refl
+writes_stored command.ReadSet v writes = cc
+
+-- ---- rounds of one member
+
+pub record StoredRound (q : ℕ) (m : Member) (s r : ℕ) (Q : Core → Type 0) : Type 0 where
+  pub round : RoundOf m
+  pub storing : awaits_acks (phase_in m round) ≡ true
+  pub asked : IsRoundFor m round s r
+  pub tag : ℕ
+  pub raised : Raised (fresh m.opening) (released_events m) tag Q
+  pub acks : AllByRecursion (HasAck m.events q tag) (peers_of (fresh m.opening) (released_events m) round)
+
+-- a query of this request
+abbrev pub IsQueryFor : ℕ → ℕ → Core → Type 0
+IsQueryFor s r c = (p : Pending) × (c.ops.phase ≡ Querying p) × (p.asked.session ≡ s) × (p.asked.request ≡ r)
+
+pub record ReadRound (p : ℕ) (n : Member) (s r : ℕ) (seen : ViewMap) : Type 0 where
+  pub round : RoundOf n
+  pub querying : awaits_views (phase_in n round) ≡ true
+  pub asked : IsRoundFor n round s r
+  pub tag : ℕ
+  pub raised : Raised (fresh n.opening) (released_events n) tag (IsQueryFor s r)
+  pub replies : AllByRecursion (HasReply n.events p tag seen) (peers_of (fresh n.opening) (released_events n) round)
+
+module _ (q : ℕ) (m : Member) (sound : IsSound q m) where
+  abbrev start : Node
+  start = fresh m.opening
+
+  lawful : IsLawful start (released_events m)
+  lawful = lawful_front start m.events m.released sound.lawful
+
+  lawful_before : (front later : List Event) (last : Event) → released_events m ≡ front ++ last ∷ later → IsLawful start front
+  lawful_before front later last parts = (lawful_parts start front (last ∷ later) (subst (IsLawful start) parts lawful)).0
+
+  pub node_lawful : (front later : List Event) (last : Event) → released_events m ≡ front ++ last ∷ later → IsLawfulNode (after start front)
+  node_lawful front later last parts = after_lawful start front (lawful_before front later last parts) (fresh_lawful m.opening sound.opening)
+
+  module _ (front later : List Event) (last : Event) (parts : released_events m ≡ front ++ last ∷ later) where
+    abbrev c : Core
+    c = (after start front).core
+
+    raised_all : (tag : ℕ) (Q R : Core → Type 0) → ((d : Core) → Q d → R d) → Raised start front tag Q → Raised start (released_events m) tag R
+    raised_all tag Q R f r = record {
+      before = r.before;
+      raiser = r.raiser;
+      later = r.later ++ last ∷ later;
+      parts = inner_parts (released_events m) front later r.before r.later last r.raiser parts r.parts;
+      under = r.under;
+      raised = r.raised;
+      holds = f _ r.holds;
+    }
+
+    -- what happened before the last event, and it, is among all
+    there : (e : Event) → Contains front e → Contains m.events e
+    there e has =
+        contains_front m.released m.events e (subst (λ (l : List Event). Contains l e) (sym parts) (Contains-append_left front (last ∷ later) e has))
+
+    last_there : (e : Event) → last ≡ e → Contains m.events e
+    last_there e is = contains_front m.released m.events e (subst (Contains (released_events m)) is (contains_at (released_events m) front later last parts))
+
+    is_me : c.me ≡ q
+    is_me = me_of q m sound front
+
+    abbrev round : ends_round c last ≡ true → RoundOf m
+    round is_end = record { before = front; last = last; later = later; parts = parts; ends = is_end }
+
+    stored_round : (s r : ℕ) (Q R : Core → Type 0) → ((d : Core) → Q d → R d) → awaits_acks c.ops.phase ≡ true → (is_end : ends_round c last ≡ true)
+        → IsRoundFor m (round is_end) s r
+        → Raised start front c.ops.tag Q → AllByRecursion (HasAck front c.me c.ops.tag) (peers_along start [] front) → StoredRound q m s r R
+    stored_round s r Q R f is is_end asked raised acks = record {
+      round = round is_end;
+      storing = is;
+      asked = asked;
+      tag = c.ops.tag;
+      raised = raised_all c.ops.tag Q R f raised;
+      acks = with_all (HasAck m.events q c.ops.tag) (counts c last) (peers_along start [] front)
+          (some_changed (IsAckFrom c last) (HasAck m.events q c.ops.tag)
+          (λ r k. (k.0, last_there _ (k.1 ∙ ap (λ (me : ℕ). event.Deliver r k.0 (message.StoreAck c.ops.tag me)) is_me))) (counts c last) (counted_ack c last is))
+          (all_changed (HasAck front c.me c.ops.tag) (HasAck m.events q c.ops.tag)
+          (λ r k. (k.0, subst (λ (me : ℕ). Contains m.events (event.Deliver r k.0 (message.StoreAck c.ops.tag me))) is_me (there _ k.1))) (peers_along start [] front) acks);
+    }
+
+    read_round : (s r : ℕ) (seen : ViewMap) (p : Pending) → p.asked.session ≡ s → p.asked.request ≡ r → awaits_views c.ops.phase ≡ true
+        → (is_end : ends_round c last ≡ true)
+        → IsRoundFor m (round is_end) s r → (next c last).ops.view ≡ seen → Raised start front c.ops.tag (IsQueryOf p.asked)
+        → AllByRecursion (HasReply front c.me c.ops.tag c.ops.view) (peers_along start [] front) → ReadRound q m s r seen
+    read_round s r seen p session request is is_end asked saw raised replies =
+        let widest : IsAtMost c.ops.view seen = subst (IsAtMost c.ops.view) saw (view_grows c last) in
+        record {
+          round = round is_end;
+          querying = is;
+          asked = asked;
+          tag = c.ops.tag;
+          raised = raised_all c.ops.tag (IsQueryOf p.asked) (IsQueryFor s r)
+              (λ d k. (k.0, k.1, ap (λ (a : Asked). a.session) k.2 ∙ session, ap (λ (a : Asked). a.request) k.2 ∙ request)) raised;
+          replies = with_all (HasReply m.events q c.ops.tag seen) (counts c last) (peers_along start [] front)
+              (some_changed (IsReplyFrom c last) (HasReply m.events q c.ops.tag seen)
+              (λ x k. (
+                k.0,
+                k.1,
+                last_there _ (k.2 ∙ ap (λ (me : ℕ). event.Deliver x k.0 (message.QueryReply k.1 c.ops.tag me)) is_me),
+                subst (IsAtMost k.1) saw k.3,
+              )) (counts c last) (counted_reply c last is))
+              (all_changed (HasReply front c.me c.ops.tag c.ops.view) (HasReply m.events q c.ops.tag seen)
+              (λ x k. (
+                k.0,
+                k.1,
+                subst (λ (me : ℕ). Contains m.events (event.Deliver x k.0 (message.QueryReply k.1 c.ops.tag me))) is_me (there _ k.2),
+                at_most_trans k.1 c.ops.view seen k.3 widest,
+              )) (peers_along start [] front) replies);
+        }
+
+    -- what pends, where the phase is known
+    pends_as : (phase : Phase) → c.ops.phase ≡ phase → Pends start front (peers_along start [] front) c.me c.ops.number c.ops.view c.ops.tag phase
+    pends_as phase is = subst (Pends start front (peers_along start [] front) c.me c.ops.number c.ops.view c.ops.tag) is (pends m.opening front)
+
+    pub write_round : (s r : ℕ) (p : Pending) → p.asked.session ≡ s → p.asked.request ≡ r → c.ops.phase ≡ Storing p → ends_round c last ≡ true
+        → StoredRound q m s r (λ d. HasAtLeast d.ops.view q c.ops.number)
+    write_round s r p session request is is_end =
+        let h = pends_as (Storing p) is in
+        stored_round s r (λ d. HasAtLeast d.ops.view c.me c.ops.number) (λ d. HasAtLeast d.ops.view q c.ops.number)
+        (λ d k. subst (λ (me : ℕ). HasAtLeast d.ops.view me c.ops.number) is_me k) (ap awaits_acks is) is_end (p.asked, ap asked_in is, session, request) h.0 h.1
+
+    pub back_round : (s r : ℕ) (p : Pending) (seen : ViewMap) → p.asked.session ≡ s → p.asked.request ≡ r → c.ops.phase ≡ StoringBack p seen
+        → ends_round c last ≡ true
+        → StoredRound q m s r (λ d. d.ops.view ≡ seen)
+    back_round s r p seen session request is is_end =
+        let h = pends_as (StoringBack p seen) is in
+        stored_round s r (λ d. d.ops.view ≡ seen) (λ d. d.ops.view ≡ seen) (λ d k. k) (ap awaits_acks is) is_end (p.asked, ap asked_in is, session, request) h.0 h.1
+
+    pub query_round : (s r : ℕ) (seen : ViewMap) (p : Pending) → p.asked.session ≡ s → p.asked.request ≡ r → c.ops.phase ≡ Querying p
+        → ends_round c last ≡ true
+        → (next c last).ops.view ≡ seen → ReadRound q m s r seen
+    query_round s r seen p session request is is_end saw =
+        let h = pends_as (Querying p) is in
+        read_round s r seen p session request (ap awaits_views is) is_end (p.asked, ap asked_in is, session, request) saw h.0 h.1
+
+    read_before : (p : Pending) (seen : ViewMap) → c.ops.phase ≡ StoringBack p seen → ReadBefore start front p.asked seen
+    read_before p seen is = (pends_as (StoringBack p seen) is).2
+
+  -- what was answered was read in a round before
+  pub answered_read : (s r : ℕ) (a : Answer) (op : Ended m s r a) (p : Pending) (seen : ViewMap) → (after start op.front).core.ops.phase ≡ StoringBack p seen
+      → p.asked.session ≡ s → p.asked.request ≡ r → ReadRound q m s r seen
+  answered_read s r a op p seen is session request =
+      let b = read_before op.front op.later op.last op.parts p seen is in
+      let parts = inner_parts (released_events m) op.front op.later b.before b.later op.last b.last op.parts b.parts in
+      query_round b.before (b.later ++ op.last ∷ op.later) b.last parts s r seen b.pending
+      (ap (λ (k : Asked). k.session) b.same ∙ session) (ap (λ (k : Asked). k.request) b.same ∙ request) b.querying b.ends
+      (ap (λ (d : Core). d.ops.view) (sym (core_push start b.before b.last)) ∙ b.saw)
+
+  -- ---- the number of a write
+
+  has_there : (s : ℕ) (rest more : List Asked) (a : Asked) → nat_eq s a.session ≡ true → has_session s (rest ++ a ∷ more) ≡ true
+  has_there s [] more a is = or_left _ _ is
+  has_there s (x ∷ rest) more a is = or_right _ _ (has_there s rest more a is)
+
+  writes_both : (xs ys : List Asked) → writes_by (xs ++ ys) ≡ writes_by xs + writes_by ys
+  writes_both [] ys = omega arith
+  writes_both (x ∷ xs) ys = omega (arith, writes_both xs ys)
+
+  pub number_reached : (s r k : ℕ) (a : Answer) (op : Ended m s r a) (p : Pending) → (after start op.front).core.ops.phase ≡ Storing p
+      → p.asked.session ≡ s → p.asked.request ≡ r → IsWriteAsk (released_events m) k s r → k ≤ (after start op.front).core.ops.number
+  number_reached s r k a op p is session request w =
+      let es = released_events m in
+      let d = (after start op.front).core in
+      let e = event.Ask s r w.command in
+      let node = node_lawful op.front op.later op.last op.parts in
+      let pending : IsPhaseOf d.links d.sessions (Storing p) = subst (IsPhaseOf d.links d.sessions) is node.core.phase in
+      let last_is : last_request d.sessions s ≡ r =
+      ap (λ (x : ℕ). last_request d.sessions x) (sym session) ∙ ap (λ o. unwrap_or o 0) pending.0.session ∙ request in
+      elim (split_order w.before w.later op.front op.later e op.last (sym w.parts ∙ op.parts)) as (λ _. k ≤ d.ops.number) [
+        | at_same at it ↦ let never : false ≡ true = ap (ends_round d) it ∙ op.ends in absurd cc
+        | at_before more inside ↦ reached more inside d node pending
+        | at_behind more outside ↦
+            let lawful_w = (lawful_parts start w.before (e ∷ w.later) (subst (IsLawful start) w.parts lawful)) in
+            let new : last_request (after start w.before).core.sessions s < r = request_new (after start w.before).core s r w.command lawful_w.1.0 in
+            let old = later_last op.front (op.last ∷ more) w.before outside lawful_w.0 in
+            absurd (omega (arith, new, old, last_is))
+      ]
+    where
+      later_last : (xs ys zs : List Event) → zs ≡ xs ++ ys → IsLawful start zs
+          → last_request (after start xs).core.sessions s ≤ last_request (after start zs).core.sessions s
+      later_last xs ys zs parts h =
+          let more = (lawful_parts start xs ys (subst (IsLawful start) parts h)).1 in
+          subst (λ (n : Node). last_request (after start xs).core.sessions s ≤ last_request n.core.sessions s) (sym (after_parts start zs xs ys parts)) (last_after s (after start xs) ys more)
+
+      reached : (more : List Event) → op.front ≡ w.before ++ event.Ask s r w.command ∷ more → (d : Core) → IsLawfulNode (after start op.front)
+          → IsPhaseOf (after start op.front).core.links (after start op.front).core.sessions (Storing p) → k ≤ (after start op.front).core.ops.number
+      reached more inside d node pending =
+          let front = op.front in
+          let ops = (after start front).core.ops in
+          let x = asked_of s r w.command in
+          let begun = begun_along start front in
+          let order : begun ++ ops.line ≡ asked_along w.before ++ x ∷ asked_along more =
+          sym (begin_in_order start front (fresh_lawful m.opening sound.opening) (lawful_before front op.later op.last op.parts))
+          ∙ ap (λ (l : List Asked). l ++ asked_along front) (fresh_line m.opening) ∙ ap asked_along inside ∙ asked_both w.before (event.Ask s r w.command ∷ more) in
+          let count : ops.number ≡ writes_by begun = omega (arith, own_number_along start front, fresh_number m.opening) in
+          elim (either_front begun ops.line (asked_along w.before) (asked_along more) x order) as (λ _. k ≤ ops.number) [
+            | inl h ↦
+                let waits : ops.line ≡ h.0 ++ x ∷ asked_along more =
+                append_cancel_left begun ops.line (h.0 ++ x ∷ asked_along more)
+                (order ∙ ap (λ (l : List Asked). l ++ x ∷ asked_along more) h.1 ∙ append_assoc begun h.0 (x ∷ asked_along more)) in
+                let apart : AreApart (p.asked ∷ ops.line) = subst (λ (f : Phase). AreApart (unanswered (record ops { phase = f }))) is node.core.line.apart in
+                let there : has_session p.asked.session ops.line ≡ true =
+                ap (has_session p.asked.session) waits ∙ has_there p.asked.session h.0 (asked_along more) x (eq-eqb p.asked.session s session) in
+                absurd (both_ways (has_session p.asked.session ops.line) apart.0 there)
+            | inr h ↦
+                let one : writes_by (x ∷ h.0) ≡ 1 + writes_by h.0 = ap (λ b. (if b then 1 else 0) + writes_by h.0) w.writes in
+                omega (arith, count, ap writes_by h.1, writes_both (asked_along w.before) (x ∷ h.0), one, w.number)
+          ]

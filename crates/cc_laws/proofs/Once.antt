@@ -1,0 +1,387 @@
+-- No node answers one round twice: its answer has one number on each link, and is delivered once.
+--     IsAnswerTo, IsRoundOf       an answer to a round of a tag, and the message by which the round began
+--     one_answer                  two answers of a node to one round that were delivered had one number
+--     new_peer                    so a node whose answer is counted isn't among those that were counted before
+--     peers_apart                 and those that a round counted are different nodes, each of them a member
+use Rattle.std.proofs.Common.{◌≡◌, ◌⊎◌, inl, inr, ℕ, zero, suc, ◌-◌, ◌<◌, ◌≤◌, Bool, true, false, nat_eq, List, [], ◌∷◌, ◌++◌, refl, sym, ap, subst, ◌∙◌, arith, append_assoc}
+use Rattle.std.specs.Prelude.{Option, Some, None, IfSome, ⊤, if◌then◌else◌}
+use Rattle.std.specs.Option.{option_map_or}
+use Rattle.std.specs.List.{Contains, AllByRecursion, list_any}
+use Rattle.std.specs.Prelude.{slice_index_or}
+use Rattle.std.specs.FinMap as table
+use Rattle.std.proofs.lemmas.Bool.{leb-false, eqb-true, or_cases}
+use Rattle.std.proofs.lemmas.List.{append-nil}
+use Rattle.std.proofs.lemmas.List.Elements.{Contains-append_left, Contains-append_cases}
+use Rattle.cc_views.specs.Rows.{ViewMap}
+use Rattle.cc_wire.specs.declared.event.Event.{Event}
+use Rattle.cc_wire.specs.declared.event.Event.TheVariants as event
+use Rattle.cc_wire.specs.declared.message.Message.{Message}
+use Rattle.cc_wire.specs.declared.message.Message.TheVariants as message
+use Rattle.cc_links.specs.Links.{Link, heard_from}
+use Rattle.cc_links.specs.LinkLaws.{LinkGoesOn}
+use Rattle.cc_ops.specs.Ops.{Phase, Idle, Storing, Querying, StoringBack, is_own}
+use Rattle.cc_node.specs.Core.{Core, next}
+use Rattle.cc_node.specs.Node.{Node, step, after, IsLawful}
+use Rattle.cc_node.specs.Opening.{fresh}
+use Rattle.cc_node.specs.Histories.{lawful_parts}
+use Rattle.cc_node.specs.Refusals.{decides}
+use Rattle.cc_node.proofs.LawfulLaws.{links_go_on, hears_now}
+use Rattle.cc_node.proofs.RefusalLaws.{takes_delivery}
+use Rattle.cc_laws.specs.Clusters.{Member, Cluster}
+use Rattle.cc_laws.specs.Regular.{released_events}
+use Rattle.cc_laws.specs.Rounds.{awaits_views, awaits_acks, counts, ends_round, with_peer, peers_next, peers_along}
+use Rattle.cc_laws.proofs.Members.{lawful_front}
+use Rattle.cc_laws.proofs.Clustering.{Holds, same_some}
+use Rattle.cc_laws.proofs.Places.{front_more, at_once}
+use Rattle.cc_laws.proofs.Says.{tag_after, BringsIn, PostSays, GoesTo}
+use Rattle.cc_laws.proofs.Pending.{HasAck, HasReply, Pends, own_parts, core_push, pends}
+use Rattle.cc_laws.proofs.CountedAnswers.{one_there}
+use Rattle.cc_laws.proofs.Knowing.{me_of, poster_is, raised_at, contains_at, contains_front, Posted, posted, came_at}
+use Rattle.cc_laws.proofs.Lists.{all_changed, some_changed, at_some}
+use Rattle.cc_laws.proofs.Traces.{one_at, Traces}
+
+-- ---- answers and rounds
+
+abbrev pub IsAnswerTo : ℕ → ℕ → Message → Type 0
+IsAnswerTo tag q (message.Enter p) = ⊥
+IsAnswerTo tag q (message.EnterEcho c v from_joined p) = ⊥
+IsAnswerTo tag q (message.Join p) = ⊥
+IsAnswerTo tag q (message.JoinEcho p) = ⊥
+IsAnswerTo tag q (message.Leave p) = ⊥
+IsAnswerTo tag q (message.LeaveEcho p) = ⊥
+IsAnswerTo tag q (message.Query t p) = ⊥
+IsAnswerTo tag q (message.QueryReply v t p) = (t ≡ tag) × (p ≡ q)
+IsAnswerTo tag q (message.Store v t p) = ⊥
+IsAnswerTo tag q (message.StoreAck t p) = (t ≡ tag) × (p ≡ q)
+
+abbrev pub IsRoundOf : ℕ → ℕ → Message → Type 0
+IsRoundOf tag q (message.Enter p) = ⊥
+IsRoundOf tag q (message.EnterEcho c v from_joined p) = ⊥
+IsRoundOf tag q (message.Join p) = ⊥
+IsRoundOf tag q (message.JoinEcho p) = ⊥
+IsRoundOf tag q (message.Leave p) = ⊥
+IsRoundOf tag q (message.LeaveEcho p) = ⊥
+IsRoundOf tag q (message.Query t p) = (t ≡ tag) × (p ≡ q)
+IsRoundOf tag q (message.QueryReply v t p) = ⊥
+IsRoundOf tag q (message.Store v t p) = (t ≡ tag) × (p ≡ q)
+IsRoundOf tag q (message.StoreAck t p) = ⊥
+
+answer_says : (c : Core) (e : Event) (tag q : ℕ) (k : Message) → IsAnswerTo tag q k → PostSays c e k → (m : Message) × IsRoundOf tag q m × BringsIn e m
+answer_says c e tag q (message.Enter p) is says = absurd is
+answer_says c e tag q (message.EnterEcho d v j p) is says = absurd is
+answer_says c e tag q (message.Join p) is says = absurd is
+answer_says c e tag q (message.JoinEcho p) is says = absurd is
+answer_says c e tag q (message.Leave p) is says = absurd is
+answer_says c e tag q (message.LeaveEcho p) is says = absurd is
+answer_says c e tag q (message.Query t p) is says = absurd is
+answer_says c e tag q (message.QueryReply v t p) is says = (message.Query t p, is, says.0)
+answer_says c e tag q (message.Store v t p) is says = absurd is
+answer_says c e tag q (message.StoreAck t p) is says = (message.Store says.0 t p, is, says.1)
+
+round_says : (c : Core) (e : Event) (tag q : ℕ) (m : Message) → IsRoundOf tag q m → PostSays c e m
+    → (q ≡ c.me) × (c.ops.tag < tag) × (tag ≡ (next c e).ops.tag)
+round_says c e tag q (message.Enter p) is says = absurd is
+round_says c e tag q (message.EnterEcho d v j p) is says = absurd is
+round_says c e tag q (message.Join p) is says = absurd is
+round_says c e tag q (message.JoinEcho p) is says = absurd is
+round_says c e tag q (message.Leave p) is says = absurd is
+round_says c e tag q (message.LeaveEcho p) is says = absurd is
+round_says c e tag q (message.Query t p) is says = (sym is.1 ∙ says.0, subst (λ (x : ℕ). c.ops.tag < x) is.0 says.1, sym is.0 ∙ says.2)
+round_says c e tag q (message.QueryReply v t p) is says = absurd is
+round_says c e tag q (message.Store v t p) is says = (sym is.1 ∙ says.0, subst (λ (x : ℕ). c.ops.tag < x) is.0 says.1, sym is.0 ∙ says.2)
+round_says c e tag q (message.StoreAck t p) is says = absurd is
+
+-- a post goes to a peer under one number
+one_number : (c : Core) (to n k : ℕ) → GoesTo c to n → GoesTo c to k → n ≡ k
+one_number c to n k h g =
+    let link : h.0 ≡ g.0 = same_some h.0 g.0 (sym h.1 ∙ g.1) in
+    h.2 ∙ ap (λ (l : Link). c.posts - l.start) link ∙ sym g.2
+
+-- ---- what was heard
+
+heard_goes : (posts : ℕ) (a b : Option Link) → LinkGoesOn posts a b → option_map_or (λ (l : Link). l.heard) a 0 ≤ option_map_or (λ (l : Link). l.heard) b 0
+heard_goes posts None b goes = omega arith
+heard_goes posts (Some l) None goes = absurd goes
+heard_goes posts (Some l) (Some k) goes = goes.2
+
+heard_after : (f : ℕ) (n : Node) (es : List Event) → IsLawful n es → heard_from f n.core.links ≤ heard_from f (after n es).core.links
+unfolding step
+heard_after f n [] d = omega arith
+heard_after f n (e ∷ es) d =
+    let c = n.core in
+    omega (arith, heard_goes c.posts (table.get c.links f) (table.get (next c e).links f) (links_go_on c e d.0 f), heard_after f (step n e) es d.1)
+
+heard_new : (c : Core) (f n : ℕ) (m : Message) → decides c (event.Deliver f n m) ≡ None → heard_from f c.links < n
+heard_new c f n m d = leb-false n (heard_from f c.links) (takes_delivery c f n m d).new
+
+heard_now : (c : Core) (f n : ℕ) (m : Message) → heard_from f (next c (event.Deliver f n m)).links ≡ n
+unfolding next
+heard_now c f n m = hears_now c f n m
+
+-- at one place of a lawful list
+record HeardAt (start : Node) (before : List Event) (e : Event) (f n : ℕ) : Type 0 where
+  under : heard_from f (after start before).core.links < n
+  now : heard_from f (after start (before ++ e ∷ [])).core.links ≡ n
+
+heard_at : (start : Node) (es before later : List Event) (e : Event) → IsLawful start es → es ≡ before ++ e ∷ later → (f n : ℕ) (m : Message)
+    → e ≡ event.Deliver f n m → HeardAt start before e f n
+heard_at start es before later e lawful parts f n m is =
+    let c = (after start before).core in
+    let taken = (lawful_parts start before (e ∷ later) (subst (IsLawful start) parts lawful)).1.0 in
+    record {
+      under = heard_new c f n m (subst (λ (x : Event). decides c x ≡ None) is taken);
+      now = ap (λ (d : Core). heard_from f d.links) (core_push start before e) ∙ ap (λ (x : Event). heard_from f (next c x).links) is ∙ heard_now c f n m;
+    }
+
+-- ---- a cluster
+
+goes_there : (start : Node) (before other : List Event) (e f : Event) → before ≡ other → e ≡ f → (to n : ℕ)
+    → GoesTo (next (after start before).core e) to n → GoesTo (next (after start other).core f) to n
+goes_there start before other e f same at to n goes = subst (λ (c : Core). GoesTo c to n) (λ i. next (after start (same i)).core (at i)) goes
+
+module _ (c : Cluster) (h : Holds c) (t : Traces c) where
+  -- a message of a round that was delivered was posted by the round's node, as its tag rose
+  record Begun (m : Member) (r w tag : ℕ) : Type 0 where
+    before : List Event
+    raiser : Event
+    later : List Event
+    parts : released_events m ≡ before ++ raiser ∷ later
+    under : (after (fresh m.opening) before).core.ops.tag < tag
+    raised : tag ≡ (after (fresh m.opening) (before ++ raiser ∷ [])).core.ops.tag
+    goes : GoesTo (next (after (fresh m.opening) before).core raiser) r w
+
+  begun_of : (q : ℕ) (m : Member) → table.get c.members q ≡ Some m → (r : ℕ) (x : Member) → table.get c.members r ≡ Some x → (f w tag : ℕ) (k : Message)
+      → IsRoundOf tag q k
+      → Contains x.events (event.Deliver f w k) → (f ≡ q) × Begun m r w tag
+  begun_of q m at r x at_r f w tag k round has =
+      let made = came_at c h t r x at_r f w k has in
+      let p = posted made.0 r w k made.2 in
+      let core = (after (fresh (made.0).opening) p.before).core in
+      let says = round_says core p.poster tag q k round p.says in
+      let is_q : q ≡ f = poster_is f q made.0 (h.sound f made.0 made.1) p.before says.0 in
+      let is_m : made.0 ≡ m = one_at c f q made.0 m (sym is_q) made.1 at in
+      let begun : Begun made.0 r w tag = record {
+        before = p.before;
+        raiser = p.poster;
+        later = p.later;
+        parts = p.parts;
+        under = says.1;
+        raised = raised_at (fresh (made.0).opening) p.before p.poster tag says.2;
+        goes = p.goes;
+      } in
+      (sym is_q, subst (λ (y : Member). Begun y r w tag) is_m begun)
+
+  begun_once : (q : ℕ) (m : Member) → table.get c.members q ≡ Some m → (r w z tag : ℕ) → Begun m r w tag → Begun m r z tag → w ≡ z
+  begun_once q m at r w z tag a b =
+      let start = fresh m.opening in
+      let lawful = lawful_front start m.events m.released (h.sound q m at).lawful in
+      let one = at_once (λ n. n.core.ops.tag) tag_after start (released_events m) lawful a.before a.later b.before b.later a.raiser b.raiser a.parts b.parts tag
+      a.under (omega (arith, a.raised)) b.under (omega (arith, b.raised)) in
+      one_number (next (after start b.before).core b.raiser) r w z (goes_there start a.before b.before a.raiser b.raiser one.0 one.1 r w a.goes) b.goes
+
+  -- of an answer that was posted: which message of its round it answers, and that this was heard with it
+  record Made (q r : ℕ) (m x : Member) (tag n : ℕ) (k : Message) (p : Posted x q n k) : Type 0 where
+    wire : ℕ
+    begun : Begun m r wire tag
+    heard : HeardAt (fresh x.opening) p.before p.poster q wire
+
+  answer_made : (q : ℕ) (m : Member) → table.get c.members q ≡ Some m → (r : ℕ) (x : Member) → table.get c.members r ≡ Some x → (tag n : ℕ) (k : Message)
+      → IsAnswerTo tag q k → (p : Posted x q n k) → Made q r m x tag n k p
+  answer_made q m at r x there tag n k of_k p =
+      let start = fresh x.opening in
+      let lawful = lawful_front start x.events x.released (h.sound r x there).lawful in
+      let asks = answer_says (after start p.before).core p.poster tag q k of_k p.says in
+      let got : Contains x.events (event.Deliver asks.2.0 asks.2.1 asks.0) =
+      contains_front x.released x.events _ (subst (Contains (released_events x)) asks.2.2 (contains_at (released_events x) p.before p.later p.poster p.parts)) in
+      let begun = begun_of q m at r x there asks.2.0 asks.2.1 tag asks.0 asks.1 got in
+      record {
+        wire = asks.2.1;
+        begun = begun.1;
+        heard = subst (λ (f : ℕ). HeardAt start p.before p.poster f asks.2.1) begun.0
+            (heard_at start (released_events x) p.before p.later p.poster lawful p.parts asks.2.0 asks.2.1 asks.0 asks.2.2);
+      }
+
+  pub one_answer : (q : ℕ) (m : Member) → table.get c.members q ≡ Some m → (tag r n i : ℕ) (k j : Message) → IsAnswerTo tag q k → IsAnswerTo tag q j
+      → Contains m.events (event.Deliver r n k) → Contains m.events (event.Deliver r i j) → n ≡ i
+  one_answer q m at tag r n i k j of_k of_j first second =
+      let made_k = came_at c h t q m at r n k first in
+      let made_j = came_at c h t q m at r i j second in
+      let x = made_k.0 in
+      let is_x : made_j.0 ≡ x = one_at c r r made_j.0 x refl made_j.1 made_k.1 in
+      let a = posted x q n k made_k.2 in
+      let b : Posted x q i j = subst (λ (y : Member). Posted y q i j) is_x (posted made_j.0 q i j made_j.2) in
+      let start = fresh x.opening in
+      let lawful = lawful_front start x.events x.released (h.sound r x made_k.1).lawful in
+      let of_a = answer_made q m at r x made_k.1 tag n k of_k a in
+      let of_b = answer_made q m at r x made_k.1 tag i j of_j b in
+      let wires : of_a.wire ≡ of_b.wire = begun_once q m at r of_a.wire of_b.wire tag of_a.begun of_b.begun in
+      let one = at_once (λ s. heard_from q s.core.links) (heard_after q) start (released_events x) lawful a.before a.later b.before b.later a.poster b.poster a.parts b.parts of_b.wire
+      (omega (arith, of_a.heard.under, wires)) (omega (arith, of_a.heard.now, wires)) of_b.heard.under (omega (arith, of_b.heard.now)) in
+      one_number (next (after start b.before).core b.poster) q n i (goes_there start a.before b.before a.poster b.poster one.0 one.1 q n a.goes) b.goes
+
+-- ---- the peers of a round
+
+abbrev pub HasAnswer : List Event → ℕ → ℕ → ℕ → Type 0
+HasAnswer past me tag r = (n : ℕ) × (k : Message) × Contains past (event.Deliver r n k) × IsAnswerTo tag me k
+
+ack_answers : (past : List Event) (me tag : ℕ) (peers : List ℕ) → AllByRecursion (HasAck past me tag) peers → AllByRecursion (HasAnswer past me tag) peers
+ack_answers past me tag peers h = all_changed (HasAck past me tag) (HasAnswer past me tag) (λ r a. (a.0, message.StoreAck tag me, a.1, (refl, refl))) peers h
+
+reply_answers : (past : List Event) (me tag : ℕ) (view : ViewMap) (peers : List ℕ) → AllByRecursion (HasReply past me tag view) peers
+    → AllByRecursion (HasAnswer past me tag) peers
+reply_answers past me tag view peers h =
+    all_changed (HasReply past me tag view) (HasAnswer past me tag) (λ r a. (a.0, message.QueryReply a.1 tag me, a.2, (refl, refl))) peers h
+
+phase_answers : (start : Node) (past : List Event) (peers : List ℕ) (me number : ℕ) (view : ViewMap) (tag : ℕ) (phase : Phase)
+    → Pends start past peers me number view tag phase
+    → AllByRecursion (HasAnswer past me tag) peers
+phase_answers start past peers me number view tag Idle h = subst (AllByRecursion (HasAnswer past me tag)) (sym h) tt
+phase_answers start past peers me number view tag (Storing p) h = ack_answers past me tag peers h.1
+phase_answers start past peers me number view tag (Querying p) h = reply_answers past me tag view peers h.1
+phase_answers start past peers me number view tag (StoringBack p seen) h = ack_answers past me tag peers h.1
+
+abbrev pub IsAnswerFrom : Core → Event → ℕ → Type 0
+IsAnswerFrom c e r = (n : ℕ) × (k : Message) × (e ≡ event.Deliver r n k) × IsAnswerTo c.ops.tag c.me k
+
+message_answer : (c : Core) (from n : ℕ) (m : Message) → IfSome (counts c (event.Deliver from n m)) (IsAnswerFrom c (event.Deliver from n m))
+message_answer c from n (message.Enter q) = tt
+message_answer c from n (message.EnterEcho d v j q) = tt
+message_answer c from n (message.Join q) = tt
+message_answer c from n (message.JoinEcho q) = tt
+message_answer c from n (message.Leave q) = tt
+message_answer c from n (message.LeaveEcho q) = tt
+message_answer c from n (message.Query tag q) = tt
+message_answer c from n (message.QueryReply v tag q) =
+    one_there (is_own c.me tag q c.ops) (awaits_views c.ops.phase) from (IsAnswerFrom c (event.Deliver from n (message.QueryReply v tag q)))
+    (λ own. let is = own_parts c.me tag q c.ops own in (n, message.QueryReply v tag q, refl, (is.1, is.0)))
+message_answer c from n (message.Store v tag q) = tt
+message_answer c from n (message.StoreAck tag q) =
+    one_there (is_own c.me tag q c.ops) (awaits_acks c.ops.phase) from (IsAnswerFrom c (event.Deliver from n (message.StoreAck tag q)))
+    (λ own. let is = own_parts c.me tag q c.ops own in (n, message.StoreAck tag q, refl, (is.1, is.0)))
+
+pub counted_answer : (c : Core) (e : Event) → IfSome (counts c e) (IsAnswerFrom c e)
+counted_answer c event.Enter = tt
+counted_answer c event.Leave = tt
+counted_answer c (event.Deliver from n m) = message_answer c from n m
+counted_answer c (event.Acked peer n) = tt
+counted_answer c (event.Ask s r command) = tt
+counted_answer c (event.Retire q) = tt
+
+one_of_one : (x y : Event) (k : ℕ) → k < 1 → slice_index_or (x ∷ []) k y ≡ y → x ≡ y
+one_of_one x y zero le is = is
+one_of_one x y (suc k) le is = absurd (omega (arith, le))
+
+pub contains_cases : (x : Event) (xs : List Event) (y : Event) → Contains (x ∷ xs) y → (x ≡ y) ⊎ Contains xs y
+contains_cases x xs y has =
+    elim (Contains-append_cases (x ∷ []) xs y has) as (λ _. (x ≡ y) ⊎ Contains xs y) [
+      | inl h ↦ inl (one_of_one x y h.0 h.1 h.2)
+      | inr h ↦ inr h
+    ]
+
+-- what was delivered was heard
+heard_past : (start : Node) (past : List Event) → IsLawful start past → (f n : ℕ) (k : Message) → Contains past (event.Deliver f n k)
+    → n ≤ heard_from f (after start past).core.links
+unfolding step
+heard_past start [] lawful f n k has = absurd (omega (arith, has.1))
+heard_past start (e ∷ es) lawful f n k has =
+    elim (contains_cases e es (event.Deliver f n k) has) as (λ _. n ≤ heard_from f (after start (e ∷ es)).core.links) [
+      | inl is ↦
+          let now : heard_from f (next start.core e).links ≡ n = ap (λ (x : Event). heard_from f (next start.core x).links) is ∙ heard_now start.core f n k in
+          omega (arith, now, heard_after f (step start e) es lawful.1)
+      | inr there ↦ heard_past (step start e) es lawful.1 f n k there
+    ]
+
+abbrev pub Apart : List ℕ → Type 0
+Apart [] = ⊤
+Apart (x ∷ xs) = (list_any (nat_eq x) xs ≡ false) × Apart xs
+
+any_holds : (P : ℕ → Type 0) (x : ℕ) (xs : List ℕ) → list_any (nat_eq x) xs ≡ true → AllByRecursion P xs → P x
+any_holds P x [] is h = cc
+any_holds P x (y ∷ xs) is h =
+    elim (or_cases (nat_eq x y) (list_any (nat_eq x) xs) is) as (λ _. P x) [
+      | inl e ↦ subst P (sym (eqb-true x y e)) h.0
+      | inr e ↦ any_holds P x xs e h.1
+    ]
+
+none_if : (b : Bool) → (b ≡ true → ⊥) → b ≡ false
+none_if true f = absurd (f refl)
+none_if false f = refl
+
+peers_push : (n : Node) (peers : List ℕ) (xs ys : List Event) → peers_along n peers (xs ++ ys) ≡ peers_along (after n xs) (peers_along n peers xs) ys
+peers_push n peers [] ys = refl
+peers_push n peers (x ∷ xs) ys = peers_push (step n x) (peers_next n.core x peers) xs ys
+
+module _ (c : Cluster) (h : Holds c) (t : Traces c) (q : ℕ) (m : Member) (at : table.get c.members q ≡ Some m) where
+  abbrev begin : Node
+  begin = fresh m.opening
+
+  lawful_all : IsLawful begin (released_events m)
+  lawful_all = lawful_front begin m.events m.released (h.sound q m at).lawful
+
+  pub new_peer : (front later : List Event) (last : Event) → released_events m ≡ front ++ last ∷ later → (r : ℕ)
+      → counts (after begin front).core last ≡ Some r
+      → list_any (nat_eq r) (peers_along begin [] front) ≡ false
+  new_peer front later last parts r is =
+      let d = (after begin front).core in
+      let all_then = lawful_parts begin front (last ∷ later) (subst (IsLawful begin) parts lawful_all) in
+      let now = at_some (IsAnswerFrom d last) (counts d last) r is (counted_answer d last) in
+      let me : d.me ≡ q = me_of q m (h.sound q m at) front in
+      none_if (list_any (nat_eq r) (peers_along begin [] front)) (λ there.
+      let old = any_holds (HasAnswer front d.me d.ops.tag) r (peers_along begin [] front) there
+      (phase_answers begin front (peers_along begin [] front) d.me d.ops.number d.ops.view d.ops.tag d.ops.phase (pends m.opening front)) in
+      let old_there : Contains m.events (event.Deliver r old.0 old.1) =
+      contains_front m.released m.events _ (subst (λ (l : List Event). Contains l (event.Deliver r old.0 old.1)) (sym parts) (Contains-append_left front (last ∷ later) _ old.2)) in
+      let new_there : Contains m.events (event.Deliver r now.0 now.1) =
+      contains_front m.released m.events _ (subst (Contains (released_events m)) now.2 (contains_at (released_events m) front later last parts)) in
+      let same = one_answer c h t q m at d.ops.tag r old.0 now.0 old.1 now.1 (subst (λ (x : ℕ). IsAnswerTo d.ops.tag x old.1) me old.3) (subst (λ (x : ℕ). IsAnswerTo d.ops.tag x now.1) me now.3) old_there new_there in
+      let low = heard_past begin front all_then.0 r old.0 old.1 old.2 in
+      let high = heard_new d r now.0 now.1 (subst (λ (x : Event). decides d x ≡ None) now.2 all_then.1.0) in
+      omega (arith, same, low, high))
+
+  with_apart : (front later : List Event) (last : Event) → released_events m ≡ front ++ last ∷ later → Apart (peers_along begin [] front)
+      → Apart (with_peer (counts (after begin front).core last) (peers_along begin [] front))
+  with_apart front later last parts apart = one_more (counts (after begin front).core last) (new_peer front later last parts)
+    where
+      one_more : (o : Option ℕ) → ((r : ℕ) → o ≡ Some r → list_any (nat_eq r) (peers_along begin [] front) ≡ false)
+          → Apart (with_peer o (peers_along begin [] front))
+      one_more None new = apart
+      one_more (Some r) new = (new r refl, apart)
+
+  apart_from : (past rest later : List Event) → released_events m ≡ (past ++ rest) ++ later → Apart (peers_along begin [] past)
+      → Apart (peers_along begin [] (past ++ rest))
+  apart_from past [] later parts apart = subst (λ (l : List Event). Apart (peers_along begin [] l)) (sym (append-nil past)) apart
+  apart_from past (e ∷ rest) later parts apart =
+      let one : past ++ e ∷ rest ≡ (past ++ e ∷ []) ++ rest = front_more past rest e in
+      let here : released_events m ≡ past ++ e ∷ (rest ++ later) = parts ∙ append_assoc past (e ∷ rest) later in
+      let d = (after begin past).core in
+      let ps = peers_along begin [] past in
+      let next_apart : Apart (peers_next d e ps) = either (ends_round d e) (with_peer (counts d e) ps) (with_apart past (rest ++ later) e here apart) in
+      let apart_then : Apart (peers_along begin [] (past ++ e ∷ [])) = subst Apart (sym (peers_push begin [] past (e ∷ []))) next_apart in
+      subst (λ (l : List Event). Apart (peers_along begin [] l)) (sym one)
+      (apart_from (past ++ e ∷ []) rest later (parts ∙ ap (λ (l : List Event). l ++ later) one) apart_then)
+    where
+      either : (b : Bool) (peers : List ℕ) → Apart peers → Apart (if b then [] else peers)
+      either true peers apart = tt
+      either false peers apart = apart
+
+  pub peers_apart : (front later : List Event) (last : Event) → released_events m ≡ front ++ last ∷ later
+      → Apart (with_peer (counts (after begin front).core last) (peers_along begin [] front))
+  peers_apart front later last parts = with_apart front later last parts (apart_from [] front (last ∷ later) parts tt)
+
+  -- each of them is a member
+  pub peers_there : (P : ℕ → Type 0) → ((r : ℕ) (x : Member) → table.get c.members r ≡ Some x → P r) → (front later : List Event) (last : Event)
+      → released_events m ≡ front ++ last ∷ later
+      → AllByRecursion P (with_peer (counts (after begin front).core last) (peers_along begin [] front))
+  peers_there P f front later last parts =
+      let d = (after begin front).core in
+      let of_sent : (r n : ℕ) (k : Message) → Contains m.events (event.Deliver r n k) → P r = λ r n k has. let made = came_at c h t q m at r n k has in f r made.0 made.1 in
+      let old : AllByRecursion P (peers_along begin [] front) =
+      all_changed (HasAnswer front d.me d.ops.tag) P (λ r a. of_sent r a.0 a.1
+      (contains_front m.released m.events _ (subst (λ (l : List Event). Contains l (event.Deliver r a.0 a.1)) (sym parts) (Contains-append_left front (last ∷ later) _ a.2))))
+      (peers_along begin [] front) (phase_answers begin front (peers_along begin [] front) d.me d.ops.number d.ops.view d.ops.tag d.ops.phase (pends m.opening front)) in
+      with_each (counts d last) (peers_along begin [] front) (some_changed (IsAnswerFrom d last) P (λ r a. of_sent r a.0 a.1
+      (contains_front m.released m.events _ (subst (Contains (released_events m)) a.2 (contains_at (released_events m) front later last parts)))) (counts d last) (counted_answer d last)) old
+    where
+      with_each : (o : Option ℕ) (peers : List ℕ) → IfSome o P → AllByRecursion P peers → AllByRecursion P (with_peer o peers)
+      with_each None peers g k = k
+      with_each (Some x) peers g k = (g, k)

@@ -1,0 +1,336 @@
+-- What a pending round says of the events behind it: where it began, and what its counted answers told.
+--     HasAck, HasReply      an acknowledgement, or a reply to a query, came from a node
+--     Raised                an event raised the tag, and of the core after it something holds
+--     ReadBefore            a query ended, and this was seen with it
+--     Pends, pends          each of these holds of the round that pends after a list of events
+use Rattle.std.proofs.Common.{◌≡◌, ℕ, ◌+◌, ◌<◌, ◌≤◌, Bool, true, false, cond, List, ◌∷◌, ◌++◌, refl, sym, ap, subst, ◌∙◌, arith, append_assoc, []}
+use Rattle.std.specs.Prelude.{◌&&◌, ◌==◌, Option, Some, None, IsSomeAnd, if◌then◌else◌}
+use Rattle.std.specs.Bool.{then_some}
+use Rattle.std.specs.List.{Contains, AllByRecursion}
+use Rattle.std.specs.FinMap as table
+use Rattle.std.proofs.lemmas.Bool.{and_parts, and_from, eqb-true, eq-eqb}
+use Rattle.std.proofs.lemmas.List.{append-nil}
+use Rattle.std.proofs.lemmas.List.Elements.{Contains-append_left, Contains-push}
+use Rattle.cc_views.specs.Rows.{Pair, ViewMap}
+use Rattle.cc_views.specs.Merge.{merge, IsKept, IsAtMost}
+use Rattle.cc_views.specs.MergeLaws.{at_most_same, at_most_merge, at_most_trans, merged_at_most}
+use Rattle.cc_wire.specs.declared.event.Event.{Event}
+use Rattle.cc_wire.specs.declared.event.Event.TheVariants as event
+use Rattle.cc_wire.specs.declared.message.Message.{Message}
+use Rattle.cc_wire.specs.declared.message.Message.TheVariants as message
+use Rattle.cc_ops.specs.declared.pending.Asked.{Asked}
+use Rattle.cc_ops.specs.declared.pending.Pending.{Pending}
+use Rattle.cc_ops.specs.Commands.{is_writing, written}
+use Rattle.cc_ops.specs.Ops.{Ops, Phase, Idle, Storing, Querying, StoringBack, is_idle, is_last, is_own, round_of, counted, merged, next_round, with_written, with_own_row, with_begun, after_reply, after_last, after_ack, ends_query, ends_store}
+use Rattle.cc_node.specs.Core.{Core, quorum, asked_of, next}
+use Rattle.cc_node.specs.Node.{Node, step, after}
+use Rattle.cc_node.specs.Opening.{Opening, fresh}
+use Rattle.cc_laws.specs.Regular.{HasAtLeast}
+use Rattle.cc_laws.specs.Rounds.{awaits_views, awaits_acks, ends_round, with_peer, peers_next, peers_along}
+use Rattle.cc_laws.proofs.Lists.{all_changed}
+use Rattle.cc_laws.proofs.Places.{after_push}
+use Rattle.cc_laws.proofs.Rows.{get-single}
+use Rattle.cc_laws.proofs.Steps.{row_of, me_next}
+
+abbrev pub HasAck : List Event → ℕ → ℕ → ℕ → Type 0
+HasAck past me tag r = (n : ℕ) × Contains past (event.Deliver r n (message.StoreAck tag me))
+
+abbrev pub HasReply : List Event → ℕ → ℕ → ViewMap → ℕ → Type 0
+HasReply past me tag view r = (n : ℕ) × (v : ViewMap) × Contains past (event.Deliver r n (message.QueryReply v tag me)) × IsAtMost v view
+
+pub record Raised (start : Node) (past : List Event) (tag : ℕ) (Q : Core → Type 0) : Type 0 where
+  pub before : List Event
+  pub raiser : Event
+  pub later : List Event
+  pub parts : past ≡ before ++ raiser ∷ later
+  pub under : (after start before).core.ops.tag < tag
+  pub raised : (after start (before ++ raiser ∷ [])).core.ops.tag ≡ tag
+  pub holds : Q (after start (before ++ raiser ∷ [])).core
+
+pub record ReadBefore (start : Node) (past : List Event) (asked : Asked) (seen : ViewMap) : Type 0 where
+  pub before : List Event
+  pub last : Event
+  pub later : List Event
+  pub parts : past ≡ before ++ last ∷ later
+  pub pending : Pending
+  pub querying : (after start before).core.ops.phase ≡ Querying pending
+  pub same : pending.asked ≡ asked
+  pub ends : ends_round (after start before).core last ≡ true
+  pub saw : (after start (before ++ last ∷ [])).core.ops.view ≡ seen
+
+abbrev pub IsQueryOf : Asked → Core → Type 0
+IsQueryOf a c = (p : Pending) × (c.ops.phase ≡ Querying p) × (p.asked ≡ a)
+
+abbrev pub Pends : Node → List Event → List ℕ → ℕ → ℕ → ViewMap → ℕ → Phase → Type 0
+Pends start past peers me number view tag Idle = peers ≡ []
+Pends start past peers me number view tag (Storing p) =
+    Raised start past tag (λ c. HasAtLeast c.ops.view me number) × AllByRecursion (HasAck past me tag) peers
+Pends start past peers me number view tag (Querying p) =
+    Raised start past tag (IsQueryOf p.asked) × AllByRecursion (HasReply past me tag view) peers
+Pends start past peers me number view tag (StoringBack p seen) =
+    Raised start past tag (λ c. c.ops.view ≡ seen) × AllByRecursion (HasAck past me tag) peers × ReadBefore start past p.asked seen
+
+abbrev pub PendsIn : Node → List Event → List ℕ → ℕ → Ops → Type 0
+PendsIn start past peers me s = Pends start past peers me s.number s.view s.tag s.phase
+
+abbrev pub PendsAt : Node → List Event → List ℕ → Type 0
+PendsAt start past peers = PendsIn start past peers (after start past).core.me (after start past).core.ops
+
+-- ---- rows
+
+pub least_kept : (a b : Option Pair) (k : ℕ) → IsKept a b → IsSomeAnd a (λ e. k ≤ e.0) → IsSomeAnd b (λ e. k ≤ e.0)
+least_kept None b k h l = absurd l
+least_kept (Some p) None k h l = absurd h
+least_kept (Some p) (Some q) k h l = omega (arith, h, l)
+
+pub least_more : (v w : ViewMap) (q k : ℕ) → IsAtMost v w → HasAtLeast v q k → HasAtLeast w q k
+least_more v w q k h l = least_kept (table.get v q) (table.get w q) k (h q) l
+
+own_least : (me : ℕ) (s : Ops) (a : Asked) → HasAtLeast (merge s.view (row_of me s a)) me (s.number + 1)
+own_least me s a =
+    let w = written a.command s.mine in
+    let own : table.get (row_of me s a) me ≡ Some (s.number + 1, w) =
+    get-single _ me ∙ ap (λ b. cond b (Some (s.number + 1, w)) None) (eq-eqb me me refl) in
+    subst (λ (o : Option Pair). IsKept o (table.get (merge s.view (row_of me s a)) me)) own (merged_at_most s.view (row_of me s a) me)
+
+-- ---- own answers
+
+pub own_parts : (me tag q : ℕ) (s : Ops) → is_own me tag q s ≡ true → (q ≡ me) × (tag ≡ s.tag)
+own_parts me tag q s is =
+    let parts = and_parts (q == me) (tag == s.tag) is in
+    (eqb-true q me parts.0, eqb-true tag s.tag parts.1)
+
+pub ack_is : (from n me tag q : ℕ) (s : Ops) → is_own me tag q s ≡ true
+    → event.Deliver from n (message.StoreAck tag q) ≡ event.Deliver from n (message.StoreAck s.tag me)
+ack_is from n me tag q s is = let own = own_parts me tag q s is in λ i. event.Deliver from n (message.StoreAck (own.1 i) (own.0 i))
+
+pub reply_is : (from n me tag q : ℕ) (v : ViewMap) (s : Ops) → is_own me tag q s ≡ true
+    → event.Deliver from n (message.QueryReply v tag q) ≡ event.Deliver from n (message.QueryReply v s.tag me)
+reply_is from n me tag q v s is = let own = own_parts me tag q s is in λ i. event.Deliver from n (message.QueryReply v (own.1 i) (own.0 i))
+
+-- ---- one event more
+
+module _ (start : Node) (past : List Event) (e : Event) where
+  abbrev now : List Event
+  now = past ++ e ∷ []
+
+  pub core_push : (after start now).core ≡ next (after start past).core e
+  unfolding step
+  core_push = ap (λ (n : Node). n.core) (after_push start past e)
+
+  raised_more : (tag : ℕ) (Q : Core → Type 0) → Raised start past tag Q → Raised start now tag Q
+  raised_more tag Q r = record {
+    before = r.before;
+    raiser = r.raiser;
+    later = r.later ++ e ∷ [];
+    parts = ap (λ (l : List Event). l ++ e ∷ []) r.parts ∙ append_assoc r.before (r.raiser ∷ r.later) (e ∷ []);
+    under = r.under;
+    raised = r.raised;
+    holds = r.holds;
+  }
+
+  read_more : (a : Asked) (seen : ViewMap) → ReadBefore start past a seen → ReadBefore start now a seen
+  read_more a seen r = record {
+    before = r.before;
+    last = r.last;
+    later = r.later ++ e ∷ [];
+    parts = ap (λ (l : List Event). l ++ e ∷ []) r.parts ∙ append_assoc r.before (r.last ∷ r.later) (e ∷ []);
+    pending = r.pending;
+    querying = r.querying;
+    same = r.same;
+    ends = r.ends;
+    saw = r.saw;
+  }
+
+  pub acks_more : (me tag : ℕ) (peers : List ℕ) → AllByRecursion (HasAck past me tag) peers → AllByRecursion (HasAck now me tag) peers
+  acks_more me tag peers h = all_changed (HasAck past me tag) (HasAck now me tag) (λ r a. (a.0, Contains-append_left past (e ∷ []) _ a.1)) peers h
+
+  pub replies_more : (me tag : ℕ) (view wider : ViewMap) (peers : List ℕ) → IsAtMost view wider → AllByRecursion (HasReply past me tag view) peers
+      → AllByRecursion (HasReply now me tag wider) peers
+  replies_more me tag view wider peers le h =
+      all_changed (HasReply past me tag view) (HasReply now me tag wider)
+      (λ r a. (a.0, a.1, Contains-append_left past (e ∷ []) _ a.2, at_most_trans a.1 view wider a.3 le)) peers h
+
+  pends_more : (peers : List ℕ) (me number : ℕ) (view wider : ViewMap) (tag : ℕ) (phase : Phase) → IsAtMost view wider
+      → Pends start past peers me number view tag phase → Pends start now peers me number wider tag phase
+  pends_more peers me number view wider tag Idle le h = h
+  pends_more peers me number view wider tag (Storing p) le h = (raised_more tag (λ c. HasAtLeast c.ops.view me number) h.0, acks_more me tag peers h.1)
+  pends_more peers me number view wider tag (Querying p) le h = (raised_more tag (IsQueryOf p.asked) h.0, replies_more me tag view wider peers le h.1)
+  pends_more peers me number view wider tag (StoringBack p seen) le h =
+      (raised_more tag (λ c. c.ops.view ≡ seen) h.0, acks_more me tag peers h.1, read_more p.asked seen h.2)
+
+  -- the round is as it was
+  same_pends : (peers : List ℕ) (me : ℕ) (s : Ops) (phase : Phase) → s.phase ≡ phase → Pends start past peers me s.number s.view s.tag phase
+      → Pends start now peers me s.number s.view s.tag s.phase
+  same_pends peers me s phase is h =
+      subst (Pends start now peers me s.number s.view s.tag) (sym is) (pends_more peers me s.number s.view s.view s.tag phase (at_most_same s.view) h)
+
+  module _ (c : Core) (at : c ≡ (after start past).core) where
+    raise_now : (tag : ℕ) (Q : Core → Type 0) → c.ops.tag < tag → (next c e).ops.tag ≡ tag → Q (next c e) → Raised start now tag Q
+    raise_now tag Q under is holds =
+        let pushed : next c e ≡ (after start now).core = ap (λ (d : Core). next d e) at ∙ sym core_push in
+        record {
+          before = past;
+          raiser = e;
+          later = [];
+          parts = refl;
+          under = subst (λ (d : Core). d.ops.tag < tag) at under;
+          raised = ap (λ (d : Core). d.ops.tag) (sym pushed) ∙ is;
+          holds = subst Q pushed holds;
+        }
+
+    -- an operation begins
+    begins : (me quorum : ℕ) (a : Asked) (s : Ops) → s.tag ≡ c.ops.tag → (next c e).ops ≡ with_begun me quorum a s
+        → PendsIn start now [] me (with_begun me quorum a s)
+    begins me quorum a s old =
+        let W = next_round (Storing (round_of quorum a)) (with_own_row me (with_written a.command s)) in
+        let R = next_round (Querying (round_of quorum a)) s in
+        let under : c.ops.tag < s.tag + 1 = omega (arith, old) in
+        elim (is_writing a.command) as (λ b. (next c e).ops ≡ (if b then W else R) → PendsIn start now [] me (if b then W else R)) [
+          | true ↦ λ is. (
+            raise_now (s.tag + 1) (λ d. HasAtLeast d.ops.view me (s.number + 1)) under (ap (λ (t : Ops). t.tag) is)
+                (subst (λ (t : Ops). HasAtLeast t.view me (s.number + 1)) (sym is) (own_least me s a)),
+            tt,
+          )
+          | false ↦ λ is. (raise_now (s.tag + 1) (IsQueryOf a) under (ap (λ (t : Ops). t.tag) is) (round_of quorum a, ap (λ (t : Ops). t.phase) is, refl), tt)
+        ]
+
+    ends : (me quorum : ℕ) (line : List Asked) (s : Ops) → s.tag ≡ c.ops.tag → (next c e).ops ≡ after_last me quorum line s
+        → PendsIn start now [] me (after_last me quorum line s)
+    ends me quorum [] s old is = refl
+    ends me quorum (a ∷ line) s old is = begins me quorum a (record s { line = line }) old is
+
+    module _ (from n : ℕ) where
+      ack_pends : (me quorum tag q : ℕ) (peers : List ℕ) (s : Ops) → s.tag ≡ c.ops.tag → e ≡ event.Deliver from n (message.StoreAck tag q) → (b : Bool)
+          → is_own me tag q s ≡ b
+          → (phase : Phase) → s.phase ≡ phase → (next c e).ops ≡ (if b then after_ack me quorum phase s else s)
+          → Pends start past peers me s.number s.view s.tag phase
+          → PendsIn start now (if b && ends_store phase then [] else with_peer (then_some (b && awaits_acks phase) from) peers) me (if b then after_ack me quorum phase s else s)
+      ack_pends me quorum tag q peers s old it false own phase is next_is h = same_pends peers me s phase is h
+      ack_pends me quorum tag q peers s old it true own Idle is next_is h = same_pends peers me s Idle is h
+      ack_pends me quorum tag q peers s old it true own (Storing p) is next_is h =
+          let L = after_last me quorum s.line s in
+          let M = record s { phase = Storing (counted p) } in
+          elim (is_last p) as (λ b. (next c e).ops ≡ (if b then L else M) → PendsIn start now (if b then [] else from ∷ peers) me (if b then L else M)) [
+            | true ↦ λ now_is. ends me quorum s.line s old now_is
+            | false ↦ λ _. (
+              raised_more s.tag (λ d. HasAtLeast d.ops.view me s.number) h.0,
+              ((n, subst (Contains now) (it ∙ ack_is from n me tag q s own) (Contains-push past e)), acks_more me s.tag peers h.1),
+            )
+          ] next_is
+      ack_pends me quorum tag q peers s old it true own (Querying p) is next_is h = same_pends peers me s (Querying p) is h
+      ack_pends me quorum tag q peers s old it true own (StoringBack p seen) is next_is h =
+          let L = after_last me quorum s.line s in
+          let M = record s { phase = StoringBack (counted p) seen } in
+          elim (is_last p) as (λ b. (next c e).ops ≡ (if b then L else M) → PendsIn start now (if b then [] else from ∷ peers) me (if b then L else M)) [
+            | true ↦ λ now_is. ends me quorum s.line s old now_is
+            | false ↦ λ _. (
+              raised_more s.tag (λ d. d.ops.view ≡ seen) h.0,
+              ((n, subst (Contains now) (it ∙ ack_is from n me tag q s own) (Contains-push past e)), acks_more me s.tag peers h.1),
+              read_more p.asked seen h.2,
+            )
+          ] next_is
+
+      reply_pends : (me quorum tag q : ℕ) (v : ViewMap) (peers : List ℕ) (s : Ops) → s ≡ c.ops → e ≡ event.Deliver from n (message.QueryReply v tag q)
+          → (b : Bool) → is_own me tag q s ≡ b
+          → (ends_round c e ≡ (is_own me tag q s && ends_query s.phase))
+          → (phase : Phase) → s.phase ≡ phase → (next c e).ops ≡ (if b then after_reply quorum v phase s else s)
+          → Pends start past peers me s.number s.view s.tag phase
+          → PendsIn start now (if b && ends_query phase then [] else with_peer (then_some (b && awaits_views phase) from) peers) me (if b then after_reply quorum v phase s else s)
+      reply_pends me quorum tag q v peers s old it false own test phase is next_is h = same_pends peers me s phase is h
+      reply_pends me quorum tag q v peers s old it true own test Idle is next_is h = same_pends peers me s Idle is h
+      reply_pends me quorum tag q v peers s old it true own test (Storing p) is next_is h = same_pends peers me s (Storing p) is h
+      reply_pends me quorum tag q v peers s old it true own test (Querying p) is next_is h =
+          let L = next_round (StoringBack (round_of quorum p.asked) (merge s.view v)) (merged v s) in
+          let M = record (merged v s) { phase = Querying (counted p) } in
+          let under : c.ops.tag < s.tag + 1 = omega (arith, ap (λ (t : Ops). t.tag) old) in
+          elim (is_last p) as (λ b. is_last p ≡ b → (next c e).ops ≡ (if b then L else M) → PendsIn start now (if b then [] else from ∷ peers) me (if b then L else M)) [
+            | true ↦ λ last now_is. (
+              raise_now (s.tag + 1) (λ d. d.ops.view ≡ merge s.view v) under (ap (λ (t : Ops). t.tag) now_is) (ap (λ (t : Ops). t.view) now_is),
+              tt,
+              record {
+                before = past;
+                last = e;
+                later = [];
+                parts = refl;
+                pending = p;
+                querying = ap (λ (d : Core). d.ops.phase) (sym at) ∙ ap (λ (t : Ops). t.phase) (sym old) ∙ is;
+                same = refl;
+                ends = subst (λ (d : Core). ends_round d e ≡ true) at (test ∙ and_from _ _ own (ap ends_query is ∙ last));
+                saw = ap (λ (d : Core). d.ops.view) core_push ∙ ap (λ (d : Core). (next d e).ops.view) (sym at) ∙ ap (λ (t : Ops). t.view) now_is;
+              },
+            )
+            | false ↦ λ _ _. (
+              raised_more s.tag (IsQueryOf p.asked) h.0,
+              (
+                (n, v, subst (Contains now) (it ∙ reply_is from n me tag q v s own) (Contains-push past e), merged_at_most s.view v),
+                replies_more me s.tag s.view (merge s.view v) peers (at_most_merge s.view v) h.1,
+              ),
+            )
+          ] refl next_is
+      reply_pends me quorum tag q v peers s old it true own test (StoringBack p seen) is next_is h = same_pends peers me s (StoringBack p seen) is h
+
+    ask_pends : (me quorum : ℕ) (a : Asked) (line : List Asked) (peers : List ℕ) (s : Ops) → s.tag ≡ c.ops.tag → (phase : Phase) → s.phase ≡ phase
+        → (next c e).ops ≡ (if is_idle phase then with_begun me quorum a s else record s { line = line })
+        → Pends start past peers me s.number s.view s.tag phase
+        → PendsIn start now peers me (if is_idle phase then with_begun me quorum a s else record s { line = line })
+    ask_pends me quorum a line peers s old Idle is next_is h =
+        subst (λ (ps : List ℕ). PendsIn start now ps me (with_begun me quorum a s)) (sym h) (begins me quorum a s old next_is)
+    ask_pends me quorum a line peers s old (Storing p) is next_is h = same_pends peers me s (Storing p) is h
+    ask_pends me quorum a line peers s old (Querying p) is next_is h = same_pends peers me s (Querying p) is h
+    ask_pends me quorum a line peers s old (StoringBack p seen) is next_is h = same_pends peers me s (StoringBack p seen) is h
+
+-- ---- any event
+
+message_pends : (start : Node) (past : List Event) (peers : List ℕ) (from n : ℕ) (m : Message) (c : Core) → c ≡ (after start past).core
+    → PendsIn start past peers c.me c.ops
+    → PendsIn start (past ++ event.Deliver from n m ∷ []) (peers_next c (event.Deliver from n m) peers) c.me (next c (event.Deliver from n m)).ops
+unfolding next
+message_pends start past peers from n (message.Enter q) c at h = same_pends start past _ peers c.me c.ops c.ops.phase refl h
+message_pends start past peers from n (message.EnterEcho d v j q) c at h =
+    pends_more start past _ peers c.me c.ops.number c.ops.view (merge c.ops.view v) c.ops.tag c.ops.phase (at_most_merge c.ops.view v) h
+message_pends start past peers from n (message.Join q) c at h = same_pends start past _ peers c.me c.ops c.ops.phase refl h
+message_pends start past peers from n (message.JoinEcho q) c at h = same_pends start past _ peers c.me c.ops c.ops.phase refl h
+message_pends start past peers from n (message.Leave q) c at h = same_pends start past _ peers c.me c.ops c.ops.phase refl h
+message_pends start past peers from n (message.LeaveEcho q) c at h = same_pends start past _ peers c.me c.ops c.ops.phase refl h
+message_pends start past peers from n (message.Query tag q) c at h = same_pends start past _ peers c.me c.ops c.ops.phase refl h
+message_pends start past peers from n (message.QueryReply v tag q) c at h =
+    reply_pends start past (event.Deliver from n (message.QueryReply v tag q)) c at from n c.me (quorum c) tag q v peers c.ops refl refl (is_own c.me tag q c.ops) refl refl c.ops.phase refl refl h
+message_pends start past peers from n (message.Store v tag q) c at h =
+    pends_more start past _ peers c.me c.ops.number c.ops.view (merge c.ops.view v) c.ops.tag c.ops.phase (at_most_merge c.ops.view v) h
+message_pends start past peers from n (message.StoreAck tag q) c at h =
+    ack_pends start past (event.Deliver from n (message.StoreAck tag q)) c at from n c.me (quorum c) tag q peers c.ops refl refl (is_own c.me tag q c.ops) refl c.ops.phase refl refl h
+
+event_pends : (start : Node) (past : List Event) (peers : List ℕ) (e : Event) (c : Core) → c ≡ (after start past).core → PendsIn start past peers c.me c.ops
+    → PendsIn start (past ++ e ∷ []) (peers_next c e peers) c.me (next c e).ops
+unfolding next
+event_pends start past peers event.Enter c at h = same_pends start past _ peers c.me c.ops c.ops.phase refl h
+event_pends start past peers event.Leave c at h = same_pends start past _ peers c.me c.ops c.ops.phase refl h
+event_pends start past peers (event.Deliver from n m) c at h = message_pends start past peers from n m c at h
+event_pends start past peers (event.Acked peer n) c at h = same_pends start past _ peers c.me c.ops c.ops.phase refl h
+event_pends start past peers (event.Ask s r command) c at h =
+    ask_pends start past (event.Ask s r command) c at c.me (quorum c) (asked_of s r command) (c.ops.line ++ asked_of s r command ∷ []) peers c.ops refl c.ops.phase refl refl h
+event_pends start past peers (event.Retire q) c at h = same_pends start past _ peers c.me c.ops c.ops.phase refl h
+
+step_pends : (start : Node) (past : List Event) (peers : List ℕ) (e : Event) → PendsAt start past peers
+    → PendsAt start (past ++ e ∷ []) (peers_next (after start past).core e peers)
+step_pends start past peers e h =
+    let c = (after start past).core in
+    subst (λ (d : Core). PendsIn start (past ++ e ∷ []) (peers_next c e peers) d.me d.ops) (sym (core_push start past e))
+    (subst (λ (me : ℕ). PendsIn start (past ++ e ∷ []) (peers_next c e peers) me (next c e).ops) (sym (me_next c e)) (event_pends start past peers e c refl h))
+
+pends_along : (start : Node) (past es : List Event) (peers : List ℕ) → PendsAt start past peers
+    → PendsAt start (past ++ es) (peers_along (after start past) peers es)
+pends_along start past [] peers h = subst (λ (l : List Event). PendsAt start l peers) (sym (append-nil past)) h
+pends_along start past (e ∷ es) peers h =
+    let ps = peers_next (after start past).core e peers in
+    subst (λ (l : List Event). PendsAt start l (peers_along (step (after start past) e) ps es)) (append_assoc past (e ∷ []) es)
+    (subst (λ (n : Node). PendsAt start ((past ++ e ∷ []) ++ es) (peers_along n ps es)) (after_push start past e)
+    (pends_along start (past ++ e ∷ []) es ps (step_pends start past peers e h)))
+
+fresh_pends : (o : Opening) → PendsAt (fresh o) [] []
+unfolding fresh
+fresh_pends o = refl
+
+pub pends : (o : Opening) (es : List Event) → PendsAt (fresh o) es (peers_along (fresh o) [] es)
+pends o es = pends_along (fresh o) [] es [] (fresh_pends o)

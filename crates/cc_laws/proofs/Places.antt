@@ -1,0 +1,66 @@
+-- Places in a list of events, and what happens at one place alone.
+--     Order, split_order      of two places of one list one comes first, or they are one
+--     after_push              a node after one event more
+--     at_once                 a count that never falls is raised to a value at one place alone
+use Rattle.std.proofs.Common.{◌≡◌, ℕ, ◌<◌, ◌≤◌, List, [], ◌∷◌, ◌++◌, refl, sym, ap, subst, ◌∙◌, arith, append_assoc}
+use Rattle.cc_wire.specs.declared.event.Event.{Event}
+use Rattle.cc_node.specs.Node.{Node, step, after, IsLawful}
+use Rattle.cc_node.specs.Histories.{after-append, lawful_parts}
+
+pub data Order {X : Type 0} (xs : List X) (x : X) (us : List X) (u : X) : Type 0 where
+  at_same : xs ≡ us → x ≡ u → Order xs x us u
+  at_before : (more : List X) → us ≡ xs ++ x ∷ more → Order xs x us u
+  at_behind : (more : List X) → xs ≡ us ++ u ∷ more → Order xs x us u
+
+pub same_head : {X : Type 0} (x y : X) (xs ys : List X) → x ∷ xs ≡ y ∷ ys → x ≡ y
+same_head x y xs ys e = cc
+
+pub same_tail : {X : Type 0} (x y : X) (xs ys : List X) → x ∷ xs ≡ y ∷ ys → xs ≡ ys
+same_tail x y xs ys e = cc
+
+pub split_order : {X : Type 0} (xs ys us vs : List X) (x u : X) → xs ++ x ∷ ys ≡ us ++ u ∷ vs → Order xs x us u
+split_order [] ys [] vs x u e = at_same refl (same_head x u ys vs e)
+split_order [] ys (w ∷ us) vs x u e = at_before us (ap (λ h. h ∷ us) (sym (same_head x w ys (us ++ u ∷ vs) e)))
+split_order (w ∷ xs) ys [] vs x u e = at_behind xs (ap (λ h. h ∷ xs) (same_head w u (xs ++ x ∷ ys) vs e))
+split_order (w ∷ xs) ys (z ∷ us) vs x u e =
+    let first = same_head w z (xs ++ x ∷ ys) (us ++ u ∷ vs) e in
+    elim (split_order xs ys us vs x u (same_tail w z (xs ++ x ∷ ys) (us ++ u ∷ vs) e)) as (λ _. Order (w ∷ xs) x (z ∷ us) u) [
+      | at_same is at ↦ at_same (λ i. first i ∷ is i) at
+      | at_before more is ↦ at_before more (λ i. sym first i ∷ is i)
+      | at_behind more is ↦ at_behind more (λ i. first i ∷ is i)
+    ]
+
+pub after_push : (n : Node) (es : List Event) (e : Event) → after n (es ++ e ∷ []) ≡ step (after n es) e
+after_push n es e = after-append n es (e ∷ [])
+
+pub front_more : (xs ys : List Event) (e : Event) → xs ++ e ∷ ys ≡ (xs ++ e ∷ []) ++ ys
+front_more xs ys e = sym (append_assoc xs (e ∷ []) ys)
+
+-- a list that is in two parts
+pub parts_more : (es xs ys : List Event) (e : Event) → es ≡ xs ++ e ∷ ys → es ≡ (xs ++ e ∷ []) ++ ys
+parts_more es xs ys e is = is ∙ front_more xs ys e
+
+pub after_parts : (n : Node) (es xs ys : List Event) → es ≡ xs ++ ys → after n es ≡ after (after n xs) ys
+after_parts n es xs ys is = ap (after n) is ∙ after-append n xs ys
+
+module _ (mark : Node → ℕ) (rises : (n : Node) (es : List Event) → IsLawful n es → mark n ≤ mark (after n es)) where
+  -- as high at a later place
+  later : (n : Node) (es xs vs : List Event) (e f : Event) (us more : List Event) → IsLawful n es → es ≡ us ++ f ∷ vs → us ≡ xs ++ e ∷ more
+      → mark (after n (xs ++ e ∷ [])) ≤ mark (after n us)
+  later n es xs vs e f us more lawful there is =
+      let front = xs ++ e ∷ [] in
+      let parts : us ≡ front ++ more = is ∙ front_more xs more e in
+      let to_us = (lawful_parts n us (f ∷ vs) (subst (IsLawful n) there lawful)).0 in
+      let to_more = (lawful_parts n front more (subst (IsLawful n) parts to_us)).1 in
+      let at : after n us ≡ after (after n front) more = ap (after n) parts ∙ after-append n front more in
+      subst (λ (m : Node). mark (after n front) ≤ mark m) (sym at) (rises (after n front) more to_more)
+
+  pub at_once : (n : Node) (es : List Event) → IsLawful n es → (xs ys us vs : List Event) (e f : Event) → es ≡ xs ++ e ∷ ys → es ≡ us ++ f ∷ vs
+      → (t : ℕ) → mark (after n xs) < t → t ≤ mark (after n (xs ++ e ∷ [])) → mark (after n us) < t → t ≤ mark (after n (us ++ f ∷ []))
+      → (xs ≡ us) × (e ≡ f)
+  at_once n es lawful xs ys us vs e f here there t under over low high =
+      elim (split_order xs ys us vs e f (sym here ∙ there)) as (λ _. (xs ≡ us) × (e ≡ f)) [
+        | at_same is at ↦ (is, at)
+        | at_before more is ↦ absurd (omega (arith, later n es xs vs e f us more lawful there is, over, low))
+        | at_behind more is ↦ absurd (omega (arith, later n es us ys f e xs more lawful here is, high, under))
+      ]

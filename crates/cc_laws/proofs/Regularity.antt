@@ -1,0 +1,293 @@
+-- Each collect sees the stores that ended before it began, and none goes back.
+--     seen_later              what a round stored that ended by then, a read that began later has seen
+--     stores_seen, in_turn    so of stores, and of two collects
+use Rattle.std.proofs.Common.{◌≡◌, ◌⊎◌, ℕ, ◌<◌, ◌≤◌, List, [], ◌∷◌, ◌++◌, refl, sym, ap, subst, ◌∙◌, inl, inr, arith, append_assoc}
+use Rattle.std.specs.Prelude.{Option, Some, None, IsSomeAnd}
+use Rattle.std.specs.Option.{unwrap_or}
+use Rattle.std.specs.List.{Contains, AllByRecursion}
+use Rattle.std.specs.FinMap as table
+use Rattle.std.proofs.lemmas.Bool.{cases_lt}
+use Rattle.std.proofs.lemmas.List.Elements.{All-contains, All-from_recursion}
+use Rattle.cc_views.specs.Rows.{Pair, ViewMap}
+use Rattle.cc_views.specs.Merge.{IsKept, IsAtMost}
+use Rattle.cc_wire.specs.declared.answer.Answer.{Answer}
+use Rattle.cc_wire.specs.declared.answer.Answer.TheVariants as answer
+use Rattle.cc_wire.specs.declared.event.Event.{Event}
+use Rattle.cc_wire.specs.declared.output.Output.TheVariants as output
+use Rattle.cc_views.specs.declared.value.Value.{Value}
+use Rattle.cc_wire.specs.declared.command.Command.{Command}
+use Rattle.cc_wire.specs.declared.command.Command.TheVariants as command
+use Rattle.cc_ops.specs.declared.pending.Pending.{Pending}
+use Rattle.cc_ops.specs.Commands.{answer_of}
+use Rattle.cc_ops.specs.Ops.{Storing, Querying, StoringBack}
+use Rattle.cc_sessions.specs.Sessions.{last_request}
+use Rattle.cc_node.specs.Core.{Core}
+use Rattle.cc_node.specs.Node.{Node, after, IsLawful}
+use Rattle.cc_node.specs.Opening.{Opening, fresh}
+use Rattle.cc_node.specs.Histories.{lawful_parts}
+use Rattle.cc_node.specs.Lawful.{IsPhaseOf}
+use Rattle.cc_node.proofs.FreshLaws.{fresh_lawful, after_lawful}
+use Rattle.cc_laws.specs.Clusters.{Member, Cluster, node_at, Move}
+use Rattle.cc_laws.specs.Runs.{Run, IsFreshCluster, Occurs, among_sent}
+use Rattle.cc_laws.specs.Orders.{GoesOn, IsFollowedBy}
+use Rattle.cc_laws.specs.Rounds.{Round, peers_of}
+use Rattle.cc_laws.specs.Regular.{released_events, IsAnswered, IsWriteAsk, IsStored, IsAhead, HasAtLeast, SeesWrite, RoundOf, Counted, RoundsMeet, ShareNode}
+use Rattle.cc_laws.specs.Fixed.{IsFixedCluster, Stays}
+use Rattle.cc_laws.proofs.Agreeing.{all_written, one_value}
+use Rattle.cc_laws.proofs.Lists.{all_both}
+use Rattle.cc_laws.proofs.Quorums.{rounds_meet}
+use Rattle.cc_laws.proofs.Members.{IsSound, lawful_front}
+use Rattle.cc_laws.proofs.Clustering.{Holds}
+use Rattle.cc_laws.proofs.Moving.{run_holds, fresh_holds}
+use Rattle.cc_laws.proofs.Traces.{one_at, MadeBy, WasMade, Traces, Grows, GrownAt, run_traces, fresh_traces, run_grows, run_sent}
+use Rattle.cc_laws.proofs.Places.{parts_more, after_parts}
+use Rattle.cc_laws.proofs.Says.{tag_after}
+use Rattle.cc_laws.proofs.Pending.{HasAck, HasReply, Raised, least_more}
+use Rattle.cc_laws.proofs.Knowing.{either_front, Knows, store_known, reply_known}
+use Rattle.cc_laws.proofs.Answering.{last_after, Ended, ended, either_op, reads_view, writes_stored, StoredRound, IsQueryFor, ReadRound, node_lawful, write_round, back_round, answered_read, number_reached}
+
+-- a query of a request began where the node had released none such
+asked_later : (p : ℕ) (m n : Member) → IsSound p n → Grows m n → (s r tag : ℕ) → last_request (node_at m m.released).core.sessions s < r
+    → Raised (fresh n.opening) (released_events n) tag (IsQueryFor s r) → (node_at m m.released).core.ops.tag < tag
+asked_later p m n sound grows s r tag ahead raised =
+    let start = fresh n.opening in
+    let lawful = lawful_front start n.events n.released sound.lawful in
+    let at_m : after start (released_events m) ≡ node_at m m.released = ap (λ (o : Opening). after (fresh o) (released_events m)) grows.opening in
+    let front = raised.before ++ raised.raiser ∷ [] in
+    elim (either_front (released_events m) grows.longer.0 raised.before raised.later raised.raiser (sym grows.longer.1 ∙ raised.parts)) as (λ _. (node_at m m.released).core.ops.tag < tag) [
+      | inl e ↦
+          let to_raiser = (lawful_parts start raised.before (raised.raiser ∷ raised.later) (subst (IsLawful start) raised.parts lawful)).0 in
+          let more = (lawful_parts start (released_events m) e.0 (subst (IsLawful start) e.1 to_raiser)).1 in
+          let up = tag_after (after start (released_events m)) e.0 more in
+          let at : after start raised.before ≡ after (after start (released_events m)) e.0 = after_parts start raised.before (released_events m) e.0 e.1 in
+          omega (arith, up, ap (λ (x : Node). x.core.ops.tag) at, ap (λ (x : Node). x.core.ops.tag) at_m, raised.under)
+      | inr e ↦
+          let parts : released_events m ≡ front ++ e.0 = parts_more (released_events m) raised.before e.0 raised.raiser e.1 in
+          let to_m = (lawful_parts start (released_events m) grows.longer.0 (subst (IsLawful start) grows.longer.1 lawful)).0 in
+          let both = lawful_parts start front e.0 (subst (IsLawful start) parts to_m) in
+          let c = (after start front).core in
+          let q = raised.holds in
+          let pending : IsPhaseOf c.links c.sessions (Querying q.0) =
+          subst (IsPhaseOf c.links c.sessions) q.1 (after_lawful start front both.0 (fresh_lawful n.opening sound.opening)).core.phase in
+          let asked : last_request c.sessions s ≡ r = ap (λ (x : ℕ). last_request c.sessions x) (sym q.2) ∙ ap (λ o. unwrap_or o 0) pending.0.session ∙ q.3 in
+          let up = last_after s (after start front) e.0 both.1 in
+          let at : after start (released_events m) ≡ after (after start front) e.0 = after_parts start (released_events m) front e.0 parts in
+          absurd (omega (arith, asked, up, ap (λ (x : Node). last_request x.core.sessions s) at, ap (λ (x : Node). last_request x.core.sessions s) at_m, ahead))
+    ]
+
+module _ (mid d : Cluster) (h : Holds mid) (t : Traces mid) (h' : Holds d) (t' : Traces d)
+    (grown : (p : ℕ) (o : Member) → table.get mid.members p ≡ Some o → GrownAt d p o) where
+  -- where all rounds meet, whom both counted
+  shared : RoundsMeet d → (q p : ℕ) (m n : Member) → table.get mid.members q ≡ Some m → table.get d.members p ≡ Some n
+      → (first : RoundOf m) (second : RoundOf n)
+      → (r : ℕ) × Counted m first r × Counted n second r
+  shared meet q p m n at at' first second =
+      let grew = grown q m at in
+      let w = grew.0 in
+      let grows = grew.2 in
+      let later : Round (fresh m.opening) (released_events w) = record {
+        before = first.before;
+        last = first.last;
+        later = first.later ++ grows.longer.0;
+        parts = grows.longer.1 ∙ ap (λ (l : List Event). l ++ grows.longer.0) first.parts ∙ append_assoc first.before (first.last ∷ first.later) grows.longer.0;
+        ends = first.ends;
+      } in
+      subst (λ (o : Opening). (round : Round (fresh o) (released_events w)) → (r : ℕ) × Contains (peers_of (fresh o) (released_events w) round) r × Counted n second r) grows.opening
+      (λ round. meet q p w n grew.1 at' round second) later
+
+  pub all_share : RoundsMeet d → (q s r p x y : ℕ) → ShareNode mid d q s r p x y
+  all_share meet q s r p x y m n at at' first storing of_first second querying of_second = shared meet q p m n at at' first second
+
+  -- what one request had stored by then, a later one has seen
+  pub seen_later : (q p i j s r : ℕ) (m n : Member) → table.get mid.members q ≡ Some m → table.get d.members p ≡ Some n → (Q : Core → Type 0) (x k : ℕ)
+      → ((e : Core) → Q e → HasAtLeast e.ops.view x k) → StoredRound q m i j Q → (seen : ViewMap) → IsAhead mid p s r → ReadRound p n s r seen
+      → ShareNode mid d q i j p s r
+      → HasAtLeast seen x k
+  seen_later q p i j s r m n at at' Q x k has first seen ahead second share =
+      let both = share m n at at' first.round first.storing first.asked second.round second.querying second.asked in
+      let peer = both.0 in
+      let ack = All-contains (HasAck m.events q first.tag) _ peer (All-from_recursion (HasAck m.events q first.tag) _ first.acks) both.1 in
+      let reply = All-contains (HasReply n.events p second.tag seen) _ peer (All-from_recursion (HasReply n.events p second.tag seen) _ second.replies) both.2 in
+      let known = store_known mid h t q m at first.tag Q first.raised peer ack.0 ack.1 in
+      let knows : Knows mid peer x k = (known.0, known.1, least_more known.2.ops.view _ x k known.4 (has known.2 known.3)) in
+      let grew = grown p ahead.0 ahead.1 in
+      let is_n : grew.0 ≡ n = one_at d p p grew.0 n refl grew.1 at' in
+      let under = asked_later p ahead.0 n (h'.sound p n at') (subst (Grows ahead.0) is_n grew.2) s r second.tag ahead.2 second.raised in
+      least_more reply.1 seen x k reply.3
+      (reply_known mid d h t h' t' grown p ahead.0 n ahead.1 at' second.tag under peer reply.0 reply.1 reply.2 x k knows)
+
+-- the answer left its node
+answered_by : (c : Cluster) → Traces c → (p s r : ℕ) (a : Answer) → IsAnswered c p s r a → MadeBy c p (output.Reply s r a)
+answered_by c t p s r a has = All-contains (WasMade c) c.sent _ (All-from_recursion (WasMade c) c.sent t.sent) has
+
+-- an answer that isn't Stored was read
+pub record Reading (c : Cluster) (p s r : ℕ) (a : Answer) : Type 0 where
+  pub member : Member
+  pub there : table.get c.members p ≡ Some member
+  pub op : Ended member s r a
+  pub pending : Pending
+  pub seen : ViewMap
+  pub phase : (after (fresh member.opening) op.front).core.ops.phase ≡ StoringBack pending seen
+  pub session : pending.asked.session ≡ s
+  pub request : pending.asked.request ≡ r
+  pub tells : a ≡ answer_of pending.asked.command seen
+
+pub reading : (c : Cluster) → Holds c → Traces c → (p s r : ℕ) (a : Answer) → IsAnswered c p s r a → (a ≡ answer.Stored → ⊥) → Reading c p s r a
+reading c h t p s r a has read =
+    let made = answered_by c t p s r a has in
+    let m = made.0 in
+    let op = ended m s r a made.2 in
+    let b = (after (fresh m.opening) op.front).core in
+    let phase = (node_lawful p m (h.sound p m made.1) op.front op.later op.last op.parts).core.phase in
+    elim (either_op b s r a b.ops.phase refl op.tells) as (λ _. Reading c p s r a) [
+      | inl w ↦
+          let writes : IsPhaseOf b.links b.sessions (Storing w.0) = subst (IsPhaseOf b.links b.sessions) w.1 phase in
+          absurd (read (w.4 ∙ writes_stored w.0.asked.command b.ops.view writes.1))
+      | inr o ↦ record {
+        member = m;
+        there = made.1;
+        op = op;
+        pending = o.0;
+        seen = o.1;
+        phase = o.2;
+        session = o.3;
+        request = o.4;
+        tells = o.5;
+      }
+    ]
+
+pub run_both : (a : Cluster) (xs : List (ℕ × Move)) (b : Cluster) (ys : List (ℕ × Move)) (e : Cluster) → Run a xs b → Run b ys e → Run a (xs ++ ys) e
+run_both a [] b ys e h k = subst (λ (z : Cluster). Run z ys e) h k
+run_both a (move ∷ xs) b ys e h k = (h.0, h.1, run_both h.0 xs b ys e h.2 k)
+
+pub some_and : (o : Option Pair) (Q : Pair → Type 0) → IsSomeAnd o Q → (e : Pair) × (o ≡ Some e) × Q e
+some_and None Q h = absurd h
+some_and (Some e) Q h = (e, refl, h)
+
+collect_is : (k : Command) (w v : ViewMap) → answer.Seen v ≡ answer_of k w → w ≡ v
+collect_is (command.Store text) w v is = cc
+collect_is command.Collect w v is = cc
+collect_is (command.WriteMax x) w v is = cc
+collect_is command.ReadMax w v is = cc
+collect_is command.SetFlag w v is = cc
+collect_is command.ReadFlag w v is = cc
+collect_is (command.AddMember x) w v is = cc
+collect_is command.ReadSet w v is = cc
+
+not_stored : (v : ViewMap) → answer.Seen v ≡ answer.Stored → ⊥
+not_stored v is = cc
+
+goes_on : (u w : Option Pair) → IsKept u w → ((k : ℕ) (x y : Value) → u ≡ Some (k, x) → w ≡ Some (k, y) → x ≡ y) → GoesOn u w
+goes_on None w h same = tt
+goes_on (Some e) None h same = absurd h
+goes_on (Some e) (Some f) h same =
+    elim (cases_lt e.0 f.0) as (λ _. (e.0 < f.0) ⊎ (e ≡ f)) [
+      | inl less ↦ inl less
+      | inr no_less ↦
+          let number : e.0 ≡ f.0 = omega (arith, h, no_less) in
+          let value : e.1 ≡ f.1 = same e.0 e.1 f.1 refl (λ i. Some (sym number i, f.1)) in
+          inr (λ i. (number i, value i))
+    ]
+
+module _ (c mid d : Cluster) (first second : List (ℕ × Move)) (fresh_c : IsFreshCluster c) (to_mid : Run c first mid) (to_d : Run mid second d) where
+  pub h_mid : Holds mid
+  h_mid = run_holds c first mid (fresh_holds c fresh_c) to_mid
+
+  t_mid : Traces mid
+  t_mid = run_traces c first mid (fresh_holds c fresh_c) (fresh_traces c fresh_c) to_mid
+
+  pub h_end : Holds d
+  h_end = run_holds mid second d h_mid to_d
+
+  t_end : Traces d
+  t_end = run_traces mid second d h_mid t_mid to_d
+
+  pub reading_mid : (p s r : ℕ) (a : Answer) → IsAnswered mid p s r a → (a ≡ answer.Stored → ⊥) → Reading mid p s r a
+  reading_mid = reading mid h_mid t_mid
+
+  pub reading_end : (p s r : ℕ) (a : Answer) → IsAnswered d p s r a → (a ≡ answer.Stored → ⊥) → Reading d p s r a
+  reading_end = reading d h_end t_end
+
+  pub each_shares : RoundsMeet d → (q s r p x y : ℕ) → ShareNode mid d q s r p x y
+  each_shares = all_share mid d h_mid t_mid h_end t_end (run_grows mid second d h_mid to_d)
+
+  read_round_of : (p x y : ℕ) (a : Answer) (read : Reading d p x y a) → ReadRound p read.member x y read.seen
+  read_round_of p x y a read =
+      answered_read p read.member (h_end.sound p read.member read.there) x y a read.op read.pending read.seen read.phase read.session read.request
+
+  -- a read that began after a store had ended
+  pub stores_seen : (q k s r : ℕ) → IsStored mid q k s r → (p x y : ℕ) → IsAhead mid p x y → ShareNode mid d q s r p x y → (a : Answer)
+      → (read : Reading d p x y a) → HasAtLeast read.seen q k
+  stores_seen q k s r stored p x y ahead share a read =
+      let made = answered_by mid t_mid q s r answer.Stored stored.3 in
+      let is_m : made.0 ≡ stored.0 = one_at mid q q made.0 stored.0 refl made.1 stored.1 in
+      let m = made.0 in
+      let ask : IsWriteAsk (released_events m) k s r = subst (λ (w : Member). IsWriteAsk (released_events w) k s r) (sym is_m) stored.2 in
+      let sound = h_mid.sound q m made.1 in
+      let op = ended m s r answer.Stored made.2 in
+      let b = (after (fresh m.opening) op.front).core in
+      let phase = (node_lawful q m sound op.front op.later op.last op.parts).core.phase in
+      elim (either_op b s r answer.Stored b.ops.phase refl op.tells) as (λ _. HasAtLeast read.seen q k) [
+        | inl w ↦
+            let reached = number_reached q m sound s r k answer.Stored op w.0 w.1 w.2 w.3 ask in
+            seen_later mid d h_mid t_mid h_end t_end (run_grows mid second d h_mid to_d) q p s r x y m read.member made.1 read.there (λ e. HasAtLeast e.ops.view q b.ops.number) q k
+            (λ e has. at_least (table.get e.ops.view q) k b.ops.number reached has) (write_round q m sound op.front op.later op.last op.parts s r w.0 w.2 w.3 w.1 op.ends) read.seen ahead
+            (read_round_of p x y a read) share
+        | inr o ↦
+            let reads : IsPhaseOf b.links b.sessions (StoringBack o.0 o.1) = subst (IsPhaseOf b.links b.sessions) o.2 phase in
+            absurd (reads_view o.0.asked.command o.1 reads.1 o.5)
+      ]
+    where
+      at_least : (o : Option Pair) (low high : ℕ) → low ≤ high → IsSomeAnd o (λ e. high ≤ e.0) → IsSomeAnd o (λ e. low ≤ e.0)
+      at_least None low high le has = has
+      at_least (Some e) low high le has = omega (arith, le, has)
+
+  -- a read that began after another had ended
+  pub reads_in_turn : (q s r : ℕ) (a : Answer) → (early : Reading mid q s r a) → (p x y : ℕ) → IsAhead mid p x y → ShareNode mid d q s r p x y → (b : Answer)
+      → (late : Reading d p x y b)
+      → IsAtMost early.seen late.seen
+  reads_in_turn q s r a early p x y ahead share b late =
+      let m = early.member in
+      let back = back_round q m (h_mid.sound q m early.there) early.op.front early.op.later early.op.last early.op.parts s r early.pending early.seen early.session early.request early.phase early.op.ends in
+      λ node. each (table.get early.seen node) (table.get late.seen node) (λ k has.
+      seen_later mid d h_mid t_mid h_end t_end (run_grows mid second d h_mid to_d) q p s r x y m late.member early.there late.there (λ e. e.ops.view ≡ early.seen) node k
+      (λ e is. subst (λ (v : ViewMap). HasAtLeast v node k) (sym is) has) back late.seen ahead (read_round_of p x y b late) share)
+    where
+      each : (u w : Option Pair) → ((k : ℕ) → IsSomeAnd u (λ e. k ≤ e.0) → IsSomeAnd w (λ e. k ≤ e.0)) → IsKept u w
+      each None w f = tt
+      each (Some e) w f = f e.0 (omega arith)
+
+  -- ---- as clients see it
+
+  to_end : Run c (first ++ second) d
+  to_end = run_both c first mid second d to_mid to_d
+
+  seen_occurs : (p x y : ℕ) (v : ViewMap) → IsAnswered d p x y (answer.Seen v) → Occurs d v
+  seen_occurs p x y v has = among_sent (record { from = p; output = output.Reply x y (answer.Seen v) }) has refl
+
+  pub collect_sees : (q k s r : ℕ) → IsStored mid q k s r → (p x y : ℕ) → IsAhead mid p x y → ShareNode mid d q s r p x y → (v : ViewMap)
+      → IsAnswered d p x y (answer.Seen v) → SeesWrite d v q k
+  collect_sees q k s r stored p x y ahead share v has =
+      let read = reading_end p x y (answer.Seen v) has (not_stored v) in
+      let seen : HasAtLeast v q k =
+      subst (λ (w : ViewMap). HasAtLeast w q k) (collect_is read.pending.asked.command read.seen v read.tells) (stores_seen q k s r stored p x y ahead share (answer.Seen v) read) in
+      let row = some_and (table.get v q) (λ e. k ≤ e.0) seen in
+      (row.0.0, row.0.1, row.2, row.1, all_written c d (first ++ second) fresh_c to_end v (seen_occurs p x y v has) q row.0.0 row.0.1 row.1)
+
+  pub collects_in_turn : (q s r : ℕ) (v : ViewMap) → IsAnswered mid q s r (answer.Seen v) → (p x y : ℕ) → IsAhead mid p x y → ShareNode mid d q s r p x y
+      → (w : ViewMap) → IsAnswered d p x y (answer.Seen w) → IsFollowedBy v w
+  collects_in_turn q s r v first_has p x y ahead share w second_has =
+      let early = reading_mid q s r (answer.Seen v) first_has (not_stored v) in
+      let late = reading_end p x y (answer.Seen w) second_has (not_stored w) in
+      let is_v = collect_is early.pending.asked.command early.seen v early.tells in
+      let is_w = collect_is late.pending.asked.command late.seen w late.tells in
+      let most : IsAtMost v w = subst (λ (u : ViewMap). IsAtMost u w) is_v (subst (IsAtMost early.seen) is_w (reads_in_turn q s r (answer.Seen v) early p x y ahead share (answer.Seen w) late)) in
+      let occurs_v = seen_occurs q s r v (run_sent mid second d to_d _ first_has) in
+      λ node. goes_on (table.get v node) (table.get w node) (most node)
+      (λ k a b here there. one_value c d (first ++ second) fresh_c to_end v w occurs_v (seen_occurs p x y w second_has) node k a b here there)
+
+  -- where members stay the same
+  pub meets : (all : List ℕ) → IsFixedCluster all c → AllByRecursion (λ move. Stays move.1) first → AllByRecursion (λ move. Stays move.1) second
+      → RoundsMeet d
+  meets all fixed stays stays_on =
+      rounds_meet all c d (first ++ second) fresh_c fixed (all_both (λ (move : ℕ × Move). Stays move.1) first second stays stays_on) to_end

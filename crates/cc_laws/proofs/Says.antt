@@ -1,0 +1,308 @@
+-- What a post, a reply and an output tell of the event that made it.
+--     tag_next, tag_after          a tag never falls
+--     PostSays, post_says          a query or a store is of a round that begins with the event, under its tag;
+--                                  an answer is to the message that the event brings, and tells the view as it is then
+--     ReplySays, reply_says        a reply ends a round, and tells what the pending operation is answered
+--     OutputSays, outputs_say      what is sent is the event's post, and what is replied its reply
+use Rattle.std.proofs.Common.{◌≡◌, ℕ, ◌+◌, ◌-◌, ◌<◌, ◌≤◌, Bool, true, false, List, [], ◌∷◌, ◌++◌, refl, subst, arith}
+use Rattle.std.specs.Prelude.{◌&&◌, Option, Some, None, IfSome, option_map, if◌then◌else◌, ⊤}
+use Rattle.std.specs.Bool.{then_some}
+use Rattle.std.specs.List.{AllByRecursion}
+use Rattle.std.specs.FinMap as table
+use Rattle.std.proofs.lemmas.Bool.{cond_both}
+use Rattle.cc_views.specs.Rows.{ViewMap}
+use Rattle.cc_views.specs.Merge.{merge, IsAtMost}
+use Rattle.cc_views.specs.MapLaws.{all_entries}
+use Rattle.cc_views.specs.MergeLaws.{merged_at_most}
+use Rattle.cc_wire.specs.declared.event.Event.{Event}
+use Rattle.cc_wire.specs.declared.event.Event.TheVariants as event
+use Rattle.cc_wire.specs.declared.message.Message.{Message}
+use Rattle.cc_wire.specs.declared.message.Message.TheVariants as message
+use Rattle.cc_wire.specs.declared.output.Output.{Output}
+use Rattle.cc_wire.specs.declared.output.Output.TheVariants as output
+use Rattle.cc_churn.specs.Churn as churn
+use Rattle.cc_links.specs.Links.{Link}
+use Rattle.cc_ops.specs.declared.pending.Asked.{Asked}
+use Rattle.cc_ops.specs.declared.pending.Reply.{Reply}
+use Rattle.cc_ops.specs.Commands.{is_writing}
+use Rattle.cc_ops.specs.Ops as ops
+use Rattle.cc_ops.specs.Ops.{Ops, Phase, Idle, Storing, Querying, StoringBack, is_idle, is_last, is_own, round_of, counted, merged, next_round, with_written, with_own_row, with_begun, after_ask, after_reply, after_last, after_ack, after_message, begun_in, ends_query, ends_store, told, reply_in}
+use Rattle.cc_ops.specs.Waiting.{first_in}
+use Rattle.cc_node.specs.declared.made.LinkAck.{LinkAck}
+use Rattle.cc_node.specs.Core as core
+use Rattle.cc_node.specs.Core.{Core, quorum, asked_of, begun, handled, next, post, reply, outputs, sends, send_post, send_ack, send_reply, live_links}
+use Rattle.cc_node.specs.Node.{Node, step, after, IsLawful}
+use Rattle.cc_laws.specs.Rounds.{ends_round}
+use Rattle.cc_laws.proofs.Lists.{all_both, of_some, some_if, some_or}
+
+-- ---- tags
+
+either_tag : (b : Bool) (k : ℕ) (s t : Ops) → k ≤ s.tag → k ≤ t.tag → k ≤ (if b then s else t).tag
+either_tag true k s t h l = h
+either_tag false k s t h l = l
+
+pub begun_tag : (me quorum : ℕ) (a : Asked) (s : Ops) → (with_begun me quorum a s).tag ≡ s.tag + 1
+begun_tag me quorum a s =
+    cond_both (is_writing a.command) (next_round (Storing (round_of quorum a)) (with_own_row me (with_written a.command s))) (next_round (Querying (round_of quorum a)) s)
+    (λ (t : Ops). t.tag ≡ s.tag + 1) (λ _. refl) (λ _. refl)
+
+begun_up : (me quorum : ℕ) (a : Asked) (s : Ops) → s.tag ≤ (with_begun me quorum a s).tag
+begun_up me quorum a s = omega (arith, begun_tag me quorum a s)
+
+last_up : (me quorum : ℕ) (line : List Asked) (s : Ops) → s.tag ≤ (after_last me quorum line s).tag
+last_up me quorum [] s = omega arith
+last_up me quorum (a ∷ line) s = begun_up me quorum a (record s { line = line })
+
+ack_up : (me quorum : ℕ) (phase : Phase) (s : Ops) → s.tag ≤ (after_ack me quorum phase s).tag
+ack_up me quorum Idle s = omega arith
+ack_up me quorum (Storing p) s =
+    either_tag (is_last p) s.tag (after_last me quorum s.line s) (record s { phase = Storing (counted p) }) (last_up me quorum s.line s) (omega arith)
+ack_up me quorum (Querying p) s = omega arith
+ack_up me quorum (StoringBack p seen) s =
+    either_tag (is_last p) s.tag (after_last me quorum s.line s) (record s { phase = StoringBack (counted p) seen }) (last_up me quorum s.line s) (omega arith)
+
+reply_up : (quorum : ℕ) (v : ViewMap) (phase : Phase) (s : Ops) → s.tag ≤ (after_reply quorum v phase s).tag
+reply_up quorum v Idle s = omega arith
+reply_up quorum v (Storing p) s = omega arith
+reply_up quorum v (Querying p) s =
+    either_tag (is_last p) s.tag (next_round (StoringBack (round_of quorum p.asked) (merge s.view v)) (merged v s)) (record (merged v s) { phase = Querying (counted p) }) (omega arith) (omega arith)
+reply_up quorum v (StoringBack p seen) s = omega arith
+
+message_up : (me quorum : ℕ) (m : Message) (s : Ops) → s.tag ≤ (after_message me quorum m s).tag
+message_up me quorum (message.Enter q) s = omega arith
+message_up me quorum (message.EnterEcho c v j q) s = omega arith
+message_up me quorum (message.Join q) s = omega arith
+message_up me quorum (message.JoinEcho q) s = omega arith
+message_up me quorum (message.Leave q) s = omega arith
+message_up me quorum (message.LeaveEcho q) s = omega arith
+message_up me quorum (message.Query tag q) s = omega arith
+message_up me quorum (message.QueryReply v tag q) s =
+    either_tag (is_own me tag q s) s.tag (after_reply quorum v s.phase s) s (reply_up quorum v s.phase s) (omega arith)
+message_up me quorum (message.Store v tag q) s = omega arith
+message_up me quorum (message.StoreAck tag q) s =
+    either_tag (is_own me tag q s) s.tag (after_ack me quorum s.phase s) s (ack_up me quorum s.phase s) (omega arith)
+
+ask_up : (me quorum : ℕ) (a : Asked) (s : Ops) → s.tag ≤ (after_ask me quorum a s).tag
+ask_up me quorum a s =
+    either_tag (is_idle s.phase) s.tag (with_begun me quorum a s) (record s { line = s.line ++ a ∷ [] }) (begun_up me quorum a s) (omega arith)
+
+pub tag_next : (c : Core) (e : Event) → c.ops.tag ≤ (next c e).ops.tag
+unfolding next
+tag_next c event.Enter = omega arith
+tag_next c event.Leave = omega arith
+tag_next c (event.Deliver from n m) = message_up c.me (quorum c) m c.ops
+tag_next c (event.Acked peer n) = omega arith
+tag_next c (event.Ask s r command) = ask_up c.me (quorum c) (asked_of s r command) c.ops
+tag_next c (event.Retire q) = omega arith
+
+pub tag_after : (n : Node) (es : List Event) → IsLawful n es → n.core.ops.tag ≤ (after n es).core.ops.tag
+unfolding step
+tag_after n [] d = omega arith
+tag_after n (e ∷ es) d = omega (arith, tag_next n.core e, tag_after (step n e) es d.1)
+
+-- ---- posts
+
+-- the event brings this message
+abbrev pub BringsIn : Event → Message → Type 0
+BringsIn e m = (from n : ℕ) × (e ≡ event.Deliver from n m)
+
+-- of a post that an event makes: the node, its tag before, and the rest after it
+abbrev pub Says : ℕ → ℕ → Event → Ops → Message → Type 0
+Says me under e t (message.Enter q) = ⊤
+Says me under e t (message.EnterEcho c v from_joined q) = ⊤
+Says me under e t (message.Join q) = ⊤
+Says me under e t (message.JoinEcho q) = ⊤
+Says me under e t (message.Leave q) = ⊤
+Says me under e t (message.LeaveEcho q) = ⊤
+Says me under e t (message.Query tag q) = (q ≡ me) × (under < tag) × (tag ≡ t.tag)
+Says me under e t (message.QueryReply v tag q) = BringsIn e (message.Query tag q) × (v ≡ t.view)
+Says me under e t (message.Store v tag q) = (q ≡ me) × (under < tag) × (tag ≡ t.tag) × (v ≡ t.view)
+Says me under e t (message.StoreAck tag q) = (v : ViewMap) × BringsIn e (message.Store v tag q) × IsAtMost v t.view
+
+abbrev pub PostSays : Core → Event → Message → Type 0
+PostSays c e m = Says c.me c.ops.tag e (next c e).ops m
+
+first_says : (P : Message → Type 0) (me : ℕ) (a : Asked) (t : Ops) → P (message.Store t.view t.tag me) → P (message.Query t.tag me)
+    → P (ops.first_post me a t)
+first_says P me a t store query =
+    cond_both (is_writing a.command) (message.Store t.view t.tag me) (message.Query t.tag me) P (λ _. store) (λ _. query)
+
+begun_says : (me quorum : ℕ) (a : Asked) (s : Ops) (e : Event) → Says me s.tag e (with_begun me quorum a s) (ops.first_post me a (with_begun me quorum a s))
+begun_says me quorum a s e =
+    let t = with_begun me quorum a s in
+    let new : s.tag < t.tag = omega (arith, begun_tag me quorum a s) in
+    first_says (Says me s.tag e t) me a t (refl, new, refl, refl) (refl, new, refl)
+
+last_says : (me quorum : ℕ) (line : List Asked) (s : Ops) (e : Event)
+    → IfSome (option_map (λ a. ops.first_post me a (after_last me quorum line s)) (first_in line)) (Says me s.tag e (after_last me quorum line s))
+last_says me quorum [] s e = tt
+last_says me quorum (a ∷ line) s e = begun_says me quorum a (record s { line = line }) e
+
+either_last : (me quorum : ℕ) (b : Bool) (phase : Phase) (s : Ops) (e : Event)
+    → IfSome (option_map (λ a. ops.first_post me a (if b then after_last me quorum s.line s else record s { phase = phase })) (if b then first_in s.line else None))
+    (Says me s.tag e (if b then after_last me quorum s.line s else record s { phase = phase }))
+either_last me quorum true phase s e = last_says me quorum s.line s e
+either_last me quorum false phase s e = tt
+
+ack_says : (me quorum : ℕ) (phase : Phase) (s : Ops) (e : Event)
+    → IfSome (option_map (λ a. ops.first_post me a (after_ack me quorum phase s)) (begun_in phase s.line)) (Says me s.tag e (after_ack me quorum phase s))
+ack_says me quorum Idle s e = tt
+ack_says me quorum (Storing p) s e = either_last me quorum (is_last p) (Storing (counted p)) s e
+ack_says me quorum (Querying p) s e = tt
+ack_says me quorum (StoringBack p seen) s e = either_last me quorum (is_last p) (StoringBack (counted p) seen) s e
+
+own_ack_says : (me quorum : ℕ) (b : Bool) (s : Ops) (e : Event)
+    → IfSome (option_map (λ a. ops.first_post me a (if b then after_ack me quorum s.phase s else s)) (if b then begun_in s.phase s.line else None))
+    (Says me s.tag e (if b then after_ack me quorum s.phase s else s))
+own_ack_says me quorum true s e = ack_says me quorum s.phase s e
+own_ack_says me quorum false s e = tt
+
+ask_says : (me quorum : ℕ) (b : Bool) (a : Asked) (s : Ops) (line : List Asked) (e : Event)
+    → IfSome (option_map (λ x. ops.first_post me x (if b then with_begun me quorum a s else record s { line = line })) (then_some b a))
+    (Says me s.tag e (if b then with_begun me quorum a s else record s { line = line }))
+ask_says me quorum true a s line e = begun_says me quorum a s e
+ask_says me quorum false a s line e = tt
+
+-- the last reply to a query begins the round that stores back
+either_reply : (me quorum : ℕ) (b : Bool) (v : ViewMap) (phase other : Phase) (s : Ops) (e : Event)
+    → IfSome
+    (then_some b (message.Store (if b then next_round phase (merged v s) else record (merged v s) { phase = other }).view (if b then next_round phase (merged v s) else record (merged v s) { phase = other }).tag me))
+    (Says me s.tag e (if b then next_round phase (merged v s) else record (merged v s) { phase = other }))
+either_reply me quorum true v phase other s e = (refl, omega arith, refl, refl)
+either_reply me quorum false v phase other s e = tt
+
+back_says : (me quorum : ℕ) (v : ViewMap) (phase : Phase) (s : Ops) (e : Event)
+    → IfSome (then_some (ends_query phase) (message.Store (after_reply quorum v phase s).view (after_reply quorum v phase s).tag me)) (Says me s.tag e (after_reply quorum v phase s))
+back_says me quorum v Idle s e = tt
+back_says me quorum v (Storing p) s e = tt
+back_says me quorum v (Querying p) s e =
+    either_reply me quorum (is_last p) v (StoringBack (round_of quorum p.asked) (merge s.view v)) (Querying (counted p)) s e
+back_says me quorum v (StoringBack p seen) s e = tt
+
+own_back_says : (me quorum : ℕ) (b : Bool) (v : ViewMap) (s : Ops) (e : Event)
+    → IfSome (then_some (b && ends_query s.phase) (message.Store (if b then after_reply quorum v s.phase s else s).view (if b then after_reply quorum v s.phase s else s).tag me))
+    (Says me s.tag e (if b then after_reply quorum v s.phase s else s))
+own_back_says me quorum true v s e = back_says me quorum v s.phase s e
+own_back_says me quorum false v s e = tt
+
+ops_say : (me quorum : ℕ) (joined : Bool) (from n : ℕ) (m : Message) (s : Ops)
+    → IfSome (ops.post_of me joined m s (after_message me quorum m s)) (Says me s.tag (event.Deliver from n m) (after_message me quorum m s))
+ops_say me quorum joined from n (message.Enter q) s = tt
+ops_say me quorum joined from n (message.EnterEcho c v j q) s = tt
+ops_say me quorum joined from n (message.Join q) s = tt
+ops_say me quorum joined from n (message.JoinEcho q) s = tt
+ops_say me quorum joined from n (message.Leave q) s = tt
+ops_say me quorum joined from n (message.LeaveEcho q) s = tt
+ops_say me quorum joined from n (message.Query tag q) s =
+    some_if (Says me s.tag (event.Deliver from n (message.Query tag q)) s) joined (message.QueryReply s.view tag q) ((from, n, refl), refl)
+ops_say me quorum joined from n (message.QueryReply v tag q) s = own_back_says me quorum (is_own me tag q s) v s (event.Deliver from n (message.QueryReply v tag q))
+ops_say me quorum joined from n (message.Store v tag q) s =
+    some_if (Says me s.tag (event.Deliver from n (message.Store v tag q)) (merged v s)) joined (message.StoreAck tag q) (v, (from, n, refl), merged_at_most s.view v)
+ops_say me quorum joined from n (message.StoreAck tag q) s = own_ack_says me quorum (is_own me tag q s) s (event.Deliver from n (message.StoreAck tag q))
+
+churn_says : (me under : ℕ) (view : ViewMap) (e : Event) (m : Message) (s t : churn.Churn) (after : Ops)
+    → IfSome (churn.post_of me view m s t) (Says me under e after)
+churn_says me under view e (message.Enter q) s t after = tt
+churn_says me under view e (message.EnterEcho c w j q) s t after = some_if (Says me under e after) _ (message.Join me) tt
+churn_says me under view e (message.Join q) s t after = tt
+churn_says me under view e (message.JoinEcho q) s t after = tt
+churn_says me under view e (message.Leave q) s t after = tt
+churn_says me under view e (message.LeaveEcho q) s t after = tt
+churn_says me under view e (message.Query tag q) s t after = tt
+churn_says me under view e (message.QueryReply w tag q) s t after = tt
+churn_says me under view e (message.Store w tag q) s t after = tt
+churn_says me under view e (message.StoreAck tag q) s t after = tt
+
+pub post_says : (c : Core) (e : Event) → IfSome (post c e) (PostSays c e)
+unfolding next
+post_says c event.Enter = tt
+post_says c event.Leave = tt
+post_says c (event.Deliver from n m) =
+    let d = handled c (event.Deliver from n m) in
+    some_or (PostSays c (event.Deliver from n m)) _ _ (churn_says c.me c.ops.tag d.ops.view (event.Deliver from n m) m c.churn d.churn d.ops) (ops_say c.me (quorum c) _ from n m c.ops)
+post_says c (event.Acked peer n) = tt
+post_says c (event.Ask s r command) = ask_says c.me (quorum c) (is_idle c.ops.phase) (asked_of s r command) c.ops _ (event.Ask s r command)
+post_says c (event.Retire q) = tt
+
+-- ---- replies
+
+abbrev pub Told : ViewMap → Phase → Reply → Type 0
+Told view Idle r = ⊥
+Told view (Storing p) r = r ≡ told p view
+Told view (Querying p) r = ⊥
+Told view (StoringBack p seen) r = r ≡ told p seen
+
+abbrev pub ReplySays : Core → Event → Reply → Type 0
+ReplySays c e r = (ends_round c e ≡ true) × Told c.ops.view c.ops.phase r
+
+last_replies : (b : Bool) (t : Reply) → IfSome (then_some b t) (λ r. (b ≡ true) × (r ≡ t))
+last_replies true t = (refl, refl)
+last_replies false t = tt
+
+ack_replies : (b : Bool) (view : ViewMap) (phase : Phase)
+    → IfSome (if b then reply_in view phase else None) (λ r. ((b && ends_store phase) ≡ true) × Told view phase r)
+ack_replies true view Idle = tt
+ack_replies true view (Storing p) = last_replies (is_last p) (told p view)
+ack_replies true view (Querying p) = tt
+ack_replies true view (StoringBack p seen) = last_replies (is_last p) (told p seen)
+ack_replies false view phase = tt
+
+message_replies : (c : Core) (from n : ℕ) (m : Message) → IfSome (ops.reply_of c.me m c.ops) (ReplySays c (event.Deliver from n m))
+message_replies c from n (message.Enter q) = tt
+message_replies c from n (message.EnterEcho d v j q) = tt
+message_replies c from n (message.Join q) = tt
+message_replies c from n (message.JoinEcho q) = tt
+message_replies c from n (message.Leave q) = tt
+message_replies c from n (message.LeaveEcho q) = tt
+message_replies c from n (message.Query tag q) = tt
+message_replies c from n (message.QueryReply v tag q) = tt
+message_replies c from n (message.Store v tag q) = tt
+message_replies c from n (message.StoreAck tag q) = ack_replies (is_own c.me tag q c.ops) c.ops.view c.ops.phase
+
+pub reply_says : (c : Core) (e : Event) → IfSome (reply c e) (ReplySays c e)
+reply_says c event.Enter = tt
+reply_says c event.Leave = tt
+reply_says c (event.Deliver from n m) = message_replies c from n m
+reply_says c (event.Acked peer n) = tt
+reply_says c (event.Ask s r command) = tt
+reply_says c (event.Retire q) = tt
+
+-- ---- outputs
+
+-- where a post goes, and under which number
+abbrev pub GoesTo : Core → ℕ → ℕ → Type 0
+GoesTo c to n = (l : Link) × (table.get (live_links c) to ≡ Some l) × (n ≡ c.posts - l.start)
+
+abbrev pub OutputSays : Core → Event → Output → Type 0
+OutputSays c e (output.Send to n m) = (post c e ≡ Some m) × GoesTo (next c e) to n
+OutputSays c e (output.Ack to n) = ⊤
+OutputSays c e (output.Reply s r a) = reply c e ≡ Some (record { session = s; request = r; answer = a })
+
+each_send : (P : Output → Type 0) (k : ℕ) (m : Message) (rows : List (ℕ × Link)) → AllByRecursion (λ row. P (output.Send row.0 (k - row.1.start) m)) rows
+    → AllByRecursion P (sends k m rows)
+each_send P k m [] h = tt
+each_send P k m (row ∷ rows) h = (h.0, each_send P k m rows h.1)
+
+posts_say : (c : Core) (e : Event) (p : Option Message) → post c e ≡ p → AllByRecursion (OutputSays c e) (send_post (next c e) p)
+posts_say c e None is = tt
+posts_say c e (Some m) is =
+    let d = next c e in
+    let rows = table.entries (live_links d) in
+    let Says = λ (to : ℕ) (l : Link). OutputSays c e (output.Send to (d.posts - l.start) m) in
+    each_send (OutputSays c e) d.posts m rows (all_entries Says rows (table.entries_sorted (live_links d))
+    (λ to. subst (λ o. IfSome o (Says to)) (table.get-entries (live_links d) to)
+    (of_some (Says to) (table.get (live_links d) to) (λ l there. (is, (l, there, refl))))))
+
+acks_say : (c : Core) (e : Event) (a : Option LinkAck) → AllByRecursion (OutputSays c e) (send_ack a)
+acks_say c e None = tt
+acks_say c e (Some a) = (tt, tt)
+
+replies_say : (c : Core) (e : Event) (r : Option Reply) → reply c e ≡ r → AllByRecursion (OutputSays c e) (send_reply r)
+replies_say c e None is = tt
+replies_say c e (Some r) is = (is, tt)
+
+pub outputs_say : (c : Core) (e : Event) → AllByRecursion (OutputSays c e) (outputs c e)
+outputs_say c e =
+    all_both (OutputSays c e) (send_ack (core.ack e) ++ send_post (next c e) (post c e)) (send_reply (reply c e))
+    (all_both (OutputSays c e) (send_ack (core.ack e)) (send_post (next c e) (post c e)) (acks_say c e (core.ack e)) (posts_say c e (post c e) refl))
+    (replies_say c e (reply c e) refl)

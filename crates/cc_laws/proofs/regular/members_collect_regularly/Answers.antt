@@ -1,0 +1,12 @@
+use Rattle.cc_laws.proofs.Regularity.{each_shares, meets, collect_sees, collects_in_turn}
+use Rattle.cc_laws.proofs.regular.members_collect_regularly.Goals as goal
+
+pub returns : goal.returns
+returns g = record {
+  stored = λ all c mid d first second begins to_mid to_d fixed stays stays_on q k s r stored p x y ahead.
+      collect_sees c mid d first second begins to_mid to_d q k s r stored p x y ahead
+      (each_shares c mid d first second begins to_mid to_d (meets c mid d first second begins to_mid to_d all fixed stays stays_on) q s r p x y);
+  in_turn = λ all c mid d first second begins to_mid to_d fixed stays stays_on q s r v has p x y ahead.
+      collects_in_turn c mid d first second begins to_mid to_d q s r v has p x y ahead
+      (each_shares c mid d first second begins to_mid to_d (meets c mid d first second begins to_mid to_d all fixed stays stays_on) q s r p x y);
+}

@@ -1,0 +1,332 @@
+//! Collects of a cluster that is cut in two again and again, against what was answered before they were asked for.
+
+use crate::played::played;
+use cc_play::{Cluster, Played, parse};
+use cc_words::number;
+use std::alloc::Global;
+use std::test::*;
+
+const NODES: [&str; 4] = ["1", "2", "3", "4"];
+
+const MEMBERS: &str = "\
+member 1 of 1,2,3,4
+member 2 of 1,2,3,4
+member 3 of 1,2,3,4
+member 4 of 1,2,3,4
+";
+
+// Of four members an operation waits for three, which is more than half of them.
+const ABOVE_HALF: &str = "fractions 3/5 4/5\n";
+
+// It waits for two.
+const AT_HALF: &str = "fractions 1/2 4/5\n";
+
+// One of the two parts into which the cluster is cut: no message goes from one to the other.
+const PARTS: [&str; 8] = ["", "1", "2", "3", "4", "12", "13", "14"];
+
+const COMMANDS: [&str; 2] = ["store w", "collect"];
+
+// How often the cluster is cut anew, and how many rounds each cut lasts.
+const CUTS: usize = 5;
+
+const ROUNDS: usize = 12;
+
+/// A linear congruential generator.
+#[derive(Drop)]
+struct Chance {
+    state: u64,
+}
+
+impl Chance {
+    fn below(&mut self, limit: u64) -> u64 {
+        self.state = self
+            .state
+            .wrapping_mul(6_364_136_223_846_793_005)
+            .wrapping_add(1_442_695_040_888_963_407);
+        (self.state >> 33).checked_rem(limit).unwrap_or(0)
+    }
+
+    fn pick<'a>(&mut self, words: &[&'a str]) -> &'a str {
+        let place = self.below(words.len() as u64);
+        words.get(place as usize).copied().unwrap_or("")
+    }
+}
+
+/// A cluster, what was printed so far, and for each session how many lines of that stood there when it asked. A session
+/// asks once, and they are counted from 1.
+#[derive(Drop)]
+struct Trial {
+    cluster: Cluster,
+    printed: Vec<u8>,
+    asked: Vec<usize>,
+}
+
+fn say_all(alloc: Global, trial: &mut Trial, lines: &str) -> Result<(), Fail> {
+    for line in lines.lines() {
+        say(alloc, trial, line)?;
+    }
+    Ok(())
+}
+
+fn say(alloc: Global, trial: &mut Trial, line: &str) -> Result<(), Fail> {
+    let line = parse(alloc, line.as_bytes())?.ok_or("each line is of a form")?;
+    match trial.cluster.play(alloc, line, &mut trial.printed)? {
+        Played::Good => Ok(()),
+        Played::Bad | Played::Ended => Err("each line is good")?,
+    }
+}
+
+// Each part of the cluster goes on by itself for some rounds. In a round some node is asked.
+fn play_rounds(alloc: Global, trial: &mut Trial, seed: u64) -> Result<(), Fail> {
+    let mut chance = Chance { state: seed };
+    for _ in 0..CUTS {
+        let part = chance.pick(&PARTS);
+        for _ in 0..ROUNDS {
+            let lines = next_lines(alloc, trial, part, &mut chance)?;
+            trial.asked.push(lines.1)?;
+            say_all(alloc, trial, &lines.0)?;
+        }
+    }
+    Ok(())
+}
+
+// The lines of a round, by what was printed so far, and how many lines that were.
+fn next_lines(
+    alloc: Global,
+    trial: &Trial,
+    part: &str,
+    chance: &mut Chance,
+) -> Result<(String, usize), Fail> {
+    let printed = str::from_utf8(&trial.printed)?;
+    let node = chance.pick(&NODES);
+    let command = chance.pick(&COMMANDS);
+    let session = trial.asked.len();
+    let mut lines = format!(in alloc; "ask {node} {session} 1 {command}\n")?;
+    push_carries(alloc, &mut lines, printed, part, chance)?;
+    Ok((lines, printed.lines().count()))
+}
+
+fn push_carries(
+    alloc: Global,
+    lines: &mut String,
+    printed: &str,
+    part: &str,
+    chance: &mut Chance,
+) -> Result<(), Fail> {
+    for from in NODES {
+        for to in NODES {
+            if part.contains(from) == part.contains(to) {
+                push_link(alloc, lines, printed, (from, to), chance.below(8))?;
+            }
+        }
+    }
+    Ok(())
+}
+
+// Up to so many of the messages that were sent on a link and aren't heard yet.
+fn push_link(
+    alloc: Global,
+    lines: &mut String,
+    printed: &str,
+    link: (&str, &str),
+    most: u64,
+) -> Result<(), Fail> {
+    let (from, to) = link;
+    let sent = format!(in alloc; "{from} send {to} ")?;
+    let heard = format!(in alloc; "{to} ack {from} ")?;
+    let last = last_behind(printed, &sent);
+    let first = last_behind(printed, &heard);
+    for count in 1..=most {
+        let number = first.saturating_add(count);
+        if number <= last {
+            push_carry(alloc, lines, link, number)?;
+        }
+    }
+    Ok(())
+}
+
+fn push_carry(
+    alloc: Global,
+    lines: &mut String,
+    link: (&str, &str),
+    number: u64,
+) -> Result<(), Fail> {
+    let (from, to) = link;
+    let line = format!(in alloc; "carry {from} {to} {number}\n")?;
+    lines.push_str(&line)?;
+    Ok(())
+}
+
+// The number behind these words in the last line that begins with them, or 0.
+fn last_behind(printed: &str, words: &str) -> u64 {
+    let mut last = 0;
+    for line in printed.lines() {
+        if let Some(rest) = line.strip_prefix(words) {
+            let word = rest.split_once(' ').map_or(rest, |parts| parts.0);
+            last = number(word).unwrap_or(0);
+        }
+    }
+    last
+}
+
+// The number of a node's row in a view, or 0.
+fn number_of(view: &str, node: &str) -> u64 {
+    for row in view.trim_matches(['[', ']']).split(',') {
+        if let Some((name, rest)) = row.split_once(':') {
+            if name == node {
+                return rest
+                    .split_once('=')
+                    .map_or(0, |parts| number(parts.0).unwrap_or(0));
+            }
+        }
+    }
+    0
+}
+
+// Whether the view has of some node less than an earlier one.
+fn is_behind(view: &str, earlier: &str) -> bool {
+    NODES
+        .iter()
+        .any(|node| number_of(view, node) < number_of(earlier, node))
+}
+
+// How many stores of a node are answered in these lines.
+fn stores_of(printed: &str, lines: usize, node: &str) -> u64 {
+    let mut count: u64 = 0;
+    for line in printed.lines().take(lines) {
+        if let Some((name, answer)) = line.split_once(" reply ") {
+            if name == node && answer.ends_with(" Stored") {
+                count = count.saturating_add(1);
+            }
+        }
+    }
+    count
+}
+
+// Whether the view misses something of what is answered in these lines: a store, or what a collect told.
+fn misses(view: &str, printed: &str, lines: usize) -> bool {
+    for node in NODES {
+        if number_of(view, node) < stores_of(printed, lines, node) {
+            return true;
+        }
+    }
+    for line in printed.lines().take(lines) {
+        if let Some((_, earlier)) = line.split_once(" Seen ") {
+            if is_behind(view, earlier) {
+                return true;
+            }
+        }
+    }
+    false
+}
+
+// The session that a line answers with a view, and the view.
+fn collected(line: &str) -> Option<(usize, &str)> {
+    let (head, view) = line.split_once(" 1 Seen ")?;
+    let (_, session) = head.split_once(" reply ")?;
+    Some((usize::try_from(number(session)?).ok()?, view))
+}
+
+// How many collects are answered, and how many of these miss something that was answered before they were asked for.
+fn answered_and_stale(printed: &str, asked: &[usize]) -> (u64, u64) {
+    let mut answered: u64 = 0;
+    let mut stale: u64 = 0;
+    for line in printed.lines() {
+        if let Some((session, view)) = collected(line) {
+            let lines = asked.get(session).copied().unwrap_or(0);
+            answered = answered.saturating_add(1);
+            stale = stale.saturating_add(u64::from(misses(view, printed, lines)));
+        }
+    }
+    (answered, stale)
+}
+
+// The same of a trial.
+fn tried(alloc: Global, fractions: &str, seed: u64) -> Result<(u64, u64), Fail> {
+    let asked = vec![in alloc; 0]?;
+    let mut trial = Trial {
+        cluster: Cluster::new(alloc),
+        printed: Vec::new(alloc),
+        asked,
+    };
+    try_out(alloc, &mut trial, fractions, seed)
+}
+
+fn try_out(
+    alloc: Global,
+    trial: &mut Trial,
+    fractions: &str,
+    seed: u64,
+) -> Result<(u64, u64), Fail> {
+    say_all(alloc, trial, fractions)?;
+    say_all(alloc, trial, MEMBERS)?;
+    play_rounds(alloc, trial, seed)?;
+    let printed = str::from_utf8(&trial.printed)?;
+    Ok(answered_and_stale(printed, &trial.asked))
+}
+
+// The same of so many trials.
+fn tried_all(alloc: Global, fractions: &str, seeds: u64) -> Result<(u64, u64), Fail> {
+    let mut answered: u64 = 0;
+    let mut stale: u64 = 0;
+    for seed in 0..seeds {
+        let counts = tried(alloc, fractions, seed)?;
+        answered = answered.saturating_add(counts.0);
+        stale = stale.saturating_add(counts.1);
+    }
+    Ok((answered, stale))
+}
+
+#[test]
+fn no_collect_is_stale_above_half(rt: HostRuntime) -> Result<(), Fail> {
+    let (answered, stale) = tried_all(rt.alloc(), ABOVE_HALF, 4)?;
+    assert!(rt; answered >= 25, "{answered}");
+    assert_eq!(rt; stale, 0);
+    Ok(())
+}
+
+#[test]
+fn stale_collects_are_found_at_half(rt: HostRuntime) -> Result<(), Fail> {
+    let (answered, stale) = tried_all(rt.alloc(), AT_HALF, 4)?;
+    assert!(rt; answered >= 50, "{answered}");
+    assert!(rt; stale >= 5, "{stale}");
+    Ok(())
+}
+
+// Nodes 1 and 2 are enough for the store, and nodes 3 and 4 for the collect.
+const STALE: &str = "\
+ask 1 1 1 store a
+carry 1 1 1
+carry 1 2 1
+carry 1 1 2
+carry 2 1 1
+ask 3 2 1 collect
+carry 3 3 1
+carry 3 4 1
+carry 3 3 2
+carry 4 3 1
+carry 3 3 3
+carry 3 4 2
+carry 3 4 3
+carry 3 3 4
+carry 4 3 2
+";
+
+#[test]
+fn a_stale_collect_is_told(rt: HostRuntime) -> Result<(), Fail> {
+    let alloc = rt.alloc();
+    let script = format!(in alloc; "{AT_HALF}{MEMBERS}{STALE}")?;
+    let (status, output) = played(alloc, &script)?;
+    assert_eq!(rt; status, 0);
+    assert!(rt; output.contains("\n1 reply 1 1 Stored\n"));
+    assert!(rt; output.ends_with("\n3 reply 2 1 Seen []\n"));
+    // The answer of the store is the next line behind these.
+    let before = output
+        .lines()
+        .take_while(|line| *line != "1 reply 1 1 Stored")
+        .count();
+    let behind = before.saturating_add(1);
+    assert_eq!(rt; answered_and_stale(&output, &[0, 0, behind]), (1, 1));
+    assert_eq!(rt; answered_and_stale(&output, &[0, 0, before]), (1, 0));
+    Ok(())
+}
