@@ -1,0 +1,187 @@
+#!/usr/bin/env python3
+"""Kills one of thirteen nodes under load, leaves it dead for minutes, and checks that the others can be freed of it.
+
+    dead_member.py crates/ccnode/out/ccnode [MINUTES [return]]
+
+Each of twelve nodes has six clients, an operation waits for 3/5 of the members, and node 13 is killed for MINUTES (15). Once
+in thirty seconds is printed what was answered, and of each node its descriptors, its threads and the most connections that
+one peer has to it; no node may ever have more than two of one peer. Then each node is told to retire node 13, which has
+to be answered within two seconds; or, with the word `return`, node 13 is started again. Each node that runs has to serve a
+store within five seconds after that. The load goes on all the while. The status is 1 where something isn't so.
+"""
+import collections
+import os
+import pathlib
+import sys
+import threading
+import time
+
+from nodes import Cluster, Load, NoAnswer, Session, Verdicts, end_on_signals, say
+
+COUNT, BETA, CLIENTS = 13, "3/5", 6
+DEAD = COUNT
+LIVING = range(1, COUNT)
+MOST_OF_A_PEER = 2
+RETIRED_WITHIN, SERVES_WITHIN = 2.0, 5.0
+SAMPLE, STEP = 1.0, 30.0
+# Whose the other end of a connection is, where it isn't a node's.
+CLIENT, UNKNOWN = "client", "unknown"
+# The other end of a socket that listens.
+NO_END = "00000000:0000"
+
+
+def sockets_of(pid):
+    """The inodes of a process's sockets, and how many descriptors it has."""
+    inodes, files = set(), 0
+    for file in pathlib.Path(f"/proc/{pid}/fd").iterdir():
+        files += 1
+        try:
+            kind, _, inode = os.readlink(file).partition(":[")
+        except OSError:
+            continue
+        if kind == "socket":
+            inodes.add(inode.rstrip("]"))
+    return inodes, files
+
+
+def tcp_rows():
+    """Of each socket of TCP, by its inode: its own end and the other end, as the system writes them."""
+    rows = [line.split() for line in pathlib.Path("/proc/net/tcp").read_text().splitlines()[1:]]
+    return {row[9]: (row[1], row[2]) for row in rows if row[9] != "0"}
+
+
+class Connections:
+    """Which connections each node has accepted, by whose they are. One that its peer has closed is told by who was last
+    seen at its other end."""
+
+    def __init__(self, cluster):
+        # Whose each connection is, by the two ends of it, its own first.
+        self.cluster, self.owners = cluster, {}
+        # Of each node: the counts by owner, its descriptors and its threads as last seen, and the most of one peer ever.
+        self.counts, self.files, self.threads = {}, {}, {}
+        self.most = {node: (0, None) for node in LIVING}
+
+    def look(self):
+        rows, held = tcp_rows(), {}
+        self.counts, self.files, self.threads = {}, {}, {}
+        for node, process in self.cluster.running.items():
+            try:
+                inodes, self.files[node] = sockets_of(process.pid)
+                self.threads[node] = len(os.listdir(f"/proc/{process.pid}/task"))
+            except OSError:
+                continue
+            held[node] = [rows[inode] for inode in inodes if inode in rows]
+        self.learn_owners(rows, held)
+        for node, ends in held.items():
+            self.count(node, ends)
+
+    def learn_owners(self, rows, held):
+        mine, _ = sockets_of(os.getpid())
+        self.owners.update({rows[inode]: CLIENT for inode in mine if inode in rows})
+        for node, ends in held.items():
+            self.owners.update(dict.fromkeys(ends, node))
+
+    def count(self, node, ends):
+        """Counts the connections at the node's own port."""
+        port = f":{self.cluster.ports[node]:04X}"
+        others = [(other, own) for own, other in ends if own.endswith(port) and other != NO_END]
+        self.counts[node] = collections.Counter(self.owners.get(ends, UNKNOWN) for ends in others)
+        of_peers = [(self.counts[node][peer], peer) for peer in self.cluster.nodes]
+        if node in self.most:
+            self.most[node] = max(self.most[node], max(of_peers), key=lambda it: it[0])
+
+    def sample_until(self, end):
+        while time.monotonic() < end:
+            self.look()
+            time.sleep(SAMPLE)
+
+    def tell(self):
+        """The node's descriptors, its threads and the most connections that one peer has to it, as last seen."""
+        for name, of in (("descriptors", self.files), ("threads", self.threads)):
+            say(f"    {name}: {' '.join(str(of[node]) for node in sorted(of))}")
+        of_peers = {node: [counts[peer] for peer in self.cluster.nodes] for node, counts in sorted(self.counts.items())}
+        say(f"    the most connections of one peer: {' '.join(str(max(counts)) for counts in of_peers.values())}")
+        for node, counts in of_peers.items():
+            if max(counts) > MOST_OF_A_PEER:
+                say(f"    node {node}, by peer: {' '.join(map(str, counts))}; of nobody that is known: "
+                    f"{self.counts[node][UNKNOWN]}")
+
+
+def go_on(load, connections, minutes):
+    """Prints what is seen once in thirty seconds, until that many minutes are over."""
+    start = time.monotonic()
+    end = start + 60 * minutes
+    while time.monotonic() < end:
+        before = load.total()
+        connections.sample_until(min(end, time.monotonic() + STEP))
+        refusals, breaks = (sum(getattr(it, name) for it in load.sessions) for name in ("refusals", "breaks"))
+        say(f"  {time.monotonic() - start:.0f} s: {load.total() - before} operations answered since the last line; "
+            f"refused so far: {refusals}, connections that broke: {breaks}")
+        connections.tell()
+
+
+def retire(cluster, verdicts):
+    for node in LIVING:
+        start = time.monotonic()
+        line = cluster.does(["retire", cluster.address(node), str(DEAD)])[1]
+        took = time.monotonic() - start
+        is_good = line == f"retired {DEAD}" and took <= RETIRED_WITHIN
+        verdicts.add(is_good, f"retire at node {node}: {line} after {took:.1f} s")
+
+
+def check_service(cluster, verdicts):
+    """A client of each node that runs stores, all at once."""
+    took = {}
+
+    def store(node):
+        start, session = time.monotonic(), Session(cluster.address(node), 9_000 + node, patience=30.0)
+        try:
+            session.ask(["store", "served"], 30)
+            took[node] = time.monotonic() - start
+        except NoAnswer:
+            pass
+        session.close()
+
+    threads = [threading.Thread(target=store, args=(node,)) for node in cluster.running]
+    for thread in threads:
+        thread.start()
+    for node, thread in zip(cluster.running, threads):
+        thread.join()
+        told = f"stores after {took[node]:.1f} s" if node in took else "doesn't store in 30 s"
+        verdicts.add(took.get(node, 30) <= SERVES_WITHIN, f"node {node} {told}")
+
+
+def main():
+    end_on_signals()
+    program, minutes = sys.argv[1], float(sys.argv[2]) if len(sys.argv) > 2 else 15.0
+    comes_back, verdicts = sys.argv[3:] == ["return"], Verdicts()
+    with Cluster(program, COUNT, beta=BETA) as cluster:
+        cluster.start_all()
+        cluster.wait_until_ready(60)
+        load, connections = Load(cluster, LIVING, CLIENTS), Connections(cluster)
+        try:
+            go_on(load, connections, 0.25)
+            cluster.kill(DEAD)
+            say(f"node {DEAD} is killed")
+            go_on(load, connections, minutes)
+            if comes_back:
+                cluster.start(DEAD)
+                say(f"node {DEAD} is started again")
+            else:
+                retire(cluster, verdicts)
+            check_service(cluster, verdicts)
+            go_on(load, connections, 0.5)
+        finally:
+            load.end()
+        say("connections of one peer:")
+        for node, (count, peer) in connections.most.items():
+            verdicts.add(count <= MOST_OF_A_PEER, f"node {node}: at most {count} of one peer, node {peer}")
+        for fault in load.faults:
+            verdicts.add(False, fault)
+        for node, text in cluster.has_ended().items():
+            verdicts.add(False, f"node {node} ended: {text}")
+    sys.exit(not verdicts.is_good)
+
+
+if __name__ == "__main__":
+    main()
