@@ -125,7 +125,7 @@ refused-flood:
 	@python3 tools/refused_flood.py crates/ccnode/out/ccnode
 
 # Sends single frames in the name of a node that nobody knows, and of one that doesn't run, and shows what becomes of a
-# cluster and of its clients: two minutes at most.
+# cluster and of its clients: three minutes at most.
 stray-frames:
 	@$(BUILD) ccnode
 	@python3 tools/stray_frames.py crates/ccnode/out/ccnode

@@ -25,7 +25,7 @@ MOST_OF_A_PEER = 2
 RETIRED_WITHIN, SERVES_WITHIN = 2.0, 5.0
 SAMPLE, STEP = 1.0, 30.0
 # Whose the other end of a connection is, where it isn't a node's.
-CLIENT, UNKNOWN = "client", "unknown"
+CLIENT, UNKNOWN = "clients", "nobody who was seen"
 # The other end of a socket that listens.
 NO_END = "00000000:0000"
 
@@ -96,15 +96,20 @@ class Connections:
             time.sleep(SAMPLE)
 
     def tell(self):
-        """The node's descriptors, its threads and the most connections that one peer has to it, as last seen."""
-        for name, of in (("descriptors", self.files), ("threads", self.threads)):
-            say(f"    {name}: {' '.join(str(of[node]) for node in sorted(of))}")
-        of_peers = {node: [counts[peer] for peer in self.cluster.nodes] for node, counts in sorted(self.counts.items())}
-        say(f"    the most connections of one peer: {' '.join(str(max(counts)) for counts in of_peers.values())}")
+        """Each node's descriptors, threads and connections, as last seen."""
+        tell_row("descriptors", self.files)
+        tell_row("threads", self.threads)
+        for owner in (CLIENT, UNKNOWN):
+            tell_row(f"connections of {owner}", {node: counts[owner] for node, counts in self.counts.items()})
+        of_peers = {node: [counts[peer] for peer in self.cluster.nodes] for node, counts in self.counts.items()}
+        tell_row("the most connections of one peer", {node: max(counts) for node, counts in of_peers.items()})
         for node, counts in of_peers.items():
             if max(counts) > MOST_OF_A_PEER:
-                say(f"    node {node}, by peer: {' '.join(map(str, counts))}; of nobody that is known: "
-                    f"{self.counts[node][UNKNOWN]}")
+                say(f"    node {node}, by peer: {' '.join(map(str, counts))}")
+
+
+def tell_row(name, of_nodes):
+    say(f"    {name}: {' '.join(str(of_nodes[node]) for node in sorted(of_nodes))}")
 
 
 def go_on(load, connections, minutes):

@@ -4,10 +4,11 @@
     stray_frames.py crates/ccnode/out/ccnode
 
 A post of a node 99 that nobody knows, a Query or a JoinEcho, reaches one node of a cluster of one and of three: the node
-has to note it on standard error, and `ccnode retire` of 99 has to mend what it spoiled. How many stores are answered until
-then, and what `ccnode ask` prints, is printed. Then the smaller ones: a refused ask doesn't take another connection's
-reply, a client that ended its sending half gets its replies, a node that listens at port 0 tells its port, and a peer's
-newer connection ends its older one. It takes two minutes at most. The status is 1 where something isn't so.
+has to note it on standard error, and `ccnode retire` of 99, at once or once stores are held up, has to mend what it
+spoiled. How many stores are answered until then, and what `ccnode ask` prints, is printed. Then the smaller ones: a
+refused ask doesn't take another connection's reply, a client that ended its sending half gets its replies, a node that
+listens at port 0 tells its port, and a peer's newer connection ends its older one. It takes three minutes at most. The
+status is 1 where something isn't so.
 """
 import contextlib
 import re
@@ -19,6 +20,9 @@ import nodes
 from nodes import LOOPBACK, Cluster, NoAnswer, Session, Verdicts, client, end_on_signals, say
 
 STRAY = 99
+# What it sends: a question, and that it has become a member.
+QUESTION, MEMBER = "a Query", "a JoinEcho"
+MESSAGES = {QUESTION: nodes.query(1, STRAY), MEMBER: nodes.join_echo(STRAY)}
 # What a node says of an id that it hears of for the first time.
 HEARD_OF = r"node {node} heard of node {stray}, from 127\.0\.0\.1:(\d+)"
 RUNS_AT = r"node {node} runs at 127\.0\.0\.1:(\d+)"
@@ -72,27 +76,51 @@ def stores_until_held(cluster):
     return STORES
 
 
-def ask(cluster, session, seconds):
-    return cluster.does(["ask", cluster.address(1), str(session), "store", "x", "--timeout", str(seconds)])[1]
+def ask(cluster, node, session, seconds):
+    words = ["ask", cluster.address(node), str(session), "store", "x", "--timeout", str(seconds)]
+    return cluster.does(words)[1]
 
 
-def stray(verdicts, program, count, name, message):
+@contextlib.contextmanager
+def with_stray(verdicts, program, count, name):
+    """A cluster of which node 1 got a frame of the stray node, and what that is called."""
+    what = f"{name} of node {STRAY} at one of {count}"
     with Cluster(program, count) as cluster:
         cluster.start_all()
         cluster.wait_until_ready()
         with connected(cluster, 1) as connection:
             port = connection.getsockname()[1]
-            connection.sendall(nodes.post_frame(STRAY, 1, message))
+            connection.sendall(nodes.post_frame(STRAY, 1, MESSAGES[name]))
             noted = waited_for(cluster, 1, HEARD_OF.format(node=1, stray=STRAY))
-        what = f"{name} of node {STRAY} at one of {count}"
         verdicts.add(noted == port, f"{what}: the note names port {noted}, it came from {port}")
+        yield cluster, what
+
+
+def retire_all(verdicts, cluster, what):
+    lines = [cluster.does(["retire", cluster.address(node), str(STRAY)])[1] for node in cluster.nodes]
+    verdicts.add(set(lines) == {f"retired {STRAY}"}, f"{what}: retire at each node: {', '.join(lines)}")
+
+
+def retired_at_once(verdicts, program, count, name):
+    with with_stray(verdicts, program, count, name) as (cluster, what):
+        retire_all(verdicts, cluster, what)
         stores = stores_until_held(cluster)
-        say(f"    {stores} of {STORES} stores answered, then `ask`: {ask(cluster, 8, 4)}")
+        verdicts.add(stores == STORES, f"{what}, retired at once: {stores} of {STORES} stores answered")
+
+
+def retired_late(verdicts, program, count, name):
+    """A member that never answers holds an operation up for good that was begun before it was retired."""
+    with with_stray(verdicts, program, count, name) as (cluster, what):
+        say(f"    {what}: {stores_until_held(cluster)} of {STORES} stores answered")
         for node in cluster.nodes:
-            line = cluster.does(["retire", cluster.address(node), str(STRAY)])[1]
-            verdicts.add(line == f"retired {STRAY}", f"{what}: retire at node {node}: {line}")
-        line = ask(cluster, 9, 10)
-        verdicts.add(line == "Stored", f"{what}: after that `ask`: {line}")
+            say(f"    and then `ask` at node {node}: {ask(cluster, node, 8, 4)}")
+        retire_all(verdicts, cluster, what)
+        for node in cluster.nodes:
+            line = ask(cluster, node, 9, 10)
+            if name == MEMBER and node == 1:
+                say(f"    `ask` at node 1, which had a store under way: {line}")
+            else:
+                verdicts.add(line == "Stored", f"{what}: after that `ask` at node {node}: {line}")
 
 
 @contextlib.contextmanager
@@ -148,7 +176,7 @@ def port_of_its_own(verdicts, program):
         verdicts.add(port, f"a node that listens at port 0 tells port {port}")
         if port:
             cluster.ports[1] = port
-            line = ask(cluster, SESSION, 5)
+            line = ask(cluster, 1, SESSION, 5)
             verdicts.add(line == "Stored", f"asked there: {line}")
 
 
@@ -171,10 +199,10 @@ def one_connection(verdicts, program):
 def main():
     end_on_signals()
     program, verdicts = sys.argv[1], Verdicts()
-    messages = {"a Query": nodes.query(1, STRAY), "a JoinEcho": nodes.join_echo(STRAY)}
     for count in (1, 3):
-        for name, message in messages.items():
-            stray(verdicts, program, count, name, message)
+        for name in MESSAGES:
+            retired_at_once(verdicts, program, count, name)
+            retired_late(verdicts, program, count, name)
     for shown in (refused_ask, half_closed, port_of_its_own, one_connection):
         shown(verdicts, program)
     sys.exit(not verdicts.is_good)
