@@ -6,8 +6,9 @@
 A program that opens a file while a standard stream is closed may get that stream's descriptor, and then writes what it
 prints into the file. In each of the seven ways of closing a node is killed KILLS (10) times with SIGKILL while a client
 stores, after 200 answers each time, and opened again by `dump` and `run`: the number and the text of the last answered
-store have to be there, or those of the one under way, and `format` has to refuse the folder. The other commands run in
-the same ways, and may change no file but as they do with open streams. The status is 1 where something isn't so.
+store have to be there, or those of the one under way, and `format` has to refuse the folder. A node whose files can't grow
+has to end and leave them as well. The other commands run in the same ways, and may change no file but as they do with
+open streams. The status is 1 where something isn't so.
 """
 import itertools
 import random
@@ -20,6 +21,8 @@ import threading
 from nodes import LOOPBACK, Cluster, NoAnswer, Session, Verdicts, end_on_signals, say
 
 STORES = 200
+# How many blocks of 512 bytes a file has on a disk that is full.
+BLOCKS = 64
 NAMES = {0: "input", 1: "output", 2: "error"}
 WAYS = [way for count in (1, 2, 3) for way in itertools.combinations(NAMES, count)]
 FILES = ("lock", "side-a", "side-b")
@@ -113,7 +116,26 @@ def run_and_kill(program, way, kills):
             number = check_opened(cluster, answered)
             ahead += number - answered
             check_refuses_format(cluster)
-    return f"{kills} kills, {number - ahead} stores answered and found, and {ahead} that were under way"
+    return f"{number - ahead} stores answered and found over {kills} kills, and {ahead} more that were under way"
+
+
+def run_until_full(program, way):
+    """What is found after a node has ended by itself, since a file can't grow any more."""
+    with Cluster(program, 1) as cluster:
+        cluster.start(1, way, BLOCKS)
+        process, session, answered = cluster.running[1], Session(cluster.address(1), SESSION), 0
+        try:
+            while process.poll() is None and answered < 100 * STORES:
+                session.ask(["store", f"v{answered + 1}"], 5)
+                answered += 1
+        except NoAnswer:
+            pass
+        session.close()
+        status = process.wait(timeout=10)
+        cluster.kill(1)
+        check(status == 1, f"a node whose file can't grow ends with status {status}")
+        found = check_opened(cluster, answered)
+        return f"status {status}, {answered} stores answered and found, and {found - answered} more that was under way"
 
 
 def check_status(told, wanted, may_fail, name):
@@ -168,6 +190,7 @@ def commands_over_the_network(program, way):
 def try_way(verdicts, program, way, kills):
     tries = {
         "kills": lambda: run_and_kill(program, way, kills),
+        "a full disk": lambda: run_until_full(program, way),
         "commands on folders": lambda: f"statuses {commands_on_folders(program, way)}",
         "commands over the network": lambda: f"statuses {commands_over_the_network(program, way)}",
     }

@@ -50,30 +50,39 @@ def tcp_rows():
     return {row[9]: (row[1], row[2]) for row in rows if row[9] != "0"}
 
 
-class Connections:
-    """Which connections each node has accepted, by whose they are. One that its peer has closed is told by who was last
-    seen at its other end."""
+class Connections(threading.Thread):
+    """Looks once a second which connections each node has accepted, by whose they are. One that its peer has closed is told
+    by who was last seen at its other end."""
 
     def __init__(self, cluster):
+        super().__init__(daemon=True)
+        self.is_over = threading.Event()
         # Whose each connection is, by the two ends of it, its own first.
         self.cluster, self.owners = cluster, {}
         # Of each node: the counts by owner, its descriptors and its threads as last seen, and the most of one peer ever.
         self.counts, self.files, self.threads = {}, {}, {}
-        self.most = {node: (0, None) for node in LIVING}
+        self.most = {node: (0, 0) for node in LIVING}
+
+    def run(self):
+        while not self.is_over.wait(SAMPLE):
+            self.look()
+
+    def end(self):
+        self.is_over.set()
+        self.join()
 
     def look(self):
-        rows, held = tcp_rows(), {}
-        self.counts, self.files, self.threads = {}, {}, {}
-        for node, process in self.cluster.running.items():
+        rows, held, files, threads = tcp_rows(), {}, {}, {}
+        for node, process in list(self.cluster.running.items()):
             try:
-                inodes, self.files[node] = sockets_of(process.pid)
-                self.threads[node] = len(os.listdir(f"/proc/{process.pid}/task"))
+                inodes, files[node] = sockets_of(process.pid)
+                threads[node] = len(os.listdir(f"/proc/{process.pid}/task"))
             except OSError:
                 continue
             held[node] = [rows[inode] for inode in inodes if inode in rows]
         self.learn_owners(rows, held)
-        for node, ends in held.items():
-            self.count(node, ends)
+        self.files, self.threads = files, threads
+        self.counts = {node: self.count(node, ends) for node, ends in held.items()}
 
     def learn_owners(self, rows, held):
         mine, _ = sockets_of(os.getpid())
@@ -82,26 +91,23 @@ class Connections:
             self.owners.update(dict.fromkeys(ends, node))
 
     def count(self, node, ends):
-        """Counts the connections at the node's own port."""
+        """The connections at the node's own port, by owner."""
         port = f":{self.cluster.ports[node]:04X}"
         others = [(other, own) for own, other in ends if own.endswith(port) and other != NO_END]
-        self.counts[node] = collections.Counter(self.owners.get(ends, UNKNOWN) for ends in others)
-        of_peers = [(self.counts[node][peer], peer) for peer in self.cluster.nodes]
+        counts = collections.Counter(self.owners.get(ends, UNKNOWN) for ends in others)
         if node in self.most:
-            self.most[node] = max(self.most[node], max(of_peers), key=lambda it: it[0])
-
-    def sample_until(self, end):
-        while time.monotonic() < end:
-            self.look()
-            time.sleep(SAMPLE)
+            most = max((counts[peer], peer) for peer in self.cluster.nodes)
+            self.most[node] = max(self.most[node], most)
+        return counts
 
     def tell(self):
         """Each node's descriptors, threads and connections, as last seen."""
+        all_counts = self.counts
         tell_row("descriptors", self.files)
         tell_row("threads", self.threads)
         for owner in (CLIENT, UNKNOWN):
-            tell_row(f"connections of {owner}", {node: counts[owner] for node, counts in self.counts.items()})
-        of_peers = {node: [counts[peer] for peer in self.cluster.nodes] for node, counts in self.counts.items()}
+            tell_row(f"connections of {owner}", {node: counts[owner] for node, counts in all_counts.items()})
+        of_peers = {node: [counts[peer] for peer in self.cluster.nodes] for node, counts in all_counts.items()}
         tell_row("the most connections of one peer", {node: max(counts) for node, counts in of_peers.items()})
         for node, counts in of_peers.items():
             if max(counts) > MOST_OF_A_PEER:
@@ -118,7 +124,7 @@ def go_on(load, connections, minutes):
     end = start + 60 * minutes
     while time.monotonic() < end:
         before = load.total()
-        connections.sample_until(min(end, time.monotonic() + STEP))
+        time.sleep(max(0.0, min(STEP, end - time.monotonic())))
         refusals, breaks = (sum(getattr(it, name) for it in load.sessions) for name in ("refusals", "breaks"))
         say(f"  {time.monotonic() - start:.0f} s: {load.total() - before} operations answered since the last line; "
             f"refused so far: {refusals}, connections that broke: {breaks}")
@@ -164,6 +170,7 @@ def main():
         cluster.start_all()
         cluster.wait_until_ready(60)
         load, connections = Load(cluster, LIVING, CLIENTS), Connections(cluster)
+        connections.start()
         try:
             go_on(load, connections, 0.25)
             cluster.kill(DEAD)
@@ -178,6 +185,7 @@ def main():
             go_on(load, connections, 0.5)
         finally:
             load.end()
+            connections.end()
         say("connections of one peer:")
         for node, (count, peer) in connections.most.items():
             verdicts.add(count <= MOST_OF_A_PEER, f"node {node}: at most {count} of one peer, node {peer}")

@@ -93,12 +93,12 @@ class Cluster:
         peers = ",".join(f"{peer}={self.way(node, peer)}" for peer in self.nodes if peer != node)
         return ["run", f"node-{node}", "--listen", self.address(node), *(["--peers", peers] if peers else [])]
 
-    def start(self, node, closed=()):
-        """Starts a node, with these of its standard streams closed."""
+    def start(self, node, closed=(), blocks=None):
+        """Starts a node, with these of its standard streams closed, and where its files may have so many blocks alone."""
         settings = {**os.environ, "LD_PRELOAD": self.preloads[node]} if node in self.preloads else None
         with open(self.folder / f"log-{node}", "ab") as log:
             self.running[node] = subprocess.Popen(
-                without_streams(closed, [self.program, *self.run_words(node)]), cwd=self.folder,
+                limited([self.program, *self.run_words(node)], closed, blocks), cwd=self.folder,
                 stdin=subprocess.DEVNULL, stdout=log, stderr=log, env=settings, start_new_session=True,
             )
 
@@ -109,8 +109,8 @@ class Cluster:
     def does(self, words, closed=(), stdin=subprocess.DEVNULL):
         """The status of a command of the program that ends by itself, and what it prints."""
         done = subprocess.run(
-            without_streams(closed, [self.program, *words]), cwd=self.folder, stdin=stdin, capture_output=True,
-            text=True, timeout=60,
+            limited([self.program, *words], closed), cwd=self.folder, stdin=stdin, capture_output=True, text=True,
+            timeout=60,
         )
         return done.returncode, (done.stdout + done.stderr).strip()
 
@@ -146,10 +146,12 @@ class Cluster:
         return tuple(int(rows[name].split()[0]) for name in ("VmRSS", "VmHWM"))
 
 
-def without_streams(closed, words):
-    """The words that run a program with these of its descriptors 0, 1 and 2 closed, as a shell closes them."""
+def limited(words, closed, blocks=None):
+    """The words that run a program with these of its descriptors 0, 1 and 2 closed, as a shell closes them, and with files
+    of at most so many blocks of 512 bytes: writes beyond that fail, as on a full disk."""
     closing = " ".join(f"{stream}>&-" for stream in closed)
-    return ["sh", "-c", f'exec "$0" "$@" {closing}', *words] if closed else words
+    limit = f"trap '' XFSZ; ulimit -f {blocks}; " if blocks else ""
+    return ["sh", "-c", f'{limit}exec "$0" "$@" {closing}', *words] if closed or blocks else words
 
 
 def processor_seconds(pid):
