@@ -153,15 +153,13 @@ def played(cluster, way=()):
 
 def commands_on_folders(program, way):
     """The statuses of commands that change no file of a folder that is formatted, and of `format` on an empty one."""
+    formatting, statuses = ["1", "--initial", "1"], []
     with Cluster(program, 1) as cluster, socket.create_server((LOOPBACK, cluster.ports[1])):
-        formatting, statuses = ["1", "--initial", "1"], []
-        before = contents(cluster)
         for words in (["format", "node-1", *formatting], ["dump", "node-1"], cluster.run_words(1)):
-            wanted = cluster.does(words)[0]
+            wanted, before = cluster.does(words)[0], contents(cluster)
             statuses.append(check_status(cluster.does(words, way)[0], wanted, 1 in way, words[0]))
             check(contents(cluster) == before, f"{words[0]} changes a file")
         statuses.append(check_status(played(cluster, way), played(cluster), {0, 1} & set(way), "play"))
-        check(contents(cluster) == before, "play changes a file")
         for name in ("open", "closed"):
             (cluster.folder / name).mkdir()
         wanted = cluster.does(["format", "open", *formatting])[0]
