@@ -1,6 +1,6 @@
 # The commands of the README. The toolchain is Rattle's kit, with its command rt on the PATH.
 .PHONY: try run install test check bench edits refused-growths failing-calls kill-files cluster load kill-cluster soak \
-    hostile many-sessions stale-collects costs worked-rows
+    hostile closed-streams dead-member refused-flood stray-frames many-sessions costs worked-rows
 
 # Plays the script that ships with the program before any proof.
 try:
@@ -103,6 +103,32 @@ soak:
 hostile:
 	@$(BUILD) ccnode
 	@python3 tools/hostile.py crates/ccnode/out/ccnode
+
+# Runs a node with its standard streams closed in all seven ways, kills it KILLS times in each while a client stores, and
+# checks that what was answered is there, and that no command writes into a file of its folder: three minutes.
+closed-streams: KILLS = 10
+closed-streams:
+	@$(BUILD) ccnode
+	@python3 tools/closed_streams.py crates/ccnode/out/ccnode $(KILLS)
+
+# Runs thirteen nodes under load, kills one and leaves it dead for MINUTES, counts the connections of each peer, and has the
+# others retire it: a quarter of an hour. With RETURN=1 it is started again in place of that.
+MINUTES = 15
+RETURN =
+dead-member:
+	@$(BUILD) ccnode
+	@python3 tools/dead_member.py crates/ccnode/out/ccnode $(MINUTES) $(if $(RETURN),return)
+
+# Has 300 connections send frames that a node refuses, and times a client's refusals and stores meanwhile: half a minute.
+refused-flood:
+	@$(BUILD) ccnode
+	@python3 tools/refused_flood.py crates/ccnode/out/ccnode
+
+# Sends single frames in the name of a node that nobody knows, and of one that doesn't run, and shows what becomes of a
+# cluster and of its clients: three minutes at most.
+stray-frames:
+	@$(BUILD) ccnode
+	@python3 tools/stray_frames.py crates/ccnode/out/ccnode
 
 # Plays a script of nearly 10,000 lines over 16 nodes with four sessions each, and checks the answers: half a minute.
 many-sessions:

@@ -1,4 +1,5 @@
-"""Nodes of a cluster on loopback, in a fresh folder, and clients of them: what the tools beside this file share.
+"""Nodes of a cluster on loopback, in a fresh folder, clients of them, and frames that a peer sends: what the tools beside
+this file share.
 
 A Cluster ends all that it started when its `with` block is left, in whichever way.
 """
@@ -8,9 +9,11 @@ import random
 import shutil
 import signal
 import socket
+import struct
 import subprocess
 import sys
 import tempfile
+import threading
 import time
 
 HERE = pathlib.Path(__file__).resolve().parent
@@ -86,15 +89,30 @@ class Cluster:
         """Where a node reaches a peer. Relays put themselves between."""
         return self.address(peer)
 
-    def start(self, node):
+    def run_words(self, node):
         peers = ",".join(f"{peer}={self.way(node, peer)}" for peer in self.nodes if peer != node)
-        words = ["run", f"node-{node}", "--listen", self.address(node), *(["--peers", peers] if peers else [])]
+        return ["run", f"node-{node}", "--listen", self.address(node), *(["--peers", peers] if peers else [])]
+
+    def start(self, node, closed=(), blocks=None):
+        """Starts a node, with these of its standard streams closed, and where its files may have so many blocks alone."""
         settings = {**os.environ, "LD_PRELOAD": self.preloads[node]} if node in self.preloads else None
         with open(self.folder / f"log-{node}", "ab") as log:
             self.running[node] = subprocess.Popen(
-                [self.program, *words], cwd=self.folder, stdin=subprocess.DEVNULL, stdout=log, stderr=log,
-                env=settings, start_new_session=True,
+                limited([self.program, *self.run_words(node)], closed, blocks), cwd=self.folder,
+                stdin=subprocess.DEVNULL, stdout=log, stderr=log, env=settings, start_new_session=True,
             )
+
+    def log(self, node):
+        """What a node has said since the cluster was made."""
+        return (self.folder / f"log-{node}").read_text()
+
+    def does(self, words, closed=(), stdin=subprocess.DEVNULL):
+        """The status of a command of the program that ends by itself, and what it prints."""
+        done = subprocess.run(
+            limited([self.program, *words], closed), cwd=self.folder, stdin=stdin, capture_output=True, text=True,
+            timeout=60,
+        )
+        return done.returncode, (done.stdout + done.stderr).strip()
 
     def start_all(self):
         for node in self.nodes:
@@ -116,7 +134,7 @@ class Cluster:
     def has_ended(self):
         """The nodes that ended by themselves, and what they said."""
         dead = [node for node, process in self.running.items() if process.poll() is not None]
-        return {node: (self.folder / f"log-{node}").read_text().strip().splitlines()[-1:] for node in dead}
+        return {node: self.log(node).strip().splitlines()[-1:] for node in dead}
 
     def processor_seconds(self):
         return sum(processor_seconds(process.pid) for process in self.running.values())
@@ -126,6 +144,14 @@ class Cluster:
         lines = pathlib.Path(f"/proc/{self.running[node].pid}/status").read_text().splitlines()
         rows = dict(line.split(":", 1) for line in lines)
         return tuple(int(rows[name].split()[0]) for name in ("VmRSS", "VmHWM"))
+
+
+def limited(words, closed, blocks=None):
+    """The words that run a program with these of its descriptors 0, 1 and 2 closed, as a shell closes them, and with files
+    of at most so many blocks of 512 bytes: writes beyond that fail, as on a full disk."""
+    closing = " ".join(f"{stream}>&-" for stream in closed)
+    limit = f"trap '' XFSZ; ulimit -f {blocks}; " if blocks else ""
+    return ["sh", "-c", f'{limit}exec "$0" "$@" {closing}', *words] if closed or blocks else words
 
 
 def processor_seconds(pid):
@@ -146,8 +172,8 @@ class Session:
         # After how many seconds without an answer it connects again.
         self.patience = patience
         self.connection, self.request = None, None
-        # Why it was refused last, the connections that broke, and until when it goes on asking.
-        self.refusal, self.breaks, self.is_over = None, 0, False
+        # Why it was refused last, the refusals and the connections that broke, and until when it goes on asking.
+        self.refusal, self.refusals, self.breaks, self.is_over = None, 0, 0, False
 
     def close(self):
         if self.connection:
@@ -180,6 +206,7 @@ class Session:
                 answer, self.refusal, last = client.answer_to(self.connection, self.number, self.request, command)
                 if answer:
                     return answer
+                self.refusals += 1
                 if self.refusal not in PASSING:
                     raise NoAnswer(f"session {self.number}, request {self.request}: refused {self.refusal} {last}")
                 time.sleep(0.02)
@@ -188,3 +215,72 @@ class Session:
                 self.close()
                 time.sleep(0.01 + random.random() * 0.04)
         raise NoAnswer(f"session {self.number}: no answer to {' '.join(words)} in {seconds} s")
+
+
+class Load:
+    """Clients of these nodes that store and collect by turns, and how many answers those of each node got."""
+
+    def __init__(self, cluster, nodes, clients):
+        self.answers = {node: 0 for node in nodes}
+        self.sessions, self.faults = [], []
+        self.lock = threading.Lock()
+        for node in nodes:
+            for place in range(clients):
+                session = Session(cluster.address(node), 100 * node + place, patience=15.0)
+                self.sessions.append(session)
+                threading.Thread(target=self.run, args=(node, session), daemon=True).start()
+
+    def run(self, node, session):
+        count = 0
+        while not session.is_over:
+            count += 1
+            try:
+                session.ask(["collect"] if count % 4 == 0 else ["store", f"w{count}"], 3600)
+            except NoAnswer as why:
+                if not session.is_over:
+                    self.faults.append(str(why))
+                return
+            with self.lock:
+                self.answers[node] += 1
+
+    def end(self):
+        for session in self.sessions:
+            session.is_over = True
+
+    def total(self):
+        return sum(self.answers.values())
+
+
+class Verdicts:
+    """What holds and what doesn't, told line by line."""
+
+    def __init__(self):
+        self.lines, self.is_good = [], True
+
+    def add(self, is_good, text):
+        self.is_good &= bool(is_good)
+        self.lines.append(f"{'ok ' if is_good else 'NOT'} {text}")
+        say(self.lines[-1])
+
+
+# Frames that a peer sends, by docs/FORMATS.md. Those of a client are the example client's.
+
+
+def framed(body):
+    return struct.pack(">I", len(body)) + body
+
+
+def post_frame(sender, number, message):
+    return framed(b"\x01" + struct.pack(">IQ", sender, number) + message)
+
+
+def ack_frame(sender, number):
+    return framed(b"\x02" + struct.pack(">IQ", sender, number))
+
+
+def join_echo(node):
+    return b"\x04" + struct.pack(">I", node)
+
+
+def query(tag, node):
+    return b"\x07" + struct.pack(">QI", tag, node)

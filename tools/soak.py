@@ -10,10 +10,9 @@ are told then, and `ccnode retire` at the others. It needs a C compiler. The sta
 import signal
 import subprocess
 import sys
-import threading
 import time
 
-from nodes import HERE, Cluster, NoAnswer, Session, end_on_signals, free_ports, say, slow_sync
+from nodes import HERE, Cluster, Load, Verdicts, end_on_signals, free_ports, say, slow_sync
 
 CLIENTS = 8
 GOES_ON_WITHIN = 5.0
@@ -22,38 +21,8 @@ NODES = range(1, 6)
 TOLD = ("no answer", "refused 15 OutboxFull")
 
 
-class Load:
-    """Clients that store and collect by turns, and how many answers those of each node got."""
-
-    def __init__(self, cluster):
-        self.answers = {node: 0 for node in cluster.nodes}
-        self.sessions, self.faults, self.refused = [], [], 0
-        self.lock = threading.Lock()
-        for node in cluster.nodes:
-            for place in range(CLIENTS):
-                session = Session(cluster.address(node), 100 * node + place, patience=15.0)
-                self.sessions.append(session)
-                threading.Thread(target=self.run, args=(node, session), daemon=True).start()
-
-    def run(self, node, session):
-        count = 0
-        while not session.is_over:
-            count += 1
-            try:
-                session.ask(["collect"] if count % 4 == 0 else ["store", f"w{count}"], 600)
-            except NoAnswer as why:
-                if not session.is_over:
-                    self.faults.append(str(why))
-                return
-            with self.lock:
-                self.answers[node] += 1
-
-    def end(self):
-        for session in self.sessions:
-            session.is_over = True
-
-    def total(self):
-        return sum(self.answers.values())
+class WatchedLoad(Load):
+    """A load whose operations a second are printed."""
 
     def watch(self, label, seconds, step=5.0):
         """Prints operations a second over time. The least of them."""
@@ -78,22 +47,13 @@ class Load:
         return first, None if left else time.monotonic() - start
 
 
-class Verdicts:
-    def __init__(self):
-        self.lines, self.is_good = [], True
-
-    def add(self, is_good, text):
-        self.is_good &= bool(is_good)
-        self.lines.append(f"{'ok ' if is_good else 'NOT'} {text}")
-        say(self.lines[-1])
-
-    def goes_on(self, load, nodes, after):
-        first, everywhere = load.goes_on(nodes)
-        told = [f"{seconds:.1f} s" if seconds is not None else "not in 30 s" for seconds in (first, everywhere)]
-        self.add(
-            everywhere is not None and everywhere <= GOES_ON_WITHIN,
-            f"{after}: operations go on after {told[0]}, at each node that runs after {told[1]}",
-        )
+def judge_going_on(verdicts, load, nodes, after):
+    first, everywhere = load.goes_on(nodes)
+    told = [f"{seconds:.1f} s" if seconds is not None else "not in 30 s" for seconds in (first, everywhere)]
+    verdicts.add(
+        everywhere is not None and everywhere <= GOES_ON_WITHIN,
+        f"{after}: operations go on after {told[0]}, at each node that runs after {told[1]}",
+    )
 
 
 class RelayedCluster(Cluster):
@@ -132,7 +92,7 @@ def slow_and_stopped(program, verdicts):
         cluster.start_all()
         cluster.wait_until_ready(60)
         say("node 5's syncs take five milliseconds more")
-        load = Load(cluster)
+        load = WatchedLoad(cluster, cluster.nodes, CLIENTS)
         try:
             least = load.watch("one slow disk", 60)
             verdicts.add(least > 0, f"a slow disk: at least {least:.0f} operations a second in each five seconds of a minute")
@@ -140,7 +100,7 @@ def slow_and_stopped(program, verdicts):
             cluster.signal(2, signal.SIGSTOP)
             load.watch("node 2 stopped", 20)
             cluster.signal(2, signal.SIGCONT)
-            verdicts.goes_on(load, cluster.nodes, "node 2 continued")
+            judge_going_on(verdicts, load, cluster.nodes, "node 2 continued")
             load.watch("node 2 goes on", 10)
             report(cluster, load, verdicts)
         finally:
@@ -152,14 +112,14 @@ def halves_and_dead(program, verdicts):
         cluster.start_relays()
         cluster.start_all()
         cluster.wait_until_ready(60)
-        load = Load(cluster)
+        load = WatchedLoad(cluster, cluster.nodes, CLIENTS)
         try:
             load.watch("all reach each other", 5)
             say("1 and 2 can't reach 3, 4 and 5 for 10 seconds")
             cluster.command("cut 1,2")
             load.watch("two halves", 10)
             cluster.command("join")
-            verdicts.goes_on(load, cluster.nodes, "the halves joined")
+            judge_going_on(verdicts, load, cluster.nodes, "the halves joined")
             load.watch("joined", 10)
             dead_for_good(cluster, load, verdicts)
             report(cluster, load, verdicts)
@@ -171,17 +131,13 @@ def dead_for_good(cluster, load, verdicts):
     say("node 5 is killed for good")
     cluster.kill(5)
     load.watch("node 5 dead", 20)
-    told = printed(cluster, ["ask", cluster.address(1), "999", "store", "x", "--timeout", "30"])
+    told = cluster.does(["ask", cluster.address(1), "999", "store", "x", "--timeout", "30"])[1]
     verdicts.add(told in TOLD, f"what a client of node 1 is told then, after 30 seconds: {told}")
     for node in (1, 2, 3, 4):
-        verdicts.add(printed(cluster, ["retire", cluster.address(node), "5"]) == "retired 5", f"node {node} was told to retire 5")
-    verdicts.goes_on(load, (1, 2, 3, 4), "node 5 retired")
+        told = cluster.does(["retire", cluster.address(node), "5"])[1]
+        verdicts.add(told == "retired 5", f"node {node} was told to retire 5")
+    judge_going_on(verdicts, load, (1, 2, 3, 4), "node 5 retired")
     load.watch("node 5 retired", 10)
-
-
-def printed(cluster, words):
-    done = subprocess.run([cluster.program, *words], capture_output=True, text=True, timeout=60)
-    return (done.stdout + done.stderr).strip()
 
 
 def report(cluster, load, verdicts):
