@@ -1,6 +1,6 @@
 # The commands of the README. The toolchain is Rattle's kit, with its command rt on the PATH.
 .PHONY: try run install test check bench edits refused-growths failing-calls kill-files cluster load kill-cluster soak \
-    hostile closed-streams dead-member refused-flood stray-frames many-sessions costs worked-rows
+    hostile closed-streams dead-member refused-flood stray-frames many-sessions stale-collects costs worked-rows trusted
 
 # Plays the script that ships with the program before any proof.
 try:
@@ -152,3 +152,8 @@ costs:
 # crate.
 worked-rows:
 	@bash tools/worked_rows.sh
+
+# Computes which definitions a reader of docs/THEOREMS.md has to trust, and compares them with the page's list. It proves
+# nothing, and takes a second.
+trusted:
+	@python3 tools/trusted.py

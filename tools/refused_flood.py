@@ -3,8 +3,8 @@
 
     refused_flood.py crates/ccnode/out/ccnode
 
-The frames are acknowledgements of what was never sent: they are refused and answered nothing. Each connection has as many
-of them waiting as its buffers take, for 20 seconds. One client asks under number 0, which is always refused, and one
+The frames are acknowledgements of what was never sent, each connection's in the name of another node: they are refused and
+answered nothing. Each connection has as many of them waiting as its buffers take, for 20 seconds. One client asks under number 0, which is always refused, and one
 stores. It prints the longest of each, before the flood and during it, and takes half a minute. The status is 1 where one
 took more than half a second, or the node closed a connection of the flood.
 """
@@ -20,8 +20,9 @@ from nodes import Cluster, Session, Verdicts, client, say
 CONNECTIONS = 300
 SECONDS = 20.0
 LIMIT = 0.5
-# What a write takes of the flood at most, in frames, and what a connection's own buffer holds, in bytes.
-PIECE, BUFFER = 4_000, 262_144
+# What a write takes of the flood at most, in frames, what a connection's own buffer holds, in bytes, and the first of the
+# nodes in whose names the frames are.
+PIECE, BUFFER, FIRST = 4_000, 262_144, 1_000
 
 
 class Flood(threading.Thread):
@@ -30,16 +31,15 @@ class Flood(threading.Thread):
     def __init__(self, address):
         super().__init__(daemon=True)
         host, port = address.rsplit(":", 1)
-        self.frame = nodes.ack_frame(1, 2**60)
-        self.piece = memoryview(self.frame * PIECE)
-        self.connections, self.sent = {}, 0
+        self.connections, self.sent, self.size = {}, 0, len(nodes.ack_frame(FIRST, 2**60))
         self.is_full, self.is_over = threading.Event(), threading.Event()
         self.poll = select.poll()
-        for _ in range(CONNECTIONS):
+        for node in range(FIRST, FIRST + CONNECTIONS):
             connection = socket.create_connection((host, int(port)), timeout=10)
             connection.setsockopt(socket.SOL_SOCKET, socket.SO_SNDBUF, BUFFER)
             connection.setblocking(False)
-            self.connections[connection.fileno()] = [connection, 0]
+            piece = memoryview(nodes.ack_frame(node, 2**60) * PIECE)
+            self.connections[connection.fileno()] = [connection, piece, 0]
             self.poll.register(connection, select.POLLOUT)
 
     def run(self):
@@ -52,9 +52,9 @@ class Flood(threading.Thread):
 
     def send(self, file):
         """Sends what the connection takes, on from the middle of a frame where the last write ended there."""
-        connection, place = self.connections[file]
+        connection, piece, place = self.connections[file]
         try:
-            sent = connection.send(self.piece[place:])
+            sent = connection.send(piece[place:])
         except BlockingIOError:
             return
         except OSError:
@@ -63,12 +63,12 @@ class Flood(threading.Thread):
             del self.connections[file]
             return
         self.sent += sent
-        self.connections[file][1] = (place + sent) % len(self.frame)
+        self.connections[file][2] = (place + sent) % self.size
 
     def end(self):
         self.is_over.set()
         self.join()
-        for connection, _ in self.connections.values():
+        for connection, *_ in self.connections.values():
             connection.close()
 
 
@@ -128,12 +128,12 @@ def main(program):
         flood.start()
         flood.is_full.wait(10)
         sent = flood.sent
-        say(f"{len(flood.connections)} connections, {sent // len(flood.frame)} frames on their way")
+        say(f"{len(flood.connections)} connections, {sent // flood.size} frames on their way")
         measure(cluster, SECONDS, verdicts, "during the flood")
         left = len(flood.connections)
         flood.end()
         verdicts.add(left == CONNECTIONS, f"{left} of {CONNECTIONS} connections of the flood are open")
-        say(f"{(flood.sent - sent) // len(flood.frame)} frames more were taken meanwhile")
+        say(f"{(flood.sent - sent) // flood.size} frames more were taken meanwhile")
         measure(cluster, 3.0, verdicts, "afterwards")
         verdicts.add(not cluster.has_ended(), "the node runs")
     sys.exit(not verdicts.is_good)

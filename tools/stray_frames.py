@@ -24,7 +24,7 @@ STRAY = 99
 QUESTION, MEMBER = "a Query", "a JoinEcho"
 MESSAGES = {QUESTION: nodes.query(1, STRAY), MEMBER: nodes.join_echo(STRAY)}
 # What a node says of an id that it hears of for the first time.
-HEARD_OF = r"node {node} heard of node {stray}, from 127\.0\.0\.1:(\d+)"
+HEARD_OF = r"node {node} heard of node {stray}, which is none of its peers, from 127\.0\.0\.1:(\d+)"
 RUNS_AT = r"node {node} runs at 127\.0\.0\.1:(\d+)"
 # How many stores are tried after a stray frame, and how long one may take before it counts as held up, in seconds.
 STORES, PATIENCE = 300, 3.0
@@ -185,15 +185,17 @@ def one_connection(verdicts, program):
     with Cluster(program, 2) as cluster:
         cluster.start(1)
         waited_for(cluster, 1, RUNS_AT.format(node=1))
-        with connected(cluster, 1) as older, connected(cluster, 1) as newer:
+        with connected(cluster, 1) as older:
             older.sendall(nodes.post_frame(2, 1, nodes.query(1, 2)))
             line = told(older, 1)
             verdicts.add(line == NOTHING, f"a connection of node 2, alone: {line}")
+            newer = connected(cluster, 1)
             newer.sendall(nodes.post_frame(2, 2, nodes.query(2, 2)))
             line = told(older, 5)
             verdicts.add(line == CLOSED, f"once there is a newer one of node 2, the older one: {line}")
             line = told(newer, 1)
             verdicts.add(line == NOTHING, f"and the newer one: {line}")
+            newer.close()
 
 
 def main():

@@ -20,7 +20,7 @@ use Rattle.cc_intake.specs.Turns.{IsDone, Gathers, Turns}
 use Rattle.cc_intake.proofs.Batches.{HandedOn, hands_on}
 use Rattle.cc_intake.proofs.Flushed.{flushed_none}
 
-module _ {D : Type 0} (s : Ghosts D) (reached : List Entry → Type 0) where
+module _ {D : Type 0} (s : Ghosts D) (reached : ℕ → List Entry → Type 0) where
   abbrev IsTurn : Turning D → Turning D → Result Turned Failed → Type 0
   IsTurn = Turns s reached
 

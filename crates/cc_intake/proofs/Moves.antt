@@ -34,7 +34,7 @@ all_snoc F views w old new j u e = ⊎_elim (λ (x : get_elem? views j ≡ some 
 off : false ≡ true → ⊥
 off e = true≢false (sym e)
 
-pub begins : (opening : Node) (reached taken : List Entry → Type 0) → reached [] × taken [] → IsOneLine opening reached taken [] (newcomer ∷ [])
+pub begins : (opening : Node) (reached taken : ℕ → List Entry → Type 0) → ((look : ℕ) → reached look [] × taken look []) → IsOneLine opening reached taken [] (newcomer ∷ [])
 begins opening reached taken start = record {
   pusher = 0;
   popper = 0;
@@ -43,8 +43,8 @@ begins opening reached taken start = record {
   whole = refl;
   lawful = tt;
   limit = omega arith;
-  here = start.0;
-  there = start.1;
+  here = λ look. (start look).0;
+  there = λ look. (start look).1;
   knows = one;
 }
   where
@@ -52,8 +52,8 @@ begins opening reached taken start = record {
     one zero v e = subst (Knows 0 0 [] [] 0) (some-injective _ _ e) ((λ _. (refl, refl)), (λ _. (refl, refl)))
     one (suc j) v e = absurd (some-ne-none v (sym e))
 
-pub pushes : (opening : Node) (reached taken : List Entry → Type 0) (n port : ℕ) (v : PassView) (x : Entry)
-    → v.pushes ≡ true → length v.sent < life_limit → decides (core_after opening v.sent) x.event ≡ None → x.made ≡ made (core_after opening v.sent) x.event → reached (v.sent ++ x ∷ [])
+pub pushes : (opening : Node) (reached taken : ℕ → List Entry → Type 0) (n port : ℕ) (v : PassView) (x : Entry)
+    → v.pushes ≡ true → length v.sent < life_limit → decides (core_after opening v.sent) x.event ≡ None → x.made ≡ made (core_after opening v.sent) x.event → ((look : ℕ) → reached look (v.sent ++ x ∷ []))
     → Pushes (IsOneLine opening reached taken) n port v x (Pushed v x)
 pushes opening reached taken n port v x may room accepted its_made reach items views _ h at =
     let w : PassView = pass_view v.pushes v.pops (v.sent ++ x ∷ []) v.got v.finds in
@@ -69,7 +69,7 @@ pushes opening reached taken n port v x may room accepted its_made reach items v
         whole = ap (λ l. l ++ x ∷ []) h.whole ∙ append_assoc h.got items (x ∷ []);
         lawful = lawful_both opening h.sent (x ∷ []) h.lawful
             (subst (λ (l : List Entry). decides (core_after opening l) x.event ≡ None) is accepted, subst (λ (l : List Entry). x.made ≡ made (core_after opening l) x.event) is its_made, tt);
-        here = subst (λ (l : List Entry). reached (l ++ x ∷ [])) is reach;
+        here = λ look. subst (λ (l : List Entry). reached look (l ++ x ∷ [])) is (reach look);
         there = h.there;
         limit = subst (λ (l : List Entry). length (l ++ x ∷ []) ≤ life_limit) is (omega (arith, length-append v.sent (x ∷ [])));
         knows = all_set (Knows h.pusher h.popper sent h.got) views port w ((λ _. ((mine.0 may).0, ap (λ l. l ++ x ∷ []) is)), mine.1)
@@ -78,10 +78,10 @@ pushes opening reached taken n port v x may room accepted its_made reach items v
       refl,
     )
 
-pub full_learns : (opening : Node) (reached taken : List Entry → Type 0) (port : ℕ) (v : PassView) → v.pushes ≡ true → Learns (IsOneLine opening reached taken) port v (WasRest taken v.sent)
-full_learns opening reached taken port v may items views h at = (h.got, ((h.knows port v at).0 may).1 ∙ h.whole, h.there)
+pub full_learns : (opening : Node) (reached taken : ℕ → List Entry → Type 0) (port : ℕ) (v : PassView) → v.pushes ≡ true → Learns (IsOneLine opening reached taken) port v (WasRest taken v.finds v.sent)
+full_learns opening reached taken port v may items views h at = (h.got, ((h.knows port v at).0 may).1 ∙ h.whole, h.there v.finds)
 
-pub pops : (opening : Node) (reached taken : List Entry → Type 0) (port : ℕ) (v : PassView) → v.pops ≡ true → ((l : List Entry) → taken l) → Pops (IsOneLine opening reached taken) port v (Popped opening v)
+pub pops : (opening : Node) (reached taken : ℕ → List Entry → Type 0) (port : ℕ) (v : PassView) → v.pops ≡ true → ((look : ℕ) (l : List Entry) → taken look l) → Pops (IsOneLine opening reached taken) port v (Popped opening v)
 pops opening reached taken port v may take x items views h at =
     let w : PassView = pass_view v.pushes v.pops v.sent (v.got ++ x ∷ []) v.finds in
     let mine = h.knows port v at in
@@ -98,7 +98,7 @@ pops opening reached taken port v may take x items views h at =
         lawful = h.lawful;
         limit = h.limit;
         here = h.here;
-        there = take got;
+        there = λ look. take look got;
         knows = all_set (Knows h.pusher h.popper h.sent got) views port w (mine.0, (λ _. ((mine.1 may).0, ap (λ l. l ++ x ∷ []) is)))
             (λ j u other e. ((h.knows j u e).0, λ p. absurd (other (((h.knows j u e).1 p).0 ∙ sym (mine.1 may).0))));
       },
@@ -110,7 +110,7 @@ pops opening reached taken port v may take x items views h at =
     )
 
 -- the same lists, as other passes know them
-known_by : {opening : Node} {reached taken : List Entry → Type 0} {items : List Entry} {views : List PassView} (h : IsOneLine opening reached taken items views) (pusher popper : ℕ) (views' : List PassView)
+known_by : {opening : Node} {reached taken : ℕ → List Entry → Type 0} {items : List Entry} {views : List PassView} (h : IsOneLine opening reached taken items views) (pusher popper : ℕ) (views' : List PassView)
     → All (Knows pusher popper h.sent h.got) views' → IsOneLine opening reached taken items views'
 known_by h pusher popper views' knows = record {
   pusher = pusher;
@@ -126,13 +126,13 @@ known_by h pusher popper views' knows = record {
 }
 
 -- a find changes nothing but the count
-pub finds : (opening : Node) (reached taken : List Entry → Type 0) (port : ℕ) (v : PassView) → Forks (IsOneLine opening reached taken) port v (found v) nobody
+pub finds : (opening : Node) (reached taken : ℕ → List Entry → Type 0) (port : ℕ) (v : PassView) → Forks (IsOneLine opening reached taken) port v (found v) nobody
 finds opening reached taken port v items views h at = known_by h h.pusher h.popper _
     (all_snoc (Knows h.pusher h.popper h.sent h.got) (set views port (found v)) nobody
     (all_set (Knows h.pusher h.popper h.sent h.got) views port (found v) (h.knows port v at) (λ j u other e. h.knows j u e))
     (λ j. ((λ p. absurd (off p)), (λ p. absurd (off p)))))
 
-pub forks : (opening : Node) (reached taken : List Entry → Type 0) (port : ℕ) (v : PassView) → v.pushes ≡ true → v.pops ≡ true → Forks (IsOneLine opening reached taken) port v (producer v.sent v.finds) (consumer v.got 0)
+pub forks : (opening : Node) (reached taken : ℕ → List Entry → Type 0) (port : ℕ) (v : PassView) → v.pushes ≡ true → v.pops ≡ true → Forks (IsOneLine opening reached taken) port v (producer v.sent v.finds) (consumer v.got 0)
 forks opening reached taken port v a b items views h at =
     let l : PassView = producer v.sent v.finds in
     let r : PassView = consumer v.got 0 in
@@ -144,7 +144,7 @@ forks opening reached taken port v a b items views h at =
     (λ j u e. ⊎_elim (λ x. ((old j u x).0, λ p. absurd ((old j u x).1 p)))
     (λ (is : r ≡ u). ((λ p. absurd (off (ap (λ (y : PassView). y.pushes) is ∙ p))), λ p. (at_end vs r u j (λ x. (old j u x).1 p) e, ap (λ (y : PassView). y.got) (sym is) ∙ (mine.1 b).1))) (at_snoc vs r u j e))
 
-pub merges : (opening : Node) (reached taken : List Entry → Type 0) (port : ℕ) (v : PassView) (other : ℕ) (u : PassView) → v.pushes ≡ true → u.pops ≡ true → Merges (IsOneLine opening reached taken) port v other u (both v u) nobody
+pub merges : (opening : Node) (reached taken : ℕ → List Entry → Type 0) (port : ℕ) (v : PassView) (other : ℕ) (u : PassView) → v.pushes ≡ true → u.pops ≡ true → Merges (IsOneLine opening reached taken) port v other u (both v u) nobody
 merges opening reached taken port v other u a b items views h at two at' =
     let w : PassView = both v u in
     let mine = h.knows port v at in
@@ -156,13 +156,13 @@ merges opening reached taken port v other u a b items views h at two at' =
     known_by h h.pusher port _
     (all_set (Knows h.pusher port h.sent h.got) vs other nobody ((λ p. absurd (off p)), λ p. absurd (off p)) (λ j y apart e. now j y e apart))
 
-pub whole_learns : (opening : Node) (reached taken : List Entry → Type 0) (port : ℕ) (v : PassView) → v.pushes ≡ true → v.pops ≡ true → Learns (IsOneLine opening reached taken) port v (λ items. v.sent ≡ v.got ++ items)
+pub whole_learns : (opening : Node) (reached taken : ℕ → List Entry → Type 0) (port : ℕ) (v : PassView) → v.pushes ≡ true → v.pops ≡ true → Learns (IsOneLine opening reached taken) port v (λ items. v.sent ≡ v.got ++ items)
 whole_learns opening reached taken port v a b items views h at =
     let mine = h.knows port v at in
     (mine.0 a).1 ∙ h.whole ∙ ap (λ l. l ++ items) (sym (mine.1 b).1)
 
 -- where the queue is empty, what was popped is what was pushed
-pub empty_learns : (opening : Node) (reached taken : List Entry → Type 0) (port : ℕ) (v : PassView) → v.pops ≡ true → Learns (IsOneLine opening reached taken) port v (λ items. items ≡ [] → reached v.got)
+pub empty_learns : (opening : Node) (reached taken : ℕ → List Entry → Type 0) (port : ℕ) (v : PassView) → v.pops ≡ true → Learns (IsOneLine opening reached taken) port v (λ items. items ≡ [] → reached v.finds v.got)
 empty_learns opening reached taken port v may items views h at empty =
     let is : v.got ≡ h.got = ((h.knows port v at).1 may).1 in
-    subst reached (h.whole ∙ ap (λ l. h.got ++ l) empty ∙ append-nil h.got ∙ sym is) h.here
+    subst (reached v.finds) (h.whole ∙ ap (λ l. h.got ++ l) empty ∙ append-nil h.got ∙ sym is) (h.here v.finds)

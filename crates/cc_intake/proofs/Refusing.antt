@@ -52,7 +52,7 @@ own_reason c e = first_own (reasons line_limit c e) (own_reasons c e)
 is_own : (c : Core) (e : Event) (r : Refusal) → decides c e ≡ Some r → IsOwn r
 is_own c e r is = subst (λ d. IfSome d IsOwn) is (own_reason c e)
 
-pub refuses_own : (opening : Node) (taken : List Entry → Type 0) (i j : Accepting) (e : Event) (r : Refusal) → decides (core_after opening i.entries) e ≡ Some r → j ≡ i → Refuses opening taken i e r j
+pub refuses_own : (opening : Node) (taken : ℕ → List Entry → Type 0) (i j : Accepting) (e : Event) (r : Refusal) → decides (core_after opening i.entries) e ≡ Some r → j ≡ i → Refuses opening taken i e r j
 refuses_own opening taken i j e refusal.Spent is same = (inl is, same)
 refuses_own opening taken i j e refusal.NoMemory is same = absurd (is_own (core_after opening i.entries) e refusal.NoMemory is)
 refuses_own opening taken i j e refusal.QueueFull is same = absurd (is_own (core_after opening i.entries) e refusal.QueueFull is)
@@ -70,7 +70,7 @@ may_accept opening i j core accepted e same is count free room =
     let n = ap (λ (k : Accepting). length k.entries) same in
     (decides_after opening i j core e None same is free, omega (arith, n, count, room))
 
-pub refuses_made : (opening : Node) (taken : List Entry → Type 0) (i j : Accepting) (core : Core) (accepted : ℕ) (e : Event) (r : Refusal)
+pub refuses_made : (opening : Node) (taken : ℕ → List Entry → Type 0) (i j : Accepting) (core : Core) (accepted : ℕ) (e : Event) (r : Refusal)
     → j ≡ i → core ≡ core_after opening j.entries → accepted ≡ length j.entries → accepted < life_limit → (decides core e ≡ Some r) ⊎ ((decides core e ≡ None) × (r ≡ refusal.NoMemory)) → Refuses opening taken i e r i
 refuses_made opening taken i j core accepted e r same is count room (inl own) = refuses_own opening taken i i e r (decides_after opening i j core e (Some r) same is own) refl
 refuses_made opening taken i j core accepted e r same is count room (inr free) =

@@ -4,10 +4,11 @@ use Rattle.std.specs.Prelude.{Ok, Err}
 use Rattle.cc_wire.specs.declared.event.Event.{Event}
 use Rattle.cc_intake.specs.Talks.{Answer, Spoke, places_of, PlacesRise, step, IsAbove}
 
-pub spoke-push : {S : Type 0} (gives : S → Option Event → S → Type 0) (hears : S → Answer → S → Type 0) (s : S) (rest : List Answer) (t : S) (e : Event) (u : S) (a : Answer) (w : S)
-    → Spoke gives hears s rest t → gives t (Some e) u → hears u a w → Spoke gives hears s (rest ++ a ∷ []) w
-spoke-push gives hears s [] t e u a w spoke gave heard = (e, u, w, subst (λ x. gives x (Some e) u) (sym spoke) gave, heard, refl)
-spoke-push gives hears s (b ∷ rest) t e u a w spoke gave heard = (spoke.0, spoke.1, spoke.2, spoke.3, spoke.4, spoke-push gives hears spoke.2 rest t e u a w spoke.5 gave heard)
+pub spoke-push : {S : Type 0} (gives : S → Option Event → S → Type 0) (hears : S → Answer → S → Type 0) (answers : Event → Answer → Type 0) (s : S) (rest : List Answer) (t : S) (e : Event) (u : S) (a : Answer) (w : S)
+    → Spoke gives hears answers s rest t → gives t (Some e) u → answers e a → hears u a w → Spoke gives hears answers s (rest ++ a ∷ []) w
+spoke-push gives hears answers s [] t e u a w spoke gave answered heard = (e, u, w, subst (λ x. gives x (Some e) u) (sym spoke) gave, answered, heard, refl)
+spoke-push gives hears answers s (b ∷ rest) t e u a w spoke gave answered heard =
+    (spoke.0, spoke.1, spoke.2, spoke.3, spoke.4, spoke.5, spoke-push gives hears answers spoke.2 rest t e u a w spoke.6 gave answered heard)
 
 pub places-push : (rest : List Answer) (a : Answer) → places_of (rest ++ a ∷ []) ≡ step a (places_of rest)
 places-push [] (Ok n) = refl

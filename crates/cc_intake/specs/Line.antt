@@ -3,7 +3,7 @@
 --     pass_view, producer, consumer, nobody     what a pass may do, and what it has seen:  of any;  of each end;  of none
 --     newcomer, both, found   the first pass;  the two ends together;  one find more
 --     Pushed, Popped          what a push and a pop make of it
---     WasRest                 the queue held these behind a taken list
+--     WasRest                 at that look the queue held these behind a taken list
 --     unnamed                 the name of no queue
 --     no_opening              a node that a life which isn't named begins with
 use Rattle.std.specs.Prelude.{◌≡◌, ℕ, ◌+◌, ◌≤◌, Bool, true, false, List, [], ◌∷◌, ◌++◌, length}
@@ -44,9 +44,9 @@ both v w = pass_view true true v.sent w.got 0
 abbrev pub found : PassView → PassView
 found v = pass_view v.pushes v.pops v.sent v.got (v.finds + 1)
 
--- what was pushed is a taken list, and then these
-abbrev pub WasRest : (List Entry → Type 0) → List Entry → List Entry → Type 0
-WasRest taken sent items = (got : List Entry) × (sent ≡ got ++ items) × taken got
+-- what was pushed is the list that was taken at the look of this number, and then these
+abbrev pub WasRest : (ℕ → List Entry → Type 0) → ℕ → List Entry → List Entry → Type 0
+WasRest taken look sent items = (got : List Entry) × (sent ≡ got ++ items) × taken look got
 
 abbrev pub Pushed : PassView → Entry → PassView → Type 0
 Pushed v x w = w ≡ pass_view v.pushes v.pops (v.sent ++ x ∷ []) v.got v.finds
@@ -61,8 +61,8 @@ abbrev pub Knows : ℕ → ℕ → List Entry → List Entry → ℕ → PassVie
 Knows pusher popper sent got port v = (v.pushes ≡ true → (port ≡ pusher) × (v.sent ≡ sent)) × (v.pops ≡ true → (port ≡ popper) × (v.got ≡ got))
 
 -- What was pushed is what was popped and then what the queue holds. It is lawful from the node that was opened, there are at
--- most so many entries of one life, and it is reached. What was popped is taken.
-pub record IsOneLine (opening : Node) (reached taken : List Entry → Type 0) (items : List Entry) (views : List PassView) : Type 0 where
+-- most so many entries of one life, and whichever look comes next finds it reached, and what was popped taken.
+pub record IsOneLine (opening : Node) (reached taken : ℕ → List Entry → Type 0) (items : List Entry) (views : List PassView) : Type 0 where
   pub pusher : ℕ
   pub popper : ℕ
   pub sent : List Entry
@@ -70,6 +70,6 @@ pub record IsOneLine (opening : Node) (reached taken : List Entry → Type 0) (i
   pub whole : sent ≡ got ++ items
   pub lawful : AreLawful opening sent
   pub limit : length sent ≤ life_limit
-  pub here : reached sent
-  pub there : taken got
+  pub here : (look : ℕ) → reached look sent
+  pub there : (look : ℕ) → taken look got
   pub knows : (port : ℕ) (v : PassView) → get_elem? views port ≡ some v → Knows pusher popper sent got port v

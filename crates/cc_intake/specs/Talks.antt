@@ -1,22 +1,39 @@
 -- How a worker talks with its source of events.
-use Rattle.std.specs.Prelude.{◌≡◌, ◌<◌, ◌+◌, ℕ, List, [], ◌∷◌, Option, None, Some}
+--     Answer                  what an intake answers to an event
+--     IsAnswer                one of this life answered so to this event
+--     Spoke, Talks            the source gave events, each was answered, and the source heard the answers
+--     places_of, PlacesRise   how many were accepted, and that their places rise
+--     step, IsAbove           what one answer adds
+use Rattle.std.specs.Prelude.{◌≡◌, ◌<◌, ◌+◌, ℕ, List, [], ◌∷◌, length, Option, None, Some}
 use Rattle.std.specs.Prelude.{Result, Ok, Err}
 use Rattle.cc_wire.specs.declared.event.Event.{Event}
-use Rattle.cc_wire.specs.declared.refusal.Refusal.{Refusal}
+use Rattle.cc_node.specs.Core.{made}
+use Rattle.cc_node.specs.Node.{Node}
+use Rattle.cc_journal.specs.declared.entry.Entry.{Entry}
 use Rattle.cc_intake.specs.declared.intake.Accepted.{Accepted}
+use Rattle.cc_intake.specs.declared.intake.Refused.{Refused}
+use Rattle.cc_intake.specs.Accepting.{Accepting}
+use Rattle.cc_intake.specs.Histories.{core_after, stirs}
+use Rattle.cc_intake.specs.Refusals.{MayAccept, Refuses}
 
 abbrev pub Answer : Type 0
-Answer = Result Accepted Refusal
+Answer = Result Accepted Refused
 
-module _ {S : Type 0} (gives : S → Option Event → S → Type 0) (hears : S → Answer → S → Type 0) where
-  -- from s to t it gave an event and heard its answer, in turn
+-- There was an intake that took this very event in at that place, or one that refused it for this reason, after so many.
+abbrev pub IsAnswer : Node → (ℕ → List Entry → Type 0) → Event → Answer → Type 0
+IsAnswer opening taken e (Ok a) =
+    (i : Accepting) × MayAccept opening i e × (a.place ≡ length i.entries + 1) × (a.stirs ≡ stirs (made (core_after opening i.entries) e))
+IsAnswer opening taken e (Err r) = (i : Accepting) × (j : Accepting) × Refuses opening taken i e r.why j × (r.accepted ≡ length i.entries)
+
+module _ {S : Type 0} (gives : S → Option Event → S → Type 0) (hears : S → Answer → S → Type 0) (answers : Event → Answer → Type 0) where
+  -- from s to t it gave an event, this was answered, and it heard the answer, in turn
   abbrev pub Spoke : S → List Answer → S → Type 0
   Spoke s [] t = s ≡ t
-  Spoke s (a ∷ rest) t = (e : Event) × (u : S) × (w : S) × gives s (Some e) u × hears u a w × Spoke w rest t
+  Spoke s (a ∷ rest) t = (e : Event) × (u : S) × (w : S) × gives s (Some e) u × answers e a × hears u a w × Spoke w rest t
 
   -- and in the end it gave none
   abbrev pub Talks : S → List Answer → S → Type 0
-  Talks s answers t = (u : S) × Spoke s answers u × gives u None t
+  Talks s heard t = (u : S) × Spoke s heard u × gives u None t
 
 -- how many events were accepted
 abbrev pub places_of : List Answer → ℕ

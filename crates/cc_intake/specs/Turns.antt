@@ -3,7 +3,7 @@
 --     IsDone                  why a batch ends
 --     Gathers                 what a batch was gathered from
 --     Turns                   a batch was popped, and handed to the engine
-use Rattle.std.specs.Prelude.{◌≡◌, ◌≤◌, ◌<◌, ◌⊎◌, ℕ, List, [], ◌∷◌, ◌++◌, length, Option, None, IsSomeAnd, IsFalse, IfOk, Result, MatchResult}
+use Rattle.std.specs.Prelude.{◌≡◌, ◌≤◌, ◌<◌, ◌⊎◌, ◌+◌, ℕ, List, [], ◌∷◌, ◌++◌, length, Option, None, IsSomeAnd, IsFalse, IfOk, Result, MatchResult}
 use Rattle.cc_site.specs.declared.site.Site.{Ghosts}
 use Rattle.cc_node.specs.Sides.{batch_limit, record_limit, events_spelling}
 use Rattle.cc_journal.specs.declared.entry.Entry.{Entry}
@@ -16,16 +16,16 @@ use Rattle.cc_flush.specs.Flushing.{Flushes, FlushFails}
 abbrev pub Fits : List Entry → Entry → Type 0
 Fits batch e = (length batch < batch_limit) × (length (events_spelling (events_in (batch ++ e ∷ []))) ≤ record_limit)
 
--- It is full, or the entry kept behind it doesn't fit, or the queue was found empty: the finds rose, and all that was popped
--- was all that had been pushed.
-abbrev pub IsDone : (List Entry → Type 0) → List Entry → Option Entry → List Entry → ℕ → ℕ → Type 0
-IsDone reached batch kept all before now = (length batch ≡ batch_limit) ⊎ (IsSomeAnd kept (λ e. Fits batch e → ⊥) ⊎ ((before < now) × reached all))
+-- It is full, or the entry kept behind it doesn't fit, or the queue was found empty: the finds rose by one, and at that look
+-- all that was popped was all that had been pushed.
+abbrev pub IsDone : (ℕ → List Entry → Type 0) → List Entry → Option Entry → List Entry → ℕ → ℕ → Type 0
+IsDone reached batch kept all before now = (length batch ≡ batch_limit) ⊎ (IsSomeAnd kept (λ e. Fits batch e → ⊥) ⊎ ((now ≡ before + 1) × reached before all))
 
 -- From the kept entry on, what was popped went into the batch, whole and in order, but for the entry that is kept now.
 abbrev pub Gathers : List Entry → Option Entry → List Entry → Option Entry → List Entry → Type 0
 Gathers before kept batch kept' now = (more : List Entry) × (now ≡ before ++ more) × (listed kept ++ more ≡ batch ++ listed kept')
 
-pub record Turns {D : Type 0} (s : Ghosts D) (reached : List Entry → Type 0) (old new : Turning D) (result : Result Turned Failed) : Type 0 where
+pub record Turns {D : Type 0} (s : Ghosts D) (reached : ℕ → List Entry → Type 0) (old new : Turning D) (result : Result Turned Failed) : Type 0 where
   pub batch : List Entry
   pub more : List Entry
   -- it came from the front of what waited, whole and in order

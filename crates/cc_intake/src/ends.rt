@@ -1,6 +1,6 @@
 //! The queue and its two ends. Only a push or a pop changes what an end has seen.
 
-ghost use Rattle.std.specs.Prelude.{List, ◌≡◌, ◌≤◌, ◌<◌, ◌+◌, None, [], ◌∷◌, ◌++◌, length, OnOk, OnErr, MatchOption};
+ghost use Rattle.std.specs.Prelude.{List, ℕ, ◌≡◌, ◌≤◌, ◌<◌, ◌+◌, None, [], ◌∷◌, ◌++◌, length, OnOk, OnErr, MatchOption};
 ghost use Rattle.crossbeam_queue.specs.Fifo.{Held};
 ghost use Rattle.cc_node.specs.Core.{made};
 ghost use Rattle.cc_node.specs.Refusals.{decides};
@@ -45,7 +45,7 @@ const QUEUE_LIMIT: usize = 256;
 
 /// A new queue of 256 entries. NoMemory where a growth was refused.
 pub fn lane<L: Life>(alloc: Global) -> Result<Ends<L>, NoMemory>
-    requires { L.reached [] × L.taken [] }
+    requires { (look : ℕ) → L.reached look [] × L.taken look [] }
 {
     let (ring, mut pushing) = Ring::<L>::ruled(alloc, QUEUE_LIMIT)?;
     let popping = ring.another::<TwoEnds>(&mut pushing);
@@ -60,8 +60,8 @@ impl<L: Life> Ends<L> {
     // The queue and its ends under a name.
     pub(crate) fn named<Q: Lane>(self) -> (Queue<L, Q>, Producer<L, Q>, Consumer<L, Q>)
         requires lane { self ≡ Q.table }
-        requires reached { (list : List EntryValue) → L.reached list }
-        requires taken { (list : List EntryValue) → L.taken list }
+        requires reached { (look : ℕ) (list : List EntryValue) → L.reached look list }
+        requires taken { (look : ℕ) (list : List EntryValue) → L.taken look list }
         ensures producer { result.1 ≡ record { entries = []; finds = 0 } }
         ensures consumer { result.2 ≡ record { entries = []; finds = 0 } }
     {
@@ -122,7 +122,7 @@ pub struct Producer<L: Life, Q: Lane> {
 }
 
 impl<L: Life, Q: Lane> Model for Producer<L, Q> {
-    ghost use Rattle.std.specs.Prelude.{◌≡◌, List, []};
+    ghost use Rattle.std.specs.Prelude.{◌≡◌, ℕ, List, []};
     ghost use Rattle.cc_journal.specs.declared.entry.Entry.{Entry as EntryValue};
     ghost use Rattle.crossbeam_queue.specs.Passes.{view as hand_of};
     ghost use Rattle.cc_intake.specs.Line.{producer};
@@ -134,7 +134,7 @@ impl<L: Life, Q: Lane> Model for Producer<L, Q> {
 
     ghost view = { λ p. record { entries = (hand_of p.pass).sent; finds = (hand_of p.pass).finds } };
 
-    ghost invariant = { λ p. (p.pass.table_id ≡ Q.table) × (p.pass.me.1 ≡ []) × (hand_of p.pass ≡ producer (hand_of p.pass).sent (hand_of p.pass).finds) × ((list : List EntryValue) → L.reached list) };
+    ghost invariant = { λ p. (p.pass.table_id ≡ Q.table) × (p.pass.me.1 ≡ []) × (hand_of p.pass ≡ producer (hand_of p.pass).sent (hand_of p.pass).finds) × ((look : ℕ) (list : List EntryValue) → L.reached look list) };
 }
 
 impl<L: Life, Q: Lane> Producer<L, Q> {
@@ -149,7 +149,7 @@ impl<L: Life, Q: Lane> Producer<L, Q> {
         requires accepted { decides (core_after L.opening self.old.entries) entry.event ≡ None }
         requires made { entry.made ≡ made (core_after L.opening self.old.entries) entry.event }
         ensures pushed { OnOk result (self.new ≡ record { entries = self.old.entries ++ entry ∷ []; finds = self.old.finds }) }
-        ensures full { OnErr result ((self.new ≡ record { entries = self.old.entries; finds = self.old.finds + 1 }) × Held queue_limit (WasRest L.taken self.old.entries)) }
+        ensures full { OnErr result ((self.new ≡ record { entries = self.old.entries; finds = self.old.finds + 1 }) × Held queue_limit (WasRest L.taken self.old.finds self.old.entries)) }
     {
         match queue.ring.push_as::<Push<L>, R>(rt, &mut self.pass, entry) {
             Ok(()) => Ok(()),
@@ -171,7 +171,7 @@ pub struct Consumer<L: Life, Q: Lane> {
 }
 
 impl<L: Life, Q: Lane> Model for Consumer<L, Q> {
-    ghost use Rattle.std.specs.Prelude.{◌≡◌, ◌≤◌, List, [], length};
+    ghost use Rattle.std.specs.Prelude.{◌≡◌, ◌≤◌, ℕ, List, [], length};
     ghost use Rattle.crossbeam_queue.specs.Passes.{view as hand_of};
     ghost use Rattle.cc_journal.specs.declared.entry.Entry.{Entry as EntryValue};
     ghost use Rattle.cc_journal.specs.Batches.{AreLawful};
@@ -185,7 +185,7 @@ impl<L: Life, Q: Lane> Model for Consumer<L, Q> {
 
     ghost view = { λ p. record { entries = (hand_of p.pass).got; finds = (hand_of p.pass).finds } };
 
-    ghost invariant = { λ p. (p.pass.table_id ≡ Q.table) × (p.pass.me.1 ≡ []) × (hand_of p.pass ≡ consumer (hand_of p.pass).got (hand_of p.pass).finds) × AreLawful L.opening (hand_of p.pass).got × (length (hand_of p.pass).got ≤ life_limit) × ((list : List EntryValue) → L.taken list) };
+    ghost invariant = { λ p. (p.pass.table_id ≡ Q.table) × (p.pass.me.1 ≡ []) × (hand_of p.pass ≡ consumer (hand_of p.pass).got (hand_of p.pass).finds) × AreLawful L.opening (hand_of p.pass).got × (length (hand_of p.pass).got ≤ life_limit) × ((look : ℕ) (list : List EntryValue) → L.taken look list) };
 }
 
 impl<L: Life, Q: Lane> Consumer<L, Q> {
@@ -199,7 +199,7 @@ impl<L: Life, Q: Lane> Consumer<L, Q> {
 
     // None only where the queue was empty at one moment of the call.
     pub(crate) fn pop<R: Wait>(&mut self, rt: &R, queue: &Queue<L, Q>) -> Option<Entry>
-        ensures popped { MatchOption result ((self.new ≡ record { entries = self.old.entries; finds = self.old.finds + 1 }) × L.reached self.old.entries) (λ e. self.new ≡ record { entries = self.old.entries ++ e ∷ []; finds = self.old.finds }) }
+        ensures popped { MatchOption result ((self.new ≡ record { entries = self.old.entries; finds = self.old.finds + 1 }) × L.reached self.old.finds self.old.entries) (λ e. self.new ≡ record { entries = self.old.entries ++ e ∷ []; finds = self.old.finds }) }
         ensures lawful { AreLawful L.opening self.new.entries }
         ensures limit { length self.new.entries ≤ life_limit }
     {

@@ -22,6 +22,14 @@ const SHARE_LIMIT: u64 = 1 << 20;
 // How many events are accepted in one life at most.
 const LIFE_LIMIT: u64 = 1 << 61;
 
+/// Why an event was refused.
+#[derive(Clone, Copy, Debug, PartialEq, Eq)]
+pub struct Refused {
+    pub why: Refusal,
+    /// How many events of this life had been accepted by then: it was judged by the node after these.
+    pub accepted: u64,
+}
+
 /// What is told of an accepted event.
 #[derive(Clone, Copy, Debug, PartialEq, Eq)]
 pub struct Accepted {
@@ -177,7 +185,7 @@ impl<L: Life, Q: Lane> Intake<L, Q> {
     /// Accepts an event, as one step on the queue, and counts it for the share. Its place in this life, and whether it
     /// makes a post or an answer there. A refused event is given up, and has changed nothing: it is refused for the core's
     /// reason, else Spent after 2^61 events of this life, else NoMemory where a growth was refused, else QueueFull where a
-    /// look found the queue full.
+    /// look found the queue full. With the reason it is told how many events were accepted by then.
     pub fn accept<R: Wait>(
         &mut self,
         rt: &R,
@@ -185,17 +193,21 @@ impl<L: Life, Q: Lane> Intake<L, Q> {
         share: &mut Share<L>,
         queue: &Queue<L, Q>,
         event: Event,
-    ) -> Result<Accepted, Refusal>
+    ) -> Result<Accepted, Refused>
         ensures accepted { IfOk result (λ a. MayAccept L.opening self.old event × (a.place ≡ length self.new.entries)
             × (self.new ≡ record { entries = self.old.entries ++ entry_at (core_after L.opening self.old.entries) event ∷ []; finds = self.old.finds; issued = self.old.issued })) }
         ensures stirs { IfOk result (λ a. a.stirs ≡ stirs (made (core_after L.opening self.old.entries) event)) }
         ensures counted { IfOk result (λ a. (share.new ≡ share.old + 1) × (share.old < a.place)) }
-        ensures refused { IfErr result (λ r. Refuses L.opening L.taken self.old event r self.new) }
+        ensures refused { IfErr result (λ r. Refuses L.opening L.taken self.old event r.why self.new × (r.accepted ≡ length self.old.entries)) }
         ensures uncounted { OnErr result (share.new ≡ share.old) }
     {
+        let accepted = self.accepted;
         let answer = self.accept_event(rt, alloc, share, queue, &event);
         drop(event);
-        answer
+        match answer {
+            Ok(answer) => Ok(answer),
+            Err(why) => Err(Refused { why, accepted }),
+        }
     }
 
     // Accepts an event, which stays the caller's.

@@ -12,7 +12,7 @@ mod worker;
 
 pub use ends::{Ends, Queue, lane};
 pub use hooks::{Hooked, Hooks, NoHooks};
-pub use intake::{Accepted, Intake, Share};
+pub use intake::{Accepted, Intake, Refused, Share};
 pub use life::{Finished, finish, start};
 pub use rule::{Lane, Life};
 pub use turner::{Turned, Turner};

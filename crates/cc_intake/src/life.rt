@@ -1,6 +1,6 @@
 //! How a life begins, and what stands at its end.
 
-ghost use Rattle.std.specs.Prelude.{◌≡◌, ◌+◌, ◌++◌, List, [], None, false, length, sum};
+ghost use Rattle.std.specs.Prelude.{◌≡◌, ◌+◌, ◌++◌, ℕ, List, [], None, false, length, sum};
 ghost use Rattle.cc_journal.specs.declared.entry.Entry.{Entry};
 ghost use Rattle.cc_intake.specs.Accepting.{share_limit};
 ghost use Rattle.cc_intake.specs.Turning.{popped};
@@ -27,8 +27,9 @@ pub fn start<S: Site, L: Life, Q: Lane>(
     requires owes { engine.owes ≡ false }
     requires twin { engine.failed ≡ None → engine.twin ≡ L.opening }
     requires ledger { (blank.name ≡ L.name) × (blank.parts ≡ L.parts) × (L.parts ≡ share_limit) }
-    requires reached { (list : List Entry) → L.reached list }
-    requires taken { (list : List Entry) → L.taken list }
+    requires reached { (look : ℕ) (list : List Entry) → L.reached look list }
+    requires taken { (look : ℕ) (list : List Entry) → L.taken look list }
+    requires flushed { (count : ℕ) → L.flushed count }
     requires lane { ends ≡ Q.table }
     ensures intake { result.0 ≡ record { entries = []; finds = 0; issued = 0 } }
     ensures turner { result.1 ≡ record { handed = []; kept = None; finds = 0; engine = engine } }

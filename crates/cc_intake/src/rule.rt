@@ -12,21 +12,25 @@ use std::sync::ledger::Ledger;
 /// `Brand` for it, so what comes out of a lock is known to be of the same life.
 ///
 /// That a list was reached is known to the end of the queue that pushes, and that a list was taken to the end that pops. The
-/// other end knows it only where it looked at the queue: the rule tells it of what is pushed and popped now, and of no other
-/// list.
+/// other end knows it only where it looked at the queue: the rule tells it of what is pushed and popped now, under the number
+/// of that look, and of no other list. How many events were flushed is known to the turner, and to others only by what a turn
+/// tells.
 pub trait Life: Ledger {
-    ghost use Rattle.std.specs.Prelude.{List};
+    ghost use Rattle.std.specs.Prelude.{List, ℕ};
     ghost use Rattle.cc_node.specs.Node.{Node};
     ghost use Rattle.cc_journal.specs.declared.entry.Entry.{Entry};
 
     /// The node that was opened.
     ghost opening: { Node };
 
-    /// At one moment this was all that had been pushed.
-    ghost reached: { List Entry → Type 0 };
+    /// At the look of this number that found the queue empty, this was all that had been pushed.
+    ghost reached: { ℕ → List Entry → Type 0 };
 
-    /// At one moment this was all that had been popped.
-    ghost taken: { List Entry → Type 0 };
+    /// At the look of this number that found the queue full, this was all that had been popped.
+    ghost taken: { ℕ → List Entry → Type 0 };
+
+    /// So many events of this life had been made durable at one moment.
+    ghost flushed: { ℕ → Type 0 };
 }
 
 impl Life for Brand {
@@ -34,9 +38,11 @@ impl Life for Brand {
 
     ghost opening = { no_opening };
 
-    ghost reached = { λ list. Unit {0} };
+    ghost reached = { λ look list. Unit {0} };
 
-    ghost taken = { λ list. Unit {0} };
+    ghost taken = { λ look list. Unit {0} };
+
+    ghost flushed = { λ count. Unit {0} };
 }
 
 /// Names one queue.
@@ -90,7 +96,7 @@ impl<L: Life> Outcome<Entry, PassView> for Push<L> {
 impl<L: Life> Lesson<Entry, PassView> for Push<L> {
     ghost use Rattle.cc_intake.specs.Line.{WasRest};
 
-    ghost fact = { λ v items. WasRest L.taken v.sent items };
+    ghost fact = { λ v items. WasRest L.taken v.finds v.sent items };
 }
 
 // A pop, whose list is lawful, and what an empty queue tells.
@@ -107,7 +113,7 @@ impl<L: Life> Outcome<Entry, PassView> for Pop<L> {
 impl<L: Life> Lesson<Entry, PassView> for Pop<L> {
     ghost use Rattle.std.specs.Prelude.{◌≡◌, []};
 
-    ghost fact = { λ v items. items ≡ [] → L.reached v.got };
+    ghost fact = { λ v items. items ≡ [] → L.reached v.finds v.got };
 }
 
 // The first pass is cut into those of the two ends, and these are put together again.

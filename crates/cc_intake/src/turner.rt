@@ -1,6 +1,6 @@
 //! The turner, which hands what it pops to its engine, batch by batch. Nothing here takes the lock of the intake.
 
-ghost use Rattle.std.specs.Prelude.{◌≡◌, ◌↔◌, ◌≤◌, ◌<◌, ◌^◌, [], None, Some, Ok, Err, false, nat_lt, length, is_some, IsTrue, IfOk, IfErr, OnOk, MatchResult};
+ghost use Rattle.std.specs.Prelude.{◌≡◌, ◌↔◌, ◌≤◌, ◌<◌, ◌^◌, ℕ, [], None, Some, Ok, Err, false, nat_lt, length, is_some, IsTrue, IfOk, IfErr, OnOk, MatchResult};
 ghost use Rattle.std.specs.FinMap as table;
 ghost use Rattle.cc_views.specs.Limits.{counter_limit};
 ghost use Rattle.cc_links.specs.Links.{heard_from};
@@ -43,7 +43,7 @@ pub struct Turner<S: Site, L: Life, Q: Lane> {
 }
 
 impl<S: Site, L: Life, Q: Lane> Model for Turner<S, L, Q> {
-    ghost use Rattle.std.specs.Prelude.{take};
+    ghost use Rattle.std.specs.Prelude.{ℕ, take};
     ghost use Rattle.cc_intake.specs.Turning.{Turning, turning_code, IsTurner};
 
     ghost Value = { Turning S };
@@ -52,7 +52,7 @@ impl<S: Site, L: Life, Q: Lane> Model for Turner<S, L, Q> {
 
     ghost view = { λ t. record { handed = take t.flushed t.consumer.entries; kept = t.kept; finds = t.consumer.finds; engine = t.engine } };
 
-    ghost invariant = { λ t. IsTurner L.opening t.consumer.entries t.flushed t.kept t.engine };
+    ghost invariant = { λ t. IsTurner L.opening t.consumer.entries t.flushed t.kept t.engine × ((count : ℕ) → L.flushed count) };
 }
 
 impl<S: Site, L: Life, Q: Lane> Turner<S, L, Q> {
@@ -60,6 +60,7 @@ impl<S: Site, L: Life, Q: Lane> Turner<S, L, Q> {
         requires owes { engine.owes ≡ false }
         requires twin { engine.failed ≡ None → engine.twin ≡ L.opening }
         requires consumer { consumer ≡ record { entries = []; finds = 0 } }
+        requires flushed { (count : ℕ) → L.flushed count }
         ensures { result ≡ record { handed = []; kept = None; finds = 0; engine = engine } }
     {
         Turner {
@@ -95,6 +96,13 @@ impl<S: Site, L: Life, Q: Lane> Turner<S, L, Q> {
         &self.engine
     }
 
+    /// How many entries were handed to the engine. After a turn that didn't fail so many events are durable.
+    pub fn handed(&self) -> u64
+        ensures { result ≡ length self.now.handed }
+    {
+        self.flushed
+    }
+
     /// Whether it keeps an entry for the next turn, since no record took it yet.
     pub fn keeps_one(&self) -> bool
         ensures { result ≡ is_some self.now.kept }
@@ -109,6 +117,7 @@ impl<S: Site, L: Life, Q: Lane> Turner<S, L, Q> {
     pub fn turn<R: Wait>(&mut self, rt: &R, queue: &Queue<L, Q>) -> Result<Turned, Failed>
         ensures turned { Turns S.Site L.reached self.old self.new result }
         ensures twin { OnOk result (self.new.engine.twin ≡ after L.opening (events_in self.new.handed)) }
+        ensures flushed { OnOk result (L.flushed (length self.new.handed)) }
         ensures full { IfOk result (λ t. IsTrue t.full ↔ (room_limit ≤ self.old.engine.used)) }
         ensures untouched { IfOk result (λ t. IsTrue t.full → self.new ≡ self.old) }
         ensures failed { IfErr result (λ f. (self.new.engine.failed ≡ Some f.fault) × (self.new.engine.twin ≡ self.old.engine.twin)) }

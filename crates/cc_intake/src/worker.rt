@@ -1,13 +1,13 @@
 //! A worker, which brings the events of a source to the intake.
 
 ghost use Rattle.std.specs.Prelude.{◌≡◌, ◌+◌, List};
-ghost use Rattle.cc_intake.specs.Talks.{Answer, Talks, places_of, PlacesRise, step, IsAbove};
+ghost use Rattle.cc_intake.specs.Talks.{Answer, IsAnswer, Talks, places_of, PlacesRise, step, IsAbove};
 
 use crate::ends::Queue;
 use crate::hooks::Hooks;
-use crate::intake::{Accepted, Intake, Share};
+use crate::intake::{Accepted, Intake, Refused, Share};
 use crate::rule::{Lane, Life};
-use cc_wire::{Event, Refusal};
+use cc_wire::Event;
 use std::alloc::Global;
 use std::sync::{Mutex, Wait};
 
@@ -28,12 +28,12 @@ pub trait Source {
         ensures { gives self.old result self.new };
 
     /// The answer to the event that was given last.
-    fn told(&mut self, answer: Result<Accepted, Refusal>)
+    fn told(&mut self, answer: Result<Accepted, Refused>)
         ensures { hears self.old answer self.new };
 }
 
-/// Brings each event of a source to the intake, under the lock, and tells the source its answer, until there is no further
-/// one. The hooks are called round each accept, outside the lock. What finds no memory is answered NoMemory.
+/// Brings each event of a source to the intake, under the lock, and tells the source what the intake answered to that very
+/// event, until there is no further one. The hooks are called round each accept, outside the lock. What finds no memory is answered NoMemory.
 pub fn work<L: Life, Q: Lane, H: Hooks, S: Source, R: Wait>(
     rt: &R,
     alloc: Global,
@@ -43,7 +43,7 @@ pub fn work<L: Life, Q: Lane, H: Hooks, S: Source, R: Wait>(
     hooks: &H,
     source: &mut S,
 )
-    ensures { (answers : List Answer) × Talks S.gives S.hears source.old answers source.new × (share.new ≡ share.old + places_of answers) × PlacesRise share.old answers }
+    ensures { (answers : List Answer) × Talks S.gives S.hears (IsAnswer L.opening L.taken) source.old answers source.new × (share.new ≡ share.old + places_of answers) × PlacesRise share.old answers }
 {
     for _ in rt.forever() {
         let Some(event) = source.next() else {
@@ -65,7 +65,8 @@ fn bring<L: Life, Q: Lane, R: Wait>(
     queue: &Queue<L, Q>,
     share: &mut Share<L>,
     event: Event,
-) -> Result<Accepted, Refusal>
+) -> Result<Accepted, Refused>
+    ensures answer { IsAnswer L.opening L.taken event result }
     ensures count { share.new ≡ step result share.old }
     ensures above { IsAbove result share.old }
 {

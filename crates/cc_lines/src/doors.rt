@@ -1,8 +1,12 @@
 //! The connections that are open, and which of them asked last in each session.
 
-use cc_protocol::Routes;
-use cc_views::NoMemory;
-use cc_wire::Refusal;
+ghost use Rattle.std.specs.Prelude.{◌≤◌};
+
+use crate::durable::{Durable, Flushed};
+use crate::stop::Stop;
+use cc_ops::Asked;
+use cc_protocol::{Admitted, Origin, Routes, Speakers, Spoken};
+use cc_views::{NoMemory, NodeId};
 use crossbeam_channel::Sender;
 use std::alloc::Global;
 use std::collections::BTreeMap;
@@ -13,10 +17,12 @@ use std::sync::{Arc, Mutex, Wait};
 // How many bytes wait for one connection at most.
 const MOST_WAITING: u64 = 262_144;
 
-/// Where the answers of a worker go.
+/// Where the refusals go that a worker tells.
 pub trait Replies {
-    /// May wait for room: only the worker of this very connection calls it.
-    fn answer<R: Wait>(&self, rt: &R, bytes: Vec<u8>);
+    /// Tells that something was refused, which was judged after so many events: not before these are durable. May wait for
+    /// room: only the worker of this very connection calls it.
+    fn refuse<R: Wait, F: Flushed>(&self, rt: &R, bytes: Vec<u8>, judged: u64, durable: Durable<F>)
+        requires { judged ≤ durable };
 
     /// An answer is lost for want of memory: its client has to ask again, over another connection.
     fn give_up(&self);
@@ -29,10 +35,14 @@ pub struct Door {
     out: Sender<Vec<u8>>,
     // How many bytes wait for the writer.
     waiting: Arc<AtomicU64>,
+    // It is closed.
+    over: Stop,
 }
 
 impl Replies for Door {
-    fn answer<R: Wait>(&self, rt: &R, bytes: Vec<u8>) {
+    fn refuse<R: Wait, F: Flushed>(&self, rt: &R, bytes: Vec<u8>, judged: u64, durable: Durable<F>)
+        requires { judged ≤ durable }
+    {
         self.waiting.fetch_add(bytes.len() as u64, Ordering::SeqCst);
         let _ = self.out.send(rt, bytes);
     }
@@ -48,7 +58,13 @@ impl Door {
             stream,
             out,
             waiting,
+            over: Stop::new(),
         }
+    }
+
+    /// The flag that tells whether it is closed.
+    pub fn over(&self) -> &Stop {
+        &self.over
     }
 
     /// What comes over the connection.
@@ -68,6 +84,7 @@ impl Door {
 
     /// Ends reads and writes that wait.
     pub fn close(&self) {
+        self.over.set();
         let _ = self.stream.shutdown(Shutdown::Both);
     }
 }
@@ -76,31 +93,44 @@ impl Door {
 struct Table {
     doors: BTreeMap<u64, Arc<Door>>,
     routes: Routes,
+    speakers: Speakers,
     is_closed: bool,
 }
 
 impl Table {
-    // The ticket of a new connection. None where there are so many, or no memory.
-    fn enter(&mut self, door: Arc<Door>, is_peer: bool) -> Option<u64> {
+    // None where there are so many connections, or no memory.
+    fn enter(&mut self, door: Arc<Door>, from: Origin) -> Option<Admitted> {
         if self.is_closed {
             return None;
         }
-        let ticket = self.routes.enter(is_peer)?;
-        if self.doors.insert(ticket, door).is_err() {
-            self.routes.leave(ticket);
+        let admitted = self.routes.enter(from)?;
+        if self.doors.insert(admitted.ticket, door).is_err() {
+            self.routes.leave(admitted.ticket);
             return None;
         }
-        Some(ticket)
+        Some(admitted)
     }
 
-    fn door_of(&self, session: u64) -> Option<Arc<Door>> {
-        let ticket = self.routes.door_of(session)?;
+    // What a frame of a node makes of its connection. An older one of the same node is closed.
+    fn speak(&mut self, node: NodeId, ticket: u64) -> Spoken {
+        let spoken = self.speakers.speak(node, ticket);
+        if let Spoken::Instead(older) = spoken {
+            if let Some(door) = self.doors.get(&older) {
+                door.close();
+            }
+        }
+        spoken
+    }
+
+    fn door_of(&self, session: u64, request: u64) -> Option<Arc<Door>> {
+        let ticket = self.routes.door_of(session, request)?;
         Arc::try_clone(self.doors.get(&ticket)?).ok()
     }
 
     fn leave(&mut self, ticket: u64) {
         let _ = self.doors.remove(&ticket);
         self.routes.leave(ticket);
+        self.speakers.leave(ticket);
     }
 }
 
@@ -113,18 +143,20 @@ pub struct Doors {
 impl Doors {
     pub fn new(alloc: Global) -> Result<Self, NoMemory> {
         let routes = Routes::new(alloc)?;
+        let speakers = Speakers::new(alloc)?;
         Ok(Doors {
             table: Mutex::new(Table {
                 doors: BTreeMap::new(alloc),
                 routes,
+                speakers,
                 is_closed: false,
             }),
         })
     }
 
-    /// The ticket of a connection, from a peer's machine or not. None where there are too many.
-    pub fn enter<R: Wait>(&self, rt: &R, door: Arc<Door>, is_peer: bool) -> Option<u64> {
-        self.table.lock(rt).enter(door, is_peer)
+    /// Lets a connection from there in. None where there are too many.
+    pub fn enter<R: Wait>(&self, rt: &R, door: Arc<Door>, from: Origin) -> Option<Admitted> {
+        self.table.lock(rt).enter(door, from)
     }
 
     /// The connection with that ticket has ended, and so have its routes.
@@ -132,36 +164,44 @@ impl Doors {
         self.table.lock(rt).leave(ticket);
     }
 
-    /// Replies of the session go to that connection from now on.
-    pub fn route<R: Wait>(&self, rt: &R, session: u64, ticket: u64) {
-        self.table.lock(rt).routes.route(session, ticket);
+    /// A frame of a node came over the connection with that ticket. An older connection of that node is closed.
+    pub fn speak<R: Wait>(&self, rt: &R, node: NodeId, ticket: u64) -> Spoken {
+        self.table.lock(rt).speak(node, ticket)
     }
 
-    /// What the refusal of an ask leaves of its route: nothing, where the node keeps nothing of the session.
-    pub fn take_back<R: Wait>(
-        &self,
-        rt: &R,
-        session: u64,
-        request: u64,
-        ticket: u64,
-        refusal: Refusal,
-    ) {
-        let mut table = self.table.lock(rt);
-        table.routes.take_back(session, request, ticket, refusal);
+    /// The reply to that request goes to the connection with that ticket from now on. The place of the ask, if it has one.
+    pub fn route<R: Wait>(&self, rt: &R, session: u64, request: u64, ticket: u64) -> Option<u64> {
+        self.table.lock(rt).routes.route(session, request, ticket)
     }
 
-    /// Passes bytes on to the connection that last asked in the session.
-    pub fn pass<R: Wait>(&self, rt: &R, session: u64, bytes: Vec<u8>) {
-        let door = self.table.lock(rt).door_of(session);
+    /// The ask at that place was taken, or had been before.
+    pub fn take<R: Wait>(&self, rt: &R, session: u64, place: u64) {
+        self.table.lock(rt).routes.take(session, place);
+    }
+
+    /// The ask at that place was refused, and leaves nothing to wait for: replies go where they went before it.
+    pub fn take_back<R: Wait>(&self, rt: &R, place: u64) {
+        self.table.lock(rt).routes.take_back(place);
+    }
+
+    /// Whether the reply to one of these goes to the connection with that ticket.
+    pub fn awaits<R: Wait>(&self, rt: &R, ticket: u64, unanswered: &[Asked]) -> bool {
+        let table = self.table.lock(rt);
+        unanswered.iter().any(|asked| table.routes.door_of(asked.session, asked.request)
+            == Some(ticket))
+    }
+
+    /// Passes a reply on to the connection that it is for.
+    pub fn pass<R: Wait>(&self, rt: &R, session: u64, request: u64, bytes: Vec<u8>) {
+        let door = self.table.lock(rt).door_of(session, request);
         if let Some(door) = door {
             door.pass(rt, bytes);
         }
     }
 
-    /// Closes the connection that last asked in the session: its answer is lost for want of memory, so whoever asked has to
-    /// ask again.
-    pub fn give_up<R: Wait>(&self, rt: &R, session: u64) {
-        let door = self.table.lock(rt).door_of(session);
+    /// Closes the connection that a reply is for, which is lost for want of memory: so whoever asked has to ask again.
+    pub fn give_up<R: Wait>(&self, rt: &R, session: u64, request: u64) {
+        let door = self.table.lock(rt).door_of(session, request);
         if let Some(door) = door {
             door.close();
         }

@@ -4,16 +4,20 @@
 
 mod bell;
 mod doors;
+mod durable;
 mod lines;
 mod room;
+mod seat;
 mod spelling;
 mod stop;
 mod writing;
 
 pub use bell::Bell;
 pub use doors::{Door, Doors, Replies};
+pub use durable::{Durable, Flushed};
 pub use lines::{FarEnd, Line, OwnLine, lines_to, own_line};
-pub use room::{Room, Seat, Seating};
+pub use room::{NoSeat, Room};
+pub use seat::{Seat, Seating};
 pub use spelling::bytes_of;
 pub use stop::Stop;
 pub use writing::{write_frames, write_peer};

@@ -1,13 +1,18 @@
 //! Room in the queue and among the posts, which workers wait for: so none of them finds the queue full.
 
-ghost use Rattle.std.specs.Prelude.{IsFalse};
+ghost use Rattle.std.specs.Prelude.{◌≤◌, IfSome};
 
 use crate::bell::Bell;
-use cc_node::Node;
-use cc_protocol::{is_furthest_behind, may_hand_over};
+use crate::doors::Doors;
+use crate::durable::{Durable, Flushed};
+use crate::stop::Stop;
+use cc_node::{Core, Node};
+use cc_ops::{Asked, Stage};
+use cc_protocol::{is_furthest_behind, is_given_up, may_hand_over};
 use cc_views::NodeId;
 use cc_wire::Event;
 use std::alloc::{AllocError, Global};
+use std::sync::atomic::{AtomicU64, Ordering};
 use std::sync::{Condvar, Mutex, Wait};
 
 // How many entries the queue has.
@@ -16,73 +21,57 @@ const SEATS: u64 = 256;
 // How many peers that are furthest behind are known by name.
 const MOST_FURTHEST: usize = 256;
 
-/// Where an event waits until the node has room for it.
-pub trait Seating {
-    /// That it can close: then an event that waits is turned away.
-    ghost may_close: { Type 0 };
+// How many asks of a node aren't answered at most: the pending one, and those that wait behind it.
+const MOST_UNANSWERED: usize = 33;
 
-    /// Waits until the event may be handed over, and takes a seat for it. False where it has closed.
-    fn sit<R: Wait>(&self, rt: &R, event: &Event) -> bool
-        ensures { IsFalse result → may_close };
-}
-
-/// The seats of a node for what comes over its connections.
-#[derive(Drop)]
-pub struct Seat<'a> {
-    pub room: &'a Room,
-    pub bell: &'a Bell,
-    pub me: NodeId,
-}
-
-impl Seating for Seat<'_> {
-    ghost use Rattle.std.specs.Prelude.{⊤};
-
-    ghost may_close = { ⊤ };
-
-    // An ask under number 0 makes nothing, so it needs no more than a seat.
-    fn sit<R: Wait>(&self, rt: &R, event: &Event) -> bool {
-        match event {
-            Event::Ask { request: 0, .. } => self.room.sit_anyway(rt, self.bell),
-            _ => self.room.sit(rt, self.bell, self.me, event),
-        }
-    }
+/// Why an event got no seat.
+#[derive(Clone, Copy, Debug, PartialEq, Eq)]
+pub enum NoSeat {
+    /// The node takes no further event.
+    Closed,
+    /// Its connection is over.
+    Over,
+    /// A newer connection brings what the same node sends.
+    Replaced,
+    /// It is a message that was held back for so long that its link sends it again.
+    Waited,
+    /// Its connection is kept for the operator's requests.
+    Spare,
 }
 
 /// One seat for each entry of the queue. An event takes one before it is handed over, and leaves it when it is refused or
 /// flushed.
 #[derive(Drop)]
-pub struct Room {
-    seats: Mutex<Seats>,
+pub struct Room<F: Flushed> {
+    seats: Mutex<Seats<F>>,
     // A seat may be free, or what waits for one may be let in.
     changed: Condvar,
-    // Events were flushed or refused.
+    // Events were flushed.
     settled: Condvar,
+    // How many accepted events were told of.
+    accepted: AtomicU64,
 }
 
 #[derive(Drop)]
-struct Seats {
+struct Seats<F: Flushed> {
     taken: u64,
     // How many events were flushed since the start.
-    flushed: u64,
-    // How many posts the node kept after the last turn, and which peers were furthest behind then.
+    flushed: Durable<F>,
+    // How many posts the node kept after the last turn, which peers were furthest behind then, and what wasn't answered.
     kept: u64,
     furthest: Vec<NodeId>,
+    unanswered: Vec<Asked>,
     // How many seconds have passed.
     ticks: u64,
     is_closed: bool,
 }
 
-impl Seats {
-    // Whether there is a seat for an event that has waited since that tick.
-    fn has_one_for(&self, me: NodeId, event: &Event, since: u64) -> bool {
-        let kept = self.kept.saturating_add(self.taken);
-        let waited = self.ticks.saturating_sub(since);
+impl<F: Flushed> Seats<F> {
+    // Whether there is a seat for an event that was held back for so long, where so many events were accepted.
+    fn has_one_for(&self, me: NodeId, event: &Event, waited: u64, accepted: u64) -> bool {
+        let unflushed = accepted.saturating_sub(self.flushed.count());
+        let kept = self.kept.saturating_add(unflushed);
         self.taken < SEATS && may_hand_over(me, event, kept, self.is_furthest(event), waited)
-    }
-
-    // How many events are flushed, at most, once each that was accepted so far is: those that have a seat may be refused yet.
-    fn due(&self) -> u64 {
-        self.flushed.saturating_add(self.taken)
     }
 
     // Wakes the flusher where something may lie in the queue.
@@ -98,36 +87,91 @@ impl Seats {
             _ => false,
         }
     }
+
+    // Looks who is furthest behind, and what isn't answered.
+    fn look(&mut self, node: &Node) {
+        self.kept = node.kept() as u64;
+        let core = node.core();
+        note_furthest(core, &mut self.furthest);
+        note_unanswered(core, &mut self.unanswered);
+    }
 }
 
-impl Room {
-    pub fn new(alloc: Global) -> Result<Self, AllocError> {
+fn note_furthest(core: &Core, furthest: &mut Vec<NodeId>) {
+    furthest.clear();
+    let least = core.lowest();
+    for link in core.links().rows() {
+        if is_furthest_behind(core, least, link.peer) {
+            let _ = furthest.push(link.peer);
+        }
+    }
+}
+
+fn note_unanswered(core: &Core, unanswered: &mut Vec<Asked>) {
+    unanswered.clear();
+    if let Some(asked) = pending_ask(core.ops().stage()) {
+        let _ = unanswered.push(asked);
+    }
+    for asked in core.ops().line().asks() {
+        let _ = unanswered.push(*asked);
+    }
+}
+
+fn pending_ask(stage: Stage) -> Option<Asked> {
+    match stage {
+        Stage::Idle => None,
+        Stage::Storing(pending) | Stage::Querying(pending) | Stage::StoringBack(pending) => {
+            Some(pending.asked)
+        }
+    }
+}
+
+impl<F: Flushed> Room<F> {
+    /// The room of a node that was opened, of which no event is flushed yet.
+    pub fn new(alloc: Global, flushed: Durable<F>) -> Result<Self, AllocError> {
         Ok(Room {
             seats: Mutex::new(Seats {
                 taken: 0,
-                flushed: 0,
+                flushed,
                 kept: 0,
                 furthest: Vec::with_capacity(alloc, MOST_FURTHEST)?,
+                unanswered: Vec::with_capacity(alloc, MOST_UNANSWERED)?,
                 ticks: 0,
                 is_closed: false,
             }),
             changed: Condvar::new(),
             settled: Condvar::new(),
+            accepted: AtomicU64::new(0),
         })
     }
 
     /// Waits until the event may be handed to the node `me`, and takes a seat for it. It wakes the flusher, since what would
-    /// make room may lie in the queue. False where the room is closed.
-    pub fn sit<R: Wait>(&self, rt: &R, bell: &Bell, me: NodeId, event: &Event) -> bool {
+    /// make room may lie in the queue. It gives up where the room is closed or the connection is over, and of a message that
+    /// its link sends again.
+    pub fn sit<R: Wait>(
+        &self,
+        rt: &R,
+        bell: &Bell,
+        me: NodeId,
+        event: &Event,
+        over: &Stop,
+    ) -> Result<(), NoSeat> {
         let mut seats = self.seats.lock(rt);
         let since = seats.ticks;
         for _ in rt.forever() {
             if seats.is_closed {
-                return false;
+                return Err(NoSeat::Closed);
             }
-            if seats.has_one_for(me, event, since) {
+            if over.is_set() {
+                return Err(NoSeat::Over);
+            }
+            let waited = seats.ticks.saturating_sub(since);
+            if seats.has_one_for(me, event, waited, self.accepted.load(Ordering::SeqCst)) {
                 seats.taken = seats.taken.saturating_add(1);
-                return true;
+                return Ok(());
+            }
+            if is_given_up(event, waited) {
+                return Err(NoSeat::Waited);
             }
             seats.wake(bell);
             seats = self.changed.wait(rt, seats);
@@ -152,50 +196,70 @@ impl Room {
         unreachable!()
     }
 
+    /// An event was accepted: others are held back for it until it is flushed.
+    pub fn accept(&self) {
+        self.accepted.fetch_add(1, Ordering::SeqCst);
+    }
+
     /// An event was refused: its seat is free.
     pub fn leave<R: Wait>(&self, rt: &R) {
         let mut seats = self.seats.lock(rt);
+        let was_full = seats.taken >= SEATS;
         seats.taken = seats.taken.saturating_sub(1);
         drop(seats);
-        self.changed.notify_all();
-        self.settled.notify_all();
+        if was_full {
+            self.changed.notify_all();
+        }
     }
 
-    /// Waits until each event that was accepted so far is durable, and wakes the flusher where one isn't. False where the room
-    /// is closed before that.
-    pub fn settle<R: Wait>(&self, rt: &R, bell: &Bell) -> bool {
+    /// Waits until so many events are durable, and wakes the flusher where they aren't. None where the room is closed before
+    /// that.
+    pub fn settle<R: Wait>(&self, rt: &R, bell: &Bell, judged: u64) -> Option<Durable<F>>
+        ensures { IfSome result (λ durable. judged ≤ durable) }
+    {
         let mut seats = self.seats.lock(rt);
-        let mut due = seats.due();
-        if seats.flushed < due {
+        if seats.flushed.count() < judged {
             bell.ring();
         }
         for _ in rt.forever() {
-            if seats.flushed >= due {
-                return true;
+            let durable = seats.flushed.again();
+            if durable.count() >= judged {
+                return Some(durable);
             }
             if seats.is_closed {
-                return false;
+                return None;
             }
             seats = self.settled.wait(rt, seats);
-            due = due.min(seats.due());
         }
         unreachable!()
     }
 
-    /// So many events were flushed, and left the node like this: their seats are free.
-    pub fn turned<R: Wait>(&self, rt: &R, events: u64, node: &Node) {
+    /// Waits until all that was asked over the connection with that ticket is answered, or asked over another one.
+    pub fn outlast<R: Wait>(&self, rt: &R, bell: &Bell, doors: &Doors, ticket: u64, over: &Stop) {
+        let accepted = self.accepted.load(Ordering::SeqCst);
+        let mut seats = self.seats.lock(rt);
+        if seats.flushed.count() < accepted {
+            bell.ring();
+        }
+        for _ in rt.forever() {
+            let is_flushed = seats.flushed.count() >= accepted;
+            if is_flushed && !doors.awaits(rt, ticket, &seats.unanswered) {
+                return;
+            }
+            if seats.is_closed || over.is_set() {
+                return;
+            }
+            seats = self.settled.wait(rt, seats);
+        }
+        unreachable!()
+    }
+
+    /// So many of `flushed` events were flushed just now, and left the node like this: their seats are free.
+    pub fn turned<R: Wait>(&self, rt: &R, events: u64, flushed: Durable<F>, node: &Node) {
         let mut seats = self.seats.lock(rt);
         seats.taken = seats.taken.saturating_sub(events);
-        seats.flushed = seats.flushed.saturating_add(events);
-        seats.kept = node.kept() as u64;
-        seats.furthest.clear();
-        let core = node.core();
-        let least = core.lowest();
-        for link in core.links().rows() {
-            if is_furthest_behind(core, least, link.peer) {
-                let _ = seats.furthest.push(link.peer);
-            }
-        }
+        seats.flushed = flushed;
+        seats.look(node);
         drop(seats);
         self.changed.notify_all();
         self.settled.notify_all();
@@ -207,6 +271,7 @@ impl Room {
         seats.ticks = seats.ticks.saturating_add(1);
         drop(seats);
         self.changed.notify_all();
+        self.settled.notify_all();
     }
 
     /// Nobody waits any more.

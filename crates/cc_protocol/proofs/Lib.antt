@@ -3,5 +3,6 @@ mod IncomingLaws
 mod LearningLaws
 mod OperatingLaws
 mod RoutingLaws
+mod SpeakingLaws
 mod StirLaws
 mod WishingLaws

@@ -1,15 +1,16 @@
 -- What a table of routes keeps, and where answers go.
---     entered_kept, routed_kept, taken_back_kept, closed_kept     each step keeps the bounds, and that routes lead to open connections
---     door_open                                                   the connection that answers go to is open
---     door_asked, door_others, door_closed                        a look-up after a route, of its session and of another;  and after a connection is gone
+--     door_kept, routed_kept, kept_routes, closed_kept    each step keeps the bounds, and that routes lead to open connections
+--     door_open                                                       the connection that answers go to is open
+--     door_asked, door_judged, door_others, ask_refused, door_closed  a look-up after a route, of its request, of another one and of another session;
+--                                                                     after a refusal;  and after a connection is gone
 use Rattle.std.proofs.Common.{◌≡◌, ◌≢◌, ◌≤◌, ◌<◌, ◌+◌, ◌==◌, ◌||◌, not, ℕ, Bool, true, false, cond, List, [], ◌∷◌, ◌++◌, length, Option, Some, None, refl, ap, ◌∙◌, arith}
-use Rattle.std.specs.Prelude.{IsTrue, IfSome, filter, find, option_map}
+use Rattle.std.specs.Prelude.{IsTrue, IfSome, IsSome, ◌&&◌, filter, find, option_map}
 use Rattle.std.specs.List.{AllByRecursion}
 use Rattle.std.proofs.lemmas.Bool.Decides.{nat_tests}
 use Rattle.std.proofs.lemmas.List.Folds.{list_any-append}
 use Rattle.std.proofs.lemmas.List.{length-append}
 use Rattle.cc_protocol.specs.declared.route.Route.{Route}
-use Rattle.cc_protocol.specs.Routing.{Routing, IsRouting, is_open, others, door_in, door_of, may_route, routed, closed, is_route, door_limit, route_limit}
+use Rattle.cc_protocol.specs.Routing.{Routing, IsRouting, is_open, is_ask, ticket_of, or_else, door_in, door_of, may_route, routed, taken_back, closed, door_limit, route_limit}
 
 -- ---- lists
 
@@ -30,9 +31,9 @@ module _ {X : Type 0} where
   each_filter P Q p to [] each = tt
   each_filter P Q p to (x ∷ xs) each = each_if Q (p x) x (filter p xs) (λ passes. to x each.0 passes) (each_filter P Q p to xs each.1)
 
-  pub each_push : (P Q : X → Type 0) → ((x : X) → P x → Q x) → (xs : List X) (y : X) → AllByRecursion P xs → Q y → AllByRecursion Q (xs ++ y ∷ [])
-  each_push P Q to [] y each last = (last, tt)
-  each_push P Q to (x ∷ xs) y each last = (to x each.0, each_push P Q to xs y each.1 last)
+  pub each_more : (P Q : X → Type 0) → ((x : X) → P x → Q x) → (xs : List X) → AllByRecursion P xs → AllByRecursion Q xs
+  each_more P Q to [] each = tt
+  each_more P Q to (x ∷ xs) each = (to x each.0, each_more P Q to xs each.1)
 
   found_if : (P : X → Type 0) (b : Bool) (x : X) (o : Option X) → P x → IfSome o P → IfSome (cond b (Some x) o) P
   found_if P true x o h rest = h
@@ -67,128 +68,144 @@ open_without ticket gone (door ∷ doors) h apart =
 
 -- ---- the bounds
 
-pub entered_kept : (doors : List ℕ) (routes : List Route) (issued room route_room ticket more : ℕ) → IsRouting (record { doors = doors; routes = routes; issued = issued }) room route_room
-    → length doors < door_limit → ticket ≡ issued + 1 → room ≤ more → IsRouting (record { doors = doors ++ ticket ∷ []; routes = routes; issued = ticket }) more route_room
-entered_kept doors routes issued room route_room ticket more is below next le = record {
-  doors_fit = omega (arith, length-append doors (ticket ∷ []), below);
-  door_room = omega (arith, is.door_room, le);
-  routes_fit = is.routes_fit;
-  route_room = is.route_room;
-  given = each_push (λ door. door ≤ issued) (λ door. door ≤ ticket) (λ door h. omega (arith, h, next)) doors ticket is.given (omega arith);
-  lead = all_open routes is.lead;
-}
-  where
-    all_open : (rs : List Route) → AllByRecursion (λ (r : Route). IsTrue (is_open r.ticket doors)) rs → AllByRecursion (λ (r : Route). IsTrue (is_open r.ticket (doors ++ ticket ∷ []))) rs
-    all_open [] h = tt
-    all_open (r ∷ rs) h = (open_push r.ticket doors (ticket ∷ []) h.0, all_open rs h.1)
+abbrev table : List ℕ → List ℕ → List Route → ℕ → ℕ → Routing
+table doors spare routes issued asked = record { doors = doors; spare = spare; routes = routes; issued = issued; asked = asked }
 
-pub routed_kept : (doors : List ℕ) (routes : List Route) (issued room route_room session ticket more : ℕ) → IsRouting (record { doors = doors; routes = routes; issued = issued }) room route_room
-    → is_open ticket doors ≡ true → length (others session routes) < route_limit → route_room ≤ more
-    → IsRouting (record { doors = doors; routes = others session routes ++ record { session = session; ticket = ticket } ∷ []; issued = issued }) room more
-routed_kept doors routes issued room route_room session ticket more is open' below le =
-    let P : Route → Type 0 = λ r. IsTrue (is_open r.ticket doors) in
-    let rest = others session routes in
-    record {
-      doors_fit = is.doors_fit;
-      door_room = is.door_room;
-      routes_fit = omega (arith, length-append rest (record { session = session; ticket = ticket } ∷ []), below);
-      route_room = omega (arith, is.route_room, le);
-      given = is.given;
-      lead = each_push P P (λ r h. h) rest _ (each_filter P P _ (λ r h passes. h) routes is.lead) open';
-    }
+module _ (doors spare : List ℕ) (routes : List Route) (issued asked room spare_room route_room : ℕ) (is : IsRouting (table doors spare routes issued asked) room spare_room route_room) where
+  pub door_kept : (ticket more : ℕ) → length doors < door_limit → room ≤ more → IsRouting (table (doors ++ ticket ∷ []) spare routes ticket asked) more spare_room route_room
+  door_kept ticket more below le = record {
+    doors_fit = omega (arith, length-append doors (ticket ∷ []), below);
+    door_room = omega (arith, is.door_room, le);
+    spare_fits = is.spare_fits;
+    spare_room = is.spare_room;
+    routes_fit = is.routes_fit;
+    route_room = is.route_room;
+    placed = is.placed;
+    lead = all_open routes is.lead;
+  }
+    where
+      all_open : (rs : List Route) → AllByRecursion (λ (r : Route). IsTrue (is_open r.ticket doors)) rs → AllByRecursion (λ (r : Route). IsTrue (is_open r.ticket (doors ++ ticket ∷ []))) rs
+      all_open [] h = tt
+      all_open (r ∷ rs) h = (open_push r.ticket doors (ticket ∷ []) h.0, all_open rs h.1)
 
-pub taken_back_kept : (doors : List ℕ) (routes : List Route) (issued room route_room session ticket : ℕ) → IsRouting (record { doors = doors; routes = routes; issued = issued }) room route_room
-    → IsRouting (record { doors = doors; routes = filter (λ r. not (is_route session ticket r)) routes; issued = issued }) room route_room
-taken_back_kept doors routes issued room route_room session ticket is =
-    let P : Route → Type 0 = λ r. IsTrue (is_open r.ticket doors) in
-    record {
-      doors_fit = is.doors_fit;
-      door_room = is.door_room;
-      routes_fit = omega (arith, shorter (λ r. not (is_route session ticket r)) routes, is.routes_fit);
-      route_room = is.route_room;
-      given = is.given;
-      lead = each_filter P P _ (λ r h passes. h) routes is.lead;
-    }
+  pub routed_kept : (session request ticket place more : ℕ) → is_open ticket doors ≡ true → length routes < route_limit → place ≡ asked + 1 → route_room ≤ more
+      → IsRouting (table doors spare (record { session = session; request = request; ticket = ticket; place = place } ∷ routes) issued place) room spare_room more
+  routed_kept session request ticket place more open' below next le = record {
+    doors_fit = is.doors_fit;
+    door_room = is.door_room;
+    spare_fits = is.spare_fits;
+    spare_room = is.spare_room;
+    routes_fit = omega (arith, below);
+    route_room = omega (arith, is.route_room, le);
+    placed = (omega arith, each_more (λ (r : Route). r.place ≤ asked) (λ (r : Route). r.place ≤ place) (λ (r : Route) h. omega (arith, h, next)) routes is.placed);
+    lead = (open', is.lead);
+  }
 
-pub closed_kept : (doors : List ℕ) (routes : List Route) (issued room route_room ticket : ℕ) → IsRouting (record { doors = doors; routes = routes; issued = issued }) room route_room
-    → IsRouting (record { doors = filter (λ door. not (door == ticket)) doors; routes = filter (λ (r : Route). not (r.ticket == ticket)) routes; issued = issued }) room route_room
-closed_kept doors routes issued room route_room ticket is =
-    let P : Route → Type 0 = λ r. IsTrue (is_open r.ticket doors) in
-    let Q : Route → Type 0 = λ r. IsTrue (is_open r.ticket (filter (λ door. not (door == ticket)) doors)) in
-    record {
-      doors_fit = omega (arith, shorter (λ door. not (door == ticket)) doors, is.doors_fit);
-      door_room = is.door_room;
-      routes_fit = omega (arith, shorter (λ (r : Route). not (r.ticket == ticket)) routes, is.routes_fit);
-      route_room = is.route_room;
-      given = each_filter (λ door. door ≤ issued) (λ door. door ≤ issued) _ (λ door h passes. h) doors is.given;
-      lead = each_filter P Q _ (λ r h passes. open_without r.ticket ticket doors h (not_true _ passes)) routes is.lead;
-    }
+  pub kept_routes : (p : Route → Bool) → IsRouting (table doors spare (filter p routes) issued asked) room spare_room route_room
+  kept_routes p =
+      let P : Route → Type 0 = λ r. IsTrue (is_open r.ticket doors) in
+      let Q : Route → Type 0 = λ r. r.place ≤ asked in
+      record {
+        doors_fit = is.doors_fit;
+        door_room = is.door_room;
+        spare_fits = is.spare_fits;
+        spare_room = is.spare_room;
+        routes_fit = omega (arith, shorter p routes, is.routes_fit);
+        route_room = is.route_room;
+        placed = each_filter Q Q p (λ r h passes. h) routes is.placed;
+        lead = each_filter P P p (λ r h passes. h) routes is.lead;
+      }
+
+  pub closed_kept : (ticket : ℕ)
+      → IsRouting (table (filter (λ door. not (door == ticket)) doors) (filter (λ door. not (door == ticket)) spare) (filter (λ (r : Route). not (r.ticket == ticket)) routes) issued asked) room spare_room route_room
+  closed_kept ticket =
+      let P : Route → Type 0 = λ r. IsTrue (is_open r.ticket doors) in
+      let Q : Route → Type 0 = λ r. IsTrue (is_open r.ticket (filter (λ door. not (door == ticket)) doors)) in
+      let T : Route → Type 0 = λ r. r.place ≤ asked in
+      record {
+        doors_fit = omega (arith, shorter (λ door. not (door == ticket)) doors, is.doors_fit);
+        door_room = is.door_room;
+        spare_fits = omega (arith, shorter (λ door. not (door == ticket)) spare, is.spare_fits);
+        spare_room = is.spare_room;
+        routes_fit = omega (arith, shorter (λ (r : Route). not (r.ticket == ticket)) routes, is.routes_fit);
+        route_room = is.route_room;
+        placed = each_filter T T _ (λ r h passes. h) routes is.placed;
+        lead = each_filter P Q _ (λ r h passes. open_without r.ticket ticket doors h (not_true _ passes)) routes is.lead;
+      }
 
 -- ---- where answers go
 
-ticket_of : (P : ℕ → Type 0) (o : Option Route) → IfSome o (λ (r : Route). P r.ticket) → IfSome (option_map (λ (r : Route). r.ticket) o) P
-ticket_of P None h = h
-ticket_of P (Some r) h = h
+some_ticket : (P : ℕ → Type 0) (o : Option Route) → IfSome o (λ (r : Route). P r.ticket) → IfSome (ticket_of o) P
+some_ticket P None h = h
+some_ticket P (Some r) h = h
 
-pub door_open : (session : ℕ) (doors : List ℕ) (routes : List Route) → AllByRecursion (λ (r : Route). IsTrue (is_open r.ticket doors)) routes
-    → IfSome (door_in session routes) (λ ticket. IsTrue (is_open ticket doors))
-door_open session doors routes lead = ticket_of (λ ticket. IsTrue (is_open ticket doors)) _ (found_each (λ (r : Route). IsTrue (is_open r.ticket doors)) _ routes lead)
+one_of : (P : ℕ → Type 0) (a b : Option ℕ) → IfSome a P → IfSome b P → IfSome (or_else a b) P
+one_of P None b h k = k
+one_of P (Some n) b h k = h
 
-module _ {X : Type 0} (p : X → Bool) where
-  gone_if : (b : Bool) (x : X) (ys zs : List X) → p x ≡ b → find p (cond (not b) (x ∷ ys) ys ++ zs) ≡ find p (ys ++ zs)
-  gone_if true x ys zs e = refl
-  gone_if false x ys zs e = rw e refl
+each_door : (P : ℕ → Type 0) (session request : ℕ) (routes : List Route) → AllByRecursion (λ (r : Route). P r.ticket) routes → IfSome (door_in session request routes) P
+each_door P session request routes each =
+    let found = λ (p : Route → Bool). some_ticket P (find p routes) (found_each (λ (r : Route). P r.ticket) p routes each) in
+    one_of P (ticket_of (find (is_ask session request) routes)) (ticket_of (find (λ (r : Route). r.session == session) routes)) (found _) (found _)
 
-  find_gone : (xs zs : List X) → find p (filter (λ x. not (p x)) xs ++ zs) ≡ find p zs
-  find_gone [] zs = refl
-  find_gone (x ∷ xs) zs = gone_if (p x) x (filter (λ y. not (p y)) xs) zs refl ∙ find_gone xs zs
-
-  find_last : (xs : List X) (y : X) → p y ≡ false → find p (xs ++ y ∷ []) ≡ find p xs
-  find_last [] y e = rw e refl
-  find_last (x ∷ xs) y e = ap (λ o. cond (p x) (Some x) o) (find_last xs y e)
-
-  kept_if : (b : Bool) (x : X) (xs ys : List X) → (b ≡ true → p x ≡ false) → find p ys ≡ find p xs → find p (cond (not b) (x ∷ ys) ys) ≡ find p (x ∷ xs)
-  kept_if true x xs ys apart same = rw (apart refl) same
-  kept_if false x xs ys apart same = ap (λ o. cond (p x) (Some x) o) same
-
-  find_kept : (q : X → Bool) → ((x : X) → q x ≡ true → p x ≡ false) → (xs : List X) → find p (filter (λ x. not (q x)) xs) ≡ find p xs
-  find_kept q apart [] = refl
-  find_kept q apart (x ∷ xs) = kept_if (q x) x xs (filter (λ y. not (q y)) xs) (apart x) (find_kept q apart xs)
+pub door_open : (session request : ℕ) (doors : List ℕ) (routes : List Route) → AllByRecursion (λ (r : Route). IsTrue (is_open r.ticket doors)) routes
+    → IfSome (door_in session request routes) (λ ticket. IsTrue (is_open ticket doors))
+door_open session request doors routes lead = each_door (λ ticket. IsTrue (is_open ticket doors)) session request routes lead
 
 same_number : (n : ℕ) → (n == n) ≡ true
 same_number n = grind (arith, nat_tests)
 
-other_number : (n m k : ℕ) → k ≢ m → (n == m) ≡ true → (n == k) ≡ false
-other_number n m k apart same = grind (arith, nat_tests)
+other_number : (n k : ℕ) → k ≢ n → (n == k) ≡ false
+other_number n k apart = grind (arith, nat_tests)
 
-abbrev ticket_at : Option Route → Option ℕ
-ticket_at o = option_map (λ (r : Route). r.ticket) o
+pub door_asked : (session request ticket : ℕ) (g : Routing) → may_route ticket g ≡ true → door_of session request (routed session request ticket g) ≡ Some ticket
+door_asked session request ticket g h = rw (h, same_number session, same_number request) refl
 
-pub door_asked : (session ticket : ℕ) (g : Routing) → may_route session ticket g ≡ true → door_of session (routed session ticket g) ≡ Some ticket
-door_asked session ticket g h =
-    rw h (ap ticket_at (find_gone (λ (r : Route). r.session == session) g.routes (record { session = session; ticket = ticket } ∷ [])) ∙ rw (same_number session) refl)
+door_if : (b : Bool) (session request place : ℕ) (g : Routing) (routes : List Route) → door_in session request routes ≡ door_in session request g.routes
+    → door_of session request (cond b (record g { routes = routes; asked = place }) g) ≡ door_of session request g
+door_if true session request place g routes same = same
+door_if false session request place g routes same = refl
 
-door_if : (b : Bool) (other : ℕ) (g : Routing) (routes : List Route) → door_in other routes ≡ door_in other g.routes → door_of other (cond b (record g { routes = routes }) g) ≡ door_of other g
-door_if true other g routes same = same
-door_if false other g routes same = refl
+some_first : (o : Option Route) (a b : Option ℕ) → IsSome o → or_else (ticket_of o) a ≡ or_else (ticket_of o) b
+some_first None a b h = cc
+some_first (Some r) a b h = refl
 
-pub door_others : (session ticket other : ℕ) (g : Routing) → other ≢ session → door_of other (routed session ticket g) ≡ door_of other g
-door_others session ticket other g apart =
-    let p : Route → Bool = λ r. r.session == other in
-    let row : Route = record { session = session; ticket = ticket } in
-    door_if (may_route session ticket g) other g (others session g.routes ++ row ∷ [])
-    (ap ticket_at (find_last p (others session g.routes) row (other_number session session other apart (same_number session))
-    ∙ find_kept p (λ (r : Route). r.session == session) (λ (r : Route) same. other_number r.session session other apart same) g.routes))
+not_this : (b c : Bool) → c ≡ false → (b && c) ≡ false
+not_this true c h = h
+not_this false c h = refl
+
+pub door_judged : (session request ticket other : ℕ) (g : Routing) → other ≢ request → IsSome (find (is_ask session other) g.routes)
+    → door_of session other (routed session request ticket g) ≡ door_of session other g
+door_judged session request ticket other g apart there =
+    let row : Route = record { session = session; request = request; ticket = ticket; place = g.asked + 1 } in
+    door_if (may_route ticket g) session other (g.asked + 1) g (row ∷ g.routes)
+    (rw (not_this (session == session) (request == other) (other_number request other apart)) (some_first (find (is_ask session other) g.routes) _ _ there))
+
+pub door_others : (session request ticket other that : ℕ) (g : Routing) → other ≢ session → door_of other that (routed session request ticket g) ≡ door_of other that g
+door_others session request ticket other that g apart =
+    let row : Route = record { session = session; request = request; ticket = ticket; place = g.asked + 1 } in
+    door_if (may_route ticket g) other that (g.asked + 1) g (row ∷ g.routes) (rw (other_number session other apart) refl)
+
+later : (place asked : ℕ) → place ≤ asked → not (place == (asked + 1)) ≡ true
+later place asked h = grind (arith, nat_tests)
+
+none_at : (asked : ℕ) (routes : List Route) → AllByRecursion (λ (r : Route). r.place ≤ asked) routes → filter (λ (r : Route). not (r.place == (asked + 1))) routes ≡ routes
+none_at asked [] placed = refl
+none_at asked (r ∷ rs) placed = rw (later r.place asked placed.0) (ap (λ l. r ∷ l) (none_at asked rs placed.1))
+
+pub ask_refused : (session request ticket : ℕ) (g : Routing) → AllByRecursion (λ (r : Route). r.place ≤ g.asked) g.routes → may_route ticket g ≡ true
+    → (taken_back (g.asked + 1) (routed session request ticket g)).routes ≡ g.routes
+ask_refused session request ticket g placed h = rw (h, same_number (g.asked + 1)) (none_at g.asked g.routes placed)
 
 not_that : (ticket : ℕ) (o : Option ℕ) → IfSome o (λ n. (n == ticket) ≡ false) → o ≢ Some ticket
 not_that ticket None h e = cc
 not_that ticket (Some n) h e = grind (arith, nat_tests)
 
-pub door_closed : (session ticket : ℕ) (g : Routing) → door_of session (closed ticket g) ≢ Some ticket
-door_closed session ticket g =
-    let P : Route → Type 0 = λ r. (r.ticket == ticket) ≡ false in
-    let each = each_filter (λ r. Unit {0}) P (λ (r : Route). not (r.ticket == ticket)) (λ (r : Route) h passes. not_true _ passes) g.routes (any g.routes) in
-    not_that ticket _ (ticket_of (λ n. (n == ticket) ≡ false) _ (found_each P _ _ each))
+pub door_closed : (session request ticket : ℕ) (g : Routing) → door_of session request (closed ticket g) ≢ Some ticket
+door_closed session request ticket g =
+    let P : ℕ → Type 0 = λ n. (n == ticket) ≡ false in
+    let each = each_filter (λ r. Unit {0}) (λ (r : Route). P r.ticket) (λ (r : Route). not (r.ticket == ticket)) (λ (r : Route) h passes. not_true _ passes) g.routes (any g.routes) in
+    not_that ticket _ (each_door P session request _ each)
   where
     any : (rs : List Route) → AllByRecursion (λ r. Unit {0}) rs
     any [] = tt

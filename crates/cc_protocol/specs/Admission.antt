@@ -2,6 +2,7 @@
 --     free_posts          how many posts may still be kept
 --     may_stir            whether the node `me` may make a post or an answer of a message, in one state or another
 --     may_hand_over       whether an event may be handed over now
+--     is_given_up         whether an event that is held back waits no longer
 --     is_furthest_behind  whether a peer's acknowledgement would free a post
 use Rattle.std.specs.Prelude.{ℕ, ◌-◌, ◌==◌, ◌&&◌, ◌||◌, not, nat_le, Bool, true, false}
 use Rattle.std.specs.Option.{option_map_or}
@@ -40,6 +41,15 @@ may_hand_over me (event.Deliver from number m) kept is_furthest waited = not (ma
 may_hand_over me (event.Acked peer number) kept is_furthest waited = true
 may_hand_over me (event.Ask session request command) kept is_furthest waited = nat_le 10 waited || nat_le 384 (free_posts kept)
 may_hand_over me (event.Retire node) kept is_furthest waited = true
+
+-- a message that was held back for five seconds: its link sends it again
+abbrev pub is_given_up : Event → ℕ → Bool
+is_given_up event.Enter waited = false
+is_given_up event.Leave waited = false
+is_given_up (event.Deliver from number m) waited = nat_le 5 waited
+is_given_up (event.Acked peer number) waited = false
+is_given_up (event.Ask session request command) waited = false
+is_given_up (event.Retire node) waited = false
 
 -- of the links to peers that haven't left, its link is one of those that have come least far
 abbrev pub is_furthest_behind : Core → ℕ → Bool

@@ -4,6 +4,7 @@ pub mod Admission
 pub mod Asking
 pub mod Operating
 pub mod Routing
+pub mod Speaking
 pub mod Incoming
 pub mod Bundles
 pub mod Wishing

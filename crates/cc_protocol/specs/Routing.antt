@@ -1,97 +1,122 @@
--- Which connections are open, and over which one each session asked last.
---     Routing                    the tickets of the open connections, the sessions' routes, and the last ticket given
---     door_of                    the connection that a session's answers go to
---     may_enter, entered         whether one more connection is let in, and what is open then
---     may_route, routed          whether a session's answers can go to a connection, and where answers go then
---     shows_no_session           whether the refusal of a request tells that the node keeps nothing of a session
---     taken_back, closed         without the route of one session to one connection;  without a connection and its routes
---     IsRouting                  how many there are, that routes lead to open connections, and that tickets were given
-use Rattle.std.specs.Prelude.{◌≤◌, ℕ, ◌+◌, ◌^◌, ◌==◌, ◌&&◌, nat_lt, not, Bool, true, false, List, [], ◌∷◌, ◌++◌, length, filter, find, Option, if◌then◌else◌, option_map, IsTrue}
+-- Which connections are open, and where the answers of sessions go.
+--     Routing                      the open connections by their tickets, the routes of asks, newest first, and what was given
+--     door_limit_for, spare_limit  how many connections there are from each origin, and beside them for the operator
+--     admitted, entered            what one more connection may do, and what is open then
+--     may_route, routed            whether an ask over a connection can have a route, and where answers go then
+--     taken, taken_back            the ask was taken by the node;  it was refused
+--     closed                       without a connection and its routes
+--     door_of                      the connection that an answer goes to
+--     IsRouting                    how many there are, that routes lead to open connections, and that tickets and places were given
+use Rattle.std.specs.Prelude.{◌≤◌, ℕ, ◌+◌, ◌^◌, ◌==◌, ◌&&◌, ◌||◌, nat_lt, not, Bool, true, false, List, [], ◌∷◌, ◌++◌, length, filter, find, Option, Some, None, if◌then◌else◌, option_map, IsTrue}
 use Rattle.std.specs.List.{list_any, AllByRecursion}
-use Rattle.cc_wire.specs.declared.refusal.Refusal.{Refusal}
-use Rattle.cc_wire.specs.declared.refusal.Refusal.TheVariants as refusal
+use Rattle.cc_protocol.specs.declared.origin.Origin.{Origin}
+use Rattle.cc_protocol.specs.declared.origin.Origin.TheVariants as origin
+use Rattle.cc_protocol.specs.declared.origin.Admitted.{Admitted}
 use Rattle.cc_protocol.specs.declared.route.Route.{Route}
 
 pub record Routing : Type 0 where
   pub doors : List ℕ
+  -- connections beyond the bounds, which take the operator's requests alone
+  pub spare : List ℕ
   pub routes : List Route
+  -- the last ticket, and the last place of an ask
   pub issued : ℕ
+  pub asked : ℕ
 
 abbrev pub no_routing : Routing
-no_routing = record { doors = []; routes = []; issued = 0 }
+no_routing = record { doors = []; spare = []; routes = []; issued = 0; asked = 0 }
 
 abbrev pub door_limit : ℕ
 door_limit = 1024
 
--- a part of the connections is kept for the addresses of peers
-abbrev pub door_limit_for : Bool → ℕ
-door_limit_for true = 1024
-door_limit_for false = 768
+-- a part of the connections is kept for the addresses of peers, and a part of these for the machine itself
+abbrev pub door_limit_for : Origin → ℕ
+door_limit_for origin.Stranger = 768
+door_limit_for origin.Peer = 1016
+door_limit_for origin.Loopback = 1024
 
--- as many as a node has sessions, and one more for each connection, whose ask it may refuse
+abbrev pub spare_limit : ℕ
+spare_limit = 8
+
+-- as many as a node has sessions, and one more for each connection, whose ask is being judged
 abbrev pub route_limit : ℕ
 route_limit = 1280
 
 abbrev pub is_open : ℕ → List ℕ → Bool
 is_open ticket doors = list_any (λ door. door == ticket) doors
 
-abbrev pub door_in : ℕ → List Route → Option ℕ
-door_in session routes = option_map (λ (r : Route). r.ticket) (find (λ (r : Route). r.session == session) routes)
+abbrev pub has_ticket : Routing → Bool
+has_ticket g = nat_lt (g.issued + 1) (2 ^ 64)
 
-abbrev pub door_of : ℕ → Routing → Option ℕ
-door_of session g = door_in session g.routes
+abbrev pub has_room : Origin → Routing → Bool
+has_room from g = nat_lt (length g.doors) (door_limit_for from)
 
-abbrev pub may_enter : Bool → Routing → Bool
-may_enter is_peer g = nat_lt (length g.doors) (door_limit_for is_peer) && nat_lt (g.issued + 1) (2 ^ 64)
+abbrev pub has_spare : Routing → Bool
+has_spare g = nat_lt (length g.spare) spare_limit
 
-abbrev pub entered : Bool → Routing → Routing
-entered is_peer g = if may_enter is_peer g then record g { doors = g.doors ++ (g.issued + 1) ∷ []; issued = g.issued + 1 } else g
+abbrev pub admitted : Origin → Routing → Option Admitted
+admitted from g =
+    if has_ticket g && (has_room from g || has_spare g)
+    then Some (record { ticket = g.issued + 1; is_spare = not (has_room from g) })
+    else None
 
-abbrev pub others : ℕ → List Route → List Route
-others session routes = filter (λ (r : Route). not (r.session == session)) routes
+abbrev pub entered : Origin → Routing → Routing
+entered from g =
+    if has_ticket g && has_room from g then record g { doors = g.doors ++ (g.issued + 1) ∷ []; issued = g.issued + 1 } else (
+    if has_ticket g && has_spare g then record g { spare = g.spare ++ (g.issued + 1) ∷ []; issued = g.issued + 1 } else g
+    )
 
-abbrev pub may_route : ℕ → ℕ → Routing → Bool
-may_route session ticket g = is_open ticket g.doors && nat_lt (length (others session g.routes)) route_limit
+abbrev pub is_ask : ℕ → ℕ → Route → Bool
+is_ask session request r = (r.session == session) && (r.request == request)
 
--- the session's route is put last, in the place of the one that it had
-abbrev pub routed : ℕ → ℕ → Routing → Routing
-routed session ticket g =
-    if may_route session ticket g
-    then record g { routes = others session g.routes ++ record { session = session; ticket = ticket } ∷ [] }
+abbrev pub ticket_of : Option Route → Option ℕ
+ticket_of o = option_map (λ (r : Route). r.ticket) o
+
+abbrev pub or_else : Option ℕ → Option ℕ → Option ℕ
+or_else (Some ticket) other = Some ticket
+or_else None other = other
+
+-- to the connection over which that very request came last, else to the one over which its session asked last
+abbrev pub door_in : ℕ → ℕ → List Route → Option ℕ
+door_in session request routes =
+    or_else (ticket_of (find (is_ask session request) routes)) (ticket_of (find (λ (r : Route). r.session == session) routes))
+
+abbrev pub door_of : ℕ → ℕ → Routing → Option ℕ
+door_of session request g = door_in session request g.routes
+
+abbrev pub may_route : ℕ → Routing → Bool
+may_route ticket g = is_open ticket g.doors && nat_lt (length g.routes) route_limit && nat_lt (g.asked + 1) (2 ^ 64)
+
+abbrev pub routed : ℕ → ℕ → ℕ → Routing → Routing
+routed session request ticket g =
+    if may_route ticket g
+    then record g { routes = record { session = session; request = request; ticket = ticket; place = g.asked + 1 } ∷ g.routes; asked = g.asked + 1 }
     else g
 
--- No request of it was ever accepted: the refusal says so, or it is one that a request in turn is refused with, and the
--- request is the first.
-abbrev pub shows_no_session : ℕ → Refusal → Bool
-shows_no_session request refusal.NotEntered = true
-shows_no_session request refusal.NotJoined = true
-shows_no_session request refusal.TooManySessions = true
-shows_no_session request (refusal.Stale last) = last == 0
-shows_no_session request (refusal.Skip last) = last == 0
-shows_no_session request refusal.Busy = request == 1
-shows_no_session request refusal.SetFull = request == 1
-shows_no_session request refusal.OutboxFull = request == 1
-shows_no_session request refusal.Spent = request == 1
-shows_no_session request refusal.QueueFull = request == 1
-shows_no_session request _ = false
+-- of its session only those routes are left that are as new
+abbrev pub is_passed : ℕ → ℕ → Route → Bool
+is_passed session place r = (r.session == session) && nat_lt r.place place
 
-abbrev pub is_route : ℕ → ℕ → Route → Bool
-is_route session ticket r = (r.session == session) && (r.ticket == ticket)
+abbrev pub taken : ℕ → ℕ → Routing → Routing
+taken session place g = record g { routes = filter (λ r. not (is_passed session place r)) g.routes }
 
-abbrev pub taken_back : ℕ → ℕ → ℕ → Refusal → Routing → Routing
-taken_back session request ticket why g =
-    if shows_no_session request why then record g { routes = filter (λ r. not (is_route session ticket r)) g.routes } else g
+-- answers go where they went before it
+abbrev pub taken_back : ℕ → Routing → Routing
+taken_back place g = record g { routes = filter (λ (r : Route). not (r.place == place)) g.routes }
 
 abbrev pub closed : ℕ → Routing → Routing
 closed ticket g = record g {
   doors = filter (λ door. not (door == ticket)) g.doors;
+  spare = filter (λ door. not (door == ticket)) g.spare;
   routes = filter (λ (r : Route). not (r.ticket == ticket)) g.routes;
 }
 
-pub record IsRouting (g : Routing) (door_capacity route_capacity : ℕ) : Type 0 where
+pub record IsRouting (g : Routing) (door_capacity spare_capacity route_capacity : ℕ) : Type 0 where
   pub doors_fit : length g.doors ≤ door_limit
   pub door_room : door_limit ≤ door_capacity
+  pub spare_fits : length g.spare ≤ spare_limit
+  pub spare_room : spare_limit ≤ spare_capacity
   pub routes_fit : length g.routes ≤ route_limit
   pub route_room : route_limit ≤ route_capacity
-  pub given : AllByRecursion (λ door. door ≤ g.issued) g.doors
+  pub placed : AllByRecursion (λ (r : Route). r.place ≤ g.asked) g.routes
   pub lead : AllByRecursion (λ (r : Route). IsTrue (is_open r.ticket g.doors)) g.routes

@@ -5,7 +5,7 @@ ghost use Rattle.cc_wire.specs.declared.event.Event.TheVariants as event;
 ghost use Rattle.cc_wire.specs.declared.message.Message.{Message};
 ghost use Rattle.cc_node.specs.Core as machine;
 ghost use Rattle.cc_node.specs.Core.{Core};
-ghost use Rattle.cc_protocol.specs.Admission.{free_posts, may_stir, may_hand_over, is_furthest_behind};
+ghost use Rattle.cc_protocol.specs.Admission.{free_posts, may_stir, may_hand_over, is_given_up, is_furthest_behind};
 
 use cc_node::Core;
 use cc_views::NodeId;
@@ -23,6 +23,9 @@ const ROOM_BESIDE_MESSAGES: u64 = 256;
 // After so many seconds an ask is handed over, whatever room there is.
 const PATIENCE: u64 = 10;
 
+// After so many seconds a message that is held back is given up.
+const PATIENCE_WITH_MESSAGES: u64 = 5;
+
 /// Whether an event may be handed to the node `me` now, which keeps so many posts. `is_furthest` tells whether what
 /// brings it is one of the peers that are furthest behind, and `waited` for how many seconds it has been held back.
 pub fn may_hand_over(me: NodeId, event: &Event, kept: u64, is_furthest: bool, waited: u64) -> bool
@@ -35,6 +38,14 @@ pub fn may_hand_over(me: NodeId, event: &Event, kept: u64, is_furthest: bool, wa
         }
         Event::Enter | Event::Leave | Event::Acked { .. } | Event::Retire { .. } => true,
     }
+}
+
+/// Whether an event that has been held back for so many seconds is given up: a message is, since its link sends it again,
+/// and what waits behind it could make room.
+pub fn is_given_up(event: &Event, waited: u64) -> bool
+    ensures { result ≡ is_given_up event.now waited }
+{
+    matches!(event, Event::Deliver { .. }) && waited >= PATIENCE_WITH_MESSAGES
 }
 
 // Whether the node `me` may make a post or an answer of a message, in one state or another.

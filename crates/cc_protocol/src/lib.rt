@@ -8,11 +8,15 @@ mod frames;
 mod heeding;
 mod incoming;
 mod operating;
+mod origin;
 mod route;
 mod routes;
+mod speakers;
 mod wishes;
 
-pub use admission::{is_furthest_behind, may_hand_over, what_needs_no_room_makes_no_post};
+pub use admission::{
+    is_furthest_behind, is_given_up, may_hand_over, what_needs_no_room_makes_no_post,
+};
 pub use asking::{
     Client, Heard, Step, asks_under_one_number, number_zero_tells_the_last, refusal_of,
     refusals_are_told,
@@ -22,6 +26,8 @@ pub use frames::{ack_frame, event_of, post_frame, refused_frame, reply_frame};
 pub use heeding::{Duty, heed};
 pub use incoming::{Ending, Incoming, Input};
 pub use operating::{Outcome, outcome_of, second_request_is_left};
+pub use origin::{Admitted, Origin};
 pub use route::Route;
 pub use routes::{Routes, answers_follow_asks};
+pub use speakers::{Speaker, Speakers, Spoken};
 pub use wishes::Wishes;

@@ -1,13 +1,14 @@
 //! Which connections are open, and over which one each session asked last.
 
-ghost use Rattle.std.specs.Prelude.{◌≡◌, ◌≢◌, ◌≤◌, ◌+◌, ◌==◌, ℕ, Some, IsTrue, IfOk, IfSome, not, filter, length, vec_len, if◌then◌else◌};
+ghost use Rattle.std.specs.Prelude.{◌≡◌, ◌≢◌, ◌≤◌, ◌<◌, ◌+◌, ◌==◌, ℕ, Some, IsTrue, IfOk, IfSome, IsSome, not, filter, find, length, vec_len, if◌then◌else◌};
+ghost use Rattle.std.specs.List.{AllByRecursion};
 ghost use Rattle.std.specs.Bool.{then_some};
 ghost use Rattle.std.specs.Vec.{vec_capacity};
-ghost use Rattle.cc_protocol.specs.Routing.{Routing, no_routing, others, is_open, door_in, door_of, may_enter, entered, may_route, routed, shows_no_session, is_route, taken_back, closed, door_limit, door_limit_for};
+ghost use Rattle.cc_protocol.specs.Routing.{Routing, no_routing, is_open, is_ask, door_in, door_of, admitted, entered, may_route, routed, is_passed, taken, taken_back, ticket_of, closed, door_limit, door_limit_for};
 
+use crate::origin::{Admitted, Origin};
 use crate::route::Route;
 use cc_views::NoMemory;
-use cc_wire::Refusal;
 use std::alloc::Global;
 use std::marker::Model;
 
@@ -16,8 +17,11 @@ use std::marker::Model;
 #[derive(Debug, Drop)]
 pub struct Routes {
     doors: Vec<u64>,
+    spare: Vec<u64>,
+    // Newest first.
     routes: Vec<Route>,
     issued: u64,
+    asked: u64,
 }
 
 impl Model for Routes {
@@ -26,19 +30,25 @@ impl Model for Routes {
 
     ghost Value = { Routing };
 
-    ghost view = { λ r. record { doors = r.doors.items; routes = r.routes.items; issued = r.issued } };
+    ghost view = { λ r. record { doors = r.doors.items; spare = r.spare.items; routes = r.routes.items; issued = r.issued; asked = r.asked } };
 
-    ghost invariant = { λ r. IsRouting (record { doors = r.doors.items; routes = r.routes.items; issued = r.issued }) (vec_capacity r.doors) (vec_capacity r.routes) };
+    ghost invariant = { λ r. IsRouting (record { doors = r.doors.items; spare = r.spare.items; routes = r.routes.items; issued = r.issued; asked = r.asked }) (vec_capacity r.doors) (vec_capacity r.spare) (vec_capacity r.routes) };
 }
 
 impl Routes {
-    /// How many connections are open at most.
+    /// How many connections are open at most, but for those of the operator.
     pub const MAX_DOORS: usize = 1024;
+
+    /// How many of them come from other machines.
+    pub const MAX_REMOTE: usize = 1016;
 
     /// How many of them come from addresses that aren't those of peers.
     pub const MAX_STRANGERS: usize = 768;
 
-    /// How many sessions have a route at most: those of a node, and one more for each connection.
+    /// How many connections there are beside them at most, for the operator's requests.
+    pub const MAX_SPARE: usize = 8;
+
+    /// How many routes there are at most: one for each session of a node, and one more for each connection.
     pub const MAX_ROUTES: usize = 1280;
 
     /// No connection. NoMemory where a growth was refused.
@@ -47,69 +57,95 @@ impl Routes {
     {
         Ok(Routes {
             doors: Vec::with_capacity(alloc, Self::MAX_DOORS)?,
+            spare: Vec::with_capacity(alloc, Self::MAX_SPARE)?,
             routes: Vec::with_capacity(alloc, Self::MAX_ROUTES)?,
             issued: 0,
+            asked: 0,
         })
     }
 
-    /// The ticket of one more connection, from 1 on, which no other ever has. None where there are too many: 1,024, of
-    /// which 256 are kept for the addresses of peers.
-    pub fn enter(&mut self, is_peer: bool) -> Option<u64>
-        ensures ticket { result ≡ then_some (may_enter is_peer self.old) (self.old.issued + 1) }
-        ensures routes { self.new ≡ entered is_peer self.old }
+    /// One more connection from there, with a ticket from 1 on. 1,024 may be open, of which 256 are kept for the addresses
+    /// of peers, and 8 of these for this machine. Beside them 8 more may be, for the operator's requests alone. None where
+    /// there are so many.
+    pub fn enter(&mut self, from: Origin) -> Option<Admitted>
+        ensures admitted { result ≡ admitted from self.old }
+        ensures routes { self.new ≡ entered from self.old }
     {
-        if self.doors.len() >= Self::door_limit(is_peer) {
+        let ticket = self.issued.checked_add(1)?;
+        if self.doors.len() < Self::door_limit(from) {
+            self.doors.push(ticket).unwrap();
+            self.issued = ticket;
+            return Some(Admitted {
+                ticket,
+                is_spare: false,
+            });
+        }
+        if self.spare.len() >= Self::MAX_SPARE {
             return None;
         }
-        let ticket = self.issued.checked_add(1)?;
-        self.doors.push(ticket).unwrap();
+        self.spare.push(ticket).unwrap();
         self.issued = ticket;
-        Some(ticket)
+        Some(Admitted {
+            ticket,
+            is_spare: true,
+        })
     }
 
     // How many connections may be open beside one more.
-    fn door_limit(is_peer: bool) -> usize
-        ensures limit { result ≡ door_limit_for is_peer }
+    fn door_limit(from: Origin) -> usize
+        ensures limit { result ≡ door_limit_for from }
         ensures most { result ≤ door_limit }
     {
-        if is_peer {
-            Self::MAX_DOORS
-        } else {
-            Self::MAX_STRANGERS
+        match from {
+            Origin::Loopback => Self::MAX_DOORS,
+            Origin::Peer => Self::MAX_REMOTE,
+            Origin::Stranger => Self::MAX_STRANGERS,
         }
     }
 
-    /// From now on the session's answers go to this connection. False, and nothing is changed, where that isn't open or
-    /// there are too many sessions.
-    pub fn route(&mut self, session: u64, ticket: u64) -> bool
-        ensures routed { result ≡ may_route session ticket self.old }
-        ensures routes { self.new ≡ routed session ticket self.old }
+    /// A session asks under that number over this connection: from now on its answers go there. The place of that ask. None,
+    /// and nothing is changed, where the connection isn't open or there are too many routes.
+    pub fn route(&mut self, session: u64, request: u64, ticket: u64) -> Option<u64>
+        ensures place { result ≡ then_some (may_route ticket self.old) (self.old.asked + 1) }
+        ensures routes { self.new ≡ routed session request ticket self.old }
     {
-        let others = count_others(&self.routes, session);
-        if !is_open(&self.doors, ticket) || others >= Self::MAX_ROUTES {
-            return false;
+        if !is_open(&self.doors, ticket) || self.routes.len() >= Self::MAX_ROUTES {
+            return None;
         }
-        keep_others(&mut self.routes, session);
-        self.routes.push(Route { session, ticket }).unwrap();
-        true
+        let place = self.asked.checked_add(1)?;
+        let route = Route {
+            session,
+            request,
+            ticket,
+            place,
+        };
+        self.routes.insert(0, route).unwrap();
+        self.asked = place;
+        Some(place)
     }
 
-    /// The connection that the session's answers go to, if one is open.
-    pub fn door_of(&self, session: u64) -> Option<u64>
-        ensures door { result ≡ door_of session self.now }
+    /// The connection that the answer to a request goes to: the one over which that request came last, else the one over
+    /// which its session asked last.
+    pub fn door_of(&self, session: u64, request: u64) -> Option<u64>
+        ensures door { result ≡ door_of session request self.now }
         ensures open { IfSome result (λ ticket. IsTrue (is_open ticket self.now.doors)) }
     {
-        door_in(&self.routes, session)
+        door_in(&self.routes, session, request)
     }
 
-    /// What the refusal of an ask under that number leaves of its route: nothing, where it tells that the node keeps
-    /// nothing of the session, and where no other connection asked in it since.
-    pub fn take_back(&mut self, session: u64, request: u64, ticket: u64, refusal: Refusal)
-        ensures { self.new ≡ taken_back session request ticket refusal self.old }
+    /// The ask at that place was taken, or had been before: older routes of its session are gone.
+    pub fn take(&mut self, session: u64, place: u64)
+        ensures { self.new ≡ taken session place self.old }
     {
-        if shows_no_session(request, refusal) {
-            remove_route(&mut self.routes, session, ticket);
-        }
+        remove_passed(&mut self.routes, session, place);
+    }
+
+    /// The ask at that place was refused, and leaves nothing to wait for: its route is gone, and answers go where they went
+    /// before.
+    pub fn take_back(&mut self, place: u64)
+        ensures { self.new ≡ taken_back place self.old }
+    {
+        remove_route(&mut self.routes, place);
     }
 
     /// A connection is closed, and with it go the routes to it.
@@ -117,6 +153,7 @@ impl Routes {
         ensures { self.new ≡ closed ticket self.old }
     {
         remove_door(&mut self.doors, ticket);
+        remove_door(&mut self.spare, ticket);
         remove_routes(&mut self.routes, ticket);
     }
 }
@@ -127,34 +164,41 @@ fn is_open(doors: &[u64], ticket: u64) -> bool
     doors.iter().any(|door| *door == ticket)
 }
 
-fn door_in(routes: &[Route], session: u64) -> Option<u64>
-    ensures { result ≡ door_in session routes.now }
+fn door_in(routes: &[Route], session: u64, request: u64) -> Option<u64>
+    ensures { result ≡ door_in session request routes.now }
+{
+    match door_of_request(routes, session, request) {
+        Some(ticket) => Some(ticket),
+        None => door_of_session(routes, session),
+    }
+}
+
+fn door_of_request(routes: &[Route], session: u64, request: u64) -> Option<u64>
+    ensures { result ≡ ticket_of (find (is_ask session request) routes.now) }
+{
+    let route = routes.iter().find(|route| route.session == session && route.request == request)?;
+    Some(route.ticket)
+}
+
+fn door_of_session(routes: &[Route], session: u64) -> Option<u64>
+    ensures { result ≡ ticket_of (find (λ (r : Route). r.session == session) routes.now) }
 {
     let route = routes.iter().find(|route| route.session == session)?;
     Some(route.ticket)
 }
 
-fn count_others(routes: &[Route], session: u64) -> usize
-    ensures { result ≡ length (others session routes.now) }
-{
-    routes
-        .iter()
-        .filter(|route| route.session != session)
-        .count()
-}
-
-fn keep_others(routes: &mut Vec<Route>, session: u64)
-    ensures items { routes.new.items ≡ others session routes.old.items }
+fn remove_passed(routes: &mut Vec<Route>, session: u64, place: u64)
+    ensures items { routes.new.items ≡ filter (λ r. not (is_passed session place r)) routes.old.items }
     ensures capacity { vec_capacity routes.new ≡ vec_capacity routes.old }
 {
-    routes.retain(|route| route.session != session);
+    routes.retain(|route| !(route.session == session && route.place < place));
 }
 
-fn remove_route(routes: &mut Vec<Route>, session: u64, ticket: u64)
-    ensures items { routes.new.items ≡ filter (λ r. not (is_route session ticket r)) routes.old.items }
+fn remove_route(routes: &mut Vec<Route>, place: u64)
+    ensures items { routes.new.items ≡ filter (λ (r : Route). not (r.place == place)) routes.old.items }
     ensures capacity { vec_capacity routes.new ≡ vec_capacity routes.old }
 {
-    routes.retain(|route| !(route.session == session && route.ticket == ticket));
+    routes.retain(|route| route.place != place);
 }
 
 fn remove_routes(routes: &mut Vec<Route>, ticket: u64)
@@ -171,26 +215,13 @@ fn remove_door(doors: &mut Vec<u64>, ticket: u64)
     doors.retain(|door| *door != ticket);
 }
 
-// Whether the refusal of a request tells that no request of the session was ever accepted.
-fn shows_no_session(request: u64, refusal: Refusal) -> bool
-    ensures { result ≡ shows_no_session request refusal }
-{
-    match refusal {
-        Refusal::NotEntered | Refusal::NotJoined | Refusal::TooManySessions => true,
-        Refusal::Stale(last) | Refusal::Skip(last) => last == 0,
-        Refusal::Busy
-        | Refusal::SetFull
-        | Refusal::OutboxFull
-        | Refusal::Spent
-        | Refusal::QueueFull => request == 1,
-        _ => false,
-    }
-}
-
-/// After an ask was taken its session's answers go to the connection that it came over, and those of other sessions to
-/// where they went before. To a connection that is gone none go.
+/// The answer to an ask goes to the connection that it came over. While another ask of its session is judged, and once that
+/// was refused, the answer to what was asked before goes where it went. Those of other sessions go where they went, and none
+/// to a connection that is gone.
 pub fn answers_follow_asks()
-    ensures asked { (session ticket : ℕ) (g : Routing) → IsTrue (may_route session ticket g) → door_of session (routed session ticket g) ≡ Some ticket }
-    ensures others { (session ticket other : ℕ) (g : Routing) → other ≢ session → door_of other (routed session ticket g) ≡ door_of other g }
-    ensures gone { (session ticket : ℕ) (g : Routing) → door_of session (closed ticket g) ≢ Some ticket }
+    ensures asked { (session request ticket : ℕ) (g : Routing) → IsTrue (may_route ticket g) → door_of session request (routed session request ticket g) ≡ Some ticket }
+    ensures judged { (session request ticket other : ℕ) (g : Routing) → other ≢ request → IsSome (find (is_ask session other) g.routes) → door_of session other (routed session request ticket g) ≡ door_of session other g }
+    ensures refused { (session request ticket : ℕ) (g : Routing) → AllByRecursion (λ (r : Route). r.place ≤ g.asked) g.routes → IsTrue (may_route ticket g) → (taken_back (g.asked + 1) (routed session request ticket g)).routes ≡ g.routes }
+    ensures others { (session request ticket other that : ℕ) (g : Routing) → other ≢ session → door_of other that (routed session request ticket g) ≡ door_of other that g }
+    ensures gone { (session request ticket : ℕ) (g : Routing) → door_of session request (closed ticket g) ≢ Some ticket }
 {}

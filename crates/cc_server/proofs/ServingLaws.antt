@@ -15,40 +15,49 @@ pub unasked : (ahead : Option (List ℕ)) (frame : Frame) (after : Option (List 
 unasked None frame after next none = tt
 unasked (Some bytes) frame after next none = (frame, after, next, none)
 
-module _ (fails closes : Type 0) where
-  stopped : (due : Option Event) (ahead : Option (List ℕ)) (why : Done) → Stops fails closes due ahead why → IfSome ahead (λ bytes. Stops fails closes due (Some bytes) why)
+module _ (fails turns : Type 0) (answers : Event → Answer → Type 0) where
+  stopped : (due : Option Event) (ahead : Option (List ℕ)) (why : Done) → Stops fails turns due ahead why → IfSome ahead (λ bytes. Stops fails turns due (Some bytes) why)
   stopped due None why stops = tt
   stopped due (Some bytes) why stops = stops
 
+  abbrev More : Done → Option Event → Option (List ℕ) → List Answer → Type 0
+  More why due ahead rest = IfSome ahead (λ bytes. Brings fails turns answers why due bytes rest)
+
   one_more : (why : Done) (due : Option Event) (before after : Option (List ℕ)) (e : Event) (answer : Answer) (rest : List Answer)
-      → Takes due before e after → IfSome after (λ bytes. Brings fails closes why (due_after e answer) bytes rest) → IfSome before (λ bytes. Brings fails closes why due bytes (answer ∷ rest))
-  one_more why (Some d) before after e answer rest takes more =
-      subst (λ (x : Event). IfSome before (λ bytes. Brings fails closes why (due_after x answer) bytes rest)) takes.0
-      (subst (λ (x : Option (List ℕ)). IfSome x (λ bytes. Brings fails closes why (due_after e answer) bytes rest)) takes.1 more)
-  one_more why None None after e answer rest takes more = tt
-  one_more why None (Some bytes) after e answer rest takes more =
+      → Takes due before e after → answers e answer → More why (due_after e answer) after rest → More why due before (answer ∷ rest)
+  one_more why (Some d) None after e answer rest takes answered more = tt
+  one_more why (Some d) (Some bytes) after e answer rest takes answered more =
+      subst (λ (x : Event). answers x answer × Brings fails turns answers why (due_after x answer) bytes rest) takes.0
+      (answered, subst (λ (x : Option (List ℕ)). More why (due_after e answer) x rest) takes.1 more)
+  one_more why None None after e answer rest takes answered more = tt
+  one_more why None (Some bytes) after e answer rest takes answered more =
       let next = takes.1 in
-      (takes.0, e, next.1, next.0, next.3, takes.2, subst (λ (x : Option (List ℕ)). IfSome x (λ left. Brings fails closes why (due_after e answer) left rest)) next.2 more)
+      (takes.0, e, next.1, next.0, next.3, takes.2, answered, subst (λ (x : Option (List ℕ)). More why (due_after e answer) x rest) next.2 more)
 
   module _ {S : Type 0} (worker : S → Worker) where
-    brings_then : (s : S) (answers : List Answer) (t end : S) → Spoke (λ s e t. Gives fails closes (worker s) e (worker t)) (λ s a t. Hears (worker s) a (worker t)) s answers t
-        → Gives fails closes (worker t) None (worker end) → IfSome (worker s).ahead (λ bytes. Brings fails closes (worker end).done (worker s).due bytes answers)
+    abbrev Gave : S → Option Event → S → Type 0
+    Gave s e t = Gives fails turns (worker s) e (worker t)
+
+    abbrev Heard : S → Answer → S → Type 0
+    Heard s a t = Hears (worker s) a (worker t)
+
+    brings_then : (s : S) (heard : List Answer) (t end : S) → Spoke Gave Heard answers s heard t
+        → Gave t None end → More (worker end).done (worker s).due (worker s).ahead heard
     brings_then s [] t end spoke last =
-        stopped (worker s).due (worker s).ahead (worker end).done (subst (λ (x : S). Gives fails closes (worker x) None (worker end)) (sym spoke) last)
+        stopped (worker s).due (worker s).ahead (worker end).done (subst (λ (x : S). Gave x None end) (sym spoke) last)
     brings_then s (answer ∷ rest) t end spoke last =
         let e = spoke.0 in
         let u = spoke.1 in
         let w = spoke.2 in
         let why = (worker end).done in
         let g = spoke.3 in
-        let h = spoke.4 in
+        let h = spoke.5 in
         let due : (worker w).due ≡ due_after e answer = subst (λ (x : Option Event). IfSome x (λ e. (worker w).due ≡ due_after e answer)) g.0 h.1 in
-        let more : IfSome (worker u).ahead (λ bytes. Brings fails closes why (worker w).due bytes rest) =
-        subst (λ (x : Option (List ℕ)). IfSome x (λ bytes. Brings fails closes why (worker w).due bytes rest)) h.0 (brings_then w rest t end spoke.5 last) in
-        one_more why (worker s).due (worker s).ahead (worker u).ahead e answer rest g.1
-        (subst (λ (d : Option Event). IfSome (worker u).ahead (λ bytes. Brings fails closes why d bytes rest)) due more)
+        let more : More why (worker w).due (worker u).ahead rest = subst (λ (x : Option (List ℕ)). More why (worker w).due x rest) h.0 (brings_then w rest t end spoke.6 last) in
+        one_more why (worker s).due (worker s).ahead (worker u).ahead e answer rest g.1 spoke.4
+        (subst (λ (d : Option Event). More why d (worker u).ahead rest) due more)
 
-pub brings : (fails closes : Type 0) {S : Type 0} (s end : S) (worker : S → Worker) (answers : List Answer)
-    → Talks (λ s e t. Gives fails closes (worker s) e (worker t)) (λ s a t. Hears (worker s) a (worker t)) s answers end
-    → IfSome (worker s).ahead (λ bytes. Brings fails closes (worker end).done (worker s).due bytes answers)
-brings fails closes s end worker answers talks = brings_then fails closes worker s answers talks.0 end talks.1 talks.2
+pub brings : (fails turns : Type 0) (answers : Event → Answer → Type 0) {S : Type 0} (s end : S) (worker : S → Worker) (heard : List Answer)
+    → Talks (λ s e t. Gives fails turns (worker s) e (worker t)) (λ s a t. Hears (worker s) a (worker t)) answers s heard end
+    → IfSome (worker s).ahead (λ bytes. Brings fails turns answers (worker end).done (worker s).due bytes heard)
+brings fails turns answers s end worker heard talks = brings_then fails turns answers worker s heard talks.0 end talks.1 talks.2

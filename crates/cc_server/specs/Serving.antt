@@ -19,7 +19,7 @@ use Rattle.cc_server.specs.declared.caller.Done.TheVariants as done
 
 abbrev pub duty_of : Event → Answer → Duty
 duty_of e (Ok a) = heed_of e (Ok a.stirs)
-duty_of e (Err why) = heed_of e (Err why)
+duty_of e (Err refused) = heed_of e (Err refused.why)
 
 abbrev pub brings_again : Duty → Bool
 brings_again duty.BringAgain = true
@@ -37,13 +37,13 @@ Takes None ahead e after = IfSome ahead (λ bytes. (frame : Frame) × Next bytes
 abbrev pub IsUnasked : List ℕ → Type 0
 IsUnasked bytes = (frame : Frame) × (left : Option (List ℕ)) × Next bytes frame left × (event_in frame ≡ None)
 
--- Why no event comes. Whatever the reader is why of, no event was due; it failed only where it can, and the node takes no
--- further event only where it can close.
+-- Why no event comes. Whatever the reader is why of, no event was due; it failed only where it can, and an event is turned
+-- away only where one can be.
 abbrev pub Stops : Type 0 → Type 0 → Option Event → Option (List ℕ) → Done → Type 0
-Stops fails closes due ahead (done.Frames why) = (due ≡ None) × IfSome ahead (λ bytes. Ends fails bytes why)
-Stops fails closes due ahead done.Unasked = (due ≡ None) × IfSome ahead (λ bytes. IsUnasked bytes)
-Stops fails closes due ahead done.Closed = closes
-Stops fails closes due ahead done.NoMemory = ⊤
+Stops fails turns due ahead (done.Frames why) = (due ≡ None) × IfSome ahead (λ bytes. Ends fails bytes why)
+Stops fails turns due ahead done.Unasked = (due ≡ None) × IfSome ahead (λ bytes. IsUnasked bytes)
+Stops fails turns due ahead (done.TurnedAway why) = turns
+Stops fails turns due ahead done.NoMemory = ⊤
 
 -- what a worker has: the event that is due, the one that was given last, the bytes ahead, and why no event came
 pub record Worker : Type 0 where
@@ -53,17 +53,18 @@ pub record Worker : Type 0 where
   pub done : Done
 
 abbrev pub Gives : Type 0 → Type 0 → Worker → Option Event → Worker → Type 0
-Gives fails closes s None t = Stops fails closes s.due s.ahead t.done
-Gives fails closes s (Some e) t = (t.given ≡ Some e) × Takes s.due s.ahead e t.ahead
+Gives fails turns s None t = Stops fails turns s.due s.ahead t.done
+Gives fails turns s (Some e) t = (t.given ≡ Some e) × Takes s.due s.ahead e t.ahead
 
 abbrev pub Hears : Worker → Answer → Worker → Type 0
 Hears s answer t = (t.ahead ≡ s.ahead) × IfSome s.given (λ e. t.due ≡ due_after e answer)
 
--- The answers are those to the events of the frames that the bytes spell, frame by frame; an event that is due is answered
--- once more before. Behind the last answer stands why there is no further one.
-abbrev pub Brings : Type 0 → Type 0 → Done → Option Event → List ℕ → List Answer → Type 0
-Brings fails closes why due bytes [] = Stops fails closes due (Some bytes) why
-Brings fails closes why None bytes (answer ∷ rest) =
-    (frame : Frame) × (e : Event) × (left : List ℕ)
-    × IsFrame frame × (bytes ≡ frame_spelling frame ++ left) × (event_in frame ≡ Some e) × Brings fails closes why (due_after e answer) left rest
-Brings fails closes why (Some e) bytes (answer ∷ rest) = Brings fails closes why (due_after e answer) bytes rest
+-- The answers are those to the events of the frames that the bytes spell, frame by frame: the intake's to that very event.
+-- An event that is due is answered once more before. Behind the last answer stands why there is no further one.
+module _ (fails turns : Type 0) (answers : Event → Answer → Type 0) where
+  abbrev pub Brings : Done → Option Event → List ℕ → List Answer → Type 0
+  Brings why due bytes [] = Stops fails turns due (Some bytes) why
+  Brings why None bytes (answer ∷ rest) =
+      (frame : Frame) × (e : Event) × (left : List ℕ)
+      × IsFrame frame × (bytes ≡ frame_spelling frame ++ left) × (event_in frame ≡ Some e) × answers e answer × Brings why (due_after e answer) left rest
+  Brings why (Some e) bytes (answer ∷ rest) = answers e answer × Brings why (due_after e answer) bytes rest

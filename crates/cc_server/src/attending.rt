@@ -1,9 +1,12 @@
 //! One connection: its worker and its writer.
 
-use crate::caller::serve;
+use crate::caller::{Done, serve};
 use crate::office::Office;
+use crate::shared::Shared;
 use cc_intake::{Hooks, Lane, Life};
 use cc_lines::{Door, write_frames};
+use cc_protocol::{Admitted, Ending, Origin};
+use cc_words::Peer;
 use crossbeam_channel::{Receiver, bounded};
 use std::alloc::Global;
 use std::net::{Shutdown, SocketAddr, TcpStream};
@@ -22,6 +25,9 @@ const PATIENCE_MS: u64 = 5000;
 // How long a connection may say nothing, in seconds: it may lead to a machine that vanished.
 const SILENCE_S: u64 = 3600;
 
+// How long one may that is kept for the operator.
+const OPERATOR_SILENCE_S: u64 = 5;
+
 /// Serves a connection from that address, with a writer of its own.
 pub fn attend<L: Life + Send + Sync, Q: Lane + Send + Sync, R, H: Hooks + Sync>(
     office: &Office<'_, R, H, L, Q>,
@@ -29,23 +35,23 @@ pub fn attend<L: Life + Send + Sync, Q: Lane + Send + Sync, R, H: Hooks + Sync>(
     from: SocketAddr,
 )
 where
-    R: Threads + Wait + Clock + Sync,
+    R: Threads + Wait + Clock + Eprint + Sync,
 {
     let rt = office.rt;
     let _ = stream.set_nodelay(true);
     let _ = stream.set_write_timeout(Some(Duration::from_millis(PATIENCE_MS)));
-    let _ = stream.set_read_timeout(Some(Duration::from_secs(SILENCE_S)));
     let Some((pen, door)) = opened(office.alloc, stream) else {
         return;
     };
-    let Some(ticket) = admitted(office, &door, from) else {
+    let Some(admitted) = admitted(office, &door, from) else {
         return;
     };
+    let _ = door.reader().set_read_timeout(Some(silence_of(admitted)));
     thread::scope(thread::scope_env(), rt, move |scope| -> () {
         if scope.spawn(move || write_out(rt, pen)).is_ok() {
-            serve_in(office, door, ticket);
+            serve_in(office, door, admitted, from);
         } else {
-            office.shared.doors.leave(rt, ticket);
+            office.shared.doors.leave(rt, admitted.ticket);
         }
     });
 }
@@ -72,18 +78,36 @@ fn opened(alloc: Global, stream: TcpStream) -> Option<(Pen, Arc<Door>)> {
     Some((pen, door))
 }
 
-// The ticket of a connection. None where there are too many.
+// Lets a connection in. None where there are too many.
 fn admitted<R: Wait, H: Hooks, L: Life, Q: Lane>(
     office: &Office<'_, R, H, L, Q>,
     door: &Arc<Door>,
     from: SocketAddr,
-) -> Option<u64> {
+) -> Option<Admitted> {
     let known = Arc::try_clone(door).ok()?;
-    let is_peer = office
-        .peers
-        .iter()
-        .any(|peer| peer.address.ip() == from.ip());
-    office.shared.doors.enter(office.rt, known, is_peer)
+    let origin = origin_of(office.peers, from);
+    office.shared.doors.enter(office.rt, known, origin)
+}
+
+fn origin_of(peers: &[Peer], from: SocketAddr) -> Origin {
+    let address = from.ip();
+    if address.is_loopback() {
+        Origin::Loopback
+    } else if peers.iter().any(|peer| peer.address.ip() == address) {
+        Origin::Peer
+    } else {
+        Origin::Stranger
+    }
+}
+
+// How long a connection may say nothing.
+fn silence_of(admitted: Admitted) -> Duration {
+    let seconds = if admitted.is_spare {
+        OPERATOR_SILENCE_S
+    } else {
+        SILENCE_S
+    };
+    Duration::from_secs(seconds)
 }
 
 // Writes what is for a connection, and closes it where a write fails.
@@ -93,18 +117,43 @@ fn write_out<R: Wait>(rt: &R, pen: Pen) {
     let _ = pen.stream.shutdown(Shutdown::Both);
 }
 
-// Serves with a share out of the pool, or a new one. The door is closed at the return, and so the channel to the writer,
-// which then ends.
-fn serve_in<R: Wait, H: Hooks, L: Life, Q: Lane>(
+// Serves with a share out of the pool, or a new one. Who says that nothing more comes is answered all the same. The door is
+// closed at the return, and so the channel to the writer, which then ends.
+fn serve_in<R: Wait + Eprint, H: Hooks, L: Life, Q: Lane>(
     office: &Office<'_, R, H, L, Q>,
     door: Arc<Door>,
-    ticket: u64,
+    admitted: Admitted,
+    from: SocketAddr,
 ) {
     let inside: &Door = &door;
-    if let Some(mut share) = office.draw() {
-        let seat = office.seat();
-        let _ = serve(office, &seat, inside, ticket, inside.reader(), &mut share);
-        office.give_back(share);
+    if serve_out(office, inside, admitted, from) == Some(Done::Frames(Ending::Input)) {
+        let Shared { bell, doors, .. } = office.shared;
+        let over = inside.over();
+        office
+            .room
+            .outlast(office.rt, bell, doors, admitted.ticket, over);
     }
-    office.shared.doors.leave(office.rt, ticket);
+    office.shared.doors.leave(office.rt, admitted.ticket);
+}
+
+// Why no further event came. None where there is no share.
+fn serve_out<R: Wait + Eprint, H: Hooks, L: Life, Q: Lane>(
+    office: &Office<'_, R, H, L, Q>,
+    door: &Door,
+    admitted: Admitted,
+    from: SocketAddr,
+) -> Option<Done> {
+    let mut share = office.draw()?;
+    let seat = office.seat(door, admitted);
+    let done = serve(
+        office,
+        &seat,
+        door,
+        admitted.ticket,
+        from,
+        door.reader(),
+        &mut share,
+    );
+    office.give_back(share);
+    Some(done)
 }

@@ -1,18 +1,23 @@
 //! A worker of one connection.
 
 ghost use Rattle.std.specs.Prelude.{◌≡◌, ◌+◌, List, Some, None, IfSome, MatchResult};
-ghost use Rattle.cc_intake.specs.Talks.{Answer, places_of, PlacesRise};
+ghost use Rattle.cc_intake.specs.Talks.{Answer, IsAnswer, places_of, PlacesRise};
 ghost use Rattle.cc_server.specs.Serving.{brings_again, Takes, Stops, Brings};
 
 use crate::duties::duty_of;
+use crate::meeting::Meeting;
+use crate::of_life::OfLife;
 use crate::office::Office;
 use crate::shared::Shared;
 use cc_frames::Frame;
-use cc_intake::{Accepted, Hooks, Lane, Life, Share, Source};
-use cc_lines::{Replies, Seating, bytes_of};
+use cc_intake::{Accepted, Hooks, Lane, Life, Refused, Share, Source};
+use cc_lines::{Flushed, NoSeat, Replies, Room, Seating, bytes_of};
 use cc_protocol::{Duty, Ending, Incoming, Input, event_of};
+use cc_views::NodeId;
 use cc_wire::{Event, Refusal};
+use cc_words::Peer;
 use std::alloc::Global;
+use std::net::SocketAddr;
 use std::sync::Wait;
 
 /// Why a worker brings no further event.
@@ -22,36 +27,42 @@ pub enum Done {
     Frames(Ending),
     /// A frame came that only a node sends.
     Unasked,
-    /// The node takes no further event.
-    Closed,
+    /// An event got no seat.
+    TurnedAway(NoSeat),
     /// A growth was refused.
     NoMemory,
 }
 
 /// The events of one connection, and where their answers go.
 #[derive(Drop)]
-pub struct Caller<'a, R: Wait, I: Input, S: Seating, D: Replies> {
+pub struct Caller<'a, R: Wait, I: Input, S: Seating, D: Replies, F: Flushed> {
     rt: &'a R,
     alloc: Global,
     shared: &'a Shared,
+    room: &'a Room<F>,
+    me: NodeId,
+    peers: &'a [Peer],
+    // Where the connection comes from.
+    address: SocketAddr,
     seating: &'a S,
     door: &'a D,
     ticket: u64,
     frames: Incoming<I>,
-    // The event that was given last, until it is answered.
+    // The event that was given last, until it is answered, and the place of its route, if it is an ask that has one.
     given: Option<Event>,
+    place: Option<u64>,
     // The event that is to be given again.
     due: Option<Event>,
     // Why no event came, once none did.
     done: Done,
 }
 
-impl<R: Wait, I: Input, S: Seating, D: Replies> Caller<'_, R, I, S, D> {
+impl<R: Wait + Eprint, I: Input, S: Seating, D: Replies, F: Flushed> Caller<'_, R, I, S, D, F> {
     // The event that comes next, or why none does.
     fn event(&mut self) -> Result<Event, Done>
         ensures { MatchResult result
             (λ e. Takes self.old.due self.old.frames e self.new.frames)
-            (λ done. Stops I.may_fail S.may_close self.old.due self.old.frames done) }
+            (λ done. Stops I.may_fail S.may_turn_away self.old.due self.old.frames done) }
     {
         if let Some(event) = self.due.take() {
             return Ok(event);
@@ -69,56 +80,90 @@ impl<R: Wait, I: Input, S: Seating, D: Replies> Caller<'_, R, I, S, D> {
     fn seated(&mut self) -> Result<Event, Done>
         ensures { MatchResult result
             (λ e. (self.new.given ≡ Some e) × Takes self.old.due self.old.frames e self.new.frames)
-            (λ done. Stops I.may_fail S.may_close self.old.due self.old.frames done) }
+            (λ done. Stops I.may_fail S.may_turn_away self.old.due self.old.frames done) }
     {
         let event = self.event()?;
         let Ok(kept) = event.copy(self.alloc) else {
             drop(event);
             return Err(Done::NoMemory);
         };
-        self.route(&event);
-        if !self.seating.sit(self.rt, &event) {
+        if let Err(why) = self.seating.sit(self.rt, &event) {
             drop(event);
             drop(kept);
-            return Err(Done::Closed);
+            return Err(Done::TurnedAway(why));
         }
+        self.place = self.route(&event);
         drop(self.given.replace(kept));
         Ok(event)
     }
 
-    // Replies to what is asked come here from now on, before the flusher can make them.
-    fn route(&self, event: &Event) {
-        if let Event::Ask { session, .. } = event {
-            self.shared.doors.route(self.rt, *session, self.ticket);
+    // The reply to an ask comes here, before the flusher can make it. The place of its route.
+    fn route(&self, event: &Event) -> Option<u64> {
+        match event {
+            Event::Ask {
+                session,
+                request,
+                ..
+            } => {
+                let doors = &self.shared.doors;
+                doors.route(self.rt, *session, *request, self.ticket)
+            }
+            _ => None,
         }
     }
 
-    // A session without a row leaves no route.
-    fn unroute(&self, event: &Event, refusal: Refusal) {
-        if let Event::Ask {
-            session,
-            request,
-            ..
-        } = event
-        {
-            let doors = &self.shared.doors;
-            doors.take_back(self.rt, *session, *request, self.ticket, refusal);
+    // An ask that was taken, now or before, leaves its session no older route. One that leaves nothing to wait for has none.
+    fn settle_route(&self, event: &Event, is_taken: bool) {
+        let Some(place) = self.place else {
+            return;
+        };
+        let doors = &self.shared.doors;
+        match event {
+            Event::Ask { session, .. } if is_taken => doors.take(self.rt, *session, place),
+            _ => doors.take_back(self.rt, place),
+        }
+    }
+
+    // What the answer to an event makes of its seat and its route, and whom it was news of.
+    fn note(&self, event: &Event, answer: Result<Accepted, Refused>) {
+        match answer {
+            Ok(_) => {
+                self.room.accept();
+                self.settle_route(event, true);
+                if let Event::Deliver { from, message, .. } = event {
+                    self.meeting().hear(self.rt, *from, message);
+                }
+            }
+            Err(refused) => {
+                self.room.leave(self.rt);
+                self.settle_route(event, refused.why == Refusal::Repeat);
+            }
+        }
+    }
+
+    // What notes whom the connection brings news of.
+    fn meeting(&self) -> Meeting<'_> {
+        Meeting {
+            me: self.me,
+            peers: self.peers,
+            known: &self.shared.known,
+            address: self.address,
         }
     }
 
     // Tells a client why not, once all is durable that this was judged by.
-    fn refuse(&self, frame: &Frame) {
-        if !self.shared.room.settle(self.rt, &self.shared.bell) {
+    fn refuse(&self, frame: &Frame, judged: u64) {
+        let Some(durable) = self.room.settle(self.rt, &self.shared.bell, judged) else {
             return;
-        }
+        };
         match bytes_of(self.alloc, frame) {
-            Ok(bytes) => self.door.answer(self.rt, bytes),
+            Ok(bytes) => self.door.refuse(self.rt, bytes, judged, durable),
             Err(_) => self.door.give_up(),
         }
     }
 
-    // Does what an answer asks for. Whether the event is to be given again.
-    fn act(&self, duty: Duty) -> bool
+    // Does what an answer asks for, which was given after so many events. Whether the event is to be given again.
+    fn act(&self, duty: Duty, judged: u64) -> bool
         ensures { result ≡ brings_again duty }
     {
         match duty {
@@ -127,17 +172,18 @@ impl<R: Wait, I: Input, S: Seating, D: Replies> Caller<'_, R, I, S, D> {
             Duty::Nothing => {}
             Duty::Reack(peer) => self.shared.reack(self.rt, peer),
             Duty::Again(session) => self.shared.again(self.rt, session),
-            Duty::Refuse(frame) => self.refuse(&frame),
+            Duty::Refuse(frame) => self.refuse(&frame, judged),
             Duty::BringAgain => return true,
         }
         false
     }
 }
 
-impl<R: Wait, I: Input, S: Seating, D: Replies> Source for Caller<'_, R, I, S, D> {
+impl<R: Wait + Eprint, I: Input, S: Seating, D: Replies, F: Flushed> Source
+    for Caller<'_, R, I, S, D, F> {
     ghost use Rattle.cc_server.specs.Serving.{Gives, Hears};
 
-    ghost gives = { λ s e t. Gives I.may_fail S.may_close
+    ghost gives = { λ s e t. Gives I.may_fail S.may_turn_away
         (record { due = s.due; given = s.given; ahead = s.frames; done = s.done }) e
         (record { due = t.due; given = t.given; ahead = t.frames; done = t.done }) };
 
@@ -155,15 +201,16 @@ impl<R: Wait, I: Input, S: Seating, D: Replies> Source for Caller<'_, R, I, S, D
         }
     }
 
-    fn told(&mut self, answer: Result<Accepted, Refusal>) {
+    fn told(&mut self, answer: Result<Accepted, Refused>) {
         let Some(event) = self.given.take() else {
             return;
         };
-        if let Err(refusal) = answer {
-            self.shared.room.leave(self.rt);
-            self.unroute(&event, refusal);
-        }
-        let is_due = self.act(duty_of(&event, answer));
+        self.note(&event, answer);
+        let judged = match answer {
+            Ok(_) => 0,
+            Err(refused) => refused.accepted,
+        };
+        let is_due = self.act(duty_of(&event, answer), judged);
         self.due = if is_due { Some(event) } else { None };
     }
 }
@@ -171,18 +218,19 @@ impl<R: Wait, I: Input, S: Seating, D: Replies> Source for Caller<'_, R, I, S, D
 /// Brings what comes from a reader to the intake, until it ends: at the end of input, where a read fails, at bytes that
 /// spell no frame, at a frame that only a node sends, where the node takes no further event, and where a growth is refused.
 /// Of bytes that are known it brings the events of their frames, one after the other, each again where the queue was full;
-/// the share counts those that were accepted. It tells why it ended: that a read failed only where one can, and that the
-/// node takes no more only where it can close.
-pub fn serve<R: Wait, H: Hooks, L: Life, Q: Lane, I: Input + Drop, S: Seating, D: Replies>(
+/// each answer is the intake's to that very event, and the share counts those that were accepted. It tells why it ended: that
+/// a read failed only where one can, and that an event was turned away only where one can be.
+pub fn serve<R: Wait + Eprint, H: Hooks, L: Life, Q: Lane, I: Input + Drop, S: Seating, D: Replies>(
     office: &Office<'_, R, H, L, Q>,
     seating: &S,
     door: &D,
     ticket: u64,
+    from: SocketAddr,
     reader: I,
     share: &mut Share<L>,
 ) -> Done
     ensures { (answers : List Answer) × (share.new ≡ share.old + places_of answers) × PlacesRise share.old answers
-        × IfSome (I.remaining reader) (λ bytes. Brings I.may_fail S.may_close result None bytes answers) }
+        × IfSome (I.remaining reader) (λ bytes. Brings I.may_fail S.may_turn_away (IsAnswer L.opening L.taken) result None bytes answers) }
 {
     let alloc = office.alloc;
     let Ok(frames) = Incoming::new(alloc, reader) else {
@@ -192,11 +240,16 @@ pub fn serve<R: Wait, H: Hooks, L: Life, Q: Lane, I: Input + Drop, S: Seating, D
         rt: office.rt,
         alloc,
         shared: office.shared,
+        room: office.room,
+        me: office.me,
+        peers: office.peers,
+        address: from,
         seating,
         door,
         ticket,
         frames,
         given: None,
+        place: None,
         due: None,
         done: Done::NoMemory,
     };

@@ -87,8 +87,8 @@ impl<R: Wait> Outlet for Channels<'_, R> {
 
     fn reply(&mut self, session: u64, request: u64, answer: &Answer) {
         match self.replied(session, request, answer) {
-            Some(bytes) => self.shared.doors.pass(self.rt, session, bytes),
-            None => self.shared.doors.give_up(self.rt, session),
+            Some(bytes) => self.shared.doors.pass(self.rt, session, request, bytes),
+            None => self.shared.doors.give_up(self.rt, session, request),
         }
     }
 }

@@ -3,16 +3,16 @@
 ghost use Rattle.std.specs.Prelude.{◌≡◌};
 ghost use Rattle.cc_server.specs.Serving.{duty_of};
 
-use cc_intake::Accepted;
+use cc_intake::{Accepted, Refused};
 use cc_protocol::{Duty, heed};
-use cc_wire::{Event, Refusal};
+use cc_wire::Event;
 
 /// What the answer to an event asks of the worker that brought it.
-pub fn duty_of(event: &Event, answer: Result<Accepted, Refusal>) -> Duty
+pub fn duty_of(event: &Event, answer: Result<Accepted, Refused>) -> Duty
     ensures { result ≡ duty_of event.now answer }
 {
     match answer {
         Ok(accepted) => heed(event, Ok(accepted.stirs)),
-        Err(refusal) => heed(event, Err(refusal)),
+        Err(refused) => heed(event, Err(refused.why)),
     }
 }

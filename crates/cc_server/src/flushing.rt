@@ -1,10 +1,11 @@
 //! The flusher's thread.
 
+use crate::of_life::OfLife;
 use crate::shared::Shared;
 use cc_flush::{CheckpointFault, Failed};
 use cc_intake::{Lane, Life, Queue, Turner};
 use cc_journal::Batch;
-use cc_lines::{Line, Room};
+use cc_lines::{Durable, Line, Room};
 use cc_node::Core;
 use cc_site::Site;
 use crossbeam_utils::sync::Parker;
@@ -31,6 +32,7 @@ pub fn flush_all<S: Site, L: Life, Q: Lane, R: Wait>(
     rt: &R,
     turner: &mut Turner<S, L, Q>,
     queue: &Queue<L, Q>,
+    room: &Room<OfLife<L>>,
     watch: &Watch<'_>,
 ) -> Result<(), Failed> {
     let mut is_fresh = true;
@@ -38,11 +40,11 @@ pub fn flush_all<S: Site, L: Life, Q: Lane, R: Wait>(
     for _ in rt.forever() {
         let is_done = watch.shared.done.is_set();
         watch.shared.bell.look();
-        let events = turn(rt, turner, queue, &watch.shared.room)?;
+        let events = turn(rt, turner, queue, room)?;
         let is_wished = grant(rt, turner, watch.shared)?;
         is_fresh &= events == 0;
         if watch.shared.ticked.take() {
-            watch.shared.room.tick(rt);
+            room.tick(rt);
             resend(turner, watch.shared)?;
             if !is_fresh {
                 is_fresh = spare(turner, &mut begun)?;
@@ -64,11 +66,12 @@ fn turn<S: Site, L: Life, Q: Lane, R: Wait>(
     rt: &R,
     turner: &mut Turner<S, L, Q>,
     queue: &Queue<L, Q>,
-    room: &Room,
+    room: &Room<OfLife<L>>,
 ) -> Result<u64, Failed> {
     let events = turner.turn(rt, queue)?.events as u64;
     if events > 0 {
-        room.turned(rt, events, turner.engine().twin());
+        let flushed = Durable::new(turner.handed());
+        room.turned(rt, events, flushed, turner.engine().twin());
     }
     Ok(events)
 }

@@ -1,11 +1,13 @@
 //! What the workers of a node share.
 
 ghost use Rattle.std.specs.Prelude.{◌≡◌, ◌+◌, List};
-ghost use Rattle.cc_intake.specs.Talks.{Answer, Talks, places_of, PlacesRise};
+ghost use Rattle.cc_intake.specs.Talks.{Answer, IsAnswer, Talks, places_of, PlacesRise};
 
+use crate::of_life::OfLife;
 use crate::shared::Shared;
 use cc_intake::{Hooks, Intake, Lane, Life, Queue, Share, Source, work};
-use cc_lines::Seat;
+use cc_lines::{Door, Room, Seat};
+use cc_protocol::Admitted;
 use cc_views::NodeId;
 use cc_words::Peer;
 use std::alloc::Global;
@@ -20,6 +22,7 @@ pub struct Office<'x, R: Wait, H: Hooks, L: Life, Q: Lane> {
     pub hooks: &'x H,
     pub peers: &'x [Peer],
     pub shared: &'x Shared,
+    pub room: &'x Room<OfLife<L>>,
     pub lock: &'x Mutex<Intake<L, Q>>,
     pub queue: &'x Queue<L, Q>,
     pub shares: &'x Mutex<Vec<Share<L>>>,
@@ -36,17 +39,14 @@ impl<R: Wait, H: Hooks, L: Life, Q: Lane> Office<'_, R, H, L, Q> {
     }
 
     /// Where what comes over a connection waits.
-    pub fn seat(&self) -> Seat<'_> {
-        Seat {
-            room: &self.shared.room,
-            bell: &self.shared.bell,
-            me: self.me,
-        }
+    pub fn seat<'a>(&'a self, door: &'a Door, admitted: Admitted) -> Seat<'a, OfLife<L>> {
+        let Shared { bell, doors, .. } = self.shared;
+        Seat::new(self.room, bell, doors, door, admitted, self.me)
     }
 
     /// Brings each event of a source to the intake.
     pub fn work<S: Source>(&self, share: &mut Share<L>, source: &mut S)
-        ensures { (answers : List Answer) × Talks S.gives S.hears source.old answers source.new × (share.new ≡ share.old + places_of answers) × PlacesRise share.old answers }
+        ensures { (answers : List Answer) × Talks S.gives S.hears (IsAnswer L.opening L.taken) source.old answers source.new × (share.new ≡ share.old + places_of answers) × PlacesRise share.old answers }
     {
         work(
             self.rt, self.alloc, self.lock, self.queue, share, self.hooks, source,

@@ -3,19 +3,21 @@
 use crate::duties::duty_of;
 use crate::office::Office;
 use crate::shared::Shared;
-use cc_intake::{Accepted, Hooks, Lane, Life, Source};
+use cc_intake::{Accepted, Hooks, Lane, Life, Refused, Source};
+use cc_lines::{Flushed, Room};
 use cc_protocol::Duty;
-use cc_wire::{Event, Refusal};
+use cc_wire::Event;
 use crossbeam_channel::Receiver;
 use std::alloc::Global;
 use std::sync::Wait;
 
 /// The events of the node's own messages, until None comes.
 #[derive(Drop)]
-struct Own<'a, R: Wait> {
+struct Own<'a, R: Wait, F: Flushed> {
     rt: &'a R,
     alloc: Global,
     shared: &'a Shared,
+    room: &'a Room<F>,
     from: Receiver<Option<Event>>,
     // The event that was given last.
     given: Option<Event>,
@@ -23,7 +25,7 @@ struct Own<'a, R: Wait> {
     is_due: bool,
 }
 
-impl<R: Wait> Own<'_, R> {
+impl<R: Wait, F: Flushed> Own<'_, R, F> {
     fn event(&mut self) -> Option<Event> {
         if self.is_due {
             self.is_due = false;
@@ -45,14 +47,14 @@ impl<R: Wait> Own<'_, R> {
     }
 }
 
-impl<R: Wait> Source for Own<'_, R> {
+impl<R: Wait, F: Flushed> Source for Own<'_, R, F> {
     ghost gives = { λ s e t. Unit {0} };
 
     ghost hears = { λ s a t. Unit {0} };
 
     fn next(&mut self) -> Option<Event> {
         let (event, kept) = self.pair()?;
-        if !self.shared.room.sit_anyway(self.rt, &self.shared.bell) {
+        if !self.room.sit_anyway(self.rt, &self.shared.bell) {
             drop(event);
             drop(kept);
             return None;
@@ -61,13 +63,14 @@ impl<R: Wait> Source for Own<'_, R> {
         Some(event)
     }
 
-    fn told(&mut self, answer: Result<Accepted, Refusal>) {
+    fn told(&mut self, answer: Result<Accepted, Refused>) {
         let Some(event) = &self.given else {
             return;
         };
         let duty = duty_of(event, answer);
-        if answer.is_err() {
-            self.shared.room.leave(self.rt);
+        match answer {
+            Ok(_) => self.room.accept(),
+            Err(_) => self.room.leave(self.rt),
         }
         match duty {
             Duty::Wake => self.shared.bell.ring(),
@@ -91,6 +94,7 @@ pub fn serve_own<R: Wait, H: Hooks, L: Life, Q: Lane>(
         rt: office.rt,
         alloc: office.alloc,
         shared: office.shared,
+        room: office.room,
         from,
         given: None,
         is_due: false,

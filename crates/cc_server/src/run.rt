@@ -1,11 +1,12 @@
 //! A node that runs: it opens its folder, listens, serves and ends.
 
-ghost use Rattle.std.specs.Prelude.{◌≡◌, List, None, false};
+ghost use Rattle.std.specs.Prelude.{◌≡◌, ℕ, List, None, false};
 ghost use Rattle.cc_journal.specs.declared.entry.Entry.{Entry as EntryValue};
 ghost use Rattle.cc_intake.specs.Accepting.{share_limit};
 
 use crate::channels::Channels;
 use crate::config::Config;
+use crate::of_life::OfLife;
 use crate::office::Office;
 use crate::run_fault::RunFault;
 use crate::shared::{Inlets, Shared};
@@ -13,7 +14,7 @@ use crate::threads::live;
 use cc_files::FileSite;
 use cc_flush::{Back, Failed, Flusher};
 use cc_intake::{Ends, Finished, Hooked, Hooks, Lane, Life, Share, finish, lane, start};
-use cc_lines::Stop;
+use cc_lines::{Durable, Room, Stop};
 use cc_node::Core;
 use cc_protocol::Routes;
 use cc_site::Site;
@@ -24,14 +25,14 @@ use log::{Level, Logged, info};
 use std::alloc::Global;
 use std::fs::{File, Files};
 use std::marker::Brand;
-use std::net::{Net, TcpListener, TcpStream};
+use std::net::{Net, SocketAddr, TcpListener, TcpStream};
 use std::sync::ledger::Blank;
 use std::sync::{Mutex, Wait};
 use std::thread::Threads;
 use std::time::Clock;
 
 // How many workers there are at most: one for each connection, and that of the node's own messages.
-const MOST_WORKERS: usize = Routes::MAX_DOORS + 1;
+const MOST_WORKERS: usize = Routes::MAX_DOORS + Routes::MAX_SPARE + 1;
 
 /// Runs the node of a folder, which listens once the folder is open, until the flag is set or a disk call fails. What it came
 /// to is told without its site. It notes its start and its end on standard error.
@@ -151,16 +152,17 @@ where
     match prepare(run, listener, &core) {
         Ok(listener) => {
             let me = core.me();
-            run.shared.room.turned(run.rt, 0, engine.twin());
+            let address = listener.local_addr().unwrap_or(run.config.listen);
+            run.shared.known.learn_links(run.rt, &core);
             let ready = Ready {
                 engine,
                 core,
                 listener,
                 inlets,
             };
-            note(run, me, "runs");
+            note(run, me, "runs", address);
             let outcome = run_as::<Brand, S, R, H>(run, ready, Blank::new(1 << 20));
-            note(run, me, "ends");
+            note(run, me, "ends", address);
             outcome
         }
         Err(fault) => {
@@ -199,9 +201,9 @@ where
     }
 }
 
-fn note<R: Eprint, H>(run: &Run<'_, R, H>, me: NodeId, what: &str) {
+fn note<R: Eprint, H>(run: &Run<'_, R, H>, me: NodeId, what: &str, address: SocketAddr) {
     let logged = Logged::new(run.rt, Level::Info, Console(run.rt));
-    info!(logged; "node {} {} at {}", me.number(), what, run.config.listen);
+    info!(logged; "node {} {} at {}", me.number(), what, address);
 }
 
 fn run_as<L: Life + Send + Sync, S: Site + Send + Drop, R, H: Hooks + Sync>(
@@ -210,19 +212,23 @@ fn run_as<L: Life + Send + Sync, S: Site + Send + Drop, R, H: Hooks + Sync>(
     blank: Blank,
 ) -> Result<Finished<()>, RunFault>
 where
-    R: Net<Listener = TcpListener, Stream = TcpStream> + Threads + Wait + Clock + Sync,
+    R: Net<Listener = TcpListener, Stream = TcpStream> + Threads + Wait + Clock + Eprint + Sync,
     requires core { ready.core ≡ L.opening.core }
     requires owes { ready.engine.owes ≡ false }
     requires twin { ready.engine.failed ≡ None → ready.engine.twin ≡ L.opening }
     requires ledger { (blank.name ≡ L.name) × (blank.parts ≡ L.parts) × (L.parts ≡ share_limit) }
-    requires reached { (list : List EntryValue) → L.reached list }
-    requires taken { (list : List EntryValue) → L.taken list }
+    requires reached { (look : ℕ) (list : List EntryValue) → L.reached look list }
+    requires taken { (look : ℕ) (list : List EntryValue) → L.taken look list }
+    requires flushed { (count : ℕ) → L.flushed count }
 {
     match (
         lane::<L>(run.alloc),
         Vec::with_capacity(run.alloc, MOST_WORKERS),
+        Room::new(run.alloc, Durable::<OfLife<L>>::new(0)),
     ) {
-        (Ok(ends), Ok(shares)) => run_at::<L, Brand, S, R, H>(run, ready, blank, ends, shares),
+        (Ok(ends), Ok(shares), Ok(room)) => {
+            run_at::<L, Brand, S, R, H>(run, ready, blank, ends, shares, &room)
+        }
         _ => {
             drop(ready);
             Err(RunFault::NoMemory)
@@ -236,15 +242,17 @@ fn run_at<L: Life + Send + Sync, Q: Lane + Send + Sync, S: Site + Send + Drop, R
     blank: Blank,
     ends: Ends<L>,
     shares: Vec<Share<L>>,
+    room: &Room<OfLife<L>>,
 ) -> Result<Finished<()>, RunFault>
 where
-    R: Net<Listener = TcpListener, Stream = TcpStream> + Threads + Wait + Clock + Sync,
+    R: Net<Listener = TcpListener, Stream = TcpStream> + Threads + Wait + Clock + Eprint + Sync,
     requires core { ready.core ≡ L.opening.core }
     requires owes { ready.engine.owes ≡ false }
     requires twin { ready.engine.failed ≡ None → ready.engine.twin ≡ L.opening }
     requires ledger { (blank.name ≡ L.name) × (blank.parts ≡ L.parts) × (L.parts ≡ share_limit) }
-    requires reached { (list : List EntryValue) → L.reached list }
-    requires taken { (list : List EntryValue) → L.taken list }
+    requires reached { (look : ℕ) (list : List EntryValue) → L.reached look list }
+    requires taken { (look : ℕ) (list : List EntryValue) → L.taken look list }
+    requires flushed { (count : ℕ) → L.flushed count }
     requires lane { ends ≡ Q.table }
 {
     let Ready {
@@ -254,6 +262,7 @@ where
         inlets,
     } = ready;
     let me = core.me();
+    room.turned(run.rt, 0, Durable::new(0), engine.twin());
     let (intake, mut turner, queue) = start::<S, L, Q>(engine, core, blank, ends);
     let lock = Mutex::new(intake);
     let shares = Mutex::new(shares);
@@ -264,6 +273,7 @@ where
         hooks: run.hooks,
         peers: &run.config.peers,
         shared: run.shared,
+        room,
         lock: &lock,
         queue: &queue,
         shares: &shares,

@@ -1,9 +1,10 @@
 //! What the threads of a node pass things on by.
 
 use crate::flushing::Watch;
+use crate::known::Known;
 use crate::run_fault::RunFault;
 use crate::threads::FarEnds;
-use cc_lines::{Bell, Doors, FarEnd, Line, OwnLine, Room, Stop, lines_to, own_line};
+use cc_lines::{Bell, Doors, FarEnd, Line, OwnLine, Stop, lines_to, own_line};
 use cc_protocol::Wishes;
 use cc_views::NodeId;
 use cc_wire::Event;
@@ -22,7 +23,8 @@ pub struct Shared {
     pub lines: Vec<Line>,
     pub own: OwnLine,
     pub bell: Bell,
-    pub room: Room,
+    /// The nodes that were heard of.
+    pub known: Known,
     pub wishes: Mutex<Wishes>,
     /// A second has passed.
     pub ticked: Stop,
@@ -53,7 +55,7 @@ impl Shared {
             lines,
             own,
             bell,
-            room: Room::new(alloc)?,
+            known: Known::new(alloc),
             wishes: Mutex::new(Wishes::new(alloc)?),
             ticked: Stop::new(),
             done: Stop::new(),

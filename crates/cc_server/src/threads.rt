@@ -4,12 +4,13 @@ ghost use Rattle.std.specs.Thread.{IsSend};
 
 use crate::attending::attend;
 use crate::flushing::{Watch, flush_all};
+use crate::of_life::OfLife;
 use crate::office::Office;
 use crate::own::serve_own;
 use crate::shared::Shared;
 use cc_flush::Failed;
 use cc_intake::{Hooks, Lane, Life, Queue, Turner};
-use cc_lines::{FarEnd, Stop, write_peer};
+use cc_lines::{FarEnd, Room, Stop, write_peer};
 use cc_site::Site;
 use cc_views::NodeId;
 use cc_wire::Event;
@@ -44,11 +45,12 @@ pub fn live<'x, L: Life + Send + Sync, Q: Lane + Send + Sync, S: Site + Send, R,
     stop: &'x Stop,
 ) -> Option<Result<(), Failed>>
 where
-    R: Net<Listener = TcpListener, Stream = TcpStream> + Threads + Wait + Clock + Sync,
+    R: Net<Listener = TcpListener, Stream = TcpStream> + Threads + Wait + Clock + Eprint + Sync,
 {
     let rt = office.rt;
     let queue = office.queue;
     let shared = office.shared;
+    let room = office.room;
     let address = listener.local_addr().ok();
     let turner = &mut *turner;
     thread::scope(
@@ -58,7 +60,7 @@ where
             requires { IsSend L.row × IsSend Q.row × IsSend S.row }
         {
             let flusher = scope
-                .spawn(move || flush_until(rt, turner, queue, &watch))
+                .spawn(move || flush_until(rt, turner, queue, room, &watch))
                 .ok()?;
             let ticks = scope
                 .spawn(move || tick_until(rt, shared, address, stop))
@@ -79,11 +81,12 @@ fn flush_until<S: Site, L: Life, Q: Lane, R: Wait>(
     rt: &R,
     turner: &mut Turner<S, L, Q>,
     queue: &Queue<L, Q>,
+    room: &Room<OfLife<L>>,
     watch: &Watch<'_>,
 ) -> Result<(), Failed> {
-    let outcome = flush_all(rt, turner, queue, watch);
+    let outcome = flush_all(rt, turner, queue, room, watch);
     watch.shared.ended.set();
-    watch.shared.room.close(rt);
+    room.close(rt);
     outcome
 }
 
@@ -124,7 +127,7 @@ fn serve_all<L: Life + Send + Sync, Q: Lane + Send + Sync, R, H: Hooks + Sync>(
     stop: &Stop,
 ) -> bool
 where
-    R: Net<Listener = TcpListener, Stream = TcpStream> + Threads + Wait + Clock + Sync,
+    R: Net<Listener = TcpListener, Stream = TcpStream> + Threads + Wait + Clock + Eprint + Sync,
 {
     let rt = office.rt;
     let alloc = office.alloc;
@@ -171,7 +174,7 @@ fn accept_all<'s, 'e: 's, L: Life + Send + Sync, Q: Lane + Send + Sync, R, H: Ho
     stop: &Stop,
 )
 where
-    R: Net<Listener = TcpListener, Stream = TcpStream> + Threads + Wait + Clock + Sync,
+    R: Net<Listener = TcpListener, Stream = TcpStream> + Threads + Wait + Clock + Eprint + Sync,
 {
     for _ in office.rt.forever() {
         let accepted = listener.accept();

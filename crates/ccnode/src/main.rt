@@ -3,6 +3,7 @@
 #![tactic(auto)]
 
 mod network;
+mod streams;
 
 use cc_arguments::{Formatted, Order, parse};
 use cc_commands::{FormatOrder, FormatWords, RunOrder, WordFault, dump_folder, format_folder};
@@ -18,6 +19,7 @@ use std::process::ExitCode;
 use std::sync::Wait;
 use std::thread::Threads;
 use std::time::Clock;
+use streams::StandIns;
 
 // The command line isn't as it should be.
 const BAD_COMMAND_LINE: u8 = 2;
@@ -26,8 +28,9 @@ const BAD_COMMAND_LINE: u8 = 2;
 const FAULT: u8 = 1;
 
 fn main(rt: HostRuntime) -> anyhow::Result<ExitCode> {
+    let stand_ins = StandIns::open(&rt)?;
     let words: Vec<String> = std::env::args(&rt)?.collect(rt.alloc())?;
-    match parse(rt.alloc(), &words) {
+    let status = match parse(rt.alloc(), &words) {
         Ok(
             Order::Run {
                 folder,
@@ -37,7 +40,9 @@ fn main(rt: HostRuntime) -> anyhow::Result<ExitCode> {
         ) => run(&rt, folder, listen, peers),
         Ok(order) => obey(&rt, order),
         Err(error) => print_error(&rt, &error),
-    }
+    };
+    drop(stand_ins);
+    status
 }
 
 // Does what needs no threads.

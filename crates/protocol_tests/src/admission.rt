@@ -2,7 +2,7 @@
 
 use cc_changes::Fraction;
 use cc_node::{Node, Opening};
-use cc_protocol::{is_furthest_behind, may_hand_over};
+use cc_protocol::{is_furthest_behind, is_given_up, may_hand_over};
 use cc_views::NodeId;
 use cc_wire::{Command, Event, Message};
 use std::alloc::Global;
@@ -51,6 +51,21 @@ fn check_handing<R: Abort>(rt: &R, event: Event, cases: &[Case]) -> Result<(), F
     let checked = check_cases(rt, &event, cases);
     drop(event);
     checked
+}
+
+// Whether the event, which is let go, is given up after four seconds and after five.
+fn given_up(event: Event) -> [bool; 2] {
+    let given_up = [is_given_up(&event, 4), is_given_up(&event, 5)];
+    drop(event);
+    given_up
+}
+
+#[test]
+fn a_message_is_given_up_after_five_seconds(rt: HostRuntime) -> Result<(), Fail> {
+    let other = node(2)?;
+    let given = [given_up(joined(other)), given_up(asked())];
+    assert_eq!(rt; given, [[false, true], [false, false]]);
+    Ok(())
 }
 
 const ASKS: [Case; 4] = [

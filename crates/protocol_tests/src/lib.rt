@@ -17,4 +17,6 @@ mod incoming;
 #[cfg(test)]
 mod routes;
 #[cfg(test)]
+mod speakers;
+#[cfg(test)]
 mod words;

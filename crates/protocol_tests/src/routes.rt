@@ -1,24 +1,47 @@
 //! Connections, and where answers go.
 
-use cc_protocol::Routes;
-use cc_wire::Refusal;
+use cc_protocol::{Admitted, Origin, Routes};
 use std::process::Abort;
 use std::test::*;
 
-// Where the answers of sessions 7, 8 and 9 go.
+// Where the answers to requests 1 of the sessions 7, 8 and 9 go.
 fn doors(routes: &Routes) -> [Option<u64>; 3] {
-    [routes.door_of(7), routes.door_of(8), routes.door_of(9)]
+    [
+        routes.door_of(7, 1),
+        routes.door_of(8, 1),
+        routes.door_of(9, 1),
+    ]
+}
+
+// A connection that may bring everything.
+fn whole(ticket: u64) -> Option<Admitted> {
+    Some(Admitted {
+        ticket,
+        is_spare: false,
+    })
+}
+
+// One that is kept for the operator's requests.
+fn spare(ticket: u64) -> Option<Admitted> {
+    Some(Admitted {
+        ticket,
+        is_spare: true,
+    })
 }
 
 // Connections 1 and 2 enter, and session 7 asks over the first and then over the second.
 fn check_asks<R: Abort>(rt: &R, routes: &mut Routes) {
-    let entered = [routes.enter(false), routes.enter(true)];
-    let are_routed = [routes.route(7, 1), routes.route(8, 1), routes.route(9, 2)];
+    let entered = [routes.enter(Origin::Stranger), routes.enter(Origin::Peer)];
+    let places = [
+        routes.route(7, 1, 1),
+        routes.route(8, 1, 1),
+        routes.route(9, 1, 2),
+    ];
     let first = doors(routes);
-    let is_routed = routes.route(7, 2);
+    let place = routes.route(7, 1, 2);
     assert_eq!(rt;
-        (entered, are_routed, is_routed),
-        ([Some(1), Some(2)], [true; 3], true)
+        (entered, places, place),
+        ([whole(1), whole(2)], [Some(1), Some(2), Some(3)], Some(4))
     );
     assert_eq!(rt;
         [first, doors(routes)],
@@ -26,13 +49,14 @@ fn check_asks<R: Abort>(rt: &R, routes: &mut Routes) {
     );
 }
 
-// The second leaves, and nothing is routed to it or to one that never entered.
+// The second leaves, and nothing is routed to it or to one that never entered: what session 7 asked over the first is
+// answered there.
 fn check_leaves<R: Abort>(rt: &R, routes: &mut Routes) {
     routes.leave(2);
     let left = doors(routes);
-    let are_routed = [routes.route(7, 2), routes.route(7, 3)];
-    assert_eq!(rt; (left, are_routed), ([None, Some(1), None], [false; 2]));
-    assert_eq!(rt; (routes.door_of(7), routes.enter(false)), (None, Some(3)));
+    let places = [routes.route(7, 1, 2), routes.route(7, 1, 3)];
+    assert_eq!(rt; (left, places), ([Some(1), Some(1), None], [None; 2]));
+    assert_eq!(rt; routes.enter(Origin::Stranger), whole(3));
 }
 
 #[test]
@@ -44,100 +68,119 @@ fn answers_go_to_who_asked_last(rt: HostRuntime) -> Result<(), Fail> {
     Ok(())
 }
 
-// What doesn't take a route back from connection 1: the request, the connection, and the refusal.
-const KEEPING: [(u64, u64, Refusal); 5] = [
-    (2, 1, Refusal::Busy),
-    (2, 1, Refusal::Stale(1)),
-    (2, 1, Refusal::Skip(1)),
-    (2, 1, Refusal::QueueFull),
-    (1, 2, Refusal::Stale(0)),
-];
-
-fn check_kept<R: Abort>(rt: &R, routes: &mut Routes) {
-    for (request, ticket, refusal) in KEEPING {
-        routes.take_back(7, request, ticket, refusal);
-        assert_eq!(rt; routes.door_of(7), Some(1));
-    }
+// Where the answers to requests 5, 6 and 9 of session 7 go.
+fn sevens(routes: &Routes) -> [Option<u64>; 3] {
+    [
+        routes.door_of(7, 5),
+        routes.door_of(7, 6),
+        routes.door_of(7, 9),
+    ]
 }
 
-// What takes the route of a first request back.
-const TAKING_BACK: [Refusal; 10] = [
-    Refusal::Stale(0),
-    Refusal::Skip(0),
-    Refusal::TooManySessions,
-    Refusal::NotJoined,
-    Refusal::NotEntered,
-    Refusal::Busy,
-    Refusal::SetFull,
-    Refusal::OutboxFull,
-    Refusal::Spent,
-    Refusal::QueueFull,
-];
-
-fn check_taken_back<R: Abort>(rt: &R, routes: &mut Routes) {
-    for refusal in TAKING_BACK {
-        let is_routed = routes.route(7, 1);
-        routes.take_back(7, 1, 1, refusal);
-        assert_eq!(rt; (is_routed, routes.door_of(7)), (true, None));
-    }
+// Session 7 asks under number 5 over the first connection, which is taken. While its ask under 9 is judged, which came over
+// the second, the answer to 5 goes to the first.
+fn check_judged<R: Abort>(rt: &R, routes: &mut Routes) {
+    let entered = [
+        routes.enter(Origin::Loopback),
+        routes.enter(Origin::Loopback),
+    ];
+    let first = routes.route(7, 5, 1);
+    routes.take(7, 1);
+    let second = routes.route(7, 9, 2);
+    assert_eq!(rt; entered, [whole(1), whole(2)]);
+    assert_eq!(rt; (first, second), (Some(1), Some(2)));
+    assert_eq!(rt; sevens(routes), [Some(1), Some(2), Some(2)]);
 }
 
-// Two connections enter, and session 7 asks over the first.
-fn check_first_route<R: Abort>(rt: &R, routes: &mut Routes) {
-    let entered = [routes.enter(false), routes.enter(false)];
-    let is_routed = routes.route(7, 1);
-    assert_eq!(rt; (entered, is_routed), ([Some(1), Some(2)], true));
+// It is refused: all goes to the first as before. Then number 6 is taken over the second.
+fn check_refused<R: Abort>(rt: &R, routes: &mut Routes) {
+    routes.take_back(2);
+    let refused = sevens(routes);
+    let third = routes.route(7, 6, 2);
+    routes.take(7, 3);
+    assert_eq!(rt; (refused, third), ([Some(1); 3], Some(3)));
+    assert_eq!(rt; sevens(routes), [Some(2); 3]);
+}
+
+// An older ask that is told of later takes nothing from a newer one.
+fn check_late<R: Abort>(rt: &R, routes: &mut Routes) {
+    let places = [routes.route(8, 1, 1), routes.route(8, 1, 2)];
+    routes.take(8, 5);
+    let newer = routes.door_of(8, 1);
+    routes.take(8, 4);
+    assert_eq!(rt; places, [Some(4), Some(5)]);
+    assert_eq!(rt; [newer, routes.door_of(8, 1)], [Some(2); 2]);
 }
 
 #[test]
-fn a_session_that_the_node_does_not_know_leaves_no_route(rt: HostRuntime) -> Result<(), Fail> {
+fn a_refused_ask_leaves_the_routes_as_they_were(rt: HostRuntime) -> Result<(), Fail> {
     let mut routes = Routes::new(rt.alloc())?;
-    check_first_route(&rt, &mut routes);
-    check_kept(&rt, &mut routes);
-    check_taken_back(&rt, &mut routes);
+    check_judged(&rt, &mut routes);
+    check_refused(&rt, &mut routes);
+    check_late(&rt, &mut routes);
     drop(routes);
     Ok(())
 }
 
-// So many connections enter, and one more doesn't.
-fn check_full<R: Abort>(rt: &R, routes: &mut Routes, is_peer: bool, count: u64) {
+// So many connections enter, and one more is one for the operator.
+fn check_full<R: Abort>(rt: &R, routes: &mut Routes, from: Origin, count: u64) {
     for _ in 0..count {
-        assert!(rt; routes.enter(is_peer).is_some());
+        let entered = routes.enter(from);
+        assert!(rt; entered.is_some_and(|admitted| !admitted.is_spare));
     }
-    assert_eq!(rt; routes.enter(is_peer), None);
 }
 
 fn check_doors<R: Abort>(rt: &R, routes: &mut Routes) {
-    check_full(rt, routes, false, 768);
-    check_full(rt, routes, true, 256);
+    check_full(rt, routes, Origin::Stranger, 768);
+    assert_eq!(rt; routes.enter(Origin::Stranger), spare(769));
+    check_full(rt, routes, Origin::Peer, 248);
+    assert_eq!(rt; routes.enter(Origin::Peer), spare(1018));
+    check_full(rt, routes, Origin::Loopback, 8);
+    for ticket in 1027..1033 {
+        assert_eq!(rt; routes.enter(Origin::Loopback), spare(ticket));
+    }
+    assert_eq!(rt; routes.enter(Origin::Loopback), None);
+}
+
+// One of the strangers leaves, and then one of those for the operator.
+fn check_left<R: Abort>(rt: &R, routes: &mut Routes) {
     routes.leave(5);
-    assert_eq!(rt;
-        (routes.enter(false), routes.enter(true)),
-        (None, Some(1025))
-    );
+    let first = [
+        routes.enter(Origin::Stranger),
+        routes.enter(Origin::Loopback),
+    ];
+    routes.leave(769);
+    let second = [routes.enter(Origin::Peer), routes.enter(Origin::Peer)];
+    assert_eq!(rt; (first, second), ([None, whole(1033)], [spare(1034), None]));
 }
 
 #[test]
-fn a_part_of_the_connections_is_kept_for_peers(rt: HostRuntime) -> Result<(), Fail> {
+fn parts_of_the_connections_are_kept(rt: HostRuntime) -> Result<(), Fail> {
     let mut routes = Routes::new(rt.alloc())?;
     check_doors(&rt, &mut routes);
+    check_left(&rt, &mut routes);
     drop(routes);
     Ok(())
 }
 
+// A session more than there are routes has none, and one that is refused makes room.
 fn check_sessions<R: Abort>(rt: &R, routes: &mut Routes) -> Result<(), Fail> {
-    let one = routes.enter(false).ok_or("there is room")?;
-    for session in 0..1280 {
-        assert!(rt; routes.route(session, one));
+    let one = routes.enter(Origin::Stranger).ok_or("there is room")?;
+    for session in 0..1280u64 {
+        let place = routes.route(session, 1, one.ticket);
+        assert_eq!(rt; place, session.checked_add(1));
     }
-    let are_routed = [routes.route(1280, one), routes.route(3, one)];
-    let doors = [routes.door_of(1279), routes.door_of(1280)];
-    assert_eq!(rt; (are_routed, doors), ([false, true], [Some(one), None]));
+    let full = routes.route(1280, 1, one.ticket);
+    routes.take_back(4);
+    let freed = routes.route(1280, 1, one.ticket);
+    assert_eq!(rt; (full, freed), (None, Some(1281)));
+    let doors = [routes.door_of(3, 1), routes.door_of(1280, 1)];
+    assert_eq!(rt; doors, [None, Some(one.ticket)]);
     Ok(())
 }
 
 #[test]
-fn sessions_have_a_bound(rt: HostRuntime) -> Result<(), Fail> {
+fn routes_have_a_bound(rt: HostRuntime) -> Result<(), Fail> {
     let mut routes = Routes::new(rt.alloc())?;
     let checked = check_sessions(&rt, &mut routes);
     drop(routes);

@@ -10,8 +10,8 @@ use std::test::Fail;
 // How many requests come in one write.
 const REQUESTS: usize = 10_000;
 
-// Session 9 asks under number 3, and never asked before.
-const OUT_OF_TURN: [u8; 24] = [
+/// Session 9 asks under number 3, and never asked before.
+pub(crate) const OUT_OF_TURN: [u8; 24] = [
     0, 0, 0, 20, 3, 0, 0, 0, 0, 0, 0, 0, 9, 0, 0, 0, 0, 0, 0, 0, 3, 1, 1, 97,
 ];
 

@@ -18,4 +18,6 @@ mod nodes;
 #[cfg(test)]
 mod retiring;
 #[cfg(test)]
+mod routing;
+#[cfg(test)]
 mod vectors;

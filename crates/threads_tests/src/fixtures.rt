@@ -5,7 +5,7 @@ ghost use Rattle.std.specs.Prelude.{◌≡◌, ◌<◌, None, false, IfOk};
 use crate::holding::Hold;
 use cc_changes::Fraction;
 use cc_flush::{Back, Flusher, format};
-use cc_intake::{Accepted, Hooked, Intake, Lane, Life, Queue, Share};
+use cc_intake::{Accepted, Hooked, Intake, Lane, Life, Queue, Refused, Share};
 use cc_node::{Core, Opening};
 use cc_site::MemorySite;
 use cc_views::{NodeId, Text};
@@ -93,8 +93,13 @@ pub(crate) fn hear<L: Life, Q: Lane, R: Wait>(
     queue: &Queue<L, Q>,
     share: &mut Share<L>,
     number: u64,
-) -> Result<Accepted, Refusal> {
+) -> Result<Accepted, Refused> {
     lock.lock(rt).accept(rt, alloc, share, queue, echo(number))
+}
+
+/// What is told of an event that is refused so, after so many were accepted.
+pub(crate) fn refused(why: Refusal, accepted: u64) -> Refused {
+    Refused { why, accepted }
 }
 
 /// What is told of a message that is accepted at that place, and not answered.

@@ -1,6 +1,6 @@
 //! A whole life of a node, from its opening to what it came to.
 
-ghost use Rattle.std.specs.Prelude.{◌≡◌, List, None, false};
+ghost use Rattle.std.specs.Prelude.{◌≡◌, ℕ, List, None, false};
 ghost use Rattle.cc_journal.specs.declared.entry.Entry.{Entry as EntryValue};
 ghost use Rattle.cc_intake.specs.Accepting.{share_limit};
 
@@ -72,8 +72,9 @@ fn live_as<'a, L: Life + Send + Sync, R: Threads + Wait + Sync>(
     requires owes { engine.owes ≡ false }
     requires twin { engine.failed ≡ None → engine.twin ≡ L.opening }
     requires ledger { (blank.name ≡ L.name) × (blank.parts ≡ L.parts) × (L.parts ≡ share_limit) }
-    requires reached { (list : List EntryValue) → L.reached list }
-    requires taken { (list : List EntryValue) → L.taken list }
+    requires reached { (look : ℕ) (list : List EntryValue) → L.reached look list }
+    requires taken { (look : ℕ) (list : List EntryValue) → L.taken look list }
+    requires flushed { (count : ℕ) → L.flushed count }
 {
     match lane::<L>(alloc) {
         Ok(ends) => live_at::<L, Brand, R>(rt, alloc, engine, core, blank, ends, hooks, story),
@@ -99,8 +100,9 @@ fn live_at<'a, L: Life + Send + Sync, Q: Lane + Send + Sync, R: Threads + Wait +
     requires owes { engine.owes ≡ false }
     requires twin { engine.failed ≡ None → engine.twin ≡ L.opening }
     requires ledger { (blank.name ≡ L.name) × (blank.parts ≡ L.parts) × (L.parts ≡ share_limit) }
-    requires reached { (list : List EntryValue) → L.reached list }
-    requires taken { (list : List EntryValue) → L.taken list }
+    requires reached { (look : ℕ) (list : List EntryValue) → L.reached look list }
+    requires taken { (look : ℕ) (list : List EntryValue) → L.taken look list }
+    requires flushed { (count : ℕ) → L.flushed count }
     requires lane { ends ≡ Q.table }
 {
     let (intake, mut turner, queue) = start::<_, L, Q>(engine, core, blank, ends);

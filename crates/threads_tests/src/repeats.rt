@@ -1,10 +1,10 @@
 //! A worker that asks the same twice.
 
-use crate::fixtures::{check, store_a};
+use crate::fixtures::{check, refused, store_a};
 use crate::holding::{Hold, Holding};
 use crate::lives::lives;
 use crate::stories::Story;
-use cc_intake::{Accepted, Intake, Lane, Life, Queue, Share, Source, work};
+use cc_intake::{Accepted, Intake, Lane, Life, Queue, Refused, Share, Source, work};
 use cc_wire::{Event, Refusal};
 use std::alloc::Global;
 use std::sync::{Mutex, Wait};
@@ -14,8 +14,8 @@ use std::test::*;
 #[derive(Drop)]
 struct Twice {
     asked: usize,
-    first: Option<Result<Accepted, Refusal>>,
-    second: Option<Result<Accepted, Refusal>>,
+    first: Option<Result<Accepted, Refused>>,
+    second: Option<Result<Accepted, Refused>>,
 }
 
 impl Source for Twice {
@@ -31,7 +31,7 @@ impl Source for Twice {
         store_a()
     }
 
-    fn told(&mut self, answer: Result<Accepted, Refusal>) {
+    fn told(&mut self, answer: Result<Accepted, Refused>) {
         if self.first.is_none() {
             self.first = Some(answer);
         } else {
@@ -60,7 +60,7 @@ pub(crate) fn repeat<L: Life, Q: Lane, R: Wait>(
         stirs: true,
     }));
     check(source.first == stored, "an ask is accepted, and posted")?;
-    let again = Some(Err(Refusal::Repeat));
+    let again = Some(Err(refused(Refusal::Repeat, 1)));
     check(source.second == again, "the same ask is a repeat")?;
     check(share.count() == 1, "the share counts one")
 }

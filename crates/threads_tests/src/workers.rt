@@ -4,7 +4,7 @@ use crate::fixtures::{Disk, check, drawn, opened};
 use crate::holding::{Hold, Holding, TURNS};
 use crate::lives::lives;
 use crate::stories::Story;
-use cc_intake::{Accepted, Intake, Lane, Life, Queue, Share, Source, Turner, work};
+use cc_intake::{Accepted, Intake, Lane, Life, Queue, Refused, Share, Source, Turner, work};
 use cc_node::Core;
 use cc_site::{Choice, MemorySite};
 use cc_views::NodeId;
@@ -48,8 +48,8 @@ impl Source for Peer<'_> {
         })
     }
 
-    fn told(&mut self, answer: Result<Accepted, Refusal>) {
-        match answer {
+    fn told(&mut self, answer: Result<Accepted, Refused>) {
+        match answer.map_err(|refused| refused.why) {
             Ok(_) => {
                 self.next = self.next.saturating_add(1);
                 self.full = 0;

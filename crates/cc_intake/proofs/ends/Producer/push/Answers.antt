@@ -15,7 +15,7 @@ push_as-requires-clause-rule g c =
           (subst (λ (e : End). length e.entries < life_limit) is c.requires.room)
           (subst (λ (e : End). decides (core_after opening e.entries) c.args.entry.event ≡ None) is c.requires.accepted)
           (subst (λ (e : End). c.args.entry.made ≡ made (core_after opening e.entries) c.args.entry.event) is c.requires.made)
-          (c.self.invariant.3 _),
+          (λ look. c.self.invariant.3 look _),
       full_learns opening g.L.Life.reached g.L.Life.taken _ _ may,
     )
 

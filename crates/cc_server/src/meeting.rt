@@ -1,0 +1,70 @@
+//! Whom a worker hears of.
+
+use crate::known::Known;
+use cc_views::NodeId;
+use cc_wire::Message;
+use cc_words::Peer;
+use log::sink::Console;
+use log::{Level, Logged, warn};
+use std::net::SocketAddr;
+use std::sync::Wait;
+
+/// Notes whom a worker hears of over its connection.
+#[derive(Drop)]
+pub struct Meeting<'a> {
+    pub me: NodeId,
+    pub peers: &'a [Peer],
+    pub known: &'a Known,
+    /// Where the connection comes from.
+    pub address: SocketAddr,
+}
+
+impl Meeting<'_> {
+    /// A message of that node was accepted. A node that it is of or tells of, that isn't one of the peers and that none of
+    /// them told of, is noted on standard error, once.
+    pub fn hear<R: Wait + Eprint>(&self, rt: &R, from: NodeId, message: &Message) {
+        self.hear_of(rt, from, from);
+        self.hear_of(rt, from, subject_of(message));
+        if let Message::EnterEcho { changes, .. } = message {
+            if self.is_peer(from) {
+                self.known.learn_all(rt, changes.entered());
+                self.known.learn_all(rt, changes.joined());
+                self.known.learn_all(rt, changes.left());
+            }
+        }
+    }
+
+    fn hear_of<R: Wait + Eprint>(&self, rt: &R, from: NodeId, node: NodeId) {
+        if node == self.me || self.is_peer(node) || !self.known.learn(rt, node) {
+            return;
+        }
+        if !self.is_peer(from) {
+            self.note(rt, node);
+        }
+    }
+
+    fn note<R: Eprint>(&self, rt: &R, node: NodeId) {
+        let logged = Logged::new(rt, Level::Warn, Console(rt));
+        warn!(logged; "node {} heard of node {}, which is none of its peers, from {}", self.me.number(), node.number(), self.address);
+    }
+
+    fn is_peer(&self, node: NodeId) -> bool {
+        self.peers.iter().any(|peer| peer.id == node)
+    }
+}
+
+// The node that comes or goes, or whose operation it is.
+fn subject_of(message: &Message) -> NodeId {
+    match message {
+        Message::Enter { node }
+        | Message::EnterEcho { node, .. }
+        | Message::Join { node }
+        | Message::JoinEcho { node }
+        | Message::Leave { node }
+        | Message::LeaveEcho { node }
+        | Message::Query { node, .. }
+        | Message::QueryReply { node, .. }
+        | Message::Store { node, .. }
+        | Message::StoreAck { node, .. } => *node,
+    }
+}

@@ -1,0 +1,40 @@
+//! Which connection speaks for a node.
+
+use cc_protocol::{Speakers, Spoken};
+use cc_views::NodeId;
+use std::process::Abort;
+use std::test::*;
+
+// Node 2 is heard over connections 5 and 7, and over 5 again; node 3 over 7, so node 2 over none; then 7 is closed.
+fn check_spoken<R: Abort>(rt: &R, speakers: &mut Speakers, two: NodeId, three: NodeId) {
+    let first = [
+        speakers.speak(two, 5),
+        speakers.speak(two, 5),
+        speakers.speak(two, 7),
+        speakers.speak(two, 5),
+    ];
+    let second = [speakers.speak(three, 7), speakers.speak(two, 5)];
+    speakers.leave(7);
+    let third = [speakers.speak(three, 6), speakers.speak(two, 6)];
+    assert_eq!(rt;
+        first,
+        [
+            Spoken::Alone,
+            Spoken::Alone,
+            Spoken::Instead(5),
+            Spoken::Replaced
+        ]
+    );
+    assert_eq!(rt; second, [Spoken::Alone; 2]);
+    assert_eq!(rt; third, [Spoken::Alone, Spoken::Instead(5)]);
+}
+
+#[test]
+fn the_newest_connection_speaks_for_a_node(rt: HostRuntime) -> Result<(), Fail> {
+    let two = NodeId::new(2).ok_or("an id")?;
+    let three = NodeId::new(3).ok_or("an id")?;
+    let mut speakers = Speakers::new(rt.alloc())?;
+    check_spoken(&rt, &mut speakers, two, three);
+    drop(speakers);
+    Ok(())
+}
