@@ -7,3 +7,4 @@ pub mod Decoding
 pub mod Parts
 pub mod Windows
 pub mod Checkpoints
+pub mod Stops

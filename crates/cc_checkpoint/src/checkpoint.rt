@@ -1,17 +1,18 @@
 //! A checkpoint, step by step: the side that isn't in use is filled behind its closed gate, the gate is opened, and the
 //! other side is retired. A crash at any moment leaves two sides that stand for the node.
 
-ghost use Rattle.std.specs.Prelude.{true, ℕ, List, ◌≡◌, ◌↔◌, ◌+◌, ◌≤◌, ◌++◌, ◌∷◌, [], length, take, OnOk, IfOk};
+ghost use Rattle.std.specs.Prelude.{true, ℕ, List, ◌≡◌, ◌↔◌, ◌+◌, ◌≤◌, ◌++◌, ◌∷◌, [], length, take, OnOk, OnErr, IfOk, IfErr};
 ghost use Rattle.cc_wire.specs.declared.event.Event.{Event};
 ghost use Rattle.cc_site.specs.declared.site.Call.TheVariants.{Read, Write, Cut, Sync};
-ghost use Rattle.cc_site.specs.Sides.{durable, other, settled, written};
+ghost use Rattle.cc_site.specs.Sides.{durable, other, settled, written, MayHaveWritten};
 ghost use Rattle.cc_site.specs.Moments.{CountsFault, CountsOneFault};
 ghost use Rattle.cc_site.specs.Gates.{IsShut};
 ghost use Rattle.cc_site.specs.Runs.{EachMoment};
-ghost use Rattle.cc_site.specs.Telling.{CountsCalls, IsOn};
+ghost use Rattle.cc_site.specs.Telling.{CountsCalls};
 ghost use Rattle.cc_node.specs.Node.{Node as NodeState, after};
 ghost use Rattle.cc_node.specs.States.{state_spelling, state_of, SpellsNode};
 ghost use Rattle.cc_node.specs.Sides.{IsArmed, OPEN};
+ghost use Rattle.cc_checkpoint.specs.Stops.{Fills, Retires, HasClosed, ClosingStops, IsPastGate, ImageStops, FillStops, RetireStops};
 ghost use Rattle.cc_checkpoint.specs.Checkpoints.{IsShutNow, IsSurelyShut, IsFilled, StaysBehind, KeepsOff, RestsOn, ArmsFor, IsGoodForAll, image_of};
 
 use crate::piece::Piece;
@@ -35,7 +36,9 @@ fn close_gate<S: Site>(site: &mut S, side: Side) -> Result<(), DeviceFault>
     ensures shut { S.honest site.old → IsSurelyShut (S.state site.old side) → OnOk result (IsShutNow (S.state site.new side)) }
     ensures closed { S.honest site.old → OnOk result (IsShut (S.state site.new side).bytes) }
     ensures there { S.honest site.old → OnOk result (1 ≤ length (S.state site.new side).bytes) }
-    ensures fault { CountsCalls (IsOn side) (S.failures site.old) (S.failures site.new) result }
+    ensures closes { S.honest site.old → OnOk result (HasClosed (S.state site.old side) (S.state site.new side)) }
+    ensures failed { S.honest site.old → IfErr result (λ f. ClosingStops (S.state site.old side) f.call (S.state site.new side)) }
+    ensures fault { CountsCalls (Fills side) (S.failures site.old) (S.failures site.new) result }
 {
     let mut gate = [0];
     read_into(site, side, 0, &mut gate)?;
@@ -53,7 +56,8 @@ fn begin_image<S: Site>(site: &mut S, side: Side, front: &[u8]) -> Result<(), De
     ensures other_side { S.honest site.old → S.state site.new (other side) ≡ S.state site.old (other side) }
     ensures value { S.honest site.old → OnOk result ((S.state site.new side).bytes ≡ take 1 (S.state site.old side).bytes ++ front.now) }
     ensures every_moment { S.honest site.old → StaysBehind S.Site side site.old site.new }
-    ensures fault { CountsCalls (IsOn side) (S.failures site.old) (S.failures site.new) result }
+    ensures failed { S.honest site.old → IfErr result (λ f. ImageStops (S.state site.old side) f.call (S.state site.new side)) }
+    ensures fault { CountsCalls (Fills side) (S.failures site.old) (S.failures site.new) result }
 {
     site.cut(side, 1)?;
     site.write_at(side, 1, front)
@@ -77,7 +81,8 @@ fn write_pieces<S: Site>(
     ensures value { S.honest site.old → OnOk result ((S.state site.new side).bytes ≡ (S.state site.old side).bytes ++ state_spelling true (state_of node.now)) }
     ensures end { IfOk result (λ end. end ≡ from + length (state_spelling true (state_of node.now))) }
     ensures every_moment { S.honest site.old → StaysBehind S.Site side site.old site.new }
-    ensures fault { CountsCalls (IsOn side) (S.failures site.old) (S.failures site.new) result }
+    ensures failed { S.honest site.old → IfErr result (λ f. IsPastGate (S.state site.old side) f.call (S.state site.new side)) }
+    ensures fault { CountsCalls (Fills side) (S.failures site.old) (S.failures site.new) result }
 {
     let mut pieces = Pieces::new(node);
     let mut place = from;
@@ -104,7 +109,8 @@ fn write_image<S: Site>(
     ensures other_side { S.honest site.old → S.state site.new (other side) ≡ S.state site.old (other side) }
     ensures value { S.honest site.old → OnOk result (S.state site.new side ≡ durable (take 1 (S.state site.old side).bytes ++ image_of generation node.now)) }
     ensures every_moment { S.honest site.old → StaysBehind S.Site side site.old site.new }
-    ensures fault { CountsCalls (IsOn side) (S.failures site.old) (S.failures site.new) result }
+    ensures failed { S.honest site.old → IfErr result (λ f. ImageStops (S.state site.old side) f.call (S.state site.new side)) }
+    ensures fault { CountsCalls (Fills side) (S.failures site.old) (S.failures site.new) result }
 {
     piece.begin(generation, state_length(node) as u32);
     begin_image(site, side, piece.as_slice())?;
@@ -130,7 +136,8 @@ pub fn fill<S: Site>(
     // A gate that reads closed has to be closed whatever a crash leaves.
     ensures every_moment { S.honest site.old → IsSurelyShut (S.state site.old side) → KeepsOff S.Site side site.old site.new }
     ensures filled { S.honest site.old → OnOk result (IsFilled (S.state site.new side) generation node.now) }
-    ensures fault { CountsCalls (IsOn side) (S.failures site.old) (S.failures site.new) result }
+    ensures failed { S.honest site.old → IfErr result (λ f. FillStops (S.state site.old side) f.call (S.state site.new side)) }
+    ensures fault { CountsCalls (Fills side) (S.failures site.old) (S.failures site.new) result }
 {
     node_is_spellable(node);
     close_gate(site, side)?;
@@ -147,6 +154,7 @@ pub fn arm<S: Site>(site: &mut S, side: Side) -> Result<(), DeviceFault>
         → EachMoment S.Site site.old site.new (IsGoodForAll start events opening) }
     ensures at_rest { S.honest site.old → (next : ℕ) (start : NodeState) (events : List Event) (opening : ℕ) → ArmsFor S.Site side site.old next start events opening
         → OnOk result (RestsOn S.Site site.new side next (length (image_of next (after start events))) start events opening) }
+    ensures failed { S.honest site.old → OnErr result (MayHaveWritten (S.state site.old side) 0 (OPEN ∷ []) (S.state site.new side)) }
     ensures fault { CountsOneFault (S.failures site.old) (S.failures site.new) side Write Sync result }
 {
     write_durably(site, side, 0, &[OPEN_GATE])
@@ -160,7 +168,8 @@ pub fn retire<S: Site>(site: &mut S, side: Side) -> Result<(), DeviceFault>
     // Its gate has to read open.
     ensures every_moment { S.honest site.old → IsArmed (S.state site.old side).bytes → KeepsOff S.Site side site.old site.new }
     ensures retired { S.honest site.old → OnOk result (S.state site.new side ≡ durable (0 ∷ [])) }
-    ensures fault { CountsCalls (IsOn side) (S.failures site.old) (S.failures site.new) result }
+    ensures failed { S.honest site.old → IfErr result (λ f. RetireStops (S.state site.old side) f.call (S.state site.new side)) }
+    ensures fault { CountsCalls (Retires side) (S.failures site.old) (S.failures site.new) result }
 {
     write_durably(site, side, 0, &[CLOSED_GATE])?;
     cut_durably(site, side, 1)
