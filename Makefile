@@ -1,6 +1,7 @@
 # The commands of the README. The toolchain is Rattle's kit, with its command rt on the PATH.
-.PHONY: try run install test check bench edits refused-growths failing-calls kill-files cluster load kill-cluster soak \
-    hostile closed-streams dead-member refused-flood stray-frames many-sessions stale-collects costs worked-rows trusted
+.PHONY: try run install test check bench edits must-not-compile refused-growths failing-calls kill-files cluster load \
+    kill-cluster soak hostile closed-streams dead-member refused-flood stray-frames many-sessions stale-collects costs \
+    worked-rows trusted
 
 # Plays the script that ships with the program before any proof.
 try:
@@ -48,6 +49,11 @@ bench:
 # cc_wire", or CRATES=all.
 edits:
 	@python3 tools/edits.py $(CRATES)
+
+# Tries programs that drop, copy or take apart what must be put out first: each is refused by the compiler, at its own line
+# and for its own reason. It takes two minutes, and proves nothing.
+must-not-compile:
+	@python3 tools/must_not_compile.py
 
 # Builds the tests, and refuses each growth of each test once: a test may then end with want of memory, never with a fault.
 # CRATES=node_tests does one crate. The tests over sockets are left out, since a node that is refused memory waits there for

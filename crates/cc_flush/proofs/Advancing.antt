@@ -3,7 +3,8 @@
 --     stays, advances_both           an engine that was asked for nothing;  one action after another
 --     done_more                      the actions that are done, and one more
 --     put_advances                   outputs are put again
---     move_advances, spent_advances, move_given_up    the node is moved;  no generation is left for that;  a disk call of it fails
+--     move_done, spent_done, move_given_up    the node is moved;  no generation is left for that;  a disk call of it fails
+--     one_more                       one action more, each one after the other
 --     turn_advances, turn_given_up   a batch becomes durable, and its outputs are put;  a disk call fails
 --     run_ended, run_failed          a life that ends well;  one in which a disk call fails
 use Rattle.std.proofs.Common.{◌≡◌, ℕ, ◌+◌, ◌<◌, ◌≤◌, List, [], ◌∷◌, ◌++◌, length, inl, inr, refl, sym, ◌∙◌, ap, subst, arith, append_assoc, append-nil, length-append}
@@ -15,23 +16,25 @@ use Rattle.cc_wire.specs.declared.output.Output.{Output}
 use Rattle.cc_site.specs.declared.site.Site.{Ghosts}
 use Rattle.cc_site.specs.declared.site.DeviceFault.{DeviceFault}
 use Rattle.cc_site.specs.declared.site.Side.TheVariants.{A, B}
+use Rattle.cc_site.specs.Sides.{other}
 use Rattle.cc_site.specs.Runs.{EachMoment, OnlyNow, started, joined, weaker}
 use Rattle.cc_node.specs.Node.{Node, after, line}
 use Rattle.cc_node.specs.Histories.{after-append, IsLawful-append}
 use Rattle.cc_node.specs.GoodLaws.{good_for_more}
 use Rattle.cc_journal.specs.declared.entry.Entry.{Entry}
 use Rattle.cc_journal.specs.Batches.{AreLawful, events_in}
-use Rattle.cc_journal.specs.Journals.{room_limit, IsGood, IsGoodNow, KeepsGood, StaysGood}
+use Rattle.cc_checkpoint.specs.declared.choosing.InUse.{InUse}
+use Rattle.cc_journal.specs.Journals.{Position, room_limit, IsGood, IsGoodNow, KeepsGood, StaysGood}
 use Rattle.cc_views.specs.Limits.{counter_limit}
 use Rattle.cc_flush.specs.declared.flusher.Failed.{Failed}
 use Rattle.cc_flush.specs.declared.actions.Action.{Action}
 use Rattle.cc_flush.specs.declared.actions.Action.TheVariants.{Turn, Checkpoint}
-use Rattle.cc_flush.specs.Engine.{Engine}
+use Rattle.cc_flush.specs.Engine.{Engine, in_use_of}
 use Rattle.cc_flush.specs.Flushing.{LeadsTo, HasLived, Advances, Flushes, GivesUp, FlushFails, PutsAgain}
 use Rattle.cc_flush.specs.Moving.{Moves, MoveFails}
-use Rattle.cc_flush.specs.Lives.{events_by, events_of, outputs_by, outputs_of, generation_by, generation_after, BeginsWithTurn, MayFailIn, HasRun}
+use Rattle.cc_flush.specs.Lives.{events_by, events_of, outputs_by, outputs_of, in_use_by, in_use_after, BeginsWithTurn, MayFailIn, HasDone, FailsIn, HaveDone, HasRun}
 use Rattle.cc_flush.proofs.Committed.{lawful_after}
-use Rattle.cc_flush.proofs.Flushing.{both_ways, good_less}
+use Rattle.cc_flush.proofs.Flushing.{both_ways, good_less, in_use_is}
 
 -- ---- lists of actions
 
@@ -46,22 +49,22 @@ outputs_more n (first ∷ done) action =
     ∙ sym (append_assoc (outputs_by n first) (outputs_of next done) (outputs_by (after next (events_of done)) action))
     ∙ ap (λ (m : Node). (outputs_by n first ++ outputs_of next done) ++ outputs_by m action) (sym (after-append n (events_by first) (events_of done)))
 
-generation_more : (g : ℕ) (done : List Action) (action : Action) → generation_after g (done ++ action ∷ []) ≡ generation_by (generation_after g done) action
-generation_more g [] action = refl
-generation_more g (first ∷ done) action = generation_more (generation_by g first) done action
+in_use_more : (used : InUse) (done : List Action) (action : Action) → in_use_after used (done ++ action ∷ []) ≡ in_use_by (in_use_after used done) action
+in_use_more used [] action = refl
+in_use_more used (first ∷ done) action = in_use_more (in_use_by used first) done action
 
 -- a generation that isn't the last one, and one that is
-next_raised : (g : ℕ) → g < counter_limit → generation_by g Checkpoint ≡ g + 1
-next_raised g less = rw (lt-ltb g counter_limit less) refl
+next_raised : (used : InUse) → used.generation < counter_limit → in_use_by used Checkpoint ≡ record { side = other used.side; generation = used.generation + 1 }
+next_raised used less = rw (lt-ltb used.generation counter_limit less) refl
 
-next_spent : (g : ℕ) → counter_limit ≤ g → generation_by g Checkpoint ≡ g
-next_spent g spent = rw (le-ltb g counter_limit spent) refl
+next_spent : (used : InUse) → counter_limit ≤ used.generation → in_use_by used Checkpoint ≡ used
+next_spent used spent = rw (le-ltb used.generation counter_limit spent) refl
 
 module _ {D : Type 0} (s : Ghosts D) where
   abbrev Lived : Engine D → Node → List Event → ℕ → Type 0
   Lived = HasLived s
 
-  abbrev pub Goes : List Event → List Output → ℕ → Engine D → Engine D → Type 0
+  abbrev pub Goes : List Event → List Output → InUse → Engine D → Engine D → Type 0
   Goes = Advances s Lived
 
   -- two parts of a life, the second after the events of the first
@@ -77,12 +80,12 @@ module _ {D : Type 0} (s : Ghosts D) where
       (λ left told good. good_less start all (length (events ++ first)) (length events) opening left told (omega (arith, length-append events first)) good)))
 
   pub stays : (led : Engine D → Node → List Event → ℕ → Type 0) (e : Engine D) → ((start : Node) (events : List Event) (opening : ℕ) → led e start events opening → IsGoodNow s e.site start events opening)
-      → e.owes ≡ false → e.failed ≡ None → (s.honest e.site → OnlyNow s e.site) → Advances s led [] [] e.generation e e
+      → e.owes ≡ false → e.failed ≡ None → (s.honest e.site → OnlyNow s e.site) → Advances s led [] [] (in_use_of e) e e
   stays led e good owes none only = record {
     twin = refl;
     owes = owes;
     goes_on = none;
-    generation = refl;
+    in_use = refl;
     same_honest = (λ h. h, λ h. h);
     told = λ t. (t, sym (append-nil (s.sent e.site)));
     moments = λ h t start before opening was. started s e.site (IsGood start (before ++ []) (length before) opening)
@@ -91,12 +94,12 @@ module _ {D : Type 0} (s : Ghosts D) where
     same_failures = refl;
   }
 
-  pub advances_both : (old mid new : Engine D) (xs ys : List Event) (ps qs : List Output) (g g' : ℕ) → Goes xs ps g old mid → Goes ys qs g' mid new → Goes (xs ++ ys) (ps ++ qs) g' old new
+  pub advances_both : (old mid new : Engine D) (xs ys : List Event) (ps qs : List Output) (g g' : InUse) → Goes xs ps g old mid → Goes ys qs g' mid new → Goes (xs ++ ys) (ps ++ qs) g' old new
   advances_both old mid new xs ys ps qs g g' first then = record {
     twin = then.twin ∙ ap (λ (n : Node). after n ys) first.twin ∙ sym (after-append old.twin xs ys);
     owes = then.owes;
     goes_on = then.goes_on;
-    generation = then.generation;
+    in_use = then.in_use;
     same_honest = both_ways first.same_honest then.same_honest;
     told = λ t.
         let late = then.told t in
@@ -113,25 +116,25 @@ module _ {D : Type 0} (s : Ghosts D) where
   }
 
   -- one action more
-  pub done_more : (old mid new : Engine D) (done : List Action) (action : Action) → Goes (events_of done) (outputs_of old.twin done) (generation_after old.generation done) old mid
-      → Goes (events_by action) (outputs_by mid.twin action) (generation_by mid.generation action) mid new
-      → Goes (events_of (done ++ action ∷ [])) (outputs_of old.twin (done ++ action ∷ [])) (generation_after old.generation (done ++ action ∷ [])) old new
+  pub done_more : (old mid new : Engine D) (done : List Action) (action : Action) → Goes (events_of done) (outputs_of old.twin done) (in_use_after (in_use_of old) done) old mid
+      → Goes (events_by action) (outputs_by mid.twin action) (in_use_by (in_use_of mid) action) mid new
+      → Goes (events_of (done ++ action ∷ [])) (outputs_of old.twin (done ++ action ∷ [])) (in_use_after (in_use_of old) (done ++ action ∷ [])) old new
   done_more old mid new done action first then =
       let same : outputs_by mid.twin action ≡ outputs_by (after old.twin (events_of done)) action = ap (λ (n : Node). outputs_by n action) first.twin in
-      let g = generation_after old.generation (done ++ action ∷ []) in
-      let g_is : generation_by mid.generation action ≡ g = ap (λ (n : ℕ). generation_by n action) first.generation ∙ sym (generation_more old.generation done action) in
+      let g = in_use_after (in_use_of old) (done ++ action ∷ []) in
+      let g_is : in_use_by (in_use_of mid) action ≡ g = ap (λ (used : InUse). in_use_by used action) first.in_use ∙ sym (in_use_more (in_use_of old) done action) in
       subst (λ (l : List Event). Goes l (outputs_of old.twin (done ++ action ∷ [])) g old new) (sym (events_more done action))
       (subst (λ (l : List Output). Goes (events_of done ++ events_by action) l g old new) (ap (λ (l : List Output). outputs_of old.twin done ++ l) same ∙ sym (outputs_more old.twin done action))
-      (subst (λ (n : ℕ). Goes (events_of done ++ events_by action) (outputs_of old.twin done ++ outputs_by mid.twin action) n old new) g_is
-      (advances_both old mid new (events_of done) (events_by action) (outputs_of old.twin done) (outputs_by mid.twin action) (generation_after old.generation done) (generation_by mid.generation action) first then)))
+      (subst (λ (used : InUse). Goes (events_of done ++ events_by action) (outputs_of old.twin done ++ outputs_by mid.twin action) used old new) g_is
+      (advances_both old mid new (events_of done) (events_by action) (outputs_of old.twin done) (outputs_by mid.twin action) (in_use_after (in_use_of old) done) (in_use_by (in_use_of mid) action) first then)))
 
   -- outputs are put again
-  pub put_advances : (old new : Engine D) (outputs : List Output) → old.owes ≡ false → old.failed ≡ None → PutsAgain s outputs old new → Goes [] outputs old.generation old new
+  pub put_advances : (old new : Engine D) (outputs : List Output) → old.owes ≡ false → old.failed ≡ None → PutsAgain s outputs old new → Goes [] outputs (in_use_of old) old new
   put_advances old new outputs owes none again = record {
     twin = again.twin;
     owes = again.owes ∙ owes;
     goes_on = again.failed ∙ none;
-    generation = again.generation;
+    in_use = in_use_is new old.at.side old.generation (ap (λ (at : Position). at.side) again.at) again.generation;
     same_honest = again.puts.same_honest;
     told = again.puts.told;
     moments = λ h t start before opening was.
@@ -151,12 +154,12 @@ module _ {D : Type 0} (s : Ghosts D) where
   leads e start events opening was = record { twin = was.twin; good = was.good }
 
   -- a batch becomes durable, and its outputs are put
-  pub turn_advances : (old new : Engine D) (batch : List Entry) → AreLawful old.twin batch → Flushes s batch old new → Goes (events_in batch) (line old.twin (events_in batch)) old.generation old new
+  pub turn_advances : (old new : Engine D) (batch : List Entry) → AreLawful old.twin batch → Flushes s batch old new → Goes (events_in batch) (line old.twin (events_in batch)) (in_use_of old) old new
   turn_advances old new batch lawful run = record {
     twin = run.twin;
     owes = run.owes;
     goes_on = run.goes_on;
-    generation = run.generation;
+    in_use = run.in_use;
     same_honest = run.same_honest;
     told = run.told;
     moments = λ h t start before opening was. run.moments h t start before opening (leads old start before opening was);
@@ -171,16 +174,18 @@ module _ {D : Type 0} (s : Ghosts D) where
     same_failures = run.same_failures;
   }
 
-  pub turn_given_up : (old new : Engine D) (batch : List Entry) (fault : DeviceFault) → FlushFails s batch old new fault → GivesUp s Lived (events_in batch) (λ side call. MayFailIn (Turn batch) call) old new fault
+  pub turn_given_up : (old new : Engine D) (batch : List Entry) (fault : DeviceFault) → FlushFails s batch old new fault → GivesUp s Lived (events_in batch) (λ side call. MayFailIn old.at.side (Turn batch) side call) old new fault
   turn_given_up old new batch fault run = record {
     twin = run.twin;
     owes = run.owes;
+    at = run.at;
+    used = run.used;
     failed = run.failed;
     same_generation = run.same_generation;
     same_honest = run.same_honest;
     told = run.told;
     moments = λ h start before opening was. run.moments h start before opening (leads old start before opening was);
-    device = (run.device.0.1, run.device.1);
+    device = run.device;
   }
 
   -- ---- the node is moved to the other side
@@ -197,12 +202,12 @@ module _ {D : Type 0} (s : Ghosts D) where
   keeps_good old new keeps h start before opening was =
       subst (λ (l : List Event). EachMoment s old.site new.site (IsGood start l (length before) opening)) (sym (append-nil before)) ((keeps.good h).moments start before opening (leads old start before opening was))
 
-  move_goes : (old new : Engine D) (g : ℕ) → KeepsNode old new → new.failed ≡ None → new.generation ≡ g → s.failures new.site ≡ s.failures old.site → Goes [] [] g old new
-  move_goes old new g keeps none generation count = record {
+  move_goes : (old new : Engine D) (g : InUse) → KeepsNode old new → new.failed ≡ None → in_use_of new ≡ g → s.failures new.site ≡ s.failures old.site → Goes [] [] g old new
+  move_goes old new g keeps none used count = record {
     twin = keeps.twin;
     owes = keeps.owes;
     goes_on = none;
-    generation = generation;
+    in_use = used;
     same_honest = keeps.same_honest;
     told = λ t. (keeps.told.0.1 t, keeps.told.1 ∙ sym (append-nil (s.sent old.site)));
     moments = λ h t. keeps_good old new keeps h;
@@ -215,45 +220,63 @@ module _ {D : Type 0} (s : Ghosts D) where
     same_failures = count;
   }
 
-  pub move_advances : (old new : Engine D) → KeepsNode old new → (old.generation < counter_limit → Moves s old new) → ¬ (counter_limit ≤ old.generation) → Goes [] [] (generation_by old.generation Checkpoint) old new
-  move_advances old new keeps moves left = elim (cases_lt old.generation counter_limit) [
-    | inl less ↦ move_goes old new (generation_by old.generation Checkpoint) keeps (moves less).goes_on ((moves less).generation ∙ sym (next_raised old.generation less)) (moves less).same_failures
+  moved_goes : (old new : Engine D) → KeepsNode old new → old.generation < counter_limit → Moves s old new → Goes [] [] (in_use_by (in_use_of old) Checkpoint) old new
+  moved_goes old new keeps less moves =
+      move_goes old new (in_use_by (in_use_of old) Checkpoint) keeps moves.goes_on
+      (in_use_is new (other old.at.side) (old.generation + 1) moves.side moves.generation ∙ sym (next_raised (in_use_of old) less)) moves.same_failures
+
+  left_goes : (old new : Engine D) → KeepsNode old new → old.failed ≡ None → counter_limit ≤ old.generation → new ≡ old → Goes [] [] (in_use_by (in_use_of old) Checkpoint) old new
+  left_goes old new keeps none spent same =
+      move_goes old new (in_use_by (in_use_of old) Checkpoint) keeps (ap (λ (e : Engine D). e.failed) same ∙ none)
+      (ap (λ (e : Engine D). in_use_of e) same ∙ sym (next_spent (in_use_of old) spent)) (ap (λ (e : Engine D). s.failures e.site) same)
+
+  pub move_done : (old new : Engine D) → KeepsNode old new → (old.generation < counter_limit → Moves s old new) → ¬ (counter_limit ≤ old.generation) → HasDone s Checkpoint old new
+  move_done old new keeps moves left = elim (cases_lt old.generation counter_limit) [
+    | inl less ↦ (moved_goes old new keeps less (moves less), inr (moves less))
     | inr spent ↦ absurd (left spent)
   ]
 
-  pub spent_advances : (old new : Engine D) → KeepsNode old new → old.failed ≡ None → ¬ (old.generation < counter_limit) → (counter_limit ≤ old.generation → new ≡ old) → Goes [] [] (generation_by old.generation Checkpoint) old new
-  spent_advances old new keeps none last same = elim (cases_lt old.generation counter_limit) [
+  pub spent_done : (old new : Engine D) → KeepsNode old new → old.failed ≡ None → ¬ (old.generation < counter_limit) → (counter_limit ≤ old.generation → new ≡ old) → HasDone s Checkpoint old new
+  spent_done old new keeps none last same = elim (cases_lt old.generation counter_limit) [
     | inl less ↦ absurd (last less)
-    | inr spent ↦ move_goes old new (generation_by old.generation Checkpoint) keeps (ap (λ (e : Engine D). e.failed) (same spent) ∙ none)
-        (ap (λ (e : Engine D). e.generation) (same spent) ∙ sym (next_spent old.generation spent)) (ap (λ (e : Engine D). s.failures e.site) (same spent))
+    | inr spent ↦ (left_goes old new keeps none spent (same spent), inl (spent, same spent))
   ]
 
-  pub move_given_up : (old new : Engine D) (fault : DeviceFault) → KeepsNode old new → (old.generation < counter_limit → MoveFails s old new fault) → ¬ (counter_limit ≤ old.generation) → GivesUp s Lived [] (λ side call. MayFailIn Checkpoint call) old new fault
+  pub move_given_up : (old new : Engine D) (fault : DeviceFault) → KeepsNode old new → (old.generation < counter_limit → MoveFails s old new fault) → ¬ (counter_limit ≤ old.generation) → FailsIn s Checkpoint old new fault
   move_given_up old new fault keeps fails left = elim (cases_lt old.generation counter_limit) [
     | inl less ↦ record {
       twin = keeps.twin;
       owes = keeps.owes;
+      at = (fails less).at;
+      used = (fails less).used;
       failed = (fails less).failed;
       same_generation = (fails less).generation;
       same_honest = keeps.same_honest;
       told = keeps.told;
       moments = keeps_good old new keeps;
-      device = (tt, (fails less).rose);
+      device = (fails less).device;
     }
     | inr spent ↦ absurd (left spent)
   ]
 
+  -- ---- actions one after the other
+
+  pub one_more : (done : List Action) (action : Action) (old mid new : Engine D) → HaveDone s done old mid → HasDone s action mid new → HaveDone s (done ++ action ∷ []) old new
+  one_more [] action old mid new none did = (new, subst (λ (e : Engine D). HasDone s action e new) none did, refl)
+  one_more (first ∷ done) action old mid new have did = (have.0, have.1, one_more done action have.0 mid new have.2 did)
+
   -- ---- the end of a life
 
   -- actions are done, and the rest, of which there is none or for which there is no room, is given up
-  pub run_ended : (old new : Engine D) (actions done rest : List Action) → actions ≡ done ++ rest → Goes (events_of done) (outputs_of old.twin done) (generation_after old.generation done) old new → (rest ≡ []) ⊎ (BeginsWithTurn rest × (room_limit ≤ new.used))
+  pub run_ended : (old new : Engine D) (actions done rest : List Action) → actions ≡ done ++ rest → Goes (events_of done) (outputs_of old.twin done) (in_use_after (in_use_of old) done) old new → HaveDone s done old new → (rest ≡ []) ⊎ (BeginsWithTurn rest × (room_limit ≤ new.used))
       → HasRun s actions old new (Ok tt)
-  run_ended old new actions done rest parts run why = record {
+  run_ended old new actions done rest parts run each why = record {
     done = done;
     rest = rest;
     parts = parts;
     twin = run.twin;
-    generation = run.generation;
+    in_use = run.in_use;
+    each = each;
     told = λ t. (run.told t).1;
     stops = why;
     moments = λ h t none. run.moments h t;
@@ -262,15 +285,16 @@ module _ {D : Type 0} (s : Ghosts D) where
 
   -- actions are done, a disk call failed in the next one, and the rest is given up
   pub run_failed : (old mid new : Engine D) (actions done : List Action) (action : Action) (more : List Action) (failed : Failed) → actions ≡ done ++ action ∷ more
-      → Goes (events_of done) (outputs_of old.twin done) (generation_after old.generation done) old mid → GivesUp s Lived (events_by action) (λ side call. MayFailIn action call) mid new failed.fault → HasRun s actions old new (Err failed)
-  run_failed old mid new actions done action more failed parts run fails = record {
+      → Goes (events_of done) (outputs_of old.twin done) (in_use_after (in_use_of old) done) old mid → HaveDone s done old mid → FailsIn s action mid new failed.fault → HasRun s actions old new (Err failed)
+  run_failed old mid new actions done action more failed parts run each fails = record {
     done = done;
     rest = action ∷ more;
     parts = parts;
     twin = fails.twin ∙ run.twin;
-    generation = fails.same_generation ∙ run.generation;
+    in_use = in_use_is new mid.at.side mid.generation (ap (λ (at : Position). at.side) fails.at) fails.same_generation ∙ run.in_use;
+    each = λ none. (mid, action, more, each, refl, fails);
     told = λ t. fails.told.1 ∙ (run.told (fails.told.0.1 t)).1;
-    stops = λ none. (action, more, refl, fails.device.0);
+    stops = λ none. (action, more, refl, subst (λ (used : InUse). MayFailIn used.side action failed.fault.side failed.fault.call) run.in_use fails.device.0);
     moments = λ h t none start events opening was.
         let mid_told = fails.told.0.1 t in
         subst (λ (l : List Event). EachMoment s old.site new.site (IsGood start (events ++ l) (length events) opening)) (sym (events_more done action))

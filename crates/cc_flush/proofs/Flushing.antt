@@ -1,11 +1,13 @@
 -- How a batch goes through an engine.
 --     good_less               a good moment is good for fewer durable events
+--     in_use_is               which side is in use, and under which generation
 --     Written, Released       what making it durable ensures, and what putting its outputs does
 --     flushed                 both, one after the other
 use Rattle.std.proofs.Common.{◌≡◌, ℕ, ◌≤◌, List, [], ◌++◌, length, refl, sym, subst, ◌∙◌, ap, arith, append-nil, length-append}
 use Rattle.std.specs.Prelude.{◌↔◌, false, None}
 use Rattle.cc_wire.specs.declared.event.Event.{Event}
 use Rattle.cc_wire.specs.declared.output.Output.{Output}
+use Rattle.cc_site.specs.declared.site.Side.{Side}
 use Rattle.cc_site.specs.declared.site.Side.TheVariants.{A, B}
 use Rattle.cc_site.specs.declared.site.Site.{Ghosts}
 use Rattle.cc_site.specs.Moments.{Contents}
@@ -15,8 +17,8 @@ use Rattle.cc_node.specs.GoodLaws.{good_for_more}
 use Rattle.cc_node.specs.Histories.{after-append}
 use Rattle.cc_journal.specs.declared.entry.Entry.{Entry}
 use Rattle.cc_journal.specs.Batches.{events_in}
-use Rattle.cc_journal.specs.Journals.{IsGood, IsGoodNow, KeepsGood, StaysGood}
-use Rattle.cc_flush.specs.Engine.{Engine}
+use Rattle.cc_journal.specs.Journals.{Position, IsGood, IsGoodNow, KeepsGood, StaysGood}
+use Rattle.cc_flush.specs.Engine.{Engine, in_use_of}
 use Rattle.cc_flush.specs.Flushing.{LeadsTo, LeadsToOwed, Flushes}
 
 pub both_ways : {P Q R : Type 0} → P ↔ Q → Q ↔ R → P ↔ R
@@ -26,10 +28,14 @@ pub good_less : (start : Node) (events : List Event) (durable less opening : ℕ
 good_less start events durable less opening left told least good =
     subst (λ (l : List Event). IsGood start l less opening left told) (append-nil events) (good_for_more start events [] durable less opening (left A) (left B) told least good)
 
+pub in_use_is : {D : Type 0} (e : Engine D) (side : Side) (generation : ℕ) → e.at.side ≡ side → e.generation ≡ generation → in_use_of e ≡ record { side = side; generation = generation }
+in_use_is e side generation at is = λ i. record { side = at i; generation = is i }
+
 module _ {D : Type 0} (s : Ghosts D) where
   pub record Written (batch : List Entry) (old mid : Engine D) : Type 0 where
     pub same_twin : mid.twin ≡ old.twin
     pub goes_on : mid.failed ≡ None
+    pub same_side : mid.at.side ≡ old.at.side
     pub same_generation : mid.generation ≡ old.generation
     pub same_honest : s.honest old.site ↔ s.honest mid.site
     pub same_told : (s.tells old.site ↔ s.tells mid.site) × (s.sent mid.site ≡ s.sent old.site)
@@ -41,6 +47,7 @@ module _ {D : Type 0} (s : Ghosts D) where
     pub twin : new.twin ≡ after mid.twin (events_in batch)
     pub owes : new.owes ≡ false
     pub goes_on : new.failed ≡ mid.failed
+    pub at : new.at ≡ mid.at
     pub same_generation : new.generation ≡ mid.generation
     pub same_honest : s.honest mid.site ↔ s.honest new.site
     pub told : s.tells new.site → s.tells mid.site × (s.sent new.site ≡ s.sent mid.site ++ line mid.twin (events_in batch))
@@ -64,7 +71,7 @@ module _ {D : Type 0} (s : Ghosts D) where
       twin = then.twin ∙ ap (λ (n : Node). after n (events_in batch)) first.same_twin;
       owes = then.owes;
       goes_on = then.goes_on ∙ first.goes_on;
-      generation = then.same_generation ∙ first.same_generation;
+      in_use = in_use_is new old.at.side old.generation (ap (λ (at : Position). at.side) then.at ∙ first.same_side) (then.same_generation ∙ first.same_generation);
       same_honest = both_ways first.same_honest then.same_honest;
       told = λ t.
           let late = then.told t in

@@ -25,7 +25,7 @@ use Rattle.cc_journal.specs.Journals.{Position, IsGood, IsAtRest, IsGoodNow, Res
 use Rattle.cc_journal.proofs.Rests.{rest_of, rests_whole_good}
 use Rattle.cc_flush.specs.Engine.{Engine, IsSettled, StandsNow, IsSound, IsOwed}
 use Rattle.cc_flush.specs.Flushing.{LeadsTo}
-use Rattle.cc_flush.specs.Outlet.{Puts}
+use Rattle.cc_journal.specs.Outlet.{Puts}
 use Rattle.cc_flush.proofs.Committed.{lawful_after}
 use Rattle.cc_flush.proofs.Formatted.{none_made}
 
@@ -66,8 +66,7 @@ module _ {D : Type 0} (s : Ghosts D) where
   -- an engine that owes nothing stands for its twin
   stands_for : (e : Engine D) → IsSound s e → s.honest e.site → e.failed ≡ None → e.owes ≡ false → 1 ≤ length (s.state e.site (other e.at.side)).bytes → StandsNow (s.state e.site) e.at e.generation e.twin
   stands_for e sound h none idle there =
-      let kept = sound.stands h none there in
-      subst (StandsNow (s.state e.site) e.at e.generation) (ap (λ (l : List Event). after e.twin l) (kept.1 idle)) kept.2
+      subst (λ (l : List Entry). StandsNow (s.state e.site) e.at e.generation (after e.twin (events_in l))) (sound.idle idle) (sound.stands h none there)
 
   module _ (may_read : (site : D) → s.honest site → (side : Side) → MayLeave (s.state site side) (s.state site side).bytes) (e : Engine D) (sound : IsSound s e) (h : s.honest e.site) (start : Node) (events : List Event) (opening : ℕ)
       (good : IsGoodNow s e.site start events opening) where
@@ -80,10 +79,10 @@ module _ {D : Type 0} (s : Ghosts D) where
     pub rested : e.failed ≡ None → e.owes ≡ false → e.twin ≡ after start events → RestsNow s e.site e.at e.generation start events opening
     rested none idle is = rests_as e.twin is (stands_for e sound h none idle there)
 
-    pub owed_rests : (entries : List Entry) → IsOwed s e entries → (before : List Event) → events ≡ before ++ events_in entries → e.twin ≡ after start before → RestsNow s e.site e.at e.generation start events opening
+    pub owed_rests : (entries : List Entry) → IsOwed e entries → (before : List Event) → events ≡ before ++ events_in entries → e.twin ≡ after start before → RestsNow s e.site e.at e.generation start events opening
     owed_rests entries owed before parts is =
         rests_as (after e.twin (events_in entries)) (ap (λ (n : Node). after n (events_in entries)) is ∙ sym (after-append start before (events_in entries)) ∙ ap (after start) (sym parts))
-        (owed.stands h (sound.goes_on owed.owes) there)
+        (subst (λ (l : List Entry). StandsNow (s.state e.site) e.at e.generation (after e.twin (events_in l))) owed.these (sound.stands h (sound.goes_on owed.owes) there))
 
   -- a batch is made durable
   module _ (old : Engine D) (entries : List Entry) (sound : IsSound s old) (h : s.honest old.site) (none : old.failed ≡ None) (idle : old.owes ≡ false) (lawful : AreLawful old.twin entries) where
@@ -117,22 +116,22 @@ module _ {D : Type 0} (s : Ghosts D) where
       is_length = λ h none. subst (λ (t : Side → SideState). old.used ≡ length (t old.at.side).bytes) (same h) (sound.is_length (puts.same_honest.1 h) none);
       goes_on = sound.goes_on;
       other_settled = λ h none. subst (λ (t : Side → SideState). IsSettled (t (other old.at.side))) (same h) (sound.other_settled (puts.same_honest.1 h) none);
+      idle = sound.idle;
+      lawful = sound.lawful;
       stands = λ h none there.
-          let kept = sound.stands (puts.same_honest.1 h) none (subst (λ (t : Side → SideState). 1 ≤ length (t (other old.at.side)).bytes) (sym (same h)) there) in
-          (kept.0, kept.1, subst (λ (t : Side → SideState). StandsNow t old.at old.generation (after old.twin kept.0)) (same h) kept.2);
+          subst (λ (t : Side → SideState). StandsNow t old.at old.generation (after old.twin (events_in old.owed))) (same h)
+          (sound.stands (puts.same_honest.1 h) none (subst (λ (t : Side → SideState). 1 ≤ length (t (other old.at.side)).bytes) (sym (same h)) there));
     }
 
-    pub sound_released : (entries : List Entry) → IsOwed s old entries → IsSound s (record old { site = site; twin = after old.twin (events_in entries); owes = false })
+    pub sound_released : (entries : List Entry) → IsOwed old entries → IsSound s (record old { site = site; twin = after old.twin (events_in entries); owes = false; owed = [] })
     sound_released entries owed = record {
       reaches = sound.reaches;
       within = sound_put.within;
       is_length = sound_put.is_length;
       goes_on = λ is. absurd cc;
       other_settled = sound_put.other_settled;
-      stands = λ h none there. (
-        [],
-        λ _. refl,
-        subst (λ (t : Side → SideState). StandsNow t old.at old.generation (after old.twin (events_in entries))) (same h)
-            (owed.stands (puts.same_honest.1 h) none (subst (λ (t : Side → SideState). 1 ≤ length (t (other old.at.side)).bytes) (sym (same h)) there)),
-      );
+      idle = λ _. refl;
+      lawful = tt;
+      stands = λ h none there.
+          subst (λ (l : List Entry). StandsNow (s.state site) old.at old.generation (after old.twin (events_in l))) owed.these (sound_put.stands h none there);
     }

@@ -1,16 +1,14 @@
 mod Formatted
 mod FormatMoments
 mod FoundSides
-mod EventOutputs
-mod LinkSends
 mod Resends
 mod Putting
 mod Keeping
 mod Releasing
-mod Puts
 mod Committed
 mod Flushing
 mod OneNode
 mod NodeOrFault
+mod Stopping
 pub mod Advancing
 pub mod MovingRuns

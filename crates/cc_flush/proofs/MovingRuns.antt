@@ -26,6 +26,8 @@ use Rattle.cc_checkpoint.specs.Images.{SpellsImage, image_holds}
 use Rattle.cc_checkpoint.specs.Checkpoints as checkpoints
 use Rattle.cc_checkpoint.specs.Checkpoints.{image_of, IsSurelyShut, IsFilled, KeepsOff, RestsOff, ArmsFor}
 use Rattle.cc_checkpoint.proofs.OffRuns.{rest_after}
+use Rattle.cc_journal.specs.declared.entry.Entry.{Entry}
+use Rattle.cc_journal.specs.Batches.{AreLawful, events_in}
 use Rattle.cc_journal.specs.Journals.{Position, IsGood, StaysGood}
 use Rattle.cc_journal.proofs.Rests.{rests_whole_good, rest_of}
 use Rattle.cc_flush.specs.Engine.{Engine, IsSettled, StandsNow, IsSound}
@@ -136,16 +138,18 @@ module _ {D : Type 0} (s : Ghosts D) (e : Engine D) where
       from start events opening led = record { is = led.twin; rests = rested s may_read e sound h start events opening led.good none idle led.twin }
 
   -- what an engine keeps behind one
-  pub moved_sound : (old : Side) → e.at ≡ record { side = other old; place = length (image_of e.generation e.twin) } → e.used ≡ e.at.place + 1 → e.failed ≡ None
+  pub moved_sound : (old : Side) → e.at ≡ record { side = other old; place = length (image_of e.generation e.twin) } → e.used ≡ e.at.place + 1 → e.failed ≡ None → e.owed ≡ []
       → (s.honest e.site → s.state e.site (other old) ≡ durable (OPEN ∷ image_of e.generation e.twin)) → (s.honest e.site → SpellsImage (image_of e.generation e.twin) e.generation e.twin)
       → (s.honest e.site → s.state e.site old ≡ durable (0 ∷ [])) → IsSound s e
-  moved_sound old at used none holds spelled retired = record {
+  moved_sound old at used none idle holds spelled retired = record {
     reaches = omega (arith, used);
     within = λ h _. omega (arith, place, ap (λ (t : SideState). length t.bytes) (this h));
     is_length = λ h _. omega (arith, used, place, ap (λ (t : SideState). length t.bytes) (this h));
     goes_on = λ _. none;
     other_settled = λ h _. subst IsSettled (sym (rest h)) refl;
-    stands = λ h _ _. ([], λ _. refl, stands h);
+    idle = λ _. idle;
+    lawful = subst (AreLawful e.twin) (sym idle) tt;
+    stands = λ h _ _. subst (λ (l : List Entry). StandsNow (s.state e.site) e.at e.generation (after e.twin (events_in l))) (sym idle) (stands h);
   }
     where
       place : e.at.place ≡ length (image_of e.generation e.twin)

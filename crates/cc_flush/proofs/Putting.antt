@@ -17,7 +17,7 @@ use Rattle.cc_node.specs.Node.{Node, after, line, MayBeOut}
 use Rattle.cc_node.specs.Histories.{line-append}
 use Rattle.cc_journal.specs.Journals.{Position, IsGood, Rests, IsAtRest, RestsNow}
 use Rattle.cc_journal.proofs.Rests.{rests_whole_good}
-use Rattle.cc_flush.specs.Outlet.{IsPutting, Puts}
+use Rattle.cc_journal.specs.Outlet.{IsPutting, Puts}
 
 contains_drop : (n : ℕ) (ys : List Output) (output : Output) → Contains (drop n ys) output → Contains ys output
 contains_drop n ys output has = subst (λ (l : List Output). Contains l output) (take-append-drop n ys) (Contains-append_right (take n ys) (drop n ys) output has)

@@ -15,7 +15,7 @@ use Rattle.cc_journal.specs.Batches.{events_in}
 use Rattle.cc_journal.specs.Journals.{RestsNow, StaysGood}
 use Rattle.cc_flush.specs.Engine.{Engine, IsSound, IsOwed}
 use Rattle.cc_flush.specs.Flushing.{HasLived, LeadsToOwed, PutsAgain}
-use Rattle.cc_flush.specs.Outlet.{Puts}
+use Rattle.cc_journal.specs.Outlet.{Puts}
 use Rattle.cc_flush.proofs.Keeping.{good_now, rested, owed_rests}
 use Rattle.cc_flush.proofs.Putting.{line_made, puts_good, puts_rest}
 use Rattle.cc_flush.proofs.Resends.{standing_is_made}
@@ -33,7 +33,7 @@ module _ {D : Type 0} (s : Ghosts D) (may_read : (site : D) → s.honest site �
         (puts_rest old.at old.generation start events opening outputs (made start events opening was) s old.site site puts h t (rest start events opening was));
   }
 
-  pub released : (entries : List Entry) → Puts s (line old.twin (events_in entries)) old.site site → IsOwed s old entries → s.honest old.site → s.tells site → StaysGood s (LeadsToOwed s entries old) old.site site
+  pub released : (entries : List Entry) → Puts s (line old.twin (events_in entries)) old.site site → IsOwed old entries → s.honest old.site → s.tells site → StaysGood s (LeadsToOwed s entries old) old.site site
   released entries puts owed h t =
       stays_good (line old.twin (events_in entries)) puts (LeadsToOwed s entries old) h t
       (λ start events opening was. owed_rests s may_read old sound h start events opening was.good entries owed was.before was.parts was.twin)
@@ -46,6 +46,7 @@ module _ {D : Type 0} (s : Ghosts D) (may_read : (site : D) → s.honest site �
     generation = refl;
     used = refl;
     owes = refl;
+    owed = refl;
     failed = refl;
     puts = puts;
     good = λ h t. stays_good outputs puts (HasLived s old) h t (λ start events opening was. rested s may_read old sound h start events opening was.good none idle was.twin)

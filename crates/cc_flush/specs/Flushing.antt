@@ -4,8 +4,9 @@
 --     Advances, Flushes       it has taken in events, and put outputs;  those of a batch
 --     GivesUp                 a disk call failed: nothing was put, and no event was taken in
 --     Commits, FlushFails     the disk calls on a side that make a batch durable;  one of them failed
+--     CommitStops             how the side is then
 --     PutsAgain               it has put outputs, and is as it was otherwise
-use Rattle.std.specs.Prelude.{◌≡◌, ◌↔◌, ◌⊎◌, ℕ, List, ◌++◌, false, None, Some}
+use Rattle.std.specs.Prelude.{◌≡◌, ◌↔◌, ◌⊎◌, ℕ, ◌+◌, List, ◌++◌, length, false, None, Some}
 use Rattle.cc_wire.specs.declared.event.Event.{Event}
 use Rattle.cc_wire.specs.declared.output.Output.{Output}
 use Rattle.cc_site.specs.declared.site.Side.{Side}
@@ -13,17 +14,24 @@ use Rattle.cc_site.specs.declared.site.Site.{Ghosts}
 use Rattle.cc_site.specs.declared.site.Call.{Call}
 use Rattle.cc_site.specs.declared.site.Call.TheVariants.{Write, Sync}
 use Rattle.cc_site.specs.declared.site.DeviceFault.{DeviceFault}
+use Rattle.cc_site.specs.Sides.{SideState, touch}
 use Rattle.cc_site.specs.Telling.{Tells}
 use Rattle.cc_node.specs.Lawful.{IsLawfulNode}
 use Rattle.cc_node.specs.Node.{Node, IsLawful, after, line}
+use Rattle.cc_checkpoint.specs.declared.choosing.InUse.{InUse}
 use Rattle.cc_journal.specs.declared.entry.Entry.{Entry}
-use Rattle.cc_journal.specs.Batches.{events_in}
-use Rattle.cc_journal.specs.Journals.{IsGoodNow, KeepsGood, StaysGood}
-use Rattle.cc_flush.specs.Engine.{Engine}
-use Rattle.cc_flush.specs.Outlet.{Puts}
+use Rattle.cc_journal.specs.Batches.{events_in, batch_bytes}
+use Rattle.cc_journal.specs.Journals.{MayHaveOpened, with_record, IsGoodNow, KeepsGood, StaysGood}
+use Rattle.cc_flush.specs.Engine.{Engine, in_use_of}
+use Rattle.cc_journal.specs.Outlet.{Puts}
 
 abbrev pub Commits : Side → Side → Call → Type 0
 Commits this side call = (side ≡ this) × ((call ≡ Write) ⊎ (call ≡ Sync))
+
+-- the record is being written;  or it is made sure of, and its gate is opened
+abbrev pub CommitStops : SideState → ℕ → List Entry → SideState → Type 0
+CommitStops was place batch now =
+    ((now ≡ touch was (place + 1) (length (batch_bytes batch))) ⊎ (now ≡ was)) ⊎ MayHaveOpened (with_record was place batch) place now
 
 module _ {D : Type 0} (s : Ghosts D) where
   pub record LeadsTo (engine : Engine D) (start : Node) (events : List Event) (opening : ℕ) : Type 0 where
@@ -42,12 +50,12 @@ module _ {D : Type 0} (s : Ghosts D) where
     pub twin : engine.twin ≡ after start before
     pub good : IsGoodNow s engine.site start events opening
 
-  -- No output came before its event was durable. The generation is now in use.
-  pub record Advances (led : Engine D → Node → List Event → ℕ → Type 0) (more : List Event) (outputs : List Output) (in_use : ℕ) (old new : Engine D) : Type 0 where
+  -- No output came before its event was durable. This side is now in use, under this generation.
+  pub record Advances (led : Engine D → Node → List Event → ℕ → Type 0) (more : List Event) (outputs : List Output) (used : InUse) (old new : Engine D) : Type 0 where
     pub twin : new.twin ≡ after old.twin more
     pub owes : new.owes ≡ false
     pub goes_on : new.failed ≡ None
-    pub generation : new.generation ≡ in_use
+    pub in_use : in_use_of new ≡ used
     pub same_honest : s.honest old.site ↔ s.honest new.site
     pub told : s.tells new.site → s.tells old.site × (s.sent new.site ≡ s.sent old.site ++ outputs)
     pub moments : s.honest old.site → s.tells new.site → KeepsGood s (led old) more old.site new.site
@@ -55,11 +63,13 @@ module _ {D : Type 0} (s : Ghosts D) where
     pub same_failures : s.failures new.site ≡ s.failures old.site
 
   abbrev pub Flushes : List Entry → Engine D → Engine D → Type 0
-  Flushes batch old new = Advances LeadsTo (events_in batch) (line old.twin (events_in batch)) old.generation old new
+  Flushes batch old new = Advances LeadsTo (events_in batch) (line old.twin (events_in batch)) (in_use_of old) old new
 
   pub record GivesUp (led : Engine D → Node → List Event → ℕ → Type 0) (more : List Event) (calls : Side → Call → Type 0) (old new : Engine D) (fault : DeviceFault) : Type 0 where
     pub twin : new.twin ≡ old.twin
     pub owes : new.owes ≡ false
+    pub at : new.at ≡ old.at
+    pub used : new.used ≡ old.used
     pub failed : new.failed ≡ Some fault
     pub same_generation : new.generation ≡ old.generation
     pub same_honest : s.honest old.site ↔ s.honest new.site
@@ -76,6 +86,7 @@ module _ {D : Type 0} (s : Ghosts D) where
     pub generation : new.generation ≡ old.generation
     pub used : new.used ≡ old.used
     pub owes : new.owes ≡ old.owes
+    pub owed : new.owed ≡ old.owed
     pub failed : new.failed ≡ old.failed
     pub puts : Puts s outputs old.site new.site
     pub good : s.honest old.site → s.tells new.site → StaysGood s (HasLived old) old.site new.site

@@ -8,6 +8,7 @@ ghost use Rattle.cc_site.specs.Moments.{Rose};
 ghost use Rattle.cc_node.specs.Node.{Node};
 ghost use Rattle.cc_journal.specs.Batches.{events_in, batch_bytes};
 ghost use Rattle.cc_journal.specs.Journals.{record_room, room_limit, KeepsGood, RestsFor, RestsNow};
+ghost use Rattle.cc_flush.specs.Flushing.{CommitStops};
 
 use cc_journal::{Batch, Forfeit, Journal, Landed};
 use cc_site::Site;
@@ -24,6 +25,7 @@ pub(crate) fn make_durable<S: Site>(
     ensures landed { IfOk result (λ landed. landed ≡ batch) }
     ensures ok { OnOk result (journal.new ≡ record { side = journal.old.side; place = journal.old.place + length (batch_bytes batch) }) }
     ensures err { OnErr result (journal.new ≡ journal.old) }
+    ensures stops { S.honest site.old → OnErr result (CommitStops (S.state site.old journal.old.side) journal.old.place batch (S.state site.new journal.old.side)) }
     ensures honest { S.honest site.old ↔ S.honest site.new }
     ensures tells { (S.tells site.old ↔ S.tells site.new) × (S.sent site.new ≡ S.sent site.old) }
     ensures other_side { S.honest site.old → S.state site.new (other journal.old.side) ≡ S.state site.old (other journal.old.side) }

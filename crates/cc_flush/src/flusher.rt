@@ -1,6 +1,6 @@
 //! The engine: one node, the site that keeps it, and where its next record goes.
 
-ghost use Rattle.std.specs.Prelude.{◌≡◌, ◌↔◌, ◌⊎◌, ◌≤◌, ◌<◌, ◌^◌, ◌++◌, [], ℕ, List, true, false, nat_lt, None, Some, Ok, Err, IsTrue, IfOk, IfErr, OnOk, MatchResult, length};
+ghost use Rattle.std.specs.Prelude.{max, ◌≡◌, ◌↔◌, ◌⊎◌, ◌≤◌, ◌<◌, ◌+◌, ◌^◌, ◌++◌, [], ℕ, List, true, false, nat_lt, None, Some, Ok, Err, IsTrue, IfOk, IfErr, OnOk, OnErr, MatchResult, length};
 ghost use Rattle.std.specs.FinMap as table;
 ghost use Rattle.cc_wire.specs.declared.event.Event.{Event as EventValue};
 ghost use Rattle.cc_site.specs.declared.site.Side.{Side as SideValue};
@@ -15,10 +15,10 @@ ghost use Rattle.cc_node.specs.Lawful.{IsLawfulNode};
 ghost use Rattle.cc_node.specs.Node.{Node as NodeValue, IsLawful, after, line};
 ghost use Rattle.cc_node.specs.Sides.{StandsAt};
 ghost use Rattle.cc_checkpoint.specs.Faults.{FaultRose};
-ghost use Rattle.cc_journal.specs.Batches.{AreLawful, events_in};
+ghost use Rattle.cc_journal.specs.Batches.{AreLawful, events_in, batch_bytes};
 ghost use Rattle.cc_journal.specs.Journals.{room_limit, IsGoodNow, KeepsGood, StaysGood};
 ghost use Rattle.cc_flush.specs.Engine.{IsOwed};
-ghost use Rattle.cc_flush.specs.Flushing.{FlushFails, Flushes, LeadsTo, LeadsToOwed, PutsAgain};
+ghost use Rattle.cc_flush.specs.Flushing.{CommitStops, FlushFails, Flushes, LeadsTo, LeadsToOwed, PutsAgain};
 ghost use Rattle.cc_flush.specs.declared.flusher.CheckpointFault.TheVariants as checkpoint_faults;
 ghost use Rattle.cc_flush.specs.Moving.{Moves, MoveStops};
 ghost use Rattle.cc_flush.specs.Opening.{AreSettled, IsCounted, OpenFails, OpenStops, Opens};
@@ -29,7 +29,6 @@ use crate::committing::make_durable;
 use crate::moving::move_over;
 use crate::opened::Opened;
 use crate::opening::{Found, open_sides};
-use crate::outlet::put_entries;
 use crate::standing::{put_ack_again, put_kept_answer, put_kept_posts};
 use cc_checkpoint::{OpenFault, Piece};
 use cc_journal::{Batch, Forfeit, Journal, Landed};
@@ -40,6 +39,7 @@ use std::alloc::Global;
 use std::error::Error;
 use std::fmt;
 use std::marker::Model;
+use std::snapshot::Snapshot;
 
 /// A disk call failed, and the engine has ended: until the site is opened again every call but the readers and `close`
 /// answers the same.
@@ -96,8 +96,8 @@ pub struct Flusher<S: Site> {
     generation: u64,
     // How long the side in use is.
     used: u64,
-    // Whether a batch is durable whose outputs weren't put.
-    owes: bool,
+    // The batch that is durable and whose outputs weren't put, if there is one: what it held, as clauses see it, at no cost.
+    owed: Option<Snapshot<Landed>>,
     failed: Option<DeviceFault>,
     opened: Opened,
     // What a checkpoint writes through.
@@ -105,15 +105,17 @@ pub struct Flusher<S: Site> {
 }
 
 impl<S: Site> Model for Flusher<S> {
+    ghost use Rattle.std.specs.Prelude.{[], is_some};
+    ghost use Rattle.std.specs.Option.{option_map_or};
     ghost use Rattle.cc_flush.specs.Engine.{Engine, engine_code, IsSound};
 
     ghost Value = { Engine S };
 
     ghost coded = { engine_code S.code };
 
-    ghost view = { λ f. record { site = f.site; twin = f.node; at = f.journal; generation = f.generation; used = f.used; owes = f.owes; failed = f.failed; opened = f.opened } };
+    ghost view = { λ f. record { site = f.site; twin = f.node; at = f.journal; generation = f.generation; used = f.used; owes = is_some f.owed; owed = option_map_or (λ s. s.value) f.owed []; failed = f.failed; opened = f.opened } };
 
-    ghost invariant = { λ f. IsSound S.Site (record { site = f.site; twin = f.node; at = f.journal; generation = f.generation; used = f.used; owes = f.owes; failed = f.failed; opened = f.opened }) };
+    ghost invariant = { λ f. IsSound S.Site (record { site = f.site; twin = f.node; at = f.journal; generation = f.generation; used = f.used; owes = is_some f.owed; owed = option_map_or (λ s. s.value) f.owed []; failed = f.failed; opened = f.opened }) };
 }
 
 // Up to how many bytes of a side there is room for a record.
@@ -145,7 +147,7 @@ impl<S: Site> Flusher<S> {
     pub fn owes(&self) -> bool
         ensures { result ≡ self.now.owes }
     {
-        self.owes
+        self.owed.is_some()
     }
 
     /// What `open` found: the side that was in use, how many records counted on it, and how many events they held.
@@ -216,7 +218,7 @@ impl<S: Site> Flusher<S> {
                 journal,
                 generation,
                 used,
-                owes: false,
+                owed: None,
                 failed: None,
                 opened,
                 piece,
@@ -245,9 +247,12 @@ impl<S: Site> Flusher<S> {
         requires room { self.old.used < room_limit }
         ensures ended { (fault : DeviceFault) → self.old.failed ≡ Some fault → (result ≡ Err (record { fault = fault })) × (self.new ≡ self.old) }
         ensures landed { IfOk result (λ landed. landed ≡ batch) }
-        ensures owed { IfOk result (IsOwed S.Site self.new) }
+        ensures owed { IfOk result (IsOwed self.new) }
         ensures owes { MatchResult result (λ _. self.new.owes ≡ true) (λ _. self.new.owes ≡ false) }
         ensures same_twin { self.new.twin ≡ self.old.twin }
+        ensures moved { OnOk result (self.new.at ≡ record { side = self.old.at.side; place = self.old.at.place + length (batch_bytes batch) }) }
+        ensures used { OnOk result (self.new.used ≡ max self.old.used (self.new.at.place + 1)) }
+        ensures kept { OnErr result ((self.new.at ≡ self.old.at) × (self.new.used ≡ self.old.used)) }
         ensures goes_on { OnOk result (self.new.failed ≡ None) }
         ensures failed { IfErr result (λ f. self.new.failed ≡ Some f.fault) }
         ensures same_generation { self.new.generation ≡ self.old.generation }
@@ -258,6 +263,7 @@ impl<S: Site> Flusher<S> {
         ensures every_moment { S.honest self.old.site → self.old.failed ≡ None → KeepsGood S.Site (LeadsTo S.Site self.old) (events_in batch) self.old.site self.new.site }
         ensures at_rest { S.honest self.old.site → self.old.failed ≡ None → (start : NodeValue) (events : List EventValue) (opening : ℕ) → LeadsTo S.Site self.old start events opening
             → OnOk result (IsGoodNow S.Site self.new.site start (events ++ events_in batch) opening) }
+        ensures stops { S.honest self.old.site → self.old.failed ≡ None → OnErr result (CommitStops (S.state self.old.site self.old.at.side) self.old.at.place batch (S.state self.new.site self.old.at.side)) }
         ensures device { self.old.failed ≡ None → IfErr result (λ f. (f.fault.side ≡ self.old.at.side) × ((f.fault.call ≡ Write) ⊎ (f.fault.call ≡ Sync))) }
         ensures count { self.old.failed ≡ None → MatchResult result (λ _. S.failures self.new.site ≡ S.failures self.old.site) (λ _. Rose (S.failures self.old.site) (S.failures self.new.site)) }
     {
@@ -265,7 +271,7 @@ impl<S: Site> Flusher<S> {
         match make_durable(&mut self.journal, &mut self.site, batch) {
             Ok(landed) => {
                 self.used = self.used.max(self.journal.place() + 1);
-                self.owes = true;
+                self.owed = Some(Snapshot::of(&landed));
                 Ok(landed)
             }
             Err(Forfeit { fault }) => {
@@ -278,7 +284,7 @@ impl<S: Site> Flusher<S> {
     /// Takes the events of the batch that is owed, which `commit` answered last, into the node, and puts the outputs of each
     /// in turn. It makes no disk call, takes no memory and can't fail. Nothing is owed then.
     pub fn release(&mut self, landed: Landed)
-        requires owed { IsOwed S.Site self.old landed }
+        requires owed { IsOwed self.old landed }
         ensures twin { self.new.twin ≡ after self.old.twin (events_in landed) }
         ensures owes { self.new.owes ≡ false }
         ensures same { (self.new.at ≡ self.old.at) × (self.new.generation ≡ self.old.generation) × (self.new.used ≡ self.old.used) × (self.new.failed ≡ self.old.failed) }
@@ -289,8 +295,8 @@ impl<S: Site> Flusher<S> {
         ensures good { S.honest self.old.site → S.tells self.new.site → StaysGood S.Site (LeadsToOwed S.Site landed self.old) self.old.site self.new.site }
         ensures count { S.failures self.new.site ≡ S.failures self.old.site }
     {
-        put_entries(&mut self.node, &mut self.site, landed.into_batch());
-        self.owes = false;
+        landed.put_outputs(&mut self.node, &mut self.site);
+        self.owed = None;
     }
 
     /// Makes a batch durable and puts its outputs: a `commit`, and then a `release`. It takes no memory. It fails only where
@@ -402,7 +408,7 @@ impl<S: Site> Flusher<S> {
             journal: _,
             generation: _,
             used: _,
-            owes: _,
+            owed: _,
             failed: _,
             opened: _,
             piece: _,

@@ -10,7 +10,6 @@ mod laws;
 mod moving;
 mod opened;
 mod opening;
-mod outlet;
 mod standing;
 
 pub use actions::Action;

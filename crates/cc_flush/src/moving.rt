@@ -1,16 +1,17 @@
 //! The node of an engine is moved to the other side.
 
-ghost use Rattle.std.specs.Prelude.{ℕ, ◌≡◌, ◌↔◌, ◌≤◌, ◌<◌, ◌+◌, ◌∷◌, [], length, OnOk, OnErr, MatchResult};
-ghost use Rattle.cc_site.specs.Moments.{Possible, Rose};
+ghost use Rattle.std.specs.Prelude.{ℕ, ◌≡◌, ◌↔◌, ◌≤◌, ◌<◌, ◌+◌, ◌∷◌, [], length, OnOk, OnErr, IfErr};
+ghost use Rattle.cc_site.specs.Moments.{Possible};
 ghost use Rattle.cc_site.specs.Runs.{EachMoment};
 ghost use Rattle.cc_site.specs.Sides.{durable, other};
-ghost use Rattle.cc_site.specs.Telling.{CountsCalls, IsOn};
+ghost use Rattle.cc_site.specs.Telling.{CountsCalls};
 ghost use Rattle.cc_node.specs.Sides.{OPEN};
 ghost use Rattle.cc_checkpoint.specs.Checkpoints.{image_of};
 ghost use Rattle.cc_checkpoint.specs.Images.{SpellsImage};
+ghost use Rattle.cc_checkpoint.specs.Stops.{HasClosed};
 ghost use Rattle.cc_journal.specs.Journals.{room_limit, StaysGood};
 ghost use Rattle.cc_flush.specs.Engine.{IsSettled};
-ghost use Rattle.cc_flush.specs.Moving.{RestsFrom};
+ghost use Rattle.cc_flush.specs.Moving.{RestsFrom, Begins, BeginStops, MoveCalls, SidesStop};
 
 use cc_checkpoint::{Piece, arm, fill, retire, state_length};
 use cc_journal::Journal;
@@ -28,7 +29,9 @@ fn ensure_gate<S: Site>(site: &mut S, side: Side) -> Result<(), DeviceFault>
     ensures there { S.honest site.old → OnOk result (1 ≤ length (S.state site.new side).bytes) }
     ensures same { S.honest site.old → 1 ≤ length (S.state site.old side).bytes → S.state site.new ≡ S.state site.old }
     ensures every_moment { S.honest site.old → 1 ≤ length (S.state site.old side).bytes → EachMoment S.Site site.old site.new (Possible (S.state site.old) (S.sent site.old)) }
-    ensures fault { CountsCalls (IsOn side) (S.failures site.old) (S.failures site.new) result }
+    ensures begins { S.honest site.old → OnOk result (HasClosed (S.state site.old side) (S.state site.new side)) }
+    ensures failed { S.honest site.old → IfErr result (λ f. BeginStops (S.state site.old side) f.call (S.state site.new side)) }
+    ensures fault { CountsCalls (Begins side) (S.failures site.old) (S.failures site.new) result }
 {
     if length_of(site, side)? == 0 {
         write_durably(site, side, 0, &[CLOSED_GATE])?;
@@ -56,7 +59,8 @@ pub(crate) fn move_over<S: Site>(
     ensures retired { S.honest site.old → OnOk result (S.state site.new journal.old.side ≡ durable (0 ∷ [])) }
     ensures good { S.honest site.old → IsSettled (S.state site.old (other journal.old.side)) → (lower : ℕ) → lower < generation
         → StaysGood S.Site (RestsFrom S.Site node.now journal.old lower site.old) site.old site.new }
-    ensures fault { MatchResult result (λ _. S.failures site.new ≡ S.failures site.old) (λ _. Rose (S.failures site.old) (S.failures site.new)) }
+    ensures failed { S.honest site.old → IfErr result (SidesStop journal.old.side generation node.now (S.state site.old) (S.state site.new)) }
+    ensures fault { CountsCalls (MoveCalls journal.old.side) (S.failures site.old) (S.failures site.new) result }
 {
     let old = journal.side();
     let side = old.other();

@@ -2,7 +2,7 @@
 
 ghost use Rattle.std.specs.Prelude.{◌≡◌, ◌≤◌, nat_lt, length};
 ghost use Rattle.std.specs.FinMap as table;
-ghost use Rattle.cc_flush.specs.Outlet.{Puts};
+ghost use Rattle.cc_journal.specs.Outlet.{Puts};
 ghost use Rattle.cc_flush.specs.Standing.{resend_row, resend_post, resends, reply_again, ack_again};
 ghost use Rattle.cc_links.specs.Links.{heard_from};
 

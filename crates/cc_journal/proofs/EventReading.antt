@@ -3,7 +3,7 @@ use Rattle.std.proofs.Common.{◌≡◌, ℕ, ◌+◌, ◌<◌, ◌≤◌, ◌^�
 use Rattle.std.specs.Int.{to_be_bytes, from_be_bytes, w32}
 use Rattle.std.specs.List.{flat_map, AllByRecursion}
 use Rattle.std.proofs.lemmas.Nat.{from_be_bytes-to_be_bytes_4, be_bytes_4}
-use Rattle.std.proofs.lemmas.List.{append_assoc, append-nil, take_at, length-take, length-drop, drop-drop, nil_from_length}
+use Rattle.std.proofs.lemmas.List.{append_assoc, append-nil, take_at, length-take, length-drop, drop-drop}
 use Rattle.cc_wire.specs.declared.event.Event.{Event}
 use Rattle.cc_wire.specs.Events.{event_spelling, IsEvent, SpellsEvent}
 use Rattle.cc_wire.proofs.Lengths.{length-event}

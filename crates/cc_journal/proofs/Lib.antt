@@ -1,5 +1,8 @@
 mod Records
 pub mod Rests
+pub mod Puts
+pub mod LinkSends
+mod EventOutputs
 mod Steps
 mod EventReading
 mod BodyReading

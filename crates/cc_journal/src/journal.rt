@@ -7,13 +7,16 @@ ghost use Rattle.cc_wire.specs.Events.{IsEvent};
 ghost use Rattle.cc_site.specs.declared.site.Call.TheVariants.{Write, Sync};
 ghost use Rattle.cc_site.specs.Sides.{other, touch};
 ghost use Rattle.cc_site.specs.Moments.{Rose};
-ghost use Rattle.cc_node.specs.Node.{Node};
+ghost use Rattle.cc_node.specs.Node.{Node as NodeValue, after, line};
 ghost use Rattle.cc_node.specs.Sides.{StandsBehind, SpellsBatch};
-ghost use Rattle.cc_journal.specs.Batches.{events_in, batch_bytes};
+ghost use Rattle.cc_journal.specs.Batches.{AreLawful, events_in, batch_bytes};
+ghost use Rattle.cc_journal.specs.Outlet.{Puts};
 ghost use Rattle.cc_journal.specs.Journals.{Position, with_record, with_open_gate, record_room, room_limit, KeepsGood, MayHaveOpened, RestsFor, RestsNow};
 
 use crate::batch::Batch;
+use crate::outlet::put_entries;
 use crate::record::put_record;
+use cc_node::Node;
 use cc_site::{DeviceFault, OPEN_GATE, Side, Site, write_durably};
 use cc_views::NoMemory;
 use std::alloc::Global;
@@ -59,12 +62,14 @@ impl Model for Landed {
 }
 
 impl Landed {
-    /// The batch, whose outputs the caller takes upon itself.
-    pub fn into_batch(self) -> Batch
-        ensures { result ≡ self }
+    /// Takes its events into the node that accepted them, and puts the outputs of each in turn. Nothing else spends it.
+    pub fn put_outputs<S: Site>(self, node: &mut Node, site: &mut S)
+        requires lawful { AreLawful node.old self }
+        ensures node { node.new ≡ after node.old (events_in self) }
+        ensures puts { Puts S.Site (line node.old (events_in self)) site.old site.new }
     {
         let Landed { batch } = self;
-        batch
+        put_entries(node, site, batch);
     }
 }
 
@@ -155,7 +160,7 @@ impl Journal {
         ensures holds { S.honest site.old → OnOk result (S.state site.new self.old.side ≡ with_record (S.state site.old self.old.side) self.old.place batch) }
         ensures failed { S.honest site.old → OnErr result ((S.state site.new self.old.side ≡ touch (S.state site.old self.old.side) (self.old.place + 1) (length (batch_bytes batch))) ⊎ (S.state site.new self.old.side ≡ S.state site.old self.old.side)) }
         ensures every_moment { S.honest site.old → (generation : ℕ) → KeepsGood S.Site (RestsNow S.Site site.old self.old generation) (events_in batch) site.old site.new }
-        ensures at_rest { S.honest site.old → (generation : ℕ) (start : Node) (events : List Event) (opening : ℕ)
+        ensures at_rest { S.honest site.old → (generation : ℕ) (start : NodeValue) (events : List Event) (opening : ℕ)
             → RestsNow S.Site site.old self.old generation start events opening → RestsNow S.Site site.new self.old generation start events opening }
         ensures within { S.honest site.old → OnOk result (self.old.place + 1 ≤ length (S.state site.new self.old.side).bytes) }
         ensures behind { S.honest site.old → OnOk result (StandsBehind (S.state site.new self.old.side).bytes self.old.place (batch_bytes batch)) }
@@ -185,7 +190,7 @@ impl Journal {
         ensures every_moment { S.honest site.old → StandsBehind (S.state site.old self.old.side).bytes self.old.place (batch_bytes flight)
             → (generation : ℕ) → KeepsGood S.Site (RestsFor S.Site (events_in flight) site.old self.old generation) (events_in flight) site.old site.new }
         ensures at_rest { S.honest site.old → StandsBehind (S.state site.old self.old.side).bytes self.old.place (batch_bytes flight)
-            → (generation : ℕ) (start : Node) (events : List Event) (opening : ℕ) → RestsFor S.Site (events_in flight) site.old self.old generation start events opening
+            → (generation : ℕ) (start : NodeValue) (events : List Event) (opening : ℕ) → RestsFor S.Site (events_in flight) site.old self.old generation start events opening
             → OnOk result (RestsNow S.Site site.new self.new generation start (events ++ events_in flight) opening) }
         ensures length { S.honest site.old → OnOk result (length (S.state site.new self.old.side).bytes ≡ length (S.state site.old self.old.side).bytes) }
         ensures short { OnOk result (length (batch_bytes flight) ≤ record_room) }

@@ -1,4 +1,4 @@
-//! Batches of events and the records that make them durable, each behind a gate.
+//! Batches of events, the records that make them durable, each behind a gate, and what they put out then.
 #![tactic(auto)]
 
 mod batch;
@@ -6,6 +6,7 @@ mod entry;
 mod events;
 mod journal;
 mod laws;
+mod outlet;
 mod record;
 mod scanning;
 

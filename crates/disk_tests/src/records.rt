@@ -1,9 +1,14 @@
 //! Batches, records and gates.
 
+ghost use Rattle.std.specs.Prelude.{◌≡◌, ◌≤◌, length, OnOk, IfOk};
+ghost use Rattle.cc_node.specs.Node.{after};
+ghost use Rattle.cc_journal.specs.Batches.{AreLawful, events_in};
+
 use cc_changes::Fraction;
 use cc_journal::{Batch, Entry, Journal, ScanFault, Scanned, scan};
-use cc_node::{Node, Opening};
+use cc_node::{Core, Node, Opening};
 use cc_site::{Call, Choice, DeviceFault, Failing, MemorySite, Side, Site, write_durably};
+use cc_wire::Event;
 use std::alloc::Global;
 use std::test::*;
 
@@ -38,18 +43,14 @@ fn contents<S: Site>(alloc: Global, site: &mut S) -> Result<Vec<u8>, Fail> {
     Ok(bytes)
 }
 
-// Writes an Enter that makes nothing, and opens its gate. Whether the batch landed.
-fn enters<S: Site>(journal: &mut Journal, site: &mut S) -> bool {
-    lands(journal, site, batch_of(1))
-}
-
-// Writes a batch, and opens its gate. Whether it landed whole.
-fn lands<S: Site>(journal: &mut Journal, site: &mut S, batch: Batch) -> bool {
+// Writes a batch, opens its gate, and puts what its events make of the node. Whether it landed.
+fn lands<S: Site>(journal: &mut Journal, site: &mut S, node: &mut Node, batch: Batch) -> bool
+    requires { AreLawful node.old batch }
+{
     let Ok(length) = site.length(journal.side()) else {
         return false;
     };
-    let count = batch.len();
-    if length <= journal.place() || journal.place() >= 1 << 61 || count == 0 {
+    if length <= journal.place() || journal.place() >= 1 << 61 || batch.len() == 0 {
         return false;
     }
     let Ok(flight) = journal.write(site, batch) else {
@@ -58,7 +59,20 @@ fn lands<S: Site>(journal: &mut Journal, site: &mut S, batch: Batch) -> bool {
     let Ok(landed) = journal.append(site, flight) else {
         return false;
     };
-    landed.into_batch().len() == count
+    landed.put_outputs(node, site);
+    true
+}
+
+// The same of a batch of one event.
+fn takes<S: Site>(
+    alloc: Global,
+    journal: &mut Journal,
+    site: &mut S,
+    node: &mut Node,
+    event: Event,
+) -> Result<bool, Fail> {
+    let entry = Entry::of(alloc, node.core(), event)?;
+    Ok(lands(journal, site, node, Batch::of_one(entry)))
 }
 
 // What a scan finds: the place of the journal, and how many records and events there are.
@@ -97,24 +111,45 @@ const fn damaged(place: u64) -> Result<Found, ScanFault> {
     Err(ScanFault::Damaged(place))
 }
 
-// Writes an Enter behind a closed gate, and another one. The bytes after the first, and the places after both.
-fn entered_twice(alloc: Global, site: &mut MemorySite) -> Result<(Vec<u8>, [u64; 2]), Fail> {
-    let mut journal = Journal::new(alloc, Side::A, 0)?;
-    let first = enters(&mut journal, site).then_some(journal.place());
-    let bytes = contents(alloc, site);
-    let second = enters(&mut journal, site).then_some(journal.place());
-    drop(journal);
-    let bytes = bytes?;
-    let (Some(first), Some(second)) = (first, second) else {
-        return Err("a batch didn't land")?;
-    };
+// Writes an event of the node behind the gate of a journal. The place behind it.
+fn place_after(
+    alloc: Global,
+    journal: &mut Journal,
+    site: &mut MemorySite,
+    node: &mut Node,
+    event: Event,
+) -> Result<u64, Fail> {
+    if takes(alloc, journal, site, node, event)? {
+        Ok(journal.place())
+    } else {
+        Err("the batch didn't land")?
+    }
+}
+
+// The bytes after the first of two events, and the places after both.
+fn two_places(
+    alloc: Global,
+    journal: &mut Journal,
+    site: &mut MemorySite,
+    node: &mut Node,
+) -> Result<(Vec<u8>, [u64; 2]), Fail> {
+    let first = place_after(alloc, journal, site, node, Event::Enter)?;
+    let bytes = contents(alloc, site)?;
+    let second = place_after(alloc, journal, site, node, Event::Leave)?;
     Ok((bytes, [first, second]))
+}
+
+// Writes an Enter behind a closed gate, and then a Leave. The bytes after the first, and the places after both.
+fn entered_and_left(alloc: Global, site: &mut MemorySite) -> Result<(Vec<u8>, [u64; 2]), Fail> {
+    let mut journal = Journal::new(alloc, Side::A, 0)?;
+    let mut node = entrant(alloc)?;
+    two_places(alloc, &mut journal, site, &mut node)
 }
 
 #[test]
 fn a_record_stands_behind_its_open_gate(rt: HostRuntime) -> Result<(), Fail> {
     let mut site = holding(rt.alloc(), &[0])?;
-    let entered = entered_twice(rt.alloc(), &mut site);
+    let entered = entered_and_left(rt.alloc(), &mut site);
     drop(site);
     let (bytes, places) = entered?;
     assert_eq!(rt; (bytes.as_slice(), places), (ENTERED.as_slice(), [11, 22]));
@@ -157,19 +192,49 @@ fn a_batch_takes_64_entries(rt: HostRuntime) -> Result<(), Fail> {
     Ok(())
 }
 
+// Adds an event to a batch that is lawful from a node on, and to the core that the batch leads to.
+fn add(
+    alloc: Global,
+    node: &Node,
+    live: &mut Core,
+    batch: &mut Batch,
+    event: Event,
+) -> Result<(), Fail>
+    requires lawful { AreLawful node.now batch.old }
+    requires live { live.old ≡ (after node.now (events_in batch.old)).core }
+    ensures lawful { OnOk result (AreLawful node.now batch.new) }
+    ensures live { OnOk result (live.new ≡ (after node.now (events_in batch.new)).core) }
+{
+    let entry = Entry::of(alloc, live, event)?;
+    live.apply(&entry.event);
+    batch.push(entry)?;
+    Ok(())
+}
+
+// An Enter and a Leave of a node, in one batch.
+fn enter_and_leave(alloc: Global, node: &Node) -> Result<Batch, Fail>
+    ensures lawful { IfOk result (AreLawful node.now) }
+{
+    let mut live = node.core().copy(alloc)?;
+    let mut batch = Batch::new();
+    add(alloc, node, &mut live, &mut batch, Event::Enter)?;
+    add(alloc, node, &mut live, &mut batch, Event::Leave)?;
+    Ok(batch)
+}
+
 // Two events share a record, a gate and two syncs: the calls 0 and 1 made the side, 2 is its length, 3 the write, 4 the
 // sync of the record, 5 the gate, and 6 its sync.
-fn two_entered(alloc: Global, site: &mut MemorySite) -> Result<u64, Fail> {
+fn two_at_once(alloc: Global, site: &mut MemorySite) -> Result<u64, Fail> {
     site.fuse(7, Failing::Stop);
     let mut journal = Journal::new(alloc, Side::B, 9)?;
     journal.move_to(Side::A, 0);
-    let lands = lands(&mut journal, site, batch_of(2));
-    let place = journal.place();
-    drop(journal);
-    if !lands {
-        return Err("the batch didn't land")?;
+    let mut node = entrant(alloc)?;
+    let batch = enter_and_leave(alloc, &node)?;
+    if lands(&mut journal, site, &mut node, batch) {
+        Ok(journal.place())
+    } else {
+        Err("the batch didn't land")?
     }
-    Ok(place)
 }
 
 // What is sure of a site.
@@ -181,7 +246,7 @@ fn sure(alloc: Global, site: &MemorySite) -> Result<Vec<u8>, Fail> {
 }
 
 fn sure_of_two(alloc: Global, site: &mut MemorySite) -> Result<(u64, Vec<u8>), Fail> {
-    let place = two_entered(alloc, site)?;
+    let place = two_at_once(alloc, site)?;
     Ok((place, sure(alloc, site)?))
 }
 
@@ -191,7 +256,7 @@ fn a_batch_of_two_has_one_record(rt: HostRuntime) -> Result<(), Fail> {
     let sure = sure_of_two(rt.alloc(), &mut site);
     drop(site);
     let (place, bytes) = sure?;
-    let record = [0xA5, 0, 0, 0, 11, 2, 0, 0, 0, 1, 1, 0, 0, 0, 1, 1, 0];
+    let record = [0xA5, 0, 0, 0, 11, 2, 0, 0, 0, 1, 1, 0, 0, 0, 1, 2, 0];
     assert_eq!(rt; (place, bytes.as_slice()), (16, record.as_slice()));
     Ok(())
 }
@@ -317,9 +382,9 @@ fn entered_failing(alloc: Global, at: u64) -> Result<(bool, u64), Fail> {
 
 fn entered_on(alloc: Global, site: &mut MemorySite) -> Result<(bool, u64), Fail> {
     let mut journal = Journal::new(alloc, Side::A, 0)?;
-    let entered = (enters(&mut journal, site), journal.place());
-    drop(journal);
-    Ok(entered)
+    let mut node = entrant(alloc)?;
+    let entered = takes(alloc, &mut journal, site, &mut node, Event::Enter)?;
+    Ok((entered, journal.place()))
 }
 
 // The calls 0 and 1 made the side, 2 is its length, 3 the write, and 4 the sync of the record.

@@ -1,16 +1,18 @@
-use Rattle.std.proofs.Common.{true, ◌≡◌, ℕ, ◌+◌, ◌≤◌, List, length, refl, ap, arith}
+use Rattle.std.proofs.Common.{true, ◌≡◌, ℕ, ◌+◌, ◌≤◌, List, [], ◌∷◌, length, refl, ap, arith}
+use Rattle.std.proofs.lemmas.Result.{err_from_is_err_and}
 use Rattle.cc_wire.specs.declared.event.Event.{Event}
-use Rattle.cc_site.specs.Sides.{other}
+use Rattle.cc_site.specs.Sides.{other, written, settled}
 use Rattle.cc_site.specs.Moments.{Possible}
 use Rattle.cc_site.specs.Runs.{EachMoment, joined}
 use Rattle.cc_node.specs.Node.{Node, after}
-use Rattle.cc_node.specs.Sides.{IsArmed}
+use Rattle.cc_node.specs.Sides.{OPEN, IsArmed}
 use Rattle.cc_node.specs.States.{state_spelling, state_of}
 use Rattle.cc_checkpoint.specs.Checkpoints as checkpoints
 use Rattle.cc_checkpoint.specs.Checkpoints.{IsSurelyShut, IsFilled, KeepsOff, ArmsFor, image_of}
 use Rattle.cc_checkpoint.proofs.Imaged.{length-image}
 use Rattle.cc_journal.specs.Journals.{IsGood}
 use Rattle.cc_flush.specs.Moving.{RestsFrom}
+use Rattle.cc_flush.proofs.Stopping.{begun_stops, filled_stops, armed_stops, retired_stops}
 use Rattle.cc_flush.proofs.MovingRuns.{stays, other_there, ensured_good, retired_good, to_filled, arms, armed_still}
 use Rattle.cc_flush.proofs.moving.move_over.Goals as goal
 
@@ -149,3 +151,67 @@ returns-clause-good g c h settled lower below =
     (rests c.args.generation start events opening ready)
     (retires (armed_still s g.met.S.Site.may_read g.met.S.Site.counts_now old h at node lower start events opening led first second h_first looked still c.ensure_gate.ensures.tells.1 settled fills third filled_other armed_other))))
     (g.met.S.Site.counts_now fourth (c.retire.ensures.honest.0 h_third))
+
+pub returns-in_err-ensure_gate-clause-failed : goal.returns-in_err-ensure_gate-clause-failed
+returns-in_err-ensure_gate-clause-failed g c h =
+    let s = g.S.Site in
+    let side = c.args.journal.now.side in
+    let names = c.in_err-ensure_gate.ensures.fault in
+    let p = err_from_is_err_and c.from_residual.result c.from_residual.ensures.1 in
+    let same : s.state c.ensure_gate.new.site (other (other side)) ≡ s.state c.args.site.now (other (other side)) = rw (c.other-side.ensures, c.side-old.ensures) at (c.ensure_gate.ensures.other_side h) in
+    rw (p.1, p.2) (begun_stops side c.args.generation c.args.node.now (s.state c.args.site.now) (s.state c.ensure_gate.new.site) c.in_err-ensure_gate.field-0.0
+    (rw (c.other-side.ensures, c.side-old.ensures) at names.0.0) same (rw (c.other-side.ensures, c.side-old.ensures) at (c.in_err-ensure_gate.ensures.failed h)))
+
+pub returns-in_err-fill-clause-failed : goal.returns-in_err-fill-clause-failed
+returns-in_err-fill-clause-failed g c h =
+    let s = g.S.Site in
+    let old = c.args.site.now in
+    let side = c.args.journal.now.side in
+    let first = c.ensure_gate.new.site in
+    let second = c.fill.new.site in
+    let h_first = c.ensure_gate.ensures.honest.0 h in
+    let begun_other : s.state first (other (other side)) ≡ s.state old (other (other side)) = rw (c.other-side.ensures, c.side-old.ensures) at (c.ensure_gate.ensures.other_side h) in
+    let filled_other : s.state second (other (other side)) ≡ s.state first (other (other side)) = rw (c.other-side.ensures, c.side-old.ensures) at (c.fill.ensures.other_side h_first) in
+    let p = err_from_is_err_and c.from_residual-in_err-fill.result c.from_residual-in_err-fill.ensures.1 in
+    rw (p.1, p.2) (filled_stops side c.args.generation c.args.node.now (s.state old) (s.state first) (s.state second) begun_other filled_other c.in_err-fill.field-0.0
+    (rw (c.other-side.ensures, c.side-old.ensures) at c.in_err-fill.ensures.fault.0.0) (rw (c.other-side.ensures, c.side-old.ensures) at (c.in_ok-ensure_gate.ensures.begins h))
+    (rw (c.other-side.ensures, c.side-old.ensures) at (c.in_err-fill.ensures.failed h_first)))
+
+pub returns-in_err-arm-clause-failed : goal.returns-in_err-arm-clause-failed
+returns-in_err-arm-clause-failed g c h =
+    let s = g.S.Site in
+    let old = c.args.site.now in
+    let side = c.args.journal.now.side in
+    let first = c.ensure_gate.new.site in
+    let second = c.fill.new.site in
+    let third = c.arm.new.site in
+    let h_first = c.ensure_gate.ensures.honest.0 h in
+    let h_second = c.fill.ensures.honest.0 h_first in
+    let begun_other : s.state first (other (other side)) ≡ s.state old (other (other side)) = rw (c.other-side.ensures, c.side-old.ensures) at (c.ensure_gate.ensures.other_side h) in
+    let filled_other : s.state second (other (other side)) ≡ s.state first (other (other side)) = rw (c.other-side.ensures, c.side-old.ensures) at (c.fill.ensures.other_side h_first) in
+    let armed_other : s.state third (other (other side)) ≡ s.state second (other (other side)) = rw (c.other-side.ensures, c.side-old.ensures) at (c.arm.ensures.other_side h_second) in
+    let filled : IsFilled (s.state second (other side)) c.args.generation c.args.node.now = rw (c.other-side.ensures, c.side-old.ensures) at (c.in_ok-fill.ensures.filled h_first) in
+    let p = err_from_is_err_and c.from_residual-in_err-arm.result c.from_residual-in_err-arm.ensures.1 in
+    rw (p.1, p.2) (armed_stops side c.args.generation c.args.node.now (s.state old) (s.state first) (s.state second) begun_other filled_other (s.state third) armed_other filled c.in_err-arm.field-0.0
+    (rw (c.other-side.ensures, c.side-old.ensures) at c.in_err-arm.ensures.fault.0) c.in_err-arm.ensures.fault.1 (rw (c.other-side.ensures, c.side-old.ensures) at (c.in_err-arm.ensures.failed h_second)))
+
+pub returns-in_err-retire-clause-failed : goal.returns-in_err-retire-clause-failed
+returns-in_err-retire-clause-failed g c h =
+    let s = g.S.Site in
+    let old = c.args.site.now in
+    let side = c.args.journal.now.side in
+    let first = c.ensure_gate.new.site in
+    let second = c.fill.new.site in
+    let third = c.arm.new.site in
+    let fourth = c.retire.new.site in
+    let h_first = c.ensure_gate.ensures.honest.0 h in
+    let h_second = c.fill.ensures.honest.0 h_first in
+    let h_third = c.arm.ensures.honest.0 h_second in
+    let begun_other : s.state first (other (other side)) ≡ s.state old (other (other side)) = rw (c.other-side.ensures, c.side-old.ensures) at (c.ensure_gate.ensures.other_side h) in
+    let filled_other : s.state second (other (other side)) ≡ s.state first (other (other side)) = rw (c.other-side.ensures, c.side-old.ensures) at (c.fill.ensures.other_side h_first) in
+    let armed_other : s.state third (other (other side)) ≡ s.state second (other (other side)) = rw (c.other-side.ensures, c.side-old.ensures) at (c.arm.ensures.other_side h_second) in
+    let filled : IsFilled (s.state second (other side)) c.args.generation c.args.node.now = rw (c.other-side.ensures, c.side-old.ensures) at (c.in_ok-fill.ensures.filled h_first) in
+    let opened : s.state third (other side) ≡ settled (written (s.state second (other side)) 0 (OPEN ∷ [])) = rw (c.other-side.ensures, c.side-old.ensures) at (c.in_ok-arm.ensures.value h_second) in
+    let p = err_from_is_err_and c.from_residual-in_err-retire.result c.from_residual-in_err-retire.ensures.1 in
+    rw (p.1, p.2) (retired_stops side c.args.generation c.args.node.now (s.state old) (s.state first) (s.state second) begun_other filled_other (s.state third) armed_other filled opened
+    (s.state fourth) c.in_err-retire.field-0.0 (rw c.side-old.ensures at c.in_err-retire.ensures.fault.0.0) (rw c.side-old.ensures at (c.retire.ensures.other_side h_third)) (rw c.side-old.ensures at (c.in_err-retire.ensures.failed h_third)))

@@ -3,9 +3,9 @@ use Rattle.std.specs.List.{flat_map}
 use Rattle.cc_wire.specs.declared.message.Message.{Message}
 use Rattle.cc_links.specs.Rows.{rows_of}
 use Rattle.cc_flush.specs.Standing.{resend_row, resend_post}
-use Rattle.cc_flush.proofs.LinkSends.{next}
+use Rattle.cc_journal.proofs.LinkSends.{next}
 use Rattle.cc_flush.proofs.Resends.{rows_resend, next_piece, after_pieces}
-use Rattle.cc_flush.proofs.Puts.{put_none, put_more, put_all}
+use Rattle.cc_journal.proofs.Puts.{put_none, put_more, put_all}
 use Rattle.cc_flush.proofs.standing.put_kept_post.Goals as goal
 
 pub loop-row-init : goal.loop-row-init

@@ -1,7 +1,7 @@
 use Rattle.std.proofs.Common.{◌≡◌, ◌+◌, ◌≤◌, drop, length}
 use Rattle.std.specs.List.{flat_map}
 use Rattle.cc_flush.specs.Standing.{resend_row}
-use Rattle.cc_flush.proofs.Puts.{HasPut}
+use Rattle.cc_journal.proofs.Puts.{HasPut}
 use Rattle.cc_flush.proofs.standing.put_kept_post.Given as goal
 
 abbrev pub invariant-loop-row : goal.invariant-loop-row

@@ -2,10 +2,10 @@ use Rattle.std.proofs.Common.{◌≡◌, ℕ, ◌+◌, ◌-◌, ◌≤◌, ◌�
 use Rattle.std.specs.List.{flat_map}
 use Rattle.std.specs.FinMap as table
 use Rattle.cc_wire.specs.declared.message.Message.{Message}
-use Rattle.cc_flush.specs.Outlet.{Puts}
+use Rattle.cc_journal.specs.Outlet.{Puts}
 use Rattle.cc_flush.specs.Standing.{resend_post}
 use Rattle.cc_flush.proofs.Resends.{next_post, next_piece, after_pieces}
-use Rattle.cc_flush.proofs.Puts.{HasPut, put_none, put_more, put_all}
+use Rattle.cc_journal.proofs.Puts.{HasPut, put_none, put_more, put_all}
 use Rattle.cc_flush.proofs.standing.put_kept_posts.Goals as goal
 
 pub loop-number-init : goal.loop-number-init

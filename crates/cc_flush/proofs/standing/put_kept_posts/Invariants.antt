@@ -2,7 +2,7 @@ use Rattle.std.proofs.Common.{◌≡◌, ◌+◌, ◌-◌, ◌*◌, ◌≤◌, d
 use Rattle.std.specs.List.{flat_map}
 use Rattle.std.specs.FinMap as table
 use Rattle.cc_flush.specs.Standing.{resend_post}
-use Rattle.cc_flush.proofs.Puts.{HasPut}
+use Rattle.cc_journal.proofs.Puts.{HasPut}
 use Rattle.cc_flush.proofs.standing.put_kept_posts.Given as goal
 
 abbrev pub invariant-loop-number : goal.invariant-loop-number

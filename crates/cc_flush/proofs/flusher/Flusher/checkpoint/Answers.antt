@@ -1,7 +1,11 @@
-use Rattle.std.proofs.Common.{◌≡◌, refl, sym, subst, arith}
-use Rattle.std.specs.Prelude.{false, None}
+use Rattle.std.proofs.Common.{◌≡◌, ◌<◌, [], refl, sym, subst, arith}
+use Rattle.std.specs.Prelude.{false, None, Some, is_some}
+use Rattle.std.specs.Option.{option_map_or}
+use Rattle.cc_views.specs.Limits.{counter_limit}
 use Rattle.cc_journal.specs.Journals.{StaysGood}
+use Rattle.cc_flush.specs.Engine.{Engine}
 use Rattle.cc_flush.specs.Flushing.{LeadsTo}
+use Rattle.cc_flush.specs.Moving.{MoveFails}
 use Rattle.cc_flush.proofs.MovingRuns.{still_stays, moved_stays, moved_sound}
 use Rattle.cc_flush.proofs.flusher.Flusher.checkpoint.Goals as goal
 
@@ -31,4 +35,32 @@ pub invariant_of-self : goal.invariant_of-self
 invariant_of-self g c =
     let back = c.move_over.ensures.honest.1 in
     moved_sound g.S.Site _ c.self.inside.journal.side c.in-Ok.ensures.moved (rw c.place.ensures refl) (subst (λ e. e.failed ≡ None) (sym c.self.view_is) c.in_ok-check.ensures.goes_on)
+    (c.self.invariant.idle (subst (λ e. e.owes ≡ false) (sym c.self.view_is) c.requires.owes))
     (λ h. c.in-Ok.ensures.holds (back h)) (λ h. c.in-Ok.ensures.spelled (back h)) (λ h. c.in-Ok.ensures.retired (back h))
+
+pub returns-in-Err-clause-moves : goal.returns-in-Err-clause-moves
+returns-in-Err-clause-moves g c =
+    let s = g.S.Site in
+    let e = c.in-Err.ensures in
+    let was = c.self.inside in
+    let new : Engine g.row.S.Denot =
+    record {
+      site = c.move_over.new.site;
+      twin = was.node;
+      at = c.move_over.new.journal;
+      generation = was.generation;
+      used = was.used;
+      owes = is_some was.owed;
+      owed = option_map_or (λ snapshot. snapshot.value) was.owed [];
+      failed = Some c.in-Err.fault;
+      opened = was.opened;
+    } in
+    subst (λ old. old.failed ≡ None → old.generation < counter_limit → MoveFails s old new c.in-Err.fault) c.self.view_is
+    (λ none less. record {
+      at = e.kept;
+      used = refl;
+      generation = refl;
+      failed = refl;
+      device = e.fault;
+      sides = e.failed;
+    })

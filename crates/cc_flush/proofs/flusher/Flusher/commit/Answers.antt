@@ -1,4 +1,4 @@
-use Rattle.std.proofs.Common.{◌≡◌, ℕ, ◌≤◌, ◌+◌, List, ◌++◌, length, refl, sym, ap, subst, arith}
+use Rattle.std.proofs.Common.{◌≡◌, ℕ, ◌≤◌, ◌+◌, List, ◌++◌, length, refl, sym, ◌∙◌, ap, subst, arith}
 use Rattle.std.specs.Prelude.{false, None}
 use Rattle.cc_wire.specs.declared.event.Event.{Event}
 use Rattle.cc_site.specs.declared.site.Side.{Side}
@@ -54,6 +54,8 @@ invariant_of-self g c =
     let side : at.side ≡ c.self.inside.journal.side = ap (λ p. p.side) c.in-Ok.ensures.ok in
     let place = ap (λ p. p.place) c.in-Ok.ensures.ok in
     let was = c.self.invariant in
+    let owed = c.of.ensures ∙ c.in-Ok.ensures.landed in
+    let lawful = subst (λ e. AreLawful e.twin c.args.batch) view c.requires.lawful in
     record {
       reaches = omega (arith, c.max-self-inside.ensures, c.place.ensures);
       within = λ h none. subst (λ (t : Side). at.place + 1 ≤ length (s.state new t).bytes) (sym side) (omega (arith, place, c.in-Ok.ensures.length (c.make_durable.ensures.honest.1 h)));
@@ -62,28 +64,15 @@ invariant_of-self g c =
           subst (λ (t : Side). c.max-self-inside.result ≡ length (s.state new t).bytes) (sym side)
           (omega (arith, place, c.max-self-inside.ensures, c.place.ensures, c.in-Ok.ensures.length old, was.is_length old none));
       goes_on = λ _. subst (λ e. e.failed ≡ None) view c.in_ok-check.ensures.goes_on;
+      idle = λ is. absurd cc;
+      lawful = rw owed lawful;
       other_settled = λ h none.
           let old = c.make_durable.ensures.honest.1 h in
           subst (λ (t : Side). IsSettled (s.state new (other t))) (sym side) (subst IsSettled (sym (c.make_durable.ensures.other_side old)) (was.other_settled old none));
       stands = λ h none there.
-          let old = c.make_durable.ensures.honest.1 h in (
-            events_in c.args.batch,
-            λ is. absurd cc,
-            committed_stands s _ c.args.batch was old none (subst (λ e. e.owes ≡ false) view c.requires.owes) (subst (λ e. AreLawful e.twin c.args.batch) view c.requires.lawful) new at side
-                (c.make_durable.ensures.other_side old) (c.in-Ok.ensures.at_rest old) there,
-          );
+          let old = c.make_durable.ensures.honest.1 h in
+          rw owed (committed_stands s _ c.args.batch was old none (subst (λ e. e.owes ≡ false) view c.requires.owes) lawful new at side (c.make_durable.ensures.other_side old) (c.in-Ok.ensures.at_rest old) there);
     }
 
 pub returns-in-Ok-clause-owed : goal.returns-in-Ok-clause-owed
-returns-in-Ok-clause-owed g c =
-    let s = g.S.Site in
-    let view = sym c.self.view_is in
-    let lawful = subst (λ e. AreLawful e.twin c.args.batch) view c.requires.lawful in
-    rw c.in-Ok.ensures.landed (record {
-      owes = refl;
-      lawful = lawful;
-      stands = λ h none there.
-          let old = c.make_durable.ensures.honest.1 h in
-          committed_stands s _ c.args.batch c.self.invariant old none (subst (λ e. e.owes ≡ false) view c.requires.owes) lawful c.make_durable.new.site c.make_durable.new.journal (ap (λ p. p.side) c.in-Ok.ensures.ok)
-          (c.make_durable.ensures.other_side old) (c.in-Ok.ensures.at_rest old) there;
-    })
+returns-in-Ok-clause-owed g c = record { owes = refl; these = c.of.ensures }

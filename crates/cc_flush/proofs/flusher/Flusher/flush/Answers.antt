@@ -1,4 +1,4 @@
-use Rattle.std.proofs.Common.{subst}
+use Rattle.std.proofs.Common.{ap, subst}
 use Rattle.std.proofs.lemmas.Result.{err_from_is_err_and}
 use Rattle.cc_flush.proofs.Flushing.{flushed, Released}
 use Rattle.cc_flush.proofs.flusher.Flusher.flush.Goals as goal
@@ -10,6 +10,8 @@ returns-in_err-landed-clause-flushed g c none =
     rw (p.1, p.2) (record {
       twin = e.same_twin;
       owes = e.owes;
+      at = e.kept.0;
+      used = e.kept.1;
       failed = e.failed;
       same_generation = e.same_generation;
       same_honest = e.honest;
@@ -27,6 +29,7 @@ returns-clause-flushed g c none =
     (record {
       same_twin = e.same_twin;
       goes_on = e.goes_on;
+      same_side = ap (λ p. p.side) e.moved;
       same_generation = e.same_generation;
       same_honest = e.honest;
       same_told = e.tells;
@@ -38,6 +41,7 @@ returns-clause-flushed g c none =
       twin = r.twin;
       owes = r.owes;
       goes_on = r.same.3;
+      at = r.same.0;
       same_generation = r.same.1;
       same_honest = r.honest;
       told = r.told;

@@ -21,7 +21,9 @@ invariant_of-result g c =
           (c.in-Ok.ensures.found old).length ∙ ap length (sym (c.in-Ok.ensures.same_bytes old side));
       goes_on = λ _. refl;
       other_settled = λ honest _. are_settled (s.state c.args.site) (s.state c.open_sides.new.site) (c.in-Ok.ensures.settled (c.in-Ok.ensures.honest.1 honest)) (other side);
-      stands = λ honest _ there. ([], λ _. refl, c.in-Ok.ensures.stands (c.in-Ok.ensures.honest.1 honest));
+      idle = λ _. refl;
+      lawful = tt;
+      stands = λ honest _ there. c.in-Ok.ensures.stands (c.in-Ok.ensures.honest.1 honest);
     }
 
 pub returns-clause-stands : goal.returns-clause-stands

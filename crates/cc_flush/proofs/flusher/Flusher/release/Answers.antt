@@ -4,7 +4,6 @@ use Rattle.cc_journal.specs.Batches.{events_in}
 use Rattle.cc_journal.specs.Journals.{StaysGood}
 use Rattle.cc_flush.specs.Engine.{IsOwed}
 use Rattle.cc_flush.specs.Flushing.{LeadsToOwed}
-use Rattle.cc_flush.specs.Outlet.{Puts}
 use Rattle.cc_flush.proofs.Keeping.{sound_released}
 use Rattle.cc_flush.proofs.Releasing.{released}
 use Rattle.cc_flush.proofs.flusher.Flusher.release.Goals as goal
@@ -14,9 +13,9 @@ returns-clause-good g c honest tells =
     let s = g.S.Site in
     let old = c.self.inside in
     let batch = c.args.landed in
-    let new = c.put_entries.new.site in
-    let puts = subst (λ b. Puts s (line old.node (events_in b)) old.site new) c.into_batch.ensures c.put_entries.ensures.puts in
-    subst (λ e. IsOwed s e batch → s.honest e.site → StaysGood s (LeadsToOwed s batch e) e.site new) c.self.view_is
+    let new = c.put_outputs.new.site in
+    let puts = c.put_outputs.ensures.puts in
+    subst (λ e. IsOwed e batch → s.honest e.site → StaysGood s (LeadsToOwed s batch e) e.site new) c.self.view_is
     (λ owed h. released s g.met.S.Site.may_read _ new c.self.invariant batch puts owed h tells) c.requires.owed honest
 
 pub invariant_of-self : goal.invariant_of-self
@@ -24,6 +23,5 @@ invariant_of-self g c =
     let s = g.S.Site in
     let old = c.self.inside in
     let batch = c.args.landed in
-    let puts = subst (λ b. Puts s (line old.node (events_in b)) old.site c.put_entries.new.site) c.into_batch.ensures c.put_entries.ensures.puts in
-    let owed = subst (λ e. IsOwed s e batch) (sym c.self.view_is) c.requires.owed in
-    rw (c.put_entries.ensures.node, c.into_batch.ensures) (sound_released s _ c.put_entries.new.site (line old.node (events_in batch)) c.self.invariant puts batch owed)
+    let owed = subst (λ e. IsOwed e batch) (sym c.self.view_is) c.requires.owed in
+    rw c.put_outputs.ensures.node (sound_released s _ c.put_outputs.new.site (line old.node (events_in batch)) c.self.invariant c.put_outputs.ensures.puts batch owed)

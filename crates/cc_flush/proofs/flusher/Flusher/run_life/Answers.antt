@@ -4,7 +4,7 @@ use Rattle.std.specs.Vec.Iter.{into_iter_items}
 use Rattle.cc_flush.specs.declared.actions.Action.{Action}
 use Rattle.cc_flush.specs.Flushing.{HasLived}
 use Rattle.cc_flush.specs.Lives.{AreTurnsLawful, BeginsWithTurn, IsTurn}
-use Rattle.cc_flush.proofs.Advancing.{stays, done_more, run_ended, run_failed}
+use Rattle.cc_flush.proofs.Advancing.{stays, done_more, one_more, run_ended, run_failed}
 use Rattle.cc_flush.proofs.flusher.Flusher.run_life.Goals as goal
 
 nothing_left : (actions : List Action) → length actions ≡ 0 → actions ≡ []
@@ -23,7 +23,8 @@ returns-in-Some-clause-run g c =
       rest = c.args.actions.items;
       parts = refl;
       twin = refl;
-      generation = refl;
+      in_use = refl;
+      each = λ none. absurd cc;
       told = λ t. sym (append-nil (s.sent old.site));
       stops = λ none. absurd cc;
       moments = λ h t none. absurd cc;
@@ -39,6 +40,7 @@ loop-action-init g c =
       count = search rules;
       lawful = search rules;
       run = stays s (HasLived s) old (λ start events opening was. was.good) c.requires.owes (sym c.fault.ensures ∙ c.in_default.is) (g.met.S.Site.only_now old.site);
+      each = refl;
       same_opened = refl;
     }
 
@@ -54,8 +56,9 @@ loop-action-preserved g c =
     record {
       parts = at.invariant.parts ∙ ap (λ l. at.yielded ++ l) steps ∙ sym (append_assoc at.yielded (action ∷ []) rest);
       count = omega (arith, at.invariant.count, c.in-Some-action.ensures.steps.1, ap length steps);
-      lawful = subst (λ n. AreTurnsLawful n rest) (sym acted.twin) lawful.1;
-      run = done_more s c.args.self.now at.self c.act.new.self at.yielded action at.invariant.run acted;
+      lawful = subst (λ n. AreTurnsLawful n rest) (sym acted.0.twin) lawful.1;
+      run = done_more s c.args.self.now at.self c.act.new.self at.yielded action at.invariant.run acted.0;
+      each = one_more s at.yielded action c.args.self.now at.self c.act.new.self at.invariant.each acted;
       same_opened = c.in_ok-act.ensures.same_opened ∙ at.invariant.same_opened;
     }
 
@@ -67,7 +70,7 @@ returns-then-not-has_room_for-clause-run g c =
     let rest = into_iter_items c.next.new.self in
     let steps : into_iter_items at.action-iterator ≡ action ∷ rest = c.in-Some-action.ensures.steps.0 in
     let full = c.if-not-has_room_for.ensures in
-    run_ended s c.args.self.now at.self c.args.actions.items at.yielded (action ∷ rest) (at.invariant.parts ∙ ap (λ l. at.yielded ++ l) steps) at.invariant.run
+    run_ended s c.args.self.now at.self c.args.actions.items at.yielded (action ∷ rest) (at.invariant.parts ∙ ap (λ l. at.yielded ++ l) steps) at.invariant.run at.invariant.each
     (inr (turn_first action rest full.0, full.1))
 
 pub returns-in_err-act-clause-run : goal.returns-in_err-act-clause-run
@@ -79,11 +82,11 @@ returns-in_err-act-clause-run g c =
     let steps : into_iter_items at.action-iterator ≡ action ∷ rest = c.in-Some-action.ensures.steps.0 in
     let p = err_from_is_err_and c.from_residual.result c.from_residual.ensures.1 in
     rw (p.1, p.2) (run_failed s c.args.self.now at.self c.act.new.self c.args.actions.items at.yielded action rest c.in_err-act.field-0.0
-    (at.invariant.parts ∙ ap (λ l. at.yielded ++ l) steps) at.invariant.run c.in_err-act.ensures.acts)
+    (at.invariant.parts ∙ ap (λ l. at.yielded ++ l) steps) at.invariant.run at.invariant.each c.in_err-act.ensures.acts)
 
 pub returns-clause-run : goal.returns-clause-run
 returns-clause-run g c =
     let s = g.S.Site in
     let at = c.loop-action in
     let empty = nothing_left (into_iter_items at.action-iterator) (sym at.invariant.count ∙ c.in-None.ensures.steps.0) in
-    run_ended s c.args.self.now at.self c.args.actions.items at.yielded (into_iter_items at.action-iterator) at.invariant.parts at.invariant.run (inl empty)
+    run_ended s c.args.self.now at.self c.args.actions.items at.yielded (into_iter_items at.action-iterator) at.invariant.parts at.invariant.run at.invariant.each (inl empty)

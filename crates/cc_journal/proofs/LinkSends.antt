@@ -22,7 +22,7 @@ use Rattle.cc_links.specs.declared.link_row.LinkRow.{LinkRow}
 use Rattle.cc_links.specs.Links.{Link, Links, LinksWithin, IsLinkWithin}
 use Rattle.cc_links.specs.Rows.{row_of, rows_of}
 use Rattle.cc_node.specs.Core.{Core, sends, send_post}
-use Rattle.cc_flush.specs.Outlet.{on_link}
+use Rattle.cc_journal.specs.Outlet.{on_link}
 
 abbrev pub row_sends : Core → Message → List LinkRow → List Output
 row_sends c m rows = flat_map (on_link c m) rows

@@ -5,9 +5,10 @@ ghost use Rattle.cc_links.specs.Links.{LinksWithin};
 ghost use Rattle.cc_node.specs.Core.{send_ack, send_post, send_reply, outputs};
 ghost use Rattle.cc_node.specs.Node.{after, line, step};
 ghost use Rattle.cc_journal.specs.Batches.{AreLawful, events_in};
-ghost use Rattle.cc_flush.specs.Outlet.{Puts, request_of, new_post, kept_reply, on_link};
+ghost use Rattle.cc_journal.specs.Outlet.{Puts, request_of, new_post, kept_reply, on_link};
 
-use cc_journal::{Batch, Entry};
+use crate::batch::Batch;
+use crate::entry::Entry;
 use cc_links::LinkRow;
 use cc_node::{Core, LinkAck, Made, Node};
 use cc_outbox::Outbox;

@@ -21,7 +21,7 @@ use Rattle.cc_site.specs.declared.site.Site.{Ghosts}
 use Rattle.cc_site.specs.Sides.{SideState, MayLeave}
 use Rattle.cc_site.specs.Moments.{Contents}
 use Rattle.cc_site.specs.Runs.{EachMoment}
-use Rattle.cc_flush.specs.declared.outlet.Answered.{Answered}
+use Rattle.cc_journal.specs.declared.outlet.Answered.{Answered}
 
 pub record IsPutting (state : Side → SideState) (sent more : List Output) (left : Contents) (told : List Output) : Type 0 where
   pub each : (side : Side) → MayLeave (state side) (left side)

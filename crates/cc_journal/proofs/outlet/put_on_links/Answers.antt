@@ -1,10 +1,10 @@
 use Rattle.std.proofs.Common.{◌≡◌, ◌+◌, ◌∙◌, drop, Some, sym, ap, subst}
 use Rattle.cc_links.specs.Rows.{rows_of}
 use Rattle.cc_node.specs.Core.{send_post}
-use Rattle.cc_flush.specs.Outlet.{on_link}
-use Rattle.cc_flush.proofs.LinkSends.{row_sends, rows_send, AllStart, all_start, next_sends, start_at, after_last}
-use Rattle.cc_flush.proofs.Puts.{put_none, put_more, put_all}
-use Rattle.cc_flush.proofs.outlet.put_on_links.Goals as goal
+use Rattle.cc_journal.specs.Outlet.{on_link}
+use Rattle.cc_journal.proofs.LinkSends.{row_sends, rows_send, AllStart, all_start, next_sends, start_at, after_last}
+use Rattle.cc_journal.proofs.Puts.{put_none, put_more, put_all}
+use Rattle.cc_journal.proofs.outlet.put_on_links.Goals as goal
 
 pub put_on_link-requires : goal.put_on_link-requires
 put_on_link-requires g c =

@@ -9,7 +9,7 @@ use Rattle.cc_site.specs.declared.site.Site.{Ghosts}
 use Rattle.cc_site.specs.Sides.{SideState, MayLeave}
 use Rattle.cc_site.specs.Moments.{Contents, Possible}
 use Rattle.cc_site.specs.Runs.{OnlyNow, started, joined, weaker}
-use Rattle.cc_flush.specs.Outlet.{IsPutting, Puts}
+use Rattle.cc_journal.specs.Outlet.{IsPutting, Puts}
 
 -- nothing has been put yet
 pub putting_none : (state : Side → SideState) (sent all : List Output) (left : Contents) (told : List Output) → Possible state sent left told → IsPutting state sent all left told

@@ -2,8 +2,8 @@ use Rattle.std.proofs.Common.{◌++◌, ◌∙◌, refl, sym, ap, subst}
 use Rattle.cc_node.specs.Core.{outputs}
 use Rattle.cc_node.specs.Node.{after, line}
 use Rattle.cc_journal.specs.Batches.{AreLawful, events_in}
-use Rattle.cc_flush.proofs.Puts.{put_none, put_more, put_all}
-use Rattle.cc_flush.proofs.outlet.put_entries.Goals as goal
+use Rattle.cc_journal.proofs.Puts.{put_none, put_more, put_all}
+use Rattle.cc_journal.proofs.outlet.put_entries.Goals as goal
 
 pub loop-entry-init : goal.loop-entry-init
 loop-entry-init g c =

@@ -4,10 +4,10 @@ use Rattle.cc_wire.specs.declared.output.Output.{Output}
 use Rattle.cc_node.specs.declared.made.Made.{Made}
 use Rattle.cc_node.specs.Core as core
 use Rattle.cc_node.specs.Core.{next, send_ack, send_post, send_reply}
-use Rattle.cc_flush.specs.Outlet.{Puts, request_of, new_post, kept_reply}
-use Rattle.cc_flush.proofs.EventOutputs.{post_put, reply_put}
-use Rattle.cc_flush.proofs.Puts.{puts_both}
-use Rattle.cc_flush.proofs.outlet.put_entry.Goals as goal
+use Rattle.cc_journal.specs.Outlet.{Puts, request_of, new_post, kept_reply}
+use Rattle.cc_journal.proofs.EventOutputs.{post_put, reply_put}
+use Rattle.cc_journal.proofs.Puts.{puts_both}
+use Rattle.cc_journal.proofs.outlet.put_entry.Goals as goal
 
 pub returns-clause-puts : goal.returns-clause-puts
 returns-clause-puts g c =

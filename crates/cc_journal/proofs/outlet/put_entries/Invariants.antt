@@ -1,8 +1,8 @@
 use Rattle.std.proofs.Common.{◌≡◌, length}
 use Rattle.cc_node.specs.Node.{after, line}
 use Rattle.cc_journal.specs.Batches.{AreLawful, events_in}
-use Rattle.cc_flush.proofs.Puts.{HasPut}
-use Rattle.cc_flush.proofs.outlet.put_entries.Given as goal
+use Rattle.cc_journal.proofs.Puts.{HasPut}
+use Rattle.cc_journal.proofs.outlet.put_entries.Given as goal
 
 abbrev pub invariant-loop-entry : goal.invariant-loop-entry
 invariant-loop-entry g l =

@@ -1,7 +1,7 @@
 use Rattle.std.proofs.Common.{drop}
-use Rattle.cc_flush.proofs.LinkSends.{row_sends, AllStart}
-use Rattle.cc_flush.proofs.Puts.{HasPut}
-use Rattle.cc_flush.proofs.outlet.put_on_links.Given as goal
+use Rattle.cc_journal.proofs.LinkSends.{row_sends, AllStart}
+use Rattle.cc_journal.proofs.Puts.{HasPut}
+use Rattle.cc_journal.proofs.outlet.put_on_links.Given as goal
 
 abbrev pub invariant-loop-row : goal.invariant-loop-row
 invariant-loop-row g l =

@@ -13,7 +13,7 @@ use Rattle.cc_node.specs.Core.{next, post, reply, send_post}
 use Rattle.cc_node.specs.Node.{Node, step}
 use Rattle.cc_node.specs.Lawful.{IsLawfulNode}
 use Rattle.cc_node.proofs.KeptOutputs.{post_kept, answer_kept}
-use Rattle.cc_flush.specs.Outlet.{request_of, new_post, kept_reply}
+use Rattle.cc_journal.specs.Outlet.{request_of, new_post, kept_reply}
 
 module _ (n : Node) (e : Event) where
   posts_are : (p : Option Message) → post n.core e ≡ p → (next n.core e).posts ≡ n.core.posts + option_len p
