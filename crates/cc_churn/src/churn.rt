@@ -380,9 +380,9 @@ impl Churn {
         Ok(())
     }
 
-    // Whether the node has joined, as far as it and the sender of these changes know.
+    /// Whether the node has joined, as far as it and the sender of these changes know.
     #[tactic(auto, using(crate::proofs::Fits::has_joined_united))]
-    fn knows_join(&self, me: NodeId, changes: &Changes) -> bool
+    pub fn knows_join(&self, me: NodeId, changes: &Changes) -> bool
         ensures { result ≡ churn.has_joined me (churn.united changes.now self.now) }
     {
         self.has_joined(me) || changes.has_joined(me)

@@ -144,12 +144,12 @@ lapse_is_ack posts peer ls l e =
 pub lapse_is_news : (posts : ℕ) (l : Link) → awaits_any posts l ≡ awaits_ack posts (posts - l.start) l
 lapse_is_news posts l = sym (ap (λ b. nat_lt l.acked (posts - l.start) && b) (le-leb (posts - l.start) (posts - l.start) (omega arith)) ∙ and-true (nat_lt l.acked (posts - l.start)))
 
-lapsed : (posts : ℕ) (o : Option Link) → IfSome o (IsLinkWithin posts) → IfSome o (λ l. (l.start ≡ l.start) × (l.acked ≤ posts - l.start) × (l.heard ≤ l.heard))
+lapsed : (posts : ℕ) (o : Option Link) → not (option_map_or (awaits_any posts) o false) ≡ false → IfSome o (λ l. (l.start ≡ l.start) × (l.acked ≤ posts - l.start) × (l.heard ≤ l.heard))
 lapsed posts None h = tt
-lapsed posts (Some l) h = (refl, h.1, omega arith)
+lapsed posts (Some l) h = let up : l.acked < posts - l.start = ltb-true l.acked (posts - l.start) (not-false _ h) in (refl, omega arith, omega arith)
 
-pub lapse_goes : (posts peer : ℕ) (ls : Links) → LinksWithin posts ls → LinksGoOn posts ls (lapse posts peer ls)
-lapse_goes posts peer ls h = row_goes posts peer (λ l. record l { acked = posts - l.start }) (table.get ls peer) ls refl (lapsed posts (table.get ls peer) (h peer))
+pub lapse_goes : (posts peer : ℕ) (ls : Links) → not (option_map_or (awaits_any posts) (table.get ls peer) false) ≡ false → LinksGoOn posts ls (lapse posts peer ls)
+lapse_goes posts peer ls h = row_goes posts peer (λ l. record l { acked = posts - l.start }) (table.get ls peer) ls refl (lapsed posts (table.get ls peer) h)
 
 -- ---- what goes on has every row, and lowest doesn't fall
 

@@ -1,7 +1,9 @@
+pub mod AbsentLaws
 pub mod CoreLaws
 pub mod Deciding
 pub mod Effects
 pub mod FreshLaws
+pub mod Hearing
 pub mod KeptLaws
 pub mod KeptOutputs
 pub mod KnownLaws
@@ -12,5 +14,6 @@ pub mod Openings
 pub mod OrderLaws
 pub mod RefusalLaws
 pub mod StandingLaws
+pub mod ToldLaws
 mod Restoring
 mod Phases
