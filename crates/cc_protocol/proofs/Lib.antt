@@ -4,5 +4,6 @@ mod LearningLaws
 mod OperatingLaws
 mod RoutingLaws
 mod SpeakingLaws
+mod StandingLaws
 mod StirLaws
 mod WishingLaws

@@ -5,6 +5,7 @@ pub mod Asking
 pub mod Operating
 pub mod Routing
 pub mod Speaking
+pub mod Standing
 pub mod Incoming
 pub mod Bundles
 pub mod Wishing

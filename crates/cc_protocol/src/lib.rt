@@ -12,6 +12,7 @@ mod origin;
 mod route;
 mod routes;
 mod speakers;
+mod standing;
 mod wishes;
 
 pub use admission::{
@@ -30,4 +31,5 @@ pub use origin::{Admitted, Origin};
 pub use route::Route;
 pub use routes::{Routes, answers_follow_asks};
 pub use speakers::{Speaker, Speakers, Spoken};
+pub use standing::{Standing, none_lapses_but_absent, who_keeps_up_stays};
 pub use wishes::Wishes;
