@@ -1,4 +1,5 @@
 mod AskingLaws
+mod CallingLaws
 mod IncomingLaws
 mod LearningLaws
 mod OperatingLaws

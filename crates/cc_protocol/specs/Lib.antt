@@ -8,4 +8,5 @@ pub mod Speaking
 pub mod Standing
 pub mod Incoming
 pub mod Bundles
+pub mod Calling
 pub mod Wishing

@@ -4,6 +4,7 @@
 mod admission;
 mod asking;
 mod bundle;
+mod calling;
 mod frames;
 mod heeding;
 mod incoming;
@@ -23,6 +24,7 @@ pub use asking::{
     refusals_are_told,
 };
 pub use bundle::{Bundle, Parcel};
+pub use calling::{Calls, snapshots_keep_apart};
 pub use frames::{ack_frame, event_of, post_frame, refused_frame, reply_frame};
 pub use heeding::{Duty, heed};
 pub use incoming::{Ending, Incoming, Input};
