@@ -1,7 +1,10 @@
 -- What a snapshot makes of the parts beside a union and a merge: one that counts as an echo, and a phase that begins anew.
---     told_churn, left_told, echoes_told     what coming and going keeps;  who left;  how many echoes there are
+--     told_churn, left_told                  what coming and going keeps;  who left
+--     echoes_told, told_more, told_one       how many echoes there are then
 --     anew_.., anew_ops                      a phase that begins anew leaves all but the tag, the need and the count
---     snapshot_tag, snapshot_echoes          a snapshot raises neither by itself
+--     snapshot_tag, .._number, .._echoes     a snapshot raises none of them by itself
+--     tells_snapshot, anew_snapshot          only a snapshot counts as an echo, or lets a phase begin anew
+--     not_told, not_anew                     so nothing else does
 use Rattle.std.proofs.Common.{◌≡◌, ℕ, ◌+◌, ◌<◌, ◌≤◌, Bool, true, false, ◌&&◌, List, ◌++◌, refl, ap, sym, subst, arith}
 use Rattle.std.specs.Prelude.{IsTrue, ◌==◌}
 use Rattle.std.specs.FinMap as table
