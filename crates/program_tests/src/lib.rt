@@ -2,6 +2,12 @@
 #![tactic(auto)]
 
 #[cfg(test)]
+mod absent;
+#[cfg(test)]
+mod absent_entrants;
+#[cfg(test)]
+mod anew;
+#[cfg(test)]
 mod bad_lines;
 #[cfg(test)]
 mod checkpoints;
@@ -33,6 +39,8 @@ mod played;
 mod retirements;
 #[cfg(test)]
 mod sites;
+#[cfg(test)]
+mod snapshots;
 #[cfg(test)]
 mod standing;
 #[cfg(test)]
