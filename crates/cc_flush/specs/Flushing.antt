@@ -14,7 +14,7 @@ use Rattle.cc_site.specs.declared.site.Site.{Ghosts}
 use Rattle.cc_site.specs.declared.site.Call.{Call}
 use Rattle.cc_site.specs.declared.site.Call.TheVariants.{Write, Sync}
 use Rattle.cc_site.specs.declared.site.DeviceFault.{DeviceFault}
-use Rattle.cc_site.specs.Sides.{SideState, touch}
+use Rattle.cc_site.specs.Sides.{SideState, HalfWritten}
 use Rattle.cc_site.specs.Telling.{Tells}
 use Rattle.cc_node.specs.Lawful.{IsLawfulNode}
 use Rattle.cc_node.specs.Node.{Node, IsLawful, after, line}
@@ -31,7 +31,7 @@ Commits this side call = (side ≡ this) × ((call ≡ Write) ⊎ (call ≡ Sync
 -- the record is being written;  or it is made sure of, and its gate is opened
 abbrev pub CommitStops : SideState → ℕ → List Entry → SideState → Type 0
 CommitStops was place batch now =
-    ((now ≡ touch was (place + 1) (length (batch_bytes batch))) ⊎ (now ≡ was)) ⊎ MayHaveOpened (with_record was place batch) place now
+    (HalfWritten was (place + 1) (length (batch_bytes batch)) now ⊎ (now ≡ was)) ⊎ MayHaveOpened (with_record was place batch) place now
 
 module _ {D : Type 0} (s : Ghosts D) where
   pub record LeadsTo (engine : Engine D) (start : Node) (events : List Event) (opening : ℕ) : Type 0 where
