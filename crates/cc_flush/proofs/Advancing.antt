@@ -25,7 +25,8 @@ use Rattle.cc_node.specs.GoodLaws.{good_for_more}
 use Rattle.cc_journal.specs.declared.entry.Entry.{Entry}
 use Rattle.cc_journal.specs.Batches.{AreLawful, events_in}
 use Rattle.cc_checkpoint.specs.declared.choosing.InUse.{InUse}
-use Rattle.cc_journal.specs.GoodSides.{MayBeLeft, HasGoodSides, EachLeaves, KeepsSides, more_sides, fewer_sides, sides_now}
+use Rattle.cc_journal.specs.GoodSides.{MayBeLeft, HasGoodSides, EachLeaves, KeepsSides}
+use Rattle.cc_journal.specs.GoodSideLaws.{more_sides, fewer_sides, sides_now}
 use Rattle.cc_journal.specs.Journals.{Position, room_limit, IsGood, IsGoodNow, KeepsGood, StaysGood}
 use Rattle.cc_views.specs.Limits.{counter_limit}
 use Rattle.cc_flush.specs.declared.flusher.Failed.{Failed}

@@ -20,7 +20,8 @@ use Rattle.cc_node.specs.GoodLaws.{good_for_more}
 use Rattle.cc_node.specs.Histories.{after-append}
 use Rattle.cc_journal.specs.declared.entry.Entry.{Entry}
 use Rattle.cc_journal.specs.Batches.{events_in}
-use Rattle.cc_journal.specs.GoodSides.{MayBeLeft, HasGoodSides, HasGoodSidesNow, EachLeaves, KeepsSides, fewer_sides, good_from, sides_now, sides_kept}
+use Rattle.cc_journal.specs.GoodSides.{MayBeLeft, HasGoodSides, HasGoodSidesNow, EachLeaves, KeepsSides}
+use Rattle.cc_journal.specs.GoodSideLaws.{fewer_sides, good_from, sides_now, sides_kept}
 use Rattle.cc_journal.specs.Journals.{Position, IsGood, IsGoodNow, KeepsGood, StaysGood}
 use Rattle.cc_flush.specs.Engine.{Engine, in_use_of}
 use Rattle.cc_flush.specs.Flushing.{LeadsTo, LeadsToOwed, LeadsToSides, Flushes}

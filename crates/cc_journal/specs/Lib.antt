@@ -2,6 +2,7 @@ pub mod Batches
 pub mod BatchLaws
 pub mod Journals
 pub mod GoodSides
+pub mod GoodSideLaws
 pub mod Outlet
 pub mod Codes
 pub mod Scanning
