@@ -1,3 +1,4 @@
+pub mod AloneLaws
 pub mod CoreLaws
 pub mod Deciding
 pub mod Effects
