@@ -144,7 +144,7 @@ next_same c (event.Retire q) none free = refl
 
 -- ---- what is refused
 
-behind : (o : Option Refusal) (xs ys : List (Option Refusal)) → first_of xs ≡ first_of ys → first_of (o ∷ xs) ≡ first_of (o ∷ ys)
+pub behind : (o : Option Refusal) (xs ys : List (Option Refusal)) → first_of xs ≡ first_of ys → first_of (o ∷ xs) ≡ first_of (o ∷ ys)
 behind None xs ys e = e
 behind (Some r) xs ys e = refl
 

@@ -8,6 +8,7 @@
 --     step_alone               the node after an event
 --     after_alone, line_alone  after a list of events, and all that is put out along it
 --     IsLawfulAlone            no event of the list is refused
+--     other_line, waiting      the operations and the core where these asks wait in place of others
 use Rattle.std.specs.Prelude.{◌≡◌, ℕ, ◌+◌, ◌-◌, Bool, ◌==◌, ◌&&◌, not, List, [], ◌∷◌, ◌++◌, Option, Some, None, is_some, if◌then◌else◌}
 use Rattle.std.specs.Option.{option_len, option_or}
 use Rattle.std.specs.Bool.{then_some}
@@ -22,6 +23,7 @@ use Rattle.cc_wire.specs.declared.refusal.Refusal.{Refusal}
 use Rattle.cc_wire.specs.declared.refusal.Refusal.TheVariants as refusal
 use Rattle.cc_wire.specs.Refusals.{first_of}
 use Rattle.cc_churn.specs.Churn as churn
+use Rattle.cc_ops.specs.declared.pending.Asked.{Asked}
 use Rattle.cc_ops.specs.Commands.{finds_no_room}
 use Rattle.cc_ops.specs.Ops.{Ops, Phase, Idle, Storing, Querying, StoringBack, is_idle, is_last, counted, merged, is_own, with_begun, after_reply, first_post, ends_query}
 use Rattle.cc_links.specs.Links as links
@@ -155,3 +157,11 @@ line_alone n (e ∷ es) = outputs_alone n.core e ++ line_alone (step_alone n e) 
 abbrev pub IsLawfulAlone : Node → List Event → Type 0
 IsLawfulAlone n [] = Unit {0}
 IsLawfulAlone n (e ∷ es) = (decides_alone n.core e ≡ None) × IsLawfulAlone (step_alone n e) es
+
+-- ---- with other asks that wait
+
+abbrev pub other_line : List Asked → Ops → Ops
+other_line asks s = record s { line = asks }
+
+abbrev pub waiting : List Asked → Core → Core
+waiting asks c = record c { ops = other_line asks c.ops }

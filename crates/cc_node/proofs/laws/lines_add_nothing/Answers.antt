@@ -1,4 +1,5 @@
 use Rattle.cc_node.proofs.AloneLaws.{refused_alone, step_same, after_same, line_same, lawful_alone, lawful_within, leaves_line}
+use Rattle.cc_node.proofs.Unaware.{next_unaware, post_unaware, decides_unaware}
 use Rattle.cc_node.proofs.laws.lines_add_nothing.Goals as goal
 
 pub returns : goal.returns
@@ -9,4 +10,5 @@ returns c = record {
   after = after_same;
   line = line_same;
   leaves = leaves_line;
+  unaware = λ c asks e. (next_unaware c asks e, post_unaware c asks e, decides_unaware c asks e);
 }
