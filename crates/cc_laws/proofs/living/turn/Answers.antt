@@ -1,0 +1,29 @@
+use Rattle.std.proofs.Common.{[], subst}
+use Rattle.cc_journal.specs.Batches.{events_in}
+use Rattle.cc_journal.specs.Journals.{StaysGood}
+use Rattle.cc_flush.specs.Flushing.{LeadsToOwed}
+use Rattle.cc_laws.proofs.FirstLives.{batch_lawful, good_leaves, failed_leaves, turned}
+use Rattle.cc_laws.proofs.living.turn.Goals as goal
+
+pub returns-then-not-room-clause-stops : goal.returns-then-not-room-clause-stops
+returns-then-not-room-clause-stops g c opening good =
+    let engine = c.args.engine.now in
+    good_leaves g.S.Site engine.site engine.twin [] opening tt good
+
+pub returns-in-Ok-clause-lived : goal.returns-in-Ok-clause-lived
+returns-in-Ok-clause-lived g c tells opening good =
+    let s = g.S.Site in
+    let mid = c.commit.new.self in
+    let new = c.release.new.self in
+    let e = c.in-Ok.ensures in
+    let stays = c.release.ensures.good (e.honest.0 c.requires.honest) tells in
+    turned s c.args.engine.now mid new c.args.batch opening c.requires.lawful good e.same_twin (e.at_rest c.requires.honest c.requires.goes_on)
+    (subst (λ entries. StaysGood s (LeadsToOwed s entries mid) mid.site new.site) e.landed stays)
+
+pub returns-in-Err-clause-stops : goal.returns-in-Err-clause-stops
+returns-in-Err-clause-stops g c opening good =
+    let new = c.commit.new.self.site in
+    let e = c.in-Err.ensures in
+    let old = c.args.engine.now in
+    failed_leaves g.S.Site old new (events_in c.args.batch) opening (batch_lawful old.twin c.args.batch c.requires.lawful)
+    (g.met.S.Site.counts_now new (e.honest.0 c.requires.honest)) good (e.every_moment c.requires.honest c.requires.goes_on)
