@@ -6,8 +6,9 @@
 --     still_good                  where a crash leaves what it might have left before, the sides are as good
 --     failed_leaves               where a batch is given up, a crash leaves a life of which none of it is surely durable
 --     turned                      where its outputs are put, all of it is
+--     .._moments                  the moments on the way, those within calls too
 use Rattle.std.proofs.Common.{◌≡◌, inl, inr, ℕ, ◌≤◌, List, [], ◌∷◌, ◌++◌, length, take, refl, sym, subst, ap, ◌∙◌, arith}
-use Rattle.std.specs.Prelude.{Result, Ok, Err, IfErr}
+use Rattle.std.specs.Prelude.{Result, Ok, Err, IfOk, IfErr, MatchResult}
 use Rattle.std.proofs.lemmas.List.{take_all}
 use Rattle.cc_wire.specs.declared.event.Event.{Event}
 use Rattle.cc_wire.specs.declared.output.Output.{Output}
@@ -17,10 +18,10 @@ use Rattle.cc_site.specs.declared.site.Site.{Ghosts}
 use Rattle.cc_site.specs.Sides.{SideState, MayLeave, other}
 use Rattle.cc_site.specs.Moments.{Contents, Possible}
 use Rattle.cc_site.specs.Reads.{bytes_of}
-use Rattle.cc_site.specs.Runs.{EachMoment, CountsNow, now_has}
+use Rattle.cc_site.specs.Runs.{EachMoment, OnlyNow, CountsNow, started, joined, weaker, now_has}
 use Rattle.cc_node.specs.Node.{Node, after, step, IsLawful}
 use Rattle.cc_node.specs.Good.{IsGoodAt, RestsAt}
-use Rattle.cc_node.specs.GoodLaws.{whole_good, good_other_way}
+use Rattle.cc_node.specs.GoodLaws.{whole_good, good_other_way, good_for_more}
 use Rattle.cc_node.specs.Sides.{StandsAt, Stands}
 use Rattle.cc_journal.specs.declared.entry.Entry.{Entry}
 use Rattle.cc_journal.specs.Batches.{AreLawful, events_in}
@@ -30,7 +31,8 @@ use Rattle.cc_flush.specs.Flushing.{LeadsTo, LeadsToOwed}
 use Rattle.cc_flush.specs.declared.formatting.FormatFault.{FormatFault}
 use Rattle.cc_laws.specs.declared.living.Stopped.{Stopped}
 use Rattle.cc_laws.specs.declared.living.Stopped.TheVariants.{Format, Open, NoRoom, Commit}
-use Rattle.cc_laws.specs.Living.{LeavesLife, LeavesAll, LifeStops}
+use Rattle.cc_flush.specs.Formatting.{IsNoneOrWhole}
+use Rattle.cc_laws.specs.Living.{IsOfFirstLife, LeavesLife, LeavesAll, LifeStops}
 use Rattle.cc_laws.proofs.Joining.{OneNode}
 
 pub batch_lawful : (n : Node) (entries : List Entry) → AreLawful n entries → IsLawful n (events_in entries)
@@ -40,6 +42,21 @@ batch_lawful n (entry ∷ entries) lawful = (lawful.0, batch_lawful (step n entr
 -- where all events are durable, the sides stand for the node after all of them
 pub all_stand : (start : Node) (events : List Event) (opening : ℕ) (a b : List ℕ) (told : List Output) → IsGoodAt start events (length events) opening a b told → Stands a b (after start events)
 all_stand start events opening a b told good = subst (λ (l : List Event). Stands a b (after start l)) (take_all good.prefix events good.has_durable) good.stands
+
+-- the moment is as good for more events, and for fewer durable ones
+good_first : (start : Node) (events : List Event) (opening : ℕ) (left : Contents) (told : List Output) → IsGood start [] 0 opening left told → IsGood start events 0 opening left told
+good_first start events opening left told good = good_for_more start [] events 0 0 opening (left A) (left B) told (omega arith) good
+
+none_durable : (start : Node) (events : List Event) (durable opening : ℕ) (left : Contents) (told : List Output) → IsGood start events durable opening left told → IsGood start events 0 opening left told
+none_durable start events durable opening left told good = record {
+  a_there = good.a_there;
+  b_there = good.b_there;
+  prefix = good.prefix;
+  has_durable = omega arith;
+  within = good.within;
+  stands = good.stands;
+  made = good.made;
+}
 
 -- whichever side rests
 side_good : (side : Side) (generation place : ℕ) (start : Node) (events : List Event) (opening : ℕ) (left : Contents) (told : List Output)
@@ -58,6 +75,14 @@ stands_whole left B generation place node at = inr (record { generation = genera
 pub if_err_more : {T E : Type 0} (P Q : E → Type 0) (r : Result T E) → ((e : E) → P e → Q e) → IfErr r P → IfErr r Q
 if_err_more P Q (Ok x) more h = tt
 if_err_more P Q (Err e) more h = more e h
+
+pub match_more : {T E : Type 0} (P Q : T → Type 0) (R W : E → Type 0) (r : Result T E) → ((x : T) → P x → Q x) → ((e : E) → R e → W e) → MatchResult r P R → MatchResult r Q W
+match_more P Q R W (Ok x) f k h = f x h
+match_more P Q R W (Err e) f k h = k e h
+
+pub ok_of : {T E : Type 0} (P Q : T → Type 0) (R : E → Type 0) (r : Result T E) → ((x : T) → P x → Q x) → MatchResult r P R → IfOk r Q
+ok_of P Q R (Ok x) f h = f x h
+ok_of P Q R (Err e) f h = tt
 
 -- where more is said of formatting that stops
 pub stops_more : (U V : FormatFault → Type 0) (state : Side → SideState) (sent : List Output) (start : Node) (events : List Event) (opening : ℕ) → ((fault : FormatFault) → U fault → V fault)
@@ -113,3 +138,40 @@ module _ {D : Type 0} (s : Ghosts D) where
       let now = kept old.twin [] opening (record { twin = refl; good = good }) in
       leaves_all new.site old.twin (events_in entries) opening (batch_lawful old.twin entries lawful)
       (stays.afterwards old.twin (events_in entries) opening (record { before = []; parts = refl; twin = same; good = now }))
+
+  -- each moment of no call at all, of an opening, and of a batch that was put or given up
+  pub rest_moments : (site : D) (start : Node) (events : List Event) (opening : ℕ) → OnlyNow s site → IsGoodNow s site start [] opening
+      → EachMoment s site site (IsGood start events 0 opening)
+  rest_moments site start events opening only good =
+      started s site (IsGood start events 0 opening) (λ left told since. good_first start events opening left told (good left told (only left told since)))
+
+  pub open_moments : (old new : D) (start : Node) (events : List Event) (opening : ℕ) → IsGoodNow s old start [] opening → EachMoment s old new (Possible (s.state old) (s.sent old))
+      → EachMoment s old new (IsGood start events 0 opening)
+  open_moments old new start events opening good run =
+      weaker s old new (Possible (s.state old) (s.sent old)) (IsGood start events 0 opening) run (λ left told possible. good_first start events opening left told (good left told possible))
+
+  pub failed_moments : (old : Engine D) (new : D) (events : List Event) (opening : ℕ) → IsGoodNow s old.site old.twin [] opening → KeepsGood s (LeadsTo s old) events old.site new
+      → EachMoment s old.site new (IsGood old.twin events 0 opening)
+  failed_moments old new events opening good keeps = keeps old.twin [] opening (record { twin = refl; good = good })
+
+  pub turned_moments : (old mid new : Engine D) (entries : List Entry) (opening : ℕ) → IsGoodNow s old.site old.twin [] opening → mid.twin ≡ old.twin
+      → KeepsGood s (LeadsTo s old) (events_in entries) old.site mid.site
+      → ((start : Node) (events : List Event) (opening : ℕ) → LeadsTo s old start events opening → IsGoodNow s mid.site start (events ++ events_in entries) opening)
+      → StaysGood s (LeadsToOwed s entries mid) mid.site new.site → EachMoment s old.site new.site (IsGood old.twin (events_in entries) 0 opening)
+  turned_moments old mid new entries opening good same keeps kept stays =
+      let events = events_in entries in
+      let now = kept old.twin [] opening (record { twin = refl; good = good }) in
+      let owed = stays.moments old.twin events opening (record { before = []; parts = refl; twin = same; good = now }) in
+      joined s old.site mid.site new.site (IsGood old.twin events 0 opening) (failed_moments old mid.site events opening good keeps)
+      (weaker s mid.site new.site (IsGood old.twin events (length events) opening) (IsGood old.twin events 0 opening) owed (none_durable old.twin events (length events) opening))
+
+  -- while it is formatted, and from then on
+  pub format_moments : (old new : D) (start : Node) (events : List Event) → EachMoment s old new (IsNoneOrWhole start (s.sent old)) → EachMoment s old new (IsOfFirstLife start events (s.sent old))
+  format_moments old new start events formatting =
+      weaker s old new (IsNoneOrWhole start (s.sent old)) (IsOfFirstLife start events (s.sent old)) formatting (λ left told is. inl is)
+
+  pub first_moments : (old mid new : D) (start : Node) (events : List Event) → IsLawful start events → EachMoment s old mid (IsNoneOrWhole start (s.sent old))
+      → EachMoment s mid new (IsGood start events 0 (length (s.sent old))) → EachMoment s old new (IsOfFirstLife start events (s.sent old))
+  first_moments old mid new start events lawful formatting living =
+      joined s old mid new (IsOfFirstLife start events (s.sent old)) (format_moments old mid start events formatting)
+      (weaker s mid new (IsGood start events 0 (length (s.sent old))) (IsOfFirstLife start events (s.sent old)) living (λ left told good. inr (record { lawful = lawful; good = good })))

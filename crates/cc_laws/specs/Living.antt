@@ -2,8 +2,9 @@
 --     life_left        the life of these events that a crash ends which leaves this
 --     LeavesLife       whatever a crash leaves now ends such a life, of which so many events are durable
 --     LeavesAll        so it does with all events durable, and what it leaves stands for the node after all of them
+--     IsOfFirstLife    a moment at which no side is armed, or both stand for the node, or at which such a life may end
 --     LifeStops        what a crash leaves where a first life stops early
-use Rattle.std.specs.Prelude.{ℕ, List, [], ◌∷◌, length}
+use Rattle.std.specs.Prelude.{◌⊎◌, ℕ, List, [], ◌∷◌, length}
 use Rattle.cc_wire.specs.declared.event.Event.{Event}
 use Rattle.cc_wire.specs.declared.output.Output.{Output}
 use Rattle.cc_site.specs.declared.site.Side.{Side}
@@ -12,6 +13,7 @@ use Rattle.cc_site.specs.Moments.{Contents}
 use Rattle.cc_site.specs.Crashes.{AfterCrash}
 use Rattle.cc_node.specs.Node.{Node, after}
 use Rattle.cc_flush.specs.declared.formatting.FormatFault.{FormatFault}
+use Rattle.cc_flush.specs.Formatting.{IsNoneOrWhole}
 use Rattle.cc_laws.specs.declared.living.Stopped.{Stopped}
 use Rattle.cc_laws.specs.declared.living.Stopped.TheVariants.{Format, Open, NoRoom, Commit}
 use Rattle.cc_laws.specs.Lives.{Life, IsLifeOf, LivesFrom}
@@ -25,6 +27,10 @@ LeavesLife state sent start events durable opening = AfterCrash state sent (λ l
 abbrev pub LeavesAll : (Side → SideState) → List Output → Node → List Event → ℕ → Type 0
 LeavesAll state sent start events opening =
     AfterCrash state sent (λ left told. LivesFrom start (life_left events (length events) opening left told ∷ []) (after start events))
+
+-- the first two while it is formatted, when nothing is put
+abbrev pub IsOfFirstLife : Node → List Event → List Output → Contents → List Output → Type 0
+IsOfFirstLife start events sent left told = IsNoneOrWhole start sent left told ⊎ IsLifeOf start (life_left events 0 (length sent) left told)
 
 -- Formatting says itself what it leaves. Before the batch was written the life has no event; where a disk call failed for the
 -- batch, it has those, of which none is surely durable.

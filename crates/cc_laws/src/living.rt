@@ -1,15 +1,18 @@
 //! Where the code meets the laws: a node's first life, in calls of the engine.
 
-ghost use Rattle.std.specs.Prelude.{⊤, ◌≡◌, ◌≤◌, ◌++◌, [], ℕ, length, false, None, IfOk, OnOk, IfErr};
+ghost use Rattle.std.specs.Prelude.{⊤, ◌≡◌, ◌≤◌, ◌++◌, [], ℕ, length, false, None, List, IfOk, OnOk, IfErr, MatchResult};
 ghost use Rattle.cc_site.specs.declared.site.Side.TheVariants.{A, B};
-ghost use Rattle.cc_site.specs.Memory.{memory_state, memory_outputs, memory_lost};
+ghost use Rattle.cc_wire.specs.declared.output.Output.{Output};
+ghost use Rattle.cc_site.specs.Memory.{memory_state, memory_outputs, memory_lost, memory_moment, memory_left_since};
+ghost use Rattle.cc_site.specs.Moments.{Contents};
+ghost use Rattle.cc_site.specs.Runs.{EachMoment};
 ghost use Rattle.cc_node.specs.Node.{Node, line};
 ghost use Rattle.cc_node.specs.Opening.{told, fresh, IsOpening};
 ghost use Rattle.cc_node.specs.Sides.{Stands};
 ghost use Rattle.cc_journal.specs.Batches.{AreLawful, events_in};
-ghost use Rattle.cc_journal.specs.Journals.{IsGoodNow};
-ghost use Rattle.cc_flush.specs.Formatting.{FormatFails};
-ghost use Rattle.cc_laws.specs.Living.{LeavesLife, LeavesAll, LifeStops};
+ghost use Rattle.cc_journal.specs.Journals.{IsGood, IsGoodNow};
+ghost use Rattle.cc_flush.specs.Formatting.{AreShut, FormatFails};
+ghost use Rattle.cc_laws.specs.Living.{IsOfFirstLife, LeavesAll, LifeStops};
 
 use cc_checkpoint::OpenFault;
 use cc_flush::{Back, Failed, Flusher, FormatFault, format, one_node};
@@ -43,6 +46,9 @@ fn turn<S: Site>(engine: &mut Flusher<S>, batch: Batch) -> Result<(), Stopped>
     ensures put { S.tells engine.new.site → OnOk result (S.sent engine.new.site ≡ S.sent engine.old.site ++ line engine.old.twin (events_in batch)) }
     ensures stops { (opening : ℕ) → IsGoodNow S.Site engine.old.site engine.old.twin [] opening
         → IfErr result (LifeStops (λ _. ⊥) (S.state engine.new.site) (S.sent engine.new.site) engine.old.twin (events_in batch) opening) }
+    ensures moments { (opening : ℕ) → IsGoodNow S.Site engine.old.site engine.old.twin [] opening
+        → MatchResult result (λ _. S.tells engine.new.site → EachMoment S.Site engine.old.site engine.new.site (IsGood engine.old.twin (events_in batch) 0 opening))
+        (λ _. EachMoment S.Site engine.old.site engine.new.site (IsGood engine.old.twin (events_in batch) 0 opening)) }
 {
     if !engine.room() {
         return Err(Stopped::NoRoom);
@@ -67,6 +73,9 @@ fn live_on<S: Site>(alloc: Global, site: S, batch: Batch) -> Result<S, Back<S, S
         → IfOk result (λ s. S.tells s → S.sent s ≡ S.sent site ++ line start (events_in batch)) }
     ensures stops { (start : Node) (opening : ℕ) → IsGoodNow S.Site site start [] opening
         → IfErr result (λ b. LifeStops (λ _. ⊥) (S.state b.site) (S.sent b.site) start (events_in batch) opening b.fault) }
+    ensures moments { (start : Node) (opening : ℕ) → IsGoodNow S.Site site start [] opening
+        → MatchResult result (λ s. S.tells s → EachMoment S.Site site s (IsGood start (events_in batch) 0 opening))
+        (λ b. EachMoment S.Site site b.site (IsGood start (events_in batch) 0 opening)) }
 {
     one_node();
     let mut engine = match Flusher::open(alloc, site) {
@@ -89,7 +98,8 @@ fn live_on<S: Site>(alloc: Global, site: S, batch: Batch) -> Result<S, Back<S, S
 /// A node's first life: `format`, `Flusher::open`, `commit` of one batch and `release`. Whatever a crash leaves then ends a
 /// life of the fresh node with the events of the batch, all of them durable, and stands for the node after them. Where it
 /// stops early, whatever a crash leaves ends a life too: with no event, or with those of the batch, of which none is surely
-/// durable; only of where formatting stops it says no more than `format` does.
+/// durable; only of where formatting stops it says no more than `format` does. So it is at each moment on the way, those
+/// within disk calls too, where both sides began with the byte of a closed gate: before a life begins no side is armed.
 pub fn live_once<S: Site>(
     alloc: Global,
     site: S,
@@ -104,6 +114,9 @@ pub fn live_once<S: Site>(
     ensures put { IfOk result (λ s. S.tells s → S.sent s ≡ S.sent site ++ line (fresh (told opening.now)) (events_in batch)) }
     ensures stops { IfErr result (λ b. LifeStops (FormatFails S.Site (IsOpening (told opening.now)) site b.site)
         (S.state b.site) (S.sent b.site) (fresh (told opening.now)) (events_in batch) (length (S.sent site)) b.fault) }
+    ensures every_moment { AreShut (S.state site)
+        → MatchResult result (λ s. S.tells s → EachMoment S.Site site s (IsOfFirstLife (fresh (told opening.now)) (events_in batch) (S.sent site)))
+        (λ b. EachMoment S.Site site b.site (IsOfFirstLife (fresh (told opening.now)) (events_in batch) (S.sent site))) }
 {
     one_node();
     match format(alloc, site, opening) {
@@ -131,6 +144,8 @@ pub fn live_once_in_memory(
         → memory_outputs s ≡ memory_outputs site ++ line (fresh (told opening.now)) (events_in batch)) }
     ensures stops { IfErr result (λ b. LifeStops (λ _. ⊤)
         (memory_state b.site) (memory_outputs b.site) (fresh (told opening.now)) (events_in batch) (length (memory_outputs site)) b.fault) }
+    ensures every_moment { AreShut (memory_state site) → IfOk result (λ s. memory_lost s ≡ 0 → (left : Contents) (sent : List Output)
+        → memory_left_since s (memory_moment site) left sent → IsOfFirstLife (fresh (told opening.now)) (events_in batch) (memory_outputs site) left sent) }
 {
     live_once(alloc, site, opening, batch)
 }

@@ -2,7 +2,7 @@ use Rattle.std.proofs.Common.{[], subst}
 use Rattle.cc_journal.specs.Batches.{events_in}
 use Rattle.cc_journal.specs.Journals.{StaysGood}
 use Rattle.cc_flush.specs.Flushing.{LeadsToOwed}
-use Rattle.cc_laws.proofs.FirstLives.{batch_lawful, good_leaves, failed_leaves, turned}
+use Rattle.cc_laws.proofs.FirstLives.{batch_lawful, good_leaves, failed_leaves, failed_moments, rest_moments, turned, turned_moments}
 use Rattle.cc_laws.proofs.living.turn.Goals as goal
 
 pub returns-then-not-room-clause-stops : goal.returns-then-not-room-clause-stops
@@ -27,3 +27,23 @@ returns-in-Err-clause-stops g c opening good =
     let old = c.args.engine.now in
     failed_leaves g.S.Site old new (events_in c.args.batch) opening (batch_lawful old.twin c.args.batch c.requires.lawful)
     (g.met.S.Site.counts_now new (e.honest.0 c.requires.honest)) good (e.every_moment c.requires.honest c.requires.goes_on)
+
+pub returns-then-not-room-clause-moments : goal.returns-then-not-room-clause-moments
+returns-then-not-room-clause-moments g c opening good =
+    let engine = c.args.engine.now in
+    rest_moments g.S.Site engine.site engine.twin (events_in c.args.batch) opening (g.met.S.Site.only_now engine.site c.requires.honest) good
+
+pub returns-in-Ok-clause-moments : goal.returns-in-Ok-clause-moments
+returns-in-Ok-clause-moments g c opening good tells =
+    let s = g.S.Site in
+    let mid = c.commit.new.self in
+    let new = c.release.new.self in
+    let e = c.in-Ok.ensures in
+    let stays = c.release.ensures.good (e.honest.0 c.requires.honest) tells in
+    turned_moments s c.args.engine.now mid new c.args.batch opening good e.same_twin (e.every_moment c.requires.honest c.requires.goes_on)
+    (e.at_rest c.requires.honest c.requires.goes_on) (subst (λ entries. StaysGood s (LeadsToOwed s entries mid) mid.site new.site) e.landed stays)
+
+pub returns-in-Err-clause-moments : goal.returns-in-Err-clause-moments
+returns-in-Err-clause-moments g c opening good =
+    failed_moments g.S.Site c.args.engine.now c.commit.new.self.site (events_in c.args.batch) opening good
+    (c.in-Err.ensures.every_moment c.requires.honest c.requires.goes_on)
