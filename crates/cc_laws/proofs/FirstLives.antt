@@ -7,7 +7,7 @@
 --     failed_leaves               where a batch is given up, a crash leaves a life of which none of it is surely durable
 --     turned                      where its outputs are put, all of it is
 --     .._moments                  the moments on the way, those within calls too
-use Rattle.std.proofs.Common.{◌≡◌, inl, inr, ℕ, ◌≤◌, List, [], ◌∷◌, ◌++◌, length, take, refl, sym, subst, ap, ◌∙◌, arith}
+use Rattle.std.proofs.Common.{◌≡◌, inl, inr, ℕ, List, [], ◌∷◌, ◌++◌, length, refl, subst, arith}
 use Rattle.std.specs.Prelude.{Result, Ok, Err, IfOk, IfErr, MatchResult}
 use Rattle.std.proofs.lemmas.List.{take_all}
 use Rattle.cc_wire.specs.declared.event.Event.{Event}

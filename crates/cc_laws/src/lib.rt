@@ -11,7 +11,9 @@ mod rounds;
 
 pub use clusters::cluster_agrees;
 pub use histories::{one_line, outputs_have_events, views_follow};
-pub use lives::{crashes_end_lives, history_is_accepted, lives_hold, lives_join, moments_end_lives};
+pub use lives::{
+    crashes_end_lives, history_is_accepted, lives_hold, lives_join, moments_end_lives,
+};
 pub use living::{Stopped, live_once, live_once_in_memory};
 pub use regular::{
     collects_are_regular, members_collect_regularly, objects_are_regular, quorums_meet,

@@ -3,7 +3,7 @@
 ghost use Rattle.std.specs.Prelude.{⊤, ◌≡◌, ◌≤◌, ◌++◌, [], ℕ, length, false, None, List, IfOk, OnOk, IfErr, MatchResult};
 ghost use Rattle.cc_site.specs.declared.site.Side.TheVariants.{A, B};
 ghost use Rattle.cc_wire.specs.declared.output.Output.{Output};
-ghost use Rattle.cc_site.specs.Memory.{memory_state, memory_outputs, memory_lost, memory_moment, memory_left_since};
+ghost use Rattle.cc_site.specs.Memory.{memory_state, memory_outputs, memory_lost, memory_failures, memory_moment, memory_left_since};
 ghost use Rattle.cc_site.specs.Moments.{Contents};
 ghost use Rattle.cc_site.specs.Runs.{EachMoment};
 ghost use Rattle.cc_node.specs.Node.{Node, line};
@@ -12,10 +12,10 @@ ghost use Rattle.cc_node.specs.Sides.{Stands};
 ghost use Rattle.cc_journal.specs.Batches.{AreLawful, events_in};
 ghost use Rattle.cc_journal.specs.Journals.{IsGood, IsGoodNow};
 ghost use Rattle.cc_flush.specs.Formatting.{AreShut, FormatFails};
-ghost use Rattle.cc_laws.specs.Living.{IsOfFirstLife, LeavesAll, LifeStops};
+ghost use Rattle.cc_laws.specs.Living.{IsOfFirstLife, LeavesAll, LifeStops, LifeRose};
 
 use cc_checkpoint::OpenFault;
-use cc_flush::{Back, Failed, Flusher, FormatFault, format, one_node};
+use cc_flush::{Back, Failed, Flusher, FormatFault, format, node_or_fault, one_node};
 use cc_journal::Batch;
 use cc_node::Opening;
 use cc_site::{MemorySite, Site};
@@ -49,6 +49,7 @@ fn turn<S: Site>(engine: &mut Flusher<S>, batch: Batch) -> Result<(), Stopped>
     ensures moments { (opening : ℕ) → IsGoodNow S.Site engine.old.site engine.old.twin [] opening
         → MatchResult result (λ _. S.tells engine.new.site → EachMoment S.Site engine.old.site engine.new.site (IsGood engine.old.twin (events_in batch) 0 opening))
         (λ _. EachMoment S.Site engine.old.site engine.new.site (IsGood engine.old.twin (events_in batch) 0 opening)) }
+    ensures count { MatchResult result (λ _. S.failures engine.new.site ≡ S.failures engine.old.site) (LifeRose (S.failures engine.old.site) (S.failures engine.new.site)) }
 {
     if !engine.room() {
         return Err(Stopped::NoRoom);
@@ -76,8 +77,10 @@ fn live_on<S: Site>(alloc: Global, site: S, batch: Batch) -> Result<S, Back<S, S
     ensures moments { (start : Node) (opening : ℕ) → IsGoodNow S.Site site start [] opening
         → MatchResult result (λ s. S.tells s → EachMoment S.Site site s (IsGood start (events_in batch) 0 opening))
         (λ b. EachMoment S.Site site b.site (IsGood start (events_in batch) 0 opening)) }
+    ensures count { MatchResult result (λ s. S.failures s ≡ S.failures site) (λ b. LifeRose (S.failures site) (S.failures b.site) b.fault) }
 {
     one_node();
+    node_or_fault();
     let mut engine = match Flusher::open(alloc, site) {
         Ok((engine, _)) => engine,
         Err(Back { site, fault }) => {
@@ -117,6 +120,7 @@ pub fn live_once<S: Site>(
     ensures every_moment { AreShut (S.state site)
         → MatchResult result (λ s. S.tells s → EachMoment S.Site site s (IsOfFirstLife (fresh (told opening.now)) (events_in batch) (S.sent site)))
         (λ b. EachMoment S.Site site b.site (IsOfFirstLife (fresh (told opening.now)) (events_in batch) (S.sent site))) }
+    ensures count { MatchResult result (λ s. S.failures s ≡ S.failures site) (λ b. LifeRose (S.failures site) (S.failures b.site) b.fault) }
 {
     one_node();
     match format(alloc, site, opening) {
@@ -146,6 +150,7 @@ pub fn live_once_in_memory(
         (memory_state b.site) (memory_outputs b.site) (fresh (told opening.now)) (events_in batch) (length (memory_outputs site)) b.fault) }
     ensures every_moment { AreShut (memory_state site) → IfOk result (λ s. memory_lost s ≡ 0 → (left : Contents) (sent : List Output)
         → memory_left_since s (memory_moment site) left sent → IsOfFirstLife (fresh (told opening.now)) (events_in batch) (memory_outputs site) left sent) }
+    ensures count { MatchResult result (λ s. memory_failures s ≡ memory_failures site) (λ b. LifeRose (memory_failures site) (memory_failures b.site) b.fault) }
 {
     live_once(alloc, site, opening, batch)
 }

@@ -6,7 +6,7 @@ use Rattle.cc_node.specs.Node.{line}
 use Rattle.cc_journal.specs.Batches.{events_in}
 use Rattle.cc_journal.specs.Journals.{IsGood, IsGoodNow}
 use Rattle.cc_laws.specs.Living.{LeavesAll, LifeStops}
-use Rattle.cc_laws.proofs.FirstLives.{good_leaves, found_is, open_moments, stands_whole, still_good}
+use Rattle.cc_laws.proofs.FirstLives.{good_leaves, found_is, open_moments, reads_stand, stands_whole, still_good}
 use Rattle.cc_laws.proofs.living.live_on.Goals as goal
 
 pub turn-outcome-requires-clause-lawful : goal.turn-outcome-requires-clause-lawful
@@ -20,8 +20,12 @@ returns-in-Err-clause-stops g c start opening good =
     let old = c.args.site in
     let new = c.in-Err.field-0.site in
     let h = c.requires.honest in
-    good_leaves s new start [] opening tt
-    (still_good s old new start [] opening (g.met.S.Site.counts_now new (c.in-Err.ensures.outlet.keeps_honesty.0 h)) (c.in-Err.ensures.every_moment h) good)
+    let fault = c.in-Err.field-0.fault in
+    let stands = reads_stand s old start opening (g.met.S.Site.may_read old h) good in (
+      λ reading. c.node_or_fault.ensures.apart (bytes_of s old) start fault stands reading (c.in-Err.ensures.faults h reading),
+      good_leaves s new start [] opening tt
+          (still_good s old new start [] opening (g.met.S.Site.counts_now new (c.in-Err.ensures.outlet.keeps_honesty.0 h)) (c.in-Err.ensures.every_moment h) good),
+    )
 
 pub returns-in-Ok-outcome-clause-lived : goal.returns-in-Ok-outcome-clause-lived
 returns-in-Ok-outcome-clause-lived g c start opening good =
@@ -36,7 +40,7 @@ returns-in-Ok-outcome-clause-lived g c start opening good =
     let now = still_good s old e.site start [] opening (g.met.S.Site.counts_now e.site (c.in-Ok.ensures.outlet.keeps_honesty.0 h)) (c.in-Ok.ensures.every_moment h) good in
     subst (λ r. s.tells r → LeavesAll (s.state r) (s.sent r) start events opening) (sym c.close-site.ensures)
     (λ tells. subst (λ n. LeavesAll (s.state new) (s.sent new) n events opening) same
-        (c.in-Ok-outcome.ensures.lived tells opening (subst (λ n. IsGoodNow s e.site n [] opening) (sym same) now)))
+    (c.in-Ok-outcome.ensures.lived tells opening (subst (λ n. IsGoodNow s e.site n [] opening) (sym same) now)))
 
 pub returns-in-Ok-outcome-clause-put : goal.returns-in-Ok-outcome-clause-put
 returns-in-Ok-outcome-clause-put g c start stands =
@@ -64,7 +68,7 @@ returns-in-Err-outcome-clause-stops g c start opening good =
     let now = still_good s old e.site start [] opening (g.met.S.Site.counts_now e.site (c.in-Ok.ensures.outlet.keeps_honesty.0 h)) (c.in-Ok.ensures.every_moment h) good in
     subst (λ r. LifeStops (λ _. ⊥) (s.state r) (s.sent r) start events opening fault) (sym c.close-site.ensures)
     (subst (λ n. LifeStops (λ _. ⊥) (s.state new) (s.sent new) n events opening fault) same
-        (c.in-Err-outcome.ensures.stops opening (subst (λ n. IsGoodNow s e.site n [] opening) (sym same) now)))
+    (c.in-Err-outcome.ensures.stops opening (subst (λ n. IsGoodNow s e.site n [] opening) (sym same) now)))
 
 pub returns-in-Err-clause-moments : goal.returns-in-Err-clause-moments
 returns-in-Err-clause-moments g c start opening good =
@@ -84,8 +88,8 @@ returns-in-Ok-outcome-clause-moments g c start opening good =
     let first = open_moments s old e.site start events opening good (c.in-Ok.ensures.every_moment h) in
     subst (λ r. s.tells r → EachMoment s old r (IsGood start events 0 opening)) (sym c.close-site.ensures)
     (λ tells. joined s old e.site new (IsGood start events 0 opening) first
-        (subst (λ n. EachMoment s e.site new (IsGood n events 0 opening)) same
-            (c.in-Ok-outcome.ensures.moments opening (subst (λ n. IsGoodNow s e.site n [] opening) (sym same) now) tells)))
+    (subst (λ n. EachMoment s e.site new (IsGood n events 0 opening)) same
+    (c.in-Ok-outcome.ensures.moments opening (subst (λ n. IsGoodNow s e.site n [] opening) (sym same) now) tells)))
 
 pub returns-in-Err-outcome-clause-moments : goal.returns-in-Err-outcome-clause-moments
 returns-in-Err-outcome-clause-moments g c start opening good =
@@ -101,5 +105,5 @@ returns-in-Err-outcome-clause-moments g c start opening good =
     let first = open_moments s old e.site start events opening good (c.in-Ok.ensures.every_moment h) in
     subst (λ r. EachMoment s old r (IsGood start events 0 opening)) (sym c.close-site.ensures)
     (joined s old e.site new (IsGood start events 0 opening) first
-        (subst (λ n. EachMoment s e.site new (IsGood n events 0 opening)) same
-            (c.in-Err-outcome.ensures.moments opening (subst (λ n. IsGoodNow s e.site n [] opening) (sym same) now))))
+    (subst (λ n. EachMoment s e.site new (IsGood n events 0 opening)) same
+    (c.in-Err-outcome.ensures.moments opening (subst (λ n. IsGoodNow s e.site n [] opening) (sym same) now))))

@@ -1,6 +1,6 @@
 use Rattle.std.proofs.Common.{◌≡◌, [], ◌++◌, length, sym, subst}
 use Rattle.std.specs.Prelude.{IfOk, IfErr, MatchResult}
-use Rattle.cc_site.specs.declared.site.Side.TheVariants.{A, B}
+use Rattle.cc_site.specs.declared.site.Side.TheVariants.{A}
 use Rattle.cc_site.specs.Runs.{EachMoment}
 use Rattle.cc_node.specs.Node.{line}
 use Rattle.cc_node.specs.Opening.{told, fresh, IsOpening}
@@ -60,9 +60,9 @@ returns-in-Ok-clause-stops g c =
     let good = rests_good_now s site (record { side = A; place = rests.0 }) 1 node [] opening rests.1 in
     if_err_more _ _ c.live_on.result
     (λ b. stops_more (λ _. ⊥) (FormatFails s (IsOpening (told c.args.opening.now)) c.args.site b.site) (s.state b.site) (s.sent b.site) node events (length (s.sent c.args.site))
-        (λ fault none. absurd none) b.fault)
+    (λ fault none. absurd none) b.fault)
     (subst (λ l. IfErr c.live_on.result (λ b. LifeStops (λ _. ⊥) (s.state b.site) (s.sent b.site) node events (length l) b.fault)) c.in-Ok.ensures.outlet.same
-        (c.live_on.ensures.stops node opening good))
+    (c.live_on.ensures.stops node opening good))
 
 pub returns-in-Ok-clause-every_moment : goal.returns-in-Ok-clause-every_moment
 returns-in-Ok-clause-every_moment g c shut =
@@ -76,7 +76,7 @@ returns-in-Ok-clause-every_moment g c shut =
     let opening = length (s.sent mid) in
     let good = rests_good_now s mid (record { side = A; place = rests.0 }) 1 node [] opening rests.1 in
     let living = subst (λ l. MatchResult c.live_on.result (λ r. s.tells r → EachMoment s mid r (IsGood node events 0 (length l))) (λ b. EachMoment s mid b.site (IsGood node events 0 (length l))))
-        c.in-Ok.ensures.outlet.same (c.live_on.ensures.moments node opening good) in
+    c.in-Ok.ensures.outlet.same (c.live_on.ensures.moments node opening good) in
     let formatting = c.in-Ok.ensures.every_moment h shut in
     let lawful = batch_lawful node c.args.batch c.requires.lawful in
     match_more _ _ _ _ c.live_on.result

@@ -1,6 +1,6 @@
-use Rattle.std.proofs.Common.{[], subst}
+use Rattle.std.proofs.Common.{◌<◌, ◌≤◌, [], length, subst, arith}
 use Rattle.cc_journal.specs.Batches.{events_in}
-use Rattle.cc_journal.specs.Journals.{StaysGood}
+use Rattle.cc_journal.specs.Journals.{room_limit, StaysGood}
 use Rattle.cc_flush.specs.Flushing.{LeadsToOwed}
 use Rattle.cc_laws.proofs.FirstLives.{batch_lawful, good_leaves, failed_leaves, failed_moments, rest_moments, turned, turned_moments}
 use Rattle.cc_laws.proofs.living.turn.Goals as goal
@@ -8,7 +8,11 @@ use Rattle.cc_laws.proofs.living.turn.Goals as goal
 pub returns-then-not-room-clause-stops : goal.returns-then-not-room-clause-stops
 returns-then-not-room-clause-stops g c opening good =
     let engine = c.args.engine.now in
-    good_leaves g.S.Site engine.site engine.twin [] opening tt good
+    let bytes = (g.S.Site.state engine.site engine.at.side).bytes in
+    let no_room : length bytes < room_limit → ⊥ =
+    λ less. let has = (c.room.ensures.used c.requires.honest c.requires.goes_on).1 less in let none = c.if-not-room.true in cc in
+    let long : room_limit ≤ length bytes = omega (arith, no_room) in
+    ((engine.at.side, long), good_leaves g.S.Site engine.site engine.twin [] opening tt good)
 
 pub returns-in-Ok-clause-lived : goal.returns-in-Ok-clause-lived
 returns-in-Ok-clause-lived g c tells opening good =
