@@ -4,7 +4,7 @@
 --     LivesFrom n ls m           a node lived so, life after life, and opening what the last left gives m
 --     put_by, put_along          the outputs that a life put;  that lives put
 --     IsPut ls v                 a view that they put;  IsSeen ls m v: or that the node m shows
---     BeginsWithLife, AreParts   the first events of a life, no fewer than were durable, and then the rest;  so life after life
+--     BeginsWithLife, AreParts   a life's first events, no fewer than were durable, as they were found again;  so life after life
 --     IsHistoryOf n ls m es      one list of events is the history of all these lives
 --     accepted_along             the events that the lives accepted, one after the other
 --     durable_along              those of them that were surely durable
@@ -53,27 +53,29 @@ IsPut ls v = (o : Output) × Contains (put_along ls) o × (in_output o ≡ Some 
 abbrev pub IsSeen : List Life → Node → ViewMap → Type 0
 IsSeen ls m v = IsPut ls v ⊎ Shows m v
 
--- the first so many events of a life, no fewer than were durable, and then a rest of which that holds
-pub record BeginsWithLife (l : Life) (Follows : List Event → Type 0) (es : List Event) : Type 0 where
+-- The first so many events of a life that began at n, no fewer than were durable, and then a rest of which that holds, at the
+-- node after them. What the life left stands for that node.
+pub record BeginsWithLife (n : Node) (l : Life) (Follows : Node → List Event → Type 0) (es : List Event) : Type 0 where
   pub kept : ℕ
   pub has_durable : l.durable ≤ kept
   pub within : kept ≤ length l.events
+  pub opened : Stands (l.left A) (l.left B) (after n (take kept l.events))
   pub rest : List Event
   pub parts : es ≡ take kept l.events ++ rest
-  pub follows : Follows rest
+  pub follows : Follows (after n (take kept l.events)) rest
 
--- a first part of what each life accepted, life after life
-abbrev pub AreParts : List Life → List Event → Type 0
-AreParts [] es = es ≡ []
-AreParts (l ∷ ls) es = BeginsWithLife l (AreParts ls) es
+-- what was found again of each life's events, life after life
+abbrev pub AreParts : Node → List Life → List Event → Type 0
+AreParts n [] es = es ≡ []
+AreParts n (l ∷ ls) es = BeginsWithLife n l (λ next rest. AreParts next ls rest) es
 
 -- No event of it is refused, it leads from the first start to the last opening, and what the lives put was made along it. It
--- is a first part of what each of them accepted, with all that was durable.
+-- is what was found again of the events that each of them accepted, with all that was durable.
 pub record IsHistoryOf (n : Node) (ls : List Life) (m : Node) (es : List Event) : Type 0 where
   pub lawful : IsLawful n es
   pub leads_to : m ≡ after n es
   pub made : (o : Output) → Contains (put_along ls) o → MayBeOut n es o
-  pub parts : AreParts ls es
+  pub parts : AreParts n ls es
 
 abbrev pub accepted_along : List Life → List Event
 accepted_along [] = []

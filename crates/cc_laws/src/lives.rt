@@ -26,8 +26,8 @@ use cc_flush::one_node;
 use cc_site::Site;
 
 /// All lives of a node are one history: there is one list of events, none of them refused, that leads from the first start
-/// to the last opening, and whatever any of the lives put stood at the start or was made along it. It is a first part of what
-/// each life accepted, with all that was durable, one life after the other.
+/// to the last opening, and whatever any of the lives put stood at the start or was made along it. It is what was found again
+/// of the events that each life accepted, with all that was durable, one life after the other.
 pub fn lives_join()
     ensures { (n : Node) (ls : List Life) (m : Node) → IsLawfulNode n → LivesFrom n ls m → (es : List Event) × IsHistoryOf n ls m es }
 {

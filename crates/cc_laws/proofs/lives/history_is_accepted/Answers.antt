@@ -3,7 +3,7 @@ use Rattle.cc_laws.proofs.lives.history_is_accepted.Goals as goal
 
 pub returns : goal.returns
 returns c = record {
-  each = λ n ls m es history. each_accepted ls es history.parts;
-  accepted = λ n ls m es history. parts_accepted ls es history.parts;
-  durable = λ n ls m es history. parts_durable ls es history.parts;
+  each = λ n ls m es history. each_accepted n ls es history.parts;
+  accepted = λ n ls m es history. parts_accepted n ls es history.parts;
+  durable = λ n ls m es history. parts_durable n ls es history.parts;
 }
