@@ -42,7 +42,8 @@ IsOfFirstLife start events sent left told = IsNoneOrWhole start sent left told �
 abbrev pub LifeStops : (FormatFault → Type 0) → (Side → SideState) → List Output → Node → List Event → ℕ → Stopped → Type 0
 LifeStops Unformatted state sent start events opening (Format fault) = Unformatted fault
 LifeStops Unformatted state sent start events opening (Open fault) = (¬ IsReadingFault fault) × LeavesLife state sent start [] 0 opening
-LifeStops Unformatted state sent start events opening NoRoom = ((side : Side) × (room_limit ≤ length (state side).bytes)) × LeavesLife state sent start [] 0 opening
+LifeStops Unformatted state sent start events opening NoRoom =
+    ((side : Side) × (room_limit ≤ length (state side).bytes)) × LeavesLife state sent start [] 0 opening
 LifeStops Unformatted state sent start events opening (Commit failed) = LeavesLife state sent start events 0 opening
 
 abbrev pub LifeRose : ℕ → ℕ → Stopped → Type 0

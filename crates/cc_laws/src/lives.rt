@@ -57,7 +57,8 @@ pub fn lives_hold()
         → (v w : ViewMap) → IsSeen ls m v → IsSeen ls m w → AreComparable v w }
     ensures grows { (o : Opening) (ls : List Life) (m : Node) → IsOpening o → LivesFrom (fresh o) ls m
         → (v : ViewMap) → IsSeen ls m v → IsAtMost v m.core.ops.view }
-    ensures own { (o : Opening) (ls : List Life) (m : Node) (es : List Event) → IsOpening o → IsHistoryOf (fresh o) ls m es → BringsOldRows (fresh o) es
+    ensures own { (o : Opening) (ls : List Life) (m : Node) (es : List Event) → IsOpening o → IsHistoryOf (fresh o) ls m es
+        → BringsOldRows (fresh o) es
         → (v : ViewMap) → IsSeen ls m v → (k : ℕ) (x : Value) → Has v o.me k x → IsWriteOf es k x }
 {
     one_node();
@@ -69,10 +70,11 @@ pub fn lives_hold()
 /// before, as those of `Flusher::open` do.
 pub fn moments_end_lives<S: Site>(old: &S, new: &S)
     ensures each { (start : Node) (events : List Event) (durable opening : ℕ) (left : Contents) (told : List Output)
-        → IsLawful start events → EachMoment S.Site old.now new.now (IsGood start events durable opening) → S.left_since new.now (S.moment old.now) left told
-        → IsLifeOf start (life_left events durable opening left told) }
+        → IsLawful start events → EachMoment S.Site old.now new.now (IsGood start events durable opening)
+        → S.left_since new.now (S.moment old.now) left told → IsLifeOf start (life_left events durable opening left told) }
     ensures still { (start : Node) (events : List Event) (opening : ℕ) (left : Contents) (told : List Output)
-        → IsLawful start events → IsGoodNow S.Site old.now start events opening → EachMoment S.Site old.now new.now (Possible (S.state old.now) (S.sent old.now))
+        → IsLawful start events → IsGoodNow S.Site old.now start events opening
+        → EachMoment S.Site old.now new.now (Possible (S.state old.now) (S.sent old.now))
         → S.left_since new.now (S.moment old.now) left told → IsLifeOf start (life_left events (length events) opening left told) }
 {}
 

@@ -43,13 +43,16 @@ fn turn<S: Site>(engine: &mut Flusher<S>, batch: Batch) -> Result<(), Stopped>
     requires lawful { AreLawful engine.old.twin batch }
     ensures lived { S.tells engine.new.site → (opening : ℕ) → IsGoodNow S.Site engine.old.site engine.old.twin [] opening
         → OnOk result (LeavesAll (S.state engine.new.site) (S.sent engine.new.site) engine.old.twin (events_in batch) opening) }
-    ensures put { S.tells engine.new.site → OnOk result (S.sent engine.new.site ≡ S.sent engine.old.site ++ line engine.old.twin (events_in batch)) }
+    ensures put { S.tells engine.new.site
+        → OnOk result (S.sent engine.new.site ≡ S.sent engine.old.site ++ line engine.old.twin (events_in batch)) }
     ensures stops { (opening : ℕ) → IsGoodNow S.Site engine.old.site engine.old.twin [] opening
         → IfErr result (LifeStops (λ _. ⊥) (S.state engine.new.site) (S.sent engine.new.site) engine.old.twin (events_in batch) opening) }
     ensures moments { (opening : ℕ) → IsGoodNow S.Site engine.old.site engine.old.twin [] opening
-        → MatchResult result (λ _. S.tells engine.new.site → EachMoment S.Site engine.old.site engine.new.site (IsGood engine.old.twin (events_in batch) 0 opening))
+        → MatchResult result
+        (λ _. S.tells engine.new.site → EachMoment S.Site engine.old.site engine.new.site (IsGood engine.old.twin (events_in batch) 0 opening))
         (λ _. EachMoment S.Site engine.old.site engine.new.site (IsGood engine.old.twin (events_in batch) 0 opening)) }
-    ensures count { MatchResult result (λ _. S.failures engine.new.site ≡ S.failures engine.old.site) (LifeRose (S.failures engine.old.site) (S.failures engine.new.site)) }
+    ensures count { MatchResult result (λ _. S.failures engine.new.site ≡ S.failures engine.old.site)
+        (LifeRose (S.failures engine.old.site) (S.failures engine.new.site)) }
 {
     if !engine.room() {
         return Err(Stopped::NoRoom);
@@ -149,7 +152,8 @@ pub fn live_once_in_memory(
     ensures stops { IfErr result (λ b. LifeStops (λ _. ⊤)
         (memory_state b.site) (memory_outputs b.site) (fresh (told opening.now)) (events_in batch) (length (memory_outputs site)) b.fault) }
     ensures every_moment { AreShut (memory_state site) → IfOk result (λ s. memory_lost s ≡ 0 → (left : Contents) (sent : List Output)
-        → memory_left_since s (memory_moment site) left sent → IsOfFirstLife (fresh (told opening.now)) (events_in batch) (memory_outputs site) left sent) }
+        → memory_left_since s (memory_moment site) left sent
+        → IsOfFirstLife (fresh (told opening.now)) (events_in batch) (memory_outputs site) left sent) }
     ensures count { MatchResult result (λ s. memory_failures s ≡ memory_failures site) (λ b. LifeRose (memory_failures site) (memory_failures b.site) b.fault) }
 {
     live_once(alloc, site, opening, batch)
