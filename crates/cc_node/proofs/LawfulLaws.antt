@@ -2,12 +2,12 @@
 --     next_core, step_lawful        the core, and the node
 --     lowest_next                   lowest doesn't fall
 --     links_go_on, left_grows       no link is lost or falls back, and who left has left for good
-use Rattle.std.proofs.Common.{◌≡◌, ℕ, ◌+◌, ◌<◌, ◌≤◌, Bool, true, false, cond, not, ◌||◌, ◌&&◌, nat_eq, nat_lt, List, [], ◌∷◌, ◌++◌, refl, sym, ap, subst, ◌∙◌, inl, inr, arith}
+use Rattle.std.proofs.Common.{◌≡◌, ℕ, ◌+◌, ◌<◌, ◌≤◌, true, false, cond, ◌||◌, ◌&&◌, nat_eq, nat_lt, List, [], ◌∷◌, ◌++◌, refl, sym, ap, subst, ◌∙◌, inl, inr, arith}
 use Rattle.std.specs.Prelude.{Option, Some, None, IfSome, IsTrue, is_some, ◌==◌}
 use Rattle.std.specs.Option.{option_len, option_map_or, unwrap_or}
 use Rattle.std.specs.List.{list_any}
 use Rattle.std.specs.FinMap as table
-use Rattle.std.proofs.lemmas.Bool.{cond_both, or_parts, or_left, and_cases, eqb-false, ltb-false, leb-false}
+use Rattle.std.proofs.lemmas.Bool.{cond_both, or_parts, or_left, eqb-false, ltb-false, leb-false}
 use Rattle.std.proofs.lemmas.Bool.Decides.{eqb_tells}
 use Rattle.cc_views.specs.NatSets as set
 use Rattle.cc_views.specs.NatSets.{IsWithin, get-insert_key}

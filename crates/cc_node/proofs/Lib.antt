@@ -1,3 +1,5 @@
+pub mod AloneLaws
+pub mod Unaware
 pub mod CoreLaws
 pub mod Deciding
 pub mod Effects

@@ -11,8 +11,8 @@ mod opening;
 
 pub use core_parts::CoreParts;
 pub use laws::{
-    asks_begin_in_order, lawful_kept, lines_may_grow, no_output_twice, one_spelling_of_records,
-    own_number_counts_writes, standing_made, view_only_grows,
+    asks_begin_in_order, lawful_kept, lines_add_nothing, lines_may_grow, no_output_twice,
+    one_spelling_of_records, own_number_counts_writes, standing_made, view_only_grows,
 };
 pub use made::{LinkAck, Made};
 pub use node::Node;
