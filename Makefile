@@ -50,8 +50,8 @@ bench:
 edits:
 	@python3 tools/edits.py $(CRATES)
 
-# Tries programs that drop, copy or take apart what must be put out first: each is refused by the compiler, at its own line
-# and for its own reason. It takes two minutes, and proves nothing.
+# Tries programs that drop, copy or take apart what must be put out first, or make up a refusal: the compiler refuses
+# each, at its own line and for its own reason. It takes a minute, and proves nothing.
 must-not-compile:
 	@python3 tools/must_not_compile.py
 

@@ -1,7 +1,7 @@
 #!/usr/bin/env python3
 """Tries programs that must not compile: a batch in flight, or one that is durable and whose outputs are owed, that is
-dropped, used twice, copied, cloned, taken apart or made by hand. Each has to be refused at its own line, for the reason
-that stands beside it, and a program without any of them has to compile. It proves nothing. Each program is compiled over
+dropped, used twice, copied, cloned, taken apart or made by hand; a refusal that no intake told, or that is told twice. Each
+has to be refused at its own line, for the reason that stands beside it, and a program without any of them has to compile. It proves nothing. Each program is compiled over
 a copy of the crates' text in a new folder, which is removed again."""
 
 import os
@@ -14,7 +14,9 @@ import tempfile
 HEAD = """//! Programs that must not compile.
 #![tactic(auto)]
 
+use cc_intake::Refused;
 use cc_journal::{Batch, Flight, Landed};
+use cc_wire::Refusal;
 
 """
 
@@ -35,6 +37,7 @@ GROUPS = [
     [
         ("pub fn landed_twice(landed: Landed) -> (Landed, Landed) { (landed, landed) }", "borrow-e0382"),
         ("pub fn flight_twice(flight: Flight) -> (Flight, Flight) { (flight, flight) }", "borrow-e0382"),
+        ("pub fn refused_twice(refused: Refused) -> (Refused, Refused) { (refused, refused) }", "borrow-e0382"),
     ],
     [
         ("pub fn copied_landed(landed: &Landed) -> Landed { *landed }", "move-out-of-place"),
@@ -47,6 +50,9 @@ GROUPS = [
         ("pub fn opened_flight(flight: Flight) -> Batch { flight.batch }", "private-field"),
         ("pub fn made_landed(batch: Batch) -> Landed { Landed { batch } }", "private-field"),
         ("pub fn made_flight(batch: Batch) -> Flight { Flight { batch, size: 0 } }", "private-field"),
+        ("pub fn copied_refused(refused: &Refused) -> Refused { *refused }", "move-out-of-place"),
+        ("pub fn cloned_refused(refused: &Refused) -> Refused { refused.clone() }", "unsupported-method"),
+        ("pub fn made_refused(why: Refusal) -> Refused { Refused { why, accepted: 0 } }", "missing-field"),
     ],
     # this one compiles
     [
@@ -70,7 +76,7 @@ def repository_at(folder):
     with open("crates.txt") as crates:
         listed = crates.read()
     with open(os.path.join(folder, "crates.txt"), "w") as crates:
-        crates.write(listed + "\ntried: cc_journal\n")
+        crates.write(listed + "\ntried: cc_intake cc_journal cc_wire\n")
     tried = os.path.join(folder, "crates", "tried")
     os.makedirs(os.path.join(tried, "src"))
     return tried

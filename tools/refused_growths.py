@@ -2,8 +2,9 @@
 """Refuses each growth of each test of these crates once: refused_growths.py CRATE..
 
 A test may then pass, or answer an error: want of memory, or the failed call of a disk in memory, which can't grow. Where it
-compares an answer that is an error with another one, it stops at that line, which is counted. A test that ends in any other
-way, or not within a minute (status 142, or 124), is printed, and the status is 1. A test that runs threads is run anew for
+compares an answer that is an error with another one, it stops at that line, which is counted. Where it compares what the call
+was to leave as it was with how that was before (`unless_failed` of the tests), that is counted too. A test that ends in any
+other way, finds something changed, or doesn't end within a minute (status 142, or 124), is printed, and the status is 1. A test that runs threads is run anew for
 each growth; which growth has a number then depends on how they fall together. The tests are those that `rt test` built; as
 many are run side by side as there are processors."""
 import collections
@@ -16,6 +17,8 @@ import tempfile
 
 SECONDS = 60
 COPIES = 3 * 60 * 60
+# What a test says that has looked at what a refused call left.
+KEPT, CHANGED = "failed, and all is as it was", "failed, and something has changed"
 
 
 def run(tests, name, preloaded, **words):
@@ -37,11 +40,12 @@ def run(tests, name, preloaded, **words):
 
 
 def kind_of(ended, said):
-    """What a refused growth came to: the test passed, answered an error, or stopped at a comparison, else None."""
+    """What a refused growth came to: the test passed, answered an error, after a look at what was kept or without one, or
+    stopped at a comparison, else None."""
     if ended == 0:
         return "passed"
-    if ended == 101 and "its result gives status 1" in said:
-        return "error"
+    if ended == 101 and "its result gives status 1" in said and CHANGED not in said:
+        return "kept" if KEPT in said else "error"
     return "stop" if ended in (134, -6) and "test stopped at src/" in said else None
 
 
@@ -87,7 +91,9 @@ def try_crate(crate, preloaded, pool):
                 is_well = False
                 print(f"{crate} {name}: growth {growth} refused ends in status {ended}: {said[-200:].strip()}")
     refused = sum(kinds.values())
-    print(f"{crate}: {refused} growths refused: {kinds['error']} answered as an error, {kinds['stop']} seen by a comparison", flush=True)
+    errors = kinds["error"] + kinds["kept"]
+    print(f"{crate}: {refused} growths refused: {errors} answered as an error, {kinds['kept']} of them with all as it was before, "
+          f"{kinds['stop']} seen by a comparison", flush=True)
     return is_well
 
 

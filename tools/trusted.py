@@ -147,7 +147,8 @@ def listed(page):
 
 
 def lines_of(files):
-    return [line for crate, file in files for line in read(f"crates/{crate}/specs/{file}.antt").splitlines()]
+    paths = [f"crates/{crate}/specs/{file}.antt" for crate, file in files]
+    return [line for path in paths if os.path.isfile(path) for line in read(path).splitlines()]
 
 
 def counted(page):

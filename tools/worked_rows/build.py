@@ -24,7 +24,7 @@ SPECS = """cc_views: NatSets Rows Merge Limits Tables
     cc_churn: Churn Refusals
     cc_ops: Commands Waiting Ops Stages Refusals
     cc_site: Sides Moments
-    cc_node: Core Refusals Node Opening Writes Lawful States Sides Good
+    cc_node: Core Refusals Node OneAtATime Opening Writes Lawful States Sides Good
     cc_laws: Shown Orders Written Histories Lives Clusters Runs"""
 
 

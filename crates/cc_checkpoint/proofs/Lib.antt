@@ -11,6 +11,7 @@ pub mod Decoded
 pub mod StateLengths
 pub mod PartLaws
 pub mod BehindRuns
+mod PastGate
 pub mod OffRuns
 pub mod Ahead
 pub mod StateReads

@@ -9,7 +9,7 @@ use Rattle.std.specs.Prelude.{◌≡◌, ◌⊎◌, [], ◌∷◌, take}
 use Rattle.cc_site.specs.declared.site.Side.{Side}
 use Rattle.cc_site.specs.declared.site.Call.{Call}
 use Rattle.cc_site.specs.declared.site.Call.TheVariants.{Read, Write, Cut, Sync}
-use Rattle.cc_site.specs.Sides.{SideState, written, shift, settled, MayHaveWritten, MayHaveCut}
+use Rattle.cc_site.specs.Sides.{SideState, written, settled, HalfCut, MayHaveWritten, MayHaveCut}
 
 abbrev pub WritesOrSyncs : Call → Type 0
 WritesOrSyncs call = (call ≡ Write) ⊎ (call ≡ Sync)
@@ -30,7 +30,7 @@ abbrev pub IsPastGate : SideState → Call → SideState → Type 0
 IsPastGate was call now = WritesOrSyncs call × (take 1 now.bytes ≡ take 1 was.bytes)
 
 abbrev pub ImageStops : SideState → Call → SideState → Type 0
-ImageStops was call now = ((call ≡ Cut) × ((now ≡ shift was 1) ⊎ (now ≡ was))) ⊎ IsPastGate was call now
+ImageStops was call now = ((call ≡ Cut) × (HalfCut was 1 now ⊎ (now ≡ was))) ⊎ IsPastGate was call now
 
 abbrev pub FillStops : SideState → Call → SideState → Type 0
 FillStops was call now = ClosingStops was call now ⊎ ((closed : SideState) × HasClosed was closed × ImageStops closed call now)

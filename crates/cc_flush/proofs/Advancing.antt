@@ -1,5 +1,5 @@
 -- How a life goes on.
---     joined_on                      two parts of a life
+--     joined_on, sides_on            two parts of a life
 --     stays, advances_both           an engine that was asked for nothing;  one action after another
 --     done_more                      the actions that are done, and one more
 --     put_advances                   outputs are put again
@@ -15,8 +15,9 @@ use Rattle.cc_wire.specs.declared.event.Event.{Event}
 use Rattle.cc_wire.specs.declared.output.Output.{Output}
 use Rattle.cc_site.specs.declared.site.Site.{Ghosts}
 use Rattle.cc_site.specs.declared.site.DeviceFault.{DeviceFault}
+use Rattle.cc_site.specs.declared.site.Side.{Side}
 use Rattle.cc_site.specs.declared.site.Side.TheVariants.{A, B}
-use Rattle.cc_site.specs.Sides.{other}
+use Rattle.cc_site.specs.Sides.{SideState, MayLeave, other}
 use Rattle.cc_site.specs.Runs.{EachMoment, OnlyNow, started, joined, weaker}
 use Rattle.cc_node.specs.Node.{Node, after, line}
 use Rattle.cc_node.specs.Histories.{after-append, IsLawful-append}
@@ -24,17 +25,19 @@ use Rattle.cc_node.specs.GoodLaws.{good_for_more}
 use Rattle.cc_journal.specs.declared.entry.Entry.{Entry}
 use Rattle.cc_journal.specs.Batches.{AreLawful, events_in}
 use Rattle.cc_checkpoint.specs.declared.choosing.InUse.{InUse}
+use Rattle.cc_journal.specs.GoodSides.{MayBeLeft, HasGoodSides, EachLeaves, KeepsSides}
+use Rattle.cc_journal.specs.GoodSideLaws.{more_sides, fewer_sides, sides_now}
 use Rattle.cc_journal.specs.Journals.{Position, room_limit, IsGood, IsGoodNow, KeepsGood, StaysGood}
 use Rattle.cc_views.specs.Limits.{counter_limit}
 use Rattle.cc_flush.specs.declared.flusher.Failed.{Failed}
 use Rattle.cc_flush.specs.declared.actions.Action.{Action}
 use Rattle.cc_flush.specs.declared.actions.Action.TheVariants.{Turn, Checkpoint}
 use Rattle.cc_flush.specs.Engine.{Engine, in_use_of}
-use Rattle.cc_flush.specs.Flushing.{LeadsTo, HasLived, Advances, Flushes, GivesUp, FlushFails, PutsAgain}
+use Rattle.cc_flush.specs.Flushing.{LeadsTo, LeadsToSides, HasLived, Advances, Flushes, GivesUp, FlushFails, PutsAgain}
 use Rattle.cc_flush.specs.Moving.{Moves, MoveFails}
 use Rattle.cc_flush.specs.Lives.{events_by, events_of, outputs_by, outputs_of, in_use_by, in_use_after, BeginsWithTurn, MayFailIn, HasDone, FailsIn, HaveDone, HasRun}
 use Rattle.cc_flush.proofs.Committed.{lawful_after}
-use Rattle.cc_flush.proofs.Flushing.{both_ways, good_less, in_use_is}
+use Rattle.cc_flush.proofs.Flushing.{both_ways, good_less, in_use_is, leads_good, call_keeps_sides}
 
 -- ---- lists of actions
 
@@ -79,6 +82,17 @@ module _ {D : Type 0} (s : Ghosts D) where
       (weaker s mid new (IsGood start all (length (events ++ first)) opening) (IsGood start all (length events) opening) two
       (λ left told good. good_less start all (length (events ++ first)) (length events) opening left told (omega (arith, length-append events first)) good)))
 
+  sides_on : (old mid new : D) (start : Node) (events first then : List Event) → EachLeaves s (HasGoodSides start (events ++ first) (length events)) old mid
+      → EachLeaves s (HasGoodSides start ((events ++ first) ++ then) (length (events ++ first))) mid new → EachLeaves s (HasGoodSides start (events ++ (first ++ then)) (length events)) old new
+  sides_on old mid new start events first then one two =
+      let all = (events ++ first) ++ then in
+      subst (λ (l : List Event). EachLeaves s (HasGoodSides start l (length events)) old new) (append_assoc events first then)
+      (joined s old mid new (λ left told. HasGoodSides start all (length events) left)
+      (weaker s old mid (λ left told. HasGoodSides start (events ++ first) (length events) left) (λ left told. HasGoodSides start all (length events) left) one
+      (λ left told sides. more_sides start (events ++ first) then (length events) (length events) left (omega arith) sides))
+      (weaker s mid new (λ left told. HasGoodSides start all (length (events ++ first)) left) (λ left told. HasGoodSides start all (length events) left) two
+      (λ left told sides. fewer_sides start all (length (events ++ first)) (length events) left (omega (arith, length-append events first)) sides)))
+
   pub stays : (led : Engine D → Node → List Event → ℕ → Type 0) (e : Engine D) → ((start : Node) (events : List Event) (opening : ℕ) → led e start events opening → IsGoodNow s e.site start events opening)
       → e.owes ≡ false → e.failed ≡ None → (s.honest e.site → OnlyNow s e.site) → Advances s led [] [] (in_use_of e) e e
   stays led e good owes none only = record {
@@ -91,6 +105,9 @@ module _ {D : Type 0} (s : Ghosts D) where
     moments = λ h t start before opening was. started s e.site (IsGood start (before ++ []) (length before) opening)
         (λ left told since. good_for_more start before [] (length before) (length before) opening (left A) (left B) told (omega arith) (good start before opening was left told (only h left told since)));
     afterwards = λ h t start before opening was. subst (λ (l : List Event). led e start l opening) (sym (append-nil before)) was;
+    sides = λ h start before was. started s e.site (λ left told. HasGoodSides start (before ++ []) (length before) left)
+        (λ left told since. more_sides start before [] (length before) (length before) left (omega arith) (was.sides left (only h left told since).each));
+    sides_afterwards = λ h start before was. subst (λ (l : List Event). LeadsToSides s e start l) (sym (append-nil before)) was;
     same_failures = refl;
   }
 
@@ -112,6 +129,10 @@ module _ {D : Type 0} (s : Ghosts D) where
     afterwards = λ h t start before opening was.
         subst (λ (l : List Event). Lived new start l opening) (append_assoc before xs ys)
         (then.afterwards (first.same_honest.0 h) t start (before ++ xs) opening (first.afterwards h (then.told t).0 start before opening was));
+    sides = λ h start before was.
+        sides_on old.site mid.site new.site start before xs ys (first.sides h start before was) (then.sides (first.same_honest.0 h) start (before ++ xs) (first.sides_afterwards h start before was));
+    sides_afterwards = λ h start before was.
+        subst (λ (l : List Event). LeadsToSides s new start l) (append_assoc before xs ys) (then.sides_afterwards (first.same_honest.0 h) start (before ++ xs) (first.sides_afterwards h start before was));
     same_failures = then.same_failures ∙ first.same_failures;
   }
 
@@ -145,6 +166,13 @@ module _ {D : Type 0} (s : Ghosts D) where
       twin = again.twin ∙ was.twin;
       good = (again.good h t).afterwards start before opening was;
     });
+    sides = λ h start before was.
+        weaker s old.site new.site (λ left told. MayBeLeft (s.state old.site) left) (λ left told. HasGoodSides start (before ++ []) (length before) left) (again.puts.contents h)
+        (λ left told may. more_sides start before [] (length before) (length before) left (omega arith) (was.sides left may));
+    sides_afterwards = λ h start before was. subst (λ (l : List Event). LeadsToSides s new start l) (sym (append-nil before)) (record {
+      twin = again.twin ∙ was.twin;
+      sides = λ left may. was.sides left (λ side. subst (λ (t : Side → SideState). MayLeave (t side) (left side)) (again.puts.same_state h) (may side));
+    });
     same_failures = again.puts.same_failures;
   }
 
@@ -171,6 +199,8 @@ module _ {D : Type 0} (s : Ghosts D) where
           twin = now.twin;
           good = now.good;
         };
+    sides = run.sides;
+    sides_afterwards = run.sides_afterwards;
     same_failures = run.same_failures;
   }
 
@@ -185,6 +215,7 @@ module _ {D : Type 0} (s : Ghosts D) where
     same_honest = run.same_honest;
     told = run.told;
     moments = λ h start before opening was. run.moments h start before opening (leads old start before opening was);
+    sides = run.sides;
     device = run.device;
   }
 
@@ -202,6 +233,11 @@ module _ {D : Type 0} (s : Ghosts D) where
   keeps_good old new keeps h start before opening was =
       subst (λ (l : List Event). EachMoment s old.site new.site (IsGood start l (length before) opening)) (sym (append-nil before)) ((keeps.good h).moments start before opening (leads old start before opening was))
 
+  keeps_sides : (old new : Engine D) → KeepsNode old new → s.honest old.site → KeepsSides s (LeadsToSides s old) [] old.site new.site
+  keeps_sides old new keeps h =
+      call_keeps_sides s old [] new.site (λ start before opening was.
+      subst (λ (l : List Event). EachMoment s old.site new.site (IsGood start l (length before) opening)) (sym (append-nil before)) ((keeps.good h).moments start before opening was))
+
   move_goes : (old new : Engine D) (g : InUse) → KeepsNode old new → new.failed ≡ None → in_use_of new ≡ g → s.failures new.site ≡ s.failures old.site → Goes [] [] g old new
   move_goes old new g keeps none used count = record {
     twin = keeps.twin;
@@ -216,6 +252,11 @@ module _ {D : Type 0} (s : Ghosts D) where
       lawful = was.lawful;
       twin = keeps.twin ∙ was.twin;
       good = (keeps.good h).afterwards start before opening (leads old start before opening was);
+    });
+    sides = keeps_sides old new keeps;
+    sides_afterwards = λ h start before was. subst (λ (l : List Event). LeadsToSides s new start l) (sym (append-nil before)) (record {
+      twin = keeps.twin ∙ was.twin;
+      sides = sides_now s new.site start before (length (s.sent old.site)) ((keeps.good h).afterwards start before (length (s.sent old.site)) (leads_good s old start before was));
     });
     same_failures = count;
   }
@@ -254,6 +295,7 @@ module _ {D : Type 0} (s : Ghosts D) where
       same_honest = keeps.same_honest;
       told = keeps.told;
       moments = keeps_good old new keeps;
+      sides = keeps_sides old new keeps;
       device = (fails less).device;
     }
     | inr spent ↦ absurd (left spent)
@@ -281,6 +323,8 @@ module _ {D : Type 0} (s : Ghosts D) where
     stops = why;
     moments = λ h t none. run.moments h t;
     afterwards = λ h t none. run.afterwards h t;
+    sides = λ h none. run.sides h;
+    sides_afterwards = λ h none. run.sides_afterwards h;
   }
 
   -- actions are done, a disk call failed in the next one, and the rest is given up
@@ -301,4 +345,9 @@ module _ {D : Type 0} (s : Ghosts D) where
         (joined_on old.site mid.site new.site start events (events_of done) (events_by action) opening (run.moments h mid_told start events opening was)
         (fails.moments (run.same_honest.0 h) start (events ++ events_of done) opening (run.afterwards h mid_told start events opening was)));
     afterwards = λ h t none start events opening was. tt;
+    sides = λ h none start events was.
+        subst (λ (l : List Event). EachLeaves s (HasGoodSides start (events ++ l) (length events)) old.site new.site) (sym (events_more done action))
+        (sides_on old.site mid.site new.site start events (events_of done) (events_by action) (run.sides h start events was)
+        (fails.sides (run.same_honest.0 h) start (events ++ events_of done) (run.sides_afterwards h start events was)));
+    sides_afterwards = λ h none start events was. tt;
   }

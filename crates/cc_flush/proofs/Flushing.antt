@@ -1,6 +1,8 @@
 -- How a batch goes through an engine.
 --     good_less               a good moment is good for fewer durable events
 --     in_use_is               which side is in use, and under which generation
+--     leads_good              as long as nothing is put, what led to the sides led to a good moment
+--     call_keeps_sides        so where each moment of a call is good, its sides are
 --     Written, Released       what making it durable ensures, and what putting its outputs does
 --     flushed                 both, one after the other
 use Rattle.std.proofs.Common.{◌≡◌, ℕ, ◌≤◌, List, [], ◌++◌, length, refl, sym, subst, ◌∙◌, ap, arith, append-nil, length-append}
@@ -10,6 +12,7 @@ use Rattle.cc_wire.specs.declared.output.Output.{Output}
 use Rattle.cc_site.specs.declared.site.Side.{Side}
 use Rattle.cc_site.specs.declared.site.Side.TheVariants.{A, B}
 use Rattle.cc_site.specs.declared.site.Site.{Ghosts}
+use Rattle.cc_site.specs.Sides.{SideState, MayLeave}
 use Rattle.cc_site.specs.Moments.{Contents}
 use Rattle.cc_site.specs.Runs.{joined, weaker}
 use Rattle.cc_node.specs.Node.{Node, after, line}
@@ -17,9 +20,11 @@ use Rattle.cc_node.specs.GoodLaws.{good_for_more}
 use Rattle.cc_node.specs.Histories.{after-append}
 use Rattle.cc_journal.specs.declared.entry.Entry.{Entry}
 use Rattle.cc_journal.specs.Batches.{events_in}
+use Rattle.cc_journal.specs.GoodSides.{MayBeLeft, HasGoodSides, HasGoodSidesNow, EachLeaves, KeepsSides}
+use Rattle.cc_journal.specs.GoodSideLaws.{fewer_sides, good_from, sides_now, sides_kept}
 use Rattle.cc_journal.specs.Journals.{Position, IsGood, IsGoodNow, KeepsGood, StaysGood}
 use Rattle.cc_flush.specs.Engine.{Engine, in_use_of}
-use Rattle.cc_flush.specs.Flushing.{LeadsTo, LeadsToOwed, Flushes}
+use Rattle.cc_flush.specs.Flushing.{LeadsTo, LeadsToOwed, LeadsToSides, Flushes}
 
 pub both_ways : {P Q R : Type 0} → P ↔ Q → Q ↔ R → P ↔ R
 both_ways first then = (λ p. then.0 (first.0 p), λ r. first.1 (then.1 r))
@@ -32,6 +37,14 @@ pub in_use_is : {D : Type 0} (e : Engine D) (side : Side) (generation : ℕ) →
 in_use_is e side generation at is = λ i. record { side = at i; generation = is i }
 
 module _ {D : Type 0} (s : Ghosts D) where
+  pub leads_good : (e : Engine D) (start : Node) (events : List Event) → LeadsToSides s e start events → LeadsTo s e start events (length (s.sent e.site))
+  leads_good e start events was = record { twin = was.twin; good = good_from s e.site start events was.sides }
+
+  pub call_keeps_sides : (old : Engine D) (more : List Event) (new : D) → KeepsGood s (LeadsTo s old) more old.site new → KeepsSides s (LeadsToSides s old) more old.site new
+  call_keeps_sides old more new keeps start events was =
+      let opening = length (s.sent old.site) in
+      sides_kept s old.site new start (events ++ more) (length events) opening (keeps start events opening (leads_good old start events was))
+
   pub record Written (batch : List Entry) (old mid : Engine D) : Type 0 where
     pub same_twin : mid.twin ≡ old.twin
     pub goes_on : mid.failed ≡ None
@@ -52,6 +65,8 @@ module _ {D : Type 0} (s : Ghosts D) where
     pub same_honest : s.honest mid.site ↔ s.honest new.site
     pub told : s.tells new.site → s.tells mid.site × (s.sent new.site ≡ s.sent mid.site ++ line mid.twin (events_in batch))
     pub same_failures : s.failures new.site ≡ s.failures mid.site
+    pub same_sides : s.honest mid.site → s.state new.site ≡ s.state mid.site
+    pub contents : s.honest mid.site → EachLeaves s (MayBeLeft (s.state mid.site)) mid.site new.site
     pub good : s.honest mid.site → s.tells new.site → StaysGood s (LeadsToOwed s batch mid) mid.site new.site
 
   module _ (old mid new : Engine D) (batch : List Entry) (none : old.failed ≡ None) (first : Written batch old mid) (then : Released batch mid new) where
@@ -65,6 +80,11 @@ module _ {D : Type 0} (s : Ghosts D) where
       twin = first.same_twin ∙ led.twin;
       good = first.at_rest h none start events opening led;
     }
+
+    mid_sides : s.honest old.site → (start : Node) (events : List Event) → LeadsToSides s old start events → HasGoodSidesNow s mid.site start (all events)
+    mid_sides h start events was =
+        let opening = length (s.sent old.site) in
+        sides_now s mid.site start (all events) opening (first.at_rest h none start events opening (leads_good old start events was))
 
     pub flushed : Flushes s batch old new
     flushed = record {
@@ -84,6 +104,16 @@ module _ {D : Type 0} (s : Ghosts D) where
       afterwards = λ h t start events opening led. record {
         twin = then.twin ∙ ap (λ (n : Node). after n (events_in batch)) (first.same_twin ∙ led.twin) ∙ sym (after-append start events (events_in batch));
         good = (then.good (first.same_honest.0 h) t).afterwards start (all events) opening (owed h start events opening led);
+      };
+      sides = λ h start events was.
+          joined s old.site mid.site new.site (λ left told. HasGoodSides start (all events) (length events) left)
+          (call_keeps_sides old (events_in batch) mid.site (first.every_moment h none) start events was)
+          (weaker s mid.site new.site (λ left told. MayBeLeft (s.state mid.site) left) (λ left told. HasGoodSides start (all events) (length events) left) (then.contents (first.same_honest.0 h))
+          (λ left told may. fewer_sides start (all events) (length (all events)) (length events) left (omega (arith, length-append events (events_in batch))) (mid_sides h start events was left may)));
+      sides_afterwards = λ h start events was. record {
+        twin = then.twin ∙ ap (λ (n : Node). after n (events_in batch)) (first.same_twin ∙ was.twin) ∙ sym (after-append start events (events_in batch));
+        sides = λ left may.
+            mid_sides h start events was left (λ side. subst (λ (t : Side → SideState). MayLeave (t side) (left side)) (then.same_sides (first.same_honest.0 h)) (may side));
       };
       same_failures = then.same_failures ∙ first.same_failures;
     }

@@ -1,6 +1,7 @@
 -- What a call makes of an engine, and of each history that led to it.
 --     LeadsTo, HasLived       these events led to its node, and the moment is good for them;  lawful events, from a lawful node on
 --     LeadsToOwed             with the events of the batch that is owed
+--     LeadsToSides            these events led to its node, and whatever a crash leaves now, its sides stand for that
 --     Advances, Flushes       it has taken in events, and put outputs;  those of a batch
 --     GivesUp                 a disk call failed: nothing was put, and no event was taken in
 --     Commits, FlushFails     the disk calls on a side that make a batch durable;  one of them failed
@@ -14,13 +15,14 @@ use Rattle.cc_site.specs.declared.site.Site.{Ghosts}
 use Rattle.cc_site.specs.declared.site.Call.{Call}
 use Rattle.cc_site.specs.declared.site.Call.TheVariants.{Write, Sync}
 use Rattle.cc_site.specs.declared.site.DeviceFault.{DeviceFault}
-use Rattle.cc_site.specs.Sides.{SideState, touch}
+use Rattle.cc_site.specs.Sides.{SideState, HalfWritten}
 use Rattle.cc_site.specs.Telling.{Tells}
 use Rattle.cc_node.specs.Lawful.{IsLawfulNode}
 use Rattle.cc_node.specs.Node.{Node, IsLawful, after, line}
 use Rattle.cc_checkpoint.specs.declared.choosing.InUse.{InUse}
 use Rattle.cc_journal.specs.declared.entry.Entry.{Entry}
 use Rattle.cc_journal.specs.Batches.{events_in, batch_bytes}
+use Rattle.cc_journal.specs.GoodSides.{HasGoodSidesNow, KeepsSides}
 use Rattle.cc_journal.specs.Journals.{MayHaveOpened, with_record, IsGoodNow, KeepsGood, StaysGood}
 use Rattle.cc_flush.specs.Engine.{Engine, in_use_of}
 use Rattle.cc_journal.specs.Outlet.{Puts}
@@ -31,7 +33,7 @@ Commits this side call = (side ≡ this) × ((call ≡ Write) ⊎ (call ≡ Sync
 -- the record is being written;  or it is made sure of, and its gate is opened
 abbrev pub CommitStops : SideState → ℕ → List Entry → SideState → Type 0
 CommitStops was place batch now =
-    ((now ≡ touch was (place + 1) (length (batch_bytes batch))) ⊎ (now ≡ was)) ⊎ MayHaveOpened (with_record was place batch) place now
+    (HalfWritten was (place + 1) (length (batch_bytes batch)) now ⊎ (now ≡ was)) ⊎ MayHaveOpened (with_record was place batch) place now
 
 module _ {D : Type 0} (s : Ghosts D) where
   pub record LeadsTo (engine : Engine D) (start : Node) (events : List Event) (opening : ℕ) : Type 0 where
@@ -50,6 +52,10 @@ module _ {D : Type 0} (s : Ghosts D) where
     pub twin : engine.twin ≡ after start before
     pub good : IsGoodNow s engine.site start events opening
 
+  pub record LeadsToSides (engine : Engine D) (start : Node) (events : List Event) : Type 0 where
+    pub twin : engine.twin ≡ after start events
+    pub sides : HasGoodSidesNow s engine.site start events
+
   -- No output came before its event was durable. This side is now in use, under this generation.
   pub record Advances (led : Engine D → Node → List Event → ℕ → Type 0) (more : List Event) (outputs : List Output) (used : InUse) (old new : Engine D) : Type 0 where
     pub twin : new.twin ≡ after old.twin more
@@ -60,6 +66,9 @@ module _ {D : Type 0} (s : Ghosts D) where
     pub told : s.tells new.site → s.tells old.site × (s.sent new.site ≡ s.sent old.site ++ outputs)
     pub moments : s.honest old.site → s.tells new.site → KeepsGood s (led old) more old.site new.site
     pub afterwards : s.honest old.site → s.tells new.site → (start : Node) (events : List Event) (opening : ℕ) → led old start events opening → led new start (events ++ more) opening
+    -- so it is with the sides, also where the outlet doesn't tell
+    pub sides : s.honest old.site → KeepsSides s (LeadsToSides old) more old.site new.site
+    pub sides_afterwards : s.honest old.site → (start : Node) (events : List Event) → LeadsToSides old start events → LeadsToSides new start (events ++ more)
     pub same_failures : s.failures new.site ≡ s.failures old.site
 
   abbrev pub Flushes : List Entry → Engine D → Engine D → Type 0
@@ -75,6 +84,7 @@ module _ {D : Type 0} (s : Ghosts D) where
     pub same_honest : s.honest old.site ↔ s.honest new.site
     pub told : (s.tells old.site ↔ s.tells new.site) × (s.sent new.site ≡ s.sent old.site)
     pub moments : s.honest old.site → KeepsGood s (led old) more old.site new.site
+    pub sides : s.honest old.site → KeepsSides s (LeadsToSides old) more old.site new.site
     pub device : Tells calls (s.failures old.site) (s.failures new.site) fault
 
   abbrev pub FlushFails : List Entry → Engine D → Engine D → DeviceFault → Type 0

@@ -25,12 +25,13 @@ use Rattle.cc_node.specs.Node.{Node, after, line}
 use Rattle.cc_checkpoint.specs.declared.choosing.InUse.{InUse}
 use Rattle.cc_journal.specs.declared.entry.Entry.{Entry}
 use Rattle.cc_journal.specs.Batches.{AreLawful, events_in}
+use Rattle.cc_journal.specs.GoodSides.{KeepsSides}
 use Rattle.cc_journal.specs.Journals.{room_limit, KeepsGood}
 use Rattle.cc_flush.specs.declared.flusher.Failed.{Failed}
 use Rattle.cc_flush.specs.declared.actions.Action.{Action}
 use Rattle.cc_flush.specs.declared.actions.Action.TheVariants.{Turn, Resend, Again, Reack, Checkpoint}
 use Rattle.cc_flush.specs.Engine.{Engine, in_use_of}
-use Rattle.cc_flush.specs.Flushing.{Commits, HasLived, Advances, GivesUp}
+use Rattle.cc_flush.specs.Flushing.{Commits, HasLived, LeadsToSides, Advances, GivesUp}
 use Rattle.cc_flush.specs.Moving.{MoveCalls, Moves}
 use Rattle.cc_flush.specs.Standing.{resends, reply_again, ack_again}
 
@@ -149,3 +150,6 @@ pub record HasRun {D : Type 0} (s : Ghosts D) (actions : List Action) (old new :
   pub moments : s.honest old.site → s.tells new.site → old.failed ≡ None → KeepsGood s (HasLived s old) (events_of (begun result done rest)) old.site new.site
   pub afterwards : s.honest old.site → s.tells new.site → old.failed ≡ None → (start : Node) (events : List Event) (opening : ℕ) → HasLived s old start events opening
       → OnOk result (HasLived s new start (events ++ events_of done) opening)
+  -- so it is with the sides, also where the outlet doesn't tell
+  pub sides : s.honest old.site → old.failed ≡ None → KeepsSides s (LeadsToSides s old) (events_of (begun result done rest)) old.site new.site
+  pub sides_afterwards : s.honest old.site → old.failed ≡ None → (start : Node) (events : List Event) → LeadsToSides s old start events → OnOk result (LeadsToSides s new start (events ++ events_of done))

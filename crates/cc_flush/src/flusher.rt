@@ -16,6 +16,7 @@ ghost use Rattle.cc_node.specs.Node.{Node as NodeValue, IsLawful, after, line};
 ghost use Rattle.cc_node.specs.Sides.{StandsAt};
 ghost use Rattle.cc_checkpoint.specs.Faults.{FaultRose};
 ghost use Rattle.cc_journal.specs.Batches.{AreLawful, events_in, batch_bytes};
+ghost use Rattle.cc_journal.specs.GoodSides.{MayBeLeft, EachLeaves};
 ghost use Rattle.cc_journal.specs.Journals.{room_limit, IsGoodNow, KeepsGood, StaysGood};
 ghost use Rattle.cc_flush.specs.Engine.{IsOwed};
 ghost use Rattle.cc_flush.specs.Flushing.{CommitStops, FlushFails, Flushes, LeadsTo, LeadsToOwed, PutsAgain};
@@ -292,6 +293,8 @@ impl<S: Site> Flusher<S> {
         ensures honest { S.honest self.old.site ↔ S.honest self.new.site }
         ensures same_sides { S.honest self.old.site → S.state self.new.site ≡ S.state self.old.site }
         ensures told { S.tells self.new.site → S.tells self.old.site × (S.sent self.new.site ≡ S.sent self.old.site ++ line self.old.twin (events_in landed)) }
+        // At each moment a crash leaves what it might have left before, also where the outlet doesn't tell.
+        ensures contents { S.honest self.old.site → EachLeaves S.Site (MayBeLeft (S.state self.old.site)) self.old.site self.new.site }
         ensures good { S.honest self.old.site → S.tells self.new.site → StaysGood S.Site (LeadsToOwed S.Site landed self.old) self.old.site self.new.site }
         ensures count { S.failures self.new.site ≡ S.failures self.old.site }
     {

@@ -1,6 +1,6 @@
 //! Laws of what two sides stand for. Each is a function whose contract is the law.
 
-ghost use Rattle.std.specs.Prelude.{◌≡◌, ◌↔◌, ◌≤◌, ◌<◌, ◌++◌, ℕ, List, length, slice_index};
+ghost use Rattle.std.specs.Prelude.{◌≡◌, ◌↔◌, ◌≤◌, ◌<◌, ◌++◌, ℕ, List, length, take, slice_index};
 ghost use Rattle.cc_wire.specs.declared.event.Event.{Event};
 ghost use Rattle.cc_wire.specs.declared.output.Output.{Output};
 ghost use Rattle.cc_site.specs.declared.site.Side.{Side};
@@ -8,7 +8,9 @@ ghost use Rattle.cc_site.specs.declared.site.Side.TheVariants.{A, B};
 ghost use Rattle.cc_site.specs.Moments.{Contents};
 ghost use Rattle.cc_node.specs.Node.{Node, after};
 ghost use Rattle.cc_node.specs.Sides.{IsArmed, StandsAt, StandsIn, Stands};
-ghost use Rattle.cc_node.specs.Good.{IsGoodAt, RestsAt};
+ghost use Rattle.cc_node.specs.Good.{AllMade, IsGoodAt, RestsAt};
+ghost use Rattle.cc_journal.specs.GoodSides.{HasGoodSides};
+ghost use Rattle.cc_journal.specs.Journals.{IsGood};
 ghost use Rattle.cc_checkpoint.specs.declared.open_fault.OpenFault.{OpenFault};
 ghost use Rattle.cc_flush.specs.Opening.{IsReadingFault, ReadingFails};
 
@@ -52,6 +54,12 @@ pub fn shut_side()
 pub fn good_for_more()
     ensures { (start : Node) (events more : List Event) (durable less opening : ℕ) (a b : List ℕ) (told : List Output)
         → less ≤ durable → IsGoodAt start events durable opening a b told → IsGoodAt start (events ++ more) less opening a b told }
+{}
+
+/// A moment is good just where the two sides are, and what was sent was made in the prefix that they stand for.
+pub fn good_parts()
+    ensures { (start : Node) (events : List Event) (durable opening : ℕ) (left : Contents) (told : List Output)
+        → IsGood start events durable opening left told ↔ ((sides : HasGoodSides start events durable left) × AllMade start (take sides.prefix events) opening told) }
 {}
 
 /// A side rests with all events just where the moment is good with all of them durable, and the side holds the node after

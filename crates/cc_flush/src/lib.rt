@@ -16,5 +16,5 @@ pub use actions::Action;
 pub use back::Back;
 pub use flusher::{CheckpointFault, Failed, Flusher};
 pub use formatting::{FormatFault, format};
-pub use laws::{good_for_more, node_or_fault, one_node, rests_with_all, shut_side};
+pub use laws::{good_for_more, good_parts, node_or_fault, one_node, rests_with_all, shut_side};
 pub use opened::Opened;

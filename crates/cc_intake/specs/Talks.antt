@@ -1,10 +1,10 @@
 -- How a worker talks with its source of events.
 --     Answer                  what an intake answers to an event
---     IsAnswer                one of this life answered so to this event
+--     IsAnswer                the intake of this life answered so to this event
 --     Spoke, Talks            the source gave events, each was answered, and the source heard the answers
 --     places_of, PlacesRise   how many were accepted, and that their places rise
 --     step, IsAbove           what one answer adds
-use Rattle.std.specs.Prelude.{◌≡◌, ◌<◌, ◌+◌, ℕ, List, [], ◌∷◌, length, Option, None, Some}
+use Rattle.std.specs.Prelude.{◌≡◌, ◌<◌, ◌+◌, ℕ, List, [], ◌∷◌, ◌++◌, length, Option, None, Some}
 use Rattle.std.specs.Prelude.{Result, Ok, Err}
 use Rattle.cc_wire.specs.declared.event.Event.{Event}
 use Rattle.cc_node.specs.Core.{made}
@@ -13,17 +13,20 @@ use Rattle.cc_journal.specs.declared.entry.Entry.{Entry}
 use Rattle.cc_intake.specs.declared.intake.Accepted.{Accepted}
 use Rattle.cc_intake.specs.declared.intake.Refused.{Refused}
 use Rattle.cc_intake.specs.Accepting.{Accepting}
-use Rattle.cc_intake.specs.Histories.{core_after, stirs}
+use Rattle.cc_intake.specs.Histories.{core_after, entry_at, stirs}
 use Rattle.cc_intake.specs.Refusals.{MayAccept, Refuses}
 
 abbrev pub Answer : Type 0
 Answer = Result Accepted Refused
 
--- There was an intake that took this very event in at that place, or one that refused it for this reason, after so many.
-abbrev pub IsAnswer : Node → (ℕ → List Entry → Type 0) → Event → Answer → Type 0
-IsAnswer opening taken e (Ok a) =
-    (i : Accepting) × MayAccept opening i e × (a.place ≡ length i.entries + 1) × (a.stirs ≡ stirs (made (core_after opening i.entries) e))
-IsAnswer opening taken e (Err r) = (i : Accepting) × (j : Accepting) × Refuses opening taken i e r.why j × (r.accepted ≡ length i.entries)
+-- An event that may be accepted was taken in at that place: at one moment it ended what had been accepted in this life. Or it
+-- was refused for this reason by what had been accepted at one moment, so many events.
+abbrev pub IsAnswer : Node → (List Entry → Type 0) → (ℕ → List Entry → Type 0) → Event → Answer → Type 0
+IsAnswer opening accepted taken e (Ok a) =
+    (i : Accepting) × MayAccept opening i e × accepted (i.entries ++ entry_at (core_after opening i.entries) e ∷ [])
+    × (a.place ≡ length i.entries + 1) × (a.stirs ≡ stirs (made (core_after opening i.entries) e))
+IsAnswer opening accepted taken e (Err r) =
+    (i : Accepting) × (j : Accepting) × accepted i.entries × Refuses opening taken i e r.why j × (r.accepted ≡ length i.entries)
 
 module _ {S : Type 0} (gives : S → Option Event → S → Type 0) (hears : S → Answer → S → Type 0) (answers : Event → Answer → Type 0) where
   -- from s to t it gave an event, this was answered, and it heard the answer, in turn

@@ -62,6 +62,7 @@ impl<L: Life> Ends<L> {
         requires lane { self ≡ Q.table }
         requires reached { (look : ℕ) (list : List EntryValue) → L.reached look list }
         requires taken { (look : ℕ) (list : List EntryValue) → L.taken look list }
+        requires accepted { (list : List EntryValue) → L.accepted list }
         ensures producer { result.1 ≡ record { entries = []; finds = 0 } }
         ensures consumer { result.2 ≡ record { entries = []; finds = 0 } }
     {
@@ -134,7 +135,7 @@ impl<L: Life, Q: Lane> Model for Producer<L, Q> {
 
     ghost view = { λ p. record { entries = (hand_of p.pass).sent; finds = (hand_of p.pass).finds } };
 
-    ghost invariant = { λ p. (p.pass.table_id ≡ Q.table) × (p.pass.me.1 ≡ []) × (hand_of p.pass ≡ producer (hand_of p.pass).sent (hand_of p.pass).finds) × ((look : ℕ) (list : List EntryValue) → L.reached look list) };
+    ghost invariant = { λ p. (p.pass.table_id ≡ Q.table) × (p.pass.me.1 ≡ []) × (hand_of p.pass ≡ producer (hand_of p.pass).sent (hand_of p.pass).finds) × ((look : ℕ) (list : List EntryValue) → L.reached look list) × ((list : List EntryValue) → L.accepted list) };
 }
 
 impl<L: Life, Q: Lane> Producer<L, Q> {
@@ -146,10 +147,11 @@ impl<L: Life, Q: Lane> Producer<L, Q> {
         entry: Entry,
     ) -> Result<(), Full>
         requires room { length self.old.entries < life_limit }
-        requires accepted { decides (core_after L.opening self.old.entries) entry.event ≡ None }
+        requires may_accept { decides (core_after L.opening self.old.entries) entry.event ≡ None }
         requires made { entry.made ≡ made (core_after L.opening self.old.entries) entry.event }
         ensures pushed { OnOk result (self.new ≡ record { entries = self.old.entries ++ entry ∷ []; finds = self.old.finds }) }
         ensures full { OnErr result ((self.new ≡ record { entries = self.old.entries; finds = self.old.finds + 1 }) × Held queue_limit (WasRest L.taken self.old.finds self.old.entries)) }
+        ensures accepted { L.accepted self.new.entries }
     {
         match queue.ring.push_as::<Push<L>, R>(rt, &mut self.pass, entry) {
             Ok(()) => Ok(()),

@@ -22,13 +22,18 @@ const SHARE_LIMIT: u64 = 1 << 20;
 // How many events are accepted in one life at most.
 const LIFE_LIMIT: u64 = 1 << 61;
 
-/// Why an event was refused.
-#[derive(Clone, Copy, Debug, PartialEq, Eq)]
+/// Why an event was refused. Only an intake makes one, and it can't be copied: so whoever has one was told it.
+#[derive(Debug, Drop)]
 pub struct Refused {
     pub why: Refusal,
     /// How many events of this life had been accepted by then: it was judged by the node after these.
     pub accepted: u64,
+    told: Told,
 }
+
+// An intake told it.
+#[derive(Debug, Drop)]
+struct Told;
 
 /// What is told of an accepted event.
 #[derive(Clone, Copy, Debug, PartialEq, Eq)]
@@ -127,7 +132,7 @@ impl<L: Life, Q: Lane> Model for Intake<L, Q> {
 
     ghost view = { λ i. record { entries = i.producer.entries; finds = i.producer.finds; issued = i.issued } };
 
-    ghost invariant = { λ i. (i.core ≡ core_after L.opening i.producer.entries) × (i.accepted ≡ length i.producer.entries) × (i.accepted ≤ life_limit) × (i.book.total ≡ i.accepted) × (i.unissued.parts + i.issued ≡ share_limit) × (i.unissued.amount ≡ 0) × (L.parts ≡ share_limit) };
+    ghost invariant = { λ i. (i.core ≡ core_after L.opening i.producer.entries) × (i.accepted ≡ length i.producer.entries) × (i.accepted ≤ life_limit) × (i.book.total ≡ i.accepted) × (i.unissued.parts + i.issued ≡ share_limit) × (i.unissued.amount ≡ 0) × (L.parts ≡ share_limit) × L.accepted i.producer.entries };
 }
 
 impl<L: Life, Q: Lane> Intake<L, Q> {
@@ -135,6 +140,7 @@ impl<L: Life, Q: Lane> Intake<L, Q> {
         requires core { core ≡ L.opening.core }
         requires producer { producer ≡ record { entries = []; finds = 0 } }
         requires ledger { (blank.name ≡ L.name) × (blank.parts ≡ L.parts) × (L.parts ≡ share_limit) }
+        requires accepted { L.accepted [] }
         ensures { result ≡ record { entries = []; finds = 0; issued = 0 } }
     {
         let (book, unissued) = blank.open::<L>();
@@ -200,13 +206,18 @@ impl<L: Life, Q: Lane> Intake<L, Q> {
         ensures counted { IfOk result (λ a. (share.new ≡ share.old + 1) × (share.old < a.place)) }
         ensures refused { IfErr result (λ r. Refuses L.opening L.taken self.old event r.why self.new × (r.accepted ≡ length self.old.entries)) }
         ensures uncounted { OnErr result (share.new ≡ share.old) }
+        ensures of_life { L.accepted self.old.entries × L.accepted self.new.entries }
     {
         let accepted = self.accepted;
         let answer = self.accept_event(rt, alloc, share, queue, &event);
         drop(event);
         match answer {
             Ok(answer) => Ok(answer),
-            Err(why) => Err(Refused { why, accepted }),
+            Err(why) => Err(Refused {
+                why,
+                accepted,
+                told: Told,
+            }),
         }
     }
 
@@ -225,6 +236,7 @@ impl<L: Life, Q: Lane> Intake<L, Q> {
         ensures counted { IfOk result (λ a. (share.new ≡ share.old + 1) × (share.old < a.place)) }
         ensures refused { IfErr result (λ r. Refuses L.opening L.taken self.old event.now r self.new) }
         ensures uncounted { OnErr result (share.new ≡ share.old) }
+        ensures of_life { L.accepted self.old.entries × L.accepted self.new.entries }
     {
         let entry = self.prepared(alloc, event)?;
         let stirs = stirs(&entry.made);

@@ -29,6 +29,7 @@ pub fn start<S: Site, L: Life, Q: Lane>(
     requires ledger { (blank.name ≡ L.name) × (blank.parts ≡ L.parts) × (L.parts ≡ share_limit) }
     requires reached { (look : ℕ) (list : List Entry) → L.reached look list }
     requires taken { (look : ℕ) (list : List Entry) → L.taken look list }
+    requires accepted { (list : List Entry) → L.accepted list }
     requires flushed { (count : ℕ) → L.flushed count }
     requires lane { ends ≡ Q.table }
     ensures intake { result.0 ≡ record { entries = []; finds = 0; issued = 0 } }

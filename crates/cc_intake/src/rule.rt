@@ -13,8 +13,8 @@ use std::sync::ledger::Ledger;
 ///
 /// That a list was reached is known to the end of the queue that pushes, and that a list was taken to the end that pops. The
 /// other end knows it only where it looked at the queue: the rule tells it of what is pushed and popped now, under the number
-/// of that look, and of no other list. How many events were flushed is known to the turner, and to others only by what a turn
-/// tells.
+/// of that look, and of no other list. Which lists were accepted is known to the end that pushes, and to others only by what an
+/// intake answers. How many events were flushed is known to the turner, and to others only by what a turn tells.
 pub trait Life: Ledger {
     ghost use Rattle.std.specs.Prelude.{List, ℕ};
     ghost use Rattle.cc_node.specs.Node.{Node};
@@ -29,6 +29,9 @@ pub trait Life: Ledger {
     /// At the look of this number that found the queue full, this was all that had been popped.
     ghost taken: { ℕ → List Entry → Type 0 };
 
+    /// At one moment this was all that had been accepted.
+    ghost accepted: { List Entry → Type 0 };
+
     /// So many events of this life had been made durable at one moment.
     ghost flushed: { ℕ → Type 0 };
 }
@@ -41,6 +44,8 @@ impl Life for Brand {
     ghost reached = { λ look list. Unit {0} };
 
     ghost taken = { λ look list. Unit {0} };
+
+    ghost accepted = { λ list. Unit {0} };
 
     ghost flushed = { λ count. Unit {0} };
 }

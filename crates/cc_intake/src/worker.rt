@@ -43,7 +43,7 @@ pub fn work<L: Life, Q: Lane, H: Hooks, S: Source, R: Wait>(
     hooks: &H,
     source: &mut S,
 )
-    ensures { (answers : List Answer) × Talks S.gives S.hears (IsAnswer L.opening L.taken) source.old answers source.new × (share.new ≡ share.old + places_of answers) × PlacesRise share.old answers }
+    ensures { (answers : List Answer) × Talks S.gives S.hears (IsAnswer L.opening L.accepted L.taken) source.old answers source.new × (share.new ≡ share.old + places_of answers) × PlacesRise share.old answers }
 {
     for _ in rt.forever() {
         let Some(event) = source.next() else {
@@ -66,7 +66,7 @@ fn bring<L: Life, Q: Lane, R: Wait>(
     share: &mut Share<L>,
     event: Event,
 ) -> Result<Accepted, Refused>
-    ensures answer { IsAnswer L.opening L.taken event result }
+    ensures answer { IsAnswer L.opening L.accepted L.taken event result }
     ensures count { share.new ≡ step result share.old }
     ensures above { IsAbove result share.old }
 {

@@ -9,6 +9,7 @@ use Rattle.cc_site.specs.declared.site.Site.{Ghosts}
 use Rattle.cc_site.specs.Sides.{SideState, MayLeave}
 use Rattle.cc_site.specs.Moments.{Contents, Possible}
 use Rattle.cc_site.specs.Runs.{OnlyNow, started, joined, weaker}
+use Rattle.cc_journal.specs.GoodSides.{MayBeLeft}
 use Rattle.cc_journal.specs.Outlet.{IsPutting, Puts}
 
 -- nothing has been put yet
@@ -51,6 +52,7 @@ module _ {D : Type 0} (s : Ghosts D) where
     same_state = λ _. refl;
     told = λ t. (t, sym (append-nil (s.sent site)));
     moments = λ h _. started s site (IsPutting (s.state site) (s.sent site) []) (λ left told since. putting_none (s.state site) (s.sent site) [] left told (only h left told since));
+    contents = λ h. started s site (λ left told. MayBeLeft (s.state site) left) (λ left told since. (only h left told since).each);
     same_failures = refl;
   }
 
@@ -69,6 +71,10 @@ module _ {D : Type 0} (s : Ghosts D) where
         (putting_first (s.state old) (s.sent old) xs ys))
         (weaker s mid new (IsPutting (s.state mid) (s.sent mid) ys) (IsPutting (s.state old) (s.sent old) (xs ++ ys)) (then.moments (first.same_honest.0 h) t)
         (putting_then (s.state old) (s.state mid) (s.sent old) (s.sent mid) xs ys (first.same_state h) (first.told after.0).1));
+    contents = λ h.
+        joined s old mid new (λ left told. MayBeLeft (s.state old) left) (first.contents h)
+        (weaker s mid new (λ left told. MayBeLeft (s.state mid) left) (λ left told. MayBeLeft (s.state old) left) (then.contents (first.same_honest.0 h))
+        (λ left told may side. subst (λ (t : Side → SideState). MayLeave (t side) (left side)) (first.same_state h) (may side)));
     same_failures = then.same_failures ∙ first.same_failures;
   }
 

@@ -1,6 +1,8 @@
 pub mod Batches
 pub mod BatchLaws
 pub mod Journals
+pub mod GoodSides
+pub mod GoodSideLaws
 pub mod Outlet
 pub mod Codes
 pub mod Scanning

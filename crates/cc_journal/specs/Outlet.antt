@@ -22,6 +22,7 @@ use Rattle.cc_site.specs.Sides.{SideState, MayLeave}
 use Rattle.cc_site.specs.Moments.{Contents}
 use Rattle.cc_site.specs.Runs.{EachMoment}
 use Rattle.cc_journal.specs.declared.outlet.Answered.{Answered}
+use Rattle.cc_journal.specs.GoodSides.{MayBeLeft, EachLeaves}
 
 pub record IsPutting (state : Side → SideState) (sent more : List Output) (left : Contents) (told : List Output) : Type 0 where
   pub each : (side : Side) → MayLeave (state side) (left side)
@@ -35,6 +36,8 @@ pub record Puts {D : Type 0} (s : Ghosts D) (outputs : List Output) (old new : D
   pub same_state : s.honest old → s.state new ≡ s.state old
   pub told : s.tells new → s.tells old × (s.sent new ≡ s.sent old ++ outputs)
   pub moments : s.honest old → s.tells new → EachMoment s old new (IsPutting (s.state old) (s.sent old) outputs)
+  -- at each moment a crash leaves what it might have left before, also where the outlet doesn't tell
+  pub contents : s.honest old → EachLeaves s (MayBeLeft (s.state old)) old new
   pub same_failures : s.failures new ≡ s.failures old
 
 abbrev pub on_link : Core → Message → LinkRow → List Output

@@ -5,7 +5,7 @@ ghost use Rattle.std.specs.Vec.{vec_capacity};
 ghost use Rattle.cc_wire.specs.declared.event.Event.{Event};
 ghost use Rattle.cc_wire.specs.Events.{IsEvent};
 ghost use Rattle.cc_site.specs.declared.site.Call.TheVariants.{Write, Sync};
-ghost use Rattle.cc_site.specs.Sides.{other, touch};
+ghost use Rattle.cc_site.specs.Sides.{other, HalfWritten};
 ghost use Rattle.cc_site.specs.Moments.{Rose};
 ghost use Rattle.cc_node.specs.Node.{Node as NodeValue, after, line};
 ghost use Rattle.cc_node.specs.Sides.{StandsBehind, SpellsBatch};
@@ -158,7 +158,7 @@ impl Journal {
         ensures tells { (S.tells site.old ↔ S.tells site.new) × (S.sent site.new ≡ S.sent site.old) }
         ensures other_side { S.honest site.old → S.state site.new (other self.old.side) ≡ S.state site.old (other self.old.side) }
         ensures holds { S.honest site.old → OnOk result (S.state site.new self.old.side ≡ with_record (S.state site.old self.old.side) self.old.place batch) }
-        ensures failed { S.honest site.old → OnErr result ((S.state site.new self.old.side ≡ touch (S.state site.old self.old.side) (self.old.place + 1) (length (batch_bytes batch))) ⊎ (S.state site.new self.old.side ≡ S.state site.old self.old.side)) }
+        ensures failed { S.honest site.old → OnErr result (HalfWritten (S.state site.old self.old.side) (self.old.place + 1) (length (batch_bytes batch)) (S.state site.new self.old.side) ⊎ (S.state site.new self.old.side ≡ S.state site.old self.old.side)) }
         ensures every_moment { S.honest site.old → (generation : ℕ) → KeepsGood S.Site (RestsNow S.Site site.old self.old generation) (events_in batch) site.old site.new }
         ensures at_rest { S.honest site.old → (generation : ℕ) (start : NodeValue) (events : List Event) (opening : ℕ)
             → RestsNow S.Site site.old self.old generation start events opening → RestsNow S.Site site.new self.old generation start events opening }

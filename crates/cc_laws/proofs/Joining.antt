@@ -1,7 +1,7 @@
 -- All lives of a node are one history.
 --     later_made     what was made from a later point on, or stood there, was made from the start on
 --     join           the lives of a lawful node, and the list of events that they are
-use Rattle.std.proofs.Common.{◌≡◌, ◌⊎◌, inl, inr, ℕ, List, [], ◌∷◌, ◌++◌, take, drop, sym, subst, ◌∙◌, arith, take-append-drop}
+use Rattle.std.proofs.Common.{◌≡◌, ◌⊎◌, inl, inr, ℕ, List, [], ◌∷◌, ◌++◌, take, drop, refl, sym, subst, ◌∙◌, arith, take-append-drop}
 use Rattle.std.specs.List.{Contains}
 use Rattle.std.proofs.lemmas.List.Elements.{Contains-append_right, Contains-append_cases}
 use Rattle.cc_wire.specs.declared.event.Event.{Event}
@@ -28,7 +28,7 @@ OneNode = (a b : List ℕ) (n m : Node) → Stands a b n → Stands a b m → n 
 
 module _ (one_node : OneNode) where
   pub join : (n : Node) (ls : List Life) (m : Node) → IsLawfulNode n → LivesFrom n ls m → (es : List Event) × IsHistoryOf n ls m es
-  join n [] m start lives = ([], record { lawful = tt; leads_to = lives; made = none_put n })
+  join n [] m start lives = ([], record { lawful = tt; leads_to = lives; made = none_put n; parts = refl })
   join n (l ∷ ls) m start lives =
       let good = lives.0.good in
       let front = take good.prefix l.events in
@@ -41,6 +41,7 @@ module _ (one_node : OneNode) where
           lawful = IsLawful-append n front rest.0 lawful rest.1.lawful;
           leads_to = rest.1.leads_to ∙ sym (after-append n front rest.0);
           made = λ o has. either_made n front rest.0 o start lawful (put_by l) (put_along ls) (good.made o) (rest.1.made o) (Contains-append_cases (put_by l) (put_along ls) o has);
+          parts = record { kept = good.prefix; has_durable = good.has_durable; within = good.within; opened = good.stands; rest = rest.0; parts = refl; follows = rest.1.parts };
         },
       )
     where

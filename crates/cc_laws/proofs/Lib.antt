@@ -10,6 +10,8 @@ mod OwnRows
 mod OwnWrites
 mod Appearing
 mod Joining
+mod Accepted
+mod FirstLives
 mod Holding
 mod Members
 mod Clustering

@@ -1,15 +1,20 @@
-//! The laws of a node's whole life, crashes included, and of a cluster. Each is a function whose contract is the law.
+//! The laws of a node's whole life, crashes included, and of a cluster. Each is a function whose contract is the law; and a
+//! first life in calls of the engine, where the code meets them.
 #![tactic(auto)]
 
 mod clusters;
 mod histories;
 mod lives;
+mod living;
 mod regular;
 mod rounds;
 
 pub use clusters::cluster_agrees;
 pub use histories::{one_line, outputs_have_events, views_follow};
-pub use lives::{lives_hold, lives_join, moments_end_lives};
+pub use lives::{
+    crashes_end_lives, history_is_accepted, lives_hold, lives_join, moments_end_lives,
+};
+pub use living::{Stopped, live_once, live_once_in_memory};
 pub use regular::{
     collects_are_regular, members_collect_regularly, objects_are_regular, quorums_meet,
     shared_nodes_tell, shared_nodes_tell_readings, two_nodes_collect,

@@ -1,8 +1,5 @@
 //! The connections that are open, and which of them asked last in each session.
 
-ghost use Rattle.std.specs.Prelude.{◌≤◌};
-
-use crate::durable::{Durable, Flushed};
 use crate::stop::Stop;
 use cc_ops::Asked;
 use cc_protocol::{Admitted, Origin, Routes, Speakers, Spoken};
@@ -17,17 +14,6 @@ use std::sync::{Arc, Mutex, Wait};
 // How many bytes wait for one connection at most.
 const MOST_WAITING: u64 = 262_144;
 
-/// Where the refusals go that a worker tells.
-pub trait Replies {
-    /// Tells that something was refused, which was judged after so many events: not before these are durable. May wait for
-    /// room: only the worker of this very connection calls it.
-    fn refuse<R: Wait, F: Flushed>(&self, rt: &R, bytes: Vec<u8>, judged: u64, durable: Durable<F>)
-        requires { judged ≤ durable };
-
-    /// An answer is lost for want of memory: its client has to ask again, over another connection.
-    fn give_up(&self);
-}
-
 /// One connection: its socket, and the channel to its writer.
 #[derive(Drop)]
 pub struct Door {
@@ -37,19 +23,6 @@ pub struct Door {
     waiting: Arc<AtomicU64>,
     // It is closed.
     over: Stop,
-}
-
-impl Replies for Door {
-    fn refuse<R: Wait, F: Flushed>(&self, rt: &R, bytes: Vec<u8>, judged: u64, durable: Durable<F>)
-        requires { judged ≤ durable }
-    {
-        self.waiting.fetch_add(bytes.len() as u64, Ordering::SeqCst);
-        let _ = self.out.send(rt, bytes);
-    }
-
-    fn give_up(&self) {
-        self.close();
-    }
 }
 
 impl Door {
@@ -80,6 +53,12 @@ impl Door {
         if is_plenty || self.out.try_send(rt, bytes).is_err() {
             self.close();
         }
+    }
+
+    /// Passes bytes on, and waits for room: only the worker of this very connection calls it.
+    pub fn pass_in_turn<R: Wait>(&self, rt: &R, bytes: Vec<u8>) {
+        self.waiting.fetch_add(bytes.len() as u64, Ordering::SeqCst);
+        let _ = self.out.send(rt, bytes);
     }
 
     /// Ends reads and writes that wait.

@@ -13,7 +13,7 @@ mod stop;
 mod writing;
 
 pub use bell::Bell;
-pub use doors::{Door, Doors, Replies};
+pub use doors::{Door, Doors};
 pub use durable::{Durable, Flushed};
 pub use lines::{FarEnd, Line, OwnLine, lines_to, own_line};
 pub use room::{NoSeat, Room};

@@ -1,4 +1,6 @@
 pub mod AbsentLaws
+pub mod AloneLaws
+pub mod Unaware
 pub mod CoreLaws
 pub mod Deciding
 pub mod Effects

@@ -1,7 +1,7 @@
 -- Asks begin in the order in which they were accepted; and what is taken where none may wait is taken where some may.
 --     begin_in_order             what waited and what was accepted is what began and what waits still
 --     taken_within, taken_along  what isn't refused where no ask may wait isn't refused;  the same along a list
---     none_waiting_along         and none waits then
+--     none_waiting, .._along     and none waits then
 use Rattle.std.proofs.Common.{◌≡◌, ℕ, Bool, true, false, not, ◌&&◌, ◌||◌, nat_le, List, [], ◌∷◌, ◌++◌, length, refl, sym, ap, ◌∙◌, arith}
 use Rattle.std.specs.Prelude.{Option, Some, None, if◌then◌else◌}
 use Rattle.std.specs.Bool.{then_some}
@@ -119,7 +119,7 @@ none_asked c s r k none idle =
     let a = asked_of s r k in
     ap (λ b. (if b then ops.with_begun c.me (quorum c) a c.ops else record c.ops { line = c.ops.line ++ a ∷ [] }).line) idle ∙ begun_line c.me (quorum c) a c.ops ∙ none
 
-none_waiting : (c : Core) (e : Event) → c.ops.line ≡ [] → decides_within 0 c e ≡ None → (next c e).ops.line ≡ []
+pub none_waiting : (c : Core) (e : Event) → c.ops.line ≡ [] → decides_within 0 c e ≡ None → (next c e).ops.line ≡ []
 unfolding next
 none_waiting c event.Enter none d = none
 none_waiting c event.Leave none d = none

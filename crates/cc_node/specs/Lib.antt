@@ -1,6 +1,7 @@
 pub mod Core
 pub mod Refusals
 pub mod Node
+pub mod OneAtATime
 pub mod Lawful
 pub mod Opening
 pub mod Codes

@@ -1,6 +1,6 @@
 //! The laws of a node's histories. Each is a function with an empty body, whose contract is the law.
 
-ghost use Rattle.std.specs.Prelude.{◌≡◌, ◌≢◌, ◌+◌, ◌-◌, ◌≤◌, ◌++◌, ℕ, List, [], None, Some, true, false};
+ghost use Rattle.std.specs.Prelude.{◌≡◌, ◌≢◌, ◌↔◌, ◌+◌, ◌-◌, ◌≤◌, ◌++◌, ℕ, List, [], None, Some, true, false};
 ghost use Rattle.std.specs.FinMap as table;
 ghost use Rattle.std.specs.List.{All, AllPairs};
 ghost use Rattle.cc_views.specs.Merge.{IsAtMost};
@@ -16,9 +16,11 @@ ghost use Rattle.cc_wire.specs.declared.message.Message.TheVariants as message;
 ghost use Rattle.cc_ops.specs.Ops.{merged, after_message};
 ghost use Rattle.cc_ops.specs.OwnLaws.{AsksAnewAlone};
 ghost use Rattle.cc_wire.specs.declared.output.Output.{Output};
+ghost use Rattle.cc_ops.specs.declared.pending.Asked.{Asked};
 ghost use Rattle.cc_ops.specs.Waiting.{writes, mine_after, writes_by, written_by};
 ghost use Rattle.cc_node.specs.Core.{Core, quorum, churned, churn_told, asks_anew, ops_anew, begun, next};
 ghost use Rattle.cc_node.specs.Node.{Node, step, after, line, HasOutput, MayBeOut, IsLawful, IsLawfulWithin};
+ghost use Rattle.cc_node.specs.OneAtATime.{waiting, decides_alone, next_alone, post_alone, step_alone, after_alone, line_alone, IsLawfulAlone};
 ghost use Rattle.cc_node.specs.Refusals.{decides, decides_within, row_overruns};
 ghost use Rattle.cc_node.specs.Sides.{SpellsRecord};
 ghost use Rattle.cc_node.specs.Lawful.{IsLawfulNode};
@@ -58,6 +60,20 @@ pub fn lines_may_grow()
     ensures event { (c : Core) (e : Event) → decides_within 0 c e ≡ None → decides c e ≡ None }
     ensures lawful { (n : Node) (es : List Event) → IsLawfulWithin 0 n es → IsLawful n es }
     ensures none_waits { (n : Node) (es : List Event) → n.core.ops.line ≡ [] → IsLawfulWithin 0 n es → (after n es).core.ops.line ≡ [] }
+{}
+
+/// Lines of asks that wait add nothing where none waits: where none may, what is refused and why, what an event leaves and
+/// what it puts out are as the rule of one operation at a time has it. That rule neither changes the asks that wait nor reads
+/// them.
+pub fn lines_add_nothing()
+    ensures refused { (c : Core) (e : Event) → c.ops.line ≡ [] → decides_alone c e ≡ decides_within 0 c e }
+    ensures step { (n : Node) (e : Event) → n.core.ops.line ≡ [] → decides_within 0 n.core e ≡ None → step_alone n e ≡ step n e }
+    ensures lawful { (n : Node) (es : List Event) → n.core.ops.line ≡ [] → (IsLawfulAlone n es ↔ IsLawfulWithin 0 n es) }
+    ensures after { (n : Node) (es : List Event) → n.core.ops.line ≡ [] → IsLawfulWithin 0 n es → after_alone n es ≡ after n es }
+    ensures line { (n : Node) (es : List Event) → n.core.ops.line ≡ [] → IsLawfulWithin 0 n es → line_alone n es ≡ line n es }
+    ensures leaves { (c : Core) (e : Event) → (next_alone c e).ops.line ≡ c.ops.line }
+    ensures unaware { (c : Core) (asks : List Asked) (e : Event) → (next_alone (waiting asks c) e ≡ waiting asks (next_alone c e))
+        × (post_alone (waiting asks c) e ≡ post_alone c e) × (decides_alone (waiting asks c) e ≡ decides_alone c e) }
 {}
 
 /// What a node may put out again stood at the start, or was made for an event since.

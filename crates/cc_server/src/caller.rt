@@ -8,10 +8,11 @@ use crate::duties::duty_of;
 use crate::meeting::Meeting;
 use crate::of_life::OfLife;
 use crate::office::Office;
+use crate::replies::Replies;
 use crate::shared::Shared;
 use cc_frames::Frame;
 use cc_intake::{Accepted, Hooks, Lane, Life, Refused, Share, Source};
-use cc_lines::{Flushed, NoSeat, Replies, Room, Seating, bytes_of};
+use cc_lines::{Flushed, NoSeat, Room, Seating, bytes_of};
 use cc_protocol::{Duty, Ending, Incoming, Input, event_of};
 use cc_views::NodeId;
 use cc_wire::{Event, Refusal};
@@ -125,7 +126,7 @@ impl<R: Wait + Eprint, I: Input, S: Seating, D: Replies, F: Flushed> Caller<'_, 
     }
 
     // What the answer to an event makes of its seat and its route, and whom it was news of.
-    fn note(&self, event: &Event, answer: Result<Accepted, Refused>) {
+    fn note(&self, event: &Event, answer: &Result<Accepted, Refused>) {
         match answer {
             Ok(_) => {
                 self.room.accept();
@@ -152,18 +153,19 @@ impl<R: Wait + Eprint, I: Input, S: Seating, D: Replies, F: Flushed> Caller<'_, 
     }
 
     // Tells a client why not, once all is durable that this was judged by.
-    fn refuse(&self, frame: &Frame, judged: u64) {
+    fn refuse(&self, frame: &Frame, refused: Refused) {
+        let judged = refused.accepted;
         let Some(durable) = self.room.settle(self.rt, &self.shared.bell, judged) else {
             return;
         };
         match bytes_of(self.alloc, frame) {
-            Ok(bytes) => self.door.refuse(self.rt, bytes, judged, durable),
+            Ok(bytes) => self.door.refuse(self.rt, bytes, refused, durable),
             Err(_) => self.door.give_up(),
         }
     }
 
-    // Does what an answer asks for, which was given after so many events. Whether the event is to be given again.
-    fn act(&self, duty: Duty, judged: u64) -> bool
+    // Does what an answer asks for. Whether the event is to be given again.
+    fn act(&self, duty: Duty, answer: Result<Accepted, Refused>) -> bool
         ensures { result ≡ brings_again duty }
     {
         match duty {
@@ -172,7 +174,11 @@ impl<R: Wait + Eprint, I: Input, S: Seating, D: Replies, F: Flushed> Caller<'_, 
             Duty::Nothing => {}
             Duty::Reack(peer) => self.shared.reack(self.rt, peer),
             Duty::Again(session) => self.shared.again(self.rt, session),
-            Duty::Refuse(frame) => self.refuse(&frame, judged),
+            Duty::Refuse(frame) => {
+                if let Err(refused) = answer {
+                    self.refuse(&frame, refused);
+                }
+            }
             Duty::BringAgain => return true,
         }
         false
@@ -205,12 +211,9 @@ impl<R: Wait + Eprint, I: Input, S: Seating, D: Replies, F: Flushed> Source
         let Some(event) = self.given.take() else {
             return;
         };
-        self.note(&event, answer);
-        let judged = match answer {
-            Ok(_) => 0,
-            Err(refused) => refused.accepted,
-        };
-        let is_due = self.act(duty_of(&event, answer), judged);
+        self.note(&event, &answer);
+        let duty = duty_of(&event, &answer);
+        let is_due = self.act(duty, answer);
         self.due = if is_due { Some(event) } else { None };
     }
 }
@@ -230,7 +233,7 @@ pub fn serve<R: Wait + Eprint, H: Hooks, L: Life, Q: Lane, I: Input + Drop, S: S
     share: &mut Share<L>,
 ) -> Done
     ensures { (answers : List Answer) × (share.new ≡ share.old + places_of answers) × PlacesRise share.old answers
-        × IfSome (I.remaining reader) (λ bytes. Brings I.may_fail S.may_turn_away (IsAnswer L.opening L.taken) result None bytes answers) }
+        × IfSome (I.remaining reader) (λ bytes. Brings I.may_fail S.may_turn_away (IsAnswer L.opening L.accepted L.taken) result None bytes answers) }
 {
     let alloc = office.alloc;
     let Ok(frames) = Incoming::new(alloc, reader) else {

@@ -8,8 +8,8 @@ use cc_protocol::{Duty, heed};
 use cc_wire::Event;
 
 /// What the answer to an event asks of the worker that brought it.
-pub fn duty_of(event: &Event, answer: Result<Accepted, Refused>) -> Duty
-    ensures { result ≡ duty_of event.now answer }
+pub fn duty_of(event: &Event, answer: &Result<Accepted, Refused>) -> Duty
+    ensures { result ≡ duty_of event.now answer.now }
 {
     match answer {
         Ok(accepted) => heed(event, Ok(accepted.stirs)),

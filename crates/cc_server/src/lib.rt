@@ -13,6 +13,7 @@ mod meeting;
 mod of_life;
 mod office;
 mod own;
+mod replies;
 mod run;
 mod run_fault;
 mod shared;

@@ -67,7 +67,7 @@ impl<R: Wait, F: Flushed> Source for Own<'_, R, F> {
         let Some(event) = &self.given else {
             return;
         };
-        let duty = duty_of(event, answer);
+        let duty = duty_of(event, &answer);
         match answer {
             Ok(_) => self.room.accept(),
             Err(_) => self.room.leave(self.rt),

@@ -137,7 +137,7 @@ where
 }
 
 // Runs a node whose folder is open.
-fn run_opened<R, H: Hooks + Sync, S: Site + Send + Drop>(
+fn run_opened<R, H: Hooks + Sync, S: Site + Drop>(
     run: &Run<'_, R, H>,
     listener: Option<TcpListener>,
     inlets: Inlets,
@@ -206,7 +206,7 @@ fn note<R: Eprint, H>(run: &Run<'_, R, H>, me: NodeId, what: &str, address: Sock
     info!(logged; "node {} {} at {}", me.number(), what, address);
 }
 
-fn run_as<L: Life + Send + Sync, S: Site + Send + Drop, R, H: Hooks + Sync>(
+fn run_as<L: Life + Send + Sync, S: Site + Drop, R, H: Hooks + Sync>(
     run: &Run<'_, R, H>,
     ready: Ready<S>,
     blank: Blank,
@@ -219,6 +219,7 @@ where
     requires ledger { (blank.name ≡ L.name) × (blank.parts ≡ L.parts) × (L.parts ≡ share_limit) }
     requires reached { (look : ℕ) (list : List EntryValue) → L.reached look list }
     requires taken { (look : ℕ) (list : List EntryValue) → L.taken look list }
+    requires accepted { (list : List EntryValue) → L.accepted list }
     requires flushed { (count : ℕ) → L.flushed count }
 {
     match (
@@ -236,7 +237,7 @@ where
     }
 }
 
-fn run_at<L: Life + Send + Sync, Q: Lane + Send + Sync, S: Site + Send + Drop, R, H: Hooks + Sync>(
+fn run_at<L: Life + Send + Sync, Q: Lane + Send + Sync, S: Site + Drop, R, H: Hooks + Sync>(
     run: &Run<'_, R, H>,
     ready: Ready<S>,
     blank: Blank,
@@ -252,6 +253,7 @@ where
     requires ledger { (blank.name ≡ L.name) × (blank.parts ≡ L.parts) × (L.parts ≡ share_limit) }
     requires reached { (look : ℕ) (list : List EntryValue) → L.reached look list }
     requires taken { (look : ℕ) (list : List EntryValue) → L.taken look list }
+    requires accepted { (list : List EntryValue) → L.accepted list }
     requires flushed { (count : ℕ) → L.flushed count }
     requires lane { ends ≡ Q.table }
 {

@@ -35,8 +35,9 @@ pub struct FarEnds {
     pub own: Receiver<Option<Event>>,
 }
 
-/// Starts the flusher and the ticker, serves, and ends them. None where a thread can't be made.
-pub fn live<'x, L: Life + Send + Sync, Q: Lane + Send + Sync, S: Site + Send, R, H: Hooks + Sync>(
+/// Starts the ticker and what serves, flushes in this thread until all is done, and ends them. None where a thread can't be
+/// made.
+pub fn live<'x, L: Life + Send + Sync, Q: Lane + Send + Sync, S: Site, R, H: Hooks + Sync>(
     office: &'x Office<'x, R, H, L, Q>,
     turner: &'x mut Turner<S, L, Q>,
     watch: Watch<'x>,
@@ -57,18 +58,18 @@ where
         thread::scope_env(),
         rt,
         move |scope| -> Option<Result<(), Failed>>
-            requires { IsSend L.row × IsSend Q.row × IsSend S.row }
+            requires { IsSend L.row × IsSend Q.row }
         {
-            let flusher = scope
-                .spawn(move || flush_until(rt, turner, queue, room, &watch))
-                .ok()?;
-            let ticks = scope
+            scope
                 .spawn(move || tick_until(rt, shared, address, stop))
-                .is_ok();
-            let is_served = ticks && serve_all(office, ends, listener, stop);
-            shared.done.set();
-            shared.bell.ring();
-            match flusher.join(rt) {
+                .ok()?;
+            let Ok(server) = scope.spawn(move || serve_until(office, ends, listener, stop)) else {
+                shared.done.set();
+                return None;
+            };
+            let outcome = flush_until(rt, turner, queue, room, &watch);
+            let is_served = server.join(rt);
+            match outcome {
                 Ok(()) if !is_served => None,
                 outcome => Some(outcome),
             }
@@ -88,6 +89,22 @@ fn flush_until<S: Site, L: Life, Q: Lane, R: Wait>(
     watch.shared.ended.set();
     room.close(rt);
     outcome
+}
+
+// Serves until a flag is set, and then tells the flusher that nothing more comes. Whether it served.
+fn serve_until<L: Life + Send + Sync, Q: Lane + Send + Sync, R, H: Hooks + Sync>(
+    office: &Office<'_, R, H, L, Q>,
+    ends: FarEnds,
+    listener: &TcpListener,
+    stop: &Stop,
+) -> bool
+where
+    R: Net<Listener = TcpListener, Stream = TcpStream> + Threads + Wait + Clock + Eprint + Sync,
+{
+    let is_served = serve_all(office, ends, listener, stop);
+    office.shared.done.set();
+    office.shared.bell.ring();
+    is_served
 }
 
 // Ticks until all is done. Once it is to end, each tick wakes the acceptor too.

@@ -1,6 +1,7 @@
 -- What a disk call leaves of the contents that were possible before it.
 --     KeepsFront, touch_keeps, shift_keeps     the bytes in front of its range
 --     restored                                 for a write of one byte: all, once that byte is as it was read
+--     or_false                                 two tests that fail
 use Rattle.std.proofs.Common.{◌≡◌, inl, inr, ℕ, zero, suc, ◌+◌, ◌-◌, ◌<◌, ◌≤◌, min, Bool, false, ◌||◌, ◌&&◌, cond, nat_le, nat_lt, List, [], ◌∷◌, ◌++◌, length, take, drop, set, get_or, slice_index, Option, None, Some, unwrap_or, refl, sym, ◌∙◌, ap, arith, length-append, length-drop, get_or-drop, get_or-take}
 use Rattle.std.proofs.Math.ListN.{replicate}
 use Rattle.std.proofs.lemmas.Bool.{cases_lt, cases_eq, lt-leb, le-ltb, and_left, and_right}
@@ -8,7 +9,7 @@ use Rattle.std.proofs.lemmas.List.{length-set, length-replicate, length-take-le,
 use Rattle.cc_site.specs.Sides.{SideState, MayLeave, firm, touch, shift}
 use Rattle.cc_site.specs.SideLaws.{firm-touch}
 
-or_false : (x y : Bool) → x ≡ false → y ≡ false → (x || y) ≡ false
+pub or_false : (x y : Bool) → x ≡ false → y ≡ false → (x || y) ≡ false
 or_false x y is is' = ap (λ (b : Bool). b || y) is ∙ is'
 
 zeros : (w i : ℕ) → ◌≡◌ {A = ℕ} (get_or {A = ℕ} (replicate w 0) i 0) 0

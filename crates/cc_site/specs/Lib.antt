@@ -1,6 +1,7 @@
 pub mod Sides
 pub mod SideLaws
 pub mod FrontLaws
+pub mod HalfLaws
 pub mod Gates
 pub mod Moments
 pub mod Runs

@@ -4,6 +4,8 @@
 --     touch, overwritten, written         while a write runs;  its bytes after it;  the side after it
 --     shift, cut_to                       while a cut runs;  after it
 --     settled, durable                    after a sync;  a side with these bytes, all of them made sure of
+--     IsHalfway                           a change of it was begun, and failed
+--     HalfWritten, HalfCut                so it is with a write, and with a cut
 --     MayHaveWritten, MayHaveCut          where a write or a cut fails, or the sync behind it
 use Rattle.std.specs.Prelude.{◌≡◌, ◌⊎◌, ℕ, ◌+◌, ◌<◌, ◌≤◌, min, Bool, false, ◌||◌, ◌&&◌, nat_le, nat_lt, if◌then◌else◌, List, ◌++◌, length, take, drop, slice_index, Option, None, Some, unwrap_or}
 use Rattle.cc_site.specs.declared.site.Side.{Side}
@@ -60,10 +62,24 @@ settled s = record { bytes = s.bytes; touched = λ _. false; shifted = None }
 abbrev pub durable : List ℕ → SideState
 durable bytes = record { bytes = bytes; touched = λ _. false; shifted = None }
 
--- where a write fails, or the sync behind it: nothing has changed, or the write may have touched its range, or it was made
+-- The change was begun, and failed: in its range a read gives any bytes that a crash might leave there, if all was sure
+-- before. Whatever else was touched and not made sure of is read as before.
+pub record IsHalfway (change : SideState → SideState) (old new : SideState) : Type 0 where
+  pub marked : new ≡ record (change old) { bytes = new.bytes }
+  pub reads : MayLeave (change (settled old)) new.bytes
+
+-- a write of n bytes from `at` on
+abbrev pub HalfWritten : SideState → ℕ → ℕ → SideState → Type 0
+HalfWritten old at n new = IsHalfway (λ s. touch s at n) old new
+
+-- a cut to this length
+abbrev pub HalfCut : SideState → ℕ → SideState → Type 0
+HalfCut old len new = IsHalfway (λ s. shift s len) old new
+
+-- where a write fails, or the sync behind it: nothing has changed, or the write was made in part, or it was made
 abbrev pub MayHaveWritten : SideState → ℕ → List ℕ → SideState → Type 0
-MayHaveWritten old at bytes new = (new ≡ old) ⊎ ((new ≡ touch old at (length bytes)) ⊎ (new ≡ written old at bytes))
+MayHaveWritten old at bytes new = (new ≡ old) ⊎ (HalfWritten old at (length bytes) new ⊎ (new ≡ written old at bytes))
 
 -- the same for a cut
 abbrev pub MayHaveCut : SideState → ℕ → SideState → Type 0
-MayHaveCut old len new = (new ≡ old) ⊎ ((new ≡ shift old len) ⊎ (new ≡ cut_to old len))
+MayHaveCut old len new = (new ≡ old) ⊎ (HalfCut old len new ⊎ (new ≡ cut_to old len))

@@ -4,7 +4,7 @@ ghost use Rattle.std.specs.Prelude.{◌≡◌, ◌⊎◌, ◌↔◌, ◌+◌, �
 ghost use Rattle.cc_wire.specs.declared.output.Output.{Output};
 ghost use Rattle.cc_wire.specs.declared.output.Output.TheVariants.{Send, Ack, Reply};
 ghost use Rattle.cc_site.specs.declared.site.Call.TheVariants.{Length, Read, Write, Cut, Sync};
-ghost use Rattle.cc_site.specs.Sides.{SideState, MayLeave, other, touch, written, shift, cut_to, settled};
+ghost use Rattle.cc_site.specs.Sides.{SideState, MayLeave, HalfWritten, HalfCut, other, touch, written, shift, cut_to, settled};
 ghost use Rattle.cc_site.specs.Moments.{Contents, Possible, Within, Nothing, Elapses, CountsFault};
 
 use cc_views::NodeId;
@@ -85,8 +85,8 @@ impl Error for DeviceFault {}
 /// Two byte files and an outlet. Places and lengths are in bytes, from 0.
 ///
 /// Until a sync of a side succeeds, a crash may leave any bytes at the places of it that were written, and from the
-/// lowest place on at which it was cut or extended, its length included. All else stays. A call that fails may have
-/// touched its range too.
+/// lowest place on at which it was cut or extended, its length included. All else stays. A write or a cut that fails may
+/// have been made in part: then a read of its range gives any bytes that a crash might leave there.
 ///
 /// What the clauses say of contents and of time holds where the site is honest, and what they say of outputs where it
 /// tells them. The three calls of the outlet can't fail: what it can't pass on is lost.
@@ -140,7 +140,7 @@ pub trait Site {
         ensures honest { honest self.old ↔ honest self.new }
         ensures tells { (tells self.old ↔ tells self.new) × (sent self.new ≡ sent self.old) }
         ensures value { honest self.old → OnOk result (state self.new side ≡ written (state self.old side) place bytes.now) }
-        ensures failed { honest self.old → OnErr result ((state self.new side ≡ touch (state self.old side) place (length bytes.now)) ⊎ (state self.new side ≡ state self.old side)) }
+        ensures failed { honest self.old → OnErr result (HalfWritten (state self.old side) place (length bytes.now) (state self.new side) ⊎ (state self.new side ≡ state self.old side)) }
         ensures other_side { honest self.old → state self.new (other side) ≡ state self.old (other side) }
         ensures time { honest self.old → Elapses (moment self.old) (moment self.new) (left_since self.old) (left_since self.new) (Within side (touch (state self.old side) place (length bytes.now)) (state self.old) (sent self.old)) }
         ensures fault { CountsFault (failures self.old) (failures self.new) side Write result };
@@ -151,7 +151,7 @@ pub trait Site {
         ensures honest { honest self.old ↔ honest self.new }
         ensures tells { (tells self.old ↔ tells self.new) × (sent self.new ≡ sent self.old) }
         ensures value { honest self.old → OnOk result (state self.new side ≡ cut_to (state self.old side) len) }
-        ensures failed { honest self.old → OnErr result ((state self.new side ≡ shift (state self.old side) len) ⊎ (state self.new side ≡ state self.old side)) }
+        ensures failed { honest self.old → OnErr result (HalfCut (state self.old side) len (state self.new side) ⊎ (state self.new side ≡ state self.old side)) }
         ensures other_side { honest self.old → state self.new (other side) ≡ state self.old (other side) }
         ensures time { honest self.old → Elapses (moment self.old) (moment self.new) (left_since self.old) (left_since self.new) (Within side (shift (state self.old side) len) (state self.old) (sent self.old)) }
         ensures fault { CountsFault (failures self.old) (failures self.new) side Cut result };

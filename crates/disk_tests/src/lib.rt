@@ -12,6 +12,8 @@ mod memory_sites;
 #[cfg(test)]
 mod records;
 #[cfg(test)]
+mod refusals;
+#[cfg(test)]
 mod states;
 #[cfg(test)]
 mod windows;

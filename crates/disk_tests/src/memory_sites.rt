@@ -1,5 +1,6 @@
 //! A site in memory: its calls, its fuse and its images.
 
+use crate::refusals::unless_failed;
 use cc_site::{
     Call, Choice, DeviceFault, Failing, MemorySite, Side, Site, cut_durably, write_durably,
 };
@@ -14,9 +15,9 @@ fn put<S: Site>(site: &mut S, side: Side, place: u64, bytes: &[u8]) -> Result<()
     if length < place {
         return Err("the place is past the end")?;
     }
-    site.write_at(side, place, bytes)
-        .or(Err("the write failed"))?;
-    Ok(())
+    let written = site.write_at(side, place, bytes);
+    let is_as_before = site.length(side) == Ok(length);
+    unless_failed(written, is_as_before)
 }
 
 // The same, made sure of.

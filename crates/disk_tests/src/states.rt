@@ -1,5 +1,6 @@
 //! The bytes of states.
 
+use crate::refusals::unless_failed;
 use cc_changes::Fraction;
 use cc_checkpoint::{OpenFault, StateFault, decode_state, encode_state};
 use cc_node::{Node, Opening};
@@ -74,7 +75,8 @@ pub(crate) fn opened(
 
 pub(crate) fn encoded(alloc: Global, node: &Node) -> Result<Vec<u8>, Fail> {
     let mut bytes = Vec::new(alloc);
-    encode_state(node, &mut bytes)?;
+    let put = encode_state(node, &mut bytes);
+    unless_failed(put, bytes.is_empty())?;
     Ok(bytes)
 }
 

@@ -4,6 +4,7 @@ use crate::commits::{Part, member, turned};
 use crate::openings::{
     armed_twice, contents, crashes, entered, entrant, opened, posts, with_sides,
 };
+use crate::refusals::unless_failed;
 use cc_checkpoint::encode_state;
 use cc_flush::{CheckpointFault, Failed, Flusher};
 use cc_site::{Call, Choice, DeviceFault, Failing, MemorySite, Side};
@@ -137,7 +138,8 @@ fn each_call_of_a_checkpoint_may_fail(rt: HostRuntime) -> Result<(), Fail> {
 // The state of an engine's node.
 fn state_of(alloc: Global, flusher: &Flusher<MemorySite>) -> Result<Vec<u8>, Fail> {
     let mut state = Vec::new(alloc);
-    encode_state(flusher.twin(), &mut state)?;
+    let put = encode_state(flusher.twin(), &mut state);
+    unless_failed(put, state.is_empty())?;
     Ok(state)
 }
 

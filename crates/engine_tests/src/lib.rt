@@ -18,6 +18,8 @@ mod long_states;
 #[cfg(test)]
 mod openings;
 #[cfg(test)]
+mod refusals;
+#[cfg(test)]
 mod ten_lives;
 #[cfg(test)]
 mod versions;

@@ -2,6 +2,7 @@
 
 ghost use Rattle.std.specs.Prelude.{◌≤◌, IfOk, length};
 
+use crate::refusals::unless_failed;
 use cc_frames::{Frame, FrameReader, decode_frame, encode_frame};
 use cc_views::{NodeId, Row, Text, Value, View};
 use cc_wire::{
@@ -47,7 +48,8 @@ pub fn check_bytes<R: Abort>(
 
 fn message_bytes(alloc: Global, message: &Message) -> Result<Vec<u8>, Fail> {
     let mut out = Vec::new(alloc);
-    encode_message(message, &mut out)?;
+    let put = encode_message(message, &mut out);
+    unless_failed(put, out.is_empty())?;
     Ok(out)
 }
 
@@ -190,7 +192,9 @@ fn put_commands(out: &mut Vec<u8>) -> Result<(), Fail> {
         Command::AddMember(3),
         Command::ReadSet,
     ] {
-        encode_command(&command, out)?;
+        let before = out.len();
+        let put = encode_command(&command, out);
+        unless_failed(put, out.len() == before)?;
     }
     Ok(())
 }
@@ -215,7 +219,8 @@ const SET: [u8; 15] = [5, 0, 3, 0, 0, 0, 2, 0, 0, 0, 5, 0, 0, 0, 9];
 
 fn answer_bytes(alloc: Global, answer: &Answer) -> Result<Vec<u8>, Fail> {
     let mut out = Vec::new(alloc);
-    encode_answer(answer, &mut out)?;
+    let put = encode_answer(answer, &mut out);
+    unless_failed(put, out.is_empty())?;
     Ok(out)
 }
 
@@ -266,7 +271,8 @@ const DELIVER: [u8; 18] = [3, 0, 0, 0, 1, 0, 0, 0, 0, 0, 0, 0, 2, 3, 0, 0, 0, 3]
 
 fn event_bytes(alloc: Global, event: &Event) -> Result<Vec<u8>, Fail> {
     let mut out = Vec::new(alloc);
-    encode_event(event, &mut out)?;
+    let put = encode_event(event, &mut out);
+    unless_failed(put, out.is_empty())?;
     Ok(out)
 }
 
@@ -418,7 +424,8 @@ fn a_message_is_copied(rt: HostRuntime) -> Result<(), Fail> {
 
 fn view_bytes(alloc: Global, view: &View) -> Result<Vec<u8>, Fail> {
     let mut out = Vec::new(alloc);
-    encode_view(view, &mut out)?;
+    let put = encode_view(view, &mut out);
+    unless_failed(put, out.is_empty())?;
     Ok(out)
 }
 
@@ -450,7 +457,7 @@ fn frame_bytes(alloc: Global, frame: Frame) -> Result<Vec<u8>, Fail> {
     let mut out = Vec::new(alloc);
     let put = encode_frame(&frame, &mut out);
     drop(frame);
-    put?;
+    unless_failed(put, out.is_empty())?;
     Ok(out)
 }
 

@@ -20,6 +20,8 @@ mod operations;
 #[cfg(test)]
 mod outboxes;
 #[cfg(test)]
+mod refusals;
+#[cfg(test)]
 mod sessions;
 #[cfg(test)]
 mod sets;

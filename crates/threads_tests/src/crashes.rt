@@ -3,12 +3,12 @@
 ghost use Rattle.std.specs.Prelude.{◌≤◌, length, IfOk};
 ghost use Rattle.cc_journal.specs.Batches.{AreLawful};
 
-use crate::fixtures::{Disk, check, formatted, id, opened, refused, store_a};
+use crate::fixtures::{Disk, Told, check, formatted, id, opened, shown, store_a};
 use crate::holding::{Hold, Holding};
 use crate::lives::{counts, live};
 use crate::stories::Story;
 use cc_flush::Flusher;
-use cc_intake::{Accepted, Finished, Intake, Lane, Life, Queue, Refused, Share, Turner};
+use cc_intake::{Finished, Intake, Lane, Life, Queue, Share, Turner};
 use cc_journal::{Batch, Entry};
 use cc_site::{Choice, MemorySite};
 use cc_wire::{Answer, Event, Output, Refusal};
@@ -112,9 +112,10 @@ fn ask_again<L: Life, Q: Lane, R: Wait>(
     lock: &Mutex<Intake<L, Q>>,
     queue: &Queue<L, Q>,
     share: &mut Share<L>,
-) -> Option<Result<Accepted, Refused>> {
+) -> Option<Told> {
     let event = store_a()?;
-    Some(lock.lock(rt).accept(rt, alloc, share, queue, event))
+    let answer = lock.lock(rt).accept(rt, alloc, share, queue, event);
+    Some(shown(answer))
 }
 
 /// A node that was opened again is asked once more what it has stored.
@@ -127,7 +128,7 @@ pub(crate) fn after_crash<L: Life, Q: Lane, R: Wait>(
     share: &mut Share<L>,
 ) -> Result<(), Fail> {
     let answer = ask_again(rt, alloc, lock, queue, share);
-    let repeat = Some(Err(refused(Refusal::Repeat, 0)));
+    let repeat = Some(Err((Refusal::Repeat, 0)));
     check(answer == repeat, "the ask is a repeat")?;
     let was_put = turner.again(7);
     check(was_put == Ok(true), "the answer is put again")?;

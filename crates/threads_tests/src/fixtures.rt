@@ -93,13 +93,19 @@ pub(crate) fn hear<L: Life, Q: Lane, R: Wait>(
     queue: &Queue<L, Q>,
     share: &mut Share<L>,
     number: u64,
-) -> Result<Accepted, Refused> {
-    lock.lock(rt).accept(rt, alloc, share, queue, echo(number))
+) -> Told {
+    shown(lock.lock(rt).accept(rt, alloc, share, queue, echo(number)))
 }
 
-/// What is told of an event that is refused so, after so many were accepted.
-pub(crate) fn refused(why: Refusal, accepted: u64) -> Refused {
-    Refused { why, accepted }
+/// What an intake told of an event: of a refused one why, and after how many accepted ones. Intakes alone make a `Refused`.
+pub(crate) type Told = Result<Accepted, (Refusal, u64)>;
+
+/// The same, to be compared.
+pub(crate) fn shown(answer: Result<Accepted, Refused>) -> Told {
+    match answer {
+        Ok(accepted) => Ok(accepted),
+        Err(refused) => Err((refused.why, refused.accepted)),
+    }
 }
 
 /// What is told of a message that is accepted at that place, and not answered.

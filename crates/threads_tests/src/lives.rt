@@ -74,6 +74,7 @@ fn live_as<'a, L: Life + Send + Sync, R: Threads + Wait + Sync>(
     requires ledger { (blank.name ≡ L.name) × (blank.parts ≡ L.parts) × (L.parts ≡ share_limit) }
     requires reached { (look : ℕ) (list : List EntryValue) → L.reached look list }
     requires taken { (look : ℕ) (list : List EntryValue) → L.taken look list }
+    requires accepted { (list : List EntryValue) → L.accepted list }
     requires flushed { (count : ℕ) → L.flushed count }
 {
     match lane::<L>(alloc) {
@@ -102,6 +103,7 @@ fn live_at<'a, L: Life + Send + Sync, Q: Lane + Send + Sync, R: Threads + Wait +
     requires ledger { (blank.name ≡ L.name) × (blank.parts ≡ L.parts) × (L.parts ≡ share_limit) }
     requires reached { (look : ℕ) (list : List EntryValue) → L.reached look list }
     requires taken { (look : ℕ) (list : List EntryValue) → L.taken look list }
+    requires accepted { (list : List EntryValue) → L.accepted list }
     requires flushed { (count : ℕ) → L.flushed count }
     requires lane { ends ≡ Q.table }
 {

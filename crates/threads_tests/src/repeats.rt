@@ -1,6 +1,6 @@
 //! A worker that asks the same twice.
 
-use crate::fixtures::{check, refused, store_a};
+use crate::fixtures::{Told, check, shown, store_a};
 use crate::holding::{Hold, Holding};
 use crate::lives::lives;
 use crate::stories::Story;
@@ -14,8 +14,8 @@ use std::test::*;
 #[derive(Drop)]
 struct Twice {
     asked: usize,
-    first: Option<Result<Accepted, Refused>>,
-    second: Option<Result<Accepted, Refused>>,
+    first: Option<Told>,
+    second: Option<Told>,
 }
 
 impl Source for Twice {
@@ -33,9 +33,9 @@ impl Source for Twice {
 
     fn told(&mut self, answer: Result<Accepted, Refused>) {
         if self.first.is_none() {
-            self.first = Some(answer);
+            self.first = Some(shown(answer));
         } else {
-            self.second = Some(answer);
+            self.second = Some(shown(answer));
         }
     }
 }
@@ -60,7 +60,7 @@ pub(crate) fn repeat<L: Life, Q: Lane, R: Wait>(
         stirs: true,
     }));
     check(source.first == stored, "an ask is accepted, and posted")?;
-    let again = Some(Err(refused(Refusal::Repeat, 1)));
+    let again = Some(Err((Refusal::Repeat, 1)));
     check(source.second == again, "the same ask is a repeat")?;
     check(share.count() == 1, "the share counts one")
 }

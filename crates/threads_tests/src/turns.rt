@@ -1,6 +1,6 @@
 //! Whole turns, and a queue that is full.
 
-use crate::fixtures::{Disk, at, check, hear, hears_all, refused};
+use crate::fixtures::{Disk, at, check, hear, hears_all};
 use crate::holding::{Hold, Holding};
 use crate::lives::lives;
 use crate::stories::Story;
@@ -98,11 +98,11 @@ pub(crate) fn full_queue<L: Life, Q: Lane, R: Wait>(
     check(all, "256 events are accepted")?;
     let old = hear(rt, alloc, lock, queue, share, 256);
     check(
-        old == Err(refused(Refusal::Old(256), 256)),
+        old == Err((Refusal::Old(256), 256)),
         "the core's reason comes first",
     )?;
     let full = hear(rt, alloc, lock, queue, share, 257);
-    let is_full = full == Err(refused(Refusal::QueueFull, 256));
+    let is_full = full == Err((Refusal::QueueFull, 256));
     check(is_full, "the queue is full")?;
     let turned = taken(rt, turner, queue);
     check(turned == Some(64), "a turn makes room")?;

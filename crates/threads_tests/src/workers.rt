@@ -19,8 +19,11 @@ use std::thread::{Threads, join};
 // How many events a worker brings.
 const EVENTS: u64 = 40;
 
+// How many turns that take nothing follow each other at most.
+const MOST_IDLE: u64 = 100_000_000;
+
 // Brings what it heard from one node, as messages 1 to `last`, each again where the queue was full, and none once the engine
-// has ended or the queue was full for too long: where no thread can be made, no turn begins before the workers are done.
+// has ended or the queue was full for too long.
 #[derive(Drop)]
 struct Peer<'a> {
     hooks: &'a Hold,
@@ -110,7 +113,8 @@ fn hire<'a, L: Life, Q: Lane, R: Wait>(
     Ok(())
 }
 
-// Takes turns until nothing is left after the workers have stopped, or the engine has ended.
+// Takes turns until nothing is left after the workers have stopped, or the engine has ended; or until nothing came for too
+// long: where no thread can be made, no worker begins before that.
 fn turn_on<L: Life, Q: Lane, R: Wait>(
     rt: &R,
     hooks: &Hold,
@@ -118,14 +122,16 @@ fn turn_on<L: Life, Q: Lane, R: Wait>(
     queue: &Queue<L, Q>,
     stop: &AtomicU64,
 ) {
+    let mut idle = 0u64;
     for _ in rt.forever() {
         let stopped = stop.load(Ordering::SeqCst) == 1;
         match turner.turn(rt, queue) {
-            Ok(turned) if turned.events > 0 => {}
+            Ok(turned) if turned.events > 0 => idle = 0,
             Ok(_) => {
-                if stopped {
+                if stopped || idle >= MOST_IDLE {
                     return;
                 }
+                idle += 1;
                 thread::yield_now();
             }
             Err(_) => {
@@ -201,14 +207,14 @@ fn labour_with_turns<'a, L: Life + Send + Sync, Q: Lane + Send + Sync, R: Thread
     workers: Vec<Worker<'a, L>>,
 ) -> Result<Vec<Worker<'a, L>>, AllocError> {
     let stop = AtomicU64::new(0);
-    let (_, workers) = join(
+    let (workers, ()) = join(
         rt,
-        || turn_on(rt, hooks, turner, queue, &stop),
         || {
             let done = labour_all(rt, alloc, lock, queue, hooks, workers);
             stop.store(1, Ordering::SeqCst);
             done
         },
+        || turn_on(rt, hooks, turner, queue, &stop),
     );
     workers
 }

@@ -1,7 +1,10 @@
-use Rattle.std.proofs.Common.{true, ◌≡◌, ◌++◌, List, ℕ, length, sym, ap, ◌∙◌, append_assoc, arith}
+use Rattle.std.proofs.Common.{true, ◌≡◌, ◌≤◌, ◌++◌, inl, List, ℕ, length, sym, ap, ◌∙◌, append_assoc, arith}
 use Rattle.std.proofs.lemmas.List.{length-append}
+use Rattle.std.proofs.lemmas.Result.{err_from_is_err_and}
+use Rattle.cc_node.specs.States.{state_spelling, state_of}
 use Rattle.cc_checkpoint.specs.Parts.{joined}
 use Rattle.cc_checkpoint.proofs.PartLaws.{joined_rest}
+use Rattle.cc_checkpoint.proofs.PastGate.{half_past, front_kept}
 use Rattle.cc_checkpoint.proofs.StateLengths.{length-node}
 use Rattle.cc_checkpoint.proofs.BehindRuns.{written_behind, then_behind, grown}
 use Rattle.cc_checkpoint.proofs.checkpoint.write_pieces.Goals as goal
@@ -62,3 +65,21 @@ loop-pieces-preserved g c =
           (omega (arith, c.requires.there, so_far.from)) (omega (arith, so_far.within honest)) (c.write_at.ensures.time honest_mid));
       failures = c.in_ok-write_at.ensures.fault ∙ so_far.failures;
     }
+
+pub returns-in_err-write_at-clause-failed : goal.returns-in_err-write_at-clause-failed
+returns-in_err-write_at-clause-failed g c honest =
+    let s = g.S.Site in
+    let side = c.args.side in
+    let old = c.args.site.now in
+    let mid = c.loop-pieces.site in
+    let so_far = c.loop-pieces.invariant in
+    let honest_mid = so_far.honest.0 honest in
+    let there : 1 ≤ length (s.state old side).bytes = omega (arith, c.requires.from honest, c.requires.there) in
+    let some : 1 ≤ length (s.state mid side).bytes = omega (arith, so_far.within honest, so_far.from, c.requires.there) in
+    let p = err_from_is_err_and c.from_residual.result c.from_residual.ensures.1 in
+    rw (p.1, p.2) (
+      inl (ap (λ f. f.call) c.in_err-write_at.ensures.fault.0),
+      half_past (s.state mid side) (s.state c.write_at.new.self side) c.loop-pieces.place (length c.as_slice-bytes.result.now)
+          (omega (arith, c.requires.there, so_far.from)) (omega (arith, so_far.within honest)) (c.in_err-write_at.ensures.failed honest_mid)
+          ∙ front_kept (s.state mid side).bytes (joined c.loop-pieces.pieces) (s.state old side).bytes (state_spelling true (state_of c.args.node.now)) some there (so_far.value honest),
+    )

@@ -1,6 +1,7 @@
 use Rattle.std.proofs.Common.{ap, subst}
 use Rattle.std.proofs.lemmas.Result.{err_from_is_err_and}
-use Rattle.cc_flush.proofs.Flushing.{flushed, Released}
+use Rattle.cc_journal.specs.Batches.{events_in}
+use Rattle.cc_flush.proofs.Flushing.{call_keeps_sides, flushed, Released}
 use Rattle.cc_flush.proofs.flusher.Flusher.flush.Goals as goal
 
 pub returns-in_err-landed-clause-flushed : goal.returns-in_err-landed-clause-flushed
@@ -17,6 +18,7 @@ returns-in_err-landed-clause-flushed g c none =
       same_honest = e.honest;
       told = e.tells;
       moments = λ h. e.every_moment h none;
+      sides = λ h. call_keeps_sides g.S.Site c.args.self.now (events_in c.args.batch) c.commit.new.self.site (e.every_moment h none);
       device = (e.device none, e.count none);
     })
 
@@ -46,5 +48,7 @@ returns-clause-flushed g c none =
       same_honest = r.honest;
       told = r.told;
       same_failures = r.count;
+      same_sides = r.same_sides;
+      contents = r.contents;
       good = r.good;
     }))

@@ -1,6 +1,7 @@
 use Rattle.std.proofs.Common.{sym, subst}
 use Rattle.cc_node.specs.Node.{line}
 use Rattle.cc_journal.specs.Batches.{events_in}
+use Rattle.cc_journal.specs.GoodSides.{MayBeLeft, EachLeaves}
 use Rattle.cc_journal.specs.Journals.{StaysGood}
 use Rattle.cc_flush.specs.Engine.{IsOwed}
 use Rattle.cc_flush.specs.Flushing.{LeadsToOwed}
@@ -17,6 +18,12 @@ returns-clause-good g c honest tells =
     let puts = c.put_outputs.ensures.puts in
     subst (λ e. IsOwed e batch → s.honest e.site → StaysGood s (LeadsToOwed s batch e) e.site new) c.self.view_is
     (λ owed h. released s g.met.S.Site.may_read _ new c.self.invariant batch puts owed h tells) c.requires.owed honest
+
+pub returns-clause-contents : goal.returns-clause-contents
+returns-clause-contents g c honest =
+    let s = g.S.Site in
+    let new = c.put_outputs.new.site in
+    subst (λ e. s.honest e.site → EachLeaves s (MayBeLeft (s.state e.site)) e.site new) c.self.view_is c.put_outputs.ensures.puts.contents honest
 
 pub invariant_of-self : goal.invariant_of-self
 invariant_of-self g c =

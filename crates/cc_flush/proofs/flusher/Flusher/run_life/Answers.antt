@@ -29,6 +29,8 @@ returns-in-Some-clause-run g c =
       stops = λ none. absurd cc;
       moments = λ h t none. absurd cc;
       afterwards = λ h t none start events opening was. tt;
+      sides = λ h none. absurd cc;
+      sides_afterwards = λ h none start events was. tt;
     }
 
 pub loop-action-init : goal.loop-action-init

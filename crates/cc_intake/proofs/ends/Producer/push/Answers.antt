@@ -13,7 +13,7 @@ push_as-requires-clause-rule g c =
     let opening = g.L.Life.opening in (
       pushes opening g.L.Life.reached g.L.Life.taken _ _ _ c.args.entry may
           (subst (λ (e : End). length e.entries < life_limit) is c.requires.room)
-          (subst (λ (e : End). decides (core_after opening e.entries) c.args.entry.event ≡ None) is c.requires.accepted)
+          (subst (λ (e : End). decides (core_after opening e.entries) c.args.entry.event ≡ None) is c.requires.may_accept)
           (subst (λ (e : End). c.args.entry.made ≡ made (core_after opening e.entries) c.args.entry.event) is c.requires.made)
           (λ look. c.self.invariant.3 look _),
       full_learns opening g.L.Life.reached g.L.Life.taken _ _ may,

@@ -22,4 +22,4 @@ invariant_of-self-2 g c =
     let shown = ap (λ (a : Accepting). length a.entries) c.self.view_is in
     let longer = ap (λ (p : End). length p.entries) pushed in
     let added = length-append c.self.inside.producer.entries (entry ∷ []) in
-    (core, omega (arith, count, longer, added), omega (arith, count, room, shown), omega (arith, c.raise.ensures.total, i.3), i.4, i.5, i.6)
+    (core, omega (arith, count, longer, added), omega (arith, count, room, shown), omega (arith, c.raise.ensures.total, i.3), i.4, i.5, i.6, c.in-Ok.ensures.accepted)

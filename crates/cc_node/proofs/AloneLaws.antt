@@ -1,0 +1,298 @@
+-- With no ask that waits, the rule of one operation at a time is the rule of today where none may wait.
+--     refused_alone            what is refused, and why
+--     step_same, outputs_same  what an event that isn't refused leaves and puts out
+--     lawful_alone, lawful_within   lists of events of which none is refused
+--     after_same, line_same    what such a list leaves and puts out
+--     leaves_line              the rule of one operation at a time leaves the asks that wait as they are
+use Rattle.std.proofs.Common.{◌≡◌, ℕ, ◌+◌, ◌-◌, Bool, true, false, not, ◌&&◌, ◌||◌, nat_le, List, [], ◌∷◌, ◌++◌, length, refl, sym, ap, subst, ◌∙◌, arith}
+use Rattle.std.specs.Prelude.{Option, Some, None, if◌then◌else◌, is_some, option_map, ◌==◌}
+use Rattle.std.specs.Option.{option_len}
+use Rattle.std.specs.Bool.{then_some}
+use Rattle.std.specs.FinMap as table
+use Rattle.std.proofs.lemmas.Bool.{le-leb}
+use Rattle.cc_views.specs.Rows.{ViewMap}
+use Rattle.cc_wire.specs.declared.command.Command.{Command}
+use Rattle.cc_wire.specs.declared.event.Event.{Event}
+use Rattle.cc_wire.specs.declared.event.Event.TheVariants as event
+use Rattle.cc_wire.specs.declared.message.Message.{Message}
+use Rattle.cc_wire.specs.declared.message.Message.TheVariants as message
+use Rattle.cc_wire.specs.declared.output.Output.{Output}
+use Rattle.cc_wire.specs.declared.refusal.Refusal.{Refusal}
+use Rattle.cc_wire.specs.declared.refusal.Refusal.TheVariants as refusal
+use Rattle.cc_wire.specs.Refusals.{first_of}
+use Rattle.cc_churn.specs.Churn as churn
+use Rattle.cc_ops.specs.declared.pending.Asked.{Asked}
+use Rattle.cc_ops.specs.Commands.{finds_no_room}
+use Rattle.cc_ops.specs.Waiting.{has_session, written_by}
+use Rattle.cc_ops.specs.OwnLaws.{begun_line}
+use Rattle.cc_ops.specs.Ops.{Ops, Phase, Idle, Storing, Querying, StoringBack, is_idle, is_last, is_own, counted, with_begun, after_ask, after_reply, after_last, after_ack, after_message, first_post, ends_store, begun_in, begun_by, unanswered}
+use Rattle.cc_outbox.specs.Outbox.{post_limit, trim}
+use Rattle.cc_node.specs.Core.{Core, quorum, asked_of, ids_of, with_links, with_heard, next, post, outputs, ack, reply, send_ack, send_post, send_reply, lowest}
+use Rattle.cc_node.specs.Node.{Node, step, after, line, keep, add, forget_asked, IsLawfulWithin}
+use Rattle.cc_node.specs.Refusals.{decides_within, left, has_gone, not_entered, already_entered, not_joined, old, gap, nothing_to_ack, too_many_nodes, too_many_sessions, repeat, stale, skip, busy, set_full, outbox_full, spent, any_overruns}
+use Rattle.cc_node.specs.OneAtATime.{acked_alone, ops_alone, next_alone, post_alone, outputs_alone, busy_alone, set_full_alone, outbox_full_alone, spent_alone, decides_alone, step_alone, after_alone, line_alone, IsLawfulAlone}
+use Rattle.cc_node.proofs.OrderLaws.{none_waiting}
+use Rattle.cc_node.proofs.RefusalLaws.{free_within}
+
+-- ---- the last acknowledgement
+
+either_phase : (b : Bool) (s t : Ops) (p q : Phase) → t ≡ record s { phase = p } → record s { phase = if b then p else q } ≡ (if b then t else record s { phase = q })
+either_phase true s t p q e = sym e
+either_phase false s t p q e = refl
+
+last_same : (me quorum : ℕ) (s : Ops) → s.line ≡ [] → after_last me quorum s.line s ≡ record s { phase = Idle }
+last_same me quorum s none = ap (λ (l : List Asked). after_last me quorum l s) none
+
+acked_same : (me quorum : ℕ) (phase : Phase) (s : Ops) → s.phase ≡ phase → s.line ≡ [] → record s { phase = acked_alone phase } ≡ after_ack me quorum phase s
+acked_same me quorum Idle s at none = ap (λ (p : Phase). record s { phase = p }) (sym at)
+acked_same me quorum (Storing p) s at none = either_phase (is_last p) s (after_last me quorum s.line s) Idle (Storing (counted p)) (last_same me quorum s none)
+acked_same me quorum (Querying p) s at none = ap (λ (p : Phase). record s { phase = p }) (sym at)
+acked_same me quorum (StoringBack p seen) s at none =
+    either_phase (is_last p) s (after_last me quorum s.line s) Idle (StoringBack (counted p) seen) (last_same me quorum s none)
+
+ack_same : (me quorum tag q : ℕ) (s : Ops) → s.line ≡ [] → ops_alone me quorum (message.StoreAck tag q) s ≡ after_message me quorum (message.StoreAck tag q) s
+ack_same me quorum tag q s none = ap (λ (t : Ops). if is_own me tag q s then t else s) (acked_same me quorum s.phase s refl none)
+
+none_either : (b : Bool) → (let none : Option Asked = None in (if b then none else none) ≡ none)
+none_either true = refl
+none_either false = refl
+
+none_begins : (me tag q : ℕ) (s : Ops) → s.line ≡ [] → begun_by me (message.StoreAck tag q) s ≡ None
+none_begins me tag q s none =
+    ap (λ (o : Option Asked). if is_own me tag q s then o else None)
+    (ap (λ (l : List Asked). begun_in s.phase l) none ∙ none_either (ends_store s.phase))
+    ∙ none_either (is_own me tag q s)
+
+-- ---- posts, and cores after an event
+
+-- an acknowledgement with no ask that waits is answered with nothing
+ack_post : (c : Core) (from n tag q : ℕ) → c.ops.line ≡ [] → post_alone c (event.Deliver from n (message.StoreAck tag q)) ≡ post c (event.Deliver from n (message.StoreAck tag q))
+ack_post c from n tag q none =
+    let after = after_message c.me (quorum c) (message.StoreAck tag q) c.ops in
+    sym (ap (λ (o : Option Asked). option_map (λ (a : Asked). first_post c.me a after) o) (none_begins c.me tag q c.ops none))
+
+-- an event of which no ask that waits could be aware: any but an ask where an operation is pending
+abbrev IsFree : Core → Event → Type 0
+IsFree c event.Enter = Unit {0}
+IsFree c event.Leave = Unit {0}
+IsFree c (event.Deliver from n m) = Unit {0}
+IsFree c (event.Acked peer n) = Unit {0}
+IsFree c (event.Ask s r k) = is_idle c.ops.phase ≡ true
+IsFree c (event.Retire q) = Unit {0}
+
+ask_same : (me quorum : ℕ) (a : Asked) (s : Ops) → is_idle s.phase ≡ true → with_begun me quorum a s ≡ after_ask me quorum a s
+ask_same me quorum a s idle = sym (ap (λ (b : Bool). if b then with_begun me quorum a s else record s { line = s.line ++ a ∷ [] }) idle)
+
+delivery_post : (c : Core) (from n : ℕ) (m : Message) → c.ops.line ≡ [] → post_alone c (event.Deliver from n m) ≡ post c (event.Deliver from n m)
+delivery_post c from n (message.Enter q) none = refl
+delivery_post c from n (message.EnterEcho k v from_joined q) none = refl
+delivery_post c from n (message.Join q) none = refl
+delivery_post c from n (message.JoinEcho q) none = refl
+delivery_post c from n (message.Leave q) none = refl
+delivery_post c from n (message.LeaveEcho q) none = refl
+delivery_post c from n (message.Query tag q) none = refl
+delivery_post c from n (message.QueryReply v tag q) none = refl
+delivery_post c from n (message.Store v tag q) none = refl
+delivery_post c from n (message.StoreAck tag q) none = ack_post c from n tag q none
+
+ask_post : (c : Core) (s r : ℕ) (k : Command) → is_idle c.ops.phase ≡ true → post_alone c (event.Ask s r k) ≡ post c (event.Ask s r k)
+ask_post c s r k idle =
+    let a = asked_of s r k in
+    ap (λ (t : Ops). Some (first_post c.me a t)) (ask_same c.me (quorum c) a c.ops idle)
+    ∙ sym (ap (λ (b : Bool). option_map (λ (x : Asked). first_post c.me x (after_ask c.me (quorum c) a c.ops)) (then_some b a)) idle)
+
+post_same : (c : Core) (e : Event) → c.ops.line ≡ [] → IsFree c e → post_alone c e ≡ post c e
+post_same c event.Enter none free = refl
+post_same c event.Leave none free = refl
+post_same c (event.Deliver from n m) none free = delivery_post c from n m none
+post_same c (event.Acked peer n) none free = refl
+post_same c (event.Ask s r k) none free = ask_post c s r k free
+post_same c (event.Retire q) none free = refl
+
+-- what a message makes of the operations
+told_same : (me quorum : ℕ) (m : Message) (s : Ops) → s.line ≡ [] → ops_alone me quorum m s ≡ after_message me quorum m s
+told_same me quorum (message.Enter q) s none = refl
+told_same me quorum (message.EnterEcho k v from_joined q) s none = refl
+told_same me quorum (message.Join q) s none = refl
+told_same me quorum (message.JoinEcho q) s none = refl
+told_same me quorum (message.Leave q) s none = refl
+told_same me quorum (message.LeaveEcho q) s none = refl
+told_same me quorum (message.Query tag q) s none = refl
+told_same me quorum (message.QueryReply v tag q) s none = refl
+told_same me quorum (message.Store v tag q) s none = refl
+told_same me quorum (message.StoreAck tag q) s none = ack_same me quorum tag q s none
+
+-- the core after a message or an ask, by its operations and its post
+next_same : (c : Core) (e : Event) → c.ops.line ≡ [] → IsFree c e → next_alone c e ≡ next c e
+unfolding next next_alone
+next_same c event.Enter none free = refl
+next_same c event.Leave none free = refl
+next_same c (event.Deliver from n m) none free =
+    let e = event.Deliver from n m in
+    let d = with_heard from n (with_links (from ∷ ids_of m) c) in
+    let f = λ (t : Ops) (p : Option Message). record (record d { churn = churn.after_message c.me c.gamma m c.churn; ops = t }) { posts = c.posts + option_len p } in
+    ap (λ (t : Ops). f t (post_alone c e)) (told_same c.me (quorum d) m c.ops none)
+    ∙ ap (λ (p : Option Message). f (after_message c.me (quorum d) m c.ops) p) (delivery_post c from n m none)
+next_same c (event.Acked peer n) none free = refl
+next_same c (event.Ask s r k) none free =
+    let e = event.Ask s r k in
+    let a = asked_of s r k in
+    let f = λ (t : Ops) (p : Option Message). record (record c { ops = t; sessions = table.insert c.sessions s r }) { posts = c.posts + option_len p } in
+    ap (λ (t : Ops). f t (post_alone c e)) (ask_same c.me (quorum c) a c.ops free)
+    ∙ ap (λ (p : Option Message). f (after_ask c.me (quorum c) a c.ops) p) (ask_post c s r k free)
+next_same c (event.Retire q) none free = refl
+
+-- ---- what is refused
+
+pub behind : (o : Option Refusal) (xs ys : List (Option Refusal)) → first_of xs ≡ first_of ys → first_of (o ∷ xs) ≡ first_of (o ∷ ys)
+behind None xs ys e = e
+behind (Some r) xs ys e = refl
+
+full_same : (c : Core) (e : Event) → c.ops.line ≡ [] → IsFree c e → outbox_full_alone c e ≡ outbox_full c e
+full_same c e none free = ap (λ (p : Option Message). then_some (is_some p && ((c.posts - lowest c) == post_limit)) refusal.OutboxFull) (post_same c e none free)
+
+spent_same : (c : Core) (e : Event) → c.ops.line ≡ [] → IsFree c e → spent_alone c e ≡ spent c e
+spent_same c e none free = ap (λ (d : Core). then_some (any_overruns c d e) refusal.Spent) (next_same c e none free)
+
+last_two : (c : Core) (e : Event) → c.ops.line ≡ [] → IsFree c e
+    → first_of (outbox_full_alone c e ∷ spent_alone c e ∷ []) ≡ first_of (outbox_full c e ∷ spent c e ∷ [])
+last_two c e none free =
+    ap (λ (o : Option Refusal). first_of (o ∷ spent_alone c e ∷ [])) (full_same c e none free)
+    ∙ ap (λ (o : Option Refusal). first_of (outbox_full c e ∷ o ∷ [])) (spent_same c e none free)
+
+-- busy is who has an operation pending
+busy_same : (c : Core) (s : ℕ) (idle : Bool) → is_idle c.ops.phase ≡ idle → busy 0 c s ≡ then_some (not idle) refusal.Busy
+busy_same c s idle e =
+    let there = has_session s (unanswered c.ops) in
+    ap (λ (b : Bool). then_some (not b && (nat_le 0 (length c.ops.line) || there)) refusal.Busy) e
+    ∙ ap (λ (b : Bool). then_some (not idle && (b || there)) refusal.Busy) (le-leb 0 (length c.ops.line) (omega arith)) ∙ both idle there
+  where
+    both : (b there : Bool) → then_some (not b && (true || there)) refusal.Busy ≡ then_some (not b) refusal.Busy
+    both true there = refl
+    both false there = refl
+
+from_busy : (c : Core) (s r : ℕ) (k : Command) (idle : Bool) → is_idle c.ops.phase ≡ idle → c.ops.line ≡ []
+    → first_of (busy_alone c ∷ set_full_alone c k ∷ outbox_full_alone c (event.Ask s r k) ∷ spent_alone c (event.Ask s r k) ∷ [])
+    ≡ first_of (busy 0 c s ∷ set_full c k ∷ outbox_full c (event.Ask s r k) ∷ spent c (event.Ask s r k) ∷ [])
+from_busy c s r k true e none =
+    let a = event.Ask s r k in
+    ap (λ (b : Bool). first_of (then_some (not b) refusal.Busy ∷ set_full_alone c k ∷ outbox_full_alone c a ∷ spent_alone c a ∷ [])) e
+    ∙ behind (set_full_alone c k) _ _ (last_two c a none e)
+    ∙ ap (λ (l : List Asked). first_of (then_some (finds_no_room (written_by l c.ops.mine) k) refusal.SetFull ∷ outbox_full c a ∷ spent c a ∷ [])) (sym none)
+    ∙ ap (λ (o : Option Refusal). first_of (o ∷ set_full c k ∷ outbox_full c a ∷ spent c a ∷ [])) (sym (busy_same c s true e))
+from_busy c s r k false e none =
+    let a = event.Ask s r k in
+    ap (λ (b : Bool). first_of (then_some (not b) refusal.Busy ∷ set_full_alone c k ∷ outbox_full_alone c a ∷ spent_alone c a ∷ [])) e
+    ∙ ap (λ (o : Option Refusal). first_of (o ∷ set_full c k ∷ outbox_full c a ∷ spent c a ∷ [])) (sym (busy_same c s false e))
+
+pub refused_alone : (c : Core) (e : Event) → c.ops.line ≡ [] → decides_alone c e ≡ decides_within 0 c e
+unfolding decides_alone decides_within
+refused_alone c event.Enter none = behind (left c) _ _ (behind (already_entered c) _ _ (last_two c event.Enter none tt))
+refused_alone c event.Leave none = behind (left c) _ _ (behind (not_entered c) _ _ (last_two c event.Leave none tt))
+refused_alone c (event.Deliver from n m) none =
+    behind (left c) _ _ (behind (not_entered c) _ _ (behind (old c from n) _ _ (behind (gap c from n) _ _
+    (behind (too_many_nodes c (from ∷ ids_of m)) _ _ (last_two c (event.Deliver from n m) none tt)))))
+refused_alone c (event.Acked peer n) none =
+    ap (λ (o : Option Refusal). first_of (nothing_to_ack c peer n ∷ o ∷ [])) (spent_same c (event.Acked peer n) none tt)
+refused_alone c (event.Ask s r k) none =
+    behind (left c) _ _ (behind (not_entered c) _ _ (behind (not_joined c) _ _ (behind (too_many_sessions c s) _ _ (behind (repeat c s r) _ _
+    (behind (stale c s r) _ _ (behind (skip c s r) _ _ (from_busy c s r k (is_idle c.ops.phase) refl none)))))))
+refused_alone c (event.Retire q) none =
+    ap (λ (o : Option Refusal). first_of (left c ∷ has_gone c q ∷ not_entered c ∷ too_many_nodes c (q ∷ []) ∷ o ∷ []))
+    (spent_same c (event.Retire q) none tt)
+
+-- ---- one step
+
+-- what isn't refused where none may wait is free
+free : (c : Core) (e : Event) → decides_within 0 c e ≡ None → IsFree c e
+free c event.Enter d = tt
+free c event.Leave d = tt
+free c (event.Deliver from n m) d = tt
+free c (event.Acked peer n) d = tt
+free c (event.Ask s r k) d = idle_if (is_idle c.ops.phase) refl (sym (busy_same c s (is_idle c.ops.phase) refl) ∙ free_within 0 c s r k d)
+  where
+    idle_if : (b : Bool) → is_idle c.ops.phase ≡ b → then_some (not b) refusal.Busy ≡ None → is_idle c.ops.phase ≡ true
+    idle_if true e h = e
+    idle_if false e h = cc
+free c (event.Retire q) d = tt
+
+pub step_same : (n : Node) (e : Event) → n.core.ops.line ≡ [] → decides_within 0 n.core e ≡ None → step_alone n e ≡ step n e
+unfolding step step_alone
+step_same n e none d =
+    let may = free n.core e d in
+    let f : Core → Option Message → Node = λ c p. record {
+      core = c;
+      outbox = trim (lowest c) (keep (reply n.core e) (add p (forget_asked e n.outbox)));
+    } in
+    ap (λ (c : Core). f c (post_alone n.core e)) (next_same n.core e none may)
+    ∙ ap (λ (p : Option Message). f (next n.core e) p) (post_same n.core e none may)
+
+pub outputs_same : (c : Core) (e : Event) → c.ops.line ≡ [] → decides_within 0 c e ≡ None → outputs_alone c e ≡ outputs c e
+outputs_same c e none d =
+    let may = free c e d in
+    ap (λ (k : Core). send_ack (ack e) ++ send_post k (post_alone c e) ++ send_reply (reply c e)) (next_same c e none may)
+    ∙ ap (λ (p : Option Message). send_ack (ack e) ++ send_post (next c e) p ++ send_reply (reply c e)) (post_same c e none may)
+
+-- ---- along a list
+
+pub after_same : (n : Node) (es : List Event) → n.core.ops.line ≡ [] → IsLawfulWithin 0 n es → after_alone n es ≡ after n es
+unfolding step
+after_same n [] none d = refl
+after_same n (e ∷ es) none d =
+    ap (λ (m : Node). after_alone m es) (step_same n e none d.0) ∙ after_same (step n e) es (none_waiting n.core e none d.0) d.1
+
+pub line_same : (n : Node) (es : List Event) → n.core.ops.line ≡ [] → IsLawfulWithin 0 n es → line_alone n es ≡ line n es
+unfolding step
+line_same n [] none d = refl
+line_same n (e ∷ es) none d =
+    ap (λ (os : List Output). os ++ line_alone (step_alone n e) es) (outputs_same n.core e none d.0)
+    ∙ ap (λ (m : Node). outputs n.core e ++ line_alone m es) (step_same n e none d.0)
+    ∙ ap (λ (os : List Output). outputs n.core e ++ os) (line_same (step n e) es (none_waiting n.core e none d.0) d.1)
+
+pub lawful_within : (n : Node) (es : List Event) → n.core.ops.line ≡ [] → IsLawfulAlone n es → IsLawfulWithin 0 n es
+unfolding step
+lawful_within n [] none d = tt
+lawful_within n (e ∷ es) none d =
+    let taken = sym (refused_alone n.core e none) ∙ d.0 in
+    (taken, lawful_within (step n e) es (none_waiting n.core e none taken) (subst (λ (m : Node). IsLawfulAlone m es) (step_same n e none taken) d.1))
+
+pub lawful_alone : (n : Node) (es : List Event) → n.core.ops.line ≡ [] → IsLawfulWithin 0 n es → IsLawfulAlone n es
+unfolding step
+lawful_alone n [] none d = tt
+lawful_alone n (e ∷ es) none d = (
+  refused_alone n.core e none ∙ d.0,
+  subst (λ (m : Node). IsLawfulAlone m es) (sym (step_same n e none d.0)) (lawful_alone (step n e) es (none_waiting n.core e none d.0) d.1),
+)
+
+-- ---- the asks that wait
+
+either_line : (b : Bool) (s t : Ops) (l : List Asked) → s.line ≡ l → t.line ≡ l → (if b then s else t).line ≡ l
+either_line true s t l h k = h
+either_line false s t l h k = k
+
+reply_line : (quorum : ℕ) (v : ViewMap) (phase : Phase) (s : Ops) → (after_reply quorum v phase s).line ≡ s.line
+reply_line quorum v Idle s = refl
+reply_line quorum v (Storing p) s = refl
+reply_line quorum v (Querying p) s = either_line (is_last p) _ _ s.line refl refl
+reply_line quorum v (StoringBack p seen) s = refl
+
+told_line : (me quorum : ℕ) (m : Message) (s : Ops) → (ops_alone me quorum m s).line ≡ s.line
+told_line me quorum (message.Enter q) s = refl
+told_line me quorum (message.EnterEcho k v from_joined q) s = refl
+told_line me quorum (message.Join q) s = refl
+told_line me quorum (message.JoinEcho q) s = refl
+told_line me quorum (message.Leave q) s = refl
+told_line me quorum (message.LeaveEcho q) s = refl
+told_line me quorum (message.Query tag q) s = refl
+told_line me quorum (message.QueryReply v tag q) s = either_line (is_own me tag q s) _ _ s.line (reply_line quorum v s.phase s) refl
+told_line me quorum (message.Store v tag q) s = refl
+told_line me quorum (message.StoreAck tag q) s = either_line (is_own me tag q s) _ _ s.line refl refl
+
+pub leaves_line : (c : Core) (e : Event) → (next_alone c e).ops.line ≡ c.ops.line
+unfolding next_alone
+leaves_line c event.Enter = refl
+leaves_line c event.Leave = refl
+leaves_line c (event.Deliver from n m) = told_line c.me (quorum (with_heard from n (with_links (from ∷ ids_of m) c))) m c.ops
+leaves_line c (event.Acked peer n) = refl
+leaves_line c (event.Ask s r k) = begun_line c.me (quorum c) (asked_of s r k) c.ops
+leaves_line c (event.Retire q) = refl
