@@ -1,7 +1,10 @@
 //! How a folder is to be formatted.
 
+ghost use Rattle.std.specs.Prelude.{◌≡◌, ◌&&◌, nat_lt, nat_le};
+
+use crate::warning::Warning;
 use crate::word_fault::WordFault;
-use cc_changes::Fraction;
+use cc_changes::{Fraction, need};
 use cc_node::Opening;
 use cc_words::{fraction, list, small_number};
 use std::alloc::Global;
@@ -59,6 +62,36 @@ impl FormatOrder {
             gamma: self.gamma,
         }
     }
+
+    /// What an operator may not want of the node, of a cluster whose members are those at the start.
+    pub fn warnings(&self) -> [Option<Warning>; 3] {
+        [
+            self.asks_too_few().then_some(Warning::Half),
+            self.asks_all().then_some(Warning::All),
+            self.reaches_nobody().then_some(Warning::Alone),
+        ]
+    }
+
+    // Whether two operations may ask members of which none is asked by both.
+    fn asks_too_few(&self) -> bool {
+        self.beta.num <= self.beta.den / 2
+    }
+
+    // Whether an operation waits for each of several members.
+    fn asks_all(&self) -> bool {
+        let count = self.initial.len() as u64;
+        count > 1 && is_share(self.beta) && need(self.beta, count) == count
+    }
+
+    fn reaches_nobody(&self) -> bool {
+        self.initial.is_empty() && self.contacts.is_empty()
+    }
+}
+
+fn is_share(fraction: Fraction) -> bool
+    ensures { result ≡ (nat_lt 0 fraction.num && nat_le fraction.num fraction.den) }
+{
+    0 < fraction.num && fraction.num <= fraction.den
 }
 
 fn share(word: Option<&str>) -> Option<Fraction> {

@@ -5,6 +5,7 @@ mod core_parts;
 mod laws;
 mod made;
 mod named_nodes;
+mod needs;
 mod node;
 mod node_core;
 mod opening;

@@ -6,5 +6,6 @@ mod OperatingLaws
 mod RoutingLaws
 mod SpeakingLaws
 mod StandingLaws
+mod StandingsLaws
 mod StirLaws
 mod WishingLaws

@@ -6,6 +6,8 @@ pub mod Operating
 pub mod Routing
 pub mod Speaking
 pub mod Standing
+pub mod Standings
+pub mod Lasting
 pub mod Incoming
 pub mod Bundles
 pub mod Calling

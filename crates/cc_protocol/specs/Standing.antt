@@ -1,6 +1,7 @@
 -- How a peer stands: whether it acknowledges in time what the node sent to it.
 --     Standing                       in time; with something due since so many seconds; or absent
 --     after_second, after_ack        how it stands after a second, and after an acknowledgement of its own that was accepted
+--     is_late                        whether it has owed for a second or more
 --     may_lapse                      whether what is kept for it may lapse
 --     Second, after_seconds          what is seen of a peer in a second;  how it stands after some of them
 --     KeepsUp                        by each second it has acknowledged what was sent by the one two before it
@@ -27,6 +28,12 @@ abbrev pub is_absent : Standing → Bool
 is_absent Current = false
 is_absent (Owing due seconds) = false
 is_absent Absent = true
+
+-- who owes since this very second is in time: under load something is always on its way
+abbrev pub is_late : Standing → Bool
+is_late Current = false
+is_late (Owing due seconds) = nat_lt 0 seconds
+is_late Absent = true
 
 -- once absent it stays so, whatever counts as acknowledged: a lapse isn't an acknowledgement of its own
 abbrev pub of_live : Standing → ℕ → ℕ → Standing

@@ -3,7 +3,7 @@
 ghost use Rattle.std.specs.Prelude.{◌≡◌, ℕ, Bool, true, false, List};
 ghost use Rattle.cc_protocol.specs.declared.standing.Standing.{Standing};
 ghost use Rattle.cc_protocol.specs.declared.standing.Standing.TheVariants as standings;
-ghost use Rattle.cc_protocol.specs.Standing.{of_owing, of_live, after_second, after_ack, is_absent, may_lapse, Second, after_seconds, KeepsUp};
+ghost use Rattle.cc_protocol.specs.Standing.{of_owing, of_live, after_second, after_ack, is_absent, is_late, may_lapse, Second, after_seconds, KeepsUp};
 
 /// How a peer stands to the node, as the node looks at it each second.
 #[derive(Clone, Copy, Debug, PartialEq, Eq)]
@@ -81,6 +81,18 @@ impl Standing {
         ensures { result ≡ is_absent self }
     {
         matches!(self, Standing::Absent)
+    }
+
+    /// Whether it has owed something for a whole second or more: its connection may lead nowhere. Under load something is
+    /// always on its way, so who owes since this very second is in time.
+    pub fn is_late(self) -> bool
+        ensures { result ≡ is_late self }
+    {
+        match self {
+            Standing::Current => false,
+            Standing::Owing { seconds, .. } => seconds > 0,
+            Standing::Absent => true,
+        }
     }
 
     /// Whether what is kept for it may lapse: it is absent, and keeps more than 64 posts from being dropped. `reach` is the

@@ -5,7 +5,7 @@ use crate::known::Known;
 use crate::run_fault::RunFault;
 use crate::threads::FarEnds;
 use cc_lines::{Bell, Doors, FarEnd, Line, OwnLine, Stop, lines_to, own_line};
-use cc_protocol::Wishes;
+use cc_protocol::{Standings, Wishes};
 use cc_views::NodeId;
 use cc_wire::Event;
 use cc_words::Peer;
@@ -26,6 +26,9 @@ pub struct Shared {
     /// The nodes that were heard of.
     pub known: Known,
     pub wishes: Mutex<Wishes>,
+    /// How its peers stand, and whether one is absent.
+    pub standings: Mutex<Standings>,
+    pub any_absent: Stop,
     /// A second has passed.
     pub ticked: Stop,
     /// No worker is left.
@@ -57,6 +60,8 @@ impl Shared {
             bell,
             known: Known::new(alloc),
             wishes: Mutex::new(Wishes::new(alloc)?),
+            standings: Mutex::new(Standings::new(alloc)?),
+            any_absent: Stop::new(),
             ticked: Stop::new(),
             done: Stop::new(),
             ended: Stop::new(),
@@ -73,6 +78,18 @@ impl Shared {
     pub fn reack<R: Wait>(&self, rt: &R, peer: NodeId) {
         self.wishes.lock(rt).reack(peer);
         self.bell.ring();
+    }
+
+    /// A frame of that peer came. It is looked at only while a peer is absent.
+    pub fn hear_voice<R: Wait>(&self, rt: &R, peer: NodeId) {
+        if self.any_absent.is_set() {
+            self.standings.lock(rt).note_voice(peer);
+        }
+    }
+
+    /// An acknowledgement of that peer was accepted. Whether it was taken for absent, and isn't any longer.
+    pub fn hear_ack<R: Wait>(&self, rt: &R, peer: NodeId) -> bool {
+        self.any_absent.is_set() && self.standings.lock(rt).hear_ack(peer)
     }
 
     /// Has the flusher put out the last answer of a session again.

@@ -78,7 +78,7 @@ where
 }
 
 // Flushes, and has all end where that fails.
-fn flush_until<S: Site, L: Life, Q: Lane, R: Wait>(
+fn flush_until<S: Site, L: Life, Q: Lane, R: Wait + Eprint>(
     rt: &R,
     turner: &mut Turner<S, L, Q>,
     queue: &Queue<L, Q>,

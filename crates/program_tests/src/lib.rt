@@ -6,6 +6,8 @@ mod absent;
 #[cfg(test)]
 mod absent_entrants;
 #[cfg(test)]
+mod absent_full;
+#[cfg(test)]
 mod anew;
 #[cfg(test)]
 mod bad_lines;
@@ -43,5 +45,7 @@ mod sites;
 mod snapshots;
 #[cfg(test)]
 mod standing;
+#[cfg(test)]
+mod warnings;
 #[cfg(test)]
 mod words;
