@@ -29,7 +29,7 @@ pub struct Watch<'x> {
 /// Takes a turn each time that it is woken, and more where one batch didn't take all that waited, until nothing is left after
 /// `done` was set. What nobody woke it for waits for the next turn. After each turn it looks what lapses, and at each tick how
 /// the peers stand.
-pub fn flush_all<S: Site, L: Life, Q: Lane, R: Wait + Eprint>(
+pub fn flush_all<S: Site, L: Life, Q: Lane, R: Wait>(
     rt: &R,
     turner: &mut Turner<S, L, Q>,
     queue: &Queue<L, Q>,

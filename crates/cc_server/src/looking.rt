@@ -1,8 +1,7 @@
 //! What the flusher does for peers that stay away: it looks how each of them stands, and hands in what lapses and snapshots.
 
-use crate::notes::{note_absent, note_pending};
+use crate::notes::Note;
 use crate::shared::Shared;
-use cc_lines::Line;
 use cc_links::LinkRow;
 use cc_node::Core;
 use cc_ops::{Pending, Stage};
@@ -30,7 +29,7 @@ impl Looks {
 
 /// Looks at a node as it was flushed: at each tick how its peers stand, and whether it posts a snapshot; and always what
 /// lapses. It hands events in on the node's own line, and waits for none of them.
-pub fn look<R: Wait + Eprint>(
+pub fn look<R: Wait>(
     rt: &R,
     core: &Core,
     shared: &Shared,
@@ -40,7 +39,7 @@ pub fn look<R: Wait + Eprint>(
     if is_tick {
         let is_back = pass_second(rt, core, shared);
         let pending = pending_of(core.phase());
-        note_lasting(rt, core.me(), looks, pending);
+        note_lasting(rt, shared, looks, pending);
         let is_held = shared.any_absent.is_set() || looks.lasting.is_long();
         if looks.calls.after_second(is_back, core.needs_anew(), is_held) {
             shared.own.put(rt, Event::Snapshot);
@@ -52,12 +51,12 @@ pub fn look<R: Wait + Eprint>(
 }
 
 // A second has passed for all peers. Whether one that is absent was heard in it.
-fn pass_second<R: Wait + Eprint>(rt: &R, core: &Core, shared: &Shared) -> bool {
+fn pass_second<R: Wait>(rt: &R, core: &Core, shared: &Shared) -> bool {
     let mut is_back = false;
     for link in core.links().rows() {
         if link.peer != core.me() {
-            let passed = passed(rt, core, shared, link);
-            note_passed(rt, core.me(), link.peer, &shared.lines, passed);
+            let passed = pass_link(rt, core, shared, link);
+            note_passed(rt, shared, link.peer, passed);
             is_back |= passed.is_back;
         }
     }
@@ -66,7 +65,7 @@ fn pass_second<R: Wait + Eprint>(rt: &R, core: &Core, shared: &Shared) -> bool {
     is_back
 }
 
-fn passed<R: Wait>(rt: &R, core: &Core, shared: &Shared, link: &LinkRow) -> Passed {
+fn pass_link<R: Wait>(rt: &R, core: &Core, shared: &Shared, link: &LinkRow) -> Passed {
     let sent = core.posts().saturating_sub(link.start);
     let is_live = core.is_live(link.peer);
     let mut standings = shared.standings.lock(rt);
@@ -74,22 +73,22 @@ fn passed<R: Wait>(rt: &R, core: &Core, shared: &Shared, link: &LinkRow) -> Pass
 }
 
 // Tells the line to a peer whether it is late, and notes that it is taken for absent.
-fn note_passed<R: Eprint>(rt: &R, me: NodeId, peer: NodeId, lines: &[Line], passed: Passed) {
-    if let Some(line) = lines.iter().find(|line| line.peer == peer) {
+fn note_passed<R: Wait>(rt: &R, shared: &Shared, peer: NodeId, passed: Passed) {
+    if let Some(line) = shared.lines.iter().find(|line| line.peer == peer) {
         line.note_progress(passed.standing.is_late());
     }
     if passed.is_taken {
-        note_absent(rt, me, peer);
+        shared.notes.put(rt, Note::Absent(peer));
     }
 }
 
 // A second has passed for the operation that pends, if one does: what has been pending for long is noted, once.
-fn note_lasting<R: Eprint>(rt: &R, me: NodeId, looks: &mut Looks, pending: Option<Pending>) {
+fn note_lasting<R: Wait>(rt: &R, shared: &Shared, looks: &mut Looks, pending: Option<Pending>) {
     let before = looks.lasting;
     looks.lasting = before.after_second(name_of(pending));
     if let Some(pending) = pending {
         if looks.lasting.is_long() && !before.is_long() {
-            note_pending(rt, me, &pending);
+            shared.notes.put(rt, Note::Pending(pending));
         }
     }
 }

@@ -2,6 +2,7 @@
 
 use crate::flushing::Watch;
 use crate::known::Known;
+use crate::notes::{Note, NoteLine, note_line};
 use crate::run_fault::RunFault;
 use crate::threads::FarEnds;
 use cc_lines::{Bell, Doors, FarEnd, Line, OwnLine, Stop, lines_to, own_line};
@@ -29,6 +30,8 @@ pub struct Shared {
     /// How its peers stand, and whether one is absent.
     pub standings: Mutex<Standings>,
     pub any_absent: Stop,
+    /// What the flusher notes.
+    pub notes: NoteLine,
     /// A second has passed.
     pub ticked: Stop,
     /// No worker is left.
@@ -43,6 +46,7 @@ pub struct Inlets {
     pub parker: Parker,
     pub far: Vec<FarEnd>,
     pub own: Receiver<Option<Event>>,
+    pub notes: Receiver<Option<Note>>,
 }
 
 impl Shared {
@@ -50,6 +54,7 @@ impl Shared {
     pub fn new(alloc: Global, peers: &[Peer]) -> Result<(Self, Inlets), RunFault> {
         let (lines, far) = lines_to(alloc, peers)?;
         let (own, taken) = own_line(alloc)?;
+        let (notes, noted) = note_line(alloc)?;
         let parker = Parker::new(alloc)?;
         let bell = Bell::new(parker.unparker().clone()?);
         let shared = Shared {
@@ -62,6 +67,7 @@ impl Shared {
             wishes: Mutex::new(Wishes::new(alloc)?),
             standings: Mutex::new(Standings::new(alloc)?),
             any_absent: Stop::new(),
+            notes,
             ticked: Stop::new(),
             done: Stop::new(),
             ended: Stop::new(),
@@ -70,6 +76,7 @@ impl Shared {
             parker,
             far,
             own: taken,
+            notes: noted,
         };
         Ok((shared, inlets))
     }
@@ -102,8 +109,19 @@ impl Shared {
 impl Inlets {
     /// What the flusher takes out of, and what the workers and writers of the node `me` do.
     pub fn cut(self, me: NodeId, shared: &Shared) -> (Watch<'_>, FarEnds) {
-        let Inlets { parker, far, own } = self;
+        let Inlets {
+            parker,
+            far,
+            own,
+            notes,
+        } = self;
         let watch = Watch { parker, shared };
-        (watch, FarEnds { me, far, own })
+        let ends = FarEnds {
+            me,
+            far,
+            own,
+            notes,
+        };
+        (watch, ends)
     }
 }
