@@ -99,6 +99,29 @@ fn a_store_begins_anew(rt: HostRuntime) -> Result<(), Fail> {
     checked
 }
 
+// Of three members all are needed, and once node 3 is retired two are: so the store needs too many until it begins anew.
+fn check_need<R: Abort + AllocGlobal>(rt: &R, node: &mut Node) -> Result<(), Fail> {
+    let third = id(3)?;
+    let before = node.core().needs_anew();
+    take(rt.alloc(), node, ask(1, Command::SetFlag))?;
+    let asked = node.core().needs_anew();
+    take(rt.alloc(), node, Event::Retire { node: third })?;
+    let retired = node.core().needs_anew();
+    take(rt.alloc(), node, Event::Snapshot)?;
+    let own = delivery(rt.alloc(), 1, 2, &OF_TWO)?;
+    take(rt.alloc(), node, own)?;
+    assert_eq!(rt; [before, asked, retired, node.core().needs_anew()], [false, false, true, false]);
+    Ok(())
+}
+
+#[test]
+fn a_need_is_out_of_date_once_a_member_is_retired(rt: HostRuntime) -> Result<(), Fail> {
+    let mut node = Node::fresh(rt.alloc(), &opening(1, &[1, 2, 3], &[]))?;
+    let checked = check_need(&rt, &mut node);
+    drop(node);
+    checked
+}
+
 fn check_numbers<R: Abort + AllocGlobal>(rt: &R, node: &Node) -> Result<(), Fail> {
     let refusals = [
         refusal(node, delivery(rt.alloc(), 2, LIMIT, &OF_TWO)?),
