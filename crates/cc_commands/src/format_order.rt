@@ -1,7 +1,5 @@
 //! How a folder is to be formatted.
 
-ghost use Rattle.std.specs.Prelude.{◌≡◌, ◌&&◌, nat_lt, nat_le};
-
 use crate::warning::Warning;
 use crate::word_fault::WordFault;
 use cc_changes::{Fraction, need};
@@ -80,18 +78,13 @@ impl FormatOrder {
     // Whether an operation waits for each of several members.
     fn asks_all(&self) -> bool {
         let count = self.initial.len() as u64;
-        count > 1 && is_share(self.beta) && need(self.beta, count) == count
+        let Fraction { num, den } = self.beta;
+        count > 1 && 0 < num && num <= den && need(self.beta, count) == count
     }
 
     fn reaches_nobody(&self) -> bool {
         self.initial.is_empty() && self.contacts.is_empty()
     }
-}
-
-fn is_share(fraction: Fraction) -> bool
-    ensures { result ≡ (nat_lt 0 fraction.num && nat_le fraction.num fraction.den) }
-{
-    0 < fraction.num && fraction.num <= fraction.den
 }
 
 fn share(word: Option<&str>) -> Option<Fraction> {

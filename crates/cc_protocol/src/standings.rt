@@ -167,7 +167,7 @@ fn keep_others(rows: &mut Vec<PeerStanding>, peer: NodeId)
     ensures items { rows.new.items ≡ others peer rows.old.items }
     ensures capacity { vec_capacity rows.new ≡ vec_capacity rows.old }
 {
-    rows.retain(|row| row.peer != peer);
+    rows.retain(|row| !(row.peer == peer));
 }
 
 fn row_passed(row: PeerStanding, acked: u64, sent: u64, is_live: bool) -> PeerStanding

@@ -96,7 +96,10 @@ impl Shared {
 
     /// An acknowledgement of that peer was accepted. Whether it was taken for absent, and isn't any longer.
     pub fn hear_ack<R: Wait>(&self, rt: &R, peer: NodeId) -> bool {
-        self.any_absent.is_set() && self.standings.lock(rt).hear_ack(peer)
+        if !self.any_absent.is_set() {
+            return false;
+        }
+        self.standings.lock(rt).hear_ack(peer)
     }
 
     /// Has the flusher put out the last answer of a session again.

@@ -39,12 +39,13 @@ fn store_all<R: Net<Stream = TcpStream> + Clock>(
     alloc: Global,
     one: SocketAddr,
 ) -> Result<(), Fail> {
-    let start = Instant::now(rt)?;
+    let start = Instant::now(rt).or(Err("a clock"))?;
     for _ in 0..STORES {
         store(rt, alloc, one)?;
     }
+    let elapsed = start.elapsed(rt).or(Err("a clock"))?;
     check(
-        start.elapsed(rt)? < Duration::from_secs(MOST_SECONDS),
+        elapsed < Duration::from_secs(MOST_SECONDS),
         "what is kept for an absent member lapses",
     )
 }
