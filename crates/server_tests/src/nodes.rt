@@ -39,13 +39,18 @@ where
     places(rt)
 }
 
-/// Two of three members in new folders, of which two are enough, with listeners at ports that are free.
-pub(crate) fn set_up_two_of_three<R>(rt: &R, folder: &str, other: &str) -> Result<Places, Fail>
+/// Two of three members in new folders, with listeners at ports that are free.
+pub(crate) fn set_up_of_three<R>(
+    rt: &R,
+    folder: &str,
+    other: &str,
+    beta: Option<&str>,
+) -> Result<Places, Fail>
 where
     R: AllocGlobal + Files<File = File> + Net<Listener = TcpListener, Stream = TcpStream>,
 {
-    format_member_of(rt, folder, "1", "1,2,3", Some("2/3"))?;
-    format_member_of(rt, other, "2", "1,2,3", Some("2/3"))?;
+    format_member_of(rt, folder, "1", "1,2,3", beta)?;
+    format_member_of(rt, other, "2", "1,2,3", beta)?;
     places(rt)
 }
 
