@@ -139,8 +139,7 @@ impl Standings {
 fn found(rows: &[PeerStanding], peer: NodeId) -> Option<PeerStanding>
     ensures { result ≡ find (λ (r : PeerStanding). r.peer == peer) rows.now }
 {
-    let row = rows.iter().find(|row| row.peer == peer)?;
-    Some(*row)
+    rows.iter().find(|row| row.peer == peer).copied()
 }
 
 fn row_of(rows: &[PeerStanding], peer: NodeId) -> PeerStanding

@@ -50,7 +50,7 @@ pub fn write_notes<R: Wait + Eprint>(rt: &R, me: NodeId, from: &Receiver<Option<
     for _ in rt.forever() {
         match from.recv(rt).unwrap_or(None) {
             Some(Note::Absent(peer)) => note_absent(rt, me, peer),
-            Some(Note::Pending(pending)) => note_pending(rt, me, &pending),
+            Some(Note::Pending(pending)) => note_pending(rt, me, pending),
             None => return,
         }
     }
@@ -62,10 +62,10 @@ fn note_absent<R: Eprint>(rt: &R, me: NodeId, peer: NodeId) {
     warn!(logged; "node {} takes node {} for absent", me.number(), peer.number());
 }
 
-fn note_pending<R: Eprint>(rt: &R, me: NodeId, pending: &Pending) {
+fn note_pending<R: Eprint>(rt: &R, me: NodeId, pending: Pending) {
     let logged = Logged::new(rt, Level::Warn, Console(rt));
     let asked = pending.asked;
-    warn!(logged; "node {} has {} of {} answers for request {} of session {}, which has been pending for 8 seconds", me.number(), pending.count, pending.need, asked.request, asked.session);
+    warn!(logged; "node {} has {} of {} answers for request {} of session {}, pending for 8 seconds", me.number(), pending.count, pending.need, asked.request, asked.session);
 }
 
 /// A peer that was taken for absent acknowledges again.
