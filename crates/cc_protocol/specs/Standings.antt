@@ -1,12 +1,12 @@
 -- How the peers of a node stand, as it looks at them each second.
 --     Standings                         of each peer how it stands, what was handed in for it, and whether it has spoken
---     row_of, with_row                  the row of a peer;  a row in place of the one that its peer had
+--     found, row_of, with_row           the row of a peer, if it has one;  and where it has none;  a row in place of the one that its peer had
 --     passed, after_pass                what a second shows of a peer;  and what is remembered then
 --     after_voice, after_heard          once a frame of a peer came;  once an acknowledgement of its own was accepted
 --     lapses, after_lapse               whether what is kept for a peer lapses now;  and what is remembered then
 --     has_absent                        whether a peer is absent
 --     IsStanding                        how many there are
-use Rattle.std.specs.Prelude.{◌≤◌, ℕ, ◌==◌, ◌&&◌, nat_lt, not, Bool, true, false, List, [], ◌∷◌, ◌++◌, length, filter, find, Option, Some, None, if◌then◌else◌}
+use Rattle.std.specs.Prelude.{◌≤◌, ℕ, ◌==◌, ◌&&◌, nat_lt, not, Bool, true, false, List, [], ◌∷◌, ◌++◌, length, filter, find, Option, option_map, unwrap_or, if◌then◌else◌}
 use Rattle.std.specs.List.{list_any}
 use Rattle.cc_protocol.specs.declared.standing.Standing.TheVariants.{Current}
 use Rattle.cc_protocol.specs.declared.standings.PeerStanding.{PeerStanding}
@@ -20,13 +20,17 @@ Standings = List PeerStanding
 abbrev pub peer_limit : ℕ
 peer_limit = 256
 
--- a peer that wasn't looked at yet owes nothing
-abbrev pub or_unknown : ℕ → Option PeerStanding → PeerStanding
-or_unknown peer (Some row) = row
-or_unknown peer None = record { peer = peer; standing = Current; handed_at = 0; has_spoken = false }
+abbrev pub found : ℕ → Standings → Option PeerStanding
+found peer rows = find (λ (r : PeerStanding). r.peer == peer) rows
 
+-- a peer that wasn't looked at yet owes nothing
 abbrev pub row_of : ℕ → Standings → PeerStanding
-row_of peer rows = or_unknown peer (find (λ (r : PeerStanding). r.peer == peer) rows)
+row_of peer rows = record {
+  peer = peer;
+  standing = unwrap_or (option_map (λ (r : PeerStanding). r.standing) (found peer rows)) Current;
+  handed_at = unwrap_or (option_map (λ (r : PeerStanding). r.handed_at) (found peer rows)) 0;
+  has_spoken = unwrap_or (option_map (λ (r : PeerStanding). r.has_spoken) (found peer rows)) false;
+}
 
 abbrev pub others : ℕ → Standings → Standings
 others peer rows = filter (λ (r : PeerStanding). not (r.peer == peer)) rows

@@ -1,10 +1,10 @@
 //! How the peers of a node stand, as it looks at them each second.
 
-ghost use Rattle.std.specs.Prelude.{◌≡◌, ℕ, Bool, true, [], IfOk, find};
+ghost use Rattle.std.specs.Prelude.{◌≡◌, ℕ, Bool, true, [], IfOk, option_map};
 ghost use Rattle.std.specs.Vec.{vec_capacity};
 ghost use Rattle.cc_protocol.specs.declared.standing.Standing.TheVariants as stands;
 ghost use Rattle.cc_protocol.specs.Standing.{is_absent};
-ghost use Rattle.cc_protocol.specs.Standings.{Standings as Table, row_of, with_row, others, row_passed, row_shows, row_spoken, row_heard, row_lapsed, passed, after_pass, after_voice, after_heard, lapses, after_lapse, has_absent};
+ghost use Rattle.cc_protocol.specs.Standings.{Standings as Table, found, row_of, with_row, others, row_passed, row_shows, row_spoken, row_heard, row_lapsed, passed, after_pass, after_voice, after_heard, lapses, after_lapse, has_absent};
 
 use crate::standing::Standing;
 use cc_views::{NoMemory, NodeId};
@@ -76,9 +76,9 @@ impl Standings {
         ensures table { self.new ≡ after_pass peer acked sent is_live self.old }
     {
         let before = row_of(&self.rows, peer);
-        let after = row_passed(before, acked, sent, is_live);
-        self.put(after);
-        shown(before, after)
+        let passed = shown(&before, acked, sent, is_live);
+        self.put(row_passed(&before, acked, sent, is_live));
+        passed
     }
 
     /// A frame of a peer came, whatever became of it.
@@ -136,24 +136,36 @@ impl Standings {
     }
 }
 
-fn found(rows: &[PeerStanding], peer: NodeId) -> Option<PeerStanding>
-    ensures { result ≡ find (λ (r : PeerStanding). r.peer == peer) rows.now }
-{
-    rows.iter().find(|row| row.peer == peer).copied()
-}
-
 fn row_of(rows: &[PeerStanding], peer: NodeId) -> PeerStanding
     ensures { result ≡ row_of peer rows.now }
 {
-    match found(rows, peer) {
-        Some(row) => row,
-        None => PeerStanding {
-            peer,
-            standing: Standing::Current,
-            handed_at: 0,
-            has_spoken: false,
-        },
+    PeerStanding {
+        peer,
+        standing: standing_in(rows, peer).unwrap_or(Standing::Current),
+        handed_at: handed_in(rows, peer).unwrap_or(0),
+        has_spoken: spoken_in(rows, peer).unwrap_or(false),
     }
+}
+
+fn standing_in(rows: &[PeerStanding], peer: NodeId) -> Option<Standing>
+    ensures { result ≡ option_map (λ (r : PeerStanding). r.standing) (found peer rows.now) }
+{
+    let row = rows.iter().find(|row| row.peer == peer)?;
+    Some(row.standing)
+}
+
+fn handed_in(rows: &[PeerStanding], peer: NodeId) -> Option<u64>
+    ensures { result ≡ option_map (λ (r : PeerStanding). r.handed_at) (found peer rows.now) }
+{
+    let row = rows.iter().find(|row| row.peer == peer)?;
+    Some(row.handed_at)
+}
+
+fn spoken_in(rows: &[PeerStanding], peer: NodeId) -> Option<bool>
+    ensures { result ≡ option_map (λ (r : PeerStanding). r.has_spoken) (found peer rows.now) }
+{
+    let row = rows.iter().find(|row| row.peer == peer)?;
+    Some(row.has_spoken)
 }
 
 fn has_absent(rows: &[PeerStanding]) -> bool
@@ -169,8 +181,8 @@ fn keep_others(rows: &mut Vec<PeerStanding>, peer: NodeId)
     rows.retain(|row| !(row.peer == peer));
 }
 
-fn row_passed(row: PeerStanding, acked: u64, sent: u64, is_live: bool) -> PeerStanding
-    ensures { result ≡ row_passed row acked sent is_live }
+fn row_passed(row: &PeerStanding, acked: u64, sent: u64, is_live: bool) -> PeerStanding
+    ensures { result ≡ row_passed row.now acked sent is_live }
 {
     PeerStanding {
         peer: row.peer,
@@ -180,12 +192,14 @@ fn row_passed(row: PeerStanding, acked: u64, sent: u64, is_live: bool) -> PeerSt
     }
 }
 
-fn shown(before: PeerStanding, after: PeerStanding) -> Passed
-    ensures { result ≡ row_shows before after }
+// What the second shows of a row.
+fn shown(before: &PeerStanding, acked: u64, sent: u64, is_live: bool) -> Passed
+    ensures { result ≡ row_shows before.now (row_passed before.now acked sent is_live) }
 {
-    let is_absent = after.standing.is_absent();
+    let standing = before.standing.after_second(acked, sent, is_live);
+    let is_absent = standing.is_absent();
     Passed {
-        standing: after.standing,
+        standing,
         is_taken: is_absent && !before.standing.is_absent(),
         is_back: is_absent && before.has_spoken,
     }
