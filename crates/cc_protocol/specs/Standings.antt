@@ -1,6 +1,6 @@
 -- How the peers of a node stand, as it looks at them each second.
 --     Standings                         of each peer how it stands, what was handed in for it, and whether it has spoken
---     found, row_of, with_row           the row of a peer, if it has one;  and where it has none;  a row in place of the one that its peer had
+--     found, row_of, with_row           the row of a peer, if it has one;  and where it has none;  one in place of it
 --     passed, after_pass                what a second shows of a peer;  and what is remembered then
 --     after_voice, after_heard          once a frame of a peer came;  once an acknowledgement of its own was accepted
 --     lapses, after_lapse               whether what is kept for a peer lapses now;  and what is remembered then

@@ -29,19 +29,16 @@ impl Looks {
 
 /// Looks at a node as it was flushed: at each tick how its peers stand, and whether it posts a snapshot; and always what
 /// lapses. It hands events in on the node's own line, and waits for none of them.
-pub fn look<R: Wait>(
-    rt: &R,
-    core: &Core,
-    shared: &Shared,
-    looks: &mut Looks,
-    is_tick: bool,
-) {
+pub fn look<R: Wait>(rt: &R, core: &Core, shared: &Shared, looks: &mut Looks, is_tick: bool) {
     if is_tick {
         let is_back = pass_second(rt, core, shared);
         let pending = pending_of(core.phase());
         note_lasting(rt, shared, looks, pending);
         let is_held = shared.any_absent.is_set() || looks.lasting.is_long();
-        if looks.calls.after_second(is_back, core.needs_anew(), is_held) {
+        if looks
+            .calls
+            .after_second(is_back, core.needs_anew(), is_held)
+        {
             shared.own.put(rt, Event::Snapshot);
         }
     }

@@ -203,9 +203,7 @@ where
     let rt = office.rt;
     let me = office.me;
     let is_served = scope.spawn(move || serve_own(office, own)).is_ok();
-    let is_noted = scope
-        .spawn(move || write_notes(rt, me, &notes))
-        .is_ok();
+    let is_noted = scope.spawn(move || write_notes(rt, me, &notes)).is_ok();
     is_served && is_noted
 }
 

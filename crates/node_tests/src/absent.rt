@@ -110,7 +110,10 @@ fn check_need<R: Abort + AllocGlobal>(rt: &R, node: &mut Node) -> Result<(), Fai
     take(rt.alloc(), node, Event::Snapshot)?;
     let own = delivery(rt.alloc(), 1, 2, &OF_TWO)?;
     take(rt.alloc(), node, own)?;
-    assert_eq!(rt; [before, asked, retired, node.core().needs_anew()], [false, false, true, false]);
+    assert_eq!(rt;
+        [before, asked, retired, node.core().needs_anew()],
+        [false, false, true, false]
+    );
     Ok(())
 }
 

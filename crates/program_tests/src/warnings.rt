@@ -18,7 +18,12 @@ const CASES: [Case; 7] = [
     (Some("1,2,3"), None, None, [None, Some(Warning::All), None]),
     (Some("1,2,3"), None, Some("2/3"), NOTHING),
     (Some("1,2,3,4,5"), None, None, NOTHING),
-    (Some("1,2,3"), None, Some("1/2"), [Some(Warning::Half), None, None]),
+    (
+        Some("1,2,3"),
+        None,
+        Some("1/2"),
+        [Some(Warning::Half), None, None],
+    ),
     (Some("1"), None, None, NOTHING),
     (None, Some("1"), None, NOTHING),
     (None, None, None, [None, None, Some(Warning::Alone)]),

@@ -19,7 +19,13 @@ fn check_calls<R: Abort>(rt: &R, calls: &mut Calls, seconds: u64, look: [bool; 3
 #[test]
 fn voices_are_answered_ever_more_rarely(rt: HostRuntime) -> Result<(), Fail> {
     let mut calls = Calls::new();
-    check_calls(&rt, &mut calls, 24, [true, false, false], &[1, 3, 7, 15, 23]);
+    check_calls(
+        &rt,
+        &mut calls,
+        24,
+        [true, false, false],
+        &[1, 3, 7, 15, 23],
+    );
     check_calls(&rt, &mut calls, 8, [false, false, false], &[]);
     check_calls(&rt, &mut calls, 3, [true, false, false], &[1, 3]);
     Ok(())

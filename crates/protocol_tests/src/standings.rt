@@ -127,7 +127,11 @@ fn check_back<R: Abort>(rt: &R, peers: &mut Standings, two: NodeId, three: NodeI
         peers.pass_second(two, 0, 80, true),
         peers.pass_second(two, 80, 80, true),
     ];
-    let acked = [peers.hear_ack(three), peers.hear_ack(two), peers.hear_ack(two)];
+    let acked = [
+        peers.hear_ack(three),
+        peers.hear_ack(two),
+        peers.hear_ack(two),
+    ];
     assert_eq!(rt;
         seconds,
         [

@@ -17,6 +17,7 @@ use std::time::{Clock, Duration, Instant};
 
 // So many stores, of which some 64 fill what may be kept for the third member, are answered in so many seconds.
 const STORES: u64 = 300;
+
 const MOST_SECONDS: u64 = 10;
 
 // One store is answered.
