@@ -20,7 +20,6 @@ use Rattle.cc_wire.specs.declared.output.Output.{Output}
 use Rattle.cc_wire.specs.declared.refusal.Refusal.{Refusal}
 use Rattle.cc_wire.specs.declared.refusal.Refusal.TheVariants as refusal
 use Rattle.cc_wire.specs.Refusals.{first_of}
-use Rattle.cc_churn.specs.Churn as churn
 use Rattle.cc_ops.specs.declared.pending.Asked.{Asked}
 use Rattle.cc_ops.specs.Commands.{finds_no_room}
 use Rattle.cc_ops.specs.Waiting.{has_session, written_by}
