@@ -295,12 +295,12 @@ module _ (e : Event) (s t : Ops) where
   -- as many are counted afterwards as the round has then
   counted_next : (peer : Option ℕ) (over restarts : Bool) (peers : List ℕ) → Outcome e s t peer over restarts → length peers ≡ answers_in s.phase
       → length (if restarts || over then [] else with_peer peer peers) ≡ answers_in t.phase
-  counted_next peer over restarts peers (goes_on none lasts no same count) h =
-      (λ i. length (if no i || lasts i then [] else with_peer (none i) peers)) ∙ h ∙ sym count
-  counted_next peer over restarts peers (gains from is lasts no sent gain) h =
-      let all : length (if restarts || over then [] else with_peer peer peers) ≡ length (from ∷ peers) = λ i. length (if no i || lasts i then [] else with_peer (is i) peers) in
+  counted_next peer over restarts peers (goes_on none lasts stays same count) h =
+      (λ i. length (if stays i || lasts i then [] else with_peer (none i) peers)) ∙ h ∙ sym count
+  counted_next peer over restarts peers (gains from is lasts stays sent gain) h =
+      let all : length (if restarts || over then [] else with_peer peer peers) ≡ length (from ∷ peers) = λ i. length (if stays i || lasts i then [] else with_peer (is i) peers) in
       omega (arith, all, h, gain.more)
-  counted_next peer over restarts peers (ends from is at no sent end enough none) h = (λ i. length (if no i || at i then [] else with_peer peer peers)) ∙ sym none
+  counted_next peer over restarts peers (ends from is at stays sent end enough none) h = (λ i. length (if stays i || at i then [] else with_peer peer peers)) ∙ sym none
   counted_next peer over restarts peers (starts_over none _ at begins) h = (λ i. length (if at i || over then [] else with_peer peer peers)) ∙ sym begins.none
 
   counted_last : (peer : Option ℕ) (over restarts : Bool) (peers : List ℕ) → Outcome e s t peer over restarts → over ≡ true → length peers ≡ answers_in s.phase
