@@ -293,8 +293,7 @@ module _ (start : Node) (past : List Event) (e : Event) where
         → PendsIn start now [] me (next_round (again quorum phase) (merged v s))
     anew_pends me quorum v s peers old Idle is busy next_is h = cc
     anew_pends me quorum v s peers old (Storing p) is busy next_is h =
-        let own : HasAtLeast (merge s.view v) me s.number = least_more s.view (merge s.view v) me s.number (at_most_merge s.view v) h.2 in
-        (
+        let own : HasAtLeast (merge s.view v) me s.number = least_more s.view (merge s.view v) me s.number (at_most_merge s.view v) h.2 in (
           raise_now (s.tag + 1) (λ d. HasAtLeast (stored_of d.ops) me s.number) (omega (arith, old)) (ap (λ (t : Ops). t.tag) next_is)
               (subst (λ (t : Ops). HasAtLeast (stored_of t) me s.number) (sym next_is) own),
           tt,
