@@ -6,7 +6,7 @@
 --     fixed_next, fixed_along            and nobody else is known
 --     fresh_fixed, quorum_next           from the start;  so a round needs as many answers as before
 use Rattle.std.proofs.Common.{◌≡◌, ℕ, Bool, true, false, ◌&&◌, ◌||◌, not, nat_lt, ◌+◌, List, [], ◌∷◌, refl, sym, ap, subst, ◌∙◌}
-use Rattle.std.specs.Prelude.{IsTrue, Option, Some, None, IfSome, ⊤, if◌then◌else◌}
+use Rattle.std.specs.Prelude.{IsTrue, Option, None, IfSome, ⊤, if◌then◌else◌}
 use Rattle.std.specs.List.{AllByRecursion}
 use Rattle.std.proofs.lemmas.Bool.{cond_both}
 use Rattle.cc_views.specs.NatSets as set
@@ -25,7 +25,7 @@ use Rattle.cc_churn.specs.Churn as churn
 use Rattle.cc_links.specs.Links as links
 use Rattle.cc_ops.specs.Ops as ops
 use Rattle.cc_ops.specs.Ops.{Ops, Phase, Idle, Storing, Querying, StoringBack}
-use Rattle.cc_node.specs.Core.{Core, quorum, asked_of, churned, churn_told, told_if, is_told_of, skips, links_heard, tells, asks_anew, join_told, question_if}
+use Rattle.cc_node.specs.Core.{Core, quorum, churned, churn_told, told_if, is_told_of, skips, links_heard, tells, asks_anew, join_told, question_if}
 use Rattle.cc_node.specs.Core.{post_of_snapshot, begun, handled, next, post}
 use Rattle.cc_node.specs.Node.{Node, step, after}
 use Rattle.cc_node.specs.Opening.{Opening, fresh}
