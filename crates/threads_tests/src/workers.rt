@@ -20,7 +20,7 @@ use std::thread::{Threads, join};
 const EVENTS: u64 = 40;
 
 // How many turns that take nothing follow each other at most.
-const MOST_IDLE: u64 = 100_000_000;
+const MOST_IDLE: u64 = 10_000_000;
 
 // Brings what it heard from one node, as messages 1 to `last`, each again where the queue was full, and none once the engine
 // has ended or the queue was full for too long.
