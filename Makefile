@@ -1,6 +1,6 @@
 # The commands of the README. The toolchain is Rattle's kit, with its command rt on the PATH.
 .PHONY: try run install test check bench edits must-not-compile refused-growths failing-calls kill-files cluster load \
-    kill-cluster soak hostile closed-streams dead-member refused-flood stray-frames many-sessions stale-collects costs \
+    kill-cluster soak soak-absent hostile closed-streams dead-member refused-flood stray-frames many-sessions stale-collects costs \
     worked-rows trusted
 
 # Plays the script that ships with the program before any proof.
@@ -92,17 +92,25 @@ load:
 	@python3 tools/load.py crates/ccnode/out/ccnode 10 $(PAUSE)
 
 # Kills nodes of a cluster under load 200 times with SIGKILL, starts each again, and checks what clients are told: about
-# three minutes. KILLS=20 does fewer.
+# three minutes. KILLS=20 does fewer, AWAY=20 has a killed node wait for up to so many seconds.
 kill-cluster: KILLS = 200
+kill-cluster: AWAY = 0.1
 kill-cluster:
 	@$(BUILD) ccnode
-	@python3 tools/kill_cluster.py crates/ccnode/out/ccnode $(KILLS)
+	@python3 tools/kill_cluster.py crates/ccnode/out/ccnode $(KILLS) $(AWAY)
 
 # Runs five nodes under load through a slow disk, a stopped node, two halves and a dead node: about three minutes. It
 # needs a C compiler.
 soak:
 	@$(BUILD) ccnode
 	@python3 tools/soak.py crates/ccnode/out/ccnode
+
+# Runs clusters under load of which members stay away: one of three is dead for ten minutes, MINUTES=2 makes that fewer, and
+# some eight minutes beside it.
+soak-absent: MINUTES = 10
+soak-absent:
+	@$(BUILD) ccnode
+	@python3 tools/soak.py crates/ccnode/out/ccnode absent $(MINUTES)
 
 # Has clients misuse a node on loopback: idle connections, a flood of asks, one that never reads, zeros without end. It
 # fails where the node doesn't answer afterwards: a minute at most.

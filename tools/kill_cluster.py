@@ -1,12 +1,13 @@
 #!/usr/bin/env python3
 """Kills nodes of a cluster under load with SIGKILL at random moments, starts each again, and checks what clients are told.
 
-    kill_cluster.py crates/ccnode/out/ccnode [KILLS]
+    kill_cluster.py crates/ccnode/out/ccnode [KILLS [AWAY]]
 
-Three nodes, of which an operation waits for two. At each node one session stores texts that count up, one writes maxima
-that count up, and one collects. Each asks again under the same number where its connection breaks. Checked: a collect has
-all that was answered before it began, to writers and in other collects; a number of a node stands for one value; each
-write was done once; the cluster goes on. It prints counts; the status is 1 where something isn't so.
+Three nodes, of which an operation waits for two; a killed one is started again after AWAY (0.1) seconds at most. At each
+node one session stores texts that count up, one writes maxima that count up, and one collects. Each asks again under the
+same number where its connection breaks. Checked: a collect has all that was answered before it began, to writers and in
+other collects; a number of a node stands for one value; each write was done once; the cluster goes on. It prints counts;
+the status is 1 where something isn't so.
 """
 import random
 import sys
@@ -111,14 +112,14 @@ def start_clients(cluster, told, over):
     return clients
 
 
-def kill_and_start(cluster, told, kills):
+def kill_and_start(cluster, told, kills, away):
     """How many answers came between each kill and the next one."""
     answers, before = [], 0
     for kill in range(1, kills + 1):
         time.sleep(random.uniform(0.02, 1.4))
         node = random.choice(cluster.nodes)
         cluster.kill(node)
-        time.sleep(random.uniform(0, 0.1))
+        time.sleep(random.uniform(0, away))
         cluster.start(node)
         now = sum(told.writes.values()) + told.collects
         answers.append(now - before)
@@ -150,6 +151,7 @@ def check_end(cluster, told):
 def main():
     end_on_signals()
     program, kills = sys.argv[1], int(sys.argv[2]) if len(sys.argv) > 2 else 200
+    away = float(sys.argv[3]) if len(sys.argv) > 3 else 0.1
     over = threading.Event()
     with Cluster(program, 3, beta="2/3") as cluster:
         cluster.start_all()
@@ -157,7 +159,7 @@ def main():
         told, start = Told(cluster.nodes), time.monotonic()
         clients = start_clients(cluster, told, over)
         try:
-            answers = kill_and_start(cluster, told, kills)
+            answers = kill_and_start(cluster, told, kills, away)
             over.set()
             for client in clients:
                 client.join(PATIENCE + 5)

@@ -14,7 +14,7 @@ no_less false n = omega arith
 len_below_insert : (s : NatSet) (k : ℕ) → set.len s ≤ set.len (set.insert s k)
 len_below_insert s k = subst (λ n. set.len s ≤ n) (sym (len-insert s k)) (no_less (set.contains s k) (set.len s))
 
-before_join : (c : ChangeSets) (q : ℕ) → FitsRoom (add_join c q) → FitsRoom c
+pub before_join : (c : ChangeSets) (q : ℕ) → FitsRoom (add_join c q) → FitsRoom c
 before_join c q h = record {
   entered = omega (arith, len_below_insert c.entered q, h.entered);
   joined = omega (arith, len_below_insert c.joined q, h.joined);

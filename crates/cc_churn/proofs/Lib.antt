@@ -1,2 +1,2 @@
-mod Fits
+pub mod Fits
 mod Joins

@@ -2,7 +2,8 @@
 --     Churn                          who entered, joined and left, and how far the own entering has come
 --     after_message me gamma m s     what a message makes of it
 --     post_of me gamma m s view      what is posted in return
-use Rattle.std.specs.Prelude.{◌==◌, ℕ, ◌+◌, Bool, ◌&&◌, not, if◌then◌else◌, nat_le}
+--     told me gamma s                what a snapshot makes of it that counts as an echo;  join_told: the Join that is then posted
+use Rattle.std.specs.Prelude.{◌==◌, ℕ, ◌+◌, Bool, true, ◌&&◌, not, if◌then◌else◌, nat_le}
 use Rattle.std.specs.Prelude.{Option, Some, None}
 use Rattle.std.specs.Bool.{then_some}
 use Rattle.std.specs.Prelude.{refl}
@@ -91,6 +92,7 @@ after_message me gamma (message.Query tag q) s = s
 after_message me gamma (message.QueryReply v tag q) s = s
 after_message me gamma (message.Store v tag q) s = s
 after_message me gamma (message.StoreAck tag q) s = s
+after_message me gamma (message.Snapshot c v) s = united c s
 
 -- what an Enter of q is answered with
 abbrev pub echo_of : ℕ → Churn → ViewMap → ℕ → Message
@@ -117,3 +119,15 @@ post_of me view (message.Query tag q) before after = None
 post_of me view (message.QueryReply v tag q) before after = None
 post_of me view (message.Store v tag q) before after = None
 post_of me view (message.StoreAck tag q) before after = None
+post_of me view (message.Snapshot c v) before after = None
+
+-- a snapshot that tells what a lapsed echo told counts as the echo of a joined node, for a node that hasn't joined
+abbrev pub told : ℕ → Fraction → Churn → Churn
+told me gamma s = echoed me gamma true s
+
+-- whether the node joins with it
+abbrev pub joins_told : Fraction → Churn → Bool
+joins_told gamma s = is_answered (with_echo (with_need gamma true s))
+
+abbrev pub join_told : ℕ → Fraction → Churn → Option Message
+join_told me gamma s = then_some (joins_told gamma s) (message.Join me)

@@ -175,7 +175,20 @@ impl Churn {
             | Message::QueryReply { .. }
             | Message::Store { .. }
             | Message::StoreAck { .. } => {}
+            Message::Snapshot { changes, .. } => self.changes.union(changes),
         }
+    }
+
+    /// A snapshot, already taken, told what a lapsed echo to the own Enter told: it counts as that echo, of a joined node.
+    /// With the last that is needed `me` joins.
+    pub fn count_told(&mut self, me: NodeId, gamma: Fraction)
+        requires positive { 0 < gamma.num }
+        requires share { gamma.num ≤ gamma.den }
+        requires fits { FitsRoom (churn.told me gamma self.old).changes }
+        requires echoes { self.old.echoes + 1 ≤ counter_limit }
+        ensures { self.new ≡ churn.told me gamma self.old }
+    {
+        self.count_echo(me, gamma, true);
     }
 
     // One more echo to the own Enter. The first of a joined node says how many are needed.
@@ -269,6 +282,24 @@ impl Churn {
         if self.knows_join(me, told) {
             return false;
         }
+        self.is_answered_by(gamma, told, from_joined)
+    }
+
+    /// Whether the node joins with a snapshot that tells these changes and counts as an echo; needs no memory.
+    pub fn joins_told(&self, gamma: Fraction, told: &Changes) -> bool
+        requires positive { 0 < gamma.num }
+        requires share { gamma.num ≤ gamma.den }
+        ensures { result ≡ churn.joins_told gamma (churn.united told.now self.now) }
+    {
+        self.is_answered_by(gamma, told, true)
+    }
+
+    // Whether enough echoes came, with one more that tells these changes.
+    fn is_answered_by(&self, gamma: Fraction, told: &Changes, from_joined: bool) -> bool
+        requires positive { 0 < gamma.num }
+        requires share { gamma.num ≤ gamma.den }
+        ensures { result ≡ churn.is_answered (churn.with_echo (churn.with_need gamma from_joined (churn.united told.now self.now))) }
+    {
         let mut needed = self.need;
         if from_joined && needed == 0 {
             needed = need(gamma, self.changes.present_count_with(told));
@@ -349,9 +380,9 @@ impl Churn {
         Ok(())
     }
 
-    // Whether the node has joined, as far as it and the sender of these changes know.
+    /// Whether the node has joined, as far as it and the sender of these changes know.
     #[tactic(auto, using(crate::proofs::Fits::has_joined_united))]
-    fn knows_join(&self, me: NodeId, changes: &Changes) -> bool
+    pub fn knows_join(&self, me: NodeId, changes: &Changes) -> bool
         ensures { result ≡ churn.has_joined me (churn.united changes.now self.now) }
     {
         self.has_joined(me) || changes.has_joined(me)

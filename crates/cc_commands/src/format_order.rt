@@ -1,7 +1,8 @@
 //! How a folder is to be formatted.
 
+use crate::warning::Warning;
 use crate::word_fault::WordFault;
-use cc_changes::Fraction;
+use cc_changes::{Fraction, need};
 use cc_node::Opening;
 use cc_words::{fraction, list, small_number};
 use std::alloc::Global;
@@ -58,6 +59,31 @@ impl FormatOrder {
             beta: self.beta,
             gamma: self.gamma,
         }
+    }
+
+    /// What an operator may not want of the node, of a cluster whose members are those at the start.
+    pub fn warnings(&self) -> [Option<Warning>; 3] {
+        [
+            self.asks_too_few().then_some(Warning::Half),
+            self.asks_all().then_some(Warning::All),
+            self.reaches_nobody().then_some(Warning::Alone),
+        ]
+    }
+
+    // Whether two operations may ask members of which none is asked by both.
+    fn asks_too_few(&self) -> bool {
+        self.beta.num <= self.beta.den / 2
+    }
+
+    // Whether an operation waits for each of several members.
+    fn asks_all(&self) -> bool {
+        let count = self.initial.len() as u64;
+        let Fraction { num, den } = self.beta;
+        count > 1 && 0 < num && num <= den && need(self.beta, count) == count
+    }
+
+    fn reaches_nobody(&self) -> bool {
+        self.initial.is_empty() && self.contacts.is_empty()
     }
 }
 

@@ -7,10 +7,12 @@ mod format_order;
 mod formatting;
 mod network_orders;
 mod status;
+mod warning;
 mod word_fault;
 
 pub use dumping::{dump_folder, dump_site};
 pub use format_order::{FormatOrder, FormatWords};
 pub use formatting::{format_folder, format_site};
 pub use network_orders::{AskOrder, AskWords, LeaveOrder, RetireOrder, RunOrder};
+pub use warning::Warning;
 pub use word_fault::WordFault;

@@ -44,6 +44,8 @@ own_reasons c (event.Deliver from n m) = (own_if _ _ tt, (own_if _ _ tt, (own_if
 own_reasons c (event.Acked peer n) = (own_if _ _ tt, (own_if _ _ tt, tt))
 own_reasons c (event.Ask s r command) = (own_if _ _ tt, (own_if _ _ tt, (own_if _ _ tt, (own_if _ _ tt, (own_if _ _ tt, (own_if _ _ tt, (own_if _ _ tt, (own_if _ _ tt, (own_if _ _ tt, (own_if _ _ tt, (own_if _ _ tt, tt)))))))))))
 own_reasons c (event.Retire q) = (own_if _ _ tt, (own_if _ _ tt, (own_if _ _ tt, (own_if _ _ tt, (own_if _ _ tt, tt)))))
+own_reasons c (event.Lapse q) = (own_if _ _ tt, (own_if _ _ tt, (own_if _ _ tt, (own_if _ _ tt, (own_if _ _ tt, tt)))))
+own_reasons c event.Snapshot = (own_if _ _ tt, (own_if _ _ tt, (own_if _ _ tt, (own_if _ _ tt, (own_if _ _ tt, tt)))))
 
 own_reason : (c : Core) (e : Event) → IfSome (decides c e) IsOwn
 unfolding decides decides_within

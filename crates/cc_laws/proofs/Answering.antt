@@ -50,7 +50,7 @@ use Rattle.cc_laws.proofs.Lists.{at_some, some_changed, all_changed}
 use Rattle.cc_laws.proofs.Lines.{made_in}
 use Rattle.cc_laws.proofs.Members.{IsSound, lawful_front}
 use Rattle.cc_laws.proofs.Places.{after_parts, at_same, at_before, at_behind, split_order}
-use Rattle.cc_laws.proofs.Says.{Told, ReplySays, reply_says, OutputSays, outputs_say}
+use Rattle.cc_laws.proofs.Says.{stored_of, Told, ReplySays, reply_says, OutputSays, outputs_say}
 use Rattle.cc_laws.proofs.Pending.{HasAck, HasReply, Raised, ReadBefore, IsQueryOf, Pends, core_push, pends}
 use Rattle.cc_laws.proofs.CountedAnswers.{IsAckFrom, IsReplyFrom, counted_ack, counted_reply}
 use Rattle.cc_laws.proofs.Knowing.{me_of, contains_at, contains_front, either_front}
@@ -102,6 +102,8 @@ last_next c (event.Deliver from n m) s d = omega arith
 last_next c (event.Acked peer n) s d = omega arith
 last_next c (event.Ask x r k) s d = last_inserted c.sessions x r s (λ is. subst (λ (y : ℕ). last_request c.sessions y < r) is (request_new c x r k d))
 last_next c (event.Retire q) s d = omega arith
+last_next c (event.Lapse q) s d = omega arith
+last_next c event.Snapshot s d = omega arith
 
 pub last_after : (s : ℕ) (n : Node) (es : List Event) → IsLawful n es → last_request n.core.sessions s ≤ last_request (after n es).core.sessions s
 unfolding step
@@ -279,18 +281,18 @@ module _ (q : ℕ) (m : Member) (sound : IsSound q m) where
     pends_as phase is = subst (Pends start front (peers_along start [] front) c.me c.ops.number c.ops.view c.ops.tag) is (pends m.opening front)
 
     pub write_round : (s r : ℕ) (p : Pending) → p.asked.session ≡ s → p.asked.request ≡ r → c.ops.phase ≡ Storing p → ends_round c last ≡ true
-        → StoredRound q m s r (λ d. HasAtLeast d.ops.view q c.ops.number)
+        → StoredRound q m s r (λ d. HasAtLeast (stored_of d.ops) q c.ops.number)
     write_round s r p session request is is_end =
         let h = pends_as (Storing p) is in
-        stored_round s r (λ d. HasAtLeast d.ops.view c.me c.ops.number) (λ d. HasAtLeast d.ops.view q c.ops.number)
-        (λ d k. subst (λ (me : ℕ). HasAtLeast d.ops.view me c.ops.number) is_me k) (ap awaits_acks is) is_end (p.asked, ap asked_in is, session, request) h.0 h.1
+        stored_round s r (λ d. HasAtLeast (stored_of d.ops) c.me c.ops.number) (λ d. HasAtLeast (stored_of d.ops) q c.ops.number)
+        (λ d k. subst (λ (me : ℕ). HasAtLeast (stored_of d.ops) me c.ops.number) is_me k) (ap awaits_acks is) is_end (p.asked, ap asked_in is, session, request) h.0 h.1
 
     pub back_round : (s r : ℕ) (p : Pending) (seen : ViewMap) → p.asked.session ≡ s → p.asked.request ≡ r → c.ops.phase ≡ StoringBack p seen
         → ends_round c last ≡ true
-        → StoredRound q m s r (λ d. d.ops.view ≡ seen)
+        → StoredRound q m s r (λ d. stored_of d.ops ≡ seen)
     back_round s r p seen session request is is_end =
         let h = pends_as (StoringBack p seen) is in
-        stored_round s r (λ d. d.ops.view ≡ seen) (λ d. d.ops.view ≡ seen) (λ d k. k) (ap awaits_acks is) is_end (p.asked, ap asked_in is, session, request) h.0 h.1
+        stored_round s r (λ d. stored_of d.ops ≡ seen) (λ d. stored_of d.ops ≡ seen) (λ d k. k) (ap awaits_acks is) is_end (p.asked, ap asked_in is, session, request) h.0 h.1
 
     pub query_round : (s r : ℕ) (seen : ViewMap) (p : Pending) → p.asked.session ≡ s → p.asked.request ≡ r → c.ops.phase ≡ Querying p
         → ends_round c last ≡ true

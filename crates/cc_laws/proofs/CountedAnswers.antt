@@ -56,6 +56,7 @@ message_ack c from n (message.Query tag q) is = tt
 message_ack c from n (message.QueryReply v tag q) is = none_there (is_own c.me tag q c.ops) from _ (awaits_views c.ops.phase) (no_views c.ops.phase is)
 message_ack c from n (message.Store v tag q) is = tt
 message_ack c from n (message.StoreAck tag q) is = one_there (is_own c.me tag q c.ops) (awaits_acks c.ops.phase) from _ (λ own. (n, ack_is from n c.me tag q c.ops own))
+message_ack c from n (message.Snapshot d v) is = tt
 
 pub counted_ack : (c : Core) (e : Event) → awaits_acks c.ops.phase ≡ true → IfSome (counts c e) (IsAckFrom c e)
 counted_ack c event.Enter is = tt
@@ -64,6 +65,8 @@ counted_ack c (event.Deliver from n m) is = message_ack c from n m is
 counted_ack c (event.Acked peer n) is = tt
 counted_ack c (event.Ask s r command) is = tt
 counted_ack c (event.Retire q) is = tt
+counted_ack c (event.Lapse q) is = tt
+counted_ack c event.Snapshot is = tt
 
 -- a reply that is counted is merged
 reply_merged : (quorum : ℕ) (v : ViewMap) (phase : Phase) (s : Ops) → awaits_views phase ≡ true → IsAtMost v (after_reply quorum v phase s).view
@@ -96,6 +99,7 @@ message_reply c from n (message.QueryReply v tag q) is =
     (λ own. (n, v, reply_is from n c.me tag q v c.ops own, own_merged (is_own c.me tag q c.ops) (quorum c) v c.ops own is))
 message_reply c from n (message.Store v tag q) is = tt
 message_reply c from n (message.StoreAck tag q) is = none_there (is_own c.me tag q c.ops) from _ (awaits_acks c.ops.phase) (no_acks c.ops.phase is)
+message_reply c from n (message.Snapshot d v) is = tt
 
 pub counted_reply : (c : Core) (e : Event) → awaits_views c.ops.phase ≡ true → IfSome (counts c e) (IsReplyFrom c e)
 counted_reply c event.Enter is = tt
@@ -104,3 +108,5 @@ counted_reply c (event.Deliver from n m) is = message_reply c from n m is
 counted_reply c (event.Acked peer n) is = tt
 counted_reply c (event.Ask s r command) is = tt
 counted_reply c (event.Retire q) is = tt
+counted_reply c (event.Lapse q) is = tt
+counted_reply c event.Snapshot is = tt

@@ -2,7 +2,7 @@
 --     me_of, contains_at, contains_front, view_within     of one member
 --     Posted, posted             a message was posted by an event of what a member released
 --     Knows                      the released view of a node has a row of another that is numbered so or higher
---     store_known                who acknowledged a store knows what its node had in its view
+--     store_known                who acknowledged a store knows what was stored
 --     reply_known                who is asked by a query that began later tells what it knew
 use Rattle.std.proofs.Common.{◌≡◌, ◌⊎◌, ℕ, ◌<◌, ◌≤◌, List, [], ◌∷◌, ◌++◌, take, drop, refl, sym, ap, subst, ◌∙◌, inl, inr, arith}
 use Rattle.std.specs.Prelude.{Some}
@@ -30,7 +30,7 @@ use Rattle.cc_laws.proofs.Lines.{made_in}
 use Rattle.cc_laws.proofs.Members.{IsSound, lawful_front}
 use Rattle.cc_laws.proofs.Clustering.{Holds}
 use Rattle.cc_laws.proofs.Places.{parts_more, after_parts, same_head, same_tail, front_more, at_once}
-use Rattle.cc_laws.proofs.Says.{tag_after, PostSays, post_says, GoesTo, OutputSays, outputs_say}
+use Rattle.cc_laws.proofs.Says.{tag_after, stored_of, PostSays, post_says, GoesTo, OutputSays, outputs_say}
 use Rattle.cc_laws.proofs.Pending.{Raised, core_push, least_more}
 use Rattle.cc_laws.proofs.Steps.{me_next}
 use Rattle.cc_laws.proofs.Traces.{one_at, MadeBy, CameFrom, Traces, Grows, GrownAt}
@@ -93,15 +93,15 @@ posted m to n k has =
 pub poster_is : (f q : ℕ) (m : Member) → IsSound f m → (before : List Event) → q ≡ (after (fresh m.opening) before).core.me → q ≡ f
 poster_is f q m sound before is = is ∙ me_of f m sound before
 
--- the tag after the event that raised it, and the view
+-- the tag after the event that raised it, and what its round stores
 pub raised_at : (n : Node) (before : List Event) (e : Event) (tag : ℕ) → tag ≡ (next (after n before).core e).ops.tag
     → tag ≡ (after n (before ++ e ∷ [])).core.ops.tag
 raised_at n before e tag is = is ∙ ap (λ (c : Core). c.ops.tag) (sym (core_push n before e))
 
-viewed_at : (n : Node) (before other : List Event) (e f : Event) (v : ViewMap) → before ≡ other → e ≡ f → v ≡ (next (after n before).core e).ops.view
-    → v ≡ (after n (other ++ f ∷ [])).core.ops.view
-viewed_at n before other e f v same at is =
-    is ∙ ap (λ (c : Core). c.ops.view) (sym (core_push n before e)) ∙ (λ i. (after n (same i ++ at i ∷ [])).core.ops.view)
+stored_at : (n : Node) (before other : List Event) (e f : Event) (v : ViewMap) → before ≡ other → e ≡ f → v ≡ stored_of (next (after n before).core e).ops
+    → v ≡ stored_of (after n (other ++ f ∷ [])).core.ops
+stored_at n before other e f v same at is =
+    is ∙ ap (λ (c : Core). stored_of c.ops) (sym (core_push n before e)) ∙ (λ i. stored_of (after n (same i ++ at i ∷ [])).core.ops)
 
 -- which of two fronts of a list is the longer one
 pub either_front : {X : Type 0} (xs more before later : List X) (x : X) → xs ++ more ≡ before ++ x ∷ later
@@ -131,7 +131,7 @@ module _ (c : Cluster) (h : Holds c) (t : Traces c) where
   -- who acknowledged a store has at least the view that was stored
   pub store_known : (q : ℕ) (m : Member) → table.get c.members q ≡ Some m → (tag : ℕ) (Q : Core → Type 0) → Raised (fresh m.opening) (released_events m) tag Q
       → (r n : ℕ) → Contains m.events (event.Deliver r n (message.StoreAck tag q))
-      → (x : Member) × (table.get c.members r ≡ Some x) × (d : Core) × Q d × IsAtMost d.ops.view (node_at x x.released).core.ops.view
+      → (x : Member) × (table.get c.members r ≡ Some x) × (d : Core) × Q d × IsAtMost (stored_of d.ops) (node_at x x.released).core.ops.view
   store_known q m at tag Q raised r n has =
       let ack_made = came_at q m at r n (message.StoreAck tag q) has in
       let x = ack_made.0 in
@@ -152,7 +152,7 @@ module _ (c : Cluster) (h : Holds c) (t : Traces c) where
       let one = at_once (λ n. n.core.ops.tag) tag_after start (released_events m) lawful store.before store.later raised.before raised.later store.poster raised.raiser store.parts raised.parts
       tag store.says.1 (omega (arith, high)) raised.under (omega (arith, raised.raised)) in
       let d = (after start (raised.before ++ raised.raiser ∷ [])).core in
-      let there : v ≡ d.ops.view = viewed_at start store.before raised.before store.poster raised.raiser v one.0 one.1 store.says.3 in
+      let there : v ≡ stored_of d.ops = stored_at start store.before raised.before store.poster raised.raiser v one.0 one.1 store.says.3 in
       let ends = view_within (fresh x.opening) (released_events x) ack.before ack.later ack.poster ack.parts in (
         x,
         ack_made.1,

@@ -27,6 +27,7 @@ mod Knowing
 mod Answering
 mod Regularity
 mod Counting
+mod Staying
 mod Steady
 mod Once
 mod Quorums

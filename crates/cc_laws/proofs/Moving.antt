@@ -99,6 +99,8 @@ own_rows P (event.Deliver from n m) h = absurd h
 own_rows P (event.Acked peer n) h = tt
 own_rows P (event.Ask s r command) h = tt
 own_rows P (event.Retire q) h = tt
+own_rows P (event.Lapse q) h = tt
+own_rows P event.Snapshot h = tt
 
 pub move_holds : (c : Cluster) (q : ℕ) (m : Member) (move : Move) (d : Cluster) → Holds c → table.get c.members q ≡ Some m → MovesBy c q m move d → Holds d
 move_holds c q m (Accept e) d h at s = subst Holds (sym s.2) (accept_holds c q m e h at s.1 (own_rows (Released c) e s.0))

@@ -3,7 +3,7 @@
 --     one_answer                  two answers of a node to one round that were delivered had one number
 --     new_peer                    so a node whose answer is counted isn't among those that were counted before
 --     peers_apart                 and those that a round counted are different nodes, each of them a member
-use Rattle.std.proofs.Common.{◌≡◌, ◌⊎◌, inl, inr, ℕ, zero, suc, ◌-◌, ◌<◌, ◌≤◌, Bool, true, false, nat_eq, List, [], ◌∷◌, ◌++◌, refl, sym, ap, subst, ◌∙◌, arith, append_assoc}
+use Rattle.std.proofs.Common.{◌≡◌, ◌⊎◌, inl, inr, ℕ, zero, suc, ◌-◌, ◌<◌, ◌≤◌, Bool, true, false, nat_eq, ◌||◌, List, [], ◌∷◌, ◌++◌, refl, sym, ap, subst, ◌∙◌, arith, append_assoc}
 use Rattle.std.specs.Prelude.{Option, Some, None, IfSome, ⊤, if◌then◌else◌}
 use Rattle.std.specs.Option.{option_map_or}
 use Rattle.std.specs.List.{Contains, AllByRecursion, list_any}
@@ -29,7 +29,7 @@ use Rattle.cc_node.proofs.LawfulLaws.{links_go_on, hears_now}
 use Rattle.cc_node.proofs.RefusalLaws.{takes_delivery}
 use Rattle.cc_laws.specs.Clusters.{Member, Cluster}
 use Rattle.cc_laws.specs.Regular.{released_events}
-use Rattle.cc_laws.specs.Rounds.{awaits_views, awaits_acks, counts, ends_round, with_peer, peers_next, peers_along}
+use Rattle.cc_laws.specs.Rounds.{awaits_views, awaits_acks, counts, ends_round, begins_anew, with_peer, peers_next, peers_along}
 use Rattle.cc_laws.proofs.Members.{lawful_front}
 use Rattle.cc_laws.proofs.Clustering.{Holds, same_some}
 use Rattle.cc_laws.proofs.Places.{front_more, at_once}
@@ -53,6 +53,7 @@ IsAnswerTo tag q (message.Query t p) = ⊥
 IsAnswerTo tag q (message.QueryReply v t p) = (t ≡ tag) × (p ≡ q)
 IsAnswerTo tag q (message.Store v t p) = ⊥
 IsAnswerTo tag q (message.StoreAck t p) = (t ≡ tag) × (p ≡ q)
+IsAnswerTo tag q (message.Snapshot c v) = ⊥
 
 abbrev pub IsRoundOf : ℕ → ℕ → Message → Type 0
 IsRoundOf tag q (message.Enter p) = ⊥
@@ -65,6 +66,7 @@ IsRoundOf tag q (message.Query t p) = (t ≡ tag) × (p ≡ q)
 IsRoundOf tag q (message.QueryReply v t p) = ⊥
 IsRoundOf tag q (message.Store v t p) = (t ≡ tag) × (p ≡ q)
 IsRoundOf tag q (message.StoreAck t p) = ⊥
+IsRoundOf tag q (message.Snapshot c v) = ⊥
 
 answer_says : (c : Core) (e : Event) (tag q : ℕ) (k : Message) → IsAnswerTo tag q k → PostSays c e k → (m : Message) × IsRoundOf tag q m × BringsIn e m
 answer_says c e tag q (message.Enter p) is says = absurd is
@@ -77,6 +79,7 @@ answer_says c e tag q (message.Query t p) is says = absurd is
 answer_says c e tag q (message.QueryReply v t p) is says = (message.Query t p, is, says.0)
 answer_says c e tag q (message.Store v t p) is says = absurd is
 answer_says c e tag q (message.StoreAck t p) is says = (message.Store says.0 t p, is, says.1)
+answer_says c e tag q (message.Snapshot d v) is says = absurd is
 
 round_says : (c : Core) (e : Event) (tag q : ℕ) (m : Message) → IsRoundOf tag q m → PostSays c e m
     → (q ≡ c.me) × (c.ops.tag < tag) × (tag ≡ (next c e).ops.tag)
@@ -90,6 +93,7 @@ round_says c e tag q (message.Query t p) is says = (sym is.1 ∙ says.0, subst (
 round_says c e tag q (message.QueryReply v t p) is says = absurd is
 round_says c e tag q (message.Store v t p) is says = (sym is.1 ∙ says.0, subst (λ (x : ℕ). c.ops.tag < x) is.0 says.1, sym is.0 ∙ says.2)
 round_says c e tag q (message.StoreAck t p) is says = absurd is
+round_says c e tag q (message.Snapshot d v) is says = absurd is
 
 -- a post goes to a peer under one number
 one_number : (c : Core) (to n k : ℕ) → GoesTo c to n → GoesTo c to k → n ≡ k
@@ -258,6 +262,7 @@ message_answer c from n (message.Store v tag q) = tt
 message_answer c from n (message.StoreAck tag q) =
     one_there (is_own c.me tag q c.ops) (awaits_acks c.ops.phase) from (IsAnswerFrom c (event.Deliver from n (message.StoreAck tag q)))
     (λ own. let is = own_parts c.me tag q c.ops own in (n, message.StoreAck tag q, refl, (is.1, is.0)))
+message_answer c from n (message.Snapshot d v) = tt
 
 pub counted_answer : (c : Core) (e : Event) → IfSome (counts c e) (IsAnswerFrom c e)
 counted_answer c event.Enter = tt
@@ -266,6 +271,8 @@ counted_answer c (event.Deliver from n m) = message_answer c from n m
 counted_answer c (event.Acked peer n) = tt
 counted_answer c (event.Ask s r command) = tt
 counted_answer c (event.Retire q) = tt
+counted_answer c (event.Lapse q) = tt
+counted_answer c event.Snapshot = tt
 
 one_of_one : (x y : Event) (k : ℕ) → k < 1 → slice_index_or (x ∷ []) k y ≡ y → x ≡ y
 one_of_one x y zero le is = is
@@ -355,7 +362,7 @@ module _ (c : Cluster) (h : Holds c) (t : Traces c) (q : ℕ) (m : Member) (at :
       let here : released_events m ≡ past ++ e ∷ (rest ++ later) = parts ∙ append_assoc past (e ∷ rest) later in
       let d = (after begin past).core in
       let ps = peers_along begin [] past in
-      let next_apart : Apart (peers_next d e ps) = either (ends_round d e) (with_peer (counts d e) ps) (with_apart past (rest ++ later) e here apart) in
+      let next_apart : Apart (peers_next d e ps) = either (begins_anew d e || ends_round d e) (with_peer (counts d e) ps) (with_apart past (rest ++ later) e here apart) in
       let apart_then : Apart (peers_along begin [] (past ++ e ∷ [])) = subst Apart (sym (peers_push begin [] past (e ∷ []))) next_apart in
       subst (λ (l : List Event). Apart (peers_along begin [] l)) (sym one)
       (apart_from (past ++ e ∷ []) rest later (parts ∙ ap (λ (l : List Event). l ++ later) one) apart_then)

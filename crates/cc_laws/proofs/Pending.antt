@@ -1,10 +1,10 @@
--- What a pending round says of the events behind it: where it began, and what its counted answers told.
+-- What a pending round says of the events behind it: where it began, or began anew, and what its counted answers told.
 --     HasAck, HasReply      an acknowledgement, or a reply to a query, came from a node
 --     Raised                an event raised the tag, and of the core after it something holds
 --     ReadBefore            a query ended, and this was seen with it
 --     Pends, pends          each of these holds of the round that pends after a list of events
 use Rattle.std.proofs.Common.{◌≡◌, ℕ, ◌+◌, ◌<◌, ◌≤◌, Bool, true, false, cond, List, ◌∷◌, ◌++◌, refl, sym, ap, subst, ◌∙◌, arith, append_assoc, []}
-use Rattle.std.specs.Prelude.{◌&&◌, ◌==◌, Option, Some, None, IsSomeAnd, if◌then◌else◌}
+use Rattle.std.specs.Prelude.{◌&&◌, ◌||◌, ◌==◌, not, Option, Some, None, IsSomeAnd, if◌then◌else◌}
 use Rattle.std.specs.Bool.{then_some}
 use Rattle.std.specs.List.{Contains, AllByRecursion}
 use Rattle.std.specs.FinMap as table
@@ -21,15 +21,17 @@ use Rattle.cc_wire.specs.declared.message.Message.TheVariants as message
 use Rattle.cc_ops.specs.declared.pending.Asked.{Asked}
 use Rattle.cc_ops.specs.declared.pending.Pending.{Pending}
 use Rattle.cc_ops.specs.Commands.{is_writing, written}
-use Rattle.cc_ops.specs.Ops.{Ops, Phase, Idle, Storing, Querying, StoringBack, is_idle, is_last, is_own, round_of, counted, merged, next_round, with_written, with_own_row, with_begun, after_reply, after_last, after_ack, ends_query, ends_store}
-use Rattle.cc_node.specs.Core.{Core, quorum, asked_of, next}
+use Rattle.cc_ops.specs.Ops.{Ops, Phase, Idle, Storing, Querying, StoringBack, is_idle, is_last, is_own, round_of, counted, merged, next_round, with_written, with_own_row, with_begun, after_reply, after_last, after_ack, ends_query, ends_store, again}
+use Rattle.cc_churn.specs.Churn as churn
+use Rattle.cc_node.specs.Core.{Core, quorum, asked_of, skips, churn_told, anew_if, next}
 use Rattle.cc_node.specs.Node.{Node, step, after}
 use Rattle.cc_node.specs.Opening.{Opening, fresh}
 use Rattle.cc_laws.specs.Regular.{HasAtLeast}
-use Rattle.cc_laws.specs.Rounds.{awaits_views, awaits_acks, ends_round, with_peer, peers_next, peers_along}
+use Rattle.cc_laws.specs.Rounds.{awaits_views, awaits_acks, ends_round, begins_anew, with_peer, peers_next, peers_along}
 use Rattle.cc_laws.proofs.Lists.{all_changed}
 use Rattle.cc_laws.proofs.Places.{after_push}
 use Rattle.cc_laws.proofs.Rows.{get-single}
+use Rattle.cc_laws.proofs.Says.{stored_of}
 use Rattle.cc_laws.proofs.Steps.{row_of, me_next}
 
 abbrev pub HasAck : List Event → ℕ → ℕ → ℕ → Type 0
@@ -64,11 +66,11 @@ IsQueryOf a c = (p : Pending) × (c.ops.phase ≡ Querying p) × (p.asked ≡ a)
 abbrev pub Pends : Node → List Event → List ℕ → ℕ → ℕ → ViewMap → ℕ → Phase → Type 0
 Pends start past peers me number view tag Idle = peers ≡ []
 Pends start past peers me number view tag (Storing p) =
-    Raised start past tag (λ c. HasAtLeast c.ops.view me number) × AllByRecursion (HasAck past me tag) peers
+    Raised start past tag (λ c. HasAtLeast (stored_of c.ops) me number) × AllByRecursion (HasAck past me tag) peers × HasAtLeast view me number
 Pends start past peers me number view tag (Querying p) =
     Raised start past tag (IsQueryOf p.asked) × AllByRecursion (HasReply past me tag view) peers
 Pends start past peers me number view tag (StoringBack p seen) =
-    Raised start past tag (λ c. c.ops.view ≡ seen) × AllByRecursion (HasAck past me tag) peers × ReadBefore start past p.asked seen
+    Raised start past tag (λ c. stored_of c.ops ≡ seen) × AllByRecursion (HasAck past me tag) peers × ReadBefore start past p.asked seen
 
 abbrev pub PendsIn : Node → List Event → List ℕ → ℕ → Ops → Type 0
 PendsIn start past peers me s = Pends start past peers me s.number s.view s.tag s.phase
@@ -154,10 +156,11 @@ module _ (start : Node) (past : List Event) (e : Event) where
   pends_more : (peers : List ℕ) (me number : ℕ) (view wider : ViewMap) (tag : ℕ) (phase : Phase) → IsAtMost view wider
       → Pends start past peers me number view tag phase → Pends start now peers me number wider tag phase
   pends_more peers me number view wider tag Idle le h = h
-  pends_more peers me number view wider tag (Storing p) le h = (raised_more tag (λ c. HasAtLeast c.ops.view me number) h.0, acks_more me tag peers h.1)
+  pends_more peers me number view wider tag (Storing p) le h =
+      (raised_more tag (λ c. HasAtLeast (stored_of c.ops) me number) h.0, acks_more me tag peers h.1, least_more view wider me number le h.2)
   pends_more peers me number view wider tag (Querying p) le h = (raised_more tag (IsQueryOf p.asked) h.0, replies_more me tag view wider peers le h.1)
   pends_more peers me number view wider tag (StoringBack p seen) le h =
-      (raised_more tag (λ c. c.ops.view ≡ seen) h.0, acks_more me tag peers h.1, read_more p.asked seen h.2)
+      (raised_more tag (λ c. stored_of c.ops ≡ seen) h.0, acks_more me tag peers h.1, read_more p.asked seen h.2)
 
   -- the round is as it was
   same_pends : (peers : List ℕ) (me : ℕ) (s : Ops) (phase : Phase) → s.phase ≡ phase → Pends start past peers me s.number s.view s.tag phase
@@ -188,9 +191,10 @@ module _ (start : Node) (past : List Event) (e : Event) where
         let under : c.ops.tag < s.tag + 1 = omega (arith, old) in
         elim (is_writing a.command) as (λ b. (next c e).ops ≡ (if b then W else R) → PendsIn start now [] me (if b then W else R)) [
           | true ↦ λ is. (
-            raise_now (s.tag + 1) (λ d. HasAtLeast d.ops.view me (s.number + 1)) under (ap (λ (t : Ops). t.tag) is)
-                (subst (λ (t : Ops). HasAtLeast t.view me (s.number + 1)) (sym is) (own_least me s a)),
+            raise_now (s.tag + 1) (λ d. HasAtLeast (stored_of d.ops) me (s.number + 1)) under (ap (λ (t : Ops). t.tag) is)
+                (subst (λ (t : Ops). HasAtLeast (stored_of t) me (s.number + 1)) (sym is) (own_least me s a)),
             tt,
+            own_least me s a,
           )
           | false ↦ λ is. (raise_now (s.tag + 1) (IsQueryOf a) under (ap (λ (t : Ops). t.tag) is) (round_of quorum a, ap (λ (t : Ops). t.phase) is, refl), tt)
         ]
@@ -214,8 +218,9 @@ module _ (start : Node) (past : List Event) (e : Event) where
           elim (is_last p) as (λ b. (next c e).ops ≡ (if b then L else M) → PendsIn start now (if b then [] else from ∷ peers) me (if b then L else M)) [
             | true ↦ λ now_is. ends me quorum s.line s old now_is
             | false ↦ λ _. (
-              raised_more s.tag (λ d. HasAtLeast d.ops.view me s.number) h.0,
+              raised_more s.tag (λ d. HasAtLeast (stored_of d.ops) me s.number) h.0,
               ((n, subst (Contains now) (it ∙ ack_is from n me tag q s own) (Contains-push past e)), acks_more me s.tag peers h.1),
+              h.2,
             )
           ] next_is
       ack_pends me quorum tag q peers s old it true own (Querying p) is next_is h = same_pends peers me s (Querying p) is h
@@ -225,7 +230,7 @@ module _ (start : Node) (past : List Event) (e : Event) where
           elim (is_last p) as (λ b. (next c e).ops ≡ (if b then L else M) → PendsIn start now (if b then [] else from ∷ peers) me (if b then L else M)) [
             | true ↦ λ now_is. ends me quorum s.line s old now_is
             | false ↦ λ _. (
-              raised_more s.tag (λ d. d.ops.view ≡ seen) h.0,
+              raised_more s.tag (λ d. stored_of d.ops ≡ seen) h.0,
               ((n, subst (Contains now) (it ∙ ack_is from n me tag q s own) (Contains-push past e)), acks_more me s.tag peers h.1),
               read_more p.asked seen h.2,
             )
@@ -246,7 +251,7 @@ module _ (start : Node) (past : List Event) (e : Event) where
           let under : c.ops.tag < s.tag + 1 = omega (arith, ap (λ (t : Ops). t.tag) old) in
           elim (is_last p) as (λ b. is_last p ≡ b → (next c e).ops ≡ (if b then L else M) → PendsIn start now (if b then [] else from ∷ peers) me (if b then L else M)) [
             | true ↦ λ last now_is. (
-              raise_now (s.tag + 1) (λ d. d.ops.view ≡ merge s.view v) under (ap (λ (t : Ops). t.tag) now_is) (ap (λ (t : Ops). t.view) now_is),
+              raise_now (s.tag + 1) (λ d. stored_of d.ops ≡ merge s.view v) under (ap (λ (t : Ops). t.tag) now_is) (ap stored_of now_is),
               tt,
               record {
                 before = past;
@@ -280,6 +285,38 @@ module _ (start : Node) (past : List Event) (e : Event) where
     ask_pends me quorum a line peers s old (Querying p) is next_is h = same_pends peers me s (Querying p) is h
     ask_pends me quorum a line peers s old (StoringBack p seen) is next_is h = same_pends peers me s (StoringBack p seen) is h
 
+    -- the pending phase begins anew, with what a snapshot brings; what is stored back stays
+    anew_pends : (me quorum : ℕ) (v : ViewMap) (s : Ops) (peers : List ℕ) → s.tag ≡ c.ops.tag → (phase : Phase) → s.phase ≡ phase
+        → is_idle phase ≡ false
+        → (next c e).ops ≡ next_round (again quorum phase) (merged v s)
+        → Pends start past peers me s.number s.view s.tag phase
+        → PendsIn start now [] me (next_round (again quorum phase) (merged v s))
+    anew_pends me quorum v s peers old Idle is busy next_is h = cc
+    anew_pends me quorum v s peers old (Storing p) is busy next_is h =
+        let own : HasAtLeast (merge s.view v) me s.number = least_more s.view (merge s.view v) me s.number (at_most_merge s.view v) h.2 in (
+          raise_now (s.tag + 1) (λ d. HasAtLeast (stored_of d.ops) me s.number) (omega (arith, old)) (ap (λ (t : Ops). t.tag) next_is)
+              (subst (λ (t : Ops). HasAtLeast (stored_of t) me s.number) (sym next_is) own),
+          tt,
+          own,
+        )
+    anew_pends me quorum v s peers old (Querying p) is busy next_is h =
+        (raise_now (s.tag + 1) (IsQueryOf p.asked) (omega (arith, old)) (ap (λ (t : Ops). t.tag) next_is) (round_of quorum p.asked, ap (λ (t : Ops). t.phase) next_is, refl), tt)
+    anew_pends me quorum v s peers old (StoringBack p seen) is busy next_is h =
+        (raise_now (s.tag + 1) (λ d. stored_of d.ops ≡ seen) (omega (arith, old)) (ap (λ (t : Ops). t.tag) next_is) (ap stored_of next_is), tt, read_more p.asked seen h.2)
+
+    snapshot_pends : (me quorum : ℕ) (v : ViewMap) (s : Ops) (peers : List ℕ) → s.tag ≡ c.ops.tag → (b may : Bool) → b ≡ (not (is_idle s.phase) && may)
+        → (next c e).ops ≡ anew_if b quorum (merged v s)
+        → Pends start past peers me s.number s.view s.tag s.phase
+        → PendsIn start now (if b || false then [] else peers) me (anew_if b quorum (merged v s))
+    snapshot_pends me quorum v s peers old true may is next_is h =
+        anew_pends me quorum v s peers old s.phase refl (busy (is_idle s.phase) is) next_is h
+      where
+        busy : (idle : Bool) → true ≡ (not idle && may) → idle ≡ false
+        busy true k = cc
+        busy false k = refl
+    snapshot_pends me quorum v s peers old false may is next_is h =
+        pends_more peers me s.number s.view (merge s.view v) s.tag s.phase (at_most_merge s.view v) h
+
 -- ---- any event
 
 message_pends : (start : Node) (past : List Event) (peers : List ℕ) (from n : ℕ) (m : Message) (c : Core) → c ≡ (after start past).core
@@ -300,6 +337,10 @@ message_pends start past peers from n (message.Store v tag q) c at h =
     pends_more start past _ peers c.me c.ops.number c.ops.view (merge c.ops.view v) c.ops.tag c.ops.phase (at_most_merge c.ops.view v) h
 message_pends start past peers from n (message.StoreAck tag q) c at h =
     ack_pends start past (event.Deliver from n (message.StoreAck tag q)) c at from n c.me (quorum c) tag q peers c.ops refl refl (is_own c.me tag q c.ops) refl c.ops.phase refl refl h
+message_pends start past peers from n (message.Snapshot d v) c at h =
+    let e = event.Deliver from n (message.Snapshot d v) in
+    snapshot_pends start past e c at c.me (churn.quorum c.beta (churn_told c from n (message.Snapshot d v))) v c.ops peers refl
+    (begins_anew c e) ((from == c.me) || skips c from n) refl refl h
 
 event_pends : (start : Node) (past : List Event) (peers : List ℕ) (e : Event) (c : Core) → c ≡ (after start past).core → PendsIn start past peers c.me c.ops
     → PendsIn start (past ++ e ∷ []) (peers_next c e peers) c.me (next c e).ops
@@ -311,6 +352,8 @@ event_pends start past peers (event.Acked peer n) c at h = same_pends start past
 event_pends start past peers (event.Ask s r command) c at h =
     ask_pends start past (event.Ask s r command) c at c.me (quorum c) (asked_of s r command) (c.ops.line ++ asked_of s r command ∷ []) peers c.ops refl c.ops.phase refl refl h
 event_pends start past peers (event.Retire q) c at h = same_pends start past _ peers c.me c.ops c.ops.phase refl h
+event_pends start past peers (event.Lapse q) c at h = same_pends start past _ peers c.me c.ops c.ops.phase refl h
+event_pends start past peers event.Snapshot c at h = same_pends start past _ peers c.me c.ops c.ops.phase refl h
 
 step_pends : (start : Node) (past : List Event) (peers : List ℕ) (e : Event) → PendsAt start past peers
     → PendsAt start (past ++ e ∷ []) (peers_next (after start past).core e peers)

@@ -22,7 +22,8 @@ use Rattle.cc_laws.proofs.Clustering.{Holds}
 use Rattle.cc_laws.proofs.Moving.{run_holds, fresh_holds}
 use Rattle.cc_laws.proofs.Traces.{Traces, run_traces, fresh_traces}
 use Rattle.cc_laws.proofs.Once.{Apart, peers_apart, peers_there}
-use Rattle.cc_laws.proofs.Steady.{AreQuiet, run_steady, fresh_quiet, fresh_quorum, round_size}
+use Rattle.cc_laws.proofs.Staying.{IsQuiet}
+use Rattle.cc_laws.proofs.Steady.{member_knows, AreQuiet, run_steady, fresh_quiet, fresh_quorum, round_size}
 
 head_there : (x : ℕ) (xs : List ℕ) → Contains (x ∷ xs) x
 head_there x xs = Contains-append_left (x ∷ []) xs x (0, omega arith, refl)
@@ -83,13 +84,14 @@ shares all xs ys h k in_xs in_ys more =
           absurd (omega (arith, fits, length-append xs ys, more))
     ]
 
-module _ (all : List ℕ) (d : Cluster) (h : Holds d) (t : Traces d) (quiet : AreQuiet d) (fixed : IsFixedCluster all d) where
+module _ (all : List ℕ) (d : Cluster) (h : Holds d) (t : Traces d) (quiet : AreQuiet all d) (fixed : IsFixedCluster all d) where
   size : (q : ℕ) (m : Member) → table.get d.members q ≡ Some m → (round : RoundOf m)
       → count_of all < 2 * length (peers_of (fresh m.opening) (released_events m) round)
   size q m at round =
       let f = fixed q m at in
       let need : length (peers_of (fresh m.opening) (released_events m) round) ≡ needed m.opening.beta (count_of all) =
-      round_size m.opening (released_events m) (all_take _ m.released m.events (quiet q m at)) round ∙ fresh_quorum m.opening ∙ ap (λ (l : List ℕ). needed m.opening.beta (count_of l)) f.initial in
+      round_size all m.opening (released_events m) (member_knows all d h fixed q m at) (all_take (IsQuiet all) m.released m.events (quiet q m at)) round
+      ∙ fresh_quorum m.opening ∙ ap (λ (l : List ℕ). needed m.opening.beta (count_of l)) f.initial in
       subst (λ (k : ℕ). count_of all < 2 * k) (sym need) f.majority
 
   pub meeting : RoundsMeet d
@@ -107,5 +109,5 @@ pub rounds_meet : (all : List ℕ) (c d : Cluster) (moves : List (ℕ × Move)) 
 rounds_meet all c d moves begins fixed stays run =
     let h = fresh_holds c begins in
     let t = fresh_traces c begins in
-    let steady = run_steady all c moves d h t (fresh_quiet c begins) fixed stays run in
+    let steady = run_steady all c moves d h t (fresh_quiet all c begins) fixed stays run in
     meeting all d (run_holds c moves d h run) (run_traces c moves d h t run) steady.0 steady.1

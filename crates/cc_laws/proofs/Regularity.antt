@@ -41,7 +41,7 @@ use Rattle.cc_laws.proofs.Clustering.{Holds}
 use Rattle.cc_laws.proofs.Moving.{run_holds, fresh_holds}
 use Rattle.cc_laws.proofs.Traces.{one_at, MadeBy, WasMade, Traces, Grows, GrownAt, run_traces, fresh_traces, run_grows, run_sent}
 use Rattle.cc_laws.proofs.Places.{parts_more, after_parts}
-use Rattle.cc_laws.proofs.Says.{tag_after}
+use Rattle.cc_laws.proofs.Says.{tag_after, stored_of}
 use Rattle.cc_laws.proofs.Pending.{HasAck, HasReply, Raised, least_more}
 use Rattle.cc_laws.proofs.Knowing.{either_front, Knows, store_known, reply_known}
 use Rattle.cc_laws.proofs.Answering.{last_after, Ended, ended, either_op, reads_view, writes_stored, StoredRound, IsQueryFor, ReadRound, node_lawful, write_round, back_round, answered_read, number_reached}
@@ -100,7 +100,7 @@ module _ (mid d : Cluster) (h : Holds mid) (t : Traces mid) (h' : Holds d) (t' :
 
   -- what one request had stored by then, a later one has seen
   pub seen_later : (q p i j s r : ℕ) (m n : Member) → table.get mid.members q ≡ Some m → table.get d.members p ≡ Some n → (Q : Core → Type 0) (x k : ℕ)
-      → ((e : Core) → Q e → HasAtLeast e.ops.view x k) → StoredRound q m i j Q → (seen : ViewMap) → IsAhead mid p s r → ReadRound p n s r seen
+      → ((e : Core) → Q e → HasAtLeast (stored_of e.ops) x k) → StoredRound q m i j Q → (seen : ViewMap) → IsAhead mid p s r → ReadRound p n s r seen
       → ShareNode mid d q i j p s r
       → HasAtLeast seen x k
   seen_later q p i j s r m n at at' Q x k has first seen ahead second share =
@@ -109,7 +109,7 @@ module _ (mid d : Cluster) (h : Holds mid) (t : Traces mid) (h' : Holds d) (t' :
       let ack = All-contains (HasAck m.events q first.tag) _ peer (All-from_recursion (HasAck m.events q first.tag) _ first.acks) both.1 in
       let reply = All-contains (HasReply n.events p second.tag seen) _ peer (All-from_recursion (HasReply n.events p second.tag seen) _ second.replies) both.2 in
       let known = store_known mid h t q m at first.tag Q first.raised peer ack.0 ack.1 in
-      let knows : Knows mid peer x k = (known.0, known.1, least_more known.2.ops.view _ x k known.4 (has known.2 known.3)) in
+      let knows : Knows mid peer x k = (known.0, known.1, least_more (stored_of known.2.ops) _ x k known.4 (has known.2 known.3)) in
       let grew = grown p ahead.0 ahead.1 in
       let is_n : grew.0 ≡ n = one_at d p p grew.0 n refl grew.1 at' in
       let under = asked_later p ahead.0 n (h'.sound p n at') (subst (Grows ahead.0) is_n grew.2) s r second.tag ahead.2 second.raised in
@@ -230,8 +230,8 @@ module _ (c mid d : Cluster) (first second : List (ℕ × Move)) (fresh_c : IsFr
       elim (either_op b s r answer.Stored b.ops.phase refl op.tells) as (λ _. HasAtLeast read.seen q k) [
         | inl w ↦
             let reached = number_reached q m sound s r k answer.Stored op w.0 w.1 w.2 w.3 ask in
-            seen_later mid d h_mid t_mid h_end t_end (run_grows mid second d h_mid to_d) q p s r x y m read.member made.1 read.there (λ e. HasAtLeast e.ops.view q b.ops.number) q k
-            (λ e has. at_least (table.get e.ops.view q) k b.ops.number reached has) (write_round q m sound op.front op.later op.last op.parts s r w.0 w.2 w.3 w.1 op.ends) read.seen ahead
+            seen_later mid d h_mid t_mid h_end t_end (run_grows mid second d h_mid to_d) q p s r x y m read.member made.1 read.there (λ e. HasAtLeast (stored_of e.ops) q b.ops.number) q k
+            (λ e has. at_least (table.get (stored_of e.ops) q) k b.ops.number reached has) (write_round q m sound op.front op.later op.last op.parts s r w.0 w.2 w.3 w.1 op.ends) read.seen ahead
             (read_round_of p x y a read) share
         | inr o ↦
             let reads : IsPhaseOf b.links b.sessions (StoringBack o.0 o.1) = subst (IsPhaseOf b.links b.sessions) o.2 phase in
@@ -250,7 +250,7 @@ module _ (c mid d : Cluster) (first second : List (ℕ × Move)) (fresh_c : IsFr
       let m = early.member in
       let back = back_round q m (h_mid.sound q m early.there) early.op.front early.op.later early.op.last early.op.parts s r early.pending early.seen early.session early.request early.phase early.op.ends in
       λ node. each (table.get early.seen node) (table.get late.seen node) (λ k has.
-      seen_later mid d h_mid t_mid h_end t_end (run_grows mid second d h_mid to_d) q p s r x y m late.member early.there late.there (λ e. e.ops.view ≡ early.seen) node k
+      seen_later mid d h_mid t_mid h_end t_end (run_grows mid second d h_mid to_d) q p s r x y m late.member early.there late.there (λ e. stored_of e.ops ≡ early.seen) node k
       (λ e is. subst (λ (v : ViewMap). HasAtLeast v node k) (sym is) has) back late.seen ahead (read_round_of p x y b late) share)
     where
       each : (u w : Option Pair) → ((k : ℕ) → IsSomeAnd u (λ e. k ≤ e.0) → IsSomeAnd w (λ e. k ≤ e.0)) → IsKept u w

@@ -1,5 +1,6 @@
 -- What a post, a reply and an output tell of the event that made it.
 --     tag_next, tag_after          a tag never falls
+--     stored_of                    the view that a round stores: what is stored back, else the node's
 --     PostSays, post_says          a query or a store is of a round that begins with the event, under its tag;
 --                                  an answer is to the message that the event brings, and tells the view as it is then
 --     ReplySays, reply_says        a reply ends a round, and tells what the pending operation is answered
@@ -23,6 +24,7 @@ use Rattle.cc_wire.specs.declared.output.Output.TheVariants as output
 use Rattle.cc_churn.specs.Churn as churn
 use Rattle.cc_links.specs.Links.{Link}
 use Rattle.cc_ops.specs.declared.pending.Asked.{Asked}
+use Rattle.cc_ops.specs.declared.pending.Pending.{Pending}
 use Rattle.cc_ops.specs.declared.pending.Reply.{Reply}
 use Rattle.cc_ops.specs.Commands.{is_writing}
 use Rattle.cc_ops.specs.Ops as ops
@@ -30,10 +32,12 @@ use Rattle.cc_ops.specs.Ops.{Ops, Phase, Idle, Storing, Querying, StoringBack, i
 use Rattle.cc_ops.specs.Waiting.{first_in}
 use Rattle.cc_node.specs.declared.made.LinkAck.{LinkAck}
 use Rattle.cc_node.specs.Core as core
-use Rattle.cc_node.specs.Core.{Core, quorum, asked_of, begun, handled, next, post, reply, outputs, sends, send_post, send_ack, send_reply, live_links}
+use Rattle.cc_node.specs.Core.{Core, quorum, asked_of, churned, churn_told, tells, asks_anew, anew_if, join_told, question_if, post_of_snapshot, post_to}
+use Rattle.cc_node.specs.Core.{begun, handled, next, post, reply, outputs, sends, send_post, send_ack, send_reply, live_links}
 use Rattle.cc_node.specs.Node.{Node, step, after, IsLawful}
+use Rattle.cc_node.proofs.ToldLaws.{anew_more}
 use Rattle.cc_laws.specs.Rounds.{ends_round}
-use Rattle.cc_laws.proofs.Lists.{all_both, of_some, some_if, some_or}
+use Rattle.cc_laws.proofs.Lists.{all_both, of_some, some_if, some_of, some_or}
 
 -- ---- tags
 
@@ -81,6 +85,7 @@ message_up me quorum (message.QueryReply v tag q) s =
 message_up me quorum (message.Store v tag q) s = omega arith
 message_up me quorum (message.StoreAck tag q) s =
     either_tag (is_own me tag q s) s.tag (after_ack me quorum s.phase s) s (ack_up me quorum s.phase s) (omega arith)
+message_up me quorum (message.Snapshot c v) s = omega arith
 
 ask_up : (me quorum : ℕ) (a : Asked) (s : Ops) → s.tag ≤ (after_ask me quorum a s).tag
 ask_up me quorum a s =
@@ -90,10 +95,14 @@ pub tag_next : (c : Core) (e : Event) → c.ops.tag ≤ (next c e).ops.tag
 unfolding next
 tag_next c event.Enter = omega arith
 tag_next c event.Leave = omega arith
-tag_next c (event.Deliver from n m) = message_up c.me (quorum c) m c.ops
+tag_next c (event.Deliver from n m) =
+    let t = after_message c.me (quorum c) m c.ops in
+    omega (arith, message_up c.me (quorum c) m c.ops, anew_more (asks_anew c from n m) (churn.quorum c.beta (churn_told c from n m)) t)
 tag_next c (event.Acked peer n) = omega arith
 tag_next c (event.Ask s r command) = ask_up c.me (quorum c) (asked_of s r command) c.ops
 tag_next c (event.Retire q) = omega arith
+tag_next c (event.Lapse q) = omega arith
+tag_next c event.Snapshot = omega arith
 
 pub tag_after : (n : Node) (es : List Event) → IsLawful n es → n.core.ops.tag ≤ (after n es).core.ops.tag
 unfolding step
@@ -101,6 +110,15 @@ tag_after n [] d = omega arith
 tag_after n (e ∷ es) d = omega (arith, tag_next n.core e, tag_after (step n e) es d.1)
 
 -- ---- posts
+
+abbrev pub stored_in : ViewMap → Phase → ViewMap
+stored_in view Idle = view
+stored_in view (Storing p) = view
+stored_in view (Querying p) = view
+stored_in view (StoringBack p seen) = seen
+
+abbrev pub stored_of : Ops → ViewMap
+stored_of s = stored_in s.view s.phase
 
 -- the event brings this message
 abbrev pub BringsIn : Event → Message → Type 0
@@ -116,8 +134,9 @@ Says me under e t (message.Leave q) = ⊤
 Says me under e t (message.LeaveEcho q) = ⊤
 Says me under e t (message.Query tag q) = (q ≡ me) × (under < tag) × (tag ≡ t.tag)
 Says me under e t (message.QueryReply v tag q) = BringsIn e (message.Query tag q) × (v ≡ t.view)
-Says me under e t (message.Store v tag q) = (q ≡ me) × (under < tag) × (tag ≡ t.tag) × (v ≡ t.view)
+Says me under e t (message.Store v tag q) = (q ≡ me) × (under < tag) × (tag ≡ t.tag) × (v ≡ stored_of t)
 Says me under e t (message.StoreAck tag q) = (v : ViewMap) × BringsIn e (message.Store v tag q) × IsAtMost v t.view
+Says me under e t (message.Snapshot c v) = ⊤
 
 abbrev pub PostSays : Core → Event → Message → Type 0
 PostSays c e m = Says c.me c.ops.tag e (next c e).ops m
@@ -127,11 +146,16 @@ first_says : (P : Message → Type 0) (me : ℕ) (a : Asked) (t : Ops) → P (me
 first_says P me a t store query =
     cond_both (is_writing a.command) (message.Store t.view t.tag me) (message.Query t.tag me) P (λ _. store) (λ _. query)
 
+begun_stores : (me quorum : ℕ) (a : Asked) (s : Ops) → (with_begun me quorum a s).view ≡ stored_of (with_begun me quorum a s)
+begun_stores me quorum a s =
+    cond_both (is_writing a.command) (next_round (Storing (round_of quorum a)) (with_own_row me (with_written a.command s))) (next_round (Querying (round_of quorum a)) s)
+    (λ (t : Ops). t.view ≡ stored_of t) (λ _. refl) (λ _. refl)
+
 begun_says : (me quorum : ℕ) (a : Asked) (s : Ops) (e : Event) → Says me s.tag e (with_begun me quorum a s) (ops.first_post me a (with_begun me quorum a s))
 begun_says me quorum a s e =
     let t = with_begun me quorum a s in
     let new : s.tag < t.tag = omega (arith, begun_tag me quorum a s) in
-    first_says (Says me s.tag e t) me a t (refl, new, refl, refl) (refl, new, refl)
+    first_says (Says me s.tag e t) me a t (refl, new, refl, begun_stores me quorum a s) (refl, new, refl)
 
 last_says : (me quorum : ℕ) (line : List Asked) (s : Ops) (e : Event)
     → IfSome (option_map (λ a. ops.first_post me a (after_last me quorum line s)) (first_in line)) (Says me s.tag e (after_last me quorum line s))
@@ -164,19 +188,18 @@ ask_says me quorum true a s line e = begun_says me quorum a s e
 ask_says me quorum false a s line e = tt
 
 -- the last reply to a query begins the round that stores back
-either_reply : (me quorum : ℕ) (b : Bool) (v : ViewMap) (phase other : Phase) (s : Ops) (e : Event)
-    → IfSome
-    (then_some b (message.Store (if b then next_round phase (merged v s) else record (merged v s) { phase = other }).view (if b then next_round phase (merged v s) else record (merged v s) { phase = other }).tag me))
-    (Says me s.tag e (if b then next_round phase (merged v s) else record (merged v s) { phase = other }))
-either_reply me quorum true v phase other s e = (refl, omega arith, refl, refl)
-either_reply me quorum false v phase other s e = tt
+either_reply : (me : ℕ) (b : Bool) (v : ViewMap) (p : Pending) (other : Phase) (s : Ops) (e : Event)
+    → (let t = if b then next_round (StoringBack p (merge s.view v)) (merged v s) else record (merged v s) { phase = other } in
+    IfSome (then_some b (message.Store t.view t.tag me)) (Says me s.tag e t))
+either_reply me true v p other s e = (refl, omega arith, refl, refl)
+either_reply me false v p other s e = tt
 
 back_says : (me quorum : ℕ) (v : ViewMap) (phase : Phase) (s : Ops) (e : Event)
     → IfSome (then_some (ends_query phase) (message.Store (after_reply quorum v phase s).view (after_reply quorum v phase s).tag me)) (Says me s.tag e (after_reply quorum v phase s))
 back_says me quorum v Idle s e = tt
 back_says me quorum v (Storing p) s e = tt
 back_says me quorum v (Querying p) s e =
-    either_reply me quorum (is_last p) v (StoringBack (round_of quorum p.asked) (merge s.view v)) (Querying (counted p)) s e
+    either_reply me (is_last p) v (round_of quorum p.asked) (Querying (counted p)) s e
 back_says me quorum v (StoringBack p seen) s e = tt
 
 own_back_says : (me quorum : ℕ) (b : Bool) (v : ViewMap) (s : Ops) (e : Event)
@@ -199,6 +222,7 @@ ops_say me quorum joined from n (message.QueryReply v tag q) s = own_back_says m
 ops_say me quorum joined from n (message.Store v tag q) s =
     some_if (Says me s.tag (event.Deliver from n (message.Store v tag q)) (merged v s)) joined (message.StoreAck tag q) (v, (from, n, refl), merged_at_most s.view v)
 ops_say me quorum joined from n (message.StoreAck tag q) s = own_ack_says me quorum (is_own me tag q s) s (event.Deliver from n (message.StoreAck tag q))
+ops_say me quorum joined from n (message.Snapshot c v) s = tt
 
 churn_says : (me under : ℕ) (view : ViewMap) (e : Event) (m : Message) (s t : churn.Churn) (after : Ops)
     → IfSome (churn.post_of me view m s t) (Says me under e after)
@@ -212,17 +236,55 @@ churn_says me under view e (message.Query tag q) s t after = tt
 churn_says me under view e (message.QueryReply w tag q) s t after = tt
 churn_says me under view e (message.Store w tag q) s t after = tt
 churn_says me under view e (message.StoreAck tag q) s t after = tt
+churn_says me under view e (message.Snapshot c w) s t after = tt
+
+-- what a message is answered with, but for a snapshot
+answer_says : (c : Core) (from n : ℕ) (m : Message) → IfSome (post_to m c (handled c (event.Deliver from n m))) (PostSays c (event.Deliver from n m))
+unfolding next
+answer_says c from n (message.Snapshot d v) = tt
+answer_says c from n m =
+    let d = handled c (event.Deliver from n m) in
+    let joined = churn.has_joined c.me d.churn in
+    some_or (PostSays c (event.Deliver from n m)) (churn.post_of c.me d.ops.view m c.churn d.churn) (ops.post_of c.me joined m c.ops d.ops)
+    (churn_says c.me c.ops.tag d.ops.view (event.Deliver from n m) m c.churn d.churn d.ops) (ops_say c.me (quorum c) joined from n m c.ops)
+
+-- a phase that begins anew asks under its new tag, and stores what it stored
+anew_says : (e : Event) (me under quorum : ℕ) (s : Ops) (phase : Phase) → under ≤ s.tag
+    → IfSome (ops.question_in me s.view (s.tag + 1) (ops.again quorum phase)) (Says me under e (next_round (ops.again quorum phase) s))
+anew_says e me under quorum s Idle le = tt
+anew_says e me under quorum s (Storing p) le = (refl, omega (arith, le), refl, refl)
+anew_says e me under quorum s (Querying p) le = (refl, omega (arith, le), refl)
+anew_says e me under quorum s (StoringBack p seen) le = (refl, omega (arith, le), refl, refl)
+
+question_says : (e : Event) (me under quorum : ℕ) (b : Bool) (s : Ops) → under ≤ s.tag
+    → IfSome (question_if b me quorum s) (Says me under e (anew_if b quorum s))
+question_says e me under quorum true s le = anew_says e me under quorum s s.phase le
+question_says e me under quorum false s le = tt
+
+snapshot_says : (c : Core) (from n : ℕ) (m : Message) → IfSome (post_of_snapshot c from n m) (PostSays c (event.Deliver from n m))
+unfolding next
+snapshot_says c from n m =
+    let e = event.Deliver from n m in
+    let b = asks_anew c from n m in
+    let need = churn.quorum c.beta (churn_told c from n m) in
+    let t = after_message c.me (quorum c) m c.ops in
+    some_or (PostSays c e) (join_told c from n m) (question_if b c.me need t)
+    (some_of (PostSays c e) (tells c from n m) (churn.join_told c.me c.gamma (churned c m)) None
+    (some_if (PostSays c e) (churn.joins_told c.gamma (churned c m)) (message.Join c.me) tt) tt)
+    (question_says e c.me c.ops.tag need b t (message_up c.me (quorum c) m c.ops))
 
 pub post_says : (c : Core) (e : Event) → IfSome (post c e) (PostSays c e)
 unfolding next
 post_says c event.Enter = tt
 post_says c event.Leave = tt
 post_says c (event.Deliver from n m) =
-    let d = handled c (event.Deliver from n m) in
-    some_or (PostSays c (event.Deliver from n m)) _ _ (churn_says c.me c.ops.tag d.ops.view (event.Deliver from n m) m c.churn d.churn d.ops) (ops_say c.me (quorum c) _ from n m c.ops)
+    some_or (PostSays c (event.Deliver from n m)) (post_of_snapshot c from n m) (post_to m c (handled c (event.Deliver from n m)))
+    (snapshot_says c from n m) (answer_says c from n m)
 post_says c (event.Acked peer n) = tt
 post_says c (event.Ask s r command) = ask_says c.me (quorum c) (is_idle c.ops.phase) (asked_of s r command) c.ops _ (event.Ask s r command)
 post_says c (event.Retire q) = tt
+post_says c (event.Lapse q) = tt
+post_says c event.Snapshot = tt
 
 -- ---- replies
 
@@ -258,6 +320,7 @@ message_replies c from n (message.Query tag q) = tt
 message_replies c from n (message.QueryReply v tag q) = tt
 message_replies c from n (message.Store v tag q) = tt
 message_replies c from n (message.StoreAck tag q) = ack_replies (is_own c.me tag q c.ops) c.ops.view c.ops.phase
+message_replies c from n (message.Snapshot d v) = tt
 
 pub reply_says : (c : Core) (e : Event) → IfSome (reply c e) (ReplySays c e)
 reply_says c event.Enter = tt
@@ -266,6 +329,8 @@ reply_says c (event.Deliver from n m) = message_replies c from n m
 reply_says c (event.Acked peer n) = tt
 reply_says c (event.Ask s r command) = tt
 reply_says c (event.Retire q) = tt
+reply_says c (event.Lapse q) = tt
+reply_says c event.Snapshot = tt
 
 -- ---- outputs
 

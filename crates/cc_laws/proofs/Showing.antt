@@ -51,6 +51,8 @@ module _ (Q : ViewMap → Type 0) where
         (some_of (OfAnswer Q) (eq_by_cmp nat_cmp q s) None (table.get o.answers q) tt (h.answers q));
   }
   forgets (event.Retire q) o h = h
+  forgets (event.Lapse q) o h = h
+  forgets event.Snapshot o h = h
 
   adds : (m : Option Message) (o : Outbox) → KeepsOnly o → IfSome m (OfMessage Q) → KeepsOnly (add m o)
   adds None o h i = h
@@ -81,7 +83,7 @@ module _ (Q : ViewMap → Type 0) where
   step_shows n e h there = record {
     view = there;
     phase = handled_phase Q n.core e h.phase there;
-    kept = trims (lowest (next n.core e)) _ (keeps (reply n.core e) _ (adds (post n.core e) _ (forgets e n.outbox h.kept) (post_shows Q n.core e there)) (reply_shows Q n.core e h.view h.phase));
+    kept = trims (lowest (next n.core e)) _ (keeps (reply n.core e) _ (adds (post n.core e) _ (forgets e n.outbox h.kept) (post_shows Q n.core e h.phase there)) (reply_shows Q n.core e h.view h.phase));
   }
 
   sends_show : (k : ℕ) (m : Message) (rows : List (ℕ × Link)) → OfMessage Q m → AllByRecursion (OfOutput Q) (sends k m rows)
@@ -105,7 +107,7 @@ module _ (Q : ViewMap → Type 0) where
   outputs_show n e h there =
       let c = n.core in
       all_both (OfOutput Q) (send_ack (ack e) ++ send_post (next c e) (post c e)) (send_reply (reply c e))
-      (all_both (OfOutput Q) (send_ack (ack e)) (send_post (next c e) (post c e)) (sent_ack (ack e)) (sent_post (next c e) (post c e) (post_shows Q c e there)))
+      (all_both (OfOutput Q) (send_ack (ack e)) (send_post (next c e) (post c e)) (sent_ack (ack e)) (sent_post (next c e) (post c e) (post_shows Q c e h.phase there)))
       (sent_reply (reply c e) (reply_shows Q c e h.view h.phase))
 
   pub all_shown : (n : Node) (es : List Event) → ShowsOnly n → ((k : ℕ) → Q (view_at n es k)) → ShowsOnly (after n es) × AllByRecursion (OfOutput Q) (line n es)

@@ -1,8 +1,8 @@
 -- What one event makes shows no view but the node's own after it, or one that it stored back before it.
 --     OfPhase, OfMessage, OfAnswer, OfOutput, OfReply   Q holds of the view that is in one, if one is
 --     handled_phase, post_shows, reply_shows            so it does of the phase, the post and the answer of an event
-use Rattle.std.proofs.Common.{ℕ, Bool, true, false, List, [], ◌∷◌}
-use Rattle.std.specs.Prelude.{None, IfSome, if◌then◌else◌}
+use Rattle.std.proofs.Common.{ℕ, Bool, true, false, List, [], ◌∷◌, ◌+◌, sym, subst}
+use Rattle.std.specs.Prelude.{Option, None, IfSome, if◌then◌else◌}
 use Rattle.cc_views.specs.Rows.{ViewMap}
 use Rattle.cc_views.specs.Merge.{merge}
 use Rattle.cc_wire.specs.declared.answer.Answer.{Answer}
@@ -19,7 +19,10 @@ use Rattle.cc_ops.specs.declared.pending.Reply.{Reply}
 use Rattle.cc_ops.specs.Commands.{is_writing, answer_of}
 use Rattle.cc_ops.specs.Ops as ops
 use Rattle.cc_ops.specs.Ops.{Ops, Phase, Idle, Storing, Querying, StoringBack, seen_in}
-use Rattle.cc_node.specs.Core.{Core, quorum, asked_of, begun, handled, post, reply}
+use Rattle.cc_ops.specs.OwnLaws.{anew_keeps}
+use Rattle.cc_node.specs.Core.{Core, quorum, asked_of, churned, churn_told, tells, asks_anew, anew_if, join_told, question_if, post_of_snapshot, post_to}
+use Rattle.cc_node.specs.Core.{begun, handled, post, reply}
+use Rattle.cc_node.proofs.ToldLaws.{anew_view}
 use Rattle.cc_node.specs.Node.{line}
 use Rattle.cc_laws.specs.Shown.{in_message, in_answer, in_output}
 use Rattle.cc_laws.proofs.Lists.{some_if, some_of, some_or, some_mapped}
@@ -88,6 +91,12 @@ module _ (Q : ViewMap → Type 0) where
   message_phase me quorum (message.Store v tag q) s h k = h
   message_phase me quorum (message.StoreAck tag q) s h k =
       taken_phase (ops.is_own me tag q s) (ops.after_ack me quorum s.phase s) s (λ _. ack_phase me quorum s.phase s h h) (λ _. h) k
+  message_phase me quorum (message.Snapshot c v) s h k = h
+
+  -- a phase that begins anew stores back what it did
+  anew_phase : (b : Bool) (quorum : ℕ) (s : Ops) → OfPhase s.phase → OfPhase (anew_if b quorum s).phase
+  anew_phase true quorum s h = subst (λ (o : Option ViewMap). IfSome o Q) (sym (anew_keeps quorum s).seen) h
+  anew_phase false quorum s h = h
 
   ask_phase : (me quorum : ℕ) (b : Bool) (a : Asked) (s : Ops) (line : List Asked) → OfPhase s.phase → OfPhase (if b then ops.with_begun me quorum a s else record s { line = line }).phase
   ask_phase me quorum true a s line h = begun_phase me quorum a s
@@ -96,10 +105,16 @@ module _ (Q : ViewMap → Type 0) where
   pub handled_phase : (c : Core) (e : Event) → OfPhase c.ops.phase → Q (handled c e).ops.view → OfPhase (handled c e).ops.phase
   handled_phase c event.Enter h k = h
   handled_phase c event.Leave h k = h
-  handled_phase c (event.Deliver from n m) h k = message_phase c.me (quorum c) m c.ops h k
+  handled_phase c (event.Deliver from n m) h k =
+      let b = asks_anew c from n m in
+      let need = churn.quorum c.beta (churn_told c from n m) in
+      let t = ops.after_message c.me (quorum c) m c.ops in
+      anew_phase b need t (message_phase c.me (quorum c) m c.ops h (subst Q (anew_view b need t) k))
   handled_phase c (event.Acked peer n) h k = h
   handled_phase c (event.Ask s r command) h k = ask_phase c.me (quorum c) (ops.is_idle c.ops.phase) (asked_of s r command) c.ops _ h
   handled_phase c (event.Retire q) h k = h
+  handled_phase c (event.Lapse q) h k = h
+  handled_phase c event.Snapshot h k = h
 
   -- ---- the post
 
@@ -114,6 +129,7 @@ module _ (Q : ViewMap → Type 0) where
   churn_post me v (message.QueryReply w tag q) s t h = tt
   churn_post me v (message.Store w tag q) s t h = tt
   churn_post me v (message.StoreAck tag q) s t h = tt
+  churn_post me v (message.Snapshot c w) s t h = tt
 
   first_post : (me : ℕ) (a : Asked) (s : Ops) → Q s.view → OfMessage (ops.first_post me a s)
   first_post me a s h =
@@ -133,18 +149,45 @@ module _ (Q : ViewMap → Type 0) where
   ops_post me joined (message.QueryReply w tag q) s t h = some_if OfMessage _ (message.Store t.view t.tag me) h
   ops_post me joined (message.Store w tag q) s t h = some_if OfMessage joined (message.StoreAck tag q) tt
   ops_post me joined (message.StoreAck tag q) s t h = some_mapped OfMessage (λ a. ops.first_post me a t) (ops.begun_by me (message.StoreAck tag q) s) (λ a. first_post me a t h)
+  ops_post me joined (message.Snapshot c w) s t h = tt
 
-  pub post_shows : (c : Core) (e : Event) → Q (handled c e).ops.view → IfSome (post c e) OfMessage
-  post_shows c event.Enter h = tt
-  post_shows c event.Leave h = tt
-  post_shows c (event.Deliver from n m) h =
+  question_in : (me quorum tag : ℕ) (v : ViewMap) (phase : Phase) → Q v → OfPhase phase → IfSome (ops.question_in me v tag (ops.again quorum phase)) OfMessage
+  question_in me quorum tag v Idle h k = tt
+  question_in me quorum tag v (Storing p) h k = h
+  question_in me quorum tag v (Querying p) h k = tt
+  question_in me quorum tag v (StoringBack p seen) h k = k
+
+  -- what a phase asks that begins anew
+  question_shows : (b : Bool) (me quorum : ℕ) (s : Ops) → Q s.view → OfPhase s.phase → IfSome (question_if b me quorum s) OfMessage
+  question_shows true me quorum s h k = question_in me quorum (s.tag + 1) s.view s.phase h k
+  question_shows false me quorum s h k = tt
+
+  snapshot_post : (c : Core) (from n : ℕ) (m : Message) → OfPhase c.ops.phase → Q (handled c (event.Deliver from n m)).ops.view
+      → IfSome (post_of_snapshot c from n m) OfMessage
+  snapshot_post c from n m h k =
+      let b = asks_anew c from n m in
+      let need = churn.quorum c.beta (churn_told c from n m) in
+      let t = ops.after_message c.me (quorum c) m c.ops in
+      let seen : Q t.view = subst Q (anew_view b need t) k in
+      some_or OfMessage (join_told c from n m) (question_if b c.me need t)
+      (some_of OfMessage (tells c from n m) (churn.join_told c.me c.gamma (churned c m)) None
+      (some_if OfMessage (churn.joins_told c.gamma (churned c m)) (message.Join c.me) tt) tt)
+      (question_shows b c.me need t seen (message_phase c.me (quorum c) m c.ops h seen))
+
+  pub post_shows : (c : Core) (e : Event) → OfPhase c.ops.phase → Q (handled c e).ops.view → IfSome (post c e) OfMessage
+  post_shows c event.Enter k h = tt
+  post_shows c event.Leave k h = tt
+  post_shows c (event.Deliver from n m) k h =
       let d = handled c (event.Deliver from n m) in
-      some_or OfMessage _ _ (churn_post d.me d.ops.view m c.churn d.churn h) (ops_post d.me _ m c.ops d.ops h)
-  post_shows c (event.Acked peer n) h = tt
-  post_shows c (event.Ask s r command) h =
+      some_or OfMessage (post_of_snapshot c from n m) (post_to m c d) (snapshot_post c from n m k h)
+      (some_or OfMessage _ _ (churn_post d.me d.ops.view m c.churn d.churn h) (ops_post d.me _ m c.ops d.ops h))
+  post_shows c (event.Acked peer n) k h = tt
+  post_shows c (event.Ask s r command) k h =
       let d = handled c (event.Ask s r command) in
       some_mapped OfMessage (λ a. ops.first_post c.me a d.ops) (begun c (event.Ask s r command)) (λ a. first_post c.me a d.ops h)
-  post_shows c (event.Retire q) h = tt
+  post_shows c (event.Retire q) k h = tt
+  post_shows c (event.Lapse q) k h = tt
+  post_shows c event.Snapshot k h = h
 
   -- ---- the answer
 
@@ -178,6 +221,7 @@ module _ (Q : ViewMap → Type 0) where
   reply_of me (message.QueryReply v tag q) s h k = tt
   reply_of me (message.Store v tag q) s h k = tt
   reply_of me (message.StoreAck tag q) s h k = some_of OfReply (ops.is_own me tag q s) (ops.reply_in s.view s.phase) None (reply_in s.view s.phase h k) tt
+  reply_of me (message.Snapshot c v) s h k = tt
 
   pub reply_shows : (c : Core) (e : Event) → Q c.ops.view → OfPhase c.ops.phase → IfSome (reply c e) OfReply
   reply_shows c event.Enter h k = tt
@@ -186,3 +230,5 @@ module _ (Q : ViewMap → Type 0) where
   reply_shows c (event.Acked peer n) h k = tt
   reply_shows c (event.Ask s r command) h k = tt
   reply_shows c (event.Retire q) h k = tt
+  reply_shows c (event.Lapse q) h k = tt
+  reply_shows c event.Snapshot h k = tt

@@ -1,7 +1,7 @@
 -- What one event makes of the view: it is as before, or has one more own row, or is merged with what the event brings.
 --     with_row me s o      the view with the own row of the write that begins, if one begins
 --     ViewStep, view_step
-use Rattle.std.proofs.Common.{◌≡◌, ◌⊎◌, inl, inr, ℕ, ◌+◌, Bool, true, false, List, [], ◌∷◌, refl}
+use Rattle.std.proofs.Common.{◌≡◌, ◌⊎◌, inl, inr, ℕ, ◌+◌, Bool, true, false, List, [], ◌∷◌, refl, sym, subst}
 use Rattle.std.specs.Prelude.{Option, Some, None, if◌then◌else◌}
 use Rattle.std.specs.Bool.{then_some}
 use Rattle.cc_views.specs.Rows.{ViewMap, single}
@@ -14,7 +14,9 @@ use Rattle.cc_ops.specs.declared.pending.Asked.{Asked}
 use Rattle.cc_ops.specs.Commands.{is_writing, written}
 use Rattle.cc_ops.specs.Ops.{Ops, Phase, Idle, Storing, Querying, StoringBack, is_idle, is_last, is_own, round_of, counted, merged, next_round, with_written, with_own_row, with_begun, after_reply, after_last, after_ack, after_message, begun_in, begun_by}
 use Rattle.cc_ops.specs.Waiting.{first_in}
-use Rattle.cc_node.specs.Core.{Core, quorum, asked_of, begun, next}
+use Rattle.cc_churn.specs.Churn as churn
+use Rattle.cc_node.specs.Core.{Core, quorum, asked_of, churn_told, asks_anew, begun, next}
+use Rattle.cc_node.proofs.ToldLaws.{anew_view}
 use Rattle.cc_laws.specs.Shown.{in_message, in_event}
 
 -- the own row of a write, under the next number
@@ -103,15 +105,21 @@ message_step me quorum (message.QueryReply v tag q) s =
     as_before me s v _ (either_view (is_own me tag q s) s.view v (after_reply quorum v s.phase s) s (reply_view quorum v s.phase s) (inl refl))
 message_step me quorum (message.Store v tag q) s = inr (brings s v _ refl)
 message_step me quorum (message.StoreAck tag q) s = inl (own_ack_view me quorum (is_own me tag q s) s)
+message_step me quorum (message.Snapshot c v) s = inr (brings s v _ refl)
 
 pub view_step : (c : Core) (e : Event) → ViewStep c.me c.ops (in_event e) (begun c e) (next c e).ops.view
 unfolding next
 view_step c event.Enter = inl refl
 view_step c event.Leave = inl refl
-view_step c (event.Deliver from n m) = message_step c.me (quorum c) m c.ops
+view_step c (event.Deliver from n m) =
+    let t = after_message c.me (quorum c) m c.ops in
+    subst (ViewStep c.me c.ops (in_message m) (begun_by c.me m c.ops))
+    (sym (anew_view (asks_anew c from n m) (churn.quorum c.beta (churn_told c from n m)) t)) (message_step c.me (quorum c) m c.ops)
 view_step c (event.Acked peer n) = inl refl
 view_step c (event.Ask s r command) = inl (ask_view c.me (quorum c) (is_idle c.ops.phase) (asked_of s r command) c.ops _)
 view_step c (event.Retire q) = inl refl
+view_step c (event.Lapse q) = inl refl
+view_step c event.Snapshot = inl refl
 
 pub me_next : (c : Core) (e : Event) → (next c e).me ≡ c.me
 unfolding next
@@ -121,3 +129,5 @@ me_next c (event.Deliver from n m) = refl
 me_next c (event.Acked peer n) = refl
 me_next c (event.Ask s r command) = refl
 me_next c (event.Retire q) = refl
+me_next c (event.Lapse q) = refl
+me_next c event.Snapshot = refl

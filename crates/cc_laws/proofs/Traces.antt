@@ -43,6 +43,8 @@ CameFrom c q (event.Deliver from n k) = MadeBy c from (output.Send q n k)
 CameFrom c q (event.Acked peer n) = ⊤
 CameFrom c q (event.Ask s r command) = ⊤
 CameFrom c q (event.Retire p) = ⊤
+CameFrom c q (event.Lapse p) = ⊤
+CameFrom c q event.Snapshot = ⊤
 
 abbrev pub WasMade : Cluster → Sent → Type 0
 WasMade c s = MadeBy c s.from s.output
@@ -83,6 +85,8 @@ came_kept c d f q (event.Deliver from n k) h = f from (output.Send q n k) h
 came_kept c d f q (event.Acked peer n) h = tt
 came_kept c d f q (event.Ask s r command) h = tt
 came_kept c d f q (event.Retire p) h = tt
+came_kept c d f q (event.Lapse p) h = tt
+came_kept c d f q event.Snapshot h = tt
 
 member_traces : (c : Cluster) (q : ℕ) (m n : Member) → Traces c → table.get c.members q ≡ Some m → n.opening ≡ m.opening → IsLonger m n
     → AllByRecursion (CameFrom c q) n.events → Traces (with_member q n c)
@@ -172,6 +176,8 @@ own_came c q (event.Deliver from n m) h = absurd h
 own_came c q (event.Acked peer n) h = tt
 own_came c q (event.Ask s r command) h = tt
 own_came c q (event.Retire p) h = tt
+own_came c q (event.Lapse p) h = tt
+own_came c q event.Snapshot h = tt
 
 pub move_traces : (c : Cluster) (q : ℕ) (m : Member) (move : Move) (d : Cluster) → Holds c → Traces c → table.get c.members q ≡ Some m → MovesBy c q m move d
     → Traces d

@@ -60,6 +60,8 @@ IsOwn (event.Deliver from n m) = ⊥
 IsOwn (event.Acked peer n) = ⊤
 IsOwn (event.Ask s r command) = ⊤
 IsOwn (event.Retire q) = ⊤
+IsOwn (event.Lapse q) = ⊤
+IsOwn event.Snapshot = ⊤
 
 pub data Move : Type 0 where
   -- an event of the node's own comes

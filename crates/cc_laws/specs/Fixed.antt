@@ -27,6 +27,8 @@ StaysBy (event.Deliver from n m) = ⊤
 StaysBy (event.Acked peer n) = ⊤
 StaysBy (event.Ask s r command) = ⊤
 StaysBy (event.Retire q) = ⊥
+StaysBy (event.Lapse q) = ⊤
+StaysBy event.Snapshot = ⊤
 
 abbrev pub Stays : Move → Type 0
 Stays (Accept e) = StaysBy e

@@ -30,6 +30,7 @@ in_message (message.Query tag q) = None
 in_message (message.QueryReply v tag q) = Some v
 in_message (message.Store v tag q) = Some v
 in_message (message.StoreAck tag q) = None
+in_message (message.Snapshot c v) = Some v
 
 abbrev pub in_answer : Answer → Option ViewMap
 in_answer answer.Stored = None
@@ -50,6 +51,8 @@ in_event (event.Deliver from n m) = in_message m
 in_event (event.Acked peer n) = None
 in_event (event.Ask s r command) = None
 in_event (event.Retire q) = None
+in_event (event.Lapse q) = None
+in_event event.Snapshot = None
 
 pub data Shows (n : Node) (v : ViewMap) : Type 0 where
   held : v ≡ n.core.ops.view → Shows n v

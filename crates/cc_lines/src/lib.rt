@@ -17,7 +17,7 @@ pub use doors::{Door, Doors};
 pub use durable::{Durable, Flushed};
 pub use lines::{FarEnd, Line, OwnLine, lines_to, own_line};
 pub use room::{NoSeat, Room};
-pub use seat::{Seat, Seating};
+pub use seat::{Seat, Seating, speaker_of};
 pub use spelling::bytes_of;
 pub use stop::Stop;
 pub use writing::{write_frames, write_peer};

@@ -14,7 +14,7 @@ use std::sync::{Arc, Wait};
 // How many parcels wait for a peer's writer at most.
 const LINE_ROOM: usize = 256;
 
-// After so many seconds in which a peer acknowledged nothing that it should, it is connected to anew.
+// After so many seconds in which a peer was late, it is connected to anew.
 const MOST_SILENCE: u64 = 5;
 
 // How many events wait for the worker of the node's own messages at most.
@@ -29,8 +29,7 @@ pub struct Line {
     is_muted: Stop,
     // Its writer is to connect anew.
     is_stale: Arc<Stop>,
-    // What the peer has acknowledged, and for how many seconds it acknowledged no more, though it should.
-    acked: AtomicU64,
+    // For how many seconds the peer has been late.
     silence: AtomicU64,
 }
 
@@ -51,11 +50,10 @@ impl Line {
         self.is_muted.put(false);
     }
 
-    /// A second has passed. What the peer has acknowledged, and whether it should acknowledge more: where it doesn't, its
-    /// connection may lead to a machine that vanished.
-    pub fn note_progress(&self, acked: u64, is_owing: bool) {
-        let before = self.acked.swap(acked, Ordering::SeqCst);
-        if !is_owing || acked != before {
+    /// A second has passed, at whose end the peer is late, or isn't: where it stays so, its connection may lead to a machine
+    /// that vanished.
+    pub fn note_progress(&self, is_late: bool) {
+        if !is_late {
             self.silence.store(0, Ordering::SeqCst);
             return;
         }
@@ -132,7 +130,6 @@ fn line_to(alloc: Global, peer: &Peer) -> Result<(Line, FarEnd), AllocError> {
         to,
         is_muted: Stop::new(),
         is_stale,
-        acked: AtomicU64::new(0),
         silence: AtomicU64::new(0),
     };
     let end = FarEnd {

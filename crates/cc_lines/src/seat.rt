@@ -84,8 +84,8 @@ impl<F: Flushed> Seating for Seat<'_, F> {
     }
 }
 
-// The node that sends what brings such an event.
-fn speaker_of(event: &Event) -> Option<NodeId> {
+/// The node that sends what brings such an event.
+pub fn speaker_of(event: &Event) -> Option<NodeId> {
     match event {
         Event::Deliver { from, .. } => Some(*from),
         Event::Acked { peer, .. } => Some(*peer),

@@ -1,4 +1,5 @@
 pub mod AddedPeers
 pub mod ChangedRows
+pub mod HeardLoop
 pub mod KnownSets
 pub mod LowestLoop

@@ -1,4 +1,5 @@
 pub mod Links
 pub mod Rows
 pub mod LinkLaws
+pub mod HeardLaws
 pub mod KnownIds

@@ -1,26 +1,27 @@
 -- What adding, hearing and acknowledging make of links, and how far every live link has come.
 --     lowest_above, lowest_below, lowest_within     bounds of `lowest`;  lowest_grows: links that go on don't fall back
 --     LinksGoOn, .._goes                 each link is there still, with what was acknowledged
+--     lapse_is_ack, lapse_is_news        a lapse is the acknowledgement of all, and is news where any would be
 --     .._links                           what keeps links within their bounds
 --     contains-add_all, .._len           which rows there are, and how many
 --     add_all-add, add_all-append        the order in which rows are added is no matter;  rows for two lists
 --     reaches_.., len_..                 what one row more keeps, and how many rows there are at most
-use Rattle.std.proofs.Common.{◌≡◌, ℕ, ◌+◌, ◌-◌, ◌<◌, ◌≤◌, Bool, true, false, cond, not, ◌||◌, nat_eq, List, [], ◌∷◌, ◌++◌, refl, sym, ap, subst, ◌∙◌, inl, inr, arith}
-use Rattle.std.specs.Prelude.{Option, Some, None, IfSome, is_some, min, ⊤}
+use Rattle.std.proofs.Common.{◌≡◌, ℕ, ◌+◌, ◌-◌, ◌<◌, ◌≤◌, Bool, true, false, cond, not, ◌||◌, ◌&&◌, nat_eq, List, [], ◌∷◌, ◌++◌, refl, sym, ap, subst, ◌∙◌, inl, inr, arith}
+use Rattle.std.specs.Prelude.{Option, Some, None, IfSome, is_some, min, nat_lt, ⊤}
 use Rattle.std.specs.Option.{option_map_or, unwrap_or}
 use Rattle.std.specs.List.{AllByRecursion, list_any}
 use Rattle.std.specs.Ordering.{nat_cmp}
 use Rattle.std.specs.Cmp.{nat_cmp_total}
 use Rattle.std.specs.FinMap as table
 use Rattle.std.specs.FinMap.{FinMap, nat_cmp-IsAntisymmetric}
-use Rattle.std.proofs.Math.Bool.{or_assoc}
-use Rattle.std.proofs.lemmas.Bool.{and_parts, not-false, ltb-true, leb-true, or_right}
+use Rattle.std.proofs.Math.Bool.{or_assoc, and-true}
+use Rattle.std.proofs.lemmas.Bool.{and_parts, not-false, ltb-true, leb-true, le-leb, or_right}
 use Rattle.std.proofs.lemmas.Bool.Decides.{eqb_tells}
 use Rattle.cc_views.specs.NatSets as set
 use Rattle.cc_views.specs.NatSets.{NatSet, IsWithin, get-insert_key, contains-insert_key, len_within}
 use Rattle.cc_views.specs.MapLaws.{all_insert, within_same, insert_within, all_values, each_value, len_insert}
 use Rattle.cc_views.specs.Limits.{counter_limit}
-use Rattle.cc_links.specs.Links.{Link, Links, new_link, with_row, add_absent, add, add_all, hear, ack, heard_from, live, least, reach, lowest, awaits_ack, IsLinkWithin, LinksWithin, ReachesWithin}
+use Rattle.cc_links.specs.Links.{Link, Links, new_link, with_row, add_absent, add, add_all, hear, ack, lapse, heard_from, live, least, reach, lowest, awaits_ack, awaits_any, IsLinkWithin, LinksWithin, ReachesWithin}
 
 -- ---- the least of a list
 
@@ -134,6 +135,22 @@ newer n m (Some l) h = (refl, omega (arith, h.0), omega arith)
 pub ack_goes : (posts peer n : ℕ) (ls : Links) → not (option_map_or (awaits_ack posts n) (table.get ls peer) false) ≡ false → LinksGoOn posts ls (ack peer n ls)
 ack_goes posts peer n ls h = row_goes posts peer (λ l. record l { acked = n }) (table.get ls peer) ls refl (newer n posts (table.get ls peer) (awaited posts n (table.get ls peer) h))
 
+-- a lapse is the acknowledgement of all that was sent
+pub lapse_is_ack : (posts peer : ℕ) (ls : Links) (l : Link) → table.get ls peer ≡ Some l → lapse posts peer ls ≡ ack peer (posts - l.start) ls
+lapse_is_ack posts peer ls l e =
+    ap (λ o. with_row peer (λ m. record m { acked = posts - m.start }) o ls) e ∙ sym (ap (λ o. with_row peer (λ m. record m { acked = posts - l.start }) o ls) e)
+
+-- that acknowledgement is news where any would be
+pub lapse_is_news : (posts : ℕ) (l : Link) → awaits_any posts l ≡ awaits_ack posts (posts - l.start) l
+lapse_is_news posts l = sym (ap (λ b. nat_lt l.acked (posts - l.start) && b) (le-leb (posts - l.start) (posts - l.start) (omega arith)) ∙ and-true (nat_lt l.acked (posts - l.start)))
+
+lapsed : (posts : ℕ) (o : Option Link) → not (option_map_or (awaits_any posts) o false) ≡ false → IfSome o (λ l. (l.start ≡ l.start) × (l.acked ≤ posts - l.start) × (l.heard ≤ l.heard))
+lapsed posts None h = tt
+lapsed posts (Some l) h = let up : l.acked < posts - l.start = ltb-true l.acked (posts - l.start) (not-false _ h) in (refl, omega arith, omega arith)
+
+pub lapse_goes : (posts peer : ℕ) (ls : Links) → not (option_map_or (awaits_any posts) (table.get ls peer) false) ≡ false → LinksGoOn posts ls (lapse posts peer ls)
+lapse_goes posts peer ls h = row_goes posts peer (λ l. record l { acked = posts - l.start }) (table.get ls peer) ls refl (lapsed posts (table.get ls peer) h)
+
 -- ---- what goes on has every row, and lowest doesn't fall
 
 still_there : (posts : ℕ) (a b : Option Link) → LinkGoesOn posts a b → is_some a ≡ true → is_some b ≡ true
@@ -202,6 +219,13 @@ pub ack_links : (posts peer n : ℕ) (ls : Links) → not (option_map_or (awaits
 ack_links posts peer n ls h k =
     row_links posts peer (λ l. record l { acked = n }) (table.get ls peer) ls k (acked_link posts n (table.get ls peer) (awaited posts n (table.get ls peer) h) (k peer))
 
+lapsed_link : (posts : ℕ) (o : Option Link) → IfSome o (IsLinkWithin posts) → IfSome o (λ l. IsLinkWithin posts (record l { acked = posts - l.start }))
+lapsed_link posts None k = tt
+lapsed_link posts (Some l) k = (k.0, omega arith, k.2)
+
+pub lapse_links : (posts peer : ℕ) (ls : Links) → LinksWithin posts ls → LinksWithin posts (lapse posts peer ls)
+lapse_links posts peer ls k = row_links posts peer (λ l. record l { acked = posts - l.start }) (table.get ls peer) ls k (lapsed_link posts (table.get ls peer) (k peer))
+
 -- ---- which rows there are
 
 absent_or_there : {X : Type 0} (m : FinMap nat_cmp X) (peer q : ℕ) (l : X) → table.get m peer ≡ Some l → table.contains_key m q ≡ (nat_eq q peer || table.contains_key m q)
@@ -232,6 +256,9 @@ hear_len from n ls = len_within _ ls (row_within from (λ l. record l { heard = 
 pub ack_len : (peer n : ℕ) (ls : Links) → table.len (ack peer n ls) ≤ table.len ls
 ack_len peer n ls = len_within _ ls (row_within peer (λ l. record l { acked = n }) (table.get ls peer) ls refl)
 
+pub lapse_len : (posts peer : ℕ) (ls : Links) → table.len (lapse posts peer ls) ≤ table.len ls
+lapse_len posts peer ls = len_within _ ls (row_within peer (λ l. record l { acked = posts - l.start }) (table.get ls peer) ls refl)
+
 -- ---- bounds that a reader of links asks for
 
 reach_of : (posts : ℕ) (o : Option Link) → IfSome o (IsLinkWithin posts) → IfSome o (λ l. reach l ≤ posts)
@@ -244,7 +271,7 @@ reaches_within posts ls h q = reach_of posts (table.get ls q) (h q)
 -- ---- the order of adding
 
 -- what stands for a peer once it is added
-abbrev added : ℕ → Option Link → Option Link
+abbrev pub added : ℕ → Option Link → Option Link
 added posts o = Some (unwrap_or o (new_link posts))
 
 get-add_absent : (posts p : ℕ) (o : Option Link) (ls : Links) (q : ℕ) → table.get ls p ≡ o → table.get (add_absent posts p o ls) q ≡ cond (nat_eq q p) (added posts (table.get ls q)) (table.get ls q)

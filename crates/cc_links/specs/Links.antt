@@ -1,10 +1,11 @@
 -- Numbered links: for each known peer, from which post on it is sent posts, and how far both ends have come.
 --     Link, Links, links_code             one link;  the links by peer, and their code
---     add, add_all, hear, ack             a row more, or one row changed
+--     add, add_all, hear, ack, lapse      a row more, or one row changed
 --     heard_from, wire_number             readings of one row
+--     heard_of                            from how many peers something was heard
 --     live, lowest                        the links to peers that haven't left, and how far each of them has come
 --     ReachesWithin, LinksWithin          that no link is acknowledged beyond the posts that were made;  and that its counts fit
---     awaits_ack                          whether an acknowledgement is news
+--     awaits_ack, awaits_any              whether an acknowledgement is news;  whether any would be
 use Rattle.std.specs.Prelude.{ℕ, ◌+◌, ◌-◌, ◌≤◌, Bool, not, ◌&&◌, nat_lt, nat_le, List, [], ◌∷◌, map, min, refl, Option, Some, None, IfSome}
 use Rattle.std.specs.Bool.{then_some}
 use Rattle.std.specs.Coded.{Coded, code_by, coded×, coded_ℕ}
@@ -60,9 +61,17 @@ hear from n ls = with_row from (λ l. record l { heard = n }) (table.get ls from
 abbrev pub ack : ℕ → ℕ → Links → Links
 ack peer n ls = with_row peer (λ l. record l { acked = n }) (table.get ls peer) ls
 
+-- what is kept for a peer lapses: all that was sent to it counts as acknowledged
+abbrev pub lapse : ℕ → ℕ → Links → Links
+lapse posts peer ls = with_row peer (λ l. record l { acked = posts - l.start }) (table.get ls peer) ls
+
 -- 0 without a row
 abbrev pub heard_from : ℕ → Links → ℕ
 heard_from peer ls = option_map_or (λ l. l.heard) (table.get ls peer) 0
+
+-- from how many peers something was heard
+abbrev pub heard_of : Links → ℕ
+heard_of ls = table.len (table.retain_keys ls (λ peer. nat_lt 0 (heard_from peer ls)))
 
 -- the number of post n on a link, where it is sent there
 abbrev pub wire_number_on : ℕ → Option Link → Option ℕ
@@ -97,6 +106,10 @@ ReachesWithin posts ls = (q : ℕ) → IfSome (table.get ls q) (λ l. reach l �
 -- whether a link waits for the acknowledgement of its number n
 abbrev pub awaits_ack : ℕ → ℕ → Link → Bool
 awaits_ack posts n l = nat_lt l.acked n && nat_le n (posts - l.start)
+
+-- whether a link waits for the acknowledgement of any number
+abbrev pub awaits_any : ℕ → Link → Bool
+awaits_any posts l = nat_lt l.acked (posts - l.start)
 
 abbrev pub IsLinkWithin : ℕ → Link → Type 0
 IsLinkWithin posts l = (l.start ≤ posts) × (l.acked ≤ posts - l.start) × (l.heard ≤ counter_limit)

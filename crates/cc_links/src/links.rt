@@ -121,6 +121,25 @@ impl Links {
         }
     }
 
+    /// Whether some acknowledgement of the peer would be news, where `posts` posts were made: something was sent to it
+    /// that isn't acknowledged yet.
+    pub fn awaits_any(&self, peer: NodeId, posts: u64) -> bool
+        ensures { result ≡ option_map_or (links.awaits_any posts) (table.get self.now peer) false }
+    {
+        match self.get(peer) {
+            Some(row) => row.acked < posts.saturating_sub(row.start),
+            None => false,
+        }
+    }
+
+    /// From how many peers something was taken in.
+    pub fn heard_of(&self) -> usize
+        ensures count { result ≡ links.heard_of self.now }
+        ensures fits { result ≤ known_limit }
+    {
+        count_heard(&self.rows)
+    }
+
     /// Puts a row in, in place of the one that its peer had. It takes no memory.
     pub fn insert(&mut self, row: LinkRow)
         requires { table.len (table.insert self.old row.peer (link_of row)) ≤ known_limit }
@@ -186,6 +205,17 @@ impl Links {
         }
     }
 
+    /// What is kept for the peer lapses, where `posts` posts were made: all that was sent to it counts as acknowledged.
+    /// Nothing changes where it has no row.
+    pub fn lapse(&mut self, peer: NodeId, posts: u64)
+        ensures { self.new ≡ links.lapse posts peer self.old }
+    {
+        if let Ok(at) = place_of(&self.rows, peer) {
+            let row = &mut self.rows[at];
+            row.acked = posts.saturating_sub(row.start);
+        }
+    }
+
     /// The last post that each live link has acknowledged, and `posts`, the count of all posts, where no link is live.
     /// A link is live while its peer isn't among `left`.
     pub fn lowest_needed(&self, left: &[NodeId], posts: u64) -> u64
@@ -211,6 +241,20 @@ fn has_left(left: &[NodeId], peer: NodeId) -> bool
 {
     left.binary_search_by_key(&peer.number(), |id| id.number())
         .is_ok()
+}
+
+fn count_heard(rows: &[LinkRow]) -> usize
+    requires { IsRising entry_of rows.now }
+    ensures count { result ≡ links.heard_of (table_of entry_of rows.now) }
+    ensures fits { result ≤ length rows.now }
+{
+    let mut count = 0;
+    for row in rows {
+        if row.heard > 0 {
+            count += 1;
+        }
+    }
+    count
 }
 
 fn lowest_of(rows: &[LinkRow], left: &[NodeId], posts: u64) -> u64

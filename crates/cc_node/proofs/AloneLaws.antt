@@ -20,19 +20,19 @@ use Rattle.cc_wire.specs.declared.output.Output.{Output}
 use Rattle.cc_wire.specs.declared.refusal.Refusal.{Refusal}
 use Rattle.cc_wire.specs.declared.refusal.Refusal.TheVariants as refusal
 use Rattle.cc_wire.specs.Refusals.{first_of}
-use Rattle.cc_churn.specs.Churn as churn
 use Rattle.cc_ops.specs.declared.pending.Asked.{Asked}
 use Rattle.cc_ops.specs.Commands.{finds_no_room}
 use Rattle.cc_ops.specs.Waiting.{has_session, written_by}
 use Rattle.cc_ops.specs.OwnLaws.{begun_line}
 use Rattle.cc_ops.specs.Ops.{Ops, Phase, Idle, Storing, Querying, StoringBack, is_idle, is_last, is_own, counted, with_begun, after_ask, after_reply, after_last, after_ack, after_message, first_post, ends_store, begun_in, begun_by, unanswered}
 use Rattle.cc_outbox.specs.Outbox.{post_limit, trim}
-use Rattle.cc_node.specs.Core.{Core, quorum, asked_of, ids_of, with_links, with_heard, next, post, outputs, ack, reply, send_ack, send_post, send_reply, lowest}
+use Rattle.cc_node.specs.Core.{Core, quorum, asked_of, ids_of, links_heard, churn_told, asks_anew, anew_if, next, post, outputs, ack, reply, send_ack, send_post, send_reply, lowest}
 use Rattle.cc_node.specs.Node.{Node, step, after, line, keep, add, forget_asked, IsLawfulWithin}
-use Rattle.cc_node.specs.Refusals.{decides_within, left, has_gone, not_entered, already_entered, not_joined, old, gap, nothing_to_ack, too_many_nodes, too_many_sessions, repeat, stale, skip, busy, set_full, outbox_full, spent, any_overruns}
-use Rattle.cc_node.specs.OneAtATime.{acked_alone, ops_alone, next_alone, post_alone, outputs_alone, busy_alone, set_full_alone, outbox_full_alone, spent_alone, decides_alone, step_alone, after_alone, line_alone, IsLawfulAlone}
+use Rattle.cc_node.specs.Refusals.{decides_within, left, has_gone, not_entered, already_entered, not_joined, old, gap, nothing_to_ack, too_many_nodes, too_many_sessions, repeat, stale, skip, nothing_to_lapse, busy, set_full, outbox_full, spent, any_overruns}
+use Rattle.cc_node.specs.OneAtATime.{acked_alone, ops_alone, quorum_told, next_alone, post_alone, outputs_alone, busy_alone, set_full_alone, outbox_full_alone, spent_alone, decides_alone, step_alone, after_alone, line_alone, IsLawfulAlone}
 use Rattle.cc_node.proofs.OrderLaws.{none_waiting}
 use Rattle.cc_node.proofs.RefusalLaws.{free_within}
+use Rattle.cc_node.proofs.ToldLaws.{anew_line}
 
 -- ---- the last acknowledgement
 
@@ -79,6 +79,8 @@ IsFree c (event.Deliver from n m) = Unit {0}
 IsFree c (event.Acked peer n) = Unit {0}
 IsFree c (event.Ask s r k) = is_idle c.ops.phase ≡ true
 IsFree c (event.Retire q) = Unit {0}
+IsFree c (event.Lapse q) = Unit {0}
+IsFree c event.Snapshot = Unit {0}
 
 ask_same : (me quorum : ℕ) (a : Asked) (s : Ops) → is_idle s.phase ≡ true → with_begun me quorum a s ≡ after_ask me quorum a s
 ask_same me quorum a s idle = sym (ap (λ (b : Bool). if b then with_begun me quorum a s else record s { line = s.line ++ a ∷ [] }) idle)
@@ -94,6 +96,7 @@ delivery_post c from n (message.Query tag q) none = refl
 delivery_post c from n (message.QueryReply v tag q) none = refl
 delivery_post c from n (message.Store v tag q) none = refl
 delivery_post c from n (message.StoreAck tag q) none = ack_post c from n tag q none
+delivery_post c from n (message.Snapshot k v) none = refl
 
 ask_post : (c : Core) (s r : ℕ) (k : Command) → is_idle c.ops.phase ≡ true → post_alone c (event.Ask s r k) ≡ post c (event.Ask s r k)
 ask_post c s r k idle =
@@ -108,6 +111,8 @@ post_same c (event.Deliver from n m) none free = delivery_post c from n m none
 post_same c (event.Acked peer n) none free = refl
 post_same c (event.Ask s r k) none free = ask_post c s r k free
 post_same c (event.Retire q) none free = refl
+post_same c (event.Lapse q) none free = refl
+post_same c event.Snapshot none free = refl
 
 -- what a message makes of the operations
 told_same : (me quorum : ℕ) (m : Message) (s : Ops) → s.line ≡ [] → ops_alone me quorum m s ≡ after_message me quorum m s
@@ -121,6 +126,7 @@ told_same me quorum (message.Query tag q) s none = refl
 told_same me quorum (message.QueryReply v tag q) s none = refl
 told_same me quorum (message.Store v tag q) s none = refl
 told_same me quorum (message.StoreAck tag q) s none = ack_same me quorum tag q s none
+told_same me quorum (message.Snapshot k v) s none = refl
 
 -- the core after a message or an ask, by its operations and its post
 next_same : (c : Core) (e : Event) → c.ops.line ≡ [] → IsFree c e → next_alone c e ≡ next c e
@@ -129,10 +135,14 @@ next_same c event.Enter none free = refl
 next_same c event.Leave none free = refl
 next_same c (event.Deliver from n m) none free =
     let e = event.Deliver from n m in
-    let d = with_heard from n (with_links (from ∷ ids_of m) c) in
-    let f = λ (t : Ops) (p : Option Message). record (record d { churn = churn.after_message c.me c.gamma m c.churn; ops = t }) { posts = c.posts + option_len p } in
-    ap (λ (t : Ops). f t (post_alone c e)) (told_same c.me (quorum d) m c.ops none)
-    ∙ ap (λ (p : Option Message). f (after_message c.me (quorum d) m c.ops) p) (delivery_post c from n m none)
+    let f = λ (t : Ops) (p : Option Message). record c {
+      churn = churn_told c from n m;
+      ops = anew_if (asks_anew c from n m) (quorum_told c from n m) t;
+      posts = c.posts + option_len p;
+      links = links_heard c from n m;
+    } in
+    ap (λ (t : Ops). f t (post_alone c e)) (told_same c.me (quorum c) m c.ops none)
+    ∙ ap (λ (p : Option Message). f (after_message c.me (quorum c) m c.ops) p) (delivery_post c from n m none)
 next_same c (event.Acked peer n) none free = refl
 next_same c (event.Ask s r k) none free =
     let e = event.Ask s r k in
@@ -141,6 +151,8 @@ next_same c (event.Ask s r k) none free =
     ap (λ (t : Ops). f t (post_alone c e)) (ask_same c.me (quorum c) a c.ops free)
     ∙ ap (λ (p : Option Message). f (after_ask c.me (quorum c) a c.ops) p) (ask_post c s r k free)
 next_same c (event.Retire q) none free = refl
+next_same c (event.Lapse q) none free = refl
+next_same c event.Snapshot none free = refl
 
 -- ---- what is refused
 
@@ -190,7 +202,7 @@ unfolding decides_alone decides_within
 refused_alone c event.Enter none = behind (left c) _ _ (behind (already_entered c) _ _ (last_two c event.Enter none tt))
 refused_alone c event.Leave none = behind (left c) _ _ (behind (not_entered c) _ _ (last_two c event.Leave none tt))
 refused_alone c (event.Deliver from n m) none =
-    behind (left c) _ _ (behind (not_entered c) _ _ (behind (old c from n) _ _ (behind (gap c from n) _ _
+    behind (left c) _ _ (behind (not_entered c) _ _ (behind (old c from n) _ _ (behind (gap c from n m) _ _
     (behind (too_many_nodes c (from ∷ ids_of m)) _ _ (last_two c (event.Deliver from n m) none tt)))))
 refused_alone c (event.Acked peer n) none =
     ap (λ (o : Option Refusal). first_of (nothing_to_ack c peer n ∷ o ∷ [])) (spent_same c (event.Acked peer n) none tt)
@@ -200,6 +212,11 @@ refused_alone c (event.Ask s r k) none =
 refused_alone c (event.Retire q) none =
     ap (λ (o : Option Refusal). first_of (left c ∷ has_gone c q ∷ not_entered c ∷ too_many_nodes c (q ∷ []) ∷ o ∷ []))
     (spent_same c (event.Retire q) none tt)
+refused_alone c (event.Lapse q) none =
+    ap (λ (o : Option Refusal). first_of (left c ∷ not_entered c ∷ not_joined c ∷ nothing_to_lapse c q ∷ o ∷ []))
+    (spent_same c (event.Lapse q) none tt)
+refused_alone c event.Snapshot none =
+    behind (left c) _ _ (behind (not_entered c) _ _ (behind (not_joined c) _ _ (last_two c event.Snapshot none tt)))
 
 -- ---- one step
 
@@ -215,6 +232,8 @@ free c (event.Ask s r k) d = idle_if (is_idle c.ops.phase) refl (sym (busy_same 
     idle_if true e h = e
     idle_if false e h = cc
 free c (event.Retire q) d = tt
+free c (event.Lapse q) d = tt
+free c event.Snapshot d = tt
 
 pub step_same : (n : Node) (e : Event) → n.core.ops.line ≡ [] → decides_within 0 n.core e ≡ None → step_alone n e ≡ step n e
 unfolding step step_alone
@@ -287,12 +306,16 @@ told_line me quorum (message.Query tag q) s = refl
 told_line me quorum (message.QueryReply v tag q) s = either_line (is_own me tag q s) _ _ s.line (reply_line quorum v s.phase s) refl
 told_line me quorum (message.Store v tag q) s = refl
 told_line me quorum (message.StoreAck tag q) s = either_line (is_own me tag q s) _ _ s.line refl refl
+told_line me quorum (message.Snapshot k v) s = refl
 
 pub leaves_line : (c : Core) (e : Event) → (next_alone c e).ops.line ≡ c.ops.line
 unfolding next_alone
 leaves_line c event.Enter = refl
 leaves_line c event.Leave = refl
-leaves_line c (event.Deliver from n m) = told_line c.me (quorum (with_heard from n (with_links (from ∷ ids_of m) c))) m c.ops
+leaves_line c (event.Deliver from n m) =
+    anew_line (asks_anew c from n m) (quorum_told c from n m) (ops_alone c.me (quorum c) m c.ops) ∙ told_line c.me (quorum c) m c.ops
 leaves_line c (event.Acked peer n) = refl
 leaves_line c (event.Ask s r k) = begun_line c.me (quorum c) (asked_of s r k) c.ops
 leaves_line c (event.Retire q) = refl
+leaves_line c (event.Lapse q) = refl
+leaves_line c event.Snapshot = refl

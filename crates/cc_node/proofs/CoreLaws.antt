@@ -2,7 +2,7 @@
 --     view_grows               the view only grows
 --     own_number, own_value    the own number counts the writes that begin, and the own value is as their commands made it
 --     .._along                 the same along a list of events
-use Rattle.std.proofs.Common.{◌≡◌, ℕ, ◌+◌, Bool, true, false, List, [], ◌∷◌, refl, sym, ap, ◌∙◌, add-zero, add_assoc}
+use Rattle.std.proofs.Common.{◌≡◌, ℕ, ◌+◌, Bool, true, false, List, [], ◌∷◌, refl, sym, ap, subst, ◌∙◌, add-zero, add_assoc}
 use Rattle.std.specs.Prelude.{if◌then◌else◌}
 use Rattle.std.specs.Prelude.{Option, Some, None}
 use Rattle.cc_views.specs.Rows.{ViewMap}
@@ -19,9 +19,10 @@ use Rattle.cc_ops.specs.Ops.{Ops, Phase, Idle, Storing, Querying, StoringBack, i
 use Rattle.cc_ops.specs.OwnLaws.{message_number, message_mine, ask_number, ask_mine}
 use Rattle.cc_ops.specs.Waiting.{led_by, writes, mine_after, writes_by, written_by}
 use Rattle.cc_ops.specs.WaitingLaws.{writes_led}
-use Rattle.cc_node.specs.Core.{Core, quorum, asked_of, begun, next}
+use Rattle.cc_node.specs.Core.{Core, quorum, asked_of, asks_anew, begun, next}
 use Rattle.cc_node.specs.Node.{Node, step, after}
 use Rattle.cc_node.specs.Writes.{begun_along}
+use Rattle.cc_node.proofs.ToldLaws.{anew_view, anew_number, anew_mine}
 
 -- one of two states, of which each has at least the view
 either_grows : (b : Bool) (v : ViewMap) (s t : Ops) → IsAtMost v s.view → IsAtMost v t.view → IsAtMost v (if b then s else t).view
@@ -58,6 +59,7 @@ message_grows me quorum (message.Query tag q) s = at_most_same s.view
 message_grows me quorum (message.QueryReply v tag q) s = either_grows _ s.view _ _ (reply_grows quorum v s.phase s) (at_most_same s.view)
 message_grows me quorum (message.Store v tag q) s = at_most_merge s.view v
 message_grows me quorum (message.StoreAck tag q) s = either_grows _ s.view _ _ (ack_grows me quorum s.phase s) (at_most_same s.view)
+message_grows me quorum (message.Snapshot c v) s = at_most_merge s.view v
 
 ask_grows : (me quorum : ℕ) (a : Asked) (s : Ops) → IsAtMost s.view (after_ask me quorum a s).view
 ask_grows me quorum a s = either_grows (is_idle s.phase) s.view _ _ (begun_grows me quorum a s) (at_most_same s.view)
@@ -66,28 +68,36 @@ pub view_grows : (c : Core) (e : Event) → IsAtMost c.ops.view (next c e).ops.v
 unfolding next
 view_grows c event.Enter = at_most_same c.ops.view
 view_grows c event.Leave = at_most_same c.ops.view
-view_grows c (event.Deliver from n m) = message_grows c.me _ m c.ops
+view_grows c (event.Deliver from n m) =
+    let after = after_message c.me (quorum c) m c.ops in
+    subst (IsAtMost c.ops.view) (sym (anew_view (asks_anew c from n m) _ after)) (message_grows c.me (quorum c) m c.ops)
 view_grows c (event.Acked peer n) = at_most_same c.ops.view
 view_grows c (event.Ask s r command) = ask_grows c.me _ _ c.ops
 view_grows c (event.Retire q) = at_most_same c.ops.view
+view_grows c (event.Lapse q) = at_most_same c.ops.view
+view_grows c event.Snapshot = at_most_same c.ops.view
 
 pub own_number : (c : Core) (e : Event) → (next c e).ops.number ≡ c.ops.number + writes (begun c e)
 unfolding next
 own_number c event.Enter = sym (add-zero c.ops.number)
 own_number c event.Leave = sym (add-zero c.ops.number)
-own_number c (event.Deliver from n m) = message_number c.me (quorum c) m c.ops
+own_number c (event.Deliver from n m) = anew_number (asks_anew c from n m) _ (after_message c.me (quorum c) m c.ops) ∙ message_number c.me (quorum c) m c.ops
 own_number c (event.Acked peer n) = sym (add-zero c.ops.number)
 own_number c (event.Ask s r k) = ask_number c.me (quorum c) (asked_of s r k) c.ops
 own_number c (event.Retire q) = sym (add-zero c.ops.number)
+own_number c (event.Lapse q) = sym (add-zero c.ops.number)
+own_number c event.Snapshot = sym (add-zero c.ops.number)
 
 pub own_value : (c : Core) (e : Event) → (next c e).ops.mine ≡ mine_after (begun c e) c.ops.mine
 unfolding next
 own_value c event.Enter = refl
 own_value c event.Leave = refl
-own_value c (event.Deliver from n m) = message_mine c.me (quorum c) m c.ops
+own_value c (event.Deliver from n m) = anew_mine (asks_anew c from n m) _ (after_message c.me (quorum c) m c.ops) ∙ message_mine c.me (quorum c) m c.ops
 own_value c (event.Acked peer n) = refl
 own_value c (event.Ask s r k) = ask_mine c.me (quorum c) (asked_of s r k) c.ops
 own_value c (event.Retire q) = refl
+own_value c (event.Lapse q) = refl
+own_value c event.Snapshot = refl
 
 -- ---- along a list of events
 

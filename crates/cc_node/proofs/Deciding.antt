@@ -1,12 +1,16 @@
 -- What the parts' decisions say of an event, and which counters it would raise.
 use Rattle.std.proofs.Common.{◌≡◌, ℕ, ◌+◌, ◌<◌, ◌≤◌, ◌⊎◌, Bool, true, false, ◌&&◌, ◌||◌, nat_lt, nat_le, List, [], ◌∷◌, ◌++◌, refl, sym, ap, ◌∙◌, inl, inr, arith}
-use Rattle.std.specs.Prelude.{Option, Some, None, Result, Ok, Err, IsErrAnd, is_some, option_map, ◌==◌}
+use Rattle.std.specs.Prelude.{Option, Some, None, Result, Ok, Err, IsErrAnd, is_some, option_map, ◌==◌, not, if◌then◌else◌}
 use Rattle.std.specs.Option.{option_len, option_or}
 use Rattle.std.specs.Bool.{then_some}
 use Rattle.std.proofs.lemmas.Bool.Decides.{eqb_tells}
 use Rattle.std.proofs.Math.Bool.{and-false, and-true, or-false}
-use Rattle.std.proofs.lemmas.Bool.{leb-false, ltb-false, lt-ltb, le-ltb, or_parts}
+use Rattle.std.proofs.lemmas.Bool.{leb-false, ltb-false, lt-ltb, le-ltb, or_parts, and_parts}
 use Rattle.cc_views.specs.Limits.{counter_limit, overruns}
+use Rattle.cc_views.specs.Rows.{ViewMap}
+use Rattle.cc_changes.specs.ChangeSets.{ChangeSets}
+use Rattle.cc_changes.specs.declared.fraction.Fraction.{Fraction}
+use Rattle.cc_wire.specs.Messages.{is_snapshot}
 use Rattle.cc_wire.specs.declared.event.Event.TheVariants as event
 use Rattle.cc_wire.specs.declared.message.Message.{Message}
 use Rattle.cc_wire.specs.declared.message.Message.TheVariants as message
@@ -16,12 +20,13 @@ use Rattle.cc_wire.specs.Refusals.{first_of, decided}
 use Rattle.cc_churn.specs.Churn as churn
 use Rattle.cc_ops.specs.Ops as ops
 use Rattle.cc_ops.specs.declared.pending.Asked.{Asked}
-use Rattle.cc_links.specs.Links.{heard_from, hear, add_all}
+use Rattle.cc_links.specs.Links.{heard_from}
 use Rattle.cc_sessions.specs.Sessions.{last_request, is_stale, is_skip, is_repeat, finds_no_room}
 use Rattle.cc_wire.specs.declared.command.Command.{Command}
-use Rattle.cc_node.specs.Core.{Core, asked_of, handled, next, post, quorum, ids_of}
+use Rattle.cc_node.specs.Core.{Core, asked_of, churned, tells, told_if, churn_told, join_told, asks_anew, anew_if, ops_anew, question_if, post_of_snapshot, handled, next, post, quorum}
 use Rattle.cc_node.specs.Refusals.{any_overruns, spent, decides, decides_within, old, gap, nothing_to_ack, too_many_sessions, repeat, stale, skip}
 use Rattle.cc_node.proofs.LawfulLaws.{hears_now, request_now}
+use Rattle.cc_node.proofs.ToldLaws.{snapshot_tag, snapshot_number, snapshot_echoes, anew_number, anew_one, told_one, not_told, not_anew}
 
 -- ---- reasons, one list after the other
 
@@ -87,27 +92,91 @@ pub or_there : (r a b : Bool) → r ≡ a → r ≡ true → r ≡ (a || b)
 or_there r true b e h = h
 or_there r false b e h = cc
 
-abbrev churned : Core → Message → Option Message
-churned c m = churn.post_of c.me c.ops.view m c.churn (churn.after_message c.me c.gamma m c.churn)
+abbrev pub echoed : Core → Message → Option Message
+echoed c m = churn.post_of c.me c.ops.view m c.churn (churn.after_message c.me c.gamma m c.churn)
 
-abbrev served : Core → Message → Option Message
+abbrev pub served : Core → Message → Option Message
 served c m = ops.post_of c.me (churn.has_joined c.me c.churn) m c.ops (ops.after_message c.me (quorum c) m c.ops)
 
 -- only an Enter is answered with the view, which it leaves; only messages that leave the changes ask whether the node has joined
-pub post_either : (c : Core) (from n : ℕ) (m : Message) → post c (event.Deliver from n m) ≡ option_or (churned c m) (served c m)
-post_either c from n (message.Enter q) = refl
-post_either c from n (message.EnterEcho d v j q) = refl
-post_either c from n (message.Join q) = refl
-post_either c from n (message.JoinEcho q) = refl
-post_either c from n (message.Leave q) = refl
-post_either c from n (message.LeaveEcho q) = refl
-post_either c from n (message.Query tag q) = refl
-post_either c from n (message.QueryReply v tag q) = refl
-post_either c from n (message.Store v tag q) = refl
-post_either c from n (message.StoreAck tag q) = refl
+pub post_either : (c : Core) (from n : ℕ) (m : Message) → is_snapshot m ≡ false → post c (event.Deliver from n m) ≡ option_or (echoed c m) (served c m)
+post_either c from n (message.Enter q) e = refl
+post_either c from n (message.EnterEcho d v j q) e = refl
+post_either c from n (message.Join q) e = refl
+post_either c from n (message.JoinEcho q) e = refl
+post_either c from n (message.Leave q) e = refl
+post_either c from n (message.LeaveEcho q) e = refl
+post_either c from n (message.Query tag q) e = refl
+post_either c from n (message.QueryReply v tag q) e = refl
+post_either c from n (message.Store v tag q) e = refl
+post_either c from n (message.StoreAck tag q) e = refl
+post_either c from n (message.Snapshot d v) e = cc
 
-pub makes_either : (c : Core) (from n : ℕ) (m : Message) → is_some (post c (event.Deliver from n m)) ≡ (is_some (churned c m) || is_some (served c m))
-makes_either c from n m = ap is_some (post_either c from n m) ∙ is_some_or (churned c m) (served c m)
+pub makes_either : (c : Core) (from n : ℕ) (m : Message) → is_snapshot m ≡ false → is_some (post c (event.Deliver from n m)) ≡ (is_some (echoed c m) || is_some (served c m))
+makes_either c from n m e = ap is_some (post_either c from n m e) ∙ is_some_or (echoed c m) (served c m)
+
+-- a snapshot is answered for what it tells, and for a phase that begins anew
+or_none : {X : Type 0} (o : Option X) → option_or o None ≡ o
+or_none None = refl
+or_none (Some x) = refl
+
+pub post_told : (c : Core) (from n : ℕ) (m : Message) → is_snapshot m ≡ true → post c (event.Deliver from n m) ≡ post_of_snapshot c from n m
+post_told c from n (message.Snapshot d v) e = or_none (post_of_snapshot c from n (message.Snapshot d v))
+post_told c from n _ e = cc
+
+none_there : {X : Type 0} (o : Option X) → is_some o ≡ false → o ≡ None
+none_there None e = refl
+none_there (Some x) e = cc
+
+-- where the node doesn't join, the phase asks that begins anew, if one does
+pub only_question : (c : Core) (from n : ℕ) (d : ChangeSets) (v : ViewMap) → is_some (join_told c from n (message.Snapshot d v)) ≡ false
+    → question_if (asks_anew c from n (message.Snapshot d v)) c.me (churn.quorum c.beta (churn_told c from n (message.Snapshot d v))) (ops.merged v c.ops)
+    ≡ post_of_snapshot c from n (message.Snapshot d v)
+only_question c from n d v none =
+    let m = message.Snapshot d v in
+    sym (ap (λ o. option_or o (question_if (asks_anew c from n m) c.me (churn.quorum c.beta (churn_told c from n m)) (ops.merged v c.ops))) (none_there (join_told c from n m) none))
+
+some_join : (b : Bool) (me : ℕ) (gamma : Fraction) (s : churn.Churn) → is_some (if b then churn.join_told me gamma s else None) ≡ (b && churn.joins_told gamma s)
+some_join true me gamma s = one_if (churn.joins_told gamma s) (message.Join me)
+  where
+    one_if : {X : Type 0} (b : Bool) (x : X) → is_some (then_some b x) ≡ b
+    one_if true x = refl
+    one_if false x = refl
+some_join false me gamma s = refl
+
+asks_some : (me : ℕ) (view : ViewMap) (tag quorum : ℕ) (p : ops.Phase) → ops.is_idle p ≡ false → is_some (ops.question_in me view tag (ops.again quorum p)) ≡ true
+asks_some me view tag quorum ops.Idle e = cc
+asks_some me view tag quorum (ops.Storing p) e = refl
+asks_some me view tag quorum (ops.Querying p) e = refl
+asks_some me view tag quorum (ops.StoringBack p seen) e = refl
+
+some_question : (b : Bool) (me quorum : ℕ) (s : ops.Ops) → (b ≡ true → ops.is_idle s.phase ≡ false) → is_some (question_if b me quorum s) ≡ b
+some_question true me quorum s pends = asks_some me s.view (s.tag + 1) quorum s.phase (pends refl)
+some_question false me quorum s pends = refl
+
+-- a phase that begins anew is pending, before the snapshot and after
+pub anew_pends : (c : Core) (from n : ℕ) (m : Message) → asks_anew c from n m ≡ true → ops.is_idle c.ops.phase ≡ false
+anew_pends c from n m e =
+    let both = and_parts (is_snapshot m) _ e in
+    let pends = and_parts (not (ops.is_idle c.ops.phase)) _ both.1 in
+    turned (ops.is_idle c.ops.phase) pends.0
+  where
+    turned : (b : Bool) → not b ≡ true → b ≡ false
+    turned true e = cc
+    turned false e = refl
+
+same_phase : (c : Core) (m : Message) → is_snapshot m ≡ true → (ops.after_message c.me (quorum c) m c.ops).phase ≡ c.ops.phase
+same_phase c (message.Snapshot d v) e = refl
+same_phase c _ e = cc
+
+pub makes_told : (c : Core) (from n : ℕ) (m : Message) → is_snapshot m ≡ true
+    → is_some (post c (event.Deliver from n m)) ≡ ((tells c from n m && churn.joins_told c.gamma (churned c m)) || asks_anew c from n m)
+makes_told c from n m e =
+    let after = ops.after_message c.me (quorum c) m c.ops in
+    let question : Option Message = question_if (asks_anew c from n m) c.me (churn.quorum c.beta (churn_told c from n m)) after in
+    ap is_some (post_told c from n m e) ∙ is_some_or (join_told c from n m) question
+    ∙ (λ i. some_join (tells c from n m) c.me c.gamma (churned c m) i
+    || some_question (asks_anew c from n m) c.me (churn.quorum c.beta (churn_told c from n m)) after (λ a. ap ops.is_idle (same_phase c m e) ∙ anew_pends c from n m a) i)
 
 -- ---- which counters an event would raise
 
@@ -163,21 +232,55 @@ unfolding next
 spent_retire c q = ap (λ b. then_some b refusal.Spent)
     (any_of _ _ _ _ _ false false false false false (stays c.ops.number) (stays c.ops.tag) (stays_at c.posts (c.posts + 0) (omega arith)) (stays c.churn.echoes) refl)
 
--- a delivery of the next number
-pub spent_delivery : (c : Core) (from n : ℕ) (m : Message) → n ≡ heard_from from c.links + 1
+pub spent_snapshot : (c : Core) → spent c event.Snapshot ≡ then_some (c.posts == counter_limit) refusal.Spent
+unfolding next
+spent_snapshot c = ap (λ b. then_some b refusal.Spent)
+    (any_of _ _ _ _ _ false false (c.posts == counter_limit) false false (stays c.ops.number) (stays c.ops.tag) (rises c.posts) (stays c.churn.echoes) refl
+    ∙ or-false _ ∙ or-false _)
+
+pub spent_lapse : (c : Core) (q : ℕ) → spent c (event.Lapse q) ≡ None
+unfolding next
+spent_lapse c q = ap (λ b. then_some b refusal.Spent)
+    (any_of _ _ _ _ _ false false false false false (stays c.ops.number) (stays c.ops.tag) (stays_at c.posts (c.posts + 0) (omega arith)) (stays c.churn.echoes) refl)
+
+-- a delivery of what isn't a snapshot
+pub spent_delivery : (c : Core) (from n : ℕ) (m : Message) → is_snapshot m ≡ false
     → any_overruns c (next c (event.Deliver from n m)) (event.Deliver from n m)
     ≡ ((overruns c.ops.number (ops.after_message c.me (quorum c) m c.ops).number || overruns c.ops.tag (ops.after_message c.me (quorum c) m c.ops).tag) || (is_some (post c (event.Deliver from n m)) && (c.posts == counter_limit))
-    || overruns c.churn.echoes (churn.after_message c.me c.gamma m c.churn).echoes || (heard_from from c.links == counter_limit))
+    || overruns c.churn.echoes (churn.after_message c.me c.gamma m c.churn).echoes || nat_lt counter_limit n)
 unfolding next
 spent_delivery c from n m e =
-    let heard : heard_from from (hear from n (add_all c.posts (from ∷ ids_of m) c.links)) ≡ heard_from from c.links + 1 = hears_now c from n m ∙ e in
-    let number = overruns c.ops.number (ops.after_message c.me (quorum c) m c.ops).number in
-    let tag = overruns c.ops.tag (ops.after_message c.me (quorum c) m c.ops).tag in
-    let echoes = overruns c.churn.echoes (churn.after_message c.me c.gamma m c.churn).echoes in
-    any_of number tag _ echoes _ number tag _ echoes _ refl refl (rises_with c.posts (post c (event.Deliver from n m))) refl
-    (ap (overruns (heard_from from c.links)) heard ∙ rises (heard_from from c.links))
+    let after = ops.after_message c.me (quorum c) m c.ops in
+    let again = churn.quorum c.beta (churn_told c from n m) in
+    let same : ops_anew c from n m ≡ after = ap (λ b. anew_if b again after) (not_anew c from n m e) in
+    let told : churn_told c from n m ≡ churned c m = ap (λ b. told_if b c.me c.gamma (churned c m)) (not_told c from n m e) in
+    any_of _ _ _ _ _ _ _ _ _ _ (ap (λ (s : ops.Ops). overruns c.ops.number s.number) same) (ap (λ (s : ops.Ops). overruns c.ops.tag s.tag) same)
+    (rises_with c.posts (post c (event.Deliver from n m))) (ap (λ (s : churn.Churn). overruns c.churn.echoes s.echoes) told)
+    (ap (nat_lt counter_limit) (hears_now c from n m))
 
-last_one : (last r : ℕ) → r ≡ last + 1 → last ≤ counter_limit → overruns last r ≡ nat_lt counter_limit r
+one_more : (b : Bool) (before same after : ℕ) → same ≡ before → (b ≡ true → after ≡ same + 1) → (b ≡ false → after ≡ same) → overruns before after ≡ (b && (before == counter_limit))
+one_more true before same after e up stay = ap (overruns before) (up refl ∙ ap (λ k. k + 1) e) ∙ rises before
+one_more false before same after e up stay = stays_at before after (stay refl ∙ e)
+
+-- a delivery of a snapshot
+pub spent_told : (c : Core) (from n : ℕ) (m : Message) → is_snapshot m ≡ true
+    → any_overruns c (next c (event.Deliver from n m)) (event.Deliver from n m)
+    ≡ ((asks_anew c from n m && (c.ops.tag == counter_limit)) || (is_some (post c (event.Deliver from n m)) && (c.posts == counter_limit))
+    || (tells c from n m && (c.churn.echoes == counter_limit)) || nat_lt counter_limit n)
+unfolding next
+spent_told c from n m e =
+    let after = ops.after_message c.me (quorum c) m c.ops in
+    let again = churn.quorum c.beta (churn_told c from n m) in
+    let a = asks_anew c from n m in
+    let t = tells c from n m in
+    any_of _ _ _ _ _ false _ _ _ _
+    (stays_at c.ops.number _ (anew_number a again after ∙ snapshot_number c.me (quorum c) m c.ops e))
+    (one_more a c.ops.tag after.tag (ops_anew c from n m).tag (snapshot_tag c.me (quorum c) m c.ops e) (anew_one a again after) (λ f. ap (λ b. (anew_if b again after).tag) f))
+    (rises_with c.posts (post c (event.Deliver from n m)))
+    (one_more t c.churn.echoes (churned c m).echoes (churn_told c from n m).echoes (snapshot_echoes c.me c.gamma m c.churn e) (told_one t c.me c.gamma (churned c m)) (λ f. ap (λ b. (told_if b c.me c.gamma (churned c m)).echoes) f))
+    (ap (nat_lt counter_limit) (hears_now c from n m))
+
+pub last_one : (last r : ℕ) → r ≡ last + 1 → last ≤ counter_limit → overruns last r ≡ nat_lt counter_limit r
 last_one last r e h =
     elim (eqb_tells last counter_limit) as (λ _. overruns last r ≡ nat_lt counter_limit r) [
       | inl t ↦ ap (overruns last) e ∙ rises last ∙ t.0 ∙ sym (lt-ltb counter_limit r (omega (arith, e, t.1)))
@@ -224,15 +327,11 @@ none_holds : (b : Bool) (r : Refusal) (rs : List (Option Refusal)) → first_of 
 none_holds true r rs h = absurd cc
 none_holds false r rs h = (refl, h)
 
--- a number that is neither old nor beyond a gap is the next one
-pub next_number : (c : Core) (from n : ℕ) → first_of (old c from n ∷ gap c from n ∷ []) ≡ None → n ≡ heard_from from c.links + 1
-next_number c from n h =
+-- a number that isn't old is above what was heard
+pub number_after : (c : Core) (from n : ℕ) (m : Message) → first_of (old c from n ∷ gap c from n m ∷ []) ≡ None → heard_from from c.links < n
+number_after c from n m h =
     let heard = heard_from from c.links in
-    let a = none_holds (nat_le n heard) (refusal.Old heard) (gap c from n ∷ []) h in
-    let b = none_holds (nat_lt (heard + 1) n) (refusal.Gap heard) [] a.1 in
-    let above : heard < n = leb-false n heard a.0 in
-    let below : n ≤ heard + 1 = ltb-false (heard + 1) n b.0 in
-    omega arith
+    leb-false n heard (none_holds (nat_le n heard) (refusal.Old heard) (gap c from n m ∷ []) h).0
 
 -- a request that is neither stale nor leaves one out is the next one
 pub next_request : (c : Core) (s r : ℕ) → first_of (stale c s r ∷ skip c s r ∷ []) ≡ None → (r ≡ last_request c.sessions s) ⊎ (r ≡ last_request c.sessions s + 1)

@@ -13,8 +13,10 @@ use Rattle.cc_views.specs.NatSets.{NatSet, len_within, same_ids, contains-from_l
 use Rattle.cc_views.specs.Limits.{counter_limit, known_limit}
 use Rattle.cc_changes.specs.ChangeSets.{FitsRoom}
 use Rattle.cc_changes.specs.ChangeLaws.{fits_among}
+use Rattle.cc_changes.specs.declared.fraction.Fraction.{Fraction}
 use Rattle.cc_churn.specs.Churn as churn
-use Rattle.cc_links.specs.Links.{Links, add_all, hear, ack}
+use Rattle.cc_churn.proofs.Fits.{before_echo}
+use Rattle.cc_links.specs.Links.{Links, add_all, ack, lapse}
 use Rattle.cc_links.specs.LinkLaws.{len_add_all}
 use Rattle.cc_ops.specs.Ops as ops
 use Rattle.cc_ops.specs.Commands.{finds_no_room}
@@ -29,7 +31,7 @@ use Rattle.cc_wire.specs.declared.message.Message.{Message}
 use Rattle.cc_wire.specs.declared.refusal.Refusal.TheVariants as refusal
 use Rattle.cc_outbox.specs.Outbox.{post_limit}
 use Rattle.cc_outbox.specs.OutboxLaws.{room_for_post}
-use Rattle.cc_node.specs.Core.{Core, asked_of, handled, next, post, reply, quorum, ids_of, lowest}
+use Rattle.cc_node.specs.Core.{Core, asked_of, links_heard, churned, told_if, tells, churn_told, asks_anew, ops_anew, handled, next, post, reply, quorum, ids_of, lowest}
 use Rattle.cc_node.specs.Node.{Node, step, add, keep, forget_asked}
 use Rattle.cc_node.specs.Lawful.{IsLawfulCore, IsLawfulNode}
 use Rattle.cc_node.specs.Refusals.{decides}
@@ -37,6 +39,7 @@ use Rattle.cc_node.proofs.KeptLaws.{posts_forget}
 use Rattle.cc_node.proofs.KnownLaws.{none_waits}
 use Rattle.cc_node.proofs.LawfulLaws.{next_core, quorum_fits, step_lawful}
 use Rattle.cc_node.proofs.RefusalLaws.{takes_delivery, takes_ask, takes_retire, takes_any}
+use Rattle.cc_node.proofs.ToldLaws.{told_more, told_one, anew_view, anew_number, anew_more, anew_one}
 
 -- ---- what a lawful core has room for
 
@@ -60,15 +63,23 @@ pub next_ack : (c s : Core) (peer n : ℕ) (ls : Links) → c ≡ s → ls ≡ a
 unfolding next
 next_ack c s peer n ls is made = (λ i. record c { links = made i; posts = sym (add-zero c.posts) i }) ∙ ap (λ (d : Core). next d (event.Acked peer n)) is
 
+pub next_lapse : (c s : Core) (q : ℕ) (ls : Links) → c ≡ s → ls ≡ lapse c.posts q c.links → record c { links = ls } ≡ next s (event.Lapse q)
+unfolding next
+next_lapse c s q ls is made = (λ i. record c { links = made i; posts = sym (add-zero c.posts) i }) ∙ ap (λ (d : Core). next d (event.Lapse q)) is
+
+pub next_snapshot : {c s : Core} → c ≡ s → record c { posts = c.posts + 1 } ≡ next s event.Snapshot
+unfolding next
+next_snapshot is = rw (← is) refl
+
 len_is : {X : Type 0} (o : Option X) → option_len o ≡ cond (is_some o) 1 0
 len_is None = refl
 len_is (Some x) = refl
 
 pub next_delivery : (c : Core) (from n : ℕ) (m : Message) → next c (event.Deliver from n m) ≡ record c {
-  churn = churn.after_message c.me c.gamma m c.churn;
-  ops = ops.after_message c.me (quorum c) m c.ops;
+  churn = churn_told c from n m;
+  ops = ops_anew c from n m;
   posts = c.posts + cond (is_some (post c (event.Deliver from n m))) 1 0;
-  links = hear from n (add_all c.posts (from ∷ ids_of m) c.links);
+  links = links_heard c from n m;
 }
 unfolding next
 next_delivery c from n m = ap (λ (k : ℕ). record (handled c (event.Deliver from n m)) { posts = c.posts + k }) (len_is (post c (event.Deliver from n m)))
@@ -103,31 +114,47 @@ enter_room is none h = changes_fit _ (next_keeps event.Enter is (next_enter is r
 pub leave_room : {c s : Core} → c ≡ s → decides s event.Leave ≡ None → IsLawfulCore c → FitsRoom (churn.with_left c.me c.churn).changes
 leave_room is none h = changes_fit _ (next_keeps event.Leave is (next_leave is refl) none h)
 
-pub record DeliveryRoom (c s : Core) (from : ℕ) (m : Message) : Type 0 where
+before_told : (b : Bool) (me : ℕ) (gamma : Fraction) (s : churn.Churn) → FitsRoom (told_if b me gamma s).changes → FitsRoom s.changes
+before_told true me gamma s h = before_echo me gamma true s h
+before_told false me gamma s h = h
+
+pub record DeliveryRoom (c s : Core) (from n : ℕ) (m : Message) : Type 0 where
   pub named : table.len (add_all c.posts (ids_of m) c.links) ≤ 256
   pub links : table.len (add_all c.posts (from ∷ ids_of m) c.links) ≤ 256
   pub changes : FitsRoom (churn.after_message c.me c.gamma m c.churn).changes
   pub echoes : (churn.after_message c.me c.gamma m c.churn).echoes ≤ counter_limit
+  pub told : FitsRoom (churn_told c from n m).changes
+  pub counts : tells c from n m ≡ true → (churned c m).echoes + 1 ≤ counter_limit
+  pub again : churn.quorum c.beta (churn_told c from n m) ≤ 256
   pub few : {q : ℕ} → q ≡ quorum s → q ≤ 256
   pub view : {q : ℕ} → q ≡ quorum s → table.len (ops.after_message c.me q m c.ops).view ≤ 256
   pub number : {q : ℕ} → q ≡ quorum s → (ops.after_message c.me q m c.ops).number ≤ counter_limit
   pub tag : {q : ℕ} → q ≡ quorum s → (ops.after_message c.me q m c.ops).tag ≤ counter_limit
+  pub anew : {q : ℕ} → q ≡ quorum s → asks_anew c from n m ≡ true → (ops.after_message c.me q m c.ops).tag + 1 ≤ counter_limit
 
-pub delivery_room : {c s : Core} {from : ℕ} {m : Message} (n : ℕ) → c ≡ s → decides s (event.Deliver from n m) ≡ None → IsLawfulCore c → DeliveryRoom c s from m
+pub delivery_room : {c s : Core} {from : ℕ} {m : Message} (n : ℕ) → c ≡ s → decides s (event.Deliver from n m) ≡ None → IsLawfulCore c → DeliveryRoom c s from n m
 unfolding next
 delivery_room {c} {s} {from} {m} n is d h =
     let none = rw (← is) at d in
     let after = next_core c (event.Deliver from n m) none h in
     let all = ltb-false known_limit (table.len (add_all c.posts (from ∷ ids_of m) c.links)) (takes_delivery c from n m none).nodes in
+    let t = tells c from n m in
+    let a = asks_anew c from n m in
+    let o = ops.after_message c.me (quorum c) m c.ops in
+    let again = churn.quorum c.beta (churn_told c from n m) in
     record {
       named = omega (arith, len_add_all c.posts (from ∷ []) (add_all c.posts (ids_of m) c.links), all);
       links = all;
-      changes = changes_fit _ after;
-      echoes = after.counts.echoes;
+      changes = before_told t c.me c.gamma (churned c m) (changes_fit _ after);
+      echoes = omega (arith, after.counts.echoes, told_more t c.me c.gamma (churned c m));
+      told = changes_fit _ after;
+      counts = λ e. omega (arith, after.counts.echoes, told_one t c.me c.gamma (churned c m) e);
+      again = omega (arith, quorum_fits _ after);
       few = λ e. rw (e, ← is) (quorum_fits c h);
-      view = λ e. rw (e, ← is) (view_fits _ after);
-      number = λ e. rw (e, ← is) after.counts.number;
-      tag = λ e. rw (e, ← is) after.counts.tag;
+      view = λ e. rw (e, ← is) (omega (arith, view_fits _ after, ap table.len (anew_view a again o)));
+      number = λ e. rw (e, ← is) (omega (arith, after.counts.number, anew_number a again o));
+      tag = λ e. rw (e, ← is) (omega (arith, after.counts.tag, anew_more a again o));
+      anew = λ e asks. rw (e, ← is) (omega (arith, after.counts.tag, anew_one a again o asks));
     }
 
 pub record AskRoom (c d : Core) (s r : ℕ) (k : Command) : Type 0 where

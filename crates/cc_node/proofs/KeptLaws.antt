@@ -56,6 +56,8 @@ posts_forget (event.Deliver from n m) o = refl
 posts_forget (event.Acked peer n) o = refl
 posts_forget (event.Ask s r command) o = refl
 posts_forget (event.Retire q) o = refl
+posts_forget (event.Lapse q) o = refl
+posts_forget event.Snapshot o = refl
 
 forgotten : (low posts : ℕ) (e : Event) (o : Outbox) → KeepsTo low posts o → KeepsTo low posts (forget_asked e o)
 forgotten low posts event.Enter o h = h
@@ -64,6 +66,8 @@ forgotten low posts (event.Deliver from n m) o h = h
 forgotten low posts (event.Acked peer n) o h = h
 forgotten low posts (event.Ask s r command) o h = record { last = h.last; kept = h.kept }
 forgotten low posts (event.Retire q) o h = h
+forgotten low posts (event.Lapse q) o h = h
+forgotten low posts event.Snapshot o h = h
 
 answered : (low posts : ℕ) (r : Option Reply) (o : Outbox) → KeepsTo low posts o → KeepsTo low posts (keep r o)
 answered low posts None o h = h

@@ -28,7 +28,7 @@ reaches_row : (posts peer : ℕ) (change : Link → Link) (o : Option Link) (ls 
 reaches_row posts peer change None ls h k = h
 reaches_row posts peer change (Some l) ls h k = all_insert (λ _ m. reach m ≤ posts) ls peer (change l) h k
 
--- but by an acknowledgement, which makes no post; nor does a retiring
+-- but by an acknowledgement or a lapse, which makes no post; nor does a retiring
 reaches_before : (c : Core) (e : Event) (m : Message) → post c e ≡ Some m → LinksWithin c.posts c.links → ReachesWithin c.posts (next c e).links
 unfolding next
 reaches_before c event.Enter m made h = reaches_within c.posts c.links h
@@ -40,6 +40,8 @@ reaches_before c (event.Deliver from n k) m made h =
 reaches_before c (event.Acked peer n) m made h = cc
 reaches_before c (event.Ask s r k) m made h = reaches_within c.posts c.links h
 reaches_before c (event.Retire q) m made h = cc
+reaches_before c (event.Lapse q) m made h = cc
+reaches_before c event.Snapshot m made h = reaches_within c.posts c.links h
 
 only_live : (b : Bool) (posts : ℕ) (o : Option Link) → IfSome o (λ l. reach l ≤ posts) → IfSome (cond b o None) (λ l. reach l ≤ posts)
 only_live true posts o h = h

@@ -77,6 +77,7 @@ MessageKnown ls (message.Query tag q) = IsKnown ls q
 MessageKnown ls (message.QueryReply v tag q) = IsWithin v ls
 MessageKnown ls (message.Store v tag q) = IsWithin v ls
 MessageKnown ls (message.StoreAck tag q) = IsKnown ls q
+MessageKnown ls (message.Snapshot c v) = IsAmong c ls × IsWithin v ls
 
 pub message_known : (ls : Links) (m : Message) → AllListed ls (ids_of m) → MessageKnown ls m
 message_known ls (message.Enter q) h = head_listed ls q [] h
@@ -101,6 +102,19 @@ message_known ls (message.Query tag q) h = head_listed ls q [] h
 message_known ls (message.QueryReply v tag q) h = keys_listed ls v (tail_listed ls q (table.keys v) h)
 message_known ls (message.Store v tag q) h = keys_listed ls v (tail_listed ls q (table.keys v) h)
 message_known ls (message.StoreAck tag q) h = head_listed ls q [] h
+message_known ls (message.Snapshot c v) h =
+    let e = set.items c.entered in
+    let k = set.items c.joined in
+    let l = set.items c.left in
+    let three = first_listed ls (e ++ k ++ l) (table.keys v) h in
+    let two = first_listed ls (e ++ k) l three in (
+      record {
+        entered = keys_listed ls c.entered (first_listed ls e k two);
+        joined = keys_listed ls c.joined (second_listed ls e k two);
+        left = keys_listed ls c.left (second_listed ls (e ++ k) l three);
+      },
+      keys_listed ls v (second_listed ls (e ++ k ++ l) (table.keys v) h),
+    )
 
 -- ---- changes
 
@@ -153,13 +167,13 @@ present_fits ls c h k = let a = len_within (present c) ls (present_within ls c h
 pub members_fit : (ls : Links) (c : ChangeSets) → IsAmong c ls → table.len ls ≤ known_limit → set.len (members c) ≤ known_limit
 members_fit ls c h k = let a = len_within (members c) ls (members_within ls c h) in omega arith
 
-need_churn : (ls : Links) (gamma : Fraction) (j : Bool) (s : Churn) → IsShare gamma → table.len ls ≤ known_limit → KeepsChurn ls s → KeepsChurn ls (churn.with_need gamma j s)
+pub need_churn : (ls : Links) (gamma : Fraction) (j : Bool) (s : Churn) → IsShare gamma → table.len ls ≤ known_limit → KeepsChurn ls s → KeepsChurn ls (churn.with_need gamma j s)
 need_churn ls gamma j s share few h =
     cond_both (j && (s.need == 0)) (record s { need = needed gamma (set.len (present s.changes)) }) s (KeepsChurn ls)
     (λ _. record { changes = h.changes; need = need_within gamma (set.len (present s.changes)) known_limit share (present_fits ls s.changes h.changes.known few) (omega arith) })
     (λ _. h)
 
-joined_churn : (ls : Links) (me : ℕ) (s : Churn) → IsKnown ls me → KeepsChurn ls s → KeepsChurn ls (churn.joined_if_answered me s)
+pub joined_churn : (ls : Links) (me : ℕ) (s : Churn) → IsKnown ls me → KeepsChurn ls s → KeepsChurn ls (churn.joined_if_answered me s)
 joined_churn ls me s k h =
     cond_both (churn.is_answered s) (record s { changes = add_join s.changes me }) s (KeepsChurn ls)
     (λ _. record { changes = join_changes ls s.changes me k h.changes; need = h.need }) (λ _. h)
@@ -181,6 +195,7 @@ message_churn ls me gamma (message.Query tag q) s share few own k h = h
 message_churn ls me gamma (message.QueryReply v tag q) s share few own k h = h
 message_churn ls me gamma (message.Store v tag q) s share few own k h = h
 message_churn ls me gamma (message.StoreAck tag q) s share few own k h = h
+message_churn ls me gamma (message.Snapshot c v) s share few own k h = record { changes = union_changes ls s.changes c k.0 h.changes; need = h.need }
 
 -- who left has left for good
 pub left_stays : (me : ℕ) (gamma : Fraction) (m : Message) (s : Churn) → IsWithin s.changes.left (churn.after_message me gamma m s).changes.left
@@ -202,6 +217,7 @@ left_stays me gamma (message.Query tag q) s x h = h
 left_stays me gamma (message.QueryReply v tag q) s x h = h
 left_stays me gamma (message.Store v tag q) s x h = h
 left_stays me gamma (message.StoreAck tag q) s x h = h
+left_stays me gamma (message.Snapshot c v) s x h = first_in_union s.changes.left c.left x h
 
 -- ---- views and phases
 
@@ -280,6 +296,7 @@ message_behind me quorum (message.QueryReply v tag q) s h =
 message_behind me quorum (message.Store v tag q) s h = h
 message_behind me quorum (message.StoreAck tag q) s h =
     cond_both (ops.is_own me tag q s) (ops.after_ack me quorum s.phase s) s (λ (t : Ops). WaitsBehind (stage_of t.phase) t.line) (λ _. ack_behind me quorum s.phase s h) (λ _. h)
+message_behind me quorum (message.Snapshot c v) s h = h
 
 -- of the asks that wait the first begins, or none
 shorter : (o : Option Asked) (line : List Asked) → length line ≤ length (led_by o line)
@@ -381,6 +398,7 @@ message_round ls ss me quorum (message.QueryReply v tag q) s some few own k last
 message_round ls ss me quorum (message.Store v tag q) s some few own k last h = record { view = merge_within s.view v ls h.view k; phase = h.phase }
 message_round ls ss me quorum (message.StoreAck tag q) s some few own k last h =
     cond_both (ops.is_own me tag q s) (ops.after_ack me quorum s.phase s) s (KeepsRound ls ss) (λ _. ack_round ls ss me quorum s.phase s some few own h last h.phase) (λ _. h)
+message_round ls ss me quorum (message.Snapshot c v) s some few own k last h = record { view = merge_within s.view v ls h.view k.1; phase = h.phase }
 
 pub message_ops : (ls : Links) (ss : Requests) (me quorum : ℕ) (m : Message) (s : Ops) → 0 < quorum → quorum ≤ known_limit → IsKnown ls me → MessageKnown ls m
     → KeepsOps ls ss s → KeepsOps ls ss (ops.after_message me quorum m s)

@@ -34,18 +34,19 @@ use Rattle.cc_ops.specs.OwnLaws.{message_last, message_answers, ask_last, ask_un
 use Rattle.cc_ops.specs.Waiting.{writes}
 use Rattle.cc_ops.specs.WaitingLaws.{written_fits}
 use Rattle.cc_ops.specs.declared.pending.Asked.{Asked}
-use Rattle.cc_links.specs.Links.{Link, Links, new_link, with_row, add_absent, add_all, hear, ack, heard_from, IsLinkWithin, LinksWithin}
-use Rattle.cc_links.specs.LinkLaws.{LinksGoOn, go_same, go_then, add_all_goes, hear_goes, ack_goes, go_within, lowest_within, lowest_grows, links_more_posts, add_all_links, hear_links, ack_links, contains-add_all, hear_len, ack_len}
+use Rattle.cc_links.specs.Links.{Link, Links, new_link, with_row, add_absent, add_all, hear, ack, lapse, heard_from, LinksWithin}
+use Rattle.cc_links.specs.LinkLaws.{LinksGoOn, go_same, go_then, add_all_goes, hear_goes, ack_goes, lapse_goes, go_within, lowest_within, lowest_grows, links_more_posts, add_all_links, hear_links, ack_links, lapse_links, contains-add_all, hear_len, ack_len, lapse_len}
 use Rattle.cc_sessions.specs.Sessions.{Requests, last_request, begin_fits}
 use Rattle.cc_outbox.specs.Outbox.{forget}
-use Rattle.cc_node.specs.Core.{Core, quorum, ids_of, asked_of, begun, next, post, reply, lowest}
+use Rattle.cc_node.specs.Core.{Core, quorum, ids_of, asked_of, begun, churned, tells, churn_told, asks_anew, ops_anew, next, post, reply, lowest}
 use Rattle.cc_node.specs.Refusals.{decides}
 use Rattle.cc_node.specs.Node.{Node, step}
 use Rattle.cc_node.specs.Lawful.{CountsWithin, KeepsAnswers, IsLawfulCore, IsLawfulNode}
 use Rattle.cc_node.proofs.CoreLaws.{own_number}
 use Rattle.cc_node.proofs.KnownLaws.{same_number, AllListed, tail_listed, MessageKnown, message_known, among_more, KeepsChanges, enter_changes, leave_changes, KeepsChurn, members_fit, message_churn, left_stays, KeepsOps, ops_more, message_ops, ask_ops, all_last, none_waits}
 use Rattle.cc_node.proofs.KeptLaws.{step_posts, posted, first_answers, last_answers}
-use Rattle.cc_node.proofs.RefusalLaws.{Fits, takes_enter, takes_leave, takes_delivery, takes_ack, takes_ask, takes_retire, takes_any, stays_within, none_overruns}
+use Rattle.cc_node.proofs.RefusalLaws.{Fits, takes_enter, takes_leave, takes_delivery, takes_ack, takes_ask, takes_retire, takes_lapse, takes_snapshot, takes_any, stays_within, none_overruns}
+use Rattle.cc_node.proofs.ToldLaws.{told_churn, left_told, echoes_told, anew_last, anew_unanswered, anew_tag, anew_ops, snapshot_tag, snapshot_echoes, tells_snapshot, anew_snapshot}
 
 -- ---- counters rise by one at most
 
@@ -98,18 +99,23 @@ message_tag me quorum (message.QueryReply v tag q) s =
 message_tag me quorum (message.Store v tag q) s = omega arith
 message_tag me quorum (message.StoreAck tag q) s =
     cond_both (ops.is_own me tag q s) (ops.after_ack me quorum s.phase s) s (λ t. t.tag ≤ s.tag + 1) (λ _. ack_tag me quorum s.phase s) (λ _. omega arith)
+message_tag me quorum (message.Snapshot c v) s = omega arith
 
 tag_next : (c : Core) (e : Event) → (next c e).ops.tag ≤ c.ops.tag + 1
 unfolding next
 tag_next c event.Enter = omega arith
 tag_next c event.Leave = omega arith
-tag_next c (event.Deliver from n m) = message_tag c.me (quorum c) m c.ops
+tag_next c (event.Deliver from n m) =
+    anew_tag (asks_anew c from n m) _ (ops.after_message c.me (quorum c) m c.ops) c.ops.tag
+    (λ e. snapshot_tag c.me (quorum c) m c.ops (anew_snapshot c from n m e)) (message_tag c.me (quorum c) m c.ops)
 tag_next c (event.Acked peer n) = omega arith
 tag_next c (event.Ask s r k) =
     let a = asked_of s r k in
     cond_both (ops.is_idle c.ops.phase) (ops.with_begun c.me (quorum c) a c.ops) (record c.ops { line = c.ops.line ++ a ∷ [] }) (λ t. t.tag ≤ c.ops.tag + 1)
     (λ _. begun_tag c.me (quorum c) a c.ops) (λ _. omega arith)
 tag_next c (event.Retire q) = omega arith
+tag_next c (event.Lapse q) = omega arith
+tag_next c event.Snapshot = omega arith
 
 message_echoes : (me : ℕ) (gamma : Fraction) (m : Message) (s : Churn) → (churn.after_message me gamma m s).echoes ≤ s.echoes + 1
 message_echoes me gamma (message.Enter q) s = omega arith
@@ -129,15 +135,20 @@ message_echoes me gamma (message.Query tag q) s = omega arith
 message_echoes me gamma (message.QueryReply v tag q) s = omega arith
 message_echoes me gamma (message.Store v tag q) s = omega arith
 message_echoes me gamma (message.StoreAck tag q) s = omega arith
+message_echoes me gamma (message.Snapshot c v) s = omega arith
 
 echoes_next : (c : Core) (e : Event) → (next c e).churn.echoes ≤ c.churn.echoes + 1
 unfolding next
 echoes_next c event.Enter = omega arith
 echoes_next c event.Leave = omega arith
-echoes_next c (event.Deliver from n m) = message_echoes c.me c.gamma m c.churn
+echoes_next c (event.Deliver from n m) =
+    echoes_told (tells c from n m) c.me c.gamma (churned c m) c.churn.echoes
+    (λ e. snapshot_echoes c.me c.gamma m c.churn (tells_snapshot c from n m e)) (message_echoes c.me c.gamma m c.churn)
 echoes_next c (event.Acked peer n) = omega arith
 echoes_next c (event.Ask s r command) = omega arith
 echoes_next c (event.Retire q) = omega arith
+echoes_next c (event.Lapse q) = omega arith
+echoes_next c event.Snapshot = omega arith
 
 posts_next : (c : Core) (e : Event) → (next c e).posts ≤ c.posts + 1
 unfolding next
@@ -176,10 +187,6 @@ heard_now_of from n ls (Some l) e h =
     ap (λ o. option_map_or (λ (k : Link). k.heard) (table.get (with_row from (λ l. record l { heard = n }) o ls) from) 0) e
     ∙ ap (λ o. option_map_or (λ (k : Link). k.heard) o 0) (get-insert_key ls from (record l { heard = n }) from ∙ ap (λ b. cond b (Some (record l { heard = n })) (table.get ls from)) (same_number from))
 
-heard_within : (o : Option Link) (posts : ℕ) → IfSome o (IsLinkWithin posts) → option_map_or (λ l. l.heard) o 0 ≤ counter_limit
-heard_within None posts h = omega arith
-heard_within (Some l) posts h = h.2
-
 pub hears_now : (c : Core) (from n : ℕ) (m : Message) → heard_from from (hear from n (add_all c.posts (from ∷ ids_of m) c.links)) ≡ n
 hears_now c from n m =
     let ls = add_all c.posts (from ∷ ids_of m) c.links in
@@ -187,17 +194,15 @@ hears_now c from n m =
     heard_now_of from n ls (table.get ls from) refl there
 
 -- what is heard now stays within the limit
-heard_fits : (c : Core) (from n : ℕ) (m : Message) → decides c (event.Deliver from n m) ≡ None → IsLawfulCore c → n ≤ counter_limit
+heard_fits : (c : Core) (from n : ℕ) (m : Message) → decides c (event.Deliver from n m) ≡ None → n ≤ counter_limit
 unfolding next
-heard_fits c from n m d h =
+heard_fits c from n m d =
     let takes = takes_delivery c from n m d in
     let e = event.Deliver from n m in
     let ls = add_all c.posts (from ∷ ids_of m) c.links in
     let now : heard_from from (hear from n ls) ≡ n = hears_now c from n m in
     let none = none_overruns c (next c e) e takes.fits.counts in
-    stays_within counter_limit (heard_from from c.links) n
-    (subst (λ k. ((heard_from from c.links == counter_limit) && nat_lt (heard_from from c.links) k) ≡ false) now none.row)
-    (heard_within (table.get c.links from) c.posts (h.links from)) (ltb-false _ _ takes.next)
+    ltb-false counter_limit n (subst (λ k. nat_lt counter_limit k ≡ false) now none.row)
 
 pub quorum_fits : (c : Core) → IsLawfulCore c → quorum c ≤ known_limit
 quorum_fits c h = need_within c.beta _ known_limit h.beta (members_fit c.links c.churn.changes h.changes h.link_count) (omega arith)
@@ -287,6 +292,37 @@ ack_core c peer n d h =
       set = h.set;
     }
 
+lapse_core : (c : Core) (q : ℕ) → decides c (event.Lapse q) ≡ None → IsLawfulCore c → IsLawfulCore (next c (event.Lapse q))
+unfolding next
+lapse_core c q d h =
+    let takes = takes_lapse c q d in
+    let ls = lapse c.posts q c.links in
+    let more : IsWithin c.links ls = go_within c.posts c.links ls (lapse_goes c.posts q c.links (or_parts _ _ takes.awaited).1) in
+    let o : KeepsOps ls c.sessions c.ops = ops_more c.links ls c.sessions c.ops more (record { view = h.view; phase = h.phase; line = h.line }) in
+    let len : table.len ls ≤ table.len c.links = lapse_len c.posts q c.links in
+    let few = h.link_count in
+    record {
+      beta = h.beta;
+      gamma = h.gamma;
+      me = more c.me h.me;
+      changes = among_more c.links ls c.churn.changes more h.changes;
+      view = o.view;
+      link_count = omega arith;
+      joined = h.joined;
+      links = links_more_posts c.posts (c.posts + 0) ls (omega arith) (lapse_links c.posts q c.links h.links);
+      phase = o.phase;
+      line = o.line;
+      sessions = h.sessions;
+      session_count = h.session_count;
+      counts = counts_next c (event.Lapse q) takes.fits h.counts;
+      need = h.need;
+      set = h.set;
+    }
+
+snapshot_core : (c : Core) → decides c event.Snapshot ≡ None → IsLawfulCore c → IsLawfulCore (next c event.Snapshot)
+unfolding next
+snapshot_core c d h = changed_core c c.churn.changes (changes_of c h) (counts_next c event.Snapshot (takes_snapshot c d) h.counts) h
+
 retire_core : (c : Core) (q : ℕ) → decides c (event.Retire q) ≡ None → IsLawfulCore c → IsLawfulCore (next c (event.Retire q))
 unfolding next
 retire_core c q d h =
@@ -326,11 +362,15 @@ deliver_core c from n m d h =
     let most : table.len (linked c from m) ≤ known_limit = ltb-false _ _ takes.nodes in
     let few : table.len ls ≤ known_limit = omega (arith, hear_len from n (linked c from m), most) in
     let own : IsTrue (table.contains_key ls c.me) = more c.me h.me in
-    let k : KeepsChurn ls (churn.after_message c.me c.gamma m c.churn) = message_churn ls c.me c.gamma m c.churn h.gamma few own named
-    (record { changes = record { known = among_more c.links ls c.churn.changes more h.changes; joined = h.joined }; need = h.need }) in
-    let o : KeepsOps ls c.sessions (ops.after_message c.me (quorum c) m c.ops) =
-    message_ops ls c.sessions c.me (quorum c) m c.ops (need_positive c.beta _) (quorum_fits c h) own named
-    (ops_more c.links ls c.sessions c.ops more (record { view = h.view; phase = h.phase; line = h.line })) in
+    let k : KeepsChurn ls (churn_told c from n m) = told_churn ls (tells c from n m) c.me c.gamma (churned c m) h.gamma few own
+    (message_churn ls c.me c.gamma m c.churn h.gamma few own named
+    (record { changes = record { known = among_more c.links ls c.churn.changes more h.changes; joined = h.joined }; need = h.need })) in
+    let after = ops.after_message c.me (quorum c) m c.ops in
+    let again = churn.quorum c.beta (churn_told c from n m) in
+    let o : KeepsOps ls c.sessions (ops_anew c from n m) = anew_ops ls c.sessions (asks_anew c from n m) again after (need_positive c.beta _)
+    (need_within c.beta _ known_limit h.beta (members_fit ls (churn_told c from n m).changes k.changes.known few) (omega arith))
+    (message_ops ls c.sessions c.me (quorum c) m c.ops (need_positive c.beta _) (quorum_fits c h) own named
+    (ops_more c.links ls c.sessions c.ops more (record { view = h.view; phase = h.phase; line = h.line }))) in
     record {
       beta = h.beta;
       gamma = h.gamma;
@@ -340,14 +380,14 @@ deliver_core c from n m d h =
       link_count = few;
       joined = k.changes.joined;
       links = links_more_posts c.posts (c.posts + option_len (post c e)) ls (omega arith)
-          (hear_links c.posts from n (linked c from m) (heard_fits c from n m d h) (add_all_links c.posts (from ∷ ids_of m) c.links h.links));
+          (hear_links c.posts from n (linked c from m) (heard_fits c from n m d) (add_all_links c.posts (from ∷ ids_of m) c.links h.links));
       phase = o.phase;
       line = o.line;
       sessions = h.sessions;
       session_count = h.session_count;
       counts = counts_next c e takes.fits h.counts;
       need = k.need;
-      set = subst (λ (v : Value). set.len v.set ≤ set_limit) (sym (message_last c.me (quorum c) m c.ops)) h.set;
+      set = subst (λ (v : Value). set.len v.set ≤ set_limit) (sym (anew_last (asks_anew c from n m) again after ∙ message_last c.me (quorum c) m c.ops)) h.set;
     }
 
 -- ---- an ask
@@ -407,6 +447,8 @@ next_core c (event.Deliver from n m) d h = deliver_core c from n m d h
 next_core c (event.Acked peer n) d h = ack_core c peer n d h
 next_core c (event.Ask s r k) d h = ask_core c s r k d h
 next_core c (event.Retire q) d h = retire_core c q d h
+next_core c (event.Lapse q) d h = lapse_core c q d h
+next_core c event.Snapshot d h = snapshot_core c d h
 
 -- ---- the node
 
@@ -418,15 +460,19 @@ links_go_on c (event.Deliver from n m) d = linked_goes c from n m d
 links_go_on c (event.Acked peer n) d = ack_goes c.posts peer n c.links (takes_ack c peer n d).awaited
 links_go_on c (event.Ask s r k) d = go_same c.posts c.links
 links_go_on c (event.Retire q) d = add_all_goes c.posts (q ∷ []) c.links
+links_go_on c (event.Lapse q) d = lapse_goes c.posts q c.links (or_parts _ _ (takes_lapse c q d).awaited).1
+links_go_on c event.Snapshot d = go_same c.posts c.links
 
 pub left_grows : (c : Core) (e : Event) → IsWithin c.churn.changes.left (next c e).churn.changes.left
 unfolding next
 left_grows c event.Enter q h = h
 left_grows c event.Leave q h = within_insert c.churn.changes.left c.me tt q h
-left_grows c (event.Deliver from n m) q h = left_stays c.me c.gamma m c.churn q h
+left_grows c (event.Deliver from n m) q h = left_told (tells c from n m) c.me c.gamma (churned c m) q (left_stays c.me c.gamma m c.churn q h)
 left_grows c (event.Acked peer n) q h = h
 left_grows c (event.Ask s r k) q h = h
 left_grows c (event.Retire p) q h = within_insert c.churn.changes.left p tt q h
+left_grows c (event.Lapse p) q h = h
+left_grows c event.Snapshot q h = h
 
 pub lowest_next : (c : Core) (e : Event) → decides c e ≡ None → LinksWithin c.posts c.links → lowest c ≤ lowest (next c e)
 unfolding next
@@ -442,9 +488,10 @@ step_answers n (event.Deliver from k m) h =
     let c = n.core in
     let e = event.Deliver from k m in
     let after = ops.after_message c.me (quorum c) m c.ops in
-    posted c.sessions (unanswered after) (post c e) (ops.reply_of c.me m c.ops) n.outbox
+    subst (λ (l : List Asked). KeepsAnswers c.sessions l (step n e).outbox.answers) (sym (anew_unanswered (asks_anew c from k m) _ after))
+    (posted c.sessions (unanswered after) (post c e) (ops.reply_of c.me m c.ops) n.outbox
     (first_answers c.sessions (unanswered c.ops) (unanswered after) (ops.reply_of c.me m c.ops) n.outbox (message_answers c.me (quorum c) m c.ops) h.core.line.apart
-    (all_last c.links c.sessions c.ops.phase c.ops.line h.core.phase h.core.line.last) h.answers)
+    (all_last c.links c.sessions c.ops.phase c.ops.line h.core.phase h.core.line.last) h.answers))
 step_answers n (event.Acked peer k) h = h.answers
 step_answers n (event.Ask s r k) h =
     let c = n.core in
@@ -456,6 +503,8 @@ step_answers n (event.Ask s r k) h =
     (sym (ask_unanswered c.me (quorum c) a c.ops (λ idle. none_waits c.ops.phase c.ops.line idle h.core.line.behind)))
     (last_answers c.sessions (unanswered c.ops) a n.outbox.answers h.answers))
 step_answers n (event.Retire q) h = h.answers
+step_answers n (event.Lapse q) h = h.answers
+step_answers n event.Snapshot h = h.answers
 
 pub step_lawful : (n : Node) (e : Event) → decides n.core e ≡ None → IsLawfulNode n → IsLawfulNode (step n e)
 unfolding step next

@@ -1,9 +1,11 @@
+pub mod AbsentLaws
 pub mod AloneLaws
 pub mod Unaware
 pub mod CoreLaws
 pub mod Deciding
 pub mod Effects
 pub mod FreshLaws
+pub mod Hearing
 pub mod KeptLaws
 pub mod KeptOutputs
 pub mod KnownLaws
@@ -14,5 +16,6 @@ pub mod Openings
 pub mod OrderLaws
 pub mod RefusalLaws
 pub mod StandingLaws
+pub mod ToldLaws
 mod Restoring
 mod Phases

@@ -38,7 +38,7 @@ use Rattle.cc_links.specs.LinkLaws.{LinkGoesOn, get-live}
 use Rattle.cc_sessions.specs.Sessions.{Requests, last_request, is_repeat, is_stale}
 use Rattle.cc_node.specs.declared.made.LinkAck.{LinkAck}
 use Rattle.cc_node.specs.Core as core
-use Rattle.cc_node.specs.Core.{Core, quorum, asked_of, next, post, reply, outputs, sends, send_post, send_ack, send_reply, live_links}
+use Rattle.cc_node.specs.Core.{Core, quorum, asked_of, asks_anew, ops_anew, next, post, reply, outputs, sends, send_post, send_ack, send_reply, live_links}
 use Rattle.cc_node.specs.Refusals.{decides}
 use Rattle.cc_node.specs.Node.{Node, step, line, HasOutput, IsLawful}
 use Rattle.cc_node.specs.Lines.{Follows}
@@ -47,6 +47,7 @@ use Rattle.cc_node.proofs.KeptLaws.{same_some}
 use Rattle.cc_node.proofs.KnownLaws.{all_last, none_waits}
 use Rattle.cc_node.proofs.LawfulLaws.{links_go_on, hears_now, request_now, step_lawful}
 use Rattle.cc_node.proofs.RefusalLaws.{takes_delivery, takes_ask}
+use Rattle.cc_node.proofs.ToldLaws.{anew_unanswered}
 
 -- ---- lists
 
@@ -204,6 +205,8 @@ ack_follows c event.Leave x d past = tt
 ack_follows c (event.Acked peer n) x d past = tt
 ack_follows c (event.Ask s r k) x d past = tt
 ack_follows c (event.Retire q) x d past = tt
+ack_follows c (event.Lapse q) x d past = tt
+ack_follows c event.Snapshot x d past = tt
 ack_follows c (event.Deliver from n m) (output.Send to number k) d past = (tt, tt)
 ack_follows c (event.Deliver from n m) (output.Reply s request a) d past = (tt, tt)
 ack_follows c (event.Deliver from n m) (output.Ack to number) d past =
@@ -217,6 +220,8 @@ ack_past c event.Leave = tt
 ack_past c (event.Acked peer n) = tt
 ack_past c (event.Ask s r k) = tt
 ack_past c (event.Retire q) = tt
+ack_past c (event.Lapse q) = tt
+ack_past c event.Snapshot = tt
 ack_past c (event.Deliver from n m) = (subst (λ k. k ≤ heard_from from (next c (event.Deliver from n m)).links) (hears_now c from n m) (omega arith), tt)
 
 -- ---- replies
@@ -265,6 +270,8 @@ reply_follows c event.Leave x h past = tt
 reply_follows c (event.Acked peer n) x h past = tt
 reply_follows c (event.Ask s r k) x h past = tt
 reply_follows c (event.Retire q) x h past = tt
+reply_follows c (event.Lapse q) x h past = tt
+reply_follows c event.Snapshot x h past = tt
 reply_follows c (event.Deliver from n m) (output.Send to number k) h past =
     each_reply (Follows (output.Send to number k)) (ops.reply_of c.me m c.ops) (if_more (ops.reply_of c.me m c.ops) (Ends c.sessions (unanswered c.ops) (unanswered (ops.after_message c.me (quorum c) m c.ops))) (λ r. ⊤) (λ r ends. tt) (reply_ends c m h))
 reply_follows c (event.Deliver from n m) (output.Ack to number) h past =
@@ -285,14 +292,16 @@ reply_past c event.Leave h = tt
 reply_past c (event.Acked peer n) h = tt
 reply_past c (event.Ask s r k) h = tt
 reply_past c (event.Retire q) h = tt
+reply_past c (event.Lapse q) h = tt
+reply_past c event.Snapshot h = tt
 reply_past c (event.Deliver from n m) h =
     let after = unanswered (ops.after_message c.me (quorum c) m c.ops) in
     each_reply (IsPast (next c (event.Deliver from n m))) (ops.reply_of c.me m c.ops) (if_more (ops.reply_of c.me m c.ops) (Ends c.sessions (unanswered c.ops) after)
-    (λ r. IsAnswered c.sessions after r.session r.request)
-    (λ r ends. record {
+    (λ r. IsAnswered c.sessions (unanswered (ops_anew c from n m)) r.session r.request)
+    (λ r ends. subst (λ asks. IsAnswered c.sessions asks r.session r.request) (sym (anew_unanswered (asks_anew c from n m) _ (ops.after_message c.me (quorum c) m c.ops))) (record {
       begun = subst (λ k. r.request ≤ k) (sym (last_is c.sessions r.session r.request ends.last)) (omega arith);
       ended = λ t. absurd (both_ways (has_session r.session after) ends.done t);
-    })
+    }))
     (reply_ends c m h))
 
 still_there : (x : ℕ) (before after : List Asked) (o : Option Reply) → AnswersFirst before after o → has_session x after ≡ true → has_session x before ≡ true
@@ -359,9 +368,15 @@ unfolding next
 answered_stays c event.Enter s request d h past = past
 answered_stays c event.Leave s request d h past = past
 answered_stays c (event.Acked peer n) s request d h past = past
-answered_stays c (event.Deliver from n m) s request d h past = record { begun = past.begun; ended = λ t. past.ended (message_there c.me (quorum c) m c.ops s t) }
+answered_stays c (event.Deliver from n m) s request d h past = record {
+  begun = past.begun;
+  ended = λ t. past.ended (message_there c.me (quorum c) m c.ops s
+      (ap (has_session s) (sym (anew_unanswered (asks_anew c from n m) _ (ops.after_message c.me (quorum c) m c.ops))) ∙ t));
+}
 answered_stays c (event.Ask y r k) s request d h past = answered_asked c y r k s request d h past
 answered_stays c (event.Retire q) s request d h past = past
+answered_stays c (event.Lapse q) s request d h past = past
+answered_stays c event.Snapshot s request d h past = past
 
 -- ---- all outputs of an event
 

@@ -15,7 +15,7 @@ use Rattle.cc_views.specs.NatSets as set
 use Rattle.cc_views.specs.NatSets.{NatSet, insert_all-append}
 use Rattle.cc_views.specs.Rows.{Pair, ViewMap, rows_of, row_of}
 use Rattle.cc_changes.specs.ChangeSets.{ChangeSets}
-use Rattle.cc_links.specs.Links.{Link, Links, new_link, add_absent, add, add_all}
+use Rattle.cc_links.specs.Links.{Link, Links, new_link, add_absent, add_all}
 use Rattle.cc_links.specs.LinkLaws.{add_all-append, len_add_all}
 use Rattle.cc_links.specs.KnownIds.{len-add_all}
 use Rattle.cc_links.specs.Rows.{nodes_of}
@@ -48,27 +48,28 @@ module _ (posts : ℕ) (ls : Links) (n : Named) where
   abbrev after_entered : Links
   after_entered = add_all posts n.entered.now after_joined
 
-  pub named_links : (ids : List ℕ) → ids ≡ n.node ∷ (n.entered.now ++ (n.joined.now ++ (n.left.now ++ nodes_of n.rows.now))) → add posts n.node after_entered ≡ add_all posts ids ls
+  pub named_links : (ids : List ℕ) → ids ≡ n.node.now ++ (n.entered.now ++ (n.joined.now ++ (n.left.now ++ nodes_of n.rows.now))) → add_all posts n.node.now after_entered ≡ add_all posts ids ls
   named_links ids is =
       let left = add_all-append posts n.left.now (nodes_of n.rows.now) ls in
       let joined = add_all-append posts n.joined.now (n.left.now ++ nodes_of n.rows.now) ls ∙ ap (add_all posts n.joined.now) left in
       let entered = add_all-append posts n.entered.now (n.joined.now ++ (n.left.now ++ nodes_of n.rows.now)) ls ∙ ap (add_all posts n.entered.now) joined in
-      sym (ap (λ qs. add_all posts qs ls) is ∙ ap (add posts n.node) entered)
+      let node = add_all-append posts n.node.now (n.entered.now ++ (n.joined.now ++ (n.left.now ++ nodes_of n.rows.now))) ls in
+      sym (ap (λ qs. add_all posts qs ls) is ∙ node ∙ ap (add_all posts n.node.now) entered)
 
   pub record NamedRoom : Type 0 where
     pub rows : table.len after_rows ≤ 256
     pub left : table.len after_left ≤ 256
     pub joined : table.len after_joined ≤ 256
     pub entered : table.len after_entered ≤ 256
-    pub node : table.len (add posts n.node after_entered) ≤ 256
+    pub node : table.len (add_all posts n.node.now after_entered) ≤ 256
 
-  pub named_room : (ids : List ℕ) → ids ≡ n.node ∷ (n.entered.now ++ (n.joined.now ++ (n.left.now ++ nodes_of n.rows.now))) → table.len (add_all posts ids ls) ≤ 256 → NamedRoom
+  pub named_room : (ids : List ℕ) → ids ≡ n.node.now ++ (n.entered.now ++ (n.joined.now ++ (n.left.now ++ nodes_of n.rows.now))) → table.len (add_all posts ids ls) ≤ 256 → NamedRoom
   named_room ids is h =
       let same = ap table.len (named_links ids is) in
       let a = len_add_all posts n.left.now after_rows in
       let b = len_add_all posts n.joined.now after_left in
       let d = len_add_all posts n.entered.now after_joined in
-      let e = len_add_all posts (n.node ∷ []) after_entered in
+      let e = len_add_all posts n.node.now after_entered in
       record {
         rows = omega (arith, same, a, b, d, e, h);
         left = omega (arith, same, b, d, e, h);
@@ -103,6 +104,14 @@ echo_ids c v j q =
     let k = set.items c.joined in
     let l = set.items c.left in
     sym (append_assoc (q ∷ e ++ k) l (table.keys v) ∙ append_assoc (q ∷ e) k (l ++ table.keys v))
+
+-- and what a snapshot names
+pub snapshot_ids : (c : ChangeSets) (v : ViewMap) → set.items c.entered ++ (set.items c.joined ++ (set.items c.left ++ table.keys v)) ≡ ids_of (message.Snapshot c v)
+snapshot_ids c v =
+    let e = set.items c.entered in
+    let k = set.items c.joined in
+    let l = set.items c.left in
+    sym (append_assoc (e ++ k) l (table.keys v) ∙ append_assoc e k (l ++ table.keys v))
 
 not_itself : IsTrue false → ⊥
 not_itself k = cc

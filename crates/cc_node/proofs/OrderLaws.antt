@@ -17,7 +17,7 @@ use Rattle.cc_ops.specs.declared.pending.Asked.{Asked}
 use Rattle.cc_ops.specs.Ops as ops
 use Rattle.cc_ops.specs.OwnLaws.{begun_line, message_line, ask_line}
 use Rattle.cc_ops.specs.Waiting.{line_limit, led_by, has_session}
-use Rattle.cc_node.specs.Core.{Core, quorum, asked_of, begun, next}
+use Rattle.cc_node.specs.Core.{Core, quorum, asked_of, asks_anew, begun, next}
 use Rattle.cc_node.specs.Refusals.{decides, decides_within, left, not_entered, not_joined, too_many_sessions, repeat, stale, skip, busy, set_full, outbox_full, spent}
 use Rattle.cc_node.specs.Node.{Node, step, after, IsLawful, IsLawfulWithin}
 use Rattle.cc_node.specs.Writes.{asked_by, asked_along, begun_along}
@@ -25,6 +25,7 @@ use Rattle.cc_node.specs.Lawful.{IsLawfulCore, IsLawfulNode}
 use Rattle.cc_node.proofs.KnownLaws.{none_waits}
 use Rattle.cc_node.proofs.LawfulLaws.{step_lawful}
 use Rattle.cc_node.proofs.RefusalLaws.{free_within}
+use Rattle.cc_node.proofs.ToldLaws.{anew_line}
 
 -- ---- the order of asks
 
@@ -40,10 +41,14 @@ one_in_order : (c : Core) (e : Event) → IsLawfulCore c → c.ops.line ++ led_b
 unfolding next
 one_in_order c event.Enter h = append-nil c.ops.line
 one_in_order c event.Leave h = append-nil c.ops.line
-one_in_order c (event.Deliver from n m) h = append-nil c.ops.line ∙ message_line c.me (quorum c) m c.ops
+one_in_order c (event.Deliver from n m) h =
+    append-nil c.ops.line ∙ message_line c.me (quorum c) m c.ops
+    ∙ ap (led_by (ops.begun_by c.me m c.ops)) (sym (anew_line (asks_anew c from n m) _ (ops.after_message c.me (quorum c) m c.ops)))
 one_in_order c (event.Acked peer n) h = append-nil c.ops.line
 one_in_order c (event.Ask s r k) h = ask_line c.me (quorum c) (asked_of s r k) c.ops (λ idle. none_waits c.ops.phase c.ops.line idle h.line.behind)
 one_in_order c (event.Retire q) h = append-nil c.ops.line
+one_in_order c (event.Lapse q) h = append-nil c.ops.line
+one_in_order c event.Snapshot h = append-nil c.ops.line
 
 pub begin_in_order : (n : Node) (es : List Event) → IsLawfulNode n → IsLawful n es → n.core.ops.line ++ asked_along es ≡ begun_along n es ++ (after n es).core.ops.line
 unfolding step
@@ -98,6 +103,8 @@ taken_within c (event.Ask s r k) d =
     passes (left c) _ _ (passes (not_entered c) _ _ (passes (not_joined c) _ _ (passes (too_many_sessions c s) _ _ (passes (repeat c s r) _ _
     (passes (stale c s r) _ _ (passes (skip c s r) _ _ (either_none (busy 0 c s) (busy line_limit c s) rest (free_more c s)))))))) d
 taken_within c (event.Retire q) d = d
+taken_within c (event.Lapse q) d = d
+taken_within c event.Snapshot d = d
 
 pub taken_along : (n : Node) (es : List Event) → IsLawfulWithin 0 n es → IsLawful n es
 taken_along n [] d = tt
@@ -116,7 +123,9 @@ pub none_waiting : (c : Core) (e : Event) → c.ops.line ≡ [] → decides_with
 unfolding next
 none_waiting c event.Enter none d = none
 none_waiting c event.Leave none d = none
-none_waiting c (event.Deliver from n m) none d = none_behind (ops.begun_by c.me m c.ops) _ (sym none ∙ message_line c.me (quorum c) m c.ops)
+none_waiting c (event.Deliver from n m) none d =
+    anew_line (asks_anew c from n m) _ (ops.after_message c.me (quorum c) m c.ops)
+    ∙ none_behind (ops.begun_by c.me m c.ops) _ (sym none ∙ message_line c.me (quorum c) m c.ops)
 none_waiting c (event.Acked peer n) none d = none
 none_waiting c (event.Ask s r k) none d =
     let there = has_session s (ops.unanswered c.ops) in
@@ -128,6 +137,8 @@ none_waiting c (event.Ask s r k) none d =
     must_idle true there e = refl
     must_idle false there e = cc
 none_waiting c (event.Retire q) none d = none
+none_waiting c (event.Lapse q) none d = none
+none_waiting c event.Snapshot none d = none
 
 -- where none may wait, none does
 pub none_waiting_along : (n : Node) (es : List Event) → n.core.ops.line ≡ [] → IsLawfulWithin 0 n es → (after n es).core.ops.line ≡ []

@@ -1,5 +1,5 @@
 -- What is known of an event that isn't refused.
---     takes_delivery, takes_ack, takes_ask, takes_retire     what each check that passed says
+--     takes_delivery, takes_ack, takes_ask, takes_retire, takes_lapse     what each check that passed says
 --     takes_any                                no post is too many, and no counter goes past its limit
 --     stays_within, none_overruns              a counter that isn't spent stays within its limit
 use Rattle.std.proofs.Common.{◌≡◌, ℕ, ◌+◌, ◌-◌, ◌≤◌, Bool, true, false, not, ◌&&◌, ◌||◌, nat_lt, nat_le, List, [], ◌∷◌, length, refl, inl, inr, arith}
@@ -11,6 +11,7 @@ use Rattle.std.specs.FinMap as table
 use Rattle.std.proofs.lemmas.Bool.{or_parts, and_cases, eqb-false, ltb-false}
 use Rattle.cc_views.specs.Limits.{known_limit, overruns}
 use Rattle.cc_wire.specs.declared.command.Command.{Command}
+use Rattle.cc_wire.specs.Messages.{is_snapshot}
 use Rattle.cc_wire.specs.declared.event.Event.{Event}
 use Rattle.cc_wire.specs.declared.event.Event.TheVariants as event
 use Rattle.cc_wire.specs.declared.message.Message.{Message}
@@ -20,7 +21,8 @@ use Rattle.cc_wire.specs.Refusals.{first_of}
 use Rattle.cc_ops.specs.Commands.{finds_no_room}
 use Rattle.cc_ops.specs.Ops.{is_idle, unanswered, mine_at_last}
 use Rattle.cc_ops.specs.Waiting.{line_limit, has_session}
-use Rattle.cc_links.specs.Links.{heard_from, awaits_ack}
+use Rattle.cc_churn.specs.Churn.{has_left}
+use Rattle.cc_links.specs.Links.{heard_from, awaits_ack, awaits_any}
 use Rattle.cc_sessions.specs.Sessions as requests
 use Rattle.cc_sessions.specs.Sessions.{last_request, is_stale, is_skip}
 use Rattle.cc_node.specs.Core.{Core, next, post, lowest, ids_of, with_links}
@@ -44,7 +46,7 @@ pub record Fits (c : Core) (e : Event) : Type 0 where
 
 pub record TakesDelivery (c : Core) (from n : ℕ) (m : Message) : Type 0 where
   pub new : nat_le n (heard_from from c.links) ≡ false
-  pub next : nat_lt (heard_from from c.links + 1) n ≡ false
+  pub next : (nat_lt (heard_from from c.links + 1) n && not (is_snapshot m)) ≡ false
   pub nodes : nat_lt known_limit (table.len (with_links (from ∷ ids_of m) c).links) ≡ false
   pub fits : Fits c (event.Deliver from n m)
 
@@ -64,6 +66,10 @@ pub record TakesAsk (c : Core) (s r : ℕ) (command : Command) : Type 0 where
 pub record TakesRetire (c : Core) (q : ℕ) : Type 0 where
   pub nodes : nat_lt known_limit (table.len (with_links (q ∷ []) c).links) ≡ false
   pub fits : Fits c (event.Retire q)
+
+pub record TakesLapse (c : Core) (q : ℕ) : Type 0 where
+  pub awaited : (has_left q c.churn || not (option_map_or (awaits_any c.posts) (table.get c.links q) false)) ≡ false
+  pub fits : Fits c (event.Lapse q)
 
 -- where none of two reasons, of a full outbox and of a spent counter holds
 fits_after : (c : Core) (e : Event) (a b : Option Refusal) → first_of (a ∷ b ∷ outbox_full c e ∷ spent c e ∷ []) ≡ None → Fits c e
@@ -125,6 +131,18 @@ takes_retire c q h =
     let all = (all_none (reasons line_limit c (event.Retire q)) h).1.1.1 in
     record { nodes = fails refusal.TooManyNodes _ all.0; fits = record { posts = refl; counts = fails refusal.Spent _ all.1.0 } }
 
+pub takes_lapse : (c : Core) (q : ℕ) → decides c (event.Lapse q) ≡ None → TakesLapse c q
+unfolding decides decides_within
+takes_lapse c q h =
+    let all = (all_none (reasons line_limit c (event.Lapse q)) h).1.1.1 in
+    record { awaited = fails refusal.NothingToAck _ all.0; fits = record { posts = refl; counts = fails refusal.Spent _ all.1.0 } }
+
+pub takes_snapshot : (c : Core) → decides c event.Snapshot ≡ None → Fits c event.Snapshot
+unfolding decides decides_within
+takes_snapshot c h =
+    let all = (all_none (reasons line_limit c event.Snapshot) h).1.1.1 in
+    record { posts = fails refusal.OutboxFull _ all.0; counts = fails refusal.Spent _ all.1.0 }
+
 pub takes_any : (c : Core) (e : Event) → decides c e ≡ None → Fits c e
 takes_any c event.Enter h = takes_enter c h
 takes_any c event.Leave h = takes_leave c h
@@ -132,6 +150,8 @@ takes_any c (event.Deliver from n m) h = (takes_delivery c from n m h).fits
 takes_any c (event.Acked peer n) h = (takes_ack c peer n h).fits
 takes_any c (event.Ask s r command) h = (takes_ask c s r command h).fits
 takes_any c (event.Retire q) h = (takes_retire c q h).fits
+takes_any c (event.Lapse q) h = (takes_lapse c q h).fits
+takes_any c event.Snapshot h = takes_snapshot c h
 
 -- a counter that may not pass its limit
 pub stays_within : (limit before after : ℕ) → ((before == limit) && nat_lt before after) ≡ false → before ≤ limit → after ≤ before + 1 → after ≤ limit

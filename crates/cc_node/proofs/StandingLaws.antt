@@ -75,6 +75,8 @@ last_forget (event.Deliver from n m) o = refl
 last_forget (event.Acked peer n) o = refl
 last_forget (event.Ask s r command) o = refl
 last_forget (event.Retire q) o = refl
+last_forget (event.Lapse q) o = refl
+last_forget event.Snapshot o = refl
 
 kept_or_new : (p : Option Message) (o : Outbox) (number : ℕ) (m : Message) → table.get (add p o).posts number ≡ Some m
     → (table.get o.posts number ≡ Some m) ⊎ ((number ≡ o.last + 1) × (p ≡ Some m))
@@ -167,14 +169,14 @@ row_heard q peer change None ls e apart = refl
 row_heard q peer change (Some l) ls e apart =
     ap (λ o. option_map_or (λ (k : Link). k.heard) o 0) (get-insert_key ls peer (change l) q ∙ ap (λ b. cond b (Some (change l)) (table.get ls q)) apart)
 
-ack_heard_of : (q peer n : ℕ) (o : Option Link) (ls : Links) → table.get ls peer ≡ o → heard_from q (with_row peer (λ l. record l { acked = n }) o ls) ≡ heard_from q ls
-ack_heard_of q peer n None ls e = refl
-ack_heard_of q peer n (Some l) ls e =
-    elim (eqb_tells q peer) as (λ _. heard_from q (table.insert ls peer (record l { acked = n })) ≡ heard_from q ls) [
+acked_heard_of : (q peer : ℕ) (count : Link → ℕ) (o : Option Link) (ls : Links) → table.get ls peer ≡ o → heard_from q (with_row peer (λ l. record l { acked = count l }) o ls) ≡ heard_from q ls
+acked_heard_of q peer count None ls e = refl
+acked_heard_of q peer count (Some l) ls e =
+    elim (eqb_tells q peer) as (λ _. heard_from q (table.insert ls peer (record l { acked = count l })) ≡ heard_from q ls) [
       | inl t ↦
-          ap (λ o. option_map_or (λ (k : Link). k.heard) o 0) (get-insert_key ls peer (record l { acked = n }) q ∙ ap (λ b. cond b (Some (record l { acked = n })) (table.get ls q)) t.0)
+          ap (λ o. option_map_or (λ (k : Link). k.heard) o 0) (get-insert_key ls peer (record l { acked = count l }) q ∙ ap (λ b. cond b (Some (record l { acked = count l })) (table.get ls q)) t.0)
           ∙ sym (ap (λ o. option_map_or (λ (k : Link). k.heard) o 0) (ap (table.get ls) t.1 ∙ e))
-      | inr t ↦ ap (λ o. option_map_or (λ (k : Link). k.heard) o 0) (get-insert_key ls peer (record l { acked = n }) q ∙ ap (λ b. cond b (Some (record l { acked = n })) (table.get ls q)) t.0)
+      | inr t ↦ ap (λ o. option_map_or (λ (k : Link). k.heard) o 0) (get-insert_key ls peer (record l { acked = count l }) q ∙ ap (λ b. cond b (Some (record l { acked = count l })) (table.get ls q)) t.0)
     ]
 
 step_ack : (n : Node) (e : Event) (to heard : ℕ) → HasOutput (step n e) (output.Ack to heard) → HasOutput n (output.Ack to heard) ⊎ Contains (outputs n.core e) (output.Ack to heard)
@@ -198,12 +200,17 @@ step_ack n (event.Deliver from k m) to heard s =
 step_ack n (event.Acked peer k) to heard s =
     let c = n.core in
     inl (of_heard (table.get c.links to) heard
-    (sym (ack_heard_of to peer k (table.get c.links peer) c.links refl) ∙ ap (λ o. option_map_or (λ (l : Link). l.heard) o 0) s.1 ∙ s.2) s.3)
+    (sym (acked_heard_of to peer (λ _. k) (table.get c.links peer) c.links refl) ∙ ap (λ o. option_map_or (λ (l : Link). l.heard) o 0) s.1 ∙ s.2) s.3)
 step_ack n (event.Ask x r k) to heard s = inl s
 step_ack n (event.Retire q) to heard s =
     let c = n.core in
     inl (of_heard (table.get c.links to) heard
     (sym (add_all_heard c.posts (q ∷ []) c.links to) ∙ ap (λ o. option_map_or (λ (l : Link). l.heard) o 0) s.1 ∙ s.2) s.3)
+step_ack n (event.Lapse q) to heard s =
+    let c = n.core in
+    inl (of_heard (table.get c.links to) heard
+    (sym (acked_heard_of to q (λ l. c.posts - l.start) (table.get c.links q) c.links refl) ∙ ap (λ o. option_map_or (λ (l : Link). l.heard) o 0) s.1 ∙ s.2) s.3)
+step_ack n event.Snapshot to heard s = inl s
 
 -- ---- answers
 
@@ -271,6 +278,8 @@ step_reply n (event.Ask y r k) x q a h s =
       )
     ] refl
 step_reply n (event.Retire y) x q a h s = inl s
+step_reply n (event.Lapse y) x q a h s = inl s
+step_reply n event.Snapshot x q a h s = inl s
 
 -- ---- along a list
 

@@ -18,11 +18,11 @@ use Rattle.cc_wire.specs.Refusals.{first_of}
 use Rattle.cc_churn.specs.Churn as churn
 use Rattle.cc_ops.specs.declared.pending.Asked.{Asked}
 use Rattle.cc_ops.specs.Commands.{is_writing}
-use Rattle.cc_ops.specs.Ops.{Ops, Phase, Idle, Storing, Querying, StoringBack, is_last, is_own, with_begun, after_reply, first_post}
+use Rattle.cc_ops.specs.Ops.{Ops, Phase, Idle, Storing, Querying, StoringBack, is_last, is_own, with_begun, after_reply, first_post, anew}
 use Rattle.cc_outbox.specs.Outbox.{post_limit}
-use Rattle.cc_node.specs.Core.{Core, quorum, asked_of, ids_of, with_links, with_heard, lowest}
-use Rattle.cc_node.specs.Refusals.{left, has_gone, not_entered, already_entered, not_joined, old, gap, nothing_to_ack, too_many_nodes, too_many_sessions, repeat, stale, skip, any_overruns, row_overruns}
-use Rattle.cc_node.specs.OneAtATime.{other_line, waiting, ops_alone, answer_alone, next_alone, post_alone, busy_alone, set_full_alone, outbox_full_alone, spent_alone, decides_alone}
+use Rattle.cc_node.specs.Core.{Core, quorum, asked_of, ids_of, links_heard, churn_told, join_told, asks_anew, anew_if, question_if, lowest}
+use Rattle.cc_node.specs.Refusals.{left, has_gone, not_entered, already_entered, not_joined, old, gap, nothing_to_ack, too_many_nodes, too_many_sessions, repeat, stale, skip, nothing_to_lapse, any_overruns, row_overruns}
+use Rattle.cc_node.specs.OneAtATime.{other_line, waiting, ops_alone, quorum_told, answer_alone, next_alone, post_alone, busy_alone, set_full_alone, outbox_full_alone, spent_alone, decides_alone}
 use Rattle.cc_node.proofs.AloneLaws.{behind}
 
 either_other : (l : List Asked) (b : Bool) (s t : Ops) → (if b then other_line l s else other_line l t) ≡ other_line l (if b then s else t)
@@ -48,6 +48,10 @@ told_other l me quorum (message.QueryReply v tag q) s =
     ∙ either_other l (is_own me tag q s) (after_reply quorum v s.phase s) s
 told_other l me quorum (message.Store v tag q) s = refl
 told_other l me quorum (message.StoreAck tag q) s = either_other l (is_own me tag q s) _ _
+told_other l me quorum (message.Snapshot k v) s = refl
+
+anew_other : (l : List Asked) (b : Bool) (q : ℕ) (s : Ops) → anew_if b q (other_line l s) ≡ other_line l (anew_if b q s)
+anew_other l b q s = either_other l b (anew q s) s
 
 answer_other : (l : List Asked) (me : ℕ) (joined : Bool) (m : Message) (s t : Ops) → answer_alone me joined m (other_line l s) (other_line l t) ≡ answer_alone me joined m s t
 answer_other l me joined (message.Enter q) s t = refl
@@ -60,6 +64,7 @@ answer_other l me joined (message.Query tag q) s t = refl
 answer_other l me joined (message.QueryReply v tag q) s t = refl
 answer_other l me joined (message.Store v tag q) s t = refl
 answer_other l me joined (message.StoreAck tag q) s t = refl
+answer_other l me joined (message.Snapshot k v) s t = refl
 
 begun_other : (l : List Asked) (me quorum : ℕ) (a : Asked) (s : Ops) → with_begun me quorum a (other_line l s) ≡ other_line l (with_begun me quorum a s)
 begun_other l me quorum a s = either_other l (is_writing a.command) _ _
@@ -68,17 +73,25 @@ pub post_unaware : (c : Core) (l : List Asked) (e : Event) → post_alone (waiti
 post_unaware c l event.Enter = refl
 post_unaware c l event.Leave = refl
 post_unaware c l (event.Deliver from n m) =
-    let d = with_heard from n (with_links (from ∷ ids_of m) c) in
-    let after = ops_alone c.me (quorum d) m c.ops in
-    let later = churn.after_message c.me c.gamma m c.churn in
-    let f = λ (t : Ops). option_or (churn.post_of c.me t.view m c.churn later) (answer_alone c.me (churn.has_joined c.me later) m (other_line l c.ops) t) in
-    ap f (told_other l c.me (quorum d) m c.ops)
-    ∙ ap (λ (p : Option Message). option_or (churn.post_of c.me after.view m c.churn later) p) (answer_other l c.me (churn.has_joined c.me later) m c.ops after)
+    let b = asks_anew c from n m in
+    let need = quorum_told c from n m in
+    let before = ops_alone c.me (quorum c) m c.ops in
+    let after = anew_if b need before in
+    let later = churn_told c from n m in
+    let first : Ops → Option Message = λ t. option_or (join_told c from n m) (question_if b c.me need t) in
+    let f : Ops → Option Message = λ t.
+    option_or (churn.post_of c.me t.view m c.churn later) (answer_alone c.me (churn.has_joined c.me later) m (other_line l c.ops) t) in
+    ap (λ (t : Ops). option_or (first t) (f (anew_if b need t))) (told_other l c.me (quorum c) m c.ops)
+    ∙ ap (λ (t : Ops). option_or (first before) (f t)) (anew_other l b need before)
+    ∙ ap (λ (p : Option Message). option_or (first before) (option_or (churn.post_of c.me after.view m c.churn later) p))
+    (answer_other l c.me (churn.has_joined c.me later) m c.ops after)
 post_unaware c l (event.Acked peer n) = refl
 post_unaware c l (event.Ask s r k) =
     let a = asked_of s r k in
     ap (λ (t : Ops). Some (first_post c.me a t)) (begun_other l c.me (quorum c) a c.ops)
 post_unaware c l (event.Retire q) = refl
+post_unaware c l (event.Lapse q) = refl
+post_unaware c l event.Snapshot = refl
 
 pub next_unaware : (c : Core) (l : List Asked) (e : Event) → next_alone (waiting l c) e ≡ waiting l (next_alone c e)
 unfolding next_alone
@@ -86,10 +99,18 @@ next_unaware c l event.Enter = refl
 next_unaware c l event.Leave = refl
 next_unaware c l (event.Deliver from n m) =
     let e = event.Deliver from n m in
-    let d = with_heard from n (with_links (from ∷ ids_of m) c) in
-    let f = λ (t : Ops) (p : Option Message). record (record d { churn = churn.after_message c.me c.gamma m c.churn; ops = t }) { posts = c.posts + option_len p } in
-    ap (λ (t : Ops). f t (post_alone (waiting l c) e)) (told_other l c.me (quorum d) m c.ops)
-    ∙ ap (λ (p : Option Message). f (other_line l (ops_alone c.me (quorum d) m c.ops)) p) (post_unaware c l e)
+    let b = asks_anew c from n m in
+    let need = quorum_told c from n m in
+    let before = ops_alone c.me (quorum c) m c.ops in
+    let f = λ (t : Ops) (p : Option Message). record c {
+      churn = churn_told c from n m;
+      ops = t;
+      posts = c.posts + option_len p;
+      links = links_heard c from n m;
+    } in
+    ap (λ (t : Ops). f (anew_if b need t) (post_alone (waiting l c) e)) (told_other l c.me (quorum c) m c.ops)
+    ∙ ap (λ (t : Ops). f t (post_alone (waiting l c) e)) (anew_other l b need before)
+    ∙ ap (λ (p : Option Message). f (other_line l (anew_if b need before)) p) (post_unaware c l e)
 next_unaware c l (event.Acked peer n) = refl
 next_unaware c l (event.Ask s r k) =
     let e = event.Ask s r k in
@@ -98,6 +119,8 @@ next_unaware c l (event.Ask s r k) =
     ap (λ (t : Ops). f t (post_alone (waiting l c) e)) (begun_other l c.me (quorum c) a c.ops)
     ∙ ap (λ (p : Option Message). f (other_line l (with_begun c.me (quorum c) a c.ops)) p) (post_unaware c l e)
 next_unaware c l (event.Retire q) = refl
+next_unaware c l (event.Lapse q) = refl
+next_unaware c l event.Snapshot = refl
 
 -- ---- what is refused
 
@@ -108,6 +131,8 @@ rows_unaware c d l (event.Deliver from n m) = refl
 rows_unaware c d l (event.Acked peer n) = refl
 rows_unaware c d l (event.Ask s r k) = refl
 rows_unaware c d l (event.Retire q) = refl
+rows_unaware c d l (event.Lapse q) = refl
+rows_unaware c d l event.Snapshot = refl
 
 spent_unaware : (c : Core) (l : List Asked) (e : Event) → spent_alone (waiting l c) e ≡ spent_alone c e
 spent_unaware c l e =
@@ -130,7 +155,7 @@ unfolding decides_alone
 decides_unaware c l event.Enter = behind (left c) _ _ (behind (already_entered c) _ _ (both_unaware c l event.Enter))
 decides_unaware c l event.Leave = behind (left c) _ _ (behind (not_entered c) _ _ (both_unaware c l event.Leave))
 decides_unaware c l (event.Deliver from n m) =
-    behind (left c) _ _ (behind (not_entered c) _ _ (behind (old c from n) _ _ (behind (gap c from n) _ _
+    behind (left c) _ _ (behind (not_entered c) _ _ (behind (old c from n) _ _ (behind (gap c from n m) _ _
     (behind (too_many_nodes c (from ∷ ids_of m)) _ _ (both_unaware c l (event.Deliver from n m))))))
 decides_unaware c l (event.Acked peer n) =
     ap (λ (o : Option Refusal). first_of (nothing_to_ack c peer n ∷ o ∷ [])) (spent_unaware c l (event.Acked peer n))
@@ -141,3 +166,8 @@ decides_unaware c l (event.Ask s r k) =
 decides_unaware c l (event.Retire q) =
     ap (λ (o : Option Refusal). first_of (left c ∷ has_gone c q ∷ not_entered c ∷ too_many_nodes c (q ∷ []) ∷ o ∷ []))
     (spent_unaware c l (event.Retire q))
+decides_unaware c l (event.Lapse q) =
+    ap (λ (o : Option Refusal). first_of (left c ∷ not_entered c ∷ not_joined c ∷ nothing_to_lapse c q ∷ o ∷ []))
+    (spent_unaware c l (event.Lapse q))
+decides_unaware c l event.Snapshot =
+    behind (left c) _ _ (behind (not_entered c) _ _ (behind (not_joined c) _ _ (both_unaware c l event.Snapshot)))

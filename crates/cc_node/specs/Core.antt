@@ -2,9 +2,10 @@
 --     Core            the plain state
 --     begun C e       the ask that an event begins, if it begins one
 --     next C e        the state after an event
+--     tells, asks_anew     what a snapshot makes of it beside a union and a merge: it counts as an echo, and a phase begins anew
 --     made C e        the acknowledgement, the post and the answer that it makes
 --     outputs C e     what is put out for it, in order
-use Rattle.std.specs.Prelude.{ℕ, ◌+◌, ◌-◌, List, [], ◌∷◌, ◌++◌, map, Option, Some, None, option_map}
+use Rattle.std.specs.Prelude.{ℕ, ◌+◌, ◌-◌, ◌==◌, ◌&&◌, ◌||◌, nat_lt, not, Bool, false, if◌then◌else◌, List, [], ◌∷◌, ◌++◌, map, Option, Some, None, option_map}
 use Rattle.std.specs.Option.{option_len, option_or}
 use Rattle.std.specs.FinMap as table
 use Rattle.cc_views.specs.NatSets as set
@@ -14,6 +15,7 @@ use Rattle.cc_wire.specs.declared.event.Event.{Event}
 use Rattle.cc_wire.specs.declared.event.Event.TheVariants as event
 use Rattle.cc_wire.specs.declared.message.Message.{Message}
 use Rattle.cc_wire.specs.declared.message.Message.TheVariants as message
+use Rattle.cc_wire.specs.Messages.{is_snapshot}
 use Rattle.cc_wire.specs.declared.output.Output.{Output}
 use Rattle.cc_wire.specs.declared.output.Output.TheVariants as output
 use Rattle.cc_churn.specs.Churn as churn
@@ -54,19 +56,52 @@ ids_of (message.Query tag q) = q ∷ []
 ids_of (message.QueryReply v tag q) = q ∷ table.keys v
 ids_of (message.Store v tag q) = q ∷ table.keys v
 ids_of (message.StoreAck tag q) = q ∷ []
+ids_of (message.Snapshot c v) = set.items c.entered ++ set.items c.joined ++ set.items c.left ++ table.keys v
 
 -- with a link to each of these nodes
 abbrev pub with_links : List ℕ → Core → Core
 with_links ids c = record c { links = links.add_all c.posts ids c.links }
 
-abbrev pub with_heard : ℕ → ℕ → Core → Core
-with_heard from n c = record c { links = links.hear from n c.links }
+-- whether a number leaves out some that were sent before it
+abbrev pub skips : Core → ℕ → ℕ → Bool
+skips c from n = nat_lt (links.heard_from from c.links + 1) n
 
-abbrev pub with_message : Message → Core → Core
-with_message m c = record c {
-  churn = churn.after_message c.me c.gamma m c.churn;
-  ops = ops.after_message c.me (quorum c) m c.ops;
-}
+-- the links after a delivery, and who entered, joined and left by its message
+abbrev pub links_heard : Core → ℕ → ℕ → Message → Links
+links_heard c from n m = links.hear from n (links.add_all c.posts (from ∷ ids_of m) c.links)
+
+abbrev pub churned : Core → Message → churn.Churn
+churned c m = churn.after_message c.me c.gamma m c.churn
+
+-- whether it is a snapshot by which a node has entered
+abbrev pub is_told_of : ℕ → Message → Bool
+is_told_of me (message.Snapshot d v) = set.contains d.entered me
+is_told_of me _ = false
+
+-- whether a node that hasn't joined has counted fewer echoes than nodes were heard of
+abbrev pub lacks_echo : Core → ℕ → ℕ → Message → Bool
+lacks_echo c from n m = not (churn.has_joined c.me (churned c m)) && nat_lt (churned c m).echoes (links.heard_of (links_heard c from n m))
+
+-- whether a snapshot counts as an echo to the own Enter, since it may stand for one that lapsed
+abbrev pub tells : Core → ℕ → ℕ → Message → Bool
+tells c from n m = is_told_of c.me m && (skips c from n && lacks_echo c from n m)
+
+abbrev pub told_if : Bool → ℕ → Fraction → churn.Churn → churn.Churn
+told_if b me gamma s = if b then churn.told me gamma s else s
+
+abbrev pub churn_told : Core → ℕ → ℕ → Message → churn.Churn
+churn_told c from n m = told_if (tells c from n m) c.me c.gamma (churned c m)
+
+-- whether the pending phase begins anew: the own snapshot came, or one that skips, so that answers may be lost
+abbrev pub asks_anew : Core → ℕ → ℕ → Message → Bool
+asks_anew c from n m = is_snapshot m && (not (ops.is_idle c.ops.phase) && ((from == c.me) || skips c from n))
+
+abbrev pub anew_if : Bool → ℕ → ops.Ops → ops.Ops
+anew_if b quorum s = if b then ops.anew quorum s else s
+
+-- with the need of those that are members then
+abbrev pub ops_anew : Core → ℕ → ℕ → Message → ops.Ops
+ops_anew c from n m = anew_if (asks_anew c from n m) (churn.quorum c.beta (churn_told c from n m)) (ops.after_message c.me (quorum c) m c.ops)
 
 abbrev pub asked_of : ℕ → ℕ → Command → Asked
 asked_of s r command = record { session = s; request = r; command = command }
@@ -79,18 +114,22 @@ begun c (event.Deliver from n m) = ops.begun_by c.me m c.ops
 begun c (event.Acked peer n) = None
 begun c (event.Ask s r command) = ops.begun_by_ask (asked_of s r command) c.ops
 begun c (event.Retire q) = None
+begun c (event.Lapse q) = None
+begun c event.Snapshot = None
 
 -- the state after an event, its post not yet counted
 abbrev pub handled : Core → Event → Core
 handled c event.Enter = record c { churn = churn.with_entered c.me c.churn }
 handled c event.Leave = record c { churn = churn.with_left c.me c.churn }
-handled c (event.Deliver from n m) = with_message m (with_heard from n (with_links (from ∷ ids_of m) c))
+handled c (event.Deliver from n m) = record c { churn = churn_told c from n m; ops = ops_anew c from n m; links = links_heard c from n m }
 handled c (event.Acked peer n) = record c { links = links.ack peer n c.links }
 handled c (event.Ask s r command) = record c {
   ops = ops.after_ask c.me (quorum c) (asked_of s r command) c.ops;
   sessions = table.insert c.sessions s r;
 }
 handled c (event.Retire q) = record (with_links (q ∷ []) c) { churn = churn.with_left q c.churn }
+handled c (event.Lapse q) = record c { links = links.lapse c.posts q c.links }
+handled c event.Snapshot = c
 
 -- what a message is answered with
 abbrev pub post_to : Message → Core → Core → Option Message
@@ -98,15 +137,31 @@ post_to m before after =
     option_or (churn.post_of after.me after.ops.view m before.churn after.churn)
     (ops.post_of after.me (churn.has_joined after.me after.churn) m before.ops after.ops)
 
+-- the Join of a node that joins with a snapshot
+abbrev pub join_told : Core → ℕ → ℕ → Message → Option Message
+join_told c from n m = if tells c from n m then churn.join_told c.me c.gamma (churned c m) else None
+
+-- what the phase asks that begins anew
+abbrev pub question_if : Bool → ℕ → ℕ → ops.Ops → Option Message
+question_if b me quorum s = if b then ops.question me (ops.anew quorum s) else None
+
+-- what a snapshot is answered with: the Join, else what the phase asks that begins anew
+abbrev pub post_of_snapshot : Core → ℕ → ℕ → Message → Option Message
+post_of_snapshot c from n m =
+    option_or (join_told c from n m)
+    (question_if (asks_anew c from n m) c.me (churn.quorum c.beta (churn_told c from n m)) (ops.after_message c.me (quorum c) m c.ops))
+
 -- the post of an event: the state after it is told, up to the count of posts
 abbrev pub post : Core → Event → Option Message
 post c event.Enter = Some (message.Enter c.me)
 post c event.Leave = Some (message.Leave c.me)
-post c (event.Deliver from n m) = post_to m c (handled c (event.Deliver from n m))
+post c (event.Deliver from n m) = option_or (post_of_snapshot c from n m) (post_to m c (handled c (event.Deliver from n m)))
 post c (event.Acked peer n) = None
 post c (event.Ask s r command) =
     option_map (λ asked. ops.first_post c.me asked (handled c (event.Ask s r command)).ops) (begun c (event.Ask s r command))
 post c (event.Retire q) = None
+post c (event.Lapse q) = None
+post c event.Snapshot = Some (message.Snapshot c.churn.changes c.ops.view)
 
 unfoldable pub next : Core → Event → Core
 next c e = record (handled c e) { posts = c.posts + option_len (post c e) }
@@ -119,6 +174,8 @@ ack (event.Deliver from n m) = Some (record { to = from; number = n })
 ack (event.Acked peer n) = None
 ack (event.Ask s r command) = None
 ack (event.Retire q) = None
+ack (event.Lapse q) = None
+ack event.Snapshot = None
 
 abbrev pub reply : Core → Event → Option Reply
 reply c event.Enter = None
@@ -127,6 +184,8 @@ reply c (event.Deliver from n m) = ops.reply_of c.me m c.ops
 reply c (event.Acked peer n) = None
 reply c (event.Ask s r command) = None
 reply c (event.Retire q) = None
+reply c (event.Lapse q) = None
+reply c event.Snapshot = None
 
 abbrev pub made : Core → Event → Made
 made c e = record { ack = ack e; post = post c e; answer = reply c e }

@@ -16,3 +16,4 @@ pub mod Fronts
 pub mod RecordLaws
 pub mod GoodLaws
 pub mod Parts
+pub mod Needs

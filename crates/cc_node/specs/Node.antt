@@ -41,6 +41,8 @@ forget_asked (event.Deliver from n m) o = o
 forget_asked (event.Acked peer n) o = o
 forget_asked (event.Ask s r command) o = forget s o
 forget_asked (event.Retire q) o = o
+forget_asked (event.Lapse q) o = o
+forget_asked event.Snapshot o = o
 
 unfoldable pub step : Node → Event → Node
 step n e = record {

@@ -2,6 +2,8 @@
 -- the last acknowledgement of an operation leaves none pending. No row reads the asks that wait, nor changes them.
 --     acked_alone, ops_alone   what an acknowledgement makes of the phase, and a message of the operations
 --     answer_alone             what a message is answered with
+--     phase_alone, told_post_alone   what a delivery leaves of the operations, where a snapshot lets the pending phase begin
+--                              anew, and what a snapshot is answered with
 --     next_alone, post_alone   the core after an event, and the post that it makes
 --     outputs_alone            what is put out for it, in order
 --     decides_alone            none, or the reason for which an event is refused
@@ -28,9 +30,10 @@ use Rattle.cc_ops.specs.Commands.{finds_no_room}
 use Rattle.cc_ops.specs.Ops.{Ops, Phase, Idle, Storing, Querying, StoringBack, is_idle, is_last, counted, merged, is_own, with_begun, after_reply, first_post, ends_query}
 use Rattle.cc_links.specs.Links as links
 use Rattle.cc_outbox.specs.Outbox.{post_limit, trim}
-use Rattle.cc_node.specs.Core.{Core, quorum, asked_of, ids_of, with_links, with_heard, ack, reply, send_ack, send_post, send_reply, lowest}
+use Rattle.cc_node.specs.Core.{Core, asked_of, ids_of, with_links, links_heard, churn_told, join_told, asks_anew, anew_if, question_if}
+use Rattle.cc_node.specs.Core.{quorum, ack, reply, send_ack, send_post, send_reply, lowest}
 use Rattle.cc_node.specs.Node.{Node, keep, add, forget_asked}
-use Rattle.cc_node.specs.Refusals.{left, has_gone, not_entered, already_entered, not_joined, old, gap, nothing_to_ack, too_many_nodes, too_many_sessions, repeat, stale, skip, any_overruns}
+use Rattle.cc_node.specs.Refusals.{left, has_gone, not_entered, already_entered, not_joined, old, gap, nothing_to_ack, too_many_nodes, too_many_sessions, repeat, stale, skip, nothing_to_lapse, any_overruns}
 
 -- ---- operations
 
@@ -52,6 +55,7 @@ ops_alone me quorum (message.Query tag q) s = s
 ops_alone me quorum (message.QueryReply v tag q) s = if is_own me tag q s then after_reply quorum v s.phase s else s
 ops_alone me quorum (message.Store v tag q) s = merged v s
 ops_alone me quorum (message.StoreAck tag q) s = if is_own me tag q s then record s { phase = acked_alone s.phase } else s
+ops_alone me quorum (message.Snapshot c v) s = merged v s
 
 -- before and after are the states around the message. Only a node that has joined serves others
 abbrev pub answer_alone : ℕ → Bool → Message → Ops → Ops → Option Message
@@ -66,26 +70,36 @@ answer_alone me is_joined (message.QueryReply v tag q) before after =
     then_some (is_own me tag q before && ends_query before.phase) (message.Store after.view after.tag me)
 answer_alone me is_joined (message.Store v tag q) before after = then_some is_joined (message.StoreAck tag q)
 answer_alone me is_joined (message.StoreAck tag q) before after = None
+answer_alone me is_joined (message.Snapshot c v) before after = None
 
 -- ---- the core
 
-abbrev pub told_alone : Message → Core → Core
-told_alone m c = record c {
-  churn = churn.after_message c.me c.gamma m c.churn;
-  ops = ops_alone c.me (quorum c) m c.ops;
-}
+-- the pending phase begins anew with the need of those that are members then, where the own snapshot came or one that skips
+abbrev pub quorum_told : Core → ℕ → ℕ → Message → ℕ
+quorum_told c from n m = churn.quorum c.beta (churn_told c from n m)
+
+abbrev pub phase_alone : Core → ℕ → ℕ → Message → Ops
+phase_alone c from n m = anew_if (asks_anew c from n m) (quorum_told c from n m) (ops_alone c.me (quorum c) m c.ops)
+
+-- the Join of a node that joins with a snapshot, else what the phase asks that begins anew
+abbrev pub told_post_alone : Core → ℕ → ℕ → Message → Option Message
+told_post_alone c from n m =
+    option_or (join_told c from n m)
+    (question_if (asks_anew c from n m) c.me (quorum_told c from n m) (ops_alone c.me (quorum c) m c.ops))
 
 -- the core after an event, its post not yet counted
 abbrev pub handled_alone : Core → Event → Core
 handled_alone c event.Enter = record c { churn = churn.with_entered c.me c.churn }
 handled_alone c event.Leave = record c { churn = churn.with_left c.me c.churn }
-handled_alone c (event.Deliver from n m) = told_alone m (with_heard from n (with_links (from ∷ ids_of m) c))
+handled_alone c (event.Deliver from n m) = record c { churn = churn_told c from n m; ops = phase_alone c from n m; links = links_heard c from n m }
 handled_alone c (event.Acked peer n) = record c { links = links.ack peer n c.links }
 handled_alone c (event.Ask s r command) = record c {
   ops = with_begun c.me (quorum c) (asked_of s r command) c.ops;
   sessions = table.insert c.sessions s r;
 }
 handled_alone c (event.Retire q) = record (with_links (q ∷ []) c) { churn = churn.with_left q c.churn }
+handled_alone c (event.Lapse q) = record c { links = links.lapse c.posts q c.links }
+handled_alone c event.Snapshot = c
 
 abbrev pub post_to_alone : Message → Core → Core → Option Message
 post_to_alone m before after =
@@ -95,10 +109,12 @@ post_to_alone m before after =
 abbrev pub post_alone : Core → Event → Option Message
 post_alone c event.Enter = Some (message.Enter c.me)
 post_alone c event.Leave = Some (message.Leave c.me)
-post_alone c (event.Deliver from n m) = post_to_alone m c (handled_alone c (event.Deliver from n m))
+post_alone c (event.Deliver from n m) = option_or (told_post_alone c from n m) (post_to_alone m c (handled_alone c (event.Deliver from n m)))
 post_alone c (event.Acked peer n) = None
 post_alone c (event.Ask s r command) = Some (first_post c.me (asked_of s r command) (handled_alone c (event.Ask s r command)).ops)
 post_alone c (event.Retire q) = None
+post_alone c (event.Lapse q) = None
+post_alone c event.Snapshot = Some (message.Snapshot c.churn.changes c.ops.view)
 
 unfoldable pub next_alone : Core → Event → Core
 next_alone c e = record (handled_alone c e) { posts = c.posts + option_len (post_alone c e) }
@@ -125,7 +141,7 @@ reasons_alone c event.Enter = left c ∷ already_entered c ∷ outbox_full_alone
 reasons_alone c event.Leave = left c ∷ not_entered c ∷ outbox_full_alone c event.Leave ∷ spent_alone c event.Leave ∷ []
 reasons_alone c (event.Deliver from n m) =
     let e = event.Deliver from n m in
-    left c ∷ not_entered c ∷ old c from n ∷ gap c from n ∷ too_many_nodes c (from ∷ ids_of m) ∷ outbox_full_alone c e ∷ spent_alone c e ∷ []
+    left c ∷ not_entered c ∷ old c from n ∷ gap c from n m ∷ too_many_nodes c (from ∷ ids_of m) ∷ outbox_full_alone c e ∷ spent_alone c e ∷ []
 reasons_alone c (event.Acked peer n) = nothing_to_ack c peer n ∷ spent_alone c (event.Acked peer n) ∷ []
 reasons_alone c (event.Ask s r command) =
     let e = event.Ask s r command in
@@ -133,6 +149,10 @@ reasons_alone c (event.Ask s r command) =
     ∷ busy_alone c ∷ set_full_alone c command ∷ outbox_full_alone c e ∷ spent_alone c e ∷ []
 reasons_alone c (event.Retire q) =
     left c ∷ has_gone c q ∷ not_entered c ∷ too_many_nodes c (q ∷ []) ∷ spent_alone c (event.Retire q) ∷ []
+reasons_alone c (event.Lapse q) =
+    left c ∷ not_entered c ∷ not_joined c ∷ nothing_to_lapse c q ∷ spent_alone c (event.Lapse q) ∷ []
+reasons_alone c event.Snapshot =
+    left c ∷ not_entered c ∷ not_joined c ∷ outbox_full_alone c event.Snapshot ∷ spent_alone c event.Snapshot ∷ []
 
 unfoldable pub decides_alone : Core → Event → Option Refusal
 decides_alone c e = first_of (reasons_alone c e)

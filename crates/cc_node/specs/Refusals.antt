@@ -5,14 +5,17 @@ use Rattle.std.specs.Prelude.{◌==◌, ℕ, ◌+◌, ◌-◌, Bool, false, ◌&
 use Rattle.std.specs.Option.{option_map_or}
 use Rattle.std.specs.Bool.{then_some}
 use Rattle.std.specs.FinMap as table
-use Rattle.cc_views.specs.Limits.{known_limit, overruns}
+use Rattle.cc_views.specs.Limits.{counter_limit, known_limit, overruns}
 use Rattle.cc_wire.specs.declared.command.Command.{Command}
+use Rattle.cc_wire.specs.declared.message.Message.{Message}
+use Rattle.cc_wire.specs.Messages.{is_snapshot}
 use Rattle.cc_wire.specs.declared.event.Event.{Event}
 use Rattle.cc_wire.specs.declared.event.Event.TheVariants as event
 use Rattle.cc_wire.specs.declared.refusal.Refusal.{Refusal}
 use Rattle.cc_wire.specs.declared.refusal.Refusal.TheVariants as refusal
 use Rattle.cc_wire.specs.Refusals.{first_of}
 pub use Rattle.cc_wire.specs.Refusals.{decided}
+use Rattle.cc_churn.specs.Churn as churn
 use Rattle.cc_churn.specs.Refusals as coming
 use Rattle.cc_ops.specs.Refusals as pending
 use Rattle.cc_ops.specs.Waiting.{line_limit}
@@ -41,11 +44,17 @@ not_joined c = coming.not_joined c.me c.churn
 abbrev pub old : Core → ℕ → ℕ → Option Refusal
 old c from n = let heard = links.heard_from from c.links in then_some (nat_le n heard) (refusal.Old heard)
 
-abbrev pub gap : Core → ℕ → ℕ → Option Refusal
-gap c from n = let heard = links.heard_from from c.links in then_some (nat_lt (heard + 1) n) (refusal.Gap heard)
+-- a snapshot may leave out what was sent before it
+abbrev pub gap : Core → ℕ → ℕ → Message → Option Refusal
+gap c from n m = let heard = links.heard_from from c.links in then_some (nat_lt (heard + 1) n && not (is_snapshot m)) (refusal.Gap heard)
 
 abbrev pub nothing_to_ack : Core → ℕ → ℕ → Option Refusal
 nothing_to_ack c peer n = then_some (not (option_map_or (links.awaits_ack c.posts n) (table.get c.links peer) false)) refusal.NothingToAck
+
+-- nothing is kept for a node without a link, for one that has left, and where all is acknowledged
+abbrev pub nothing_to_lapse : Core → ℕ → Option Refusal
+nothing_to_lapse c q =
+    then_some (churn.has_left q c.churn || not (option_map_or (links.awaits_any c.posts) (table.get c.links q) false)) refusal.NothingToAck
 
 abbrev pub too_many_nodes : Core → List ℕ → Option Refusal
 too_many_nodes c ids = then_some (nat_lt known_limit (table.len (with_links ids c).links)) refusal.TooManyNodes
@@ -72,14 +81,16 @@ set_full c command = pending.set_full command c.ops
 abbrev pub outbox_full : Core → Event → Option Refusal
 outbox_full c e = then_some (is_some (post c e) && ((c.posts - lowest c) == post_limit)) refusal.OutboxFull
 
--- of the tables only the row that the event is about can change
+-- of the tables only the row that the event is about can change; what is heard may rise by more than one
 abbrev pub row_overruns : Core → Core → Event → Bool
 row_overruns c d event.Enter = false
 row_overruns c d event.Leave = false
-row_overruns c d (event.Deliver from n m) = overruns (links.heard_from from c.links) (links.heard_from from d.links)
+row_overruns c d (event.Deliver from n m) = nat_lt counter_limit (links.heard_from from d.links)
 row_overruns c d (event.Acked peer n) = false
 row_overruns c d (event.Ask s r command) = overruns (last_request c.sessions s) (last_request d.sessions s)
 row_overruns c d (event.Retire q) = false
+row_overruns c d (event.Lapse q) = false
+row_overruns c d event.Snapshot = false
 
 abbrev pub any_overruns : Core → Core → Event → Bool
 any_overruns c d e =
@@ -95,13 +106,15 @@ reasons limit c event.Enter = left c ∷ already_entered c ∷ outbox_full c eve
 reasons limit c event.Leave = left c ∷ not_entered c ∷ outbox_full c event.Leave ∷ spent c event.Leave ∷ []
 reasons limit c (event.Deliver from n m) =
     let e = event.Deliver from n m in
-    left c ∷ not_entered c ∷ old c from n ∷ gap c from n ∷ too_many_nodes c (from ∷ ids_of m) ∷ outbox_full c e ∷ spent c e ∷ []
+    left c ∷ not_entered c ∷ old c from n ∷ gap c from n m ∷ too_many_nodes c (from ∷ ids_of m) ∷ outbox_full c e ∷ spent c e ∷ []
 reasons limit c (event.Acked peer n) = nothing_to_ack c peer n ∷ spent c (event.Acked peer n) ∷ []
 reasons limit c (event.Ask s r command) =
     let e = event.Ask s r command in
     left c ∷ not_entered c ∷ not_joined c ∷ too_many_sessions c s ∷ repeat c s r ∷ stale c s r ∷ skip c s r
     ∷ busy limit c s ∷ set_full c command ∷ outbox_full c e ∷ spent c e ∷ []
 reasons limit c (event.Retire q) = left c ∷ has_gone c q ∷ not_entered c ∷ too_many_nodes c (q ∷ []) ∷ spent c (event.Retire q) ∷ []
+reasons limit c (event.Lapse q) = left c ∷ not_entered c ∷ not_joined c ∷ nothing_to_lapse c q ∷ spent c (event.Lapse q) ∷ []
+reasons limit c event.Snapshot = left c ∷ not_entered c ∷ not_joined c ∷ outbox_full c event.Snapshot ∷ spent c event.Snapshot ∷ []
 
 -- none, or the reason for which an event is refused, where no more than so many asks wait
 unfoldable pub decides_within : ℕ → Core → Event → Option Refusal

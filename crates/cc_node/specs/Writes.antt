@@ -17,6 +17,8 @@ asked_by (event.Deliver from n m) = None
 asked_by (event.Acked peer n) = None
 asked_by (event.Ask s r command) = Some (asked_of s r command)
 asked_by (event.Retire q) = None
+asked_by (event.Lapse q) = None
+asked_by event.Snapshot = None
 
 abbrev pub asked_along : List Event → List Asked
 asked_along [] = []

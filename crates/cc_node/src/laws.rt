@@ -1,16 +1,27 @@
 //! The laws of a node's histories. Each is a function with an empty body, whose contract is the law.
 
-ghost use Rattle.std.specs.Prelude.{◌≡◌, ◌≢◌, ◌↔◌, ◌+◌, ◌++◌, ℕ, List, [], None};
+ghost use Rattle.std.specs.Prelude.{◌≡◌, ◌≢◌, ◌↔◌, ◌+◌, ◌-◌, ◌≤◌, ◌++◌, ℕ, List, [], None, Some, true, false};
+ghost use Rattle.std.specs.FinMap as table;
 ghost use Rattle.std.specs.List.{All, AllPairs};
 ghost use Rattle.cc_views.specs.Merge.{IsAtMost};
+ghost use Rattle.cc_views.specs.Rows.{ViewMap};
+ghost use Rattle.cc_changes.specs.ChangeSets.{ChangeSets};
+ghost use Rattle.cc_links.specs.Links.{Link, heard_from};
+ghost use Rattle.cc_views.specs.Limits.{counter_limit, overruns};
+ghost use Rattle.cc_wire.specs.Messages.{is_snapshot};
+ghost use Rattle.cc_wire.specs.declared.message.Message.{Message};
 ghost use Rattle.cc_wire.specs.declared.event.Event.{Event};
+ghost use Rattle.cc_wire.specs.declared.event.Event.TheVariants as event;
+ghost use Rattle.cc_wire.specs.declared.message.Message.TheVariants as message;
+ghost use Rattle.cc_ops.specs.Ops.{merged, after_message};
+ghost use Rattle.cc_ops.specs.OwnLaws.{AsksAnewAlone};
 ghost use Rattle.cc_wire.specs.declared.output.Output.{Output};
 ghost use Rattle.cc_ops.specs.declared.pending.Asked.{Asked};
 ghost use Rattle.cc_ops.specs.Waiting.{writes, mine_after, writes_by, written_by};
-ghost use Rattle.cc_node.specs.Core.{Core, begun, next};
+ghost use Rattle.cc_node.specs.Core.{Core, quorum, churned, churn_told, asks_anew, ops_anew, begun, next};
 ghost use Rattle.cc_node.specs.Node.{Node, step, after, line, HasOutput, MayBeOut, IsLawful, IsLawfulWithin};
 ghost use Rattle.cc_node.specs.OneAtATime.{waiting, decides_alone, next_alone, post_alone, step_alone, after_alone, line_alone, IsLawfulAlone};
-ghost use Rattle.cc_node.specs.Refusals.{decides, decides_within};
+ghost use Rattle.cc_node.specs.Refusals.{decides, decides_within, row_overruns};
 ghost use Rattle.cc_node.specs.Sides.{SpellsRecord};
 ghost use Rattle.cc_node.specs.Lawful.{IsLawfulNode};
 ghost use Rattle.cc_node.specs.Opening.{Opening, IsOpening, fresh};
@@ -76,6 +87,29 @@ pub fn no_output_twice()
     ensures rising { (n : Node) (es : List Event) → IsLawfulNode n → IsLawful n es → AllPairs Follows (line n es) }
     ensures since { (n : Node) (es : List Event) (o : Output) → IsLawfulNode n → IsLawful n es → HasOutput n o → All (Follows o) (line n es) }
     ensures apart { (n : Node) (es : List Event) → IsLawfulNode n → IsLawful n es → AllPairs (λ x y. x ≢ y) (line n es) }
+{}
+
+/// A lapse makes of a core what the peer's acknowledgement of all that was sent to it would, which isn't refused either.
+pub fn lapse_is_an_acknowledgement()
+    ensures { (c : Core) (q : ℕ) (l : Link) → table.get c.links q ≡ Some l → decides c (event.Lapse q) ≡ None
+        → (decides c (event.Acked q (c.posts - l.start)) ≡ None) × (next c (event.Lapse q) ≡ next c (event.Acked q (c.posts - l.start))) }
+{}
+
+/// What isn't a snapshot counts as no more than it is, and lets nothing begin anew. Under the next number of its link a
+/// message raises what was heard past its limit exactly where that stands at it.
+pub fn others_stay()
+    ensures echo { (c : Core) (from n : ℕ) (m : Message) → is_snapshot m ≡ false → churn_told c from n m ≡ churned c m }
+    ensures phase { (c : Core) (from n : ℕ) (m : Message) → is_snapshot m ≡ false → ops_anew c from n m ≡ after_message c.me (quorum c) m c.ops }
+    ensures limit { (c : Core) (from n : ℕ) (m : Message) → n ≡ heard_from from c.links + 1 → heard_from from c.links ≤ counter_limit
+        → row_overruns c (next c (event.Deliver from n m)) (event.Deliver from n m) ≡ overruns (heard_from from c.links) (heard_from from (next c (event.Deliver from n m)).links) }
+{}
+
+/// A phase that begins anew is no new operation: beside the union and the merge of the snapshot it changes the tag, the need
+/// and the count alone.
+pub fn asks_anew_alone()
+    ensures { (c : Core) (from n : ℕ) (d : ChangeSets) (v : ViewMap) → asks_anew c from n (message.Snapshot d v) ≡ true
+        → AsksAnewAlone (merged v c.ops) (next c (event.Deliver from n (message.Snapshot d v))).ops
+        × ((next c (event.Deliver from n (message.Snapshot d v))).sessions ≡ c.sessions) }
 {}
 
 /// Each record has one spelling, and none begins another.

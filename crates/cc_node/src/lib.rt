@@ -5,14 +5,17 @@ mod core_parts;
 mod laws;
 mod made;
 mod named_nodes;
+mod needs;
 mod node;
 mod node_core;
 mod opening;
+mod told;
 
 pub use core_parts::CoreParts;
 pub use laws::{
-    asks_begin_in_order, lawful_kept, lines_add_nothing, lines_may_grow, no_output_twice,
-    one_spelling_of_records, own_number_counts_writes, standing_made, view_only_grows,
+    asks_anew_alone, asks_begin_in_order, lapse_is_an_acknowledgement, lawful_kept,
+    lines_add_nothing, lines_may_grow, no_output_twice, one_spelling_of_records, others_stay,
+    own_number_counts_writes, standing_made, view_only_grows,
 };
 pub use made::{LinkAck, Made};
 pub use node::Node;

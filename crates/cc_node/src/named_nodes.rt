@@ -12,18 +12,19 @@ ghost use Rattle.cc_node.specs.Known.{Marks};
 use cc_links::{KnownIds, Links};
 use cc_views::{NodeId, Row};
 use cc_wire::Message;
+use std::slice;
 
-// The nodes that a message names: those of its view, those of its changes, and one.
+// The nodes that a message names: those of its view, those of its changes, and one, or none.
 struct Named<'a> {
     rows: &'a [Row],
     left: &'a [NodeId],
     joined: &'a [NodeId],
     entered: &'a [NodeId],
-    node: NodeId,
+    node: &'a [NodeId],
 }
 
 fn named_by(message: &Message) -> Named<'_>
-    ensures { ids_of message.now ≡ result.node ∷ (result.entered.now ++ (result.joined.now ++ (result.left.now ++ nodes_of result.rows.now))) }
+    ensures { ids_of message.now ≡ result.node.now ++ (result.entered.now ++ (result.joined.now ++ (result.left.now ++ nodes_of result.rows.now))) }
 {
     match message {
         Message::EnterEcho {
@@ -36,30 +37,37 @@ fn named_by(message: &Message) -> Named<'_>
             left: changes.left(),
             joined: changes.joined(),
             entered: changes.entered(),
-            node: *node,
+            node: slice::from_ref(node),
+        },
+        Message::Snapshot { changes, view } => Named {
+            rows: view.rows(),
+            left: changes.left(),
+            joined: changes.joined(),
+            entered: changes.entered(),
+            node: &[],
         },
         Message::QueryReply { view, node, .. } | Message::Store { view, node, .. } => {
-            named_by_rows(view.rows(), *node)
+            named_by_rows(view.rows(), node)
         }
         Message::Enter { node }
         | Message::Join { node }
         | Message::JoinEcho { node }
         | Message::Leave { node }
-        | Message::LeaveEcho { node } => named_by_rows(&[], *node),
-        Message::Query { node, .. } | Message::StoreAck { node, .. } => named_by_rows(&[], *node),
+        | Message::LeaveEcho { node } => named_by_rows(&[], node),
+        Message::Query { node, .. } | Message::StoreAck { node, .. } => named_by_rows(&[], node),
     }
 }
 
 // Those of rows, and one.
-fn named_by_rows<'a>(rows: &'a [Row], node: NodeId) -> Named<'a>
-    ensures { result.node ∷ (result.entered.now ++ (result.joined.now ++ (result.left.now ++ nodes_of result.rows.now))) ≡ node ∷ nodes_of rows.now }
+fn named_by_rows<'a>(rows: &'a [Row], node: &'a NodeId) -> Named<'a>
+    ensures { result.node.now ++ (result.entered.now ++ (result.joined.now ++ (result.left.now ++ nodes_of result.rows.now))) ≡ node.now ∷ nodes_of rows.now }
 {
     Named {
         rows,
         left: &[],
         joined: &[],
         entered: &[],
-        node,
+        node: slice::from_ref(node),
     }
 }
 
@@ -88,7 +96,7 @@ pub(crate) fn mark_named(known: &mut KnownIds, message: &Message) -> bool
     let fit = mark_more(known, fit, left);
     let fit = mark_more(known, fit, joined);
     let fit = mark_more(known, fit, entered);
-    mark_more(known, fit, &[node])
+    mark_more(known, fit, node)
 }
 
 // Gives each node that a message names a link, unless it has one.
@@ -107,5 +115,5 @@ pub(crate) fn link_named(peers: &mut Links, message: &Message, posts: u64)
     peers.add_all(left, posts);
     peers.add_all(joined, posts);
     peers.add_all(entered, posts);
-    peers.add(node, posts);
+    peers.add_all(node, posts);
 }

@@ -209,7 +209,9 @@ fn forget_asked(outbox: &mut Outbox, event: &Event)
         | Event::Leave
         | Event::Deliver { .. }
         | Event::Acked { .. }
-        | Event::Retire { .. } => {}
+        | Event::Retire { .. }
+        | Event::Lapse { .. }
+        | Event::Snapshot => {}
     }
 }
 

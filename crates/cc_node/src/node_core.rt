@@ -1,6 +1,6 @@
 //! The core of a node: a composition of its parts.
 
-ghost use Rattle.std.specs.Prelude.{◌≡◌, ◌+◌, ◌-◌, ◌≤◌, ◌==◌, ◌&&◌, ◌⊎◌, ◌↔◌, [], ◌∷◌, Bool, None, Some, OnOk, IfOk, IfErr, IfSome, IsTrue, is_some, slice_get, ℕ};
+ghost use Rattle.std.specs.Prelude.{◌≡◌, ◌+◌, ◌-◌, ◌<◌, ◌≤◌, ◌==◌, ◌&&◌, ◌⊎◌, ◌↔◌, [], ◌∷◌, Bool, None, Some, OnOk, IfOk, IfErr, IfSome, IsTrue, true, false, is_some, slice_get, ℕ};
 ghost use Rattle.std.specs.Bool.{then_some};
 ghost use Rattle.std.specs.FinMap as table;
 ghost use Rattle.cc_views.specs.Limits.{counter_limit};
@@ -9,6 +9,7 @@ ghost use Rattle.cc_links.specs.Links as links;
 ghost use Rattle.cc_links.specs.Rows.{rows_of};
 ghost use Rattle.cc_ops.specs.Stages.{stage_of};
 ghost use Rattle.cc_outbox.specs.Outbox.{post_limit};
+ghost use Rattle.cc_wire.specs.Messages.{is_snapshot};
 ghost use Rattle.cc_wire.specs.Refusals.{first_of};
 ghost use Rattle.cc_wire.specs.declared.event.Event.TheVariants as event;
 ghost use Rattle.cc_wire.specs.declared.refusal.Refusal.TheVariants as refusal;
@@ -23,6 +24,7 @@ use crate::core_parts::CoreParts;
 use crate::made::{LinkAck, Made};
 use crate::named_nodes::{link_named, mark_named};
 use crate::opening::Opening;
+use crate::told::{ask_anew, count_told};
 use cc_changes::Fraction;
 use cc_churn::Churn;
 use cc_links::{KnownIds, LinkRow, Links};
@@ -37,15 +39,15 @@ use std::marker::Model;
 /// The state of a node, up to what it keeps to put out again.
 #[derive(Debug, Drop)]
 pub struct Core {
-    me: NodeId,
-    beta: Fraction,
-    gamma: Fraction,
-    churn: Churn,
-    ops: Ops,
+    pub(crate) me: NodeId,
+    pub(crate) beta: Fraction,
+    pub(crate) gamma: Fraction,
+    pub(crate) churn: Churn,
+    pub(crate) ops: Ops,
     // How many posts were ever made.
-    posts: u64,
-    links: Links,
-    sessions: Sessions,
+    pub(crate) posts: u64,
+    pub(crate) links: Links,
+    pub(crate) sessions: Sessions,
 }
 
 impl Model for Core {
@@ -251,6 +253,8 @@ impl Core {
                 command,
             } => self.decide_ask(*session, *request, command),
             Event::Retire { node } => self.decide_retire(*node),
+            Event::Lapse { node } => self.decide_lapse(*node),
+            Event::Snapshot => self.decide_snapshot(),
         }
     }
 
@@ -292,24 +296,24 @@ impl Core {
         ensures { result ≡ decided (decides self.now (event.Deliver from number message.now)) }
     {
         self.churn.decide_delivery(self.me)?;
-        self.decide_number(from, number)?;
-        self.decide_message(from, message)
+        self.decide_number(from, number, message)?;
+        self.decide_message(from, number, message)
     }
 
-    // Why the message, the next on its link, can't be taken, if it can't.
-    fn decide_message(&self, from: NodeId, message: &Message) -> Result<(), Refusal>
-        ensures { (n : ℕ) → n ≡ links.heard_from from self.now.links + 1
-            → result ≡ decided (first_of (reasons.too_many_nodes self.now (from ∷ machine.ids_of message.now) ∷ reasons.outbox_full self.now (event.Deliver from n message.now)
-            ∷ reasons.spent self.now (event.Deliver from n message.now) ∷ [])) }
+    // Why the message, under a number above what was heard, can't be taken, if it can't.
+    fn decide_message(&self, from: NodeId, number: u64, message: &Message) -> Result<(), Refusal>
+        requires { links.heard_from from self.now.links < number }
+        ensures { result ≡ decided (first_of (reasons.too_many_nodes self.now (from ∷ machine.ids_of message.now) ∷ reasons.outbox_full self.now (event.Deliver from number message.now)
+            ∷ reasons.spent self.now (event.Deliver from number message.now) ∷ [])) }
     {
         if self.knows_too_many(from, message) {
             return Err(Refusal::TooManyNodes);
         }
-        let makes_post = self.makes_post(message);
+        let makes_post = self.makes_post(from, number, message);
         if self.has_no_room(makes_post) {
             return Err(Refusal::OutboxFull);
         }
-        if self.delivery_is_spent(from, message, makes_post) {
+        if self.delivery_is_spent(from, number, message, makes_post) {
             return Err(Refusal::Spent);
         }
         Ok(())
@@ -322,15 +326,15 @@ impl Core {
         makes_post && self.is_outbox_full()
     }
 
-    // Why the number isn't the next one of its link, if it isn't.
-    fn decide_number(&self, from: NodeId, number: u64) -> Result<(), Refusal>
-        ensures { result ≡ decided (first_of (reasons.old self.now from number ∷ reasons.gap self.now from number ∷ [])) }
+    // Why the number isn't the next one of its link, if it isn't. That of a snapshot may be any above what was heard.
+    fn decide_number(&self, from: NodeId, number: u64, message: &Message) -> Result<(), Refusal>
+        ensures { result ≡ decided (first_of (reasons.old self.now from number ∷ reasons.gap self.now from number message.now ∷ [])) }
     {
         let heard = self.heard(from);
         if number <= heard {
             return Err(Refusal::Old(heard));
         }
-        if number - heard > 1 {
+        if number - heard > 1 && !message.is_snapshot() {
             return Err(Refusal::Gap(heard));
         }
         Ok(())
@@ -351,18 +355,48 @@ impl Core {
     }
 
     // Whether the message is answered with a post.
-    fn makes_post(&self, message: &Message) -> bool
+    fn makes_post(&self, from: NodeId, number: u64, message: &Message) -> bool
+        requires { links.heard_from from self.now.links < number }
+        ensures { result ≡ is_some (machine.post self.now (event.Deliver from number message.now)) }
+    {
+        if message.is_snapshot() {
+            return self.makes_told(from, number, message);
+        }
+        self.is_answered(message)
+    }
+
+    // Whether a message that isn't a snapshot is answered with a post.
+    fn is_answered(&self, message: &Message) -> bool
+        requires { is_snapshot message.now ≡ false }
         ensures { (from n : ℕ) → result ≡ is_some (machine.post self.now (event.Deliver from n message.now)) }
     {
         self.churn.makes_post(self.me, self.gamma, message)
             || self.ops.makes_post(self.me, self.is_joined(), message)
     }
 
-    // Whether a counter stands at its limit that the message, the next on its link, would raise.
-    fn delivery_is_spent(&self, from: NodeId, message: &Message, makes_post: bool) -> bool
-        requires { (n : ℕ) → makes_post ≡ is_some (machine.post self.now (event.Deliver from n message.now)) }
-        ensures { (n : ℕ) → n ≡ links.heard_from from self.now.links + 1
-            → result ≡ reasons.any_overruns self.now (machine.next self.now (event.Deliver from n message.now)) (event.Deliver from n message.now) }
+    // Whether a counter stands at its limit that the message would raise, or its number is past the limit.
+    fn delivery_is_spent(
+        &self,
+        from: NodeId,
+        number: u64,
+        message: &Message,
+        makes_post: bool,
+    ) -> bool
+        requires above { links.heard_from from self.now.links < number }
+        requires posts { makes_post ≡ is_some (machine.post self.now (event.Deliver from number message.now)) }
+        ensures { result ≡ reasons.any_overruns self.now (machine.next self.now (event.Deliver from number message.now)) (event.Deliver from number message.now) }
+    {
+        if message.is_snapshot() {
+            return self.told_is_spent(from, number, message, makes_post);
+        }
+        self.message_is_spent(number, message, makes_post)
+    }
+
+    // The same of a message that isn't a snapshot.
+    fn message_is_spent(&self, number: u64, message: &Message, makes_post: bool) -> bool
+        requires snapshot { is_snapshot message.now ≡ false }
+        requires posts { (from : ℕ) → makes_post ≡ is_some (machine.post self.now (event.Deliver from number message.now)) }
+        ensures { (from : ℕ) → result ≡ reasons.any_overruns self.now (machine.next self.now (event.Deliver from number message.now)) (event.Deliver from number message.now) }
     {
         if self.ops.is_spent(self.me, self.quorum(), message) {
             return true;
@@ -373,11 +407,11 @@ impl Core {
         if self.churn.is_spent(self.me, self.gamma, message) {
             return true;
         }
-        self.heard(from) == COUNTER_LIMIT
+        number > COUNTER_LIMIT
     }
 
     // Whether there is a post, and the count of posts stands at its limit.
-    fn posts_are_spent(&self, makes_post: bool) -> bool
+    pub(crate) fn posts_are_spent(&self, makes_post: bool) -> bool
         ensures { result ≡ (makes_post && (self.now.posts == counter_limit)) }
     {
         makes_post && self.posts == COUNTER_LIMIT
@@ -453,6 +487,30 @@ impl Core {
         Ok(())
     }
 
+    fn decide_lapse(&self, node: NodeId) -> Result<(), Refusal>
+        ensures { result ≡ decided (decides self.now (event.Lapse node)) }
+    {
+        self.churn.decide_ask(self.me)?;
+        if self.has_nothing_to_lapse(node) {
+            return Err(Refusal::NothingToAck);
+        }
+        Ok(())
+    }
+
+    // Whether nothing is kept for the node: it has no link, has left, or has acknowledged all.
+    fn has_nothing_to_lapse(&self, node: NodeId) -> bool
+        ensures { then_some result refusal.NothingToAck ≡ reasons.nothing_to_lapse self.now node }
+    {
+        self.churn.has_left(node) || !self.links.awaits_any(node, self.posts)
+    }
+
+    fn decide_snapshot(&self) -> Result<(), Refusal>
+        ensures { result ≡ decided (decides self.now event.Snapshot) }
+    {
+        self.churn.decide_ask(self.me)?;
+        self.decide_post()
+    }
+
     // Whether that node and the known ones are too many together.
     fn knows_too_many_with(&self, node: NodeId) -> bool
         ensures { then_some result refusal.TooManyNodes ≡ reasons.too_many_nodes self.now (node ∷ []) }
@@ -477,7 +535,8 @@ impl Core {
                 number,
                 message,
             } => self.made_of_delivery(alloc, *from, *number, message),
-            Event::Acked { .. } | Event::Retire { .. } => Ok(Made::nothing()),
+            Event::Acked { .. } | Event::Retire { .. } | Event::Lapse { .. } => Ok(Made::nothing()),
+            Event::Snapshot => self.made_of_snapshot(alloc),
             Event::Ask {
                 session,
                 request,
@@ -498,6 +557,14 @@ impl Core {
         }
     }
 
+    fn made_of_snapshot(&self, alloc: Global) -> Result<Made, NoMemory>
+        ensures { IfOk result (λ m. m ≡ machine.made self.now event.Snapshot) }
+    {
+        let changes = self.churn.changes().copy(alloc)?;
+        let view = self.ops.view().copy(alloc)?;
+        Ok(Made::posted(Message::Snapshot { changes, view }))
+    }
+
     fn made_of_delivery(
         &self,
         alloc: Global,
@@ -506,6 +573,23 @@ impl Core {
         message: &Message,
     ) -> Result<Made, NoMemory>
         requires { decides self.now (event.Deliver from number message.now) ≡ None }
+        ensures { IfOk result (λ m. m ≡ machine.made self.now (event.Deliver from number message.now)) }
+    {
+        if message.is_snapshot() {
+            return self.made_of_told(alloc, from, number, message);
+        }
+        self.made_of_message(alloc, from, number, message)
+    }
+
+    fn made_of_message(
+        &self,
+        alloc: Global,
+        from: NodeId,
+        number: u64,
+        message: &Message,
+    ) -> Result<Made, NoMemory>
+        requires snapshot { is_snapshot message.now ≡ false }
+        requires taken { decides self.now (event.Deliver from number message.now) ≡ None }
         ensures { IfOk result (λ m. m ≡ machine.made self.now (event.Deliver from number message.now)) }
     {
         let churned = self
@@ -564,6 +648,8 @@ impl Core {
                 command,
             } => self.ask(*session, *request, command),
             Event::Retire { node } => self.retire(*node),
+            Event::Lapse { node } => self.lapse(*node),
+            Event::Snapshot => self.snapshot(),
         }
     }
 
@@ -587,13 +673,17 @@ impl Core {
         requires { decides self.old (event.Deliver from number message.now) ≡ None }
         ensures { self.new ≡ machine.next self.old (event.Deliver from number message.now) }
     {
-        let made = u64::from(self.makes_post(message));
+        let made = u64::from(self.makes_post(from, number, message));
+        let told = self.tells(from, number, message);
+        let anew = self.asks_anew(from, number, message);
         let quorum = self.quorum();
         link_named(&mut self.links, message, self.posts);
         self.links.add(from, self.posts);
         self.links.hear(from, number);
         self.churn.apply(self.me, self.gamma, message);
+        count_told(&mut self.churn, told, self.me, self.gamma);
         self.ops.apply(self.me, quorum, message);
+        ask_anew(&mut self.ops, anew, self.churn.quorum(self.beta));
         self.posts += made;
     }
 
@@ -625,5 +715,19 @@ impl Core {
     {
         self.links.add(node, self.posts);
         self.churn.leave(node);
+    }
+
+    fn lapse(&mut self, node: NodeId)
+        requires { decides self.old (event.Lapse node) ≡ None }
+        ensures { self.new ≡ machine.next self.old (event.Lapse node) }
+    {
+        self.links.lapse(node, self.posts);
+    }
+
+    fn snapshot(&mut self)
+        requires { decides self.old event.Snapshot ≡ None }
+        ensures { self.new ≡ machine.next self.old event.Snapshot }
+    {
+        self.posts += 1;
     }
 }

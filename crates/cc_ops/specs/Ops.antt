@@ -7,6 +7,7 @@
 --     begun_by_ask, begun_by       the ask that begins, if one does
 --     post_of, first_post          what is posted in return, or as an operation begins
 --     reply_of                     what the client is told
+--     anew quorum s                the pending phase begins anew;  question: what it asks the others
 --     unanswered, mine_at_last     the pending ask and those behind it; the own value once all of these have begun
 use Rattle.std.specs.Prelude.{◌==◌, ℕ, ◌+◌, ◌<◌, ◌≤◌, Bool, true, false, ◌&&◌, if◌then◌else◌, List, [], ◌∷◌, ◌++◌}
 use Rattle.std.specs.Prelude.{Option, Some, None, option_map}
@@ -154,6 +155,7 @@ after_message me quorum (message.Query tag q) s = s
 after_message me quorum (message.QueryReply v tag q) s = if is_own me tag q s then after_reply quorum v s.phase s else s
 after_message me quorum (message.Store v tag q) s = merged v s
 after_message me quorum (message.StoreAck tag q) s = if is_own me tag q s then after_ack me quorum s.phase s else s
+after_message me quorum (message.Snapshot c v) s = merged v s
 
 -- the ask that begins with one more acknowledgement
 abbrev pub begun_in : Phase → List Asked → Option Asked
@@ -171,6 +173,7 @@ begun_by me (message.Query tag q) s = None
 begun_by me (message.QueryReply v tag q) s = None
 begun_by me (message.Store v tag q) s = None
 begun_by me (message.StoreAck tag q) s = if is_own me tag q s then begun_in s.phase s.line else None
+begun_by me (message.Snapshot c v) s = None
 
 -- whether a reply ends the query
 abbrev pub ends_query : Phase → Bool
@@ -193,6 +196,7 @@ post_of me is_joined (message.QueryReply v tag q) before after =
 post_of me is_joined (message.Store v tag q) before after = then_some is_joined (message.StoreAck tag q)
 post_of me is_joined (message.StoreAck tag q) before after =
     option_map (λ asked. first_post me asked after) (begun_by me (message.StoreAck tag q) before)
+post_of me is_joined (message.Snapshot c v) before after = None
 
 -- the answer of an operation, read from that view
 abbrev pub told : Pending → ViewMap → Reply
@@ -216,6 +220,28 @@ reply_of me (message.Query tag q) s = None
 reply_of me (message.QueryReply v tag q) s = None
 reply_of me (message.Store v tag q) s = None
 reply_of me (message.StoreAck tag q) s = if is_own me tag q s then reply_in s.view s.phase else None
+reply_of me (message.Snapshot c v) s = None
+
+-- the pending phase of the same ask, of which no answer has come; what is stored back stays
+abbrev pub again : ℕ → Phase → Phase
+again quorum Idle = Idle
+again quorum (Storing p) = Storing (round_of quorum p.asked)
+again quorum (Querying p) = Querying (round_of quorum p.asked)
+again quorum (StoringBack p seen) = StoringBack (round_of quorum p.asked) seen
+
+-- the pending phase begins anew: under the next tag, with the need of now
+abbrev pub anew : ℕ → Ops → Ops
+anew quorum s = next_round (again quorum s.phase) s
+
+-- what a phase asks the others under a tag, where the node sees that view
+abbrev pub question_in : ℕ → ViewMap → ℕ → Phase → Option Message
+question_in me view tag Idle = None
+question_in me view tag (Storing p) = Some (message.Store view tag me)
+question_in me view tag (Querying p) = Some (message.Query tag me)
+question_in me view tag (StoringBack p seen) = Some (message.Store seen tag me)
+
+abbrev pub question : ℕ → Ops → Option Message
+question me s = question_in me s.view s.tag s.phase
 
 -- an operation waits for more answers than it has
 pub record IsWaiting (p : Pending) : Type 0 where

@@ -4,6 +4,7 @@
 --     .._last                  the value once all that wait have begun
 --     .._unanswered            which asks are pending or wait
 --     AnswersFirst, message_answers   the first of these is answered, or none is
+--     AsksAnewAlone, anew_keeps       a phase that begins anew is the same operation's, under the next tag
 use Rattle.std.specs.Prelude.{◌≡◌, ℕ, ◌+◌, Bool, true, false, if◌then◌else◌, List, [], ◌∷◌, ◌++◌, Option, Some, None, refl}
 use Rattle.std.specs.Bool.{then_some}
 use Rattle.std.proofs.Common.{sym, ap, ◌∙◌, add-zero}
@@ -21,7 +22,7 @@ use Rattle.cc_ops.specs.declared.pending.Reply.{Reply}
 use Rattle.cc_ops.specs.Commands.{is_writing, written}
 use Rattle.cc_ops.specs.Waiting.{first_in, led_by, writes, mine_after, written_by}
 use Rattle.cc_ops.specs.WaitingLaws.{written_last}
-use Rattle.cc_ops.specs.Ops.{Ops, Phase, Idle, Storing, Querying, StoringBack, is_idle, round_of, counted, is_last, is_own, merged, next_round, with_begun, with_own_row, with_written, after_ask, after_reply, after_last, after_ack, after_message, begun_by_ask, begun_in, begun_by, told, reply_in, reply_of, asked_in, unanswered, mine_at_last}
+use Rattle.cc_ops.specs.Ops.{Ops, Phase, Idle, Storing, Querying, StoringBack, is_idle, seen_in, round_of, counted, is_last, is_own, merged, next_round, again, anew, with_begun, with_own_row, with_written, after_ask, after_reply, after_last, after_ack, after_message, begun_by_ask, begun_in, begun_by, told, reply_in, reply_of, asked_in, unanswered, mine_at_last}
 
 -- a reading command leaves the own value
 pub reading_leaves : (k : Command) (mine : Value) → is_writing k ≡ false → mine ≡ written k mine
@@ -135,6 +136,7 @@ each_message P me quorum (message.Store v tag q) s more last = more (merge s.vie
 each_message P me quorum (message.StoreAck tag q) s more last =
     either_own P (is_own me tag q s) (after_ack me quorum s.phase s) s (begun_in s.phase s.line)
     (each_ack P me quorum s.phase s (more s.view s.phase s.tag) last (λ p. more s.view p s.tag)) (more s.view s.phase s.tag)
+each_message P me quorum (message.Snapshot c v) s more last = more (merge s.view v) s.phase s.tag
 
 pub message_number : (me quorum : ℕ) (m : Message) (s : Ops) → (after_message me quorum m s).number ≡ s.number + writes (begun_by me m s)
 message_number me quorum m s =
@@ -239,3 +241,47 @@ message_answers me quorum (message.StoreAck tag q) s =
       | true ↦ ack_answers me quorum s.view s.phase s refl
       | false ↦ refl
     ]
+message_answers me quorum (message.Snapshot c v) s = refl
+
+-- ---- a phase that begins anew
+
+-- it is the same operation's: of what an `Ops` has, the need and the count change, and the tag, which rises by one
+pub record AsksAnewAlone (before after : Ops) : Type 0 where
+  pub view : after.view ≡ before.view
+  pub number : after.number ≡ before.number
+  pub mine : after.mine ≡ before.mine
+  pub tag : after.tag ≡ before.tag + 1
+  pub line : after.line ≡ before.line
+  pub asked : asked_in after.phase ≡ asked_in before.phase
+  pub seen : seen_in after.phase ≡ seen_in before.phase
+  pub idle : is_idle after.phase ≡ is_idle before.phase
+
+asked_again : (quorum : ℕ) (phase : Phase) → asked_in (again quorum phase) ≡ asked_in phase
+asked_again quorum Idle = refl
+asked_again quorum (Storing p) = refl
+asked_again quorum (Querying p) = refl
+asked_again quorum (StoringBack p seen) = refl
+
+seen_again : (quorum : ℕ) (phase : Phase) → seen_in (again quorum phase) ≡ seen_in phase
+seen_again quorum Idle = refl
+seen_again quorum (Storing p) = refl
+seen_again quorum (Querying p) = refl
+seen_again quorum (StoringBack p seen) = refl
+
+idle_again : (quorum : ℕ) (phase : Phase) → is_idle (again quorum phase) ≡ is_idle phase
+idle_again quorum Idle = refl
+idle_again quorum (Storing p) = refl
+idle_again quorum (Querying p) = refl
+idle_again quorum (StoringBack p seen) = refl
+
+pub anew_keeps : (quorum : ℕ) (s : Ops) → AsksAnewAlone s (anew quorum s)
+anew_keeps quorum s = record {
+  view = refl;
+  number = refl;
+  mine = refl;
+  tag = refl;
+  line = refl;
+  asked = asked_again quorum s.phase;
+  seen = seen_again quorum s.phase;
+  idle = idle_again quorum s.phase;
+}

@@ -1,6 +1,7 @@
 //! The client and the server of the store-collect object (CCC, client and server).
 #![tactic(auto)]
 
+mod anew;
 mod commands;
 mod ops;
 mod pending;
@@ -8,6 +9,7 @@ mod phases;
 mod stage;
 mod waiting_line;
 
+pub use anew::anew_keeps_the_operation;
 pub use commands::is_writing;
 pub use ops::Ops;
 pub use pending::{Asked, Pending, Reply};

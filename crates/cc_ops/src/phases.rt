@@ -32,6 +32,7 @@ impl Ops {
         match message {
             Message::EnterEcho { view, .. } => self.view.merge(view),
             Message::Store { view, .. } => self.view.merge(view),
+            Message::Snapshot { view, .. } => self.view.merge(view),
             Message::QueryReply { view, tag, node } => {
                 if *node == me && *tag == self.tag {
                     self.take_reply(quorum, view);

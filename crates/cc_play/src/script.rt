@@ -83,6 +83,15 @@ fn disk_line(words: &[&str]) -> Option<Line> {
         ["checkpoint", node] => checkpoint(node),
         ["crash", node] => crash(node, Some(Choice::Read)),
         ["crash", node, "fill", filler] => crash(node, filled(filler)),
+        _ => absent_line(words),
+    }
+}
+
+// The line of these words, where it is of nodes that stay away.
+fn absent_line(words: &[&str]) -> Option<Line> {
+    match words {
+        ["lapse", node, absent] => event_at(node, lapse(absent)),
+        ["snapshot", node] => event_at(node, Some(Event::Snapshot)),
         _ => None,
     }
 }
@@ -138,6 +147,12 @@ fn acked(peer: &str, n: &str) -> Option<Event> {
 
 fn retire(node: &str) -> Option<Event> {
     Some(Event::Retire {
+        node: NodeId::new(small_number(node)?)?,
+    })
+}
+
+fn lapse(node: &str) -> Option<Event> {
+    Some(Event::Lapse {
         node: NodeId::new(small_number(node)?)?,
     })
 }

@@ -1,8 +1,11 @@
 mod AskingLaws
+mod CallingLaws
 mod IncomingLaws
 mod LearningLaws
 mod OperatingLaws
 mod RoutingLaws
 mod SpeakingLaws
+mod StandingLaws
+mod StandingsLaws
 mod StirLaws
 mod WishingLaws

@@ -30,6 +30,7 @@ may_stir me (message.Query tag q) = true
 may_stir me (message.QueryReply view tag q) = q == me
 may_stir me (message.Store view tag q) = true
 may_stir me (message.StoreAck tag q) = q == me
+may_stir me (message.Snapshot changes view) = true
 
 -- an ask leaves room for 384 posts, unless it waited ten seconds, and then the node decides; a message that may be answered
 -- leaves room for 256, unless it comes from one of the peers that are furthest behind: they are read on, since their
@@ -41,6 +42,8 @@ may_hand_over me (event.Deliver from number m) kept is_furthest waited = not (ma
 may_hand_over me (event.Acked peer number) kept is_furthest waited = true
 may_hand_over me (event.Ask session request command) kept is_furthest waited = nat_le 10 waited || nat_le 384 (free_posts kept)
 may_hand_over me (event.Retire node) kept is_furthest waited = true
+may_hand_over me (event.Lapse node) kept is_furthest waited = true
+may_hand_over me event.Snapshot kept is_furthest waited = true
 
 -- a message that was held back for five seconds: its link sends it again
 abbrev pub is_given_up : Event → ℕ → Bool
@@ -50,6 +53,8 @@ is_given_up (event.Deliver from number m) waited = nat_le 5 waited
 is_given_up (event.Acked peer number) waited = false
 is_given_up (event.Ask session request command) waited = false
 is_given_up (event.Retire node) waited = false
+is_given_up (event.Lapse node) waited = false
+is_given_up event.Snapshot waited = false
 
 -- of the links to peers that haven't left, its link is one of those that have come least far
 abbrev pub is_furthest_behind : Core → ℕ → Bool

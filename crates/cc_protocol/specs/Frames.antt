@@ -39,3 +39,5 @@ refusal_frame (event.Deliver from number message) why = None
 refusal_frame (event.Acked peer number) why = None
 refusal_frame (event.Ask session request command) why = Some (refusing session request why)
 refusal_frame (event.Retire node) why = Some (refusing 0 0 why)
+refusal_frame (event.Lapse node) why = None
+refusal_frame event.Snapshot why = None

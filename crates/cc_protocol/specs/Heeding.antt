@@ -1,5 +1,6 @@
 -- What a worker does once it has the answer to an event.
---     heed_of        what the answer asks for
+--     heed_of         what the answer asks for
+--     heed_unstirred  what it does of an accepted event that made no post and no answer
 use Rattle.std.specs.Prelude.{ℕ, Bool, true, false, Result, Ok, Err}
 use Rattle.cc_wire.specs.declared.event.Event.{Event}
 use Rattle.cc_wire.specs.declared.event.Event.TheVariants as event
@@ -28,9 +29,22 @@ heed_refused (event.Deliver from number m) why = heed_undelivered from why
 heed_refused (event.Acked peer number) why = duty.Nothing
 heed_refused (event.Ask session request command) why = heed_unasked session request why
 heed_refused (event.Retire node) why = duty.Refuse (refusing 0 0 why)
+heed_refused (event.Lapse node) why = duty.Nothing
+heed_refused event.Snapshot why = duty.Nothing
 
--- an accepted event that stirs made a post or an answer, and all others ride with the next batch
+-- a lapse makes the room that others wait for, though it makes no post; all others ride with the next batch
+abbrev pub heed_unstirred : Event → Duty
+heed_unstirred event.Enter = duty.Ride
+heed_unstirred event.Leave = duty.Ride
+heed_unstirred (event.Deliver from number m) = duty.Ride
+heed_unstirred (event.Acked peer number) = duty.Ride
+heed_unstirred (event.Ask session request command) = duty.Ride
+heed_unstirred (event.Retire node) = duty.Ride
+heed_unstirred (event.Lapse node) = duty.Wake
+heed_unstirred event.Snapshot = duty.Ride
+
+-- an accepted event that stirs made a post or an answer
 abbrev pub heed_of : Event → Result Bool Refusal → Duty
 heed_of e (Ok true) = duty.Wake
-heed_of e (Ok false) = duty.Ride
+heed_of e (Ok false) = heed_unstirred e
 heed_of e (Err why) = heed_refused e why

@@ -5,6 +5,10 @@ pub mod Asking
 pub mod Operating
 pub mod Routing
 pub mod Speaking
+pub mod Standing
+pub mod Standings
+pub mod Lasting
 pub mod Incoming
 pub mod Bundles
+pub mod Calling
 pub mod Wishing

@@ -36,7 +36,12 @@ pub fn may_hand_over(me: NodeId, event: &Event, kept: u64, is_furthest: bool, wa
         Event::Deliver { message, .. } => {
             !may_stir(me, message) || is_furthest || leaves_room(kept, ROOM_BESIDE_MESSAGES)
         }
-        Event::Enter | Event::Leave | Event::Acked { .. } | Event::Retire { .. } => true,
+        Event::Enter
+        | Event::Leave
+        | Event::Acked { .. }
+        | Event::Retire { .. }
+        | Event::Lapse { .. }
+        | Event::Snapshot => true,
     }
 }
 

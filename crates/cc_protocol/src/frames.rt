@@ -92,7 +92,11 @@ pub fn refused_frame(event: &Event, refusal: Refusal) -> Option<Frame>
             ..
         } => Some(refusing(*session, *request, refusal)),
         Event::Leave | Event::Retire { .. } => Some(refusing(0, 0, refusal)),
-        Event::Enter | Event::Deliver { .. } | Event::Acked { .. } => None,
+        Event::Enter
+        | Event::Deliver { .. }
+        | Event::Acked { .. }
+        | Event::Lapse { .. }
+        | Event::Snapshot => None,
     }
 }
 

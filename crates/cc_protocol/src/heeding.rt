@@ -1,7 +1,7 @@
 //! What a worker does once it has the answer to an event that it brought.
 
 ghost use Rattle.std.specs.Prelude.{◌≡◌};
-ghost use Rattle.cc_protocol.specs.Heeding.{heed_undelivered, heed_unasked, heed_refused, heed_of};
+ghost use Rattle.cc_protocol.specs.Heeding.{heed_undelivered, heed_unasked, heed_refused, heed_unstirred, heed_of};
 
 use crate::frames::refusing;
 use cc_frames::Frame;
@@ -34,8 +34,18 @@ pub fn heed(event: &Event, answer: Result<bool, Refusal>) -> Duty
 {
     match answer {
         Ok(true) => Duty::Wake,
-        Ok(false) => Duty::Ride,
+        Ok(false) => heed_unstirred(event),
         Err(refusal) => heed_refused(event, refusal),
+    }
+}
+
+// An accepted lapse makes the room that others wait for, though it makes no post.
+fn heed_unstirred(event: &Event) -> Duty
+    ensures { result ≡ heed_unstirred event.now }
+{
+    match event {
+        Event::Lapse { .. } => Duty::Wake,
+        _ => Duty::Ride,
     }
 }
 
@@ -50,7 +60,7 @@ fn heed_refused(event: &Event, refusal: Refusal) -> Duty
             ..
         } => heed_unasked(*session, *request, refusal),
         Event::Leave | Event::Retire { .. } => Duty::Refuse(refusing(0, 0, refusal)),
-        Event::Enter | Event::Acked { .. } => Duty::Nothing,
+        Event::Enter | Event::Acked { .. } | Event::Lapse { .. } | Event::Snapshot => Duty::Nothing,
     }
 }
 

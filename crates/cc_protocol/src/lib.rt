@@ -4,14 +4,18 @@
 mod admission;
 mod asking;
 mod bundle;
+mod calling;
 mod frames;
 mod heeding;
 mod incoming;
+mod lasting;
 mod operating;
 mod origin;
 mod route;
 mod routes;
 mod speakers;
+mod standing;
+mod standings;
 mod wishes;
 
 pub use admission::{
@@ -22,12 +26,16 @@ pub use asking::{
     refusals_are_told,
 };
 pub use bundle::{Bundle, Parcel};
+pub use calling::{Calls, snapshots_keep_apart};
 pub use frames::{ack_frame, event_of, post_frame, refused_frame, reply_frame};
 pub use heeding::{Duty, heed};
 pub use incoming::{Ending, Incoming, Input};
+pub use lasting::{AskName, Lasting};
 pub use operating::{Outcome, outcome_of, second_request_is_left};
 pub use origin::{Admitted, Origin};
 pub use route::Route;
 pub use routes::{Routes, answers_follow_asks};
 pub use speakers::{Speaker, Speakers, Spoken};
+pub use standing::{Standing, none_lapses_but_absent, who_keeps_up_stays};
+pub use standings::{Passed, PeerStanding, Standings, lapses_are_of_absent_peers};
 pub use wishes::Wishes;

@@ -6,13 +6,14 @@ ghost use Rattle.cc_server.specs.Serving.{brings_again, Takes, Stops, Brings};
 
 use crate::duties::duty_of;
 use crate::meeting::Meeting;
+use crate::notes::note_back;
 use crate::of_life::OfLife;
 use crate::office::Office;
 use crate::replies::Replies;
 use crate::shared::Shared;
 use cc_frames::Frame;
 use cc_intake::{Accepted, Hooks, Lane, Life, Refused, Share, Source};
-use cc_lines::{Flushed, NoSeat, Room, Seating, bytes_of};
+use cc_lines::{Flushed, NoSeat, Room, Seating, bytes_of, speaker_of};
 use cc_protocol::{Duty, Ending, Incoming, Input, event_of};
 use cc_views::NodeId;
 use cc_wire::{Event, Refusal};
@@ -84,6 +85,7 @@ impl<R: Wait + Eprint, I: Input, S: Seating, D: Replies, F: Flushed> Caller<'_, 
             (λ done. Stops I.may_fail S.may_turn_away self.old.due self.old.frames done) }
     {
         let event = self.event()?;
+        self.hear_voice(&event);
         let Ok(kept) = event.copy(self.alloc) else {
             drop(event);
             return Err(Done::NoMemory);
@@ -96,6 +98,13 @@ impl<R: Wait + Eprint, I: Input, S: Seating, D: Replies, F: Flushed> Caller<'_, 
         self.place = self.route(&event);
         drop(self.given.replace(kept));
         Ok(event)
+    }
+
+    // Whatever becomes of it, what a node sends tells that it is there.
+    fn hear_voice(&self, event: &Event) {
+        if let Some(peer) = speaker_of(event) {
+            self.shared.hear_voice(self.rt, peer);
+        }
     }
 
     // The reply to an ask comes here, before the flusher can make it. The place of its route.
@@ -131,14 +140,25 @@ impl<R: Wait + Eprint, I: Input, S: Seating, D: Replies, F: Flushed> Caller<'_, 
             Ok(_) => {
                 self.room.accept();
                 self.settle_route(event, true);
-                if let Event::Deliver { from, message, .. } = event {
-                    self.meeting().hear(self.rt, *from, message);
-                }
+                self.hear(event);
             }
             Err(refused) => {
                 self.room.leave(self.rt);
                 self.settle_route(event, refused.why == Refusal::Repeat);
             }
+        }
+    }
+
+    // What an accepted event tells of the node that sent it.
+    fn hear(&self, event: &Event) {
+        match event {
+            Event::Deliver { from, message, .. } => self.meeting().hear(self.rt, *from, message),
+            Event::Acked { peer, .. } => {
+                if self.shared.hear_ack(self.rt, *peer) {
+                    note_back(self.rt, self.me, *peer);
+                }
+            }
+            _ => {}
         }
     }
 

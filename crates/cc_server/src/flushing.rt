@@ -1,12 +1,12 @@
 //! The flusher's thread.
 
+use crate::looking::{Looks, look};
 use crate::of_life::OfLife;
 use crate::shared::Shared;
 use cc_flush::{CheckpointFault, Failed};
 use cc_intake::{Lane, Life, Queue, Turner};
 use cc_journal::Batch;
-use cc_lines::{Durable, Line, Room};
-use cc_node::Core;
+use cc_lines::{Durable, Room};
 use cc_site::Site;
 use crossbeam_utils::sync::Parker;
 use std::sync::Wait;
@@ -27,7 +27,8 @@ pub struct Watch<'x> {
 }
 
 /// Takes a turn each time that it is woken, and more where one batch didn't take all that waited, until nothing is left after
-/// `done` was set. What nobody woke it for waits for the next turn.
+/// `done` was set. What nobody woke it for waits for the next turn. After each turn it looks what lapses, and at each tick how
+/// the peers stand.
 pub fn flush_all<S: Site, L: Life, Q: Lane, R: Wait>(
     rt: &R,
     turner: &mut Turner<S, L, Q>,
@@ -37,19 +38,23 @@ pub fn flush_all<S: Site, L: Life, Q: Lane, R: Wait>(
 ) -> Result<(), Failed> {
     let mut is_fresh = true;
     let mut begun = 0;
+    let mut looks = Looks::new();
     for _ in rt.forever() {
         let is_done = watch.shared.done.is_set();
         watch.shared.bell.look();
         let events = turn(rt, turner, queue, room)?;
         let is_wished = grant(rt, turner, watch.shared)?;
         is_fresh &= events == 0;
-        if watch.shared.ticked.take() {
+        let is_tick = watch.shared.ticked.take();
+        if is_tick {
             room.tick(rt);
             resend(turner, watch.shared)?;
             if !is_fresh {
                 is_fresh = spare(turner, &mut begun)?;
             }
         }
+        let core = turner.engine().twin().core();
+        look(rt, core, watch.shared, &mut looks, is_tick);
         if events >= Batch::MAX_ENTRIES as u64 || turner.keeps_one() || is_wished {
             continue;
         }
@@ -112,19 +117,7 @@ fn resend<S: Site, L: Life, Q: Lane>(
     for line in &shared.lines {
         line.unmute();
     }
-    resent?;
-    note_progress(turner.engine().twin().core(), &shared.lines);
-    Ok(())
-}
-
-// Looks which peers acknowledge what they are sent.
-fn note_progress(core: &Core, lines: &[Line]) {
-    for line in lines {
-        if let Some(row) = core.links().get(line.peer) {
-            let sent = core.posts().saturating_sub(row.start);
-            line.note_progress(row.acked, core.is_live(line.peer) && row.acked < sent);
-        }
-    }
+    resent
 }
 
 // Moves to the other side where the one in use is long, and longer than it was `begun`. Whether it was moved.

@@ -1,5 +1,5 @@
 //! A node over TCP: a worker and a writer for each connection, a writer for each peer, a worker for what the node sends to
-//! itself, one flusher and one ticker.
+//! itself, one flusher, one ticker and a writer of notes.
 #![tactic(auto)]
 
 mod attending;
@@ -9,7 +9,9 @@ mod config;
 mod duties;
 mod flushing;
 mod known;
+mod looking;
 mod meeting;
+mod notes;
 mod of_life;
 mod office;
 mod own;

@@ -1,6 +1,7 @@
 //! Whom a worker hears of.
 
 use crate::known::Known;
+use cc_changes::Changes;
 use cc_views::NodeId;
 use cc_wire::Message;
 use cc_words::Peer;
@@ -24,13 +25,20 @@ impl Meeting<'_> {
     /// them told of, is noted on standard error, once.
     pub fn hear<R: Wait + Eprint>(&self, rt: &R, from: NodeId, message: &Message) {
         self.hear_of(rt, from, from);
-        self.hear_of(rt, from, subject_of(message));
-        if let Message::EnterEcho { changes, .. } = message {
-            if self.is_peer(from) {
-                self.known.learn_all(rt, changes.entered());
-                self.known.learn_all(rt, changes.joined());
-                self.known.learn_all(rt, changes.left());
-            }
+        if let Some(node) = subject_of(message) {
+            self.hear_of(rt, from, node);
+        }
+        if let Some(changes) = told_by(message) {
+            self.learn_of(rt, from, changes);
+        }
+    }
+
+    // A peer tells who entered, joined and left.
+    fn learn_of<R: Wait>(&self, rt: &R, from: NodeId, changes: &Changes) {
+        if self.is_peer(from) {
+            self.known.learn_all(rt, changes.entered());
+            self.known.learn_all(rt, changes.joined());
+            self.known.learn_all(rt, changes.left());
         }
     }
 
@@ -53,8 +61,8 @@ impl Meeting<'_> {
     }
 }
 
-// The node that comes or goes, or whose operation it is.
-fn subject_of(message: &Message) -> NodeId {
+// The node that comes or goes, or whose operation it is. A snapshot is about none.
+fn subject_of(message: &Message) -> Option<NodeId> {
     match message {
         Message::Enter { node }
         | Message::EnterEcho { node, .. }
@@ -65,6 +73,16 @@ fn subject_of(message: &Message) -> NodeId {
         | Message::Query { node, .. }
         | Message::QueryReply { node, .. }
         | Message::Store { node, .. }
-        | Message::StoreAck { node, .. } => *node,
+        | Message::StoreAck { node, .. } => Some(*node),
+        Message::Snapshot { .. } => None,
+    }
+}
+
+// Who entered, joined and left, as a message tells it.
+fn told_by(message: &Message) -> Option<&Changes> {
+    match message {
+        Message::EnterEcho { changes, .. } => Some(changes),
+        Message::Snapshot { changes, .. } => Some(changes),
+        _ => None,
     }
 }

@@ -6,6 +6,7 @@ ghost use Rattle.cc_intake.specs.Accepting.{share_limit};
 
 use crate::channels::Channels;
 use crate::config::Config;
+use crate::notes::{note_unknown, note_unreachable};
 use crate::of_life::OfLife;
 use crate::office::Office;
 use crate::run_fault::RunFault;
@@ -20,6 +21,7 @@ use cc_protocol::Routes;
 use cc_site::Site;
 use cc_views::NodeId;
 use cc_wire::Event;
+use cc_words::Peer;
 use log::sink::Console;
 use log::{Level, Logged, info};
 use std::alloc::Global;
@@ -35,7 +37,7 @@ use std::time::Clock;
 const MOST_WORKERS: usize = Routes::MAX_DOORS + Routes::MAX_SPARE + 1;
 
 /// Runs the node of a folder, which listens once the folder is open, until the flag is set or a disk call fails. What it came
-/// to is told without its site. It notes its start and its end on standard error.
+/// to is told without its site. It notes its start and its end on standard error, and what it misses of its peers.
 pub fn run_node<'a, R, H: Hooks + Sync>(
     rt: &'a R,
     alloc: Global,
@@ -161,6 +163,7 @@ where
                 inlets,
             };
             note(run, me, "runs", address);
+            note_addresses(run.rt, &core, &run.config.peers);
             let outcome = run_as::<Brand, S, R, H>(run, ready, Blank::new(1 << 20));
             note(run, me, "ends", address);
             outcome
@@ -204,6 +207,22 @@ where
 fn note<R: Eprint, H>(run: &Run<'_, R, H>, me: NodeId, what: &str, address: SocketAddr) {
     let logged = Logged::new(run.rt, Level::Info, Console(run.rt));
     info!(logged; "node {} {} at {}", me.number(), what, address);
+}
+
+// Notes which nodes of the folder have no address, and which peers it doesn't know.
+fn note_addresses<R: Eprint>(rt: &R, core: &Core, peers: &[Peer]) {
+    let me = core.me();
+    for link in core.links().rows() {
+        let is_peer = peers.iter().any(|peer| peer.id == link.peer);
+        if link.peer != me && !is_peer && core.is_live(link.peer) {
+            note_unreachable(rt, me, link.peer);
+        }
+    }
+    for peer in peers {
+        if core.links().get(peer.id).is_none() {
+            note_unknown(rt, me, peer.id);
+        }
+    }
 }
 
 fn run_as<L: Life + Send + Sync, S: Site + Drop, R, H: Hooks + Sync>(

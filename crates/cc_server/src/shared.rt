@@ -2,10 +2,11 @@
 
 use crate::flushing::Watch;
 use crate::known::Known;
+use crate::notes::{Note, NoteLine, note_line};
 use crate::run_fault::RunFault;
 use crate::threads::FarEnds;
 use cc_lines::{Bell, Doors, FarEnd, Line, OwnLine, Stop, lines_to, own_line};
-use cc_protocol::Wishes;
+use cc_protocol::{Standings, Wishes};
 use cc_views::NodeId;
 use cc_wire::Event;
 use cc_words::Peer;
@@ -26,6 +27,11 @@ pub struct Shared {
     /// The nodes that were heard of.
     pub known: Known,
     pub wishes: Mutex<Wishes>,
+    /// How its peers stand, and whether one is absent.
+    pub standings: Mutex<Standings>,
+    pub any_absent: Stop,
+    /// What the flusher notes.
+    pub notes: NoteLine,
     /// A second has passed.
     pub ticked: Stop,
     /// No worker is left.
@@ -40,6 +46,7 @@ pub struct Inlets {
     pub parker: Parker,
     pub far: Vec<FarEnd>,
     pub own: Receiver<Option<Event>>,
+    pub notes: Receiver<Option<Note>>,
 }
 
 impl Shared {
@@ -47,6 +54,7 @@ impl Shared {
     pub fn new(alloc: Global, peers: &[Peer]) -> Result<(Self, Inlets), RunFault> {
         let (lines, far) = lines_to(alloc, peers)?;
         let (own, taken) = own_line(alloc)?;
+        let (notes, noted) = note_line(alloc)?;
         let parker = Parker::new(alloc)?;
         let bell = Bell::new(parker.unparker().clone()?);
         let shared = Shared {
@@ -57,6 +65,9 @@ impl Shared {
             bell,
             known: Known::new(alloc),
             wishes: Mutex::new(Wishes::new(alloc)?),
+            standings: Mutex::new(Standings::new(alloc)?),
+            any_absent: Stop::new(),
+            notes,
             ticked: Stop::new(),
             done: Stop::new(),
             ended: Stop::new(),
@@ -65,6 +76,7 @@ impl Shared {
             parker,
             far,
             own: taken,
+            notes: noted,
         };
         Ok((shared, inlets))
     }
@@ -73,6 +85,21 @@ impl Shared {
     pub fn reack<R: Wait>(&self, rt: &R, peer: NodeId) {
         self.wishes.lock(rt).reack(peer);
         self.bell.ring();
+    }
+
+    /// A frame of that peer came. It is looked at only while a peer is absent.
+    pub fn hear_voice<R: Wait>(&self, rt: &R, peer: NodeId) {
+        if self.any_absent.is_set() {
+            self.standings.lock(rt).note_voice(peer);
+        }
+    }
+
+    /// An acknowledgement of that peer was accepted. Whether it was taken for absent, and isn't any longer.
+    pub fn hear_ack<R: Wait>(&self, rt: &R, peer: NodeId) -> bool {
+        if !self.any_absent.is_set() {
+            return false;
+        }
+        self.standings.lock(rt).hear_ack(peer)
     }
 
     /// Has the flusher put out the last answer of a session again.
@@ -85,8 +112,19 @@ impl Shared {
 impl Inlets {
     /// What the flusher takes out of, and what the workers and writers of the node `me` do.
     pub fn cut(self, me: NodeId, shared: &Shared) -> (Watch<'_>, FarEnds) {
-        let Inlets { parker, far, own } = self;
+        let Inlets {
+            parker,
+            far,
+            own,
+            notes,
+        } = self;
         let watch = Watch { parker, shared };
-        (watch, FarEnds { me, far, own })
+        let ends = FarEnds {
+            me,
+            far,
+            own,
+            notes,
+        };
+        (watch, ends)
     }
 }

@@ -4,6 +4,7 @@ ghost use Rattle.std.specs.Thread.{IsSend};
 
 use crate::attending::attend;
 use crate::flushing::{Watch, flush_all};
+use crate::notes::{Note, write_notes};
 use crate::of_life::OfLife;
 use crate::office::Office;
 use crate::own::serve_own;
@@ -27,12 +28,13 @@ const TICK_MS: u64 = 1000;
 // How long the acceptor pauses after a connection that can't be accepted, in milliseconds.
 const PAUSE_MS: u64 = 50;
 
-/// What the writers of the peers and the worker of the own messages take out of.
+/// What the writers of the peers and of notes, and the worker of the own messages, take out of.
 #[derive(Drop)]
 pub struct FarEnds {
     pub me: NodeId,
     pub far: Vec<FarEnd>,
     pub own: Receiver<Option<Event>>,
+    pub notes: Receiver<Option<Note>>,
 }
 
 /// Starts the ticker and what serves, flushes in this thread until all is done, and ends them. None where a thread can't be
@@ -136,7 +138,7 @@ fn knock<R: Net<Stream = TcpStream>>(rt: &R, address: Option<SocketAddr>) {
 }
 
 // Starts the writers and the worker of the own messages, accepts connections until a flag is set, and then ends the writers
-// first and the workers next. False, and nothing is accepted, where a thread of these can't be made.
+// to peers first and the workers next. False, and nothing is accepted, where a thread of these can't be made.
 fn serve_all<L: Life + Send + Sync, Q: Lane + Send + Sync, R, H: Hooks + Sync>(
     office: &Office<'_, R, H, L, Q>,
     ends: FarEnds,
@@ -150,7 +152,12 @@ where
     let alloc = office.alloc;
     let over = Stop::new();
     let over = &over;
-    let FarEnds { me, far, own } = ends;
+    let FarEnds {
+        me,
+        far,
+        own,
+        notes,
+    } = ends;
     thread::scope(
         thread::scope_env(),
         rt,
@@ -167,9 +174,7 @@ where
                     Err(_) => is_whole = false,
                 }
             }
-            if let Err(_) = scope.spawn(move || serve_own(office, own)) {
-                is_whole = false;
-            }
+            is_whole &= start_inner(scope, office, own, notes);
             if is_whole {
                 accept_all(scope, office, listener, stop);
             }
@@ -178,10 +183,28 @@ where
                 writer.join(rt);
             }
             office.shared.own.end(rt);
+            office.shared.notes.end(rt);
             office.shared.doors.close(rt);
             is_whole
         },
     )
+}
+
+// Starts the worker of the own messages and the writer of notes. Whether both threads could be made.
+fn start_inner<'s, 'e: 's, L: Life + Send + Sync, Q: Lane + Send + Sync, R, H: Hooks + Sync>(
+    scope: &'s Scope<'s, &'e ()>,
+    office: &'e Office<'e, R, H, L, Q>,
+    own: Receiver<Option<Event>>,
+    notes: Receiver<Option<Note>>,
+) -> bool
+where
+    R: Net<Listener = TcpListener, Stream = TcpStream> + Threads + Wait + Clock + Eprint + Sync,
+{
+    let rt = office.rt;
+    let me = office.me;
+    let is_served = scope.spawn(move || serve_own(office, own)).is_ok();
+    let is_noted = scope.spawn(move || write_notes(rt, me, &notes)).is_ok();
+    is_served && is_noted
 }
 
 fn accept_all<'s, 'e: 's, L: Life + Send + Sync, Q: Lane + Send + Sync, R, H: Hooks + Sync>(

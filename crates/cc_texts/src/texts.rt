@@ -128,6 +128,7 @@ impl fmt::Display for PrintedMessage<'_> {
                 let node = node.number();
                 write!(f, "StoreAck {tag} {node}")
             }
+            Message::Snapshot { changes, view } => print_snapshot(f, changes, view),
         }
     }
 }
@@ -154,6 +155,18 @@ fn print_echo<W: fmt::Write>(
         f,
         "EnterEcho {entered} {joined} {left} {view} {flag} {node}"
     )
+}
+
+fn print_snapshot<W: fmt::Write>(
+    f: &mut fmt::Formatter<W>,
+    changes: &Changes,
+    view: &View,
+) -> fmt::Result {
+    let entered = PrintedIds(changes.entered());
+    let joined = PrintedIds(changes.joined());
+    let left = PrintedIds(changes.left());
+    let view = PrintedView(view);
+    write!(f, "Snapshot {entered} {joined} {left} {view}")
 }
 
 /// `Stored`, `Seen VIEW`, `Max N`, `Flag 0`, `Flag 1` or `Set [N,..]`.

@@ -1,7 +1,7 @@
 -- Events are read as they are spelled.
 use Rattle.std.proofs.Common.{◌≡◌, ℕ, cond, eqb, List, [], ◌∷◌, ◌++◌, Ok, refl}
 use Rattle.cc_wire.specs.declared.event.Event.{Event}
-use Rattle.cc_wire.specs.declared.event.Event.TheVariants.{Enter, Leave, Deliver, Acked, Ask, Retire}
+use Rattle.cc_wire.specs.declared.event.Event.TheVariants.{Enter, Leave, Deliver, Acked, Ask, Retire, Lapse, Snapshot}
 use Rattle.cc_wire.specs.Reading.{Reading, via}
 use Rattle.cc_wire.specs.Events.{numbered_spelling, IsNumbered, numbered_at, delivery_spelling, IsDelivery, delivery_at, place_spelling, IsPlace, place_at, asked_spelling, IsAsked, asked_at, event_spelling, IsEvent, event_fields, event_at}
 use Rattle.cc_wire.proofs.Spelled.{IsBytes, Takes, Spelled, both, as_facts, nothing_spelled, kind_or, kinded_takes}
@@ -48,7 +48,9 @@ module _ (bytes after : List ℕ) (k : ℕ) (m : Event) (rest : List ℕ) (fits 
       case numbered_spelled (λ f. Acked f.0 f.1) 4 (λ a h. h) (λ a. refl) _ (
       case asked_spelled (λ f. Ask f.0.0 f.0.1 f.1) 5 (λ a h. h) (λ a. refl) _ (
       case id_spelled (λ node. Retire node) 6 (λ a h. h) (λ a. refl) _ (
-      λ e. absurd cc))))))
+      case id_spelled (λ node. Lapse node) 32 (λ a h. h) (λ a. refl) _ (
+      case nothing_spelled (λ _. Snapshot) 33 (λ a h. h) (λ a. refl) _ (
+      λ e. absurd cc))))))))
 
 event_again : (m : Event) (rest : List ℕ) → IsEvent m → event_at (event_spelling m ++ rest) ≡ Ok (m, rest)
 unfolding event_at
@@ -58,6 +60,8 @@ event_again (Deliver from number message) rest is = rw (delivery_spelled.again (
 event_again (Acked peer number) rest is = rw (numbered_spelled.again (peer, number) rest is) refl
 event_again (Ask session request command) rest is = rw (asked_spelled.again ((session, request), command) rest is) refl
 event_again (Retire node) rest is = rw (id_spelled.again node rest is) refl
+event_again (Lapse node) rest is = rw (id_spelled.again node rest is) refl
+event_again Snapshot rest is = refl
 
 pub event_spelled : Spelled event_at IsEvent event_spelling
 unfolding event_at

@@ -18,7 +18,7 @@ use Rattle.cc_wire.specs.declared.answer.Answer.TheVariants as answers
 use Rattle.cc_wire.specs.declared.event.Event.{Event}
 use Rattle.cc_wire.specs.declared.event.Event.TheVariants as events
 use Rattle.cc_wire.specs.Spelling.{text_spelling, IsText, flag_spelling, number_spelling, number_set_spelling, IsNumberSet, value_spelling, IsValue, row_spelling, IsRow, view_spelling, IsView, listed_spelling, number_list_spelling, IsNumberList, id_set_spelling, IsIdSet, changes_spelling, IsChanges}
-use Rattle.cc_wire.specs.Messages.{call_spelling, echo_spelling, IsEcho, message_spelling, IsMessage}
+use Rattle.cc_wire.specs.Messages.{call_spelling, echo_spelling, IsEcho, snapshot_spelling, IsSnapshot, message_spelling, IsMessage}
 use Rattle.cc_wire.specs.Commands.{command_spelling, IsCommand}
 use Rattle.cc_wire.specs.Answers.{answer_spelling, IsAnswer}
 use Rattle.cc_wire.specs.Events.{numbered_spelling, delivery_spelling, IsDelivery, asked_spelling, IsAsked, event_spelling, IsEvent}
@@ -109,6 +109,11 @@ length-echo c v b node is =
       length-flag b,
     )
 
+-- changes and a view
+length-snapshot : (c : ChangeSets) (v : ViewMap) → IsSnapshot c v → length (snapshot_spelling c v) ≤ 58120
+length-snapshot c v is =
+    omega (arith, length-append (changes_spelling c) (view_spelling v), length-changes c is.changes_fit, length-view v is.view_fits)
+
 -- an echo is the longest
 pub length-message : (m : Message) → IsMessage m → length (message_spelling m) ≤ 58126
 length-message (messages.Enter node) is = omega arith
@@ -121,6 +126,7 @@ length-message (messages.Query tag node) is = omega arith
 length-message (messages.QueryReply v tag node) is = omega (arith, length-view_call v tag node is.0)
 length-message (messages.Store v tag node) is = omega (arith, length-view_call v tag node is.0)
 length-message (messages.StoreAck tag node) is = omega arith
+length-message (messages.Snapshot c v) is = omega (arith, length-snapshot c v is)
 
 -- a text is the longest
 pub length-command : (c : Command) → IsCommand c → length (command_spelling c) ≤ 66
@@ -157,3 +163,5 @@ length-event (events.Deliver from n m) is = omega (arith, length-delivery from n
 length-event (events.Acked peer n) is = omega arith
 length-event (events.Ask session request c) is = omega (arith, length-asked session request c is)
 length-event (events.Retire node) is = omega arith
+length-event (events.Lapse node) is = omega arith
+length-event events.Snapshot is = omega arith

@@ -5,7 +5,7 @@ use Rattle.cc_wire.specs.declared.fault.WireFault.TheVariants.{BadKind}
 use Rattle.cc_wire.specs.declared.message.Message.{Message}
 use Rattle.cc_wire.specs.declared.command.Command.{Command}
 use Rattle.cc_wire.specs.declared.event.Event.{Event}
-use Rattle.cc_wire.specs.declared.event.Event.TheVariants.{Enter, Leave, Deliver, Acked, Ask, Retire}
+use Rattle.cc_wire.specs.declared.event.Event.TheVariants.{Enter, Leave, Deliver, Acked, Ask, Retire, Lapse, Snapshot}
 use Rattle.cc_wire.specs.Reading.{Reading, ◌⊗◌, via, nothing_at, kinded, number_at, number_from}
 use Rattle.cc_wire.specs.Spelling.{Spells, IsId}
 use Rattle.cc_wire.specs.Messages.{message_spelling, IsMessage, message_at}
@@ -62,6 +62,8 @@ event_spelling (Deliver from number message) = 3 ∷ delivery_spelling from numb
 event_spelling (Acked peer number) = 4 ∷ numbered_spelling peer number
 event_spelling (Ask session request command) = 5 ∷ asked_spelling session request command
 event_spelling (Retire node) = 6 ∷ to_be_bytes w32 node
+event_spelling (Lapse node) = 32 ∷ to_be_bytes w32 node
+event_spelling Snapshot = 33 ∷ []
 
 abbrev pub IsEvent : Event → Type 0
 IsEvent Enter = Unit {0}
@@ -70,6 +72,8 @@ IsEvent (Deliver from number message) = IsDelivery from number message
 IsEvent (Acked peer number) = IsNumbered peer number
 IsEvent (Ask session request command) = IsAsked session request command
 IsEvent (Retire node) = IsId node
+IsEvent (Lapse node) = IsId node
+IsEvent Snapshot = Unit {0}
 
 abbrev pub SpellsEvent : List ℕ → Event → Type 0
 SpellsEvent = Spells IsEvent event_spelling
@@ -82,7 +86,9 @@ event_fields kind =
     else (if kind == 4 then via (λ f. Acked f.0 f.1) numbered_at
     else (if kind == 5 then via (λ f. Ask f.0.0 f.0.1 f.1) asked_at
     else (if kind == 6 then via (λ node. Retire node) (number_from 1)
-    else (λ bytes. Err (BadKind kind)))))))
+    else (if kind == 32 then via (λ node. Lapse node) (number_from 1)
+    else (if kind == 33 then via (λ _. Snapshot) nothing_at
+    else (λ bytes. Err (BadKind kind)))))))))
 
 unfoldable pub event_at : Reading Event
 event_at = kinded event_fields

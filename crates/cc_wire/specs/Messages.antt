@@ -1,11 +1,11 @@
 -- Messages as bytes: a kind, and then the fields.
-use Rattle.std.specs.Prelude.{ℕ, Bool, ◌<◌, ◌≤◌, ◌^◌, List, ◌∷◌, ◌++◌, Err, ◌==◌, if◌then◌else◌}
+use Rattle.std.specs.Prelude.{ℕ, Bool, true, false, ◌<◌, ◌≤◌, ◌^◌, List, ◌∷◌, ◌++◌, Err, ◌==◌, if◌then◌else◌}
 use Rattle.std.specs.Int.{w32, w64, to_be_bytes}
 use Rattle.cc_views.specs.Rows.{ViewMap}
 use Rattle.cc_changes.specs.ChangeSets.{ChangeSets}
 use Rattle.cc_wire.specs.declared.fault.WireFault.TheVariants.{BadKind}
 use Rattle.cc_wire.specs.declared.message.Message.{Message}
-use Rattle.cc_wire.specs.declared.message.Message.TheVariants.{Enter, EnterEcho, Join, JoinEcho, Leave, LeaveEcho, Query, QueryReply, Store, StoreAck}
+use Rattle.cc_wire.specs.declared.message.Message.TheVariants.{Enter, EnterEcho, Join, JoinEcho, Leave, LeaveEcho, Query, QueryReply, Store, StoreAck, Snapshot}
 use Rattle.cc_wire.specs.Reading.{Reading, ◌⊗◌, via, kinded, number_at, number_from, flag_at, view_at, changes_at}
 use Rattle.cc_wire.specs.Spelling.{Spells, view_spelling, IsView, flag_spelling, changes_spelling, IsChanges, IsId}
 
@@ -27,6 +27,14 @@ pub record IsEcho (changes : ChangeSets) (view : ViewMap) (node : ℕ) : Type 0 
   pub view_fits : IsView view
   pub is_id : IsId node
 
+-- what a snapshot tells: the changes and the view
+abbrev pub snapshot_spelling : ChangeSets → ViewMap → List ℕ
+snapshot_spelling changes view = changes_spelling changes ++ view_spelling view
+
+pub record IsSnapshot (changes : ChangeSets) (view : ViewMap) : Type 0 where
+  pub changes_fit : IsChanges changes
+  pub view_fits : IsView view
+
 abbrev pub message_spelling : Message → List ℕ
 message_spelling (Enter node) = 1 ∷ to_be_bytes w32 node
 message_spelling (EnterEcho changes view is_joined node) = 2 ∷ echo_spelling changes view is_joined node
@@ -38,6 +46,7 @@ message_spelling (Query tag node) = 7 ∷ call_spelling tag node
 message_spelling (QueryReply view tag node) = 8 ∷ (view_spelling view ++ call_spelling tag node)
 message_spelling (Store view tag node) = 9 ∷ (view_spelling view ++ call_spelling tag node)
 message_spelling (StoreAck tag node) = 10 ∷ call_spelling tag node
+message_spelling (Snapshot changes view) = 32 ∷ snapshot_spelling changes view
 
 abbrev pub IsMessage : Message → Type 0
 IsMessage (Enter node) = IsId node
@@ -50,9 +59,17 @@ IsMessage (Query tag node) = IsCall tag node
 IsMessage (QueryReply view tag node) = IsView view × IsCall tag node
 IsMessage (Store view tag node) = IsView view × IsCall tag node
 IsMessage (StoreAck tag node) = IsCall tag node
+IsMessage (Snapshot changes view) = IsSnapshot changes view
 
 abbrev pub SpellsMessage : List ℕ → Message → Type 0
 SpellsMessage = Spells IsMessage message_spelling
+
+-- ---- what stands alone
+
+-- a snapshot is taken under any number above the last that was heard
+abbrev pub is_snapshot : Message → Bool
+is_snapshot (Snapshot changes view) = true
+is_snapshot _ = false
 
 -- ---- reading
 
@@ -61,6 +78,9 @@ call_at = number_at w64 ⊗ number_from 1
 
 abbrev pub echo_at : Reading (ChangeSets × (ViewMap × (Bool × ℕ)))
 echo_at = changes_at ⊗ view_at ⊗ flag_at ⊗ number_from 1
+
+abbrev pub snapshot_at : Reading (ChangeSets × ViewMap)
+snapshot_at = changes_at ⊗ view_at
 
 abbrev pub fields_of : ℕ → Reading Message
 fields_of kind =
@@ -74,7 +94,8 @@ fields_of kind =
     else (if kind == 8 then via (λ f. QueryReply f.0 f.1.0 f.1.1) (view_at ⊗ call_at)
     else (if kind == 9 then via (λ f. Store f.0 f.1.0 f.1.1) (view_at ⊗ call_at)
     else (if kind == 10 then via (λ f. StoreAck f.0 f.1) call_at
-    else (λ bytes. Err (BadKind kind)))))))))))
+    else (if kind == 32 then via (λ f. Snapshot f.0 f.1) snapshot_at
+    else (λ bytes. Err (BadKind kind))))))))))))
 
 unfoldable pub message_at : Reading Message
 message_at = kinded fields_of

@@ -43,6 +43,12 @@ pub enum Event {
     Retire {
         node: NodeId,
     },
+    /// What is kept for a node that stays away lapses: it counts as acknowledged.
+    Lapse {
+        node: NodeId,
+    },
+    /// The node posts what it knows, for nodes that missed what lapsed.
+    Snapshot,
 }
 
 impl Event {
@@ -76,6 +82,8 @@ impl Event {
                 command: *command,
             }),
             Event::Retire { node } => Ok(Event::Retire { node: *node }),
+            Event::Lapse { node } => Ok(Event::Lapse { node: *node }),
+            Event::Snapshot => Ok(Event::Snapshot),
         }
     }
 }
@@ -148,6 +156,11 @@ impl<'a> Reader<'a> {
                 let node = self.id(1)?;
                 Ok(Event::Retire { node })
             }
+            32 => {
+                let node = self.id(1)?;
+                Ok(Event::Lapse { node })
+            }
+            33 => Ok(Event::Snapshot),
             kind => Err(WireFault::BadKind(kind)),
         }
     }
@@ -238,6 +251,11 @@ pub(crate) fn put_event(out: &mut Vec<u8>, event: &Event) -> Result<(), AllocErr
             put_u8(out, 6)?;
             put_id(out, *node)
         }
+        Event::Lapse { node } => {
+            put_u8(out, 32)?;
+            put_id(out, *node)
+        }
+        Event::Snapshot => put_u8(out, 33),
     }
 }
 

@@ -5,7 +5,7 @@ ghost use Rattle.std.specs.Vec.{vec_capacity};
 ghost use Rattle.cc_wire.specs.Writing.{Writes};
 ghost use Rattle.cc_wire.specs.Reading.{◌⊗◌, Gives, via, view_at, whole};
 ghost use Rattle.cc_wire.specs.declared.message.Message.TheVariants as variants;
-ghost use Rattle.cc_wire.specs.Messages.{message_at, fields_of, call_at, echo_at, message_spelling, IsMessage, SpellsMessage, call_spelling, IsCall, echo_spelling, IsEcho};
+ghost use Rattle.cc_wire.specs.Messages.{message_at, fields_of, call_at, echo_at, snapshot_at, message_spelling, IsMessage, SpellsMessage, call_spelling, IsCall, echo_spelling, IsEcho, snapshot_spelling, IsSnapshot, is_snapshot};
 ghost use Rattle.cc_wire.specs.Spelling.{view_spelling, IsView, number_spelling, IsId};
 
 use crate::changes_bytes::{put_changes, put_id};
@@ -68,6 +68,11 @@ pub enum Message {
         tag: u64,
         node: NodeId,
     },
+    /// What the sender knows, for nodes that missed what it sent before.
+    Snapshot {
+        changes: Changes,
+        view: View,
+    },
 }
 
 impl Message {
@@ -110,7 +115,18 @@ impl Message {
                 tag: *tag,
                 node: *node,
             }),
+            Message::Snapshot { changes, view } => Ok(Message::Snapshot {
+                changes: changes.copy(alloc)?,
+                view: view.copy(alloc)?,
+            }),
         }
+    }
+
+    /// Whether it is a snapshot, which is taken under any number above the last that was heard.
+    pub fn is_snapshot(&self) -> bool
+        ensures { result ≡ is_snapshot self.now }
+    {
+        matches!(self, Message::Snapshot { .. })
     }
 }
 
@@ -147,6 +163,15 @@ impl<'a> Reader<'a> {
             is_joined,
             node,
         })
+    }
+
+    // What a snapshot tells.
+    fn snapshot(&mut self, alloc: Global) -> Result<Message, WireFault>
+        ensures { Gives (λ x. (x, self.new)) result (via (λ f. variants.Snapshot f.0 f.1) snapshot_at self.old) }
+    {
+        let changes = self.changes(alloc)?;
+        let view = self.view(alloc)?;
+        Ok(Message::Snapshot { changes, view })
     }
 
     // The fields of a message of that kind.
@@ -191,6 +216,7 @@ impl<'a> Reader<'a> {
                 let (tag, node) = self.call()?;
                 Ok(Message::StoreAck { tag, node })
             }
+            32 => self.snapshot(alloc),
             kind => Err(WireFault::BadKind(kind)),
         }
     }
@@ -260,6 +286,14 @@ fn put_echo(
     put_id(out, node)
 }
 
+fn put_snapshot(out: &mut Vec<u8>, changes: &Changes, view: &View) -> Result<(), AllocError>
+    ensures writes { Writes out.old out.new (snapshot_spelling changes.now view.now) result }
+    ensures fits { OnOk result (IsSnapshot changes.now view.now) }
+{
+    put_changes(out, changes)?;
+    put_view(out, view)
+}
+
 // A kind that has a node alone.
 fn put_news(out: &mut Vec<u8>, kind: u8, node: NodeId) -> Result<(), AllocError>
     ensures writes { Writes out.old out.new (kind ∷ number_spelling node) result }
@@ -304,6 +338,10 @@ pub fn put_message(out: &mut Vec<u8>, message: &Message) -> Result<(), AllocErro
         Message::StoreAck { tag, node } => {
             put_u8(out, 10)?;
             put_call(out, *tag, *node)
+        }
+        Message::Snapshot { changes, view } => {
+            put_u8(out, 32)?;
+            put_snapshot(out, changes, view)
         }
     }
 }

@@ -150,6 +150,10 @@ pub fn message_is_spellable(message: &Message)
             call_is_spellable(*tag, *node);
         }
         Message::StoreAck { tag, node } => call_is_spellable(*tag, *node),
+        Message::Snapshot { changes, view } => {
+            changes_are_spellable(changes);
+            view_is_spellable(view);
+        }
     }
 }
 
@@ -170,7 +174,7 @@ pub fn event_is_spellable(event: &Event)
     ensures { SpellsEvent (event_spelling event.now) event.now }
 {
     match event {
-        Event::Enter | Event::Leave => {}
+        Event::Enter | Event::Leave | Event::Snapshot => {}
         Event::Deliver {
             from,
             number,
@@ -193,6 +197,6 @@ pub fn event_is_spellable(event: &Event)
             number_fits(*request);
             command_is_spellable(command);
         }
-        Event::Retire { node } => id_is_spellable(*node),
+        Event::Retire { node } | Event::Lapse { node } => id_is_spellable(*node),
     }
 }

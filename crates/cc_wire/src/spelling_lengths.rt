@@ -101,6 +101,7 @@ pub fn message_len(message: &Message) -> usize
         Message::QueryReply { view, .. } | Message::Store { view, .. } => {
             KIND + view_len(view) + NUMBER + ID
         }
+        Message::Snapshot { changes, view } => KIND + changes_len(changes) + view_len(view),
     }
 }
 
@@ -141,10 +142,10 @@ pub fn event_len(event: &Event) -> usize
     ensures fits { result ≤ 58139 }
 {
     match event {
-        Event::Enter | Event::Leave => KIND,
+        Event::Enter | Event::Leave | Event::Snapshot => KIND,
         Event::Deliver { message, .. } => KIND + ID + NUMBER + message_len(message),
         Event::Acked { .. } => KIND + ID + NUMBER,
         Event::Ask { command, .. } => KIND + NUMBER + NUMBER + command_len(command),
-        Event::Retire { .. } => KIND + ID,
+        Event::Retire { .. } | Event::Lapse { .. } => KIND + ID,
     }
 }

@@ -6,7 +6,9 @@ mod network;
 mod streams;
 
 use cc_arguments::{Formatted, Order, parse};
-use cc_commands::{FormatOrder, FormatWords, RunOrder, WordFault, dump_folder, format_folder};
+use cc_commands::{
+    FormatOrder, FormatWords, RunOrder, Warning, WordFault, dump_folder, format_folder,
+};
 use cc_intake::NoHooks;
 use cc_lines::Stop;
 use cc_play::{PlayFault, play};
@@ -96,11 +98,23 @@ fn format(rt: &HostRuntime, formatted: &Formatted<'_>) -> anyhow::Result<ExitCod
     }
 }
 
-// Formats a folder: the status of that.
+// Formats a folder: the status of that. What the operator may not want is told on standard error.
 fn format_as(rt: &HostRuntime, folder: &str, order: &FormatOrder) -> anyhow::Result<ExitCode> {
     let mut output = std::io::writer(rt);
     let status = format_folder(rt, rt.alloc(), folder, order, &mut output)?;
+    if status == 0 {
+        for warning in order.warnings() {
+            print_warning(rt, warning)?;
+        }
+    }
     Ok(ExitCode::from(status))
+}
+
+fn print_warning<R: Eprint>(rt: &R, warning: Option<Warning>) -> anyhow::Result<()> {
+    if let Some(warning) = warning {
+        eprintln!(rt; "ccnode: warning: {warning}")?;
+    }
+    Ok(())
 }
 
 // Prints which word isn't of its form.

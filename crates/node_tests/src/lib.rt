@@ -2,6 +2,8 @@
 #![tactic(auto)]
 
 #[cfg(test)]
+mod absent;
+#[cfg(test)]
 mod machine;
 #[cfg(test)]
 mod restored;

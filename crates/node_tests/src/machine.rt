@@ -11,8 +11,8 @@ use std::test::*;
 
 const FOUR_FIFTHS: Fraction = Fraction { num: 4, den: 5 };
 
-// An opening with these members and contacts.
-fn opening<'a>(me: u32, initial: &'a [u32], contacts: &'a [u32]) -> Opening<'a> {
+/// An opening with these members and contacts.
+pub fn opening<'a>(me: u32, initial: &'a [u32], contacts: &'a [u32]) -> Opening<'a> {
     Opening {
         me,
         initial,
@@ -138,7 +138,8 @@ fn faults_print_their_names(rt: HostRuntime) -> Result<(), Fail> {
     Ok(())
 }
 
-fn ask(request: u64, command: Command) -> Event {
+/// The request of session 7 with this number.
+pub fn ask(request: u64, command: Command) -> Event {
     Event::Ask {
         session: 7,
         request,
@@ -146,8 +147,8 @@ fn ask(request: u64, command: Command) -> Event {
     }
 }
 
-// Takes the event in, which isn't refused.
-fn take(alloc: Global, node: &mut Node, event: Event) -> Result<(), Fail> {
+/// Takes the event in, which isn't refused.
+pub fn take(alloc: Global, node: &mut Node, event: Event) -> Result<(), Fail> {
     match node.core().made_or_refused(alloc, &event) {
         Ok(made) => {
             node.settle(event, made);
@@ -160,8 +161,8 @@ fn take(alloc: Global, node: &mut Node, event: Event) -> Result<(), Fail> {
     }
 }
 
-// Why the node refuses the event, which is let go.
-fn refusal(node: &Node, event: Event) -> Option<Refusal> {
+/// Why the node refuses the event, which is let go.
+pub fn refusal(node: &Node, event: Event) -> Option<Refusal> {
     let decided = node.core().decide(&event);
     drop(event);
     decided.err()

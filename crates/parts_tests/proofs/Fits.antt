@@ -3,11 +3,20 @@
 --     query_fits           after a query while it waits
 --     reply_fits           after the reply to its query
 --     store_fits           after a store of no rows
+--     told_fits            after a view of no rows, while it waits
+--     joins_fit            who joined, after a snapshot that a new node counts as an echo
 use Rattle.std.proofs.Common.{ℕ, ◌≤◌, Bool, true, false, if◌then◌else◌, arith}
 use Rattle.std.specs.Ordering.{nat_cmp}
 use Rattle.std.specs.FinMap as map
 use Rattle.cc_views.specs.Rows.{Pair, ViewMap}
+use Rattle.cc_views.specs.Merge.{merge}
 use Rattle.cc_views.specs.MergeLaws.{merge_is_no_larger, merge_row_is_no_larger}
+use Rattle.std.proofs.lemmas.Bool.{cond_both}
+use Rattle.cc_changes.specs.ChangeSets.{FitsRoom, add_join}
+use Rattle.cc_changes.specs.declared.fraction.Fraction.{Fraction}
+use Rattle.cc_changes.proofs.Unions.{first_joins}
+use Rattle.cc_churn.specs.Churn.{nobody, with_need, with_echo, is_answered, told}
+use Rattle.cc_churn.proofs.Fits.{before_join}
 use Rattle.cc_wire.specs.declared.command.Command.TheVariants as command
 use Rattle.cc_wire.specs.declared.message.Message.TheVariants as message
 use Rattle.cc_ops.specs.declared.pending.Asked.{Asked}
@@ -41,3 +50,11 @@ reply_fits me = either_fits (is_own me 1 1 querying) (after_reply 1 none queryin
 
 pub store_fits : (me quorum tag q : ℕ) → map.len (after_message me quorum (message.Store map.empty tag q) nothing_done).view ≤ 256
 store_fits me quorum tag q = omega (arith, none_fit, merge_is_no_larger none none)
+
+pub told_fits : map.len (merge querying.view none) ≤ 256
+told_fits = omega (arith, none_fit, merge_is_no_larger none none)
+
+pub joins_fit : (me : ℕ) (gamma : Fraction) → FitsRoom (told me gamma nobody).changes
+joins_fit me gamma =
+    let w = with_echo (with_need gamma true nobody) in
+    cond_both (is_answered w) (record w { changes = add_join w.changes me }) w (λ s. FitsRoom s.changes) (λ _. first_joins me) (λ _. before_join w.changes me (first_joins me))

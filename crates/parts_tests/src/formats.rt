@@ -34,8 +34,8 @@ const STORE: [u8; 39] = [
     0, 0, 0, 1, 0, 0, 0, 1,
 ];
 
-// Checks what was written, which is let go.
-fn check_bytes<R: Abort>(
+/// Checks what was written, which is let go.
+pub fn check_bytes<R: Abort>(
     rt: &R,
     written: Result<Vec<u8>, Fail>,
     wanted: &[u8],
@@ -283,8 +283,8 @@ fn bytes_of_event_copy(alloc: Global, event: &Event) -> Result<Vec<u8>, Fail> {
     bytes
 }
 
-// The bytes of a copy of the event that these bytes spell.
-fn copied_event(alloc: Global, bytes: &[u8]) -> Result<Vec<u8>, Fail> {
+/// The bytes of a copy of the event that these bytes spell.
+pub fn copied_event(alloc: Global, bytes: &[u8]) -> Result<Vec<u8>, Fail> {
     let read = decode_event(alloc, bytes)?;
     let copied = bytes_of_event_copy(alloc, &read);
     drop(read);
@@ -316,7 +316,8 @@ fn bytes_of_small_events(alloc: Global) -> Result<Vec<u8>, Fail> {
     Ok(out)
 }
 
-fn event_fault(alloc: Global, bytes: &[u8]) -> Option<WireFault> {
+/// Why these bytes spell no event.
+pub fn event_fault(alloc: Global, bytes: &[u8]) -> Option<WireFault> {
     decode_event(alloc, bytes).err()
 }
 
@@ -408,8 +409,8 @@ fn bytes_of_message_copy(alloc: Global, message: &Message) -> Result<Vec<u8>, Fa
     bytes
 }
 
-// The bytes of a copy of the message that these bytes spell.
-fn copied_message(alloc: Global, bytes: &[u8]) -> Result<Vec<u8>, Fail> {
+/// The bytes of a copy of the message that these bytes spell.
+pub fn copied_message(alloc: Global, bytes: &[u8]) -> Result<Vec<u8>, Fail> {
     let read = decode_message(alloc, bytes)?;
     let copied = bytes_of_message_copy(alloc, &read);
     drop(read);

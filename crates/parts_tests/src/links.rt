@@ -23,9 +23,9 @@ fn row(peer: u32, acked: u64) -> Result<LinkRow, Fail>
     })
 }
 
-// Three posts: peer 1 has acknowledged two of them, peer 2 one.
+/// Three posts: peer 1 has acknowledged two of them, peer 2 one.
 #[tactic(auto, using(cc_links::specs::LinkLaws::reaches_empty, cc_links::specs::LinkLaws::reaches_insert, cc_views::specs::MapLaws::len_insert))]
-fn two_links(alloc: Global) -> Result<Links, Fail>
+pub fn two_links(alloc: Global) -> Result<Links, Fail>
     ensures reached { IfOk result (λ l. ReachesWithin 3 l) }
     ensures len { IfOk result (λ l. len l ≤ 2) }
 {

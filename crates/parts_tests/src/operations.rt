@@ -14,14 +14,15 @@ use std::alloc::Global;
 use std::process::Abort;
 use std::test::*;
 
-// The one member of its cluster, so that each round needs one answer.
-fn me() -> Result<NodeId, Fail>
+/// The one member of its cluster, so that each round needs one answer.
+pub fn me() -> Result<NodeId, Fail>
     ensures { IfOk result (λ id. id ≡ 1) }
 {
     Ok(NodeId::new(1).ok_or("1 is an id")?)
 }
 
-fn first_request(command: Command) -> Asked
+/// The first request of session 7.
+pub fn first_request(command: Command) -> Asked
     ensures { result ≡ record { session = 7; request = 1; command = command } }
 {
     Asked {
@@ -31,8 +32,8 @@ fn first_request(command: Command) -> Asked
     }
 }
 
-// A collect has begun.
-fn querying(alloc: Global) -> Result<Ops, Fail>
+/// A collect has begun.
+pub fn querying(alloc: Global) -> Result<Ops, Fail>
     ensures { IfOk result (λ o. o ≡ ops.after_ask 1 1 (record { session = 7; request = 1; command = command.Collect }) ops.nothing_done) }
 {
     let me = me()?;
@@ -67,10 +68,11 @@ fn storing_back(alloc: Global) -> Result<Ops, Fail> {
     }
 }
 
-// The name of a message of an operation, how many rows its view has, its tag and its node.
-type Said = (&'static str, usize, u64, u32);
+/// The name of a message of an operation, how many rows its view has, its tag and its node.
+pub type Said = (&'static str, usize, u64, u32);
 
-fn said(message: &Message) -> Said {
+/// What it is, as such a row.
+pub fn said(message: &Message) -> Said {
     match message {
         Message::Query { tag, node } => ("Query", 0, *tag, node.number()),
         Message::QueryReply { view, tag, node } => {

@@ -2,6 +2,14 @@
 #![tactic(auto)]
 
 #[cfg(test)]
+mod absent;
+#[cfg(test)]
+mod absent_entrants;
+#[cfg(test)]
+mod absent_full;
+#[cfg(test)]
+mod anew;
+#[cfg(test)]
 mod bad_lines;
 #[cfg(test)]
 mod checkpoints;
@@ -34,6 +42,10 @@ mod retirements;
 #[cfg(test)]
 mod sites;
 #[cfg(test)]
+mod snapshots;
+#[cfg(test)]
 mod standing;
+#[cfg(test)]
+mod warnings;
 #[cfg(test)]
 mod words;

@@ -187,3 +187,12 @@ fn who_acknowledged_least_is_furthest_behind(rt: HostRuntime) -> Result<(), Fail
     drop(member);
     checked
 }
+
+const ALWAYS: [Case; 2] = [(0, false, 0, true), (512, false, 0, true)];
+
+// A lapse is there to empty a full outbox.
+#[test]
+fn a_lapse_and_a_snapshot_need_no_room(rt: HostRuntime) -> Result<(), Fail> {
+    check_handing(&rt, Event::Lapse { node: node(2)? }, &ALWAYS)?;
+    check_handing(&rt, Event::Snapshot, &ALWAYS)
+}

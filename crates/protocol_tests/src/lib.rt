@@ -7,6 +7,8 @@ mod admission;
 #[cfg(test)]
 mod bytes;
 #[cfg(test)]
+mod calling;
+#[cfg(test)]
 mod clients;
 #[cfg(test)]
 mod duties;
@@ -18,5 +20,7 @@ mod incoming;
 mod routes;
 #[cfg(test)]
 mod speakers;
+#[cfg(test)]
+mod standings;
 #[cfg(test)]
 mod words;

@@ -36,6 +36,26 @@ where
 {
     format_member(rt, folder, "1")?;
     format_member(rt, other, "2")?;
+    places(rt)
+}
+
+/// Two of three members in new folders, with listeners at ports that are free.
+pub(crate) fn set_up_of_three<R>(
+    rt: &R,
+    folder: &str,
+    other: &str,
+    beta: Option<&str>,
+) -> Result<Places, Fail>
+where
+    R: AllocGlobal + Files<File = File> + Net<Listener = TcpListener, Stream = TcpStream>,
+{
+    format_member_of(rt, folder, "1", "1,2,3", beta)?;
+    format_member_of(rt, other, "2", "1,2,3", beta)?;
+    places(rt)
+}
+
+// Listeners at ports that are free.
+fn places<R: Net<Listener = TcpListener, Stream = TcpStream>>(rt: &R) -> Result<Places, Fail> {
     let first = TcpListener::bind(rt, "127.0.0.1:0")?;
     let second = TcpListener::bind(rt, "127.0.0.1:0")?;
     let one = first.local_addr()?;
@@ -54,13 +74,24 @@ pub(crate) fn format_member<R: AllocGlobal + Files<File = File>>(
     folder: &str,
     id: &str,
 ) -> Result<(), Fail> {
+    format_member_of(rt, folder, id, "1,2", None)
+}
+
+/// A new folder that keeps one of these members, of which a share β answers each operation.
+pub(crate) fn format_member_of<R: AllocGlobal + Files<File = File>>(
+    rt: &R,
+    folder: &str,
+    id: &str,
+    members: &str,
+    beta: Option<&str>,
+) -> Result<(), Fail> {
     let _ = fs::remove_dir_all(rt, folder);
     fs::create_dir(rt, folder)?;
     let words = FormatWords {
         id,
-        initial: Some("1,2"),
+        initial: Some(members),
         contacts: None,
-        beta: None,
+        beta,
         gamma: None,
     };
     let order = FormatOrder::parse(rt.alloc(), &words)?;

@@ -3,21 +3,21 @@ use Rattle.cc_node.proofs.Named.{named_links, named_room}
 use Rattle.cc_node.proofs.named_nodes.link_named.Goals as goal
 
 pub add_nodes-requires : goal.add_nodes-requires
-add_nodes-requires c = (named_room c.args.posts c.args.peers.now c.named_by-node.result (ids_of c.args.message.now) c.named_by-node.ensures c.requires).rows
+add_nodes-requires c = (named_room c.args.posts c.args.peers.now c.named_by.result (ids_of c.args.message.now) c.named_by.ensures c.requires).rows
 
 pub add_all-requires : goal.add_all-requires
-add_all-requires c = rw c.add_nodes.ensures (named_room c.args.posts c.args.peers.now c.named_by-node.result (ids_of c.args.message.now) c.named_by-node.ensures c.requires).left
+add_all-requires c = rw c.add_nodes.ensures (named_room c.args.posts c.args.peers.now c.named_by.result (ids_of c.args.message.now) c.named_by.ensures c.requires).left
 
 pub add_all-requires-2 : goal.add_all-requires-2
-add_all-requires-2 c = rw (c.add_all.ensures, c.add_nodes.ensures) (named_room c.args.posts c.args.peers.now c.named_by-node.result (ids_of c.args.message.now) c.named_by-node.ensures c.requires).joined
+add_all-requires-2 c = rw (c.add_all.ensures, c.add_nodes.ensures) (named_room c.args.posts c.args.peers.now c.named_by.result (ids_of c.args.message.now) c.named_by.ensures c.requires).joined
 
 pub add_all-requires-3 : goal.add_all-requires-3
-add_all-requires-3 c = rw (c.add_all-2.ensures, c.add_all.ensures, c.add_nodes.ensures) (named_room c.args.posts c.args.peers.now c.named_by-node.result (ids_of c.args.message.now) c.named_by-node.ensures c.requires).entered
+add_all-requires-3 c = rw (c.add_all-2.ensures, c.add_all.ensures, c.add_nodes.ensures) (named_room c.args.posts c.args.peers.now c.named_by.result (ids_of c.args.message.now) c.named_by.ensures c.requires).entered
 
-pub add-requires : goal.add-requires
-add-requires c = rw (c.add_all-3.ensures, c.add_all-2.ensures, c.add_all.ensures, c.add_nodes.ensures) (named_room c.args.posts c.args.peers.now c.named_by-node.result (ids_of c.args.message.now) c.named_by-node.ensures c.requires).node
+pub add_all-requires-4 : goal.add_all-requires-4
+add_all-requires-4 c = rw (c.add_all-3.ensures, c.add_all-2.ensures, c.add_all.ensures, c.add_nodes.ensures) (named_room c.args.posts c.args.peers.now c.named_by.result (ids_of c.args.message.now) c.named_by.ensures c.requires).node
 
 pub returns : goal.returns
 returns c =
-    rw (c.add.ensures, c.add_all-3.ensures, c.add_all-2.ensures, c.add_all.ensures, c.add_nodes.ensures)
-    (named_links c.args.posts c.args.peers.now c.named_by-node.result (ids_of c.args.message.now) c.named_by-node.ensures)
+    rw (c.add_all-4.ensures, c.add_all-3.ensures, c.add_all-2.ensures, c.add_all.ensures, c.add_nodes.ensures)
+    (named_links c.args.posts c.args.peers.now c.named_by.result (ids_of c.args.message.now) c.named_by.ensures)

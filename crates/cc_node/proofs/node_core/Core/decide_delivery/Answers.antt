@@ -4,7 +4,7 @@ use Rattle.cc_wire.specs.declared.refusal.Refusal.{Refusal}
 use Rattle.cc_wire.specs.Refusals.{first_of, decided}
 use Rattle.cc_node.specs.Core.{Core}
 use Rattle.cc_node.specs.Refusals.{decides, decides_within, left, not_entered, old, gap}
-use Rattle.cc_node.proofs.Deciding.{err_there, ok_later, ok_none, next_number}
+use Rattle.cc_node.proofs.Deciding.{err_there, ok_later, ok_none, number_after}
 use Rattle.cc_node.proofs.node_core.Core.decide_delivery.Goals as goal
 
 abbrev outside : Core → List (Option Refusal)
@@ -22,7 +22,7 @@ unfolding decides decides_within
 returns-in_err-decide_number c =
     let s = c.args.self.now in
     let churned = c.decide_delivery.ensures ∙ ap (λ (k : Core). decided (first_of (outside k))) c.self.view_is in
-    err_there (old s c.args.from c.args.number ∷ gap s c.args.from c.args.number ∷ []) _ _ c.from_residual-in_err-decide_number.result c.from_residual-in_err-decide_number.ensures.1 (sym c.decide_number.ensures ∙ c.in_err-decide_number.was)
+    err_there (old s c.args.from c.args.number ∷ gap s c.args.from c.args.number c.args.message.now ∷ []) _ _ c.from_residual-in_err-decide_number.result c.from_residual-in_err-decide_number.ensures.1 (sym c.decide_number.ensures ∙ c.in_err-decide_number.was)
     ∙ ok_later (outside s) _ (sym churned ∙ c.in_ok-decide_delivery.was)
 
 pub returns : goal.returns
@@ -31,6 +31,10 @@ returns c =
     let s = c.args.self.now in
     let churned = c.decide_delivery.ensures ∙ ap (λ (k : Core). decided (first_of (outside k))) c.self.view_is in
     let numbered = sym c.decide_number.ensures ∙ c.in_ok-decide_number.was in
-    c.decide_message.ensures c.args.number (next_number s c.args.from c.args.number (ok_none _ numbered))
-    ∙ ok_later (old s c.args.from c.args.number ∷ gap s c.args.from c.args.number ∷ []) _ numbered
+    c.decide_message.ensures
+    ∙ ok_later (old s c.args.from c.args.number ∷ gap s c.args.from c.args.number c.args.message.now ∷ []) _ numbered
     ∙ ok_later (outside s) _ (sym churned ∙ c.in_ok-decide_delivery.was)
+
+pub decide_message-requires : goal.decide_message-requires
+decide_message-requires c =
+    number_after c.args.self.now c.args.from c.args.number c.args.message.now (ok_none _ (sym c.decide_number.ensures ∙ c.in_ok-decide_number.was))

@@ -10,33 +10,30 @@ use Rattle.cc_node.proofs.Deciding.{first_holds, first_passes}
 use Rattle.cc_node.proofs.node_core.Core.decide_message.Goals as goal
 
 pub returns-then-knows_too_many : goal.returns-then-knows_too_many
-returns-then-knows_too_many c n h = first_holds c.knows_too_many.result refusal.TooManyNodes _ _ c.knows_too_many.ensures c.if-knows_too_many.true
+returns-then-knows_too_many c = first_holds c.knows_too_many.result refusal.TooManyNodes _ _ c.knows_too_many.ensures c.if-knows_too_many.true
 
 pub returns-then-has_no_room : goal.returns-then-has_no_room
-returns-then-has_no_room c n h =
+returns-then-has_no_room c =
     let s = c.args.self.now in
-    let full : then_some c.has_no_room.result refusal.OutboxFull ≡ outbox_full s (event.Deliver c.args.from n c.args.message.now) =
-    ap (λ b. then_some b refusal.OutboxFull) (c.has_no_room.ensures ∙ ap (λ b. b && ((s.posts - lowest s) == post_limit)) (c.makes_post-makes_post.ensures c.args.from n)) in
+    let full : then_some c.has_no_room.result refusal.OutboxFull ≡ outbox_full s (event.Deliver c.args.from c.args.number c.args.message.now) =
+    ap (λ b. then_some b refusal.OutboxFull) (c.has_no_room.ensures ∙ ap (λ b. b && ((s.posts - lowest s) == post_limit)) c.makes_post-makes_post.ensures) in
     first_holds c.has_no_room.result refusal.OutboxFull _ _ full c.if-has_no_room.true
     ∙ first_passes c.knows_too_many.result refusal.TooManyNodes _ _ c.knows_too_many.ensures c.if-knows_too_many.false
 
-pub delivery_is_spent-requires : goal.delivery_is_spent-requires
-delivery_is_spent-requires c n = c.makes_post-makes_post.ensures c.args.from n
-
 pub returns-then-delivery_is_spent : goal.returns-then-delivery_is_spent
-returns-then-delivery_is_spent c n h =
+returns-then-delivery_is_spent c =
     let s = c.args.self.now in
-    let full : then_some c.has_no_room.result refusal.OutboxFull ≡ outbox_full s (event.Deliver c.args.from n c.args.message.now) =
-    ap (λ b. then_some b refusal.OutboxFull) (c.has_no_room.ensures ∙ ap (λ b. b && ((s.posts - lowest s) == post_limit)) (c.makes_post-makes_post.ensures c.args.from n)) in
-    first_holds c.delivery_is_spent.result refusal.Spent _ _ (ap (λ b. then_some b refusal.Spent) (c.delivery_is_spent.ensures n h)) c.if-delivery_is_spent.true
+    let full : then_some c.has_no_room.result refusal.OutboxFull ≡ outbox_full s (event.Deliver c.args.from c.args.number c.args.message.now) =
+    ap (λ b. then_some b refusal.OutboxFull) (c.has_no_room.ensures ∙ ap (λ b. b && ((s.posts - lowest s) == post_limit)) c.makes_post-makes_post.ensures) in
+    first_holds c.delivery_is_spent.result refusal.Spent _ _ (ap (λ b. then_some b refusal.Spent) c.delivery_is_spent.ensures) c.if-delivery_is_spent.true
     ∙ first_passes c.has_no_room.result refusal.OutboxFull _ _ full c.if-has_no_room.false
     ∙ first_passes c.knows_too_many.result refusal.TooManyNodes _ _ c.knows_too_many.ensures c.if-knows_too_many.false
 
 pub returns : goal.returns
-returns c n h =
+returns c =
     let s = c.args.self.now in
-    let full : then_some c.has_no_room.result refusal.OutboxFull ≡ outbox_full s (event.Deliver c.args.from n c.args.message.now) =
-    ap (λ b. then_some b refusal.OutboxFull) (c.has_no_room.ensures ∙ ap (λ b. b && ((s.posts - lowest s) == post_limit)) (c.makes_post-makes_post.ensures c.args.from n)) in
-    first_passes c.delivery_is_spent.result refusal.Spent _ _ (ap (λ b. then_some b refusal.Spent) (c.delivery_is_spent.ensures n h)) c.if-delivery_is_spent.false
+    let full : then_some c.has_no_room.result refusal.OutboxFull ≡ outbox_full s (event.Deliver c.args.from c.args.number c.args.message.now) =
+    ap (λ b. then_some b refusal.OutboxFull) (c.has_no_room.ensures ∙ ap (λ b. b && ((s.posts - lowest s) == post_limit)) c.makes_post-makes_post.ensures) in
+    first_passes c.delivery_is_spent.result refusal.Spent _ _ (ap (λ b. then_some b refusal.Spent) c.delivery_is_spent.ensures) c.if-delivery_is_spent.false
     ∙ first_passes c.has_no_room.result refusal.OutboxFull _ _ full c.if-has_no_room.false
     ∙ first_passes c.knows_too_many.result refusal.TooManyNodes _ _ c.knows_too_many.ensures c.if-knows_too_many.false

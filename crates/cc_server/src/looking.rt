@@ -1,0 +1,123 @@
+//! What the flusher does for peers that stay away: it looks how each of them stands, and hands in what lapses and snapshots.
+
+use crate::notes::Note;
+use crate::shared::Shared;
+use cc_links::LinkRow;
+use cc_node::Core;
+use cc_ops::{Pending, Stage};
+use cc_protocol::{AskName, Calls, Lasting, Passed};
+use cc_views::NodeId;
+use cc_wire::Event;
+use std::sync::Wait;
+
+/// What the flusher remembers of the seconds before. Begun anew, it finds the same in the state within three seconds.
+#[derive(Drop)]
+pub struct Looks {
+    calls: Calls,
+    lasting: Lasting,
+}
+
+impl Looks {
+    /// No second has passed yet.
+    pub fn new() -> Self {
+        Looks {
+            calls: Calls::new(),
+            lasting: Lasting::new(),
+        }
+    }
+}
+
+/// Looks at a node as it was flushed: at each tick how its peers stand, and whether it posts a snapshot; and always what
+/// lapses. It hands events in on the node's own line, and waits for none of them.
+pub fn look<R: Wait>(rt: &R, core: &Core, shared: &Shared, looks: &mut Looks, is_tick: bool) {
+    if is_tick {
+        let is_back = pass_second(rt, core, shared);
+        let pending = pending_of(core.phase());
+        note_lasting(rt, shared, looks, pending);
+        let is_held = shared.any_absent.is_set() || looks.lasting.is_long();
+        if looks
+            .calls
+            .after_second(is_back, core.needs_anew(), is_held)
+        {
+            shared.own.put(rt, Event::Snapshot);
+        }
+    }
+    if shared.any_absent.is_set() {
+        hand_lapses(rt, core, shared, is_tick);
+    }
+}
+
+// A second has passed for all peers. Whether one that is absent was heard in it.
+fn pass_second<R: Wait>(rt: &R, core: &Core, shared: &Shared) -> bool {
+    let mut is_back = false;
+    for link in core.links().rows() {
+        if link.peer != core.me() {
+            let passed = pass_link(rt, core, shared, link);
+            note_passed(rt, shared, link.peer, passed);
+            is_back |= passed.is_back;
+        }
+    }
+    let has_absent = shared.standings.lock(rt).has_absent();
+    shared.any_absent.put(has_absent);
+    is_back
+}
+
+fn pass_link<R: Wait>(rt: &R, core: &Core, shared: &Shared, link: &LinkRow) -> Passed {
+    let sent = core.posts().saturating_sub(link.start);
+    let is_live = core.is_live(link.peer);
+    let mut standings = shared.standings.lock(rt);
+    standings.pass_second(link.peer, link.acked, sent, is_live)
+}
+
+// Tells the line to a peer whether it is late, and notes that it is taken for absent.
+fn note_passed<R: Wait>(rt: &R, shared: &Shared, peer: NodeId, passed: Passed) {
+    if let Some(line) = shared.lines.iter().find(|line| line.peer == peer) {
+        line.note_progress(passed.standing.is_late());
+    }
+    if passed.is_taken {
+        shared.notes.put(rt, Note::Absent(peer));
+    }
+}
+
+// A second has passed for the operation that pends, if one does: what has been pending for long is noted, once.
+fn note_lasting<R: Wait>(rt: &R, shared: &Shared, looks: &mut Looks, pending: Option<Pending>) {
+    let before = looks.lasting;
+    looks.lasting = before.after_second(name_of(pending));
+    if let Some(pending) = pending {
+        if looks.lasting.is_long() && !before.is_long() {
+            shared.notes.put(rt, Note::Pending(pending));
+        }
+    }
+}
+
+fn name_of(pending: Option<Pending>) -> Option<AskName> {
+    let asked = pending?.asked;
+    Some(AskName {
+        session: asked.session,
+        request: asked.request,
+    })
+}
+
+fn pending_of(stage: Stage) -> Option<Pending> {
+    match stage {
+        Stage::Idle => None,
+        Stage::Storing(pending) | Stage::Querying(pending) | Stage::StoringBack(pending) => {
+            Some(pending)
+        }
+    }
+}
+
+// Hands in what lapses.
+fn hand_lapses<R: Wait>(rt: &R, core: &Core, shared: &Shared, is_tick: bool) {
+    for link in core.links().rows() {
+        if lapses(rt, core, shared, link, is_tick) {
+            shared.own.put(rt, Event::Lapse { node: link.peer });
+        }
+    }
+}
+
+fn lapses<R: Wait>(rt: &R, core: &Core, shared: &Shared, link: &LinkRow, is_tick: bool) -> bool {
+    let reach = link.start.saturating_add(link.acked);
+    let mut standings = shared.standings.lock(rt);
+    standings.lapse(link.peer, reach, core.posts(), is_tick)
+}

@@ -1,0 +1,87 @@
+//! What a running node notes of its peers on standard error.
+
+use cc_ops::Pending;
+use cc_views::NodeId;
+use crossbeam_channel::{Receiver, Sender, bounded};
+use log::sink::Console;
+use log::{Level, Logged, info, warn};
+use std::alloc::{AllocError, Global};
+use std::sync::Wait;
+
+// How many notes of the flusher wait at most.
+const NOTE_ROOM: usize = 256;
+
+/// A note of the flusher.
+#[derive(Clone, Copy, Debug, PartialEq, Eq)]
+pub enum Note {
+    /// A peer is taken for absent.
+    Absent(NodeId),
+    /// An operation has been pending for long.
+    Pending(Pending),
+}
+
+/// The line on which notes of the flusher wait for their writer, since it waits for nobody who reads standard error. None
+/// ends the writer.
+#[derive(Drop)]
+pub struct NoteLine {
+    to: Sender<Option<Note>>,
+}
+
+impl NoteLine {
+    /// Puts a note on the line. What finds no room is lost.
+    pub fn put<R: Wait>(&self, rt: &R, note: Note) {
+        let _ = self.to.try_send(rt, Some(note));
+    }
+
+    /// Ends the writer, once it has written what waits.
+    pub fn end<R: Wait>(&self, rt: &R) {
+        let _ = self.to.send(rt, None);
+    }
+}
+
+/// The line, and what its writer takes.
+pub fn note_line(alloc: Global) -> Result<(NoteLine, Receiver<Option<Note>>), AllocError> {
+    let (to, from) = bounded(alloc, NOTE_ROOM)?;
+    Ok((NoteLine { to }, from))
+}
+
+/// Writes the notes of the node `me`, until None comes.
+pub fn write_notes<R: Wait + Eprint>(rt: &R, me: NodeId, from: &Receiver<Option<Note>>) {
+    for _ in rt.forever() {
+        match from.recv(rt).unwrap_or(None) {
+            Some(Note::Absent(peer)) => note_absent(rt, me, peer),
+            Some(Note::Pending(pending)) => note_pending(rt, me, pending),
+            None => return,
+        }
+    }
+    unreachable!()
+}
+
+fn note_absent<R: Eprint>(rt: &R, me: NodeId, peer: NodeId) {
+    let logged = Logged::new(rt, Level::Warn, Console(rt));
+    warn!(logged; "node {} takes node {} for absent", me.number(), peer.number());
+}
+
+fn note_pending<R: Eprint>(rt: &R, me: NodeId, pending: Pending) {
+    let logged = Logged::new(rt, Level::Warn, Console(rt));
+    let asked = pending.asked;
+    warn!(logged; "node {} has {} of {} answers for request {} of session {}, pending for 8 seconds", me.number(), pending.count, pending.need, asked.request, asked.session);
+}
+
+/// A peer that was taken for absent acknowledges again.
+pub fn note_back<R: Eprint>(rt: &R, me: NodeId, peer: NodeId) {
+    let logged = Logged::new(rt, Level::Info, Console(rt));
+    info!(logged; "node {} hears node {} again", me.number(), peer.number());
+}
+
+/// A node of the folder has no address.
+pub fn note_unreachable<R: Eprint>(rt: &R, me: NodeId, node: NodeId) {
+    let logged = Logged::new(rt, Level::Warn, Console(rt));
+    warn!(logged; "node {} knows node {}, which has no address among its peers", me.number(), node.number());
+}
+
+/// A peer is unknown to the folder.
+pub fn note_unknown<R: Eprint>(rt: &R, me: NodeId, peer: NodeId) {
+    let logged = Logged::new(rt, Level::Warn, Console(rt));
+    warn!(logged; "node {} doesn't know its peer {}", me.number(), peer.number());
+}

@@ -1,0 +1,253 @@
+//! Members that stay away: what lapses, what a snapshot takes over, and what begins anew.
+
+use crate::machine::{ask, opening, refusal, take};
+use cc_node::Node;
+use cc_ops::Stage;
+use cc_views::NodeId;
+use cc_wire::{Command, Event, Message, Refusal, decode_message};
+use std::alloc::Global;
+use std::process::Abort;
+use std::test::*;
+
+// The last number of a link.
+const LIMIT: u64 = 1 << 62;
+
+fn id(number: u32) -> Result<NodeId, Fail> {
+    Ok(NodeId::new(number).ok_or("an id is at least 1")?)
+}
+
+// The message of these bytes, as it comes from a node under a number.
+fn delivery(alloc: Global, from: u32, number: u64, bytes: &[u8]) -> Result<Event, Fail> {
+    let from = id(from)?;
+    let message = decode_message(alloc, bytes)?;
+    Ok(Event::Deliver {
+        from,
+        number,
+        message,
+    })
+}
+
+// The message Snapshot [1,2] [1,2] [] [].
+const OF_TWO: [u8; 25] = [
+    0x20, 0, 2, 0, 0, 0, 1, 0, 0, 0, 2, 0, 2, 0, 0, 0, 1, 0, 0, 0, 2, 0, 0, 0, 0,
+];
+
+// The message Snapshot [1,4] [1] [] [].
+const OF_AN_ENTRANT: [u8; 21] = [
+    0x20, 0, 2, 0, 0, 0, 1, 0, 0, 0, 4, 0, 1, 0, 0, 0, 1, 0, 0, 0, 0,
+];
+
+// The message Join 2.
+const JOIN: [u8; 5] = [3, 0, 0, 0, 2];
+
+fn check_lapsed<R: Abort>(rt: &R, node: &Node, second: NodeId, third: NodeId) {
+    let acked = Event::Acked {
+        peer: second,
+        number: 1,
+    };
+    let refusals = [
+        refusal(node, Event::Lapse { node: second }),
+        refusal(node, Event::Lapse { node: third }),
+        refusal(node, acked),
+    ];
+    assert_eq!(rt; refusals, [Some(Refusal::NothingToAck); 3]);
+    assert_eq!(rt; (node.kept(), node.core().posts()), (0, 1));
+}
+
+// Node 2 never acknowledges the Store, which is kept for it until it lapses.
+fn check_lapse<R: Abort + AllocGlobal>(rt: &R, node: &mut Node) -> Result<(), Fail> {
+    let (peer, second, third) = (node.me(), id(2)?, id(3)?);
+    take(rt.alloc(), node, ask(1, Command::SetFlag))?;
+    take(rt.alloc(), node, Event::Acked { peer, number: 1 })?;
+    assert_eq!(rt; node.kept(), 1);
+    take(rt.alloc(), node, Event::Lapse { node: second })?;
+    check_lapsed(rt, node, second, third);
+    Ok(())
+}
+
+#[test]
+fn what_is_kept_for_an_absent_member_lapses(rt: HostRuntime) -> Result<(), Fail> {
+    let mut node = Node::fresh(rt.alloc(), &opening(1, &[1, 2], &[]))?;
+    let checked = check_lapse(&rt, &mut node);
+    drop(node);
+    checked
+}
+
+fn check_begun_anew<R: Abort>(rt: &R, node: &Node) {
+    assert!(rt; matches!(node.outbox().post(2), Some(Message::Snapshot { .. })));
+    assert!(rt; matches!(node.outbox().post(3), Some(Message::Store { tag: 2, .. })));
+    assert!(rt;
+        matches!(node.phase(), Stage::Storing(pending) if pending.need == 2 && pending.count == 0)
+    );
+}
+
+// The own snapshot skips the Store, and lets it begin anew.
+fn check_anew<R: Abort + AllocGlobal>(rt: &R, node: &mut Node) -> Result<(), Fail> {
+    let snapshot = delivery(rt.alloc(), 1, 2, &OF_TWO)?;
+    take(rt.alloc(), node, ask(1, Command::SetFlag))?;
+    take(rt.alloc(), node, Event::Snapshot)?;
+    take(rt.alloc(), node, snapshot)?;
+    check_begun_anew(rt, node);
+    Ok(())
+}
+
+#[test]
+fn a_store_begins_anew(rt: HostRuntime) -> Result<(), Fail> {
+    let mut node = Node::fresh(rt.alloc(), &opening(1, &[1, 2], &[]))?;
+    let checked = check_anew(&rt, &mut node);
+    drop(node);
+    checked
+}
+
+// Of three members all are needed, and once node 3 is retired two are: so the store needs too many until it begins anew.
+fn check_need<R: Abort + AllocGlobal>(rt: &R, node: &mut Node) -> Result<(), Fail> {
+    let third = id(3)?;
+    let before = node.core().needs_anew();
+    take(rt.alloc(), node, ask(1, Command::SetFlag))?;
+    let asked = node.core().needs_anew();
+    take(rt.alloc(), node, Event::Retire { node: third })?;
+    let retired = node.core().needs_anew();
+    take(rt.alloc(), node, Event::Snapshot)?;
+    let own = delivery(rt.alloc(), 1, 2, &OF_TWO)?;
+    take(rt.alloc(), node, own)?;
+    assert_eq!(rt;
+        [before, asked, retired, node.core().needs_anew()],
+        [false, false, true, false]
+    );
+    Ok(())
+}
+
+#[test]
+fn a_need_is_out_of_date_once_a_member_is_retired(rt: HostRuntime) -> Result<(), Fail> {
+    let mut node = Node::fresh(rt.alloc(), &opening(1, &[1, 2, 3], &[]))?;
+    let checked = check_need(&rt, &mut node);
+    drop(node);
+    checked
+}
+
+fn check_numbers<R: Abort + AllocGlobal>(rt: &R, node: &Node) -> Result<(), Fail> {
+    let refusals = [
+        refusal(node, delivery(rt.alloc(), 2, LIMIT, &OF_TWO)?),
+        refusal(node, delivery(rt.alloc(), 2, LIMIT + 1, &OF_TWO)?),
+        refusal(node, delivery(rt.alloc(), 2, 2, &JOIN)?),
+        refusal(node, delivery(rt.alloc(), 2, 0, &OF_TWO)?),
+    ];
+    assert_eq!(rt;
+        refusals,
+        [
+            None,
+            Some(Refusal::Spent),
+            Some(Refusal::Gap(0)),
+            Some(Refusal::Old(0))
+        ]
+    );
+    Ok(())
+}
+
+#[test]
+fn a_snapshot_comes_under_any_number_up_to_the_limit(rt: HostRuntime) -> Result<(), Fail> {
+    let node = Node::fresh(rt.alloc(), &opening(1, &[1, 2], &[]))?;
+    let checked = check_numbers(&rt, &node);
+    drop(node);
+    checked
+}
+
+fn push_ids(bytes: &mut Vec<u8>, last: u16) -> Result<(), Fail> {
+    for number in 2..=last {
+        bytes.extend_from_slice(&[0, 0])?;
+        bytes.extend_from_slice(&number.to_be_bytes())?;
+    }
+    Ok(())
+}
+
+fn push_snapshot(bytes: &mut Vec<u8>, last: u16) -> Result<(), Fail> {
+    bytes.push(0x20)?;
+    bytes.extend_from_slice(&last.saturating_sub(1).to_be_bytes())?;
+    push_ids(bytes, last)?;
+    bytes.extend_from_slice(&[0; 6])?;
+    Ok(())
+}
+
+// Why node 1 refuses a snapshot of node 2 by which the nodes from 2 up to the last one have entered.
+fn refusal_up_to(alloc: Global, node: &Node, last: u16) -> Result<Option<Refusal>, Fail> {
+    let mut bytes = Vec::new(alloc);
+    if let Err(fault) = push_snapshot(&mut bytes, last) {
+        drop(bytes);
+        return Err(fault);
+    }
+    let event = delivery(alloc, 2, 1, &bytes);
+    drop(bytes);
+    Ok(refusal(node, event?))
+}
+
+fn check_named<R: Abort + AllocGlobal>(rt: &R, node: &Node) -> Result<(), Fail> {
+    let refusals = [
+        refusal_up_to(rt.alloc(), node, 256)?,
+        refusal_up_to(rt.alloc(), node, 257)?,
+    ];
+    assert_eq!(rt; refusals, [None, Some(Refusal::TooManyNodes)]);
+    Ok(())
+}
+
+#[test]
+fn a_snapshot_names_up_to_256_nodes(rt: HostRuntime) -> Result<(), Fail> {
+    let node = Node::fresh(rt.alloc(), &opening(1, &[1, 2], &[]))?;
+    let checked = check_named(&rt, &node);
+    drop(node);
+    checked
+}
+
+fn check_enter<R: Abort + AllocGlobal>(rt: &R, node: &mut Node) -> Result<(), Fail> {
+    let first = id(1)?;
+    let lapse = refusal(node, Event::Lapse { node: first });
+    assert_eq!(rt; lapse, Some(Refusal::NotEntered));
+    take(rt.alloc(), node, Event::Enter)?;
+    let refusals = [
+        refusal(node, Event::Lapse { node: first }),
+        refusal(node, Event::Snapshot),
+    ];
+    assert_eq!(rt; refusals, [Some(Refusal::NotJoined); 2]);
+    Ok(())
+}
+
+#[test]
+fn an_entrant_lets_nothing_lapse(rt: HostRuntime) -> Result<(), Fail> {
+    let mut node = Node::fresh(rt.alloc(), &opening(4, &[], &[1, 2]))?;
+    let checked = check_enter(&rt, &mut node);
+    drop(node);
+    checked
+}
+
+// How many echoes were counted, and whether the node has joined.
+fn echoes(node: &Node) -> (u64, bool) {
+    (node.core().churn().echoes(), node.is_joined())
+}
+
+// Of nodes 1 and 4, which are present, both echoes are needed. One snapshot of node 1 counts, and one of node 2.
+fn check_echoes<R: Abort + AllocGlobal>(rt: &R, node: &mut Node) -> Result<(), Fail> {
+    let first = delivery(rt.alloc(), 1, 2, &OF_AN_ENTRANT)?;
+    take(rt.alloc(), node, first)?;
+    assert_eq!(rt; echoes(node), (1, false));
+    let again = delivery(rt.alloc(), 1, 4, &OF_AN_ENTRANT)?;
+    take(rt.alloc(), node, again)?;
+    assert_eq!(rt; echoes(node), (1, false));
+    let second = delivery(rt.alloc(), 2, 2, &OF_AN_ENTRANT)?;
+    take(rt.alloc(), node, second)?;
+    assert_eq!(rt; echoes(node), (2, true));
+    Ok(())
+}
+
+fn check_entrant<R: Abort + AllocGlobal>(rt: &R, node: &mut Node) -> Result<(), Fail> {
+    take(rt.alloc(), node, Event::Enter)?;
+    check_echoes(rt, node)?;
+    assert!(rt; matches!(node.outbox().post(2), Some(Message::Join { .. })));
+    Ok(())
+}
+
+#[test]
+fn a_snapshot_stands_for_an_echo_that_lapsed(rt: HostRuntime) -> Result<(), Fail> {
+    let mut node = Node::fresh(rt.alloc(), &opening(4, &[], &[1, 2]))?;
+    let checked = check_entrant(&rt, &mut node);
+    drop(node);
+    checked
+}

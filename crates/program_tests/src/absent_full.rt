@@ -1,0 +1,138 @@
+//! Outboxes that absent members fill.
+
+use crate::played::played;
+use std::alloc::Global;
+use std::test::*;
+
+// The script of members that are made so, of which node 1 finishes so many stores by itself. Each makes two posts.
+fn stores(alloc: Global, members: &str, count: u64) -> Result<String, Fail> {
+    let mut script = String::from_str(alloc, members)?;
+    for request in 1..=count {
+        let (store, own) = (2 * request - 1, 2 * request);
+        let lines = format!(in alloc;
+            "ask 1 7 {request} store a\ncarry 1 1 {store}\ncarry 1 1 {own}\n"
+        )?;
+        script.push_str(&lines)?;
+    }
+    Ok(script)
+}
+
+const OF_TWO: &str = "\
+fractions 1/5 4/5
+member 1 of 1,2
+member 2 of 1,2
+";
+
+const A_FULL_OUTBOX: &str = "\
+acked 1 1 512
+ask 1 7 257 collect
+snapshot 1
+lapse 1 2
+snapshot 1
+ask 1 7 257 collect
+carry 1 2 513
+carry 1 2 514
+";
+
+const A_FULL_OUTBOX_PRINTS: &str = "\
+1 ack 1 512
+1 reply 7 256 Stored
+1 accepted
+1 refused 15 OutboxFull
+1 refused 15 OutboxFull
+1 accepted
+1 accepted
+1 send 1 513 Snapshot [1,2] [1,2] [] [1:256=a/0/0/]
+1 send 2 513 Snapshot [1,2] [1,2] [] [1:256=a/0/0/]
+1 accepted
+1 send 1 514 Query 257 1
+1 send 2 514 Query 257 1
+2 accepted
+2 ack 1 513
+2 accepted
+2 ack 1 514
+2 send 1 1 QueryReply [1:256=a/0/0/] 257 1
+2 send 2 1 QueryReply [1:256=a/0/0/] 257 1
+";
+
+// A snapshot finds no room, and a lapse makes some.
+#[test]
+fn a_lapse_empties_a_full_outbox(rt: HostRuntime) -> Result<(), Fail> {
+    let mut script = stores(rt.alloc(), OF_TWO, 256)?;
+    script.push_str(A_FULL_OUTBOX)?;
+    let (status, output) = played(rt.alloc(), &script)?;
+    assert_eq!(rt; status, 0);
+    assert!(rt; output.ends_with(A_FULL_OUTBOX_PRINTS));
+    Ok(())
+}
+
+const OF_THREE: &str = "\
+fractions 1/3 4/5
+member 1 of 1,2,3
+";
+
+const TWO_DEAD: &str = "\
+ask 1 7 256 collect
+snapshot 1
+carry 1 1 511
+acked 1 1 510
+lapse 1 2
+carry 1 1 511
+lapse 1 3
+carry 1 1 511
+carry 1 1 512
+carry 1 1 513
+carry 1 1 514
+carry 1 1 515
+";
+
+const TWO_DEAD_PRINTS: &str = "\
+1 ack 1 510
+1 reply 7 255 Stored
+1 accepted
+1 send 1 511 Query 256 1
+1 send 2 511 Query 256 1
+1 send 3 511 Query 256 1
+1 accepted
+1 send 1 512 Snapshot [1,2,3] [1,2,3] [] [1:255=a/0/0/]
+1 send 2 512 Snapshot [1,2,3] [1,2,3] [] [1:255=a/0/0/]
+1 send 3 512 Snapshot [1,2,3] [1,2,3] [] [1:255=a/0/0/]
+1 refused 15 OutboxFull
+1 accepted
+1 accepted
+1 refused 15 OutboxFull
+1 accepted
+1 accepted
+1 ack 1 511
+1 send 1 513 QueryReply [1:255=a/0/0/] 256 1
+1 send 2 513 QueryReply [1:255=a/0/0/] 256 1
+1 send 3 513 QueryReply [1:255=a/0/0/] 256 1
+1 accepted
+1 ack 1 512
+1 send 1 514 Query 257 1
+1 send 2 514 Query 257 1
+1 send 3 514 Query 257 1
+1 accepted
+1 ack 1 513
+1 accepted
+1 ack 1 514
+1 send 1 515 QueryReply [1:255=a/0/0/] 257 1
+1 send 2 515 QueryReply [1:255=a/0/0/] 257 1
+1 send 3 515 QueryReply [1:255=a/0/0/] 257 1
+1 accepted
+1 ack 1 515
+1 send 1 516 Store [1:255=a/0/0/] 258 1
+1 send 2 516 Store [1:255=a/0/0/] 258 1
+1 send 3 516 Store [1:255=a/0/0/] 258 1
+";
+
+// Of two dead members both have to lapse, and a phase that would begin anew waits for room.
+#[test]
+fn two_dead_members_fill_an_outbox_until_both_lapsed(rt: HostRuntime) -> Result<(), Fail> {
+    let mut script = stores(rt.alloc(), OF_THREE, 255)?;
+    script.push_str(TWO_DEAD)?;
+    let (status, output) = played(rt.alloc(), &script)?;
+    assert_eq!(rt; status, 0);
+    assert!(rt; output.ends_with(TWO_DEAD_PRINTS));
+    Ok(())
+}
