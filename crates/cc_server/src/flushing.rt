@@ -117,7 +117,8 @@ fn resend<S: Site, L: Life, Q: Lane>(
     for line in &shared.lines {
         line.unmute();
     }
-    resent
+    resent?;
+    Ok(())
 }
 
 // Moves to the other side where the one in use is long, and longer than it was `begun`. Whether it was moved.

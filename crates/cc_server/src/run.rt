@@ -156,14 +156,14 @@ where
             let me = core.me();
             let address = listener.local_addr().unwrap_or(run.config.listen);
             run.shared.known.learn_links(run.rt, &core);
+            note(run, me, "runs", address);
+            note_addresses(run.rt, &core, &run.config.peers);
             let ready = Ready {
                 engine,
                 core,
                 listener,
                 inlets,
             };
-            note(run, me, "runs", address);
-            note_addresses(run.rt, &core, &run.config.peers);
             let outcome = run_as::<Brand, S, R, H>(run, ready, Blank::new(1 << 20));
             note(run, me, "ends", address);
             outcome

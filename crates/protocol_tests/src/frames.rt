@@ -24,6 +24,8 @@ enum About {
     Acknowledgement(u32, u64),
     Ask(u64, u64),
     Retirement(u32),
+    Lapse(u32),
+    Snapshot,
 }
 
 fn about_frame(frame: Frame) -> About {
@@ -48,6 +50,8 @@ fn about_event(event: &Option<Event>) -> About {
             },
         ) => About::Ask(*session, *request),
         Some(Event::Retire { node }) => About::Retirement(node.number()),
+        Some(Event::Lapse { node }) => About::Lapse(node.number()),
+        Some(Event::Snapshot) => About::Snapshot,
     }
 }
 

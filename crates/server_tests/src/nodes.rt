@@ -6,7 +6,7 @@ use cc_lines::Stop;
 use cc_server::{Config, RunFault, run_on};
 use cc_views::NodeId;
 use cc_words::Peer;
-use std::alloc::Global;
+use std::alloc::{AllocError, Global};
 use std::fs;
 use std::fs::{File, Files};
 use std::net::{Net, SocketAddr, TcpListener, TcpStream};
@@ -36,7 +36,7 @@ where
 {
     format_member(rt, folder, "1")?;
     format_member(rt, other, "2")?;
-    places(rt)
+    free_places(rt)
 }
 
 /// Two of three members in new folders, with listeners at ports that are free.
@@ -51,11 +51,11 @@ where
 {
     format_member_of(rt, folder, "1", "1,2,3", beta)?;
     format_member_of(rt, other, "2", "1,2,3", beta)?;
-    places(rt)
+    free_places(rt)
 }
 
 // Listeners at ports that are free.
-fn places<R: Net<Listener = TcpListener, Stream = TcpStream>>(rt: &R) -> Result<Places, Fail> {
+fn free_places<R: Net<Listener = TcpListener, Stream = TcpStream>>(rt: &R) -> Result<Places, Fail> {
     let first = TcpListener::bind(rt, "127.0.0.1:0")?;
     let second = TcpListener::bind(rt, "127.0.0.1:0")?;
     let one = first.local_addr()?;
@@ -119,17 +119,48 @@ where
         + Eprint
         + Sync,
 {
-    let (number, address) = peer;
-    let peers = match NodeId::new(number) {
-        Some(id) => vec![in alloc; Peer { id, address }]?,
-        None => Vec::new(alloc),
-    };
+    run_among(rt, alloc, folder, listener, &[peer], stop, hooks)
+}
+
+/// The same, with several peers.
+pub(crate) fn run_among<R, H: Hooks + Sync>(
+    rt: &R,
+    alloc: Global,
+    folder: &str,
+    listener: TcpListener,
+    peers: &[(u32, SocketAddr)],
+    stop: &Stop,
+    hooks: &H,
+) -> Result<Finished<()>, RunFault>
+where
+    R: Files<File = File>
+        + Net<Listener = TcpListener, Stream = TcpStream>
+        + Threads
+        + Wait
+        + Clock
+        + Eprint
+        + Sync,
+{
+    let listen = listener.local_addr().or(Err(RunFault::Listen))?;
     let config = Config {
         dir: folder,
-        listen: listener.local_addr().unwrap_or(address),
-        peers,
+        listen,
+        peers: peers_of(alloc, peers)?,
     };
     run_on(rt, alloc, &config, Some(listener), stop, hooks)
+}
+
+fn peers_of(alloc: Global, places: &[(u32, SocketAddr)]) -> Result<Vec<Peer>, AllocError> {
+    let mut peers = Vec::new(alloc);
+    for (number, address) in places {
+        if let Some(id) = NodeId::new(*number) {
+            peers.push(Peer {
+                id,
+                address: *address,
+            })?;
+        }
+    }
+    Ok(peers)
 }
 
 /// Ends nodes that listen there.
@@ -139,9 +170,14 @@ pub(crate) fn end<R: Net<Stream = TcpStream>>(
     one: SocketAddr,
     two: SocketAddr,
 ) {
+    end_at(rt, stop, one);
+    end_at(rt, stop, two);
+}
+
+/// Ends a node that listens there.
+pub(crate) fn end_at<R: Net<Stream = TcpStream>>(rt: &R, stop: &Stop, address: SocketAddr) {
     stop.set();
-    let _ = TcpStream::connect(rt, one);
-    let _ = TcpStream::connect(rt, two);
+    let _ = TcpStream::connect(rt, address);
 }
 
 /// What a node came to: each accepted event was told and flushed.
