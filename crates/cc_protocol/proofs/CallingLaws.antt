@@ -5,7 +5,8 @@ use Rattle.std.specs.Prelude.{min, if◌then◌else◌, ◌==◌}
 use Rattle.std.proofs.lemmas.Bool.{lt-leb}
 use Rattle.std.proofs.Math.Bool.{and-false}
 use Rattle.cc_protocol.specs.declared.calling.Calls.{Calls}
-use Rattle.cc_protocol.specs.Calling.{period, Look, ticked, is_called_back, is_due, answered, posted, calls, after_look, VoicesGoOn, NoneCalls}
+use Rattle.cc_protocol.specs.Absence.{period}
+use Rattle.cc_protocol.specs.Calling.{Look, ticked, is_called_back, is_due, answered, posted, calls, after_look, VoicesGoOn, NoneCalls}
 
 -- a second before the time
 pub record Early (look : Look) (c : Calls) : Type 0 where

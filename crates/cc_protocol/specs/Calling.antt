@@ -6,11 +6,8 @@
 --     calls, after_look        whether one is posted;  and what is remembered then
 --     VoicesGoOn, NoneCalls    absent peers are heard in each second, and nothing else calls;  no second calls
 use Rattle.std.specs.Prelude.{◌≡◌, ℕ, ◌+◌, ◌*◌, ◌==◌, ◌&&◌, ◌||◌, nat_le, min, Bool, true, false, if◌then◌else◌, List, [], ◌∷◌, ⊤}
+use Rattle.cc_protocol.specs.Absence.{period}
 use Rattle.cc_protocol.specs.declared.calling.Calls.{Calls}
-
--- where nothing else calls for a snapshot, so many seconds pass between two
-abbrev pub period : ℕ
-period = 8
 
 abbrev pub no_calls : Calls
 no_calls = record { since = 8; wait = 1; quiet = 0 }

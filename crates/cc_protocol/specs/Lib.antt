@@ -1,3 +1,4 @@
+pub mod Absence
 pub mod Frames
 pub mod Heeding
 pub mod Admission

@@ -6,16 +6,9 @@
 --     Second, after_seconds          what is seen of a peer in a second;  how it stands after some of them
 --     KeepsUp                        by each second it has acknowledged what was sent by the one two before it
 use Rattle.std.specs.Prelude.{ℕ, ◌+◌, ◌-◌, ◌≤◌, Bool, true, false, ◌&&◌, ◌||◌, nat_le, nat_lt, if◌then◌else◌, List, [], ◌∷◌, ⊤}
+use Rattle.cc_protocol.specs.Absence.{patience, pinned}
 use Rattle.cc_protocol.specs.declared.standing.Standing.{Standing}
 use Rattle.cc_protocol.specs.declared.standing.Standing.TheVariants.{Current, Owing, Absent}
-
--- after so many whole seconds a peer that still owes is absent
-abbrev pub patience : ℕ
-patience = 2
-
--- an absent peer may keep so many posts from being dropped
-abbrev pub pinned : ℕ
-pinned = 64
 
 -- with something sent that isn't acknowledged: it is due from now on, or has been for a second more
 abbrev pub of_owing : Standing → ℕ → ℕ → Standing

@@ -2,7 +2,10 @@
 
 ghost use Rattle.std.specs.Prelude.{◌≡◌, ◌<◌, ◌*◌, true, List, length, min};
 ghost use Rattle.cc_protocol.specs.declared.calling.Calls.{Calls};
-ghost use Rattle.cc_protocol.specs.Calling.{period, no_calls, ticked, is_called_back, calls, Look, after_look, VoicesGoOn, NoneCalls};
+ghost use Rattle.cc_protocol.specs.Absence.{period};
+ghost use Rattle.cc_protocol.specs.Calling.{no_calls, ticked, is_called_back, calls, Look, after_look, VoicesGoOn, NoneCalls};
+
+use crate::absence::PERIOD;
 
 /// What is remembered of the last snapshot, and of the voices of absent peers.
 #[derive(Clone, Copy, Debug, PartialEq, Eq)]
@@ -14,9 +17,6 @@ pub struct Calls {
     /// For how many seconds there was no such voice, 8 at most.
     pub quiet: u64,
 }
-
-// Where nothing else calls for a snapshot, so many seconds pass between two.
-const PERIOD: u64 = 8;
 
 impl Calls {
     /// No snapshot was posted lately, and no absent peer was heard.

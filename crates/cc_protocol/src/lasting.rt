@@ -3,6 +3,8 @@
 ghost use Rattle.std.specs.Prelude.{◌≡◌};
 ghost use Rattle.cc_protocol.specs.Lasting.{nothing_lasts, is_same, lasts_after, is_long};
 
+use crate::absence::LONG;
+
 /// The request of a session, by which an operation is known.
 #[derive(Clone, Copy, Debug, PartialEq, Eq)]
 pub struct AskName {
@@ -17,10 +19,10 @@ pub struct Lasting {
     pub seconds: u64,
 }
 
-// After so many seconds it has been pending for long.
-const LONG: u64 = 8;
-
 impl Lasting {
+    /// After so many seconds an operation has been pending for long.
+    pub const LONG_SECONDS: u64 = LONG;
+
     /// None is pending.
     pub fn new() -> Self
         ensures { result ≡ nothing_lasts }

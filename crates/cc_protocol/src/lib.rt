@@ -1,6 +1,7 @@
 //! What a server and a client of a node decide, apart from threads, sockets and files.
 #![tactic(auto)]
 
+mod absence;
 mod admission;
 mod asking;
 mod bundle;

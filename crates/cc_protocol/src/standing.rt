@@ -5,6 +5,8 @@ ghost use Rattle.cc_protocol.specs.declared.standing.Standing.{Standing};
 ghost use Rattle.cc_protocol.specs.declared.standing.Standing.TheVariants as standings;
 ghost use Rattle.cc_protocol.specs.Standing.{of_owing, of_live, after_second, after_ack, is_absent, is_late, may_lapse, Second, after_seconds, KeepsUp};
 
+use crate::absence::{PATIENCE, PINNED};
+
 /// How a peer stands to the node, as the node looks at it each second.
 #[derive(Clone, Copy, Debug, PartialEq, Eq)]
 pub enum Standing {
@@ -15,12 +17,6 @@ pub enum Standing {
     /// It is taken for absent, until it acknowledges something.
     Absent,
 }
-
-// After so many whole seconds a peer that still owes is absent.
-const PATIENCE: u64 = 2;
-
-// An absent peer may keep so many posts from being dropped.
-const PINNED: u64 = 64;
 
 impl Standing {
     /// How it stands after a second by whose end it has acknowledged `acked` of the `sent` numbers of its link.

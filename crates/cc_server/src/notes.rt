@@ -1,6 +1,7 @@
 //! What a running node notes of its peers on standard error.
 
 use cc_ops::Pending;
+use cc_protocol::Lasting;
 use cc_views::NodeId;
 use crossbeam_channel::{Receiver, Sender, bounded};
 use log::sink::Console;
@@ -65,7 +66,7 @@ fn note_absent<R: Eprint>(rt: &R, me: NodeId, peer: NodeId) {
 fn note_pending<R: Eprint>(rt: &R, me: NodeId, pending: Pending) {
     let logged = Logged::new(rt, Level::Warn, Console(rt));
     let asked = pending.asked;
-    warn!(logged; "node {} has {} of {} answers for request {} of session {}, pending for 8 seconds", me.number(), pending.count, pending.need, asked.request, asked.session);
+    warn!(logged; "node {} has {} of {} answers for request {} of session {}, pending for {} seconds", me.number(), pending.count, pending.need, asked.request, asked.session, Lasting::LONG_SECONDS);
 }
 
 /// A peer that was taken for absent acknowledges again.
