@@ -1,7 +1,6 @@
 //! Members that stay away, and come back.
 
-use crate::played::check;
-use std::test::*;
+use crate::rows::Row;
 
 const AN_ABSENT_MEMBER_LAPSES: &str = "\
 fractions 2/3 4/5
@@ -54,16 +53,6 @@ const AN_ABSENT_MEMBER_LAPSES_PRINTS: &str = "\
 1 refused 7 NothingToAck
 1 refused 7 NothingToAck
 ";
-
-#[test]
-fn an_absent_member_lapses(rt: HostRuntime) -> Result<(), Fail> {
-    check(
-        &rt,
-        AN_ABSENT_MEMBER_LAPSES,
-        0,
-        AN_ABSENT_MEMBER_LAPSES_PRINTS,
-    )
-}
 
 const AN_ABSENT_MEMBER_COMES_BACK: &str = "\
 fractions 2/3 4/5
@@ -187,16 +176,6 @@ const AN_ABSENT_MEMBER_COMES_BACK_PRINTS: &str = "\
 3 send 3 3 Store [1:2=b/0/0/] 2 3
 ";
 
-#[test]
-fn an_absent_member_comes_back(rt: HostRuntime) -> Result<(), Fail> {
-    check(
-        &rt,
-        AN_ABSENT_MEMBER_COMES_BACK,
-        0,
-        AN_ABSENT_MEMBER_COMES_BACK_PRINTS,
-    )
-}
-
 const THE_NEED_OF_NOW: &str = "\
 member 1 of 1,2,3
 member 2 of 1,2,3
@@ -267,11 +246,6 @@ const THE_NEED_OF_NOW_PRINTS: &str = "\
 2 refused 1 Left
 ";
 
-#[test]
-fn the_need_of_now(rt: HostRuntime) -> Result<(), Fail> {
-    check(&rt, THE_NEED_OF_NOW, 0, THE_NEED_OF_NOW_PRINTS)
-}
-
 const WHAT_IS_REFUSED: &str = "\
 member 1 of 1,2
 member 2 of 1,2
@@ -317,11 +291,6 @@ const WHAT_IS_REFUSED_PRINTS: &str = "\
 2 refused 1 Left
 ";
 
-#[test]
-fn what_is_refused(rt: HostRuntime) -> Result<(), Fail> {
-    check(&rt, WHAT_IS_REFUSED, 0, WHAT_IS_REFUSED_PRINTS)
-}
-
 const THE_OWN_LINK: &str = "\
 member 1 of 1
 ask 1 7 1 store a
@@ -350,11 +319,6 @@ const THE_OWN_LINK_PRINTS: &str = "\
 1 ack 1 4
 1 reply 7 1 Stored
 ";
-
-#[test]
-fn the_own_link(rt: HostRuntime) -> Result<(), Fail> {
-    check(&rt, THE_OWN_LINK, 0, THE_OWN_LINK_PRINTS)
-}
 
 const A_LEAVING_THAT_LAPSED: &str = "\
 member 1 of 1,2,3
@@ -389,7 +353,36 @@ const A_LEAVING_THAT_LAPSED_PRINTS: &str = "\
 2 send 2 1 Store [2:1=c/0/0/] 1 2
 ";
 
-#[test]
-fn a_leaving_that_lapsed(rt: HostRuntime) -> Result<(), Fail> {
-    check(&rt, A_LEAVING_THAT_LAPSED, 0, A_LEAVING_THAT_LAPSED_PRINTS)
-}
+/// All of these.
+pub const ROWS: [Row; 6] = [
+    Row {
+        script: AN_ABSENT_MEMBER_LAPSES,
+        nodes: &[1, 2, 3],
+        prints: AN_ABSENT_MEMBER_LAPSES_PRINTS,
+    },
+    Row {
+        script: AN_ABSENT_MEMBER_COMES_BACK,
+        nodes: &[1, 2, 3],
+        prints: AN_ABSENT_MEMBER_COMES_BACK_PRINTS,
+    },
+    Row {
+        script: THE_NEED_OF_NOW,
+        nodes: &[1, 2, 3],
+        prints: THE_NEED_OF_NOW_PRINTS,
+    },
+    Row {
+        script: WHAT_IS_REFUSED,
+        nodes: &[1, 2, 4],
+        prints: WHAT_IS_REFUSED_PRINTS,
+    },
+    Row {
+        script: THE_OWN_LINK,
+        nodes: &[1],
+        prints: THE_OWN_LINK_PRINTS,
+    },
+    Row {
+        script: A_LEAVING_THAT_LAPSED,
+        nodes: &[1, 2, 3],
+        prints: A_LEAVING_THAT_LAPSED_PRINTS,
+    },
+];

@@ -1,7 +1,6 @@
 //! Entrants whose echoes lapsed.
 
-use crate::played::check;
-use std::test::*;
+use crate::rows::Row;
 
 const AN_ENTRANT_WHOSE_ECHO_LAPSED: &str = "\
 member 1 of 1,2
@@ -55,16 +54,6 @@ const AN_ENTRANT_WHOSE_ECHO_LAPSED_PRINTS: &str = "\
 4 send 2 3 Join 4
 4 send 4 3 Join 4
 ";
-
-#[test]
-fn an_entrant_whose_echo_lapsed(rt: HostRuntime) -> Result<(), Fail> {
-    check(
-        &rt,
-        AN_ENTRANT_WHOSE_ECHO_LAPSED,
-        0,
-        AN_ENTRANT_WHOSE_ECHO_LAPSED_PRINTS,
-    )
-}
 
 const NO_SNAPSHOT_IS_AN_ECHO_TWICE: &str = "\
 member 1 of 1,2
@@ -128,16 +117,6 @@ const NO_SNAPSHOT_IS_AN_ECHO_TWICE_PRINTS: &str = "\
 4 send 2 3 Join 4
 4 send 4 3 Join 4
 ";
-
-#[test]
-fn no_snapshot_is_an_echo_twice(rt: HostRuntime) -> Result<(), Fail> {
-    check(
-        &rt,
-        NO_SNAPSHOT_IS_AN_ECHO_TWICE,
-        0,
-        NO_SNAPSHOT_IS_AN_ECHO_TWICE_PRINTS,
-    )
-}
 
 const AN_ECHO_THAT_LAPSED_LATER: &str = "\
 member 1 of 1,2
@@ -214,16 +193,6 @@ const AN_ECHO_THAT_LAPSED_LATER_PRINTS: &str = "\
 4 send 4 3 Join 4
 ";
 
-#[test]
-fn an_echo_that_lapsed_later(rt: HostRuntime) -> Result<(), Fail> {
-    check(
-        &rt,
-        AN_ECHO_THAT_LAPSED_LATER,
-        0,
-        AN_ECHO_THAT_LAPSED_LATER_PRINTS,
-    )
-}
-
 const A_SNAPSHOT_IN_TURN_IS_NO_ECHO: &str = "\
 member 1 of 1,2
 member 2 of 1,2
@@ -279,12 +248,26 @@ const A_SNAPSHOT_IN_TURN_IS_NO_ECHO_PRINTS: &str = "\
 4 send 4 3 Join 4
 ";
 
-#[test]
-fn a_snapshot_in_turn_is_no_echo(rt: HostRuntime) -> Result<(), Fail> {
-    check(
-        &rt,
-        A_SNAPSHOT_IN_TURN_IS_NO_ECHO,
-        0,
-        A_SNAPSHOT_IN_TURN_IS_NO_ECHO_PRINTS,
-    )
-}
+/// All of these.
+pub const ROWS: [Row; 4] = [
+    Row {
+        script: AN_ENTRANT_WHOSE_ECHO_LAPSED,
+        nodes: &[1, 2, 4],
+        prints: AN_ENTRANT_WHOSE_ECHO_LAPSED_PRINTS,
+    },
+    Row {
+        script: NO_SNAPSHOT_IS_AN_ECHO_TWICE,
+        nodes: &[1, 2, 4],
+        prints: NO_SNAPSHOT_IS_AN_ECHO_TWICE_PRINTS,
+    },
+    Row {
+        script: AN_ECHO_THAT_LAPSED_LATER,
+        nodes: &[1, 2, 4],
+        prints: AN_ECHO_THAT_LAPSED_LATER_PRINTS,
+    },
+    Row {
+        script: A_SNAPSHOT_IN_TURN_IS_NO_ECHO,
+        nodes: &[1, 2, 4],
+        prints: A_SNAPSHOT_IN_TURN_IS_NO_ECHO_PRINTS,
+    },
+];

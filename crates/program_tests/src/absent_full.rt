@@ -1,7 +1,10 @@
 //! Outboxes that absent members fill.
 
+use crate::checkpoints::check_with;
 use crate::played::played;
+use crate::rows::{crash_all, move_all};
 use std::alloc::Global;
+use std::process::Abort;
 use std::test::*;
 
 // The script of members that are made so, of which node 1 finishes so many stores by itself. Each makes two posts.
@@ -15,6 +18,26 @@ fn stores(alloc: Global, members: &str, count: u64) -> Result<String, Fail> {
         script.push_str(&lines)?;
     }
     Ok(script)
+}
+
+// These lines behind a script print that text in the end, also where the nodes crash after each of them, and where they make
+// a checkpoint before each such crash.
+fn check_behind<R: Abort + AllocGlobal>(
+    rt: &R,
+    mut script: String,
+    lines: &str,
+    nodes: &[u32],
+    wanted: &str,
+) -> Result<(), Fail> {
+    let made = script.lines().count();
+    script.push_str(lines)?;
+    let (status, output) = played(rt.alloc(), &script)?;
+    assert_eq!(rt; status, 0);
+    assert!(rt; output.ends_with(wanted));
+    let crashes = crash_all(rt.alloc(), nodes)?;
+    check_with(rt, &script, made, &crashes, &output)?;
+    let moves = move_all(rt.alloc(), nodes)?;
+    check_with(rt, &script, made, &moves, &output)
 }
 
 const OF_TWO: &str = "\
@@ -58,12 +81,8 @@ const A_FULL_OUTBOX_PRINTS: &str = "\
 // A snapshot finds no room, and a lapse makes some.
 #[test]
 fn a_lapse_empties_a_full_outbox(rt: HostRuntime) -> Result<(), Fail> {
-    let mut script = stores(rt.alloc(), OF_TWO, 256)?;
-    script.push_str(A_FULL_OUTBOX)?;
-    let (status, output) = played(rt.alloc(), &script)?;
-    assert_eq!(rt; status, 0);
-    assert!(rt; output.ends_with(A_FULL_OUTBOX_PRINTS));
-    Ok(())
+    let script = stores(rt.alloc(), OF_TWO, 256)?;
+    check_behind(&rt, script, A_FULL_OUTBOX, &[1, 2], A_FULL_OUTBOX_PRINTS)
 }
 
 const OF_THREE: &str = "\
@@ -129,10 +148,6 @@ const TWO_DEAD_PRINTS: &str = "\
 // Of two dead members both have to lapse, and a phase that would begin anew waits for room.
 #[test]
 fn two_dead_members_fill_an_outbox_until_both_lapsed(rt: HostRuntime) -> Result<(), Fail> {
-    let mut script = stores(rt.alloc(), OF_THREE, 255)?;
-    script.push_str(TWO_DEAD)?;
-    let (status, output) = played(rt.alloc(), &script)?;
-    assert_eq!(rt; status, 0);
-    assert!(rt; output.ends_with(TWO_DEAD_PRINTS));
-    Ok(())
+    let script = stores(rt.alloc(), OF_THREE, 255)?;
+    check_behind(&rt, script, TWO_DEAD, &[1], TWO_DEAD_PRINTS)
 }

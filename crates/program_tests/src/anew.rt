@@ -1,7 +1,6 @@
 //! Operations that begin anew, since their answers may be lost.
 
-use crate::played::check;
-use std::test::*;
+use crate::rows::Row;
 
 const A_STORE_BEGINS_ANEW: &str = "\
 fractions 2/3 4/5
@@ -72,11 +71,6 @@ const A_STORE_BEGINS_ANEW_PRINTS: &str = "\
 1 ack 1 5
 1 reply 7 1 Stored
 ";
-
-#[test]
-fn a_store_begins_anew(rt: HostRuntime) -> Result<(), Fail> {
-    check(&rt, A_STORE_BEGINS_ANEW, 0, A_STORE_BEGINS_ANEW_PRINTS)
-}
 
 const A_QUERY_BEGINS_ANEW: &str = "\
 fractions 2/3 4/5
@@ -173,11 +167,6 @@ const A_QUERY_BEGINS_ANEW_PRINTS: &str = "\
 1 send 2 7 Store [2:1=c/0/0/] 3 1
 1 send 3 7 Store [2:1=c/0/0/] 3 1
 ";
-
-#[test]
-fn a_query_begins_anew(rt: HostRuntime) -> Result<(), Fail> {
-    check(&rt, A_QUERY_BEGINS_ANEW, 0, A_QUERY_BEGINS_ANEW_PRINTS)
-}
 
 const A_STORE_BACK_BEGINS_ANEW: &str = "\
 fractions 2/3 4/5
@@ -285,16 +274,6 @@ const A_STORE_BACK_BEGINS_ANEW_PRINTS: &str = "\
 1 reply 7 1 Seen []
 ";
 
-#[test]
-fn a_store_back_begins_anew(rt: HostRuntime) -> Result<(), Fail> {
-    check(
-        &rt,
-        A_STORE_BACK_BEGINS_ANEW,
-        0,
-        A_STORE_BACK_BEGINS_ANEW_PRINTS,
-    )
-}
-
 const A_LINE_WAITS_WHILE_A_STORE_BEGINS_ANEW: &str = "\
 fractions 2/3 4/5
 member 1 of 1,2,3
@@ -373,12 +352,26 @@ const A_LINE_WAITS_WHILE_A_STORE_BEGINS_ANEW_PRINTS: &str = "\
 1 reply 7 1 Stored
 ";
 
-#[test]
-fn a_line_waits_while_a_store_begins_anew(rt: HostRuntime) -> Result<(), Fail> {
-    check(
-        &rt,
-        A_LINE_WAITS_WHILE_A_STORE_BEGINS_ANEW,
-        0,
-        A_LINE_WAITS_WHILE_A_STORE_BEGINS_ANEW_PRINTS,
-    )
-}
+/// All of these.
+pub const ROWS: [Row; 4] = [
+    Row {
+        script: A_STORE_BEGINS_ANEW,
+        nodes: &[1, 2, 3],
+        prints: A_STORE_BEGINS_ANEW_PRINTS,
+    },
+    Row {
+        script: A_QUERY_BEGINS_ANEW,
+        nodes: &[1, 2, 3],
+        prints: A_QUERY_BEGINS_ANEW_PRINTS,
+    },
+    Row {
+        script: A_STORE_BACK_BEGINS_ANEW,
+        nodes: &[1, 2, 3],
+        prints: A_STORE_BACK_BEGINS_ANEW_PRINTS,
+    },
+    Row {
+        script: A_LINE_WAITS_WHILE_A_STORE_BEGINS_ANEW,
+        nodes: &[1, 2, 3],
+        prints: A_LINE_WAITS_WHILE_A_STORE_BEGINS_ANEW_PRINTS,
+    },
+];

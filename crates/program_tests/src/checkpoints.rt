@@ -67,9 +67,9 @@ fn is_move(line: &str) -> bool {
     line.ends_with(" checkpoint") || line.ends_with(" opened")
 }
 
-// Plays the script with these lines after each line behind the first `made`, which has to print that text beside a line for
-// each of those.
-fn check_with<R: Abort + AllocGlobal>(
+/// Plays the script with these lines after each line behind the first `made`, which has to print that text beside a line for
+/// each of those.
+pub fn check_with<R: Abort + AllocGlobal>(
     rt: &R,
     script: &str,
     made: usize,

@@ -40,6 +40,8 @@ mod played;
 #[cfg(test)]
 mod retirements;
 #[cfg(test)]
+mod rows;
+#[cfg(test)]
 mod sites;
 #[cfg(test)]
 mod snapshots;

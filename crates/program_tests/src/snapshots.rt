@@ -1,7 +1,6 @@
 //! Snapshots in turn, with crashes in between, and the need of those that are members then.
 
-use crate::played::check;
-use std::test::*;
+use crate::rows::Row;
 
 const A_SNAPSHOT_IN_TURN: &str = "\
 fractions 2/3 4/5
@@ -55,12 +54,8 @@ nothing 3 1 2
 1 refused 5 Old 2
 ";
 
-#[test]
-fn a_snapshot_in_turn(rt: HostRuntime) -> Result<(), Fail> {
-    check(&rt, A_SNAPSHOT_IN_TURN, 0, A_SNAPSHOT_IN_TURN_PRINTS)
-}
-
-const A_CRASH_IN_BETWEEN: &str = "\
+/// A store that begins anew, through checkpoints and crashes.
+pub const A_CRASH_IN_BETWEEN: &str = "\
 fractions 2/3 4/5
 member 1 of 1,2,3
 member 2 of 1,2,3
@@ -123,7 +118,7 @@ crash 1 fill a5
 crash 3
 ";
 
-const A_CRASH_IN_BETWEEN_PRINTS: &str = "\
+pub const A_CRASH_IN_BETWEEN_PRINTS: &str = "\
 1 accepted
 1 send 1 1 Store [1:1=a/0/0/] 1 1
 1 send 2 1 Store [1:1=a/0/0/] 1 1
@@ -214,11 +209,6 @@ const A_CRASH_IN_BETWEEN_PRINTS: &str = "\
 3 opened
 ";
 
-#[test]
-fn a_crash_in_between(rt: HostRuntime) -> Result<(), Fail> {
-    check(&rt, A_CRASH_IN_BETWEEN, 0, A_CRASH_IN_BETWEEN_PRINTS)
-}
-
 const THE_NEED_AFTER_THE_UNION: &str = "\
 member 1 of 1,2,3
 member 2 of 1,2,3
@@ -281,12 +271,16 @@ const THE_NEED_AFTER_THE_UNION_PRINTS: &str = "\
 2 reply 8 1 Stored
 ";
 
-#[test]
-fn the_need_after_the_union(rt: HostRuntime) -> Result<(), Fail> {
-    check(
-        &rt,
-        THE_NEED_AFTER_THE_UNION,
-        0,
-        THE_NEED_AFTER_THE_UNION_PRINTS,
-    )
-}
+/// All of these.
+pub const ROWS: [Row; 2] = [
+    Row {
+        script: A_SNAPSHOT_IN_TURN,
+        nodes: &[1, 2, 3],
+        prints: A_SNAPSHOT_IN_TURN_PRINTS,
+    },
+    Row {
+        script: THE_NEED_AFTER_THE_UNION,
+        nodes: &[1, 2, 3],
+        prints: THE_NEED_AFTER_THE_UNION_PRINTS,
+    },
+];
