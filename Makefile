@@ -106,11 +106,11 @@ soak:
 	@python3 tools/soak.py crates/ccnode/out/ccnode
 
 # Runs clusters under load of which members stay away: one of three is dead for ten minutes, MINUTES=2 makes that fewer, and
-# some eight minutes beside it.
+# some eight minutes beside it. PAUSE=5000 makes each sync take so many microseconds more; that needs a C compiler.
 soak-absent: MINUTES = 10
 soak-absent:
 	@$(BUILD) ccnode
-	@python3 tools/soak.py crates/ccnode/out/ccnode absent $(MINUTES)
+	@python3 tools/soak_absent.py crates/ccnode/out/ccnode $(MINUTES) $(PAUSE)
 
 # Has clients misuse a node on loopback: idle connections, a flood of asks, one that never reads, zeros without end. It
 # fails where the node doesn't answer afterwards: a minute at most.

@@ -16,7 +16,7 @@ import sys
 import time
 from concurrent.futures import ThreadPoolExecutor
 
-from nodes import Cluster, client, end_on_signals, say, slow_sync
+from nodes import Cluster, client, end_on_signals, say
 
 COUNTS = (1, 8, 64)
 SYNCS = {"store": 6, "collect": 10}
@@ -157,9 +157,7 @@ def main():
     pause = int(sys.argv[3]) if len(sys.argv) > 3 else 0
     rows, session = [], 1
     with Cluster(program, 3) as cluster:
-        if pause:
-            os.environ["SLOW_SYNC"] = str(pause)
-            cluster.preloads = dict.fromkeys(cluster.nodes, slow_sync(cluster.folder))
+        cluster.slow_down(pause)
         cluster.start_all()
         cluster.wait_until_ready()
         alone, three = sync_times(cluster.folder, pause)

@@ -82,6 +82,12 @@ class Cluster:
             words = ["format", f"node-{node}", str(node), "--initial", members, "--beta", self.beta]
             subprocess.run([self.program, *words], cwd=self.folder, check=True, stdout=subprocess.DEVNULL)
 
+    def slow_down(self, pause):
+        """Each sync of each node that is started from now on takes so many microseconds more. It needs a C compiler."""
+        if pause:
+            os.environ["SLOW_SYNC"] = str(pause)
+            self.preloads = dict.fromkeys(self.ports, slow_sync(self.folder))
+
     def address(self, node):
         return f"{LOOPBACK}:{self.ports[node]}"
 
