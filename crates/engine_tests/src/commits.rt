@@ -85,14 +85,22 @@ pub fn second_ask() -> Event {
     }
 }
 
+/// What is kept for node 1 lapses.
+pub fn lapse() -> Result<Event, Fail> {
+    let node = NodeId::new(1).ok_or("ids begin at 1")?;
+    Ok(Event::Lapse { node })
+}
+
 /// Which batch is committed: the ask of a store, its post as it comes back and the acknowledgement of that; the ask alone;
-/// the two deliveries that follow the ask; the ask of a collect after them; or the node's leaving.
+/// the two deliveries that follow the ask; the ask of a collect after them; a lapse of what is kept for the node itself, and
+/// its snapshot; or the node's leaving.
 #[derive(Clone, Copy)]
 pub enum Part {
     Store,
     Ask,
     Deliveries,
     Collect,
+    Away,
     Leave,
 }
 
@@ -132,6 +140,7 @@ fn fill(
         Part::Store | Part::Ask => ask()?,
         Part::Deliveries => delivery(alloc, 1, node.outbox().post(1))?,
         Part::Collect => second_ask(),
+        Part::Away => lapse()?,
         Part::Leave => Event::Leave,
     };
     add(alloc, node, live, batch, first)?;
@@ -141,6 +150,7 @@ fn fill(
             add_delivery(alloc, node, live, batch, 2)
         }
         Part::Deliveries => add_delivery(alloc, node, live, batch, 2),
+        Part::Away => add(alloc, node, live, batch, Event::Snapshot),
         Part::Ask | Part::Collect | Part::Leave => Ok(()),
     }
 }

@@ -1,8 +1,8 @@
-//! A whole life of a node on its site, of which each disk call fails in turn: formatting, opening, three batches, posts that
-//! are put again, and two checkpoints.
+//! A whole life of a node on its site, of which each disk call fails in turn: formatting, opening, four batches, with a lapse
+//! and a snapshot among their events, posts that are put again, and two checkpoints.
 
 use crate::checkpoints::{checkpoint, state_left};
-use crate::commits::{Part, ask, delivery, resend, second_ask, turn};
+use crate::commits::{Part, ask, delivery, lapse, resend, second_ask, turn};
 use crate::openings::formatted;
 use cc_changes::Fraction;
 use cc_checkpoint::{OpenFault, encode_state};
@@ -22,12 +22,13 @@ enum Step {
     Checkpoint,
 }
 
-const STEPS: [Step; 6] = [
+const STEPS: [Step; 7] = [
     Step::Turn(Part::Ask),
     Step::Turn(Part::Deliveries),
     Step::Resend,
     Step::Checkpoint,
     Step::Turn(Part::Collect),
+    Step::Turn(Part::Away),
     Step::Checkpoint,
 ];
 
@@ -35,7 +36,7 @@ const STEPS: [Step; 6] = [
 const fn events_of(step: Step) -> usize {
     match step {
         Step::Turn(Part::Ask | Part::Collect | Part::Leave) => 1,
-        Step::Turn(Part::Deliveries) => 2,
+        Step::Turn(Part::Deliveries | Part::Away) => 2,
         Step::Turn(Part::Store) => 3,
         Step::Resend | Step::Checkpoint => 0,
     }
@@ -160,7 +161,9 @@ fn event_at(alloc: Global, node: &Node, at: usize) -> Result<Event, Fail> {
         0 => ask(),
         1 => delivery(alloc, 1, node.outbox().post(1)),
         2 => delivery(alloc, 2, node.outbox().post(2)),
-        _ => Ok(second_ask()),
+        3 => Ok(second_ask()),
+        4 => lapse(),
+        _ => Ok(Event::Snapshot),
     }
 }
 
@@ -182,7 +185,7 @@ fn push_state(alloc: Global, node: &Node, states: &mut Vec<Vec<u8>>) -> Result<(
 // The states of the node before the first event and after each.
 fn push_states(alloc: Global, node: &mut Node, states: &mut Vec<Vec<u8>>) -> Result<(), Fail> {
     push_state(alloc, node, states)?;
-    for at in 0..4 {
+    for at in 0..6 {
         let event = event_at(alloc, node, at)?;
         settle(alloc, node, event)?;
         push_state(alloc, node, states)?;
@@ -232,6 +235,7 @@ enum Put {
     Store(u64),
     StoreAck(u64),
     Query(u64),
+    Snapshot(u64),
     Ack(u64),
     Reply,
     Other,
@@ -247,6 +251,7 @@ const fn put_of(output: &Output) -> Put {
             Message::Store { .. } => Put::Store(*number),
             Message::StoreAck { .. } => Put::StoreAck(*number),
             Message::Query { .. } => Put::Query(*number),
+            Message::Snapshot { .. } => Put::Snapshot(*number),
             _ => Put::Other,
         },
         Output::Ack { to: _, number } => Put::Ack(*number),
@@ -254,8 +259,8 @@ const fn put_of(output: &Output) -> Put {
     }
 }
 
-// All that the life puts: of the three batches, and both posts of the first two again before the third.
-const PUTS: [Put; 8] = [
+// All that the life puts: of the four batches, and both posts of the first two again before the third.
+const PUTS: [Put; 9] = [
     Put::Store(1),
     Put::Ack(1),
     Put::StoreAck(2),
@@ -264,6 +269,7 @@ const PUTS: [Put; 8] = [
     Put::Store(1),
     Put::StoreAck(2),
     Put::Query(3),
+    Put::Snapshot(4),
 ];
 
 fn check_outputs<R: Abort>(rt: &R, outputs: &[Output]) {
@@ -313,7 +319,7 @@ fn count_calls<R: Abort + AllocGlobal>(
 fn each_call_of_a_whole_life_may_fail(rt: HostRuntime) -> Result<(), Fail> {
     let states = plain_states(rt.alloc())?;
     for failing in [Failing::Once, Failing::Stop] {
-        assert_eq!(rt; count_calls(&rt, failing, &states)?, 68);
+        assert_eq!(rt; count_calls(&rt, failing, &states)?, 72);
     }
     Ok(())
 }
