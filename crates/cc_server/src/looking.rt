@@ -1,6 +1,6 @@
 //! What the flusher does for peers that stay away: it looks how each of them stands, and hands in what lapses and snapshots.
 
-use crate::notes::Note;
+use crate::notes::{Note, Waiting};
 use crate::shared::Shared;
 use cc_links::LinkRow;
 use cc_node::Core;
@@ -32,8 +32,7 @@ impl Looks {
 pub fn look<R: Wait>(rt: &R, core: &Core, shared: &Shared, looks: &mut Looks, is_tick: bool) {
     if is_tick {
         let is_back = pass_second(rt, core, shared);
-        let pending = pending_of(core.phase());
-        note_lasting(rt, shared, looks, pending);
+        note_lasting(rt, shared, looks, wait_of(core.phase()));
         let is_held = shared.any_absent.is_set() || looks.lasting.is_long();
         if looks
             .calls
@@ -80,30 +79,41 @@ fn note_passed<R: Wait>(rt: &R, shared: &Shared, peer: NodeId, passed: Passed) {
 }
 
 // A second has passed for the operation that pends, if one does: what has been pending for long is noted, once.
-fn note_lasting<R: Wait>(rt: &R, shared: &Shared, looks: &mut Looks, pending: Option<Pending>) {
+fn note_lasting<R: Wait>(rt: &R, shared: &Shared, looks: &mut Looks, pending: Option<Waiting>) {
     let before = looks.lasting;
     looks.lasting = before.after_second(name_of(pending));
-    if let Some(pending) = pending {
+    if let Some(waiting) = pending {
         if looks.lasting.is_long() && !before.is_long() {
-            shared.notes.put(rt, Note::Pending(pending));
+            shared.notes.put(rt, Note::Pending(waiting));
         }
     }
 }
 
-fn name_of(pending: Option<Pending>) -> Option<AskName> {
-    let asked = pending?.asked;
-    Some(AskName {
-        session: asked.session,
-        request: asked.request,
-    })
+fn name_of(pending: Option<Waiting>) -> Option<AskName> {
+    match pending {
+        None => None,
+        Some(waiting) => Some(waiting.asked),
+    }
 }
 
-fn pending_of(stage: Stage) -> Option<Pending> {
+// The operation that pends, if one does, and what it waits for.
+fn wait_of(stage: Stage) -> Option<Waiting> {
     match stage {
         Stage::Idle => None,
         Stage::Storing(pending) | Stage::Querying(pending) | Stage::StoringBack(pending) => {
-            Some(pending)
+            Some(waiting(&pending))
         }
+    }
+}
+
+fn waiting(pending: &Pending) -> Waiting {
+    Waiting {
+        asked: AskName {
+            session: pending.asked.session,
+            request: pending.asked.request,
+        },
+        count: pending.count,
+        need: pending.need,
     }
 }
 

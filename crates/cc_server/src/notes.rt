@@ -1,7 +1,6 @@
 //! What a running node notes of its peers on standard error.
 
-use cc_ops::Pending;
-use cc_protocol::Lasting;
+use cc_protocol::{AskName, Lasting};
 use cc_views::NodeId;
 use crossbeam_channel::{Receiver, Sender, bounded};
 use log::sink::Console;
@@ -12,13 +11,21 @@ use std::sync::Wait;
 // How many notes of the flusher wait at most.
 const NOTE_ROOM: usize = 256;
 
+/// An operation that pends, and how many of the answers that it needs it has.
+#[derive(Clone, Copy, Debug, PartialEq, Eq)]
+pub struct Waiting {
+    pub asked: AskName,
+    pub count: u64,
+    pub need: u64,
+}
+
 /// A note of the flusher.
 #[derive(Clone, Copy, Debug, PartialEq, Eq)]
 pub enum Note {
     /// A peer is taken for absent.
     Absent(NodeId),
     /// An operation has been pending for long.
-    Pending(Pending),
+    Pending(Waiting),
 }
 
 /// The line on which notes of the flusher wait for their writer, since it waits for nobody who reads standard error. None
@@ -49,13 +56,19 @@ pub fn note_line(alloc: Global) -> Result<(NoteLine, Receiver<Option<Note>>), Al
 /// Writes the notes of the node `me`, until None comes.
 pub fn write_notes<R: Wait + Eprint>(rt: &R, me: NodeId, from: &Receiver<Option<Note>>) {
     for _ in rt.forever() {
-        match from.recv(rt).unwrap_or(None) {
-            Some(Note::Absent(peer)) => note_absent(rt, me, peer),
-            Some(Note::Pending(pending)) => note_pending(rt, me, pending),
-            None => return,
-        }
+        let Some(note) = from.recv(rt).unwrap_or(None) else {
+            return;
+        };
+        write_note(rt, me, note);
     }
     unreachable!()
+}
+
+fn write_note<R: Eprint>(rt: &R, me: NodeId, note: Note) {
+    match note {
+        Note::Absent(peer) => note_absent(rt, me, peer),
+        Note::Pending(waiting) => note_pending(rt, me, waiting),
+    }
 }
 
 fn note_absent<R: Eprint>(rt: &R, me: NodeId, peer: NodeId) {
@@ -63,10 +76,10 @@ fn note_absent<R: Eprint>(rt: &R, me: NodeId, peer: NodeId) {
     warn!(logged; "node {} takes node {} for absent", me.number(), peer.number());
 }
 
-fn note_pending<R: Eprint>(rt: &R, me: NodeId, pending: Pending) {
+fn note_pending<R: Eprint>(rt: &R, me: NodeId, waiting: Waiting) {
     let logged = Logged::new(rt, Level::Warn, Console(rt));
-    let asked = pending.asked;
-    warn!(logged; "node {} has {} of {} answers for request {} of session {}, pending for {} seconds", me.number(), pending.count, pending.need, asked.request, asked.session, Lasting::LONG_SECONDS);
+    let Waiting { asked, count, need } = waiting;
+    warn!(logged; "node {} has {} of {} answers for request {} of session {}, pending for {} seconds", me.number(), count, need, asked.request, asked.session, Lasting::LONG_SECONDS);
 }
 
 /// A peer that was taken for absent acknowledges again.
