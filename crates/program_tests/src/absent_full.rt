@@ -11,7 +11,8 @@ use std::test::*;
 fn stores(alloc: Global, members: &str, count: u64) -> Result<String, Fail> {
     let mut script = String::from_str(alloc, members)?;
     for request in 1..=count {
-        let (store, own) = (2 * request - 1, 2 * request);
+        let own = request.saturating_mul(2);
+        let store = own.saturating_sub(1);
         let lines = format!(in alloc;
             "ask 1 7 {request} store a\ncarry 1 1 {store}\ncarry 1 1 {own}\n"
         )?;

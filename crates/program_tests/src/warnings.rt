@@ -31,9 +31,9 @@ const CASES: [Case; 7] = [
 
 fn warned(
     alloc: Global,
-    initial: Option<&str>,
-    contacts: Option<&str>,
-    beta: Option<&str>,
+    initial: Option<&'static str>,
+    contacts: Option<&'static str>,
+    beta: Option<&'static str>,
 ) -> Result<[Option<Warning>; 3], Fail> {
     let words = FormatWords {
         id: "1",
