@@ -1,4 +1,4 @@
-//! Five nodes, each of which crashes, and all rows that are printed.
+//! Five nodes, each of which crashes, members that stay away among them, and all rows that are printed.
 
 use crate::played::played;
 use std::alloc::Global;
@@ -153,11 +153,17 @@ fn count_of(rows: &[(&str, &str)], node: &str) -> usize {
         .count()
 }
 
-fn check_rows<R: Abort + AllocGlobal>(rt: &R, output: &str) -> Result<(), Fail> {
+// Equal numbers have equal values, and so many rows at least are of each of these nodes.
+fn check_rows<R: Abort + AllocGlobal>(
+    rt: &R,
+    output: &str,
+    nodes: &[&str],
+    least: usize,
+) -> Result<(), Fail> {
     let rows = rows_of(rt.alloc(), output)?;
     assert!(rt; are_equal(&rows));
-    for node in NODES {
-        assert!(rt; count_of(&rows, node) >= 300, "{node}");
+    for node in nodes {
+        assert!(rt; count_of(&rows, node) >= least, "{node}");
     }
     Ok(())
 }
@@ -169,7 +175,96 @@ fn five_nodes_show_one_value_of_each_number(rt: HostRuntime) -> Result<(), Fail>
     for answer in ANSWERS {
         assert!(rt; output.contains(answer), "{answer}");
     }
-    check_rows(&rt, &output)
+    check_rows(&rt, &output, &NODES, 300)
+}
+
+// Five members of which three are enough. What is kept for two of them lapses, a store begins anew once they are told by a
+// snapshot, and all lapse and post snapshots later, through crashes and checkpoints.
+const AWAY: &str = "\
+fractions 3/5 4/5
+member 1 of 1,2,3,4,5
+member 2 of 1,2,3,4,5
+member 3 of 1,2,3,4,5
+member 4 of 1,2,3,4,5
+member 5 of 1,2,3,4,5
+ask 1 7 1 store a
+carry 1 1 1
+carry 1 2 1
+carry 1 3 1
+carry 1 1 2
+carry 2 1 1
+carry 3 1 1
+lapse 1 4
+lapse 1 5
+crash 1 fill a5
+ask 1 7 2 max 9
+carry 1 1 3
+crash 1
+snapshot 1
+checkpoint 1
+crash 1
+carry 1 4 5
+crash 4 fill a5
+carry 1 1 4
+carry 1 1 5
+crash 1 fill ff
+carry 1 4 6
+carry 1 5 6
+carry 1 5 5
+checkpoint 5
+crash 5
+carry 1 5 6
+carry 1 1 6
+carry 1 1 7
+carry 4 1 1
+carry 5 1 1
+ask 4 9 1 store d
+ask 5 9 1 flag
+lapse 4 2
+lapse 5 3
+lapse 2 3
+snapshot 4
+snapshot 5
+snapshot 2
+all 200
+crash 1
+crash 2 fill a5
+crash 3 fill 00
+crash 4
+crash 5 fill ff
+ask 2 7 1 collect
+lapse 2 1
+snapshot 2
+resend 2
+all 200
+ask 3 7 1 readmax
+ask 1 7 3 readflag
+snapshot 3
+all 200
+";
+
+// All that clients are told.
+const ANSWERS_AWAY: [&str; 7] = [
+    "\n1 reply 7 1 Stored\n",
+    "\n1 reply 7 2 Stored\n",
+    "\n4 reply 9 1 Stored\n",
+    "\n5 reply 9 1 Stored\n",
+    "\n2 reply 7 1 Seen [1:2=a/9/0/,4:1=d/0/0/,5:1=/0/1/]\n",
+    "\n1 reply 7 3 Flag 1\n",
+    "\n3 reply 7 1 Max 9\n",
+];
+
+// The beginnings of the rows of those that store.
+const STORING: [&str; 3] = ["1:", "4:", "5:"];
+
+#[test]
+fn five_nodes_that_stay_away_show_one_value_of_each_number(rt: HostRuntime) -> Result<(), Fail> {
+    let (status, output) = played(rt.alloc(), AWAY)?;
+    assert_eq!(rt; status, 0);
+    for answer in ANSWERS_AWAY {
+        assert!(rt; output.contains(answer), "{answer}");
+    }
+    check_rows(&rt, &output, &STORING, 150)
 }
 
 // Two values of number 1 of node 1, in a message and in an answer.
