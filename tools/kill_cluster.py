@@ -17,14 +17,17 @@ import time
 from nodes import Cluster, NoAnswer, Session, end_on_signals, say
 
 # How long the cluster may take to answer, in seconds.
-PATIENCE = 30
+# How long a client may wait, in seconds, beside the time for which its own node may be away, which is killed again and again.
+PATIENCE, AWAY_TIMES = 30, 6
 
 
 class Told:
     """What clients were told so far, by all threads under one lock."""
 
-    def __init__(self, nodes):
+    def __init__(self, nodes, patience):
         self.lock = threading.Lock()
+        # How long a client may wait.
+        self.patience = patience
         # Of each node: the last text, maximum and number that a client knows of, and what each number stood for.
         self.least = {node: [0, 0, 0] for node in nodes}
         self.values = {}
@@ -94,10 +97,10 @@ class Client(threading.Thread):
     def step(self, count):
         if self.kind == "collect":
             before = self.told.begins()
-            answer = self.session.ask(["collect"], PATIENCE)
+            answer = self.session.ask(["collect"], self.told.patience)
             self.told.collected(self.node, before, rows_of(answer))
         else:
-            self.session.ask([self.kind, str(count)], PATIENCE)
+            self.session.ask([self.kind, str(count)], self.told.patience)
             self.told.wrote(self.node, ["store", "max"].index(self.kind), count)
 
 
@@ -126,7 +129,7 @@ def kill_and_start(cluster, told, kills, away):
         before = now
         if kill % 20 == 0:
             say(f"{kill} kills, {sum(told.writes.values())} writes and {told.collects} collects answered")
-        if time.monotonic() - told.last_answer > PATIENCE or told.faults:
+        if time.monotonic() - told.last_answer > told.patience or told.faults:
             break
     return answers
 
@@ -135,7 +138,7 @@ def check_end(cluster, told):
     """All nodes collect the same, and each write was done once."""
     views = []
     for node in cluster.nodes:
-        rows = rows_of(Session(cluster.address(node), 10 * node + 5).ask(["collect"], PATIENCE))
+        rows = rows_of(Session(cluster.address(node), 10 * node + 5).ask(["collect"], told.patience))
         told.collected(node, told.begins(), rows)
         views.append(rows)
     if any(view != views[0] for view in views):
@@ -156,13 +159,13 @@ def main():
     with Cluster(program, 3, beta="2/3") as cluster:
         cluster.start_all()
         cluster.wait_until_ready()
-        told, start = Told(cluster.nodes), time.monotonic()
+        told, start = Told(cluster.nodes, PATIENCE + AWAY_TIMES * away), time.monotonic()
         clients = start_clients(cluster, told, over)
         try:
             answers = kill_and_start(cluster, told, kills, away)
             over.set()
             for client in clients:
-                client.join(PATIENCE + 5)
+                client.join(told.patience + 5)
             check_end(cluster, told)
         finally:
             over.set()

@@ -10,12 +10,10 @@ use cc_lines::Stop;
 use cc_views::NodeId;
 use cc_words::command;
 use std::alloc::Global;
-use std::fs::{File, Files};
 use std::net::{Net, SocketAddr, TcpListener, TcpStream};
 use std::sync::Wait;
 use std::test::*;
 use std::thread;
-use std::thread::Threads;
 use std::time::{Clock, Duration, Instant};
 
 // So many stores, of which some 64 fill what may be kept for the third member.
@@ -24,22 +22,30 @@ const STORES: u64 = 300;
 // They are answered in so many seconds, also where the machine is busy. If nothing lapsed they would take minutes.
 const MOST_SECONDS: u64 = 40;
 
-// One store is answered.
-fn store<R: Net<Stream = TcpStream> + Clock>(
+// The status that a client ends with, and what it prints.
+type Told = Option<(u8, Vec<u8>)>;
+
+fn check_told(told: Told, wanted: &'static str) -> Result<(), Fail> {
+    let (status, output) = told.ok_or("the client ends")?;
+    check(output.as_slice() == wanted.as_bytes(), wanted)?;
+    check(status == 0, "the status of a client")
+}
+
+fn asked<R: Net<Stream = TcpStream> + Clock>(
     rt: &R,
     alloc: Global,
-    one: SocketAddr,
-) -> Result<(), Fail> {
+    address: SocketAddr,
+    words: &[&str],
+) -> Told {
     let order = AskOrder {
-        address: one,
+        address,
         session: 7,
-        command: command(&["store", "a"]).ok_or("a command")?,
+        command: command(words)?,
         timeout: 20,
     };
     let mut output = Vec::new(alloc);
-    let status = ask_node(rt, alloc, &order, &mut output)?;
-    check(output.as_slice() == b"Stored\n".as_slice(), "Stored")?;
-    check(status == 0, "the status of a store")
+    let status = ask_node(rt, alloc, &order, &mut output).ok()?;
+    Some((status, output))
 }
 
 fn store_all<R: Net<Stream = TcpStream> + Clock>(
@@ -49,7 +55,7 @@ fn store_all<R: Net<Stream = TcpStream> + Clock>(
 ) -> Result<(), Fail> {
     let start = Instant::now(rt).or(Err("a clock"))?;
     for _ in 0..STORES {
-        store(rt, alloc, one)?;
+        check_told(asked(rt, alloc, one, &["store", "a"]), "Stored\n")?;
     }
     let elapsed = start.elapsed(rt).or(Err("a clock"))?;
     check(
@@ -62,77 +68,16 @@ fn store_all<R: Net<Stream = TcpStream> + Clock>(
 fn collect_late<R: Net<Stream = TcpStream> + Clock>(
     rt: &R,
     alloc: Global,
+    stop: &Stop,
     three: SocketAddr,
-) -> Result<(), Fail> {
-    let order = AskOrder {
-        address: three,
-        session: 9,
-        command: command(&["collect"]).ok_or("a command")?,
-        timeout: 20,
-    };
-    let mut output = Vec::new(alloc);
-    let status = ask_node(rt, alloc, &order, &mut output)?;
-    check(
-        output.as_slice() == b"Seen [1:300=a/0/0/]\n".as_slice(),
-        "the last store is seen",
-    )?;
-    check(status == 0, "the status of a collect")
-}
-
-// The third member is started, and asked.
-fn come_late<R>(
-    rt: &R,
-    alloc: Global,
-    third: TcpListener,
-    peers: &[(u32, SocketAddr)],
-) -> Result<(), Fail>
-where
-    R: Files<File = File>
-        + Net<Listener = TcpListener, Stream = TcpStream>
-        + Threads
-        + Wait
-        + Clock
-        + Eprint
-        + Sync,
-{
-    let three = third.local_addr()?;
-    let stop = Stop::new();
-    let (ended, answered) = thread::join(
-        rt,
-        || run_among(rt, alloc, "absent-3", third, peers, &stop, &NoHooks),
-        || {
-            let answered = collect_late(rt, alloc, three);
-            end_at(rt, &stop, three);
-            answered
-        },
-    );
-    answered?;
-    check_end(ended)
-}
-
-// Clients of the two members, and then one of the third.
-fn go_on<R>(
-    rt: &R,
-    alloc: Global,
-    third: TcpListener,
-    one: SocketAddr,
-    two: SocketAddr,
-) -> Result<(), Fail>
-where
-    R: Files<File = File>
-        + Net<Listener = TcpListener, Stream = TcpStream>
-        + Threads
-        + Wait
-        + Clock
-        + Eprint
-        + Sync,
-{
-    store_all(rt, alloc, one)?;
-    come_late(rt, alloc, third, &[(1, one), (2, two)])
+) -> Told {
+    let told = asked(rt, alloc, three, &["collect"]);
+    end_at(rt, stop, three);
+    told
 }
 
 #[test]
-fn two_members_go_on_without_the_third(rt: HostRuntime) -> Result<(), Fail> {
+fn two_members_go_on_and_the_third_comes_late(rt: HostRuntime) -> Result<(), Fail> {
     let Places {
         first,
         second,
@@ -142,36 +87,46 @@ fn two_members_go_on_without_the_third(rt: HostRuntime) -> Result<(), Fail> {
     format_member_of(&rt, "absent-3", "3", "1,2,3", Some("2/3"))?;
     let third = TcpListener::bind(&rt, "127.0.0.1:0")?;
     let three = third.local_addr()?;
-    let stop = Stop::new();
     let alloc = rt.alloc();
-    let of_first = [(2, two), (3, three)];
-    let of_second = [(1, one), (3, three)];
-    let ((ended_1, ended_2), talked) = thread::join(
+    let (stop, late) = (Stop::new(), Stop::new());
+    let [of_1, of_2, of_3] = [
+        [(2, two), (3, three)],
+        [(1, one), (3, three)],
+        [(1, one), (2, two)],
+    ];
+    let ((ended_1, ended_2), (stored, (ended_3, told))) = thread::join(
         &rt,
         || {
             thread::join(
                 &rt,
-                || run_among(&rt, alloc, "absent-1", first, &of_first, &stop, &NoHooks),
-                || run_among(&rt, alloc, "absent-2", second, &of_second, &stop, &NoHooks),
+                || run_among(&rt, alloc, "absent-1", first, &of_1, &stop, &NoHooks),
+                || run_among(&rt, alloc, "absent-2", second, &of_2, &stop, &NoHooks),
             )
         },
         || {
-            let talked = go_on(&rt, alloc, third, one, two);
+            let stored = store_all(&rt, alloc, one);
+            let back = thread::join(
+                &rt,
+                || run_among(&rt, alloc, "absent-3", third, &of_3, &late, &NoHooks),
+                || collect_late(&rt, alloc, &late, three),
+            );
             end(&rt, &stop, one, two);
-            talked
+            (stored, back)
         },
     );
-    talked?;
+    stored?;
+    check_told(told, "Seen [1:300=a/0/0/]\n")?;
     check_end(ended_1)?;
-    check_end(ended_2)
+    check_end(ended_2)?;
+    check_end(ended_3)
 }
 
-// After a second node 1 is told that node 3 is dead. The status, and what is printed.
+// After a second node 1 is told that node 3 is dead.
 fn retire_late<R: Net<Stream = TcpStream> + Clock + Wait>(
     rt: &R,
     alloc: Global,
     one: SocketAddr,
-) -> Option<(u8, Vec<u8>)> {
+) -> Told {
     let order = RetireOrder {
         address: one,
         node: NodeId::new(3)?,
@@ -183,22 +138,6 @@ fn retire_late<R: Net<Stream = TcpStream> + Clock + Wait>(
 }
 
 // The store needs all three members as it begins.
-fn store_and_retire<R: Net<Stream = TcpStream> + Clock + Threads + Wait + Sync>(
-    rt: &R,
-    alloc: Global,
-    one: SocketAddr,
-) -> Result<(), Fail> {
-    let (stored, retired) = thread::join(
-        rt,
-        || store(rt, alloc, one),
-        || retire_late(rt, alloc, one),
-    );
-    stored?;
-    let (status, output) = retired.ok_or("node 1 is asked")?;
-    check(output.as_slice() == b"retired 3\n".as_slice(), "retired 3")?;
-    check(status == 0, "the status of a retire")
-}
-
 #[test]
 fn a_store_begins_anew_once_the_dead_member_is_retired(rt: HostRuntime) -> Result<(), Fail> {
     let Places {
@@ -209,7 +148,7 @@ fn a_store_begins_anew_once_the_dead_member_is_retired(rt: HostRuntime) -> Resul
     } = set_up_of_three(&rt, "retired-1", "retired-2", None)?;
     let stop = Stop::new();
     let alloc = rt.alloc();
-    let ((ended_1, ended_2), talked) = thread::join(
+    let ((ended_1, ended_2), (stored, retired)) = thread::join(
         &rt,
         || {
             thread::join(
@@ -219,12 +158,17 @@ fn a_store_begins_anew_once_the_dead_member_is_retired(rt: HostRuntime) -> Resul
             )
         },
         || {
-            let talked = store_and_retire(&rt, alloc, one);
+            let told = thread::join(
+                &rt,
+                || asked(&rt, alloc, one, &["store", "a"]),
+                || retire_late(&rt, alloc, one),
+            );
             end(&rt, &stop, one, two);
-            talked
+            told
         },
     );
-    talked?;
+    check_told(stored, "Stored\n")?;
+    check_told(retired, "retired 3\n")?;
     check_end(ended_1)?;
     check_end(ended_2)
 }

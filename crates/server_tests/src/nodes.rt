@@ -78,12 +78,12 @@ pub(crate) fn format_member<R: AllocGlobal + Files<File = File>>(
 }
 
 /// A new folder that keeps one of these members, of which a share β answers each operation.
-pub(crate) fn format_member_of<R: AllocGlobal + Files<File = File>>(
+pub(crate) fn format_member_of<'w, R: AllocGlobal + Files<File = File>>(
     rt: &R,
     folder: &str,
-    id: &str,
-    members: &str,
-    beta: Option<&str>,
+    id: &'w str,
+    members: &'w str,
+    beta: Option<&'w str>,
 ) -> Result<(), Fail> {
     let _ = fs::remove_dir_all(rt, folder);
     fs::create_dir(rt, folder)?;
