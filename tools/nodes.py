@@ -80,7 +80,7 @@ class Cluster:
         for node in self.nodes:
             (self.folder / f"node-{node}").mkdir()
             words = ["format", f"node-{node}", str(node), "--initial", members, "--beta", self.beta]
-            subprocess.run([self.program, *words], cwd=self.folder, check=True, stdout=subprocess.DEVNULL)
+            subprocess.run([self.program, *words], cwd=self.folder, check=True, capture_output=True)
 
     def slow_down(self, pause):
         """Each sync of each node that is started from now on takes so many microseconds more. It needs a C compiler."""
