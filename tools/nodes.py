@@ -23,6 +23,8 @@ import client  # noqa: E402  (the example client has the frames)
 LOOPBACK = "127.0.0.1"
 PASSING = (client.BUSY, client.OUTBOX_FULL, client.QUEUE_FULL)
 TICKS_A_SECOND = os.sysconf("SC_CLK_TCK")
+# An answer that takes a client so many seconds is noted.
+SLOW = 1.0
 
 
 def say(text):
@@ -223,13 +225,21 @@ class Session:
         raise NoAnswer(f"session {self.number}: no answer to {' '.join(words)} in {seconds} s")
 
 
+def stolen():
+    """For how many seconds, on the mean, a processor of this machine was kept from work by what runs it (`steal`)."""
+    with open("/proc/stat", encoding="ascii") as stat:
+        return int(stat.readline().split()[8]) / TICKS_A_SECOND / os.cpu_count()
+
+
 class Load:
     """Clients of these nodes that store and collect by turns, and how many answers those of each node got."""
 
     def __init__(self, cluster, nodes, clients):
         self.answers = {node: 0 for node in nodes}
+        # Of each node, by the whole seconds since the start: how many slow answers came then, and how long the slowest took.
+        self.slow = {node: {} for node in nodes}
         self.sessions, self.faults = [], []
-        self.lock = threading.Lock()
+        self.lock, self.start = threading.Lock(), time.monotonic()
         for node in nodes:
             for place in range(clients):
                 session = Session(cluster.address(node), 100 * node + place, patience=15.0)
@@ -240,14 +250,26 @@ class Load:
         count = 0
         while not session.is_over:
             count += 1
+            asked = time.monotonic()
             try:
                 session.ask(["collect"] if count % 4 == 0 else ["store", f"w{count}"], 3600)
             except NoAnswer as why:
                 if not session.is_over:
                     self.faults.append(str(why))
                 return
-            with self.lock:
-                self.answers[node] += 1
+            self.note_answer(node, asked, time.monotonic())
+
+    def note_answer(self, node, asked, answered):
+        with self.lock:
+            self.answers[node] += 1
+            if answered - asked >= SLOW:
+                second = int(answered - self.start)
+                count, slowest = self.slow[node].get(second, (0, 0.0))
+                self.slow[node][second] = count + 1, max(slowest, answered - asked)
+
+    def seconds(self):
+        """How long it has been running."""
+        return time.monotonic() - self.start
 
     def end(self):
         for session in self.sessions:

@@ -8,12 +8,13 @@ continued; two halves that can't reach each other for 10 seconds, and then can; 
 are told then, and `ccnode retire` at the others. It needs a C compiler. The status is 1 where operations didn't go on.
 soak_absent.py has members that stay away.
 """
+import math
 import signal
 import subprocess
 import sys
 import time
 
-from nodes import HERE, Cluster, Load, Verdicts, end_on_signals, free_ports, say, slow_sync
+from nodes import HERE, Cluster, Load, Verdicts, end_on_signals, free_ports, say, slow_sync, stolen
 
 CLIENTS = 8
 GOES_ON_WITHIN = 5.0
@@ -21,24 +22,35 @@ NODES = range(1, 6)
 
 
 class WatchedLoad(Load):
-    """A load whose operations a second are printed."""
+    """A load whose operations a second are printed, and what its nodes say meanwhile."""
+
+    def __init__(self, cluster, nodes, clients):
+        super().__init__(cluster, nodes, clients)
+        # How much of each node's log was printed.
+        self.cluster, self.printed = cluster, {}
 
     def watch(self, label, seconds, step=5.0):
-        """Prints operations a second over time. The least of them."""
-        least, end = None, time.monotonic() + seconds
-        while time.monotonic() < end - 0.1:
-            before = self.total()
-            time.sleep(min(step, end - time.monotonic()))
-            rate = (self.total() - before) / step
-            least = rate if least is None else min(least, rate)
-            say(f"  {label}: {rate:.0f} operations a second")
-        return least
+        """
+        Prints operations a second over time, and how much of its processors the machine was kept from. Gives the rates
+        of the steps, which are equally long.
+        """
+        rates, number = [], max(0, math.ceil(seconds / step))
+        for _ in range(number):
+            before, start, kept = self.total(), time.monotonic(), stolen()
+            time.sleep(seconds / number)
+            took = time.monotonic() - start
+            rates.append((self.total() - before) / took)
+            share = 100 * (stolen() - kept) / took
+            say(f"  {label}, second {self.seconds():.0f}: {rates[-1]:.0f} operations a second, {share:.0f} % stolen")
+            self.say_notes()
+        return rates
 
-    def rates(self, label, seconds):
-        """The least rate of five seconds, and the rate over all that time."""
-        before, start = self.total(), time.monotonic()
-        least = self.watch(label, seconds)
-        return least, (self.total() - before) / (time.monotonic() - start)
+    def say_notes(self):
+        for node in self.cluster.running:
+            text = self.cluster.log(node)
+            for line in text[self.printed.get(node, 0) :].splitlines():
+                say(f"    {line}")
+            self.printed[node] = len(text)
 
     def goes_on(self, nodes):
         """After how many seconds a client of some node and one of each of these nodes was answered."""
@@ -99,7 +111,7 @@ def slow_and_stopped(program, verdicts):
         say("node 5's syncs take five milliseconds more")
         load = WatchedLoad(cluster, cluster.nodes, CLIENTS)
         try:
-            least = load.watch("one slow disk", 60)
+            least = min(load.watch("one slow disk", 60))
             verdicts.add(least > 0, f"a slow disk: at least {least:.0f} operations a second in each five seconds of a minute")
             say("node 2 is stopped for 20 seconds")
             cluster.signal(2, signal.SIGSTOP)
@@ -146,6 +158,9 @@ def dead_for_good(cluster, load, verdicts):
 
 
 def report(cluster, load, verdicts):
+    for node, seconds in load.slow.items():
+        for second, (count, slowest) in sorted(seconds.items()):
+            say(f"  second {second}, node {node}: {count} answers after a second or more, the slowest after {slowest:.1f} s")
     for node in cluster.running:
         say("  node {}: VmRSS {} kB, VmHWM {} kB".format(node, *cluster.memory(node)))
     for fault in load.faults:

@@ -12,6 +12,7 @@ an address for it only 20 seconds later. With PAUSE each sync of each node takes
 compiler. The status is 1 where operations didn't go on as they should.
 """
 import signal
+import statistics
 import sys
 import threading
 import time
@@ -28,7 +29,8 @@ ENDS_WITHIN, JOINED_WITHIN = 5.0, 30.0
 
 
 def judge_rate(verdicts, before, rates, share, what):
-    least, rate = rates
+    """The rate over all these spans of five seconds is that share of the one before, and in none was it nothing."""
+    rate, least = statistics.mean(rates), min(rates)
     verdicts.add(
         least > 0 and rate >= share * before,
         f"{what}: {rate:.0f} operations a second where there were {before:.0f}, {least:.0f} in the least five seconds",
@@ -79,7 +81,7 @@ def member_away(program, verdicts, minutes, pause):
         cluster.wait_until_ready(60)
         load = WatchedLoad(cluster, (1, 2), 32)
         try:
-            _, before = load.rates("three nodes", 60)
+            before = statistics.mean(load.watch("three nodes", 60))
             dead_for(cluster, load, verdicts, minutes, before)
             judge_counting(cluster, verdicts, load, judge_return(cluster, verdicts, 3, (1, 2)))
             stopped(cluster, load, verdicts, before)
@@ -94,28 +96,31 @@ def dead_for(cluster, load, verdicts, minutes, before):
     say(f"node 3 is killed for {minutes} minutes")
     cluster.kill(3)
     load.watch("node 3 dead", PAUSED_FOR, step=1.0)
-    rates = load.rates("node 3 dead", 60 * minutes)
-    judge_rate(verdicts, before, rates, LEFT_WHILE_AWAY, f"a node dead for {minutes} minutes, from the fourth second on")
+    rates = load.watch("node 3 dead", 60 * minutes)
+    what = f"a node dead for {minutes} minutes, from the fourth second on"
+    judge_rate(verdicts, before, rates, LEFT_WHILE_AWAY, what)
+    slow = sum(rate < LEFT_WHILE_AWAY * before for rate in rates)
+    verdicts.add(not slow, f"{what}: {slow} of {len(rates)} spans of five seconds below {LEFT_WHILE_AWAY} of before")
 
 
 def stopped(cluster, load, verdicts, before):
     say("node 3 is stopped for 20 seconds")
     cluster.signal(3, signal.SIGSTOP)
-    rates = load.rates("node 3 stopped", 20)
+    rates = load.watch("node 3 stopped", 20)
     cluster.signal(3, signal.SIGCONT)
     judge_rate(verdicts, before, rates, LEFT_WHILE_FLAPPING, "a node stopped for 20 seconds")
     load.watch("node 3 goes on", 10)
 
 
 def flapping(cluster, load):
-    """The least rate and the rate of two minutes, in which node 3 is away for ten seconds of each twenty."""
-    least, before, start = [], load.total(), time.monotonic()
+    """The rates of two minutes, in which node 3 is away for ten seconds of each twenty."""
+    rates = []
     for _ in range(6):
         cluster.kill(3)
-        least.append(load.watch("node 3 away", 10))
+        rates += load.watch("node 3 away", 10)
         cluster.start(3)
-        least.append(load.watch("node 3 back", 10))
-    return min(least), (load.total() - before) / (time.monotonic() - start)
+        rates += load.watch("node 3 back", 10)
+    return rates
 
 
 def two_of_five_away(program, verdicts, pause):
@@ -126,11 +131,11 @@ def two_of_five_away(program, verdicts, pause):
         cluster.wait_until_ready(60)
         load = WatchedLoad(cluster, (1, 2, 3), CLIENTS)
         try:
-            _, before = load.rates("five nodes", 20)
+            before = statistics.mean(load.watch("five nodes", 20))
             say("nodes 4 and 5 are killed")
             cluster.kill(4)
             cluster.kill(5)
-            rates = load.rates("two of five dead", 60)
+            rates = load.watch("two of five dead", 60)
             judge_rate(verdicts, before, rates, LEFT_WHILE_FLAPPING, "two of five nodes dead")
             judge_return(cluster, verdicts, 4, (1, 2, 3))
             say("all are killed, and all five are started at once")
@@ -165,10 +170,10 @@ def halves(program, verdicts, pause):
         cluster.wait_until_ready(60)
         load = WatchedLoad(cluster, (3, 4, 5), CLIENTS)
         try:
-            _, before = load.rates("all reach each other", 20)
+            before = statistics.mean(load.watch("all reach each other", 20))
             say("1 and 2 can't reach 3, 4 and 5 for a minute")
             cluster.command("cut 1,2")
-            rates = load.rates("two halves", 60)
+            rates = load.watch("two halves", 60)
             judge_rate(verdicts, before, rates, LEFT_WHILE_FLAPPING, "the greater of two halves")
             cluster.command("join")
             judge_sessions(cluster, verdicts, (1, 2), "the halves joined")
