@@ -31,6 +31,7 @@ use Rattle.cc_ops.specs.declared.pending.Reply.{Reply}
 use Rattle.cc_ops.specs.Commands.{is_writing, answer_of}
 use Rattle.cc_ops.specs.Ops.{Phase, Idle, Storing, Querying, StoringBack, asked_in, unanswered}
 use Rattle.cc_ops.specs.Waiting.{has_session, AreApart, writes_by}
+use Rattle.cc_ops.specs.WaitingLaws.{writes_both}
 use Rattle.cc_sessions.specs.Sessions.{Requests, last_request}
 use Rattle.cc_node.specs.Core.{Core, asked_of, next, reply, outputs}
 use Rattle.cc_node.specs.Node.{Node, step, after, line, IsLawful}
@@ -319,10 +320,6 @@ module _ (q : ℕ) (m : Member) (sound : IsSound q m) where
   has_there : (s : ℕ) (rest more : List Asked) (a : Asked) → nat_eq s a.session ≡ true → has_session s (rest ++ a ∷ more) ≡ true
   has_there s [] more a is = or_left _ _ is
   has_there s (x ∷ rest) more a is = or_right _ _ (has_there s rest more a is)
-
-  writes_both : (xs ys : List Asked) → writes_by (xs ++ ys) ≡ writes_by xs + writes_by ys
-  writes_both [] ys = omega arith
-  writes_both (x ∷ xs) ys = omega (arith, writes_both xs ys)
 
   pub number_reached : (s r k : ℕ) (a : Answer) (op : Ended m s r a) (p : Pending) → (after start op.front).core.ops.phase ≡ Storing p
       → p.asked.session ≡ s → p.asked.request ≡ r → IsWriteAsk (released_events m) k s r → k ≤ (after start op.front).core.ops.number

@@ -6,7 +6,7 @@
 --     ReplySays, reply_says        a reply ends a round, and tells what the pending operation is answered
 --     OutputSays, outputs_say      what is sent is the event's post, and what is replied its reply
 use Rattle.std.proofs.Common.{◌≡◌, ℕ, ◌+◌, ◌-◌, ◌<◌, ◌≤◌, Bool, true, false, List, [], ◌∷◌, ◌++◌, refl, subst, arith}
-use Rattle.std.specs.Prelude.{◌&&◌, Option, Some, None, IfSome, option_map, if◌then◌else◌, ⊤}
+use Rattle.std.specs.Prelude.{◌&&◌, Option, Some, None, IfSome, if◌then◌else◌, ⊤}
 use Rattle.std.specs.Bool.{then_some}
 use Rattle.std.specs.List.{AllByRecursion}
 use Rattle.std.specs.FinMap as table
@@ -29,7 +29,7 @@ use Rattle.cc_ops.specs.declared.pending.Reply.{Reply}
 use Rattle.cc_ops.specs.Commands.{is_writing}
 use Rattle.cc_ops.specs.Ops as ops
 use Rattle.cc_ops.specs.Ops.{Ops, Phase, Idle, Storing, Querying, StoringBack, is_idle, is_last, is_own, round_of, counted, merged, next_round, with_written, with_own_row, with_begun, after_ask, after_reply, after_last, after_ack, after_message, begun_in, ends_query, ends_store, told, reply_in}
-use Rattle.cc_ops.specs.Waiting.{first_in}
+use Rattle.cc_ops.specs.Waiting.{first_round}
 use Rattle.cc_node.specs.declared.made.LinkAck.{LinkAck}
 use Rattle.cc_node.specs.Core as core
 use Rattle.cc_node.specs.Core.{Core, quorum, asked_of, churned, churn_told, tells, asks_anew, anew_if, join_told, question_if, post_of_snapshot, post_to}
@@ -158,31 +158,31 @@ begun_says me quorum a s e =
     first_says (Says me s.tag e t) me a t (refl, new, refl, begun_stores me quorum a s) (refl, new, refl)
 
 last_says : (me quorum : ℕ) (line : List Asked) (s : Ops) (e : Event)
-    → IfSome (option_map (λ a. ops.first_post me a (after_last me quorum line s)) (first_in line)) (Says me s.tag e (after_last me quorum line s))
+    → IfSome (ops.post_of_round me (first_round line) (after_last me quorum line s)) (Says me s.tag e (after_last me quorum line s))
 last_says me quorum [] s e = tt
 last_says me quorum (a ∷ line) s e = begun_says me quorum a (record s { line = line }) e
 
 either_last : (me quorum : ℕ) (b : Bool) (phase : Phase) (s : Ops) (e : Event)
-    → IfSome (option_map (λ a. ops.first_post me a (if b then after_last me quorum s.line s else record s { phase = phase })) (if b then first_in s.line else None))
+    → IfSome (ops.post_of_round me (if b then first_round s.line else []) (if b then after_last me quorum s.line s else record s { phase = phase }))
     (Says me s.tag e (if b then after_last me quorum s.line s else record s { phase = phase }))
 either_last me quorum true phase s e = last_says me quorum s.line s e
 either_last me quorum false phase s e = tt
 
 ack_says : (me quorum : ℕ) (phase : Phase) (s : Ops) (e : Event)
-    → IfSome (option_map (λ a. ops.first_post me a (after_ack me quorum phase s)) (begun_in phase s.line)) (Says me s.tag e (after_ack me quorum phase s))
+    → IfSome (ops.post_of_round me (begun_in phase s.line) (after_ack me quorum phase s)) (Says me s.tag e (after_ack me quorum phase s))
 ack_says me quorum Idle s e = tt
 ack_says me quorum (Storing p) s e = either_last me quorum (is_last p) (Storing (counted p)) s e
 ack_says me quorum (Querying p) s e = tt
 ack_says me quorum (StoringBack p seen) s e = either_last me quorum (is_last p) (StoringBack (counted p) seen) s e
 
 own_ack_says : (me quorum : ℕ) (b : Bool) (s : Ops) (e : Event)
-    → IfSome (option_map (λ a. ops.first_post me a (if b then after_ack me quorum s.phase s else s)) (if b then begun_in s.phase s.line else None))
+    → IfSome (ops.post_of_round me (if b then begun_in s.phase s.line else []) (if b then after_ack me quorum s.phase s else s))
     (Says me s.tag e (if b then after_ack me quorum s.phase s else s))
 own_ack_says me quorum true s e = ack_says me quorum s.phase s e
 own_ack_says me quorum false s e = tt
 
 ask_says : (me quorum : ℕ) (b : Bool) (a : Asked) (s : Ops) (line : List Asked) (e : Event)
-    → IfSome (option_map (λ x. ops.first_post me x (if b then with_begun me quorum a s else record s { line = line })) (then_some b a))
+    → IfSome (ops.post_of_round me (if b then a ∷ [] else []) (if b then with_begun me quorum a s else record s { line = line }))
     (Says me s.tag e (if b then with_begun me quorum a s else record s { line = line }))
 ask_says me quorum true a s line e = begun_says me quorum a s e
 ask_says me quorum false a s line e = tt

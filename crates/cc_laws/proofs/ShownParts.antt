@@ -20,6 +20,7 @@ use Rattle.cc_ops.specs.Commands.{is_writing, answer_of}
 use Rattle.cc_ops.specs.Ops as ops
 use Rattle.cc_ops.specs.Ops.{Ops, Phase, Idle, Storing, Querying, StoringBack, seen_in}
 use Rattle.cc_ops.specs.OwnLaws.{anew_keeps}
+use Rattle.cc_ops.specs.Waiting.{first_in}
 use Rattle.cc_node.specs.Core.{Core, quorum, asked_of, churned, churn_told, tells, asks_anew, anew_if, join_told, question_if, post_of_snapshot, post_to}
 use Rattle.cc_node.specs.Core.{begun, handled, post, reply}
 use Rattle.cc_node.proofs.ToldLaws.{anew_view}
@@ -148,7 +149,7 @@ module _ (Q : ViewMap → Type 0) where
   ops_post me joined (message.Query tag q) s t h = some_if OfMessage joined (message.QueryReply t.view tag q) h
   ops_post me joined (message.QueryReply w tag q) s t h = some_if OfMessage _ (message.Store t.view t.tag me) h
   ops_post me joined (message.Store w tag q) s t h = some_if OfMessage joined (message.StoreAck tag q) tt
-  ops_post me joined (message.StoreAck tag q) s t h = some_mapped OfMessage (λ a. ops.first_post me a t) (ops.begun_by me (message.StoreAck tag q) s) (λ a. first_post me a t h)
+  ops_post me joined (message.StoreAck tag q) s t h = some_mapped OfMessage (λ a. ops.first_post me a t) (first_in (ops.begun_by me (message.StoreAck tag q) s)) (λ a. first_post me a t h)
   ops_post me joined (message.Snapshot c w) s t h = tt
 
   question_in : (me quorum tag : ℕ) (v : ViewMap) (phase : Phase) → Q v → OfPhase phase → IfSome (ops.question_in me v tag (ops.again quorum phase)) OfMessage
@@ -184,7 +185,7 @@ module _ (Q : ViewMap → Type 0) where
   post_shows c (event.Acked peer n) k h = tt
   post_shows c (event.Ask s r command) k h =
       let d = handled c (event.Ask s r command) in
-      some_mapped OfMessage (λ a. ops.first_post c.me a d.ops) (begun c (event.Ask s r command)) (λ a. first_post c.me a d.ops h)
+      some_mapped OfMessage (λ a. ops.first_post c.me a d.ops) (first_in (begun c (event.Ask s r command))) (λ a. first_post c.me a d.ops h)
   post_shows c (event.Retire q) k h = tt
   post_shows c (event.Lapse q) k h = tt
   post_shows c event.Snapshot k h = h

@@ -22,7 +22,7 @@ use Rattle.cc_ops.specs.Ops as ops
 use Rattle.cc_ops.specs.Commands.{finds_no_room}
 use Rattle.cc_ops.specs.declared.pending.Asked.{Asked}
 use Rattle.cc_ops.specs.Refusals.{busy}
-use Rattle.cc_ops.specs.Waiting.{line_limit, written_by}
+use Rattle.cc_ops.specs.Waiting.{line_limit, first_in, written_by}
 use Rattle.cc_sessions.specs.Sessions.{finds_no_room as finds_no_session}
 use Rattle.cc_wire.specs.declared.command.Command.{Command}
 use Rattle.cc_wire.specs.declared.event.Event.{Event}
@@ -84,7 +84,7 @@ pub next_delivery : (c : Core) (from n : ℕ) (m : Message) → next c (event.De
 unfolding next
 next_delivery c from n m = ap (λ (k : ℕ). record (handled c (event.Deliver from n m)) { posts = c.posts + k }) (len_is (post c (event.Deliver from n m)))
 
-begins_one : (b : Bool) (a : Asked) (f : Asked → Message) → option_len (option_map f (then_some b a)) ≡ cond b 1 0
+begins_one : (b : Bool) (a : Asked) (f : Asked → Message) → option_len (option_map f (first_in (if b then a ∷ [] else []))) ≡ cond b 1 0
 begins_one true a f = refl
 begins_one false a f = refl
 

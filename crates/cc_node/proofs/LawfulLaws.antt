@@ -2,7 +2,7 @@
 --     next_core, step_lawful        the core, and the node
 --     lowest_next                   lowest doesn't fall
 --     links_go_on, left_grows       no link is lost or falls back, and who left has left for good
-use Rattle.std.proofs.Common.{◌≡◌, ℕ, ◌+◌, ◌<◌, ◌≤◌, true, false, cond, ◌||◌, ◌&&◌, nat_eq, nat_lt, List, [], ◌∷◌, ◌++◌, refl, sym, ap, subst, ◌∙◌, inl, inr, arith}
+use Rattle.std.proofs.Common.{◌≡◌, ℕ, ◌+◌, ◌<◌, ◌≤◌, true, false, cond, ◌||◌, ◌&&◌, nat_eq, nat_lt, List, [], ◌∷◌, ◌++◌, length, refl, sym, ap, subst, ◌∙◌, inl, inr, arith}
 use Rattle.std.specs.Prelude.{Option, Some, None, IfSome, IsTrue, is_some, ◌==◌}
 use Rattle.std.specs.Option.{option_len, option_map_or, unwrap_or}
 use Rattle.std.specs.List.{list_any}
@@ -30,8 +30,9 @@ use Rattle.cc_churn.specs.Churn.{Churn}
 use Rattle.cc_ops.specs.Commands.{is_writing}
 use Rattle.cc_ops.specs.Ops as ops
 use Rattle.cc_ops.specs.Ops.{Ops, Phase, Idle, Storing, Querying, StoringBack, unanswered, mine_at_last}
-use Rattle.cc_ops.specs.OwnLaws.{message_last, message_answers, ask_last, ask_unanswered}
-use Rattle.cc_ops.specs.Waiting.{writes}
+use Rattle.cc_ops.specs.OwnLaws.{message_last, message_answers, message_begins, ask_last, ask_unanswered, ask_begins}
+use Rattle.cc_ops.specs.WaitingLaws.{writes_most}
+use Rattle.cc_ops.specs.Waiting.{writes_by}
 use Rattle.cc_ops.specs.WaitingLaws.{written_fits}
 use Rattle.cc_ops.specs.declared.pending.Asked.{Asked}
 use Rattle.cc_links.specs.Links.{Link, Links, new_link, with_row, add_absent, add_all, hear, ack, lapse, heard_from, LinksWithin}
@@ -50,9 +51,15 @@ use Rattle.cc_node.proofs.ToldLaws.{told_churn, left_told, echoes_told, anew_las
 
 -- ---- counters rise by one at most
 
-writes_one : (o : Option Asked) → writes o ≤ 1
-writes_one None = omega arith
-writes_one (Some a) = cond_both (is_writing a.command) 1 0 (λ n. n ≤ 1) (λ _. omega arith) (λ _. omega arith)
+begins_one : (c : Core) (e : Event) → length (begun c e) ≤ 1
+begins_one c event.Enter = omega arith
+begins_one c event.Leave = omega arith
+begins_one c (event.Deliver from n m) = message_begins c.me m c.ops
+begins_one c (event.Acked peer n) = omega arith
+begins_one c (event.Ask s r k) = ask_begins (asked_of s r k) c.ops
+begins_one c (event.Retire q) = omega arith
+begins_one c (event.Lapse q) = omega arith
+begins_one c event.Snapshot = omega arith
 
 one_post : (p : Option Message) → option_len p ≤ 1
 one_post None = omega arith
@@ -157,7 +164,7 @@ posts_next c e = let one = one_post (post c e) in omega arith
 counts_next : (c : Core) (e : Event) → Fits c e → CountsWithin c → CountsWithin (next c e)
 counts_next c e fits h =
     let none = none_overruns c (next c e) e fits.counts in
-    let up : (next c e).ops.number ≤ c.ops.number + 1 = omega (arith, own_number c e, writes_one (begun c e)) in
+    let up : (next c e).ops.number ≤ c.ops.number + 1 = omega (arith, own_number c e, writes_most (begun c e), begins_one c e) in
     record {
       number = stays_within counter_limit c.ops.number (next c e).ops.number none.number h.number up;
       tag = stays_within counter_limit c.ops.tag (next c e).ops.tag none.tag h.tag (tag_next c e);

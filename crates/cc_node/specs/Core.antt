@@ -1,11 +1,11 @@
 -- The core of a node, and what one event makes of it and puts out.
 --     Core            the plain state
---     begun C e       the ask that an event begins, if it begins one
+--     begun C e       the asks that an event begins
 --     next C e        the state after an event
 --     tells, asks_anew     what a snapshot makes of it beside a union and a merge: it counts as an echo, and a phase begins anew
 --     made C e        the acknowledgement, the post and the answer that it makes
 --     outputs C e     what is put out for it, in order
-use Rattle.std.specs.Prelude.{ℕ, ◌+◌, ◌-◌, ◌==◌, ◌&&◌, ◌||◌, nat_lt, not, Bool, false, if◌then◌else◌, List, [], ◌∷◌, ◌++◌, map, Option, Some, None, option_map}
+use Rattle.std.specs.Prelude.{ℕ, ◌+◌, ◌-◌, ◌==◌, ◌&&◌, ◌||◌, nat_lt, not, Bool, false, if◌then◌else◌, List, [], ◌∷◌, ◌++◌, map, Option, Some, None}
 use Rattle.std.specs.Option.{option_len, option_or}
 use Rattle.std.specs.FinMap as table
 use Rattle.cc_views.specs.NatSets as set
@@ -106,16 +106,16 @@ ops_anew c from n m = anew_if (asks_anew c from n m) (churn.quorum c.beta (churn
 abbrev pub asked_of : ℕ → ℕ → Command → Asked
 asked_of s r command = record { session = s; request = r; command = command }
 
--- the ask that an event begins, if it begins one: itself, or one that waited for the last acknowledgement
-abbrev pub begun : Core → Event → Option Asked
-begun c event.Enter = None
-begun c event.Leave = None
+-- the asks that an event begins, at most one: itself, or one that waited for the last acknowledgement
+abbrev pub begun : Core → Event → List Asked
+begun c event.Enter = []
+begun c event.Leave = []
 begun c (event.Deliver from n m) = ops.begun_by c.me m c.ops
-begun c (event.Acked peer n) = None
+begun c (event.Acked peer n) = []
 begun c (event.Ask s r command) = ops.begun_by_ask (asked_of s r command) c.ops
-begun c (event.Retire q) = None
-begun c (event.Lapse q) = None
-begun c event.Snapshot = None
+begun c (event.Retire q) = []
+begun c (event.Lapse q) = []
+begun c event.Snapshot = []
 
 -- the state after an event, its post not yet counted
 abbrev pub handled : Core → Event → Core
@@ -158,7 +158,7 @@ post c event.Leave = Some (message.Leave c.me)
 post c (event.Deliver from n m) = option_or (post_of_snapshot c from n m) (post_to m c (handled c (event.Deliver from n m)))
 post c (event.Acked peer n) = None
 post c (event.Ask s r command) =
-    option_map (λ asked. ops.first_post c.me asked (handled c (event.Ask s r command)).ops) (begun c (event.Ask s r command))
+    ops.post_of_round c.me (begun c (event.Ask s r command)) (handled c (event.Ask s r command)).ops
 post c (event.Retire q) = None
 post c (event.Lapse q) = None
 post c event.Snapshot = Some (message.Snapshot c.churn.changes c.ops.view)

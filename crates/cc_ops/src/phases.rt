@@ -8,6 +8,7 @@ ghost use Rattle.cc_wire.specs.declared.message.Message.TheVariants as message;
 ghost use Rattle.cc_ops.specs.Commands as commands;
 ghost use Rattle.cc_ops.specs.Ops as ops;
 ghost use Rattle.cc_ops.specs.Ops.{IsWaiting};
+ghost use Rattle.cc_ops.specs.Waiting.{first_in};
 
 use crate::commands::answer_of;
 use crate::ops::Ops;
@@ -182,8 +183,7 @@ impl Ops {
         requires fits { len (ops.after_ack me quorum self.now.phase self.now).view ≤ known_limit }
         requires number { (ops.after_ack me quorum self.now.phase self.now).number ≤ counter_limit }
         requires tag { (ops.after_ack me quorum self.now.phase self.now).tag ≤ counter_limit }
-        ensures { IfOk result (λ p. p ≡ option_map (λ asked. ops.first_post me asked (ops.after_ack me quorum self.now.phase self.now))
-            (ops.begun_in self.now.phase self.now.line)) }
+        ensures { IfOk result (λ p. p ≡ ops.post_of_round me (ops.begun_in self.now.phase self.now.line) (ops.after_ack me quorum self.now.phase self.now)) }
     {
         match self.begun_by_ack() {
             Some(asked) => Ok(Some(self.first_post(alloc, me, quorum, asked)?)),
@@ -193,7 +193,7 @@ impl Ops {
 
     // The ask that begins with one more acknowledgement.
     fn begun_by_ack(&self) -> Option<&Asked>
-        ensures asked { option_map (λ asked. asked.now) result ≡ ops.begun_in self.now.phase self.now.line }
+        ensures asked { option_map (λ asked. asked.now) result ≡ first_in (ops.begun_in self.now.phase self.now.line) }
         ensures room { IfSome result (λ asked. IsFalse (commands.finds_no_room self.now.mine asked.now.command)) }
     {
         if !self.ends_store() {
