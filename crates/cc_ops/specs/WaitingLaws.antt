@@ -139,7 +139,7 @@ pub writes_most : (asks : List Asked) → writes_by asks ≤ length asks
 writes_most [] = omega arith
 writes_most (a ∷ asks) =
     let rest : writes_by asks ≤ length asks = writes_most asks in
-    cond_both (is_writing a.command) 1 0 (λ n. n + writes_by asks ≤ 1 + length asks) (λ _. omega (arith, rest)) (λ _. omega (arith, rest))
+    cond_both (is_writing a.command) 1 0 (λ n. n + writes_by asks ≤ length (a ∷ asks)) (λ _. omega (arith, rest)) (λ _. omega (arith, rest))
 
 pub written_both : (asks more : List Asked) (mine : Value) → written_by (asks ++ more) mine ≡ written_by more (written_by asks mine)
 written_both [] more mine = refl
