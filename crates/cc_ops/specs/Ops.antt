@@ -7,7 +7,7 @@
 --     begun_by_ask, begun_by       the asks that begin: at most one
 --     post_of, first_post          what is posted in return, or as an operation begins
 --     post_of_round                what asks that begin are posted with, if any do
---     reply_of                     what the client is told
+--     replies_of                   what clients are told
 --     anew quorum s                the pending phase begins anew;  question: what it asks the others
 --     unanswered, mine_at_last     the pending ask and those behind it; the own value once all of these have begun
 use Rattle.std.specs.Prelude.{◌==◌, ℕ, ◌+◌, ◌<◌, ◌≤◌, Bool, true, false, ◌&&◌, if◌then◌else◌, List, [], ◌∷◌, ◌++◌}
@@ -207,25 +207,25 @@ post_of me is_joined (message.Snapshot c v) before after = None
 abbrev pub told : Pending → ViewMap → Reply
 told p seen = record { session = p.asked.session; request = p.asked.request; answer = answer_of p.asked.command seen }
 
--- what one more acknowledgement lets the client be told; a store reads no view
-abbrev pub reply_in : ViewMap → Phase → Option Reply
-reply_in view Idle = None
-reply_in view (Storing p) = then_some (is_last p) (told p view)
-reply_in view (Querying p) = None
-reply_in view (StoringBack p seen) = then_some (is_last p) (told p seen)
+-- what one more acknowledgement lets clients be told: at most one answer; a store reads no view
+abbrev pub replies_in : ViewMap → Phase → List Reply
+replies_in view Idle = []
+replies_in view (Storing p) = if is_last p then told p view ∷ [] else []
+replies_in view (Querying p) = []
+replies_in view (StoringBack p seen) = if is_last p then told p seen ∷ [] else []
 
-abbrev pub reply_of : ℕ → Message → Ops → Option Reply
-reply_of me (message.Enter q) s = None
-reply_of me (message.EnterEcho c v from_joined q) s = None
-reply_of me (message.Join q) s = None
-reply_of me (message.JoinEcho q) s = None
-reply_of me (message.Leave q) s = None
-reply_of me (message.LeaveEcho q) s = None
-reply_of me (message.Query tag q) s = None
-reply_of me (message.QueryReply v tag q) s = None
-reply_of me (message.Store v tag q) s = None
-reply_of me (message.StoreAck tag q) s = if is_own me tag q s then reply_in s.view s.phase else None
-reply_of me (message.Snapshot c v) s = None
+abbrev pub replies_of : ℕ → Message → Ops → List Reply
+replies_of me (message.Enter q) s = []
+replies_of me (message.EnterEcho c v from_joined q) s = []
+replies_of me (message.Join q) s = []
+replies_of me (message.JoinEcho q) s = []
+replies_of me (message.Leave q) s = []
+replies_of me (message.LeaveEcho q) s = []
+replies_of me (message.Query tag q) s = []
+replies_of me (message.QueryReply v tag q) s = []
+replies_of me (message.Store v tag q) s = []
+replies_of me (message.StoreAck tag q) s = if is_own me tag q s then replies_in s.view s.phase else []
+replies_of me (message.Snapshot c v) s = []
 
 -- the pending phase of the same ask, of which no answer has come; what is stored back stays
 abbrev pub again : ℕ → Phase → Phase

@@ -4,7 +4,7 @@
 --     .._last                  the value once all that wait have begun
 --     .._unanswered            which asks are pending or wait
 --     .._begins                at most one begins
---     AnswersFirst, message_answers   the first of these is answered, or none is
+--     AnswersFirst, message_answers   the first ones of these are answered, or none is
 --     AsksAnewAlone, anew_keeps       a phase that begins anew is the same operation's, under the next tag
 use Rattle.std.specs.Prelude.{◌≡◌, ℕ, ◌+◌, ◌≤◌, Bool, true, false, if◌then◌else◌, List, [], ◌∷◌, ◌++◌, length, Option, Some, None, refl}
 use Rattle.std.specs.Bool.{then_some}
@@ -23,7 +23,7 @@ use Rattle.cc_ops.specs.declared.pending.Reply.{Reply}
 use Rattle.cc_ops.specs.Commands.{is_writing, written}
 use Rattle.cc_ops.specs.Waiting.{first_round, writes_by, written_by}
 use Rattle.cc_ops.specs.WaitingLaws.{written_last}
-use Rattle.cc_ops.specs.Ops.{Ops, Phase, Idle, Storing, Querying, StoringBack, is_idle, seen_in, round_of, counted, is_last, is_own, merged, next_round, again, anew, with_begun, with_own_row, with_written, after_ask, after_reply, after_last, after_ack, after_message, begun_by_ask, begun_in, begun_by, told, reply_in, reply_of, asked_in, unanswered, mine_at_last}
+use Rattle.cc_ops.specs.Ops.{Ops, Phase, Idle, Storing, Querying, StoringBack, is_idle, seen_in, round_of, counted, is_last, is_own, merged, next_round, again, anew, with_begun, with_own_row, with_written, after_ask, after_reply, after_last, after_ack, after_message, begun_by_ask, begun_in, begun_by, told, replies_in, replies_of, asked_in, unanswered, mine_at_last}
 
 -- a reading command leaves the own value
 pub reading_leaves : (k : Command) (mine : Value) → is_writing k ≡ false → mine ≡ written k mine
@@ -208,10 +208,11 @@ ask_begins a s = either_idle (λ t o. length o ≤ 1) (is_idle s.phase) s s a (�
 
 -- ---- answers
 
--- the first of the asks that aren't answered is, where there is a reply
-abbrev pub AnswersFirst : List Asked → List Asked → Option Reply → Type 0
-AnswersFirst before after None = after ≡ before
-AnswersFirst before after (Some r) = (a : Asked) × (before ≡ a ∷ after) × (a.session ≡ r.session) × (a.request ≡ r.request)
+-- of the asks that aren't answered yet the first ones are, in their order: one for each reply
+abbrev pub AnswersFirst : List Asked → List Asked → List Reply → Type 0
+AnswersFirst before after [] = after ≡ before
+AnswersFirst before after (r ∷ rs) =
+    (a : Asked) × (behind : List Asked) × (before ≡ a ∷ behind) × (a.session ≡ r.session) × (a.request ≡ r.request) × AnswersFirst behind after rs
 
 reply_unanswered : (quorum : ℕ) (v : ViewMap) (phase : Phase) (s : Ops) → s.phase ≡ phase → unanswered (after_reply quorum v phase s) ≡ asked_in phase ++ s.line
 reply_unanswered quorum v Idle s e = ap (λ (p : Phase). asked_in p ++ s.line) e
@@ -221,23 +222,23 @@ reply_unanswered quorum v (Querying p) s e =
     (λ (t : Ops). unanswered t ≡ p.asked ∷ s.line) (λ _. refl) (λ _. refl)
 reply_unanswered quorum v (StoringBack p seen) s e = ap (λ (q : Phase). asked_in q ++ s.line) e
 
-ack_answers : (me quorum : ℕ) (v : ViewMap) (phase : Phase) (s : Ops) → s.phase ≡ phase → AnswersFirst (asked_in phase ++ s.line) (unanswered (after_ack me quorum phase s)) (reply_in v phase)
+ack_answers : (me quorum : ℕ) (v : ViewMap) (phase : Phase) (s : Ops) → s.phase ≡ phase → AnswersFirst (asked_in phase ++ s.line) (unanswered (after_ack me quorum phase s)) (replies_in v phase)
 ack_answers me quorum v Idle s e = ap (λ (p : Phase). asked_in p ++ s.line) e
 ack_answers me quorum v (Storing p) s e =
     elim (is_last p)
-    as (λ b. AnswersFirst (p.asked ∷ s.line) (unanswered (if b then after_last me quorum s.line s else record s { phase = Storing (counted p) })) (then_some b (told p v))) [
-      | true ↦ (p.asked, ap (λ (l : List Asked). p.asked ∷ l) (sym (last_unanswered me quorum s.line s refl)), refl, refl)
+    as (λ b. AnswersFirst (p.asked ∷ s.line) (unanswered (if b then after_last me quorum s.line s else record s { phase = Storing (counted p) })) (if b then told p v ∷ [] else [])) [
+      | true ↦ (p.asked, s.line, refl, refl, refl, last_unanswered me quorum s.line s refl)
       | false ↦ refl
     ]
 ack_answers me quorum v (Querying p) s e = ap (λ (q : Phase). asked_in q ++ s.line) e
 ack_answers me quorum v (StoringBack p seen) s e =
     elim (is_last p)
-    as (λ b. AnswersFirst (p.asked ∷ s.line) (unanswered (if b then after_last me quorum s.line s else record s { phase = StoringBack (counted p) seen })) (then_some b (told p seen))) [
-      | true ↦ (p.asked, ap (λ (l : List Asked). p.asked ∷ l) (sym (last_unanswered me quorum s.line s refl)), refl, refl)
+    as (λ b. AnswersFirst (p.asked ∷ s.line) (unanswered (if b then after_last me quorum s.line s else record s { phase = StoringBack (counted p) seen })) (if b then told p seen ∷ [] else [])) [
+      | true ↦ (p.asked, s.line, refl, refl, refl, last_unanswered me quorum s.line s refl)
       | false ↦ refl
     ]
 
-pub message_answers : (me quorum : ℕ) (m : Message) (s : Ops) → AnswersFirst (unanswered s) (unanswered (after_message me quorum m s)) (reply_of me m s)
+pub message_answers : (me quorum : ℕ) (m : Message) (s : Ops) → AnswersFirst (unanswered s) (unanswered (after_message me quorum m s)) (replies_of me m s)
 message_answers me quorum (message.Enter q) s = refl
 message_answers me quorum (message.EnterEcho c v j q) s = refl
 message_answers me quorum (message.Join q) s = refl
@@ -250,7 +251,7 @@ message_answers me quorum (message.QueryReply v tag q) s =
 message_answers me quorum (message.Store v tag q) s = refl
 message_answers me quorum (message.StoreAck tag q) s =
     elim (is_own me tag q s)
-    as (λ b. AnswersFirst (unanswered s) (unanswered (if b then after_ack me quorum s.phase s else s)) (if b then reply_in s.view s.phase else None)) [
+    as (λ b. AnswersFirst (unanswered s) (unanswered (if b then after_ack me quorum s.phase s else s)) (if b then replies_in s.view s.phase else [])) [
       | true ↦ ack_answers me quorum s.view s.phase s refl
       | false ↦ refl
     ]
