@@ -23,4 +23,4 @@ entry_at core event = record { event = event; made = made core event }
 
 -- beside an acknowledgement, which nobody waits for, there is a post or an answer in what an event makes
 abbrev pub stirs : Made → Bool
-stirs m = is_some m.post || is_some m.answer
+stirs m = is_some m.post || not (length m.answers == 0)

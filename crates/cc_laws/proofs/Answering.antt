@@ -33,7 +33,7 @@ use Rattle.cc_ops.specs.Ops.{Phase, Idle, Storing, Querying, StoringBack, asked_
 use Rattle.cc_ops.specs.Waiting.{has_session, AreApart, writes_by}
 use Rattle.cc_ops.specs.WaitingLaws.{writes_both}
 use Rattle.cc_sessions.specs.Sessions.{Requests, last_request}
-use Rattle.cc_node.specs.Core.{Core, asked_of, next, reply, outputs}
+use Rattle.cc_node.specs.Core.{Core, asked_of, next, replies, outputs}
 use Rattle.cc_node.specs.Node.{Node, step, after, line, IsLawful}
 use Rattle.cc_node.specs.Opening.{fresh}
 use Rattle.cc_node.specs.Histories.{lawful_parts}
@@ -51,7 +51,7 @@ use Rattle.cc_laws.proofs.Lists.{at_some, some_changed, all_changed}
 use Rattle.cc_laws.proofs.Lines.{made_in}
 use Rattle.cc_laws.proofs.Members.{IsSound, lawful_front}
 use Rattle.cc_laws.proofs.Places.{after_parts, at_same, at_before, at_behind, split_order}
-use Rattle.cc_laws.proofs.Says.{stored_of, Told, ReplySays, reply_says, OutputSays, outputs_say}
+use Rattle.cc_laws.proofs.Says.{stored_of, Told, ReplySays, each_says, OutputSays, outputs_say}
 use Rattle.cc_laws.proofs.Pending.{HasAck, HasReply, Raised, ReadBefore, IsQueryOf, Pends, core_push, pends}
 use Rattle.cc_laws.proofs.CountedAnswers.{IsAckFrom, IsReplyFrom, counted_ack, counted_reply}
 use Rattle.cc_laws.proofs.Knowing.{me_of, contains_at, contains_front, either_front}
@@ -126,9 +126,9 @@ ended m s r a has =
     let made = made_in (fresh m.opening) (released_events m) (output.Reply s r a) has in
     let c = (after (fresh m.opening) made.before).core in
     let t : Reply = record { session = s; request = r; answer = a } in
-    let is : reply c made.event ≡ Some t = All-contains (OutputSays c made.event) (outputs c made.event) (output.Reply s r a)
+    let is : Contains (replies c made.event) t = All-contains (OutputSays c made.event) (outputs c made.event) (output.Reply s r a)
     (All-from_recursion (OutputSays c made.event) (outputs c made.event) (outputs_say c made.event)) made.makes in
-    let says = at_some (ReplySays c made.event) (reply c made.event) t is (reply_says c made.event) in
+    let says = All-contains (ReplySays c made.event) (replies c made.event) t (All-from_recursion (ReplySays c made.event) (replies c made.event) (each_says c made.event)) is in
     record { front = made.before; last = made.event; later = made.later; parts = made.parts; ends = says.0; tells = says.1 }
 
 abbrev pub IsWriteOp : Core → ℕ → ℕ → Answer → Type 0

@@ -30,6 +30,14 @@ module _ {X : Type 0} (Q : X → Type 0) where
   some_if true x h = h
   some_if false x h = tt
 
+  pub all_if : (b : Bool) (x : X) → Q x → AllByRecursion Q (if b then x ∷ [] else [])
+  all_if true x h = (h, tt)
+  all_if false x h = tt
+
+  pub all_of : (b : Bool) (xs ys : List X) → AllByRecursion Q xs → AllByRecursion Q ys → AllByRecursion Q (if b then xs else ys)
+  all_of true xs ys h k = h
+  all_of false xs ys h k = k
+
   pub some_of : (b : Bool) (x y : Option X) → IfSome x Q → IfSome y Q → IfSome (cond b x y) Q
   some_of true x y h k = h
   some_of false x y h k = k

@@ -22,11 +22,11 @@ use Rattle.cc_ops.specs.Ops.{Ops, Phase, Idle, Storing, Querying, StoringBack, s
 use Rattle.cc_ops.specs.OwnLaws.{anew_keeps}
 use Rattle.cc_ops.specs.Waiting.{first_in}
 use Rattle.cc_node.specs.Core.{Core, quorum, asked_of, churned, churn_told, tells, asks_anew, anew_if, join_told, question_if, post_of_snapshot, post_to}
-use Rattle.cc_node.specs.Core.{begun, handled, post, reply}
+use Rattle.cc_node.specs.Core.{begun, handled, post, replies}
 use Rattle.cc_node.proofs.ToldLaws.{anew_view}
 use Rattle.cc_node.specs.Node.{line}
 use Rattle.cc_laws.specs.Shown.{in_message, in_answer, in_output}
-use Rattle.cc_laws.proofs.Lists.{some_if, some_of, some_or, some_mapped}
+use Rattle.cc_laws.proofs.Lists.{some_if, some_of, some_or, some_mapped, all_if, all_of}
 
 module _ (Q : ViewMap → Type 0) where
   abbrev pub OfPhase : Phase → Type 0
@@ -205,31 +205,31 @@ module _ (Q : ViewMap → Type 0) where
   abbrev pub OfReply : Reply → Type 0
   OfReply r = OfAnswer r.answer
 
-  reply_in : (v : ViewMap) (phase : Phase) → Q v → OfPhase phase → IfSome (ops.reply_in v phase) OfReply
-  reply_in v Idle h k = tt
-  reply_in v (Storing p) h k = some_if OfReply (ops.is_last p) (ops.told p v) (answer_shows p.asked.command v h)
-  reply_in v (Querying p) h k = tt
-  reply_in v (StoringBack p seen) h k = some_if OfReply (ops.is_last p) (ops.told p seen) (answer_shows p.asked.command seen k)
+  replies_in : (v : ViewMap) (phase : Phase) → Q v → OfPhase phase → AllByRecursion OfReply (ops.replies_in v phase)
+  replies_in v Idle h k = tt
+  replies_in v (Storing p) h k = all_if OfReply (ops.is_last p) (ops.told p v) (answer_shows p.asked.command v h)
+  replies_in v (Querying p) h k = tt
+  replies_in v (StoringBack p seen) h k = all_if OfReply (ops.is_last p) (ops.told p seen) (answer_shows p.asked.command seen k)
 
-  reply_of : (me : ℕ) (m : Message) (s : Ops) → Q s.view → OfPhase s.phase → IfSome (ops.reply_of me m s) OfReply
-  reply_of me (message.Enter q) s h k = tt
-  reply_of me (message.EnterEcho c v j q) s h k = tt
-  reply_of me (message.Join q) s h k = tt
-  reply_of me (message.JoinEcho q) s h k = tt
-  reply_of me (message.Leave q) s h k = tt
-  reply_of me (message.LeaveEcho q) s h k = tt
-  reply_of me (message.Query tag q) s h k = tt
-  reply_of me (message.QueryReply v tag q) s h k = tt
-  reply_of me (message.Store v tag q) s h k = tt
-  reply_of me (message.StoreAck tag q) s h k = some_of OfReply (ops.is_own me tag q s) (ops.reply_in s.view s.phase) None (reply_in s.view s.phase h k) tt
-  reply_of me (message.Snapshot c v) s h k = tt
+  replies_of : (me : ℕ) (m : Message) (s : Ops) → Q s.view → OfPhase s.phase → AllByRecursion OfReply (ops.replies_of me m s)
+  replies_of me (message.Enter q) s h k = tt
+  replies_of me (message.EnterEcho c v j q) s h k = tt
+  replies_of me (message.Join q) s h k = tt
+  replies_of me (message.JoinEcho q) s h k = tt
+  replies_of me (message.Leave q) s h k = tt
+  replies_of me (message.LeaveEcho q) s h k = tt
+  replies_of me (message.Query tag q) s h k = tt
+  replies_of me (message.QueryReply v tag q) s h k = tt
+  replies_of me (message.Store v tag q) s h k = tt
+  replies_of me (message.StoreAck tag q) s h k = all_of OfReply (ops.is_own me tag q s) (ops.replies_in s.view s.phase) [] (replies_in s.view s.phase h k) tt
+  replies_of me (message.Snapshot c v) s h k = tt
 
-  pub reply_shows : (c : Core) (e : Event) → Q c.ops.view → OfPhase c.ops.phase → IfSome (reply c e) OfReply
-  reply_shows c event.Enter h k = tt
-  reply_shows c event.Leave h k = tt
-  reply_shows c (event.Deliver from n m) h k = reply_of c.me m c.ops h k
-  reply_shows c (event.Acked peer n) h k = tt
-  reply_shows c (event.Ask s r command) h k = tt
-  reply_shows c (event.Retire q) h k = tt
-  reply_shows c (event.Lapse q) h k = tt
-  reply_shows c event.Snapshot h k = tt
+  pub replies_show : (c : Core) (e : Event) → Q c.ops.view → OfPhase c.ops.phase → AllByRecursion OfReply (replies c e)
+  replies_show c event.Enter h k = tt
+  replies_show c event.Leave h k = tt
+  replies_show c (event.Deliver from n m) h k = replies_of c.me m c.ops h k
+  replies_show c (event.Acked peer n) h k = tt
+  replies_show c (event.Ask s r command) h k = tt
+  replies_show c (event.Retire q) h k = tt
+  replies_show c (event.Lapse q) h k = tt
+  replies_show c event.Snapshot h k = tt

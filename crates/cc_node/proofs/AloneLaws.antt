@@ -26,7 +26,7 @@ use Rattle.cc_ops.specs.Waiting.{has_session, written_by}
 use Rattle.cc_ops.specs.OwnLaws.{begun_line}
 use Rattle.cc_ops.specs.Ops.{Ops, Phase, Idle, Storing, Querying, StoringBack, is_idle, is_last, is_own, counted, with_begun, after_ask, after_reply, after_last, after_ack, after_message, first_post, post_of_round, ends_store, begun_in, begun_by, unanswered}
 use Rattle.cc_outbox.specs.Outbox.{post_limit, trim}
-use Rattle.cc_node.specs.Core.{Core, quorum, asked_of, ids_of, links_heard, churn_told, asks_anew, anew_if, next, post, outputs, ack, reply, send_ack, send_post, send_reply, lowest}
+use Rattle.cc_node.specs.Core.{Core, quorum, asked_of, ids_of, links_heard, churn_told, asks_anew, anew_if, next, post, outputs, ack, replies, send_ack, send_post, send_replies, lowest}
 use Rattle.cc_node.specs.Node.{Node, step, after, line, keep, add, forget_asked, IsLawfulWithin}
 use Rattle.cc_node.specs.Refusals.{decides_within, left, has_gone, not_entered, already_entered, not_joined, old, gap, nothing_to_ack, too_many_nodes, too_many_sessions, repeat, stale, skip, nothing_to_lapse, busy, set_full, outbox_full, spent, any_overruns}
 use Rattle.cc_node.specs.OneAtATime.{acked_alone, ops_alone, quorum_told, next_alone, post_alone, outputs_alone, busy_alone, set_full_alone, outbox_full_alone, spent_alone, decides_alone, step_alone, after_alone, line_alone, IsLawfulAlone}
@@ -241,7 +241,7 @@ step_same n e none d =
     let may = free n.core e d in
     let f : Core → Option Message → Node = λ c p. record {
       core = c;
-      outbox = trim (lowest c) (keep (reply n.core e) (add p (forget_asked e n.outbox)));
+      outbox = trim (lowest c) (keep (replies n.core e) (add p (forget_asked e n.outbox)));
     } in
     ap (λ (c : Core). f c (post_alone n.core e)) (next_same n.core e none may)
     ∙ ap (λ (p : Option Message). f (next n.core e) p) (post_same n.core e none may)
@@ -249,8 +249,8 @@ step_same n e none d =
 pub outputs_same : (c : Core) (e : Event) → c.ops.line ≡ [] → decides_within 0 c e ≡ None → outputs_alone c e ≡ outputs c e
 outputs_same c e none d =
     let may = free c e d in
-    ap (λ (k : Core). send_ack (ack e) ++ send_post k (post_alone c e) ++ send_reply (reply c e)) (next_same c e none may)
-    ∙ ap (λ (p : Option Message). send_ack (ack e) ++ send_post (next c e) p ++ send_reply (reply c e)) (post_same c e none may)
+    ap (λ (k : Core). send_ack (ack e) ++ send_post k (post_alone c e) ++ send_replies (replies c e)) (next_same c e none may)
+    ∙ ap (λ (p : Option Message). send_ack (ack e) ++ send_post (next c e) p ++ send_replies (replies c e)) (post_same c e none may)
 
 -- ---- along a list
 

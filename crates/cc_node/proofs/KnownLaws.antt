@@ -307,9 +307,9 @@ behind_first : (P : Asked → Type 0) (asks line : List Asked) → AllByRecursio
 behind_first P [] line h = h
 behind_first P (a ∷ asks) line h = behind_first P asks line h.1
 
-left_apart : (before after : List Asked) (r : Option Reply) → AnswersFirst before after r → AreApart before → AreApart after
-left_apart before after None e h = subst AreApart (sym e) h
-left_apart before after (Some r) e h = (subst AreApart e.1 h).1
+left_apart : (before after : List Asked) (rs : List Reply) → AnswersFirst before after rs → AreApart before → AreApart after
+left_apart before after [] e h = subst AreApart (sym e) h
+left_apart before after (r ∷ rs) e h = left_apart e.1 after rs e.5 (subst AreApart e.2 h).1
 
 message_line_of : (ss : Requests) (me quorum : ℕ) (m : Message) (s : Ops) → IsLineOf ss s → IsLineOf ss (ops.after_message me quorum m s)
 message_line_of ss me quorum m s h =
@@ -318,7 +318,7 @@ message_line_of ss me quorum m s h =
     record {
       behind = message_behind me quorum m s h.behind;
       few = let less = shorter (ops.begun_by me m s) t.line in omega (arith, less, ap length front, h.few);
-      apart = left_apart (ops.unanswered s) (ops.unanswered t) (ops.reply_of me m s) (message_answers me quorum m s) h.apart;
+      apart = left_apart (ops.unanswered s) (ops.unanswered t) (ops.replies_of me m s) (message_answers me quorum m s) h.apart;
       last = behind_first (IsLastOf ss) (ops.begun_by me m s) t.line (subst (AllByRecursion (IsLastOf ss)) front h.last);
     }
 

@@ -39,7 +39,7 @@ use Rattle.cc_links.specs.Links.{Link, Links, new_link, with_row, add_absent, ad
 use Rattle.cc_links.specs.LinkLaws.{LinksGoOn, go_same, go_then, add_all_goes, hear_goes, ack_goes, lapse_goes, go_within, lowest_within, lowest_grows, links_more_posts, add_all_links, hear_links, ack_links, lapse_links, contains-add_all, hear_len, ack_len, lapse_len}
 use Rattle.cc_sessions.specs.Sessions.{Requests, last_request, begin_fits}
 use Rattle.cc_outbox.specs.Outbox.{forget}
-use Rattle.cc_node.specs.Core.{Core, quorum, ids_of, asked_of, begun, churned, tells, churn_told, asks_anew, ops_anew, next, post, reply, lowest}
+use Rattle.cc_node.specs.Core.{Core, quorum, ids_of, asked_of, begun, churned, tells, churn_told, asks_anew, ops_anew, next, post, replies, lowest}
 use Rattle.cc_node.specs.Refusals.{decides}
 use Rattle.cc_node.specs.Node.{Node, step}
 use Rattle.cc_node.specs.Lawful.{CountsWithin, KeepsAnswers, IsLawfulCore, IsLawfulNode}
@@ -496,8 +496,8 @@ step_answers n (event.Deliver from k m) h =
     let e = event.Deliver from k m in
     let after = ops.after_message c.me (quorum c) m c.ops in
     subst (λ (l : List Asked). KeepsAnswers c.sessions l (step n e).outbox.answers) (sym (anew_unanswered (asks_anew c from k m) _ after))
-    (posted c.sessions (unanswered after) (post c e) (ops.reply_of c.me m c.ops) n.outbox
-    (first_answers c.sessions (unanswered c.ops) (unanswered after) (ops.reply_of c.me m c.ops) n.outbox (message_answers c.me (quorum c) m c.ops) h.core.line.apart
+    (posted c.sessions (unanswered after) (post c e) (ops.replies_of c.me m c.ops) n.outbox
+    (first_answers c.sessions (unanswered c.ops) (unanswered after) (ops.replies_of c.me m c.ops) n.outbox (message_answers c.me (quorum c) m c.ops) h.core.line.apart
     (all_last c.links c.sessions c.ops.phase c.ops.line h.core.phase h.core.line.last) h.answers))
 step_answers n (event.Acked peer k) h = h.answers
 step_answers n (event.Ask s r k) h =
@@ -505,7 +505,7 @@ step_answers n (event.Ask s r k) h =
     let e = event.Ask s r k in
     let a = asked_of s r k in
     let asks = table.insert c.sessions s r in
-    posted asks (unanswered (ops.after_ask c.me (quorum c) a c.ops)) (post c e) None (forget s n.outbox)
+    posted asks (unanswered (ops.after_ask c.me (quorum c) a c.ops)) (post c e) [] (forget s n.outbox)
     (subst (λ (l : List Asked). KeepsAnswers asks l (table.remove n.outbox.answers s))
     (sym (ask_unanswered c.me (quorum c) a c.ops (λ idle. none_waits c.ops.phase c.ops.line idle h.core.line.behind)))
     (last_answers c.sessions (unanswered c.ops) a n.outbox.answers h.answers))
@@ -517,6 +517,6 @@ pub step_lawful : (n : Node) (e : Event) → decides n.core e ≡ None → IsLaw
 unfolding step next
 step_lawful n e d h =
     let c = n.core in
-    let kept = step_posts (lowest c) (lowest (next c e)) c.posts e (post c e) (reply c e) n.outbox (record { last = h.last; kept = h.posts })
+    let kept = step_posts (lowest c) (lowest (next c e)) c.posts e (post c e) (replies c e) n.outbox (record { last = h.last; kept = h.posts })
     (lowest_next c e d h.core.links) (lowest_within c.churn.changes.left c.posts c.links h.core.links) (takes_any c e d).posts in
     record { core = next_core c e d h.core; last = kept.last; posts = kept.kept; answers = step_answers n e h }

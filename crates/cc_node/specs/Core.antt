@@ -3,7 +3,7 @@
 --     begun C e       the asks that an event begins
 --     next C e        the state after an event
 --     tells, asks_anew     what a snapshot makes of it beside a union and a merge: it counts as an echo, and a phase begins anew
---     made C e        the acknowledgement, the post and the answer that it makes
+--     made C e        the acknowledgement, the post and the answers that it makes
 --     outputs C e     what is put out for it, in order
 use Rattle.std.specs.Prelude.{ℕ, ◌+◌, ◌-◌, ◌==◌, ◌&&◌, ◌||◌, nat_lt, not, Bool, false, if◌then◌else◌, List, [], ◌∷◌, ◌++◌, map, Option, Some, None}
 use Rattle.std.specs.Option.{option_len, option_or}
@@ -177,18 +177,19 @@ ack (event.Retire q) = None
 ack (event.Lapse q) = None
 ack event.Snapshot = None
 
-abbrev pub reply : Core → Event → Option Reply
-reply c event.Enter = None
-reply c event.Leave = None
-reply c (event.Deliver from n m) = ops.reply_of c.me m c.ops
-reply c (event.Acked peer n) = None
-reply c (event.Ask s r command) = None
-reply c (event.Retire q) = None
-reply c (event.Lapse q) = None
-reply c event.Snapshot = None
+-- what clients are told
+abbrev pub replies : Core → Event → List Reply
+replies c event.Enter = []
+replies c event.Leave = []
+replies c (event.Deliver from n m) = ops.replies_of c.me m c.ops
+replies c (event.Acked peer n) = []
+replies c (event.Ask s r command) = []
+replies c (event.Retire q) = []
+replies c (event.Lapse q) = []
+replies c event.Snapshot = []
 
 abbrev pub made : Core → Event → Made
-made c e = record { ack = ack e; post = post c e; answer = reply c e }
+made c e = record { ack = ack e; post = post c e; answers = replies c e }
 
 abbrev pub live_links : Core → Links
 live_links c = links.live c.churn.changes.left c.links
@@ -209,9 +210,8 @@ abbrev pub send_ack : Option LinkAck → List Output
 send_ack None = []
 send_ack (Some a) = output.Ack a.to a.number ∷ []
 
-abbrev pub send_reply : Option Reply → List Output
-send_reply None = []
-send_reply (Some r) = output.Reply r.session r.request r.answer ∷ []
+abbrev pub send_replies : List Reply → List Output
+send_replies rs = map (λ r. output.Reply r.session r.request r.answer) rs
 
 abbrev pub outputs : Core → Event → List Output
-outputs c e = send_ack (ack e) ++ send_post (next c e) (post c e) ++ send_reply (reply c e)
+outputs c e = send_ack (ack e) ++ send_post (next c e) (post c e) ++ send_replies (replies c e)
