@@ -3,7 +3,7 @@
 --     core_after              the core after them
 --     entry_at                the next one, for an event
 --     stirs                   whether an event makes a post or an answer
-use Rattle.std.specs.Prelude.{ℕ, ◌^◌, ◌||◌, Bool, List, is_some}
+use Rattle.std.specs.Prelude.{ℕ, ◌^◌, ◌||◌, ◌==◌, not, Bool, List, length, is_some}
 use Rattle.cc_wire.specs.declared.event.Event.{Event}
 use Rattle.cc_node.specs.Core.{Core, made}
 use Rattle.cc_node.specs.Node.{Node, after}

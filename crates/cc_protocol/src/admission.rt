@@ -1,6 +1,6 @@
 //! What may be handed to a node, so that there is room left for what others need of it.
 
-ghost use Rattle.std.specs.Prelude.{◌≡◌, ◌-◌, ℕ, nat_le, false, None};
+ghost use Rattle.std.specs.Prelude.{◌≡◌, ◌-◌, ℕ, nat_le, false, [], None};
 ghost use Rattle.cc_wire.specs.declared.event.Event.TheVariants as event;
 ghost use Rattle.cc_wire.specs.declared.message.Message.{Message};
 ghost use Rattle.cc_node.specs.Core as machine;
