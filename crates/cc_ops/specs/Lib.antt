@@ -4,5 +4,7 @@ pub mod Ops
 pub mod Codes
 pub mod Stages
 pub mod WaitingLaws
+pub mod Rounds
+pub mod RoundLaws
 pub mod OwnLaws
 pub mod Refusals

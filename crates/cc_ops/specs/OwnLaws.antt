@@ -22,19 +22,9 @@ use Rattle.cc_ops.specs.declared.pending.Asked.{Asked}
 use Rattle.cc_ops.specs.declared.pending.Reply.{Reply}
 use Rattle.cc_ops.specs.Commands.{is_writing, written}
 use Rattle.cc_ops.specs.Waiting.{first_round, writes_by, written_by}
+pub use Rattle.cc_ops.specs.WaitingLaws.{reading_leaves}
 use Rattle.cc_ops.specs.WaitingLaws.{written_last}
 use Rattle.cc_ops.specs.Ops.{Ops, Phase, Idle, Storing, Querying, StoringBack, is_idle, seen_in, round_of, counted, is_last, is_own, merged, next_round, again, anew, with_begun, with_own_row, with_written, after_ask, after_reply, after_last, after_ack, after_message, begun_by_ask, begun_in, begun_by, told, replies_in, replies_of, asked_in, unanswered, mine_at_last}
-
--- a reading command leaves the own value
-pub reading_leaves : (k : Command) (mine : Value) → is_writing k ≡ false → mine ≡ written k mine
-reading_leaves (command.Store text) mine e = cc
-reading_leaves command.Collect mine e = refl
-reading_leaves (command.WriteMax x) mine e = cc
-reading_leaves command.ReadMax mine e = refl
-reading_leaves command.SetFlag mine e = cc
-reading_leaves command.ReadFlag mine e = refl
-reading_leaves (command.AddMember x) mine e = cc
-reading_leaves command.ReadSet mine e = refl
 
 either_number : (b : Bool) (s t : Ops) (n : ℕ) → s.number ≡ n + 1 → t.number ≡ n → (if b then s else t).number ≡ n + ((if b then 1 else 0) + 0)
 either_number true s t n h k = h

@@ -1,4 +1,5 @@
 -- What the own value and the sessions are along asks that wait.
+--     reading_leaves            a reading command leaves the own value
 --     written_last              the own value once one more has begun behind them
 --     written_fits, fits_written  a command that finds room leaves the own set within its limit, and one that does found room
 --     first_room, room_behind, own_room   where all that wait find room, so does the first of them, so do the others, and what is there
@@ -18,6 +19,17 @@ use Rattle.cc_wire.specs.declared.command.Command.TheVariants as command
 use Rattle.cc_ops.specs.declared.pending.Asked.{Asked}
 use Rattle.cc_ops.specs.Commands.{is_writing, written, finds_no_room}
 use Rattle.cc_ops.specs.Waiting.{has_session, AreApart, writes_by, written_by}
+
+-- a reading command leaves the own value
+pub reading_leaves : (k : Command) (mine : Value) → is_writing k ≡ false → mine ≡ written k mine
+reading_leaves (command.Store text) mine e = cc
+reading_leaves command.Collect mine e = refl
+reading_leaves (command.WriteMax x) mine e = cc
+reading_leaves command.ReadMax mine e = refl
+reading_leaves command.SetFlag mine e = cc
+reading_leaves command.ReadFlag mine e = refl
+reading_leaves (command.AddMember x) mine e = cc
+reading_leaves command.ReadSet mine e = refl
 
 pub written_last : (asks : List Asked) (a : Asked) (mine : Value) → written_by (asks ++ a ∷ []) mine ≡ written a.command (written_by asks mine)
 written_last [] a mine = refl

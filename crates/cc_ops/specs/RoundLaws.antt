@@ -1,0 +1,211 @@
+-- What a round is of the line that it comes from.
+--     one_at_a_time               with a share of 1 it is the first ask, and the others wait on
+--     either_has                  a session has an ask in the line where it has one in the round or behind it
+--     apart_still                 no two asks of round and line are of one session, where no two of the line were
+--     same_kinds                  of each kind, round and line are what the line was, in order
+--     written_still, none_write   what writes keeps its order, so the value at last is the same;  what reads doesn't write
+--     count_still                 there are as many
+use Rattle.std.specs.Prelude.{◌≡◌, ℕ, ◌+◌, zero, suc, length, Bool, true, false, not, ◌||◌, nat_eq, List, [], ◌∷◌, ◌++◌, if◌then◌else◌, refl}
+use Rattle.std.proofs.Common.{sym, ap, arith, ◌∙◌}
+use Rattle.std.proofs.lemmas.Bool.{or_parts, eqb-false, ne_eqb}
+use Rattle.cc_views.specs.declared.value.Value.{Value}
+use Rattle.cc_ops.specs.declared.pending.Asked.{Asked}
+use Rattle.cc_ops.specs.Commands.{is_writing, written}
+use Rattle.cc_ops.specs.Rounds.{is_of, picked, spared, first_round, line_behind, of_kind}
+use Rattle.cc_ops.specs.Waiting.{has_session, AreApart, writes_by, written_by}
+use Rattle.cc_ops.specs.WaitingLaws.{reading_leaves, writes_both}
+
+pub one_at_a_time : (a : Asked) (line : List Asked) → (first_round 1 (a ∷ line) ≡ a ∷ []) × (line_behind 1 (a ∷ line) ≡ line)
+one_at_a_time a line = (refl, refl)
+
+-- ---- sessions
+
+or_swap : (a b c : Bool) → (a || (b || c)) ≡ (b || (a || c))
+or_swap true true c = refl
+or_swap true false c = refl
+or_swap false b c = refl
+
+or_join : (a b c : Bool) → (a || (b || c)) ≡ ((a || b) || c)
+or_join true b c = refl
+or_join false b c = refl
+
+pub either_has : (s : ℕ) (kind : Bool) (n : ℕ) (asks : List Asked) → has_session s asks ≡ (has_session s (picked kind n asks) || has_session s (spared kind n asks))
+either_has s kind zero asks = refl
+either_has s kind (suc n) [] = refl
+either_has s kind (suc n) (a ∷ asks) =
+    elim (is_of kind a)
+    as (λ b. (nat_eq s a.session || has_session s asks)
+    ≡ (has_session s (if b then a ∷ picked kind n asks else picked kind (suc n) asks) || has_session s (if b then spared kind n asks else a ∷ spared kind (suc n) asks))) [
+      | true ↦ ap (λ (h : Bool). nat_eq s a.session || h) (either_has s kind n asks) ∙ or_join (nat_eq s a.session) (has_session s (picked kind n asks)) (has_session s (spared kind n asks))
+      | false ↦ ap (λ (h : Bool). nat_eq s a.session || h) (either_has s kind (suc n) asks) ∙ or_swap (nat_eq s a.session) (has_session s (picked kind (suc n) asks)) (has_session s (spared kind (suc n) asks))
+    ]
+
+has_both : (s : ℕ) (xs ys : List Asked) → has_session s (xs ++ ys) ≡ (has_session s xs || has_session s ys)
+has_both s [] ys = refl
+has_both s (a ∷ xs) ys = ap (λ (h : Bool). nat_eq s a.session || h) (has_both s xs ys) ∙ or_join (nat_eq s a.session) (has_session s xs) (has_session s ys)
+
+pub has_still : (s : ℕ) (kind : Bool) (n : ℕ) (asks : List Asked) → has_session s (picked kind n asks ++ spared kind n asks) ≡ has_session s asks
+has_still s kind n asks = has_both s (picked kind n asks) (spared kind n asks) ∙ sym (either_has s kind n asks)
+
+same_tests : (x y : ℕ) → nat_eq x y ≡ false → nat_eq y x ≡ false
+same_tests x y e = let apart : x ≡ y → ⊥ = eqb-false x y e in ne_eqb y x (λ t. apart (sym t))
+
+both_false : (a b : Bool) → a ≡ false → b ≡ false → (a || b) ≡ false
+both_false true b e f = cc
+both_false false b e f = f
+
+-- an ask of a session that none of the others has may stand anywhere
+apart_between : (xs ys : List Asked) (a : Asked) → has_session a.session (xs ++ ys) ≡ false → AreApart (xs ++ ys) → AreApart (xs ++ a ∷ ys)
+apart_between [] ys a none h = (none, h)
+apart_between (x ∷ xs) ys a none h =
+    let parts = or_parts _ _ none in
+    let other : nat_eq x.session a.session ≡ false = same_tests a.session x.session parts.0 in
+    let here = or_parts _ _ (sym (has_both x.session xs ys) ∙ h.0) in (
+      has_both x.session xs (a ∷ ys) ∙ both_false (has_session x.session xs) (nat_eq x.session a.session || has_session x.session ys) here.0 (both_false (nat_eq x.session a.session) (has_session x.session ys) other here.1),
+      apart_between xs ys a parts.1 h.1,
+    )
+
+pub apart_still : (kind : Bool) (n : ℕ) (asks : List Asked) → AreApart asks → AreApart (picked kind n asks ++ spared kind n asks)
+apart_still kind zero asks h = h
+apart_still kind (suc n) [] h = h
+apart_still kind (suc n) (a ∷ asks) h =
+    elim (is_of kind a)
+    as (λ b. AreApart ((if b then a ∷ picked kind n asks else picked kind (suc n) asks) ++ (if b then spared kind n asks else a ∷ spared kind (suc n) asks))) [
+      | true ↦ (has_still a.session kind n asks ∙ h.0, apart_still kind n asks h.1)
+      | false ↦ apart_between (picked kind (suc n) asks) (spared kind (suc n) asks) a (has_still a.session kind (suc n) asks ∙ h.0) (apart_still kind (suc n) asks h.1)
+    ]
+
+-- ---- order within a kind
+
+kind_both : (kind : Bool) (xs ys : List Asked) → of_kind kind (xs ++ ys) ≡ of_kind kind xs ++ of_kind kind ys
+kind_both kind [] ys = refl
+kind_both kind (a ∷ xs) ys =
+    elim (is_of kind a)
+    as (λ b. (if b then a ∷ of_kind kind (xs ++ ys) else of_kind kind (xs ++ ys)) ≡ (if b then a ∷ of_kind kind xs else of_kind kind xs) ++ of_kind kind ys) [
+      | true ↦ ap (λ (l : List Asked). a ∷ l) (kind_both kind xs ys)
+      | false ↦ kind_both kind xs ys
+    ]
+
+-- those that are picked are of the kind, so none of the other kind is
+none_picked : (kind : Bool) (n : ℕ) (asks : List Asked) → of_kind (not kind) (picked kind n asks) ≡ []
+none_picked kind zero asks = refl
+none_picked kind (suc n) [] = refl
+none_picked kind (suc n) (a ∷ asks) =
+    elim (is_of kind a)
+    as (λ b. is_of kind a ≡ b → of_kind (not kind) (if b then a ∷ picked kind n asks else picked kind (suc n) asks) ≡ []) [
+      | true ↦ λ is. skips (is_of (not kind) a) a (of_kind (not kind) (picked kind n asks)) (other kind a is) ∙ none_picked kind n asks
+      | false ↦ λ _. none_picked kind (suc n) asks
+    ] refl
+  where
+    other : (kind : Bool) (a : Asked) → is_of kind a ≡ true → is_of (not kind) a ≡ false
+    other true a is = ap not is
+    other false a is = turned (is_writing a.command) is
+      where
+        turned : (b : Bool) → not b ≡ true → b ≡ false
+        turned true e = cc
+        turned false e = refl
+
+    skips : (b : Bool) (a : Asked) (l : List Asked) → b ≡ false → (if b then a ∷ l else l) ≡ l
+    skips true a l e = cc
+    skips false a l e = refl
+
+same_own : (kind : Bool) (n : ℕ) (asks : List Asked) → of_kind kind (picked kind n asks ++ spared kind n asks) ≡ of_kind kind asks
+same_own kind zero asks = refl
+same_own kind (suc n) [] = refl
+same_own kind (suc n) (a ∷ asks) =
+    elim (is_of kind a)
+    as (λ b. is_of kind a ≡ b
+    → of_kind kind ((if b then a ∷ picked kind n asks else picked kind (suc n) asks) ++ (if b then spared kind n asks else a ∷ spared kind (suc n) asks)) ≡ (if b then a ∷ of_kind kind asks else of_kind kind asks)) [
+      | true ↦ λ is. takes (is_of kind a) a (of_kind kind (picked kind n asks ++ spared kind n asks)) is ∙ ap (λ (l : List Asked). a ∷ l) (same_own kind n asks)
+      | false ↦ λ is.
+          kind_both kind (picked kind (suc n) asks) (a ∷ spared kind (suc n) asks)
+          ∙ ap (λ (l : List Asked). of_kind kind (picked kind (suc n) asks) ++ l) (skips (is_of kind a) a (of_kind kind (spared kind (suc n) asks)) is)
+          ∙ sym (kind_both kind (picked kind (suc n) asks) (spared kind (suc n) asks)) ∙ same_own kind (suc n) asks
+    ] refl
+  where
+    takes : (b : Bool) (a : Asked) (l : List Asked) → b ≡ true → (if b then a ∷ l else l) ≡ a ∷ l
+    takes true a l e = refl
+    takes false a l e = cc
+
+    skips : (b : Bool) (a : Asked) (l : List Asked) → b ≡ false → (if b then a ∷ l else l) ≡ l
+    skips true a l e = cc
+    skips false a l e = refl
+
+-- of the other kind all stay, in their order
+others_stay : (kind : Bool) (n : ℕ) (asks : List Asked) → of_kind (not kind) (spared kind n asks) ≡ of_kind (not kind) asks
+others_stay kind zero asks = refl
+others_stay kind (suc n) [] = refl
+others_stay kind (suc n) (a ∷ asks) =
+    elim (is_of kind a)
+    as (λ b. is_of kind a ≡ b
+    → of_kind (not kind) (if b then spared kind n asks else a ∷ spared kind (suc n) asks) ≡ (if is_of (not kind) a then a ∷ of_kind (not kind) asks else of_kind (not kind) asks)) [
+      | true ↦ λ is. others_stay kind n asks ∙ sym (skips (is_of (not kind) a) a (of_kind (not kind) asks) (other kind a is))
+      | false ↦ λ _. ap (λ (l : List Asked). if is_of (not kind) a then a ∷ l else l) (others_stay kind (suc n) asks)
+    ] refl
+  where
+    turned : (b : Bool) → not b ≡ true → b ≡ false
+    turned true e = cc
+    turned false e = refl
+
+    other : (kind : Bool) (a : Asked) → is_of kind a ≡ true → is_of (not kind) a ≡ false
+    other true a is = ap not is
+    other false a is = turned (is_writing a.command) is
+
+    skips : (b : Bool) (a : Asked) (l : List Asked) → b ≡ false → (if b then a ∷ l else l) ≡ l
+    skips true a l e = cc
+    skips false a l e = refl
+
+same_other : (kind : Bool) (n : ℕ) (asks : List Asked) → of_kind (not kind) (picked kind n asks ++ spared kind n asks) ≡ of_kind (not kind) asks
+same_other kind n asks =
+    kind_both (not kind) (picked kind n asks) (spared kind n asks)
+    ∙ ap (λ (l : List Asked). l ++ of_kind (not kind) (spared kind n asks)) (none_picked kind n asks)
+    ∙ others_stay kind n asks
+
+pub same_kinds : (of kind : Bool) (n : ℕ) (asks : List Asked) → of_kind of (picked kind n asks ++ spared kind n asks) ≡ of_kind of asks
+same_kinds true true n asks = same_own true n asks
+same_kinds true false n asks = same_other false n asks
+same_kinds false true n asks = same_other true n asks
+same_kinds false false n asks = same_own false n asks
+
+-- ---- what they write
+
+pub writers_write : (asks : List Asked) (v : Value) → written_by asks v ≡ written_by (of_kind true asks) v
+writers_write [] v = refl
+writers_write (a ∷ asks) v =
+    elim (is_writing a.command)
+    as (λ b. is_writing a.command ≡ b → written_by asks (written a.command v) ≡ written_by (if b then a ∷ of_kind true asks else of_kind true asks) v) [
+      | true ↦ λ _. writers_write asks (written a.command v)
+      | false ↦ λ reads. ap (written_by asks) (sym (reading_leaves a.command v reads)) ∙ writers_write asks v
+    ] refl
+
+pub written_still : (kind : Bool) (n : ℕ) (asks : List Asked) (v : Value) → written_by (picked kind n asks ++ spared kind n asks) v ≡ written_by asks v
+written_still kind n asks v =
+    writers_write (picked kind n asks ++ spared kind n asks) v
+    ∙ ap (λ (l : List Asked). written_by l v) (same_kinds true kind n asks)
+    ∙ sym (writers_write asks v)
+
+-- how often they write
+writers_count : (asks : List Asked) → writes_by asks ≡ writes_by (of_kind true asks)
+writers_count [] = refl
+writers_count (a ∷ asks) =
+    elim (is_writing a.command)
+    as (λ b. is_writing a.command ≡ b → (if b then 1 else 0) + writes_by asks ≡ writes_by (if b then a ∷ of_kind true asks else of_kind true asks)) [
+      | true ↦ λ is. ap (λ (k : ℕ). 1 + k) (writers_count asks) ∙ ap (λ (b : Bool). (if b then 1 else 0) + writes_by (of_kind true asks)) (sym is)
+      | false ↦ λ _. omega (arith, writers_count asks)
+    ] refl
+
+-- those that are picked among those that read don't write
+pub none_write : (n : ℕ) (asks : List Asked) → writes_by (picked false n asks) ≡ 0
+none_write n asks = writers_count (picked false n asks) ∙ ap writes_by (none_picked false n asks)
+
+-- ---- how many
+
+pub count_still : (kind : Bool) (n : ℕ) (asks : List Asked) → length (picked kind n asks) + length (spared kind n asks) ≡ length asks
+count_still kind zero asks = omega arith
+count_still kind (suc n) [] = refl
+count_still kind (suc n) (a ∷ asks) =
+    elim (is_of kind a)
+    as (λ b. length (if b then a ∷ picked kind n asks else picked kind (suc n) asks) + length (if b then spared kind n asks else a ∷ spared kind (suc n) asks) ≡ length (a ∷ asks)) [
+      | true ↦ omega (arith, count_still kind n asks)
+      | false ↦ omega (arith, count_still kind (suc n) asks)
+    ]
