@@ -1,10 +1,10 @@
 pub mod Commands
 pub mod Waiting
+pub mod Rounds
 pub mod Ops
 pub mod Codes
 pub mod Stages
 pub mod WaitingLaws
-pub mod Rounds
 pub mod RoundLaws
 pub mod OwnLaws
 pub mod Refusals

@@ -184,6 +184,11 @@ written_still kind n asks v =
     ∙ ap (λ (l : List Asked). written_by l v) (same_kinds true kind n asks)
     ∙ sym (writers_write asks v)
 
+pub round_written : (share : ℕ) (line : List Asked) (v : Value) → written_by (first_round share line ++ line_behind share line) v ≡ written_by line v
+round_written zero line v = refl
+round_written (suc n) [] v = refl
+round_written (suc n) (a ∷ line) v = written_still (is_writing a.command) n line (written a.command v)
+
 -- how often they write
 writers_count : (asks : List Asked) → writes_by asks ≡ writes_by (of_kind true asks)
 writers_count [] = refl

@@ -6,8 +6,9 @@
 --     none_last, apart_last     none of them is of a session, and no two are of one, with one more behind them
 --     writes_both, written_both   how often they write, and what they make of the own value, with others behind them
 --     writes_most               they write no more often than there are of them
+--     no_writes                 those that never write leave the own value
 use Rattle.std.proofs.Common.{◌≡◌, ℕ, ◌+◌, ◌≤◌, Bool, true, false, cond, not, ◌&&◌, ◌||◌, nat_eq, List, [], ◌∷◌, ◌++◌, length, refl, sym, ap, ◌∙◌, inl, inr, arith}
-use Rattle.std.specs.Prelude.{◌==◌}
+use Rattle.std.specs.Prelude.{◌==◌, if◌then◌else◌}
 use Rattle.std.proofs.lemmas.Bool.{cond_both, and_cases, or_parts, or_left, eq-eqb, eqb-false, ne_eqb}
 use Rattle.cc_views.specs.Limits.{set_limit}
 use Rattle.cc_views.specs.NatSets as set
@@ -156,3 +157,12 @@ writes_most (a ∷ asks) =
 pub written_both : (asks more : List Asked) (mine : Value) → written_by (asks ++ more) mine ≡ written_by more (written_by asks mine)
 written_both [] more mine = refl
 written_both (a ∷ asks) more mine = written_both asks more (written a.command mine)
+
+pub no_writes : (asks : List Asked) (mine : Value) → writes_by asks ≡ 0 → written_by asks mine ≡ mine
+no_writes [] mine none = refl
+no_writes (a ∷ asks) mine none =
+    elim (is_writing a.command)
+    as (λ b. is_writing a.command ≡ b → (if b then 1 else 0) + writes_by asks ≡ 0 → written_by asks (written a.command mine) ≡ mine) [
+      | true ↦ λ _ some. absurd (omega (arith, some))
+      | false ↦ λ reads more. ap (written_by asks) (sym (reading_leaves a.command mine reads)) ∙ no_writes asks mine (omega (arith, more))
+    ] refl none
