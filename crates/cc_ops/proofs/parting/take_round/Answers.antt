@@ -1,4 +1,7 @@
-use Rattle.std.proofs.Common.{◌-◌, ap, length, arith}
-use Rattle.cc_ops.specs.Commands.{is_writing}
-use Rattle.cc_ops.specs.RoundLaws.{count_still}
 use Rattle.cc_ops.proofs.parting.take_round.Goals as goal
+
+pub part-requires-clause-round : goal.part-requires-clause-round
+part-requires-clause-round c = ?
+
+pub part-requires-clause-rest : goal.part-requires-clause-rest
+part-requires-clause-rest c = ?
