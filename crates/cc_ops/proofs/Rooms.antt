@@ -2,23 +2,27 @@
 --     none_waits, may_wait      nothing waits where nothing is pending; anything may where something is
 --     begin_room, wait_room     room for what waits, as an ask begins where nothing waits, and as it waits behind the others
 --     no_room, first_rooms      where one finds no room, not all do; where all do, the first does
-use Rattle.std.proofs.Common.{◌≡◌, ℕ, ◌+◌, ◌<◌, ◌≤◌, Bool, true, false, List, [], ◌∷◌, ◌++◌, length, drop, get_or, refl, sym, ap, subst, ◌∙◌}
+use Rattle.std.proofs.Common.{◌≡◌, ℕ, zero, suc, ◌+◌, ◌<◌, ◌≤◌, arith, Bool, true, false, List, [], ◌∷◌, ◌++◌, length, drop, get_or, refl, sym, ap, subst, ◌∙◌}
 use Rattle.std.specs.Prelude.{Option, Some, None, IfSome, option_map, if◌then◌else◌}
 use Rattle.std.proofs.lemmas.Bool.{cond_both}
 use Rattle.std.proofs.lemmas.List.{drop_more}
 use Rattle.cc_views.specs.Limits.{set_limit}
 use Rattle.cc_views.specs.NatSets as set
-use Rattle.cc_views.specs.Rows.{ViewMap}
+use Rattle.cc_views.specs.NatSets.{len_within}
+use Rattle.cc_views.specs.Rows.{ViewMap, single}
+use Rattle.cc_views.specs.Merge.{merge}
 use Rattle.cc_views.specs.declared.value.Value.{Value}
 use Rattle.cc_wire.specs.declared.command.Command.{Command}
 use Rattle.cc_ops.specs.declared.pending.Asked.{Asked}
 use Rattle.cc_ops.specs.declared.stage.Stage.{Stage}
 use Rattle.cc_ops.specs.declared.stage.Stage.TheVariants as stage
 use Rattle.cc_ops.specs.Commands.{is_writing, written, finds_no_room}
-use Rattle.cc_ops.specs.Ops.{is_idle}
+use Rattle.cc_ops.specs.Ops.{Ops, Storing, Querying, is_idle, round_of, next_round, with_own_row, with_written, begin_round, after_last}
+use Rattle.cc_ops.specs.Rounds.{picked, spared, first_round, line_behind}
+use Rattle.cc_ops.specs.RoundLaws.{round_written, behind_within}
 use Rattle.cc_ops.specs.Stages.{phase_of, WaitsBehind, HasRoom}
-use Rattle.cc_ops.specs.Waiting.{first_in, written_by}
-use Rattle.cc_ops.specs.WaitingLaws.{written_last, written_fits, first_room}
+use Rattle.cc_ops.specs.Waiting.{first_in, writes_by, written_by}
+use Rattle.cc_ops.specs.WaitingLaws.{written_last, written_both, written_fits, first_room}
 
 pub none_waits : (at : Stage) (seen : ViewMap) (line : List Asked) → is_idle (phase_of at seen) ≡ true → WaitsBehind at line → line ≡ []
 none_waits stage.Idle seen line idle h = h
@@ -63,3 +67,47 @@ pub first_rooms : {X : Type 0} (f : X → Asked) (o : Option X) (line : List Ask
     → IfSome o (λ x. finds_no_room mine (f x).command ≡ false)
 first_rooms f None line mine e h = tt
 first_rooms f (Some x) line mine e h = front_room line (f x) mine e h
+
+-- ---- a round that begins
+
+pub round_room : (share : ℕ) (line : List Asked) (mine : Value) → HasRoom line mine → HasRoom (line_behind share line) (written_by (first_round share line) mine)
+round_room share line mine h =
+    subst (λ (v : Value). set.len v.set ≤ set_limit)
+    (sym (round_written share line mine) ∙ written_both (first_round share line) (line_behind share line) mine) h
+
+pub behind_room : (share : ℕ) (line : List Asked) (mine : Value) → HasRoom line mine → HasRoom (line_behind share line) mine
+behind_room share line mine h =
+    let less : set.len (written_by (line_behind share line) mine).set ≤ set.len (written_by line mine).set =
+    len_within (written_by (line_behind share line) mine).set (written_by line mine).set (behind_within share line mine) in
+    omega (arith, less, h)
+
+-- of a round whose first ask writes the row is that of its last one
+pub round_view : (me quorum : ℕ) (a : Asked) (s : Ops) → Some a ≡ first_in s.line → is_writing a.command ≡ true → 1 ≤ s.share
+    → (after_last me quorum s).view
+    ≡ merge s.view (single (record { node = me; number = s.number + writes_by (first_round s.share s.line); value = written_by (first_round s.share s.line) s.mine }))
+round_view me quorum a s first writes some = of_line s.share s.line first some
+  where
+    of_line : (share : ℕ) (line : List Asked) → Some a ≡ first_in line → 1 ≤ share
+        → (begin_round me quorum (first_round share line) (record s { line = line_behind share line })).view
+        ≡ merge s.view (single (record { node = me; number = s.number + writes_by (first_round share line); value = written_by (first_round share line) s.mine }))
+    of_line share [] first some = cc
+    of_line zero (b ∷ line) first some = absurd (omega (arith, some))
+    of_line (suc n) (b ∷ line) first some =
+        let same : a ≡ b = cc in
+        let is : is_writing b.command ≡ true = subst (λ (x : Asked). is_writing x.command ≡ true) same writes in
+        let round = b ∷ picked (is_writing b.command) n line in
+        let t : Ops = record s { line = spared (is_writing b.command) n line } in
+        ap (λ (c : Bool). (if c then next_round (Storing (round_of quorum b)) (with_own_row me (with_written round t)) else next_round (Querying (round_of quorum b)) t).view) is
+
+-- the counters as one does
+pub round_tag : (me quorum : ℕ) (a : Asked) (s : Ops) → Some a ≡ first_in s.line → 1 ≤ s.share → (after_last me quorum s).tag ≡ s.tag + 1
+round_tag me quorum a s first some = of_line s.share s.line first some
+  where
+    of_line : (share : ℕ) (line : List Asked) → Some a ≡ first_in line → 1 ≤ share
+        → (begin_round me quorum (first_round share line) (record s { line = line_behind share line })).tag ≡ s.tag + 1
+    of_line share [] first some = cc
+    of_line zero (b ∷ line) first some = absurd (omega (arith, some))
+    of_line (suc n) (b ∷ line) first some =
+        cond_both (is_writing b.command)
+        (next_round (Storing (round_of quorum b)) (with_own_row me (with_written (b ∷ picked (is_writing b.command) n line) (record s { line = spared (is_writing b.command) n line }))))
+        (next_round (Querying (round_of quorum b)) (record s { line = spared (is_writing b.command) n line })) (λ (u : Ops). u.tag ≡ s.tag + 1) (λ _. refl) (λ _. refl)

@@ -5,7 +5,7 @@
 --     same_kinds                  of each kind, round and line are what the line was, in order
 --     written_still, none_write   what writes keeps its order, so the value at last is the same;  what reads doesn't write
 --     count_still                 there are as many
-use Rattle.std.specs.Prelude.{◌≡◌, ℕ, ◌+◌, zero, suc, length, Bool, true, false, not, ◌||◌, nat_eq, List, [], ◌∷◌, ◌++◌, if◌then◌else◌, refl}
+use Rattle.std.specs.Prelude.{◌≡◌, ℕ, ◌+◌, ◌-◌, ◌≤◌, zero, suc, length, Bool, true, false, not, IsTrue, ◌||◌, nat_eq, List, [], ◌∷◌, ◌++◌, if◌then◌else◌, refl}
 use Rattle.std.proofs.Common.{sym, ap, arith, ◌∙◌}
 use Rattle.std.proofs.lemmas.Bool.{or_parts, eqb-false, ne_eqb}
 use Rattle.cc_views.specs.declared.value.Value.{Value}
@@ -13,7 +13,8 @@ use Rattle.cc_ops.specs.declared.pending.Asked.{Asked}
 use Rattle.cc_ops.specs.Commands.{is_writing, written}
 use Rattle.cc_ops.specs.Rounds.{is_of, picked, spared, first_round, line_behind, of_kind}
 use Rattle.cc_ops.specs.Waiting.{has_session, AreApart, writes_by, written_by}
-use Rattle.cc_ops.specs.WaitingLaws.{reading_leaves, writes_both}
+use Rattle.cc_ops.specs.WaitingLaws.{reading_leaves, writes_both, all_within, written_within}
+use Rattle.cc_views.specs.NatSets.{IsWithin, contains}
 
 pub one_at_a_time : (a : Asked) (line : List Asked) → (first_round 1 (a ∷ line) ≡ a ∷ []) × (line_behind 1 (a ∷ line) ≡ line)
 one_at_a_time a line = (refl, refl)
@@ -214,3 +215,59 @@ count_still kind (suc n) (a ∷ asks) =
       | true ↦ omega (arith, count_still kind n asks)
       | false ↦ omega (arith, count_still kind (suc n) asks)
     ]
+
+-- ---- a round of a line that isn't empty, where the share is known to be one at least
+
+pub round_is : (share : ℕ) (a : Asked) (line : List Asked) → 1 ≤ share → first_round share (a ∷ line) ≡ a ∷ picked (is_writing a.command) (share - 1) line
+round_is zero a line some = absurd (omega (arith, some))
+round_is (suc n) a line some = let same : n ≡ suc n - 1 = omega arith in ap (λ (k : ℕ). a ∷ picked (is_writing a.command) k line) same
+
+pub behind_is : (share : ℕ) (a : Asked) (line : List Asked) → 1 ≤ share → line_behind share (a ∷ line) ≡ spared (is_writing a.command) (share - 1) line
+behind_is zero a line some = absurd (omega (arith, some))
+behind_is (suc n) a line some = let same : n ≡ suc n - 1 = omega arith in ap (λ (k : ℕ). spared (is_writing a.command) k line) same
+
+pub no_round : (share : ℕ) → first_round share [] ≡ []
+no_round zero = refl
+no_round (suc n) = refl
+
+-- one that begins with an ask that reads writes nothing
+pub reads_none : (share : ℕ) (a : Asked) (line : List Asked) → is_writing a.command ≡ false → writes_by (first_round share (a ∷ line)) ≡ 0
+reads_none zero a line reads = refl
+reads_none (suc n) a line reads =
+    let none : writes_by (picked (is_writing a.command) n line) ≡ 0 = ap (λ (b : Bool). writes_by (picked b n line)) reads ∙ none_write n line in
+    let count : writes_by (a ∷ picked (is_writing a.command) n line) ≡ 0 + writes_by (picked (is_writing a.command) n line) =
+    ap (λ (b : Bool). (if b then 1 else 0) + writes_by (picked (is_writing a.command) n line)) reads in
+    omega (arith, none, count)
+
+-- no more begin than the share
+pub picked_few : (kind : Bool) (n : ℕ) (asks : List Asked) → length (picked kind n asks) ≤ n
+picked_few kind zero asks = omega arith
+picked_few kind (suc n) [] = omega arith
+picked_few kind (suc n) (a ∷ asks) =
+    elim (is_of kind a) as (λ b. length (if b then a ∷ picked kind n asks else picked kind (suc n) asks) ≤ suc n) [
+      | true ↦ omega (arith, picked_few kind n asks)
+      | false ↦ picked_few kind (suc n) asks
+    ]
+
+pub first_few : (share : ℕ) (line : List Asked) → length (first_round share line) ≤ share
+first_few zero line = omega arith
+first_few (suc n) [] = omega arith
+first_few (suc n) (a ∷ line) = omega (arith, picked_few (is_writing a.command) n line)
+
+-- what is left of them puts no more into a set than all of them
+pub spared_within : (kind : Bool) (n : ℕ) (asks : List Asked) (v : Value) → IsWithin (written_by (spared kind n asks) v).set (written_by asks v).set
+spared_within kind zero asks v q h = h
+spared_within kind (suc n) [] v q h = h
+spared_within kind (suc n) (a ∷ asks) v q h =
+    elim (is_of kind a)
+    as (λ b. IsTrue (contains (written_by (if b then spared kind n asks else a ∷ spared kind (suc n) asks) v).set q) → IsTrue (contains (written_by asks (written a.command v)).set q)) [
+      | true ↦ λ there. spared_within kind n asks (written a.command v) q (all_within (spared kind n asks) v (written a.command v) (written_within a.command v) q there)
+      | false ↦ λ there. spared_within kind (suc n) asks (written a.command v) q there
+    ] h
+
+pub behind_within : (share : ℕ) (line : List Asked) (v : Value) → IsWithin (written_by (line_behind share line) v).set (written_by line v).set
+behind_within zero line v q h = h
+behind_within (suc n) [] v q h = h
+behind_within (suc n) (a ∷ line) v q h =
+    spared_within (is_writing a.command) n line (written a.command v) q
+    (all_within (spared (is_writing a.command) n line) v (written a.command v) (written_within a.command v) q h)

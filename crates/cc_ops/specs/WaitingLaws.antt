@@ -84,7 +84,7 @@ more_within (command.AddMember x) mine more h =
     insert_within mine.set (set.insert more.set x) x tt (λ q there. within_insert more.set x tt q (h q there)) (contains-insert more.set x x ∙ or_left _ _ (eq-eqb x x refl))
 more_within command.ReadSet mine more h = h
 
-written_within : (k : Command) (mine : Value) → IsWithin mine.set (written k mine).set
+pub written_within : (k : Command) (mine : Value) → IsWithin mine.set (written k mine).set
 written_within (command.Store text) mine q h = h
 written_within command.Collect mine q h = h
 written_within (command.WriteMax x) mine q h = h
@@ -94,7 +94,7 @@ written_within command.ReadFlag mine q h = h
 written_within (command.AddMember x) mine q h = within_insert mine.set x tt q h
 written_within command.ReadSet mine q h = h
 
-all_within : (asks : List Asked) (mine more : Value) → IsWithin mine.set more.set → IsWithin (written_by asks mine).set (written_by asks more).set
+pub all_within : (asks : List Asked) (mine more : Value) → IsWithin mine.set more.set → IsWithin (written_by asks mine).set (written_by asks more).set
 all_within [] mine more h = h
 all_within (a ∷ asks) mine more h = all_within asks (written a.command mine) (written a.command more) (more_within a.command mine more h)
 

@@ -48,59 +48,69 @@ fn part(asks: &[Asked], kind: bool, most: usize, round: &mut AskList, rest: &mut
 
 /// How many asks of the first round of the line write.
 pub(crate) fn writes_of_round(line: &[Asked], share: usize) -> u64
+    requires { 1 ≤ share }
     ensures count { result ≡ waiting.writes_by (first_round share line.now) }
     ensures most { result ≤ length line.now }
 {
-    match line.split_first() {
-        Some((asked, behind)) if share > 0 && is_writing(&asked.command) => {
-            1 + picked_writes(behind, share - 1)
-        }
-        _ => 0,
+    let Some((asked, behind)) = line.split_first() else {
+        return 0;
+    };
+    if is_writing(&asked.command) {
+        1 + picked_writes(behind, share - 1)
+    } else {
+        0
     }
 }
 
+// How often the first `most` of those that write do so.
 fn picked_writes(asks: &[Asked], most: usize) -> u64
     ensures count { result ≡ waiting.writes_by (picked true most asks.now) }
     ensures most { result ≤ length asks.now }
 {
-    match asks.split_first() {
-        Some((asked, behind)) if most > 0 => {
-            if is_writing(&asked.command) {
-                1 + picked_writes(behind, most - 1)
-            } else {
-                picked_writes(behind, most)
-            }
-        }
-        _ => 0,
+    let Some((asked, behind)) = asks.split_first() else {
+        return 0;
+    };
+    if most == 0 {
+        return 0;
+    }
+    if is_writing(&asked.command) {
+        1 + picked_writes(behind, most - 1)
+    } else {
+        picked_writes(behind, most)
     }
 }
 
 /// The own value once the first round of the line has begun.
 pub(crate) fn value_of_round(line: &[Asked], share: usize, mine: &Value) -> Value
-    requires { HasRoom line.now mine.now }
+    requires some { 1 ≤ share }
+    requires room { HasRoom line.now mine.now }
     ensures { result ≡ written_by (first_round share line.now) mine.now }
 {
-    match line.split_first() {
-        Some((asked, behind)) if share > 0 && is_writing(&asked.command) => {
-            picked_value(behind, share - 1, &written(&asked.command, mine))
-        }
-        _ => *mine,
+    let Some((asked, behind)) = line.split_first() else {
+        return *mine;
+    };
+    if is_writing(&asked.command) {
+        picked_value(behind, share - 1, &written(&asked.command, mine))
+    } else {
+        *mine
     }
 }
 
+// The own value once the first `most` of those that write have begun.
 fn picked_value(asks: &[Asked], most: usize, mine: &Value) -> Value
     requires { HasRoom asks.now mine.now }
     ensures { result ≡ written_by (picked true most asks.now) mine.now }
 {
-    match asks.split_first() {
-        Some((asked, behind)) if most > 0 => {
-            if is_writing(&asked.command) {
-                picked_value(behind, most - 1, &written(&asked.command, mine))
-            } else {
-                picked_value(behind, most, mine)
-            }
-        }
-        _ => *mine,
+    let Some((asked, behind)) = asks.split_first() else {
+        return *mine;
+    };
+    if most == 0 {
+        return *mine;
+    }
+    if is_writing(&asked.command) {
+        picked_value(behind, most - 1, &written(&asked.command, mine))
+    } else {
+        picked_value(behind, most, mine)
     }
 }
 
