@@ -2,11 +2,11 @@
 --     none_waits, may_wait      nothing waits where nothing is pending; anything may where something is
 --     begin_room, wait_room     room for what waits, as an ask begins where nothing waits, and as it waits behind the others
 --     no_room, first_rooms      where one finds no room, not all do; where all do, the first does
-use Rattle.std.proofs.Common.{◌≡◌, ℕ, zero, suc, ◌+◌, ◌<◌, ◌≤◌, arith, Bool, true, false, List, [], ◌∷◌, ◌++◌, length, drop, get_or, refl, sym, ap, subst, ◌∙◌}
-use Rattle.std.specs.Prelude.{Option, Some, None, IfSome, option_map, if◌then◌else◌}
-use Rattle.std.proofs.lemmas.Bool.{cond_both}
+use Rattle.std.proofs.Common.{◌≡◌, ℕ, zero, suc, ◌+◌, ◌<◌, ◌≤◌, arith, nat_lt, ◌&&◌, Bool, true, false, List, [], ◌∷◌, ◌++◌, length, drop, get_or, refl, sym, ap, subst, ◌∙◌}
+use Rattle.std.specs.Prelude.{Option, Some, None, IfSome, is_some, option_map, if◌then◌else◌}
+use Rattle.std.proofs.lemmas.Bool.{cond_both, lt-ltb, ltb-true, ne_eqb}
 use Rattle.std.proofs.lemmas.List.{drop_more}
-use Rattle.cc_views.specs.Limits.{set_limit}
+use Rattle.cc_views.specs.Limits.{counter_limit, set_limit, overruns}
 use Rattle.cc_views.specs.NatSets as set
 use Rattle.cc_views.specs.NatSets.{len_within}
 use Rattle.cc_views.specs.Rows.{ViewMap, single}
@@ -17,7 +17,9 @@ use Rattle.cc_ops.specs.declared.pending.Asked.{Asked}
 use Rattle.cc_ops.specs.declared.stage.Stage.{Stage}
 use Rattle.cc_ops.specs.declared.stage.Stage.TheVariants as stage
 use Rattle.cc_ops.specs.Commands.{is_writing, written, finds_no_room}
-use Rattle.cc_ops.specs.Ops.{Ops, Storing, Querying, is_idle, round_of, next_round, with_own_row, with_written, begin_round, after_last}
+use Rattle.cc_ops.specs.OwnLaws.{last_number}
+use Rattle.cc_ops.specs.Refusals.{passes}
+use Rattle.cc_ops.specs.Ops.{Ops, Phase, Idle, Storing, Querying, StoringBack, is_idle, is_last, counted, after_ack, begun_in, round_of, next_round, with_own_row, with_written, begin_round, after_last}
 use Rattle.cc_ops.specs.Rounds.{picked, spared, first_round, line_behind}
 use Rattle.cc_ops.specs.RoundLaws.{round_written, behind_within}
 use Rattle.cc_ops.specs.Stages.{phase_of, WaitsBehind, HasRoom}
@@ -111,3 +113,43 @@ round_tag me quorum a s first some = of_line s.share s.line first some
         cond_both (is_writing b.command)
         (next_round (Storing (round_of quorum b)) (with_own_row me (with_written (b ∷ picked (is_writing b.command) n line) (record s { line = spared (is_writing b.command) n line }))))
         (next_round (Querying (round_of quorum b)) (record s { line = spared (is_writing b.command) n line })) (λ (u : Ops). u.tag ≡ s.tag + 1) (λ _. refl) (λ _. refl)
+
+-- the round that begins has the first ask of the line
+first_same : (share : ℕ) (line : List Asked) → 1 ≤ share → first_in (first_round share line) ≡ first_in line
+first_same zero line some = absurd (omega (arith, some))
+first_same (suc n) [] some = refl
+first_same (suc n) (a ∷ line) some = refl
+
+-- what the acknowledgement makes of the counters that lets a round begin
+pub record Raises (s t : Ops) : Type 0 where
+  pub number : t.number ≡ s.number + writes_by (first_round s.share s.line)
+  pub tag : t.tag ≡ s.tag + 1
+
+either_raises : (me quorum : ℕ) (b : Bool) (a : Asked) (s more : Ops) → Some a ≡ first_in (if b then first_round s.share s.line else []) → 1 ≤ s.share
+    → Raises s (if b then after_last me quorum s else more)
+either_raises me quorum true a s more first some = record {
+  number = last_number me quorum s;
+  tag = round_tag me quorum a s (first ∙ first_same s.share s.line some) some;
+}
+either_raises me quorum false a s more first some = cc
+
+pub ack_raises : (me quorum : ℕ) (phase : Phase) (a : Asked) (s : Ops) → Some a ≡ first_in (begun_in phase s) → 1 ≤ s.share → Raises s (after_ack me quorum phase s)
+ack_raises me quorum Idle a s first some = cc
+ack_raises me quorum (Storing p) a s first some = either_raises me quorum (is_last p) a s (record s { phase = Storing (counted p) }) first some
+ack_raises me quorum (Querying p) a s first some = cc
+ack_raises me quorum (StoringBack p seen) a s first some = either_raises me quorum (is_last p) a s (record s { phase = StoringBack (counted p) seen }) first some
+
+pub passes_by : (n k : ℕ) → n ≤ counter_limit → passes n (n + k) ≡ nat_lt counter_limit (n + k)
+passes_by n k within =
+    elim (nat_lt counter_limit (n + k)) as (λ b. nat_lt counter_limit (n + k) ≡ b → (nat_lt n (n + k) && b) ≡ b) [
+      | true ↦ λ e. ap (λ b. b && true) (lt-ltb n (n + k) (omega (arith, within, ltb-true counter_limit (n + k) e)))
+      | false ↦ λ _. elim (nat_lt n (n + k)) as (λ b. (b && false) ≡ false) [ true ↦ refl | false ↦ refl ]
+    ] refl
+
+pub some_there : {X : Type 0} (f : X → Asked) (o : Option X) (q : Option Asked) → is_some o ≡ true → option_map f o ≡ q → (a : Asked) × (Some a ≡ q)
+some_there f None q there is = cc
+some_there f (Some x) q there is = (f x, is)
+
+-- a counter that stands below its limit isn't raised past it
+pub none_overruns : (n m : ℕ) → (n ≡ counter_limit → ⊥) → overruns n m ≡ false
+none_overruns n m below = ap (λ (b : Bool). b && nat_lt n m) (ne_eqb n counter_limit below)

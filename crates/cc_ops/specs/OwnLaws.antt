@@ -85,7 +85,7 @@ round_last me quorum asks s alike = λ i. written_by (round_line me quorum asks 
 abbrev line_left : Ops → Ops
 line_left s = record s { line = line_behind s.share s.line }
 
-last_number : (me quorum : ℕ) (s : Ops) → (after_last me quorum s).number ≡ s.number + writes_by (first_round s.share s.line)
+pub last_number : (me quorum : ℕ) (s : Ops) → (after_last me quorum s).number ≡ s.number + writes_by (first_round s.share s.line)
 last_number me quorum s = round_number me quorum (first_round s.share s.line) (line_left s) (first_is_round s.share s.line)
 
 last_mine : (me quorum : ℕ) (s : Ops) → (after_last me quorum s).mine ≡ written_by (first_round s.share s.line) s.mine
