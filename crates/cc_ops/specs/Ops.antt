@@ -99,20 +99,24 @@ abbrev pub with_own_row : ℕ → Ops → Ops
 with_own_row me s = merged (single (record { node = me; number = s.number; value = s.mine })) s
 
 -- a new round begins: of an ask, and of others of its kind
-abbrev pub with_begun : ℕ → ℕ → Asked → List Asked → Ops → Ops
-with_begun me quorum asked others s =
+abbrev pub round_begun : ℕ → ℕ → Asked → List Asked → Ops → Ops
+round_begun me quorum asked others s =
     if is_writing asked.command
     then next_round (Storing (round_of quorum asked)) (with_own_row me (with_written (asked ∷ others) s))
     else next_round (Querying (round_of quorum asked)) s
 
 abbrev pub begin_round : ℕ → ℕ → List Asked → Ops → Ops
 begin_round me quorum [] s = record s { phase = Idle; others = [] }
-begin_round me quorum (asked ∷ others) s = record (with_begun me quorum asked others s) { others = others }
+begin_round me quorum (asked ∷ others) s = record (round_begun me quorum asked others s) { others = others }
+
+-- an ask begins alone
+abbrev pub with_begun : ℕ → ℕ → Asked → Ops → Ops
+with_begun me quorum asked s = begin_round me quorum (asked ∷ []) s
 
 -- where a round is pending, the ask waits behind the others
 abbrev pub after_ask : ℕ → ℕ → Asked → Ops → Ops
 after_ask me quorum asked s =
-    if is_idle s.phase then begin_round me quorum (asked ∷ []) s else record s { line = s.line ++ asked ∷ [] }
+    if is_idle s.phase then with_begun me quorum asked s else record s { line = s.line ++ asked ∷ [] }
 
 -- what an ask begins
 abbrev pub begun_by_ask : Asked → Ops → List Asked

@@ -23,7 +23,7 @@ use Rattle.cc_ops.specs.RoundLaws.{none_write, round_written}
 use Rattle.cc_ops.specs.Waiting.{writes_by, written_by}
 pub use Rattle.cc_ops.specs.WaitingLaws.{reading_leaves}
 use Rattle.cc_ops.specs.WaitingLaws.{written_last, written_both, no_writes}
-use Rattle.cc_ops.specs.Ops.{Ops, Phase, Idle, Storing, Querying, StoringBack, is_idle, seen_in, round_of, counted, is_last, is_own, merged, next_round, again, anew, with_begun, begin_round, with_own_row, with_written, after_ask, after_reply, after_last, after_ack, after_message, begun_by_ask, begun_in, begun_by, told, replies_in, replies_of, asked_in, pending, unanswered, mine_at_last}
+use Rattle.cc_ops.specs.Ops.{Ops, Phase, Idle, Storing, Querying, StoringBack, is_idle, seen_in, round_of, counted, is_last, is_own, merged, next_round, again, anew, round_begun, begin_round, with_own_row, with_written, after_ask, after_reply, after_last, after_ack, after_message, begun_by_ask, begun_in, begun_by, told, replies_in, replies_of, asked_in, pending, unanswered, mine_at_last}
 
 -- ---- a round begins
 
