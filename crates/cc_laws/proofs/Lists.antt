@@ -1,9 +1,10 @@
 -- Of lists and options.
 --     all_both, all_take, all_drop, all_changed    what holds of each element of two lists, of a front, of the rest, or follows from it
 --     some_if, mapped, either                      what holds of what an option has
+--     all_if, all_of                               what holds of a list by whether something is so
 --     at_some, of_some                             what holds where it has something
 use Rattle.std.proofs.Common.{◌≡◌, ℕ, zero, suc, Bool, true, false, cond, List, [], ◌∷◌, ◌++◌, take, refl, subst}
-use Rattle.std.specs.Prelude.{Option, Some, None, IfSome, option_map}
+use Rattle.std.specs.Prelude.{Option, Some, None, IfSome, option_map, if◌then◌else◌}
 use Rattle.std.specs.Option.{option_or}
 use Rattle.std.specs.Bool.{then_some}
 use Rattle.std.specs.List.{AllByRecursion}

@@ -3,6 +3,7 @@
 --     handled_phase, post_shows, reply_shows            so it does of the phase, the post and the answer of an event
 use Rattle.std.proofs.Common.{ℕ, Bool, true, false, List, [], ◌∷◌, ◌+◌, sym, subst}
 use Rattle.std.specs.Prelude.{Option, None, IfSome, if◌then◌else◌}
+use Rattle.std.specs.List.{AllByRecursion}
 use Rattle.cc_views.specs.Rows.{ViewMap}
 use Rattle.cc_views.specs.Merge.{merge}
 use Rattle.cc_wire.specs.declared.answer.Answer.{Answer}

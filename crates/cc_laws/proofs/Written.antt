@@ -69,5 +69,7 @@ slice_get_seam [] y ys = refl
 slice_get_seam (x ∷ xs) y ys = slice_get_seam xs y ys
 
 pub slice_get_behind : (xs ys : List Value) (k : ℕ) → slice_get (xs ++ ys) (length xs + k) ≡ slice_get ys k
-slice_get_behind [] ys k = refl
-slice_get_behind (x ∷ xs) ys k = slice_get_behind xs ys k
+slice_get_behind [] ys k = let same : 0 + k ≡ k = omega arith in ap (slice_get ys) same
+slice_get_behind (x ∷ xs) ys k =
+    let next : length (x ∷ xs) + k ≡ suc (length xs + k) = omega arith in
+    ap (slice_get (x ∷ xs ++ ys)) next ∙ slice_get_behind xs ys k

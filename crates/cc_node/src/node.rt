@@ -228,15 +228,12 @@ fn keep_post(outbox: &mut Outbox, post: Option<Message>)
 }
 
 // The answers of an event are kept, each for its session.
-fn keep_answers(outbox: &mut Outbox, mut answers: Replies)
+fn keep_answers(outbox: &mut Outbox, answers: Replies)
     requires { table.len (keep answers outbox.old).answers ≤ session_limit }
     ensures { outbox.new ≡ keep answers outbox.old }
 {
-    match answers.take_first() {
-        Some(reply) => {
-            outbox.keep(reply.session, reply.answer);
-            keep_answers(outbox, answers);
-        }
-        None => {}
+    let mut left = answers;
+    while let Some(reply) = left.take_first() {
+        outbox.keep(reply.session, reply.answer);
     }
 }
