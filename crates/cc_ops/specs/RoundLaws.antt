@@ -5,8 +5,10 @@
 --     same_kinds                  of each kind, round and line are what the line was, in order
 --     written_still, none_write   what writes keeps its order, so the value at last is the same;  what reads doesn't write
 --     count_still                 there are as many
+--     round_.., .._behind         the same of a line, with its first round in front of what is left
 use Rattle.std.specs.Prelude.{◌≡◌, ℕ, ◌+◌, ◌-◌, ◌≤◌, zero, suc, length, Bool, true, false, not, IsTrue, ◌||◌, nat_eq, List, [], ◌∷◌, ◌++◌, if◌then◌else◌, refl}
 use Rattle.std.proofs.Common.{sym, ap, arith, ◌∙◌}
+use Rattle.std.specs.List.{AllByRecursion}
 use Rattle.std.proofs.lemmas.Bool.{or_parts, eqb-false, ne_eqb}
 use Rattle.cc_views.specs.declared.value.Value.{Value}
 use Rattle.cc_ops.specs.declared.pending.Asked.{Asked}
@@ -271,3 +273,72 @@ behind_within (suc n) [] v q h = h
 behind_within (suc n) (a ∷ line) v q h =
     spared_within (is_writing a.command) n line (written a.command v) q
     (all_within (spared (is_writing a.command) n line) v (written a.command v) (written_within a.command v) q h)
+
+-- ---- a line, with its first round in front of what is left
+
+pub round_has : (s share : ℕ) (line : List Asked) → has_session s (first_round share line ++ line_behind share line) ≡ has_session s line
+round_has s zero line = refl
+round_has s (suc n) [] = refl
+round_has s (suc n) (a ∷ line) = ap (λ (b : Bool). nat_eq s a.session || b) (has_still s (is_writing a.command) n line)
+
+pub round_apart : (share : ℕ) (line : List Asked) → AreApart line → AreApart (first_round share line ++ line_behind share line)
+round_apart zero line h = h
+round_apart (suc n) [] h = h
+round_apart (suc n) (a ∷ line) h = (has_still a.session (is_writing a.command) n line ∙ h.0, apart_still (is_writing a.command) n line h.1)
+
+pub round_kinds : (of : Bool) (share : ℕ) (line : List Asked) → of_kind of (first_round share line ++ line_behind share line) ≡ of_kind of line
+round_kinds of zero line = refl
+round_kinds of (suc n) [] = refl
+round_kinds of (suc n) (a ∷ line) = ap (λ (l : List Asked). if is_of of a then a ∷ l else l) (same_kinds of (is_writing a.command) n line)
+
+pub behind_few : (share : ℕ) (line : List Asked) → length (line_behind share line) ≤ length line
+behind_few zero line = omega arith
+behind_few (suc n) [] = omega arith
+behind_few (suc n) (a ∷ line) = omega (arith, count_still (is_writing a.command) n line)
+
+module _ (P : Asked → Type 0) where
+  each_picked : (kind : Bool) (n : ℕ) (asks : List Asked) → AllByRecursion P asks → AllByRecursion P (picked kind n asks)
+  each_picked kind zero asks h = tt
+  each_picked kind (suc n) [] h = tt
+  each_picked kind (suc n) (a ∷ asks) h =
+      elim (is_of kind a) as (λ b. AllByRecursion P (if b then a ∷ picked kind n asks else picked kind (suc n) asks)) [
+        | true ↦ (h.0, each_picked kind n asks h.1)
+        | false ↦ each_picked kind (suc n) asks h.1
+      ]
+
+  each_spared : (kind : Bool) (n : ℕ) (asks : List Asked) → AllByRecursion P asks → AllByRecursion P (spared kind n asks)
+  each_spared kind zero asks h = h
+  each_spared kind (suc n) [] h = tt
+  each_spared kind (suc n) (a ∷ asks) h =
+      elim (is_of kind a) as (λ b. AllByRecursion P (if b then spared kind n asks else a ∷ spared kind (suc n) asks)) [
+        | true ↦ each_spared kind n asks h.1
+        | false ↦ (h.0, each_spared kind (suc n) asks h.1)
+      ]
+
+  pub each_first : (share : ℕ) (line : List Asked) → AllByRecursion P line → AllByRecursion P (first_round share line)
+  each_first zero line h = tt
+  each_first (suc n) [] h = tt
+  each_first (suc n) (a ∷ line) h = (h.0, each_picked (is_writing a.command) n line h.1)
+
+  pub each_behind : (share : ℕ) (line : List Asked) → AllByRecursion P line → AllByRecursion P (line_behind share line)
+  each_behind zero line h = h
+  each_behind (suc n) [] h = tt
+  each_behind (suc n) (a ∷ line) h = each_spared (is_writing a.command) n line h.1
+
+-- those that are picked are of the kind
+pub picked_alike : (kind : Bool) (n : ℕ) (asks : List Asked) → AllByRecursion (λ b. is_writing b.command ≡ kind) (picked kind n asks)
+picked_alike kind zero asks = tt
+picked_alike kind (suc n) [] = tt
+picked_alike kind (suc n) (a ∷ asks) =
+    elim (is_of kind a) as (λ b. is_of kind a ≡ b → AllByRecursion (λ b. is_writing b.command ≡ kind) (if b then a ∷ picked kind n asks else picked kind (suc n) asks)) [
+      | true ↦ λ is. (of_its_kind kind a is, picked_alike kind n asks)
+      | false ↦ λ _. picked_alike kind (suc n) asks
+    ] refl
+  where
+    turned : (b : Bool) → not b ≡ true → b ≡ false
+    turned true e = cc
+    turned false e = refl
+
+    of_its_kind : (kind : Bool) (a : Asked) → is_of kind a ≡ true → is_writing a.command ≡ kind
+    of_its_kind true a is = is
+    of_its_kind false a is = turned (is_writing a.command) is
