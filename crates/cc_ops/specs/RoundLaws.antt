@@ -43,7 +43,7 @@ either_has s kind (suc n) (a ∷ asks) =
       | false ↦ ap (λ (h : Bool). nat_eq s a.session || h) (either_has s kind (suc n) asks) ∙ or_swap (nat_eq s a.session) (has_session s (picked kind (suc n) asks)) (has_session s (spared kind (suc n) asks))
     ]
 
-has_both : (s : ℕ) (xs ys : List Asked) → has_session s (xs ++ ys) ≡ (has_session s xs || has_session s ys)
+pub has_both : (s : ℕ) (xs ys : List Asked) → has_session s (xs ++ ys) ≡ (has_session s xs || has_session s ys)
 has_both s [] ys = refl
 has_both s (a ∷ xs) ys = ap (λ (h : Bool). nat_eq s a.session || h) (has_both s xs ys) ∙ or_join (nat_eq s a.session) (has_session s xs) (has_session s ys)
 
@@ -80,7 +80,7 @@ apart_still kind (suc n) (a ∷ asks) h =
 
 -- ---- order within a kind
 
-kind_both : (kind : Bool) (xs ys : List Asked) → of_kind kind (xs ++ ys) ≡ of_kind kind xs ++ of_kind kind ys
+pub kind_both : (kind : Bool) (xs ys : List Asked) → of_kind kind (xs ++ ys) ≡ of_kind kind xs ++ of_kind kind ys
 kind_both kind [] ys = refl
 kind_both kind (a ∷ xs) ys =
     elim (is_of kind a)
