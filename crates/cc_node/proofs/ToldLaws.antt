@@ -86,7 +86,7 @@ anew_last b q s = cond_both b (ops.anew q s) s (λ (t : Ops). mine_at_last t ≡
 
 pub anew_unanswered : (b : Bool) (q : ℕ) (s : Ops) → unanswered (anew_if b q s) ≡ unanswered s
 anew_unanswered b q s =
-    cond_both b (ops.anew q s) s (λ (t : Ops). unanswered t ≡ unanswered s) (λ _. ap (λ (l : List Asked). l ++ s.line) (anew_keeps q s).asked) (λ _. refl)
+    cond_both b (ops.anew q s) s (λ (t : Ops). unanswered t ≡ unanswered s) (λ _. ap (λ (l : List Asked). (l ++ s.others) ++ s.line) (anew_keeps q s).asked) (λ _. refl)
 
 pub anew_tag : (b : Bool) (q : ℕ) (s : Ops) (n : ℕ) → (b ≡ true → s.tag ≡ n) → s.tag ≤ n + 1 → (anew_if b q s).tag ≤ n + 1
 anew_tag b q s n same up = cond_both b (ops.anew q s) s (λ t. t.tag ≤ n + 1) (λ e. omega (arith, same e)) (λ _. up)
