@@ -236,7 +236,8 @@ class Load:
 
     def __init__(self, cluster, nodes, clients):
         self.answers = {node: 0 for node in nodes}
-        # Of each node, by the whole seconds since the start: how many slow answers came then, and how long the slowest took.
+        # Of each node, by the whole seconds since the start: how many slow answers came then, and how long the slowest
+        # of them took.
         self.slow = {node: {} for node in nodes}
         self.sessions, self.faults = [], []
         self.lock, self.start = threading.Lock(), time.monotonic()

@@ -160,7 +160,7 @@ def dead_for_good(cluster, load, verdicts):
 def report(cluster, load, verdicts):
     for node, seconds in load.slow.items():
         for second, (count, slowest) in sorted(seconds.items()):
-            say(f"  second {second}, node {node}: {count} answers after a second or more, the slowest after {slowest:.1f} s")
+            say(f"  second {second}, node {node}: {count} answers took a second or more, the slowest {slowest:.1f} s")
     for node in cluster.running:
         say("  node {}: VmRSS {} kB, VmHWM {} kB".format(node, *cluster.memory(node)))
     for fault in load.faults:
