@@ -16,8 +16,8 @@ import time
 
 from nodes import Cluster, NoAnswer, Session, end_on_signals, say
 
-# How long the cluster may take to answer, in seconds.
-# How long a client may wait, in seconds, beside the time for which its own node may be away, which is killed again and again.
+# A client may wait for so many seconds, and for so many times as long as its own node may be away, which may be killed
+# again and again.
 PATIENCE, AWAY_TIMES = 30, 6
 
 

@@ -34,13 +34,13 @@ class WatchedLoad(Load):
         Prints operations a second over time, and how much of its processors the machine was kept from. Gives the rates
         of the steps, which are equally long.
         """
-        rates, number = [], max(0, math.ceil(seconds / step))
+        rates, number = [], math.ceil(seconds / step)
         for _ in range(number):
-            before, start, kept = self.total(), time.monotonic(), stolen()
+            before, start, stolen_before = self.total(), time.monotonic(), stolen()
             time.sleep(seconds / number)
             took = time.monotonic() - start
             rates.append((self.total() - before) / took)
-            share = 100 * (stolen() - kept) / took
+            share = 100 * (stolen() - stolen_before) / took
             say(f"  {label}, second {self.seconds():.0f}: {rates[-1]:.0f} operations a second, {share:.0f} % stolen")
             self.say_notes()
         return rates
