@@ -3,7 +3,7 @@
 --     core_after              the core after them
 --     entry_at                the next one, for an event
 --     stirs                   whether an event makes a post or an answer
-use Rattle.std.specs.Prelude.{ℕ, ◌^◌, ◌||◌, Bool, List, is_some}
+use Rattle.std.specs.Prelude.{ℕ, ◌^◌, ◌||◌, ◌==◌, not, Bool, List, length, is_some}
 use Rattle.cc_wire.specs.declared.event.Event.{Event}
 use Rattle.cc_node.specs.Core.{Core, made}
 use Rattle.cc_node.specs.Node.{Node, after}
@@ -23,4 +23,4 @@ entry_at core event = record { event = event; made = made core event }
 
 -- beside an acknowledgement, which nobody waits for, there is a post or an answer in what an event makes
 abbrev pub stirs : Made → Bool
-stirs m = is_some m.post || is_some m.answer
+stirs m = is_some m.post || not (length m.answers == 0)

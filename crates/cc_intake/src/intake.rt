@@ -48,7 +48,7 @@ pub struct Accepted {
 fn stirs(made: &Made) -> bool
     ensures { result ≡ stirs made.now }
 {
-    made.post.is_some() || made.answer.is_some()
+    made.post.is_some() || !made.answers.is_empty()
 }
 
 /// How many events one thread has had accepted. Contracts see the number.

@@ -1,19 +1,43 @@
 -- What is put for an event that a node has taken in is what the event puts out.
---     post_put, reply_put      the post, and the answer, as they are kept
-use Rattle.std.proofs.Common.{◌≡◌, ◌+◌, Bool, refl, ◌∙◌, ap, arith}
-use Rattle.std.specs.Prelude.{Option, Some, None, option_map, if◌then◌else◌}
+--     next_replies, no_replies   the replies to some requests, one by one
+--     post_put, replies_put    the post, and the answers, as they are kept
+use Rattle.std.proofs.Common.{◌≡◌, ℕ, ◌+◌, ◌<◌, ◌≤◌, Bool, List, [], ◌∷◌, ◌++◌, length, get_or, drop, drop-cons, add-one, map, refl, sym, ◌∙◌, ap, arith}
+use Rattle.std.specs.List.{AllByRecursion}
+use Rattle.std.specs.Prelude.{Option, Some, None, if◌then◌else◌}
 use Rattle.std.specs.Option.{option_len}
 use Rattle.std.specs.FinMap as table
 use Rattle.std.proofs.lemmas.Bool.{le-ltb, lt-ltb}
+use Rattle.std.proofs.lemmas.List.{at_drop_all}
 use Rattle.cc_wire.specs.declared.answer.Answer.{Answer}
 use Rattle.cc_wire.specs.declared.event.Event.{Event}
 use Rattle.cc_wire.specs.declared.message.Message.{Message}
 use Rattle.cc_ops.specs.declared.pending.Reply.{Reply}
-use Rattle.cc_node.specs.Core.{next, post, reply, send_post}
+use Rattle.cc_wire.specs.declared.output.Output.{Output}
+use Rattle.cc_wire.specs.declared.output.Output.TheVariants as output
+use Rattle.cc_outbox.specs.Outbox.{Outbox}
+use Rattle.cc_node.specs.Core.{next, post, replies, send_post, send_replies}
 use Rattle.cc_node.specs.Node.{Node, step}
 use Rattle.cc_node.specs.Lawful.{IsLawfulNode}
-use Rattle.cc_node.proofs.KeptOutputs.{post_kept, answer_kept}
-use Rattle.cc_journal.specs.Outlet.{request_of, new_post, kept_reply}
+use Rattle.cc_node.proofs.KeptOutputs.{post_kept, answers_kept}
+use Rattle.cc_journal.specs.declared.outlet.Answered.{Answered}
+use Rattle.cc_journal.specs.Outlet.{request_of, new_post, kept_reply, kept_replies}
+
+-- ---- replies, one by one
+
+both_sent : (xs ys : List Reply) → send_replies (xs ++ ys) ≡ send_replies xs ++ send_replies ys
+both_sent [] ys = refl
+both_sent (x ∷ xs) ys = ap (λ (l : List Output). output.Reply x.session x.request x.answer ∷ l) (both_sent xs ys)
+
+pub next_replies : (xs : List Answered) (i : ℕ) (d : Answered) (o : Outbox) → i < length xs
+    → send_replies (kept_replies (drop i xs) o)
+    ≡ send_replies (kept_reply (get_or xs i d) (table.get o.answers (get_or xs i d).session)) ++ send_replies (kept_replies (drop (i + 1) xs) o)
+next_replies xs i d o lt =
+    let x = get_or xs i d in
+    ap (λ (l : List Answered). send_replies (kept_replies l o)) (drop-cons xs i d lt ∙ ap (λ (n : ℕ). x ∷ drop n xs) (sym (add-one i)))
+    ∙ both_sent (kept_reply x (table.get o.answers x.session)) (kept_replies (drop (i + 1) xs) o)
+
+pub no_replies : (xs : List Answered) (i : ℕ) (o : Outbox) → length xs ≤ i → send_replies (kept_replies (drop i xs) o) ≡ []
+no_replies xs i o past = at_drop_all (λ (l : List Answered). send_replies (kept_replies l o)) xs i past
 
 module _ (n : Node) (e : Event) where
   posts_are : (p : Option Message) → post n.core e ≡ p → (next n.core e).posts ≡ n.core.posts + option_len p
@@ -34,10 +58,12 @@ module _ (n : Node) (e : Event) where
   unfolding step
   post_put h = post_put_of (post n.core e) refl h
 
-  reply_put_of : (r : Option Reply) → reply n.core e ≡ r → kept_reply (option_map request_of r) (step n e).outbox ≡ r
-  reply_put_of None made = refl
-  reply_put_of (Some r) made =
-      ap (λ (a : Option Answer). option_map (λ answer. record { session = r.session; request = r.request; answer = answer }) a) (answer_kept n e r made)
+  replies_put_of : (rs : List Reply) → AllByRecursion (λ r. table.get (step n e).outbox.answers r.session ≡ Some r.answer) rs
+      → kept_replies (map request_of rs) (step n e).outbox ≡ rs
+  replies_put_of [] h = refl
+  replies_put_of (r ∷ rs) h =
+      ap (λ (a : Option Answer). kept_reply (request_of r) a ++ kept_replies (map request_of rs) (step n e).outbox) h.0
+      ∙ ap (λ (l : List Reply). r ∷ l) (replies_put_of rs h.1)
 
-  pub reply_put : kept_reply (option_map request_of (reply n.core e)) (step n e).outbox ≡ reply n.core e
-  reply_put = reply_put_of (reply n.core e) refl
+  pub replies_put : IsLawfulNode n → kept_replies (map request_of (replies n.core e)) (step n e).outbox ≡ replies n.core e
+  replies_put h = replies_put_of (replies n.core e) (answers_kept n e h)

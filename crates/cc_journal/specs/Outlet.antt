@@ -4,11 +4,12 @@
 --     on_link             the last post on a link, unless its peer has left
 --     request_of          which request of its session a reply answers
 --     new_post            the last post of a node, where more than so many were made
---     kept_reply          the answer that is kept for a request's session
-use Rattle.std.specs.Prelude.{◌≡◌, ◌↔◌, ℕ, ◌-◌, List, [], ◌∷◌, ◌++◌, Option, Some, None, option_map, nat_lt, if◌then◌else◌}
+--     kept_reply, kept_replies   the answer that is kept for a request's session;  those of many requests
+use Rattle.std.specs.Prelude.{◌≡◌, ◌↔◌, ℕ, ◌-◌, List, [], ◌∷◌, ◌++◌, Option, Some, None, nat_lt, if◌then◌else◌}
 use Rattle.std.specs.FinMap as table
 use Rattle.cc_views.specs.NatSets as set
 use Rattle.cc_links.specs.declared.link_row.LinkRow.{LinkRow}
+use Rattle.cc_wire.specs.declared.answer.Answer.{Answer}
 use Rattle.cc_wire.specs.declared.output.Output.TheVariants as output
 use Rattle.cc_node.specs.Core.{Core}
 use Rattle.cc_wire.specs.declared.message.Message.{Message}
@@ -49,6 +50,10 @@ request_of reply = record { session = reply.session; request = reply.request }
 abbrev pub new_post : ℕ → Node → Option Message
 new_post before n = if nat_lt before n.core.posts then table.get n.outbox.posts n.core.posts else None
 
-abbrev pub kept_reply : Option Answered → Outbox → Option Reply
-kept_reply None o = None
-kept_reply (Some answered) o = option_map (λ answer. record { session = answered.session; request = answered.request; answer = answer }) (table.get o.answers answered.session)
+abbrev pub kept_reply : Answered → Option Answer → List Reply
+kept_reply answered None = []
+kept_reply answered (Some answer) = record { session = answered.session; request = answered.request; answer = answer } ∷ []
+
+abbrev pub kept_replies : List Answered → Outbox → List Reply
+kept_replies [] o = []
+kept_replies (answered ∷ more) o = kept_reply answered (table.get o.answers answered.session) ++ kept_replies more o

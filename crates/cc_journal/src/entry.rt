@@ -1,12 +1,13 @@
 //! An event that was accepted, and what it makes.
 
-ghost use Rattle.std.specs.Prelude.{◌≡◌, ◌⊎◌, None, Some, IfOk, IfErr};
+ghost use Rattle.std.specs.Prelude.{◌≡◌, ◌⊎◌, [], None, Some, IfOk, IfErr};
 ghost use Rattle.cc_wire.specs.declared.event.Event.TheVariants as event;
 ghost use Rattle.cc_wire.specs.declared.refusal.Refusal.TheVariants as refusal;
 ghost use Rattle.cc_node.specs.Core.{made};
 ghost use Rattle.cc_node.specs.Refusals.{decides};
 
 use cc_node::{Core, Made};
+use cc_ops::Replies;
 use cc_wire::{Event, Refusal};
 use std::alloc::Global;
 
@@ -32,14 +33,14 @@ impl Entry {
 impl Default for Entry {
     /// An Enter that makes nothing: it fills the places that a batch doesn't use.
     fn default() -> Self
-        ensures { result ≡ record { event = event.Enter; made = record { ack = None; post = None; answer = None } } }
+        ensures { result ≡ record { event = event.Enter; made = record { ack = None; post = None; answers = [] } } }
     {
         Entry {
             event: Event::Enter,
             made: Made {
                 ack: None,
                 post: None,
-                answer: None,
+                answers: Replies::none(),
             },
         }
     }

@@ -1,22 +1,25 @@
 //! The outputs of durable events are put to the site.
 
-ghost use Rattle.std.specs.Prelude.{◌≡◌, ◌≤◌, ◌∷◌, [], Some, option_map};
+ghost use Rattle.std.specs.Prelude.{◌≡◌, ◌≤◌, ◌∷◌, [], Some, map, option_map};
+ghost use Rattle.std.specs.FinMap as table;
 ghost use Rattle.cc_links.specs.Links.{LinksWithin};
-ghost use Rattle.cc_node.specs.Core.{send_ack, send_post, send_reply, outputs};
+ghost use Rattle.cc_node.specs.Core.{send_ack, send_post, send_replies, outputs};
 ghost use Rattle.cc_node.specs.Node.{after, line, step};
 ghost use Rattle.cc_journal.specs.Batches.{AreLawful, events_in};
-ghost use Rattle.cc_journal.specs.Outlet.{Puts, request_of, new_post, kept_reply, on_link};
+ghost use Rattle.cc_journal.specs.Outlet.{Puts, request_of, new_post, kept_reply, kept_replies, on_link};
 
 use crate::batch::Batch;
 use crate::entry::Entry;
+use arrayvec::ArrayVec;
 use cc_links::LinkRow;
 use cc_node::{Core, LinkAck, Made, Node};
+use cc_ops::Replies;
 use cc_outbox::Outbox;
 use cc_site::Site;
 use cc_wire::Message;
 
 // Which request of its session an event answers. The answer is kept in the outbox.
-#[derive(Clone, Copy)]
+#[derive(Clone, Copy, Default)]
 struct Answered {
     session: u64,
     request: u64,
@@ -35,7 +38,7 @@ pub(crate) fn put_entries<S: Site>(node: &mut Node, site: &mut S, batch: Batch)
 }
 
 // Takes an accepted event into the node, and puts its outputs: the acknowledgement, the post on each live link by
-// ascending peer, the reply.
+// ascending peer, the replies.
 fn put_entry<S: Site>(node: &mut Node, site: &mut S, entry: Entry)
     requires { AreLawful node.old (entry ∷ []) }
     ensures node { node.new ≡ step node.old entry.event }
@@ -48,17 +51,21 @@ fn put_entry<S: Site>(node: &mut Node, site: &mut S, entry: Entry)
     node.settle(event, made);
     put_ack(site, ack);
     put_post(site, node, posts);
-    put_reply(site, node.outbox(), answered);
+    put_replies(site, node.outbox(), &answered);
 }
 
-fn answered_by(made: &Made) -> Option<Answered>
-    ensures { result ≡ option_map request_of made.now.answer }
+// Which requests it answers, in the order of the answers.
+fn answered_by(made: &Made) -> ArrayVec<Answered, { Replies::MAX_LEN }>
+    ensures { result.items ≡ map request_of made.now.answers }
 {
-    let reply = made.answer.as_ref()?;
-    Some(Answered {
-        session: reply.session,
-        request: reply.request,
-    })
+    let mut answered = ArrayVec::new();
+    for reply in made.answers.as_slice() {
+        answered.push(Answered {
+            session: reply.session,
+            request: reply.request,
+        });
+    }
+    answered
 }
 
 fn put_ack<S: Site>(site: &mut S, ack: Option<LinkAck>)
@@ -110,12 +117,17 @@ fn put_on_link<S: Site>(site: &mut S, core: &Core, row: &LinkRow, post: &Message
     }
 }
 
-fn put_reply<S: Site>(site: &mut S, outbox: &Outbox, answered: Option<Answered>)
-    ensures { Puts S.Site (send_reply (kept_reply answered outbox.now)) site.old site.new }
+fn put_replies<S: Site>(site: &mut S, outbox: &Outbox, requests: &[Answered])
+    ensures { Puts S.Site (send_replies (kept_replies requests.now outbox.now)) site.old site.new }
 {
-    let Some(answered) = answered else {
-        return;
-    };
+    for answered in requests {
+        put_reply(site, outbox, answered);
+    }
+}
+
+fn put_reply<S: Site>(site: &mut S, outbox: &Outbox, answered: &Answered)
+    ensures { Puts S.Site (send_replies (kept_reply answered.now (table.get outbox.now.answers answered.now.session))) site.old site.new }
+{
     if let Some(answer) = outbox.answer(answered.session) {
         site.reply(answered.session, answered.request, answer);
     }

@@ -31,8 +31,9 @@ use Rattle.cc_ops.specs.declared.pending.Reply.{Reply}
 use Rattle.cc_ops.specs.Commands.{is_writing, answer_of}
 use Rattle.cc_ops.specs.Ops.{Phase, Idle, Storing, Querying, StoringBack, asked_in, unanswered}
 use Rattle.cc_ops.specs.Waiting.{has_session, AreApart, writes_by}
+use Rattle.cc_ops.specs.WaitingLaws.{writes_both}
 use Rattle.cc_sessions.specs.Sessions.{Requests, last_request}
-use Rattle.cc_node.specs.Core.{Core, asked_of, next, reply, outputs}
+use Rattle.cc_node.specs.Core.{Core, asked_of, next, replies, outputs}
 use Rattle.cc_node.specs.Node.{Node, step, after, line, IsLawful}
 use Rattle.cc_node.specs.Opening.{fresh}
 use Rattle.cc_node.specs.Histories.{lawful_parts}
@@ -50,7 +51,7 @@ use Rattle.cc_laws.proofs.Lists.{at_some, some_changed, all_changed}
 use Rattle.cc_laws.proofs.Lines.{made_in}
 use Rattle.cc_laws.proofs.Members.{IsSound, lawful_front}
 use Rattle.cc_laws.proofs.Places.{after_parts, at_same, at_before, at_behind, split_order}
-use Rattle.cc_laws.proofs.Says.{stored_of, Told, ReplySays, reply_says, OutputSays, outputs_say}
+use Rattle.cc_laws.proofs.Says.{stored_of, Told, ReplySays, each_says, OutputSays, outputs_say}
 use Rattle.cc_laws.proofs.Pending.{HasAck, HasReply, Raised, ReadBefore, IsQueryOf, Pends, core_push, pends}
 use Rattle.cc_laws.proofs.CountedAnswers.{IsAckFrom, IsReplyFrom, counted_ack, counted_reply}
 use Rattle.cc_laws.proofs.Knowing.{me_of, contains_at, contains_front, either_front}
@@ -125,9 +126,9 @@ ended m s r a has =
     let made = made_in (fresh m.opening) (released_events m) (output.Reply s r a) has in
     let c = (after (fresh m.opening) made.before).core in
     let t : Reply = record { session = s; request = r; answer = a } in
-    let is : reply c made.event ≡ Some t = All-contains (OutputSays c made.event) (outputs c made.event) (output.Reply s r a)
+    let is : Contains (replies c made.event) t = All-contains (OutputSays c made.event) (outputs c made.event) (output.Reply s r a)
     (All-from_recursion (OutputSays c made.event) (outputs c made.event) (outputs_say c made.event)) made.makes in
-    let says = at_some (ReplySays c made.event) (reply c made.event) t is (reply_says c made.event) in
+    let says = All-contains (ReplySays c made.event) (replies c made.event) t (All-from_recursion (ReplySays c made.event) (replies c made.event) (each_says c made.event)) is in
     record { front = made.before; last = made.event; later = made.later; parts = made.parts; ends = says.0; tells = says.1 }
 
 abbrev pub IsWriteOp : Core → ℕ → ℕ → Answer → Type 0
@@ -319,10 +320,6 @@ module _ (q : ℕ) (m : Member) (sound : IsSound q m) where
   has_there : (s : ℕ) (rest more : List Asked) (a : Asked) → nat_eq s a.session ≡ true → has_session s (rest ++ a ∷ more) ≡ true
   has_there s [] more a is = or_left _ _ is
   has_there s (x ∷ rest) more a is = or_right _ _ (has_there s rest more a is)
-
-  writes_both : (xs ys : List Asked) → writes_by (xs ++ ys) ≡ writes_by xs + writes_by ys
-  writes_both [] ys = omega arith
-  writes_both (x ∷ xs) ys = omega (arith, writes_both xs ys)
 
   pub number_reached : (s r k : ℕ) (a : Answer) (op : Ended m s r a) (p : Pending) → (after start op.front).core.ops.phase ≡ Storing p
       → p.asked.session ≡ s → p.asked.request ≡ r → IsWriteAsk (released_events m) k s r → k ≤ (after start op.front).core.ops.number

@@ -12,8 +12,8 @@ use Rattle.cc_views.specs.MergeLaws.{get-merge}
 use Rattle.cc_views.specs.declared.value.Value.{Value}
 use Rattle.cc_wire.specs.declared.event.Event.{Event}
 use Rattle.cc_ops.specs.declared.pending.Asked.{Asked}
-use Rattle.cc_ops.specs.Commands.{is_writing}
 use Rattle.cc_ops.specs.Ops.{Ops}
+use Rattle.cc_ops.specs.Waiting.{writes_by}
 use Rattle.cc_node.specs.Core.{Core, begun, next}
 use Rattle.cc_node.specs.Node.{Node, step, after}
 use Rattle.cc_laws.specs.Shown.{in_event, Has}
@@ -52,17 +52,16 @@ merge_follows v w q = subst (GoesOn (table.get v q)) (sym (get-merge v w q)) (me
 follows_further : (u v w : ViewMap) → IsFollowedBy u v → IsFollowedBy v w → IsFollowedBy u w
 follows_further u v w h k q = goes_on_further (table.get u q) (table.get v q) (table.get w q) (h q) (k q)
 
-row_follows : (me : ℕ) (s : Ops) (o : Option Asked) → IsFollowedBy s.view (with_row me s o)
-row_follows me s None = follows_itself s.view
-row_follows me s (Some a) =
-    elim (is_writing a.command) as (λ b. IsFollowedBy s.view (if b then merge s.view (row_of me s a) else s.view)) [
-      | true ↦ merge_follows s.view (row_of me s a)
+row_follows : (me : ℕ) (s : Ops) (asks : List Asked) → IsFollowedBy s.view (with_row me s asks)
+row_follows me s asks =
+    elim (nat_lt 0 (writes_by asks)) as (λ b. IsFollowedBy s.view (if b then merge s.view (row_of me s asks) else s.view)) [
+      | true ↦ merge_follows s.view (row_of me s asks)
       | false ↦ follows_itself s.view
     ]
 
-either_follows : (me : ℕ) (s : Ops) (brought : Option ViewMap) (o : Option Asked) (after : ViewMap) → ViewStep me s brought o after → IsFollowedBy s.view after
-either_follows me s brought o after (inl is) = subst (IsFollowedBy s.view) (sym is) (row_follows me s o)
-either_follows me s brought o after (inr b) = subst (IsFollowedBy s.view) (sym b.merges) (merge_follows s.view b.view)
+either_follows : (me : ℕ) (s : Ops) (brought : Option ViewMap) (asks : List Asked) (after : ViewMap) → ViewStep me s brought asks after → IsFollowedBy s.view after
+either_follows me s brought asks after (inl is) = subst (IsFollowedBy s.view) (sym is) (row_follows me s asks)
+either_follows me s brought asks after (inr b) = subst (IsFollowedBy s.view) (sym b.merges) (merge_follows s.view b.view)
 
 pub next_follows : (c : Core) (e : Event) → IsFollowedBy c.ops.view (next c e).ops.view
 next_follows c e = either_follows c.me c.ops (in_event e) (begun c e) (next c e).ops.view (view_step c e)

@@ -17,9 +17,9 @@ use Rattle.cc_wire.specs.declared.command.Command.{Command}
 use Rattle.cc_wire.specs.declared.command.Command.TheVariants as command
 use Rattle.cc_ops.specs.declared.pending.Asked.{Asked}
 use Rattle.cc_ops.specs.Commands.{is_writing, written}
-use Rattle.cc_ops.specs.Waiting.{writes, writes_by, written_by}
+use Rattle.cc_ops.specs.Waiting.{writes_by, written_by}
 use Rattle.cc_laws.specs.Written.{values_of}
-use Rattle.cc_laws.proofs.Writing.{values_both, slice_get_seam}
+use Rattle.cc_laws.proofs.Written.{values_both, length-values, slice_get_seam}
 use Rattle.cc_laws.proofs.Clustering.{same_some}
 
 abbrev pub IsStable : (Value → Type 0) → Type 0
@@ -59,15 +59,6 @@ module _ (P : Value → Type 0) (stable : IsStable P) where
         | true ↦ both_stay asks w x y h (value_stays asks w x y h) i j le
         | false ↦ λ first second. value_stays asks mine x y h i j first second le
       ] here there
-
-length-values : (mine : Value) (asks : List Asked) → length (values_of mine asks) ≡ writes_by asks
-length-values mine [] = refl
-length-values mine (a ∷ asks) =
-    let w = written a.command mine in
-    elim (is_writing a.command) as (λ b. length (if b then w ∷ values_of w asks else values_of mine asks) ≡ (if b then 1 else 0) + writes_by asks) [
-      | true ↦ omega (arith, length-values w asks)
-      | false ↦ omega (arith, length-values mine asks)
-    ]
 
 -- the value that a writing ask made
 pub value_there : (mine : Value) (xs ys : List Asked) (a : Asked) → is_writing a.command ≡ true

@@ -4,6 +4,7 @@ mod ShownParts
 mod Showing
 mod Following
 mod Rows
+mod Written
 mod Writing
 mod Standing
 mod OwnRows

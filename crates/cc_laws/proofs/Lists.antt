@@ -1,9 +1,10 @@
 -- Of lists and options.
 --     all_both, all_take, all_drop, all_changed    what holds of each element of two lists, of a front, of the rest, or follows from it
 --     some_if, mapped, either                      what holds of what an option has
+--     all_if, all_of                               what holds of a list by whether something is so
 --     at_some, of_some                             what holds where it has something
 use Rattle.std.proofs.Common.{◌≡◌, ℕ, zero, suc, Bool, true, false, cond, List, [], ◌∷◌, ◌++◌, take, refl, subst}
-use Rattle.std.specs.Prelude.{Option, Some, None, IfSome, option_map}
+use Rattle.std.specs.Prelude.{Option, Some, None, IfSome, option_map, if◌then◌else◌}
 use Rattle.std.specs.Option.{option_or}
 use Rattle.std.specs.Bool.{then_some}
 use Rattle.std.specs.List.{AllByRecursion}
@@ -29,6 +30,14 @@ module _ {X : Type 0} (Q : X → Type 0) where
   pub some_if : (b : Bool) (x : X) → Q x → IfSome (then_some b x) Q
   some_if true x h = h
   some_if false x h = tt
+
+  pub all_if : (b : Bool) (x : X) → Q x → AllByRecursion Q (if b then x ∷ [] else [])
+  all_if true x h = (h, tt)
+  all_if false x h = tt
+
+  pub all_of : (b : Bool) (xs ys : List X) → AllByRecursion Q xs → AllByRecursion Q ys → AllByRecursion Q (if b then xs else ys)
+  all_of true xs ys h k = h
+  all_of false xs ys h k = k
 
   pub some_of : (b : Bool) (x y : Option X) → IfSome x Q → IfSome y Q → IfSome (cond b x y) Q
   some_of true x y h k = h

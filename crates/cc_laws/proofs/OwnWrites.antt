@@ -1,5 +1,4 @@
 -- Each own row in a node's view is one that it wrote, as long as no view is delivered that has another one.
---     last_write        the value after some asks is that of the last write among them
 --     own_last          the one in the view is that of the last write
 --     own_written       an own row at a point of a history was written by the ask of its number
 use Rattle.std.proofs.Common.{◌≡◌, ℕ, ◌+◌, zero, suc, true, false, List, [], ◌∷◌, take, drop, length, refl, sym, ap, subst, ◌∙◌, arith, take-append-drop}
@@ -11,9 +10,7 @@ use Rattle.cc_views.specs.Rows.{Pair}
 use Rattle.cc_views.specs.declared.value.Value.{Value}
 use Rattle.cc_wire.specs.declared.event.Event.{Event}
 use Rattle.cc_ops.specs.declared.pending.Asked.{Asked}
-use Rattle.cc_ops.specs.Commands.{is_writing, written}
 use Rattle.cc_ops.specs.Ops.{nothing_stored}
-use Rattle.cc_ops.specs.OwnLaws.{reading_leaves}
 use Rattle.cc_ops.specs.Waiting.{writes_by, written_by}
 use Rattle.cc_node.specs.Node.{Node, step, after, IsLawful}
 use Rattle.cc_node.specs.Opening.{Opening, IsOpening, fresh}
@@ -22,38 +19,12 @@ use Rattle.cc_node.specs.Writes.{begun_along}
 use Rattle.cc_node.proofs.CoreLaws.{own_number_along, own_value_along}
 use Rattle.cc_laws.specs.Shown.{Has}
 use Rattle.cc_laws.specs.Histories.{view_at, BringsOldRows}
-use Rattle.cc_laws.specs.Written.{values_of, IsWriteOf}
+use Rattle.cc_laws.specs.Written.{IsWriteOf}
 use Rattle.cc_laws.proofs.OwnRows.{own_pair, HasOwnRow, own_step}
 use Rattle.cc_laws.proofs.Following.{same_pair}
 use Rattle.cc_laws.proofs.Steps.{me_next}
+use Rattle.cc_laws.proofs.Written.{last_write}
 use Rattle.cc_laws.proofs.Writing.{begun_write, write_front, fresh_me, fresh_number, fresh_mine}
-
-no_writes : (asks : List Asked) (mine : Value) → writes_by asks ≡ 0 → written_by asks mine ≡ mine
-no_writes [] mine none = refl
-no_writes (a ∷ asks) mine none =
-    elim (is_writing a.command)
-    as (λ b. is_writing a.command ≡ b → (if b then 1 else 0) + writes_by asks ≡ 0 → written_by asks (written a.command mine) ≡ mine) [
-      | true ↦ λ _ some. absurd (omega (arith, some))
-      | false ↦ λ reads more. ap (written_by asks) (sym (reading_leaves a.command mine reads)) ∙ no_writes asks mine (omega (arith, more))
-    ] refl none
-
--- one more write before these asks
-behind : (asks : List Asked) (w : Value) (n : ℕ) → writes_by asks ≡ n
-    → ((m : ℕ) → writes_by asks ≡ suc m → slice_get (values_of w asks) m ≡ Some (written_by asks w))
-    → slice_get (w ∷ values_of w asks) n ≡ Some (written_by asks w)
-behind asks w zero none later = ap Some (sym (no_writes asks w none))
-behind asks w (suc m) is later = later m is
-
-last_write : (asks : List Asked) (mine : Value) (n : ℕ) → writes_by asks ≡ suc n → slice_get (values_of mine asks) n ≡ Some (written_by asks mine)
-last_write [] mine n is = absurd (omega (arith, is))
-last_write (a ∷ asks) mine n is =
-    let w = written a.command mine in
-    elim (is_writing a.command)
-    as (λ b. is_writing a.command ≡ b → (if b then 1 else 0) + writes_by asks ≡ suc n
-    → slice_get (if b then w ∷ values_of w asks else values_of mine asks) n ≡ Some (written_by asks w)) [
-      | true ↦ λ _ more. behind asks w n (omega (arith, more)) (last_write asks w)
-      | false ↦ λ reads more. last_write asks mine n (omega (arith, more)) ∙ ap (λ v. Some (written_by asks v)) (reading_leaves a.command mine reads)
-    ] refl is
 
 own_along : (n : Node) (es : List Event) → HasOwnRow n.core.me n.core.ops → BringsOldRows n es → (j : ℕ)
     → HasOwnRow (after n (take j es)).core.me (after n (take j es)).core.ops

@@ -11,7 +11,7 @@ use Rattle.std.specs.FinMap as table
 use Rattle.std.proofs.lemmas.Bool.{and_parts, and_from, eqb-true, eq-eqb}
 use Rattle.std.proofs.lemmas.List.{append-nil}
 use Rattle.std.proofs.lemmas.List.Elements.{Contains-append_left, Contains-push}
-use Rattle.cc_views.specs.Rows.{Pair, ViewMap}
+use Rattle.cc_views.specs.Rows.{Pair, ViewMap, single}
 use Rattle.cc_views.specs.Merge.{merge, IsKept, IsAtMost}
 use Rattle.cc_views.specs.MergeLaws.{at_most_same, at_most_merge, at_most_trans, merged_at_most}
 use Rattle.cc_wire.specs.declared.event.Event.{Event}
@@ -32,7 +32,7 @@ use Rattle.cc_laws.proofs.Lists.{all_changed}
 use Rattle.cc_laws.proofs.Places.{after_push}
 use Rattle.cc_laws.proofs.Rows.{get-single}
 use Rattle.cc_laws.proofs.Says.{stored_of}
-use Rattle.cc_laws.proofs.Steps.{row_of, me_next}
+use Rattle.cc_laws.proofs.Steps.{me_next}
 
 abbrev pub HasAck : List Event → ℕ → ℕ → ℕ → Type 0
 HasAck past me tag r = (n : ℕ) × Contains past (event.Deliver r n (message.StoreAck tag me))
@@ -88,12 +88,16 @@ least_kept (Some p) (Some q) k h l = omega (arith, h, l)
 pub least_more : (v w : ViewMap) (q k : ℕ) → IsAtMost v w → HasAtLeast v q k → HasAtLeast w q k
 least_more v w q k h l = least_kept (table.get v q) (table.get w q) k (h q) l
 
-own_least : (me : ℕ) (s : Ops) (a : Asked) → HasAtLeast (merge s.view (row_of me s a)) me (s.number + 1)
+-- the row of the write that the ask would begin
+abbrev written_row : ℕ → Ops → Asked → ViewMap
+written_row me s a = single (record { node = me; number = s.number + 1; value = written a.command s.mine })
+
+own_least : (me : ℕ) (s : Ops) (a : Asked) → HasAtLeast (merge s.view (written_row me s a)) me (s.number + 1)
 own_least me s a =
     let w = written a.command s.mine in
-    let own : table.get (row_of me s a) me ≡ Some (s.number + 1, w) =
+    let own : table.get (written_row me s a) me ≡ Some (s.number + 1, w) =
     get-single _ me ∙ ap (λ b. cond b (Some (s.number + 1, w)) None) (eq-eqb me me refl) in
-    subst (λ (o : Option Pair). IsKept o (table.get (merge s.view (row_of me s a)) me)) own (merged_at_most s.view (row_of me s a) me)
+    subst (λ (o : Option Pair). IsKept o (table.get (merge s.view (written_row me s a)) me)) own (merged_at_most s.view (written_row me s a) me)
 
 -- ---- own answers
 

@@ -2,11 +2,12 @@
 --     AllRows P v            P holds of each row of a view
 --     WritesAlong P n es     and of each row that is written along a list
 --     rows_along             then it holds of each view along it
-use Rattle.std.proofs.Common.{◌≡◌, ℕ, ◌+◌, zero, suc, Bool, true, false, cond, nat_eq, nat_lt, List, [], ◌∷◌, ◌++◌, refl, sym, ap, subst, ◌∙◌, inl, inr}
+use Rattle.std.proofs.Common.{◌≡◌, ℕ, ◌+◌, ◌<◌, zero, suc, Bool, true, false, cond, nat_eq, nat_lt, List, [], ◌∷◌, ◌++◌, refl, sym, ap, subst, ◌∙◌, inl, inr}
 use Rattle.std.specs.Prelude.{Option, Some, None, IfSome, if◌then◌else◌}
 use Rattle.std.specs.List.{AllByRecursion}
 use Rattle.std.specs.Ordering.{nat_cmp}
 use Rattle.std.specs.FinMap as table
+use Rattle.std.proofs.lemmas.Bool.{ltb-true}
 use Rattle.std.proofs.lemmas.Bool.Decides.{eqb_tells}
 use Rattle.cc_views.specs.NatSets.{get-insert_key}
 use Rattle.cc_views.specs.Rows.{Pair, ViewMap, single}
@@ -16,8 +17,8 @@ use Rattle.cc_views.specs.declared.row.Row.{Row}
 use Rattle.cc_views.specs.declared.value.Value.{Value}
 use Rattle.cc_wire.specs.declared.event.Event.{Event}
 use Rattle.cc_ops.specs.declared.pending.Asked.{Asked}
-use Rattle.cc_ops.specs.Commands.{is_writing, written}
 use Rattle.cc_ops.specs.Ops.{Ops}
+use Rattle.cc_ops.specs.Waiting.{writes_by, written_by}
 use Rattle.cc_node.specs.Core.{Core, begun, next}
 use Rattle.cc_node.specs.Node.{Node, step, after}
 use Rattle.cc_laws.specs.Shown.{in_event}
@@ -57,28 +58,27 @@ module _ (P : ℕ → ℕ → Value → Type 0) where
         | inr e ↦ subst (λ b. IfSome {T = Pair} (cond b (Some (row.number, row.value)) None) (λ r. P q r.0 r.1)) (sym e.0) tt
       ])
 
-  -- the row of the write that begins, if one begins
-  abbrev pub OfWrite : ℕ → Ops → Asked → Type 0
-  OfWrite me s a = is_writing a.command ≡ true → P me (s.number + 1) (written a.command s.mine)
+  -- the row of the last write that begins with these asks, if one does
+  abbrev pub OfWrite : ℕ → Ops → List Asked → Type 0
+  OfWrite me s asks = 0 < writes_by asks → P me (s.number + writes_by asks) (written_by asks s.mine)
 
-  with_row_rows : (me : ℕ) (s : Ops) (o : Option Asked) → AllRows s.view → IfSome o (OfWrite me s) → AllRows (with_row me s o)
-  with_row_rows me s None h k = h
-  with_row_rows me s (Some a) h k =
-      elim (is_writing a.command) as (λ b. is_writing a.command ≡ b → AllRows (if b then merge s.view (row_of me s a) else s.view)) [
-        | true ↦ λ is. rows_merge s.view (row_of me s a) h (rows_single _ (k is))
+  with_row_rows : (me : ℕ) (s : Ops) (asks : List Asked) → AllRows s.view → OfWrite me s asks → AllRows (with_row me s asks)
+  with_row_rows me s asks h k =
+      elim (nat_lt 0 (writes_by asks)) as (λ b. nat_lt 0 (writes_by asks) ≡ b → AllRows (if b then merge s.view (row_of me s asks) else s.view)) [
+        | true ↦ λ is. rows_merge s.view (row_of me s asks) h (rows_single _ (k (ltb-true 0 (writes_by asks) is)))
         | false ↦ λ _. h
       ] refl
 
-  either_rows : (me : ℕ) (s : Ops) (brought : Option ViewMap) (o : Option Asked) (after : ViewMap) → ViewStep me s brought o after
-      → AllRows s.view → IfSome brought AllRows → IfSome o (OfWrite me s) → AllRows after
-  either_rows me s brought o after (inl is) h k w = subst AllRows (sym is) (with_row_rows me s o h w)
-  either_rows me s brought o after (inr b) h k w = subst AllRows (sym b.merges) (rows_merge s.view b.view h (at_some AllRows brought b.view b.is_brought k))
+  either_rows : (me : ℕ) (s : Ops) (brought : Option ViewMap) (asks : List Asked) (after : ViewMap) → ViewStep me s brought asks after
+      → AllRows s.view → IfSome brought AllRows → OfWrite me s asks → AllRows after
+  either_rows me s brought asks after (inl is) h k w = subst AllRows (sym is) (with_row_rows me s asks h w)
+  either_rows me s brought asks after (inr b) h k w = subst AllRows (sym b.merges) (rows_merge s.view b.view h (at_some AllRows brought b.view b.is_brought k))
 
   abbrev pub EventRows : Event → Type 0
   EventRows e = IfSome (in_event e) AllRows
 
   abbrev pub WrittenRow : Core → Event → Type 0
-  WrittenRow c e = IfSome (begun c e) (OfWrite c.me c.ops)
+  WrittenRow c e = OfWrite c.me c.ops (begun c e)
 
   abbrev pub WritesAlong : Node → List Event → Type 0
   WritesAlong n [] = Unit {0}

@@ -6,9 +6,10 @@
 --     ReplySays, reply_says        a reply ends a round, and tells what the pending operation is answered
 --     OutputSays, outputs_say      what is sent is the event's post, and what is replied its reply
 use Rattle.std.proofs.Common.{◌≡◌, ℕ, ◌+◌, ◌-◌, ◌<◌, ◌≤◌, Bool, true, false, List, [], ◌∷◌, ◌++◌, refl, subst, arith}
-use Rattle.std.specs.Prelude.{◌&&◌, Option, Some, None, IfSome, option_map, if◌then◌else◌, ⊤}
+use Rattle.std.specs.Prelude.{◌&&◌, Option, Some, None, IfSome, if◌then◌else◌, ⊤}
 use Rattle.std.specs.Bool.{then_some}
-use Rattle.std.specs.List.{AllByRecursion}
+use Rattle.std.specs.List.{AllByRecursion, Contains}
+use Rattle.std.proofs.lemmas.List.Elements.{Contains-append_left, Contains-append_right}
 use Rattle.std.specs.FinMap as table
 use Rattle.std.proofs.lemmas.Bool.{cond_both}
 use Rattle.cc_views.specs.Rows.{ViewMap}
@@ -28,12 +29,12 @@ use Rattle.cc_ops.specs.declared.pending.Pending.{Pending}
 use Rattle.cc_ops.specs.declared.pending.Reply.{Reply}
 use Rattle.cc_ops.specs.Commands.{is_writing}
 use Rattle.cc_ops.specs.Ops as ops
-use Rattle.cc_ops.specs.Ops.{Ops, Phase, Idle, Storing, Querying, StoringBack, is_idle, is_last, is_own, round_of, counted, merged, next_round, with_written, with_own_row, with_begun, after_ask, after_reply, after_last, after_ack, after_message, begun_in, ends_query, ends_store, told, reply_in}
-use Rattle.cc_ops.specs.Waiting.{first_in}
+use Rattle.cc_ops.specs.Ops.{Ops, Phase, Idle, Storing, Querying, StoringBack, is_idle, is_last, is_own, round_of, counted, merged, next_round, with_written, with_own_row, with_begun, after_ask, after_reply, after_last, after_ack, after_message, begun_in, ends_query, ends_store, told, replies_in}
+use Rattle.cc_ops.specs.Waiting.{first_round}
 use Rattle.cc_node.specs.declared.made.LinkAck.{LinkAck}
 use Rattle.cc_node.specs.Core as core
 use Rattle.cc_node.specs.Core.{Core, quorum, asked_of, churned, churn_told, tells, asks_anew, anew_if, join_told, question_if, post_of_snapshot, post_to}
-use Rattle.cc_node.specs.Core.{begun, handled, next, post, reply, outputs, sends, send_post, send_ack, send_reply, live_links}
+use Rattle.cc_node.specs.Core.{begun, handled, next, post, replies, outputs, sends, send_post, send_ack, send_replies, live_links}
 use Rattle.cc_node.specs.Node.{Node, step, after, IsLawful}
 use Rattle.cc_node.proofs.ToldLaws.{anew_more}
 use Rattle.cc_laws.specs.Rounds.{ends_round}
@@ -158,31 +159,31 @@ begun_says me quorum a s e =
     first_says (Says me s.tag e t) me a t (refl, new, refl, begun_stores me quorum a s) (refl, new, refl)
 
 last_says : (me quorum : ℕ) (line : List Asked) (s : Ops) (e : Event)
-    → IfSome (option_map (λ a. ops.first_post me a (after_last me quorum line s)) (first_in line)) (Says me s.tag e (after_last me quorum line s))
+    → IfSome (ops.post_of_round me (first_round line) (after_last me quorum line s)) (Says me s.tag e (after_last me quorum line s))
 last_says me quorum [] s e = tt
 last_says me quorum (a ∷ line) s e = begun_says me quorum a (record s { line = line }) e
 
 either_last : (me quorum : ℕ) (b : Bool) (phase : Phase) (s : Ops) (e : Event)
-    → IfSome (option_map (λ a. ops.first_post me a (if b then after_last me quorum s.line s else record s { phase = phase })) (if b then first_in s.line else None))
+    → IfSome (ops.post_of_round me (if b then first_round s.line else []) (if b then after_last me quorum s.line s else record s { phase = phase }))
     (Says me s.tag e (if b then after_last me quorum s.line s else record s { phase = phase }))
 either_last me quorum true phase s e = last_says me quorum s.line s e
 either_last me quorum false phase s e = tt
 
 ack_says : (me quorum : ℕ) (phase : Phase) (s : Ops) (e : Event)
-    → IfSome (option_map (λ a. ops.first_post me a (after_ack me quorum phase s)) (begun_in phase s.line)) (Says me s.tag e (after_ack me quorum phase s))
+    → IfSome (ops.post_of_round me (begun_in phase s.line) (after_ack me quorum phase s)) (Says me s.tag e (after_ack me quorum phase s))
 ack_says me quorum Idle s e = tt
 ack_says me quorum (Storing p) s e = either_last me quorum (is_last p) (Storing (counted p)) s e
 ack_says me quorum (Querying p) s e = tt
 ack_says me quorum (StoringBack p seen) s e = either_last me quorum (is_last p) (StoringBack (counted p) seen) s e
 
 own_ack_says : (me quorum : ℕ) (b : Bool) (s : Ops) (e : Event)
-    → IfSome (option_map (λ a. ops.first_post me a (if b then after_ack me quorum s.phase s else s)) (if b then begun_in s.phase s.line else None))
+    → IfSome (ops.post_of_round me (if b then begun_in s.phase s.line else []) (if b then after_ack me quorum s.phase s else s))
     (Says me s.tag e (if b then after_ack me quorum s.phase s else s))
 own_ack_says me quorum true s e = ack_says me quorum s.phase s e
 own_ack_says me quorum false s e = tt
 
 ask_says : (me quorum : ℕ) (b : Bool) (a : Asked) (s : Ops) (line : List Asked) (e : Event)
-    → IfSome (option_map (λ x. ops.first_post me x (if b then with_begun me quorum a s else record s { line = line })) (then_some b a))
+    → IfSome (ops.post_of_round me (if b then a ∷ [] else []) (if b then with_begun me quorum a s else record s { line = line }))
     (Says me s.tag e (if b then with_begun me quorum a s else record s { line = line }))
 ask_says me quorum true a s line e = begun_says me quorum a s e
 ask_says me quorum false a s line e = tt
@@ -297,19 +298,19 @@ Told view (StoringBack p seen) r = r ≡ told p seen
 abbrev pub ReplySays : Core → Event → Reply → Type 0
 ReplySays c e r = (ends_round c e ≡ true) × Told c.ops.view c.ops.phase r
 
-last_replies : (b : Bool) (t : Reply) → IfSome (then_some b t) (λ r. (b ≡ true) × (r ≡ t))
-last_replies true t = (refl, refl)
+last_replies : (b : Bool) (t : Reply) → AllByRecursion (λ r. (b ≡ true) × (r ≡ t)) (if b then t ∷ [] else [])
+last_replies true t = ((refl, refl), tt)
 last_replies false t = tt
 
 ack_replies : (b : Bool) (view : ViewMap) (phase : Phase)
-    → IfSome (if b then reply_in view phase else None) (λ r. ((b && ends_store phase) ≡ true) × Told view phase r)
+    → AllByRecursion (λ r. ((b && ends_store phase) ≡ true) × Told view phase r) (if b then replies_in view phase else [])
 ack_replies true view Idle = tt
 ack_replies true view (Storing p) = last_replies (is_last p) (told p view)
 ack_replies true view (Querying p) = tt
 ack_replies true view (StoringBack p seen) = last_replies (is_last p) (told p seen)
 ack_replies false view phase = tt
 
-message_replies : (c : Core) (from n : ℕ) (m : Message) → IfSome (ops.reply_of c.me m c.ops) (ReplySays c (event.Deliver from n m))
+message_replies : (c : Core) (from n : ℕ) (m : Message) → AllByRecursion (ReplySays c (event.Deliver from n m)) (ops.replies_of c.me m c.ops)
 message_replies c from n (message.Enter q) = tt
 message_replies c from n (message.EnterEcho d v j q) = tt
 message_replies c from n (message.Join q) = tt
@@ -322,15 +323,15 @@ message_replies c from n (message.Store v tag q) = tt
 message_replies c from n (message.StoreAck tag q) = ack_replies (is_own c.me tag q c.ops) c.ops.view c.ops.phase
 message_replies c from n (message.Snapshot d v) = tt
 
-pub reply_says : (c : Core) (e : Event) → IfSome (reply c e) (ReplySays c e)
-reply_says c event.Enter = tt
-reply_says c event.Leave = tt
-reply_says c (event.Deliver from n m) = message_replies c from n m
-reply_says c (event.Acked peer n) = tt
-reply_says c (event.Ask s r command) = tt
-reply_says c (event.Retire q) = tt
-reply_says c (event.Lapse q) = tt
-reply_says c event.Snapshot = tt
+pub each_says : (c : Core) (e : Event) → AllByRecursion (ReplySays c e) (replies c e)
+each_says c event.Enter = tt
+each_says c event.Leave = tt
+each_says c (event.Deliver from n m) = message_replies c from n m
+each_says c (event.Acked peer n) = tt
+each_says c (event.Ask s r command) = tt
+each_says c (event.Retire q) = tt
+each_says c (event.Lapse q) = tt
+each_says c event.Snapshot = tt
 
 -- ---- outputs
 
@@ -341,7 +342,7 @@ GoesTo c to n = (l : Link) × (table.get (live_links c) to ≡ Some l) × (n ≡
 abbrev pub OutputSays : Core → Event → Output → Type 0
 OutputSays c e (output.Send to n m) = (post c e ≡ Some m) × GoesTo (next c e) to n
 OutputSays c e (output.Ack to n) = ⊤
-OutputSays c e (output.Reply s r a) = reply c e ≡ Some (record { session = s; request = r; answer = a })
+OutputSays c e (output.Reply s r a) = Contains (replies c e) (record { session = s; request = r; answer = a })
 
 each_send : (P : Output → Type 0) (k : ℕ) (m : Message) (rows : List (ℕ × Link)) → AllByRecursion (λ row. P (output.Send row.0 (k - row.1.start) m)) rows
     → AllByRecursion P (sends k m rows)
@@ -362,12 +363,21 @@ acks_say : (c : Core) (e : Event) (a : Option LinkAck) → AllByRecursion (Outpu
 acks_say c e None = tt
 acks_say c e (Some a) = (tt, tt)
 
-replies_say : (c : Core) (e : Event) (r : Option Reply) → reply c e ≡ r → AllByRecursion (OutputSays c e) (send_reply r)
-replies_say c e None is = tt
-replies_say c e (Some r) is = (is, tt)
+-- each element is in its list
+each_in : (xs : List Reply) → AllByRecursion (Contains xs) xs
+each_in [] = tt
+each_in (x ∷ xs) = (Contains-append_left (x ∷ []) xs x (0, omega arith, refl), behind xs (each_in xs))
+  where
+    behind : (ys : List Reply) → AllByRecursion (Contains xs) ys → AllByRecursion (Contains (x ∷ xs)) ys
+    behind [] h = tt
+    behind (y ∷ ys) h = (Contains-append_right (x ∷ []) xs y h.0, behind ys h.1)
+
+replies_say : (c : Core) (e : Event) (rs : List Reply) → AllByRecursion (Contains (replies c e)) rs → AllByRecursion (OutputSays c e) (send_replies rs)
+replies_say c e [] h = tt
+replies_say c e (r ∷ rs) h = (h.0, replies_say c e rs h.1)
 
 pub outputs_say : (c : Core) (e : Event) → AllByRecursion (OutputSays c e) (outputs c e)
 outputs_say c e =
-    all_both (OutputSays c e) (send_ack (core.ack e) ++ send_post (next c e) (post c e)) (send_reply (reply c e))
+    all_both (OutputSays c e) (send_ack (core.ack e) ++ send_post (next c e) (post c e)) (send_replies (replies c e))
     (all_both (OutputSays c e) (send_ack (core.ack e)) (send_post (next c e) (post c e)) (acks_say c e (core.ack e)) (posts_say c e (post c e) refl))
-    (replies_say c e (reply c e) refl)
+    (replies_say c e (replies c e) (each_in (replies c e)))

@@ -17,16 +17,17 @@ use Rattle.cc_wire.specs.declared.message.Message.{Message}
 use Rattle.cc_links.specs.Links.{Link}
 use Rattle.cc_ops.specs.declared.pending.Reply.{Reply}
 use Rattle.cc_ops.specs.Ops.{seen_in}
+use Rattle.cc_outbox.specs.Outbox as outbox
 use Rattle.cc_outbox.specs.Outbox.{Outbox, trim}
 use Rattle.cc_node.specs.declared.made.LinkAck.{LinkAck}
-use Rattle.cc_node.specs.Core.{Core, post, next, reply, outputs, ack, sends, send_post, send_ack, send_reply, lowest, live_links}
+use Rattle.cc_node.specs.Core.{Core, post, next, replies, outputs, ack, sends, send_post, send_ack, send_replies, lowest, live_links}
 use Rattle.cc_node.specs.Node.{Node, step, keep, add, forget_asked, after, line}
 use Rattle.cc_node.specs.Opening.{Opening, fresh}
 use Rattle.cc_node.proofs.StandingLaws.{get-above}
 use Rattle.cc_laws.specs.Shown.{in_message, in_answer, Shows, held, stored_back, posted, answered}
 use Rattle.cc_laws.specs.Histories.{view_at}
 use Rattle.cc_laws.proofs.Lists.{all_both, some_of, at_some}
-use Rattle.cc_laws.proofs.ShownParts.{OfPhase, OfMessage, OfAnswer, OfOutput, OfReply, handled_phase, post_shows, reply_shows}
+use Rattle.cc_laws.proofs.ShownParts.{OfPhase, OfMessage, OfAnswer, OfOutput, OfReply, handled_phase, post_shows, replies_show}
 
 module _ (Q : ViewMap → Type 0) where
   pub record KeepsOnly (o : Outbox) : Type 0 where
@@ -62,13 +63,16 @@ module _ (Q : ViewMap → Type 0) where
     answers = h.answers;
   }
 
-  keeps : (r : Option Reply) (o : Outbox) → KeepsOnly o → IfSome r (OfReply Q) → KeepsOnly (keep r o)
-  keeps None o h i = h
-  keeps (Some r) o h i = record {
+  keeps_one : (r : Reply) (o : Outbox) → KeepsOnly o → OfReply Q r → KeepsOnly (outbox.keep r.session r.answer o)
+  keeps_one r o h i = record {
     posts = h.posts;
     answers = λ q. subst (λ x. IfSome x (OfAnswer Q)) (sym (get-insert_key o.answers r.session r.answer q))
         (some_of (OfAnswer Q) (nat_eq q r.session) (Some r.answer) (table.get o.answers q) i (h.answers q));
   }
+
+  keeps : (rs : List Reply) (o : Outbox) → KeepsOnly o → AllByRecursion (OfReply Q) rs → KeepsOnly (keep rs o)
+  keeps [] o h i = h
+  keeps (r ∷ rs) o h i = keeps rs (outbox.keep r.session r.answer o) (keeps_one r o h i.0) i.1
 
   trims : (low : ℕ) (o : Outbox) → KeepsOnly o → KeepsOnly (trim low o)
   trims low o h = record {
@@ -83,7 +87,7 @@ module _ (Q : ViewMap → Type 0) where
   step_shows n e h there = record {
     view = there;
     phase = handled_phase Q n.core e h.phase there;
-    kept = trims (lowest (next n.core e)) _ (keeps (reply n.core e) _ (adds (post n.core e) _ (forgets e n.outbox h.kept) (post_shows Q n.core e h.phase there)) (reply_shows Q n.core e h.view h.phase));
+    kept = trims (lowest (next n.core e)) _ (keeps (replies n.core e) _ (adds (post n.core e) _ (forgets e n.outbox h.kept) (post_shows Q n.core e h.phase there)) (replies_show Q n.core e h.view h.phase));
   }
 
   sends_show : (k : ℕ) (m : Message) (rows : List (ℕ × Link)) → OfMessage Q m → AllByRecursion (OfOutput Q) (sends k m rows)
@@ -98,17 +102,17 @@ module _ (Q : ViewMap → Type 0) where
   sent_ack None = tt
   sent_ack (Some a) = (tt, tt)
 
-  sent_reply : (r : Option Reply) → IfSome r (OfReply Q) → AllByRecursion (OfOutput Q) (send_reply r)
-  sent_reply None h = tt
-  sent_reply (Some r) h = (h, tt)
+  sent_replies : (rs : List Reply) → AllByRecursion (OfReply Q) rs → AllByRecursion (OfOutput Q) (send_replies rs)
+  sent_replies [] h = tt
+  sent_replies (r ∷ rs) h = (h.0, sent_replies rs h.1)
 
   outputs_show : (n : Node) (e : Event) → ShowsOnly n → Q (step n e).core.ops.view → AllByRecursion (OfOutput Q) (outputs n.core e)
   unfolding step next
   outputs_show n e h there =
       let c = n.core in
-      all_both (OfOutput Q) (send_ack (ack e) ++ send_post (next c e) (post c e)) (send_reply (reply c e))
+      all_both (OfOutput Q) (send_ack (ack e) ++ send_post (next c e) (post c e)) (send_replies (replies c e))
       (all_both (OfOutput Q) (send_ack (ack e)) (send_post (next c e) (post c e)) (sent_ack (ack e)) (sent_post (next c e) (post c e) (post_shows Q c e h.phase there)))
-      (sent_reply (reply c e) (reply_shows Q c e h.view h.phase))
+      (sent_replies (replies c e) (replies_show Q c e h.view h.phase))
 
   pub all_shown : (n : Node) (es : List Event) → ShowsOnly n → ((k : ℕ) → Q (view_at n es k)) → ShowsOnly (after n es) × AllByRecursion (OfOutput Q) (line n es)
   all_shown n [] h points = (h, tt)

@@ -3,6 +3,7 @@
 --     handled_phase, post_shows, reply_shows            so it does of the phase, the post and the answer of an event
 use Rattle.std.proofs.Common.{ℕ, Bool, true, false, List, [], ◌∷◌, ◌+◌, sym, subst}
 use Rattle.std.specs.Prelude.{Option, None, IfSome, if◌then◌else◌}
+use Rattle.std.specs.List.{AllByRecursion}
 use Rattle.cc_views.specs.Rows.{ViewMap}
 use Rattle.cc_views.specs.Merge.{merge}
 use Rattle.cc_wire.specs.declared.answer.Answer.{Answer}
@@ -20,12 +21,13 @@ use Rattle.cc_ops.specs.Commands.{is_writing, answer_of}
 use Rattle.cc_ops.specs.Ops as ops
 use Rattle.cc_ops.specs.Ops.{Ops, Phase, Idle, Storing, Querying, StoringBack, seen_in}
 use Rattle.cc_ops.specs.OwnLaws.{anew_keeps}
+use Rattle.cc_ops.specs.Waiting.{first_in}
 use Rattle.cc_node.specs.Core.{Core, quorum, asked_of, churned, churn_told, tells, asks_anew, anew_if, join_told, question_if, post_of_snapshot, post_to}
-use Rattle.cc_node.specs.Core.{begun, handled, post, reply}
+use Rattle.cc_node.specs.Core.{begun, handled, post, replies}
 use Rattle.cc_node.proofs.ToldLaws.{anew_view}
 use Rattle.cc_node.specs.Node.{line}
 use Rattle.cc_laws.specs.Shown.{in_message, in_answer, in_output}
-use Rattle.cc_laws.proofs.Lists.{some_if, some_of, some_or, some_mapped}
+use Rattle.cc_laws.proofs.Lists.{some_if, some_of, some_or, some_mapped, all_if, all_of}
 
 module _ (Q : ViewMap → Type 0) where
   abbrev pub OfPhase : Phase → Type 0
@@ -148,7 +150,7 @@ module _ (Q : ViewMap → Type 0) where
   ops_post me joined (message.Query tag q) s t h = some_if OfMessage joined (message.QueryReply t.view tag q) h
   ops_post me joined (message.QueryReply w tag q) s t h = some_if OfMessage _ (message.Store t.view t.tag me) h
   ops_post me joined (message.Store w tag q) s t h = some_if OfMessage joined (message.StoreAck tag q) tt
-  ops_post me joined (message.StoreAck tag q) s t h = some_mapped OfMessage (λ a. ops.first_post me a t) (ops.begun_by me (message.StoreAck tag q) s) (λ a. first_post me a t h)
+  ops_post me joined (message.StoreAck tag q) s t h = some_mapped OfMessage (λ a. ops.first_post me a t) (first_in (ops.begun_by me (message.StoreAck tag q) s)) (λ a. first_post me a t h)
   ops_post me joined (message.Snapshot c w) s t h = tt
 
   question_in : (me quorum tag : ℕ) (v : ViewMap) (phase : Phase) → Q v → OfPhase phase → IfSome (ops.question_in me v tag (ops.again quorum phase)) OfMessage
@@ -184,7 +186,7 @@ module _ (Q : ViewMap → Type 0) where
   post_shows c (event.Acked peer n) k h = tt
   post_shows c (event.Ask s r command) k h =
       let d = handled c (event.Ask s r command) in
-      some_mapped OfMessage (λ a. ops.first_post c.me a d.ops) (begun c (event.Ask s r command)) (λ a. first_post c.me a d.ops h)
+      some_mapped OfMessage (λ a. ops.first_post c.me a d.ops) (first_in (begun c (event.Ask s r command))) (λ a. first_post c.me a d.ops h)
   post_shows c (event.Retire q) k h = tt
   post_shows c (event.Lapse q) k h = tt
   post_shows c event.Snapshot k h = h
@@ -204,31 +206,31 @@ module _ (Q : ViewMap → Type 0) where
   abbrev pub OfReply : Reply → Type 0
   OfReply r = OfAnswer r.answer
 
-  reply_in : (v : ViewMap) (phase : Phase) → Q v → OfPhase phase → IfSome (ops.reply_in v phase) OfReply
-  reply_in v Idle h k = tt
-  reply_in v (Storing p) h k = some_if OfReply (ops.is_last p) (ops.told p v) (answer_shows p.asked.command v h)
-  reply_in v (Querying p) h k = tt
-  reply_in v (StoringBack p seen) h k = some_if OfReply (ops.is_last p) (ops.told p seen) (answer_shows p.asked.command seen k)
+  replies_in : (v : ViewMap) (phase : Phase) → Q v → OfPhase phase → AllByRecursion OfReply (ops.replies_in v phase)
+  replies_in v Idle h k = tt
+  replies_in v (Storing p) h k = all_if OfReply (ops.is_last p) (ops.told p v) (answer_shows p.asked.command v h)
+  replies_in v (Querying p) h k = tt
+  replies_in v (StoringBack p seen) h k = all_if OfReply (ops.is_last p) (ops.told p seen) (answer_shows p.asked.command seen k)
 
-  reply_of : (me : ℕ) (m : Message) (s : Ops) → Q s.view → OfPhase s.phase → IfSome (ops.reply_of me m s) OfReply
-  reply_of me (message.Enter q) s h k = tt
-  reply_of me (message.EnterEcho c v j q) s h k = tt
-  reply_of me (message.Join q) s h k = tt
-  reply_of me (message.JoinEcho q) s h k = tt
-  reply_of me (message.Leave q) s h k = tt
-  reply_of me (message.LeaveEcho q) s h k = tt
-  reply_of me (message.Query tag q) s h k = tt
-  reply_of me (message.QueryReply v tag q) s h k = tt
-  reply_of me (message.Store v tag q) s h k = tt
-  reply_of me (message.StoreAck tag q) s h k = some_of OfReply (ops.is_own me tag q s) (ops.reply_in s.view s.phase) None (reply_in s.view s.phase h k) tt
-  reply_of me (message.Snapshot c v) s h k = tt
+  replies_of : (me : ℕ) (m : Message) (s : Ops) → Q s.view → OfPhase s.phase → AllByRecursion OfReply (ops.replies_of me m s)
+  replies_of me (message.Enter q) s h k = tt
+  replies_of me (message.EnterEcho c v j q) s h k = tt
+  replies_of me (message.Join q) s h k = tt
+  replies_of me (message.JoinEcho q) s h k = tt
+  replies_of me (message.Leave q) s h k = tt
+  replies_of me (message.LeaveEcho q) s h k = tt
+  replies_of me (message.Query tag q) s h k = tt
+  replies_of me (message.QueryReply v tag q) s h k = tt
+  replies_of me (message.Store v tag q) s h k = tt
+  replies_of me (message.StoreAck tag q) s h k = all_of OfReply (ops.is_own me tag q s) (ops.replies_in s.view s.phase) [] (replies_in s.view s.phase h k) tt
+  replies_of me (message.Snapshot c v) s h k = tt
 
-  pub reply_shows : (c : Core) (e : Event) → Q c.ops.view → OfPhase c.ops.phase → IfSome (reply c e) OfReply
-  reply_shows c event.Enter h k = tt
-  reply_shows c event.Leave h k = tt
-  reply_shows c (event.Deliver from n m) h k = reply_of c.me m c.ops h k
-  reply_shows c (event.Acked peer n) h k = tt
-  reply_shows c (event.Ask s r command) h k = tt
-  reply_shows c (event.Retire q) h k = tt
-  reply_shows c (event.Lapse q) h k = tt
-  reply_shows c event.Snapshot h k = tt
+  pub replies_show : (c : Core) (e : Event) → Q c.ops.view → OfPhase c.ops.phase → AllByRecursion OfReply (replies c e)
+  replies_show c event.Enter h k = tt
+  replies_show c event.Leave h k = tt
+  replies_show c (event.Deliver from n m) h k = replies_of c.me m c.ops h k
+  replies_show c (event.Acked peer n) h k = tt
+  replies_show c (event.Ask s r command) h k = tt
+  replies_show c (event.Retire q) h k = tt
+  replies_show c (event.Lapse q) h k = tt
+  replies_show c event.Snapshot h k = tt

@@ -24,6 +24,7 @@ use Rattle.cc_ops.specs.Commands.{is_writing}
 use Rattle.cc_churn.specs.Churn as churn
 use Rattle.cc_links.specs.Links as links
 use Rattle.cc_ops.specs.Ops as ops
+use Rattle.cc_ops.specs.Waiting.{first_in}
 use Rattle.cc_ops.specs.Ops.{Ops, Phase, Idle, Storing, Querying, StoringBack}
 use Rattle.cc_node.specs.Core.{Core, quorum, churned, churn_told, told_if, is_told_of, skips, links_heard, tells, asks_anew, join_told, question_if}
 use Rattle.cc_node.specs.Core.{post_of_snapshot, begun, handled, next, post}
@@ -116,7 +117,7 @@ ops_quiet all me joined (message.Query tag q) s t = some_if (IsOfRound all) join
 ops_quiet all me joined (message.QueryReply v tag q) s t = some_if (IsOfRound all) _ (message.Store t.view t.tag me) tt
 ops_quiet all me joined (message.Store v tag q) s t = some_if (IsOfRound all) joined (message.StoreAck tag q) tt
 ops_quiet all me joined (message.StoreAck tag q) s t =
-    some_mapped (IsOfRound all) (λ a. ops.first_post me a t) (ops.begun_by me (message.StoreAck tag q) s) (λ a. first_of_round all me a t)
+    some_mapped (IsOfRound all) (λ a. ops.first_post me a t) (first_in (ops.begun_by me (message.StoreAck tag q) s)) (λ a. first_of_round all me a t)
 ops_quiet all me joined (message.Snapshot c v) s t = tt
 
 -- the Join of a node that joins with a snapshot, where none does
@@ -166,7 +167,7 @@ quiet_post all c k event.Leave h = absurd h
 quiet_post all c k (event.Deliver from n m) h = message_quiet all c k from n m h
 quiet_post all c k (event.Acked peer n) h = tt
 quiet_post all c k (event.Ask s r command) h =
-    some_mapped (IsOfRound all) (λ a. ops.first_post c.me a (handled c (event.Ask s r command)).ops) (begun c (event.Ask s r command))
+    some_mapped (IsOfRound all) (λ a. ops.first_post c.me a (handled c (event.Ask s r command)).ops) (first_in (begun c (event.Ask s r command)))
     (λ a. first_of_round all c.me a (handled c (event.Ask s r command)).ops)
 quiet_post all c k (event.Retire q) h = absurd h
 quiet_post all c k (event.Lapse q) h = tt

@@ -1,9 +1,8 @@
 -- What one event makes of the view: it is as before, or has one more own row, or is merged with what the event brings.
---     with_row me s o      the view with the own row of the write that begins, if one begins
+--     with_row me s asks   the view with the own row of the last write that begins with these asks, if one does
 --     ViewStep, view_step
-use Rattle.std.proofs.Common.{◌≡◌, ◌⊎◌, inl, inr, ℕ, ◌+◌, Bool, true, false, List, [], ◌∷◌, refl, sym, subst}
+use Rattle.std.proofs.Common.{◌≡◌, ◌⊎◌, inl, inr, ℕ, ◌+◌, nat_lt, Bool, true, false, List, [], ◌∷◌, refl, sym, subst}
 use Rattle.std.specs.Prelude.{Option, Some, None, if◌then◌else◌}
-use Rattle.std.specs.Bool.{then_some}
 use Rattle.cc_views.specs.Rows.{ViewMap, single}
 use Rattle.cc_views.specs.Merge.{merge}
 use Rattle.cc_wire.specs.declared.event.Event.{Event}
@@ -13,35 +12,34 @@ use Rattle.cc_wire.specs.declared.message.Message.TheVariants as message
 use Rattle.cc_ops.specs.declared.pending.Asked.{Asked}
 use Rattle.cc_ops.specs.Commands.{is_writing, written}
 use Rattle.cc_ops.specs.Ops.{Ops, Phase, Idle, Storing, Querying, StoringBack, is_idle, is_last, is_own, round_of, counted, merged, next_round, with_written, with_own_row, with_begun, after_reply, after_last, after_ack, after_message, begun_in, begun_by}
-use Rattle.cc_ops.specs.Waiting.{first_in}
+use Rattle.cc_ops.specs.Waiting.{first_round, writes_by, written_by}
 use Rattle.cc_churn.specs.Churn as churn
 use Rattle.cc_node.specs.Core.{Core, quorum, asked_of, churn_told, asks_anew, begun, next}
 use Rattle.cc_node.proofs.ToldLaws.{anew_view}
 use Rattle.cc_laws.specs.Shown.{in_message, in_event}
 
--- the own row of a write, under the next number
-abbrev pub row_of : ℕ → Ops → Asked → ViewMap
-row_of me s a = single (record { node = me; number = s.number + 1; value = written a.command s.mine })
+-- the own row once asks have begun, under the number of the last write among them
+abbrev pub row_of : ℕ → Ops → List Asked → ViewMap
+row_of me s asks = single (record { node = me; number = s.number + writes_by asks; value = written_by asks s.mine })
 
-abbrev pub with_row : ℕ → Ops → Option Asked → ViewMap
-with_row me s None = s.view
-with_row me s (Some a) = if is_writing a.command then merge s.view (row_of me s a) else s.view
+abbrev pub with_row : ℕ → Ops → List Asked → ViewMap
+with_row me s asks = if nat_lt 0 (writes_by asks) then merge s.view (row_of me s asks) else s.view
 
-begun_view : (me quorum : ℕ) (a : Asked) (s : Ops) → (with_begun me quorum a s).view ≡ with_row me s (Some a)
+begun_view : (me quorum : ℕ) (a : Asked) (s : Ops) → (with_begun me quorum a s).view ≡ with_row me s (a ∷ [])
 begun_view me quorum a s =
     elim (is_writing a.command)
     as (λ b. (if b then next_round (Storing (round_of quorum a)) (with_own_row me (with_written a.command s)) else next_round (Querying (round_of quorum a)) s).view
-    ≡ (if b then merge s.view (row_of me s a) else s.view)) [
+    ≡ (if nat_lt 0 ((if b then 1 else 0) + 0) then merge s.view (single (record { node = me; number = s.number + ((if b then 1 else 0) + 0); value = written a.command s.mine })) else s.view)) [
       | true ↦ refl
       | false ↦ refl
     ]
 
-last_view : (me quorum : ℕ) (line : List Asked) (s : Ops) → (after_last me quorum line s).view ≡ with_row me s (first_in line)
+last_view : (me quorum : ℕ) (line : List Asked) (s : Ops) → (after_last me quorum line s).view ≡ with_row me s (first_round line)
 last_view me quorum [] s = refl
 last_view me quorum (a ∷ line) s = begun_view me quorum a (record s { line = line })
 
 either_last : (me quorum : ℕ) (b : Bool) (phase : Phase) (s : Ops)
-    → (if b then after_last me quorum s.line s else record s { phase = phase }).view ≡ with_row me s (if b then first_in s.line else None)
+    → (if b then after_last me quorum s.line s else record s { phase = phase }).view ≡ with_row me s (if b then first_round s.line else [])
 either_last me quorum true phase s = last_view me quorum s.line s
 either_last me quorum false phase s = refl
 
@@ -51,12 +49,12 @@ ack_view me quorum (Storing p) s = either_last me quorum (is_last p) (Storing (c
 ack_view me quorum (Querying p) s = refl
 ack_view me quorum (StoringBack p seen) s = either_last me quorum (is_last p) (StoringBack (counted p) seen) s
 
-own_ack_view : (me quorum : ℕ) (b : Bool) (s : Ops) → (if b then after_ack me quorum s.phase s else s).view ≡ with_row me s (if b then begun_in s.phase s.line else None)
+own_ack_view : (me quorum : ℕ) (b : Bool) (s : Ops) → (if b then after_ack me quorum s.phase s else s).view ≡ with_row me s (if b then begun_in s.phase s.line else [])
 own_ack_view me quorum true s = ack_view me quorum s.phase s
 own_ack_view me quorum false s = refl
 
 ask_view : (me quorum : ℕ) (b : Bool) (a : Asked) (s : Ops) (line : List Asked)
-    → (if b then with_begun me quorum a s else record s { line = line }).view ≡ with_row me s (then_some b a)
+    → (if b then with_begun me quorum a s else record s { line = line }).view ≡ with_row me s (if b then a ∷ [] else [])
 ask_view me quorum true a s line = begun_view me quorum a s
 ask_view me quorum false a s line = refl
 
@@ -75,21 +73,21 @@ reply_view quorum v (Querying p) s =
     either_view (is_last p) s.view v (next_round (StoringBack (round_of quorum p.asked) (merge s.view v)) (merged v s)) (record (merged v s) { phase = Querying (counted p) }) (inr refl) (inr refl)
 reply_view quorum v (StoringBack p seen) s = inl refl
 
--- what an event may bring, whether it lets an ask begin, the view that this leaves, and the view after it
-pub record Brings (brought : Option ViewMap) (o : Option Asked) (before after : ViewMap) : Type 0 where
+-- what an event may bring, whether it lets asks begin, the view that this leaves, and the view after it
+pub record Brings (brought : Option ViewMap) (asks : List Asked) (before after : ViewMap) : Type 0 where
   pub view : ViewMap
   pub is_brought : brought ≡ Some view
-  pub none_begins : o ≡ None
+  pub none_begins : asks ≡ []
   pub merges : after ≡ merge before view
 
-abbrev pub ViewStep : ℕ → Ops → Option ViewMap → Option Asked → ViewMap → Type 0
-ViewStep me s brought o after = (after ≡ with_row me s o) ⊎ Brings brought o s.view after
+abbrev pub ViewStep : ℕ → Ops → Option ViewMap → List Asked → ViewMap → Type 0
+ViewStep me s brought asks after = (after ≡ with_row me s asks) ⊎ Brings brought asks s.view after
 
-brings : (s : Ops) (v after : ViewMap) → after ≡ merge s.view v → Brings (Some v) None s.view after
+brings : (s : Ops) (v after : ViewMap) → after ≡ merge s.view v → Brings (Some v) [] s.view after
 brings s v after is = record { view = v; is_brought = refl; none_begins = refl; merges = is }
 
 -- where nothing begins
-as_before : (me : ℕ) (s : Ops) (v after : ViewMap) → IsAsBefore s.view v after → ViewStep me s (Some v) None after
+as_before : (me : ℕ) (s : Ops) (v after : ViewMap) → IsAsBefore s.view v after → ViewStep me s (Some v) [] after
 as_before me s v after (inl same) = inl same
 as_before me s v after (inr more) = inr (brings s v after more)
 

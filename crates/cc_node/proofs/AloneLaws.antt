@@ -5,7 +5,7 @@
 --     after_same, line_same    what such a list leaves and puts out
 --     leaves_line              the rule of one operation at a time leaves the asks that wait as they are
 use Rattle.std.proofs.Common.{◌≡◌, ℕ, ◌+◌, ◌-◌, Bool, true, false, not, ◌&&◌, ◌||◌, nat_le, List, [], ◌∷◌, ◌++◌, length, refl, sym, ap, subst, ◌∙◌, arith}
-use Rattle.std.specs.Prelude.{Option, Some, None, if◌then◌else◌, is_some, option_map, ◌==◌}
+use Rattle.std.specs.Prelude.{Option, Some, None, if◌then◌else◌, is_some, ◌==◌}
 use Rattle.std.specs.Option.{option_len}
 use Rattle.std.specs.Bool.{then_some}
 use Rattle.std.specs.FinMap as table
@@ -24,9 +24,9 @@ use Rattle.cc_ops.specs.declared.pending.Asked.{Asked}
 use Rattle.cc_ops.specs.Commands.{finds_no_room}
 use Rattle.cc_ops.specs.Waiting.{has_session, written_by}
 use Rattle.cc_ops.specs.OwnLaws.{begun_line}
-use Rattle.cc_ops.specs.Ops.{Ops, Phase, Idle, Storing, Querying, StoringBack, is_idle, is_last, is_own, counted, with_begun, after_ask, after_reply, after_last, after_ack, after_message, first_post, ends_store, begun_in, begun_by, unanswered}
+use Rattle.cc_ops.specs.Ops.{Ops, Phase, Idle, Storing, Querying, StoringBack, is_idle, is_last, is_own, counted, with_begun, after_ask, after_reply, after_last, after_ack, after_message, first_post, post_of_round, ends_store, begun_in, begun_by, unanswered}
 use Rattle.cc_outbox.specs.Outbox.{post_limit, trim}
-use Rattle.cc_node.specs.Core.{Core, quorum, asked_of, ids_of, links_heard, churn_told, asks_anew, anew_if, next, post, outputs, ack, reply, send_ack, send_post, send_reply, lowest}
+use Rattle.cc_node.specs.Core.{Core, quorum, asked_of, ids_of, links_heard, churn_told, asks_anew, anew_if, next, post, outputs, ack, replies, send_ack, send_post, send_replies, lowest}
 use Rattle.cc_node.specs.Node.{Node, step, after, line, keep, add, forget_asked, IsLawfulWithin}
 use Rattle.cc_node.specs.Refusals.{decides_within, left, has_gone, not_entered, already_entered, not_joined, old, gap, nothing_to_ack, too_many_nodes, too_many_sessions, repeat, stale, skip, nothing_to_lapse, busy, set_full, outbox_full, spent, any_overruns}
 use Rattle.cc_node.specs.OneAtATime.{acked_alone, ops_alone, quorum_told, next_alone, post_alone, outputs_alone, busy_alone, set_full_alone, outbox_full_alone, spent_alone, decides_alone, step_alone, after_alone, line_alone, IsLawfulAlone}
@@ -53,13 +53,13 @@ acked_same me quorum (StoringBack p seen) s at none =
 ack_same : (me quorum tag q : ℕ) (s : Ops) → s.line ≡ [] → ops_alone me quorum (message.StoreAck tag q) s ≡ after_message me quorum (message.StoreAck tag q) s
 ack_same me quorum tag q s none = ap (λ (t : Ops). if is_own me tag q s then t else s) (acked_same me quorum s.phase s refl none)
 
-none_either : (b : Bool) → (let none : Option Asked = None in (if b then none else none) ≡ none)
+none_either : (b : Bool) → (let none : List Asked = [] in (if b then none else none) ≡ none)
 none_either true = refl
 none_either false = refl
 
-none_begins : (me tag q : ℕ) (s : Ops) → s.line ≡ [] → begun_by me (message.StoreAck tag q) s ≡ None
+none_begins : (me tag q : ℕ) (s : Ops) → s.line ≡ [] → begun_by me (message.StoreAck tag q) s ≡ []
 none_begins me tag q s none =
-    ap (λ (o : Option Asked). if is_own me tag q s then o else None)
+    ap (λ (o : List Asked). if is_own me tag q s then o else [])
     (ap (λ (l : List Asked). begun_in s.phase l) none ∙ none_either (ends_store s.phase))
     ∙ none_either (is_own me tag q s)
 
@@ -69,7 +69,7 @@ none_begins me tag q s none =
 ack_post : (c : Core) (from n tag q : ℕ) → c.ops.line ≡ [] → post_alone c (event.Deliver from n (message.StoreAck tag q)) ≡ post c (event.Deliver from n (message.StoreAck tag q))
 ack_post c from n tag q none =
     let after = after_message c.me (quorum c) (message.StoreAck tag q) c.ops in
-    sym (ap (λ (o : Option Asked). option_map (λ (a : Asked). first_post c.me a after) o) (none_begins c.me tag q c.ops none))
+    sym (ap (λ (asks : List Asked). post_of_round c.me asks after) (none_begins c.me tag q c.ops none))
 
 -- an event of which no ask that waits could be aware: any but an ask where an operation is pending
 abbrev IsFree : Core → Event → Type 0
@@ -102,7 +102,7 @@ ask_post : (c : Core) (s r : ℕ) (k : Command) → is_idle c.ops.phase ≡ true
 ask_post c s r k idle =
     let a = asked_of s r k in
     ap (λ (t : Ops). Some (first_post c.me a t)) (ask_same c.me (quorum c) a c.ops idle)
-    ∙ sym (ap (λ (b : Bool). option_map (λ (x : Asked). first_post c.me x (after_ask c.me (quorum c) a c.ops)) (then_some b a)) idle)
+    ∙ sym (ap (λ (b : Bool). post_of_round c.me (if b then a ∷ [] else []) (after_ask c.me (quorum c) a c.ops)) idle)
 
 post_same : (c : Core) (e : Event) → c.ops.line ≡ [] → IsFree c e → post_alone c e ≡ post c e
 post_same c event.Enter none free = refl
@@ -241,7 +241,7 @@ step_same n e none d =
     let may = free n.core e d in
     let f : Core → Option Message → Node = λ c p. record {
       core = c;
-      outbox = trim (lowest c) (keep (reply n.core e) (add p (forget_asked e n.outbox)));
+      outbox = trim (lowest c) (keep (replies n.core e) (add p (forget_asked e n.outbox)));
     } in
     ap (λ (c : Core). f c (post_alone n.core e)) (next_same n.core e none may)
     ∙ ap (λ (p : Option Message). f (next n.core e) p) (post_same n.core e none may)
@@ -249,8 +249,8 @@ step_same n e none d =
 pub outputs_same : (c : Core) (e : Event) → c.ops.line ≡ [] → decides_within 0 c e ≡ None → outputs_alone c e ≡ outputs c e
 outputs_same c e none d =
     let may = free c e d in
-    ap (λ (k : Core). send_ack (ack e) ++ send_post k (post_alone c e) ++ send_reply (reply c e)) (next_same c e none may)
-    ∙ ap (λ (p : Option Message). send_ack (ack e) ++ send_post (next c e) p ++ send_reply (reply c e)) (post_same c e none may)
+    ap (λ (k : Core). send_ack (ack e) ++ send_post k (post_alone c e) ++ send_replies (replies c e)) (next_same c e none may)
+    ∙ ap (λ (p : Option Message). send_ack (ack e) ++ send_post (next c e) p ++ send_replies (replies c e)) (post_same c e none may)
 
 -- ---- along a list
 

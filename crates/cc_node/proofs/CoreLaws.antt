@@ -4,7 +4,6 @@
 --     .._along                 the same along a list of events
 use Rattle.std.proofs.Common.{◌≡◌, ℕ, ◌+◌, Bool, true, false, List, [], ◌∷◌, refl, sym, ap, subst, ◌∙◌, add-zero, add_assoc}
 use Rattle.std.specs.Prelude.{if◌then◌else◌}
-use Rattle.std.specs.Prelude.{Option, Some, None}
 use Rattle.cc_views.specs.Rows.{ViewMap}
 use Rattle.cc_views.specs.Merge.{IsAtMost}
 use Rattle.cc_views.specs.MergeLaws.{at_most_same, at_most_merge, at_most_trans}
@@ -17,8 +16,8 @@ use Rattle.cc_ops.specs.declared.pending.Asked.{Asked}
 use Rattle.cc_ops.specs.Commands.{is_writing}
 use Rattle.cc_ops.specs.Ops.{Ops, Phase, Idle, Storing, Querying, StoringBack, is_idle, with_begun, after_ask, after_reply, after_last, after_ack, after_message}
 use Rattle.cc_ops.specs.OwnLaws.{message_number, message_mine, ask_number, ask_mine}
-use Rattle.cc_ops.specs.Waiting.{led_by, writes, mine_after, writes_by, written_by}
-use Rattle.cc_ops.specs.WaitingLaws.{writes_led}
+use Rattle.cc_ops.specs.Waiting.{writes_by, written_by}
+use Rattle.cc_ops.specs.WaitingLaws.{writes_both, written_both}
 use Rattle.cc_node.specs.Core.{Core, quorum, asked_of, asks_anew, begun, next}
 use Rattle.cc_node.specs.Node.{Node, step, after}
 use Rattle.cc_node.specs.Writes.{begun_along}
@@ -77,7 +76,7 @@ view_grows c (event.Retire q) = at_most_same c.ops.view
 view_grows c (event.Lapse q) = at_most_same c.ops.view
 view_grows c event.Snapshot = at_most_same c.ops.view
 
-pub own_number : (c : Core) (e : Event) → (next c e).ops.number ≡ c.ops.number + writes (begun c e)
+pub own_number : (c : Core) (e : Event) → (next c e).ops.number ≡ c.ops.number + writes_by (begun c e)
 unfolding next
 own_number c event.Enter = sym (add-zero c.ops.number)
 own_number c event.Leave = sym (add-zero c.ops.number)
@@ -88,7 +87,7 @@ own_number c (event.Retire q) = sym (add-zero c.ops.number)
 own_number c (event.Lapse q) = sym (add-zero c.ops.number)
 own_number c event.Snapshot = sym (add-zero c.ops.number)
 
-pub own_value : (c : Core) (e : Event) → (next c e).ops.mine ≡ mine_after (begun c e) c.ops.mine
+pub own_value : (c : Core) (e : Event) → (next c e).ops.mine ≡ written_by (begun c e) c.ops.mine
 unfolding next
 own_value c event.Enter = refl
 own_value c event.Leave = refl
@@ -113,15 +112,11 @@ own_number_along n [] = sym (add-zero n.core.ops.number)
 own_number_along n (e ∷ es) =
     let later = writes_by (begun_along (step n e) es) in
     own_number_along (step n e) es ∙ ap (λ k. k + later) (own_number n.core e)
-    ∙ add_assoc n.core.ops.number (writes (begun n.core e)) later ∙ sym (ap (λ k. n.core.ops.number + k) (writes_led (begun n.core e) (begun_along (step n e) es)))
-
-written_led : (o : Option Asked) (asks : List Asked) (mine : Value) → written_by asks (mine_after o mine) ≡ written_by (led_by o asks) mine
-written_led None asks mine = refl
-written_led (Some a) asks mine = refl
+    ∙ add_assoc n.core.ops.number (writes_by (begun n.core e)) later ∙ sym (ap (λ k. n.core.ops.number + k) (writes_both (begun n.core e) (begun_along (step n e) es)))
 
 pub own_value_along : (n : Node) (es : List Event) → (after n es).core.ops.mine ≡ written_by (begun_along n es) n.core.ops.mine
 unfolding step
 own_value_along n [] = refl
 own_value_along n (e ∷ es) =
     own_value_along (step n e) es ∙ ap (λ v. written_by (begun_along (step n e) es) v) (own_value n.core e)
-    ∙ written_led (begun n.core e) (begun_along (step n e) es) n.core.ops.mine
+    ∙ sym (written_both (begun n.core e) (begun_along (step n e) es) n.core.ops.mine)

@@ -20,6 +20,7 @@ use Rattle.cc_wire.specs.Refusals.{first_of, decided}
 use Rattle.cc_churn.specs.Churn as churn
 use Rattle.cc_ops.specs.Ops as ops
 use Rattle.cc_ops.specs.declared.pending.Asked.{Asked}
+use Rattle.cc_ops.specs.Waiting.{first_in}
 use Rattle.cc_links.specs.Links.{heard_from}
 use Rattle.cc_sessions.specs.Sessions.{last_request, is_stale, is_skip, is_repeat, finds_no_room}
 use Rattle.cc_wire.specs.declared.command.Command.{Command}
@@ -295,7 +296,7 @@ last_or_next last r (inr e) h = last_one last r e h
 pub posts_if_idle : (c : Core) (s r : ℕ) (k : Command) → is_some (post c (event.Ask s r k)) ≡ ops.is_idle c.ops.phase
 posts_if_idle c s r k = one_if (ops.is_idle c.ops.phase) (asked_of s r k) (λ asked. ops.first_post c.me asked (handled c (event.Ask s r k)).ops)
   where
-    one_if : (b : Bool) (a : Asked) (f : Asked → Message) → is_some (option_map f (then_some b a)) ≡ b
+    one_if : (b : Bool) (a : Asked) (f : Asked → Message) → is_some (option_map f (first_in (if b then a ∷ [] else []))) ≡ b
     one_if true a f = refl
     one_if false a f = refl
 

@@ -22,7 +22,7 @@ use Rattle.cc_ops.specs.Ops as ops
 use Rattle.cc_ops.specs.Commands.{finds_no_room}
 use Rattle.cc_ops.specs.declared.pending.Asked.{Asked}
 use Rattle.cc_ops.specs.Refusals.{busy}
-use Rattle.cc_ops.specs.Waiting.{line_limit, written_by}
+use Rattle.cc_ops.specs.Waiting.{line_limit, first_in, written_by}
 use Rattle.cc_sessions.specs.Sessions.{finds_no_room as finds_no_session}
 use Rattle.cc_wire.specs.declared.command.Command.{Command}
 use Rattle.cc_wire.specs.declared.event.Event.{Event}
@@ -31,7 +31,7 @@ use Rattle.cc_wire.specs.declared.message.Message.{Message}
 use Rattle.cc_wire.specs.declared.refusal.Refusal.TheVariants as refusal
 use Rattle.cc_outbox.specs.Outbox.{post_limit}
 use Rattle.cc_outbox.specs.OutboxLaws.{room_for_post}
-use Rattle.cc_node.specs.Core.{Core, asked_of, links_heard, churned, told_if, tells, churn_told, asks_anew, ops_anew, handled, next, post, reply, quorum, ids_of, lowest}
+use Rattle.cc_node.specs.Core.{Core, asked_of, links_heard, churned, told_if, tells, churn_told, asks_anew, ops_anew, handled, next, post, replies, quorum, ids_of, lowest}
 use Rattle.cc_node.specs.Node.{Node, step, add, keep, forget_asked}
 use Rattle.cc_node.specs.Lawful.{IsLawfulCore, IsLawfulNode}
 use Rattle.cc_node.specs.Refusals.{decides}
@@ -84,7 +84,7 @@ pub next_delivery : (c : Core) (from n : ℕ) (m : Message) → next c (event.De
 unfolding next
 next_delivery c from n m = ap (λ (k : ℕ). record (handled c (event.Deliver from n m)) { posts = c.posts + k }) (len_is (post c (event.Deliver from n m)))
 
-begins_one : (b : Bool) (a : Asked) (f : Asked → Message) → option_len (option_map f (then_some b a)) ≡ cond b 1 0
+begins_one : (b : Bool) (a : Asked) (f : Asked → Message) → option_len (option_map f (first_in (if b then a ∷ [] else []))) ≡ cond b 1 0
 begins_one true a f = refl
 begins_one false a f = refl
 
@@ -249,6 +249,6 @@ answers_fit : (n : Node) → IsLawfulNode n → table.len n.outbox.answers ≤ 2
 answers_fit n h = omega (arith, len_within n.outbox.answers n.core.sessions (λ s there. (h.answers s there).0), h.core.session_count)
 
 -- there is room for its answer
-pub answer_room : {n s : Node} (e : Event) → n ≡ s → decides s.core e ≡ None → IsLawfulNode n → table.len (keep (reply s.core e) (add (post s.core e) (forget_asked e n.outbox))).answers ≤ 256
+pub answer_room : {n s : Node} (e : Event) → n ≡ s → decides s.core e ≡ None → IsLawfulNode n → table.len (keep (replies s.core e) (add (post s.core e) (forget_asked e n.outbox))).answers ≤ 256
 unfolding step
 answer_room {n} e is d h = rw (← is) (answers_fit (step n e) (step_lawful n e (rw is d) h))

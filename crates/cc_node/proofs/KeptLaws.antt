@@ -1,11 +1,12 @@
 -- What a node keeps after an event: the posts above lowest, and answers of sessions of which each ask is answered.
 --     step_posts                     the posts after a step, and how many were made
 --     first_answers, last_answers    the answers after the first ask is answered, and after one more
-use Rattle.std.proofs.Common.{◌≡◌, ℕ, ◌+◌, ◌-◌, ◌≤◌, false, ◌&&◌, nat_eq, List, [], ◌∷◌, ◌++◌, refl, sym, ap, subst, ◌∙◌, inl, inr, arith, add-zero}
+use Rattle.std.proofs.Common.{◌≡◌, ℕ, ◌+◌, ◌-◌, ◌≤◌, Bool, true, false, cond, ◌&&◌, nat_eq, List, [], ◌∷◌, ◌++◌, refl, sym, ap, subst, ◌∙◌, inl, inr, arith, add-zero}
 use Rattle.std.specs.Prelude.{Option, Some, None, IsTrue, is_some, ◌==◌}
 use Rattle.std.specs.List.{AllByRecursion}
 use Rattle.std.specs.Option.{option_len}
 use Rattle.std.specs.Ordering.{nat_cmp}
+use Rattle.std.specs.Cmp.{nat_cmp_total}
 use Rattle.std.specs.FinMap as table
 use Rattle.std.specs.FinMap.{FinMap}
 use Rattle.std.proofs.lemmas.Bool.{and_parts, eqb-true, or_cases, or_parts, not-true}
@@ -21,6 +22,7 @@ use Rattle.cc_ops.specs.WaitingLaws.{none_last}
 use Rattle.cc_ops.specs.declared.pending.Asked.{Asked}
 use Rattle.cc_ops.specs.declared.pending.Reply.{Reply}
 use Rattle.cc_sessions.specs.Sessions.{Requests}
+use Rattle.cc_outbox.specs.Outbox as kept
 use Rattle.cc_outbox.specs.Outbox.{Outbox, post_limit, trim}
 use Rattle.cc_outbox.specs.OutboxLaws.{KeepsPosts, keeps_add, keeps_trim, room_for_post}
 use Rattle.cc_node.specs.Node.{add, keep, forget_asked}
@@ -69,25 +71,43 @@ forgotten low posts (event.Retire q) o h = h
 forgotten low posts (event.Lapse q) o h = h
 forgotten low posts event.Snapshot o h = h
 
-answered : (low posts : ℕ) (r : Option Reply) (o : Outbox) → KeepsTo low posts o → KeepsTo low posts (keep r o)
-answered low posts None o h = h
-answered low posts (Some r) o h = record { last = h.last; kept = h.kept }
+answered : (low posts : ℕ) (rs : List Reply) (o : Outbox) → KeepsTo low posts o → KeepsTo low posts (keep rs o)
+answered low posts [] o h = h
+answered low posts (r ∷ rs) o h = answered low posts rs (kept.keep r.session r.answer o) (record { last = h.last; kept = h.kept })
 
-pub step_posts : (low high posts : ℕ) (e : Event) (p : Option Message) (r : Option Reply) (o : Outbox) → KeepsTo low posts o → low ≤ high → low ≤ posts
+pub step_posts : (low high posts : ℕ) (e : Event) (p : Option Message) (rs : List Reply) (o : Outbox) → KeepsTo low posts o → low ≤ high → low ≤ posts
     → (is_some p && ((posts - low) == post_limit)) ≡ false
-    → KeepsTo high (posts + option_len p) (trim high (keep r (add p (forget_asked e o))))
-step_posts low high posts e p r o h up start full =
+    → KeepsTo high (posts + option_len p) (trim high (keep rs (add p (forget_asked e o))))
+step_posts low high posts e p rs o h up start full =
     let there = added low posts p (forget_asked e o) (forgotten low posts e o h) start full in
-    trimmed low high (posts + option_len p) (keep r (add p (forget_asked e o))) (answered low (posts + option_len p) r (add p (forget_asked e o)) there) up
+    trimmed low high (posts + option_len p) (keep rs (add p (forget_asked e o))) (answered low (posts + option_len p) rs (add p (forget_asked e o)) there) up
 
 -- ---- answers
 
+len_grows : (m : FinMap nat_cmp Answer) (k : ℕ) (v : Answer) → table.len m ≤ table.len (table.insert m k v)
+len_grows m k v = either (table.contains_key m k) (table.len-insert nat_cmp_total m k v)
+  where
+    either : (b : Bool) → table.len (table.insert m k v) ≡ cond b (table.len m) (table.len m + 1) → table.len m ≤ table.len (table.insert m k v)
+    either true e = omega (arith, e)
+    either false e = omega (arith, e)
+
+-- keeping answers drops none
+pub keep_grows : (rs : List Reply) (o : Outbox) → table.len o.answers ≤ table.len (keep rs o).answers
+keep_grows [] o = omega arith
+keep_grows (r ∷ rs) o = omega (arith, len_grows o.answers r.session r.answer, keep_grows rs (kept.keep r.session r.answer o))
+
 -- a post changes no answer
-pub posted : (ss : Requests) (asks : List Asked) (p : Option Message) (r : Option Reply) (o : Outbox)
-    → KeepsAnswers ss asks (keep r o).answers → KeepsAnswers ss asks (keep r (add p o)).answers
-posted ss asks None r o h = h
-posted ss asks (Some m) None o h = h
-posted ss asks (Some m) (Some r) o h = h
+same_answers : (rs : List Reply) (o u : Outbox) → o.answers ≡ u.answers → (keep rs o).answers ≡ (keep rs u).answers
+same_answers [] o u e = e
+same_answers (r ∷ rs) o u e = same_answers rs (kept.keep r.session r.answer o) (kept.keep r.session r.answer u) (ap (λ (t : FinMap nat_cmp Answer). table.insert t r.session r.answer) e)
+
+pub answers_add : (p : Option Message) (rs : List Reply) (o : Outbox) → (keep rs (add p o)).answers ≡ (keep rs o).answers
+answers_add None rs o = refl
+answers_add (Some m) rs o = same_answers rs (kept.add m o) o refl
+
+pub posted : (ss : Requests) (asks : List Asked) (p : Option Message) (rs : List Reply) (o : Outbox)
+    → KeepsAnswers ss asks (keep rs o).answers → KeepsAnswers ss asks (keep rs (add p o)).answers
+posted ss asks p rs o h = subst (KeepsAnswers ss asks) (sym (answers_add p rs o)) h
 
 pub same_some : {X : Type 0} (x y : X) → Some x ≡ Some y → x ≡ y
 same_some x y e = cc
@@ -104,14 +124,19 @@ first_kept ss a asks answer kept last alone h x j =
       | inr e ↦ ((h x e).0, (or_parts _ _ (h x e).1).1)
     ]
 
--- so it is with each reply that answers the first
-pub first_answers : (ss : Requests) (before after : List Asked) (r : Option Reply) (o : Outbox) → AnswersFirst before after r → AreApart before → AllByRecursion (IsLastOf ss) before
-    → KeepsAnswers ss before o.answers → KeepsAnswers ss after (keep r o).answers
-first_answers ss before after None o e apart last h = subst (λ (l : List Asked). KeepsAnswers ss l o.answers) (sym e) h
-first_answers ss before after (Some r) o e apart last h =
+-- so it is with each reply that answers one of the first
+pub first_answers : (ss : Requests) (before after : List Asked) (rs : List Reply) (o : Outbox) → AnswersFirst before after rs → AreApart before → AllByRecursion (IsLastOf ss) before
+    → KeepsAnswers ss before o.answers → KeepsAnswers ss after (keep rs o).answers
+first_answers ss before after [] o e apart last h = subst (λ (l : List Asked). KeepsAnswers ss l o.answers) (sym e) h
+first_answers ss before after (r ∷ rs) o e apart last h =
     let a = e.0 in
-    subst (λ (s : ℕ). KeepsAnswers ss after (table.insert o.answers s r.answer)) e.2
-    (first_kept ss a after r.answer o.answers (subst (AllByRecursion (IsLastOf ss)) e.1 last).0 (subst AreApart e.1 apart).0 (subst (λ (l : List Asked). KeepsAnswers ss l o.answers) e.1 h))
+    let behind = e.1 in
+    let each = subst (AllByRecursion (IsLastOf ss)) e.2 last in
+    let alone = subst AreApart e.2 apart in
+    let kept_now : KeepsAnswers ss behind (table.insert o.answers r.session r.answer) =
+    subst (λ (s : ℕ). KeepsAnswers ss behind (table.insert o.answers s r.answer)) e.3
+    (first_kept ss a behind r.answer o.answers each.0 alone.0 (subst (λ (l : List Asked). KeepsAnswers ss l o.answers) e.2 h)) in
+    first_answers ss behind after rs (kept.keep r.session r.answer o) e.5 alone.1 each.1 kept_now
 
 -- one more ask isn't answered yet, and its session's answer is forgotten
 pub last_answers : (ss : Requests) (asks : List Asked) (a : Asked) (kept : FinMap nat_cmp Answer) → KeepsAnswers ss asks kept

@@ -1,22 +1,28 @@
 -- What a node keeps of the post and the answer of an event that it took in.
 --     post_kept       the post is kept, where a live link is there to be sent it
---     answer_kept     the answer is kept
-use Rattle.std.proofs.Common.{◌≡◌, ℕ, ◌+◌, ◌≤◌, Bool, true, false, cond, not, List, [], ◌∷◌, refl, sym, ap, subst, ◌∙◌, arith}
+--     answers_kept    each answer is kept
+use Rattle.std.proofs.Common.{◌≡◌, ℕ, ◌+◌, ◌≤◌, Bool, true, false, cond, not, nat_eq, List, [], ◌∷◌, refl, sym, ap, subst, ◌∙◌, arith}
 use Rattle.std.specs.Prelude.{Option, Some, None, IfSome}
 use Rattle.std.specs.Option.{option_len}
 use Rattle.std.specs.List.{AllByRecursion}
 use Rattle.std.specs.FinMap as table
-use Rattle.std.proofs.lemmas.Bool.{eq-eqb, lt-ltb}
+use Rattle.std.proofs.lemmas.Bool.{eq-eqb, lt-ltb, or_parts}
 use Rattle.cc_views.specs.NatSets as set
 use Rattle.cc_views.specs.NatSets.{get-insert_key}
 use Rattle.cc_views.specs.MapLaws.{all_insert, all_entries}
 use Rattle.cc_wire.specs.declared.event.Event.{Event}
 use Rattle.cc_wire.specs.declared.event.Event.TheVariants as event
 use Rattle.cc_wire.specs.declared.message.Message.{Message}
+use Rattle.cc_ops.specs.declared.pending.Asked.{Asked}
 use Rattle.cc_ops.specs.declared.pending.Reply.{Reply}
+use Rattle.cc_ops.specs.Ops as ops
+use Rattle.cc_ops.specs.OwnLaws.{AnswersFirst, message_answers}
+use Rattle.cc_ops.specs.Waiting.{has_session, AreApart}
 use Rattle.cc_links.specs.Links.{Link, Links, with_row, add_all, reach, ReachesWithin, LinksWithin}
 use Rattle.cc_links.specs.LinkLaws.{get-live, lowest_below, reaches_within, add_all_links}
-use Rattle.cc_node.specs.Core.{Core, ids_of, next, post, reply, sends, send_post, lowest, live_links}
+use Rattle.cc_outbox.specs.Outbox as kept
+use Rattle.cc_outbox.specs.Outbox.{Outbox}
+use Rattle.cc_node.specs.Core.{Core, quorum, ids_of, next, post, replies, sends, send_post, lowest, live_links}
 use Rattle.cc_node.specs.Node.{Node, step, keep, add, forget_asked}
 use Rattle.cc_node.specs.Lawful.{IsLawfulNode}
 use Rattle.cc_node.proofs.KnownLaws.{same_number}
@@ -68,10 +74,10 @@ post_there n e m made h low =
     let number = (next c e).posts in
     let more : number ≡ c.posts + 1 = ap (λ p. c.posts + option_len p) made in
     let is : number ≡ o.last + 1 = more ∙ ap (λ (k : ℕ). k + 1) (sym (last_forget e n.outbox ∙ h.last)) in
-    let kept = (keep (reply c e) (add (post c e) o)).posts in
+    let kept = (keep (replies c e) (add (post c e) o)).posts in
     get-above (lowest (next c e)) kept number
     ∙ ap (λ b. cond b (table.get kept number) None) (lt-ltb (lowest (next c e)) number (omega (arith, low, more)))
-    ∙ ap (λ p. table.get p number) (posts_keep (reply c e) (add (post c e) o))
+    ∙ ap (λ p. table.get p number) (posts_keep (replies c e) (add (post c e) o))
     ∙ ap (λ p. table.get (add p o).posts number) made
     ∙ get-insert_key o.posts (o.last + 1) m number
     ∙ ap (λ b. cond b (Some m) (table.get o.posts number)) (eq-eqb number (o.last + 1) is)
@@ -93,10 +99,42 @@ post_kept n e m made h =
 
 -- ---- the answer
 
-pub answer_kept : (n : Node) (e : Event) (r : Reply) → reply n.core e ≡ Some r → table.get (step n e).outbox.answers r.session ≡ Some r.answer
+-- an answer that others are kept after stays, where none of these is of its session
+stays_kept : (x : ℕ) (asks after : List Asked) (rs : List Reply) (o : Outbox) → AnswersFirst asks after rs → has_session x asks ≡ false
+    → table.get (keep rs o).answers x ≡ table.get o.answers x
+stays_kept x asks after [] o e none = refl
+stays_kept x asks after (r ∷ rs) o e none =
+    let parts = or_parts _ _ (sym (ap (has_session x) e.2) ∙ none) in
+    let apart : nat_eq x r.session ≡ false = ap (nat_eq x) (sym e.3) ∙ parts.0 in
+    stays_kept x e.1 after rs (kept.keep r.session r.answer o) e.5 parts.1
+    ∙ get-insert_key o.answers r.session r.answer x
+    ∙ ap (λ b. cond b (Some r.answer) (table.get o.answers x)) apart
+
+first_kept : (before after : List Asked) (rs : List Reply) (o : Outbox) → AnswersFirst before after rs → AreApart before
+    → AllByRecursion (λ r. table.get (keep rs o).answers r.session ≡ Some r.answer) rs
+first_kept before after [] o e apart = tt
+first_kept before after (r ∷ rs) o e apart =
+    let behind = e.1 in
+    let alone = subst AreApart e.2 apart in
+    let o_now = kept.keep r.session r.answer o in
+    let none_behind : has_session r.session behind ≡ false = subst (λ (s : ℕ). has_session s behind ≡ false) e.3 alone.0 in (
+      stays_kept r.session behind after rs o_now e.5 none_behind
+          ∙ get-insert_key o.answers r.session r.answer r.session
+          ∙ ap (λ b. cond b (Some r.answer) (table.get o.answers r.session)) (same_number r.session),
+      first_kept behind after rs o_now e.5 alone.1,
+    )
+
+pub answers_kept : (n : Node) (e : Event) → IsLawfulNode n
+    → AllByRecursion (λ r. table.get (step n e).outbox.answers r.session ≡ Some r.answer) (replies n.core e)
 unfolding step
-answer_kept n e r made =
-    let o = add (post n.core e) (forget_asked e n.outbox) in
-    ap (λ a. table.get (keep a o).answers r.session) made
-    ∙ get-insert_key o.answers r.session r.answer r.session
-    ∙ ap (λ b. cond b (Some r.answer) (table.get o.answers r.session)) (same_number r.session)
+answers_kept n event.Enter h = tt
+answers_kept n event.Leave h = tt
+answers_kept n (event.Deliver from k m) h =
+    let c = n.core in
+    first_kept (ops.unanswered c.ops) (ops.unanswered (ops.after_message c.me (quorum c) m c.ops)) (ops.replies_of c.me m c.ops)
+    (add (post c (event.Deliver from k m)) n.outbox) (message_answers c.me (quorum c) m c.ops) h.core.line.apart
+answers_kept n (event.Acked peer k) h = tt
+answers_kept n (event.Ask s r k) h = tt
+answers_kept n (event.Retire q) h = tt
+answers_kept n (event.Lapse q) h = tt
+answers_kept n event.Snapshot h = tt

@@ -33,7 +33,7 @@ use Rattle.cc_ops.specs.Ops as ops
 use Rattle.cc_ops.specs.Ops.{Ops, Phase, Idle, Storing, Querying, StoringBack}
 use Rattle.cc_ops.specs.OwnLaws.{AnswersFirst, begun_line, begun_unanswered, message_line, message_answers}
 use Rattle.cc_ops.specs.Stages.{stage_of, WaitsBehind}
-use Rattle.cc_ops.specs.Waiting.{line_limit, led_by, has_session, AreApart}
+use Rattle.cc_ops.specs.Waiting.{line_limit, has_session, AreApart}
 use Rattle.cc_ops.specs.WaitingLaws.{apart_last}
 use Rattle.cc_ops.specs.declared.pending.Asked.{Asked}
 use Rattle.cc_ops.specs.declared.pending.Pending.{Pending}
@@ -298,27 +298,27 @@ message_behind me quorum (message.StoreAck tag q) s h =
     cond_both (ops.is_own me tag q s) (ops.after_ack me quorum s.phase s) s (λ (t : Ops). WaitsBehind (stage_of t.phase) t.line) (λ _. ack_behind me quorum s.phase s h) (λ _. h)
 message_behind me quorum (message.Snapshot c v) s h = h
 
--- of the asks that wait the first begins, or none
-shorter : (o : Option Asked) (line : List Asked) → length line ≤ length (led_by o line)
-shorter None line = omega arith
-shorter (Some a) line = omega arith
+-- of the asks that wait the first ones begin, or none
+shorter : (asks line : List Asked) → length line ≤ length (asks ++ line)
+shorter [] line = omega arith
+shorter (a ∷ asks) line = let rest : length line ≤ length (asks ++ line) = shorter asks line in omega (arith, rest)
 
-behind_first : (P : Asked → Type 0) (o : Option Asked) (line : List Asked) → AllByRecursion P (led_by o line) → AllByRecursion P line
-behind_first P None line h = h
-behind_first P (Some a) line h = h.1
+behind_first : (P : Asked → Type 0) (asks line : List Asked) → AllByRecursion P (asks ++ line) → AllByRecursion P line
+behind_first P [] line h = h
+behind_first P (a ∷ asks) line h = behind_first P asks line h.1
 
-left_apart : (before after : List Asked) (r : Option Reply) → AnswersFirst before after r → AreApart before → AreApart after
-left_apart before after None e h = subst AreApart (sym e) h
-left_apart before after (Some r) e h = (subst AreApart e.1 h).1
+left_apart : (before after : List Asked) (rs : List Reply) → AnswersFirst before after rs → AreApart before → AreApart after
+left_apart before after [] e h = subst AreApart (sym e) h
+left_apart before after (r ∷ rs) e h = left_apart e.1 after rs e.5 (subst AreApart e.2 h).1
 
 message_line_of : (ss : Requests) (me quorum : ℕ) (m : Message) (s : Ops) → IsLineOf ss s → IsLineOf ss (ops.after_message me quorum m s)
 message_line_of ss me quorum m s h =
     let t = ops.after_message me quorum m s in
-    let front : s.line ≡ led_by (ops.begun_by me m s) t.line = message_line me quorum m s in
+    let front : s.line ≡ ops.begun_by me m s ++ t.line = message_line me quorum m s in
     record {
       behind = message_behind me quorum m s h.behind;
       few = let less = shorter (ops.begun_by me m s) t.line in omega (arith, less, ap length front, h.few);
-      apart = left_apart (ops.unanswered s) (ops.unanswered t) (ops.reply_of me m s) (message_answers me quorum m s) h.apart;
+      apart = left_apart (ops.unanswered s) (ops.unanswered t) (ops.replies_of me m s) (message_answers me quorum m s) h.apart;
       last = behind_first (IsLastOf ss) (ops.begun_by me m s) t.line (subst (AllByRecursion (IsLastOf ss)) front h.last);
     }
 

@@ -2,7 +2,7 @@
 --     next_core, step_lawful        the core, and the node
 --     lowest_next                   lowest doesn't fall
 --     links_go_on, left_grows       no link is lost or falls back, and who left has left for good
-use Rattle.std.proofs.Common.{◌≡◌, ℕ, ◌+◌, ◌<◌, ◌≤◌, true, false, cond, ◌||◌, ◌&&◌, nat_eq, nat_lt, List, [], ◌∷◌, ◌++◌, refl, sym, ap, subst, ◌∙◌, inl, inr, arith}
+use Rattle.std.proofs.Common.{◌≡◌, ℕ, ◌+◌, ◌<◌, ◌≤◌, true, false, cond, ◌||◌, ◌&&◌, nat_eq, nat_lt, List, [], ◌∷◌, ◌++◌, length, refl, sym, ap, subst, ◌∙◌, inl, inr, arith}
 use Rattle.std.specs.Prelude.{Option, Some, None, IfSome, IsTrue, is_some, ◌==◌}
 use Rattle.std.specs.Option.{option_len, option_map_or, unwrap_or}
 use Rattle.std.specs.List.{list_any}
@@ -30,15 +30,16 @@ use Rattle.cc_churn.specs.Churn.{Churn}
 use Rattle.cc_ops.specs.Commands.{is_writing}
 use Rattle.cc_ops.specs.Ops as ops
 use Rattle.cc_ops.specs.Ops.{Ops, Phase, Idle, Storing, Querying, StoringBack, unanswered, mine_at_last}
-use Rattle.cc_ops.specs.OwnLaws.{message_last, message_answers, ask_last, ask_unanswered}
-use Rattle.cc_ops.specs.Waiting.{writes}
+use Rattle.cc_ops.specs.OwnLaws.{message_last, message_answers, message_begins, ask_last, ask_unanswered, ask_begins}
+use Rattle.cc_ops.specs.WaitingLaws.{writes_most}
+use Rattle.cc_ops.specs.Waiting.{writes_by}
 use Rattle.cc_ops.specs.WaitingLaws.{written_fits}
 use Rattle.cc_ops.specs.declared.pending.Asked.{Asked}
 use Rattle.cc_links.specs.Links.{Link, Links, new_link, with_row, add_absent, add_all, hear, ack, lapse, heard_from, LinksWithin}
 use Rattle.cc_links.specs.LinkLaws.{LinksGoOn, go_same, go_then, add_all_goes, hear_goes, ack_goes, lapse_goes, go_within, lowest_within, lowest_grows, links_more_posts, add_all_links, hear_links, ack_links, lapse_links, contains-add_all, hear_len, ack_len, lapse_len}
 use Rattle.cc_sessions.specs.Sessions.{Requests, last_request, begin_fits}
 use Rattle.cc_outbox.specs.Outbox.{forget}
-use Rattle.cc_node.specs.Core.{Core, quorum, ids_of, asked_of, begun, churned, tells, churn_told, asks_anew, ops_anew, next, post, reply, lowest}
+use Rattle.cc_node.specs.Core.{Core, quorum, ids_of, asked_of, begun, churned, tells, churn_told, asks_anew, ops_anew, next, post, replies, lowest}
 use Rattle.cc_node.specs.Refusals.{decides}
 use Rattle.cc_node.specs.Node.{Node, step}
 use Rattle.cc_node.specs.Lawful.{CountsWithin, KeepsAnswers, IsLawfulCore, IsLawfulNode}
@@ -50,9 +51,15 @@ use Rattle.cc_node.proofs.ToldLaws.{told_churn, left_told, echoes_told, anew_las
 
 -- ---- counters rise by one at most
 
-writes_one : (o : Option Asked) → writes o ≤ 1
-writes_one None = omega arith
-writes_one (Some a) = cond_both (is_writing a.command) 1 0 (λ n. n ≤ 1) (λ _. omega arith) (λ _. omega arith)
+begins_one : (c : Core) (e : Event) → length (begun c e) ≤ 1
+begins_one c event.Enter = omega arith
+begins_one c event.Leave = omega arith
+begins_one c (event.Deliver from n m) = message_begins c.me m c.ops
+begins_one c (event.Acked peer n) = omega arith
+begins_one c (event.Ask s r k) = ask_begins (asked_of s r k) c.ops
+begins_one c (event.Retire q) = omega arith
+begins_one c (event.Lapse q) = omega arith
+begins_one c event.Snapshot = omega arith
 
 one_post : (p : Option Message) → option_len p ≤ 1
 one_post None = omega arith
@@ -157,7 +164,7 @@ posts_next c e = let one = one_post (post c e) in omega arith
 counts_next : (c : Core) (e : Event) → Fits c e → CountsWithin c → CountsWithin (next c e)
 counts_next c e fits h =
     let none = none_overruns c (next c e) e fits.counts in
-    let up : (next c e).ops.number ≤ c.ops.number + 1 = omega (arith, own_number c e, writes_one (begun c e)) in
+    let up : (next c e).ops.number ≤ c.ops.number + 1 = omega (arith, own_number c e, writes_most (begun c e), begins_one c e) in
     record {
       number = stays_within counter_limit c.ops.number (next c e).ops.number none.number h.number up;
       tag = stays_within counter_limit c.ops.tag (next c e).ops.tag none.tag h.tag (tag_next c e);
@@ -489,8 +496,8 @@ step_answers n (event.Deliver from k m) h =
     let e = event.Deliver from k m in
     let after = ops.after_message c.me (quorum c) m c.ops in
     subst (λ (l : List Asked). KeepsAnswers c.sessions l (step n e).outbox.answers) (sym (anew_unanswered (asks_anew c from k m) _ after))
-    (posted c.sessions (unanswered after) (post c e) (ops.reply_of c.me m c.ops) n.outbox
-    (first_answers c.sessions (unanswered c.ops) (unanswered after) (ops.reply_of c.me m c.ops) n.outbox (message_answers c.me (quorum c) m c.ops) h.core.line.apart
+    (posted c.sessions (unanswered after) (post c e) (ops.replies_of c.me m c.ops) n.outbox
+    (first_answers c.sessions (unanswered c.ops) (unanswered after) (ops.replies_of c.me m c.ops) n.outbox (message_answers c.me (quorum c) m c.ops) h.core.line.apart
     (all_last c.links c.sessions c.ops.phase c.ops.line h.core.phase h.core.line.last) h.answers))
 step_answers n (event.Acked peer k) h = h.answers
 step_answers n (event.Ask s r k) h =
@@ -498,7 +505,7 @@ step_answers n (event.Ask s r k) h =
     let e = event.Ask s r k in
     let a = asked_of s r k in
     let asks = table.insert c.sessions s r in
-    posted asks (unanswered (ops.after_ask c.me (quorum c) a c.ops)) (post c e) None (forget s n.outbox)
+    posted asks (unanswered (ops.after_ask c.me (quorum c) a c.ops)) (post c e) [] (forget s n.outbox)
     (subst (λ (l : List Asked). KeepsAnswers asks l (table.remove n.outbox.answers s))
     (sym (ask_unanswered c.me (quorum c) a c.ops (λ idle. none_waits c.ops.phase c.ops.line idle h.core.line.behind)))
     (last_answers c.sessions (unanswered c.ops) a n.outbox.answers h.answers))
@@ -510,6 +517,6 @@ pub step_lawful : (n : Node) (e : Event) → decides n.core e ≡ None → IsLaw
 unfolding step next
 step_lawful n e d h =
     let c = n.core in
-    let kept = step_posts (lowest c) (lowest (next c e)) c.posts e (post c e) (reply c e) n.outbox (record { last = h.last; kept = h.posts })
+    let kept = step_posts (lowest c) (lowest (next c e)) c.posts e (post c e) (replies c e) n.outbox (record { last = h.last; kept = h.posts })
     (lowest_next c e d h.core.links) (lowest_within c.churn.changes.left c.posts c.links h.core.links) (takes_any c e d).posts in
     record { core = next_core c e d h.core; last = kept.last; posts = kept.kept; answers = step_answers n e h }

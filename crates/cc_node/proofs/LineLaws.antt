@@ -38,7 +38,7 @@ use Rattle.cc_links.specs.LinkLaws.{LinkGoesOn, get-live}
 use Rattle.cc_sessions.specs.Sessions.{Requests, last_request, is_repeat, is_stale}
 use Rattle.cc_node.specs.declared.made.LinkAck.{LinkAck}
 use Rattle.cc_node.specs.Core as core
-use Rattle.cc_node.specs.Core.{Core, quorum, asked_of, asks_anew, ops_anew, next, post, reply, outputs, sends, send_post, send_ack, send_reply, live_links}
+use Rattle.cc_node.specs.Core.{Core, quorum, asked_of, asks_anew, ops_anew, next, post, replies, outputs, sends, send_post, send_ack, send_replies, live_links}
 use Rattle.cc_node.specs.Refusals.{decides}
 use Rattle.cc_node.specs.Node.{Node, step, line, HasOutput, IsLawful}
 use Rattle.cc_node.specs.Lines.{Follows}
@@ -226,34 +226,79 @@ ack_past c (event.Deliver from n m) = (subst (λ k. k ≤ heard_from from (next 
 
 -- ---- replies
 
--- a reply answers the first of the asks that aren't answered, which is its session's last request and its only one
+both_ways : (b : Bool) → b ≡ false → b ≡ true → ⊥
+both_ways true e t = cc
+both_ways false e t = cc
+
+-- a reply answers one of the asks that weren't answered, which is its session's last request and its only one
 record Ends (ss : Requests) (before after : List Asked) (r : Reply) : Type 0 where
   last : table.get ss r.session ≡ Some r.request
   pending : has_session r.session before ≡ true
   done : has_session r.session after ≡ false
 
-first_ends : (ss : Requests) (before after : List Asked) (o : Option Reply) → AnswersFirst before after o → AreApart before → AllByRecursion (IsLastOf ss) before
-    → IfSome o (Ends ss before after)
-first_ends ss before after None e apart last = tt
-first_ends ss before after (Some r) e apart last =
-    let a = e.0 in
-    let is_last : table.get ss a.session ≡ Some a.request = (subst (AllByRecursion (IsLastOf ss)) e.1 last).0 in
-    let there : has_session r.session (a ∷ after) ≡ true = or_left _ _ (eq-eqb r.session a.session (sym e.2)) in
-    record {
-      last = ap (table.get ss) (sym e.2) ∙ is_last ∙ ap (λ (q : ℕ). Some q) e.3;
-      pending = ap (has_session r.session) e.1 ∙ there;
-      done = subst (λ (s : ℕ). has_session s after ≡ false) e.2 (subst AreApart e.1 apart).0;
-    }
+none_left : (x : ℕ) (before after : List Asked) (rs : List Reply) → AnswersFirst before after rs → has_session x before ≡ false → has_session x after ≡ false
+none_left x before after [] e h = ap (has_session x) e ∙ h
+none_left x before after (r ∷ rs) e h = none_left x e.1 after rs e.5 (or_parts _ _ (sym (ap (has_session x) e.2) ∙ h)).1
 
-reply_ends : (c : Core) (m : Message) → IsLawfulCore c
-    → IfSome (ops.reply_of c.me m c.ops) (Ends c.sessions (unanswered c.ops) (unanswered (ops.after_message c.me (quorum c) m c.ops)))
-reply_ends c m h =
-    first_ends c.sessions (unanswered c.ops) (unanswered (ops.after_message c.me (quorum c) m c.ops)) (ops.reply_of c.me m c.ops) (message_answers c.me (quorum c) m c.ops)
+first_ends : (ss : Requests) (before after : List Asked) (rs : List Reply) → AnswersFirst before after rs → AreApart before → AllByRecursion (IsLastOf ss) before
+    → AllByRecursion (Ends ss before after) rs
+first_ends ss before after [] e apart last = tt
+first_ends ss before after (r ∷ rs) e apart last =
+    let a = e.0 in
+    let behind = e.1 in
+    let each = subst (AllByRecursion (IsLastOf ss)) e.2 last in
+    let alone = subst AreApart e.2 apart in
+    let is_last : table.get ss a.session ≡ Some a.request = each.0 in
+    let there : has_session r.session (a ∷ behind) ≡ true = or_left _ _ (eq-eqb r.session a.session (sym e.3)) in
+    let none_behind : has_session r.session behind ≡ false = subst (λ (s : ℕ). has_session s behind ≡ false) e.3 alone.0 in (
+      record {
+        last = ap (table.get ss) (sym e.3) ∙ is_last ∙ ap (λ (q : ℕ). Some q) e.4;
+        pending = ap (has_session r.session) e.2 ∙ there;
+        done = none_left r.session behind after rs e.5 none_behind;
+      },
+      all_map (Ends ss behind after) (Ends ss before after)
+          (λ k ends. record { last = ends.last; pending = ap (has_session k.session) e.2 ∙ or_right _ _ ends.pending; done = ends.done })
+          rs (first_ends ss behind after rs e.5 alone.1 each.1),
+    )
+
+replies_end : (c : Core) (m : Message) → IsLawfulCore c
+    → AllByRecursion (Ends c.sessions (unanswered c.ops) (unanswered (ops.after_message c.me (quorum c) m c.ops))) (ops.replies_of c.me m c.ops)
+replies_end c m h =
+    first_ends c.sessions (unanswered c.ops) (unanswered (ops.after_message c.me (quorum c) m c.ops)) (ops.replies_of c.me m c.ops) (message_answers c.me (quorum c) m c.ops)
     h.line.apart (all_last c.links c.sessions c.ops.phase c.ops.line h.phase h.line.last)
 
-each_reply : (P : Output → Type 0) (r : Option Reply) → IfSome r (λ r. P (output.Reply r.session r.request r.answer)) → AllByRecursion P (send_reply r)
-each_reply P None h = tt
-each_reply P (Some r) h = (h, tt)
+each_reply : (P : Output → Type 0) (rs : List Reply) → AllByRecursion (λ r. P (output.Reply r.session r.request r.answer)) rs → AllByRecursion P (send_replies rs)
+each_reply P [] h = tt
+each_reply P (r ∷ rs) h = (h.0, each_reply P rs h.1)
+
+-- of what answers an ask each reply is that ends one
+each_answer : (P : Output → Type 0) (c : Core) (m : Message) → IsLawfulCore c
+    → ((r : Reply) → Ends c.sessions (unanswered c.ops) (unanswered (ops.after_message c.me (quorum c) m c.ops)) r → P (output.Reply r.session r.request r.answer))
+    → AllByRecursion P (send_replies (ops.replies_of c.me m c.ops))
+each_answer P c m h f =
+    each_reply P (ops.replies_of c.me m c.ops)
+    (all_map (Ends c.sessions (unanswered c.ops) (unanswered (ops.after_message c.me (quorum c) m c.ops))) (λ r. P (output.Reply r.session r.request r.answer)) f
+    (ops.replies_of c.me m c.ops) (replies_end c m h))
+
+-- no two of one event are of one session
+replies_apart : (before after : List Asked) (rs : List Reply) → AnswersFirst before after rs → AreApart before → EachRises (send_replies rs)
+replies_apart before after [] e apart = tt
+replies_apart before after (r ∷ rs) e apart =
+    let behind = e.1 in
+    let alone = subst AreApart e.2 apart in
+    let none_behind : has_session r.session behind ≡ false = subst (λ (s : ℕ). has_session s behind ≡ false) e.3 alone.0 in (
+      later_apart r behind rs none_behind e.5,
+      replies_apart behind after rs e.5 alone.1,
+    )
+  where
+    later_apart : (r : Reply) (asks : List Asked) (rs : List Reply) → has_session r.session asks ≡ false → AnswersFirst asks after rs
+        → AllByRecursion (Follows (output.Reply r.session r.request r.answer)) (send_replies rs)
+    later_apart r asks [] none e = tt
+    later_apart r asks (k ∷ rs) none e =
+        let parts = or_parts _ _ (sym (ap (has_session r.session) e.2) ∙ none) in (
+          λ same. absurd (both_ways (nat_eq r.session (e.0).session) parts.0 (eq-eqb r.session (e.0).session (same ∙ sym e.3))),
+          later_apart r e.1 rs parts.1 e.5,
+        )
 
 last_is : (ss : Requests) (s r : ℕ) → table.get ss s ≡ Some r → last_request ss s ≡ r
 last_is ss s r e = ap (λ o. unwrap_or o 0) e
@@ -264,7 +309,7 @@ request_below ss before after s request r past ends same =
     let last : last_request ss s ≡ r.request = ap (last_request ss) same ∙ last_is ss r.session r.request ends.last in
     subst (λ n. request < n) last less
 
-reply_follows : (c : Core) (e : Event) (x : Output) → IsLawfulCore c → IsPast c x → AllByRecursion (Follows x) (send_reply (reply c e))
+reply_follows : (c : Core) (e : Event) (x : Output) → IsLawfulCore c → IsPast c x → AllByRecursion (Follows x) (send_replies (replies c e))
 reply_follows c event.Enter x h past = tt
 reply_follows c event.Leave x h past = tt
 reply_follows c (event.Acked peer n) x h past = tt
@@ -272,20 +317,13 @@ reply_follows c (event.Ask s r k) x h past = tt
 reply_follows c (event.Retire q) x h past = tt
 reply_follows c (event.Lapse q) x h past = tt
 reply_follows c event.Snapshot x h past = tt
-reply_follows c (event.Deliver from n m) (output.Send to number k) h past =
-    each_reply (Follows (output.Send to number k)) (ops.reply_of c.me m c.ops) (if_more (ops.reply_of c.me m c.ops) (Ends c.sessions (unanswered c.ops) (unanswered (ops.after_message c.me (quorum c) m c.ops))) (λ r. ⊤) (λ r ends. tt) (reply_ends c m h))
-reply_follows c (event.Deliver from n m) (output.Ack to number) h past =
-    each_reply (Follows (output.Ack to number)) (ops.reply_of c.me m c.ops) (if_more (ops.reply_of c.me m c.ops) (Ends c.sessions (unanswered c.ops) (unanswered (ops.after_message c.me (quorum c) m c.ops))) (λ r. ⊤) (λ r ends. tt) (reply_ends c m h))
+reply_follows c (event.Deliver from n m) (output.Send to number k) h past = each_answer (Follows (output.Send to number k)) c m h (λ r ends. tt)
+reply_follows c (event.Deliver from n m) (output.Ack to number) h past = each_answer (Follows (output.Ack to number)) c m h (λ r ends. tt)
 reply_follows c (event.Deliver from n m) (output.Reply s request a) h past =
     let after = unanswered (ops.after_message c.me (quorum c) m c.ops) in
-    each_reply (Follows (output.Reply s request a)) (ops.reply_of c.me m c.ops) (if_more (ops.reply_of c.me m c.ops) (Ends c.sessions (unanswered c.ops) after) (λ r. s ≡ r.session → request < r.request)
-    (λ r ends same. request_below c.sessions (unanswered c.ops) after s request r past ends same) (reply_ends c m h))
+    each_answer (Follows (output.Reply s request a)) c m h (λ r ends same. request_below c.sessions (unanswered c.ops) after s request r past ends same)
 
-both_ways : (b : Bool) → b ≡ false → b ≡ true → ⊥
-both_ways true e t = cc
-both_ways false e t = cc
-
-reply_past : (c : Core) (e : Event) → IsLawfulCore c → AllByRecursion (IsPast (next c e)) (send_reply (reply c e))
+reply_past : (c : Core) (e : Event) → IsLawfulCore c → AllByRecursion (IsPast (next c e)) (send_replies (replies c e))
 unfolding next
 reply_past c event.Enter h = tt
 reply_past c event.Leave h = tt
@@ -296,21 +334,19 @@ reply_past c (event.Lapse q) h = tt
 reply_past c event.Snapshot h = tt
 reply_past c (event.Deliver from n m) h =
     let after = unanswered (ops.after_message c.me (quorum c) m c.ops) in
-    each_reply (IsPast (next c (event.Deliver from n m))) (ops.reply_of c.me m c.ops) (if_more (ops.reply_of c.me m c.ops) (Ends c.sessions (unanswered c.ops) after)
-    (λ r. IsAnswered c.sessions (unanswered (ops_anew c from n m)) r.session r.request)
+    each_answer (IsPast (next c (event.Deliver from n m))) c m h
     (λ r ends. subst (λ asks. IsAnswered c.sessions asks r.session r.request) (sym (anew_unanswered (asks_anew c from n m) _ (ops.after_message c.me (quorum c) m c.ops))) (record {
       begun = subst (λ k. r.request ≤ k) (sym (last_is c.sessions r.session r.request ends.last)) (omega arith);
       ended = λ t. absurd (both_ways (has_session r.session after) ends.done t);
     }))
-    (reply_ends c m h))
 
-still_there : (x : ℕ) (before after : List Asked) (o : Option Reply) → AnswersFirst before after o → has_session x after ≡ true → has_session x before ≡ true
-still_there x before after None e h = ap (has_session x) (sym e) ∙ h
-still_there x before after (Some r) e h = ap (has_session x) e.1 ∙ or_right _ _ h
+still_there : (x : ℕ) (before after : List Asked) (rs : List Reply) → AnswersFirst before after rs → has_session x after ≡ true → has_session x before ≡ true
+still_there x before after [] e h = ap (has_session x) (sym e) ∙ h
+still_there x before after (r ∷ rs) e h = ap (has_session x) e.2 ∙ or_right _ _ (still_there x e.1 after rs e.5 h)
 
 -- a message brings no ask
 message_there : (me quorum : ℕ) (m : Message) (s : Ops) (x : ℕ) → has_session x (unanswered (ops.after_message me quorum m s)) ≡ true → has_session x (unanswered s) ≡ true
-message_there me quorum m s x h = still_there x (unanswered s) (unanswered (ops.after_message me quorum m s)) (ops.reply_of me m s) (message_answers me quorum m s) h
+message_there me quorum m s x h = still_there x (unanswered s) (unanswered (ops.after_message me quorum m s)) (ops.replies_of me m s) (message_answers me quorum m s) h
 
 -- one more ask is of its own session
 there_before : (s : ℕ) (asks : List Asked) (a : Asked) → nat_eq s a.session ≡ false → has_session s (asks ++ a ∷ []) ≡ true → has_session s asks ≡ true
@@ -382,13 +418,13 @@ answered_stays c event.Snapshot s request d h past = past
 
 outputs_follow : (c : Core) (e : Event) (x : Output) → decides c e ≡ None → IsLawfulCore c → IsPast c x → AllByRecursion (Follows x) (outputs c e)
 outputs_follow c e x d h past =
-    all_both (Follows x) (send_ack (core.ack e) ++ send_post (next c e) (post c e)) (send_reply (reply c e))
+    all_both (Follows x) (send_ack (core.ack e) ++ send_post (next c e) (post c e)) (send_replies (replies c e))
     (all_both (Follows x) (send_ack (core.ack e)) (send_post (next c e) (post c e)) (ack_follows c e x d past) (sends_follow c e x d h past))
     (reply_follows c e x h past)
 
 outputs_past : (c : Core) (e : Event) → IsLawfulCore c → AllByRecursion (IsPast (next c e)) (outputs c e)
 outputs_past c e h =
-    all_both (IsPast (next c e)) (send_ack (core.ack e) ++ send_post (next c e) (post c e)) (send_reply (reply c e))
+    all_both (IsPast (next c e)) (send_ack (core.ack e) ++ send_post (next c e) (post c e)) (send_replies (replies c e))
     (all_both (IsPast (next c e)) (send_ack (core.ack e)) (send_post (next c e) (post c e)) (ack_past c e)
     (each_post (IsPast (next c e)) (next c e) (post c e) (λ m made q l there. record { link = l; there = there; posted = omega arith })))
     (reply_past c e h)
@@ -407,30 +443,40 @@ ack_rises : (k : Option LinkAck) → EachRises (send_ack k)
 ack_rises None = tt
 ack_rises (Some k) = (tt, tt)
 
-reply_rises : (r : Option Reply) → EachRises (send_reply r)
-reply_rises None = tt
-reply_rises (Some r) = (tt, tt)
+replies_rise : (c : Core) (e : Event) → IsLawfulCore c → EachRises (send_replies (replies c e))
+replies_rise c event.Enter h = tt
+replies_rise c event.Leave h = tt
+replies_rise c (event.Deliver from n m) h =
+    replies_apart (unanswered c.ops) (unanswered (ops.after_message c.me (quorum c) m c.ops)) (ops.replies_of c.me m c.ops) (message_answers c.me (quorum c) m c.ops) h.line.apart
+replies_rise c (event.Acked peer n) h = tt
+replies_rise c (event.Ask s r k) h = tt
+replies_rise c (event.Retire q) h = tt
+replies_rise c (event.Lapse q) h = tt
+replies_rise c event.Snapshot h = tt
 
-acks_reply : (k : Option LinkAck) (r : Option Reply) → AllFollow (send_ack k) (send_reply r)
-acks_reply None r = tt
-acks_reply (Some k) None = (tt, tt)
-acks_reply (Some k) (Some r) = ((tt, tt), tt)
+ack_then_replies : (to number : ℕ) (rs : List Reply) → AllByRecursion (Follows (output.Ack to number)) (send_replies rs)
+ack_then_replies to number [] = tt
+ack_then_replies to number (r ∷ rs) = (tt, ack_then_replies to number rs)
 
-send_reply_follows : (q n : ℕ) (m : Message) (r : Option Reply) → AllByRecursion (Follows (output.Send q n m)) (send_reply r)
-send_reply_follows q n m None = tt
-send_reply_follows q n m (Some r) = (tt, tt)
+send_then_replies : (q n : ℕ) (m : Message) (rs : List Reply) → AllByRecursion (Follows (output.Send q n m)) (send_replies rs)
+send_then_replies q n m [] = tt
+send_then_replies q n m (r ∷ rs) = (tt, send_then_replies q n m rs)
 
-then_reply : (c : Core) (k : Option LinkAck) (p : Option Message) (r : Option Reply) → AllFollow (send_ack k ++ send_post c p) (send_reply r)
-then_reply c k p r =
-    all_both (λ x. AllByRecursion (Follows x) (send_reply r)) (send_ack k) (send_post c p) (acks_reply k r)
-    (each_post (λ x. AllByRecursion (Follows x) (send_reply r)) c p (λ m made q l there. send_reply_follows q (c.posts - l.start) m r))
+acks_replies : (k : Option LinkAck) (rs : List Reply) → AllFollow (send_ack k) (send_replies rs)
+acks_replies None rs = tt
+acks_replies (Some k) rs = (ack_then_replies k.to k.number rs, tt)
 
-outputs_rise : (c : Core) (e : Event) → EachRises (outputs c e)
-outputs_rise c e =
+then_replies : (c : Core) (k : Option LinkAck) (p : Option Message) (rs : List Reply) → AllFollow (send_ack k ++ send_post c p) (send_replies rs)
+then_replies c k p rs =
+    all_both (λ x. AllByRecursion (Follows x) (send_replies rs)) (send_ack k) (send_post c p) (acks_replies k rs)
+    (each_post (λ x. AllByRecursion (Follows x) (send_replies rs)) c p (λ m made q l there. send_then_replies q (c.posts - l.start) m rs))
+
+outputs_rise : (c : Core) (e : Event) → IsLawfulCore c → EachRises (outputs c e)
+outputs_rise c e h =
     let a = send_ack (core.ack e) in
     let p = send_post (next c e) (post c e) in
-    rises_both (a ++ p) (send_reply (reply c e)) (rises_both a p (ack_rises (core.ack e)) (post_rises (next c e) (post c e)) (ack_then (next c e) (core.ack e) (post c e)))
-    (reply_rises (reply c e)) (then_reply (next c e) (core.ack e) (post c e) (reply c e))
+    rises_both (a ++ p) (send_replies (replies c e)) (rises_both a p (ack_rises (core.ack e)) (post_rises (next c e) (post c e)) (ack_then (next c e) (core.ack e) (post c e)))
+    (replies_rise c e h) (then_replies (next c e) (core.ack e) (post c e) (replies c e))
 
 -- ---- along a list
 
@@ -446,7 +492,7 @@ unfolding step
 line_rises n [] h d = tt
 line_rises n (e ∷ es) h d =
     let next_lawful = step_lawful n e d.0 h in
-    rises_both (outputs n.core e) (line (step n e) es) (outputs_rise n.core e) (line_rises (step n e) es next_lawful d.1)
+    rises_both (outputs n.core e) (line (step n e) es) (outputs_rise n.core e h.core) (line_rises (step n e) es next_lawful d.1)
     (all_map (IsPast (next n.core e)) (λ x. AllByRecursion (Follows x) (line (step n e) es)) (λ x past. line_follows (step n e) es x next_lawful d.1 past)
     (outputs n.core e) (outputs_past n.core e h.core))
 

@@ -16,7 +16,7 @@ use Rattle.cc_wire.specs.Refusals.{first_of}
 use Rattle.cc_ops.specs.declared.pending.Asked.{Asked}
 use Rattle.cc_ops.specs.Ops as ops
 use Rattle.cc_ops.specs.OwnLaws.{begun_line, message_line, ask_line}
-use Rattle.cc_ops.specs.Waiting.{line_limit, led_by, has_session}
+use Rattle.cc_ops.specs.Waiting.{line_limit, has_session}
 use Rattle.cc_node.specs.Core.{Core, quorum, asked_of, asks_anew, begun, next}
 use Rattle.cc_node.specs.Refusals.{decides, decides_within, left, not_entered, not_joined, too_many_sessions, repeat, stale, skip, busy, set_full, outbox_full, spent}
 use Rattle.cc_node.specs.Node.{Node, step, after, IsLawful, IsLawfulWithin}
@@ -29,21 +29,13 @@ use Rattle.cc_node.proofs.ToldLaws.{anew_line}
 
 -- ---- the order of asks
 
-led_more : (o : Option Asked) (xs ys : List Asked) → led_by o (xs ++ ys) ≡ led_by o xs ++ ys
-led_more None xs ys = refl
-led_more (Some a) xs ys = refl
-
-then_more : (line : List Asked) (o : Option Asked) (ys : List Asked) → line ++ led_by o ys ≡ (line ++ led_by o []) ++ ys
-then_more line None ys = ap (λ (l : List Asked). l ++ ys) (sym (append-nil line))
-then_more line (Some a) ys = sym (append_assoc line (a ∷ []) ys)
-
-one_in_order : (c : Core) (e : Event) → IsLawfulCore c → c.ops.line ++ led_by (asked_by e) [] ≡ led_by (begun c e) (next c e).ops.line
+one_in_order : (c : Core) (e : Event) → IsLawfulCore c → c.ops.line ++ asked_by e ≡ begun c e ++ (next c e).ops.line
 unfolding next
 one_in_order c event.Enter h = append-nil c.ops.line
 one_in_order c event.Leave h = append-nil c.ops.line
 one_in_order c (event.Deliver from n m) h =
     append-nil c.ops.line ∙ message_line c.me (quorum c) m c.ops
-    ∙ ap (led_by (ops.begun_by c.me m c.ops)) (sym (anew_line (asks_anew c from n m) _ (ops.after_message c.me (quorum c) m c.ops)))
+    ∙ ap (λ (l : List Asked). ops.begun_by c.me m c.ops ++ l) (sym (anew_line (asks_anew c from n m) _ (ops.after_message c.me (quorum c) m c.ops)))
 one_in_order c (event.Acked peer n) h = append-nil c.ops.line
 one_in_order c (event.Ask s r k) h = ask_line c.me (quorum c) (asked_of s r k) c.ops (λ idle. none_waits c.ops.phase c.ops.line idle h.line.behind)
 one_in_order c (event.Retire q) h = append-nil c.ops.line
@@ -56,11 +48,11 @@ begin_in_order n [] h d = append-nil n.core.ops.line
 begin_in_order n (e ∷ es) h d =
     let b = begun n.core e in
     let line = (next n.core e).ops.line in
-    then_more n.core.ops.line (asked_by e) (asked_along es)
+    sym (append_assoc n.core.ops.line (asked_by e) (asked_along es))
     ∙ ap (λ (l : List Asked). l ++ asked_along es) (one_in_order n.core e h.core)
-    ∙ sym (led_more b line (asked_along es))
-    ∙ ap (led_by b) (begin_in_order (step n e) es (step_lawful n e d.0 h) d.1)
-    ∙ led_more b (begun_along (step n e) es) (after (step n e) es).core.ops.line
+    ∙ append_assoc b line (asked_along es)
+    ∙ ap (λ (l : List Asked). b ++ l) (begin_in_order (step n e) es (step_lawful n e d.0 h) d.1)
+    ∙ sym (append_assoc b (begun_along (step n e) es) (after (step n e) es).core.ops.line)
 
 -- ---- where no ask may wait
 
@@ -110,9 +102,9 @@ pub taken_along : (n : Node) (es : List Event) → IsLawfulWithin 0 n es → IsL
 taken_along n [] d = tt
 taken_along n (e ∷ es) d = (taken_within n.core e d.0, taken_along (step n e) es d.1)
 
-none_behind : (o : Option Asked) (line : List Asked) → [] ≡ led_by o line → line ≡ []
-none_behind None line e = sym e
-none_behind (Some a) line e = cc
+none_behind : (asks line : List Asked) → [] ≡ asks ++ line → line ≡ []
+none_behind [] line e = sym e
+none_behind (a ∷ asks) line e = cc
 
 none_asked : (c : Core) (s r : ℕ) (k : Command) → c.ops.line ≡ [] → ops.is_idle c.ops.phase ≡ true → (ops.after_ask c.me (quorum c) (asked_of s r k) c.ops).line ≡ []
 none_asked c s r k none idle =

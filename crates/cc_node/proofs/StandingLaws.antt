@@ -28,14 +28,15 @@ use Rattle.cc_ops.specs.declared.pending.Reply.{Reply}
 use Rattle.cc_links.specs.Links.{Link, Links, with_row, add_all, hear, heard_from}
 use Rattle.cc_links.specs.LinkLaws.{LinkGoesOn, get-live}
 use Rattle.cc_sessions.specs.Sessions.{Requests}
+use Rattle.cc_outbox.specs.Outbox as kept
 use Rattle.cc_outbox.specs.Outbox.{Outbox, forget}
 use Rattle.cc_node.specs.Core as core
-use Rattle.cc_node.specs.Core.{Core, quorum, ids_of, next, post, reply, outputs, sends, send_post, send_ack, send_reply, lowest, live_links}
+use Rattle.cc_node.specs.Core.{Core, quorum, ids_of, next, post, replies, outputs, sends, send_post, send_ack, send_replies, lowest, live_links}
 use Rattle.cc_node.specs.Refusals.{decides}
 use Rattle.cc_node.specs.Node.{Node, step, after, line, keep, add, forget_asked, HasOutput, MayBeOut, IsLawful}
 use Rattle.cc_node.specs.Lawful.{IsLastOf, IsLawfulCore, IsLawfulNode}
 use Rattle.cc_node.proofs.KnownLaws.{all_last}
-use Rattle.cc_node.proofs.KeptLaws.{same_some, posts_forget}
+use Rattle.cc_node.proofs.KeptLaws.{same_some, posts_forget, answers_add}
 use Rattle.cc_node.proofs.LawfulLaws.{links_go_on, left_grows, add_all_heard, hears_now, step_lawful}
 
 contains_head : {X : Type 0} (x : X) (xs : List X) → Contains (x ∷ xs) x
@@ -64,9 +65,9 @@ only_some : {X : Type 0} (b : Bool) (o : Option X) (x : X) → cond b o None ≡
 only_some true o x e = e
 only_some false o x e = cc
 
-pub posts_keep : (r : Option Reply) (o : Outbox) → (keep r o).posts ≡ o.posts
-posts_keep None o = refl
-posts_keep (Some r) o = refl
+pub posts_keep : (rs : List Reply) (o : Outbox) → (keep rs o).posts ≡ o.posts
+posts_keep [] o = refl
+posts_keep (r ∷ rs) o = posts_keep rs (kept.keep r.session r.answer o)
 
 pub last_forget : (e : Event) (o : Outbox) → (forget_asked e o).last ≡ o.last
 last_forget event.Enter o = refl
@@ -125,8 +126,8 @@ step_send n e to wire m d h s =
     sym (get-live (next c e).churn.changes.left (next c e).links to) ∙ s.3 in
     let added = add (post c e) (forget_asked e n.outbox) in
     let kept : table.get added.posts number ≡ Some m =
-    ap (λ p. table.get p number) (sym (posts_keep (reply c e) added))
-    ∙ only_some (nat_lt (lowest (next c e)) number) (table.get (keep (reply c e) added).posts number) m (sym (get-above (lowest (next c e)) (keep (reply c e) added).posts number) ∙ s.2) in
+    ap (λ p. table.get p number) (sym (posts_keep (replies c e) added))
+    ∙ only_some (nat_lt (lowest (next c e)) number) (table.get (keep (replies c e) added).posts number) m (sym (get-above (lowest (next c e)) (keep (replies c e) added).posts number) ∙ s.2) in
     elim (kept_or_new (post c e) (forget_asked e n.outbox) number m kept)
     as (λ _. HasOutput n (output.Send to wire m) ⊎ Contains (outputs n.core e) (output.Send to wire m)) [
       | inl old ↦
@@ -154,7 +155,7 @@ step_send n e to wire m d h s =
           let here : Contains (send_post (next c e) (post c e)) (output.Send to wire m) =
           subst (λ p. Contains (send_post (next c e) p) (output.Send to wire m)) (sym new.1)
           (subst (Contains (sends (next c e).posts m (table.entries (live_links (next c e))))) is sent) in
-          inr (Contains-append_left (send_ack (core.ack e) ++ send_post (next c e) (post c e)) (send_reply (reply c e)) _
+          inr (Contains-append_left (send_ack (core.ack e) ++ send_post (next c e) (post c e)) (send_replies (replies c e)) _
           (Contains-append_right (send_ack (core.ack e)) (send_post (next c e) (post c e)) _ here))
     ]
 
@@ -192,7 +193,7 @@ step_ack n (event.Deliver from k m) to heard s =
       | inl t ↦
           let number : k ≡ heard = sym (hears_now c from k m) ∙ ap (λ q. heard_from q (hear from k ls)) (sym t.1) ∙ now in
           let is : output.Ack from k ≡ output.Ack to heard = ap (λ q. output.Ack q k) (sym t.1) ∙ ap (λ q. output.Ack to q) number in
-          inr (Contains-append_left (send_ack (core.ack e) ++ send_post (next c e) (post c e)) (send_reply (reply c e)) _
+          inr (Contains-append_left (send_ack (core.ack e) ++ send_post (next c e) (post c e)) (send_replies (replies c e)) _
           (Contains-append_left (send_ack (core.ack e)) (send_post (next c e) (post c e)) _ (subst (Contains (output.Ack from k ∷ [])) is (contains_head (output.Ack from k) []))))
       | inr t ↦ inl (of_heard (table.get c.links to) heard
           (sym (row_heard to from (λ l. record l { heard = k }) (table.get ls from) ls refl t.0 ∙ add_all_heard c.posts (from ∷ ids_of m) c.links to) ∙ now) s.3)
@@ -217,35 +218,38 @@ step_ack n event.Snapshot to heard s = inl s
 abbrev IsLast : Requests → Reply → Type 0
 IsLast ss r = table.get ss r.session ≡ Some r.request
 
-first_is_last : (ss : Requests) (before after : List Asked) (o : Option Reply) → AnswersFirst before after o → AllByRecursion (IsLastOf ss) before → IfSome o (IsLast ss)
-first_is_last ss before after None e h = tt
-first_is_last ss before after (Some r) e h =
-    let last : table.get ss (e.0).session ≡ Some (e.0).request = (subst (AllByRecursion (IsLastOf ss)) e.1 h).0 in
-    ap (table.get ss) (sym e.2) ∙ last ∙ ap (λ (q : ℕ). Some q) e.3
+first_are_last : (ss : Requests) (before after : List Asked) (rs : List Reply) → AnswersFirst before after rs → AllByRecursion (IsLastOf ss) before → AllByRecursion (IsLast ss) rs
+first_are_last ss before after [] e h = tt
+first_are_last ss before after (r ∷ rs) e h =
+    let each = subst (AllByRecursion (IsLastOf ss)) e.2 h in
+    let last : table.get ss (e.0).session ≡ Some (e.0).request = each.0 in
+    (ap (table.get ss) (sym e.3) ∙ last ∙ ap (λ (q : ℕ). Some q) e.4, first_are_last ss e.1 after rs e.5 each.1)
 
-reply_last : (c : Core) (m : Message) → IsLawfulCore c → IfSome (ops.reply_of c.me m c.ops) (IsLast c.sessions)
-reply_last c m h =
-    first_is_last c.sessions (ops.unanswered c.ops) (ops.unanswered (ops.after_message c.me (quorum c) m c.ops)) (ops.reply_of c.me m c.ops) (message_answers c.me (quorum c) m c.ops)
+replies_last : (c : Core) (m : Message) → IsLawfulCore c → AllByRecursion (IsLast c.sessions) (ops.replies_of c.me m c.ops)
+replies_last c m h =
+    first_are_last c.sessions (ops.unanswered c.ops) (ops.unanswered (ops.after_message c.me (quorum c) m c.ops)) (ops.replies_of c.me m c.ops) (message_answers c.me (quorum c) m c.ops)
     (all_last c.links c.sessions c.ops.phase c.ops.line h.phase h.line.last)
 
-answers_add : (p : Option Message) (r : Option Reply) (o : Outbox) → (keep r (add p o)).answers ≡ (keep r o).answers
-answers_add None r o = refl
-answers_add (Some m) None o = refl
-answers_add (Some m) (Some r) o = refl
-
-kept_or_told : (ss : Requests) (r : Option Reply) (o : Outbox) (x q : ℕ) (a : Answer) → IfSome r (IsLast ss) → table.get (keep r o).answers x ≡ Some a → table.get ss x ≡ Some q
-    → (table.get o.answers x ≡ Some a) ⊎ Contains (send_reply r) (output.Reply x q a)
-kept_or_told ss None o x q a h e f = inl e
-kept_or_told ss (Some r) o x q a h e f =
-    elim (eqb_tells x r.session) as (λ _. (table.get o.answers x ≡ Some a) ⊎ Contains (send_reply (Some r)) (output.Reply x q a)) [
-      | inl t ↦
-          let answer : r.answer ≡ a = same_some r.answer a (ap (λ b. cond b (Some r.answer) (table.get o.answers x)) (sym t.0) ∙ sym (get-insert_key o.answers r.session r.answer x) ∙ e) in
-          let request : r.request ≡ q = same_some r.request q (sym h ∙ ap (table.get ss) (sym t.1) ∙ f) in
-          let is : output.Reply r.session r.request r.answer ≡ output.Reply x q a =
-          ap (λ k. output.Reply k r.request r.answer) (sym t.1) ∙ ap (λ k. output.Reply x k r.answer) request ∙ ap (λ k. output.Reply x q k) answer in
-          inr (subst (Contains (send_reply (Some r))) is (contains_head (output.Reply r.session r.request r.answer) []))
-      | inr t ↦ inl (ap (λ b. cond b (Some r.answer) (table.get o.answers x)) (sym t.0) ∙ sym (get-insert_key o.answers r.session r.answer x) ∙ e)
+kept_or_told : (ss : Requests) (rs : List Reply) (o : Outbox) (x q : ℕ) (a : Answer) → AllByRecursion (IsLast ss) rs → table.get (keep rs o).answers x ≡ Some a → table.get ss x ≡ Some q
+    → (table.get o.answers x ≡ Some a) ⊎ Contains (send_replies rs) (output.Reply x q a)
+kept_or_told ss [] o x q a h e f = inl e
+kept_or_told ss (r ∷ rs) o x q a h e f =
+    elim (kept_or_told ss rs (kept.keep r.session r.answer o) x q a h.1 e f) as (λ _. (table.get o.answers x ≡ Some a) ⊎ Contains (send_replies (r ∷ rs)) (output.Reply x q a)) [
+      | inl here ↦ here_or_told here
+      | inr there ↦ inr (Contains-append_right (output.Reply r.session r.request r.answer ∷ []) (send_replies rs) _ there)
     ]
+  where
+    here_or_told : table.get (table.insert o.answers r.session r.answer) x ≡ Some a → (table.get o.answers x ≡ Some a) ⊎ Contains (send_replies (r ∷ rs)) (output.Reply x q a)
+    here_or_told here =
+        elim (eqb_tells x r.session) as (λ _. (table.get o.answers x ≡ Some a) ⊎ Contains (send_replies (r ∷ rs)) (output.Reply x q a)) [
+          | inl t ↦
+              let answer : r.answer ≡ a = same_some r.answer a (ap (λ b. cond b (Some r.answer) (table.get o.answers x)) (sym t.0) ∙ sym (get-insert_key o.answers r.session r.answer x) ∙ here) in
+              let request : r.request ≡ q = same_some r.request q (sym h.0 ∙ ap (table.get ss) (sym t.1) ∙ f) in
+              let is : output.Reply r.session r.request r.answer ≡ output.Reply x q a =
+              ap (λ k. output.Reply k r.request r.answer) (sym t.1) ∙ ap (λ k. output.Reply x k r.answer) request ∙ ap (λ k. output.Reply x q k) answer in
+              inr (subst (Contains (send_replies (r ∷ rs))) is (contains_head (output.Reply r.session r.request r.answer) (send_replies rs)))
+          | inr t ↦ inl (ap (λ b. cond b (Some r.answer) (table.get o.answers x)) (sym t.0) ∙ sym (get-insert_key o.answers r.session r.answer x) ∙ here)
+        ]
 
 get-remove_key : {X : Type 0} (m : FinMap nat_cmp X) (k q : ℕ) → table.get (table.remove m k) q ≡ cond (nat_eq q k) None (table.get m q)
 get-remove_key m k q = table.get-remove nat_cmp_total m k q ∙ ap (λ b. cond b None (table.get m q)) (unsigned_tied q k)
@@ -258,17 +262,17 @@ step_reply n event.Leave x q a h s = inl s
 step_reply n (event.Deliver from k m) x q a h s =
     let c = n.core in
     let e = event.Deliver from k m in
-    elim (kept_or_told c.sessions (reply c e) n.outbox x q a (reply_last c m h.core)
-    (ap (λ o. table.get o x) (sym (answers_add (post c e) (reply c e) n.outbox)) ∙ s.0) s.1)
+    elim (kept_or_told c.sessions (replies c e) n.outbox x q a (replies_last c m h.core)
+    (ap (λ o. table.get o x) (sym (answers_add (post c e) (replies c e) n.outbox)) ∙ s.0) s.1)
     as (λ _. HasOutput n (output.Reply x q a) ⊎ Contains (outputs n.core e) (output.Reply x q a)) [
       | inl old ↦ inl (old, s.1)
-      | inr new ↦ inr (Contains-append_right (send_ack (core.ack e) ++ send_post (next c e) (post c e)) (send_reply (reply c e)) _ new)
+      | inr new ↦ inr (Contains-append_right (send_ack (core.ack e) ++ send_post (next c e) (post c e)) (send_replies (replies c e)) _ new)
     ]
 step_reply n (event.Acked peer k) x q a h s = inl s
 step_reply n (event.Ask y r k) x q a h s =
     let c = n.core in
     let e = event.Ask y r k in
-    let kept : table.get (table.remove n.outbox.answers y) x ≡ Some a = ap (λ m. table.get m x) (sym (answers_add (post c e) None (forget y n.outbox))) ∙ s.0 in
+    let kept : table.get (table.remove n.outbox.answers y) x ≡ Some a = ap (λ m. table.get m x) (sym (answers_add (post c e) [] (forget y n.outbox))) ∙ s.0 in
     elim (nat_eq x y) as (λ b. nat_eq x y ≡ b → HasOutput n (output.Reply x q a) ⊎ Contains (outputs n.core (event.Ask y r k)) (output.Reply x q a)) [
       | true ↦ λ t.
           let gone : None ≡ Some a = ap (λ b. cond b None (table.get n.outbox.answers x)) (sym t) ∙ sym (get-remove_key n.outbox.answers y x) ∙ kept in cc

@@ -1,11 +1,11 @@
 -- The core of a node, and what one event makes of it and puts out.
 --     Core            the plain state
---     begun C e       the ask that an event begins, if it begins one
+--     begun C e       the asks that an event begins
 --     next C e        the state after an event
 --     tells, asks_anew     what a snapshot makes of it beside a union and a merge: it counts as an echo, and a phase begins anew
---     made C e        the acknowledgement, the post and the answer that it makes
+--     made C e        the acknowledgement, the post and the answers that it makes
 --     outputs C e     what is put out for it, in order
-use Rattle.std.specs.Prelude.{ℕ, ◌+◌, ◌-◌, ◌==◌, ◌&&◌, ◌||◌, nat_lt, not, Bool, false, if◌then◌else◌, List, [], ◌∷◌, ◌++◌, map, Option, Some, None, option_map}
+use Rattle.std.specs.Prelude.{ℕ, ◌+◌, ◌-◌, ◌==◌, ◌&&◌, ◌||◌, nat_lt, not, Bool, false, if◌then◌else◌, List, [], ◌∷◌, ◌++◌, map, Option, Some, None}
 use Rattle.std.specs.Option.{option_len, option_or}
 use Rattle.std.specs.FinMap as table
 use Rattle.cc_views.specs.NatSets as set
@@ -106,16 +106,16 @@ ops_anew c from n m = anew_if (asks_anew c from n m) (churn.quorum c.beta (churn
 abbrev pub asked_of : ℕ → ℕ → Command → Asked
 asked_of s r command = record { session = s; request = r; command = command }
 
--- the ask that an event begins, if it begins one: itself, or one that waited for the last acknowledgement
-abbrev pub begun : Core → Event → Option Asked
-begun c event.Enter = None
-begun c event.Leave = None
+-- the asks that an event begins, at most one: itself, or one that waited for the last acknowledgement
+abbrev pub begun : Core → Event → List Asked
+begun c event.Enter = []
+begun c event.Leave = []
 begun c (event.Deliver from n m) = ops.begun_by c.me m c.ops
-begun c (event.Acked peer n) = None
+begun c (event.Acked peer n) = []
 begun c (event.Ask s r command) = ops.begun_by_ask (asked_of s r command) c.ops
-begun c (event.Retire q) = None
-begun c (event.Lapse q) = None
-begun c event.Snapshot = None
+begun c (event.Retire q) = []
+begun c (event.Lapse q) = []
+begun c event.Snapshot = []
 
 -- the state after an event, its post not yet counted
 abbrev pub handled : Core → Event → Core
@@ -158,7 +158,7 @@ post c event.Leave = Some (message.Leave c.me)
 post c (event.Deliver from n m) = option_or (post_of_snapshot c from n m) (post_to m c (handled c (event.Deliver from n m)))
 post c (event.Acked peer n) = None
 post c (event.Ask s r command) =
-    option_map (λ asked. ops.first_post c.me asked (handled c (event.Ask s r command)).ops) (begun c (event.Ask s r command))
+    ops.post_of_round c.me (begun c (event.Ask s r command)) (handled c (event.Ask s r command)).ops
 post c (event.Retire q) = None
 post c (event.Lapse q) = None
 post c event.Snapshot = Some (message.Snapshot c.churn.changes c.ops.view)
@@ -177,18 +177,19 @@ ack (event.Retire q) = None
 ack (event.Lapse q) = None
 ack event.Snapshot = None
 
-abbrev pub reply : Core → Event → Option Reply
-reply c event.Enter = None
-reply c event.Leave = None
-reply c (event.Deliver from n m) = ops.reply_of c.me m c.ops
-reply c (event.Acked peer n) = None
-reply c (event.Ask s r command) = None
-reply c (event.Retire q) = None
-reply c (event.Lapse q) = None
-reply c event.Snapshot = None
+-- what clients are told
+abbrev pub replies : Core → Event → List Reply
+replies c event.Enter = []
+replies c event.Leave = []
+replies c (event.Deliver from n m) = ops.replies_of c.me m c.ops
+replies c (event.Acked peer n) = []
+replies c (event.Ask s r command) = []
+replies c (event.Retire q) = []
+replies c (event.Lapse q) = []
+replies c event.Snapshot = []
 
 abbrev pub made : Core → Event → Made
-made c e = record { ack = ack e; post = post c e; answer = reply c e }
+made c e = record { ack = ack e; post = post c e; answers = replies c e }
 
 abbrev pub live_links : Core → Links
 live_links c = links.live c.churn.changes.left c.links
@@ -209,9 +210,8 @@ abbrev pub send_ack : Option LinkAck → List Output
 send_ack None = []
 send_ack (Some a) = output.Ack a.to a.number ∷ []
 
-abbrev pub send_reply : Option Reply → List Output
-send_reply None = []
-send_reply (Some r) = output.Reply r.session r.request r.answer ∷ []
+abbrev pub send_replies : List Reply → List Output
+send_replies rs = map (λ r. output.Reply r.session r.request r.answer) rs
 
 abbrev pub outputs : Core → Event → List Output
-outputs c e = send_ack (ack e) ++ send_post (next c e) (post c e) ++ send_reply (reply c e)
+outputs c e = send_ack (ack e) ++ send_post (next c e) (post c e) ++ send_replies (replies c e)

@@ -16,17 +16,17 @@ use Rattle.cc_links.specs.Links.{Link}
 use Rattle.cc_outbox.specs.Outbox as kept
 use Rattle.cc_outbox.specs.Outbox.{Outbox, trim, forget}
 use Rattle.cc_ops.specs.declared.pending.Reply.{Reply}
-use Rattle.cc_node.specs.Core.{Core, next, post, reply, outputs, lowest, live_links}
+use Rattle.cc_node.specs.Core.{Core, next, post, replies, outputs, lowest, live_links}
 use Rattle.cc_node.specs.Refusals.{decides, decides_within}
 
 pub record Node : Type 0 where
   pub core : Core
   pub outbox : Outbox
 
--- the answer of an event, where it has one, is kept for its session
-abbrev pub keep : Option Reply → Outbox → Outbox
-keep None o = o
-keep (Some r) o = kept.keep r.session r.answer o
+-- the answers of an event are kept, each for its session
+abbrev pub keep : List Reply → Outbox → Outbox
+keep [] o = o
+keep (r ∷ rs) o = keep rs (kept.keep r.session r.answer o)
 
 -- the post of an event, where it has one, is kept under the next number
 abbrev pub add : Option Message → Outbox → Outbox
@@ -48,7 +48,7 @@ unfoldable pub step : Node → Event → Node
 step n e = record {
   core = next n.core e;
   outbox = trim (lowest (next n.core e))
-      (keep (reply n.core e) (add (post n.core e) (forget_asked e n.outbox)));
+      (keep (replies n.core e) (add (post n.core e) (forget_asked e n.outbox)));
 }
 
 abbrev pub after : Node → List Event → Node

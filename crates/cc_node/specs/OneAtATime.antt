@@ -31,7 +31,7 @@ use Rattle.cc_ops.specs.Ops.{Ops, Phase, Idle, Storing, Querying, StoringBack, i
 use Rattle.cc_links.specs.Links as links
 use Rattle.cc_outbox.specs.Outbox.{post_limit, trim}
 use Rattle.cc_node.specs.Core.{Core, asked_of, ids_of, with_links, links_heard, churn_told, join_told, asks_anew, anew_if, question_if}
-use Rattle.cc_node.specs.Core.{quorum, ack, reply, send_ack, send_post, send_reply, lowest}
+use Rattle.cc_node.specs.Core.{quorum, ack, replies, send_ack, send_post, send_replies, lowest}
 use Rattle.cc_node.specs.Node.{Node, keep, add, forget_asked}
 use Rattle.cc_node.specs.Refusals.{left, has_gone, not_entered, already_entered, not_joined, old, gap, nothing_to_ack, too_many_nodes, too_many_sessions, repeat, stale, skip, nothing_to_lapse, any_overruns}
 
@@ -120,7 +120,7 @@ unfoldable pub next_alone : Core → Event → Core
 next_alone c e = record (handled_alone c e) { posts = c.posts + option_len (post_alone c e) }
 
 abbrev pub outputs_alone : Core → Event → List Output
-outputs_alone c e = send_ack (ack e) ++ send_post (next_alone c e) (post_alone c e) ++ send_reply (reply c e)
+outputs_alone c e = send_ack (ack e) ++ send_post (next_alone c e) (post_alone c e) ++ send_replies (replies c e)
 
 -- ---- what is refused
 
@@ -163,7 +163,7 @@ unfoldable pub step_alone : Node → Event → Node
 step_alone n e = record {
   core = next_alone n.core e;
   outbox = trim (lowest (next_alone n.core e))
-      (keep (reply n.core e) (add (post_alone n.core e) (forget_asked e n.outbox)));
+      (keep (replies n.core e) (add (post_alone n.core e) (forget_asked e n.outbox)));
 }
 
 abbrev pub after_alone : Node → List Event → Node

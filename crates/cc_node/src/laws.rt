@@ -17,7 +17,7 @@ ghost use Rattle.cc_ops.specs.Ops.{merged, after_message};
 ghost use Rattle.cc_ops.specs.OwnLaws.{AsksAnewAlone};
 ghost use Rattle.cc_wire.specs.declared.output.Output.{Output};
 ghost use Rattle.cc_ops.specs.declared.pending.Asked.{Asked};
-ghost use Rattle.cc_ops.specs.Waiting.{writes, mine_after, writes_by, written_by};
+ghost use Rattle.cc_ops.specs.Waiting.{writes_by, written_by};
 ghost use Rattle.cc_node.specs.Core.{Core, quorum, churned, churn_told, asks_anew, ops_anew, begun, next};
 ghost use Rattle.cc_node.specs.Node.{Node, step, after, line, HasOutput, MayBeOut, IsLawful, IsLawfulWithin};
 ghost use Rattle.cc_node.specs.OneAtATime.{waiting, decides_alone, next_alone, post_alone, step_alone, after_alone, line_alone, IsLawfulAlone};
@@ -43,8 +43,8 @@ pub fn view_only_grows()
 
 /// The own number counts the writes that begin, and nothing but their commands changes the own value.
 pub fn own_number_counts_writes()
-    ensures number { (c : Core) (e : Event) → (next c e).ops.number ≡ c.ops.number + writes (begun c e) }
-    ensures value { (c : Core) (e : Event) → (next c e).ops.mine ≡ mine_after (begun c e) c.ops.mine }
+    ensures number { (c : Core) (e : Event) → (next c e).ops.number ≡ c.ops.number + writes_by (begun c e) }
+    ensures value { (c : Core) (e : Event) → (next c e).ops.mine ≡ written_by (begun c e) c.ops.mine }
     ensures number_after { (n : Node) (es : List Event) → (after n es).core.ops.number ≡ n.core.ops.number + writes_by (begun_along n es) }
     ensures value_after { (n : Node) (es : List Event) → (after n es).core.ops.mine ≡ written_by (begun_along n es) n.core.ops.mine }
 {}

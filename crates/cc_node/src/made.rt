@@ -1,8 +1,8 @@
 //! What an event makes.
 
-ghost use Rattle.std.specs.Prelude.{◌≡◌, Some, None};
+ghost use Rattle.std.specs.Prelude.{◌≡◌, Some, None, []};
 
-use cc_ops::Reply;
+use cc_ops::Replies;
 use cc_views::NodeId;
 use cc_wire::Message;
 
@@ -13,33 +13,33 @@ pub struct LinkAck {
     pub number: u64,
 }
 
-/// What an event makes beside the next state: at most one acknowledgement, one post and one answer.
+/// What an event makes beside the next state: at most one acknowledgement and one post, and its answers.
 #[derive(Debug, Drop)]
 pub struct Made {
     pub ack: Option<LinkAck>,
     pub post: Option<Message>,
-    pub answer: Option<Reply>,
+    pub answers: Replies,
 }
 
 impl Made {
     // A post alone.
     pub(crate) fn posted(post: Message) -> Self
-        ensures { result ≡ record { ack = None; post = Some post; answer = None } }
+        ensures { result ≡ record { ack = None; post = Some post; answers = [] } }
     {
         Made {
             ack: None,
             post: Some(post),
-            answer: None,
+            answers: Replies::none(),
         }
     }
 
     pub(crate) fn nothing() -> Self
-        ensures { result ≡ record { ack = None; post = None; answer = None } }
+        ensures { result ≡ record { ack = None; post = None; answers = [] } }
     {
         Made {
             ack: None,
             post: None,
-            answer: None,
+            answers: Replies::none(),
         }
     }
 }

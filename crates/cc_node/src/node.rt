@@ -23,7 +23,7 @@ use crate::core_parts::CoreParts;
 use crate::made::Made;
 use crate::node_core::Core;
 use crate::opening::{Fresh, Opening};
-use cc_ops::{Ops, Reply, Stage};
+use cc_ops::{Ops, Replies, Stage};
 use cc_outbox::{KeptAnswer, Outbox};
 use cc_sessions::Sessions;
 use cc_views::{NodeId, View};
@@ -139,17 +139,17 @@ impl Node {
         self.core.phase()
     }
 
-    /// Takes in an event, which isn't refused, and what it made: the post is added to the kept ones, the answer kept for
-    /// its session, and what every live link has acknowledged is dropped. It takes no memory.
+    /// Takes in an event, which isn't refused, and what it made: the post is added to the kept ones, each answer kept
+    /// for its session, and what every live link has acknowledged is dropped. It takes no memory.
     pub fn settle(&mut self, event: Event, made: Made)
         requires accepted { decides self.old.core event ≡ None }
         requires made { made ≡ machine.made self.old.core event }
         ensures { self.new ≡ step self.old event }
     {
         forget_asked(&mut self.outbox, &event);
-        let Made { post, answer, .. } = made;
+        let Made { post, answers, .. } = made;
         keep_post(&mut self.outbox, post);
-        keep_answer(&mut self.outbox, answer);
+        keep_answers(&mut self.outbox, answers);
         self.core.apply(&event);
         self.outbox.trim(self.core.lowest());
     }
@@ -227,13 +227,13 @@ fn keep_post(outbox: &mut Outbox, post: Option<Message>)
     }
 }
 
-// The answer of an event, where it has one, is kept for its session.
-fn keep_answer(outbox: &mut Outbox, answer: Option<Reply>)
-    requires { table.len (keep answer outbox.old).answers ≤ session_limit }
-    ensures { outbox.new ≡ keep answer outbox.old }
+// The answers of an event are kept, each for its session.
+fn keep_answers(outbox: &mut Outbox, answers: Replies)
+    requires { table.len (keep answers outbox.old).answers ≤ session_limit }
+    ensures { outbox.new ≡ keep answers outbox.old }
 {
-    match answer {
-        Some(reply) => outbox.keep(reply.session, reply.answer),
-        None => {}
+    let mut left = answers;
+    while let Some(reply) = left.take_first() {
+        outbox.keep(reply.session, reply.answer);
     }
 }

@@ -521,7 +521,7 @@ impl Core {
         self.links.len() == Links::MAX_ROWS
     }
 
-    /// What the event makes, which isn't refused: the acknowledgement, the post and the answer. The only error is a
+    /// What the event makes, which isn't refused: the acknowledgement, the post and the answers. The only error is a
     /// refused growth.
     pub fn made(&self, alloc: Global, event: &Event) -> Result<Made, NoMemory>
         requires { decides self.now event.now ≡ None }
@@ -598,11 +598,11 @@ impl Core {
         let served = self
             .ops
             .post(alloc, self.me, self.quorum(), self.is_joined(), message)?;
-        let answer = self.ops.reply(alloc, self.me, message)?;
+        let answers = self.ops.replies(alloc, self.me, message)?;
         Ok(Made {
             ack: Some(LinkAck { to: from, number }),
             post: churned.or(served),
-            answer,
+            answers,
         })
     }
 

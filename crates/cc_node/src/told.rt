@@ -20,7 +20,7 @@ use crate::made::{LinkAck, Made};
 use crate::node_core::Core;
 use cc_changes::{Changes, Fraction};
 use cc_churn::Churn;
-use cc_ops::Ops;
+use cc_ops::{Ops, Replies};
 use cc_views::{COUNTER_LIMIT, NoMemory, NodeId, View};
 use cc_wire::Message;
 use std::alloc::Global;
@@ -219,7 +219,7 @@ impl Core {
         Ok(Made {
             ack: Some(LinkAck { to: from, number }),
             post,
-            answer: None,
+            answers: Replies::none(),
         })
     }
 }

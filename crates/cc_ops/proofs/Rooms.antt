@@ -2,6 +2,7 @@
 --     none_waits, may_wait      nothing waits where nothing is pending; anything may where something is
 --     begin_room, wait_room     room for what waits, as an ask begins where nothing waits, and as it waits behind the others
 --     no_room, first_rooms      where one finds no room, not all do; where all do, the first does
+--     first_of_round            the round that begins has the same first ask
 --     ack_counts                the counters after the last acknowledgement are those of the ask that begins
 use Rattle.std.proofs.Common.{◌≡◌, ℕ, ◌+◌, ◌<◌, ◌≤◌, Bool, true, false, List, [], ◌∷◌, ◌++◌, length, drop, get_or, refl, sym, ap, subst, ◌∙◌}
 use Rattle.std.specs.Prelude.{Option, Some, None, IfSome, option_map, if◌then◌else◌}
@@ -18,7 +19,7 @@ use Rattle.cc_ops.specs.declared.stage.Stage.TheVariants as stage
 use Rattle.cc_ops.specs.Commands.{is_writing, written, finds_no_room}
 use Rattle.cc_ops.specs.Ops.{Ops, Phase, Idle, Storing, Querying, StoringBack, is_idle, is_last, counted, round_of, next_round, with_own_row, with_written, with_begun, after_last, after_ack, begun_in}
 use Rattle.cc_ops.specs.Stages.{phase_of, WaitsBehind, HasRoom}
-use Rattle.cc_ops.specs.Waiting.{first_in, written_by}
+use Rattle.cc_ops.specs.Waiting.{first_in, first_round, written_by}
 use Rattle.cc_ops.specs.WaitingLaws.{written_last, written_fits, first_room}
 
 pub none_waits : (at : Stage) (seen : ViewMap) (line : List Asked) → is_idle (phase_of at seen) ≡ true → WaitsBehind at line → line ≡ []
@@ -60,6 +61,11 @@ front_room (b ∷ line) a mine e h =
     let same : b ≡ a = cc in
     subst (λ (x : Asked). finds_no_room mine x.command ≡ false) same (first_room b line mine h)
 
+-- the round that begins has the same first ask
+pub first_of_round : (line : List Asked) → first_in (first_round line) ≡ first_in line
+first_of_round [] = refl
+first_of_round (a ∷ line) = refl
+
 pub first_rooms : {X : Type 0} (f : X → Asked) (o : Option X) (line : List Asked) (mine : Value) → option_map f o ≡ first_in line → HasRoom line mine
     → IfSome o (λ x. finds_no_room mine (f x).command ≡ false)
 first_rooms f None line mine e h = tt
@@ -86,12 +92,12 @@ last_counts me quorum (b ∷ line) a s e =
     let same : b ≡ a = cc in
     subst (λ (x : Asked). Counts (with_begun me quorum b (record s { line = line })) (with_begun me quorum x s)) same (begun_counts me quorum b line s)
 
-either_counts : (b : Bool) (last more : Ops) (line : List Asked) (a : Asked) (t : Ops) → Some a ≡ (if b then first_in line else None)
+either_counts : (b : Bool) (last more : Ops) (line : List Asked) (a : Asked) (t : Ops) → Some a ≡ first_in (if b then first_round line else [])
     → (Some a ≡ first_in line → Counts last t) → Counts (if b then last else more) t
-either_counts true last more line a t e h = h e
+either_counts true last more line a t e h = h (e ∙ first_of_round line)
 either_counts false last more line a t e h = cc
 
-pub ack_counts : (me quorum : ℕ) (phase : Phase) (a : Asked) (s : Ops) → Some a ≡ begun_in phase s.line → Counts (after_ack me quorum phase s) (with_begun me quorum a s)
+pub ack_counts : (me quorum : ℕ) (phase : Phase) (a : Asked) (s : Ops) → Some a ≡ first_in (begun_in phase s.line) → Counts (after_ack me quorum phase s) (with_begun me quorum a s)
 ack_counts me quorum Idle a s e = cc
 ack_counts me quorum (Storing p) a s e =
     either_counts (is_last p) (after_last me quorum s.line s) (record s { phase = Storing (counted p) }) s.line a (with_begun me quorum a s) e (last_counts me quorum s.line a s)

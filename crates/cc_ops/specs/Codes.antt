@@ -1,4 +1,4 @@
--- How a line of asks, and the state of a client and server, are stored.
+-- How a line of asks, replies, and the state of a client and server are stored.
 use Rattle.std.specs.Prelude.{◌≡◌, ℕ, zero, suc, List, refl}
 use Rattle.std.specs.Coded.{Coded, code_by, coded_list, coded×, coded_ℕ}
 use Rattle.cc_views.specs.Rows.{ViewMap, view_code, value_code}
@@ -7,8 +7,10 @@ use Rattle.std.specs.FinMap as map
 use Rattle.cc_wire.specs.declared.command.Command.TheVariants as command
 use Rattle.cc_ops.specs.declared.pending.Asked.{Asked}
 use Rattle.cc_ops.specs.declared.pending.Pending.{Pending}
+use Rattle.cc_ops.specs.declared.pending.Reply.{Reply}
 use Rattle.cc_ops.specs.contracts.pending.Asked as asked
 use Rattle.cc_ops.specs.contracts.pending.Pending as pending
+use Rattle.cc_ops.specs.contracts.pending.Reply as reply
 use Rattle.cc_ops.specs.Ops.{Phase, Idle, Storing, Querying, StoringBack, Ops}
 
 abbrev none_pending : Pending
@@ -37,6 +39,9 @@ phase_code = code_by (ℕ × (Pending × ViewMap)) (coded× coded_ℕ (coded× (
 
 abbrev pub line_code : Coded (List Asked)
 line_code = coded_list (asked.the_row).coded
+
+abbrev pub replies_code : Coded (List Reply)
+replies_code = coded_list (reply.the_row).coded
 
 abbrev pub ops_code : Coded Ops
 ops_code =

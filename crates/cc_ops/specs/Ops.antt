@@ -4,9 +4,10 @@
 --     with_begun me quorum a s     a new operation begins
 --     after_ask me quorum a s      so it does where none is pending; else the ask waits
 --     after_message me quorum m s  what a message makes of it; the last acknowledgement lets the first ask that waits begin
---     begun_by_ask, begun_by       the ask that begins, if one does
+--     begun_by_ask, begun_by       the asks that begin: at most one
 --     post_of, first_post          what is posted in return, or as an operation begins
---     reply_of                     what the client is told
+--     post_of_round                what asks that begin are posted with, if any do
+--     replies_of                   what clients are told
 --     anew quorum s                the pending phase begins anew;  question: what it asks the others
 --     unanswered, mine_at_last     the pending ask and those behind it; the own value once all of these have begun
 use Rattle.std.specs.Prelude.{◌==◌, ℕ, ◌+◌, ◌<◌, ◌≤◌, Bool, true, false, ◌&&◌, if◌then◌else◌, List, [], ◌∷◌, ◌++◌}
@@ -25,7 +26,7 @@ use Rattle.cc_ops.specs.declared.pending.Asked.{Asked}
 use Rattle.cc_ops.specs.declared.pending.Pending.{Pending}
 use Rattle.cc_ops.specs.declared.pending.Reply.{Reply}
 use Rattle.cc_ops.specs.Commands.{is_writing, written, answer_of}
-use Rattle.cc_ops.specs.Waiting.{first_in, written_by}
+use Rattle.cc_ops.specs.Waiting.{first_in, first_round, written_by}
 
 -- how far the client's operation has come; the last holds the view that is stored back
 pub data Phase : Type 0 where
@@ -102,14 +103,18 @@ abbrev pub after_ask : ℕ → ℕ → Asked → Ops → Ops
 after_ask me quorum asked s =
     if is_idle s.phase then with_begun me quorum asked s else record s { line = s.line ++ asked ∷ [] }
 
--- the ask that an ask begins
-abbrev pub begun_by_ask : Asked → Ops → Option Asked
-begun_by_ask asked s = then_some (is_idle s.phase) asked
+-- what an ask begins
+abbrev pub begun_by_ask : Asked → Ops → List Asked
+begun_by_ask asked s = if is_idle s.phase then asked ∷ [] else []
 
 -- what an operation begins with
 abbrev pub first_post : ℕ → Asked → Ops → Message
 first_post me asked after =
     if is_writing asked.command then message.Store after.view after.tag me else message.Query after.tag me
+
+-- what asks begin with that begin at once, if any do
+abbrev pub post_of_round : ℕ → List Asked → Ops → Option Message
+post_of_round me asks after = option_map (λ asked. first_post me asked after) (first_in asks)
 
 -- whether an answer to q under this tag is to the pending round
 abbrev pub is_own : ℕ → ℕ → ℕ → Ops → Bool
@@ -157,23 +162,23 @@ after_message me quorum (message.Store v tag q) s = merged v s
 after_message me quorum (message.StoreAck tag q) s = if is_own me tag q s then after_ack me quorum s.phase s else s
 after_message me quorum (message.Snapshot c v) s = merged v s
 
--- the ask that begins with one more acknowledgement
-abbrev pub begun_in : Phase → List Asked → Option Asked
-begun_in phase line = if ends_store phase then first_in line else None
+-- the asks that begin with one more acknowledgement
+abbrev pub begun_in : Phase → List Asked → List Asked
+begun_in phase line = if ends_store phase then first_round line else []
 
--- the ask that a message lets begin
-abbrev pub begun_by : ℕ → Message → Ops → Option Asked
-begun_by me (message.Enter q) s = None
-begun_by me (message.EnterEcho c v from_joined q) s = None
-begun_by me (message.Join q) s = None
-begun_by me (message.JoinEcho q) s = None
-begun_by me (message.Leave q) s = None
-begun_by me (message.LeaveEcho q) s = None
-begun_by me (message.Query tag q) s = None
-begun_by me (message.QueryReply v tag q) s = None
-begun_by me (message.Store v tag q) s = None
-begun_by me (message.StoreAck tag q) s = if is_own me tag q s then begun_in s.phase s.line else None
-begun_by me (message.Snapshot c v) s = None
+-- the asks that a message lets begin
+abbrev pub begun_by : ℕ → Message → Ops → List Asked
+begun_by me (message.Enter q) s = []
+begun_by me (message.EnterEcho c v from_joined q) s = []
+begun_by me (message.Join q) s = []
+begun_by me (message.JoinEcho q) s = []
+begun_by me (message.Leave q) s = []
+begun_by me (message.LeaveEcho q) s = []
+begun_by me (message.Query tag q) s = []
+begun_by me (message.QueryReply v tag q) s = []
+begun_by me (message.Store v tag q) s = []
+begun_by me (message.StoreAck tag q) s = if is_own me tag q s then begun_in s.phase s.line else []
+begun_by me (message.Snapshot c v) s = []
 
 -- whether a reply ends the query
 abbrev pub ends_query : Phase → Bool
@@ -195,32 +200,32 @@ post_of me is_joined (message.QueryReply v tag q) before after =
     then_some (is_own me tag q before && ends_query before.phase) (message.Store after.view after.tag me)
 post_of me is_joined (message.Store v tag q) before after = then_some is_joined (message.StoreAck tag q)
 post_of me is_joined (message.StoreAck tag q) before after =
-    option_map (λ asked. first_post me asked after) (begun_by me (message.StoreAck tag q) before)
+    post_of_round me (begun_by me (message.StoreAck tag q) before) after
 post_of me is_joined (message.Snapshot c v) before after = None
 
 -- the answer of an operation, read from that view
 abbrev pub told : Pending → ViewMap → Reply
 told p seen = record { session = p.asked.session; request = p.asked.request; answer = answer_of p.asked.command seen }
 
--- what one more acknowledgement lets the client be told; a store reads no view
-abbrev pub reply_in : ViewMap → Phase → Option Reply
-reply_in view Idle = None
-reply_in view (Storing p) = then_some (is_last p) (told p view)
-reply_in view (Querying p) = None
-reply_in view (StoringBack p seen) = then_some (is_last p) (told p seen)
+-- what one more acknowledgement lets clients be told: at most one answer; a store reads no view
+abbrev pub replies_in : ViewMap → Phase → List Reply
+replies_in view Idle = []
+replies_in view (Storing p) = if is_last p then told p view ∷ [] else []
+replies_in view (Querying p) = []
+replies_in view (StoringBack p seen) = if is_last p then told p seen ∷ [] else []
 
-abbrev pub reply_of : ℕ → Message → Ops → Option Reply
-reply_of me (message.Enter q) s = None
-reply_of me (message.EnterEcho c v from_joined q) s = None
-reply_of me (message.Join q) s = None
-reply_of me (message.JoinEcho q) s = None
-reply_of me (message.Leave q) s = None
-reply_of me (message.LeaveEcho q) s = None
-reply_of me (message.Query tag q) s = None
-reply_of me (message.QueryReply v tag q) s = None
-reply_of me (message.Store v tag q) s = None
-reply_of me (message.StoreAck tag q) s = if is_own me tag q s then reply_in s.view s.phase else None
-reply_of me (message.Snapshot c v) s = None
+abbrev pub replies_of : ℕ → Message → Ops → List Reply
+replies_of me (message.Enter q) s = []
+replies_of me (message.EnterEcho c v from_joined q) s = []
+replies_of me (message.Join q) s = []
+replies_of me (message.JoinEcho q) s = []
+replies_of me (message.Leave q) s = []
+replies_of me (message.LeaveEcho q) s = []
+replies_of me (message.Query tag q) s = []
+replies_of me (message.QueryReply v tag q) s = []
+replies_of me (message.Store v tag q) s = []
+replies_of me (message.StoreAck tag q) s = if is_own me tag q s then replies_in s.view s.phase else []
+replies_of me (message.Snapshot c v) s = []
 
 -- the pending phase of the same ask, of which no answer has come; what is stored back stays
 abbrev pub again : ℕ → Phase → Phase

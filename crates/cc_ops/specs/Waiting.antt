@@ -1,10 +1,9 @@
 -- Asks that wait, one behind the other.
 --     line_limit, FitsLine    how many wait at most; so many, and room for them
---     first_in, led_by        the first of them; one in front of them
+--     first_in, first_round   the first of them; what begins once nothing is pending: the first of them alone
 --     has_session s asks      whether one of them is of that session
 --     AreApart asks           no two of them are of one session
---     writes, mine_after      how often an ask, if there is one, writes the own value, and what it makes of it
---     writes_by, written_by   the same of all of them, one after the other
+--     writes_by, written_by   how often they write the own value, and what they make of it, one after the other
 use Rattle.std.specs.Prelude.{ℕ, ◌+◌, ◌≤◌, Bool, IsFalse, nat_eq, List, [], ◌∷◌, length, Option, Some, None, if◌then◌else◌, ⊤}
 use Rattle.std.specs.List.{list_any}
 use Rattle.cc_views.specs.declared.value.Value.{Value}
@@ -23,10 +22,10 @@ abbrev pub first_in : List Asked → Option Asked
 first_in [] = None
 first_in (asked ∷ asks) = Some asked
 
--- asks behind that one, if there is one
-abbrev pub led_by : Option Asked → List Asked → List Asked
-led_by None asks = asks
-led_by (Some asked) asks = asked ∷ asks
+-- the asks that begin where nothing is pending any more
+abbrev pub first_round : List Asked → List Asked
+first_round [] = []
+first_round (asked ∷ asks) = asked ∷ []
 
 abbrev pub has_session : ℕ → List Asked → Bool
 has_session session asks = list_any (λ (asked : Asked). nat_eq session asked.session) asks
@@ -35,17 +34,9 @@ abbrev pub AreApart : List Asked → Type 0
 AreApart [] = ⊤
 AreApart (asked ∷ asks) = IsFalse (has_session asked.session asks) × AreApart asks
 
-abbrev pub writes : Option Asked → ℕ
-writes None = 0
-writes (Some asked) = if is_writing asked.command then 1 else 0
-
-abbrev pub mine_after : Option Asked → Value → Value
-mine_after None mine = mine
-mine_after (Some asked) mine = written asked.command mine
-
 abbrev pub writes_by : List Asked → ℕ
 writes_by [] = 0
-writes_by (asked ∷ asks) = writes (Some asked) + writes_by asks
+writes_by (asked ∷ asks) = (if is_writing asked.command then 1 else 0) + writes_by asks
 
 abbrev pub written_by : List Asked → Value → Value
 written_by [] mine = mine

@@ -3,10 +3,11 @@
 --     written_fits, fits_written  a command that finds room leaves the own set within its limit, and one that does found room
 --     first_room, room_behind, own_room   where all that wait find room, so does the first of them, so do the others, and what is there
 --     none_last, apart_last     none of them is of a session, and no two are of one, with one more behind them
---     writes_led                how often they write, with one in front of them
-use Rattle.std.proofs.Common.{◌≡◌, ℕ, ◌+◌, ◌≤◌, Bool, true, false, cond, not, ◌&&◌, ◌||◌, nat_eq, List, [], ◌∷◌, ◌++◌, refl, sym, ap, ◌∙◌, inl, inr, arith}
-use Rattle.std.specs.Prelude.{Option, Some, None, ◌==◌}
-use Rattle.std.proofs.lemmas.Bool.{and_cases, or_parts, or_left, eq-eqb, eqb-false, ne_eqb}
+--     writes_both, written_both   how often they write, and what they make of the own value, with others behind them
+--     writes_most               they write no more often than there are of them
+use Rattle.std.proofs.Common.{◌≡◌, ℕ, ◌+◌, ◌≤◌, Bool, true, false, cond, not, ◌&&◌, ◌||◌, nat_eq, List, [], ◌∷◌, ◌++◌, length, refl, sym, ap, ◌∙◌, inl, inr, arith}
+use Rattle.std.specs.Prelude.{◌==◌}
+use Rattle.std.proofs.lemmas.Bool.{cond_both, and_cases, or_parts, or_left, eq-eqb, eqb-false, ne_eqb}
 use Rattle.cc_views.specs.Limits.{set_limit}
 use Rattle.cc_views.specs.NatSets as set
 use Rattle.cc_views.specs.NatSets.{IsWithin, contains-insert, len_within}
@@ -15,8 +16,8 @@ use Rattle.cc_views.specs.declared.value.Value.{Value}
 use Rattle.cc_wire.specs.declared.command.Command.{Command}
 use Rattle.cc_wire.specs.declared.command.Command.TheVariants as command
 use Rattle.cc_ops.specs.declared.pending.Asked.{Asked}
-use Rattle.cc_ops.specs.Commands.{written, finds_no_room}
-use Rattle.cc_ops.specs.Waiting.{has_session, AreApart, writes, writes_by, written_by, led_by}
+use Rattle.cc_ops.specs.Commands.{is_writing, written, finds_no_room}
+use Rattle.cc_ops.specs.Waiting.{has_session, AreApart, writes_by, written_by}
 
 pub written_last : (asks : List Asked) (a : Asked) (mine : Value) → written_by (asks ++ a ∷ []) mine ≡ written a.command (written_by asks mine)
 written_last [] a mine = refl
@@ -130,6 +131,16 @@ apart_last (b ∷ asks) a h e =
 
 -- ---- how often they write
 
-pub writes_led : (o : Option Asked) (asks : List Asked) → writes_by (led_by o asks) ≡ writes o + writes_by asks
-writes_led None asks = omega arith
-writes_led (Some a) asks = refl
+pub writes_both : (asks more : List Asked) → writes_by (asks ++ more) ≡ writes_by asks + writes_by more
+writes_both [] more = omega arith
+writes_both (a ∷ asks) more = let rest : writes_by (asks ++ more) ≡ writes_by asks + writes_by more = writes_both asks more in omega (arith, rest)
+
+pub writes_most : (asks : List Asked) → writes_by asks ≤ length asks
+writes_most [] = omega arith
+writes_most (a ∷ asks) =
+    let rest : writes_by asks ≤ length asks = writes_most asks in
+    cond_both (is_writing a.command) 1 0 (λ n. n + writes_by asks ≤ length (a ∷ asks)) (λ _. omega (arith, rest)) (λ _. omega (arith, rest))
+
+pub written_both : (asks more : List Asked) (mine : Value) → written_by (asks ++ more) mine ≡ written_by more (written_by asks mine)
+written_both [] more mine = refl
+written_both (a ∷ asks) more mine = written_both asks more (written a.command mine)

@@ -1,6 +1,6 @@
 //! How an operation goes from phase to phase and ends, and what is posted and told on the way.
 
-ghost use Rattle.std.specs.Prelude.{◌≡◌, ℕ, ◌≤◌, ◌||◌, IfOk, IfSome, IsFalse, is_some, option_map};
+ghost use Rattle.std.specs.Prelude.{◌≡◌, ℕ, ◌≤◌, ◌||◌, [], ◌∷◌, if◌then◌else◌, IfOk, IfSome, IsFalse, is_some, option_map};
 ghost use Rattle.std.specs.Bool.{then_some};
 ghost use Rattle.std.specs.FinMap.{len};
 ghost use Rattle.cc_views.specs.Limits.{counter_limit, known_limit, overruns};
@@ -8,10 +8,12 @@ ghost use Rattle.cc_wire.specs.declared.message.Message.TheVariants as message;
 ghost use Rattle.cc_ops.specs.Commands as commands;
 ghost use Rattle.cc_ops.specs.Ops as ops;
 ghost use Rattle.cc_ops.specs.Ops.{IsWaiting};
+ghost use Rattle.cc_ops.specs.Waiting.{first_in};
 
 use crate::commands::answer_of;
 use crate::ops::Ops;
 use crate::pending::{Asked, Pending, Reply, counted, is_last, round_of};
+use crate::replies::Replies;
 use crate::stage::Stage;
 use cc_views::{COUNTER_LIMIT, NoMemory, NodeId, View};
 use cc_wire::Message;
@@ -182,8 +184,7 @@ impl Ops {
         requires fits { len (ops.after_ack me quorum self.now.phase self.now).view ≤ known_limit }
         requires number { (ops.after_ack me quorum self.now.phase self.now).number ≤ counter_limit }
         requires tag { (ops.after_ack me quorum self.now.phase self.now).tag ≤ counter_limit }
-        ensures { IfOk result (λ p. p ≡ option_map (λ asked. ops.first_post me asked (ops.after_ack me quorum self.now.phase self.now))
-            (ops.begun_in self.now.phase self.now.line)) }
+        ensures { IfOk result (λ p. p ≡ ops.post_of_round me (ops.begun_in self.now.phase self.now.line) (ops.after_ack me quorum self.now.phase self.now)) }
     {
         match self.begun_by_ack() {
             Some(asked) => Ok(Some(self.first_post(alloc, me, quorum, asked)?)),
@@ -193,7 +194,7 @@ impl Ops {
 
     // The ask that begins with one more acknowledgement.
     fn begun_by_ack(&self) -> Option<&Asked>
-        ensures asked { option_map (λ asked. asked.now) result ≡ ops.begun_in self.now.phase self.now.line }
+        ensures asked { option_map (λ asked. asked.now) result ≡ first_in (ops.begun_in self.now.phase self.now.line) }
         ensures room { IfSome result (λ asked. IsFalse (commands.finds_no_room self.now.mine asked.now.command)) }
     {
         if !self.ends_store() {
@@ -202,30 +203,30 @@ impl Ops {
         self.line.first()
     }
 
-    /// What the client is told on a message: the answer, where this is the last acknowledgement of its operation. A read
-    /// is answered from the view that it stored back (CCC, client). The only error is a refused growth.
-    pub fn reply(
+    /// What clients are told on a message: the answer, where this is the last acknowledgement of an operation. A read is
+    /// answered from the view that it stored back (CCC, client). The only error is a refused growth.
+    pub fn replies(
         &self,
         alloc: Global,
         me: NodeId,
         message: &Message,
-    ) -> Result<Option<Reply>, NoMemory>
-        ensures { IfOk result (λ r. r ≡ ops.reply_of me message.now self.now) }
+    ) -> Result<Replies, NoMemory>
+        ensures { IfOk result (λ r. r ≡ ops.replies_of me message.now self.now) }
     {
         match message {
             Message::StoreAck { tag, node } if *node == me && *tag == self.tag => {
-                self.reply_of_ack(alloc)
+                self.replies_of_ack(alloc)
             }
-            _ => Ok(None),
+            _ => Ok(Replies::none()),
         }
     }
 
-    fn reply_of_ack(&self, alloc: Global) -> Result<Option<Reply>, NoMemory>
-        ensures { IfOk result (λ r. r ≡ ops.reply_in self.now.view self.now.phase) }
+    fn replies_of_ack(&self, alloc: Global) -> Result<Replies, NoMemory>
+        ensures { IfOk result (λ r. r ≡ ops.replies_in self.now.view self.now.phase) }
     {
         let stage = self.stage;
         match stage {
-            Stage::Idle | Stage::Querying(_) => Ok(None),
+            Stage::Idle | Stage::Querying(_) => Ok(Replies::none()),
             Stage::Storing(pending) => told_if_last(alloc, &pending, &self.view),
             Stage::StoringBack(pending) => told_if_last(alloc, &pending, &self.seen),
         }
@@ -297,16 +298,20 @@ impl Ops {
     }
 }
 
-fn told_if_last(alloc: Global, pending: &Pending, seen: &View) -> Result<Option<Reply>, NoMemory>
+fn told_if_last(alloc: Global, pending: &Pending, seen: &View) -> Result<Replies, NoMemory>
     requires { IsWaiting pending.now }
-    ensures { IfOk result (λ r. r ≡ then_some (ops.is_last pending.now) (ops.told pending.now seen.now)) }
+    ensures { IfOk result (λ r. r ≡ (if ops.is_last pending.now then ops.told pending.now seen.now ∷ [] else [])) }
 {
     if !is_last(pending) {
-        return Ok(None);
+        return Ok(Replies::none());
     }
-    Ok(Some(Reply {
-        session: pending.asked.session,
-        request: pending.asked.request,
-        answer: answer_of(alloc, &pending.asked.command, seen)?,
-    }))
+    let answer = answer_of(alloc, &pending.asked.command, seen)?;
+    Replies::one(
+        alloc,
+        Reply {
+            session: pending.asked.session,
+            request: pending.asked.request,
+            answer,
+        },
+    )
 }

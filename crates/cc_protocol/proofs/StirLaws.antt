@@ -1,6 +1,6 @@
 -- What makes no post and no answer.
 --     no_post          a message that can't stir the node
-use Rattle.std.proofs.Common.{◌≡◌, ℕ, false, None, refl}
+use Rattle.std.proofs.Common.{◌≡◌, ℕ, false, [], None, refl}
 use Rattle.cc_wire.specs.declared.event.Event.TheVariants as event
 use Rattle.cc_wire.specs.declared.message.Message.{Message}
 use Rattle.cc_wire.specs.declared.message.Message.TheVariants as message
@@ -9,7 +9,7 @@ use Rattle.cc_node.specs.Core.{Core}
 use Rattle.cc_protocol.specs.Admission.{may_stir}
 
 pub no_post : (c : Core) (from n : ℕ) (m : Message) → may_stir c.me m ≡ false
-    → machine.made c (event.Deliver from n m) ≡ record { ack = machine.ack (event.Deliver from n m); post = None; answer = None }
+    → machine.made c (event.Deliver from n m) ≡ record { ack = machine.ack (event.Deliver from n m); post = None; answers = [] }
 no_post c from n (message.JoinEcho q) h = refl
 no_post c from n (message.LeaveEcho q) h = refl
 no_post c from n (message.QueryReply v tag q) h = rw h refl

@@ -1,6 +1,6 @@
 //! What may be handed to a node, so that there is room left for what others need of it.
 
-ghost use Rattle.std.specs.Prelude.{◌≡◌, ◌-◌, ℕ, nat_le, false, None};
+ghost use Rattle.std.specs.Prelude.{◌≡◌, ◌-◌, ℕ, nat_le, false, [], None};
 ghost use Rattle.cc_wire.specs.declared.event.Event.TheVariants as event;
 ghost use Rattle.cc_wire.specs.declared.message.Message.{Message};
 ghost use Rattle.cc_node.specs.Core as machine;
@@ -89,5 +89,5 @@ pub fn is_furthest_behind(core: &Core, least: u64, peer: NodeId) -> bool
 /// A message that is handed over whatever room there is, and whoever sent it, makes no post and no answer, in any state of
 /// a node.
 pub fn what_needs_no_room_makes_no_post()
-    ensures { (c : Core) (from number : ℕ) (m : Message) → may_stir c.me m ≡ false → machine.made c (event.Deliver from number m) ≡ record { ack = machine.ack (event.Deliver from number m); post = None; answer = None } }
+    ensures { (c : Core) (from number : ℕ) (m : Message) → may_stir c.me m ≡ false → machine.made c (event.Deliver from number m) ≡ record { ack = machine.ack (event.Deliver from number m); post = None; answers = [] } }
 {}

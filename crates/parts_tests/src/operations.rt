@@ -7,7 +7,7 @@ ghost use Rattle.cc_ops.specs.Ops as ops;
 ghost use Rattle.cc_wire.specs.declared.command.Command.TheVariants as command;
 ghost use Rattle.cc_wire.specs.declared.message.Message.TheVariants as message;
 
-use cc_ops::{Asked, Ops, Pending, Reply, Stage, WaitingLine, is_writing};
+use cc_ops::{Asked, Ops, Pending, Replies, Reply, Stage, WaitingLine, is_writing};
 use cc_views::{NodeId, Row, Text, Value, View};
 use cc_wire::{Answer, Command, Message};
 use std::alloc::Global;
@@ -291,26 +291,40 @@ fn a_store_is_acknowledged(rt: HostRuntime) -> Result<(), Fail> {
     Ok(())
 }
 
-// What a collect is told by the acknowledgement of what it stored back.
-fn last_reply(alloc: Global) -> Result<Reply, Fail> {
+// What clients are told by the acknowledgement of what a collect stored back.
+fn last_replies(alloc: Global) -> Result<Replies, Fail> {
     let node = me()?;
     let ops = storing_back(alloc)?;
     let acknowledgement = Message::StoreAck { tag: 2, node };
-    let reply = ops.reply(alloc, node, &acknowledgement);
+    let replies = ops.replies(alloc, node, &acknowledgement);
     drop(acknowledgement);
     drop(ops);
-    Ok(reply?.ok_or("the last acknowledgement ends it")?)
+    Ok(replies?)
 }
 
-fn check_told<R: Abort>(rt: &R, told: &Reply) {
-    assert_eq!(rt; (told.session, told.request), (7, 1));
-    assert!(rt; matches!(&told.answer, Answer::Seen(view) if view.rows().is_empty()));
+fn check_told<R: Abort>(rt: &R, told: &[Reply]) {
+    assert_eq!(rt; told.len(), 1);
+    assert_eq!(rt; (told[0].session, told[0].request), (7, 1));
+    assert!(rt; matches!(&told[0].answer, Answer::Seen(view) if view.rows().is_empty()));
 }
 
 #[test]
 fn a_collect_is_told_what_it_stored_back(rt: HostRuntime) -> Result<(), Fail> {
-    let told = last_reply(rt.alloc())?;
-    check_told(&rt, &told);
+    let told = last_replies(rt.alloc())?;
+    check_told(&rt, told.as_slice());
     drop(told);
     Ok(())
 }
+#[test]
+fn the_only_reply_is_taken_once(rt: HostRuntime) -> Result<(), Fail> {
+    let mut told = last_replies(rt.alloc())?;
+    let was_empty = told.is_empty();
+    let session = told.take_first().map(|reply| reply.session);
+    let is_empty = told.is_empty();
+    let more = told.take_first().is_some();
+    drop(told);
+    assert_eq!(rt; (was_empty, session, is_empty, more), (false, Some(7), true, false));
+    assert!(rt; Replies::none().is_empty());
+    Ok(())
+}
+

@@ -10,15 +10,15 @@ pub keep_post-requires-clause-room : goal.keep_post-requires-clause-room
 keep_post-requires-clause-room c makes =
     rw c.forget_asked.ensures (post_room c.args.event c.self.view_is c.requires.accepted c.self.invariant (rw c.requires.made at makes))
 
-pub keep_answer-requires : goal.keep_answer-requires
-keep_answer-requires c =
+pub keep_answers-requires : goal.keep_answers-requires
+keep_answers-requires c =
     rw (c.keep_post.ensures, c.forget_asked.ensures, c.requires.made) (answer_room c.args.event c.self.view_is c.requires.accepted c.self.invariant)
 
 -- the fields are then those of the next node
 after : (c : After-trim) → ◌≡◌ {A = Node} (record { core = c.apply.new.self; outbox = c.trim.new.self }) (step c.args.self.now c.args.event)
 unfolding step
 after c =
-    rw (c.trim.ensures, c.lowest.ensures, c.apply.ensures, c.keep_answer.ensures, c.keep_post.ensures, c.forget_asked.ensures, c.requires.made, ← c.self.view_is) refl
+    rw (c.trim.ensures, c.lowest.ensures, c.apply.ensures, c.keep_answers.ensures, c.keep_post.ensures, c.forget_asked.ensures, c.requires.made, ← c.self.view_is) refl
 
 pub invariant_of-self : goal.invariant_of-self
 invariant_of-self c =

@@ -1,9 +1,9 @@
 use Rattle.std.proofs.Common.{◌≡◌, refl, sym, ap, ◌∙◌}
-use Rattle.std.specs.Prelude.{Option, Some}
+use Rattle.std.specs.Prelude.{List, Option, Some}
 use Rattle.std.specs.Option.{option_or}
 use Rattle.cc_wire.specs.declared.event.Event.TheVariants as event
 use Rattle.cc_wire.specs.declared.message.Message.{Message}
-use Rattle.cc_ops.specs.Ops.{reply_of}
+use Rattle.cc_ops.specs.Ops.{replies_of}
 use Rattle.cc_ops.specs.declared.pending.Reply.{Reply}
 use Rattle.cc_node.specs.Core.{Core, made, post}
 use Rattle.cc_node.specs.declared.made.Made.{Made}
@@ -27,7 +27,7 @@ returns c =
     let e = event.Deliver c.args.from c.args.number m in
     let posted : c.or.result ≡ option_or (echoed a m) (served a m) =
     rw (c.or.ensures, c.in_ok-churned.ensures, c.view.ensures, c.in_ok-served.ensures, c.quorum.ensures, c.is_joined.ensures, ← c.self.view_is) refl in
-    let answered : c.in_ok-answer.answer ≡ reply_of a.me m a.ops = c.in_ok-answer.ensures in
+    let answered : c.in_ok-answers.answers ≡ replies_of a.me m a.ops = c.in_ok-answers.ensures in
     let post_is : option_or (echoed a m) (served a m) ≡ post a e = sym (post_either a c.args.from c.args.number m c.requires.snapshot) in
-    let all : Option Message → Option Reply → Made = λ p r. record { ack = Some (record { to = c.args.from; number = c.args.number }); post = p; answer = r } in
+    let all : Option Message → List Reply → Made = λ p rs. record { ack = Some (record { to = c.args.from; number = c.args.number }); post = p; answers = rs } in
     (λ i. all ((posted ∙ post_is) i) (answered i)) ∙ ap (λ (s : Core). made s e) c.self.view_is
