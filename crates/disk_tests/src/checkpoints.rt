@@ -132,9 +132,10 @@ const HEAD: [u8; 14] = [0xA5, 0, 0, 0, 0, 0, 0, 0, 2, 2, 0, 0, 0, 0x77];
 
 // What a checkpoint leaves of both sides, for a node of that state.
 fn check_sides<R: Abort>(rt: &R, old: &[u8], new: &[u8], state: &[u8]) {
-    let parts = (new.get(..14), new.get(14..133), new.get(133..));
-    let wanted = (Some(HEAD.as_slice()), Some(state), Some([0].as_slice()));
-    assert_eq!(rt; (old, parts), ([0].as_slice(), wanted));
+    assert_eq!(rt; old, [0].as_slice());
+    assert_eq!(rt; new.get(..14), Some(HEAD.as_slice()));
+    assert_eq!(rt; new.get(14..133), Some(state));
+    assert_eq!(rt; new.get(133..), Some([0].as_slice()));
 }
 
 fn check_checkpoint<R: Abort + AllocGlobal>(rt: &R, member: &Node) -> Result<(), Fail> {

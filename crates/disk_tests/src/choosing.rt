@@ -35,7 +35,7 @@ fn told(alloc: Global, a: &[u8], b: &[u8]) -> Result<Told, Fail> {
 
 #[test]
 fn an_armed_side_tells_its_generation(rt: HostRuntime) -> Result<(), Fail> {
-    for (side, peeked) in [
+    for &(side, peeked) in &[
         ([].as_slice(), Peeked::Closed),
         (CLOSED, Peeked::Closed),
         (SHORT, Peeked::Short),
@@ -51,7 +51,7 @@ fn an_armed_side_tells_its_generation(rt: HostRuntime) -> Result<(), Fail> {
 
 #[test]
 fn the_greater_generation_is_in_use(rt: HostRuntime) -> Result<(), Fail> {
-    for (a, b, side, generation) in [
+    for &(a, b, side, generation) in &[
         (UNDER_3, CLOSED, Side::A, 3),
         (CLOSED, UNDER_3, Side::B, 3),
         (UNDER_4, UNDER_3, Side::A, 4),

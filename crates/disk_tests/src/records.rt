@@ -143,7 +143,9 @@ fn two_places(
 fn entered_and_left(alloc: Global, site: &mut MemorySite) -> Result<(Vec<u8>, [u64; 2]), Fail> {
     let mut journal = Journal::new(alloc, Side::A, 0)?;
     let mut node = entrant(alloc)?;
-    two_places(alloc, &mut journal, site, &mut node)
+    let places = two_places(alloc, &mut journal, site, &mut node);
+    drop(node);
+    places
 }
 
 #[test]
@@ -211,26 +213,49 @@ fn add(
     Ok(())
 }
 
+// Adds an Enter and a Leave to a batch.
+fn add_both(alloc: Global, node: &Node, live: &mut Core, batch: &mut Batch) -> Result<(), Fail>
+    requires lawful { AreLawful node.now batch.old }
+    requires live { live.old ≡ (after node.now (events_in batch.old)).core }
+    ensures lawful { OnOk result (AreLawful node.now batch.new) }
+{
+    add(alloc, node, live, batch, Event::Enter)?;
+    add(alloc, node, live, batch, Event::Leave)
+}
+
 // An Enter and a Leave of a node, in one batch.
 fn enter_and_leave(alloc: Global, node: &Node) -> Result<Batch, Fail>
     ensures lawful { IfOk result (AreLawful node.now) }
 {
     let mut live = node.core().copy(alloc)?;
     let mut batch = Batch::new();
-    add(alloc, node, &mut live, &mut batch, Event::Enter)?;
-    add(alloc, node, &mut live, &mut batch, Event::Leave)?;
-    Ok(batch)
+    let added = add_both(alloc, node, &mut live, &mut batch);
+    drop(live);
+    match added {
+        Ok(()) => Ok(batch),
+        Err(fail) => {
+            drop(batch);
+            Err(fail)
+        }
+    }
 }
 
 // Two events share a record, a gate and two syncs: the calls 0 and 1 made the side, 2 is its length, 3 the write, 4 the
 // sync of the record, 5 the gate, and 6 its sync.
 fn two_at_once(alloc: Global, site: &mut MemorySite) -> Result<u64, Fail> {
     site.fuse(7, Failing::Stop);
+    let mut node = entrant(alloc)?;
+    let place = place_of_two(alloc, site, &mut node);
+    drop(node);
+    place
+}
+
+// Writes a batch of an Enter and a Leave of a node. The place behind it.
+fn place_of_two(alloc: Global, site: &mut MemorySite, node: &mut Node) -> Result<u64, Fail> {
     let mut journal = Journal::new(alloc, Side::B, 9)?;
     journal.move_to(Side::A, 0);
-    let mut node = entrant(alloc)?;
-    let batch = enter_and_leave(alloc, &node)?;
-    if lands(&mut journal, site, &mut node, batch) {
+    let batch = enter_and_leave(alloc, node)?;
+    if lands(&mut journal, site, node, batch) {
         Ok(journal.place())
     } else {
         Err("the batch didn't land")?
@@ -383,8 +408,11 @@ fn entered_failing(alloc: Global, at: u64) -> Result<(bool, u64), Fail> {
 fn entered_on(alloc: Global, site: &mut MemorySite) -> Result<(bool, u64), Fail> {
     let mut journal = Journal::new(alloc, Side::A, 0)?;
     let mut node = entrant(alloc)?;
-    let entered = takes(alloc, &mut journal, site, &mut node, Event::Enter)?;
-    Ok((entered, journal.place()))
+    let entered = takes(alloc, &mut journal, site, &mut node, Event::Enter);
+    drop(node);
+    let place = journal.place();
+    drop(journal);
+    Ok((entered?, place))
 }
 
 // The calls 0 and 1 made the side, 2 is its length, 3 the write, and 4 the sync of the record.

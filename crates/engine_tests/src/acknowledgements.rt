@@ -11,20 +11,25 @@ use std::test::*;
 
 // Member 1 of 1, which has heard two messages over its own link, and put nothing since.
 fn heard(alloc: Global) -> Result<MemorySite, Fail> {
-    let (site, _) = turned(alloc, member(alloc)?, &[Part::Store])?;
+    let member = member(alloc)?;
+    let (site, _) = turned(alloc, member, &[Part::Store])?;
     let image = site.image(alloc, &Choice::Read);
     drop(site);
     Ok(image?)
 }
 
-// Whether an acknowledgement is put again for node 1, and for node 2.
-fn reacked(flusher: &mut Flusher<MemorySite>) -> Result<(bool, bool), Fail> {
-    let first = NodeId::new(1).ok_or("1 is an id")?;
-    let second = NodeId::new(2).ok_or("2 is an id")?;
+// Whether an acknowledgement is put again for the node with that number.
+fn reacked(flusher: &mut Flusher<MemorySite>, number: u32) -> Result<bool, Fail> {
+    let peer = NodeId::new(number).ok_or("a number that is an id")?;
     if flusher.owes() {
         return Err("outputs are owed")?;
     }
-    Ok((flusher.reack(first)?, flusher.reack(second)?))
+    Ok(flusher.reack(peer)?)
+}
+
+// The same for node 1 and for node 2.
+fn both_reacked(flusher: &mut Flusher<MemorySite>) -> Result<(bool, bool), Fail> {
+    Ok((reacked(flusher, 1)?, reacked(flusher, 2)?))
 }
 
 // Whether it acknowledges two messages to node 1.
@@ -38,7 +43,7 @@ fn is_second_ack(output: Option<&Output>) -> bool {
 #[test]
 fn only_a_peer_that_was_heard_is_acknowledged_again(rt: HostRuntime) -> Result<(), Fail> {
     let mut flusher = opened(rt.alloc(), heard(rt.alloc())?)?;
-    let outcome = reacked(&mut flusher);
+    let outcome = both_reacked(&mut flusher);
     let site = flusher.close();
     let put = (site.outputs().len(), is_second_ack(site.outputs().first()));
     drop(site);

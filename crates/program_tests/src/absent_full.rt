@@ -11,14 +11,19 @@ use std::test::*;
 fn stores(alloc: Global, members: &str, count: u64) -> Result<String, Fail> {
     let mut script = String::from_str(alloc, members)?;
     for request in 1..=count {
-        let own = request.saturating_mul(2);
-        let store = own.saturating_sub(1);
-        let lines = format!(in alloc;
-            "ask 1 7 {request} store a\ncarry 1 1 {store}\ncarry 1 1 {own}\n"
-        )?;
-        script.push_str(&lines)?;
+        push_store(alloc, &mut script, request)?;
     }
     Ok(script)
+}
+
+fn push_store(alloc: Global, script: &mut String, request: u64) -> Result<(), Fail> {
+    let own = request.saturating_mul(2);
+    let store = own.saturating_sub(1);
+    let lines = format!(in alloc;
+        "ask 1 7 {request} store a\ncarry 1 1 {store}\ncarry 1 1 {own}\n"
+    )?;
+    script.push_str(&lines)?;
+    Ok(())
 }
 
 // These lines behind a script print that text in the end, also where the nodes crash after each of them, and where they make

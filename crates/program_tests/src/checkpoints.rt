@@ -158,16 +158,22 @@ fn posts_before(stores: u32, member: u32) -> u32 {
 // The next store, by the member whose turn it is, in 13 lines: it goes to all members, and so do their acknowledgements.
 fn push_store(alloc: Global, script: &mut String, finished: u32) -> Result<(), Fail> {
     let member = finished % THREE_MEMBERS + 1;
-    let request = finished / THREE_MEMBERS + 1;
     let store = posts_before(finished, member).saturating_add(1);
-    let line = format!(in alloc; "ask {member} 7 {request} store v{finished}\n")?;
-    script.push_str(&line)?;
+    push_ask(alloc, script, member, finished)?;
     push_post(alloc, script, member, store)?;
     for from in 1..=THREE_MEMBERS {
         let own = u32::from(from == member);
         let number = posts_before(finished, from).saturating_add(own + 1);
         push_post(alloc, script, from, number)?;
     }
+    Ok(())
+}
+
+// A member is asked for its next store.
+fn push_ask(alloc: Global, script: &mut String, member: u32, finished: u32) -> Result<(), Fail> {
+    let request = finished / THREE_MEMBERS + 1;
+    let line = format!(in alloc; "ask {member} 7 {request} store v{finished}\n")?;
+    script.push_str(&line)?;
     Ok(())
 }
 
