@@ -65,7 +65,7 @@ fn the_greater_generation_is_in_use(rt: HostRuntime) -> Result<(), Fail> {
 
 #[test]
 fn sides_of_which_none_is_in_use(rt: HostRuntime) -> Result<(), Fail> {
-    for (a, b, fault) in [
+    for &(a, b, fault) in &[
         ([].as_slice(), CLOSED, OpenFault::NotFormatted),
         // A generation that isn't there, or is 0, on side A and then on side B, and one generation on both.
         (SHORT, UNDER_0, OpenFault::Damaged(Side::A, 1)),

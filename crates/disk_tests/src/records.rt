@@ -324,7 +324,7 @@ fn records_are_read_up_to_a_closed_gate(rt: HostRuntime) -> Result<(), Fail> {
 #[test]
 fn a_record_behind_a_closed_gate_is_not_read(rt: HostRuntime) -> Result<(), Fail> {
     let alloc = rt.alloc();
-    for gate in [0, 1, 0xA4, 0xFF] {
+    for &gate in &[0, 1, 0xA4, 0xFF] {
         let mut bytes = ENTERED;
         bytes[0] = gate;
         assert_eq!(rt; found(alloc, &bytes)?, Ok((0, 0, 0)));
@@ -388,7 +388,7 @@ fn found_failing(alloc: Global, at: u64) -> Result<Result<Found, ScanFault>, Fai
 #[test]
 fn a_scan_tells_a_failed_call(rt: HostRuntime) -> Result<(), Fail> {
     let side = Side::A;
-    for (at, call) in [(2, Call::Length), (3, Call::Read), (4, Call::Read)] {
+    for &(at, call) in &[(2, Call::Length), (3, Call::Read), (4, Call::Read)] {
         let device = DeviceFault { side, call };
         let found = found_failing(rt.alloc(), at)?;
         assert_eq!(rt; found, Err(ScanFault::Device(device)));
@@ -418,7 +418,7 @@ fn entered_on(alloc: Global, site: &mut MemorySite) -> Result<(bool, u64), Fail>
 // The calls 0 and 1 made the side, 2 is its length, 3 the write, and 4 the sync of the record.
 #[test]
 fn a_failed_call_forfeits_the_batch(rt: HostRuntime) -> Result<(), Fail> {
-    for at in [3, 4, 5, 6] {
+    for &at in &[3, 4, 5, 6] {
         assert_eq!(rt; entered_failing(rt.alloc(), at)?, (false, 0));
     }
     Ok(())

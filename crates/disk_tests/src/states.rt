@@ -248,7 +248,7 @@ const FAULTS: [(usize, u8, WireFault); 12] = [
 fn faults_of_the_wire_come_before_unlawful(rt: HostRuntime) -> Result<(), Fail> {
     // With a share of nothing the state is unlawful too.
     let nothing = turned(rt.alloc(), &member(rt.alloc())?, 7, 0)?;
-    for (at, byte, wire) in FAULTS {
+    for &(at, byte, wire) in &FAULTS {
         let fault = fault_with(rt.alloc(), &nothing, at, byte)?;
         assert_eq!(rt; fault, Some(StateFault::Wire(wire)));
     }
@@ -307,7 +307,7 @@ fn fault_with(
 #[test]
 fn states_in_which_no_node_can_be(rt: HostRuntime) -> Result<(), Fail> {
     let state = member(rt.alloc())?;
-    for (at, byte) in UNLAWFUL {
+    for &(at, byte) in &UNLAWFUL {
         let fault = fault_with(rt.alloc(), &state, at, byte)?;
         assert_eq!(rt; fault, Some(StateFault::Unlawful));
     }
@@ -465,7 +465,7 @@ const NOT_WAITING: [(usize, u8); 3] = [
 #[test]
 fn asks_that_wait_in_no_node(rt: HostRuntime) -> Result<(), Fail> {
     let state = waiting(rt.alloc())?;
-    for (at, byte) in NOT_WAITING {
+    for &(at, byte) in &NOT_WAITING {
         let fault = fault_with(rt.alloc(), &state, at, byte)?;
         assert_eq!(rt; fault, Some(StateFault::Unlawful));
     }
@@ -486,7 +486,7 @@ const NOT_PENDING: [(usize, u8); 4] = [
 #[test]
 fn operations_that_no_node_has_pending(rt: HostRuntime) -> Result<(), Fail> {
     let state = storing_back(rt.alloc())?;
-    for (at, byte) in NOT_PENDING {
+    for &(at, byte) in &NOT_PENDING {
         let fault = fault_with(rt.alloc(), &state, at, byte)?;
         assert_eq!(rt; fault, Some(StateFault::Unlawful));
     }

@@ -109,7 +109,7 @@ fn outcome_of_stop(alloc: Global, at: u64) -> Result<(Option<CheckpointFault>, [
 #[test]
 fn each_call_of_a_checkpoint_may_fail(rt: HostRuntime) -> Result<(), Fail> {
     let alloc = rt.alloc();
-    for (at, side, call) in [
+    for &(at, side, call) in &[
         // The other side: its length, its gate, the cut, and what stands before the state.
         (14, Side::B, Call::Length),
         (15, Side::B, Call::Read),
@@ -282,7 +282,7 @@ fn check_stops<R: Abort + AllocGlobal>(rt: &R, from: &MemorySite, calls: u64) ->
     let first = calls_of_opening(rt.alloc(), from)?;
     let last = first.saturating_add(calls);
     let state = state_left(rt.alloc(), from, &Choice::Read)?;
-    for failing in [Failing::Once, Failing::Stop] {
+    for &failing in &[Failing::Once, Failing::Stop] {
         for at in first..last {
             let stopped = stop(rt.alloc(), from, at, failing, &state)?;
             assert_eq!(rt; stopped, (true, [true; 5]));

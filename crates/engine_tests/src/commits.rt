@@ -300,8 +300,8 @@ fn a_store_is_sent_first_and_replied_to_last(rt: HostRuntime) -> Result<(), Fail
 fn each_call_of_a_commit_may_fail(rt: HostRuntime) -> Result<(), Fail> {
     let alloc = rt.alloc();
     let side = Side::A;
-    for failing in [Failing::Once, Failing::Stop] {
-        for (at, call, crashes) in [
+    for &failing in &[Failing::Once, Failing::Stop] {
+        for &(at, call, crashes) in &[
             // The record, and its sync.
             (14, Call::Write, [BEFORE; 5]),
             (15, Call::Sync, [BEFORE; 5]),

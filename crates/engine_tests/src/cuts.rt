@@ -59,7 +59,7 @@ fn check_cut<R: Abort + AllocGlobal>(
 #[test]
 fn each_cut_of_a_side_is_told(rt: HostRuntime) -> Result<(), Fail> {
     let side = whole_side(rt.alloc())?;
-    for (from, to, place) in CUTS {
+    for &(from, to, place) in &CUTS {
         for len in from..to {
             check_cut(&rt, &side, len, place)?;
         }

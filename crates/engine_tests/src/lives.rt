@@ -191,7 +191,7 @@ fn failed_life(
 #[test]
 fn each_call_of_a_checkpoint_may_end_a_life(rt: HostRuntime) -> Result<(), Fail> {
     let alloc = rt.alloc();
-    for failing in [Failing::Once, Failing::Stop] {
+    for &failing in &[Failing::Once, Failing::Stop] {
         for at in 4..17 {
             let (failed, outputs, left) = failed_life(alloc, at, failing)?;
             assert!(rt; failed.is_some());

@@ -287,7 +287,7 @@ fn a_life_sends_an_enter_and_sends_it_again(rt: HostRuntime) -> Result<(), Fail>
 #[test]
 fn a_record_behind_a_closed_gate_is_not_kept(rt: HostRuntime) -> Result<(), Fail> {
     let alloc = rt.alloc();
-    for (gate, count) in [(0, 0), (0xFF, 0), (0xA5, 1)] {
+    for &(gate, count) in &[(0, 0), (0xFF, 0), (0xA5, 1)] {
         let mut bytes = ENTERED;
         bytes[0] = gate;
         assert_eq!(rt; posts(alloc, kept(alloc, &bytes)?), Ok(count));
@@ -311,7 +311,7 @@ fn fault_of_format(alloc: Global, site: MemorySite) -> Option<FormatFault> {
 #[test]
 fn an_armed_side_is_not_formatted(rt: HostRuntime) -> Result<(), Fail> {
     let alloc = rt.alloc();
-    for gate in [0, 0xFF, 0xA5] {
+    for &gate in &[0, 0xFF, 0xA5] {
         let fault = fault_of_format(alloc, kept(alloc, &[gate, 0xA5])?);
         assert_eq!(rt; fault, Some(FormatFault::AlreadyFormatted));
     }
@@ -444,7 +444,7 @@ fn failing(alloc: Global, at: u64) -> Result<MemorySite, Fail> {
 #[test]
 fn each_call_of_formatting_may_fail(rt: HostRuntime) -> Result<(), Fail> {
     let alloc = rt.alloc();
-    for (at, side, call) in [
+    for &(at, side, call) in &[
         // Whether a side is armed.
         (0, Side::A, Call::Length),
         (1, Side::B, Call::Length),
@@ -557,7 +557,7 @@ fn opened_failing(alloc: Global, at: u64) -> Result<MemorySite, Fail> {
 #[test]
 fn each_call_of_opening_may_fail(rt: HostRuntime) -> Result<(), Fail> {
     let alloc = rt.alloc();
-    for (at, side, call) in [
+    for &(at, side, call) in &[
         (0, Side::A, Call::Sync),
         (1, Side::B, Call::Sync),
         // Gates and generations.
@@ -597,7 +597,7 @@ fn outcome_of_enter(alloc: Global, at: u64) -> Result<(Option<DeviceFault>, usiz
 fn each_call_of_an_enter_may_fail(rt: HostRuntime) -> Result<(), Fail> {
     let alloc = rt.alloc();
     let side = Side::A;
-    for (at, call) in [
+    for &(at, call) in &[
         (14, Call::Write),
         (15, Call::Sync),
         (16, Call::Write),
@@ -637,7 +637,7 @@ pub fn crashes(alloc: Global, site: &MemorySite) -> Result<[u64; 5], Fail> {
 #[test]
 fn a_crash_leaves_an_enter_or_nothing_of_it(rt: HostRuntime) -> Result<(), Fail> {
     let alloc = rt.alloc();
-    for (at, crashes) in [
+    for &(at, crashes) in &[
         // The record isn't made sure of.
         (14, [0, 0, 0, 0, 0]),
         (15, [0, 0, 0, 0, 0]),

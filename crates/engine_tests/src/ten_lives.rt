@@ -315,7 +315,7 @@ fn take_in_life(alloc: Global, shown: &mut Shown, site: &MemorySite) -> Result<(
 // The site after ten lives.
 fn live_ten_times(alloc: Global, site: &mut MemorySite, shown: &mut Shown) -> Result<(), Fail> {
     let mut life: u8 = 0;
-    for end in ENDS {
+    for &end in &ENDS {
         *site = next_life(alloc, site, life, end)?;
         take_in_life(alloc, shown, site)?;
         life = life.saturating_add(1);

@@ -318,7 +318,7 @@ fn count_calls<R: Abort + AllocGlobal>(
 #[test]
 fn each_call_of_a_whole_life_may_fail(rt: HostRuntime) -> Result<(), Fail> {
     let states = plain_states(rt.alloc())?;
-    for failing in [Failing::Once, Failing::Stop] {
+    for &failing in &[Failing::Once, Failing::Stop] {
         assert_eq!(rt; count_calls(&rt, failing, &states)?, 72);
     }
     Ok(())

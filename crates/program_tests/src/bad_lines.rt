@@ -239,7 +239,7 @@ fn check_bad<R: Abort + AllocGlobal>(rt: &R, line: &str) -> Result<(), Fail> {
 // A bad line ends the script, and nothing comes of it.
 #[test]
 fn a_bad_line_ends_the_script(rt: HostRuntime) -> Result<(), Fail> {
-    for lines in [
+    for &lines in &[
         NO_COMMANDS,
         NO_FRACTIONS,
         NO_NODES,

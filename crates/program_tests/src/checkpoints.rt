@@ -35,7 +35,7 @@ const STORED_THROUGH_CHECKPOINTS: &str = "\
 
 #[test]
 fn a_member_stores_through_checkpoints(rt: HostRuntime) -> Result<(), Fail> {
-    for checkpoint in CHECKPOINTS {
+    for &checkpoint in &CHECKPOINTS {
         let script = store_with(rt.alloc(), checkpoint)?;
         check(&rt, &script, 0, STORED_THROUGH_CHECKPOINTS)?;
     }
@@ -124,7 +124,7 @@ crash 5 fill a5
 // A cluster whose nodes all make checkpoints and crash after each line does what it does without.
 #[test]
 fn clusters_go_on_through_checkpoints(rt: HostRuntime) -> Result<(), Fail> {
-    for (script, made, more, wanted) in [
+    for &(script, made, more, wanted) in &[
         (ENTER, 4, FOUR_MOVES, ENTERED),
         (OUT_OF_ORDER, 2, TWO_MOVES, KEPT_IN_ORDER),
         (FIVE, 6, FIVE_MOVES, PLAYED_BY_FIVE),

@@ -212,7 +212,7 @@ const LEFT: &str = "\
 
 #[test]
 fn clusters_store_and_collect(rt: HostRuntime) -> Result<(), Fail> {
-    for (script, wanted) in [
+    for &(script, wanted) in &[
         (STORE, STORED),
         (COLLECT, COLLECTED),
         (STORE_OF_THREE, STORED_AT_THREE),
@@ -226,7 +226,7 @@ fn clusters_store_and_collect(rt: HostRuntime) -> Result<(), Fail> {
 
 #[test]
 fn nodes_enter_and_leave(rt: HostRuntime) -> Result<(), Fail> {
-    for (script, wanted) in [(ENTER, ENTERED), (LEAVE, LEFT)] {
+    for &(script, wanted) in &[(ENTER, ENTERED), (LEAVE, LEFT)] {
         check(&rt, script, 0, wanted)?;
     }
     Ok(())
@@ -252,7 +252,7 @@ const AFTER_STORE: [(&str, &str); 8] = [
 
 #[test]
 fn requests_and_acknowledgements_count_once(rt: HostRuntime) -> Result<(), Fail> {
-    for (line, wanted) in AFTER_STORE {
+    for &(line, wanted) in &AFTER_STORE {
         check_after_store(&rt, line, wanted)?;
     }
     Ok(())
@@ -317,7 +317,7 @@ const ALL_STORED: &str = "\
 
 #[test]
 fn all_carries_by_receiver_and_sender(rt: HostRuntime) -> Result<(), Fail> {
-    for (script, wanted) in [(BY_ITSELF, STOPPED), (ALL_OF_TWO, ALL_STORED)] {
+    for &(script, wanted) in &[(BY_ITSELF, STOPPED), (ALL_OF_TWO, ALL_STORED)] {
         check(&rt, script, 0, wanted)?;
     }
     Ok(())

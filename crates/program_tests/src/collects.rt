@@ -113,8 +113,8 @@ fn push_carries(
     part: &str,
     chance: &mut Chance,
 ) -> Result<(), Fail> {
-    for from in NODES {
-        for to in NODES {
+    for &from in &NODES {
+        for &to in &NODES {
             if part.contains(from) == part.contains(to) {
                 push_link(alloc, lines, printed, (from, to), chance.below(8))?;
             }
@@ -205,7 +205,7 @@ fn stores_of(printed: &str, lines: usize, node: &str) -> u64 {
 
 // Whether the view misses something of what is answered in these lines: a store, or what a collect told.
 fn misses(view: &str, printed: &str, lines: usize) -> bool {
-    for node in NODES {
+    for &node in &NODES {
         if number_of(view, node) < stores_of(printed, lines, node) {
             return true;
         }

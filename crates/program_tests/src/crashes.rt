@@ -31,7 +31,7 @@ const STORED_THROUGH_CRASHES: &str = "\
 
 #[test]
 fn a_member_stores_through_crashes(rt: HostRuntime) -> Result<(), Fail> {
-    for crash in CRASHES {
+    for &crash in &CRASHES {
         let script = store_with(rt.alloc(), crash)?;
         check(&rt, &script, 0, STORED_THROUGH_CRASHES)?;
     }
@@ -145,7 +145,7 @@ const AFTER_STORE: [(&str, &str); 6] = [
 
 #[test]
 fn a_node_keeps_its_promises_through_a_crash(rt: HostRuntime) -> Result<(), Fail> {
-    for (lines, wanted) in AFTER_STORE {
+    for &(lines, wanted) in &AFTER_STORE {
         check_after_store(&rt, lines, wanted)?;
     }
     Ok(())

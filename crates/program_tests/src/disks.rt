@@ -51,7 +51,7 @@ const STEPS: [(&str, &str, bool); 6] = [
 fn refused_events_are_not_journalled(rt: HostRuntime) -> Result<(), Fail> {
     let alloc = rt.alloc();
     let mut cluster = Cluster::new(alloc);
-    for (lines, wanted, is_journalled) in STEPS {
+    for &(lines, wanted, is_journalled) in &STEPS {
         let (printed, is_changed) = played(alloc, &mut cluster, lines)?;
         assert_eq!(rt; printed.as_str(), wanted);
         assert_eq!(rt; is_changed, is_journalled, "{lines}");
@@ -99,7 +99,7 @@ fn sides(alloc: Global, cluster: &Cluster) -> Result<Vec<Vec<u8>>, Fail> {
 fn contents(alloc: Global, site: &MemorySite) -> Result<Vec<Vec<u8>>, Fail> {
     let mut image = site.image(alloc, &Choice::Read)?;
     let mut sides = Vec::new(alloc);
-    for side in [Side::A, Side::B] {
+    for &side in &[Side::A, Side::B] {
         add_side(alloc, &mut image, side, &mut sides)?;
     }
     Ok(sides)

@@ -172,7 +172,7 @@ fn check_rows<R: Abort + AllocGlobal>(
 fn five_nodes_show_one_value_of_each_number(rt: HostRuntime) -> Result<(), Fail> {
     let (status, output) = played(rt.alloc(), SCRIPT)?;
     assert_eq!(rt; status, 0);
-    for answer in ANSWERS {
+    for &answer in &ANSWERS {
         assert!(rt; output.contains(answer), "{answer}");
     }
     check_rows(&rt, &output, &NODES, 300)
@@ -261,7 +261,7 @@ const STORING: [&str; 3] = ["1:", "4:", "5:"];
 fn five_nodes_that_stay_away_show_one_value_of_each_number(rt: HostRuntime) -> Result<(), Fail> {
     let (status, output) = played(rt.alloc(), AWAY)?;
     assert_eq!(rt; status, 0);
-    for answer in ANSWERS_AWAY {
+    for &answer in &ANSWERS_AWAY {
         assert!(rt; output.contains(answer), "{answer}");
     }
     check_rows(&rt, &output, &STORING, 150)

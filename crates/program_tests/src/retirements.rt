@@ -100,7 +100,7 @@ const STRANGER_RETIRED: &str = "\
 
 #[test]
 fn the_operator_retires_nodes(rt: HostRuntime) -> Result<(), Fail> {
-    for (script, wanted) in [
+    for &(script, wanted) in &[
         (OTHER, OTHER_RETIRED),
         (FIRST, FIRST_RETIRED),
         (ITSELF, ITSELF_RETIRED),

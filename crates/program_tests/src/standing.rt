@@ -26,7 +26,7 @@ const PUT_AGAIN: &str = "\
 
 #[test]
 fn what_stands_is_put_again(rt: HostRuntime) -> Result<(), Fail> {
-    for (crash, opened) in [("", ""), ("crash 1\n", "1 opened\n")] {
+    for &(crash, opened) in &[("", ""), ("crash 1\n", "1 opened\n")] {
         let script = format!(in rt.alloc(); "{STORE}{crash}{AGAIN}")?;
         let expected = format!(in rt.alloc(); "{STORED}{opened}{PUT_AGAIN}")?;
         check(&rt, &script, 0, &expected)?;

@@ -50,7 +50,7 @@ fn warned(
 
 #[test]
 fn an_operator_is_warned(rt: HostRuntime) -> Result<(), Fail> {
-    for (initial, contacts, beta, wanted) in CASES {
+    for &(initial, contacts, beta, wanted) in &CASES {
         let warnings = warned(rt.alloc(), initial, contacts, beta)?;
         assert_eq!(rt; warnings, wanted);
     }

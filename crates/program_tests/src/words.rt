@@ -17,7 +17,7 @@ fn numbers_are_plain_digits(rt: HostRuntime) -> Result<(), Fail> {
     assert_eq!(rt; number("18446744073709551616"), None);
     assert_eq!(rt; small_number("4294967295"), Some(u32::MAX));
     assert_eq!(rt; small_number("4294967296"), None);
-    for word in ["", "01", "00", "+1", "-1", "1x", " 1", "1 ", "0x1", "1.0"] {
+    for &word in &["", "01", "00", "+1", "-1", "1x", " 1", "1 ", "0x1", "1.0"] {
         assert_eq!(rt; number(word), None, "{word}");
     }
     Ok(())
@@ -29,7 +29,7 @@ fn lists_are_numbers_and_commas(rt: HostRuntime) -> Result<(), Fail> {
     assert_eq!(rt; ids.as_slice(), [3, 1, u32::MAX, 1].as_slice());
     let one = list(rt.alloc(), "0")?.ok_or("a list")?;
     assert_eq!(rt; one.as_slice(), [0].as_slice());
-    for word in [
+    for &word in &[
         "",
         ",",
         "1,",
@@ -49,7 +49,7 @@ fn lists_are_numbers_and_commas(rt: HostRuntime) -> Result<(), Fail> {
 fn fractions_are_numbers_and_a_slash(rt: HostRuntime) -> Result<(), Fail> {
     assert_eq!(rt; fraction("4/5"), Some(Fraction { num: 4, den: 5 }));
     assert_eq!(rt; fraction("5/0"), Some(Fraction { num: 5, den: 0 }));
-    for word in [
+    for &word in &[
         "", "4", "/", "4/", "/5", "4/5/6", "04/5", "4/05", "4 /5", "4:5",
     ] {
         assert_eq!(rt; fraction(word), None, "{word}");
