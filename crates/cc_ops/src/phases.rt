@@ -205,12 +205,7 @@ impl Ops {
 
     /// What clients are told on a message: the answer, where this is the last acknowledgement of an operation. A read is
     /// answered from the view that it stored back (CCC, client). The only error is a refused growth.
-    pub fn replies(
-        &self,
-        alloc: Global,
-        me: NodeId,
-        message: &Message,
-    ) -> Result<Replies, NoMemory>
+    pub fn replies(&self, alloc: Global, me: NodeId, message: &Message) -> Result<Replies, NoMemory>
         ensures { IfOk result (λ r. r ≡ ops.replies_of me message.now self.now) }
     {
         match message {
