@@ -1,6 +1,6 @@
 //! The parts of a core, and whether they make a lawful one.
 
-ghost use Rattle.std.specs.Prelude.{◌≡◌, ◌≤◌, ◌↔◌, Some, IsTrue, IsFalse};
+ghost use Rattle.std.specs.Prelude.{◌≡◌, ◌≤◌, ◌↔◌, not, Some, IsTrue, IsFalse};
 ghost use Rattle.std.specs.List.{list_all};
 ghost use Rattle.std.specs.FinMap as table;
 ghost use Rattle.cc_views.specs.Limits.{known_limit, session_limit};
@@ -11,9 +11,10 @@ ghost use Rattle.cc_changes.specs.ChangeLaws.{IsAmong};
 ghost use Rattle.cc_links.specs.Links.{LinksWithin};
 ghost use Rattle.cc_links.specs.Rows.{link_of};
 ghost use Rattle.cc_ops.specs.Commands.{is_writing};
+ghost use Rattle.cc_ops.specs.Commands.{is_writing as command_writes};
 ghost use Rattle.cc_ops.specs.Ops.{IsWaiting, seen_in};
 ghost use Rattle.cc_ops.specs.Stages.{HasRoom};
-ghost use Rattle.cc_node.specs.Lawful.{CountsWithin, IsLawfulCore, IsLineOf, IsPendingIn, IsPhaseOf, SessionsWithin};
+ghost use Rattle.cc_node.specs.Lawful.{CountsWithin, IsLawfulCore, IsLineOf, IsRoundOf, IsPendingIn, IsPhaseOf, SessionsWithin};
 ghost use Rattle.cc_node.specs.Parts.{core_of, is_link_within, is_request_within, is_last_of};
 
 use cc_changes::{Changes, Fraction};
@@ -232,8 +233,39 @@ fn line_fits(sessions: &Sessions, ops: &Ops) -> bool
     ensures fits { IsTrue result ↔ IsLineOf sessions.now ops.now }
     ensures room { HasRoom ops.now.line ops.now.mine }
 {
-    let asks = ops.line().asks();
-    ops.are_apart() && are_last_requests(sessions, asks)
+    if !ops.are_apart() {
+        return false;
+    }
+    if !are_last_requests(sessions, ops.line().asks()) {
+        return false;
+    }
+    round_fits(sessions, ops)
+}
+
+// Whether the others of the pending round are of the kind of its first ask, and each is its session's last request.
+fn round_fits(sessions: &Sessions, ops: &Ops) -> bool
+    ensures { IsTrue result ↔ IsRoundOf sessions.now ops.now }
+{
+    let others = ops.others().asks();
+    let stage = ops.stage();
+    let are_alike = match stage {
+        Stage::Idle => others.is_empty(),
+        Stage::Storing(_) => all_write(others),
+        Stage::Querying(_) | Stage::StoringBack(_) => all_read(others),
+    };
+    are_alike && are_last_requests(sessions, others)
+}
+
+fn all_write(asks: &[Asked]) -> bool
+    ensures { result ≡ list_all (λ a. command_writes a.command) asks.now }
+{
+    asks.iter().all(|asked| is_writing(&asked.command))
+}
+
+fn all_read(asks: &[Asked]) -> bool
+    ensures { result ≡ list_all (λ a. not (command_writes a.command)) asks.now }
+{
+    asks.iter().all(|asked| !is_writing(&asked.command))
 }
 
 fn are_last_requests(sessions: &Sessions, asks: &[Asked]) -> bool

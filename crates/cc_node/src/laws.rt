@@ -1,6 +1,6 @@
 //! The laws of a node's histories. Each is a function with an empty body, whose contract is the law.
 
-ghost use Rattle.std.specs.Prelude.{◌≡◌, ◌≢◌, ◌↔◌, ◌+◌, ◌-◌, ◌≤◌, ◌++◌, ℕ, List, [], None, Some, true, false};
+ghost use Rattle.std.specs.Prelude.{◌≡◌, ◌≢◌, ◌↔◌, ◌+◌, ◌-◌, ◌≤◌, ◌++◌, ℕ, Bool, List, [], None, Some, true, false};
 ghost use Rattle.std.specs.FinMap as table;
 ghost use Rattle.std.specs.List.{All, AllPairs};
 ghost use Rattle.cc_views.specs.Merge.{IsAtMost};
@@ -17,6 +17,7 @@ ghost use Rattle.cc_ops.specs.Ops.{merged, after_message};
 ghost use Rattle.cc_ops.specs.OwnLaws.{AsksAnewAlone};
 ghost use Rattle.cc_wire.specs.declared.output.Output.{Output};
 ghost use Rattle.cc_ops.specs.declared.pending.Asked.{Asked};
+ghost use Rattle.cc_ops.specs.Rounds.{of_kind};
 ghost use Rattle.cc_ops.specs.Waiting.{writes_by, written_by};
 ghost use Rattle.cc_node.specs.Core.{Core, quorum, churned, churn_told, asks_anew, ops_anew, begun, next};
 ghost use Rattle.cc_node.specs.Node.{Node, step, after, line, HasOutput, MayBeOut, IsLawful, IsLawfulWithin};
@@ -49,10 +50,11 @@ pub fn own_number_counts_writes()
     ensures value_after { (n : Node) (es : List Event) → (after n es).core.ops.mine ≡ written_by (begun_along n es) n.core.ops.mine }
 {}
 
-/// Asks begin in the order in which they were accepted: those that waited at the start and those that were accepted since
-/// are those that began since and those that wait still.
+/// Asks of a kind, which write or read, begin in the order in which they were accepted: those that waited at the start and
+/// those that were accepted since are those that began since and those that wait still.
 pub fn asks_begin_in_order()
-    ensures { (n : Node) (es : List Event) → IsLawfulNode n → IsLawful n es → n.core.ops.line ++ asked_along es ≡ begun_along n es ++ (after n es).core.ops.line }
+    ensures { (writes : Bool) (n : Node) (es : List Event) → IsLawfulNode n → IsLawful n es
+        → of_kind writes (n.core.ops.line ++ asked_along es) ≡ of_kind writes (begun_along n es ++ (after n es).core.ops.line) }
 {}
 
 /// What isn't refused where no ask may wait isn't refused where 32 may; and then none waits.

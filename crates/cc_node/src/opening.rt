@@ -12,6 +12,7 @@ ghost use Rattle.cc_node.specs.declared.opening.Fresh.TheVariants as faults;
 
 use cc_changes::{Changes, Fraction, IdSet};
 use cc_links::{KnownIds, Links};
+use cc_ops::MAX_SHARE;
 use cc_views::{NoMemory, NodeId};
 use std::alloc::Global;
 use std::error::Error;
@@ -33,6 +34,9 @@ pub struct Opening<'a> {
 
     /// The share of those present whose echoes an entering node waits for.
     pub gamma: Fraction,
+
+    /// How many asks of one kind, which write or read, begin together at most: 1 to 32.
+    pub share: usize,
 }
 
 impl Opening<'_> {
@@ -59,6 +63,9 @@ impl Opening<'_> {
             return false;
         }
         if self.names_zero() {
+            return false;
+        }
+        if self.share == 0 || self.share > MAX_SHARE {
             return false;
         }
         self.names_few()
