@@ -43,6 +43,7 @@ use Rattle.cc_ops.specs.declared.pending.Reply.{Reply}
 use Rattle.cc_links.specs.Links.{Links}
 use Rattle.cc_sessions.specs.Sessions.{Requests}
 use Rattle.cc_node.specs.Core.{ids_of}
+use Rattle.cc_node.specs.Rounds.{share_limit}
 use Rattle.cc_node.specs.Lawful.{IsKnown, IsPendingIn, IsPhaseOf, IsLastOf, IsLineOf, IsRoundOf, IsBeside}
 
 pub same_number : (n : ℕ) → nat_eq n n ≡ true
@@ -389,7 +390,7 @@ reply_round ls ss quorum v (Querying p) s some few k h i j =
 reply_round ls ss quorum v (StoringBack p seen) s some few k h i j = h
 
 round_keeps : (ls : Links) (ss : Requests) (me quorum : ℕ) (a : Asked) (others : List Asked) (s : Ops) → 0 < quorum → quorum ≤ known_limit → IsKnown ls me → IsWithin s.view ls
-    → AllByRecursion (IsLastOf ss) (a ∷ others) → AllByRecursion (λ b. is_writing b.command ≡ is_writing a.command) others → length others < s.share → s.share ≤ line_limit
+    → AllByRecursion (IsLastOf ss) (a ∷ others) → AllByRecursion (λ b. is_writing b.command ≡ is_writing a.command) others → length others < s.share → s.share ≤ share_limit
     → KeepsRound ls ss (ops.begin_round me quorum (a ∷ others) s)
 round_keeps ls ss me quorum a others s some few own view last alike less most =
     let pending : IsPendingIn ss (ops.round_of quorum a) = record { session = last.0; need = few; count = some } in
@@ -420,10 +421,10 @@ round_keeps ls ss me quorum a others s some few own view last alike less most =
     })
 
 last_round : (ls : Links) (ss : Requests) (me quorum : ℕ) (s : Ops) → 0 < quorum → quorum ≤ known_limit → IsKnown ls me → IsWithin s.view ls
-    → AllByRecursion (IsLastOf ss) s.line → 1 ≤ s.share → s.share ≤ line_limit → KeepsRound ls ss (ops.after_last me quorum s)
+    → AllByRecursion (IsLastOf ss) s.line → 1 ≤ s.share → s.share ≤ share_limit → KeepsRound ls ss (ops.after_last me quorum s)
 last_round ls ss me quorum s some few own view last one most = of_line s.share s.line refl last one most
   where
-    of_line : (share : ℕ) (line : List Asked) → s.share ≡ share → AllByRecursion (IsLastOf ss) line → 1 ≤ share → share ≤ line_limit
+    of_line : (share : ℕ) (line : List Asked) → s.share ≡ share → AllByRecursion (IsLastOf ss) line → 1 ≤ share → share ≤ share_limit
         → KeepsRound ls ss (ops.begin_round me quorum (first_round share line) (record s { line = line_behind share line }))
     of_line zero line is last one most = absurd (omega (arith, one))
     of_line (suc n) [] is last one most = record {

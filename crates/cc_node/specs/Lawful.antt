@@ -24,6 +24,7 @@ use Rattle.cc_links.specs.Links.{Links, LinksWithin}
 use Rattle.cc_sessions.specs.Sessions.{Requests}
 use Rattle.cc_views.specs.Limits.{counter_limit, known_limit, session_limit}
 use Rattle.cc_node.specs.Core.{Core, lowest}
+use Rattle.cc_node.specs.Rounds.{share_limit}
 use Rattle.cc_outbox.specs.OutboxLaws.{KeepsPosts}
 use Rattle.cc_node.specs.Node.{Node}
 
@@ -55,7 +56,7 @@ IsBeside (StoringBack p seen) others = AllByRecursion (λ a. is_writing a.comman
 
 pub record IsRoundOf (sessions : Requests) (s : Ops) : Type 0 where
   pub some : 1 ≤ s.share
-  pub most : s.share ≤ line_limit
+  pub most : s.share ≤ share_limit
   pub few : length s.others < s.share
   pub alike : IsBeside s.phase s.others
   pub last : AllByRecursion (IsLastOf sessions) s.others

@@ -10,10 +10,10 @@ use Rattle.cc_views.specs.Limits.{known_limit}
 use Rattle.cc_views.specs.NatSets as set
 use Rattle.cc_changes.specs.declared.fraction.Fraction.{Fraction}
 use Rattle.cc_ops.specs.Ops.{nothing_done}
-use Rattle.cc_ops.specs.Waiting.{line_limit}
 use Rattle.cc_outbox.specs.Outbox.{starting_after}
 use Rattle.cc_links.specs.Links.{add_all}
 use Rattle.cc_node.specs.Node.{Node}
+use Rattle.cc_node.specs.Rounds.{share_limit}
 use Rattle.cc_changes.specs.Need.{IsShare}
 use Rattle.cc_node.specs.declared.opening.Opening.{Opening as Told}
 
@@ -45,7 +45,7 @@ pub record IsOpening (o : Opening) : Type 0 where
   pub beta : IsShare o.beta
   pub gamma : IsShare o.gamma
   pub some : 1 ≤ o.share
-  pub most : o.share ≤ line_limit
+  pub most : o.share ≤ share_limit
 
 unfoldable pub fresh : Opening → Node
 fresh o = record {

@@ -12,7 +12,6 @@ ghost use Rattle.cc_node.specs.declared.opening.Fresh.TheVariants as faults;
 
 use cc_changes::{Changes, Fraction, IdSet};
 use cc_links::{KnownIds, Links};
-use cc_ops::MAX_SHARE;
 use cc_views::{NoMemory, NodeId};
 use std::alloc::Global;
 use std::error::Error;
@@ -35,11 +34,14 @@ pub struct Opening<'a> {
     /// The share of those present whose echoes an entering node waits for.
     pub gamma: Fraction,
 
-    /// How many asks of one kind, which write or read, begin together at most: 1 to 32.
+    /// How many asks of one kind, which write or read, begin together at most.
     pub share: usize,
 }
 
 impl Opening<'_> {
+    /// The greatest share. A state has no place yet for the others of a round.
+    pub const MAX_SHARE: usize = 1;
+
     // Whether a node can begin so; needs no memory.
     pub(crate) fn is_good(&self) -> bool
         ensures { IsTrue result ↔ IsOpening (told self.now) }
@@ -65,7 +67,7 @@ impl Opening<'_> {
         if self.names_zero() {
             return false;
         }
-        if self.share == 0 || self.share > MAX_SHARE {
+        if self.share == 0 || self.share > Self::MAX_SHARE {
             return false;
         }
         self.names_few()

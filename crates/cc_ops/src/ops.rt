@@ -193,9 +193,10 @@ impl Ops {
         }
     }
 
-    /// The asks that are pending beside that of the stage, behind it.
+    /// The asks that are pending beside that of the stage, behind it. There are fewer than the share.
     pub fn others(&self) -> &AskList
-        ensures { result.now ≡ self.now.others }
+        ensures others { result.now ≡ self.now.others }
+        ensures few { length result.now < self.now.share }
     {
         &self.others
     }
