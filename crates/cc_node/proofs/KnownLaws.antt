@@ -342,7 +342,8 @@ left_apart : (s t : Ops) (rs : List Reply) → AnswersRound s t rs → AreApart 
 left_apart s t rs (inl h) apart = subst AreApart (sym h.1) apart
 left_apart s t rs (inr h) apart = subst AreApart (sym h.1) (round_apart s.share s.line (apart_behind (ops.pending s) s.line apart))
 
-message_line_of : (ss : Requests) (me quorum : ℕ) (m : Message) (s : Ops) → IsLineOf ss s → IsRoundOf ss (ops.after_message me quorum m s) → IsLineOf ss (ops.after_message me quorum m s)
+message_line_of : (ss : Requests) (me quorum : ℕ) (m : Message) (s : Ops) → IsLineOf ss s
+    → (let t = ops.after_message me quorum m s in IsRoundOf ss t.share t.phase t.others → IsLineOf ss t)
 message_line_of ss me quorum m s h round =
     let t = ops.after_message me quorum m s in
     let parts = message_parts me quorum m s in
@@ -358,7 +359,7 @@ message_line_of ss me quorum m s h round =
 pub record KeepsRound (ls : Links) (ss : Requests) (s : Ops) : Type 0 where
   pub view : IsWithin s.view ls
   pub phase : IsPhaseOf ls ss s.phase
-  pub round : IsRoundOf ss s
+  pub round : IsRoundOf ss s.share s.phase s.others
 
 pub record KeepsOps (ls : Links) (ss : Requests) (s : Ops) : Type 0 where
   pub view : IsWithin s.view ls

@@ -1,7 +1,7 @@
 -- Which states a node can be in.
 --     IsLawfulCore, IsLawfulNode         a core, and a node with what it keeps
 --     IsPhaseOf                          a round pends, whose first ask is its session's last request
---     IsBeside, IsRoundOf                its others are of the kind of that one, fewer than the share, each its session's last request
+--     IsBeside, IsRoundOf                its others are of the kind of that one, and fewer than the share
 --     IsLineOf                           asks wait, each its session's last request, and no two of one session
 --     SessionsWithin, CountsWithin       counters are within their limit
 --     KeepsAnswers                       for which sessions an answer is kept
@@ -54,12 +54,13 @@ IsBeside (Storing p) others = AllByRecursion (λ a. is_writing a.command ≡ tru
 IsBeside (Querying p) others = AllByRecursion (λ a. is_writing a.command ≡ false) others
 IsBeside (StoringBack p seen) others = AllByRecursion (λ a. is_writing a.command ≡ false) others
 
-pub record IsRoundOf (sessions : Requests) (s : Ops) : Type 0 where
-  pub some : 1 ≤ s.share
-  pub most : s.share ≤ share_limit
-  pub few : length s.others < s.share
-  pub alike : IsBeside s.phase s.others
-  pub last : AllByRecursion (IsLastOf sessions) s.others
+-- fewer others than the share, each its session's last request
+pub record IsRoundOf (sessions : Requests) (share : ℕ) (phase : Phase) (others : List Asked) : Type 0 where
+  pub some : 1 ≤ share
+  pub most : share ≤ share_limit
+  pub few : length others < share
+  pub alike : IsBeside phase others
+  pub last : AllByRecursion (IsLastOf sessions) others
 
 -- asks wait only behind a pending round, and no two that aren't answered are of one session
 pub record IsLineOf (sessions : Requests) (s : Ops) : Type 0 where
@@ -67,7 +68,7 @@ pub record IsLineOf (sessions : Requests) (s : Ops) : Type 0 where
   pub few : length s.line ≤ line_limit
   pub apart : AreApart (unanswered s)
   pub last : AllByRecursion (IsLastOf sessions) s.line
-  pub round : IsRoundOf sessions s
+  pub round : IsRoundOf sessions s.share s.phase s.others
 
 abbrev pub SessionsWithin : Requests → Type 0
 SessionsWithin sessions = (s : ℕ) → IfSome (table.get sessions s) (λ last. (0 < last) × (last ≤ counter_limit))

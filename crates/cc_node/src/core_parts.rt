@@ -233,10 +233,11 @@ fn line_fits(sessions: &Sessions, ops: &Ops) -> bool
     ensures fits { IsTrue result ↔ IsLineOf sessions.now ops.now }
     ensures room { HasRoom ops.now.line ops.now.mine }
 {
+    let asks = ops.line().asks();
     if !ops.are_apart() {
         return false;
     }
-    if !are_last_requests(sessions, ops.line().asks()) {
+    if !are_last_requests(sessions, asks) {
         return false;
     }
     round_fits(sessions, ops)
@@ -245,7 +246,7 @@ fn line_fits(sessions: &Sessions, ops: &Ops) -> bool
 // Whether the share is no greater than one may be, and the others of the pending round are of the kind of its first ask, and
 // each its session's last request. There are fewer than the share.
 fn round_fits(sessions: &Sessions, ops: &Ops) -> bool
-    ensures { IsTrue result ↔ IsRoundOf sessions.now ops.now }
+    ensures { IsTrue result ↔ IsRoundOf sessions.now ops.now.share ops.now.phase ops.now.others }
 {
     if ops.share() > Opening::MAX_SHARE {
         return false;
@@ -264,7 +265,8 @@ fn are_beside(ops: &Ops, others: &[Asked]) -> bool
     match stage {
         Stage::Idle => others.is_empty(),
         Stage::Storing(_) => all_write(others),
-        Stage::Querying(_) | Stage::StoringBack(_) => all_read(others),
+        Stage::Querying(_) => all_read(others),
+        Stage::StoringBack(_) => all_read(others),
     }
 }
 
