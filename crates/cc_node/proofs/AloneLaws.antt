@@ -26,7 +26,7 @@ use Rattle.cc_ops.specs.Waiting.{has_session, written_by}
 use Rattle.cc_ops.specs.OwnLaws.{round_line}
 use Rattle.cc_ops.specs.Rounds.{first_round, line_behind}
 use Rattle.cc_ops.specs.RoundLaws.{no_round}
-use Rattle.cc_ops.specs.Ops.{Ops, Phase, Idle, Storing, Querying, StoringBack, is_idle, is_last, is_own, counted, with_begun, begin_round, after_ask, after_reply, after_last, after_ack, after_message, first_post, post_of_round, ends_store, begun_in, begun_by, unanswered}
+use Rattle.cc_ops.specs.Ops.{Ops, Phase, Idle, Storing, Querying, StoringBack, is_idle, is_last, is_own, counted, with_begun, begin_round, after_ask, after_reply, after_last, after_ack, after_message, first_post, post_of_round, ends_store, begun_by, unanswered}
 use Rattle.cc_outbox.specs.Outbox.{post_limit, trim}
 use Rattle.cc_node.specs.Core.{Core, quorum, asked_of, ids_of, links_heard, churn_told, asks_anew, anew_if, next, post, outputs, ack, replies, send_ack, send_post, send_replies, lowest}
 use Rattle.cc_node.specs.Node.{Node, step, after, line, keep, add, forget_asked, IsLawfulWithin}

@@ -2,7 +2,7 @@
 --     next_core, step_lawful        the core, and the node
 --     lowest_next                   lowest doesn't fall
 --     links_go_on, left_grows       no link is lost or falls back, and who left has left for good
-use Rattle.std.proofs.Common.{◌≡◌, ℕ, ◌+◌, ◌<◌, ◌≤◌, true, false, cond, ◌||◌, ◌&&◌, nat_eq, nat_lt, List, [], ◌∷◌, ◌++◌, length, refl, sym, ap, subst, ◌∙◌, inl, inr, arith}
+use Rattle.std.proofs.Common.{◌≡◌, ℕ, ◌+◌, ◌<◌, ◌≤◌, true, false, cond, ◌||◌, ◌&&◌, nat_eq, nat_lt, List, [], ◌∷◌, ◌++◌, refl, sym, ap, subst, ◌∙◌, inl, inr, arith}
 use Rattle.std.specs.Prelude.{Option, Some, None, IfSome, IsTrue, is_some, ◌==◌}
 use Rattle.std.specs.Option.{option_len, option_map_or, unwrap_or}
 use Rattle.std.specs.List.{list_any}
@@ -32,18 +32,16 @@ use Rattle.cc_ops.specs.Ops as ops
 use Rattle.cc_ops.specs.Ops.{Ops, Phase, Idle, Storing, Querying, StoringBack, unanswered, mine_at_last}
 use Rattle.cc_ops.specs.OwnLaws.{message_last, message_answers, ask_last, ask_unanswered}
 use Rattle.cc_ops.specs.Rounds.{first_round, line_behind}
-use Rattle.cc_ops.specs.Waiting.{writes_by}
 use Rattle.cc_ops.specs.WaitingLaws.{written_fits}
 use Rattle.cc_ops.specs.declared.pending.Asked.{Asked}
 use Rattle.cc_links.specs.Links.{Link, Links, new_link, with_row, add_absent, add_all, hear, ack, lapse, heard_from, LinksWithin}
 use Rattle.cc_links.specs.LinkLaws.{LinksGoOn, go_same, go_then, add_all_goes, hear_goes, ack_goes, lapse_goes, go_within, lowest_within, lowest_grows, links_more_posts, add_all_links, hear_links, ack_links, lapse_links, contains-add_all, hear_len, ack_len, lapse_len}
 use Rattle.cc_sessions.specs.Sessions.{Requests, last_request, begin_fits}
 use Rattle.cc_outbox.specs.Outbox.{forget}
-use Rattle.cc_node.specs.Core.{Core, quorum, ids_of, asked_of, begun, churned, tells, churn_told, asks_anew, ops_anew, next, post, replies, lowest}
+use Rattle.cc_node.specs.Core.{Core, quorum, ids_of, asked_of, churned, tells, churn_told, asks_anew, ops_anew, next, post, replies, lowest}
 use Rattle.cc_node.specs.Refusals.{decides}
 use Rattle.cc_node.specs.Node.{Node, step}
 use Rattle.cc_node.specs.Lawful.{CountsWithin, KeepsAnswers, IsLawfulCore, IsLawfulNode}
-use Rattle.cc_node.proofs.CoreLaws.{own_number}
 use Rattle.cc_node.proofs.KnownLaws.{same_number, AllListed, tail_listed, MessageKnown, message_known, among_more, KeepsChanges, enter_changes, leave_changes, KeepsChurn, members_fit, message_churn, left_stays, KeepsOps, ops_more, message_ops, ask_ops, all_last, none_waits, none_left}
 use Rattle.cc_node.proofs.KeptLaws.{step_posts, posted, round_answers, last_answers}
 use Rattle.cc_node.proofs.RefusalLaws.{Fits, takes_enter, takes_leave, takes_delivery, takes_ack, takes_ask, takes_retire, takes_lapse, takes_snapshot, takes_any, stays_within, passes_within, none_overruns}

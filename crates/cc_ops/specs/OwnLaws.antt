@@ -4,26 +4,26 @@
 --     .._last                  the value once all that wait have begun
 --     .._unanswered            which asks are pending or wait
 --     AnswersRound, message_answers   the pending asks are all answered, in their order, or none is
+--     EndsRound, message_ends  where any is answered, the first round of the line begins, and what is left waits
 --     IsRound, first_is_round  of a round whose first ask reads none writes;  the first of a line is one
 --     AsksAnewAlone, anew_keeps       a phase that begins anew is the same round's, under the next tag
-use Rattle.std.specs.Prelude.{◌≡◌, ℕ, zero, suc, ◌+◌, ◌≤◌, ◌⊎◌, Bool, true, false, if◌then◌else◌, List, [], ◌∷◌, ◌++◌, map, length, refl, ⊤}
+use Rattle.std.specs.Prelude.{◌≡◌, ℕ, zero, suc, ◌+◌, ◌⊎◌, Bool, true, false, if◌then◌else◌, List, [], ◌∷◌, ◌++◌, map, refl, ⊤}
 use Rattle.std.proofs.Common.{sym, ap, subst, ◌∙◌, add-zero, arith, inl, inr}
 use Rattle.std.proofs.lemmas.Bool.{cond_both}
-use Rattle.std.proofs.lemmas.List.{append_assoc, append-nil}
+use Rattle.std.proofs.lemmas.List.{append_assoc}
 use Rattle.cc_views.specs.Rows.{ViewMap}
 use Rattle.cc_views.specs.Merge.{merge}
-use Rattle.cc_views.specs.declared.value.Value.{Value}
 use Rattle.cc_wire.specs.declared.message.Message.{Message}
 use Rattle.cc_wire.specs.declared.message.Message.TheVariants as message
 use Rattle.cc_ops.specs.declared.pending.Asked.{Asked}
 use Rattle.cc_ops.specs.declared.pending.Reply.{Reply}
 use Rattle.cc_ops.specs.Commands.{is_writing, written}
-use Rattle.cc_ops.specs.Rounds.{picked, spared, kind_of, first_round, line_behind}
+use Rattle.cc_ops.specs.Rounds.{picked, first_round, line_behind}
 use Rattle.cc_ops.specs.RoundLaws.{none_write, round_written}
 use Rattle.cc_ops.specs.Waiting.{writes_by, written_by}
 pub use Rattle.cc_ops.specs.WaitingLaws.{reading_leaves}
 use Rattle.cc_ops.specs.WaitingLaws.{written_last, written_both, no_writes}
-use Rattle.cc_ops.specs.Ops.{Ops, Phase, Idle, Storing, Querying, StoringBack, is_idle, seen_in, round_of, counted, is_last, is_own, merged, next_round, again, anew, round_begun, begin_round, with_own_row, with_written, after_ask, after_reply, after_last, after_ack, after_message, begun_by_ask, begun_in, begun_by, told, replies_in, replies_of, asked_in, pending, unanswered, mine_at_last}
+use Rattle.cc_ops.specs.Ops.{Ops, Phase, Idle, Storing, Querying, StoringBack, is_idle, seen_in, round_of, counted, is_last, is_own, merged, next_round, again, anew, begin_round, with_own_row, with_written, after_ask, after_reply, after_last, after_ack, after_message, begun_by_ask, begun_in, begun_by, told, replies_in, replies_of, asked_in, pending, unanswered, mine_at_last}
 
 -- ---- a round begins
 
@@ -290,6 +290,41 @@ message_answers me quorum (message.StoreAck tag q) s =
       | false ↦ inl (refl, refl)
     ]
 message_answers me quorum (message.Snapshot c v) s = inl (refl, refl)
+
+-- where clients are told, the first round of the line begins, and what is left waits; else all wait on
+abbrev pub EndsRound : Ops → List Reply → List Asked → List Asked → Type 0
+EndsRound s rs begun line = ((rs ≡ []) × (line ≡ s.line)) ⊎ ((rs ≡ [] → ⊥) × (begun ≡ first_round s.share s.line) × (line ≡ line_behind s.share s.line))
+
+either_ends : (me quorum : ℕ) (b : Bool) (r : Reply) (rs : List Reply) (phase : Phase) (s : Ops)
+    → EndsRound s (if b then r ∷ rs else []) (if b then first_round s.share s.line else []) (if b then after_last me quorum s else record s { phase = phase }).line
+either_ends me quorum true r rs phase s = inr (λ e. cc, refl, last_line me quorum s)
+either_ends me quorum false r rs phase s = inl (refl, refl)
+
+ack_ends : (me quorum : ℕ) (phase : Phase) (s : Ops) → EndsRound s (replies_in s.view s.others phase) (begun_in phase s) (after_ack me quorum phase s).line
+ack_ends me quorum Idle s = inl (refl, refl)
+ack_ends me quorum (Storing p) s = either_ends me quorum (is_last p) (told s.view p.asked) (map (told s.view) s.others) (Storing (counted p)) s
+ack_ends me quorum (Querying p) s = inl (refl, refl)
+ack_ends me quorum (StoringBack p seen) s = either_ends me quorum (is_last p) (told seen p.asked) (map (told seen) s.others) (StoringBack (counted p) seen) s
+
+pub message_ends : (me quorum : ℕ) (m : Message) (s : Ops) → EndsRound s (replies_of me m s) (begun_by me m s) (after_message me quorum m s).line
+message_ends me quorum (message.Enter q) s = inl (refl, refl)
+message_ends me quorum (message.EnterEcho c v j q) s = inl (refl, refl)
+message_ends me quorum (message.Join q) s = inl (refl, refl)
+message_ends me quorum (message.JoinEcho q) s = inl (refl, refl)
+message_ends me quorum (message.Leave q) s = inl (refl, refl)
+message_ends me quorum (message.LeaveEcho q) s = inl (refl, refl)
+message_ends me quorum (message.Query tag q) s = inl (refl, refl)
+message_ends me quorum (message.QueryReply v tag q) s =
+    inl (refl, cond_both (is_own me tag q s) (after_reply quorum v s.phase s) s (λ (t : Ops). t.line ≡ s.line)
+    (λ _. either_reply (λ (t : Ops). t.line ≡ s.line) quorum v s.phase s refl (λ p tag. refl)) (λ _. refl))
+message_ends me quorum (message.Store v tag q) s = inl (refl, refl)
+message_ends me quorum (message.StoreAck tag q) s =
+    elim (is_own me tag q s)
+    as (λ b. EndsRound s (if b then replies_in s.view s.others s.phase else []) (if b then begun_in s.phase s else []) (if b then after_ack me quorum s.phase s else s).line) [
+      | true ↦ ack_ends me quorum s.phase s
+      | false ↦ inl (refl, refl)
+    ]
+message_ends me quorum (message.Snapshot c v) s = inl (refl, refl)
 
 -- ---- a phase that begins anew
 

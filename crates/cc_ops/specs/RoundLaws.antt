@@ -1,25 +1,30 @@
 -- What a round is of the line that it comes from.
---     one_at_a_time               with a share of 1 it is the first ask, and the others wait on
+--     one_at_a_time, one_round    with a share of 1 it is the first ask, and the others wait on
 --     either_has                  a session has an ask in the line where it has one in the round or behind it
 --     apart_still                 no two asks of round and line are of one session, where no two of the line were
 --     same_kinds                  of each kind, round and line are what the line was, in order
 --     written_still, none_write   what writes keeps its order, so the value at last is the same;  what reads doesn't write
 --     count_still                 there are as many
 --     round_.., .._behind         the same of a line, with its first round in front of what is left
-use Rattle.std.specs.Prelude.{◌≡◌, ℕ, ◌+◌, ◌-◌, ◌≤◌, zero, suc, length, Bool, true, false, not, IsTrue, ◌||◌, nat_eq, List, [], ◌∷◌, ◌++◌, if◌then◌else◌, refl}
-use Rattle.std.proofs.Common.{sym, ap, arith, ◌∙◌}
+--     round_fair, at_more         an ask that waits begins, or fewer stand before it;  one more behind it leaves its place
+use Rattle.std.specs.Prelude.{◌≡◌, ℕ, ◌+◌, ◌-◌, ◌<◌, ◌≤◌, ◌⊎◌, zero, suc, length, Bool, true, false, not, IsTrue, ◌||◌, nat_eq, List, [], ◌∷◌, ◌++◌, if◌then◌else◌, refl}
+use Rattle.std.proofs.Common.{sym, ap, arith, inl, inr, ◌∙◌}
 use Rattle.std.specs.List.{AllByRecursion}
 use Rattle.std.proofs.lemmas.Bool.{or_parts, eqb-false, ne_eqb}
 use Rattle.cc_views.specs.declared.value.Value.{Value}
 use Rattle.cc_ops.specs.declared.pending.Asked.{Asked}
 use Rattle.cc_ops.specs.Commands.{is_writing, written}
-use Rattle.cc_ops.specs.Rounds.{is_of, picked, spared, first_round, line_behind, of_kind}
+use Rattle.cc_ops.specs.Rounds.{is_of, picked, spared, first_round, line_behind, of_kind, IsAt, ComesOn}
 use Rattle.cc_ops.specs.Waiting.{has_session, AreApart, writes_by, written_by}
-use Rattle.cc_ops.specs.WaitingLaws.{reading_leaves, writes_both, all_within, written_within}
+use Rattle.cc_ops.specs.WaitingLaws.{reading_leaves, all_within, written_within}
 use Rattle.cc_views.specs.NatSets.{IsWithin, contains}
 
 pub one_at_a_time : (a : Asked) (line : List Asked) → (first_round 1 (a ∷ line) ≡ a ∷ []) × (line_behind 1 (a ∷ line) ≡ line)
 one_at_a_time a line = (refl, refl)
+
+pub one_round : (line : List Asked) → first_round 1 line ++ line_behind 1 line ≡ line
+one_round [] = refl
+one_round (a ∷ line) = refl
 
 -- ---- sessions
 
@@ -342,3 +347,50 @@ picked_alike kind (suc n) (a ∷ asks) =
     of_its_kind : (kind : Bool) (a : Asked) → is_of kind a ≡ true → is_writing a.command ≡ kind
     of_its_kind true a is = is
     of_its_kind false a is = turned (is_writing a.command) is
+
+-- ---- places
+
+-- it is picked, or no more stand before it than did
+abbrev IsKeptAt : ℕ → Asked → List Asked → List Asked → Type 0
+IsKeptAt n asked round rest = ((j : ℕ) × IsAt j asked round) ⊎ ((j : ℕ) × (j ≤ n) × IsAt j asked rest)
+
+round_more : (n : ℕ) (asked a : Asked) (round rest : List Asked) → IsKeptAt n asked round rest → IsKeptAt (suc n) asked (a ∷ round) rest
+round_more n asked a round rest (inl h) = inl (suc h.0, h.1)
+round_more n asked a round rest (inr h) = let more : h.0 ≤ suc n = omega (arith, h.1) in inr (h.0, more, h.2)
+
+rest_more : (n : ℕ) (asked a : Asked) (round rest : List Asked) → IsKeptAt n asked round rest → IsKeptAt (suc n) asked round (a ∷ rest)
+rest_more n asked a round rest (inl h) = inl h
+rest_more n asked a round rest (inr h) = let more : suc h.0 ≤ suc n = omega (arith, h.1) in inr (suc h.0, more, h.2)
+
+place_kept : (kind : Bool) (most : ℕ) (asks : List Asked) (n : ℕ) (asked : Asked) → IsAt n asked asks → IsKeptAt n asked (picked kind most asks) (spared kind most asks)
+place_kept kind zero asks n asked h = let same : n ≤ n = omega arith in inr (n, same, h)
+place_kept kind (suc m) [] n asked h = absurd h
+place_kept kind (suc m) (a ∷ asks) zero asked h =
+    let none : 0 ≤ 0 = omega arith in
+    elim (is_of kind a)
+    as (λ b. IsKeptAt 0 asked (if b then a ∷ picked kind m asks else picked kind (suc m) asks) (if b then spared kind m asks else a ∷ spared kind (suc m) asks)) [
+      | true ↦ inl (0, h)
+      | false ↦ inr (0, none, h)
+    ]
+place_kept kind (suc m) (a ∷ asks) (suc n) asked h =
+    elim (is_of kind a)
+    as (λ b. IsKeptAt (suc n) asked (if b then a ∷ picked kind m asks else picked kind (suc m) asks) (if b then spared kind m asks else a ∷ spared kind (suc m) asks)) [
+      | true ↦ round_more n asked a (picked kind m asks) (spared kind m asks) (place_kept kind m asks n asked h)
+      | false ↦ rest_more n asked a (picked kind (suc m) asks) (spared kind (suc m) asks) (place_kept kind (suc m) asks n asked h)
+    ]
+
+behind_first : (n : ℕ) (asked a : Asked) (round rest : List Asked) → IsKeptAt n asked round rest → ComesOn (suc n) asked (a ∷ round) rest
+behind_first n asked a round rest (inl h) = inl (suc h.0, h.1)
+behind_first n asked a round rest (inr h) = let fewer : h.0 < suc n = omega (arith, h.1) in inr (h.0, fewer, h.2)
+
+pub round_fair : (share : ℕ) (line : List Asked) (n : ℕ) (asked : Asked) → 1 ≤ share → IsAt n asked line → ComesOn n asked (first_round share line) (line_behind share line)
+round_fair zero line n asked some h = absurd (omega (arith, some))
+round_fair (suc m) [] n asked some h = absurd h
+round_fair (suc m) (a ∷ line) zero asked some h = inl (0, h)
+round_fair (suc m) (a ∷ line) (suc n) asked some h =
+    behind_first n asked a (picked (is_writing a.command) m line) (spared (is_writing a.command) m line) (place_kept (is_writing a.command) m line n asked h)
+
+pub at_more : (line more : List Asked) (n : ℕ) (asked : Asked) → IsAt n asked line → IsAt n asked (line ++ more)
+at_more [] more n asked h = absurd h
+at_more (a ∷ line) more zero asked h = h
+at_more (a ∷ line) more (suc n) asked h = at_more line more n asked h

@@ -3,7 +3,8 @@
 --     picked, spared              of the asks of a kind the first n;  what is left of all of them
 --     first_round, line_behind    those that begin together: of the kind of the first one the first `share`;  what is left
 --     of_kind                     all of a kind, in their order
-use Rattle.std.specs.Prelude.{ℕ, zero, suc, Bool, true, false, not, List, [], ◌∷◌, if◌then◌else◌}
+--     IsAt n ask asks             n others stand before the ask;  ComesOn: it begins, or fewer do than did
+use Rattle.std.specs.Prelude.{◌≡◌, ℕ, zero, suc, ◌<◌, ◌⊎◌, Bool, true, false, not, List, [], ◌∷◌, if◌then◌else◌}
 use Rattle.cc_ops.specs.declared.pending.Asked.{Asked}
 use Rattle.cc_ops.specs.Commands.{is_writing}
 
@@ -38,3 +39,12 @@ line_behind (suc n) (a ∷ line) = spared (kind_of a) n line
 abbrev pub of_kind : Bool → List Asked → List Asked
 of_kind kind [] = []
 of_kind kind (a ∷ asks) = if is_of kind a then a ∷ of_kind kind asks else of_kind kind asks
+
+abbrev pub IsAt : ℕ → Asked → List Asked → Type 0
+IsAt n asked [] = ⊥
+IsAt zero asked (a ∷ asks) = asked ≡ a
+IsAt (suc n) asked (a ∷ asks) = IsAt n asked asks
+
+-- it is one of those that begin, or waits on with fewer before it
+abbrev pub ComesOn : ℕ → Asked → List Asked → List Asked → Type 0
+ComesOn n asked begun line = ((j : ℕ) × IsAt j asked begun) ⊎ ((j : ℕ) × (j < n) × IsAt j asked line)

@@ -1,10 +1,7 @@
-use Rattle.std.proofs.Common.{◌≡◌, ◌∷◌, List, false, refl, sym, ap, subst, ◌∙◌}
+use Rattle.std.proofs.Common.{List, subst}
 use Rattle.cc_ops.specs.declared.pending.Asked.{Asked}
 use Rattle.cc_ops.specs.Stages.{HasRoom}
-use Rattle.cc_ops.specs.Waiting.{written_by}
-use Rattle.cc_ops.specs.WaitingLaws.{first_room, no_writes}
-use Rattle.cc_ops.specs.Rounds.{first_round}
-use Rattle.cc_ops.specs.RoundLaws.{reads_none}
+use Rattle.cc_ops.specs.WaitingLaws.{first_room}
 use Rattle.cc_ops.proofs.parting.+picked_value.Goals as goal
 
 pub written-requires : goal.written-requires

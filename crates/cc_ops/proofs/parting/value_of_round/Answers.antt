@@ -1,4 +1,4 @@
-use Rattle.std.proofs.Common.{◌≡◌, ◌∷◌, List, false, refl, sym, ap, subst, ◌∙◌}
+use Rattle.std.proofs.Common.{◌∷◌, List, sym, ap, subst, ◌∙◌}
 use Rattle.cc_ops.specs.declared.pending.Asked.{Asked}
 use Rattle.cc_ops.specs.Stages.{HasRoom}
 use Rattle.cc_ops.specs.Waiting.{written_by}

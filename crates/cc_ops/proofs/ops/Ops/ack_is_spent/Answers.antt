@@ -1,6 +1,6 @@
 use Rattle.std.proofs.Common.{◌≡◌, ◌+◌, ◌≤◌, Bool, List, true, false, nat_lt, not, refl, sym, ap, subst, ◌∙◌}
 use Rattle.std.specs.Prelude.{◌||◌}
-use Rattle.cc_views.specs.Limits.{counter_limit, overruns}
+use Rattle.cc_views.specs.Limits.{counter_limit}
 use Rattle.cc_ops.specs.declared.pending.Asked.{Asked}
 use Rattle.cc_ops.specs.Ops.{Ops, after_ack}
 use Rattle.cc_ops.specs.Refusals.{passes}

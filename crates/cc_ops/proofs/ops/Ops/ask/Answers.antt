@@ -1,7 +1,6 @@
-use Rattle.std.proofs.Common.{◌≡◌, true, false, sym, ap, subst, ◌∙◌}
+use Rattle.std.proofs.Common.{◌≡◌, true, false, sym, ap, ◌∙◌}
 use Rattle.cc_ops.specs.Ops.{Ops, is_idle}
-use Rattle.cc_ops.specs.Stages.{HasRoom}
-use Rattle.cc_ops.specs.Commands.{written, finds_no_room}
+use Rattle.cc_ops.specs.Commands.{finds_no_room}
 use Rattle.cc_ops.specs.Ops.{mine_at_last}
 use Rattle.cc_ops.specs.contracts.ops.Ops.{the_view}
 use Rattle.cc_ops.proofs.Rooms.{none_waits, may_wait, begin_room, wait_room}
