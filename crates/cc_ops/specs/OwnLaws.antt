@@ -36,7 +36,7 @@ first_is_round zero line = tt
 first_is_round (suc n) [] = tt
 first_is_round (suc n) (a ∷ line) = λ reads. ap (λ (b : Bool). writes_by (picked b n line)) reads ∙ none_write n line
 
-none_reads : (a : Asked) (others : List Asked) → is_writing a.command ≡ false → writes_by others ≡ 0 → writes_by (a ∷ others) ≡ 0
+pub none_reads : (a : Asked) (others : List Asked) → is_writing a.command ≡ false → writes_by others ≡ 0 → writes_by (a ∷ others) ≡ 0
 none_reads a others reads none =
     let count : writes_by (a ∷ others) ≡ 0 + writes_by others = ap (λ (b : Bool). (if b then 1 else 0) + writes_by others) reads in
     omega (arith, count, none)

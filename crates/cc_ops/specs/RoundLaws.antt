@@ -198,7 +198,7 @@ round_written (suc n) [] v = refl
 round_written (suc n) (a ∷ line) v = written_still (is_writing a.command) n line (written a.command v)
 
 -- how often they write
-writers_count : (asks : List Asked) → writes_by asks ≡ writes_by (of_kind true asks)
+pub writers_count : (asks : List Asked) → writes_by asks ≡ writes_by (of_kind true asks)
 writers_count [] = refl
 writers_count (a ∷ asks) =
     elim (is_writing a.command)
