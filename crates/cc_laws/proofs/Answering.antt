@@ -1,7 +1,7 @@
 -- An answer that left a node: by which rounds of its operation it came about.
 --     Ended, ended           the event that made the answer, and what pended before it
 --     IsWriteOp, IsReadOp, either_op     it was of a writing round, or of a reading one
---     op_asked, op_writes, op_reads      it pended there, and its command wrote, or read
+--     op_pends, op_writes, op_reads      it pended there, and its command wrote, or read
 --     asked_last             each ask that pends is its session's last request
 --     StoredRound            a round in which a view was stored, of which something holds
 --     ReadRound              a round in which a view was queried, with what was seen in it
@@ -56,7 +56,7 @@ use Rattle.cc_laws.proofs.Lists.{at_some, some_changed, all_changed}
 use Rattle.cc_laws.proofs.Lines.{made_in}
 use Rattle.cc_laws.proofs.Members.{IsSound, lawful_front}
 use Rattle.cc_laws.proofs.Places.{after_parts, at_same, at_before, at_behind, split_order}
-use Rattle.cc_laws.proofs.Says.{stored_of, Told, ReplySays, each_says, OutputSays, outputs_say}
+use Rattle.cc_laws.proofs.Says.{stored_of, Told, TellsOf, ReplySays, each_says, OutputSays, outputs_say}
 use Rattle.cc_laws.proofs.Pending.{HasAck, HasReply, Raised, ReadBefore, IsQueryOf, Pends, core_push, pends}
 use Rattle.cc_laws.proofs.CountedAnswers.{IsAckFrom, IsReplyFrom, counted_ack, counted_reply}
 use Rattle.cc_laws.proofs.Knowing.{me_of, contains_at, contains_front, either_front}
@@ -124,8 +124,7 @@ pub record Ended (m : Member) (s r : ℕ) (a : Answer) : Type 0 where
   pub later : List Event
   pub parts : released_events m ≡ front ++ last ∷ later
   pub ends : ends_round (after (fresh m.opening) front).core last ≡ true
-  pub tells : (let before = (after (fresh m.opening) front).core.ops in
-  Told before.view before.others before.phase (record { session = s; request = r; answer = a }))
+  pub tells : TellsOf (after (fresh m.opening) front).core.ops (record { session = s; request = r; answer = a })
 
 pub ended : (m : Member) (s r : ℕ) (a : Answer) → Contains (line (fresh m.opening) (released_events m)) (output.Reply s r a) → Ended m s r a
 ended m s r a has =
@@ -161,9 +160,9 @@ either_op c s r a (StoringBack p seen) is t =
 pub pending_as : (c : Core) (p : Pending) (phase : Phase) → c.ops.phase ≡ phase → asked_in phase ≡ p.asked ∷ [] → pending c.ops ≡ p.asked ∷ c.ops.others
 pending_as c p phase is first = ap (λ (f : Phase). asked_in f ++ c.ops.others) is ∙ ap (λ (l : List Asked). l ++ c.ops.others) first
 
-pub op_asked : (c : Core) (p : Pending) (phase : Phase) (x : Asked) (s r : ℕ) → c.ops.phase ≡ phase → asked_in phase ≡ p.asked ∷ []
-    → Contains (p.asked ∷ c.ops.others) x → x.session ≡ s → x.request ≡ r → HasAsked (pending c.ops) s r
-op_asked c p phase x s r is first has session request = (x, subst (λ (l : List Asked). Contains l x) (sym (pending_as c p phase is first)) has, session, request)
+pub op_pends : (c : Core) (p : Pending) (phase : Phase) (x : Asked) → c.ops.phase ≡ phase → asked_in phase ≡ p.asked ∷ []
+    → Contains (p.asked ∷ c.ops.others) x → Contains (pending c.ops) x
+op_pends c p phase x is first has = subst (λ (l : List Asked). Contains l x) (sym (pending_as c p phase is first)) has
 
 -- the asks of a round are of one kind
 each_alike : (k : Bool) (first x : Asked) (others : List Asked) → is_writing first.command ≡ k → AllByRecursion (λ a. is_writing a.command ≡ k) others

@@ -194,7 +194,7 @@ module _ (start : Node) (past : List Event) (e : Event) where
     begins : (me quorum : ℕ) (asks : List Asked) (s : Ops) → s.tag ≡ c.ops.tag → (next c e).ops ≡ begin_round me quorum asks s
         → PendsIn start now [] me (begin_round me quorum asks s)
     begins me quorum [] s old is = refl
-    begins me quorum (a ∷ others) s old =
+    begins me quorum (a ∷ others) s old next_is =
         let asks = a ∷ others in
         let W = next_round (Storing (round_of quorum a)) (with_own_row me (with_written asks s)) in
         let R = next_round (Querying (round_of quorum a)) s in
@@ -209,7 +209,7 @@ module _ (start : Node) (past : List Event) (e : Event) where
             own_least me s asks,
           )
           | false ↦ λ is. (raise_now (s.tag + 1) (IsQueryOf asks) under (ap (λ (t : Ops). t.tag) is) (round_of quorum a, ap (λ (t : Ops). t.phase) is, ap pending is), tt)
-        ]
+        ] next_is
 
     ends : (me quorum : ℕ) (s : Ops) → s.tag ≡ c.ops.tag → (next c e).ops ≡ after_last me quorum s → PendsIn start now [] me (after_last me quorum s)
     ends me quorum s old is = begins me quorum (first_round s.share s.line) (record s { line = line_behind s.share s.line }) old is

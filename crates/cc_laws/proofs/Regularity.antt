@@ -44,7 +44,7 @@ use Rattle.cc_laws.proofs.Places.{parts_more, after_parts}
 use Rattle.cc_laws.proofs.Says.{tag_after, stored_of}
 use Rattle.cc_laws.proofs.Pending.{HasAck, HasReply, Raised, least_more}
 use Rattle.cc_laws.proofs.Knowing.{either_front, Knows, store_known, reply_known}
-use Rattle.cc_laws.proofs.Answering.{last_after, Ended, ended, either_op, op_asked, op_writes, op_reads, asked_last, reads_view, writes_stored, StoredRound, IsQueryFor, ReadRound, node_lawful, write_round, back_round, answered_read, number_reached}
+use Rattle.cc_laws.proofs.Answering.{last_after, Ended, ended, either_op, op_pends, op_writes, op_reads, asked_last, reads_view, writes_stored, StoredRound, IsQueryFor, ReadRound, node_lawful, write_round, back_round, answered_read, number_reached}
 
 -- a query of a request began where the node had released none such
 asked_later : (p : ℕ) (m n : Member) → IsSound p n → Grows m n → (s r tag : ℕ) → last_request (node_at m m.released).core.sessions s < r
@@ -145,7 +145,7 @@ reading c h t p s r a has read =
         pending = o.0;
         seen = o.2;
         phase = o.3;
-        asked = op_asked b o.0 (StoringBack o.0 o.2) o.1 s r o.3 refl o.4 o.5 o.6;
+        asked = (o.1, op_pends b o.0 (StoringBack o.0 o.2) o.1 o.3 refl o.4, o.5, o.6);
         tells = o.7;
       }
     ]
@@ -223,7 +223,7 @@ module _ (c mid d : Cluster) (first second : List (ℕ × Move)) (fresh_c : IsFr
       let lawful = (node_lawful q m sound op.front op.later op.last op.parts).core in
       elim (either_op b s r answer.Stored b.ops.phase refl op.tells) as (λ _. HasAtLeast read.seen q k) [
         | inl w ↦
-            let asked = op_asked b w.0 (Storing w.0) w.1 s r w.2 refl w.3 w.4 w.5 in
+            let asked : HasAsked (pending_asks b.ops) s r = (w.1, op_pends b w.0 (Storing w.0) w.1 w.2 refl w.3, w.4, w.5) in
             let reached = number_reached q m sound s r k answer.Stored op asked ask in
             seen_later mid d h_mid t_mid h_end t_end (run_grows mid second d h_mid to_d) q p s r x y m read.member made.1 read.there (λ e. HasAtLeast (stored_of e.ops) q b.ops.number) q k
             (λ e has. at_least (table.get (stored_of e.ops) q) k b.ops.number reached has) (write_round q m sound op.front op.later op.last op.parts s r w.0 asked w.2 op.ends) read.seen ahead

@@ -300,8 +300,11 @@ Told view others (Storing p) r = TellsOne view (p.asked ∷ others) r
 Told view others (Querying p) r = ⊥
 Told view others (StoringBack p seen) r = TellsOne seen (p.asked ∷ others) r
 
+abbrev pub TellsOf : Ops → Reply → Type 0
+TellsOf s r = Told s.view s.others s.phase r
+
 abbrev pub ReplySays : Core → Event → Reply → Type 0
-ReplySays c e r = (ends_round c e ≡ true) × Told c.ops.view c.ops.others c.ops.phase r
+ReplySays c e r = (ends_round c e ≡ true) × TellsOf c.ops r
 
 -- each element is in its list
 each_in : {X : Type 0} (xs : List X) → AllByRecursion (Contains xs) xs
