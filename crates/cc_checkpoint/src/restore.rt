@@ -153,9 +153,7 @@ fn ops_of(alloc: Global, work: Work) -> Result<Ops, NoMemory>
         ..
     } = work;
     let Round { stage, seen, line } = round;
-    Ops::from_parts(
-        alloc, view, number, mine, tag, 1, stage, seen, others, line,
-    )
+    Ops::from_parts(alloc, view, number, mine, tag, 1, stage, seen, others, line)
 }
 
 // What a node has in tables.

@@ -52,7 +52,7 @@ use Rattle.cc_node.proofs.RefusalLaws.{takes_ask}
 use Rattle.cc_laws.specs.Clusters.{Member}
 use Rattle.cc_laws.specs.Regular.{released_events, IsWriteAsk, HasAtLeast, RoundOf, phase_in, HasAsked, IsRoundFor}
 use Rattle.cc_laws.specs.Rounds.{awaits_views, awaits_acks, counts, ends_round, with_peer, peers_along, peers_of}
-use Rattle.cc_laws.proofs.Lists.{at_some, some_changed, all_changed}
+use Rattle.cc_laws.proofs.Lists.{some_changed, all_changed}
 use Rattle.cc_laws.proofs.Lines.{made_in}
 use Rattle.cc_laws.proofs.Members.{IsSound, lawful_front}
 use Rattle.cc_laws.proofs.Places.{after_parts, at_same, at_before, at_behind, split_order}

@@ -3,7 +3,6 @@
 --     stores_seen, in_turn    so of stores, and of two collects
 use Rattle.std.proofs.Common.{◌≡◌, ◌⊎◌, ℕ, ◌<◌, ◌≤◌, List, [], ◌∷◌, ◌++◌, refl, sym, ap, subst, ◌∙◌, inl, inr, arith, append_assoc}
 use Rattle.std.specs.Prelude.{Option, Some, None, IsSomeAnd}
-use Rattle.std.specs.Option.{unwrap_or}
 use Rattle.std.specs.List.{Contains, AllByRecursion}
 use Rattle.std.specs.FinMap as table
 use Rattle.std.proofs.lemmas.Bool.{cases_lt}
@@ -25,7 +24,6 @@ use Rattle.cc_node.specs.Core.{Core}
 use Rattle.cc_node.specs.Node.{Node, after, IsLawful}
 use Rattle.cc_node.specs.Opening.{Opening, fresh}
 use Rattle.cc_node.specs.Histories.{lawful_parts}
-use Rattle.cc_node.specs.Lawful.{IsPhaseOf}
 use Rattle.cc_node.proofs.FreshLaws.{fresh_lawful, after_lawful}
 use Rattle.cc_laws.specs.Clusters.{Member, Cluster, node_at, Move}
 use Rattle.cc_laws.specs.Runs.{Run, IsFreshCluster, Occurs, among_sent}

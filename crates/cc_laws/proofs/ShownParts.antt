@@ -28,7 +28,7 @@ use Rattle.cc_node.specs.Core.{begun, handled, post, replies}
 use Rattle.cc_node.proofs.ToldLaws.{anew_view}
 use Rattle.cc_node.specs.Node.{line}
 use Rattle.cc_laws.specs.Shown.{in_message, in_answer, in_output}
-use Rattle.cc_laws.proofs.Lists.{some_if, some_of, some_or, some_mapped, all_if, all_of}
+use Rattle.cc_laws.proofs.Lists.{some_if, some_of, some_or, some_mapped, all_of}
 
 module _ (Q : ViewMap → Type 0) where
   abbrev pub OfPhase : Phase → Type 0

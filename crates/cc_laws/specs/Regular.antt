@@ -8,7 +8,7 @@
 --     SeesWrite c v q k         it is the k-th write of node q, or a later one
 --     RoundsMeet c              any two rounds that ended in the cluster counted an answer of one same node
 --     ShareNode ..              so did the round that stored for one request, and the one that queried for another
-use Rattle.std.specs.Prelude.{◌≡◌, ℕ, ◌+◌, ◌<◌, ◌≤◌, true, List, [], ◌∷◌, ◌++◌, take, Some, IsSomeAnd}
+use Rattle.std.specs.Prelude.{◌≡◌, ℕ, ◌+◌, ◌<◌, ◌≤◌, true, List, ◌∷◌, ◌++◌, take, Some, IsSomeAnd}
 use Rattle.std.specs.List.{Contains}
 use Rattle.std.specs.FinMap as table
 use Rattle.cc_views.specs.Rows.{ViewMap}

@@ -1,9 +1,9 @@
 -- Room in the own set, as an ask begins, or waits.
 --     none_waits, may_wait      nothing waits where nothing is pending; anything may where something is
 --     begin_room, wait_room     room for what waits, as an ask begins where nothing waits, and as it waits behind the others
---     no_room, first_rooms      where one finds no room, not all do; where all do, the first does
+--     no_room                   where one finds no room, not all do
 use Rattle.std.proofs.Common.{◌≡◌, ℕ, zero, suc, ◌+◌, ◌<◌, ◌≤◌, arith, nat_lt, ◌&&◌, Bool, true, false, List, [], ◌∷◌, ◌++◌, length, drop, get_or, refl, sym, ap, subst, ◌∙◌}
-use Rattle.std.specs.Prelude.{Option, Some, None, IfSome, is_some, option_map, if◌then◌else◌}
+use Rattle.std.specs.Prelude.{Option, Some, None, is_some, option_map, if◌then◌else◌}
 use Rattle.std.proofs.lemmas.Bool.{cond_both, lt-ltb, ltb-true, ne_eqb}
 use Rattle.std.proofs.lemmas.List.{drop_more}
 use Rattle.cc_views.specs.Limits.{counter_limit, set_limit, overruns}
@@ -58,17 +58,6 @@ no_room asks i value mine a inside is same full h =
     both_ways : (b : Bool) → b ≡ true → b ≡ false → ⊥
     both_ways true e f = cc
     both_ways false e f = cc
-
-pub front_room : (line : List Asked) (a : Asked) (mine : Value) → Some a ≡ first_in line → HasRoom line mine → finds_no_room mine a.command ≡ false
-front_room [] a mine e h = cc
-front_room (b ∷ line) a mine e h =
-    let same : b ≡ a = cc in
-    subst (λ (x : Asked). finds_no_room mine x.command ≡ false) same (first_room b line mine h)
-
-pub first_rooms : {X : Type 0} (f : X → Asked) (o : Option X) (line : List Asked) (mine : Value) → option_map f o ≡ first_in line → HasRoom line mine
-    → IfSome o (λ x. finds_no_room mine (f x).command ≡ false)
-first_rooms f None line mine e h = tt
-first_rooms f (Some x) line mine e h = front_room line (f x) mine e h
 
 -- ---- a round that begins
 

@@ -315,8 +315,11 @@ message_ends me quorum (message.Leave q) s = inl (refl, refl)
 message_ends me quorum (message.LeaveEcho q) s = inl (refl, refl)
 message_ends me quorum (message.Query tag q) s = inl (refl, refl)
 message_ends me quorum (message.QueryReply v tag q) s =
-    inl (refl, cond_both (is_own me tag q s) (after_reply quorum v s.phase s) s (λ (t : Ops). t.line ≡ s.line)
-    (λ _. either_reply (λ (t : Ops). t.line ≡ s.line) quorum v s.phase s refl (λ p tag. refl)) (λ _. refl))
+    inl (
+      refl,
+      cond_both (is_own me tag q s) (after_reply quorum v s.phase s) s (λ (t : Ops). t.line ≡ s.line)
+          (λ _. either_reply (λ (t : Ops). t.line ≡ s.line) quorum v s.phase s refl (λ p tag. refl)) (λ _. refl),
+    )
 message_ends me quorum (message.Store v tag q) s = inl (refl, refl)
 message_ends me quorum (message.StoreAck tag q) s =
     elim (is_own me tag q s)

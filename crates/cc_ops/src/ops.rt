@@ -7,8 +7,8 @@ ghost use Rattle.cc_ops.specs.Ops as ops;
 ghost use Rattle.cc_ops.specs.Stages.{stage_of, phase_of, HasWaiting, WaitsBehind, HasRoom};
 ghost use Rattle.cc_ops.specs.Waiting.{line_limit, has_session, AreApart};
 
-use crate::stage::Stage;
 use crate::ask_list::{AskList, are_apart};
+use crate::stage::Stage;
 use cc_views::{NoMemory, Value, View};
 use std::alloc::Global;
 use std::marker::Model;

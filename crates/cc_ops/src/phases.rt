@@ -23,7 +23,7 @@ use std::alloc::Global;
 impl Ops {
     /// Takes a message: views that it carries are merged, and an operation goes on only by answers to its own tag. A
     /// read that has its replies needs `quorum` acknowledgements of what it stores back (CCC, client and server). With the
-    /// last acknowledgement the first ask that waits begins. It takes no memory.
+    /// last acknowledgement the first round of the asks that wait begins. It takes no memory.
     pub fn apply(&mut self, me: NodeId, quorum: u64, message: &Message)
         requires some { 1 ≤ quorum }
         requires few { quorum ≤ known_limit }
@@ -105,7 +105,12 @@ impl Ops {
         requires tag { (ops.after_last me quorum self.old).tag ≤ counter_limit }
         ensures { self.new ≡ ops.after_last me quorum self.old }
     {
-        let round = take_round(&mut self.line, self.share, &mut self.others, &mut self.spare);
+        let round = take_round(
+            &mut self.line,
+            self.share,
+            &mut self.others,
+            &mut self.spare,
+        );
         match round {
             Some(asked) => self.begin(me, quorum, &asked),
             None => self.stage = Stage::Idle,
@@ -114,7 +119,7 @@ impl Ops {
 
     /// What a message is answered with. A node serves others only once it has joined (CCC, server); the last reply to the
     /// own query is answered with a Store of what is seen by then (CCC, client), and the last acknowledgement with what
-    /// the first ask that waits begins with. The only error is a refused growth.
+    /// the first round of the asks that wait begins with. The only error is a refused growth.
     pub fn post(
         &self,
         alloc: Global,
@@ -176,7 +181,7 @@ impl Ops {
         Ok(None)
     }
 
-    // With the last acknowledgement, what the first ask that waits begins with.
+    // With the last acknowledgement, what the first round of the asks that wait begins with.
     fn post_of_ack(
         &self,
         alloc: Global,
@@ -230,14 +235,9 @@ impl Ops {
         self.line.first()
     }
 
-    /// What clients are told on a message: the answer, where this is the last acknowledgement of an operation. A read is
-    /// answered from the view that it stored back (CCC, client). The only error is a refused growth.
-    pub fn replies(
-        &self,
-        alloc: Global,
-        me: NodeId,
-        message: &Message,
-    ) -> Result<Replies, NoMemory>
+    /// What clients are told on a message: the answers of the round, where this is its last acknowledgement. Reads are
+    /// answered from the view that was stored back (CCC, client). The only error is a refused growth.
+    pub fn replies(&self, alloc: Global, me: NodeId, message: &Message) -> Result<Replies, NoMemory>
         ensures { IfOk result (λ r. r ≡ ops.replies_of me message.now self.now) }
     {
         match message {
@@ -260,7 +260,12 @@ impl Ops {
     }
 
     // The answers of the round, read from that view, where one more acknowledgement ends it.
-    fn told_if_last(&self, alloc: Global, pending: &Pending, seen: &View) -> Result<Replies, NoMemory>
+    fn told_if_last(
+        &self,
+        alloc: Global,
+        pending: &Pending,
+        seen: &View,
+    ) -> Result<Replies, NoMemory>
         requires { IsWaiting pending.now }
         ensures { IfOk result (λ r. r ≡ (if ops.is_last pending.now then map (ops.told seen.now) (pending.now.asked ∷ self.now.others) else [])) }
     {
@@ -292,7 +297,7 @@ impl Ops {
         }
     }
 
-    /// Whether the message would raise a counter that stands at its limit, `2 ^ 62`.
+    /// Whether the message would raise a counter past its limit, `2 ^ 62`.
     pub fn is_spent(&self, me: NodeId, quorum: u64, message: &Message) -> bool
         ensures { result ≡ (passes self.now.number (ops.after_message me quorum message.now self.now).number
             || overruns self.now.tag (ops.after_message me quorum message.now self.now).tag) }

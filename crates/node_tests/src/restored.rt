@@ -154,9 +154,7 @@ fn ops(alloc: Global, state: &State) -> Result<Ops, Fail> {
     let others = AskList::new(alloc)?;
     let known = view(alloc, state.known)?;
     let seen = view(alloc, state.seen)?;
-    Ok(Ops::from_parts(
-        alloc, known, 1, mine, 1, 1, stage, seen, others, line,
-    )?)
+    Ok(Ops::from_parts(alloc, known, 1, mine, 1, 1, stage, seen, others, line)?)
 }
 
 // The link of node 1 to itself.

@@ -327,6 +327,7 @@ fn a_collect_is_told_what_it_stored_back(rt: HostRuntime) -> Result<(), Fail> {
     drop(told);
     Ok(())
 }
+
 #[test]
 fn the_only_reply_is_taken_once(rt: HostRuntime) -> Result<(), Fail> {
     let mut told = last_replies(rt.alloc())?;
@@ -335,8 +336,10 @@ fn the_only_reply_is_taken_once(rt: HostRuntime) -> Result<(), Fail> {
     let is_empty = told.is_empty();
     let more = told.take_first().is_some();
     drop(told);
-    assert_eq!(rt; (was_empty, session, is_empty, more), (false, Some(7), true, false));
+    assert_eq!(rt;
+        (was_empty, session, is_empty, more),
+        (false, Some(7), true, false)
+    );
     assert!(rt; Replies::none().is_empty());
     Ok(())
 }
-
