@@ -10,6 +10,8 @@ use Rattle.std.proofs.lemmas.List.{length-map}
 use Rattle.cc_views.specs.Entries.{lt_from_cmp, and_left, and_right, from_T, entries_back}
 use Rattle.cc_views.specs.MapLaws.{all_entries}
 use Rattle.cc_wire.specs.declared.message.Message.{Message}
+use Rattle.cc_ops.specs.Ops.{Ops}
+use Rattle.cc_ops.specs.declared.pending.Asked.{Asked}
 use Rattle.cc_outbox.specs.OutboxLaws.{KeepsPosts}
 use Rattle.cc_outbox.specs.Rows.{numbered}
 use Rattle.cc_outbox.proofs.Numbers.{sorted_numbered, find_numbered}
@@ -85,9 +87,25 @@ state_of-node_of s = ap (λ (kept : List Message). with_kept s kept) (values-num
     with_kept : State → List Message → State
     with_kept s kept = record s { tables = record s.tables { kept = kept } }
 
+none_less : (l : List Asked) → length l < 1 → [] ≡ l
+none_less [] few = refl
+none_less (a ∷ l) few = absurd (omega (arith, few))
+
+-- at a share of 1 no ask shares the pending round
+alone : (n : Node) → IsLawfulNode n → record n.core.ops { share = 1; others = [] } ≡ n.core.ops
+alone n is =
+    let round = is.core.line.round in
+    let one : 1 ≡ n.core.ops.share = omega (arith, round.some, round.most) in
+    let none : [] ≡ n.core.ops.others = none_less n.core.ops.others (omega (arith, round.few, round.most)) in
+    λ i. record n.core.ops { share = one i; others = none i }
+
 pub node_of-state_of : (n : Node) → IsLawfulNode n → node_of (state_of n) ≡ n
 node_of-state_of n is =
-    ap (λ (last : ℕ). record n { outbox = record { last = last; posts = numbered_to n.core.posts (table.values n.outbox.posts); answers = n.outbox.answers } }) (sym is.last)
+    ap (λ (o : Ops). record n {
+      core = record n.core { ops = o };
+      outbox = record { last = n.core.posts; posts = numbered_to n.core.posts (table.values n.outbox.posts); answers = n.outbox.answers };
+    }) (alone n is)
+    ∙ ap (λ (last : ℕ). record n { outbox = record { last = last; posts = numbered_to n.core.posts (table.values n.outbox.posts); answers = n.outbox.answers } }) (sym is.last)
     ∙ ap (λ (posts : FinMap nat_cmp Message). record n { outbox = record n.outbox { posts = posts } }) (kept_numbered (lowest n.core) n.core.posts n.outbox.posts is.posts)
 
 -- ---- one spelling

@@ -2,7 +2,7 @@
 
 use cc_changes::{Changes, Fraction};
 use cc_links::LinkRow;
-use cc_ops::{Stage, WaitingLine};
+use cc_ops::{AskList, Stage};
 use cc_outbox::KeptAnswer;
 use cc_sessions::SessionRow;
 use cc_views::{NodeId, Value, View};
@@ -37,7 +37,7 @@ pub(crate) struct Entering {
 pub(crate) struct Round {
     pub stage: Stage,
     pub seen: View,
-    pub line: WaitingLine,
+    pub line: AskList,
 }
 
 #[derive(Debug, Drop)]

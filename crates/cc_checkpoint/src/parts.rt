@@ -13,7 +13,7 @@ use crate::state_writer::{
     put_session_table, put_stored,
 };
 use cc_node::{Core, Node};
-use cc_ops::{Asked, Ops, Pending, Stage, WaitingLine};
+use cc_ops::{AskList, Asked, Ops, Pending, Stage};
 use cc_outbox::Outbox;
 use cc_wire::{
     Message, answer_len, changes_len, command_len, message_len, put_message, put_u16, put_u64,
@@ -97,7 +97,7 @@ fn asks_len(asks: &[Asked]) -> usize
 }
 
 /// How many bytes the asks that wait have.
-pub(crate) fn line_len(line: &WaitingLine) -> usize
+pub(crate) fn line_len(line: &AskList) -> usize
     ensures len { result ≡ length (line_spelling true line.now) }
     ensures fits { result ≤ 2625 }
 {

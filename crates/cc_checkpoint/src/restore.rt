@@ -1,6 +1,6 @@
 //! A node out of the fields of its state.
 
-ghost use Rattle.std.specs.Prelude.{◌≡◌, ◌-◌, ◌≤◌, ◌<◌, ◌^◌, ◌↔◌, length, IfOk, IfSome, IsTrue, is_some};
+ghost use Rattle.std.specs.Prelude.{◌≡◌, ◌-◌, ◌≤◌, ◌<◌, ◌^◌, ◌↔◌, [], length, IfOk, IfSome, IsTrue, is_some};
 ghost use Rattle.std.specs.FinMap as table;
 ghost use Rattle.cc_views.specs.Limits.{counter_limit, known_limit, session_limit};
 ghost use Rattle.cc_views.specs.Tables.{IsRising, table_of};
@@ -17,7 +17,7 @@ use crate::fields::{Fields, Membership, Round, Tables, Work};
 use cc_churn::Churn;
 use cc_links::{LinkRow, Links};
 use cc_node::{CoreParts, Node};
-use cc_ops::{Ops, Stage, WaitingLine};
+use cc_ops::{AskList, Ops, Stage};
 use cc_outbox::{KeptAnswer, Outbox};
 use cc_sessions::{SessionRow, Sessions};
 use cc_views::{COUNTER_LIMIT, NoMemory, Value};
@@ -76,7 +76,7 @@ fn line_fits(round: &Round, mine: &Value) -> bool
     round.line.last_value(mine).is_some()
 }
 
-fn waits_behind(stage: Stage, line: &WaitingLine) -> bool
+fn waits_behind(stage: Stage, line: &AskList) -> bool
     ensures { IsTrue result ↔ WaitsBehind stage line.now }
 {
     match stage {
@@ -134,14 +134,16 @@ fn keep_answers(outbox: &mut Outbox, answers: Vec<KeptAnswer>)
     }
 }
 
-fn ops_of(work: Work) -> Ops
+// A state has no place for a share, so it is 1, and no ask shares the pending round.
+fn ops_of(alloc: Global, work: Work) -> Result<Ops, NoMemory>
     requires number { work.number ≤ counter_limit }
     requires tag { work.tag ≤ counter_limit }
     requires waits { HasWaiting work.round.stage }
     requires behind { WaitsBehind work.round.stage work.round.line }
     requires room { HasRoom work.round.line work.mine }
-    ensures { result ≡ record { view = work.view; number = work.number; mine = work.mine; tag = work.tag; phase = (round_in work.round).0; line = (round_in work.round).1 } }
+    ensures { IfOk result (λ o. o ≡ record { view = work.view; number = work.number; mine = work.mine; tag = work.tag; share = 1; phase = (round_in work.round).0; others = []; line = (round_in work.round).1 }) }
 {
+    let others = AskList::new(alloc)?;
     let Work {
         view,
         number,
@@ -151,7 +153,7 @@ fn ops_of(work: Work) -> Ops
         ..
     } = work;
     let Round { stage, seen, line } = round;
-    Ops::from_parts(view, number, mine, tag, stage, seen, line)
+    Ops::from_parts(alloc, view, number, mine, tag, 1, stage, seen, others, line)
 }
 
 // What a node has in tables.
@@ -203,6 +205,9 @@ pub(crate) fn restore(alloc: Global, fields: Fields) -> Result<Option<Node>, NoM
         tables,
     } = fields;
     let posts = tables.posts;
+    let echoes = work.echoes;
+    let need = u64::from(work.need);
+    let ops = ops_of(alloc, work)?;
     let NodeTables {
         links,
         sessions,
@@ -218,8 +223,8 @@ pub(crate) fn restore(alloc: Global, fields: Fields) -> Result<Option<Node>, NoM
         me,
         beta,
         gamma,
-        churn: Churn::from_parts(changes, work.echoes, u64::from(work.need)),
-        ops: ops_of(work),
+        churn: Churn::from_parts(changes, echoes, need),
+        ops,
         posts,
         links,
         sessions,

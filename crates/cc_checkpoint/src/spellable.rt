@@ -15,7 +15,7 @@ use crate::parts::kept_post;
 use cc_changes::Fraction;
 use cc_links::{LinkRow, Links};
 use cc_node::{Core, Node};
-use cc_ops::{Asked, Ops, Pending, Stage, WaitingLine};
+use cc_ops::{AskList, Asked, Ops, Pending, Stage};
 use cc_outbox::{KeptAnswer, Outbox};
 use cc_sessions::{SessionRow, Sessions};
 use cc_wire::{
@@ -79,7 +79,7 @@ fn asks_are_spellable(asks: &[Asked])
     }
 }
 
-fn line_is_spellable(line: &WaitingLine)
+fn line_is_spellable(line: &AskList)
     ensures { IsLine line.now }
 {
     asks_are_spellable(line.asks());

@@ -16,7 +16,7 @@ ghost use Rattle.cc_checkpoint.specs.Fields.{membership_in, own_at, own_in, ente
 use crate::fields::{Entering, Fields, Membership, Own, Round, Tables, Work};
 use cc_changes::Fraction;
 use cc_links::LinkRow;
-use cc_ops::{Asked, Pending, Stage, WaitingLine};
+use cc_ops::{AskList, Asked, Pending, Stage};
 use cc_outbox::{KeptAnswer, Outbox};
 use cc_sessions::{SessionRow, Sessions};
 use cc_views::View;
@@ -112,7 +112,7 @@ fn read_ask(reader: &mut Reader<'_>) -> Result<(u64, u64, Command), WireFault>
     Ok((session, request, command))
 }
 
-fn read_asks(line: &mut WaitingLine, reader: &mut Reader<'_>, count: u8) -> Result<(), WireFault>
+fn read_asks(line: &mut AskList, reader: &mut Reader<'_>, count: u8) -> Result<(), WireFault>
     requires empty { line.old ≡ [] }
     requires few { count ≤ line_limit }
     ensures { Gives (λ _. (line.new, reader.new)) result (asks_at count reader.old) }
@@ -130,13 +130,13 @@ fn read_asks(line: &mut WaitingLine, reader: &mut Reader<'_>, count: u8) -> Resu
 
 // The asks that wait, where the format has a place for them; else none.
 #[tactic(auto, unfolding(cc_node::specs::States::some_line_at))]
-fn read_line(alloc: Global, reader: &mut Reader<'_>, lined: bool) -> Result<WaitingLine, WireFault>
+fn read_line(alloc: Global, reader: &mut Reader<'_>, lined: bool) -> Result<AskList, WireFault>
     ensures { Gives (λ x. (x, reader.new)) result (line_at lined reader.old) }
 {
-    let mut line = WaitingLine::new(alloc)?;
+    let mut line = AskList::new(alloc)?;
     if lined {
         let count = reader.u8()?;
-        if usize::from(count) > WaitingLine::MAX_ASKS {
+        if usize::from(count) > AskList::MAX_ASKS {
             return Err(WireFault::TooLarge);
         }
         read_asks(&mut line, reader, count)?;

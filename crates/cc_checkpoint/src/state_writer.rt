@@ -12,7 +12,7 @@ ghost use Rattle.cc_node.specs.States.{table_spelling, link_spelling, session_sp
 use cc_changes::{Changes, Fraction};
 use cc_links::{LinkRow, Links};
 use cc_node::Core;
-use cc_ops::{Asked, Ops, Pending, Stage, WaitingLine};
+use cc_ops::{AskList, Asked, Ops, Pending, Stage};
 use cc_outbox::KeptAnswer;
 use cc_sessions::{SessionRow, Sessions};
 use cc_views::{NodeId, Value, View};
@@ -110,7 +110,7 @@ fn put_asks(out: &mut Vec<u8>, asks: &[Asked]) -> Result<(), AllocError>
     Ok(())
 }
 
-fn put_line(out: &mut Vec<u8>, line: &WaitingLine) -> Result<(), AllocError>
+fn put_line(out: &mut Vec<u8>, line: &AskList) -> Result<(), AllocError>
     ensures { Writes out.old out.new (line_spelling true line.now) result }
 {
     let asks = line.asks();

@@ -58,6 +58,7 @@ impl FormatOrder {
             contacts: &self.contacts,
             beta: self.beta,
             gamma: self.gamma,
+            share: 1,
         }
     }
 

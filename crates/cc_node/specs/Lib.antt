@@ -2,6 +2,7 @@ pub mod Core
 pub mod Refusals
 pub mod Node
 pub mod OneAtATime
+pub mod Rounds
 pub mod Lawful
 pub mod Opening
 pub mod Codes

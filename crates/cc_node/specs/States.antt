@@ -362,7 +362,7 @@ core_of s = record {
   beta = s.membership.beta;
   gamma = s.membership.gamma;
   churn = record { changes = s.membership.changes; echoes = s.work.echoes; need = s.work.need };
-  ops = record { view = s.work.view; number = s.work.number; mine = s.work.mine; tag = s.work.tag; phase = s.work.phase; line = s.work.line };
+  ops = record { view = s.work.view; number = s.work.number; mine = s.work.mine; tag = s.work.tag; share = 1; phase = s.work.phase; others = []; line = s.work.line };
   posts = s.tables.posts;
   links = s.tables.links;
   sessions = s.tables.sessions;

@@ -128,6 +128,7 @@ impl Cluster {
             contacts,
             beta: self.beta,
             gamma: self.gamma,
+            share: 1,
         };
         match Station::new(alloc, &opening) {
             Ok(station) => {

@@ -69,6 +69,7 @@ pub(crate) fn opened(
         contacts,
         beta: share,
         gamma: share,
+        share: 1,
     };
     Ok(Node::fresh(alloc, &opening)?)
 }

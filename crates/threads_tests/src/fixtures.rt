@@ -38,6 +38,7 @@ pub(crate) fn formatted(alloc: Global) -> Result<MemorySite, Fail> {
         contacts: &[],
         beta: share,
         gamma: share,
+        share: 1,
     };
     match format(alloc, MemorySite::new(alloc, 1024)?, &opening) {
         Ok(site) => Ok(site),

@@ -1,6 +1,6 @@
 use Rattle.std.proofs.Common.{sym, ◌∙◌}
 use Rattle.cc_ops.proofs.Rooms.{no_room}
-use Rattle.cc_ops.proofs.waiting_line.last_value.Goals as goal
+use Rattle.cc_ops.proofs.ask_list.last_value.Goals as goal
 
 pub returns-then-finds_no_room-clause-fits : goal.returns-then-finds_no_room-clause-fits
 returns-then-finds_no_room-clause-fits c = (

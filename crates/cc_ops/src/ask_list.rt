@@ -1,4 +1,4 @@
-//! The asks that wait while an operation is pending.
+//! Asks in the order in which they were accepted.
 
 ghost use Rattle.std.specs.Prelude.{◌≡◌, ◌≤◌, ◌<◌, ◌↔◌, ◌++◌, [], ◌∷◌, IfOk, IfSome, IsTrue, is_some, length, option_map};
 ghost use Rattle.cc_views.specs.Limits.{set_limit};
@@ -7,20 +7,20 @@ ghost use Rattle.cc_ops.specs.Stages.{HasRoom};
 ghost use Rattle.cc_ops.specs.Waiting as waiting;
 ghost use Rattle.cc_ops.specs.Waiting.{line_limit, AreApart, first_in, written_by};
 
-use crate::commands::{finds_no_room, written};
+use crate::commands::{finds_no_room, is_writing, written};
 use crate::pending::Asked;
 use cc_views::{NoMemory, Value};
 use std::alloc::Global;
 use std::marker::Model;
 
-/// The asks that wait while an operation is pending, the one that begins next first: at most 32.
+/// At most 32 asks, in the order in which they were accepted: those that wait, and those of a round beside its first one.
 #[derive(Debug, Drop)]
-pub struct WaitingLine {
+pub struct AskList {
     // Its room is made at the start.
     asks: Vec<Asked>,
 }
 
-impl Model for WaitingLine {
+impl Model for AskList {
     ghost use Rattle.std.specs.Prelude.{List};
     ghost use Rattle.std.specs.Vec.{vec_capacity};
     ghost use Rattle.cc_ops.specs.declared.pending.Asked.{Asked as AskedValue};
@@ -36,16 +36,16 @@ impl Model for WaitingLine {
     ghost invariant = { λ l. FitsLine l.asks.items (vec_capacity l.asks) };
 }
 
-impl WaitingLine {
-    /// How many asks wait at most.
+impl AskList {
+    /// How many asks it has at most.
     pub const MAX_ASKS: usize = 32;
 
-    /// Nothing waits. The only error is a refused growth.
+    /// No ask. The only error is a refused growth.
     pub fn new(alloc: Global) -> Result<Self, NoMemory>
         ensures { IfOk result (λ l. l ≡ []) }
     {
         let asks = Vec::with_capacity(alloc, Self::MAX_ASKS)?;
-        Ok(WaitingLine { asks })
+        Ok(AskList { asks })
     }
 
     /// The same in memory of its own. The only error is a refused growth.
@@ -54,10 +54,10 @@ impl WaitingLine {
     {
         let mut asks = Vec::with_capacity(alloc, Self::MAX_ASKS)?;
         asks.extend_from_slice(&self.asks).unwrap();
-        Ok(WaitingLine { asks })
+        Ok(AskList { asks })
     }
 
-    /// Those that wait, the one that begins next first.
+    /// Those that it has, the one that was accepted first in front.
     pub fn asks(&self) -> &[Asked]
         ensures asks { result.now ≡ self.now }
         ensures few { length result.now ≤ line_limit }
@@ -65,28 +65,28 @@ impl WaitingLine {
         &self.asks
     }
 
-    /// The one that begins next.
+    /// The one in front.
     pub fn first(&self) -> Option<&Asked>
         ensures { option_map (λ asked. asked.now) result ≡ first_in self.now }
     {
         self.asks.first()
     }
 
-    /// Whether as many wait as may.
+    /// Whether it has as many as it may.
     pub fn is_full(&self) -> bool
         ensures { IsTrue result ↔ (line_limit ≤ length self.now) }
     {
         self.asks.len() == Self::MAX_ASKS
     }
 
-    /// Whether one of the session waits.
+    /// Whether it has one of the session.
     pub fn has_session(&self, session: u64) -> bool
         ensures { result ≡ waiting.has_session session self.now }
     {
         has_session(session, &self.asks)
     }
 
-    /// The own value once all that wait have begun. None where its set would have more than 32 numbers.
+    /// The own value once all of them have begun. None where its set would have more than 32 numbers.
     pub fn last_value(&self, mine: &Value) -> Option<Value>
         ensures fits { IsTrue (is_some result) ↔ HasRoom self.now mine.now }
         ensures value { IfSome result (λ v. v ≡ written_by self.now mine.now) }
@@ -94,7 +94,7 @@ impl WaitingLine {
         last_value(&self.asks, mine)
     }
 
-    /// One more waits, behind the others. It takes no memory.
+    /// One more, behind the others. It takes no memory.
     pub fn push(&mut self, asked: &Asked)
         requires { length self.old < line_limit }
         ensures { self.new ≡ self.old ++ asked.now ∷ [] }
@@ -102,15 +102,11 @@ impl WaitingLine {
         self.asks.extend_from_slice(&[*asked]).unwrap();
     }
 
-    /// The one that begins next, which waits no longer. None where none waits.
-    pub fn take_first(&mut self) -> Option<Asked>
-        ensures some { IfSome result (λ asked. self.old ≡ asked ∷ self.new) }
-        ensures none { result ≡ None → (self.old ≡ []) × (self.new ≡ []) }
+    // None are left.
+    pub(crate) fn clear(&mut self)
+        ensures { self.new ≡ [] }
     {
-        if self.asks.is_empty() {
-            return None;
-        }
-        Some(self.asks.remove(0))
+        self.asks.clear();
     }
 }
 
@@ -120,13 +116,37 @@ fn has_session(session: u64, asks: &[Asked]) -> bool
     asks.iter().any(|asked| session == asked.session)
 }
 
-// Whether no two asks are of one session.
-pub(crate) fn are_apart(asks: &[Asked]) -> bool
+// Whether no two asks of both lists are of one session.
+pub(crate) fn are_apart(asks: &[Asked], more: &[Asked]) -> bool
+    ensures { IsTrue result ↔ AreApart (asks.now ++ more.now) }
+{
+    match asks.split_first() {
+        Some((asked, behind)) => {
+            !has_session(asked.session, behind)
+                && !has_session(asked.session, more)
+                && are_apart(behind, more)
+        }
+        None => all_apart(more),
+    }
+}
+
+fn all_apart(asks: &[Asked]) -> bool
     ensures { IsTrue result ↔ AreApart asks.now }
 {
     match asks.split_first() {
-        Some((asked, behind)) => !has_session(asked.session, behind) && are_apart(behind),
+        Some((asked, behind)) => !has_session(asked.session, behind) && all_apart(behind),
         None => true,
+    }
+}
+
+// How many of them write.
+pub(crate) fn writes_by(asks: &[Asked]) -> u64
+    ensures count { result ≡ waiting.writes_by asks.now }
+    ensures most { result ≤ length asks.now }
+{
+    match asks.split_first() {
+        Some((asked, behind)) => u64::from(is_writing(&asked.command)) + writes_by(behind),
+        None => 0,
     }
 }
 
