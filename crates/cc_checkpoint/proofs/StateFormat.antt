@@ -17,7 +17,7 @@ use Rattle.cc_wire.specs.declared.fault.WireFault.TheVariants.{BadKind, NotAscen
 use Rattle.cc_wire.specs.declared.message.Message.{Message}
 use Rattle.cc_wire.specs.declared.command.Command.{Command}
 use Rattle.cc_wire.specs.declared.answer.Answer.{Answer}
-use Rattle.cc_wire.specs.Reading.{◌>>=◌, Reading, via, byte_at, items_at}
+use Rattle.cc_wire.specs.Reading.{◌>>=◌, Reading, via, nothing_at, byte_at, items_at}
 use Rattle.cc_ops.specs.declared.pending.Asked.{Asked}
 use Rattle.cc_ops.specs.declared.pending.Pending.{Pending}
 use Rattle.cc_ops.specs.Ops.{Phase, Idle, Storing, Querying, StoringBack}
@@ -196,11 +196,17 @@ share_spelled : Spelled share_at IsRoundShare (λ share. share ∷ [])
 unfolding share_at
 share_spelled = as_facts IsRoundShare (λ n h. h.1) (λ n is. (omega (arith, is.most), is)) (tested_as is_no_share (λ n. BadKind n) IsRoundShare is_share share_is byte_spelled)
 
-others_none : Spelled (via (λ _. (1, [])) nothing_at) (λ o. (o.0 ≡ 1) × (o.1 ≡ [])) (λ _. [])
-others_none = as_facts (λ o. (o.0 ≡ 1) × (o.1 ≡ []))
+abbrev no_others : ℕ × List Asked
+no_others = (1, [])
+
+others_none : Spelled (others_at Plain) (λ o. AreOthersOf Plain o.0 o.1) (λ o. others_spelling Plain o.0 o.1)
+others_none = as_facts (λ o. AreOthersOf Plain o.0 o.1)
     (λ o h. (ap (λ (o : ℕ × List Asked). o.0) h, ap (λ (o : ℕ × List Asked). o.1) h))
-    (λ o h. λ i. (h.0 i, h.1 i))
-    (none_spelled (1, []))
+    (λ o h. pair_is o h.0 h.1)
+    (none_spelled no_others)
+  where
+    pair_is : (o : ℕ × List Asked) → o.0 ≡ 1 → o.1 ≡ [] → o ≡ no_others
+    pair_is (share, others) one none = ap (λ (n : ℕ). (n, others)) one ∙ ap (λ (l : List Asked). (1, l)) none
 
 pub others_spelled : (layout : Layout) → Spelled (others_at layout) (λ o. AreOthersOf layout o.0 o.1) (λ o. others_spelling layout o.0 o.1)
 others_spelled Plain = others_none

@@ -1,6 +1,6 @@
 //! A node's state in the parts that it is written in, each of which a piece has room for.
 
-ghost use Rattle.std.specs.Prelude.{◌≡◌, ◌≤◌, ◌<◌, ◌*◌, ◌^◌, ℕ, [], get_or, length};
+ghost use Rattle.std.specs.Prelude.{◌≡◌, ◌≤◌, ◌<◌, ◌+◌, ◌*◌, ◌^◌, ℕ, [], get_or, length};
 ghost use Rattle.std.specs.List.{flat_map};
 ghost use Rattle.cc_ops.specs.Waiting.{line_limit};
 ghost use Rattle.std.specs.FinMap as table;
