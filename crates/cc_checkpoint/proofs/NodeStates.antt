@@ -1,5 +1,5 @@
 -- The node of a state, and the state of a node.
-use Rattle.std.proofs.Common.{◌≡◌, ℕ, ◌+◌, ◌-◌, ◌<◌, ◌≤◌, Bool, true, List, [], ◌∷◌, ◌++◌, length, map, get_or, Some, None, refl, sym, ap, subst, ◌∙◌, arith}
+use Rattle.std.proofs.Common.{◌≡◌, ℕ, ◌+◌, ◌-◌, ◌<◌, ◌≤◌, true, List, [], ◌∷◌, ◌++◌, length, map, get_or, Some, None, refl, sym, ap, subst, ◌∙◌, arith}
 use Rattle.std.specs.Prelude.{Option, IfSome, IsTrue, is_some}
 use Rattle.std.specs.List.{AllByRecursion}
 use Rattle.std.specs.Ordering.{nat_cmp}
@@ -10,14 +10,13 @@ use Rattle.std.proofs.lemmas.List.{length-map}
 use Rattle.cc_views.specs.Entries.{lt_from_cmp, and_left, and_right, from_T, entries_back}
 use Rattle.cc_views.specs.MapLaws.{all_entries}
 use Rattle.cc_wire.specs.declared.message.Message.{Message}
-use Rattle.cc_ops.specs.Ops.{Ops}
-use Rattle.cc_ops.specs.declared.pending.Asked.{Asked}
 use Rattle.cc_outbox.specs.OutboxLaws.{KeepsPosts}
 use Rattle.cc_outbox.specs.Rows.{numbered}
 use Rattle.cc_outbox.proofs.Numbers.{sorted_numbered, find_numbered}
 use Rattle.cc_node.specs.Core.{lowest}
 use Rattle.cc_node.specs.Node.{Node}
 use Rattle.cc_node.specs.Lawful.{IsLawfulNode}
+use Rattle.cc_node.specs.declared.layout.Layout.{Layout}
 use Rattle.cc_node.specs.States.{State, SpellsState, SpellsNode, numbered_to, node_of, state_of}
 use Rattle.cc_wire.proofs.Whole.{one_spelling}
 use Rattle.cc_checkpoint.proofs.StateFormat.{entries_again, state_spelled}
@@ -87,35 +86,19 @@ state_of-node_of s = ap (λ (kept : List Message). with_kept s kept) (values-num
     with_kept : State → List Message → State
     with_kept s kept = record s { tables = record s.tables { kept = kept } }
 
-none_less : (l : List Asked) → length l < 1 → [] ≡ l
-none_less [] few = refl
-none_less (a ∷ l) few = absurd (omega (arith, few))
-
--- at a share of 1 no ask shares the pending round
-alone : (n : Node) → IsLawfulNode n → record n.core.ops { share = 1; others = [] } ≡ n.core.ops
-alone n is =
-    let round = is.core.line.round in
-    let one : 1 ≡ n.core.ops.share = omega (arith, round.some, round.most) in
-    let none : [] ≡ n.core.ops.others = none_less n.core.ops.others (omega (arith, round.few, round.most)) in
-    λ i. record n.core.ops { share = one i; others = none i }
-
 pub node_of-state_of : (n : Node) → IsLawfulNode n → node_of (state_of n) ≡ n
 node_of-state_of n is =
-    ap (λ (o : Ops). record n {
-      core = record n.core { ops = o };
-      outbox = record { last = n.core.posts; posts = numbered_to n.core.posts (table.values n.outbox.posts); answers = n.outbox.answers };
-    }) (alone n is)
-    ∙ ap (λ (last : ℕ). record n { outbox = record { last = last; posts = numbered_to n.core.posts (table.values n.outbox.posts); answers = n.outbox.answers } }) (sym is.last)
+    ap (λ (last : ℕ). record n { outbox = record { last = last; posts = numbered_to n.core.posts (table.values n.outbox.posts); answers = n.outbox.answers } }) (sym is.last)
     ∙ ap (λ (posts : FinMap nat_cmp Message). record n { outbox = record n.outbox { posts = posts } }) (kept_numbered (lowest n.core) n.core.posts n.outbox.posts is.posts)
 
 -- ---- one spelling
 
-pub one_spelling_of_state : (lined : Bool) (a b u w : List ℕ) (x y : State) → SpellsState lined a x → SpellsState lined b y → a ++ u ≡ b ++ w → (x ≡ y) × (a ≡ b)
-one_spelling_of_state lined a b u w x y p q e = one_spelling (state_spelled lined) a b u w x y p.fits q.fits p.spelled q.spelled e
+pub one_spelling_of_state : (layout : Layout) (a b u w : List ℕ) (x y : State) → SpellsState layout a x → SpellsState layout b y → a ++ u ≡ b ++ w → (x ≡ y) × (a ≡ b)
+one_spelling_of_state layout a b u w x y p q e = one_spelling (state_spelled layout) a b u w x y p.fits q.fits p.spelled q.spelled e
 
-pub one_spelling_of_node : (lined : Bool) (a b u w : List ℕ) (x y : Node) → SpellsNode lined a x → SpellsNode lined b y → a ++ u ≡ b ++ w → (x ≡ y) × (a ≡ b)
-one_spelling_of_node lined a b u w x y p q e =
-    let one = one_spelling_of_state lined a b u w (state_of x) (state_of y) p.state q.state e in
+pub one_spelling_of_node : (layout : Layout) (a b u w : List ℕ) (x y : Node) → SpellsNode layout a x → SpellsNode layout b y → a ++ u ≡ b ++ w → (x ≡ y) × (a ≡ b)
+one_spelling_of_node layout a b u w x y p q e =
+    let one = one_spelling_of_state layout a b u w (state_of x) (state_of y) p.state q.state e in
     (sym (node_of-state_of x p.lawful) ∙ ap node_of one.0 ∙ node_of-state_of y q.lawful, one.1)
 
 -- ---- kept posts in turn

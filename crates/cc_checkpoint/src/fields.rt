@@ -31,12 +31,14 @@ pub(crate) struct Entering {
     pub need: u16,
 }
 
-/// How far the pending operation has come, what it stores back (where it stores nothing back, a view without rows), and
-/// the asks that wait behind it.
+/// How far the pending round has come, what it stores back (where it stores nothing back, a view without rows), how many
+/// asks it has at most, those beside its first one, and the asks that wait behind it.
 #[derive(Debug, Drop)]
 pub(crate) struct Round {
     pub stage: Stage,
     pub seen: View,
+    pub share: usize,
+    pub others: AskList,
     pub line: AskList,
 }
 

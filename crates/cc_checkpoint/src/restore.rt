@@ -1,6 +1,6 @@
 //! A node out of the fields of its state.
 
-ghost use Rattle.std.specs.Prelude.{◌≡◌, ◌-◌, ◌≤◌, ◌<◌, ◌^◌, ◌↔◌, [], length, IfOk, IfSome, IsTrue, is_some};
+ghost use Rattle.std.specs.Prelude.{◌≡◌, ◌-◌, ◌≤◌, ◌<◌, ◌^◌, ◌↔◌, length, IfOk, IfSome, IsTrue, is_some};
 ghost use Rattle.std.specs.FinMap as table;
 ghost use Rattle.cc_views.specs.Limits.{counter_limit, known_limit, session_limit};
 ghost use Rattle.cc_views.specs.Tables.{IsRising, table_of};
@@ -10,13 +10,14 @@ ghost use Rattle.cc_outbox.specs.Outbox.{post_limit};
 ghost use Rattle.cc_outbox.specs.Rows as kept_rows;
 ghost use Rattle.cc_ops.specs.Stages.{HasWaiting, WaitsBehind, HasRoom};
 ghost use Rattle.cc_node.specs.Lawful.{IsLawfulNode};
+ghost use Rattle.cc_node.specs.Rounds.{share_limit};
 ghost use Rattle.cc_node.specs.States.{numbered_to, node_of};
 ghost use Rattle.cc_checkpoint.specs.Fields.{round_in, state_in, AreRead, CanBuild};
 
 use crate::fields::{Fields, Membership, Round, Tables, Work};
 use cc_churn::Churn;
 use cc_links::{LinkRow, Links};
-use cc_node::{CoreParts, Node};
+use cc_node::{CoreParts, Node, Opening};
 use cc_ops::{AskList, Ops, Stage};
 use cc_outbox::{KeptAnswer, Outbox};
 use cc_sessions::{SessionRow, Sessions};
@@ -63,7 +64,18 @@ fn can_build(fields: &Fields) -> bool
     if !has_waiting(work.round.stage) {
         return false;
     }
+    if !share_fits(&work.round) {
+        return false;
+    }
     line_fits(&work.round, &work.mine)
+}
+
+// Whether a round may have as many asks, and the pending one has no more.
+fn share_fits(round: &Round) -> bool
+    ensures { IsTrue result ↔ ((1 ≤ round.now.share) × ((round.now.share ≤ share_limit) × (length round.now.others < round.now.share))) }
+{
+    let others = round.others.asks();
+    round.share >= 1 && round.share <= Opening::MAX_SHARE && others.len() < round.share
 }
 
 // Whether asks wait only behind a pending operation, and the own set has room for what they put in.
@@ -134,16 +146,17 @@ fn keep_answers(outbox: &mut Outbox, answers: Vec<KeptAnswer>)
     }
 }
 
-// A state has no place for a share, so it is 1, and no ask shares the pending round.
 fn ops_of(alloc: Global, work: Work) -> Result<Ops, NoMemory>
     requires number { work.number ≤ counter_limit }
     requires tag { work.tag ≤ counter_limit }
     requires waits { HasWaiting work.round.stage }
     requires behind { WaitsBehind work.round.stage work.round.line }
+    requires some { 1 ≤ work.round.share }
+    requires most { work.round.share ≤ share_limit }
+    requires beside { length work.round.others < work.round.share }
     requires room { HasRoom work.round.line work.mine }
-    ensures { IfOk result (λ o. o ≡ record { view = work.view; number = work.number; mine = work.mine; tag = work.tag; share = 1; phase = (round_in work.round).0; others = []; line = (round_in work.round).1 }) }
+    ensures { IfOk result (λ o. o ≡ record { view = work.view; number = work.number; mine = work.mine; tag = work.tag; share = work.round.share; phase = (round_in work.round).0; others = work.round.others; line = work.round.line }) }
 {
-    let others = AskList::new(alloc)?;
     let Work {
         view,
         number,
@@ -152,8 +165,16 @@ fn ops_of(alloc: Global, work: Work) -> Result<Ops, NoMemory>
         round,
         ..
     } = work;
-    let Round { stage, seen, line } = round;
-    Ops::from_parts(alloc, view, number, mine, tag, 1, stage, seen, others, line)
+    let Round {
+        stage,
+        seen,
+        share,
+        others,
+        line,
+    } = round;
+    Ops::from_parts(
+        alloc, view, number, mine, tag, share, stage, seen, others, line,
+    )
 }
 
 // What a node has in tables.

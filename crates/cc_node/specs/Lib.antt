@@ -9,6 +9,7 @@ pub mod Codes
 pub mod Writes
 pub mod Known
 pub mod Lines
+pub mod Layouts
 pub mod States
 pub mod Sides
 pub mod Good

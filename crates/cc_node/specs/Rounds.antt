@@ -2,6 +2,6 @@
 --     share_limit      a share is no greater
 use Rattle.std.specs.Prelude.{ℕ}
 
--- states have no place yet for a share, or for the others of a round
+-- a round comes from the line, which has as many asks
 abbrev pub share_limit : ℕ
-share_limit = 1
+share_limit = 32

@@ -16,7 +16,6 @@ ghost use Rattle.cc_ops.specs.Stages.{HasRoom};
 ghost use Rattle.cc_node.specs.Lawful.{CountsWithin, IsBeside, IsLawfulCore, IsLineOf, IsRoundOf, IsPendingIn, IsPhaseOf, SessionsWithin};
 ghost use Rattle.cc_node.specs.Parts.{core_of, is_link_within, is_request_within, is_last_of};
 
-use crate::opening::Opening;
 use cc_changes::{Changes, Fraction};
 use cc_churn::Churn;
 use cc_links::{LinkRow, Links};
@@ -243,14 +242,12 @@ fn line_fits(sessions: &Sessions, ops: &Ops) -> bool
     round_fits(sessions, ops)
 }
 
-// Whether the share is no greater than one may be, and the others of the pending round are of the kind of its first ask, and
-// each its session's last request. There are fewer than the share.
+// Whether the others of the pending round are of the kind of its first ask, and each its session's last request. There are
+// fewer than the share, which is never too great.
 fn round_fits(sessions: &Sessions, ops: &Ops) -> bool
     ensures { IsTrue result ↔ IsRoundOf sessions.now ops.now.share ops.now.phase ops.now.others }
 {
-    if ops.share() > Opening::MAX_SHARE {
-        return false;
-    }
+    let _ = ops.share();
     if !are_beside(ops, ops.others().asks()) {
         return false;
     }

@@ -3,6 +3,7 @@
 
 mod core_parts;
 mod laws;
+mod layout;
 mod made;
 mod named_nodes;
 mod needs;
@@ -17,6 +18,7 @@ pub use laws::{
     lines_add_nothing, lines_may_grow, no_output_twice, one_spelling_of_records, others_stay,
     own_number_counts_writes, standing_made, view_only_grows,
 };
+pub use layout::Layout;
 pub use made::{LinkAck, Made};
 pub use node::Node;
 pub use node_core::Core;

@@ -39,8 +39,8 @@ pub struct Opening<'a> {
 }
 
 impl Opening<'_> {
-    /// The greatest share. A state has no place yet for the others of a round.
-    pub const MAX_SHARE: usize = 1;
+    /// The greatest share.
+    pub const MAX_SHARE: usize = 32;
 
     // Whether a node can begin so; needs no memory.
     pub(crate) fn is_good(&self) -> bool

@@ -14,6 +14,8 @@ mod records;
 #[cfg(test)]
 mod refusals;
 #[cfg(test)]
+mod shares;
+#[cfg(test)]
 mod states;
 #[cfg(test)]
 mod windows;

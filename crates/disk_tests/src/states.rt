@@ -3,7 +3,7 @@
 use crate::refusals::unless_failed;
 use cc_changes::Fraction;
 use cc_checkpoint::{OpenFault, StateFault, decode_state, encode_state};
-use cc_node::{Node, Opening};
+use cc_node::{Layout, Node, Opening};
 use cc_site::{Call, DeviceFault, Side};
 use cc_views::NodeId;
 use cc_wire::{Command, Event, WireFault};
@@ -82,7 +82,7 @@ pub(crate) fn encoded(alloc: Global, node: &Node) -> Result<Vec<u8>, Fail> {
 }
 
 fn decoded(alloc: Global, bytes: &[u8]) -> Result<Node, Fail> {
-    Ok(decode_state(alloc, bytes, true)?)
+    Ok(decode_state(alloc, bytes, Layout::Lined)?)
 }
 
 // The state of the node that the bytes are decoded to.
@@ -94,7 +94,7 @@ fn stored_again(alloc: Global, bytes: &[u8]) -> Result<Vec<u8>, Fail> {
 }
 
 fn fault(alloc: Global, bytes: &[u8]) -> Option<StateFault> {
-    match decode_state(alloc, bytes, true) {
+    match decode_state(alloc, bytes, Layout::Lined) {
         Ok(node) => {
             drop(node);
             None
@@ -175,7 +175,7 @@ fn without_line(alloc: Global, bytes: &[u8]) -> Result<Vec<u8>, Fail> {
 
 // The state of the node whose state these bytes of version 1 are.
 fn from_version_1(alloc: Global, bytes: &[u8]) -> Result<Vec<u8>, Fail> {
-    let node = decode_state(alloc, bytes, false)?;
+    let node = decode_state(alloc, bytes, Layout::Plain)?;
     let state = encoded(alloc, &node);
     drop(node);
     state
