@@ -75,8 +75,8 @@ failing-calls:
 # does fewer.
 KILLS = 1000
 kill-files:
-	@$(BUILD) ccnode file_writer
-	@bash tools/kill_files.sh crates/file_writer/out/file_writer crates/ccnode/out/ccnode $(KILLS)
+	@$(BUILD) ccnode cc_bench
+	@bash tools/kill_files.sh crates/cc_bench/out/cc_bench crates/ccnode/out/ccnode $(KILLS)
 
 # Runs three nodes on loopback, asks each, kills one, asks on, starts it again, and shows that all three collect the
 # same. It takes a few seconds, once the program is built, and ends all that it started.

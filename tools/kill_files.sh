@@ -2,9 +2,9 @@
 # Kills a node that writes on two files, again and again, each time at a random moment, and opens it again: it must have
 # all events that it told durable, and at most the one that it hadn't told yet. Prints counts, and ends with status 1 at
 # the first node that has too few or too many.
-#     kill_files.sh FILE_WRITER CCNODE KILLS
+#     kill_files.sh CC_BENCH CCNODE KILLS
 set -eu
-writer=$(realpath "$1") ccnode=$(realpath "$2") kills=$3
+bench=$(realpath "$1") ccnode=$(realpath "$2") kills=$3
 folder=$(mktemp -d)
 trap 'rm -rf "$folder"' EXIT
 mkdir "$folder/node"
@@ -19,7 +19,7 @@ durable=0 opened=0 ahead=0 idle=0
 for ((kill = 1; kill <= kills; kill++)); do
     # Whoever is killed early enough has not even emptied it.
     : > "$folder/told"
-    "$writer" "$folder/node" > "$folder/told" &
+    "$bench" write "$folder/node" > "$folder/told" &
     pid=$!
     sleep "0.0$((RANDOM % 9))$((RANDOM % 10))"
     kill -9 "$pid"

@@ -89,10 +89,135 @@ Prints `retired 3`, also where it was retired before or has left, and where the 
 that is asked has left itself; else `refused` and why, or `no answer`. Statuses: 0
 retired, 1 not, 2 after a command line that it doesn't take.";
 
+// A subcommand: its name, what it does, its words in their order, and what its help ends with.
+struct Subcommand {
+    name: &'static str,
+    about: &'static str,
+    words: &'static [Word],
+    help: &'static str,
+}
+
+// A word of a subcommand, and its help.
+#[derive(Clone, Copy)]
+enum Word {
+    // One without which no command line is taken, by its place.
+    Needed(&'static str, &'static str),
+    // One that may be left out, by its place.
+    Spared(&'static str, &'static str),
+    // An option without which no command line is taken, and what its value is called.
+    NeededOption(&'static str, &'static str, &'static str),
+    // An option, and what its value is called.
+    Option(&'static str, &'static str, &'static str),
+}
+
+const FOLDER: Word = Word::Needed("DIR", "The node's folder, which has to exist");
+
+const ADDRESS: Word = Word::Needed("ADDR", "Where the node listens, such as 127.0.0.1:7001");
+
+const PLAY: Subcommand = Subcommand {
+    name: "play",
+    about: "Plays the script on standard input over a cluster in memory",
+    words: &[],
+    help: PLAY_HELP,
+};
+
+const FORMAT: Subcommand = Subcommand {
+    name: "format",
+    about: "Makes a folder keep a node as it begins",
+    words: &[
+        FOLDER,
+        Word::Needed("ID", "The node's number, 1 or more"),
+        Word::Option(
+            "initial",
+            "LIST",
+            "The members at the start [default: none, for a node that enters later]",
+        ),
+        Word::Option(
+            "contacts",
+            "LIST",
+            "Whom an entering node can reach: all living members [default: none]",
+        ),
+        Word::Option(
+            "beta",
+            "N/D",
+            "The share of the members whose answers an operation waits for [default: 4/5]",
+        ),
+        Word::Option(
+            "gamma",
+            "N/D",
+            "The share of those present whose echoes an entering node waits for [default: 4/5]",
+        ),
+    ],
+    help: FORMAT_HELP,
+};
+
+const RUN: Subcommand = Subcommand {
+    name: "run",
+    about: "Runs a node over TCP",
+    words: &[
+        FOLDER,
+        Word::NeededOption(
+            "listen",
+            "ADDR",
+            "Where it listens: an IPv4 address and a port",
+        ),
+        Word::Option(
+            "peers",
+            "ID=ADDR,..",
+            "Where the other nodes listen [default: none]",
+        ),
+    ],
+    help: RUN_HELP,
+};
+
+const ASK: Subcommand = Subcommand {
+    name: "ask",
+    about: "Has a node do something, and prints its answer",
+    words: &[
+        ADDRESS,
+        Word::Needed(
+            "SESSION",
+            "The client's session: a number of its own. A node serves 256 of them in its life",
+        ),
+        Word::Needed("COMMAND", "What is to be done, as below"),
+        Word::Spared("VALUE", "The word that some commands have"),
+        Word::Option("timeout", "SECONDS", "How long it waits [default: 10]"),
+    ],
+    help: ASK_HELP,
+};
+
+const LEAVE: Subcommand = Subcommand {
+    name: "leave",
+    about: "Has a node leave the cluster for good",
+    words: &[ADDRESS],
+    help: LEAVE_HELP,
+};
+
+const RETIRE: Subcommand = Subcommand {
+    name: "retire",
+    about: "Tells a node that another one is dead for good",
+    words: &[
+        ADDRESS,
+        Word::Needed("ID", "The number of the node that is dead for good"),
+    ],
+    help: RETIRE_HELP,
+};
+
+const DUMP: Subcommand = Subcommand {
+    name: "dump",
+    about: "Tells what stands in a node's folder",
+    words: &[FOLDER],
+    help: DUMP_HELP,
+};
+
+const SUBCOMMANDS: [Subcommand; 7] = [PLAY, FORMAT, RUN, ASK, LEAVE, RETIRE, DUMP];
+
 /// The program's subcommands and their words. The help has the program's own name, whatever its file is called.
 pub fn command_line<'a>(alloc: Global) -> Result<Command<'a>, AllocError> {
     let mut subcommands = Vec::new(alloc);
-    push_subcommands(alloc, &mut subcommands)?;
+    for subcommand in &SUBCOMMANDS {
+        subcommands.push(command_of(alloc, subcommand)?)?;
+    }
     Command::new(alloc, "ccnode")
         .about("A durable node of a store-collect cluster")
         .version(VERSION)
@@ -101,121 +226,26 @@ pub fn command_line<'a>(alloc: Global) -> Result<Command<'a>, AllocError> {
         .subcommands(subcommands)
 }
 
-fn push_subcommands<'a>(
-    alloc: Global,
-    subcommands: &mut Vec<Command<'a>>,
-) -> Result<(), AllocError> {
-    push(subcommands, Ok(player(alloc)))?;
-    push(subcommands, formatter(alloc))?;
-    push(subcommands, runner(alloc))?;
-    push(subcommands, asker(alloc))?;
-    push(subcommands, leaver(alloc))?;
-    push(subcommands, retirer(alloc))?;
-    push(subcommands, dumper(alloc))
-}
-
-fn push<'a>(
-    subcommands: &mut Vec<Command<'a>>,
-    subcommand: Result<Command<'a>, AllocError>,
-) -> Result<(), AllocError> {
-    subcommands.push(subcommand?)?;
-    Ok(())
-}
-
-fn player<'a>(alloc: Global) -> Command<'a> {
-    Command::new(alloc, "play")
-        .about("Plays the script on standard input over a cluster in memory")
-        .after_help(PLAY_HELP)
-}
-
-fn formatter<'a>(alloc: Global) -> Result<Command<'a>, AllocError> {
-    let args = vec![in alloc;
-        folder(alloc),
-        required(alloc, "ID").help("The node's number, 1 or more"),
-        option(alloc, "initial", "LIST").help(
-            "The members at the start [default: none, for a node that enters later]",
-        ),
-        option(alloc, "contacts", "LIST").help(
-            "Whom an entering node can reach: all living members [default: none]",
-        ),
-        option(alloc, "beta", "N/D").help(
-            "The share of the members whose answers an operation waits for [default: 4/5]",
-        ),
-        option(alloc, "gamma", "N/D").help(
-            "The share of those present whose echoes an entering node waits for [default: 4/5]",
-        ),
-    ]?;
-    Command::new(alloc, "format")
-        .about("Makes a folder keep a node as it begins")
-        .after_help(FORMAT_HELP)
+fn command_of<'a>(alloc: Global, subcommand: &Subcommand) -> Result<Command<'a>, AllocError> {
+    let mut args = Vec::new(alloc);
+    for word in subcommand.words {
+        args.push(arg_of(alloc, word))?;
+    }
+    Command::new(alloc, subcommand.name)
+        .about(subcommand.about)
+        .after_help(subcommand.help)
         .args(args)
 }
 
-fn runner<'a>(alloc: Global) -> Result<Command<'a>, AllocError> {
-    let args = vec![in alloc;
-        folder(alloc),
-        option(alloc, "listen", "ADDR")
-            .required(true)
-            .help("Where it listens: an IPv4 address and a port"),
-        option(alloc, "peers", "ID=ADDR,..").help("Where the other nodes listen [default: none]"),
-    ]?;
-    Command::new(alloc, "run")
-        .about("Runs a node over TCP")
-        .after_help(RUN_HELP)
-        .args(args)
-}
-
-fn asker<'a>(alloc: Global) -> Result<Command<'a>, AllocError> {
-    let args = vec![in alloc;
-        address(alloc),
-        required(alloc, "SESSION").help(
-            "The client's session: a number of its own. A node serves 256 of them in its life",
-        ),
-        required(alloc, "COMMAND").help("What is to be done, as below"),
-        Arg::new(alloc, "VALUE").help("The word that some commands have"),
-        option(alloc, "timeout", "SECONDS").help("How long it waits [default: 10]"),
-    ]?;
-    Command::new(alloc, "ask")
-        .about("Has a node do something, and prints its answer")
-        .after_help(ASK_HELP)
-        .args(args)
-}
-
-fn leaver<'a>(alloc: Global) -> Result<Command<'a>, AllocError> {
-    Command::new(alloc, "leave")
-        .about("Has a node leave the cluster for good")
-        .after_help(LEAVE_HELP)
-        .arg(address(alloc))
-}
-
-fn retirer<'a>(alloc: Global) -> Result<Command<'a>, AllocError> {
-    let args = vec![in alloc;
-        address(alloc),
-        required(alloc, "ID").help("The number of the node that is dead for good"),
-    ]?;
-    Command::new(alloc, "retire")
-        .about("Tells a node that another one is dead for good")
-        .after_help(RETIRE_HELP)
-        .args(args)
-}
-
-fn dumper<'a>(alloc: Global) -> Result<Command<'a>, AllocError> {
-    Command::new(alloc, "dump")
-        .about("Tells what stands in a node's folder")
-        .after_help(DUMP_HELP)
-        .arg(folder(alloc))
-}
-
-fn folder<'a>(alloc: Global) -> Arg<'a> {
-    required(alloc, "DIR").help("The node's folder, which has to exist")
-}
-
-fn address<'a>(alloc: Global) -> Arg<'a> {
-    required(alloc, "ADDR").help("Where the node listens, such as 127.0.0.1:7001")
-}
-
-fn required<'a>(alloc: Global, name: &'a str) -> Arg<'a> {
-    Arg::new(alloc, name).required(true)
+fn arg_of<'a>(alloc: Global, word: &Word) -> Arg<'a> {
+    match word {
+        Word::Needed(name, help) => Arg::new(alloc, name).required(true).help(help),
+        Word::Spared(name, help) => Arg::new(alloc, name).help(help),
+        Word::NeededOption(name, value, help) => {
+            option(alloc, name, value).required(true).help(help)
+        }
+        Word::Option(name, value, help) => option(alloc, name, value).help(help),
+    }
 }
 
 fn option<'a>(alloc: Global, name: &'a str, value: &'a str) -> Arg<'a> {

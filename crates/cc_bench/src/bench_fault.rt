@@ -9,7 +9,7 @@ use std::alloc::{AllocError, AllocFailed};
 use std::io;
 use thiserror::Error;
 
-/// What ends a timing.
+/// What ends a timing, or the writer before it is killed.
 #[derive(Debug, Drop, Error)]
 pub enum BenchFault {
     #[error("the site can't be formatted: {0}")]
@@ -22,6 +22,8 @@ pub enum BenchFault {
     Checkpoint(CheckpointFault),
     #[error("the node refuses an event")]
     Refused,
+    #[error("the node isn't one that this program has written")]
+    Foreign,
     #[error("a batch or a side is full")]
     Full,
     #[error("the clock or a file can't be used")]
@@ -67,7 +69,8 @@ impl From<Refusal> for BenchFault {
 
 /// An entry that a batch gives back.
 impl From<Entry> for BenchFault {
-    fn from(_e: Entry) -> BenchFault {
+    fn from(entry: Entry) -> BenchFault {
+        drop(entry);
         BenchFault::Full
     }
 }

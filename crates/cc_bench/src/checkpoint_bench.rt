@@ -2,9 +2,10 @@
 
 ghost use Rattle.std.specs.Prelude.{◌≡◌, false, OnOk};
 
-use crate::bench::{Kind, delivery};
 use crate::bench_fault::BenchFault;
-use crate::engine_bench::{Hundredths, acknowledgements, copies, opened, run};
+use crate::engine_bench::{Hundredths, opened, run};
+use crate::events::{Kind, acknowledgements, copies, delivery};
+use cc_checkpoint::OpenFault;
 use cc_flush::{Back, Flusher};
 use cc_journal::Batch;
 use cc_node::Core;
@@ -127,7 +128,9 @@ fn deliveries(
     count: u64,
 ) -> Result<Vec<Event>, BenchFault> {
     let event = delivery(alloc, live, kind)?;
-    copies(alloc, live, &event, count)
+    let copies = copies(alloc, live, &event, count);
+    drop(event);
+    copies
 }
 
 // What was timed so often, and how long that took altogether.
@@ -213,13 +216,25 @@ fn reopen<S: Site + Drop, C: Clock>(
     site: S,
 ) -> Result<(S, Duration), BenchFault> {
     let start = Instant::now(clock)?;
-    match Flusher::open(alloc, site) {
-        Ok((engine, _core)) => {
-            let time = start.elapsed(clock);
-            let site = engine.close();
-            Ok((site, time?))
+    let opened = Flusher::open(alloc, site);
+    let time = start.elapsed(clock);
+    let site = closed(opened)?;
+    Ok((site, time?))
+}
+
+// The site that was opened.
+fn closed<S: Site + Drop>(
+    opened: Result<(Flusher<S>, Core), Back<S, OpenFault>>,
+) -> Result<S, BenchFault> {
+    match opened {
+        Ok((engine, core)) => {
+            drop(core);
+            Ok(engine.close())
         }
-        Err(Back { site: _, fault }) => Err(BenchFault::Open(fault)),
+        Err(Back { site, fault }) => {
+            drop(site);
+            Err(BenchFault::Open(fault))
+        }
     }
 }
 

@@ -4,8 +4,8 @@ ghost use Rattle.std.specs.Prelude.{◌≡◌, ◌≤◌, [], false, length, OnO
 ghost use Rattle.cc_node.specs.Node.{after};
 ghost use Rattle.cc_journal.specs.Batches.{AreLawful, events_in};
 
-use crate::bench::{Kind, delivery, first_of};
 use crate::bench_fault::BenchFault;
+use crate::events::{Kind, acknowledgements, copies, delivery, first_of, members};
 use cc_flush::{Back, Flusher, format};
 use cc_journal::{Batch, Entry};
 use cc_node::Core;
@@ -106,7 +106,10 @@ pub fn engine_times<S: Site + Drop, C: Clock + CpuClock>(
     load: EngineLoad,
 ) -> Result<EngineTimes, BenchFault> {
     let (mut engine, mut live) = opened(alloc, site, load.nodes)?;
-    first_rounds(clock, alloc, &mut engine, &mut live, load)
+    let outcome = first_rounds(clock, alloc, &mut engine, &mut live, load);
+    drop(live);
+    drop(engine);
+    outcome
 }
 
 // What a store takes in an engine that nothing was given yet.
@@ -121,7 +124,9 @@ fn first_rounds<S: Site + Drop, C: Clock + CpuClock>(
     requires live { live.old ≡ engine.old.twin.core }
 {
     let store = delivery(alloc, live, Kind::Store)?;
-    rounds(clock, alloc, engine, live, &store, load)
+    let outcome = rounds(clock, alloc, engine, live, &store, load);
+    drop(store);
+    outcome
 }
 
 fn rounds<S: Site + Drop, C: Clock + CpuClock>(
@@ -190,48 +195,23 @@ pub fn opened<S: Site + Drop>(
     let site = formatted(alloc, site, nodes)?;
     match Flusher::open(alloc, site) {
         Ok(opened) => Ok(opened),
-        Err(Back { site: _, fault }) => Err(BenchFault::Open(fault)),
+        Err(Back { site, fault }) => {
+            drop(site);
+            Err(BenchFault::Open(fault))
+        }
     }
 }
 
 // The site as the first of so many members begins on it.
 fn formatted<S: Site + Drop>(alloc: Global, site: S, nodes: u32) -> Result<S, BenchFault> {
-    let ids: Vec<u32> = (1..nodes.saturating_add(1)).collect(alloc)?;
+    let ids = members(alloc, nodes)?;
     match format(alloc, site, &first_of(&ids)) {
         Ok(site) => Ok(site),
-        Err(Back { site: _, fault }) => Err(BenchFault::Format(fault)),
-    }
-}
-
-/// So many copies of a message that the node gets from itself, under the next numbers.
-pub fn copies(
-    alloc: Global,
-    live: &Core,
-    delivery: &Event,
-    count: u64,
-) -> Result<Vec<Event>, BenchFault> {
-    let heard = live.heard(live.me());
-    let mut events = Vec::new(alloc);
-    for i in 0..count {
-        let mut event = delivery.copy(alloc)?;
-        if let Event::Deliver { number, .. } = &mut event {
-            *number = heard.saturating_add(i + 1);
+        Err(Back { site, fault }) => {
+            drop(site);
+            Err(BenchFault::Format(fault))
         }
-        events.push(event)?;
     }
-    Ok(events)
-}
-
-/// Each peer acknowledges all posts so far.
-pub fn acknowledgements(alloc: Global, live: &Core) -> Result<Vec<Event>, BenchFault> {
-    let mut events = Vec::new(alloc);
-    for link in live.links().rows() {
-        events.push(Event::Acked {
-            peer: link.peer,
-            number: live.posts(),
-        })?;
-    }
-    Ok(events)
 }
 
 /// Takes events in batches of so many, the last of which may be shorter. The live core is a batch ahead of the engine.

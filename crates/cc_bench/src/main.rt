@@ -1,21 +1,31 @@
-//! Times a node in memory, and an engine over memory and over files.
+//! What is run by hand beside the product: timings of a node in memory, and of an engine over memory and over files, and a
+//! node that writes in a folder until it is killed.
 #![tactic(auto)]
 
-mod bench;
 mod bench_fault;
 mod checkpoint_bench;
 mod disk_bench;
 mod engine_bench;
+mod event_bench;
+mod events;
+mod writer;
 
-use bench::{Kind, event_nanoseconds};
 use cc_site::MemorySite;
 use checkpoint_bench::{MovedNode, checkpoint_times};
-use clap::{ArgMatches, Command};
 use disk_bench::{FOLDER, new_sides, plain_sync_nanoseconds, site_sync_nanoseconds};
 use engine_bench::{EngineLoad, Hundredths, ROUND, SECOND, engine_times};
-use std::alloc::{AllocError, Global};
+use event_bench::event_nanoseconds;
+use events::Kind;
 use std::fs;
 use std::process::ExitCode;
+use writer::write_on_folder;
+
+const USAGE: &str = "\
+usage: cc_bench events         how long a node in memory takes for an event
+       cc_bench engine         how long the engine takes for a store, in memory and on files
+       cc_bench checkpoints    how long a checkpoint and an opening take, in memory and on files
+       cc_bench write DIR      writes until it is killed, in a folder that
+                               `ccnode format DIR 1 --initial 1` made";
 
 // The command line isn't as it should be.
 const BAD_COMMAND_LINE: u8 = 2;
@@ -25,72 +35,34 @@ const SHORT_STORES: u64 = 102_400;
 
 const LONG_STORES: u64 = 25_600;
 
-// What is timed.
-#[derive(Clone, Copy)]
-enum Timing {
-    Events,
-    Engine,
-    Checkpoints,
-}
-
 fn main(rt: HostRuntime) -> anyhow::Result<ExitCode> {
     let words: Vec<String> = std::env::args(&rt)?.collect(rt.alloc())?;
-    obey(&rt, &words)
-}
-
-// Does what the words of a command line ask for.
-fn obey(rt: &HostRuntime, words: &[String]) -> anyhow::Result<ExitCode> {
-    match parse(rt.alloc(), words) {
-        Ok(timing) => print_timing(rt, timing),
-        Err(error) => print_error(rt, &error),
-    }
-}
-
-fn parse(alloc: Global, words: &[String]) -> Result<Timing, clap::Error> {
-    let command = command_line(alloc)?;
-    let matches = command.try_get_matches_from(words)?;
-    Ok(timing_of(&matches))
-}
-
-fn timing_of(matches: &ArgMatches<'_>) -> Timing {
-    match matches.subcommand_name() {
-        Some("engine") => Timing::Engine,
-        Some("checkpoints") => Timing::Checkpoints,
-        _ => Timing::Events,
-    }
-}
-
-// The help has the program's own name, whatever its file is called.
-fn command_line<'a>(alloc: Global) -> Result<Command<'a>, AllocError> {
-    let command = Command::new(alloc, "cc_bench")
-        .about("Times the node and the engine of a store-collect cluster")
-        .subcommand_required(true)
-        .bin_name("cc_bench")?;
-    let command = command.subcommand(Command::new(alloc, "events").about(
-        "Prints how long a node in memory takes for an event",
-    ))?;
-    let command = command.subcommand(Command::new(alloc, "engine").about(
-        "Prints how long the engine takes for a store, in memory and on files",
-    ))?;
-    command.subcommand(Command::new(alloc, "checkpoints").about(
-        "Prints how long a checkpoint and an opening take, in memory and on files",
-    ))
-}
-
-// Prints the help that was asked for, or what is wrong with the command line.
-fn print_error(rt: &HostRuntime, error: &clap::Error) -> anyhow::Result<ExitCode> {
-    error.print(rt)?;
-    let is_help = error.exit_code() == 0;
-    Ok(ExitCode::from(if is_help { 0 } else { BAD_COMMAND_LINE }))
-}
-
-fn print_timing(rt: &HostRuntime, timing: Timing) -> anyhow::Result<ExitCode> {
-    match timing {
-        Timing::Events => print_times(rt)?,
-        Timing::Engine => print_engine_times(rt)?,
-        Timing::Checkpoints => print_checkpoint_times(rt)?,
+    let (word, folder) = (word_at(&words, 1), word_at(&words, 2));
+    if !obey(&rt, word, folder)? {
+        println!(rt; "{USAGE}")?;
+        return Ok(ExitCode::from(BAD_COMMAND_LINE));
     }
     Ok(ExitCode::SUCCESS)
+}
+
+// A word of the command line. Empty where there is none.
+fn word_at(words: &[String], place: usize) -> &str {
+    match words.get(place) {
+        Some(word) => word.as_str(),
+        None => "",
+    }
+}
+
+// Does what the words of a command line ask for. False where they ask for nothing that there is.
+fn obey(rt: &HostRuntime, word: &str, folder: &str) -> anyhow::Result<bool> {
+    match word {
+        "events" => print_times(rt)?,
+        "engine" => print_engine_times(rt)?,
+        "checkpoints" => print_checkpoint_times(rt)?,
+        "write" => write_on_folder(rt, folder)?,
+        _ => return Ok(false),
+    }
+    Ok(true)
 }
 
 // For stores and queries, in clusters of 16 and of 256 nodes, in a short history and in a long one.

@@ -3,8 +3,9 @@
 ghost use Rattle.std.specs.Prelude.{◌≡◌, ◌≤◌, false, length, IfOk, OnOk};
 ghost use Rattle.cc_journal.specs.Batches.{AreLawful};
 
-use crate::writer_fault::WriterFault;
-use cc_flush::Flusher;
+use crate::bench_fault::BenchFault;
+use cc_files::{FileSite, NoOutlet};
+use cc_flush::{Back, Flusher};
 use cc_journal::{Batch, Entry};
 use cc_node::{Core, Node};
 use cc_site::Site;
@@ -30,10 +31,10 @@ fn acked(core: &Core, me: NodeId) -> u64 {
     acked
 }
 
-/// How many events a node has taken in that was never given anything but these, in this order, again and again: an ask of
-/// a store, the two messages that it makes, as they come back, and the acknowledgement of both. The first and the fourth
-/// make or acknowledge what the other two bring back one by one, so each is told by the counts of all three.
-pub fn taken(core: &Core) -> u64 {
+// How many events a node has taken in that was never given anything but these, in this order, again and again: an ask of
+// a store, the two messages that it makes, as they come back, and the acknowledgement of both. The first and the fourth
+// make or acknowledge what the other two bring back one by one, so each is told by the counts of all three.
+fn taken(core: &Core) -> u64 {
     let me = core.me();
     let moved = core
         .posts()
@@ -43,7 +44,7 @@ pub fn taken(core: &Core) -> u64 {
 }
 
 // The event that comes next.
-fn next_event(alloc: Global, node: &Node) -> Result<Event, WriterFault> {
+fn next_event(alloc: Global, node: &Node) -> Result<Event, BenchFault> {
     let core = node.core();
     match taken(core) % 4 {
         0 => next_ask(core),
@@ -55,8 +56,8 @@ fn next_event(alloc: Global, node: &Node) -> Result<Event, WriterFault> {
     }
 }
 
-fn next_ask(core: &Core) -> Result<Event, WriterFault> {
-    let text = Text::new(b"written").ok_or(WriterFault::Foreign)?;
+fn next_ask(core: &Core) -> Result<Event, BenchFault> {
+    let text = Text::new(b"written").ok_or(BenchFault::Foreign)?;
     Ok(Event::Ask {
         session: 1,
         request: core.ops().number().saturating_add(1),
@@ -64,10 +65,10 @@ fn next_ask(core: &Core) -> Result<Event, WriterFault> {
     })
 }
 
-fn next_delivery(alloc: Global, node: &Node) -> Result<Event, WriterFault> {
+fn next_delivery(alloc: Global, node: &Node) -> Result<Event, BenchFault> {
     let from = node.me();
     let number = node.heard(from).saturating_add(1);
-    let post = node.outbox().post(number).ok_or(WriterFault::Foreign)?;
+    let post = node.outbox().post(number).ok_or(BenchFault::Foreign)?;
     Ok(Event::Deliver {
         from,
         number,
@@ -75,7 +76,7 @@ fn next_delivery(alloc: Global, node: &Node) -> Result<Event, WriterFault> {
     })
 }
 
-fn next_batch(alloc: Global, node: &Node) -> Result<Batch, WriterFault>
+fn next_batch(alloc: Global, node: &Node) -> Result<Batch, BenchFault>
     ensures lawful { IfOk result (AreLawful node.now) }
     ensures some { IfOk result (λ b. 1 ≤ length b) }
 {
@@ -84,25 +85,25 @@ fn next_batch(alloc: Global, node: &Node) -> Result<Batch, WriterFault>
 }
 
 // Makes the next event durable. How many have been taken in by then.
-fn take_next<S: Site + Drop>(alloc: Global, engine: &mut Flusher<S>) -> Result<u64, WriterFault>
+fn take_next<S: Site + Drop>(alloc: Global, engine: &mut Flusher<S>) -> Result<u64, BenchFault>
     requires { engine.old.owes ≡ false }
     ensures { OnOk result (engine.new.owes ≡ false) }
 {
     if !engine.room() {
-        return Err(WriterFault::Full);
+        return Err(BenchFault::Full);
     }
     let batch = next_batch(alloc, engine.twin())?;
     engine.flush(batch)?;
     Ok(taken(engine.twin().core()))
 }
 
-/// Tells how many events the node has, and then takes in one after the other, each in a batch of its own. After each it
-/// tells how many are durable. Now and then comes a checkpoint, behind which the engine goes on on the other side.
-pub fn write_on<S: Site + Drop, W: Write>(
+// Tells how many events the node has, and then takes in one after the other, each in a batch of its own. After each it
+// tells how many are durable. Now and then comes a checkpoint, behind which the engine goes on on the other side.
+fn write_on<S: Site + Drop, W: Write>(
     alloc: Global,
     engine: &mut Flusher<S>,
     output: &mut W,
-) -> Result<(), WriterFault>
+) -> Result<(), BenchFault>
     requires { engine.old.owes ≡ false }
 {
     writeln!(output, "opened {}", taken(engine.twin().core()))?;
@@ -114,4 +115,28 @@ pub fn write_on<S: Site + Drop, W: Write>(
         }
     }
     Ok(())
+}
+
+/// Opens the node in a folder and writes on it until it is killed: `make kill-files` does so a thousand times.
+pub fn write_on_folder(rt: &HostRuntime, folder: &str) -> Result<(), BenchFault> {
+    let mut engine = opened(rt, folder)?;
+    let outcome = write_on(rt.alloc(), &mut engine, &mut rt.stdout());
+    drop(engine);
+    outcome
+}
+
+fn opened(rt: &HostRuntime, folder: &str) -> Result<Flusher<FileSite<NoOutlet>>, BenchFault>
+    ensures { IfOk result (λ engine. engine.owes ≡ false) }
+{
+    let site = FileSite::open(rt, rt.alloc(), folder, NoOutlet)?;
+    match Flusher::open(rt.alloc(), site) {
+        Ok((engine, core)) => {
+            drop(core);
+            Ok(engine)
+        }
+        Err(Back { site, fault }) => {
+            drop(site);
+            Err(BenchFault::Open(fault))
+        }
+    }
 }

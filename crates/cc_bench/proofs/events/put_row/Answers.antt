@@ -4,7 +4,7 @@ use Rattle.std.proofs.lemmas.List.{length-map}
 use Rattle.cc_views.specs.Rows.{row_of}
 use Rattle.cc_views.specs.MergeLaws.{merge_row_is_no_larger}
 use Rattle.cc_views.specs.declared.row.Row.{Row}
-use Rattle.cc_bench.proofs.bench.put_row.Goals as goal
+use Rattle.cc_bench.proofs.events.put_row.Goals as goal
 
 pub merge_row-requires : goal.merge_row-requires
 merge_row-requires c =
