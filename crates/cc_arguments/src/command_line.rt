@@ -147,6 +147,11 @@ const FORMAT: Subcommand = Subcommand {
             "N/D",
             "The share of those present whose echoes an entering node waits for [default: 4/5]",
         ),
+        Word::Option(
+            "share",
+            "N",
+            "How many asks that wait begin together at most, 1 to 32 [default: 1]",
+        ),
     ],
     help: FORMAT_HELP,
 };
