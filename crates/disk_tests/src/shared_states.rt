@@ -315,24 +315,23 @@ fn last_ack() -> Result<Event, Fail> {
     })
 }
 
-// What the node near the limit says to it, and its own number then.
-fn ended(alloc: Global, node: &mut Node) -> Result<(Option<Refusal>, u64), Fail> {
+// What the node near the limit says to it, its own number then, and what it is on a side.
+fn ended(alloc: Global, node: &mut Node) -> Result<(Option<Refusal>, u64, Vec<u8>), Fail> {
     let ack = last_ack()?;
     let refusal = node.core().decide(&ack).err();
     if refusal.is_none() {
         take(alloc, node, ack)?;
     }
-    Ok((refusal, node.core().ops().number()))
+    let side = side_of(alloc, node, 1)?;
+    Ok((refusal, node.core().ops().number(), side))
 }
 
-// The same of the node on a side, which is then on it like that.
+// The same of the node on a side.
 fn ended_on(alloc: Global, side: &[u8]) -> Result<(Option<Refusal>, u64, Vec<u8>), Fail> {
     let (mut node, _) = node_on(alloc, side)?;
     let told = ended(alloc, &mut node);
-    let after = side_of(alloc, &node, 1);
     drop(node);
-    let (refusal, number) = told?;
-    Ok((refusal, number, after?))
+    told
 }
 
 // Two that would begin together raise the own number past its limit.
