@@ -21,7 +21,7 @@ const SEATS: u64 = 256;
 // How many peers that are furthest behind are known by name.
 const MOST_FURTHEST: usize = 256;
 
-// How many asks of a node aren't answered at most: those of the pending round, and those that wait behind it.
+// How many asks of a node aren't answered at most: the 32 of a round, and the 32 that wait behind it.
 const MOST_UNANSWERED: usize = 64;
 
 /// Why an event got no seat.

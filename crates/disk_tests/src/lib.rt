@@ -14,7 +14,7 @@ mod records;
 #[cfg(test)]
 mod refusals;
 #[cfg(test)]
-mod shares;
+mod shared_states;
 #[cfg(test)]
 mod states;
 #[cfg(test)]

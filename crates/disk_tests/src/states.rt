@@ -62,14 +62,25 @@ pub(crate) fn opened(
     initial: &[u32],
     contacts: &[u32],
 ) -> Result<Node, Fail> {
-    let share = Fraction { num: 4, den: 5 };
+    opened_with_share(alloc, me, initial, contacts, 1)
+}
+
+/// A node of that share.
+pub(crate) fn opened_with_share(
+    alloc: Global,
+    me: u32,
+    initial: &[u32],
+    contacts: &[u32],
+    share: usize,
+) -> Result<Node, Fail> {
+    let most = Fraction { num: 4, den: 5 };
     let opening = Opening {
         me,
         initial,
         contacts,
-        beta: share,
-        gamma: share,
-        share: 1,
+        beta: most,
+        gamma: most,
+        share,
     };
     Ok(Node::fresh(alloc, &opening)?)
 }
@@ -114,8 +125,8 @@ pub(crate) fn led_to(node: Node, done: Result<(), Fail>) -> Result<Node, Fail> {
     }
 }
 
-// The bytes, with another one at that place.
-fn turned(alloc: Global, bytes: &[u8], at: usize, byte: u8) -> Result<Vec<u8>, Fail> {
+/// The bytes, with another one at that place.
+pub(crate) fn turned(alloc: Global, bytes: &[u8], at: usize, byte: u8) -> Result<Vec<u8>, Fail> {
     let mut turned = Vec::from_slice(alloc, bytes)?;
     if let Some(place) = turned.get_mut(at) {
         *place = byte;

@@ -93,6 +93,7 @@ pub(crate) fn format_member_of<'w, R: AllocGlobal + Files<File = File>>(
         contacts: None,
         beta,
         gamma: None,
+        share: None,
     };
     let order = FormatOrder::parse(rt.alloc(), &words)?;
     let mut output = Vec::new(rt.alloc());
