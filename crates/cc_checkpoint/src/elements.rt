@@ -81,7 +81,11 @@ fn round_len(round: &Round, layout: Layout) -> usize
     phase_len(round) + others_len(&round.others, layout) + line_len(&round.line, layout)
 }
 
-pub(crate) fn take_round(alloc: Global, piece: &mut Piece, layout: Layout) -> Result<Round, WireFault>
+pub(crate) fn take_round(
+    alloc: Global,
+    piece: &mut Piece,
+    layout: Layout,
+) -> Result<Round, WireFault>
     ensures { Gives (λ x. (round_in x, piece.new)) result (round_at layout piece.old) }
 {
     let mut reader = piece.reader();

@@ -1,10 +1,11 @@
 //! What holds of the spellings of states and nodes.
 
-ghost use Rattle.std.specs.Prelude.{◌≡◌, ◌≤◌, ℕ, List, ◌++◌, length};
+ghost use Rattle.std.specs.Prelude.{◌≡◌, ◌⊎◌, ◌≤◌, ℕ, List, ◌++◌, length};
 ghost use Rattle.cc_node.specs.Node.{Node};
 ghost use Rattle.cc_node.specs.Lawful.{IsLawfulNode};
 ghost use Rattle.cc_node.specs.declared.layout.Layout.{Layout};
-ghost use Rattle.cc_node.specs.States.{State, SpellsState, SpellsNode, node_of};
+ghost use Rattle.cc_node.specs.declared.layout.Layout.TheVariants as layouts;
+ghost use Rattle.cc_node.specs.States.{State, SpellsState, SpellsNode, node_of, layout_of_node};
 
 /// In each layout, each state has one spelling, and none begins another.
 pub fn one_spelling_of_states()
@@ -16,6 +17,11 @@ pub fn one_spelling_of_states()
 pub fn one_spelling_of_nodes()
     ensures one { (layout : Layout) (a b u w : List ℕ) (x y : Node) → SpellsNode layout a x → SpellsNode layout b y → a ++ u ≡ b ++ w → (x ≡ y) × (a ≡ b) }
     ensures same { (layout : Layout) (a b : List ℕ) (x : Node) → SpellsNode layout a x → SpellsNode layout b x → a ≡ b }
+{}
+
+/// But for version 1, in which some nodes with a share of 1 are read, a node is spelled in the layout of its share alone.
+pub fn each_node_has_one_layout()
+    ensures { (layout : Layout) (bytes : List ℕ) (n : Node) → SpellsNode layout bytes n → (layout ≡ layouts.Plain) ⊎ (layout ≡ layout_of_node n) }
 {}
 
 /// A state that a node can be in is spelled as that node is.

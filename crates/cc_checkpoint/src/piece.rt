@@ -40,12 +40,7 @@ impl Model for Piece {
 }
 
 // Puts what stands between the gate of a side and its state.
-fn put_head(
-    out: &mut Vec<u8>,
-    version: u8,
-    generation: u64,
-    length: u32,
-) -> Result<(), AllocError>
+fn put_head(out: &mut Vec<u8>, version: u8, generation: u64, length: u32) -> Result<(), AllocError>
     ensures { Writes out.old out.new (to_be_bytes w64 generation ++ version ∷ to_be_bytes w32 length) result }
 {
     put_u64(out, generation)?;
