@@ -303,7 +303,12 @@ fn a_node_out_of_bounds_is_bad(rt: HostRuntime) -> Result<(), Fail> {
 #[test]
 fn the_last_share_counts(rt: HostRuntime) -> Result<(), Fail> {
     check(&rt, "share 33\nshare 2\nmember 1 of 1\n", 0, "")?;
-    check(&rt, "share 2\nshare 33\nmember 1 of 1\n", 1, "line 3: bad\n")
+    check(
+        &rt,
+        "share 2\nshare 33\nmember 1 of 1\n",
+        1,
+        "line 3: bad\n",
+    )
 }
 
 // What came before it is printed, and a last line without a newline counts.

@@ -136,13 +136,11 @@ const ALL_THAT_WAIT_BEGIN_PRINTS: &str = "\
 ";
 
 /// All of these.
-pub const ROWS: [Row; 1] = [
-    Row {
-        script: ALL_THAT_WAIT_BEGIN,
-        nodes: &[1],
-        prints: ALL_THAT_WAIT_BEGIN_PRINTS,
-    },
-];
+pub const ROWS: [Row; 1] = [Row {
+    script: ALL_THAT_WAIT_BEGIN,
+    nodes: &[1],
+    prints: ALL_THAT_WAIT_BEGIN_PRINTS,
+}];
 
 // A member of that share by itself.
 const OF_SHARE_32: &str = "share 32\nmember 1 of 1\n";
