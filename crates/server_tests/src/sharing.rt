@@ -28,11 +28,7 @@ fn of_each_session(alloc: Global, bytes: &[u8]) -> Result<Vec<u8>, Fail> {
 
 // 33 sessions store in one write, and nothing more comes. Each is answered, in the order of the asks, and then the connection
 // ends.
-fn ask_all<R: Net<Stream = TcpStream>>(
-    rt: &R,
-    alloc: Global,
-    one: SocketAddr,
-) -> Result<(), Fail> {
+fn ask_all<R: Net<Stream = TcpStream>>(rt: &R, alloc: Global, one: SocketAddr) -> Result<(), Fail> {
     let asks = of_each_session(alloc, &FIRST_ASK)?;
     let replies = of_each_session(alloc, &FIRST_REPLY)?;
     let mut client = connected(rt, one)?;
