@@ -90,7 +90,8 @@ fn bytes_of(alloc: Global, digits: &str) -> Result<Vec<u8>, Fail> {
         match high {
             None => high = Some(value),
             Some(first) => {
-                bytes.push((16 * first + value) as u8)?;
+                let both = first.saturating_mul(16).saturating_add(value);
+                bytes.push(u8::try_from(both).or(Err("two digits are a byte"))?)?;
                 high = None;
             }
         }
@@ -105,9 +106,9 @@ fn state_of(alloc: Global, side: &[u8]) -> Result<Vec<u8>, Fail> {
     Ok(Vec::from_slice(alloc, state)?)
 }
 
-// What the node is on a side, under that generation.
+// What the node is on a side, under that generation, which is 1 or more.
 fn side_of(alloc: Global, node: &Node, generation: u64) -> Result<Vec<u8>, Fail> {
-    let image = encode_image(alloc, generation, node)?;
+    let image = encode_image(alloc, generation.max(1), node)?;
     let mut side = Vec::from_slice(alloc, &[0xA5])?;
     side.extend_from_slice(&image)?;
     Ok(side)

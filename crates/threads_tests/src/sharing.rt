@@ -1,6 +1,6 @@
 //! Workers whose asks begin together, each of which is answered once.
 
-use crate::fixtures::{Disk, check, formatted_with_share, opened};
+use crate::fixtures::{Disk, check, drawn, formatted_with_share, opened};
 use crate::holding::{Hold, Holding, TURNS, comes};
 use crate::lives::{counts, live};
 use crate::stories::Story;
@@ -170,10 +170,12 @@ fn hire<'a, L: Life, Q: Lane, R: Wait>(
     let node = NodeId::new(1).ok_or("a node")?;
     for place in 0..ASKERS {
         let asker = Asker::new(hooks, place);
-        hire_one(rt, lock, Client::Asker(asker), workers)?;
+        let share = drawn(rt, lock)?;
+        hire_one(share, Client::Asker(asker), workers)?;
     }
     let acker = Acker::new(hooks, node);
-    hire_one(rt, lock, Client::Acker(acker), workers)
+    let share = drawn(rt, lock)?;
+    hire_one(share, Client::Acker(acker), workers)
 }
 
 /// Eight workers ask in 32 sessions each, and one ends what they begin, while one thread takes turns.

@@ -114,14 +114,12 @@ pub(crate) struct Worker<'a, L: Life> {
     client: Client<'a>,
 }
 
-/// Hires one worker more.
-pub(crate) fn hire_one<'a, L: Life, Q: Lane, R: Wait>(
-    rt: &R,
-    lock: &Mutex<Intake<L, Q>>,
+/// Hires one worker more, with this share.
+pub(crate) fn hire_one<'a, L: Life>(
+    share: Share<L>,
     client: Client<'a>,
     workers: &mut Vec<Worker<'a, L>>,
 ) -> Result<(), Fail> {
-    let share = drawn(rt, lock)?;
     workers.push(Worker { share, client })?;
     Ok(())
 }
@@ -157,7 +155,8 @@ fn hire<'a, L: Life, Q: Lane, R: Wait>(
             full: 0,
             refused: 0,
         };
-        hire_one(rt, lock, Client::Peer(peer), workers)?;
+        let share = drawn(rt, lock)?;
+        hire_one(share, Client::Peer(peer), workers)?;
     }
     Ok(())
 }
