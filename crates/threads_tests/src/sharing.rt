@@ -4,7 +4,7 @@ use crate::fixtures::{Disk, check, drawn, formatted_with_share, opened};
 use crate::holding::{Hold, Holding, TURNS, comes};
 use crate::lives::{counts, live};
 use crate::stories::Story;
-use crate::workers::{Client, Worker, hire_one, labour_whole};
+use crate::workers::{Client, Worker, labour_whole};
 use cc_intake::{Accepted, Intake, Lane, Life, Queue, Refused, Share, Turner};
 use cc_site::{Choice, MemorySite};
 use cc_views::NodeId;
@@ -171,11 +171,14 @@ fn hire<'a, L: Life, Q: Lane, R: Wait>(
     for place in 0..ASKERS {
         let asker = Asker::new(hooks, place);
         let share = drawn(rt, lock)?;
-        hire_one(share, Client::Asker(asker), workers)?;
+        let client = Client::Asker(asker);
+        workers.push(Worker { share, client })?;
     }
     let acker = Acker::new(hooks, node);
     let share = drawn(rt, lock)?;
-    hire_one(share, Client::Acker(acker), workers)
+    let client = Client::Acker(acker);
+    workers.push(Worker { share, client })?;
+    Ok(())
 }
 
 /// Eight workers ask in 32 sessions each, and one ends what they begin, while one thread takes turns.

@@ -110,18 +110,8 @@ impl Source for Client<'_> {
 /// A worker: its share, and where its events come from.
 #[derive(Drop)]
 pub(crate) struct Worker<'a, L: Life> {
-    share: Share<L>,
-    client: Client<'a>,
-}
-
-/// Hires one worker more, with this share.
-pub(crate) fn hire_one<'a, L: Life>(
-    share: Share<L>,
-    client: Client<'a>,
-    workers: &mut Vec<Worker<'a, L>>,
-) -> Result<(), Fail> {
-    workers.push(Worker { share, client })?;
-    Ok(())
+    pub(crate) share: Share<L>,
+    pub(crate) client: Client<'a>,
 }
 
 // So many workers, each of a node of its own.
@@ -156,7 +146,8 @@ fn hire<'a, L: Life, Q: Lane, R: Wait>(
             refused: 0,
         };
         let share = drawn(rt, lock)?;
-        hire_one(share, Client::Peer(peer), workers)?;
+        let client = Client::Peer(peer);
+        workers.push(Worker { share, client })?;
     }
     Ok(())
 }
