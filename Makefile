@@ -84,12 +84,14 @@ cluster:
 	@$(BUILD) ccnode
 	@bash tools/cluster.sh crates/ccnode/out/ccnode
 
-# Measures three nodes on loopback under 1, 8 and 64 clients beside the disk's own syncs: about two minutes. It fails
-# nothing. PAUSE=2000 makes each sync take so many microseconds more, as on a slower disk; that needs a C compiler.
+# Measures three nodes on loopback under 1, 8, 64 and 192 clients beside the disk's own syncs: about three minutes. It fails
+# nothing. PAUSE=2000 makes each sync take so many microseconds more, as on a slower disk; that needs a C compiler. With
+# SHARE=32 up to 32 asks of a node begin together; so it is with the two that follow.
 PAUSE = 0
+SHARE = 1
 load:
 	@$(BUILD) ccnode
-	@python3 tools/load.py crates/ccnode/out/ccnode 10 $(PAUSE)
+	@python3 tools/load.py crates/ccnode/out/ccnode 10 $(PAUSE) $(SHARE)
 
 # Kills nodes of a cluster under load 200 times with SIGKILL, starts each again, and checks what clients are told: about
 # three minutes. KILLS=20 does fewer, AWAY=20 has a killed node wait for up to so many seconds.
@@ -97,13 +99,13 @@ kill-cluster: KILLS = 200
 kill-cluster: AWAY = 0.1
 kill-cluster:
 	@$(BUILD) ccnode
-	@python3 tools/kill_cluster.py crates/ccnode/out/ccnode $(KILLS) $(AWAY)
+	@python3 tools/kill_cluster.py crates/ccnode/out/ccnode $(KILLS) $(AWAY) $(SHARE)
 
 # Runs five nodes under load through a slow disk, a stopped node, two halves and a dead node: about three minutes. It
 # needs a C compiler.
 soak:
 	@$(BUILD) ccnode
-	@python3 tools/soak.py crates/ccnode/out/ccnode
+	@python3 tools/soak.py crates/ccnode/out/ccnode $(SHARE)
 
 # Runs clusters under load of which members stay away: one of three is dead for ten minutes, MINUTES=2 makes that fewer, and
 # some eight minutes beside it. PAUSE=5000 makes each sync take so many microseconds more; that needs a C compiler.

@@ -1,13 +1,14 @@
 #!/usr/bin/env python3
 """Kills nodes of a cluster under load with SIGKILL at random moments, starts each again, and checks what clients are told.
 
-    kill_cluster.py crates/ccnode/out/ccnode [KILLS [AWAY]]
+    kill_cluster.py crates/ccnode/out/ccnode [KILLS [AWAY [SHARE]]]
 
 Three nodes, of which an operation waits for two; a killed one is started again after AWAY (0.1) seconds at most. At each
-node one session stores texts that count up, one writes maxima that count up, and one collects. Each asks again under the
-same number where its connection breaks. Checked: a collect has all that was answered before it began, to writers and in
-other collects; a number of a node stands for one value; each write was done once; the cluster goes on. It prints counts;
-the status is 1 where something isn't so.
+node one session stores texts that count up, one writes maxima that count up, and one collects; where up to SHARE asks of
+a node begin together, seven write maxima and four collect. Each asks again under the same number where its connection
+breaks. Checked: a collect has all that was answered before it began, to writers and in other collects; a number of a node
+stands for one value; each write was done once; the cluster goes on. It prints counts; the status is 1 where something
+isn't so.
 """
 import random
 import sys
@@ -19,6 +20,12 @@ from nodes import Cluster, NoAnswer, Session, end_on_signals, say
 # A client may wait for so many seconds, and for so many times as long as its own node may be away, which may be killed
 # again and again.
 PATIENCE, AWAY_TIMES = 30, 6
+
+# What the sessions of a node do, and of one of whose asks several begin together.
+ALONE = ("store", "max", "collect")
+TOGETHER = ("store", *["max"] * 7, *["collect"] * 4)
+# Beyond these a node has one session more, which collects at the end.
+MOST_SESSIONS = 100
 
 
 class Told:
@@ -107,8 +114,8 @@ class Client(threading.Thread):
 def start_clients(cluster, told, over):
     clients = []
     for node in cluster.nodes:
-        for place, kind in enumerate(("store", "max", "collect")):
-            session = Session(cluster.address(node), 10 * node + place)
+        for place, kind in enumerate(ALONE if cluster.share == 1 else TOGETHER):
+            session = Session(cluster.address(node), MOST_SESSIONS * node + place)
             clients.append(Client(told, session, node, kind, over))
     for client in clients:
         client.start()
@@ -138,7 +145,8 @@ def check_end(cluster, told):
     """All nodes collect the same, and each write was done once."""
     views = []
     for node in cluster.nodes:
-        rows = rows_of(Session(cluster.address(node), 10 * node + 5).ask(["collect"], told.patience))
+        last = Session(cluster.address(node), MOST_SESSIONS * (node + 1) - 1)
+        rows = rows_of(last.ask(["collect"], told.patience))
         told.collected(node, told.begins(), rows)
         views.append(rows)
     if any(view != views[0] for view in views):
@@ -155,8 +163,9 @@ def main():
     end_on_signals()
     program, kills = sys.argv[1], int(sys.argv[2]) if len(sys.argv) > 2 else 200
     away = float(sys.argv[3]) if len(sys.argv) > 3 else 0.1
+    share = int(sys.argv[4]) if len(sys.argv) > 4 else 1
     over = threading.Event()
-    with Cluster(program, 3, beta="2/3") as cluster:
+    with Cluster(program, 3, beta="2/3", share=share) as cluster:
         cluster.start_all()
         cluster.wait_until_ready()
         told, start = Told(cluster.nodes, PATIENCE + AWAY_TIMES * away), time.monotonic()

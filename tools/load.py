@@ -1,13 +1,16 @@
 #!/usr/bin/env python3
-"""Measures three nodes on loopback under 1, 8 and 64 clients, and prints it beside the disk's own syncs. It fails nothing.
+"""Measures three nodes on loopback under 1, 8, 64 and 192 clients, and prints it beside the disk's own syncs. It fails
+nothing.
 
-    load.py crates/ccnode/out/ccnode [SECONDS] [PAUSE]
+    load.py crates/ccnode/out/ccnode [SECONDS [PAUSE [SHARE]]]
 
-Each client has a session and a connection of its own, spread over the nodes, and asks again as soon as it was answered.
-Each count stores for SECONDS (10), and then collects for as long. A store is three commits of two syncs, one after the
-other, a collect five. With PAUSE each sync takes so many microseconds more, those of the loops too, as it would on a
-slower disk; that needs a C compiler. TMPDIR says where the nodes' folders are made.
+Each client has a session and a connection of its own, spread over the nodes, so that 192 are 64 a node, and asks again as
+soon as it was answered. Each count stores for SECONDS (10), and then collects for as long. A store is three commits of
+two syncs, one after the other, a collect five. With PAUSE (0) each sync takes so many microseconds more, those of the
+loops too, as it would on a slower disk; that needs a C compiler. Up to SHARE (1) asks of a node begin together, at most
+32. TMPDIR says where the nodes' folders are made.
 """
+import collections
 import os
 import selectors
 import socket
@@ -18,7 +21,10 @@ from concurrent.futures import ThreadPoolExecutor
 
 from nodes import Cluster, client, end_on_signals, say
 
-COUNTS = (1, 8, 64)
+COUNTS = (1, 8, 64, 192)
+ANSWER, REFUSAL = "answer", "refusal"
+# A request that was refused is sent again after so many seconds.
+AGAIN_AFTER = 0.001
 SYNCS = {"store": 6, "collect": 10}
 SYNC_SECONDS = 2.0
 
@@ -69,45 +75,70 @@ class Asker:
     def ask(self):
         self.request += 1
         self.start = time.perf_counter()
+        self.ask_again()
+
+    def ask_again(self):
+        """The same request. What it takes counts from its first time on."""
         self.socket.sendall(client.ask_frame(self.session, self.request, self.command))
 
-    def answers(self):
-        """Whether the request was answered by what came. A refusal that passes is followed by the same request."""
+    def hears(self):
+        """What came: ANSWER, REFUSAL, or nothing whole yet."""
         self.data += self.socket.recv(1 << 16)
         if len(self.data) < 4 or len(self.data) < 4 + int.from_bytes(self.data[:4], "big"):
-            return False
-        kind = self.data[4]
+            return None
+        is_answer = self.data[4] == 4
         self.data = b""
-        if kind == 4:
-            return True
-        self.refusals += 1
-        self.request -= 1
-        time.sleep(0.001)
-        self.ask()
-        return False
+        self.refusals += not is_answer
+        return ANSWER if is_answer else REFUSAL
+
+
+class Run:
+    """Clients that ask for so many seconds: the seconds that each answer took, all clients together."""
+
+    def __init__(self, askers, seconds):
+        self.askers, self.seconds = askers, seconds
+        self.took, self.waiting = [], len(askers)
+        # Those that were refused, and when they ask again.
+        self.refused = collections.deque()
+        self.start = time.perf_counter()
+
+    def passed(self):
+        return time.perf_counter() - self.start
+
+    def go_on(self):
+        with selectors.DefaultSelector() as selector:
+            for asker in self.askers:
+                asker.socket.setblocking(True)
+                selector.register(asker.socket, selectors.EVENT_READ, asker)
+                asker.ask()
+            while self.waiting and self.passed() < self.seconds + 10:
+                for key, _ in selector.select(AGAIN_AFTER if self.refused else 1):
+                    self.hear(key.data)
+                self.ask_again()
+
+    def hear(self, asker):
+        heard, now = asker.hears(), time.perf_counter()
+        if heard == REFUSAL:
+            self.refused.append((now + AGAIN_AFTER, asker))
+        if heard != ANSWER:
+            return
+        self.took.append(now - asker.start)
+        if now - self.start < self.seconds:
+            asker.ask()
+        else:
+            self.waiting -= 1
+
+    def ask_again(self):
+        now = time.perf_counter()
+        while self.refused and self.refused[0][0] <= now:
+            self.refused.popleft()[1].ask_again()
 
 
 def run_clients(askers, seconds):
-    """The seconds that each answer took, all clients together, and the seconds that passed."""
-    took, start = [], time.perf_counter()
-    with selectors.DefaultSelector() as selector:
-        for asker in askers:
-            asker.socket.setblocking(True)
-            selector.register(asker.socket, selectors.EVENT_READ, asker)
-            asker.ask()
-        waiting = len(askers)
-        while waiting and time.perf_counter() - start < seconds + 10:
-            for key, _ in selector.select(1):
-                asker = key.data
-                if not asker.answers():
-                    continue
-                now = time.perf_counter()
-                took.append(now - asker.start)
-                if now - start < seconds:
-                    asker.ask()
-                else:
-                    waiting -= 1
-    return took, time.perf_counter() - start
+    """The seconds that each answer took, and the seconds that passed."""
+    run = Run(askers, seconds)
+    run.go_on()
+    return run.took, run.passed()
 
 
 def percentile(took, share):
@@ -154,16 +185,17 @@ def print_wanted(rows, alone):
 def main():
     end_on_signals()
     program, seconds = sys.argv[1], float(sys.argv[2]) if len(sys.argv) > 2 else 10.0
-    pause = int(sys.argv[3]) if len(sys.argv) > 3 else 0
+    pause, share = (int(sys.argv[place]) if len(sys.argv) > place else least for place, least in ((3, 0), (4, 1)))
     rows, session = [], 1
-    with Cluster(program, 3) as cluster:
+    with Cluster(program, 3, share=share) as cluster:
         cluster.slow_down(pause)
         cluster.start_all()
         cluster.wait_until_ready()
         alone, three = sync_times(cluster.folder, pause)
-        say(f"nodes in {cluster.folder}; machine load before: {os.getloadavg()[0]:.2f}")
+        say(f"nodes of share {share} in {cluster.folder}; machine load before: {os.getloadavg()[0]:.2f}")
         say(f"a write with its sync: {alone:.0f} us alone, {three:.0f} us while three loops run beside each other")
-        say("times in microseconds; syncs: 6 of a store, 10 of a collect; own: this program's share of a processor")
+        say("times in microseconds; syncs: 6 of a store, 10 of a collect; own: how much of a processor these clients take,")
+        say("which measure themselves where it comes near 100 %")
         say("clients  kind         a s      p50      p99    syncs  3 beside p50/syncs  processor      own")
         for count in COUNTS:
             for kind in SYNCS:

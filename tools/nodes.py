@@ -54,12 +54,15 @@ def slow_sync(folder):
 
 
 class Cluster:
-    """Nodes 1 to `count`, formatted with that share beta. `preloads` gives a node a library of its own (LD_PRELOAD)."""
+    """
+    Nodes 1 to `count`, formatted with that fraction beta, up to `share` of whose asks begin together. `preloads` gives a
+    node a library of its own (LD_PRELOAD).
+    """
 
-    def __init__(self, program, count, beta="4/5", preloads=None):
+    def __init__(self, program, count, beta="4/5", preloads=None, share=1):
         self.program = os.path.realpath(program)
         self.nodes = range(1, count + 1)
-        self.beta, self.preloads = beta, preloads or {}
+        self.beta, self.preloads, self.share = beta, preloads or {}, share
         self.ports = dict(zip(self.nodes, free_ports(count)))
         self.folder = pathlib.Path(tempfile.mkdtemp(prefix="ccnode-"))
         self.running = {}
@@ -82,6 +85,7 @@ class Cluster:
         for node in self.nodes:
             (self.folder / f"node-{node}").mkdir()
             words = ["format", f"node-{node}", str(node), "--initial", members, "--beta", self.beta]
+            words += ["--share", str(self.share)]
             subprocess.run([self.program, *words], cwd=self.folder, check=True, capture_output=True)
 
     def slow_down(self, pause):

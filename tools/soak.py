@@ -1,12 +1,12 @@
 #!/usr/bin/env python3
 """Runs five nodes under 8 clients each through bad times, prints operations a second, and says whether they went on.
 
-    soak.py crates/ccnode/out/ccnode
+    soak.py crates/ccnode/out/ccnode [SHARE]
 
-A node whose syncs take five milliseconds more, for a minute; a node that is stopped for 20 seconds under load (SIGSTOP) and
-continued; two halves that can't reach each other for 10 seconds, and then can; a node that is killed for good, what clients
-are told then, and `ccnode retire` at the others. It needs a C compiler. The status is 1 where operations didn't go on.
-soak_absent.py has members that stay away.
+Up to SHARE (1) asks of a node begin together. A node whose syncs take five milliseconds more, for a minute; a node that
+is stopped for 20 seconds under load (SIGSTOP) and continued; two halves that can't reach each other for 10 seconds, and
+then can; a node that is killed for good, what clients are told then, and `ccnode retire` at the others. It needs a C
+compiler. The status is 1 where operations didn't go on. soak_absent.py has members that stay away.
 """
 import math
 import signal
@@ -76,8 +76,8 @@ def judge_going_on(verdicts, load, nodes, after):
 class RelayedCluster(Cluster):
     """Nodes that reach each other over relays."""
 
-    def __init__(self, program, count, beta="4/5"):
-        super().__init__(program, count, beta)
+    def __init__(self, program, count, beta="4/5", share=1):
+        super().__init__(program, count, beta, share=share)
         ways = [(node, peer) for node in self.nodes for peer in self.nodes if node != peer]
         self.ways = dict(zip(ways, free_ports(len(ways))))
         self.relays = None
@@ -103,8 +103,8 @@ class RelayedCluster(Cluster):
             self.relays.wait()
 
 
-def slow_and_stopped(program, verdicts):
-    with Cluster(program, len(NODES)) as cluster:
+def slow_and_stopped(program, share, verdicts):
+    with Cluster(program, len(NODES), share=share) as cluster:
         cluster.preloads[5] = slow_sync(cluster.folder)
         cluster.start_all()
         cluster.wait_until_ready(60)
@@ -124,8 +124,8 @@ def slow_and_stopped(program, verdicts):
             load.end()
 
 
-def halves_and_dead(program, verdicts):
-    with RelayedCluster(program, len(NODES)) as cluster:
+def halves_and_dead(program, share, verdicts):
+    with RelayedCluster(program, len(NODES), share=share) as cluster:
         cluster.start_relays()
         cluster.start_all()
         cluster.wait_until_ready(60)
@@ -172,8 +172,9 @@ def report(cluster, load, verdicts):
 def main():
     end_on_signals()
     verdicts = Verdicts()
-    slow_and_stopped(sys.argv[1], verdicts)
-    halves_and_dead(sys.argv[1], verdicts)
+    share = int(sys.argv[2]) if len(sys.argv) > 2 else 1
+    slow_and_stopped(sys.argv[1], share, verdicts)
+    halves_and_dead(sys.argv[1], share, verdicts)
     say("verdicts:")
     for line in verdicts.lines:
         say(line)

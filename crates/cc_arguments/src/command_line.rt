@@ -19,14 +19,15 @@ Examples: ccnode format node-1 1 --initial 1,2,3
 
 A LIST is numbers joined by commas, ascending. A member is in its own initial list.
 A node without one enters later, and needs all living members as contacts: enough
-that a share --gamma of those present, itself among them, answers it. --beta and
---gamma are those of the cluster: the same at every node.
+that a fraction --gamma of those present, itself among them, answers it. --beta and
+--gamma are those of the cluster: the same at every node. --share is the node's own,
+for its life: 32 is for one that many clients ask at once.
 
 Prints `formatted ID`, or why the folder isn't formatted: BadOpening (no node begins
-so: a list that doesn't ascend, a share above 1, a member that isn't in its list),
-NoMemory, AlreadyFormatted, or Device with the side and the disk call that failed.
-Statuses: 0 formatted, 1 not formatted, 2 after a command line that it doesn't
-take, and then no file was touched.";
+so: a list that doesn't ascend, a fraction above 1, a --share of 0 or above 32, a
+member that isn't in its list), NoMemory, AlreadyFormatted, or Device with the side
+and the disk call that failed. Statuses: 0 formatted, 1 not formatted, 2 after a
+command line that it doesn't take, and then no file was touched.";
 
 const DUMP_HELP: &str = "\
 Example: ccnode dump node-1
@@ -140,12 +141,17 @@ const FORMAT: Subcommand = Subcommand {
         Word::Option(
             "beta",
             "N/D",
-            "The share of the members whose answers an operation waits for [default: 4/5]",
+            "The fraction of the members whose answers an operation waits for [default: 4/5]",
         ),
         Word::Option(
             "gamma",
             "N/D",
-            "The share of those present whose echoes an entering node waits for [default: 4/5]",
+            "The fraction of those present whose echoes an entering node waits for [default: 4/5]",
+        ),
+        Word::Option(
+            "share",
+            "N",
+            "How many of the asks that wait begin together at most, 1 to 32 [default: 1]",
         ),
     ],
     help: FORMAT_HELP,

@@ -43,6 +43,7 @@ pub struct Formatted<'a> {
     pub contacts: Option<&'a str>,
     pub beta: Option<&'a str>,
     pub gamma: Option<&'a str>,
+    pub share: Option<&'a str>,
 }
 
 /// The words of `ask`.
@@ -112,6 +113,7 @@ fn formatted_words<'a>(words: &ArgMatches<'a>) -> Formatted<'a> {
         contacts: words.get_str("contacts"),
         beta: words.get_str("beta"),
         gamma: words.get_str("gamma"),
+        share: words.get_str("share"),
     }
 }
 

@@ -32,6 +32,7 @@ pub fn first_of(ids: &[u32]) -> Opening<'_> {
         contacts: &[],
         beta: FOUR_FIFTHS,
         gamma: FOUR_FIFTHS,
+        share: 1,
     }
 }
 

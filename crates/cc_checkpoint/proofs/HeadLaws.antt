@@ -8,8 +8,9 @@ use Rattle.std.proofs.lemmas.Nat.{from_be_bytes-to_be_bytes_4, be_bytes_4, be_by
 use Rattle.std.proofs.lemmas.List.{drop_more, drop-drop, length-take-le, take_at}
 use Rattle.cc_wire.proofs.Spelled.{IsBytes, IsBytes-drop, IsBytes-take}
 use Rattle.cc_node.specs.Node.{Node}
-use Rattle.cc_node.specs.Sides.{OPEN, IsVersion, IsArmed, generation_of, SpellsHead}
-use Rattle.cc_node.specs.States.{has_line, SpellsNode}
+use Rattle.cc_node.specs.Layouts.{IsVersion, layout_of}
+use Rattle.cc_node.specs.Sides.{OPEN, IsArmed, generation_of, SpellsHead}
+use Rattle.cc_node.specs.States.{SpellsNode}
 use Rattle.cc_checkpoint.specs.Heads.{size_of, state_of, HeadAt}
 
 -- a front of four or eight bytes is a number
@@ -86,5 +87,5 @@ head_found version head rest generation node known spelled =
       version = subst IsVersion (sym there) known;
       is = omega (arith, long, told);
       long = omega (arith, long, told, length-append head rest);
-      state = subst (λ (v : ℕ). SpellsNode (has_line v) (state_of (head ++ rest)) node) (sym there) (subst (λ (l : List ℕ). SpellsNode (has_line version) l node) (sym found) spelled.spelled);
+      state = subst (λ (v : ℕ). SpellsNode (layout_of v) (state_of (head ++ rest)) node) (sym there) (subst (λ (l : List ℕ). SpellsNode (layout_of version) l node) (sym found) spelled.spelled);
     }

@@ -55,5 +55,8 @@ lawful_builds f read is =
       echoes = is.core.counts.echoes;
       waits = waits_at _ _ f.work.round.stage f.work.round.seen is.core.phase;
       behind = subst (λ (at : Stage). WaitsBehind at f.work.round.line) (stage_again f.work.round.stage f.work.round.seen) is.core.line.behind;
+      some = is.core.line.round.some;
+      most = is.core.line.round.most;
+      beside = is.core.line.round.few;
       room = is.core.set;
     }

@@ -15,3 +15,4 @@ mod PastGate
 pub mod OffRuns
 pub mod Ahead
 pub mod StateReads
+mod Written

@@ -1,5 +1,5 @@
 -- The node of a state, and the state of a node.
-use Rattle.std.proofs.Common.{◌≡◌, ℕ, ◌+◌, ◌-◌, ◌<◌, ◌≤◌, Bool, true, List, [], ◌∷◌, ◌++◌, length, map, get_or, Some, None, refl, sym, ap, subst, ◌∙◌, arith}
+use Rattle.std.proofs.Common.{◌≡◌, ℕ, ◌+◌, ◌-◌, ◌<◌, ◌≤◌, true, List, [], ◌∷◌, ◌++◌, length, map, get_or, Some, None, refl, sym, ap, subst, ◌∙◌, arith}
 use Rattle.std.specs.Prelude.{Option, IfSome, IsTrue, is_some}
 use Rattle.std.specs.List.{AllByRecursion}
 use Rattle.std.specs.Ordering.{nat_cmp}
@@ -16,6 +16,7 @@ use Rattle.cc_outbox.proofs.Numbers.{sorted_numbered, find_numbered}
 use Rattle.cc_node.specs.Core.{lowest}
 use Rattle.cc_node.specs.Node.{Node}
 use Rattle.cc_node.specs.Lawful.{IsLawfulNode}
+use Rattle.cc_node.specs.declared.layout.Layout.{Layout}
 use Rattle.cc_node.specs.States.{State, SpellsState, SpellsNode, numbered_to, node_of, state_of}
 use Rattle.cc_wire.proofs.Whole.{one_spelling}
 use Rattle.cc_checkpoint.proofs.StateFormat.{entries_again, state_spelled}
@@ -92,12 +93,12 @@ node_of-state_of n is =
 
 -- ---- one spelling
 
-pub one_spelling_of_state : (lined : Bool) (a b u w : List ℕ) (x y : State) → SpellsState lined a x → SpellsState lined b y → a ++ u ≡ b ++ w → (x ≡ y) × (a ≡ b)
-one_spelling_of_state lined a b u w x y p q e = one_spelling (state_spelled lined) a b u w x y p.fits q.fits p.spelled q.spelled e
+pub one_spelling_of_state : (layout : Layout) (a b u w : List ℕ) (x y : State) → SpellsState layout a x → SpellsState layout b y → a ++ u ≡ b ++ w → (x ≡ y) × (a ≡ b)
+one_spelling_of_state layout a b u w x y p q e = one_spelling (state_spelled layout) a b u w x y p.fits q.fits p.spelled q.spelled e
 
-pub one_spelling_of_node : (lined : Bool) (a b u w : List ℕ) (x y : Node) → SpellsNode lined a x → SpellsNode lined b y → a ++ u ≡ b ++ w → (x ≡ y) × (a ≡ b)
-one_spelling_of_node lined a b u w x y p q e =
-    let one = one_spelling_of_state lined a b u w (state_of x) (state_of y) p.state q.state e in
+pub one_spelling_of_node : (layout : Layout) (a b u w : List ℕ) (x y : Node) → SpellsNode layout a x → SpellsNode layout b y → a ++ u ≡ b ++ w → (x ≡ y) × (a ≡ b)
+one_spelling_of_node layout a b u w x y p q e =
+    let one = one_spelling_of_state layout a b u w (state_of x) (state_of y) p.state q.state e in
     (sym (node_of-state_of x p.lawful) ∙ ap node_of one.0 ∙ node_of-state_of y q.lawful, one.1)
 
 -- ---- kept posts in turn

@@ -7,7 +7,7 @@
 --     one_part_more       what was put from a part on, with one part more
 --     joined_rest         what is left, where some parts were put
 --     joined_more         what came up to a part
-use Rattle.std.proofs.Common.{◌≡◌, true, ℕ, ◌+◌, ◌*◌, ◌-◌, ◌<◌, List, [], ◌∷◌, ◌++◌, length, map, get_or, take, drop, drop-cons, suc, add-one, refl, sym, ap, ◌∙◌, append_assoc, arith}
+use Rattle.std.proofs.Common.{◌≡◌, ℕ, ◌+◌, ◌*◌, ◌-◌, ◌<◌, List, [], ◌∷◌, ◌++◌, length, map, get_or, take, drop, drop-cons, suc, add-one, refl, sym, ap, ◌∙◌, append_assoc, arith}
 use Rattle.std.specs.Int.{w16, w64, to_be_bytes}
 use Rattle.std.specs.List.{flat_map}
 use Rattle.std.specs.FinMap as table
@@ -23,8 +23,8 @@ use Rattle.cc_outbox.specs.Rows.{entry_of, row_of, answers_of}
 use Rattle.cc_sessions.specs.Sessions.{Requests}
 use Rattle.cc_node.specs.Core.{Core}
 use Rattle.cc_node.specs.Node.{Node}
-use Rattle.cc_node.specs.States.{membership_spelling, membership_of, stored_spelling, entering_spelling, round_spelling, table_spelling, link_spelling, session_spelling, kept_answer_spelling, tables_spelling, tables_of, state_spelling, state_of}
-use Rattle.cc_checkpoint.specs.Parts.{own_spelling, front_spelling, kept_parts, parts_of, joined}
+use Rattle.cc_node.specs.States.{membership_spelling, membership_of, stored_spelling, entering_spelling, table_spelling, link_spelling, session_spelling, kept_answer_spelling, tables_spelling, tables_of, node_spelling}
+use Rattle.cc_checkpoint.specs.Parts.{own_spelling, operations_spelling, front_spelling, kept_parts, parts_of, joined}
 
 -- ---- the kept posts, the count of kept answers, and these
 
@@ -62,14 +62,14 @@ tables_parts n =
     ∙ ap (λ (l : List ℕ). links ++ l)
     (append_assoc sessions count (kept ++ answers) ∙ ap (λ (l : List ℕ). sessions ++ l) (sym (append_assoc count kept answers))))
 
-pub parts_spell : (n : Node) → joined (parts_of n) ≡ state_spelling true (state_of n)
+pub parts_spell : (n : Node) → joined (parts_of n) ≡ node_spelling n
 unfolding parts_of
 parts_spell n =
     let membership = membership_spelling (membership_of n.core) in
     let own = own_spelling n.core in
     let stored = stored_spelling n.core.ops.view n.core.ops.number n.core.ops.mine n.core.ops.tag in
     let entering = entering_spelling n.core.churn.echoes n.core.churn.need in
-    let phase = round_spelling true n.core.ops.phase n.core.ops.line in
+    let phase = operations_spelling n.core.ops in
     let front = front_spelling n.core (length (table.values n.outbox.posts)) in
     flat_map-cons (λ part. part) membership (own ∷ phase ∷ front ∷ kept_parts n.outbox)
     ∙ ap (λ (l : List ℕ). membership ++ l)

@@ -1,11 +1,11 @@
 -- States are read as they are spelled.
-use Rattle.std.proofs.Common.{◌≡◌, ℕ, zero, suc, ◌+◌, ◌<◌, ◌≤◌, ◌^◌, nat_lt, cond, eqb, Bool, true, false, List, [], ◌∷◌, ◌++◌, length, Result, Ok, refl, sym, ap, subst, ◌∙◌, append_assoc, arith}
+use Rattle.std.proofs.Common.{◌≡◌, ℕ, zero, suc, ◌+◌, ◌<◌, ◌≤◌, ◌^◌, nat_lt, cond, eqb, Bool, true, false, List, [], ◌∷◌, ◌++◌, length, Result, Ok, Err, ◌||◌, refl, sym, ap, subst, ◌∙◌, append_assoc, arith}
 use Rattle.std.specs.Int.{w16, w64, to_be_bytes}
 use Rattle.std.specs.List.{flat_map, AllByRecursion}
 use Rattle.std.specs.Ordering.{nat_cmp}
 use Rattle.std.specs.FinMap as table
 use Rattle.std.specs.FinMap.{FinMap}
-use Rattle.std.proofs.lemmas.Bool.{ltb-false, le-ltb}
+use Rattle.std.proofs.lemmas.Bool.{ltb-false, le-ltb, or_parts, or_from}
 use Rattle.std.proofs.lemmas.List.Concat.{flat_map-cons}
 use Rattle.cc_views.specs.Rows.{ViewMap}
 use Rattle.cc_views.specs.declared.value.Value.{Value}
@@ -13,24 +13,27 @@ use Rattle.cc_views.specs.Entries.{from_T, ascending_of_sorted, sorted_of_ascend
 use Rattle.cc_changes.specs.ChangeSets.{ChangeSets}
 use Rattle.cc_changes.specs.declared.fraction.Fraction.{Fraction}
 use Rattle.cc_wire.specs.declared.fault.WireFault.{WireFault}
-use Rattle.cc_wire.specs.declared.fault.WireFault.TheVariants.{NotAscending}
+use Rattle.cc_wire.specs.declared.fault.WireFault.TheVariants.{BadKind, NotAscending}
 use Rattle.cc_wire.specs.declared.message.Message.{Message}
 use Rattle.cc_wire.specs.declared.command.Command.{Command}
 use Rattle.cc_wire.specs.declared.answer.Answer.{Answer}
-use Rattle.cc_wire.specs.Reading.{◌>>=◌, Reading, via, byte_at, items_at}
+use Rattle.cc_wire.specs.Reading.{◌>>=◌, Reading, via, nothing_at, byte_at, items_at}
 use Rattle.cc_ops.specs.declared.pending.Asked.{Asked}
 use Rattle.cc_ops.specs.declared.pending.Pending.{Pending}
 use Rattle.cc_ops.specs.Ops.{Phase, Idle, Storing, Querying, StoringBack}
 use Rattle.cc_links.specs.Links.{Link, Links}
 use Rattle.cc_sessions.specs.Sessions.{Requests}
-use Rattle.cc_wire.proofs.Spelled.{IsBytes, bind_ok, ok_is, Takes, Takes-then, Spelled, both, as_fields, as_facts, tested, counted, IsRun, items_spelled, byte_spelled, nothing_spelled, kind_or}
+use Rattle.cc_wire.proofs.Spelled.{IsBytes, bind_ok, guard_ok, ok_is, Takes, Takes-then, Spelled, both, as_fields, as_facts, tested, counted, IsRun, items_spelled, byte_spelled, nothing_spelled, kind_or}
 use Rattle.cc_wire.proofs.Formats.{ascending_of_run, run_of_ascending, u16_spelled, u32_spelled, u64_spelled, limited_spelled, from_spelled, id_spelled, value_spelled, view_spelled, changes_spelled}
 use Rattle.cc_wire.proofs.MessageFormat.{message_spelled}
 use Rattle.cc_wire.proofs.AnswerFormat.{answer_spelled}
 use Rattle.cc_wire.proofs.EventFormat.{asked_spelled}
 use Rattle.cc_wire.specs.Spelling.{value_spelling, IsValue}
 use Rattle.cc_checkpoint.specs.Fields.{own_at}
-use Rattle.cc_node.specs.States.{Membership, Work, Tables, State, entering_spelling, entering_at, fraction_spelling, IsFraction, fraction_with, fraction_at, membership_spelling, IsMembership, membership_with, membership_at, pending_spelling, IsPending, pending_with, pending_at, phase_spelling, IsPhase, phase_fields, phase_at, ask_spelling, IsAsk, ask_with, ask_at, some_line_at, line_spelling, IsLine, IsLineOf, line_at, round_spelling, round_at, work_spelling, IsWork, work_with, work_at, table_spelling, IsTableOf, row_list_at, table_at, link_spelling, IsLink, link_with, link_at, session_from, session_spelling, IsSession, session_at, kept_answer_spelling, IsKeptAnswer, kept_answer_at, kept_spelling, IsKeptPosts, kept_at, most_rows, tables_spelling, IsTables, tables_with, tables_at, state_spelling, IsState, state_with, state_at}
+use Rattle.cc_node.specs.Rounds.{share_limit}
+use Rattle.cc_node.specs.declared.layout.Layout.{Layout}
+use Rattle.cc_node.specs.declared.layout.Layout.TheVariants.{Plain, Lined, Shared}
+use Rattle.cc_node.specs.States.{Membership, Work, Tables, State, entering_spelling, entering_at, fraction_spelling, IsFraction, fraction_with, fraction_at, membership_spelling, IsMembership, membership_with, membership_at, pending_spelling, IsPending, pending_with, pending_at, phase_spelling, IsPhase, phase_fields, phase_at, ask_spelling, IsAsk, ask_with, ask_at, asks_spelling, AreAsks, ask_list_at, line_spelling, IsLineOf, line_at, others_spelling, IsRoundShare, AreOthersOf, share_at, others_at, round_spelling, round_at, work_spelling, IsWork, work_with, work_at, table_spelling, IsTableOf, row_list_at, table_at, link_spelling, IsLink, link_with, link_at, session_from, session_spelling, IsSession, session_at, kept_answer_spelling, IsKeptAnswer, kept_answer_at, kept_spelling, IsKeptPosts, kept_at, most_rows, tables_spelling, IsTables, tables_with, tables_at, state_spelling, IsState, state_with, state_at}
 
 -- ---- fractions
 
@@ -138,29 +141,80 @@ ask_spelled : Spelled ask_at IsAsk ask_spelling
 unfolding ask_at
 ask_spelled = as_fields ask_with ask_fields (λ _. refl) (λ _ _. refl) asked_spelled
 
-pub some_line_spelled : Spelled some_line_at IsLine (line_spelling true)
-unfolding some_line_at
-some_line_spelled = as_facts IsLine
-    (λ line h. record { fits = h.0.1; each = h.1 })
-    (λ line h. ((omega (arith, h.fits), h.fits), h.each))
+pub ask_list_spelled : Spelled ask_list_at AreAsks asks_spelling
+unfolding ask_list_at
+ask_list_spelled = as_facts AreAsks
+    (λ asks h. record { fits = h.0.1; each = h.1 })
+    (λ asks h. ((omega (arith, h.fits), h.fits), h.each))
     (counted length (limited_spelled 32 byte_spelled) (λ n. many_spelled ask_spelled n))
 
-abbrev read_line : List Asked × List ℕ → Result (List Asked × List ℕ) WireFault
-read_line read = Ok read
+-- a value that takes no byte
+module _ {X : Type 0} (x : X) where
+  abbrev told : X × List ℕ → Result (X × List ℕ) WireFault
+  told read = Ok read
 
-no_line_takes : (bytes : List ℕ) (line : List Asked) (rest : List ℕ) → IsBytes bytes → read_line ([], bytes) ≡ Ok (line, rest) → Takes bytes [] rest × (line ≡ [])
-no_line_takes bytes line rest fits e =
-    subst (λ (y : List Asked × List ℕ). Takes bytes [] y.1 × (y.0 ≡ [])) (ok_is ([], bytes) (line, rest) e) (record { parts = refl; left = fits }, refl)
+  none_takes : (bytes : List ℕ) (y : X) (rest : List ℕ) → IsBytes bytes → told (x, bytes) ≡ Ok (y, rest) → Takes bytes [] rest × (y ≡ x)
+  none_takes bytes y rest fits e =
+      subst (λ (z : X × List ℕ). Takes bytes [] z.1 × (z.0 ≡ x)) (ok_is (x, bytes) (y, rest) e) (record { parts = refl; left = fits }, refl)
 
-no_line_again : (line : List Asked) (rest : List ℕ) → line ≡ [] → read_line ([], rest) ≡ Ok (line, rest)
-no_line_again line rest is = ap (λ (l : List Asked). read_line (l, rest)) (sym is)
+  none_again : (y : X) (rest : List ℕ) → y ≡ x → told (x, rest) ≡ Ok (y, rest)
+  none_again y rest is = ap (λ (z : X). told (z, rest)) (sym is)
 
-pub line_spelled : (lined : Bool) → Spelled (line_at lined) (IsLineOf lined) (line_spelling lined)
-line_spelled true = some_line_spelled
-line_spelled false = record { takes = no_line_takes; again = no_line_again }
+  none_spelled : Spelled (via (λ _. x) nothing_at) (λ y. y ≡ x) (λ _. [])
+  none_spelled = record { takes = none_takes; again = none_again }
 
-pub round_spelled : (lined : Bool) → Spelled (round_at lined) (λ r. IsPhase r.0 × IsLineOf lined r.1) (λ r. round_spelling lined r.0 r.1)
-round_spelled lined = both phase_spelled (line_spelled lined)
+pub line_spelled : (layout : Layout) → Spelled (line_at layout) (IsLineOf layout) (line_spelling layout)
+line_spelled Plain = none_spelled []
+line_spelled Lined = ask_list_spelled
+line_spelled Shared = ask_list_spelled
+
+-- ---- the share, and the others of the pending round
+
+module _ {A : Type 0} {r : Reading A} {P : A → Type 0} {f : A → List ℕ} (test : A → Bool) (fault : A → WireFault) (Q : A → Type 0) (to : (a : A) → test a ≡ false → Q a) (from : (a : A) → Q a → test a ≡ false)
+    (spelled : Spelled r P f) where
+  -- where the fault tells what was read
+  tested_as : Spelled (λ bytes. r bytes >>= λ a. cond (test a.0) (Err (fault a.0)) (Ok a)) (λ a. P a × Q a) f
+  tested_as = record {
+    takes = λ bytes x rest fits e.
+        let a = bind_ok (r bytes) (λ a. cond (test a.0) (Err (fault a.0)) (Ok a)) (x, rest) e in
+        let g = guard_ok (test a.0.0) (fault a.0.0) a.0 (x, rest) a.2 in
+        let t = spelled.takes bytes a.0.0 a.0.1 fits a.1 in
+        subst (λ (y : A × List ℕ). Takes bytes (f y.0) y.1 × (P y.0 × Q y.0)) g.1 (t.0, (t.1, to a.0.0 g.0));
+    again = λ x rest fits. rw (spelled.again x rest fits.0, from x fits.1) refl;
+  }
+
+abbrev is_no_share : ℕ → Bool
+is_no_share n = nat_lt n 2 || nat_lt share_limit n
+
+is_share : (n : ℕ) → is_no_share n ≡ false → IsRoundShare n
+is_share n e = let t = or_parts _ _ e in record { several = ltb-false _ _ t.0; most = ltb-false _ _ t.1 }
+
+share_is : (n : ℕ) → IsRoundShare n → is_no_share n ≡ false
+share_is n is = or_from _ _ (le-ltb _ _ is.several) (le-ltb _ _ is.most)
+
+share_spelled : Spelled share_at IsRoundShare (λ share. share ∷ [])
+unfolding share_at
+share_spelled = as_facts IsRoundShare (λ n h. h.1) (λ n is. (omega (arith, is.most), is)) (tested_as is_no_share (λ n. BadKind n) IsRoundShare is_share share_is byte_spelled)
+
+abbrev no_others : ℕ × List Asked
+no_others = (1, [])
+
+others_none : Spelled (others_at Plain) (λ o. AreOthersOf Plain o.0 o.1) (λ o. others_spelling Plain o.0 o.1)
+others_none = as_facts (λ o. AreOthersOf Plain o.0 o.1)
+    (λ o h. (ap (λ (o : ℕ × List Asked). o.0) h, ap (λ (o : ℕ × List Asked). o.1) h))
+    (λ o h. pair_is o h.0 h.1)
+    (none_spelled no_others)
+  where
+    pair_is : (o : ℕ × List Asked) → o.0 ≡ 1 → o.1 ≡ [] → o ≡ no_others
+    pair_is (share, others) one none = ap (λ (n : ℕ). (n, others)) one ∙ ap (λ (l : List Asked). (1, l)) none
+
+pub others_spelled : (layout : Layout) → Spelled (others_at layout) (λ o. AreOthersOf layout o.0 o.1) (λ o. others_spelling layout o.0 o.1)
+others_spelled Plain = others_none
+others_spelled Lined = others_none
+others_spelled Shared = both share_spelled ask_list_spelled
+
+pub round_spelled : (layout : Layout) → Spelled (round_at layout) (λ r. IsPhase r.0 × (AreOthersOf layout r.1.0.0 r.1.0.1 × IsLineOf layout r.1.1)) (λ r. round_spelling layout r.0 r.1.0.0 r.1.0.1 r.1.1)
+round_spelled layout = both phase_spelled (both (others_spelled layout) (line_spelled layout))
 
 -- ---- the second part
 
@@ -170,16 +224,16 @@ own_spelled = both u64_spelled (both value_spelled u64_spelled)
 pub entering_spelled : Spelled entering_at (λ entering. (entering.0 < 2 ^ 64) × (entering.1 < 2 ^ 16)) (λ entering. entering_spelling entering.0 entering.1)
 entering_spelled = both u64_spelled u16_spelled
 
-abbrev work_fields : Work → (ViewMap × (ℕ × (Value × ℕ))) × ((ℕ × ℕ) × (Phase × List Asked))
-work_fields w = ((w.view, (w.number, (w.mine, w.tag))), ((w.echoes, w.need), (w.phase, w.line)))
+abbrev work_fields : Work → (ViewMap × (ℕ × (Value × ℕ))) × ((ℕ × ℕ) × (Phase × ((ℕ × List Asked) × List Asked)))
+work_fields w = ((w.view, (w.number, (w.mine, w.tag))), ((w.echoes, w.need), (w.phase, ((w.share, w.others), w.line))))
 
-pub work_spelled : (lined : Bool) → Spelled (work_at lined) (IsWork lined) (work_spelling lined)
+pub work_spelled : (layout : Layout) → Spelled (work_at layout) (IsWork layout) (work_spelling layout)
 unfolding work_at
-work_spelled lined = as_facts (IsWork lined)
-    (λ w h. record { view = h.0.0; number = h.0.1.0; mine = h.0.1.1.0; tag = h.0.1.1.1; echoes = h.1.0.0; need = h.1.0.1; phase = h.1.1.0; line = h.1.1.1 })
-    (λ w h. ((h.view, (h.number, (h.mine, h.tag))), ((h.echoes, h.need), (h.phase, h.line))))
+work_spelled layout = as_facts (IsWork layout)
+    (λ w h. record { view = h.0.0; number = h.0.1.0; mine = h.0.1.1.0; tag = h.0.1.1.1; echoes = h.1.0.0; need = h.1.0.1; phase = h.1.1.0; others = h.1.1.1.0; line = h.1.1.1.1 })
+    (λ w h. ((h.view, (h.number, (h.mine, h.tag))), ((h.echoes, h.need), (h.phase, (h.others, h.line)))))
     (as_fields work_with work_fields (λ _. refl) (λ _ _. refl)
-    (both (both view_spelled own_spelled) (both entering_spelled (round_spelled lined))))
+    (both (both view_spelled own_spelled) (both entering_spelled (round_spelled layout))))
 
 -- ---- tables
 
@@ -302,9 +356,9 @@ tables_spelled = as_facts IsTables
 abbrev state_fields : State → Membership × (Work × Tables)
 state_fields s = (s.membership, (s.work, s.tables))
 
-pub state_spelled : (lined : Bool) → Spelled (state_at lined) (IsState lined) (state_spelling lined)
+pub state_spelled : (layout : Layout) → Spelled (state_at layout) (IsState layout) (state_spelling layout)
 unfolding state_at
-state_spelled lined = as_facts (IsState lined)
+state_spelled layout = as_facts (IsState layout)
     (λ s h. record { membership = h.0; work = h.1.0; tables = h.1.1 })
     (λ s h. (h.membership, (h.work, h.tables)))
-    (as_fields state_with state_fields (λ _. refl) (λ _ _. refl) (both membership_spelled (both (work_spelled lined) tables_spelled)))
+    (as_fields state_with state_fields (λ _. refl) (λ _ _. refl) (both membership_spelled (both (work_spelled layout) tables_spelled)))

@@ -1,5 +1,5 @@
 -- How long the spelling of a node's state is at most.
-use Rattle.std.proofs.Common.{ℕ, Bool, true, false, ◌+◌, ◌*◌, ◌<◌, ◌≤◌, ◌^◌, List, ◌++◌, length, arith, ap}
+use Rattle.std.proofs.Common.{ℕ, ◌+◌, ◌*◌, ◌<◌, ◌≤◌, ◌^◌, List, ◌++◌, length, arith, ap}
 use Rattle.std.specs.Int.{w64, to_be_bytes}
 use Rattle.std.specs.List.{AllByRecursion}
 use Rattle.std.specs.Ordering.{nat_cmp}
@@ -18,7 +18,9 @@ use Rattle.cc_ops.specs.declared.pending.Asked.{Asked}
 use Rattle.cc_ops.specs.declared.pending.Pending.{Pending}
 use Rattle.cc_ops.specs.Ops.{Phase, Idle, Storing, Querying, StoringBack}
 use Rattle.cc_node.specs.Node.{Node}
-use Rattle.cc_node.specs.States.{Membership, Work, Tables, membership_spelling, IsMembership, counts_spelling, pending_spelling, IsPending, phase_spelling, IsPhase, ask_spelling, IsAsk, line_spelling, IsLineOf, round_spelling, stored_spelling, entering_spelling, work_spelling, IsWork, table_spelling, IsTableOf, link_spelling, IsLink, session_spelling, IsSession, kept_answer_spelling, IsKeptAnswer, kept_spelling, IsKeptPosts, tables_spelling, IsTables, SpellsNode, state_of}
+use Rattle.cc_node.specs.declared.layout.Layout.{Layout}
+use Rattle.cc_node.specs.declared.layout.Layout.TheVariants.{Plain, Lined, Shared}
+use Rattle.cc_node.specs.States.{Membership, Work, Tables, membership_spelling, IsMembership, counts_spelling, pending_spelling, IsPending, phase_spelling, IsPhase, ask_spelling, IsAsk, asks_spelling, AreAsks, line_spelling, IsLineOf, others_spelling, AreOthersOf, round_spelling, stored_spelling, entering_spelling, work_spelling, IsWork, table_spelling, IsTableOf, link_spelling, IsLink, session_spelling, IsSession, kept_answer_spelling, IsKeptAnswer, kept_spelling, IsKeptPosts, tables_spelling, IsTables, SpellsNode, state_of}
 use Rattle.cc_checkpoint.proofs.LawfulFields.{answers_within}
 
 pub length-membership : (m : Membership) → IsMembership m → length (membership_spelling m) ≤ 3098
@@ -38,23 +40,54 @@ length-phase (StoringBack p seen) is = omega (arith, length-append (pending_spel
 length-ask : (a : Asked) → IsAsk a → length (ask_spelling a) ≤ 82
 length-ask a is = length-asked a.session a.request a.command is
 
-pub length-line : (lined : Bool) (line : List Asked) → IsLineOf lined line → length (line_spelling lined line) ≤ 2625
-length-line true line is = omega (arith, length-pieces IsAsk ask_spelling 82 length-ask line is.each, is.fits)
-length-line false line is = omega arith
+length-asks : (asks : List Asked) → AreAsks asks → length (asks_spelling asks) ≤ 1 + 82 * length asks
+length-asks asks are = omega (arith, length-pieces IsAsk ask_spelling 82 length-ask asks are.each)
 
-pub length-round : (lined : Bool) (r : Phase × List Asked) → IsPhase r.0 × IsLineOf lined r.1 → length (round_spelling lined r.0 r.1) ≤ 57754
-length-round lined r is = omega (arith, length-append (phase_spelling r.0) (line_spelling lined r.1), length-phase r.0 is.0, length-line lined r.1 is.1)
+pub length-line : (layout : Layout) (line : List Asked) → IsLineOf layout line → length (line_spelling layout line) ≤ 2625
+length-line Plain line is = omega arith
+length-line Lined line is = omega (arith, length-asks line is, is.fits)
+length-line Shared line is = omega (arith, length-asks line is, is.fits)
 
-length-work : (lined : Bool) (w : Work) → IsWork lined w → length (work_spelling lined w) ≤ 113025
-length-work lined w is =
+-- the share, and the others of the pending round
+length-others : (layout : Layout) (share : ℕ) (others : List Asked) → AreOthersOf layout share others → length (others_spelling layout share others) ≤ 2 + 82 * length others
+length-others Plain share others are = omega arith
+length-others Lined share others are = omega arith
+length-others Shared share others are = omega (arith, length-asks others are.1)
+
+few_others : (layout : Layout) (share : ℕ) (others : List Asked) → AreOthersOf layout share others → length others ≤ 32
+few_others Plain share others are = omega (arith, ap length are.1)
+few_others Lined share others are = omega (arith, ap length are.1)
+few_others Shared share others are = are.1.fits
+
+abbrev pub AreRound : Layout → Phase × ((ℕ × List Asked) × List Asked) → Type 0
+AreRound layout r = IsPhase r.0 × (AreOthersOf layout r.1.0.0 r.1.0.1 × IsLineOf layout r.1.1)
+
+length-asked_beside : (layout : Layout) (r : Phase × ((ℕ × List Asked) × List Asked)) → AreRound layout r → length (round_spelling layout r.0 r.1.0.0 r.1.0.1 r.1.1) ≤ 57756 + 82 * length r.1.0.1
+length-asked_beside layout r is =
     omega (
       arith,
-      length-append (stored_spelling w.view w.number w.mine w.tag) (entering_spelling w.echoes w.need ++ round_spelling lined w.phase w.line),
+      length-append (phase_spelling r.0) (others_spelling layout r.1.0.0 r.1.0.1 ++ line_spelling layout r.1.1),
+      length-append (others_spelling layout r.1.0.0 r.1.0.1) (line_spelling layout r.1.1),
+      length-phase r.0 is.0,
+      length-others layout r.1.0.0 r.1.0.1 is.1.0,
+      length-line layout r.1.1 is.1.1,
+    )
+
+pub length-round : (layout : Layout) (r : Phase × ((ℕ × List Asked) × List Asked)) → AreRound layout r → length (round_spelling layout r.0 r.1.0.0 r.1.0.1 r.1.1) ≤ 60380
+length-round layout r is = omega (arith, length-asked_beside layout r is, few_others layout r.1.0.0 r.1.0.1 is.1.0)
+
+-- a lawful node has fewer others than its share
+length-work : (layout : Layout) (w : Work) → IsWork layout w → length w.others ≤ 31 → length (work_spelling layout w) ≤ 115569
+length-work layout w is few =
+    omega (
+      arith,
+      length-append (stored_spelling w.view w.number w.mine w.tag) (entering_spelling w.echoes w.need ++ round_spelling layout w.phase w.share w.others w.line),
       length-append (view_spelling w.view) (to_be_bytes w64 w.number ++ (value_spelling w.mine ++ to_be_bytes w64 w.tag)),
       length-append (value_spelling w.mine) (to_be_bytes w64 w.tag),
       length-view w.view is.view,
       length-value w.mine is.mine,
-      length-round lined (w.phase, w.line) (is.phase, is.line),
+      length-asked_beside layout (w.phase, ((w.share, w.others), w.line)) (is.phase, (is.others, is.line)),
+      few,
     )
 
 pub length-link : (e : ℕ × Link) → IsLink e → length (link_spelling e) ≤ 28
@@ -97,16 +130,18 @@ length-tables t is links answers =
 pub length-sessions : (m : FinMap nat_cmp ℕ) → IsTableOf IsSession 256 m → length (table_spelling session_spelling m) ≤ 4098
 length-sessions m is = omega (arith, length-table IsSession session_spelling 16 length-session m is.rows, is.fits)
 
-pub length-node : (lined : Bool) (bytes : List ℕ) (n : Node) → SpellsNode lined bytes n → length bytes ≤ 43980971
-length-node lined bytes n is =
+pub length-node : (layout : Layout) (bytes : List ℕ) (n : Node) → SpellsNode layout bytes n → length bytes ≤ 43983515
+length-node layout bytes n is =
     let s = state_of n in
     let fits = is.state.fits in
+    let round = is.lawful.core.line.round in
+    let few : length n.core.ops.others ≤ 31 = omega (arith, round.few, round.most) in
     omega (
       arith,
       ap length is.state.spelled,
-      length-append (membership_spelling s.membership) (work_spelling lined s.work ++ tables_spelling s.tables),
-      length-append (work_spelling lined s.work) (tables_spelling s.tables),
+      length-append (membership_spelling s.membership) (work_spelling layout s.work ++ tables_spelling s.tables),
+      length-append (work_spelling layout s.work) (tables_spelling s.tables),
       length-membership s.membership fits.membership,
-      length-work lined s.work fits.work,
+      length-work layout s.work fits.work few,
       length-tables s.tables fits.tables is.lawful.core.link_count (answers_within n is.lawful),
     )

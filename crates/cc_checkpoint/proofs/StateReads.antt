@@ -3,7 +3,7 @@
 --     missing_node, restored    what is missing is no node's state;  the node of the fields that were read, if there is one
 --     still_counts, rose    the count of failures stays with these;  a fault of reading is one of the sides
 --     head_fails            where no node has the state, the head fails
-use Rattle.std.proofs.Common.{◌≡◌, ℕ, Bool, slice_index, ◌+◌, ◌-◌, List, [], ◌++◌, take, drop, Some, None, Ok, Err, refl, ap, subst, ◌∙◌, inr, arith}
+use Rattle.std.proofs.Common.{◌≡◌, ℕ, slice_index, ◌+◌, ◌-◌, List, [], ◌++◌, take, drop, Some, None, Ok, Err, refl, ap, subst, ◌∙◌, inr, arith}
 use Rattle.std.specs.Prelude.{◌↔◌, Option, IfSome, IsTrue, is_some}
 use Rattle.std.specs.Option.{ok_or}
 use Rattle.cc_wire.specs.Reading.{whole}
@@ -12,7 +12,9 @@ use Rattle.cc_site.specs.declared.site.Side.{Side}
 use Rattle.cc_site.specs.Telling.{LooksAt}
 use Rattle.cc_node.specs.Lawful.{IsLawfulNode}
 use Rattle.cc_node.specs.Node.{Node}
-use Rattle.cc_node.specs.States.{State, has_line, state_at, node_of, state_of as state_of_node}
+use Rattle.cc_node.specs.Layouts.{layout_of}
+use Rattle.cc_node.specs.declared.layout.Layout.{Layout}
+use Rattle.cc_node.specs.States.{State, state_at, node_of, state_of as state_of_node}
 use Rattle.cc_checkpoint.specs.declared.read_fault.ReadFault.{ReadFault}
 use Rattle.cc_checkpoint.specs.declared.read_fault.ReadFault.TheVariants.{Device, NoMemory, NoState}
 use Rattle.cc_checkpoint.specs.Faults.{FaultRose}
@@ -25,15 +27,15 @@ ahead_all held bytes end size none is =
     let many : end - 14 ≡ size = omega (arith, is) in
     ap (λ (l : List ℕ). l ++ take (end - 14) (drop 14 bytes)) none ∙ ap (λ (n : ℕ). take n (drop 14 bytes)) many
 
-pub missing_node : (lined : Bool) (bytes : List ℕ) (fault : ReadFault) → Misses fault (whole (state_at lined) bytes) → NodeFound lined bytes (Err fault)
-missing_node lined bytes (Device fault) missing = tt
-missing_node lined bytes NoMemory missing = tt
-missing_node lined bytes NoState missing = λ node spelled. subst IsMissing (state_is_read lined bytes (state_of_node node) spelled.state) missing
+pub missing_node : (layout : Layout) (bytes : List ℕ) (fault : ReadFault) → Misses fault (whole (state_at layout) bytes) → NodeFound layout bytes (Err fault)
+missing_node layout bytes (Device fault) missing = tt
+missing_node layout bytes NoMemory missing = tt
+missing_node layout bytes NoState missing = λ node spelled. subst IsMissing (state_is_read layout bytes (state_of_node node) spelled.state) missing
 
-pub restored : (lined : Bool) (bytes : List ℕ) (s : State) (node : Option Node) → IsBytes bytes → whole (state_at lined) bytes ≡ Ok s → (IsTrue (is_some node) ↔ IsLawfulNode (node_of s)) → IfSome node (λ n. n ≡ node_of s)
-    → NodeFound lined bytes (ok_or node NoState)
-restored lined bytes s (Some n) fits read there is = decodes lined bytes s (Some n) fits read there is
-restored lined bytes s None fits read there is = λ n spelled. not_unlawful lined bytes n spelled (decodes lined bytes s None fits read there is)
+pub restored : (layout : Layout) (bytes : List ℕ) (s : State) (node : Option Node) → IsBytes bytes → whole (state_at layout) bytes ≡ Ok s → (IsTrue (is_some node) ↔ IsLawfulNode (node_of s)) → IfSome node (λ n. n ≡ node_of s)
+    → NodeFound layout bytes (ok_or node NoState)
+restored layout bytes s (Some n) fits read there is = decodes layout bytes s (Some n) fits read there is
+restored layout bytes s None fits read there is = λ n spelled. not_unlawful layout bytes n spelled (decodes layout bytes s None fits read there is)
 
 pub still_counts : (side : Side) (before now : ℕ) (node : Option Node) → now ≡ before → CountsRead side before now (ok_or node NoState)
 still_counts side before now (Some n) same = same
@@ -44,7 +46,7 @@ rose side before now (Device fault) told = told
 rose side before now NoMemory told = told
 rose side before now NoState told = told
 
-pub head_fails : (side : Side) (bytes : List ℕ) (fault : ReadFault) → HasState bytes → NodeFound (has_line (slice_index bytes 9)) (state_of bytes) (Err fault) → HeadFails side bytes (fault_of side fault)
+pub head_fails : (side : Side) (bytes : List ℕ) (fault : ReadFault) → HasState bytes → NodeFound (layout_of (slice_index bytes 9)) (state_of bytes) (Err fault) → HeadFails side bytes (fault_of side fault)
 head_fails side bytes (Device fault) there found = tt
 head_fails side bytes NoMemory there found = tt
 head_fails side bytes NoState there found = (refl, inr (inr (refl, there, found)))

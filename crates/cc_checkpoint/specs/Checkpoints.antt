@@ -18,7 +18,8 @@ use Rattle.cc_site.specs.Gates.{IsShut}
 use Rattle.cc_site.specs.Runs.{EachMoment}
 use Rattle.cc_site.specs.Crashes.{AfterCrash}
 use Rattle.cc_node.specs.Node.{Node, after}
-use Rattle.cc_node.specs.States.{state_spelling, state_of}
+use Rattle.cc_node.specs.Layouts.{version_of}
+use Rattle.cc_node.specs.States.{layout_of_node, node_spelling}
 use Rattle.cc_node.specs.Sides.{OPEN}
 use Rattle.cc_node.specs.Good.{IsGoodAt, RestsAt}
 use Rattle.cc_checkpoint.specs.Images.{image_spelling, SpellsImage}
@@ -30,7 +31,7 @@ abbrev pub IsSurelyShut : SideState → Type 0
 IsSurelyShut s = IsShut s.bytes → IsShutNow s
 
 abbrev pub image_of : ℕ → Node → List ℕ
-image_of generation node = image_spelling generation (state_spelling true (state_of node))
+image_of generation node = image_spelling (version_of (layout_of_node node)) generation (node_spelling node)
 
 -- a closed gate and the image, all of it made sure of
 pub record IsFilled (s : SideState) (generation : ℕ) (node : Node) : Type 0 where

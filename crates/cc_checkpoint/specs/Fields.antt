@@ -3,7 +3,7 @@
 --     state_in f      the state of all fields
 --     AreRead t       what holds of tables that were read: keys rise, and there are as many rows as may be
 --     CanBuild f      whether the parts of a node can be made of them
-use Rattle.std.specs.Prelude.{◌≤◌, ℕ, List, length}
+use Rattle.std.specs.Prelude.{◌<◌, ◌≤◌, ℕ, List, length}
 use Rattle.std.specs.Int.{w64}
 use Rattle.cc_views.specs.Limits.{counter_limit, known_limit, session_limit}
 use Rattle.cc_views.specs.Tables.{IsRising, table_of}
@@ -16,6 +16,7 @@ use Rattle.cc_outbox.specs.Outbox.{post_limit}
 use Rattle.cc_ops.specs.Ops.{Phase}
 use Rattle.cc_ops.specs.Stages.{phase_of, HasWaiting, WaitsBehind, HasRoom}
 use Rattle.cc_ops.specs.declared.pending.Asked.{Asked}
+use Rattle.cc_node.specs.Rounds.{share_limit}
 use Rattle.cc_node.specs.States as states
 use Rattle.cc_checkpoint.specs.declared.fields.Membership.{Membership}
 use Rattle.cc_checkpoint.specs.declared.fields.Own.{Own}
@@ -28,8 +29,8 @@ use Rattle.cc_checkpoint.specs.declared.fields.Fields.{Fields}
 abbrev pub membership_in : Membership → states.Membership
 membership_in m = record { me = m.me; beta = m.beta; gamma = m.gamma; changes = m.changes }
 
-abbrev pub round_in : Round → Phase × List Asked
-round_in r = (phase_of r.stage r.seen, r.line)
+abbrev pub round_in : Round → Phase × ((ℕ × List Asked) × List Asked)
+round_in r = (phase_of r.stage r.seen, ((r.share, r.others), r.line))
 
 abbrev pub own_at : Reading (ℕ × (Value × ℕ))
 own_at = number_at w64 ⊗ value_at ⊗ number_at w64
@@ -41,7 +42,18 @@ abbrev pub entering_in : Entering → ℕ × ℕ
 entering_in entering = (entering.echoes, entering.need)
 
 abbrev pub work_in : Work → states.Work
-work_in w = record { view = w.view; number = w.number; mine = w.mine; tag = w.tag; echoes = w.echoes; need = w.need; phase = (round_in w.round).0; line = (round_in w.round).1 }
+work_in w = record {
+  view = w.view;
+  number = w.number;
+  mine = w.mine;
+  tag = w.tag;
+  echoes = w.echoes;
+  need = w.need;
+  phase = (round_in w.round).0;
+  share = w.round.share;
+  others = w.round.others;
+  line = w.round.line;
+}
 
 abbrev pub tables_in : Tables → states.Tables
 tables_in t = record {
@@ -73,4 +85,7 @@ pub record CanBuild (f : Fields) : Type 0 where
   pub echoes : f.work.echoes ≤ counter_limit
   pub waits : HasWaiting f.work.round.stage
   pub behind : WaitsBehind f.work.round.stage f.work.round.line
+  pub some : 1 ≤ f.work.round.share
+  pub most : f.work.round.share ≤ share_limit
+  pub beside : length f.work.round.others < f.work.round.share
   pub room : HasRoom f.work.round.line f.work.mine

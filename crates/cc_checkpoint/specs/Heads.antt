@@ -4,12 +4,13 @@
 --     HeadFails              there is none, for this reason
 --     fault_of               why the state of a side can't be read, as a fault of the sides
 --     NodeFound              what reading a state tells
-use Rattle.std.specs.Prelude.{◌≡◌, ◌⊎◌, ℕ, ◌+◌, ◌<◌, ◌≤◌, Bool, List, length, take, drop, slice_index, Result, Ok, Err}
+use Rattle.std.specs.Prelude.{◌≡◌, ◌⊎◌, ℕ, ◌+◌, ◌<◌, ◌≤◌, List, length, take, drop, slice_index, Result, Ok, Err}
 use Rattle.std.specs.Int.{from_be_bytes, w32}
 use Rattle.cc_site.specs.declared.site.Side.{Side}
 use Rattle.cc_node.specs.Node.{Node}
-use Rattle.cc_node.specs.Sides.{IsVersion}
-use Rattle.cc_node.specs.States.{has_line, SpellsNode}
+use Rattle.cc_node.specs.declared.layout.Layout.{Layout}
+use Rattle.cc_node.specs.Layouts.{IsVersion, layout_of}
+use Rattle.cc_node.specs.States.{SpellsNode}
 use Rattle.cc_checkpoint.specs.declared.read_fault.ReadFault.{ReadFault}
 use Rattle.cc_checkpoint.specs.declared.read_fault.ReadFault.TheVariants as read_faults
 use Rattle.cc_checkpoint.specs.declared.open_fault.OpenFault.{OpenFault}
@@ -25,7 +26,7 @@ pub record HeadAt (bytes : List ℕ) (node : Node) (place : ℕ) : Type 0 where
   pub version : IsVersion (slice_index bytes 9)
   pub is : place ≡ 14 + size_of bytes
   pub long : 14 + size_of bytes ≤ length bytes
-  pub state : SpellsNode (has_line (slice_index bytes 9)) (state_of bytes) node
+  pub state : SpellsNode (layout_of (slice_index bytes 9)) (state_of bytes) node
 
 -- the version stands there, and is known
 pub record HasVersion (bytes : List ℕ) : Type 0 where
@@ -43,7 +44,7 @@ HeadFails side bytes (Damaged on place) =
     (on ≡ side)
     × (((place ≡ 9) × (length bytes < 10))
     ⊎ ((place ≡ 10) × HasVersion bytes × ((length bytes < 14) ⊎ (length bytes < 14 + size_of bytes)))
-    ⊎ ((place ≡ 14) × HasState bytes × ((node : Node) → SpellsNode (has_line (slice_index bytes 9)) (state_of bytes) node → ⊥)))
+    ⊎ ((place ≡ 14) × HasState bytes × ((node : Node) → SpellsNode (layout_of (slice_index bytes 9)) (state_of bytes) node → ⊥)))
 HeadFails side bytes (Version version) = (10 ≤ length bytes) × (slice_index bytes 9 ≡ version) × (¬ IsVersion version)
 HeadFails side bytes NotFormatted = ⊥
 HeadFails side bytes (Device fault) = Unit {0}
@@ -56,8 +57,8 @@ fault_of side read_faults.NoMemory = NoMemory
 fault_of side read_faults.NoState = Damaged side 14
 
 -- the node of that state is found, or there is none, but for want of memory and faults of the disk
-abbrev pub NodeFound : Bool → List ℕ → Result Node ReadFault → Type 0
-NodeFound lined bytes (Ok node) = SpellsNode lined bytes node
-NodeFound lined bytes (Err read_faults.NoState) = (node : Node) → SpellsNode lined bytes node → ⊥
-NodeFound lined bytes (Err read_faults.NoMemory) = Unit {0}
-NodeFound lined bytes (Err (read_faults.Device fault)) = Unit {0}
+abbrev pub NodeFound : Layout → List ℕ → Result Node ReadFault → Type 0
+NodeFound layout bytes (Ok node) = SpellsNode layout bytes node
+NodeFound layout bytes (Err read_faults.NoState) = (node : Node) → SpellsNode layout bytes node → ⊥
+NodeFound layout bytes (Err read_faults.NoMemory) = Unit {0}
+NodeFound layout bytes (Err (read_faults.Device fault)) = Unit {0}

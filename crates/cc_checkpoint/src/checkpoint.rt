@@ -1,7 +1,7 @@
 //! A checkpoint, step by step: the side that isn't in use is filled behind its closed gate, the gate is opened, and the
 //! other side is retired. A crash at any moment leaves two sides that stand for the node.
 
-ghost use Rattle.std.specs.Prelude.{true, ℕ, List, ◌≡◌, ◌↔◌, ◌+◌, ◌≤◌, ◌++◌, ◌∷◌, [], length, take, OnOk, OnErr, IfOk, IfErr};
+ghost use Rattle.std.specs.Prelude.{ℕ, List, ◌≡◌, ◌↔◌, ◌+◌, ◌≤◌, ◌++◌, ◌∷◌, [], length, take, OnOk, OnErr, IfOk, IfErr};
 ghost use Rattle.cc_wire.specs.declared.event.Event.{Event};
 ghost use Rattle.cc_site.specs.declared.site.Call.TheVariants.{Read, Write, Cut, Sync};
 ghost use Rattle.cc_site.specs.Sides.{durable, other, settled, written, MayHaveWritten};
@@ -10,11 +10,12 @@ ghost use Rattle.cc_site.specs.Gates.{IsShut};
 ghost use Rattle.cc_site.specs.Runs.{EachMoment};
 ghost use Rattle.cc_site.specs.Telling.{CountsCalls};
 ghost use Rattle.cc_node.specs.Node.{Node as NodeState, after};
-ghost use Rattle.cc_node.specs.States.{state_spelling, state_of, SpellsNode};
+ghost use Rattle.cc_node.specs.States.{SpellsNode, layout_of_node, node_spelling};
 ghost use Rattle.cc_node.specs.Sides.{IsArmed, OPEN};
 ghost use Rattle.cc_checkpoint.specs.Stops.{Fills, Retires, HasClosed, ClosingStops, IsPastGate, ImageStops, FillStops, RetireStops};
 ghost use Rattle.cc_checkpoint.specs.Checkpoints.{IsShutNow, IsSurelyShut, IsFilled, StaysBehind, KeepsOff, RestsOn, ArmsFor, IsGoodForAll, image_of};
 
+use crate::image::version_for;
 use crate::piece::Piece;
 use crate::pieces::{Pieces, state_length};
 use crate::spellable::node_is_spellable;
@@ -74,12 +75,12 @@ fn write_pieces<S: Site>(
     requires from { S.honest site.old → from ≡ length (S.state site.old side).bytes }
     requires there { 1 ≤ from }
     requires short { from ≤ 14 }
-    requires spelled { SpellsNode true (state_spelling true (state_of node.now)) node.now }
+    requires spelled { SpellsNode (layout_of_node node.now) (node_spelling node.now) node.now }
     ensures honest { S.honest site.old ↔ S.honest site.new }
     ensures tells { (S.tells site.old ↔ S.tells site.new) × (S.sent site.new ≡ S.sent site.old) }
     ensures other_side { S.honest site.old → S.state site.new (other side) ≡ S.state site.old (other side) }
-    ensures value { S.honest site.old → OnOk result ((S.state site.new side).bytes ≡ (S.state site.old side).bytes ++ state_spelling true (state_of node.now)) }
-    ensures end { IfOk result (λ end. end ≡ from + length (state_spelling true (state_of node.now))) }
+    ensures value { S.honest site.old → OnOk result ((S.state site.new side).bytes ≡ (S.state site.old side).bytes ++ node_spelling node.now) }
+    ensures end { IfOk result (λ end. end ≡ from + length (node_spelling node.now)) }
     ensures every_moment { S.honest site.old → StaysBehind S.Site side site.old site.new }
     ensures failed { S.honest site.old → IfErr result (λ f. IsPastGate (S.state site.old side) f.call (S.state site.new side)) }
     ensures fault { CountsCalls (Fills side) (S.failures site.old) (S.failures site.new) result }
@@ -103,7 +104,7 @@ fn write_image<S: Site>(
     piece: &mut Piece,
 ) -> Result<(), DeviceFault>
     requires there { S.honest site.old → 1 ≤ length (S.state site.old side).bytes }
-    requires spelled { SpellsNode true (state_spelling true (state_of node.now)) node.now }
+    requires spelled { SpellsNode (layout_of_node node.now) (node_spelling node.now) node.now }
     ensures honest { S.honest site.old ↔ S.honest site.new }
     ensures tells { (S.tells site.old ↔ S.tells site.new) × (S.sent site.new ≡ S.sent site.old) }
     ensures other_side { S.honest site.old → S.state site.new (other side) ≡ S.state site.old (other side) }
@@ -112,7 +113,7 @@ fn write_image<S: Site>(
     ensures failed { S.honest site.old → IfErr result (λ f. ImageStops (S.state site.old side) f.call (S.state site.new side)) }
     ensures fault { CountsCalls (Fills side) (S.failures site.old) (S.failures site.new) result }
 {
-    piece.begin(generation, state_length(node) as u32);
+    piece.begin(version_for(node), generation, state_length(node) as u32);
     begin_image(site, side, piece.as_slice())?;
     let end = write_pieces(site, side, STATE_PLACE, node, piece)?;
     write_durably(site, side, end, &[CLOSED_GATE])

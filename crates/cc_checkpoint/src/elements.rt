@@ -13,13 +13,14 @@ ghost use Rattle.cc_node.specs.States.{membership_at, entering_at, round_at, pha
 ghost use Rattle.cc_checkpoint.specs.Fields.{membership_in, own_at, own_in, entering_in, round_in};
 
 use crate::fields::{Entering, Membership, Own, Round};
-use crate::parts::{COUNT, FRACTION, ID, LINK, NUMBER, SESSION, line_len, pending_len};
+use crate::parts::{COUNT, FRACTION, ID, LINK, NUMBER, SESSION, line_len, others_len, pending_len};
 use crate::piece::Piece;
 use crate::state_reader::{
     read_entering, read_kept_answer, read_link, read_membership, read_own, read_round,
     read_session_table,
 };
 use cc_links::LinkRow;
+use cc_node::Layout;
 use cc_ops::Stage;
 use cc_outbox::KeptAnswer;
 use cc_sessions::SessionRow;
@@ -74,23 +75,22 @@ fn phase_len(round: &Round) -> usize
     }
 }
 
-// How many bytes it has, in a format that has a place for asks that wait or not.
-fn round_len(round: &Round, lined: bool) -> usize
-    ensures { result ≡ length (round_spelling lined (round_in round.now).0 (round_in round.now).1) }
+fn round_len(round: &Round, layout: Layout) -> usize
+    ensures { result ≡ length (round_spelling layout (round_in round.now).0 round.now.share round.now.others round.now.line) }
 {
-    if lined {
-        phase_len(round) + line_len(&round.line)
-    } else {
-        phase_len(round)
-    }
+    phase_len(round) + others_len(&round.others, layout) + line_len(&round.line, layout)
 }
 
-pub(crate) fn take_round(alloc: Global, piece: &mut Piece, lined: bool) -> Result<Round, WireFault>
-    ensures { Gives (λ x. (round_in x, piece.new)) result (round_at lined piece.old) }
+pub(crate) fn take_round(
+    alloc: Global,
+    piece: &mut Piece,
+    layout: Layout,
+) -> Result<Round, WireFault>
+    ensures { Gives (λ x. (round_in x, piece.new)) result (round_at layout piece.old) }
 {
     let mut reader = piece.reader();
-    let round = read_round(alloc, &mut reader, lined)?;
-    piece.advance(round_len(&round, lined));
+    let round = read_round(alloc, &mut reader, layout)?;
+    piece.advance(round_len(&round, layout));
     Ok(round)
 }
 

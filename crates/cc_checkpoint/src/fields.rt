@@ -2,7 +2,7 @@
 
 use cc_changes::{Changes, Fraction};
 use cc_links::LinkRow;
-use cc_ops::{Stage, WaitingLine};
+use cc_ops::{AskList, Stage};
 use cc_outbox::KeptAnswer;
 use cc_sessions::SessionRow;
 use cc_views::{NodeId, Value, View};
@@ -31,13 +31,15 @@ pub(crate) struct Entering {
     pub need: u16,
 }
 
-/// How far the pending operation has come, what it stores back (where it stores nothing back, a view without rows), and
-/// the asks that wait behind it.
+/// How far the pending round has come, what it stores back (where it stores nothing back, a view without rows), how many
+/// asks it has at most, those beside its first one, and the asks that wait behind it.
 #[derive(Debug, Drop)]
 pub(crate) struct Round {
     pub stage: Stage,
     pub seen: View,
-    pub line: WaitingLine,
+    pub share: usize,
+    pub others: AskList,
+    pub line: AskList,
 }
 
 #[derive(Debug, Drop)]

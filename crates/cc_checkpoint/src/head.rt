@@ -1,21 +1,20 @@
 //! The state of an armed side.
 
 ghost use Rattle.std.specs.Prelude.{◌≡◌, ◌≤◌, ◌+◌, length, slice_index, take, drop, IfOk, MatchResult};
-ghost use Rattle.cc_node.specs.States.{has_line};
+ghost use Rattle.cc_node.specs.Layouts.{layout_of};
 ghost use Rattle.cc_site.specs.Reads.{OnlyReads};
 ghost use Rattle.cc_site.specs.Telling.{LooksAt};
 ghost use Rattle.cc_checkpoint.specs.Faults.{CountsDevice};
 ghost use Rattle.cc_checkpoint.specs.Heads.{size_of, state_of, fault_of, HasState, HeadAt, HeadFails, NodeFound};
 ghost use Rattle.cc_checkpoint.specs.Windows.{CountsRead};
 
-use crate::image::VERSION;
 use crate::open_fault::OpenFault;
 use crate::piece::Piece;
 use crate::read_fault::ReadFault;
 use crate::restore::restore;
 use crate::side_reader::read_off;
 use crate::unread::Unread;
-use cc_node::Node;
+use cc_node::{Layout, Node};
 use cc_site::{Side, Site, length_of, read_into};
 use std::alloc::Global;
 
@@ -39,11 +38,11 @@ fn read_node<S: Site>(
     site: &mut S,
     side: Side,
     size: u32,
-    lined: bool,
+    layout: Layout,
     piece: &mut Piece,
 ) -> Result<Node, ReadFault>
     requires { S.honest site.old → 14 + size ≤ length (S.state site.old side).bytes }
-    ensures found { S.honest site.old → NodeFound lined (take size (drop 14 (S.state site.old side).bytes)) result }
+    ensures found { S.honest site.old → NodeFound layout (take size (drop 14 (S.state site.old side).bytes)) result }
     ensures reads { OnlyReads S.Site site.old site.new }
     ensures fault { CountsRead side (S.failures site.old) (S.failures site.new) result }
 {
@@ -53,15 +52,14 @@ fn read_node<S: Site>(
         place: STATE_PLACE,
         end: STATE_PLACE + u64::from(size),
     };
-    let fields = read_off(alloc, site, piece, &mut unread, lined)?;
+    let fields = read_off(alloc, site, piece, &mut unread, layout)?;
     let node = restore(alloc, fields)?;
     node.ok_or(ReadFault::NoState)
 }
 
-// Whether the version that stands before the state has a place for asks that wait, where it is known, and how long the
-// state is.
-fn state_size<S: Site>(site: &mut S, side: Side) -> Result<(bool, u32), OpenFault>
-    ensures exact { S.honest site.old → MatchResult result (λ found. HasState (S.state site.old side).bytes × (found.0 ≡ has_line (slice_index (S.state site.old side).bytes 9)) × (found.1 ≡ size_of (S.state site.old side).bytes)) (HeadFails side (S.state site.old side).bytes) }
+// The layout of the version that stands before the state, where it is known, and how long the state is.
+fn state_size<S: Site>(site: &mut S, side: Side) -> Result<(Layout, u32), OpenFault>
+    ensures exact { S.honest site.old → MatchResult result (λ found. HasState (S.state site.old side).bytes × (found.0 ≡ layout_of (slice_index (S.state site.old side).bytes 9)) × (found.1 ≡ size_of (S.state site.old side).bytes)) (HeadFails side (S.state site.old side).bytes) }
     ensures reads { OnlyReads S.Site site.old site.new }
     ensures fault { CountsDevice (LooksAt side) (S.failures site.old) (S.failures site.new) result }
 {
@@ -71,9 +69,9 @@ fn state_size<S: Site>(site: &mut S, side: Side) -> Result<(bool, u32), OpenFaul
     }
     let mut version = [0];
     read_into(site, side, 9, &mut version)?;
-    if version[0] != 1 && version[0] != VERSION {
+    let Some(layout) = Layout::of(version[0]) else {
         return Err(OpenFault::Version(version[0]));
-    }
+    };
     if len < 14 {
         return Err(OpenFault::Damaged(side, 10));
     }
@@ -83,7 +81,7 @@ fn state_size<S: Site>(site: &mut S, side: Side) -> Result<(bool, u32), OpenFaul
     if len < 14 + u64::from(size) {
         return Err(OpenFault::Damaged(side, 10));
     }
-    Ok((version[0] != 1, size))
+    Ok((layout, size))
 }
 
 /// Reads the state of an armed side: the node, and the place of the gate behind its state. Damaged at place 9 where no
@@ -100,8 +98,8 @@ pub fn read_state<S: Site>(
     ensures reads { OnlyReads S.Site site.old site.new }
     ensures fault { CountsDevice (LooksAt side) (S.failures site.old) (S.failures site.new) result }
 {
-    let (lined, size) = state_size(site, side)?;
-    match read_node(alloc, site, side, size, lined, piece) {
+    let (layout, size) = state_size(site, side)?;
+    match read_node(alloc, site, side, size, layout, piece) {
         Ok(node) => Ok((node, STATE_PLACE + u64::from(size))),
         Err(fault) => Err(fault_of(side, fault)),
     }

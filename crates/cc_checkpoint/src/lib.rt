@@ -27,9 +27,10 @@ pub use checkpoint::{arm, fill, retire};
 pub use choosing::{InUse, Peeked, choose, peek};
 pub use fault::StateFault;
 pub use head::read_state;
-pub use image::{VERSION, encode_image};
+pub use image::encode_image;
 pub use laws::{
-    largest_node, lawful_states_are_of_nodes, one_spelling_of_nodes, one_spelling_of_states,
+    each_node_has_one_layout, largest_node, lawful_states_are_of_nodes, one_spelling_of_nodes,
+    one_spelling_of_states,
 };
 pub use open_fault::OpenFault;
 pub use piece::Piece;

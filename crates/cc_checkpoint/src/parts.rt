@@ -1,19 +1,19 @@
 //! A node's state in the parts that it is written in, each of which a piece has room for.
 
-ghost use Rattle.std.specs.Prelude.{true, ◌≡◌, ◌≤◌, ◌<◌, ◌*◌, ◌^◌, ℕ, [], get_or, length};
+ghost use Rattle.std.specs.Prelude.{◌≡◌, ◌≤◌, ◌<◌, ◌+◌, ◌*◌, ◌^◌, ℕ, [], get_or, length};
 ghost use Rattle.std.specs.List.{flat_map};
 ghost use Rattle.cc_ops.specs.Waiting.{line_limit};
 ghost use Rattle.std.specs.FinMap as table;
 ghost use Rattle.cc_wire.specs.Writing.{Writes};
-ghost use Rattle.cc_node.specs.States.{membership_spelling, membership_of, pending_spelling, phase_spelling, ask_spelling, line_spelling, round_spelling};
-ghost use Rattle.cc_checkpoint.specs.Parts.{own_spelling, front_spelling, kept_parts, parts_of};
+ghost use Rattle.cc_node.specs.States.{membership_spelling, membership_of, pending_spelling, phase_spelling, ask_spelling, asks_spelling, line_spelling, others_spelling};
+ghost use Rattle.cc_checkpoint.specs.Parts.{own_spelling, operations_spelling, front_spelling, kept_parts, parts_of};
 
 use crate::state_writer::{
     put_entering, put_kept_answer, put_link_table, put_membership, put_operations,
     put_session_table, put_stored,
 };
-use cc_node::{Core, Node};
-use cc_ops::{Asked, Ops, Pending, Stage, WaitingLine};
+use cc_node::{Core, Layout, Node};
+use cc_ops::{AskList, Asked, Ops, Pending, Stage};
 use cc_outbox::Outbox;
 use cc_wire::{
     Message, answer_len, changes_len, command_len, message_len, put_message, put_u16, put_u64,
@@ -96,20 +96,44 @@ fn asks_len(asks: &[Asked]) -> usize
     }
 }
 
-/// How many bytes the asks that wait have.
-pub(crate) fn line_len(line: &WaitingLine) -> usize
-    ensures len { result ≡ length (line_spelling true line.now) }
+fn ask_list_len(list: &AskList) -> usize
+    ensures len { result ≡ length (asks_spelling list.now) }
+    ensures each { result ≤ 1 + 82 * length list.now }
     ensures fits { result ≤ 2625 }
 {
-    1 + asks_len(line.asks())
+    1 + asks_len(list.asks())
+}
+
+/// How many bytes the asks that wait have.
+pub(crate) fn line_len(line: &AskList, layout: Layout) -> usize
+    ensures len { result ≡ length (line_spelling layout line.now) }
+    ensures fits { result ≤ 2625 }
+{
+    match layout {
+        Layout::Plain => 0,
+        Layout::Lined | Layout::Shared => ask_list_len(line),
+    }
+}
+
+/// How many bytes the share and the others of the pending round have.
+pub(crate) fn others_len(others: &AskList, layout: Layout) -> usize
+    ensures len { (share : ℕ) → result ≡ length (others_spelling layout share others.now) }
+    ensures each { result ≤ 2 + 82 * length others.now }
+    ensures fits { result ≤ 2626 }
+{
+    match layout {
+        Layout::Plain | Layout::Lined => 0,
+        Layout::Shared => 1 + ask_list_len(others),
+    }
 }
 
 fn operations_len(ops: &Ops) -> usize
-    ensures len { result ≡ length (round_spelling true ops.now.phase ops.now.line) }
+    ensures len { result ≡ length (operations_spelling ops.now) }
     ensures some { 1 ≤ result }
-    ensures fits { result ≤ 57754 }
+    ensures fits { result ≤ 60298 }
 {
-    phase_len(ops) + line_len(ops.line())
+    let layout = Layout::of_share(ops.share());
+    phase_len(ops) + others_len(ops.others(), layout) + line_len(ops.line(), layout)
 }
 
 fn front_len(core: &Core) -> usize
@@ -153,7 +177,7 @@ pub(crate) fn part_len(node: &Node, at: usize) -> usize
     requires { at < length (parts_of node.now) }
     ensures len { result ≡ length (get_or (parts_of node.now) at []) }
     ensures some { 1 ≤ result }
-    ensures fits { result ≤ 58126 }
+    ensures fits { result ≤ 60298 }
 {
     let core = node.core();
     match at {

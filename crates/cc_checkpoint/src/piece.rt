@@ -7,11 +7,9 @@ ghost use Rattle.cc_wire.specs.Writing.{Writes};
 ghost use Rattle.cc_site.specs.declared.site.Call.TheVariants.{Read};
 ghost use Rattle.cc_site.specs.Moments.{CountsFault};
 ghost use Rattle.cc_site.specs.Reads.{OnlyReads};
-ghost use Rattle.cc_node.specs.Sides.{VERSION as VERSION_BYTE};
 ghost use Rattle.cc_checkpoint.specs.Parts.{parts_of, joined, piece_limit};
 ghost use Rattle.cc_checkpoint.specs.Windows.{AreBytes};
 
-use crate::image::VERSION;
 use crate::parts::{part_count, part_len, put_part};
 use cc_node::Node;
 use cc_site::{DeviceFault, Side, Site, read_into};
@@ -42,11 +40,11 @@ impl Model for Piece {
 }
 
 // Puts what stands between the gate of a side and its state.
-fn put_head(out: &mut Vec<u8>, generation: u64, length: u32) -> Result<(), AllocError>
-    ensures { Writes out.old out.new (to_be_bytes w64 generation ++ VERSION_BYTE ∷ to_be_bytes w32 length) result }
+fn put_head(out: &mut Vec<u8>, version: u8, generation: u64, length: u32) -> Result<(), AllocError>
+    ensures { Writes out.old out.new (to_be_bytes w64 generation ++ version ∷ to_be_bytes w32 length) result }
 {
     put_u64(out, generation)?;
-    put_u8(out, VERSION)?;
+    put_u8(out, version)?;
     put_u32(out, length)
 }
 
@@ -176,13 +174,13 @@ impl Piece {
         read_behind(&mut self.bytes, site, side, place, count)
     }
 
-    /// What stands between the gate of a side and a state of that length.
-    pub(crate) fn begin(&mut self, generation: u64, length: u32)
-        ensures { self.new ≡ to_be_bytes w64 generation ++ VERSION_BYTE ∷ to_be_bytes w32 length }
+    /// What stands between the gate of a side and a state of that version and length.
+    pub(crate) fn begin(&mut self, version: u8, generation: u64, length: u32)
+        ensures { self.new ≡ to_be_bytes w64 generation ++ version ∷ to_be_bytes w32 length }
     {
         self.bytes.clear();
         self.start = 0;
-        put_head(&mut self.bytes, generation, length).unwrap();
+        put_head(&mut self.bytes, version, generation, length).unwrap();
     }
 
     /// The parts of a node's state from one on, as many as there is room for. The one behind them.

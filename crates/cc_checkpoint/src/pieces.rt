@@ -1,7 +1,7 @@
 //! A node's state in pieces, so that it is written through one buffer, however long it is.
 
-ghost use Rattle.std.specs.Prelude.{true, ℕ, List, ◌≡◌, ◌≤◌, ◌<◌, ◌^◌, ◌++◌, [], length};
-ghost use Rattle.cc_node.specs.States.{state_spelling, state_of};
+ghost use Rattle.std.specs.Prelude.{ℕ, List, ◌≡◌, ◌≤◌, ◌<◌, ◌^◌, ◌++◌, [], length};
+ghost use Rattle.cc_node.specs.States.{node_spelling};
 ghost use Rattle.cc_checkpoint.specs.Parts.{parts_of, joined, piece_limit};
 
 use crate::parts::{part_count, part_len};
@@ -11,7 +11,7 @@ use std::marker::Model;
 
 /// How many bytes the spelling of a node's state has: so few that four bytes tell it.
 pub fn state_length(node: &Node) -> u64
-    ensures len { result ≡ length (state_spelling true (state_of node.now)) }
+    ensures len { result ≡ length (node_spelling node.now) }
     ensures short { result < 2 ^ 32 }
 {
     let mut length = 0;
@@ -44,7 +44,7 @@ impl<'a> Pieces<'a> {
     /// The whole state of the node: its parts one after the other are its spelling.
     pub fn new(node: &'a Node) -> Self
         ensures parts { result ≡ parts_of node.now }
-        ensures whole { joined result ≡ state_spelling true (state_of node.now) }
+        ensures whole { joined result ≡ node_spelling node.now }
     {
         Pieces { node, at: 0 }
     }

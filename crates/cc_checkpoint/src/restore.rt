@@ -10,14 +10,15 @@ ghost use Rattle.cc_outbox.specs.Outbox.{post_limit};
 ghost use Rattle.cc_outbox.specs.Rows as kept_rows;
 ghost use Rattle.cc_ops.specs.Stages.{HasWaiting, WaitsBehind, HasRoom};
 ghost use Rattle.cc_node.specs.Lawful.{IsLawfulNode};
+ghost use Rattle.cc_node.specs.Rounds.{share_limit};
 ghost use Rattle.cc_node.specs.States.{numbered_to, node_of};
 ghost use Rattle.cc_checkpoint.specs.Fields.{round_in, state_in, AreRead, CanBuild};
 
 use crate::fields::{Fields, Membership, Round, Tables, Work};
 use cc_churn::Churn;
 use cc_links::{LinkRow, Links};
-use cc_node::{CoreParts, Node};
-use cc_ops::{Ops, Stage, WaitingLine};
+use cc_node::{CoreParts, Node, Opening};
+use cc_ops::{AskList, Ops, Stage};
 use cc_outbox::{KeptAnswer, Outbox};
 use cc_sessions::{SessionRow, Sessions};
 use cc_views::{COUNTER_LIMIT, NoMemory, Value};
@@ -63,7 +64,18 @@ fn can_build(fields: &Fields) -> bool
     if !has_waiting(work.round.stage) {
         return false;
     }
+    if !share_fits(&work.round) {
+        return false;
+    }
     line_fits(&work.round, &work.mine)
+}
+
+// Whether a round may have as many asks, and the pending one has no more.
+fn share_fits(round: &Round) -> bool
+    ensures { IsTrue result ↔ ((1 ≤ round.now.share) × ((round.now.share ≤ share_limit) × (length round.now.others < round.now.share))) }
+{
+    let others = round.others.asks();
+    round.share >= 1 && round.share <= Opening::MAX_SHARE && others.len() < round.share
 }
 
 // Whether asks wait only behind a pending operation, and the own set has room for what they put in.
@@ -76,7 +88,7 @@ fn line_fits(round: &Round, mine: &Value) -> bool
     round.line.last_value(mine).is_some()
 }
 
-fn waits_behind(stage: Stage, line: &WaitingLine) -> bool
+fn waits_behind(stage: Stage, line: &AskList) -> bool
     ensures { IsTrue result ↔ WaitsBehind stage line.now }
 {
     match stage {
@@ -134,13 +146,16 @@ fn keep_answers(outbox: &mut Outbox, answers: Vec<KeptAnswer>)
     }
 }
 
-fn ops_of(work: Work) -> Ops
+fn ops_of(alloc: Global, work: Work) -> Result<Ops, NoMemory>
     requires number { work.number ≤ counter_limit }
     requires tag { work.tag ≤ counter_limit }
     requires waits { HasWaiting work.round.stage }
     requires behind { WaitsBehind work.round.stage work.round.line }
+    requires some { 1 ≤ work.round.share }
+    requires most { work.round.share ≤ share_limit }
+    requires beside { length work.round.others < work.round.share }
     requires room { HasRoom work.round.line work.mine }
-    ensures { result ≡ record { view = work.view; number = work.number; mine = work.mine; tag = work.tag; phase = (round_in work.round).0; line = (round_in work.round).1 } }
+    ensures { IfOk result (λ o. o ≡ record { view = work.view; number = work.number; mine = work.mine; tag = work.tag; share = work.round.share; phase = (round_in work.round).0; others = work.round.others; line = work.round.line }) }
 {
     let Work {
         view,
@@ -150,8 +165,16 @@ fn ops_of(work: Work) -> Ops
         round,
         ..
     } = work;
-    let Round { stage, seen, line } = round;
-    Ops::from_parts(view, number, mine, tag, stage, seen, line)
+    let Round {
+        stage,
+        seen,
+        share,
+        others,
+        line,
+    } = round;
+    Ops::from_parts(
+        alloc, view, number, mine, tag, share, stage, seen, others, line,
+    )
 }
 
 // What a node has in tables.
@@ -203,6 +226,9 @@ pub(crate) fn restore(alloc: Global, fields: Fields) -> Result<Option<Node>, NoM
         tables,
     } = fields;
     let posts = tables.posts;
+    let echoes = work.echoes;
+    let need = u64::from(work.need);
+    let ops = ops_of(alloc, work)?;
     let NodeTables {
         links,
         sessions,
@@ -218,8 +244,8 @@ pub(crate) fn restore(alloc: Global, fields: Fields) -> Result<Option<Node>, NoM
         me,
         beta,
         gamma,
-        churn: Churn::from_parts(changes, work.echoes, u64::from(work.need)),
-        ops: ops_of(work),
+        churn: Churn::from_parts(changes, echoes, need),
+        ops,
         posts,
         links,
         sessions,

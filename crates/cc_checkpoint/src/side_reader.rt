@@ -25,6 +25,7 @@ use crate::read_fault::ReadFault;
 use crate::unread::Unread;
 use crate::window::refill;
 use cc_links::LinkRow;
+use cc_node::Layout;
 use cc_outbox::{KeptAnswer, Outbox};
 use cc_sessions::SessionRow;
 use cc_site::Site;
@@ -41,7 +42,7 @@ const OWN: usize = 219;
 
 const ENTERING: usize = NUMBER + COUNT;
 
-const ROUND: usize = 57_754;
+const ROUND: usize = 60_380;
 
 const SESSION_TABLE: usize = 4_098;
 
@@ -100,13 +101,13 @@ fn read_round<S: Site>(
     site: &mut S,
     piece: &mut Piece,
     unread: &mut Unread,
-    lined: bool,
+    layout: Layout,
 ) -> Result<Round, ReadFault>
     requires { LiesOn S.Site site.old unread.old }
-    ensures { ReadsOff S.Site (round_at lined) (at site.old piece.old unread.old) (at site.new piece.new unread.new) (seen_by round_in result) }
+    ensures { ReadsOff S.Site (round_at layout) (at site.old piece.old unread.old) (at site.new piece.new unread.new) (seen_by round_in result) }
 {
     refill(site, piece, unread, ROUND)?;
-    Ok(take_round(alloc, piece, lined)?)
+    Ok(take_round(alloc, piece, layout)?)
 }
 
 fn read_number<S: Site>(
@@ -302,15 +303,15 @@ fn read_work<S: Site>(
     site: &mut S,
     piece: &mut Piece,
     unread: &mut Unread,
-    lined: bool,
+    layout: Layout,
 ) -> Result<Work, ReadFault>
     requires { LiesOn S.Site site.old unread.old }
-    ensures { ReadsOff S.Site (work_at lined) (at site.old piece.old unread.old) (at site.new piece.new unread.new) (seen_by work_in result) }
+    ensures { ReadsOff S.Site (work_at layout) (at site.old piece.old unread.old) (at site.new piece.new unread.new) (seen_by work_in result) }
 {
     let view = read_view(alloc, site, piece, unread)?;
     let Own { number, mine, tag } = read_own(site, piece, unread)?;
     let Entering { echoes, need } = read_entering(site, piece, unread)?;
-    let round = read_round(alloc, site, piece, unread, lined)?;
+    let round = read_round(alloc, site, piece, unread, layout)?;
     Ok(Work {
         view,
         number,
@@ -351,14 +352,14 @@ fn read_fields<S: Site>(
     site: &mut S,
     piece: &mut Piece,
     unread: &mut Unread,
-    lined: bool,
+    layout: Layout,
 ) -> Result<Fields, ReadFault>
     requires { LiesOn S.Site site.old unread.old }
-    ensures exact { ReadsOff S.Site (state_at lined) (at site.old piece.old unread.old) (at site.new piece.new unread.new) (seen_by state_in result) }
+    ensures exact { ReadsOff S.Site (state_at layout) (at site.old piece.old unread.old) (at site.new piece.new unread.new) (seen_by state_in result) }
     ensures read { IfOk result (λ x. AreRead x.tables) }
 {
     let membership = read_membership(alloc, site, piece, unread)?;
-    let work = read_work(alloc, site, piece, unread, lined)?;
+    let work = read_work(alloc, site, piece, unread, layout)?;
     let tables = read_tables(alloc, site, piece, unread)?;
     Ok(Fields {
         membership,
@@ -380,14 +381,14 @@ pub(crate) fn read_off<S: Site>(
     site: &mut S,
     piece: &mut Piece,
     unread: &mut Unread,
-    lined: bool,
+    layout: Layout,
 ) -> Result<Fields, ReadFault>
     requires { LiesOn S.Site site.old unread.old }
-    ensures exact { S.honest site.old → Finds state_in result (whole (state_at lined) (ahead S.Site (at site.old piece.old unread.old))) }
+    ensures exact { S.honest site.old → Finds state_in result (whole (state_at layout) (ahead S.Site (at site.old piece.old unread.old))) }
     ensures read { IfOk result (λ x. AreRead x.tables) }
     ensures run { Runs S.Site (at site.old piece.old unread.old) (at site.new piece.new unread.new) result }
 {
-    let fields = read_fields(alloc, site, piece, unread, lined)?;
+    let fields = read_fields(alloc, site, piece, unread, layout)?;
     if !is_all_read(piece, unread) {
         return Err(ReadFault::NoState);
     }

@@ -1,7 +1,7 @@
 //! Every state of a node has a spelling. These functions change nothing and answer nothing: their contracts are what they
 //! are for.
 
-ghost use Rattle.std.specs.Prelude.{true, ◌≡◌, ◌<◌, ◌^◌};
+ghost use Rattle.std.specs.Prelude.{◌≡◌, ◌<◌, ◌^◌};
 ghost use Rattle.std.specs.List.{AllByRecursion};
 ghost use Rattle.std.specs.FinMap as table;
 ghost use Rattle.cc_views.specs.Limits.{known_limit, session_limit};
@@ -9,13 +9,14 @@ ghost use Rattle.cc_wire.specs.Messages.{IsMessage};
 ghost use Rattle.cc_links.specs.Rows as links;
 ghost use Rattle.cc_sessions.specs.Rows as sessions;
 ghost use Rattle.cc_outbox.specs.Rows as answers;
-ghost use Rattle.cc_node.specs.States.{IsFraction, IsMembership, membership_of, IsPending, IsPhase, IsAsk, IsLine, IsWork, work_of, IsTableOf, IsLink, IsSession, IsKeptAnswer, IsKeptPosts, IsState, state_of, state_spelling, SpellsNode};
+ghost use Rattle.cc_node.specs.Layouts.{layout_for};
+ghost use Rattle.cc_node.specs.States.{IsFraction, IsMembership, membership_of, IsPending, IsPhase, IsAsk, AreAsks, IsLineOf, AreOthersOf, IsWork, work_of, IsTableOf, IsLink, IsSession, IsKeptAnswer, IsKeptPosts, IsState, state_of, SpellsNode, layout_of_node, node_spelling};
 
 use crate::parts::kept_post;
 use cc_changes::Fraction;
 use cc_links::{LinkRow, Links};
 use cc_node::{Core, Node};
-use cc_ops::{Asked, Ops, Pending, Stage, WaitingLine};
+use cc_ops::{AskList, Asked, Ops, Pending, Stage};
 use cc_outbox::{KeptAnswer, Outbox};
 use cc_sessions::{SessionRow, Sessions};
 use cc_wire::{
@@ -79,15 +80,28 @@ fn asks_are_spellable(asks: &[Asked])
     }
 }
 
-fn line_is_spellable(line: &WaitingLine)
-    ensures { IsLine line.now }
+fn ask_list_is_spellable(list: &AskList)
+    ensures { AreAsks list.now }
 {
-    asks_are_spellable(line.asks());
+    asks_are_spellable(list.asks());
+}
+
+fn line_is_spellable(ops: &Ops)
+    ensures { IsLineOf (layout_for ops.now.share) ops.now.line }
+{
+    ask_list_is_spellable(ops.line());
+}
+
+fn others_are_spellable(ops: &Ops)
+    ensures { AreOthersOf (layout_for ops.now.share) ops.now.share ops.now.others }
+{
+    let _ = ops.share();
+    ask_list_is_spellable(ops.others());
 }
 
 fn work_is_spellable(core: &Core)
     requires { core.now.churn.need < 2 ^ 16 }
-    ensures { IsWork true (work_of core.now) }
+    ensures { IsWork (layout_for core.now.ops.share) (work_of core.now) }
 {
     let ops = core.ops();
     view_is_spellable(ops.view());
@@ -96,7 +110,8 @@ fn work_is_spellable(core: &Core)
     let _ = ops.tag();
     let _ = core.churn().echoes();
     phase_is_spellable(ops);
-    line_is_spellable(ops.line());
+    others_are_spellable(ops);
+    line_is_spellable(ops);
 }
 
 fn link_is_spellable(row: &LinkRow)
@@ -174,7 +189,7 @@ fn answers_are_spellable(outbox: &Outbox)
 
 /// Every state of a node has a spelling.
 pub(crate) fn node_is_spellable(node: &Node)
-    ensures { SpellsNode true (state_spelling true (state_of node.now)) node.now }
+    ensures { SpellsNode (layout_of_node node.now) (node_spelling node.now) node.now }
 {
     let core = node.core();
     let outbox = node.outbox();

@@ -10,13 +10,14 @@ ghost use Rattle.cc_links.specs.Rows as links;
 ghost use Rattle.cc_sessions.specs.Rows as sessions;
 ghost use Rattle.cc_outbox.specs.Outbox.{post_limit};
 ghost use Rattle.cc_outbox.specs.Rows as answers;
-ghost use Rattle.cc_node.specs.States.{fraction_at, membership_at, pending_at, phase_at, ask_at, asks_at, line_at, round_at, entering_at, work_at, rows_at, row_list_at, table_at, link_at, session_from, session_at, kept_answer_at, posts_at, kept_at, most_rows, tables_at, state_at};
+ghost use Rattle.cc_node.specs.States.{fraction_at, membership_at, pending_at, phase_at, ask_at, asks_at, ask_list_at, line_at, share_at, others_at, round_at, entering_at, work_at, rows_at, row_list_at, table_at, link_at, session_from, session_at, kept_answer_at, posts_at, kept_at, most_rows, tables_at, state_at};
 ghost use Rattle.cc_checkpoint.specs.Fields.{membership_in, own_at, own_in, entering_in, round_in, work_in, tables_in, state_in, AreRead};
 
 use crate::fields::{Entering, Fields, Membership, Own, Round, Tables, Work};
 use cc_changes::Fraction;
 use cc_links::LinkRow;
-use cc_ops::{Asked, Pending, Stage, WaitingLine};
+use cc_node::{Layout, Opening};
+use cc_ops::{AskList, Asked, Pending, Stage};
 use cc_outbox::{KeptAnswer, Outbox};
 use cc_sessions::{SessionRow, Sessions};
 use cc_views::View;
@@ -112,7 +113,7 @@ fn read_ask(reader: &mut Reader<'_>) -> Result<(u64, u64, Command), WireFault>
     Ok((session, request, command))
 }
 
-fn read_asks(line: &mut WaitingLine, reader: &mut Reader<'_>, count: u8) -> Result<(), WireFault>
+fn read_asks(line: &mut AskList, reader: &mut Reader<'_>, count: u8) -> Result<(), WireFault>
     requires empty { line.old ≡ [] }
     requires few { count ≤ line_limit }
     ensures { Gives (λ _. (line.new, reader.new)) result (asks_at count reader.old) }
@@ -128,32 +129,82 @@ fn read_asks(line: &mut WaitingLine, reader: &mut Reader<'_>, count: u8) -> Resu
     Ok(())
 }
 
-// The asks that wait, where the format has a place for them; else none.
-#[tactic(auto, unfolding(cc_node::specs::States::some_line_at))]
-fn read_line(alloc: Global, reader: &mut Reader<'_>, lined: bool) -> Result<WaitingLine, WireFault>
-    ensures { Gives (λ x. (x, reader.new)) result (line_at lined reader.old) }
+#[tactic(auto, unfolding(cc_node::specs::States::ask_list_at))]
+fn read_ask_list(alloc: Global, reader: &mut Reader<'_>) -> Result<AskList, WireFault>
+    ensures { Gives (λ x. (x, reader.new)) result (ask_list_at reader.old) }
 {
-    let mut line = WaitingLine::new(alloc)?;
-    if lined {
-        let count = reader.u8()?;
-        if usize::from(count) > WaitingLine::MAX_ASKS {
-            return Err(WireFault::TooLarge);
-        }
-        read_asks(&mut line, reader, count)?;
+    let mut asks = AskList::new(alloc)?;
+    let count = reader.u8()?;
+    if usize::from(count) > AskList::MAX_ASKS {
+        return Err(WireFault::TooLarge);
     }
-    Ok(line)
+    read_asks(&mut asks, reader, count)?;
+    Ok(asks)
+}
+
+// The asks that wait; none where the layout has no place for them.
+fn read_line(alloc: Global, reader: &mut Reader<'_>, layout: Layout) -> Result<AskList, WireFault>
+    ensures { Gives (λ x. (x, reader.new)) result (line_at layout reader.old) }
+{
+    match layout {
+        Layout::Plain => {
+            let none = AskList::new(alloc)?;
+            Ok(none)
+        }
+        Layout::Lined | Layout::Shared => read_ask_list(alloc, reader),
+    }
+}
+
+// How many asks a round has at most, where that is more than one.
+#[tactic(auto, unfolding(cc_node::specs::States::share_at))]
+fn read_share(reader: &mut Reader<'_>) -> Result<usize, WireFault>
+    ensures { Gives (λ x. (x, reader.new)) result (share_at reader.old) }
+{
+    let share = reader.u8()?;
+    if share < 2 || usize::from(share) > Opening::MAX_SHARE {
+        return Err(WireFault::BadKind(share));
+    }
+    Ok(usize::from(share))
+}
+
+// The share, and the asks of the pending round beside its first one; 1 and none where the layout has no place for them.
+fn read_others(
+    alloc: Global,
+    reader: &mut Reader<'_>,
+    layout: Layout,
+) -> Result<(usize, AskList), WireFault>
+    ensures { Gives (λ x. ((x.0, x.1), reader.new)) result (others_at layout reader.old) }
+{
+    match layout {
+        Layout::Plain | Layout::Lined => {
+            let none = AskList::new(alloc)?;
+            Ok((1, none))
+        }
+        Layout::Shared => {
+            let share = read_share(reader)?;
+            let others = read_ask_list(alloc, reader)?;
+            Ok((share, others))
+        }
+    }
 }
 
 pub(crate) fn read_round(
     alloc: Global,
     reader: &mut Reader<'_>,
-    lined: bool,
+    layout: Layout,
 ) -> Result<Round, WireFault>
-    ensures { Gives (λ x. (round_in x, reader.new)) result (round_at lined reader.old) }
+    ensures { Gives (λ x. (round_in x, reader.new)) result (round_at layout reader.old) }
 {
     let (stage, seen) = read_phase(alloc, reader)?;
-    let line = read_line(alloc, reader, lined)?;
-    Ok(Round { stage, seen, line })
+    let (share, others) = read_others(alloc, reader, layout)?;
+    let line = read_line(alloc, reader, layout)?;
+    Ok(Round {
+        stage,
+        seen,
+        share,
+        others,
+        line,
+    })
 }
 
 pub(crate) fn read_own(reader: &mut Reader<'_>) -> Result<Own, WireFault>
@@ -174,13 +225,13 @@ pub(crate) fn read_entering(reader: &mut Reader<'_>) -> Result<Entering, WireFau
 }
 
 #[tactic(auto, unfolding(cc_node::specs::States::work_at))]
-fn read_work(alloc: Global, reader: &mut Reader<'_>, lined: bool) -> Result<Work, WireFault>
-    ensures { Gives (λ x. (work_in x, reader.new)) result (work_at lined reader.old) }
+fn read_work(alloc: Global, reader: &mut Reader<'_>, layout: Layout) -> Result<Work, WireFault>
+    ensures { Gives (λ x. (work_in x, reader.new)) result (work_at layout reader.old) }
 {
     let view = reader.view(alloc)?;
     let Own { number, mine, tag } = read_own(reader)?;
     let Entering { echoes, need } = read_entering(reader)?;
-    let round = read_round(alloc, reader, lined)?;
+    let round = read_round(alloc, reader, layout)?;
     Ok(Work {
         view,
         number,
@@ -375,12 +426,12 @@ fn read_tables(alloc: Global, reader: &mut Reader<'_>) -> Result<Tables, WireFau
 }
 
 #[tactic(auto, unfolding(cc_node::specs::States::state_at))]
-fn read_fields(alloc: Global, reader: &mut Reader<'_>, lined: bool) -> Result<Fields, WireFault>
-    ensures exact { Gives (λ x. (state_in x, reader.new)) result (state_at lined reader.old) }
+fn read_fields(alloc: Global, reader: &mut Reader<'_>, layout: Layout) -> Result<Fields, WireFault>
+    ensures exact { Gives (λ x. (state_in x, reader.new)) result (state_at layout reader.old) }
     ensures read { IfOk result (λ x. AreRead x.tables) }
 {
     let membership = read_membership(alloc, reader)?;
-    let work = read_work(alloc, reader, lined)?;
+    let work = read_work(alloc, reader, layout)?;
     let tables = read_tables(alloc, reader)?;
     Ok(Fields {
         membership,
@@ -391,12 +442,12 @@ fn read_fields(alloc: Global, reader: &mut Reader<'_>, lined: bool) -> Result<Fi
 
 /// The fields that the bytes spell, all of the bytes.
 #[tactic(auto, unfolding(cc_wire::specs::Reading::whole))]
-pub(crate) fn read_all(alloc: Global, bytes: &[u8], lined: bool) -> Result<Fields, WireFault>
-    ensures exact { Gives state_in result (whole (state_at lined) bytes.now) }
+pub(crate) fn read_all(alloc: Global, bytes: &[u8], layout: Layout) -> Result<Fields, WireFault>
+    ensures exact { Gives state_in result (whole (state_at layout) bytes.now) }
     ensures read { IfOk result (λ x. AreRead x.tables) }
 {
     let mut reader = Reader::new(bytes);
-    let fields = read_fields(alloc, &mut reader, lined)?;
+    let fields = read_fields(alloc, &mut reader, layout)?;
     reader.end()?;
     Ok(fields)
 }

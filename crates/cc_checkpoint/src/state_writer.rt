@@ -1,18 +1,19 @@
 //! Writing what a node's state is made of at the end of a vector.
 
-ghost use Rattle.std.specs.Prelude.{true, ◌<◌, ◌^◌, ◌++◌, ◌∷◌};
+ghost use Rattle.std.specs.Prelude.{◌<◌, ◌^◌, ◌++◌, ◌∷◌};
 ghost use Rattle.std.specs.List.{flat_map};
 ghost use Rattle.cc_wire.specs.Writing.{Writes};
 ghost use Rattle.cc_links.specs.Rows as links;
 ghost use Rattle.cc_sessions.specs.Rows as sessions;
 ghost use Rattle.cc_outbox.specs.Rows as answers;
-ghost use Rattle.cc_node.specs.States.{fraction_spelling, membership_spelling, membership_of, counts_spelling, pending_spelling, phase_spelling, ask_spelling, line_spelling, round_spelling, stored_spelling, entering_spelling};
+ghost use Rattle.cc_node.specs.States.{fraction_spelling, membership_spelling, membership_of, counts_spelling, pending_spelling, phase_spelling, ask_spelling, asks_spelling, line_spelling, others_spelling, stored_spelling, entering_spelling};
+ghost use Rattle.cc_checkpoint.specs.Parts.{operations_spelling};
 ghost use Rattle.cc_node.specs.States.{table_spelling, link_spelling, session_spelling, kept_answer_spelling};
 
 use cc_changes::{Changes, Fraction};
 use cc_links::{LinkRow, Links};
-use cc_node::Core;
-use cc_ops::{Asked, Ops, Pending, Stage, WaitingLine};
+use cc_node::{Core, Layout};
+use cc_ops::{AskList, Asked, Ops, Pending, Stage};
 use cc_outbox::KeptAnswer;
 use cc_sessions::{SessionRow, Sessions};
 use cc_views::{NodeId, Value, View};
@@ -110,20 +111,55 @@ fn put_asks(out: &mut Vec<u8>, asks: &[Asked]) -> Result<(), AllocError>
     Ok(())
 }
 
-fn put_line(out: &mut Vec<u8>, line: &WaitingLine) -> Result<(), AllocError>
-    ensures { Writes out.old out.new (line_spelling true line.now) result }
+fn put_ask_list(out: &mut Vec<u8>, list: &AskList) -> Result<(), AllocError>
+    ensures { Writes out.old out.new (asks_spelling list.now) result }
 {
-    let asks = line.asks();
+    let asks = list.asks();
     put_u8(out, asks.len() as u8)?;
     put_asks(out, asks)
 }
 
-/// The pending operation, and the asks that wait behind it.
+fn put_line(out: &mut Vec<u8>, layout: Layout, line: &AskList) -> Result<(), AllocError>
+    ensures { Writes out.old out.new (line_spelling layout line.now) result }
+{
+    match layout {
+        Layout::Plain => Ok(()),
+        Layout::Lined | Layout::Shared => put_ask_list(out, line),
+    }
+}
+
+fn put_others(
+    out: &mut Vec<u8>,
+    layout: Layout,
+    share: usize,
+    others: &AskList,
+) -> Result<(), AllocError>
+    requires { share < 2 ^ 8 }
+    ensures { Writes out.old out.new (others_spelling layout share others.now) result }
+{
+    match layout {
+        Layout::Plain | Layout::Lined => Ok(()),
+        Layout::Shared => {
+            put_u8(out, share as u8)?;
+            put_ask_list(out, others)
+        }
+    }
+}
+
+// The share, the others of the pending round, and the asks that wait behind it.
+fn put_asks_behind(out: &mut Vec<u8>, layout: Layout, ops: &Ops) -> Result<(), AllocError>
+    ensures { Writes out.old out.new (others_spelling layout ops.now.share ops.now.others ++ line_spelling layout ops.now.line) result }
+{
+    put_others(out, layout, ops.share(), ops.others())?;
+    put_line(out, layout, ops.line())
+}
+
+/// The pending round, and the asks that wait behind it.
 pub(crate) fn put_operations(out: &mut Vec<u8>, ops: &Ops) -> Result<(), AllocError>
-    ensures { Writes out.old out.new (round_spelling true ops.now.phase ops.now.line) result }
+    ensures { Writes out.old out.new (operations_spelling ops.now) result }
 {
     put_phase(out, ops)?;
-    put_line(out, ops.line())
+    put_asks_behind(out, Layout::of_share(ops.share()), ops)
 }
 
 pub(crate) fn put_stored(

@@ -10,6 +10,9 @@ use std::alloc::Global;
 // The fractions of a node where no word says others.
 const FOUR_FIFTHS: Fraction = Fraction { num: 4, den: 5 };
 
+// The share of a node where no word says another: its asks begin one at a time.
+const ONE_BY_ONE: u32 = 1;
+
 /// The words of `format` behind its folder, as they are given. None for an option that isn't.
 #[derive(Clone, Copy, Debug)]
 pub struct FormatWords<'a> {
@@ -18,6 +21,7 @@ pub struct FormatWords<'a> {
     pub contacts: Option<&'a str>,
     pub beta: Option<&'a str>,
     pub gamma: Option<&'a str>,
+    pub share: Option<&'a str>,
 }
 
 /// The node that a folder is to keep.
@@ -30,15 +34,18 @@ pub struct FormatOrder {
     pub contacts: Vec<u32>,
     pub beta: Fraction,
     pub gamma: Fraction,
+    /// How many asks that wait begin together at most.
+    pub share: u32,
 }
 
 impl FormatOrder {
-    /// What these words ask for: lists are empty and fractions 4/5 where their words aren't given. The fault names the
-    /// first word of another form. Whether a node can begin so is told by formatting alone.
+    /// What these words ask for: lists are empty, fractions 4/5 and the share 1 where their words aren't given. The fault
+    /// names the first word of another form. Whether a node can begin so is told by formatting alone.
     pub fn parse(alloc: Global, words: &FormatWords<'_>) -> Result<Self, WordFault> {
         let id = small_number(words.id).ok_or(WordFault::Id)?;
-        let beta = share(words.beta).ok_or(WordFault::Beta)?;
-        let gamma = share(words.gamma).ok_or(WordFault::Gamma)?;
+        let beta = fraction_in(words.beta).ok_or(WordFault::Beta)?;
+        let gamma = fraction_in(words.gamma).ok_or(WordFault::Gamma)?;
+        let share = share_in(words.share).ok_or(WordFault::Share)?;
         let initial = ids(alloc, words.initial, WordFault::Initial)?;
         let contacts = ids(alloc, words.contacts, WordFault::Contacts)?;
         Ok(FormatOrder {
@@ -47,6 +54,7 @@ impl FormatOrder {
             contacts,
             beta,
             gamma,
+            share,
         })
     }
 
@@ -58,6 +66,7 @@ impl FormatOrder {
             contacts: &self.contacts,
             beta: self.beta,
             gamma: self.gamma,
+            share: self.share as usize,
         }
     }
 
@@ -87,10 +96,17 @@ impl FormatOrder {
     }
 }
 
-fn share(word: Option<&str>) -> Option<Fraction> {
+fn fraction_in(word: Option<&str>) -> Option<Fraction> {
     match word {
         Some(word) => fraction(word),
         None => Some(FOUR_FIFTHS),
+    }
+}
+
+fn share_in(word: Option<&str>) -> Option<u32> {
+    match word {
+        Some(word) => small_number(word),
+        None => Some(ONE_BY_ONE),
     }
 }
 

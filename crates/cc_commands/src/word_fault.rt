@@ -16,6 +16,8 @@ pub enum WordFault {
     Beta,
     #[error("--gamma isn't a fraction, such as 4/5")]
     Gamma,
+    #[error("--share isn't a number, such as 32")]
+    Share,
     #[error("ADDR isn't an address and a port, such as 127.0.0.1:7001")]
     Address,
     #[error("--listen isn't an address and a port, such as 127.0.0.1:7001")]

@@ -10,8 +10,9 @@ use Rattle.cc_site.specs.declared.site.Side.TheVariants.{A, B}
 use Rattle.cc_site.specs.Sides.{other}
 use Rattle.cc_site.specs.Moments.{Contents}
 use Rattle.cc_node.specs.Node.{Node}
-use Rattle.cc_node.specs.Sides.{OPEN, VERSION, IsVersion, StandsIn, Stands}
-use Rattle.cc_node.specs.States.{has_line, SpellsNode}
+use Rattle.cc_node.specs.Layouts.{IsVersion, layout_of}
+use Rattle.cc_node.specs.Sides.{OPEN, StandsIn, Stands}
+use Rattle.cc_node.specs.States.{SpellsNode}
 use Rattle.cc_node.specs.Fronts.{generation_held, held_armed}
 use Rattle.cc_checkpoint.specs.declared.choosing.InUse.{InUse}
 use Rattle.cc_checkpoint.specs.declared.open_fault.OpenFault.{OpenFault}
@@ -61,7 +62,7 @@ abbrev PlaceFails : List ℕ → ℕ → Type 0
 PlaceFails bytes place =
     ((place ≡ 9) × (length bytes < 10))
     ⊎ ((place ≡ 10) × HasVersion bytes × ((length bytes < 14) ⊎ (length bytes < 14 + size_of bytes)))
-    ⊎ ((place ≡ 14) × HasState bytes × ((node : Node) → SpellsNode (has_line (slice_index bytes 9)) (state_of bytes) node → ⊥))
+    ⊎ ((place ≡ 14) × HasState bytes × ((node : Node) → SpellsNode (layout_of (slice_index bytes 9)) (state_of bytes) node → ⊥))
 
 too_short : (bytes : List ℕ) → (length bytes < 14) ⊎ (length bytes < 14 + size_of bytes) → 14 + size_of bytes ≤ length bytes → ⊥
 too_short bytes (inl few) long = absurd (omega (arith, few, long))
@@ -78,10 +79,11 @@ place_once bytes p q (inr (inr x)) (inl y) = absurd (omega (arith, y.1, x.1.long
 place_once bytes p q (inr (inr x)) (inr (inl y)) = absurd (too_short bytes y.2 x.1.long)
 place_once bytes p q (inr (inr x)) (inr (inr y)) = x.0 ∙ sym y.0
 
--- two versions are known
-not_known : (version : ℕ) → eqb version 1 ≡ false → eqb version VERSION ≡ false → ¬ IsVersion version
-not_known version first second (inl e) = eqb-false version 1 first e
-not_known version first second (inr e) = eqb-false version VERSION second e
+-- three versions are known
+not_known : (version : ℕ) → eqb version 1 ≡ false → eqb version 2 ≡ false → eqb version 32 ≡ false → ¬ IsVersion version
+not_known version first second third (inl e) = eqb-false version 1 first e
+not_known version first second third (inr (inl e)) = eqb-false version 2 second e
+not_known version first second third (inr (inr e)) = eqb-false version 32 third e
 
 -- no version is unknown where a later field fails
 version_or_place : (bytes : List ℕ) (place version : ℕ) → PlaceFails bytes place → 10 ≤ length bytes → slice_index bytes 9 ≡ version → ¬ IsVersion version → ⊥
@@ -120,7 +122,7 @@ head_fails_once side bytes (Version version) NoMemory f-is g-is x y = absurd g-i
 
 module _ (one_state : OneState) (one_stop : OneStop) (scan_or_stop : ScanOrStop) where
   head_once : (bytes : List ℕ) (x y : Node) (p q : ℕ) → HeadAt bytes x p → HeadAt bytes y q → (p ≡ q) × (x ≡ y)
-  head_once bytes x y p q at_x at_y = (at_x.is ∙ sym at_y.is, (one_state (has_line (slice_index bytes 9)) (state_of bytes) (state_of bytes) [] [] x y at_x.state at_y.state refl).0)
+  head_once bytes x y p q at_x at_y = (at_x.is ∙ sym at_y.is, (one_state (layout_of (slice_index bytes 9)) (state_of bytes) (state_of bytes) [] [] x y at_x.state at_y.state refl).0)
 
   fails_behind : (side : Side) (bytes : List ℕ) (x y : Node) (p q : ℕ) (fault : OpenFault) → HeadAt bytes x p → HeadAt bytes y q → RecordsFail side bytes y q fault → RecordsFail side bytes x p fault
   fails_behind side bytes x y p q fault at_x at_y fails =
@@ -276,9 +278,12 @@ module _ (no_end : ScanOrStopThere) (left : Contents) (bytes : (side : Side) →
       | inl few ↦ no_side_fault (Damaged used.side 9) tt (inl (refl, inl (refl, few)))
       | inr there ↦ elim (cases_Bool (eqb (slice_index (left used.side) 9) 1)) [
         | inl first ↦ behind_version (record { there = there; known = inl (eqb-true _ _ first) })
-        | inr apart ↦ elim (cases_Bool (eqb (slice_index (left used.side) 9) VERSION)) [
-          | inl second ↦ behind_version (record { there = there; known = inr (eqb-true _ _ second) })
-          | inr unknown ↦ no_side_fault (Version (slice_index (left used.side) 9)) tt (inl (there, refl, not_known (slice_index (left used.side) 9) apart unknown))
+        | inr apart ↦ elim (cases_Bool (eqb (slice_index (left used.side) 9) 2)) [
+          | inl second ↦ behind_version (record { there = there; known = inr (inl (eqb-true _ _ second)) })
+          | inr lined ↦ elim (cases_Bool (eqb (slice_index (left used.side) 9) 32)) [
+            | inl third ↦ behind_version (record { there = there; known = inr (inr (eqb-true _ _ third)) })
+            | inr unknown ↦ no_side_fault (Version (slice_index (left used.side) 9)) tt (inl (there, refl, not_known (slice_index (left used.side) 9) apart lined unknown))
+          ]
         ]
       ]
     ]

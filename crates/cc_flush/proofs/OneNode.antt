@@ -1,16 +1,18 @@
 -- Two sides stand for one node.
-use Rattle.std.proofs.Common.{◌≡◌, inl, inr, slice_index, Bool, ℕ, ◌+◌, ◌<◌, List, [], ◌∷◌, ◌++◌, length, drop, refl, sym, ◌∙◌, ap, subst, arith, length-append}
+use Rattle.std.proofs.Common.{◌≡◌, inl, inr, slice_index, ℕ, ◌+◌, ◌<◌, List, [], ◌∷◌, ◌++◌, length, drop, refl, sym, ◌∙◌, ap, subst, arith, length-append}
 use Rattle.std.proofs.lemmas.List.{append_assoc, drop_at}
 use Rattle.cc_node.specs.Node.{Node}
 use Rattle.cc_node.specs.Sides.{IsArmed, generation_of, Holds, Yields, StandsAt, StandsIn, Stands, events_of}
-use Rattle.cc_node.specs.States.{has_line, SpellsNode}
+use Rattle.cc_node.specs.declared.layout.Layout.{Layout}
+use Rattle.cc_node.specs.Layouts.{layout_of}
+use Rattle.cc_node.specs.States.{SpellsNode}
 use Rattle.cc_node.specs.Fronts.{generation_held, held_armed}
 use Rattle.cc_checkpoint.specs.Heads.{HeadAt, state_of}
 use Rattle.cc_checkpoint.proofs.HeadLaws.{head_found}
 use Rattle.cc_journal.specs.Scanning.{ScansTo}
 
 abbrev pub OneState : Type 0
-OneState = (lined : Bool) (a b u w : List ℕ) (x y : Node) → SpellsNode lined a x → SpellsNode lined b y → a ++ u ≡ b ++ w → (x ≡ y) × (a ≡ b)
+OneState = (layout : Layout) (a b u w : List ℕ) (x y : Node) → SpellsNode layout a x → SpellsNode layout b y → a ++ u ≡ b ++ w → (x ≡ y) × (a ≡ b)
 
 abbrev pub OneScan : Type 0
 OneScan = (bytes : List ℕ) (start x y : Node) (size-x size-y records-x records-y events-x events-y : ℕ)
@@ -60,7 +62,7 @@ read bytes generation node place holds =
 module _ (one_state : OneState) (one_scan : OneScan) where
   one_read : (bytes : List ℕ) (n m : Node) (p q : ℕ) → Read bytes n p → Read bytes m q → (p ≡ q) × (n ≡ m)
   one_read bytes n m p q x y =
-      let start : y.start ≡ x.start = (one_state (has_line (slice_index bytes 9)) (state_of bytes) (state_of bytes) [] [] y.start x.start y.head.state x.head.state refl).0 in
+      let start : y.start ≡ x.start = (one_state (layout_of (slice_index bytes 9)) (state_of bytes) (state_of bytes) [] [] y.start x.start y.head.state x.head.state refl).0 in
       let first : y.first ≡ x.first = y.head.is ∙ sym x.head.is in
       let scans = subst (λ (k : ℕ). ScansTo (drop k bytes) x.start m y.size y.records y.events) first (subst (λ (s : Node). ScansTo (drop y.first bytes) s m y.size y.records y.events) start y.scans) in
       let one = one_scan (drop x.first bytes) x.start n m x.size y.size x.records y.records x.events y.events x.scans scans in

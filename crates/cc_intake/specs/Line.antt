@@ -21,7 +21,7 @@ abbrev pub unnamed : TableId
 unnamed = record { words = 0; slots = 0; views_name = 0; atom = 0; block = 0; offset = 0; slot_names = [] }
 
 abbrev pub no_opening : Node
-no_opening = fresh (record { me = 1; initial = []; contacts = []; beta = record { num = 1; den = 1 }; gamma = record { num = 1; den = 1 } })
+no_opening = fresh (record { me = 1; initial = []; contacts = []; beta = record { num = 1; den = 1 }; gamma = record { num = 1; den = 1 }; share = 1 })
 
 abbrev pub pass_view : Bool → Bool → List Entry → List Entry → ℕ → PassView
 pass_view pushes pops sent got finds = record { pushes = pushes; pops = pops; sent = sent; got = got; finds = finds }

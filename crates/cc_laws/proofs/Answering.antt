@@ -1,15 +1,17 @@
 -- An answer that left a node: by which rounds of its operation it came about.
 --     Ended, ended           the event that made the answer, and what pended before it
---     IsWriteOp, IsReadOp, either_op     it was a writing one, or a reading one
+--     IsWriteOp, IsReadOp, either_op     it was of a writing round, or of a reading one
+--     op_pends, op_writes, op_reads      it pended there, and its command wrote, or read
+--     asked_last             each ask that pends is its session's last request
 --     StoredRound            a round in which a view was stored, of which something holds
 --     ReadRound              a round in which a view was queried, with what was seen in it
 --     number_reached         a writing ask that was answered was counted
-use Rattle.std.proofs.Common.{◌≡◌, ◌⊎◌, ℕ, ◌+◌, ◌<◌, ◌≤◌, true, false, cond, nat_eq, List, [], ◌∷◌, ◌++◌, refl, sym, ap, subst, ◌∙◌, inl, inr, arith, append_assoc}
+use Rattle.std.proofs.Common.{◌≡◌, ◌⊎◌, ℕ, ◌+◌, ◌<◌, ◌≤◌, Bool, true, false, cond, nat_eq, List, [], ◌∷◌, ◌++◌, refl, sym, ap, subst, ◌∙◌, inl, inr, arith, append_assoc}
 use Rattle.std.specs.Prelude.{Option, Some, None, IfSome, ◌&&◌, ◌==◌, is_some, if◌then◌else◌}
 use Rattle.std.specs.Option.{unwrap_or}
 use Rattle.std.specs.List.{Contains, AllByRecursion}
 use Rattle.std.specs.FinMap as table
-use Rattle.std.proofs.lemmas.Bool.{ltb-false, eqb-false, or_parts, or_left, or_right, eq-eqb, both_ways}
+use Rattle.std.proofs.lemmas.Bool.{ltb-false, eqb-false, or_cases, or_parts, or_left, or_right, eq-eqb, both_ways}
 use Rattle.std.proofs.lemmas.Bool.Decides.{eqb_tells}
 use Rattle.std.proofs.lemmas.List.{append_cancel_left}
 use Rattle.std.proofs.lemmas.List.Elements.{All-contains, All-from_recursion, Contains-append_left}
@@ -29,7 +31,9 @@ use Rattle.cc_ops.specs.declared.pending.Asked.{Asked}
 use Rattle.cc_ops.specs.declared.pending.Pending.{Pending}
 use Rattle.cc_ops.specs.declared.pending.Reply.{Reply}
 use Rattle.cc_ops.specs.Commands.{is_writing, answer_of}
-use Rattle.cc_ops.specs.Ops.{Phase, Idle, Storing, Querying, StoringBack, asked_in, unanswered}
+use Rattle.cc_ops.specs.Ops.{Phase, Idle, Storing, Querying, StoringBack, asked_in, pending, unanswered}
+use Rattle.cc_ops.specs.Rounds.{is_of, of_kind}
+use Rattle.cc_ops.specs.RoundLaws.{has_both, kind_both, writers_count}
 use Rattle.cc_ops.specs.Waiting.{has_session, AreApart, writes_by}
 use Rattle.cc_ops.specs.WaitingLaws.{writes_both}
 use Rattle.cc_sessions.specs.Sessions.{Requests, last_request}
@@ -37,21 +41,22 @@ use Rattle.cc_node.specs.Core.{Core, asked_of, next, replies, outputs}
 use Rattle.cc_node.specs.Node.{Node, step, after, line, IsLawful}
 use Rattle.cc_node.specs.Opening.{fresh}
 use Rattle.cc_node.specs.Histories.{lawful_parts}
-use Rattle.cc_node.specs.Lawful.{IsPhaseOf, IsLawfulNode}
+use Rattle.cc_node.specs.Lawful.{IsPhaseOf, IsBeside, IsLastOf, IsLawfulCore, IsLawfulNode}
 use Rattle.cc_node.specs.Refusals.{decides}
 use Rattle.cc_node.specs.Writes.{asked_along, begun_along}
 use Rattle.cc_node.proofs.CoreLaws.{view_grows, own_number_along}
 use Rattle.cc_node.proofs.FreshLaws.{fresh_lawful, after_lawful}
+use Rattle.cc_node.proofs.KnownLaws.{all_last}
 use Rattle.cc_node.proofs.OrderLaws.{begin_in_order}
 use Rattle.cc_node.proofs.RefusalLaws.{takes_ask}
 use Rattle.cc_laws.specs.Clusters.{Member}
-use Rattle.cc_laws.specs.Regular.{released_events, IsWriteAsk, HasAtLeast, RoundOf, phase_in, IsRoundFor}
+use Rattle.cc_laws.specs.Regular.{released_events, IsWriteAsk, HasAtLeast, RoundOf, phase_in, HasAsked, IsRoundFor}
 use Rattle.cc_laws.specs.Rounds.{awaits_views, awaits_acks, counts, ends_round, with_peer, peers_along, peers_of}
-use Rattle.cc_laws.proofs.Lists.{at_some, some_changed, all_changed}
+use Rattle.cc_laws.proofs.Lists.{some_changed, all_changed}
 use Rattle.cc_laws.proofs.Lines.{made_in}
 use Rattle.cc_laws.proofs.Members.{IsSound, lawful_front}
 use Rattle.cc_laws.proofs.Places.{after_parts, at_same, at_before, at_behind, split_order}
-use Rattle.cc_laws.proofs.Says.{stored_of, Told, ReplySays, each_says, OutputSays, outputs_say}
+use Rattle.cc_laws.proofs.Says.{stored_of, Told, TellsOf, ReplySays, each_says, OutputSays, outputs_say}
 use Rattle.cc_laws.proofs.Pending.{HasAck, HasReply, Raised, ReadBefore, IsQueryOf, Pends, core_push, pends}
 use Rattle.cc_laws.proofs.CountedAnswers.{IsAckFrom, IsReplyFrom, counted_ack, counted_reply}
 use Rattle.cc_laws.proofs.Knowing.{me_of, contains_at, contains_front, either_front}
@@ -119,7 +124,7 @@ pub record Ended (m : Member) (s r : ℕ) (a : Answer) : Type 0 where
   pub later : List Event
   pub parts : released_events m ≡ front ++ last ∷ later
   pub ends : ends_round (after (fresh m.opening) front).core last ≡ true
-  pub tells : Told (after (fresh m.opening) front).core.ops.view (after (fresh m.opening) front).core.ops.phase (record { session = s; request = r; answer = a })
+  pub tells : TellsOf (after (fresh m.opening) front).core.ops (record { session = s; request = r; answer = a })
 
 pub ended : (m : Member) (s r : ℕ) (a : Answer) → Contains (line (fresh m.opening) (released_events m)) (output.Reply s r a) → Ended m s r a
 ended m s r a has =
@@ -132,19 +137,58 @@ ended m s r a has =
     record { front = made.before; last = made.event; later = made.later; parts = made.parts; ends = says.0; tells = says.1 }
 
 abbrev pub IsWriteOp : Core → ℕ → ℕ → Answer → Type 0
-IsWriteOp c s r a = (p : Pending) × (c.ops.phase ≡ Storing p) × (p.asked.session ≡ s) × (p.asked.request ≡ r) × (a ≡ answer_of p.asked.command c.ops.view)
+IsWriteOp c s r a =
+    (p : Pending) × (x : Asked) × (c.ops.phase ≡ Storing p) × Contains (p.asked ∷ c.ops.others) x × (x.session ≡ s) × (x.request ≡ r)
+    × (a ≡ answer_of x.command c.ops.view)
 
 abbrev pub IsReadOp : Core → ℕ → ℕ → Answer → Type 0
-IsReadOp c s r a = (p : Pending) × (seen : ViewMap) × (c.ops.phase ≡ StoringBack p seen) × (p.asked.session ≡ s) × (p.asked.request ≡ r) × (a ≡ answer_of p.asked.command seen)
+IsReadOp c s r a =
+    (p : Pending) × (x : Asked) × (seen : ViewMap) × (c.ops.phase ≡ StoringBack p seen) × Contains (p.asked ∷ c.ops.others) x × (x.session ≡ s) × (x.request ≡ r)
+    × (a ≡ answer_of x.command seen)
 
 pub either_op : (c : Core) (s r : ℕ) (a : Answer) (phase : Phase) → c.ops.phase ≡ phase
-    → Told c.ops.view phase (record { session = s; request = r; answer = a })
+    → Told c.ops.view c.ops.others phase (record { session = s; request = r; answer = a })
     → IsWriteOp c s r a ⊎ IsReadOp c s r a
 either_op c s r a Idle is t = absurd t
-either_op c s r a (Storing p) is t = inl (p, is, ap (λ (k : Reply). k.session) (sym t), ap (λ (k : Reply). k.request) (sym t), ap (λ (k : Reply). k.answer) t)
+either_op c s r a (Storing p) is t =
+    inl (p, t.0, is, t.1, ap (λ (k : Reply). k.session) (sym t.2), ap (λ (k : Reply). k.request) (sym t.2), ap (λ (k : Reply). k.answer) t.2)
 either_op c s r a (Querying p) is t = absurd t
 either_op c s r a (StoringBack p seen) is t =
-    inr (p, seen, is, ap (λ (k : Reply). k.session) (sym t), ap (λ (k : Reply). k.request) (sym t), ap (λ (k : Reply). k.answer) t)
+    inr (p, t.0, seen, is, t.1, ap (λ (k : Reply). k.session) (sym t.2), ap (λ (k : Reply). k.request) (sym t.2), ap (λ (k : Reply). k.answer) t.2)
+
+-- what pends where the phase is known
+pub pending_as : (c : Core) (p : Pending) (phase : Phase) → c.ops.phase ≡ phase → asked_in phase ≡ p.asked ∷ [] → pending c.ops ≡ p.asked ∷ c.ops.others
+pending_as c p phase is first = ap (λ (f : Phase). asked_in f ++ c.ops.others) is ∙ ap (λ (l : List Asked). l ++ c.ops.others) first
+
+pub op_pends : (c : Core) (p : Pending) (phase : Phase) (x : Asked) → c.ops.phase ≡ phase → asked_in phase ≡ p.asked ∷ []
+    → Contains (p.asked ∷ c.ops.others) x → Contains (pending c.ops) x
+op_pends c p phase x is first has = subst (λ (l : List Asked). Contains l x) (sym (pending_as c p phase is first)) has
+
+-- the asks of a round are of one kind
+each_alike : (k : Bool) (first x : Asked) (others : List Asked) → is_writing first.command ≡ k → AllByRecursion (λ a. is_writing a.command ≡ k) others
+    → Contains (first ∷ others) x → is_writing x.command ≡ k
+each_alike k first x others is all has =
+    All-contains (λ (a : Asked). is_writing a.command ≡ k) (first ∷ others) x (All-from_recursion (λ (a : Asked). is_writing a.command ≡ k) (first ∷ others) (is, all)) has
+
+pub op_writes : (c : Core) → IsLawfulCore c → (p : Pending) (x : Asked) → c.ops.phase ≡ Storing p → Contains (p.asked ∷ c.ops.others) x → is_writing x.command ≡ true
+op_writes c lawful p x is has =
+    each_alike true p.asked x c.ops.others (subst (IsPhaseOf c.links c.sessions) is lawful.phase).1
+    (subst (λ (f : Phase). IsBeside f c.ops.others) is lawful.line.round.alike) has
+
+pub op_reads : (c : Core) → IsLawfulCore c → (p : Pending) (seen : ViewMap) (x : Asked) → c.ops.phase ≡ StoringBack p seen → Contains (p.asked ∷ c.ops.others) x
+    → is_writing x.command ≡ false
+op_reads c lawful p seen x is has =
+    each_alike false p.asked x c.ops.others (subst (IsPhaseOf c.links c.sessions) is lawful.phase).1
+    (subst (λ (f : Phase). IsBeside f c.ops.others) is lawful.line.round.alike) has
+
+-- each ask that pends is its session's last request
+pub asked_last : (c : Core) → IsLawfulCore c → (s r : ℕ) → HasAsked (pending c.ops) s r → last_request c.sessions s ≡ r
+asked_last c lawful s r has =
+    let x = has.0 in
+    let each = All-from_recursion (IsLastOf c.sessions) (unanswered c.ops) (all_last c.links c.sessions c.ops lawful.phase lawful.line) in
+    let last : table.get c.sessions x.session ≡ Some x.request =
+    All-contains (IsLastOf c.sessions) (unanswered c.ops) x each (Contains-append_left (pending c.ops) c.ops.line x has.1) in
+    ap (λ (y : ℕ). last_request c.sessions y) (sym has.2) ∙ ap (λ o. unwrap_or o 0) last ∙ has.3
 
 -- which answers a reading command has, and a writing one
 pub reads_view : (k : Command) (v : ViewMap) → is_writing k ≡ false → answer.Stored ≡ answer_of k v → ⊥
@@ -179,7 +223,7 @@ pub record StoredRound (q : ℕ) (m : Member) (s r : ℕ) (Q : Core → Type 0) 
 
 -- a query of this request
 abbrev pub IsQueryFor : ℕ → ℕ → Core → Type 0
-IsQueryFor s r c = (p : Pending) × (c.ops.phase ≡ Querying p) × (p.asked.session ≡ s) × (p.asked.request ≡ r)
+IsQueryFor s r c = (p : Pending) × (c.ops.phase ≡ Querying p) × HasAsked (pending c.ops) s r
 
 pub record ReadRound (p : ℕ) (n : Member) (s r : ℕ) (seen : ViewMap) : Type 0 where
   pub round : RoundOf n
@@ -247,19 +291,20 @@ module _ (q : ℕ) (m : Member) (sound : IsSound q m) where
           (λ r k. (k.0, subst (λ (me : ℕ). Contains m.events (event.Deliver r k.0 (message.StoreAck c.ops.tag me))) is_me (there _ k.1))) (peers_along start [] front) acks);
     }
 
-    read_round : (s r : ℕ) (seen : ViewMap) (p : Pending) → p.asked.session ≡ s → p.asked.request ≡ r → awaits_views c.ops.phase ≡ true
-        → (is_end : ends_round c last ≡ true)
-        → IsRoundFor m (round is_end) s r → (next c last).ops.view ≡ seen → Raised start front c.ops.tag (IsQueryOf p.asked)
+    read_round : (s r : ℕ) (seen : ViewMap) (p : Pending) → c.ops.phase ≡ Querying p → (is_end : ends_round c last ≡ true)
+        → HasAsked (pending c.ops) s r → (next c last).ops.view ≡ seen → Raised start front c.ops.tag (IsQueryOf (p.asked ∷ c.ops.others))
         → AllByRecursion (HasReply front c.me c.ops.tag c.ops.view) (peers_along start [] front) → ReadRound q m s r seen
-    read_round s r seen p session request is is_end asked saw raised replies =
+    read_round s r seen p phase is_end asked saw raised replies =
+        let is : awaits_views c.ops.phase ≡ true = ap awaits_views phase in
+        let pends : pending c.ops ≡ p.asked ∷ c.ops.others = pending_as c p (Querying p) phase refl in
         let widest : IsAtMost c.ops.view seen = subst (IsAtMost c.ops.view) saw (view_grows c last) in
         record {
           round = round is_end;
           querying = is;
           asked = asked;
           tag = c.ops.tag;
-          raised = raised_all c.ops.tag (IsQueryOf p.asked) (IsQueryFor s r)
-              (λ d k. (k.0, k.1, ap (λ (a : Asked). a.session) k.2 ∙ session, ap (λ (a : Asked). a.request) k.2 ∙ request)) raised;
+          raised = raised_all c.ops.tag (IsQueryOf (p.asked ∷ c.ops.others)) (IsQueryFor s r)
+              (λ d k. (k.0, k.1, subst (λ (l : List Asked). HasAsked l s r) (pends ∙ sym k.2) asked)) raised;
           replies = with_all (HasReply m.events q c.ops.tag seen) (counts c last) (peers_along start [] front)
               (some_changed (IsReplyFrom c last) (HasReply m.events q c.ops.tag seen)
               (λ x k. (
@@ -278,42 +323,43 @@ module _ (q : ℕ) (m : Member) (sound : IsSound q m) where
         }
 
     -- what pends, where the phase is known
-    pends_as : (phase : Phase) → c.ops.phase ≡ phase → Pends start front (peers_along start [] front) c.me c.ops.number c.ops.view c.ops.tag phase
-    pends_as phase is = subst (Pends start front (peers_along start [] front) c.me c.ops.number c.ops.view c.ops.tag) is (pends m.opening front)
+    pends_as : (phase : Phase) → c.ops.phase ≡ phase
+        → Pends start front (peers_along start [] front) c.me c.ops.number c.ops.view c.ops.tag c.ops.others phase
+    pends_as phase is = subst (Pends start front (peers_along start [] front) c.me c.ops.number c.ops.view c.ops.tag c.ops.others) is (pends m.opening front)
 
-    pub write_round : (s r : ℕ) (p : Pending) → p.asked.session ≡ s → p.asked.request ≡ r → c.ops.phase ≡ Storing p → ends_round c last ≡ true
+    pub write_round : (s r : ℕ) (p : Pending) → HasAsked (pending c.ops) s r → c.ops.phase ≡ Storing p → ends_round c last ≡ true
         → StoredRound q m s r (λ d. HasAtLeast (stored_of d.ops) q c.ops.number)
-    write_round s r p session request is is_end =
+    write_round s r p asked is is_end =
         let h = pends_as (Storing p) is in
         stored_round s r (λ d. HasAtLeast (stored_of d.ops) c.me c.ops.number) (λ d. HasAtLeast (stored_of d.ops) q c.ops.number)
-        (λ d k. subst (λ (me : ℕ). HasAtLeast (stored_of d.ops) me c.ops.number) is_me k) (ap awaits_acks is) is_end (p.asked, ap asked_in is, session, request) h.0 h.1
+        (λ d k. subst (λ (me : ℕ). HasAtLeast (stored_of d.ops) me c.ops.number) is_me k) (ap awaits_acks is) is_end asked h.0 h.1
 
-    pub back_round : (s r : ℕ) (p : Pending) (seen : ViewMap) → p.asked.session ≡ s → p.asked.request ≡ r → c.ops.phase ≡ StoringBack p seen
-        → ends_round c last ≡ true
+    pub back_round : (s r : ℕ) (p : Pending) (seen : ViewMap) → HasAsked (pending c.ops) s r → c.ops.phase ≡ StoringBack p seen → ends_round c last ≡ true
         → StoredRound q m s r (λ d. stored_of d.ops ≡ seen)
-    back_round s r p seen session request is is_end =
+    back_round s r p seen asked is is_end =
         let h = pends_as (StoringBack p seen) is in
-        stored_round s r (λ d. stored_of d.ops ≡ seen) (λ d. stored_of d.ops ≡ seen) (λ d k. k) (ap awaits_acks is) is_end (p.asked, ap asked_in is, session, request) h.0 h.1
+        stored_round s r (λ d. stored_of d.ops ≡ seen) (λ d. stored_of d.ops ≡ seen) (λ d k. k) (ap awaits_acks is) is_end asked h.0 h.1
 
-    pub query_round : (s r : ℕ) (seen : ViewMap) (p : Pending) → p.asked.session ≡ s → p.asked.request ≡ r → c.ops.phase ≡ Querying p
-        → ends_round c last ≡ true
+    pub query_round : (s r : ℕ) (seen : ViewMap) (p : Pending) → HasAsked (pending c.ops) s r → c.ops.phase ≡ Querying p → ends_round c last ≡ true
         → (next c last).ops.view ≡ seen → ReadRound q m s r seen
-    query_round s r seen p session request is is_end saw =
+    query_round s r seen p asked is is_end saw =
         let h = pends_as (Querying p) is in
-        read_round s r seen p session request (ap awaits_views is) is_end (p.asked, ap asked_in is, session, request) saw h.0 h.1
+        read_round s r seen p is is_end asked saw h.0 h.1
 
-    read_before : (p : Pending) (seen : ViewMap) → c.ops.phase ≡ StoringBack p seen → ReadBefore start front p.asked seen
+    read_before : (p : Pending) (seen : ViewMap) → c.ops.phase ≡ StoringBack p seen → ReadBefore start front (p.asked ∷ c.ops.others) seen
     read_before p seen is = (pends_as (StoringBack p seen) is).2
 
   -- what was answered was read in a round before
   pub answered_read : (s r : ℕ) (a : Answer) (op : Ended m s r a) (p : Pending) (seen : ViewMap) → (after start op.front).core.ops.phase ≡ StoringBack p seen
-      → p.asked.session ≡ s → p.asked.request ≡ r → ReadRound q m s r seen
-  answered_read s r a op p seen is session request =
+      → HasAsked (pending (after start op.front).core.ops) s r → ReadRound q m s r seen
+  answered_read s r a op p seen is asked =
+      let d = (after start op.front).core in
       let b = read_before op.front op.later op.last op.parts p seen is in
       let parts = inner_parts (released_events m) op.front op.later b.before b.later op.last b.last op.parts b.parts in
-      query_round b.before (b.later ++ op.last ∷ op.later) b.last parts s r seen b.pending
-      (ap (λ (k : Asked). k.session) b.same ∙ session) (ap (λ (k : Asked). k.request) b.same ∙ request) b.querying b.ends
-      (ap (λ (d : Core). d.ops.view) (sym (core_push start b.before b.last)) ∙ b.saw)
+      let same : pending d.ops ≡ pending (after start b.before).core.ops = pending_as d p (StoringBack p seen) is refl ∙ sym b.same in
+      query_round b.before (b.later ++ op.last ∷ op.later) b.last parts s r seen b.query
+      (subst (λ (l : List Asked). HasAsked l s r) same asked) b.querying b.ends
+      (ap (λ (e : Core). e.ops.view) (sym (core_push start b.before b.last)) ∙ b.saw)
 
   -- ---- the number of a write
 
@@ -321,19 +367,40 @@ module _ (q : ℕ) (m : Member) (sound : IsSound q m) where
   has_there s [] more a is = or_left _ _ is
   has_there s (x ∷ rest) more a is = or_right _ _ (has_there s rest more a is)
 
-  pub number_reached : (s r k : ℕ) (a : Answer) (op : Ended m s r a) (p : Pending) → (after start op.front).core.ops.phase ≡ Storing p
-      → p.asked.session ≡ s → p.asked.request ≡ r → IsWriteAsk (released_events m) k s r → k ≤ (after start op.front).core.ops.number
-  number_reached s r k a op p is session request w =
+  -- who has an ask of a kind has one
+  has_of : (k : Bool) (s : ℕ) (asks : List Asked) → has_session s (of_kind k asks) ≡ true → has_session s asks ≡ true
+  has_of k s [] is = is
+  has_of k s (x ∷ asks) is =
+      elim (is_of k x) as (λ b. has_session s (if b then x ∷ of_kind k asks else of_kind k asks) ≡ true → has_session s (x ∷ asks) ≡ true) [
+        | true ↦ λ here.
+            elim (or_cases (nat_eq s x.session) (has_session s (of_kind k asks)) here) as (λ _. has_session s (x ∷ asks) ≡ true) [
+              | inl e ↦ or_left _ _ e
+              | inr e ↦ or_right _ _ (has_of k s asks e)
+            ]
+        | false ↦ λ here. or_right _ _ (has_of k s asks here)
+      ] is
+
+  -- who has an ask in front has none behind
+  none_behind : (xs ys : List Asked) → AreApart (xs ++ ys) → AllByRecursion (λ x. has_session x.session ys ≡ false) xs
+  none_behind [] ys apart = tt
+  none_behind (x ∷ xs) ys apart = ((or_parts _ _ (sym (has_both x.session xs ys) ∙ apart.0)).1, none_behind xs ys apart.1)
+
+  asked_none : (s r : ℕ) (xs ys : List Asked) → AreApart (xs ++ ys) → HasAsked xs s r → has_session s ys ≡ false
+  asked_none s r xs ys apart has =
+      let each = All-from_recursion (λ (x : Asked). has_session x.session ys ≡ false) xs (none_behind xs ys apart) in
+      subst (λ (y : ℕ). has_session y ys ≡ false) has.2 (All-contains (λ (x : Asked). has_session x.session ys ≡ false) xs has.0 each has.1)
+
+  pub number_reached : (s r k : ℕ) (a : Answer) (op : Ended m s r a) → HasAsked (pending (after start op.front).core.ops) s r
+      → IsWriteAsk (released_events m) k s r → k ≤ (after start op.front).core.ops.number
+  number_reached s r k a op asked w =
       let es = released_events m in
       let d = (after start op.front).core in
       let e = event.Ask s r w.command in
       let node = node_lawful op.front op.later op.last op.parts in
-      let pending : IsPhaseOf d.links d.sessions (Storing p) = subst (IsPhaseOf d.links d.sessions) is node.core.phase in
-      let last_is : last_request d.sessions s ≡ r =
-      ap (λ (x : ℕ). last_request d.sessions x) (sym session) ∙ ap (λ o. unwrap_or o 0) pending.0.session ∙ request in
+      let last_is : last_request d.sessions s ≡ r = asked_last d node.core s r asked in
       elim (split_order w.before w.later op.front op.later e op.last (sym w.parts ∙ op.parts)) as (λ _. k ≤ d.ops.number) [
         | at_same at it ↦ let never : false ≡ true = ap (ends_round d) it ∙ op.ends in absurd cc
-        | at_before more inside ↦ reached more inside d node pending
+        | at_before more inside ↦ reached more inside node
         | at_behind more outside ↦
             let lawful_w = (lawful_parts start w.before (e ∷ w.later) (subst (IsLawful start) w.parts lawful)) in
             let new : last_request (after start w.before).core.sessions s < r = request_new (after start w.before).core s r w.command lawful_w.1.0 in
@@ -347,27 +414,34 @@ module _ (q : ℕ) (m : Member) (sound : IsSound q m) where
           let more = (lawful_parts start xs ys (subst (IsLawful start) parts h)).1 in
           subst (λ (n : Node). last_request (after start xs).core.sessions s ≤ last_request n.core.sessions s) (sym (after_parts start zs xs ys parts)) (last_after s (after start xs) ys more)
 
-      reached : (more : List Event) → op.front ≡ w.before ++ event.Ask s r w.command ∷ more → (d : Core) → IsLawfulNode (after start op.front)
-          → IsPhaseOf (after start op.front).core.links (after start op.front).core.sessions (Storing p) → k ≤ (after start op.front).core.ops.number
-      reached more inside d node pending =
+      reached : (more : List Event) → op.front ≡ w.before ++ event.Ask s r w.command ∷ more → IsLawfulNode (after start op.front)
+          → k ≤ (after start op.front).core.ops.number
+      reached more inside node =
           let front = op.front in
           let ops = (after start front).core.ops in
           let x = asked_of s r w.command in
           let begun = begun_along start front in
-          let order : begun ++ ops.line ≡ asked_along w.before ++ x ∷ asked_along more =
-          sym (begin_in_order start front (fresh_lawful m.opening sound.opening) (lawful_before front op.later op.last op.parts))
-          ∙ ap (λ (l : List Asked). l ++ asked_along front) (fresh_line m.opening) ∙ ap asked_along inside ∙ asked_both w.before (event.Ask s r w.command ∷ more) in
+          let first = asked_along w.before in
+          let writers = of_kind true begun in
+          let waiting = of_kind true ops.line in
+          let later = of_kind true (asked_along more) in
+          let begins : of_kind true (asked_along front) ≡ writers ++ waiting =
+          ap (λ (l : List Asked). of_kind true (l ++ asked_along front)) (sym (fresh_line m.opening))
+          ∙ begin_in_order true start front (fresh_lawful m.opening sound.opening) (lawful_before front op.later op.last op.parts) ∙ kind_both true begun ops.line in
+          let asks : of_kind true (asked_along front) ≡ of_kind true first ++ x ∷ later =
+          ap (of_kind true) (ap asked_along inside ∙ asked_both w.before (event.Ask s r w.command ∷ more)) ∙ kind_both true first (x ∷ asked_along more)
+          ∙ ap (λ (b : Bool). of_kind true first ++ (if b then x ∷ later else later)) w.writes in
+          let order : writers ++ waiting ≡ of_kind true first ++ x ∷ later = sym begins ∙ asks in
           let count : ops.number ≡ writes_by begun = omega (arith, own_number_along start front, fresh_number m.opening) in
-          elim (either_front begun ops.line (asked_along w.before) (asked_along more) x order) as (λ _. k ≤ ops.number) [
+          elim (either_front writers waiting (of_kind true first) later x order) as (λ _. k ≤ ops.number) [
             | inl h ↦
-                let waits : ops.line ≡ h.0 ++ x ∷ asked_along more =
-                append_cancel_left begun ops.line (h.0 ++ x ∷ asked_along more)
-                (order ∙ ap (λ (l : List Asked). l ++ x ∷ asked_along more) h.1 ∙ append_assoc begun h.0 (x ∷ asked_along more)) in
-                let apart : AreApart (p.asked ∷ ops.line) = subst (λ (f : Phase). AreApart (unanswered (record ops { phase = f }))) is node.core.line.apart in
-                let there : has_session p.asked.session ops.line ≡ true =
-                ap (has_session p.asked.session) waits ∙ has_there p.asked.session h.0 (asked_along more) x (eq-eqb p.asked.session s session) in
-                absurd (both_ways (has_session p.asked.session ops.line) apart.0 there)
+                let waits : waiting ≡ h.0 ++ x ∷ later =
+                append_cancel_left writers waiting (h.0 ++ x ∷ later)
+                (order ∙ ap (λ (l : List Asked). l ++ x ∷ later) h.1 ∙ append_assoc writers h.0 (x ∷ later)) in
+                let there : has_session s waiting ≡ true = ap (has_session s) waits ∙ has_there s h.0 later x (eq-eqb s s refl) in
+                let none : has_session s ops.line ≡ false = asked_none s r (pending ops) ops.line node.core.line.apart asked in
+                absurd (both_ways (has_session s ops.line) none (has_of true s ops.line there))
             | inr h ↦
                 let one : writes_by (x ∷ h.0) ≡ 1 + writes_by h.0 = ap (λ b. (if b then 1 else 0) + writes_by h.0) w.writes in
-                omega (arith, count, ap writes_by h.1, writes_both (asked_along w.before) (x ∷ h.0), one, w.number)
+                omega (arith, count, writers_count begun, writers_count first, ap writes_by h.1, writes_both (of_kind true first) (x ∷ h.0), one, w.number)
           ]

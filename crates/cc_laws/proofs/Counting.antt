@@ -17,8 +17,10 @@ use Rattle.cc_wire.specs.declared.message.Message.TheVariants as message
 use Rattle.cc_ops.specs.declared.pending.Asked.{Asked}
 use Rattle.cc_ops.specs.declared.pending.Pending.{Pending}
 use Rattle.cc_ops.specs.Commands.{is_writing}
-use Rattle.cc_ops.specs.Ops.{Ops, Phase, Idle, Storing, Querying, StoringBack, is_idle, is_last, is_own, round_of, counted, merged, next_round, with_written, with_own_row, with_begun, after_reply, after_last, after_ack, ends_query, ends_store, again, asked_in}
+use Rattle.cc_ops.specs.Ops.{Ops, Phase, Idle, Storing, Querying, StoringBack, is_idle, is_last, is_own, round_of, counted, merged, next_round, with_written, with_own_row, begin_round, with_begun, after_reply, after_last, after_ack, ends_query, ends_store, again, asked_in}
 use Rattle.cc_ops.specs.OwnLaws.{anew_keeps}
+use Rattle.cc_ops.specs.Rounds.{first_round, line_behind}
+use Rattle.cc_ops.specs.Waiting.{writes_by}
 use Rattle.cc_churn.specs.Churn as churn
 use Rattle.cc_node.specs.Core.{Core, quorum, asked_of, skips, churn_told, anew_if, next}
 use Rattle.cc_node.specs.Node.{Node, step, after}
@@ -40,34 +42,40 @@ false_true e = cc
 
 -- ---- an operation that begins
 
-begun_answers : (me quorum : ℕ) (a : Asked) (s : Ops) → answers_in (with_begun me quorum a s).phase ≡ 0
-begun_answers me quorum a s =
-    cond_both (is_writing a.command) (next_round (Storing (round_of quorum a)) (with_own_row me (with_written a.command s))) (next_round (Querying (round_of quorum a)) s)
+round_answers : (me quorum : ℕ) (asks : List Asked) (s : Ops) → answers_in (begin_round me quorum asks s).phase ≡ 0
+round_answers me quorum [] s = refl
+round_answers me quorum (a ∷ others) s =
+    cond_both (is_writing a.command) (next_round (Storing (round_of quorum a)) (with_own_row me (with_written (a ∷ others) s))) (next_round (Querying (round_of quorum a)) s)
     (λ (t : Ops). answers_in t.phase ≡ 0) (λ _. refl) (λ _. refl)
 
-begun_round : (me quorum : ℕ) (a : Asked) (s : Ops) → round_in (with_begun me quorum a s) ≡ Some (s.tag + 1)
-begun_round me quorum a s =
-    cond_both (is_writing a.command) (next_round (Storing (round_of quorum a)) (with_own_row me (with_written a.command s))) (next_round (Querying (round_of quorum a)) s)
+begun_round : (me quorum : ℕ) (a : Asked) (others : List Asked) (s : Ops) → round_in (begin_round me quorum (a ∷ others) s) ≡ Some (s.tag + 1)
+begun_round me quorum a others s =
+    cond_both (is_writing a.command) (next_round (Storing (round_of quorum a)) (with_own_row me (with_written (a ∷ others) s))) (next_round (Querying (round_of quorum a)) s)
     (λ (t : Ops). round_in t ≡ Some (s.tag + 1)) (λ _. refl) (λ _. refl)
 
-last_answers : (me quorum : ℕ) (line : List Asked) (s : Ops) → answers_in (after_last me quorum line s).phase ≡ 0
-last_answers me quorum [] s = refl
-last_answers me quorum (a ∷ line) s = begun_answers me quorum a (record s { line = line })
+abbrev left_behind : Ops → Ops
+left_behind s = record s { line = line_behind s.share s.line }
+
+last_answers : (me quorum : ℕ) (s : Ops) → answers_in (after_last me quorum s).phase ≡ 0
+last_answers me quorum s = round_answers me quorum (first_round s.share s.line) (left_behind s)
 
 another : (tag : ℕ) → Some (tag + 1) ≢ Some tag
 another tag same = let is : tag + 1 ≡ tag = cc in omega (arith, is)
 
-last_over : (me quorum : ℕ) (line : List Asked) (s : Ops) → round_in (after_last me quorum line s) ≢ Some s.tag
-last_over me quorum [] s same = cc
-last_over me quorum (a ∷ line) s same = another s.tag (sym (begun_round me quorum a (record s { line = line })) ∙ same)
+round_over : (me quorum : ℕ) (asks : List Asked) (s : Ops) → round_in (begin_round me quorum asks s) ≢ Some s.tag
+round_over me quorum [] s same = cc
+round_over me quorum (a ∷ others) s same = another s.tag (sym (begun_round me quorum a others s) ∙ same)
+
+last_over : (me quorum : ℕ) (s : Ops) → round_in (after_last me quorum s) ≢ Some s.tag
+last_over me quorum s = round_over me quorum (first_round s.share s.line) (left_behind s)
 
 -- ---- a phase that begins anew isn't an operation that begins, nor one that goes on to store back
 
-one_asked : (phase : Phase) → asked_in phase ≡ [] → awaits_acks phase ≡ true → ⊥
-one_asked Idle none is = cc
-one_asked (Storing p) none is = cc
-one_asked (Querying p) none is = cc
-one_asked (StoringBack p seen) none is = cc
+one_asked : (phase : Phase) (others : List Asked) → asked_in phase ++ others ≡ [] → awaits_acks phase ≡ true → ⊥
+one_asked Idle others none is = cc
+one_asked (Storing p) others none is = cc
+one_asked (Querying p) others none is = cc
+one_asked (StoringBack p seen) others none is = cc
 
 no_view_awaited : (phase : Phase) → awaits_acks phase ≡ true → awaits_views phase ≡ true → ⊥
 no_view_awaited Idle is views = cc
@@ -75,14 +83,21 @@ no_view_awaited (Storing p) is views = cc
 no_view_awaited (Querying p) is views = cc
 no_view_awaited (StoringBack p seen) is views = cc
 
-last_for_good : (me quorum : ℕ) (line : List Asked) (s : Ops) → awaits_acks s.phase ≡ true → BeginsAnew s (after_last me quorum line s) → ⊥
-last_for_good me quorum [] s is h = one_asked s.phase (sym h.asked) is
-last_for_good me quorum (a ∷ line) s is h =
-    let u : Ops = record s { line = line } in
-    let W = next_round (Storing (round_of quorum a)) (with_own_row me (with_written a.command u)) in
-    let R = next_round (Querying (round_of quorum a)) u in
-    cond_both (is_writing a.command) W R (λ (t : Ops). BeginsAnew s t → ⊥)
-    (λ _ k. omega (arith, k.number)) (λ _ k. no_view_awaited s.phase is (sym k.awaited)) h
+round_for_good : (me quorum : ℕ) (asks : List Asked) (s t : Ops) → s.phase ≡ t.phase → s.number ≡ t.number → awaits_acks s.phase ≡ true
+    → BeginsAnew s (begin_round me quorum asks t) → ⊥
+round_for_good me quorum [] s t phase number is h = one_asked s.phase s.others (sym h.asked) is
+round_for_good me quorum (a ∷ others) s t phase number is h =
+    let W = next_round (Storing (round_of quorum a)) (with_own_row me (with_written (a ∷ others) t)) in
+    let R = next_round (Querying (round_of quorum a)) t in
+    elim (is_writing a.command) as (λ b. is_writing a.command ≡ b → BeginsAnew s (record (if b then W else R) { others = others }) → ⊥) [
+      | true ↦ λ writes k.
+          let count : writes_by (a ∷ others) ≡ 1 + writes_by others = ap (λ (b : Bool). (if b then 1 else 0) + writes_by others) writes in
+          omega (arith, k.number, number, count)
+      | false ↦ λ _ k. no_view_awaited s.phase is (sym k.awaited)
+    ] refl h
+
+last_for_good : (me quorum : ℕ) (s : Ops) → awaits_acks s.phase ≡ true → BeginsAnew s (after_last me quorum s) → ⊥
+last_for_good me quorum s = round_for_good me quorum (first_round s.share s.line) s (left_behind s) refl refl
 
 -- the round of a phase that pends has the tag of then
 tag_of : (tag k : ℕ) (phase : Phase) → round_under tag phase ≡ Some k → tag ≡ k
@@ -133,12 +148,12 @@ module _ (e : Event) (from : ℕ) (is_from : IsFrom from e) where
   ack_outcome me quorum s false phase is = still s
   ack_outcome me quorum s true Idle is = still s
   ack_outcome me quorum s true (Storing p) is =
-      either s p (Storing p) is refl refl refl (record s { phase = Storing (counted p) }) (after_last me quorum s.line s) refl refl
-      (last_over me quorum s.line s) (last_answers me quorum s.line s) (last_for_good me quorum s.line s (ap awaits_acks is))
+      either s p (Storing p) is refl refl refl (record s { phase = Storing (counted p) }) (after_last me quorum s) refl refl
+      (last_over me quorum s) (last_answers me quorum s) (last_for_good me quorum s (ap awaits_acks is))
   ack_outcome me quorum s true (Querying p) is = still s
   ack_outcome me quorum s true (StoringBack p seen) is =
-      either s p (StoringBack p seen) is refl refl refl (record s { phase = StoringBack (counted p) seen }) (after_last me quorum s.line s) refl refl
-      (last_over me quorum s.line s) (last_answers me quorum s.line s) (last_for_good me quorum s.line s (ap awaits_acks is))
+      either s p (StoringBack p seen) is refl refl refl (record s { phase = StoringBack (counted p) seen }) (after_last me quorum s) refl refl
+      (last_over me quorum s) (last_answers me quorum s) (last_for_good me quorum s (ap awaits_acks is))
 
   reply_outcome : (quorum : ℕ) (v : ViewMap) (s : Ops) (b : Bool) (phase : Phase) → s.phase ≡ phase
       → Outcome e s (if b then after_reply quorum v phase s else s) (then_some (b && awaits_views phase) from) (b && ends_query phase) false
@@ -154,7 +169,7 @@ module _ (e : Event) (from : ℕ) (is_from : IsFrom from e) where
 ask_outcome : (e : Event) (me quorum : ℕ) (a : Asked) (line : List Asked) (s : Ops) (phase : Phase) → s.phase ≡ phase
     → Outcome e s (if is_idle phase then with_begun me quorum a s else record s { line = line }) None false false
 ask_outcome e me quorum a line s Idle is =
-    goes_on refl refl refl (λ some. absurd (false_true (sym (ap (λ x. is_some (round_under s.tag x)) is) ∙ some))) (begun_answers me quorum a s ∙ ap answers_in (sym is))
+    goes_on refl refl refl (λ some. absurd (false_true (sym (ap (λ x. is_some (round_under s.tag x)) is) ∙ some))) (round_answers me quorum (a ∷ []) s ∙ ap answers_in (sym is))
 ask_outcome e me quorum a line s (Storing p) is = goes_on refl refl refl (λ _. refl) refl
 ask_outcome e me quorum a line s (Querying p) is = goes_on refl refl refl (λ _. refl) refl
 ask_outcome e me quorum a line s (StoringBack p seen) is = goes_on refl refl refl (λ _. refl) refl
@@ -186,7 +201,7 @@ snapshot_outcome e true may quorum v s is =
       pended = busy_pends s.tag s.phase (busy (is_idle s.phase) is);
       tag = refl;
       number = refl;
-      asked = k.asked;
+      asked = λ i. k.asked i ++ k.others i;
       seen = k.seen;
       awaited = again_awaits quorum s.phase;
       none = again_answers quorum s.phase;

@@ -19,6 +19,7 @@ use Rattle.cc_wire.specs.declared.message.Message.{Message}
 use Rattle.cc_wire.specs.declared.message.Message.TheVariants as message
 use Rattle.cc_links.specs.Links.{Link, heard_from}
 use Rattle.cc_links.specs.LinkLaws.{LinkGoesOn}
+use Rattle.cc_ops.specs.declared.pending.Asked.{Asked}
 use Rattle.cc_ops.specs.Ops.{Phase, Idle, Storing, Querying, StoringBack, is_own}
 use Rattle.cc_node.specs.Core.{Core, next}
 use Rattle.cc_node.specs.Node.{Node, step, after, IsLawful}
@@ -236,13 +237,13 @@ reply_answers : (past : List Event) (me tag : ℕ) (view : ViewMap) (peers : Lis
 reply_answers past me tag view peers h =
     all_changed (HasReply past me tag view) (HasAnswer past me tag) (λ r a. (a.0, message.QueryReply a.1 tag me, a.2, (refl, refl))) peers h
 
-phase_answers : (start : Node) (past : List Event) (peers : List ℕ) (me number : ℕ) (view : ViewMap) (tag : ℕ) (phase : Phase)
-    → Pends start past peers me number view tag phase
+phase_answers : (start : Node) (past : List Event) (peers : List ℕ) (me number : ℕ) (view : ViewMap) (tag : ℕ) (others : List Asked) (phase : Phase)
+    → Pends start past peers me number view tag others phase
     → AllByRecursion (HasAnswer past me tag) peers
-phase_answers start past peers me number view tag Idle h = subst (AllByRecursion (HasAnswer past me tag)) (sym h) tt
-phase_answers start past peers me number view tag (Storing p) h = ack_answers past me tag peers h.1
-phase_answers start past peers me number view tag (Querying p) h = reply_answers past me tag view peers h.1
-phase_answers start past peers me number view tag (StoringBack p seen) h = ack_answers past me tag peers h.1
+phase_answers start past peers me number view tag others Idle h = subst (AllByRecursion (HasAnswer past me tag)) (sym h) tt
+phase_answers start past peers me number view tag others (Storing p) h = ack_answers past me tag peers h.1
+phase_answers start past peers me number view tag others (Querying p) h = reply_answers past me tag view peers h.1
+phase_answers start past peers me number view tag others (StoringBack p seen) h = ack_answers past me tag peers h.1
 
 abbrev pub IsAnswerFrom : Core → Event → ℕ → Type 0
 IsAnswerFrom c e r = (n : ℕ) × (k : Message) × (e ≡ event.Deliver r n k) × IsAnswerTo c.ops.tag c.me k
@@ -335,7 +336,7 @@ module _ (c : Cluster) (h : Holds c) (t : Traces c) (q : ℕ) (m : Member) (at :
       let me : d.me ≡ q = me_of q m (h.sound q m at) front in
       none_if (list_any (nat_eq r) (peers_along begin [] front)) (λ there.
       let old = any_holds (HasAnswer front d.me d.ops.tag) r (peers_along begin [] front) there
-      (phase_answers begin front (peers_along begin [] front) d.me d.ops.number d.ops.view d.ops.tag d.ops.phase (pends m.opening front)) in
+      (phase_answers begin front (peers_along begin [] front) d.me d.ops.number d.ops.view d.ops.tag d.ops.others d.ops.phase (pends m.opening front)) in
       let old_there : Contains m.events (event.Deliver r old.0 old.1) =
       contains_front m.released m.events _ (subst (λ (l : List Event). Contains l (event.Deliver r old.0 old.1)) (sym parts) (Contains-append_left front (last ∷ later) _ old.2)) in
       let new_there : Contains m.events (event.Deliver r now.0 now.1) =
@@ -385,7 +386,7 @@ module _ (c : Cluster) (h : Holds c) (t : Traces c) (q : ℕ) (m : Member) (at :
       let old : AllByRecursion P (peers_along begin [] front) =
       all_changed (HasAnswer front d.me d.ops.tag) P (λ r a. of_sent r a.0 a.1
       (contains_front m.released m.events _ (subst (λ (l : List Event). Contains l (event.Deliver r a.0 a.1)) (sym parts) (Contains-append_left front (last ∷ later) _ a.2))))
-      (peers_along begin [] front) (phase_answers begin front (peers_along begin [] front) d.me d.ops.number d.ops.view d.ops.tag d.ops.phase (pends m.opening front)) in
+      (peers_along begin [] front) (phase_answers begin front (peers_along begin [] front) d.me d.ops.number d.ops.view d.ops.tag d.ops.others d.ops.phase (pends m.opening front)) in
       with_each (counts d last) (peers_along begin [] front) (some_changed (IsAnswerFrom d last) P (λ r a. of_sent r a.0 a.1
       (contains_front m.released m.events _ (subst (Contains (released_events m)) a.2 (contains_at (released_events m) front later last parts)))) (counts d last) (counted_answer d last)) old
     where

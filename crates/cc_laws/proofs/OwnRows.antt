@@ -1,7 +1,7 @@
 -- A node's own row in its view is that of its last write, as long as no view is delivered that has another one.
 --     own_pair, HasOwnRow        the pair of the last write, if there was one;  it is the node's own pair in its view
 --     own_step                   an event keeps it
-use Rattle.std.proofs.Common.{◌≡◌, ℕ, ◌+◌, ◌<◌, zero, suc, nat_lt, List, Bool, true, false, cond, refl, sym, ap, subst, ◌∙◌, inl, inr, arith, add-zero}
+use Rattle.std.proofs.Common.{◌≡◌, ℕ, ◌+◌, ◌<◌, zero, suc, nat_lt, List, Bool, true, false, cond, refl, sym, ap, ◌∙◌, inl, inr, arith, add-zero}
 use Rattle.std.specs.Prelude.{Option, Some, None, IfSome, if◌then◌else◌}
 use Rattle.std.specs.FinMap as table
 use Rattle.std.proofs.lemmas.Bool.{lt-ltb, le-ltb, eq-eqb, ltb-true, ltb-false}

@@ -1,15 +1,14 @@
 -- Each own row in a node's view is one that it wrote, as long as no view is delivered that has another one.
 --     own_last          the one in the view is that of the last write
 --     own_written       an own row at a point of a history was written by the ask of its number
-use Rattle.std.proofs.Common.{◌≡◌, ℕ, ◌+◌, zero, suc, true, false, List, [], ◌∷◌, take, drop, length, refl, sym, ap, subst, ◌∙◌, arith, take-append-drop}
-use Rattle.std.specs.Prelude.{Some, if◌then◌else◌, slice_get}
+use Rattle.std.proofs.Common.{◌≡◌, ℕ, ◌+◌, zero, suc, List, [], ◌∷◌, take, drop, length, refl, sym, ap, subst, ◌∙◌, arith, take-append-drop}
+use Rattle.std.specs.Prelude.{Some}
 use Rattle.std.specs.FinMap as table
 use Rattle.std.specs.Ordering.{nat_cmp}
 use Rattle.std.proofs.lemmas.List.{take_all}
 use Rattle.cc_views.specs.Rows.{Pair}
 use Rattle.cc_views.specs.declared.value.Value.{Value}
 use Rattle.cc_wire.specs.declared.event.Event.{Event}
-use Rattle.cc_ops.specs.declared.pending.Asked.{Asked}
 use Rattle.cc_ops.specs.Ops.{nothing_stored}
 use Rattle.cc_ops.specs.Waiting.{writes_by, written_by}
 use Rattle.cc_node.specs.Node.{Node, step, after, IsLawful}

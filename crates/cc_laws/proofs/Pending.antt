@@ -20,8 +20,10 @@ use Rattle.cc_wire.specs.declared.message.Message.{Message}
 use Rattle.cc_wire.specs.declared.message.Message.TheVariants as message
 use Rattle.cc_ops.specs.declared.pending.Asked.{Asked}
 use Rattle.cc_ops.specs.declared.pending.Pending.{Pending}
-use Rattle.cc_ops.specs.Commands.{is_writing, written}
-use Rattle.cc_ops.specs.Ops.{Ops, Phase, Idle, Storing, Querying, StoringBack, is_idle, is_last, is_own, round_of, counted, merged, next_round, with_written, with_own_row, with_begun, after_reply, after_last, after_ack, ends_query, ends_store, again}
+use Rattle.cc_ops.specs.Commands.{is_writing}
+use Rattle.cc_ops.specs.Rounds.{first_round, line_behind}
+use Rattle.cc_ops.specs.Waiting.{writes_by, written_by}
+use Rattle.cc_ops.specs.Ops.{Ops, Phase, Idle, Storing, Querying, StoringBack, is_idle, is_last, is_own, round_of, counted, merged, next_round, with_written, with_own_row, begin_round, with_begun, after_reply, after_last, after_ack, ends_query, ends_store, again, asked_in, pending}
 use Rattle.cc_churn.specs.Churn as churn
 use Rattle.cc_node.specs.Core.{Core, quorum, asked_of, skips, churn_told, anew_if, next}
 use Rattle.cc_node.specs.Node.{Node, step, after}
@@ -49,31 +51,31 @@ pub record Raised (start : Node) (past : List Event) (tag : ℕ) (Q : Core → T
   pub raised : (after start (before ++ raiser ∷ [])).core.ops.tag ≡ tag
   pub holds : Q (after start (before ++ raiser ∷ [])).core
 
-pub record ReadBefore (start : Node) (past : List Event) (asked : Asked) (seen : ViewMap) : Type 0 where
+pub record ReadBefore (start : Node) (past : List Event) (asks : List Asked) (seen : ViewMap) : Type 0 where
   pub before : List Event
   pub last : Event
   pub later : List Event
   pub parts : past ≡ before ++ last ∷ later
-  pub pending : Pending
-  pub querying : (after start before).core.ops.phase ≡ Querying pending
-  pub same : pending.asked ≡ asked
+  pub query : Pending
+  pub querying : (after start before).core.ops.phase ≡ Querying query
+  pub same : pending (after start before).core.ops ≡ asks
   pub ends : ends_round (after start before).core last ≡ true
   pub saw : (after start (before ++ last ∷ [])).core.ops.view ≡ seen
 
-abbrev pub IsQueryOf : Asked → Core → Type 0
-IsQueryOf a c = (p : Pending) × (c.ops.phase ≡ Querying p) × (p.asked ≡ a)
+abbrev pub IsQueryOf : List Asked → Core → Type 0
+IsQueryOf asks c = (p : Pending) × (c.ops.phase ≡ Querying p) × (pending c.ops ≡ asks)
 
-abbrev pub Pends : Node → List Event → List ℕ → ℕ → ℕ → ViewMap → ℕ → Phase → Type 0
-Pends start past peers me number view tag Idle = peers ≡ []
-Pends start past peers me number view tag (Storing p) =
+abbrev pub Pends : Node → List Event → List ℕ → ℕ → ℕ → ViewMap → ℕ → List Asked → Phase → Type 0
+Pends start past peers me number view tag others Idle = peers ≡ []
+Pends start past peers me number view tag others (Storing p) =
     Raised start past tag (λ c. HasAtLeast (stored_of c.ops) me number) × AllByRecursion (HasAck past me tag) peers × HasAtLeast view me number
-Pends start past peers me number view tag (Querying p) =
-    Raised start past tag (IsQueryOf p.asked) × AllByRecursion (HasReply past me tag view) peers
-Pends start past peers me number view tag (StoringBack p seen) =
-    Raised start past tag (λ c. stored_of c.ops ≡ seen) × AllByRecursion (HasAck past me tag) peers × ReadBefore start past p.asked seen
+Pends start past peers me number view tag others (Querying p) =
+    Raised start past tag (IsQueryOf (p.asked ∷ others)) × AllByRecursion (HasReply past me tag view) peers
+Pends start past peers me number view tag others (StoringBack p seen) =
+    Raised start past tag (λ c. stored_of c.ops ≡ seen) × AllByRecursion (HasAck past me tag) peers × ReadBefore start past (p.asked ∷ others) seen
 
 abbrev pub PendsIn : Node → List Event → List ℕ → ℕ → Ops → Type 0
-PendsIn start past peers me s = Pends start past peers me s.number s.view s.tag s.phase
+PendsIn start past peers me s = Pends start past peers me s.number s.view s.tag s.others s.phase
 
 abbrev pub PendsAt : Node → List Event → List ℕ → Type 0
 PendsAt start past peers = PendsIn start past peers (after start past).core.me (after start past).core.ops
@@ -88,16 +90,17 @@ least_kept (Some p) (Some q) k h l = omega (arith, h, l)
 pub least_more : (v w : ViewMap) (q k : ℕ) → IsAtMost v w → HasAtLeast v q k → HasAtLeast w q k
 least_more v w q k h l = least_kept (table.get v q) (table.get w q) k (h q) l
 
--- the row of the write that the ask would begin
-abbrev written_row : ℕ → Ops → Asked → ViewMap
-written_row me s a = single (record { node = me; number = s.number + 1; value = written a.command s.mine })
+-- the row of a round that writes
+abbrev written_row : ℕ → Ops → List Asked → ViewMap
+written_row me s asks = single (record { node = me; number = s.number + writes_by asks; value = written_by asks s.mine })
 
-own_least : (me : ℕ) (s : Ops) (a : Asked) → HasAtLeast (merge s.view (written_row me s a)) me (s.number + 1)
-own_least me s a =
-    let w = written a.command s.mine in
-    let own : table.get (written_row me s a) me ≡ Some (s.number + 1, w) =
-    get-single _ me ∙ ap (λ b. cond b (Some (s.number + 1, w)) None) (eq-eqb me me refl) in
-    subst (λ (o : Option Pair). IsKept o (table.get (merge s.view (written_row me s a)) me)) own (merged_at_most s.view (written_row me s a) me)
+own_least : (me : ℕ) (s : Ops) (asks : List Asked) → HasAtLeast (merge s.view (written_row me s asks)) me (s.number + writes_by asks)
+own_least me s asks =
+    let number = s.number + writes_by asks in
+    let w = written_by asks s.mine in
+    let own : table.get (written_row me s asks) me ≡ Some (number, w) =
+    get-single _ me ∙ ap (λ b. cond b (Some (number, w)) None) (eq-eqb me me refl) in
+    subst (λ (o : Option Pair). IsKept o (table.get (merge s.view (written_row me s asks)) me)) own (merged_at_most s.view (written_row me s asks) me)
 
 -- ---- own answers
 
@@ -135,13 +138,13 @@ module _ (start : Node) (past : List Event) (e : Event) where
     holds = r.holds;
   }
 
-  read_more : (a : Asked) (seen : ViewMap) → ReadBefore start past a seen → ReadBefore start now a seen
-  read_more a seen r = record {
+  read_more : (asks : List Asked) (seen : ViewMap) → ReadBefore start past asks seen → ReadBefore start now asks seen
+  read_more asks seen r = record {
     before = r.before;
     last = r.last;
     later = r.later ++ e ∷ [];
     parts = ap (λ (l : List Event). l ++ e ∷ []) r.parts ∙ append_assoc r.before (r.last ∷ r.later) (e ∷ []);
-    pending = r.pending;
+    query = r.query;
     querying = r.querying;
     same = r.same;
     ends = r.ends;
@@ -157,20 +160,21 @@ module _ (start : Node) (past : List Event) (e : Event) where
       all_changed (HasReply past me tag view) (HasReply now me tag wider)
       (λ r a. (a.0, a.1, Contains-append_left past (e ∷ []) _ a.2, at_most_trans a.1 view wider a.3 le)) peers h
 
-  pends_more : (peers : List ℕ) (me number : ℕ) (view wider : ViewMap) (tag : ℕ) (phase : Phase) → IsAtMost view wider
-      → Pends start past peers me number view tag phase → Pends start now peers me number wider tag phase
-  pends_more peers me number view wider tag Idle le h = h
-  pends_more peers me number view wider tag (Storing p) le h =
+  pends_more : (peers : List ℕ) (me number : ℕ) (view wider : ViewMap) (tag : ℕ) (others : List Asked) (phase : Phase) → IsAtMost view wider
+      → Pends start past peers me number view tag others phase → Pends start now peers me number wider tag others phase
+  pends_more peers me number view wider tag others Idle le h = h
+  pends_more peers me number view wider tag others (Storing p) le h =
       (raised_more tag (λ c. HasAtLeast (stored_of c.ops) me number) h.0, acks_more me tag peers h.1, least_more view wider me number le h.2)
-  pends_more peers me number view wider tag (Querying p) le h = (raised_more tag (IsQueryOf p.asked) h.0, replies_more me tag view wider peers le h.1)
-  pends_more peers me number view wider tag (StoringBack p seen) le h =
-      (raised_more tag (λ c. stored_of c.ops ≡ seen) h.0, acks_more me tag peers h.1, read_more p.asked seen h.2)
+  pends_more peers me number view wider tag others (Querying p) le h =
+      (raised_more tag (IsQueryOf (p.asked ∷ others)) h.0, replies_more me tag view wider peers le h.1)
+  pends_more peers me number view wider tag others (StoringBack p seen) le h =
+      (raised_more tag (λ c. stored_of c.ops ≡ seen) h.0, acks_more me tag peers h.1, read_more (p.asked ∷ others) seen h.2)
 
   -- the round is as it was
-  same_pends : (peers : List ℕ) (me : ℕ) (s : Ops) (phase : Phase) → s.phase ≡ phase → Pends start past peers me s.number s.view s.tag phase
-      → Pends start now peers me s.number s.view s.tag s.phase
+  same_pends : (peers : List ℕ) (me : ℕ) (s : Ops) (phase : Phase) → s.phase ≡ phase → Pends start past peers me s.number s.view s.tag s.others phase
+      → Pends start now peers me s.number s.view s.tag s.others s.phase
   same_pends peers me s phase is h =
-      subst (Pends start now peers me s.number s.view s.tag) (sym is) (pends_more peers me s.number s.view s.view s.tag phase (at_most_same s.view) h)
+      subst (Pends start now peers me s.number s.view s.tag s.others) (sym is) (pends_more peers me s.number s.view s.view s.tag s.others phase (at_most_same s.view) h)
 
   module _ (c : Core) (at : c ≡ (after start past).core) where
     raise_now : (tag : ℕ) (Q : Core → Type 0) → c.ops.tag < tag → (next c e).ops.tag ≡ tag → Q (next c e) → Raised start now tag Q
@@ -186,41 +190,43 @@ module _ (start : Node) (past : List Event) (e : Event) where
           holds = subst Q pushed holds;
         }
 
-    -- an operation begins
-    begins : (me quorum : ℕ) (a : Asked) (s : Ops) → s.tag ≡ c.ops.tag → (next c e).ops ≡ with_begun me quorum a s
-        → PendsIn start now [] me (with_begun me quorum a s)
-    begins me quorum a s old =
-        let W = next_round (Storing (round_of quorum a)) (with_own_row me (with_written a.command s)) in
+    -- a round begins, if there is one
+    begins : (me quorum : ℕ) (asks : List Asked) (s : Ops) → s.tag ≡ c.ops.tag → (next c e).ops ≡ begin_round me quorum asks s
+        → PendsIn start now [] me (begin_round me quorum asks s)
+    begins me quorum [] s old is = refl
+    begins me quorum (a ∷ others) s old next_is =
+        let asks = a ∷ others in
+        let W = next_round (Storing (round_of quorum a)) (with_own_row me (with_written asks s)) in
         let R = next_round (Querying (round_of quorum a)) s in
+        let number = s.number + writes_by asks in
         let under : c.ops.tag < s.tag + 1 = omega (arith, old) in
-        elim (is_writing a.command) as (λ b. (next c e).ops ≡ (if b then W else R) → PendsIn start now [] me (if b then W else R)) [
+        elim (is_writing a.command)
+        as (λ b. (next c e).ops ≡ record (if b then W else R) { others = others } → PendsIn start now [] me (record (if b then W else R) { others = others })) [
           | true ↦ λ is. (
-            raise_now (s.tag + 1) (λ d. HasAtLeast (stored_of d.ops) me (s.number + 1)) under (ap (λ (t : Ops). t.tag) is)
-                (subst (λ (t : Ops). HasAtLeast (stored_of t) me (s.number + 1)) (sym is) (own_least me s a)),
+            raise_now (s.tag + 1) (λ d. HasAtLeast (stored_of d.ops) me number) under (ap (λ (t : Ops). t.tag) is)
+                (subst (λ (t : Ops). HasAtLeast (stored_of t) me number) (sym is) (own_least me s asks)),
             tt,
-            own_least me s a,
+            own_least me s asks,
           )
-          | false ↦ λ is. (raise_now (s.tag + 1) (IsQueryOf a) under (ap (λ (t : Ops). t.tag) is) (round_of quorum a, ap (λ (t : Ops). t.phase) is, refl), tt)
-        ]
+          | false ↦ λ is. (raise_now (s.tag + 1) (IsQueryOf asks) under (ap (λ (t : Ops). t.tag) is) (round_of quorum a, ap (λ (t : Ops). t.phase) is, ap pending is), tt)
+        ] next_is
 
-    ends : (me quorum : ℕ) (line : List Asked) (s : Ops) → s.tag ≡ c.ops.tag → (next c e).ops ≡ after_last me quorum line s
-        → PendsIn start now [] me (after_last me quorum line s)
-    ends me quorum [] s old is = refl
-    ends me quorum (a ∷ line) s old is = begins me quorum a (record s { line = line }) old is
+    ends : (me quorum : ℕ) (s : Ops) → s.tag ≡ c.ops.tag → (next c e).ops ≡ after_last me quorum s → PendsIn start now [] me (after_last me quorum s)
+    ends me quorum s old is = begins me quorum (first_round s.share s.line) (record s { line = line_behind s.share s.line }) old is
 
     module _ (from n : ℕ) where
       ack_pends : (me quorum tag q : ℕ) (peers : List ℕ) (s : Ops) → s.tag ≡ c.ops.tag → e ≡ event.Deliver from n (message.StoreAck tag q) → (b : Bool)
           → is_own me tag q s ≡ b
           → (phase : Phase) → s.phase ≡ phase → (next c e).ops ≡ (if b then after_ack me quorum phase s else s)
-          → Pends start past peers me s.number s.view s.tag phase
+          → Pends start past peers me s.number s.view s.tag s.others phase
           → PendsIn start now (if b && ends_store phase then [] else with_peer (then_some (b && awaits_acks phase) from) peers) me (if b then after_ack me quorum phase s else s)
       ack_pends me quorum tag q peers s old it false own phase is next_is h = same_pends peers me s phase is h
       ack_pends me quorum tag q peers s old it true own Idle is next_is h = same_pends peers me s Idle is h
       ack_pends me quorum tag q peers s old it true own (Storing p) is next_is h =
-          let L = after_last me quorum s.line s in
+          let L = after_last me quorum s in
           let M = record s { phase = Storing (counted p) } in
           elim (is_last p) as (λ b. (next c e).ops ≡ (if b then L else M) → PendsIn start now (if b then [] else from ∷ peers) me (if b then L else M)) [
-            | true ↦ λ now_is. ends me quorum s.line s old now_is
+            | true ↦ λ now_is. ends me quorum s old now_is
             | false ↦ λ _. (
               raised_more s.tag (λ d. HasAtLeast (stored_of d.ops) me s.number) h.0,
               ((n, subst (Contains now) (it ∙ ack_is from n me tag q s own) (Contains-push past e)), acks_more me s.tag peers h.1),
@@ -229,14 +235,14 @@ module _ (start : Node) (past : List Event) (e : Event) where
           ] next_is
       ack_pends me quorum tag q peers s old it true own (Querying p) is next_is h = same_pends peers me s (Querying p) is h
       ack_pends me quorum tag q peers s old it true own (StoringBack p seen) is next_is h =
-          let L = after_last me quorum s.line s in
+          let L = after_last me quorum s in
           let M = record s { phase = StoringBack (counted p) seen } in
           elim (is_last p) as (λ b. (next c e).ops ≡ (if b then L else M) → PendsIn start now (if b then [] else from ∷ peers) me (if b then L else M)) [
-            | true ↦ λ now_is. ends me quorum s.line s old now_is
+            | true ↦ λ now_is. ends me quorum s old now_is
             | false ↦ λ _. (
               raised_more s.tag (λ d. stored_of d.ops ≡ seen) h.0,
               ((n, subst (Contains now) (it ∙ ack_is from n me tag q s own) (Contains-push past e)), acks_more me s.tag peers h.1),
-              read_more p.asked seen h.2,
+              read_more (p.asked ∷ s.others) seen h.2,
             )
           ] next_is
 
@@ -244,7 +250,7 @@ module _ (start : Node) (past : List Event) (e : Event) where
           → (b : Bool) → is_own me tag q s ≡ b
           → (ends_round c e ≡ (is_own me tag q s && ends_query s.phase))
           → (phase : Phase) → s.phase ≡ phase → (next c e).ops ≡ (if b then after_reply quorum v phase s else s)
-          → Pends start past peers me s.number s.view s.tag phase
+          → Pends start past peers me s.number s.view s.tag s.others phase
           → PendsIn start now (if b && ends_query phase then [] else with_peer (then_some (b && awaits_views phase) from) peers) me (if b then after_reply quorum v phase s else s)
       reply_pends me quorum tag q v peers s old it false own test phase is next_is h = same_pends peers me s phase is h
       reply_pends me quorum tag q v peers s old it true own test Idle is next_is h = same_pends peers me s Idle is h
@@ -262,15 +268,15 @@ module _ (start : Node) (past : List Event) (e : Event) where
                 last = e;
                 later = [];
                 parts = refl;
-                pending = p;
+                query = p;
                 querying = ap (λ (d : Core). d.ops.phase) (sym at) ∙ ap (λ (t : Ops). t.phase) (sym old) ∙ is;
-                same = refl;
+                same = ap (λ (d : Core). pending d.ops) (sym at) ∙ ap pending (sym old) ∙ ap (λ (f : Phase). asked_in f ++ s.others) is;
                 ends = subst (λ (d : Core). ends_round d e ≡ true) at (test ∙ and_from _ _ own (ap ends_query is ∙ last));
                 saw = ap (λ (d : Core). d.ops.view) core_push ∙ ap (λ (d : Core). (next d e).ops.view) (sym at) ∙ ap (λ (t : Ops). t.view) now_is;
               },
             )
             | false ↦ λ _ _. (
-              raised_more s.tag (IsQueryOf p.asked) h.0,
+              raised_more s.tag (IsQueryOf (p.asked ∷ s.others)) h.0,
               (
                 (n, v, subst (Contains now) (it ∙ reply_is from n me tag q v s own) (Contains-push past e), merged_at_most s.view v),
                 replies_more me s.tag s.view (merge s.view v) peers (at_most_merge s.view v) h.1,
@@ -281,10 +287,10 @@ module _ (start : Node) (past : List Event) (e : Event) where
 
     ask_pends : (me quorum : ℕ) (a : Asked) (line : List Asked) (peers : List ℕ) (s : Ops) → s.tag ≡ c.ops.tag → (phase : Phase) → s.phase ≡ phase
         → (next c e).ops ≡ (if is_idle phase then with_begun me quorum a s else record s { line = line })
-        → Pends start past peers me s.number s.view s.tag phase
+        → Pends start past peers me s.number s.view s.tag s.others phase
         → PendsIn start now peers me (if is_idle phase then with_begun me quorum a s else record s { line = line })
     ask_pends me quorum a line peers s old Idle is next_is h =
-        subst (λ (ps : List ℕ). PendsIn start now ps me (with_begun me quorum a s)) (sym h) (begins me quorum a s old next_is)
+        subst (λ (ps : List ℕ). PendsIn start now ps me (with_begun me quorum a s)) (sym h) (begins me quorum (a ∷ []) s old next_is)
     ask_pends me quorum a line peers s old (Storing p) is next_is h = same_pends peers me s (Storing p) is h
     ask_pends me quorum a line peers s old (Querying p) is next_is h = same_pends peers me s (Querying p) is h
     ask_pends me quorum a line peers s old (StoringBack p seen) is next_is h = same_pends peers me s (StoringBack p seen) is h
@@ -293,7 +299,7 @@ module _ (start : Node) (past : List Event) (e : Event) where
     anew_pends : (me quorum : ℕ) (v : ViewMap) (s : Ops) (peers : List ℕ) → s.tag ≡ c.ops.tag → (phase : Phase) → s.phase ≡ phase
         → is_idle phase ≡ false
         → (next c e).ops ≡ next_round (again quorum phase) (merged v s)
-        → Pends start past peers me s.number s.view s.tag phase
+        → Pends start past peers me s.number s.view s.tag s.others phase
         → PendsIn start now [] me (next_round (again quorum phase) (merged v s))
     anew_pends me quorum v s peers old Idle is busy next_is h = cc
     anew_pends me quorum v s peers old (Storing p) is busy next_is h =
@@ -304,13 +310,13 @@ module _ (start : Node) (past : List Event) (e : Event) where
           own,
         )
     anew_pends me quorum v s peers old (Querying p) is busy next_is h =
-        (raise_now (s.tag + 1) (IsQueryOf p.asked) (omega (arith, old)) (ap (λ (t : Ops). t.tag) next_is) (round_of quorum p.asked, ap (λ (t : Ops). t.phase) next_is, refl), tt)
+        (raise_now (s.tag + 1) (IsQueryOf (p.asked ∷ s.others)) (omega (arith, old)) (ap (λ (t : Ops). t.tag) next_is) (round_of quorum p.asked, ap (λ (t : Ops). t.phase) next_is, ap pending next_is), tt)
     anew_pends me quorum v s peers old (StoringBack p seen) is busy next_is h =
-        (raise_now (s.tag + 1) (λ d. stored_of d.ops ≡ seen) (omega (arith, old)) (ap (λ (t : Ops). t.tag) next_is) (ap stored_of next_is), tt, read_more p.asked seen h.2)
+        (raise_now (s.tag + 1) (λ d. stored_of d.ops ≡ seen) (omega (arith, old)) (ap (λ (t : Ops). t.tag) next_is) (ap stored_of next_is), tt, read_more (p.asked ∷ s.others) seen h.2)
 
     snapshot_pends : (me quorum : ℕ) (v : ViewMap) (s : Ops) (peers : List ℕ) → s.tag ≡ c.ops.tag → (b may : Bool) → b ≡ (not (is_idle s.phase) && may)
         → (next c e).ops ≡ anew_if b quorum (merged v s)
-        → Pends start past peers me s.number s.view s.tag s.phase
+        → Pends start past peers me s.number s.view s.tag s.others s.phase
         → PendsIn start now (if b || false then [] else peers) me (anew_if b quorum (merged v s))
     snapshot_pends me quorum v s peers old true may is next_is h =
         anew_pends me quorum v s peers old s.phase refl (busy (is_idle s.phase) is) next_is h
@@ -319,7 +325,7 @@ module _ (start : Node) (past : List Event) (e : Event) where
         busy true k = cc
         busy false k = refl
     snapshot_pends me quorum v s peers old false may is next_is h =
-        pends_more peers me s.number s.view (merge s.view v) s.tag s.phase (at_most_merge s.view v) h
+        pends_more peers me s.number s.view (merge s.view v) s.tag s.others s.phase (at_most_merge s.view v) h
 
 -- ---- any event
 
@@ -329,7 +335,7 @@ message_pends : (start : Node) (past : List Event) (peers : List ℕ) (from n : 
 unfolding next
 message_pends start past peers from n (message.Enter q) c at h = same_pends start past _ peers c.me c.ops c.ops.phase refl h
 message_pends start past peers from n (message.EnterEcho d v j q) c at h =
-    pends_more start past _ peers c.me c.ops.number c.ops.view (merge c.ops.view v) c.ops.tag c.ops.phase (at_most_merge c.ops.view v) h
+    pends_more start past _ peers c.me c.ops.number c.ops.view (merge c.ops.view v) c.ops.tag c.ops.others c.ops.phase (at_most_merge c.ops.view v) h
 message_pends start past peers from n (message.Join q) c at h = same_pends start past _ peers c.me c.ops c.ops.phase refl h
 message_pends start past peers from n (message.JoinEcho q) c at h = same_pends start past _ peers c.me c.ops c.ops.phase refl h
 message_pends start past peers from n (message.Leave q) c at h = same_pends start past _ peers c.me c.ops c.ops.phase refl h
@@ -338,7 +344,7 @@ message_pends start past peers from n (message.Query tag q) c at h = same_pends 
 message_pends start past peers from n (message.QueryReply v tag q) c at h =
     reply_pends start past (event.Deliver from n (message.QueryReply v tag q)) c at from n c.me (quorum c) tag q v peers c.ops refl refl (is_own c.me tag q c.ops) refl refl c.ops.phase refl refl h
 message_pends start past peers from n (message.Store v tag q) c at h =
-    pends_more start past _ peers c.me c.ops.number c.ops.view (merge c.ops.view v) c.ops.tag c.ops.phase (at_most_merge c.ops.view v) h
+    pends_more start past _ peers c.me c.ops.number c.ops.view (merge c.ops.view v) c.ops.tag c.ops.others c.ops.phase (at_most_merge c.ops.view v) h
 message_pends start past peers from n (message.StoreAck tag q) c at h =
     ack_pends start past (event.Deliver from n (message.StoreAck tag q)) c at from n c.me (quorum c) tag q peers c.ops refl refl (is_own c.me tag q c.ops) refl c.ops.phase refl refl h
 message_pends start past peers from n (message.Snapshot d v) c at h =

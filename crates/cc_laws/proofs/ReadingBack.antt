@@ -181,7 +181,7 @@ module _ (c mid d : Cluster) (first second : List (ℕ × Move)) (begins : IsFre
       let read = reading_end c mid d first second begins to_mid to_d p x y (answer.Max n) has (no_max n) in
       let row = done_seen c mid d first second begins to_mid to_d (λ v. k ≤ v.max) (max_lasts k) (command.WriteMax k) refl (λ v. omega arith) q s r done p x y ahead share (answer.Max n) read in
       let most = at_some (λ (e : Pair). e.1.max ≤ max_of read.seen) (table.get read.seen q) row.0 row.1 (max_bounds read.seen q) in
-      omega (arith, row.2, most, max_read read.pending.asked.command read.seen n read.tells)
+      omega (arith, row.2, most, max_read read.asked.0.command read.seen n read.tells)
 
   pub max_in_turn : (q s r k : ℕ) → IsAnswered mid q s r (answer.Max k) → (p x y : ℕ) → IsAhead mid p x y → ShareNode mid d q s r p x y → (n : ℕ) → IsAnswered d p x y (answer.Max n)
       → k ≤ n
@@ -193,14 +193,14 @@ module _ (c mid d : Cluster) (first second : List (ℕ × Move)) (begins : IsFre
       let row = rows_last c mid d first second begins to_mid to_d (λ v. e.1.max ≤ v.max) (max_lasts e.1.max) q s r (answer.Max k) early p x y ahead share (answer.Max n) late node e there (omega arith) in
       let most = at_some (λ (f : Pair). f.1.max ≤ max_of late.seen) (table.get late.seen node) row.0 row.1 (max_bounds late.seen node) in
       omega (arith, row.2, most))) in
-      omega (arith, low, max_read early.pending.asked.command early.seen k early.tells, max_read late.pending.asked.command late.seen n late.tells)
+      omega (arith, low, max_read early.asked.0.command early.seen k early.tells, max_read late.asked.0.command late.seen n late.tells)
 
   pub flag_seen : (q s r : ℕ) → IsDone mid q s r command.SetFlag → (p x y : ℕ) → IsAhead mid p x y → ShareNode mid d q s r p x y → (b : Bool) → IsAnswered d p x y (answer.Flag b)
       → b ≡ true
   flag_seen q s r done p x y ahead share b has =
       let read = reading_end c mid d first second begins to_mid to_d p x y (answer.Flag b) has (no_flag b) in
       let row = done_seen c mid d first second begins to_mid to_d (λ v. v.flag ≡ true) flag_lasts command.SetFlag refl (λ v. refl) q s r done p x y ahead share (answer.Flag b) read in
-      flag_read read.pending.asked.command read.seen b read.tells
+      flag_read read.asked.0.command read.seen b read.tells
       ∙ at_some (λ (e : Pair). e.1.flag ≡ true → flag_of read.seen ≡ true) (table.get read.seen q) row.0 row.1 (flag_there read.seen q) row.2
 
   pub flag_in_turn : (q s r : ℕ) → IsAnswered mid q s r (answer.Flag true) → (p x y : ℕ) → IsAhead mid p x y → ShareNode mid d q s r p x y → (b : Bool) → IsAnswered d p x y (answer.Flag b)
@@ -208,11 +208,11 @@ module _ (c mid d : Cluster) (first second : List (ℕ × Move)) (begins : IsFre
   flag_in_turn q s r early_has p x y ahead share b late_has =
       let early = reading_mid c mid d first second begins to_mid to_d q s r (answer.Flag true) early_has (no_flag true) in
       let late = reading_end c mid d first second begins to_mid to_d p x y (answer.Flag b) late_has (no_flag b) in
-      flag_read late.pending.asked.command late.seen b late.tells
+      flag_read late.asked.0.command late.seen b late.tells
       ∙ flag_from early.seen (flag_of late.seen ≡ true) (λ node. of_some (λ (e : Pair). e.1.flag ≡ true → flag_of late.seen ≡ true) (table.get early.seen node) (λ e there set.
       let row = rows_last c mid d first second begins to_mid to_d (λ v. v.flag ≡ true) flag_lasts q s r (answer.Flag true) early p x y ahead share (answer.Flag b) late node e there set in
       at_some (λ (f : Pair). f.1.flag ≡ true → flag_of late.seen ≡ true) (table.get late.seen node) row.0 row.1 (flag_there late.seen node) row.2))
-      (sym (flag_read early.pending.asked.command early.seen true early.tells))
+      (sym (flag_read early.asked.0.command early.seen true early.tells))
 
   pub member_seen : (q s r k : ℕ) → IsDone mid q s r (command.AddMember k) → (p x y : ℕ) → IsAhead mid p x y → ShareNode mid d q s r p x y → (zs : NatSet)
       → IsAnswered d p x y (answer.Set zs) → set.contains zs k ≡ true
@@ -220,7 +220,7 @@ module _ (c mid d : Cluster) (first second : List (ℕ × Move)) (begins : IsFre
       let read = reading_end c mid d first second begins to_mid to_d p x y (answer.Set zs) has (no_set zs) in
       let row = done_seen c mid d first second begins to_mid to_d (λ v. set.contains v.set k ≡ true) (set_lasts k) (command.AddMember k) refl
       (λ v. contains-insert v.set k k ∙ or_left _ _ (eq-eqb k k refl)) q s r done p x y ahead share (answer.Set zs) read in
-      ap (λ (z : NatSet). set.contains z k) (set_read read.pending.asked.command read.seen zs read.tells)
+      ap (λ (z : NatSet). set.contains z k) (set_read read.asked.0.command read.seen zs read.tells)
       ∙ at_some (λ (e : Pair). set.contains e.1.set k ≡ true → set.contains (set_of read.seen) k ≡ true) (table.get read.seen q) row.0 row.1 (set_there read.seen k q) row.2
 
   pub members_in_turn : (q s r : ℕ) (ys : NatSet) → IsAnswered mid q s r (answer.Set ys) → (p x y : ℕ) → IsAhead mid p x y → ShareNode mid d q s r p x y → (zs : NatSet)
@@ -229,8 +229,8 @@ module _ (c mid d : Cluster) (first second : List (ℕ × Move)) (begins : IsFre
   members_in_turn q s r ys early_has p x y ahead share zs late_has k there_first =
       let early = reading_mid c mid d first second begins to_mid to_d q s r (answer.Set ys) early_has (no_set ys) in
       let late = reading_end c mid d first second begins to_mid to_d p x y (answer.Set zs) late_has (no_set zs) in
-      ap (λ (z : NatSet). set.contains z k) (set_read late.pending.asked.command late.seen zs late.tells)
+      ap (λ (z : NatSet). set.contains z k) (set_read late.asked.0.command late.seen zs late.tells)
       ∙ set_from early.seen k (set.contains (set_of late.seen) k ≡ true) (λ node. of_some (λ (e : Pair). set.contains e.1.set k ≡ true → set.contains (set_of late.seen) k ≡ true) (table.get early.seen node) (λ e there has.
       let row = rows_last c mid d first second begins to_mid to_d (λ v. set.contains v.set k ≡ true) (set_lasts k) q s r (answer.Set ys) early p x y ahead share (answer.Set zs) late node e there has in
       at_some (λ (f : Pair). set.contains f.1.set k ≡ true → set.contains (set_of late.seen) k ≡ true) (table.get late.seen node) row.0 row.1 (set_there late.seen k node) row.2))
-      (ap (λ (z : NatSet). set.contains z k) (sym (set_read early.pending.asked.command early.seen ys early.tells)) ∙ there_first)
+      (ap (λ (z : NatSet). set.contains z k) (sym (set_read early.asked.0.command early.seen ys early.tells)) ∙ there_first)

@@ -3,7 +3,6 @@
 --     stores_seen, in_turn    so of stores, and of two collects
 use Rattle.std.proofs.Common.{◌≡◌, ◌⊎◌, ℕ, ◌<◌, ◌≤◌, List, [], ◌∷◌, ◌++◌, refl, sym, ap, subst, ◌∙◌, inl, inr, arith, append_assoc}
 use Rattle.std.specs.Prelude.{Option, Some, None, IsSomeAnd}
-use Rattle.std.specs.Option.{unwrap_or}
 use Rattle.std.specs.List.{Contains, AllByRecursion}
 use Rattle.std.specs.FinMap as table
 use Rattle.std.proofs.lemmas.Bool.{cases_lt}
@@ -19,19 +18,18 @@ use Rattle.cc_wire.specs.declared.command.Command.{Command}
 use Rattle.cc_wire.specs.declared.command.Command.TheVariants as command
 use Rattle.cc_ops.specs.declared.pending.Pending.{Pending}
 use Rattle.cc_ops.specs.Commands.{answer_of}
-use Rattle.cc_ops.specs.Ops.{Storing, Querying, StoringBack}
+use Rattle.cc_ops.specs.Ops.{Storing, StoringBack, pending as pending_asks}
 use Rattle.cc_sessions.specs.Sessions.{last_request}
 use Rattle.cc_node.specs.Core.{Core}
 use Rattle.cc_node.specs.Node.{Node, after, IsLawful}
 use Rattle.cc_node.specs.Opening.{Opening, fresh}
 use Rattle.cc_node.specs.Histories.{lawful_parts}
-use Rattle.cc_node.specs.Lawful.{IsPhaseOf}
 use Rattle.cc_node.proofs.FreshLaws.{fresh_lawful, after_lawful}
 use Rattle.cc_laws.specs.Clusters.{Member, Cluster, node_at, Move}
 use Rattle.cc_laws.specs.Runs.{Run, IsFreshCluster, Occurs, among_sent}
 use Rattle.cc_laws.specs.Orders.{GoesOn, IsFollowedBy}
 use Rattle.cc_laws.specs.Rounds.{Round, peers_of}
-use Rattle.cc_laws.specs.Regular.{released_events, IsAnswered, IsWriteAsk, IsStored, IsAhead, HasAtLeast, SeesWrite, RoundOf, Counted, RoundsMeet, ShareNode}
+use Rattle.cc_laws.specs.Regular.{released_events, IsAnswered, IsWriteAsk, IsStored, IsAhead, HasAtLeast, SeesWrite, RoundOf, Counted, HasAsked, RoundsMeet, ShareNode}
 use Rattle.cc_laws.specs.Fixed.{IsFixedCluster, Stays}
 use Rattle.cc_laws.proofs.Agreeing.{all_written, one_value}
 use Rattle.cc_laws.proofs.Lists.{all_both}
@@ -44,7 +42,7 @@ use Rattle.cc_laws.proofs.Places.{parts_more, after_parts}
 use Rattle.cc_laws.proofs.Says.{tag_after, stored_of}
 use Rattle.cc_laws.proofs.Pending.{HasAck, HasReply, Raised, least_more}
 use Rattle.cc_laws.proofs.Knowing.{either_front, Knows, store_known, reply_known}
-use Rattle.cc_laws.proofs.Answering.{last_after, Ended, ended, either_op, reads_view, writes_stored, StoredRound, IsQueryFor, ReadRound, node_lawful, write_round, back_round, answered_read, number_reached}
+use Rattle.cc_laws.proofs.Answering.{last_after, Ended, ended, either_op, op_pends, op_writes, op_reads, asked_last, reads_view, writes_stored, StoredRound, IsQueryFor, ReadRound, node_lawful, write_round, back_round, answered_read, number_reached}
 
 -- a query of a request began where the node had released none such
 asked_later : (p : ℕ) (m n : Member) → IsSound p n → Grows m n → (s r tag : ℕ) → last_request (node_at m m.released).core.sessions s < r
@@ -66,10 +64,8 @@ asked_later p m n sound grows s r tag ahead raised =
           let to_m = (lawful_parts start (released_events m) grows.longer.0 (subst (IsLawful start) grows.longer.1 lawful)).0 in
           let both = lawful_parts start front e.0 (subst (IsLawful start) parts to_m) in
           let c = (after start front).core in
-          let q = raised.holds in
-          let pending : IsPhaseOf c.links c.sessions (Querying q.0) =
-          subst (IsPhaseOf c.links c.sessions) q.1 (after_lawful start front both.0 (fresh_lawful n.opening sound.opening)).core.phase in
-          let asked : last_request c.sessions s ≡ r = ap (λ (x : ℕ). last_request c.sessions x) (sym q.2) ∙ ap (λ o. unwrap_or o 0) pending.0.session ∙ q.3 in
+          let asked : last_request c.sessions s ≡ r =
+          asked_last c (after_lawful start front both.0 (fresh_lawful n.opening sound.opening)).core s r raised.holds.2 in
           let up = last_after s (after start front) e.0 both.1 in
           let at : after start (released_events m) ≡ after (after start front) e.0 = after_parts start (released_events m) front e.0 parts in
           absurd (omega (arith, asked, up, ap (λ (x : Node). last_request x.core.sessions s) at, ap (λ (x : Node). last_request x.core.sessions s) at_m, ahead))
@@ -128,9 +124,8 @@ pub record Reading (c : Cluster) (p s r : ℕ) (a : Answer) : Type 0 where
   pub pending : Pending
   pub seen : ViewMap
   pub phase : (after (fresh member.opening) op.front).core.ops.phase ≡ StoringBack pending seen
-  pub session : pending.asked.session ≡ s
-  pub request : pending.asked.request ≡ r
-  pub tells : a ≡ answer_of pending.asked.command seen
+  pub asked : HasAsked (pending_asks (after (fresh member.opening) op.front).core.ops) s r
+  pub tells : a ≡ answer_of asked.0.command seen
 
 pub reading : (c : Cluster) → Holds c → Traces c → (p s r : ℕ) (a : Answer) → IsAnswered c p s r a → (a ≡ answer.Stored → ⊥) → Reading c p s r a
 reading c h t p s r a has read =
@@ -138,21 +133,18 @@ reading c h t p s r a has read =
     let m = made.0 in
     let op = ended m s r a made.2 in
     let b = (after (fresh m.opening) op.front).core in
-    let phase = (node_lawful p m (h.sound p m made.1) op.front op.later op.last op.parts).core.phase in
+    let lawful = (node_lawful p m (h.sound p m made.1) op.front op.later op.last op.parts).core in
     elim (either_op b s r a b.ops.phase refl op.tells) as (λ _. Reading c p s r a) [
-      | inl w ↦
-          let writes : IsPhaseOf b.links b.sessions (Storing w.0) = subst (IsPhaseOf b.links b.sessions) w.1 phase in
-          absurd (read (w.4 ∙ writes_stored w.0.asked.command b.ops.view writes.1))
+      | inl w ↦ absurd (read (w.6 ∙ writes_stored w.1.command b.ops.view (op_writes b lawful w.0 w.1 w.2 w.3)))
       | inr o ↦ record {
         member = m;
         there = made.1;
         op = op;
         pending = o.0;
-        seen = o.1;
-        phase = o.2;
-        session = o.3;
-        request = o.4;
-        tells = o.5;
+        seen = o.2;
+        phase = o.3;
+        asked = (o.1, op_pends b o.0 (StoringBack o.0 o.2) o.1 o.3 refl o.4, o.5, o.6);
+        tells = o.7;
       }
     ]
 
@@ -213,7 +205,7 @@ module _ (c mid d : Cluster) (first second : List (ℕ × Move)) (fresh_c : IsFr
 
   read_round_of : (p x y : ℕ) (a : Answer) (read : Reading d p x y a) → ReadRound p read.member x y read.seen
   read_round_of p x y a read =
-      answered_read p read.member (h_end.sound p read.member read.there) x y a read.op read.pending read.seen read.phase read.session read.request
+      answered_read p read.member (h_end.sound p read.member read.there) x y a read.op read.pending read.seen read.phase read.asked
 
   -- a read that began after a store had ended
   pub stores_seen : (q k s r : ℕ) → IsStored mid q k s r → (p x y : ℕ) → IsAhead mid p x y → ShareNode mid d q s r p x y → (a : Answer)
@@ -226,16 +218,16 @@ module _ (c mid d : Cluster) (first second : List (ℕ × Move)) (fresh_c : IsFr
       let sound = h_mid.sound q m made.1 in
       let op = ended m s r answer.Stored made.2 in
       let b = (after (fresh m.opening) op.front).core in
-      let phase = (node_lawful q m sound op.front op.later op.last op.parts).core.phase in
+      let lawful = (node_lawful q m sound op.front op.later op.last op.parts).core in
       elim (either_op b s r answer.Stored b.ops.phase refl op.tells) as (λ _. HasAtLeast read.seen q k) [
         | inl w ↦
-            let reached = number_reached q m sound s r k answer.Stored op w.0 w.1 w.2 w.3 ask in
+            let asked : HasAsked (pending_asks b.ops) s r = (w.1, op_pends b w.0 (Storing w.0) w.1 w.2 refl w.3, w.4, w.5) in
+            let reached = number_reached q m sound s r k answer.Stored op asked ask in
             seen_later mid d h_mid t_mid h_end t_end (run_grows mid second d h_mid to_d) q p s r x y m read.member made.1 read.there (λ e. HasAtLeast (stored_of e.ops) q b.ops.number) q k
-            (λ e has. at_least (table.get (stored_of e.ops) q) k b.ops.number reached has) (write_round q m sound op.front op.later op.last op.parts s r w.0 w.2 w.3 w.1 op.ends) read.seen ahead
+            (λ e has. at_least (table.get (stored_of e.ops) q) k b.ops.number reached has) (write_round q m sound op.front op.later op.last op.parts s r w.0 asked w.2 op.ends) read.seen ahead
             (read_round_of p x y a read) share
         | inr o ↦
-            let reads : IsPhaseOf b.links b.sessions (StoringBack o.0 o.1) = subst (IsPhaseOf b.links b.sessions) o.2 phase in
-            absurd (reads_view o.0.asked.command o.1 reads.1 o.5)
+            absurd (reads_view o.1.command o.2 (op_reads b lawful o.0 o.2 o.1 o.3 o.4) o.7)
       ]
     where
       at_least : (o : Option Pair) (low high : ℕ) → low ≤ high → IsSomeAnd o (λ e. high ≤ e.0) → IsSomeAnd o (λ e. low ≤ e.0)
@@ -248,7 +240,7 @@ module _ (c mid d : Cluster) (first second : List (ℕ × Move)) (fresh_c : IsFr
       → IsAtMost early.seen late.seen
   reads_in_turn q s r a early p x y ahead share b late =
       let m = early.member in
-      let back = back_round q m (h_mid.sound q m early.there) early.op.front early.op.later early.op.last early.op.parts s r early.pending early.seen early.session early.request early.phase early.op.ends in
+      let back = back_round q m (h_mid.sound q m early.there) early.op.front early.op.later early.op.last early.op.parts s r early.pending early.seen early.asked early.phase early.op.ends in
       λ node. each (table.get early.seen node) (table.get late.seen node) (λ k has.
       seen_later mid d h_mid t_mid h_end t_end (run_grows mid second d h_mid to_d) q p s r x y m late.member early.there late.there (λ e. stored_of e.ops ≡ early.seen) node k
       (λ e is. subst (λ (v : ViewMap). HasAtLeast v node k) (sym is) has) back late.seen ahead (read_round_of p x y b late) share)
@@ -270,7 +262,7 @@ module _ (c mid d : Cluster) (first second : List (ℕ × Move)) (fresh_c : IsFr
   collect_sees q k s r stored p x y ahead share v has =
       let read = reading_end p x y (answer.Seen v) has (not_stored v) in
       let seen : HasAtLeast v q k =
-      subst (λ (w : ViewMap). HasAtLeast w q k) (collect_is read.pending.asked.command read.seen v read.tells) (stores_seen q k s r stored p x y ahead share (answer.Seen v) read) in
+      subst (λ (w : ViewMap). HasAtLeast w q k) (collect_is read.asked.0.command read.seen v read.tells) (stores_seen q k s r stored p x y ahead share (answer.Seen v) read) in
       let row = some_and (table.get v q) (λ e. k ≤ e.0) seen in
       (row.0.0, row.0.1, row.2, row.1, all_written c d (first ++ second) fresh_c to_end v (seen_occurs p x y v has) q row.0.0 row.0.1 row.1)
 
@@ -279,8 +271,8 @@ module _ (c mid d : Cluster) (first second : List (ℕ × Move)) (fresh_c : IsFr
   collects_in_turn q s r v first_has p x y ahead share w second_has =
       let early = reading_mid q s r (answer.Seen v) first_has (not_stored v) in
       let late = reading_end p x y (answer.Seen w) second_has (not_stored w) in
-      let is_v = collect_is early.pending.asked.command early.seen v early.tells in
-      let is_w = collect_is late.pending.asked.command late.seen w late.tells in
+      let is_v = collect_is early.asked.0.command early.seen v early.tells in
+      let is_w = collect_is late.asked.0.command late.seen w late.tells in
       let most : IsAtMost v w = subst (λ (u : ViewMap). IsAtMost u w) is_v (subst (IsAtMost early.seen) is_w (reads_in_turn q s r (answer.Seen v) early p x y ahead share (answer.Seen w) late)) in
       let occurs_v = seen_occurs q s r v (run_sent mid second d to_d _ first_has) in
       λ node. goes_on (table.get v node) (table.get w node) (most node)

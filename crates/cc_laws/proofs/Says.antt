@@ -6,7 +6,7 @@
 --     ReplySays, reply_says        a reply ends a round, and tells what the pending operation is answered
 --     OutputSays, outputs_say      what is sent is the event's post, and what is replied its reply
 use Rattle.std.proofs.Common.{◌≡◌, ℕ, ◌+◌, ◌-◌, ◌<◌, ◌≤◌, Bool, true, false, List, [], ◌∷◌, ◌++◌, refl, subst, arith}
-use Rattle.std.specs.Prelude.{◌&&◌, Option, Some, None, IfSome, if◌then◌else◌, ⊤}
+use Rattle.std.specs.Prelude.{◌&&◌, Option, Some, None, IfSome, if◌then◌else◌, map, ⊤}
 use Rattle.std.specs.Bool.{then_some}
 use Rattle.std.specs.List.{AllByRecursion, Contains}
 use Rattle.std.proofs.lemmas.List.Elements.{Contains-append_left, Contains-append_right}
@@ -29,8 +29,8 @@ use Rattle.cc_ops.specs.declared.pending.Pending.{Pending}
 use Rattle.cc_ops.specs.declared.pending.Reply.{Reply}
 use Rattle.cc_ops.specs.Commands.{is_writing}
 use Rattle.cc_ops.specs.Ops as ops
-use Rattle.cc_ops.specs.Ops.{Ops, Phase, Idle, Storing, Querying, StoringBack, is_idle, is_last, is_own, round_of, counted, merged, next_round, with_written, with_own_row, with_begun, after_ask, after_reply, after_last, after_ack, after_message, begun_in, ends_query, ends_store, told, replies_in}
-use Rattle.cc_ops.specs.Waiting.{first_round}
+use Rattle.cc_ops.specs.Ops.{Ops, Phase, Idle, Storing, Querying, StoringBack, is_idle, is_last, is_own, round_of, counted, merged, next_round, with_written, with_own_row, begin_round, with_begun, after_ask, after_reply, after_last, after_ack, after_message, begun_in, ends_query, ends_store, told, replies_in}
+use Rattle.cc_ops.specs.Rounds.{first_round, line_behind}
 use Rattle.cc_node.specs.declared.made.LinkAck.{LinkAck}
 use Rattle.cc_node.specs.Core as core
 use Rattle.cc_node.specs.Core.{Core, quorum, asked_of, churned, churn_told, tells, asks_anew, anew_if, join_told, question_if, post_of_snapshot, post_to}
@@ -46,25 +46,25 @@ either_tag : (b : Bool) (k : ℕ) (s t : Ops) → k ≤ s.tag → k ≤ t.tag �
 either_tag true k s t h l = h
 either_tag false k s t h l = l
 
-pub begun_tag : (me quorum : ℕ) (a : Asked) (s : Ops) → (with_begun me quorum a s).tag ≡ s.tag + 1
-begun_tag me quorum a s =
-    cond_both (is_writing a.command) (next_round (Storing (round_of quorum a)) (with_own_row me (with_written a.command s))) (next_round (Querying (round_of quorum a)) s)
+pub round_tag : (me quorum : ℕ) (a : Asked) (others : List Asked) (s : Ops) → (begin_round me quorum (a ∷ others) s).tag ≡ s.tag + 1
+round_tag me quorum a others s =
+    cond_both (is_writing a.command) (next_round (Storing (round_of quorum a)) (with_own_row me (with_written (a ∷ others) s))) (next_round (Querying (round_of quorum a)) s)
     (λ (t : Ops). t.tag ≡ s.tag + 1) (λ _. refl) (λ _. refl)
 
-begun_up : (me quorum : ℕ) (a : Asked) (s : Ops) → s.tag ≤ (with_begun me quorum a s).tag
-begun_up me quorum a s = omega (arith, begun_tag me quorum a s)
+round_up : (me quorum : ℕ) (asks : List Asked) (s : Ops) → s.tag ≤ (begin_round me quorum asks s).tag
+round_up me quorum [] s = omega arith
+round_up me quorum (a ∷ others) s = omega (arith, round_tag me quorum a others s)
 
-last_up : (me quorum : ℕ) (line : List Asked) (s : Ops) → s.tag ≤ (after_last me quorum line s).tag
-last_up me quorum [] s = omega arith
-last_up me quorum (a ∷ line) s = begun_up me quorum a (record s { line = line })
+last_up : (me quorum : ℕ) (s : Ops) → s.tag ≤ (after_last me quorum s).tag
+last_up me quorum s = round_up me quorum (first_round s.share s.line) (record s { line = line_behind s.share s.line })
 
 ack_up : (me quorum : ℕ) (phase : Phase) (s : Ops) → s.tag ≤ (after_ack me quorum phase s).tag
 ack_up me quorum Idle s = omega arith
 ack_up me quorum (Storing p) s =
-    either_tag (is_last p) s.tag (after_last me quorum s.line s) (record s { phase = Storing (counted p) }) (last_up me quorum s.line s) (omega arith)
+    either_tag (is_last p) s.tag (after_last me quorum s) (record s { phase = Storing (counted p) }) (last_up me quorum s) (omega arith)
 ack_up me quorum (Querying p) s = omega arith
 ack_up me quorum (StoringBack p seen) s =
-    either_tag (is_last p) s.tag (after_last me quorum s.line s) (record s { phase = StoringBack (counted p) seen }) (last_up me quorum s.line s) (omega arith)
+    either_tag (is_last p) s.tag (after_last me quorum s) (record s { phase = StoringBack (counted p) seen }) (last_up me quorum s) (omega arith)
 
 reply_up : (quorum : ℕ) (v : ViewMap) (phase : Phase) (s : Ops) → s.tag ≤ (after_reply quorum v phase s).tag
 reply_up quorum v Idle s = omega arith
@@ -90,7 +90,7 @@ message_up me quorum (message.Snapshot c v) s = omega arith
 
 ask_up : (me quorum : ℕ) (a : Asked) (s : Ops) → s.tag ≤ (after_ask me quorum a s).tag
 ask_up me quorum a s =
-    either_tag (is_idle s.phase) s.tag (with_begun me quorum a s) (record s { line = s.line ++ a ∷ [] }) (begun_up me quorum a s) (omega arith)
+    either_tag (is_idle s.phase) s.tag (with_begun me quorum a s) (record s { line = s.line ++ a ∷ [] }) (round_up me quorum (a ∷ []) s) (omega arith)
 
 pub tag_next : (c : Core) (e : Event) → c.ops.tag ≤ (next c e).ops.tag
 unfolding next
@@ -147,37 +147,38 @@ first_says : (P : Message → Type 0) (me : ℕ) (a : Asked) (t : Ops) → P (me
 first_says P me a t store query =
     cond_both (is_writing a.command) (message.Store t.view t.tag me) (message.Query t.tag me) P (λ _. store) (λ _. query)
 
-begun_stores : (me quorum : ℕ) (a : Asked) (s : Ops) → (with_begun me quorum a s).view ≡ stored_of (with_begun me quorum a s)
-begun_stores me quorum a s =
-    cond_both (is_writing a.command) (next_round (Storing (round_of quorum a)) (with_own_row me (with_written a.command s))) (next_round (Querying (round_of quorum a)) s)
+round_stores : (me quorum : ℕ) (a : Asked) (others : List Asked) (s : Ops) → (begin_round me quorum (a ∷ others) s).view ≡ stored_of (begin_round me quorum (a ∷ others) s)
+round_stores me quorum a others s =
+    cond_both (is_writing a.command) (next_round (Storing (round_of quorum a)) (with_own_row me (with_written (a ∷ others) s))) (next_round (Querying (round_of quorum a)) s)
     (λ (t : Ops). t.view ≡ stored_of t) (λ _. refl) (λ _. refl)
 
-begun_says : (me quorum : ℕ) (a : Asked) (s : Ops) (e : Event) → Says me s.tag e (with_begun me quorum a s) (ops.first_post me a (with_begun me quorum a s))
-begun_says me quorum a s e =
-    let t = with_begun me quorum a s in
-    let new : s.tag < t.tag = omega (arith, begun_tag me quorum a s) in
-    first_says (Says me s.tag e t) me a t (refl, new, refl, begun_stores me quorum a s) (refl, new, refl)
+round_says : (me quorum : ℕ) (asks : List Asked) (s : Ops) (e : Event)
+    → IfSome (ops.post_of_round me asks (begin_round me quorum asks s)) (Says me s.tag e (begin_round me quorum asks s))
+round_says me quorum [] s e = tt
+round_says me quorum (a ∷ others) s e =
+    let t = begin_round me quorum (a ∷ others) s in
+    let new : s.tag < t.tag = omega (arith, round_tag me quorum a others s) in
+    first_says (Says me s.tag e t) me a t (refl, new, refl, round_stores me quorum a others s) (refl, new, refl)
 
-last_says : (me quorum : ℕ) (line : List Asked) (s : Ops) (e : Event)
-    → IfSome (ops.post_of_round me (first_round line) (after_last me quorum line s)) (Says me s.tag e (after_last me quorum line s))
-last_says me quorum [] s e = tt
-last_says me quorum (a ∷ line) s e = begun_says me quorum a (record s { line = line }) e
+last_says : (me quorum : ℕ) (s : Ops) (e : Event)
+    → IfSome (ops.post_of_round me (first_round s.share s.line) (after_last me quorum s)) (Says me s.tag e (after_last me quorum s))
+last_says me quorum s e = round_says me quorum (first_round s.share s.line) (record s { line = line_behind s.share s.line }) e
 
 either_last : (me quorum : ℕ) (b : Bool) (phase : Phase) (s : Ops) (e : Event)
-    → IfSome (ops.post_of_round me (if b then first_round s.line else []) (if b then after_last me quorum s.line s else record s { phase = phase }))
-    (Says me s.tag e (if b then after_last me quorum s.line s else record s { phase = phase }))
-either_last me quorum true phase s e = last_says me quorum s.line s e
+    → IfSome (ops.post_of_round me (if b then first_round s.share s.line else []) (if b then after_last me quorum s else record s { phase = phase }))
+    (Says me s.tag e (if b then after_last me quorum s else record s { phase = phase }))
+either_last me quorum true phase s e = last_says me quorum s e
 either_last me quorum false phase s e = tt
 
 ack_says : (me quorum : ℕ) (phase : Phase) (s : Ops) (e : Event)
-    → IfSome (ops.post_of_round me (begun_in phase s.line) (after_ack me quorum phase s)) (Says me s.tag e (after_ack me quorum phase s))
+    → IfSome (ops.post_of_round me (begun_in phase s) (after_ack me quorum phase s)) (Says me s.tag e (after_ack me quorum phase s))
 ack_says me quorum Idle s e = tt
 ack_says me quorum (Storing p) s e = either_last me quorum (is_last p) (Storing (counted p)) s e
 ack_says me quorum (Querying p) s e = tt
 ack_says me quorum (StoringBack p seen) s e = either_last me quorum (is_last p) (StoringBack (counted p) seen) s e
 
 own_ack_says : (me quorum : ℕ) (b : Bool) (s : Ops) (e : Event)
-    → IfSome (ops.post_of_round me (if b then begun_in s.phase s.line else []) (if b then after_ack me quorum s.phase s else s))
+    → IfSome (ops.post_of_round me (if b then begun_in s.phase s else []) (if b then after_ack me quorum s.phase s else s))
     (Says me s.tag e (if b then after_ack me quorum s.phase s else s))
 own_ack_says me quorum true s e = ack_says me quorum s.phase s e
 own_ack_says me quorum false s e = tt
@@ -185,7 +186,7 @@ own_ack_says me quorum false s e = tt
 ask_says : (me quorum : ℕ) (b : Bool) (a : Asked) (s : Ops) (line : List Asked) (e : Event)
     → IfSome (ops.post_of_round me (if b then a ∷ [] else []) (if b then with_begun me quorum a s else record s { line = line }))
     (Says me s.tag e (if b then with_begun me quorum a s else record s { line = line }))
-ask_says me quorum true a s line e = begun_says me quorum a s e
+ask_says me quorum true a s line e = round_says me quorum (a ∷ []) s e
 ask_says me quorum false a s line e = tt
 
 -- the last reply to a query begins the round that stores back
@@ -289,26 +290,47 @@ post_says c event.Snapshot = tt
 
 -- ---- replies
 
-abbrev pub Told : ViewMap → Phase → Reply → Type 0
-Told view Idle r = ⊥
-Told view (Storing p) r = r ≡ told p view
-Told view (Querying p) r = ⊥
-Told view (StoringBack p seen) r = r ≡ told p seen
+-- what one of these asks is answered, read from that view
+abbrev pub TellsOne : ViewMap → List Asked → Reply → Type 0
+TellsOne seen asks r = (a : Asked) × Contains asks a × (r ≡ told seen a)
+
+abbrev pub Told : ViewMap → List Asked → Phase → Reply → Type 0
+Told view others Idle r = ⊥
+Told view others (Storing p) r = TellsOne view (p.asked ∷ others) r
+Told view others (Querying p) r = ⊥
+Told view others (StoringBack p seen) r = TellsOne seen (p.asked ∷ others) r
+
+abbrev pub TellsOf : Ops → Reply → Type 0
+TellsOf s r = Told s.view s.others s.phase r
 
 abbrev pub ReplySays : Core → Event → Reply → Type 0
-ReplySays c e r = (ends_round c e ≡ true) × Told c.ops.view c.ops.phase r
+ReplySays c e r = (ends_round c e ≡ true) × TellsOf c.ops r
 
-last_replies : (b : Bool) (t : Reply) → AllByRecursion (λ r. (b ≡ true) × (r ≡ t)) (if b then t ∷ [] else [])
-last_replies true t = ((refl, refl), tt)
-last_replies false t = tt
+-- each element is in its list
+each_in : {X : Type 0} (xs : List X) → AllByRecursion (Contains xs) xs
+each_in [] = tt
+each_in {X} (x ∷ xs) = (Contains-append_left (x ∷ []) xs x (0, omega arith, refl), behind xs (each_in xs))
+  where
+    behind : (ys : List X) → AllByRecursion (Contains xs) ys → AllByRecursion (Contains (x ∷ xs)) ys
+    behind [] h = tt
+    behind (y ∷ ys) h = (Contains-append_right (x ∷ []) xs y h.0, behind ys h.1)
 
-ack_replies : (b : Bool) (view : ViewMap) (phase : Phase)
-    → AllByRecursion (λ r. ((b && ends_store phase) ≡ true) × Told view phase r) (if b then replies_in view phase else [])
-ack_replies true view Idle = tt
-ack_replies true view (Storing p) = last_replies (is_last p) (told p view)
-ack_replies true view (Querying p) = tt
-ack_replies true view (StoringBack p seen) = last_replies (is_last p) (told p seen)
-ack_replies false view phase = tt
+each_told : (seen : ViewMap) (all asks : List Asked) → AllByRecursion (Contains all) asks
+    → AllByRecursion (λ r. (true ≡ true) × TellsOne seen all r) (map (told seen) asks)
+each_told seen all [] h = tt
+each_told seen all (a ∷ asks) h = ((refl, (a, h.0, refl)), each_told seen all asks h.1)
+
+last_replies : (b : Bool) (seen : ViewMap) (asks : List Asked) → AllByRecursion (λ r. (b ≡ true) × TellsOne seen asks r) (if b then map (told seen) asks else [])
+last_replies true seen asks = each_told seen asks asks (each_in asks)
+last_replies false seen asks = tt
+
+ack_replies : (b : Bool) (view : ViewMap) (others : List Asked) (phase : Phase)
+    → AllByRecursion (λ r. ((b && ends_store phase) ≡ true) × Told view others phase r) (if b then replies_in view others phase else [])
+ack_replies true view others Idle = tt
+ack_replies true view others (Storing p) = last_replies (is_last p) view (p.asked ∷ others)
+ack_replies true view others (Querying p) = tt
+ack_replies true view others (StoringBack p seen) = last_replies (is_last p) seen (p.asked ∷ others)
+ack_replies false view others phase = tt
 
 message_replies : (c : Core) (from n : ℕ) (m : Message) → AllByRecursion (ReplySays c (event.Deliver from n m)) (ops.replies_of c.me m c.ops)
 message_replies c from n (message.Enter q) = tt
@@ -320,7 +342,7 @@ message_replies c from n (message.LeaveEcho q) = tt
 message_replies c from n (message.Query tag q) = tt
 message_replies c from n (message.QueryReply v tag q) = tt
 message_replies c from n (message.Store v tag q) = tt
-message_replies c from n (message.StoreAck tag q) = ack_replies (is_own c.me tag q c.ops) c.ops.view c.ops.phase
+message_replies c from n (message.StoreAck tag q) = ack_replies (is_own c.me tag q c.ops) c.ops.view c.ops.others c.ops.phase
 message_replies c from n (message.Snapshot d v) = tt
 
 pub each_says : (c : Core) (e : Event) → AllByRecursion (ReplySays c e) (replies c e)
@@ -362,15 +384,6 @@ posts_say c e (Some m) is =
 acks_say : (c : Core) (e : Event) (a : Option LinkAck) → AllByRecursion (OutputSays c e) (send_ack a)
 acks_say c e None = tt
 acks_say c e (Some a) = (tt, tt)
-
--- each element is in its list
-each_in : (xs : List Reply) → AllByRecursion (Contains xs) xs
-each_in [] = tt
-each_in (x ∷ xs) = (Contains-append_left (x ∷ []) xs x (0, omega arith, refl), behind xs (each_in xs))
-  where
-    behind : (ys : List Reply) → AllByRecursion (Contains xs) ys → AllByRecursion (Contains (x ∷ xs)) ys
-    behind [] h = tt
-    behind (y ∷ ys) h = (Contains-append_right (x ∷ []) xs y h.0, behind ys h.1)
 
 replies_say : (c : Core) (e : Event) (rs : List Reply) → AllByRecursion (Contains (replies c e)) rs → AllByRecursion (OutputSays c e) (send_replies rs)
 replies_say c e [] h = tt

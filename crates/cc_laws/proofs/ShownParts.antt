@@ -2,7 +2,7 @@
 --     OfPhase, OfMessage, OfAnswer, OfOutput, OfReply   Q holds of the view that is in one, if one is
 --     handled_phase, post_shows, reply_shows            so it does of the phase, the post and the answer of an event
 use Rattle.std.proofs.Common.{ℕ, Bool, true, false, List, [], ◌∷◌, ◌+◌, sym, subst}
-use Rattle.std.specs.Prelude.{Option, None, IfSome, if◌then◌else◌}
+use Rattle.std.specs.Prelude.{Option, None, IfSome, if◌then◌else◌, map}
 use Rattle.std.specs.List.{AllByRecursion}
 use Rattle.cc_views.specs.Rows.{ViewMap}
 use Rattle.cc_views.specs.Merge.{merge}
@@ -21,13 +21,14 @@ use Rattle.cc_ops.specs.Commands.{is_writing, answer_of}
 use Rattle.cc_ops.specs.Ops as ops
 use Rattle.cc_ops.specs.Ops.{Ops, Phase, Idle, Storing, Querying, StoringBack, seen_in}
 use Rattle.cc_ops.specs.OwnLaws.{anew_keeps}
+use Rattle.cc_ops.specs.Rounds.{first_round, line_behind}
 use Rattle.cc_ops.specs.Waiting.{first_in}
 use Rattle.cc_node.specs.Core.{Core, quorum, asked_of, churned, churn_told, tells, asks_anew, anew_if, join_told, question_if, post_of_snapshot, post_to}
 use Rattle.cc_node.specs.Core.{begun, handled, post, replies}
 use Rattle.cc_node.proofs.ToldLaws.{anew_view}
 use Rattle.cc_node.specs.Node.{line}
 use Rattle.cc_laws.specs.Shown.{in_message, in_answer, in_output}
-use Rattle.cc_laws.proofs.Lists.{some_if, some_of, some_or, some_mapped, all_if, all_of}
+use Rattle.cc_laws.proofs.Lists.{some_if, some_of, some_or, some_mapped, all_of}
 
 module _ (Q : ViewMap → Type 0) where
   abbrev pub OfPhase : Phase → Type 0
@@ -48,17 +49,17 @@ module _ (Q : ViewMap → Type 0) where
   taken_phase true s t h k q = h q
   taken_phase false s t h k q = k q
 
-  begun_phase : (me quorum : ℕ) (a : Asked) (s : Ops) → OfPhase (ops.with_begun me quorum a s).phase
-  begun_phase me quorum a s =
+  round_phase : (me quorum : ℕ) (asks : List Asked) (s : Ops) → OfPhase (ops.begin_round me quorum asks s).phase
+  round_phase me quorum [] s = tt
+  round_phase me quorum (a ∷ others) s =
       elim (is_writing a.command)
-      as (λ b. OfPhase (if b then ops.next_round (Storing (ops.round_of quorum a)) (ops.with_own_row me (ops.with_written a.command s)) else ops.next_round (Querying (ops.round_of quorum a)) s).phase) [
+      as (λ b. OfPhase (if b then ops.next_round (Storing (ops.round_of quorum a)) (ops.with_own_row me (ops.with_written (a ∷ others) s)) else ops.next_round (Querying (ops.round_of quorum a)) s).phase) [
         | true ↦ tt
         | false ↦ tt
       ]
 
-  last_phase : (me quorum : ℕ) (line : List Asked) (s : Ops) → OfPhase (ops.after_last me quorum line s).phase
-  last_phase me quorum [] s = tt
-  last_phase me quorum (a ∷ line) s = begun_phase me quorum a (record s { line = line })
+  last_phase : (me quorum : ℕ) (s : Ops) → OfPhase (ops.after_last me quorum s).phase
+  last_phase me quorum s = round_phase me quorum (first_round s.share s.line) (record s { line = line_behind s.share s.line })
 
   reply_phase : (quorum : ℕ) (v : ViewMap) (phase : Phase) (s : Ops) → OfPhase s.phase → Q (ops.after_reply quorum v phase s).view → OfPhase (ops.after_reply quorum v phase s).phase
   reply_phase quorum v Idle s h q = h
@@ -70,8 +71,8 @@ module _ (Q : ViewMap → Type 0) where
       (λ seen. seen) (λ _. tt) q
   reply_phase quorum v (StoringBack p seen) s h q = h
 
-  either_last : (me quorum : ℕ) (b : Bool) (phase : Phase) (s : Ops) → OfPhase phase → OfPhase (if b then ops.after_last me quorum s.line s else record s { phase = phase }).phase
-  either_last me quorum true phase s h = last_phase me quorum s.line s
+  either_last : (me quorum : ℕ) (b : Bool) (phase : Phase) (s : Ops) → OfPhase phase → OfPhase (if b then ops.after_last me quorum s else record s { phase = phase }).phase
+  either_last me quorum true phase s h = last_phase me quorum s
   either_last me quorum false phase s h = h
 
   ack_phase : (me quorum : ℕ) (phase : Phase) (s : Ops) → OfPhase s.phase → OfPhase phase → OfPhase (ops.after_ack me quorum phase s).phase
@@ -101,7 +102,7 @@ module _ (Q : ViewMap → Type 0) where
   anew_phase false quorum s h = h
 
   ask_phase : (me quorum : ℕ) (b : Bool) (a : Asked) (s : Ops) (line : List Asked) → OfPhase s.phase → OfPhase (if b then ops.with_begun me quorum a s else record s { line = line }).phase
-  ask_phase me quorum true a s line h = begun_phase me quorum a s
+  ask_phase me quorum true a s line h = round_phase me quorum (a ∷ []) s
   ask_phase me quorum false a s line h = h
 
   pub handled_phase : (c : Core) (e : Event) → OfPhase c.ops.phase → Q (handled c e).ops.view → OfPhase (handled c e).ops.phase
@@ -206,11 +207,15 @@ module _ (Q : ViewMap → Type 0) where
   abbrev pub OfReply : Reply → Type 0
   OfReply r = OfAnswer r.answer
 
-  replies_in : (v : ViewMap) (phase : Phase) → Q v → OfPhase phase → AllByRecursion OfReply (ops.replies_in v phase)
-  replies_in v Idle h k = tt
-  replies_in v (Storing p) h k = all_if OfReply (ops.is_last p) (ops.told p v) (answer_shows p.asked.command v h)
-  replies_in v (Querying p) h k = tt
-  replies_in v (StoringBack p seen) h k = all_if OfReply (ops.is_last p) (ops.told p seen) (answer_shows p.asked.command seen k)
+  all_told : (seen : ViewMap) (asks : List Asked) → Q seen → AllByRecursion OfReply (map (ops.told seen) asks)
+  all_told seen [] h = tt
+  all_told seen (a ∷ asks) h = (answer_shows a.command seen h, all_told seen asks h)
+
+  replies_in : (v : ViewMap) (others : List Asked) (phase : Phase) → Q v → OfPhase phase → AllByRecursion OfReply (ops.replies_in v others phase)
+  replies_in v others Idle h k = tt
+  replies_in v others (Storing p) h k = all_of OfReply (ops.is_last p) (map (ops.told v) (p.asked ∷ others)) [] (all_told v (p.asked ∷ others) h) tt
+  replies_in v others (Querying p) h k = tt
+  replies_in v others (StoringBack p seen) h k = all_of OfReply (ops.is_last p) (map (ops.told seen) (p.asked ∷ others)) [] (all_told seen (p.asked ∷ others) k) tt
 
   replies_of : (me : ℕ) (m : Message) (s : Ops) → Q s.view → OfPhase s.phase → AllByRecursion OfReply (ops.replies_of me m s)
   replies_of me (message.Enter q) s h k = tt
@@ -222,7 +227,7 @@ module _ (Q : ViewMap → Type 0) where
   replies_of me (message.Query tag q) s h k = tt
   replies_of me (message.QueryReply v tag q) s h k = tt
   replies_of me (message.Store v tag q) s h k = tt
-  replies_of me (message.StoreAck tag q) s h k = all_of OfReply (ops.is_own me tag q s) (ops.replies_in s.view s.phase) [] (replies_in s.view s.phase h k) tt
+  replies_of me (message.StoreAck tag q) s h k = all_of OfReply (ops.is_own me tag q s) (ops.replies_in s.view s.others s.phase) [] (replies_in s.view s.others s.phase h k) tt
   replies_of me (message.Snapshot c v) s h k = tt
 
   pub replies_show : (c : Core) (e : Event) → Q c.ops.view → OfPhase c.ops.phase → AllByRecursion OfReply (replies c e)

@@ -22,7 +22,8 @@ use Rattle.cc_wire.specs.declared.output.Output.TheVariants as output
 use Rattle.cc_ops.specs.declared.pending.Asked.{Asked}
 use Rattle.cc_ops.specs.Commands.{is_writing}
 use Rattle.cc_churn.specs.Churn as churn
-use Rattle.cc_ops.specs.Ops.{Ops, Phase, Idle, Storing, Querying, StoringBack, is_idle, is_last, is_own, round_of, counted, merged, next_round, with_written, with_own_row, with_begun, after_reply, after_last, after_ack, again}
+use Rattle.cc_ops.specs.Rounds.{first_round, line_behind}
+use Rattle.cc_ops.specs.Ops.{Ops, Phase, Idle, Storing, Querying, StoringBack, is_idle, is_last, is_own, round_of, counted, merged, next_round, with_written, with_own_row, begin_round, with_begun, after_reply, after_last, after_ack, again}
 use Rattle.cc_node.specs.Core.{Core, quorum, asked_of, churn_told, asks_anew, anew_if, next, post}
 use Rattle.cc_node.specs.Node.{Node, step, after}
 use Rattle.cc_node.specs.Opening.{Opening, fresh}
@@ -155,14 +156,14 @@ Needs need (Querying p) = p.need ≡ need
 Needs need (StoringBack p seen) = p.need ≡ need
 
 module _ (need : ℕ) where
-  begun_needs : (me quorum : ℕ) (a : Asked) (s : Ops) → quorum ≡ need → Needs need (with_begun me quorum a s).phase
-  begun_needs me quorum a s is =
-      cond_both (is_writing a.command) (next_round (Storing (round_of quorum a)) (with_own_row me (with_written a.command s))) (next_round (Querying (round_of quorum a)) s)
+  round_needs : (me quorum : ℕ) (asks : List Asked) (s : Ops) → quorum ≡ need → Needs need (begin_round me quorum asks s).phase
+  round_needs me quorum [] s is = tt
+  round_needs me quorum (a ∷ others) s is =
+      cond_both (is_writing a.command) (next_round (Storing (round_of quorum a)) (with_own_row me (with_written (a ∷ others) s))) (next_round (Querying (round_of quorum a)) s)
       (λ (t : Ops). Needs need t.phase) (λ _. is) (λ _. is)
 
-  last_needs : (me quorum : ℕ) (line : List Asked) (s : Ops) → quorum ≡ need → Needs need (after_last me quorum line s).phase
-  last_needs me quorum [] s is = tt
-  last_needs me quorum (a ∷ line) s is = begun_needs me quorum a (record s { line = line }) is
+  last_needs : (me quorum : ℕ) (s : Ops) → quorum ≡ need → Needs need (after_last me quorum s).phase
+  last_needs me quorum s = round_needs me quorum (first_round s.share s.line) (record s { line = line_behind s.share s.line })
 
   either_needs : (b : Bool) (s t : Ops) → Needs need s.phase → Needs need t.phase → Needs need (if b then s else t).phase
   either_needs true s t h k = h
@@ -172,10 +173,10 @@ module _ (need : ℕ) where
       → Needs need (after_ack me quorum phase s).phase
   ack_needs me quorum s same Idle k h = h
   ack_needs me quorum s same (Storing p) k h =
-      either_needs (is_last p) (after_last me quorum s.line s) (record s { phase = Storing (counted p) }) (last_needs me quorum s.line s same) k
+      either_needs (is_last p) (after_last me quorum s) (record s { phase = Storing (counted p) }) (last_needs me quorum s same) k
   ack_needs me quorum s same (Querying p) k h = h
   ack_needs me quorum s same (StoringBack p seen) k h =
-      either_needs (is_last p) (after_last me quorum s.line s) (record s { phase = StoringBack (counted p) seen }) (last_needs me quorum s.line s same) k
+      either_needs (is_last p) (after_last me quorum s) (record s { phase = StoringBack (counted p) seen }) (last_needs me quorum s same) k
 
   reply_needs : (quorum : ℕ) (v : ViewMap) (s : Ops) → quorum ≡ need → (phase : Phase) → Needs need phase → Needs need s.phase
       → Needs need (after_reply quorum v phase s).phase
@@ -223,7 +224,7 @@ module _ (need : ℕ) where
   event_needs c (event.Acked peer n) same next_same h = h
   event_needs c (event.Ask s r command) same next_same h =
       let a = asked_of s r command in
-      either_needs (is_idle c.ops.phase) (with_begun c.me (quorum c) a c.ops) (record c.ops { line = c.ops.line ++ a ∷ [] }) (begun_needs c.me (quorum c) a c.ops same) h
+      either_needs (is_idle c.ops.phase) (with_begun c.me (quorum c) a c.ops) (record c.ops { line = c.ops.line ++ a ∷ [] }) (round_needs c.me (quorum c) (a ∷ []) c.ops same) h
   event_needs c (event.Retire q) same next_same h = h
   event_needs c (event.Lapse q) same next_same h = h
   event_needs c event.Snapshot same next_same h = h

@@ -1,8 +1,9 @@
 -- What one event makes of the view: it is as before, or has one more own row, or is merged with what the event brings.
 --     with_row me s asks   the view with the own row of the last write that begins with these asks, if one does
 --     ViewStep, view_step
-use Rattle.std.proofs.Common.{◌≡◌, ◌⊎◌, inl, inr, ℕ, ◌+◌, nat_lt, Bool, true, false, List, [], ◌∷◌, refl, sym, subst}
-use Rattle.std.specs.Prelude.{Option, Some, None, if◌then◌else◌}
+use Rattle.std.proofs.Common.{◌≡◌, ◌⊎◌, inl, inr, ℕ, ◌+◌, nat_lt, Bool, true, false, List, [], ◌∷◌, refl, sym, ap, subst, arith}
+use Rattle.std.specs.Prelude.{Option, Some, if◌then◌else◌}
+use Rattle.std.proofs.lemmas.Bool.{lt-ltb}
 use Rattle.cc_views.specs.Rows.{ViewMap, single}
 use Rattle.cc_views.specs.Merge.{merge}
 use Rattle.cc_wire.specs.declared.event.Event.{Event}
@@ -10,9 +11,11 @@ use Rattle.cc_wire.specs.declared.event.Event.TheVariants as event
 use Rattle.cc_wire.specs.declared.message.Message.{Message}
 use Rattle.cc_wire.specs.declared.message.Message.TheVariants as message
 use Rattle.cc_ops.specs.declared.pending.Asked.{Asked}
-use Rattle.cc_ops.specs.Commands.{is_writing, written}
-use Rattle.cc_ops.specs.Ops.{Ops, Phase, Idle, Storing, Querying, StoringBack, is_idle, is_last, is_own, round_of, counted, merged, next_round, with_written, with_own_row, with_begun, after_reply, after_last, after_ack, after_message, begun_in, begun_by}
-use Rattle.cc_ops.specs.Waiting.{first_round, writes_by, written_by}
+use Rattle.cc_ops.specs.Commands.{is_writing}
+use Rattle.cc_ops.specs.Ops.{Ops, Phase, Idle, Storing, Querying, StoringBack, is_idle, is_last, is_own, round_of, counted, merged, next_round, with_written, with_own_row, begin_round, with_begun, after_reply, after_last, after_ack, after_message, begun_in, begun_by}
+use Rattle.cc_ops.specs.OwnLaws.{IsRound, first_is_round, none_reads}
+use Rattle.cc_ops.specs.Rounds.{first_round, line_behind}
+use Rattle.cc_ops.specs.Waiting.{writes_by, written_by}
 use Rattle.cc_churn.specs.Churn as churn
 use Rattle.cc_node.specs.Core.{Core, quorum, asked_of, churn_told, asks_anew, begun, next}
 use Rattle.cc_node.proofs.ToldLaws.{anew_view}
@@ -25,37 +28,44 @@ row_of me s asks = single (record { node = me; number = s.number + writes_by ask
 abbrev pub with_row : ℕ → Ops → List Asked → ViewMap
 with_row me s asks = if nat_lt 0 (writes_by asks) then merge s.view (row_of me s asks) else s.view
 
-begun_view : (me quorum : ℕ) (a : Asked) (s : Ops) → (with_begun me quorum a s).view ≡ with_row me s (a ∷ [])
-begun_view me quorum a s =
+round_view : (me quorum : ℕ) (asks : List Asked) (s : Ops) → IsRound asks → (begin_round me quorum asks s).view ≡ with_row me s asks
+round_view me quorum [] s alike = refl
+round_view me quorum (a ∷ others) s alike =
+    let asks = a ∷ others in
     elim (is_writing a.command)
-    as (λ b. (if b then next_round (Storing (round_of quorum a)) (with_own_row me (with_written a.command s)) else next_round (Querying (round_of quorum a)) s).view
-    ≡ (if nat_lt 0 ((if b then 1 else 0) + 0) then merge s.view (single (record { node = me; number = s.number + ((if b then 1 else 0) + 0); value = written a.command s.mine })) else s.view)) [
-      | true ↦ refl
-      | false ↦ refl
-    ]
+    as (λ b. is_writing a.command ≡ b
+    → (if b then next_round (Storing (round_of quorum a)) (with_own_row me (with_written asks s)) else next_round (Querying (round_of quorum a)) s).view ≡ with_row me s asks) [
+      | true ↦ λ writes.
+          let count : writes_by asks ≡ 1 + writes_by others = ap (λ (b : Bool). (if b then 1 else 0) + writes_by others) writes in
+          let some : nat_lt 0 (writes_by asks) ≡ true = lt-ltb 0 (writes_by asks) (omega (arith, count)) in
+          sym (ap (λ (b : Bool). if b then merge s.view (row_of me s asks) else s.view) some)
+      | false ↦ λ reads.
+          let none : nat_lt 0 (writes_by asks) ≡ false = ap (nat_lt 0) (none_reads a others reads (alike reads)) in
+          sym (ap (λ (b : Bool). if b then merge s.view (row_of me s asks) else s.view) none)
+    ] refl
 
-last_view : (me quorum : ℕ) (line : List Asked) (s : Ops) → (after_last me quorum line s).view ≡ with_row me s (first_round line)
-last_view me quorum [] s = refl
-last_view me quorum (a ∷ line) s = begun_view me quorum a (record s { line = line })
+last_view : (me quorum : ℕ) (s : Ops) → (after_last me quorum s).view ≡ with_row me s (first_round s.share s.line)
+last_view me quorum s =
+    round_view me quorum (first_round s.share s.line) (record s { line = line_behind s.share s.line }) (first_is_round s.share s.line)
 
 either_last : (me quorum : ℕ) (b : Bool) (phase : Phase) (s : Ops)
-    → (if b then after_last me quorum s.line s else record s { phase = phase }).view ≡ with_row me s (if b then first_round s.line else [])
-either_last me quorum true phase s = last_view me quorum s.line s
+    → (if b then after_last me quorum s else record s { phase = phase }).view ≡ with_row me s (if b then first_round s.share s.line else [])
+either_last me quorum true phase s = last_view me quorum s
 either_last me quorum false phase s = refl
 
-ack_view : (me quorum : ℕ) (phase : Phase) (s : Ops) → (after_ack me quorum phase s).view ≡ with_row me s (begun_in phase s.line)
+ack_view : (me quorum : ℕ) (phase : Phase) (s : Ops) → (after_ack me quorum phase s).view ≡ with_row me s (begun_in phase s)
 ack_view me quorum Idle s = refl
 ack_view me quorum (Storing p) s = either_last me quorum (is_last p) (Storing (counted p)) s
 ack_view me quorum (Querying p) s = refl
 ack_view me quorum (StoringBack p seen) s = either_last me quorum (is_last p) (StoringBack (counted p) seen) s
 
-own_ack_view : (me quorum : ℕ) (b : Bool) (s : Ops) → (if b then after_ack me quorum s.phase s else s).view ≡ with_row me s (if b then begun_in s.phase s.line else [])
+own_ack_view : (me quorum : ℕ) (b : Bool) (s : Ops) → (if b then after_ack me quorum s.phase s else s).view ≡ with_row me s (if b then begun_in s.phase s else [])
 own_ack_view me quorum true s = ack_view me quorum s.phase s
 own_ack_view me quorum false s = refl
 
 ask_view : (me quorum : ℕ) (b : Bool) (a : Asked) (s : Ops) (line : List Asked)
     → (if b then with_begun me quorum a s else record s { line = line }).view ≡ with_row me s (if b then a ∷ [] else [])
-ask_view me quorum true a s line = begun_view me quorum a s
+ask_view me quorum true a s line = round_view me quorum (a ∷ []) s (λ _. refl)
 ask_view me quorum false a s line = refl
 
 -- before s, and after

@@ -42,7 +42,7 @@ abbrev pub four_fifths : Fraction
 four_fifths = record { num = 4; den = 5 }
 
 abbrev pub opening_of : ℕ → Opening
-opening_of me = record { me = me; initial = 1 ∷ 2 ∷ []; contacts = []; beta = four_fifths; gamma = four_fifths }
+opening_of me = record { me = me; initial = 1 ∷ 2 ∷ []; contacts = []; beta = four_fifths; gamma = four_fifths; share = 1 }
 
 abbrev link_of : ℕ → Link
 link_of heard = record { start = 0; acked = 0; heard = heard }
@@ -117,7 +117,7 @@ pending session k count = record { asked = asked_of session 1 k; need = 2; count
 
 -- its operations once it wrote
 abbrev wrote : Phase → Ops
-wrote phase = record { view = view; number = 1; mine = value; tag = 1; phase = phase; line = [] }
+wrote phase = record { view = view; number = 1; mine = value; tag = 1; share = 1; phase = phase; others = []; line = [] }
 
 abbrev storing : ℕ → Ops
 storing count = wrote (Storing (pending 7 (command.Store (0x61 ∷ [])) count))
@@ -127,7 +127,7 @@ abbrev first_with : ℕ → ℕ → Ops → List Message → FinMap nat_cmp Answ
 first_with of_first of_second ops posts answers = node_with 1 of_first of_second ops posts (one 7 1) answers
 
 abbrev pub a0 : Node
-a0 = node_with 1 0 0 nothing_done [] none none
+a0 = node_with 1 0 0 (nothing_done 1) [] none none
 
 abbrev pub a1 : Node
 a1 = first_with 0 0 (storing 0) (stored ∷ []) none
@@ -186,7 +186,7 @@ to_a7 = record { taken = simp tables refl; leads = simp tables refl; puts = simp
 
 -- its operations, and what it has seen
 abbrev saw : ViewMap → ℕ → Phase → Ops
-saw seen tag phase = record { view = seen; number = 0; mine = nothing_stored; tag = tag; phase = phase; line = [] }
+saw seen tag phase = record { view = seen; number = 0; mine = nothing_stored; tag = tag; share = 1; phase = phase; others = []; line = [] }
 
 abbrev querying : ℕ → Ops
 querying count = saw view 1 (Querying (pending 9 command.Collect count))
@@ -198,7 +198,7 @@ abbrev second_with : ℕ → ℕ → Ops → List Message → FinMap nat_cmp Ans
 second_with of_first of_second ops posts answers = node_with 2 of_first of_second ops posts (one 9 1) answers
 
 abbrev pub b0 : Node
-b0 = node_with 2 0 0 nothing_done [] none none
+b0 = node_with 2 0 0 (nothing_done 1) [] none none
 
 abbrev pub b1 : Node
 b1 = node_with 2 1 0 (saw view 0 Idle) (acked ∷ []) none none

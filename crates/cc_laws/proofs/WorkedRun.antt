@@ -214,6 +214,8 @@ opens me some among few = record {
   few = few;
   beta = record { above = omega arith; within = omega arith };
   gamma = record { above = omega arith; within = omega arith };
+  some = omega arith;
+  most = omega arith;
 }
 
 begins : (me : ℕ) → IsOpening (opening_of me) → IsFreshMember me (lived (opening_of me) [])

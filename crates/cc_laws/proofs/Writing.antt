@@ -1,12 +1,13 @@
 -- The rows that a node writes are those of its writing asks, in the order in which these were accepted.
 --     write_front                   a write of a front is one of the whole
 --     fresh_writes                  of a fresh node: what holds of each write holds of each row that is written along
-use Rattle.std.proofs.Common.{◌≡◌, ℕ, ◌+◌, ◌<◌, arith, zero, suc, true, false, List, [], ◌∷◌, ◌++◌, length, refl, sym, ap, subst, ◌∙◌, append_assoc, length-append}
-use Rattle.std.specs.Prelude.{Option, Some, None, IfSome, slice_get, if◌then◌else◌}
+use Rattle.std.proofs.Common.{◌≡◌, ℕ, ◌+◌, ◌<◌, arith, zero, suc, true, List, [], ◌∷◌, ◌++◌, length, refl, sym, ap, subst, ◌∙◌, append_assoc, length-append}
+use Rattle.std.specs.Prelude.{Some, slice_get}
 use Rattle.cc_views.specs.declared.value.Value.{Value}
 use Rattle.cc_wire.specs.declared.event.Event.{Event}
 use Rattle.cc_ops.specs.declared.pending.Asked.{Asked}
 use Rattle.cc_ops.specs.Ops.{Ops, nothing_stored}
+use Rattle.cc_ops.specs.Rounds.{of_kind}
 use Rattle.cc_ops.specs.Waiting.{writes_by, written_by}
 use Rattle.cc_node.specs.Core.{begun, next}
 use Rattle.cc_node.specs.Node.{Node, step, after, IsLawful}
@@ -18,7 +19,7 @@ use Rattle.cc_node.proofs.OrderLaws.{begin_in_order}
 use Rattle.cc_laws.specs.Written.{values_of, IsWrite, IsWriteOf}
 use Rattle.cc_laws.proofs.Rows.{OfWrite, WritesAlong}
 use Rattle.cc_laws.proofs.Steps.{me_next}
-use Rattle.cc_laws.proofs.Written.{last_write, length-values, values_both, slice_get_front, slice_get_behind}
+use Rattle.cc_laws.proofs.Written.{last_write, length-values, values_both, values_kind, slice_get_front, slice_get_behind}
 
 pub write_in_front : (mine : Value) (xs ys : List Asked) (k : ℕ) (x : Value) → IsWrite (values_of mine xs) k x → IsWrite (values_of mine (xs ++ ys)) k x
 write_in_front mine xs ys k x h =
@@ -49,14 +50,18 @@ pub fresh_me : (o : Opening) → (fresh o).core.me ≡ o.me
 unfolding fresh
 fresh_me o = refl
 
--- what begins is a front of what was accepted
+-- of the writing asks what begins is a front of what was accepted
 pub begun_write : (o : Opening) (es : List Event) → IsOpening o → IsLawful (fresh o) es → (k : ℕ) (x : Value)
     → IsWrite (values_of nothing_stored (begun_along (fresh o) es)) k x → IsWriteOf es k x
 begun_write o es opens lawful k x h =
+    let begun = begun_along (fresh o) es in
     let waits = (after (fresh o) es).core.ops.line in
-    subst (λ (l : List Asked). IsWrite (values_of nothing_stored l) k x)
-    (sym (begin_in_order (fresh o) es (fresh_lawful o opens) lawful) ∙ ap (λ (l : List Asked). l ++ asked_along es) (fresh_line o))
-    (write_in_front nothing_stored (begun_along (fresh o) es) waits k x h)
+    let asks = asked_along es in
+    let order : of_kind true asks ≡ of_kind true (begun ++ waits) =
+    ap (λ (l : List Asked). of_kind true (l ++ asks)) (sym (fresh_line o)) ∙ begin_in_order true (fresh o) es (fresh_lawful o opens) lawful in
+    let same : values_of nothing_stored asks ≡ values_of nothing_stored (begun ++ waits) =
+    values_kind nothing_stored asks ∙ ap (values_of nothing_stored) order ∙ sym (values_kind nothing_stored (begun ++ waits)) in
+    subst (λ (l : List Value). IsWrite l k x) (sym same) (write_in_front nothing_stored begun waits k x h)
 
 module _ (P : ℕ → ℕ → Value → Type 0) where
   -- P holds of the rows that are written from here on; earlier are the values that were written before

@@ -2,13 +2,15 @@
 --     no_writes, last_write     what asks that don't write leave; the last value is the own one after all of them
 --     length-values             there is one for each writing ask
 --     values_both               those of two lists
+--     values_kind               they are those of the writing asks
 --     slice_get_front, .._seam, .._behind   an element of the first of two lists, where they meet, and of the second
-use Rattle.std.proofs.Common.{◌≡◌, ℕ, ◌+◌, zero, suc, true, false, List, [], ◌∷◌, ◌++◌, length, refl, sym, ap, ◌∙◌, arith}
+use Rattle.std.proofs.Common.{◌≡◌, ℕ, ◌+◌, zero, suc, Bool, true, false, List, [], ◌∷◌, ◌++◌, length, refl, sym, ap, ◌∙◌, arith}
 use Rattle.std.specs.Prelude.{Some, slice_get, if◌then◌else◌}
 use Rattle.cc_views.specs.declared.value.Value.{Value}
 use Rattle.cc_ops.specs.declared.pending.Asked.{Asked}
 use Rattle.cc_ops.specs.Commands.{is_writing, written}
 use Rattle.cc_ops.specs.OwnLaws.{reading_leaves}
+use Rattle.cc_ops.specs.Rounds.{of_kind}
 use Rattle.cc_ops.specs.Waiting.{writes_by, written_by}
 use Rattle.cc_laws.specs.Written.{values_of}
 
@@ -57,6 +59,17 @@ values_both mine (a ∷ xs) ys =
     as (λ b. is_writing a.command ≡ b → (if b then w ∷ values_of w (xs ++ ys) else values_of mine (xs ++ ys)) ≡ (if b then w ∷ values_of w xs else values_of mine xs) ++ rest) [
       | true ↦ λ _. ap (λ (l : List Value). w ∷ l) (values_both w xs ys)
       | false ↦ λ reads. values_both mine xs ys ∙ ap (λ v. values_of mine xs ++ values_of (written_by xs v) ys) (reading_leaves a.command mine reads)
+    ] refl
+
+pub values_kind : (mine : Value) (asks : List Asked) → values_of mine asks ≡ values_of mine (of_kind true asks)
+values_kind mine [] = refl
+values_kind mine (a ∷ asks) =
+    let w = written a.command mine in
+    let rest = of_kind true asks in
+    elim (is_writing a.command)
+    as (λ b. is_writing a.command ≡ b → (if b then w ∷ values_of w asks else values_of mine asks) ≡ values_of mine (if b then a ∷ rest else rest)) [
+      | true ↦ λ writes. ap (λ (l : List Value). w ∷ l) (values_kind w asks) ∙ sym (ap (λ (b : Bool). if b then w ∷ values_of w rest else values_of mine rest) writes)
+      | false ↦ λ _. values_kind mine asks
     ] refl
 
 pub slice_get_front : (xs ys : List Value) (k : ℕ) (x : Value) → slice_get xs k ≡ Some x → slice_get (xs ++ ys) k ≡ Some x

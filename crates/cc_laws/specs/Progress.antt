@@ -3,13 +3,13 @@
 --     answers_in phase       how many answers it has
 --     need_in phase          how many it needs
 --     GainsAnswer s t        from one state to the next the same round has one answer more
---     BeginsAnew s t         the pending phase begins anew: the same stage of the same ask, under the next tag, without an answer
+--     BeginsAnew s t         the pending phase begins anew: the same stage of the same asks, under the next tag, without an answer
 --     EndsRound s t          the round that pends in the one state doesn't pend in the next, and its phase doesn't begin anew
 --     IsFrom q e             the event is the delivery of a message of node q
 use Rattle.std.specs.Prelude.{◌≡◌, ◌≢◌, ℕ, ◌+◌, true, Option, Some, None, is_some}
 use Rattle.cc_wire.specs.declared.event.Event.{Event}
 use Rattle.cc_wire.specs.declared.event.Event.TheVariants as event
-use Rattle.cc_ops.specs.Ops.{Ops, Phase, Idle, Storing, Querying, StoringBack, asked_in, seen_in}
+use Rattle.cc_ops.specs.Ops.{Ops, Phase, Idle, Storing, Querying, StoringBack, pending, seen_in}
 use Rattle.cc_laws.specs.Rounds.{awaits_views}
 
 abbrev pub round_under : ℕ → Phase → Option ℕ
@@ -42,7 +42,7 @@ pub record BeginsAnew (s t : Ops) : Type 0 where
   pub pended : is_some (round_in s) ≡ true
   pub tag : t.tag ≡ s.tag + 1
   pub number : t.number ≡ s.number
-  pub asked : asked_in t.phase ≡ asked_in s.phase
+  pub asked : pending t ≡ pending s
   pub seen : seen_in t.phase ≡ seen_in s.phase
   pub awaited : awaits_views t.phase ≡ awaits_views s.phase
   pub none : answers_in t.phase ≡ 0

@@ -8,7 +8,7 @@
 --     SeesWrite c v q k         it is the k-th write of node q, or a later one
 --     RoundsMeet c              any two rounds that ended in the cluster counted an answer of one same node
 --     ShareNode ..              so did the round that stored for one request, and the one that queried for another
-use Rattle.std.specs.Prelude.{◌≡◌, ℕ, ◌+◌, ◌<◌, ◌≤◌, true, List, [], ◌∷◌, ◌++◌, take, Some, IsSomeAnd}
+use Rattle.std.specs.Prelude.{◌≡◌, ℕ, ◌+◌, ◌<◌, ◌≤◌, true, List, ◌∷◌, ◌++◌, take, Some, IsSomeAnd}
 use Rattle.std.specs.List.{Contains}
 use Rattle.std.specs.FinMap as table
 use Rattle.cc_views.specs.Rows.{ViewMap}
@@ -21,7 +21,7 @@ use Rattle.cc_wire.specs.declared.event.Event.TheVariants as event
 use Rattle.cc_wire.specs.declared.output.Output.TheVariants as output
 use Rattle.cc_ops.specs.declared.pending.Asked.{Asked}
 use Rattle.cc_ops.specs.Commands.{is_writing}
-use Rattle.cc_ops.specs.Ops.{Phase, asked_in}
+use Rattle.cc_ops.specs.Ops.{Phase, pending}
 use Rattle.cc_ops.specs.Waiting.{writes_by}
 use Rattle.cc_sessions.specs.Sessions.{last_request}
 use Rattle.cc_node.specs.Node.{after}
@@ -79,9 +79,13 @@ RoundsMeet c =
 abbrev pub phase_in : (m : Member) → RoundOf m → Phase
 phase_in m round = (after (fresh m.opening) round.before).core.ops.phase
 
--- a round of the operation that this request asked for
+-- this request is one of these asks
+abbrev pub HasAsked : List Asked → ℕ → ℕ → Type 0
+HasAsked asks s r = (a : Asked) × Contains asks a × (a.session ≡ s) × (a.request ≡ r)
+
+-- a round of the operations that this request asked for, with others or alone
 abbrev pub IsRoundFor : (m : Member) → RoundOf m → ℕ → ℕ → Type 0
-IsRoundFor m round s r = (a : Asked) × (asked_in (phase_in m round) ≡ a ∷ []) × (a.session ≡ s) × (a.request ≡ r)
+IsRoundFor m round s r = HasAsked (pending (after (fresh m.opening) round.before).core.ops) s r
 
 -- one node acknowledged what request r of session s of node q stored, and replied to the query of request y of session x of node p
 abbrev pub ShareNode : Cluster → Cluster → ℕ → ℕ → ℕ → ℕ → ℕ → ℕ → Type 0

@@ -11,8 +11,9 @@ use std::net::{Shutdown, TcpStream};
 use std::sync::atomic::{AtomicU64, Ordering};
 use std::sync::{Arc, Mutex, Wait};
 
-// How many bytes wait for one connection at most.
-const MOST_WAITING: u64 = 262_144;
+// How many bytes wait for one connection at most: 262,144 as anywhere, and a round's 32 replies of 55,077 bytes at most, which
+// one turn may pass on to a connection that has 32 sessions.
+const MOST_WAITING: u64 = 262_144 + 32 * 55_077;
 
 /// One connection: its socket, and the channel to its writer.
 #[derive(Drop)]

@@ -21,8 +21,8 @@ const SEATS: u64 = 256;
 // How many peers that are furthest behind are known by name.
 const MOST_FURTHEST: usize = 256;
 
-// How many asks of a node aren't answered at most: the pending one, and those that wait behind it.
-const MOST_UNANSWERED: usize = 33;
+// How many asks of a node aren't answered at most: the 32 of a round, and the 32 that wait behind it.
+const MOST_UNANSWERED: usize = 64;
 
 /// Why an event got no seat.
 #[derive(Clone, Copy, Debug, PartialEq, Eq)]
@@ -112,7 +112,12 @@ fn note_unanswered(core: &Core, unanswered: &mut Vec<Asked>) {
     if let Some(asked) = pending_ask(core.ops().stage()) {
         let _ = unanswered.push(asked);
     }
-    for asked in core.ops().line().asks() {
+    push_all(unanswered, core.ops().others().asks());
+    push_all(unanswered, core.ops().line().asks());
+}
+
+fn push_all(unanswered: &mut Vec<Asked>, asks: &[Asked]) {
+    for asked in asks {
         let _ = unanswered.push(*asked);
     }
 }

@@ -4,7 +4,7 @@
 --     lawful_alone, lawful_within   lists of events of which none is refused
 --     after_same, line_same    what such a list leaves and puts out
 --     leaves_line              the rule of one operation at a time leaves the asks that wait as they are
-use Rattle.std.proofs.Common.{◌≡◌, ℕ, ◌+◌, ◌-◌, Bool, true, false, not, ◌&&◌, ◌||◌, nat_le, List, [], ◌∷◌, ◌++◌, length, refl, sym, ap, subst, ◌∙◌, arith}
+use Rattle.std.proofs.Common.{◌≡◌, ℕ, zero, suc, ◌+◌, ◌-◌, Bool, true, false, not, ◌&&◌, ◌||◌, nat_le, List, [], ◌∷◌, ◌++◌, length, refl, sym, ap, subst, ◌∙◌, arith}
 use Rattle.std.specs.Prelude.{Option, Some, None, if◌then◌else◌, is_some, ◌==◌}
 use Rattle.std.specs.Option.{option_len}
 use Rattle.std.specs.Bool.{then_some}
@@ -23,8 +23,10 @@ use Rattle.cc_wire.specs.Refusals.{first_of}
 use Rattle.cc_ops.specs.declared.pending.Asked.{Asked}
 use Rattle.cc_ops.specs.Commands.{finds_no_room}
 use Rattle.cc_ops.specs.Waiting.{has_session, written_by}
-use Rattle.cc_ops.specs.OwnLaws.{begun_line}
-use Rattle.cc_ops.specs.Ops.{Ops, Phase, Idle, Storing, Querying, StoringBack, is_idle, is_last, is_own, counted, with_begun, after_ask, after_reply, after_last, after_ack, after_message, first_post, post_of_round, ends_store, begun_in, begun_by, unanswered}
+use Rattle.cc_ops.specs.OwnLaws.{round_line}
+use Rattle.cc_ops.specs.Rounds.{first_round, line_behind}
+use Rattle.cc_ops.specs.RoundLaws.{no_round}
+use Rattle.cc_ops.specs.Ops.{Ops, Phase, Idle, Storing, Querying, StoringBack, is_idle, is_last, is_own, counted, with_begun, begin_round, after_ask, after_reply, after_last, after_ack, after_message, first_post, post_of_round, ends_store, begun_by, unanswered}
 use Rattle.cc_outbox.specs.Outbox.{post_limit, trim}
 use Rattle.cc_node.specs.Core.{Core, quorum, asked_of, ids_of, links_heard, churn_told, asks_anew, anew_if, next, post, outputs, ack, replies, send_ack, send_post, send_replies, lowest}
 use Rattle.cc_node.specs.Node.{Node, step, after, line, keep, add, forget_asked, IsLawfulWithin}
@@ -36,22 +38,28 @@ use Rattle.cc_node.proofs.ToldLaws.{anew_line}
 
 -- ---- the last acknowledgement
 
-either_phase : (b : Bool) (s t : Ops) (p q : Phase) → t ≡ record s { phase = p } → record s { phase = if b then p else q } ≡ (if b then t else record s { phase = q })
-either_phase true s t p q e = sym e
-either_phase false s t p q e = refl
+none_behind : (share : ℕ) → line_behind share [] ≡ []
+none_behind zero = refl
+none_behind (suc n) = refl
 
-last_same : (me quorum : ℕ) (s : Ops) → s.line ≡ [] → after_last me quorum s.line s ≡ record s { phase = Idle }
-last_same me quorum s none = ap (λ (l : List Asked). after_last me quorum l s) none
+last_same : (me quorum : ℕ) (s : Ops) → s.line ≡ [] → record s { phase = Idle; others = [] } ≡ after_last me quorum s
+last_same me quorum s none =
+    sym (ap (λ (l : List Asked). begin_round me quorum (first_round s.share l) (record s { line = line_behind s.share l })) none
+    ∙ (λ i. begin_round me quorum (no_round s.share i) (record s { line = none_behind s.share i }))
+    ∙ ap (λ (l : List Asked). record s { phase = Idle; others = []; line = l }) (sym none))
 
-acked_same : (me quorum : ℕ) (phase : Phase) (s : Ops) → s.phase ≡ phase → s.line ≡ [] → record s { phase = acked_alone phase } ≡ after_ack me quorum phase s
-acked_same me quorum Idle s at none = ap (λ (p : Phase). record s { phase = p }) (sym at)
-acked_same me quorum (Storing p) s at none = either_phase (is_last p) s (after_last me quorum s.line s) Idle (Storing (counted p)) (last_same me quorum s none)
-acked_same me quorum (Querying p) s at none = ap (λ (p : Phase). record s { phase = p }) (sym at)
-acked_same me quorum (StoringBack p seen) s at none =
-    either_phase (is_last p) s (after_last me quorum s.line s) Idle (StoringBack (counted p) seen) (last_same me quorum s none)
+either_acked : (b : Bool) (t u more : Ops) → t ≡ u → (if b then t else more) ≡ (if b then u else more)
+either_acked true t u more e = e
+either_acked false t u more e = refl
+
+acked_same : (me quorum : ℕ) (phase : Phase) (s : Ops) → s.line ≡ [] → acked_alone phase s ≡ after_ack me quorum phase s
+acked_same me quorum Idle s none = refl
+acked_same me quorum (Storing p) s none = either_acked (is_last p) _ _ (record s { phase = Storing (counted p) }) (last_same me quorum s none)
+acked_same me quorum (Querying p) s none = refl
+acked_same me quorum (StoringBack p seen) s none = either_acked (is_last p) _ _ (record s { phase = StoringBack (counted p) seen }) (last_same me quorum s none)
 
 ack_same : (me quorum tag q : ℕ) (s : Ops) → s.line ≡ [] → ops_alone me quorum (message.StoreAck tag q) s ≡ after_message me quorum (message.StoreAck tag q) s
-ack_same me quorum tag q s none = ap (λ (t : Ops). if is_own me tag q s then t else s) (acked_same me quorum s.phase s refl none)
+ack_same me quorum tag q s none = ap (λ (t : Ops). if is_own me tag q s then t else s) (acked_same me quorum s.phase s none)
 
 none_either : (b : Bool) → (let none : List Asked = [] in (if b then none else none) ≡ none)
 none_either true = refl
@@ -60,7 +68,7 @@ none_either false = refl
 none_begins : (me tag q : ℕ) (s : Ops) → s.line ≡ [] → begun_by me (message.StoreAck tag q) s ≡ []
 none_begins me tag q s none =
     ap (λ (o : List Asked). if is_own me tag q s then o else [])
-    (ap (λ (l : List Asked). begun_in s.phase l) none ∙ none_either (ends_store s.phase))
+    (ap (λ (l : List Asked). if ends_store s.phase then l else []) (ap (first_round s.share) none ∙ no_round s.share) ∙ none_either (ends_store s.phase))
     ∙ none_either (is_own me tag q s)
 
 -- ---- posts, and cores after an event
@@ -295,6 +303,12 @@ reply_line quorum v (Storing p) s = refl
 reply_line quorum v (Querying p) s = either_line (is_last p) _ _ s.line refl refl
 reply_line quorum v (StoringBack p seen) s = refl
 
+acked_line : (phase : Phase) (s : Ops) → (acked_alone phase s).line ≡ s.line
+acked_line Idle s = refl
+acked_line (Storing p) s = either_line (is_last p) _ _ s.line refl refl
+acked_line (Querying p) s = refl
+acked_line (StoringBack p seen) s = either_line (is_last p) _ _ s.line refl refl
+
 told_line : (me quorum : ℕ) (m : Message) (s : Ops) → (ops_alone me quorum m s).line ≡ s.line
 told_line me quorum (message.Enter q) s = refl
 told_line me quorum (message.EnterEcho k v from_joined q) s = refl
@@ -305,7 +319,7 @@ told_line me quorum (message.LeaveEcho q) s = refl
 told_line me quorum (message.Query tag q) s = refl
 told_line me quorum (message.QueryReply v tag q) s = either_line (is_own me tag q s) _ _ s.line (reply_line quorum v s.phase s) refl
 told_line me quorum (message.Store v tag q) s = refl
-told_line me quorum (message.StoreAck tag q) s = either_line (is_own me tag q s) _ _ s.line refl refl
+told_line me quorum (message.StoreAck tag q) s = either_line (is_own me tag q s) _ _ s.line (acked_line s.phase s) refl
 told_line me quorum (message.Snapshot k v) s = refl
 
 pub leaves_line : (c : Core) (e : Event) → (next_alone c e).ops.line ≡ c.ops.line
@@ -315,7 +329,7 @@ leaves_line c event.Leave = refl
 leaves_line c (event.Deliver from n m) =
     anew_line (asks_anew c from n m) (quorum_told c from n m) (ops_alone c.me (quorum c) m c.ops) ∙ told_line c.me (quorum c) m c.ops
 leaves_line c (event.Acked peer n) = refl
-leaves_line c (event.Ask s r k) = begun_line c.me (quorum c) (asked_of s r k) c.ops
+leaves_line c (event.Ask s r k) = round_line c.me (quorum c) (asked_of s r k ∷ []) c.ops
 leaves_line c (event.Retire q) = refl
 leaves_line c (event.Lapse q) = refl
 leaves_line c event.Snapshot = refl

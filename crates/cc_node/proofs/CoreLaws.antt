@@ -7,15 +7,15 @@ use Rattle.std.specs.Prelude.{if◌then◌else◌}
 use Rattle.cc_views.specs.Rows.{ViewMap}
 use Rattle.cc_views.specs.Merge.{IsAtMost}
 use Rattle.cc_views.specs.MergeLaws.{at_most_same, at_most_merge, at_most_trans}
-use Rattle.cc_views.specs.declared.value.Value.{Value}
 use Rattle.cc_wire.specs.declared.event.Event.{Event}
 use Rattle.cc_wire.specs.declared.event.Event.TheVariants as event
 use Rattle.cc_wire.specs.declared.message.Message.{Message}
 use Rattle.cc_wire.specs.declared.message.Message.TheVariants as message
 use Rattle.cc_ops.specs.declared.pending.Asked.{Asked}
 use Rattle.cc_ops.specs.Commands.{is_writing}
-use Rattle.cc_ops.specs.Ops.{Ops, Phase, Idle, Storing, Querying, StoringBack, is_idle, with_begun, after_ask, after_reply, after_last, after_ack, after_message}
+use Rattle.cc_ops.specs.Ops.{Ops, Phase, Idle, Storing, Querying, StoringBack, is_idle, begin_round, after_ask, after_reply, after_last, after_ack, after_message}
 use Rattle.cc_ops.specs.OwnLaws.{message_number, message_mine, ask_number, ask_mine}
+use Rattle.cc_ops.specs.Rounds.{first_round, line_behind}
 use Rattle.cc_ops.specs.Waiting.{writes_by, written_by}
 use Rattle.cc_ops.specs.WaitingLaws.{writes_both, written_both}
 use Rattle.cc_node.specs.Core.{Core, quorum, asked_of, asks_anew, begun, next}
@@ -34,18 +34,18 @@ reply_grows quorum v (Storing p) s = at_most_same s.view
 reply_grows quorum v (Querying p) s = either_grows _ s.view _ _ (at_most_merge s.view v) (at_most_merge s.view v)
 reply_grows quorum v (StoringBack p seen) s = at_most_same s.view
 
-begun_grows : (me quorum : ℕ) (a : Asked) (s : Ops) → IsAtMost s.view (with_begun me quorum a s).view
-begun_grows me quorum a s = either_grows (is_writing a.command) s.view _ _ (at_most_merge s.view _) (at_most_same s.view)
+round_grows : (me quorum : ℕ) (asks : List Asked) (s : Ops) → IsAtMost s.view (begin_round me quorum asks s).view
+round_grows me quorum [] s = at_most_same s.view
+round_grows me quorum (a ∷ others) s = either_grows (is_writing a.command) s.view _ _ (at_most_merge s.view _) (at_most_same s.view)
 
-last_grows : (me quorum : ℕ) (line : List Asked) (s : Ops) → IsAtMost s.view (after_last me quorum line s).view
-last_grows me quorum [] s = at_most_same s.view
-last_grows me quorum (a ∷ line) s = begun_grows me quorum a (record s { line = line })
+last_grows : (me quorum : ℕ) (s : Ops) → IsAtMost s.view (after_last me quorum s).view
+last_grows me quorum s = round_grows me quorum (first_round s.share s.line) (record s { line = line_behind s.share s.line })
 
 ack_grows : (me quorum : ℕ) (phase : Phase) (s : Ops) → IsAtMost s.view (after_ack me quorum phase s).view
 ack_grows me quorum Idle s = at_most_same s.view
-ack_grows me quorum (Storing p) s = either_grows _ s.view _ _ (last_grows me quorum s.line s) (at_most_same s.view)
+ack_grows me quorum (Storing p) s = either_grows _ s.view _ _ (last_grows me quorum s) (at_most_same s.view)
 ack_grows me quorum (Querying p) s = at_most_same s.view
-ack_grows me quorum (StoringBack p seen) s = either_grows _ s.view _ _ (last_grows me quorum s.line s) (at_most_same s.view)
+ack_grows me quorum (StoringBack p seen) s = either_grows _ s.view _ _ (last_grows me quorum s) (at_most_same s.view)
 
 message_grows : (me quorum : ℕ) (m : Message) (s : Ops) → IsAtMost s.view (after_message me quorum m s).view
 message_grows me quorum (message.Enter q) s = at_most_same s.view
@@ -61,7 +61,7 @@ message_grows me quorum (message.StoreAck tag q) s = either_grows _ s.view _ _ (
 message_grows me quorum (message.Snapshot c v) s = at_most_merge s.view v
 
 ask_grows : (me quorum : ℕ) (a : Asked) (s : Ops) → IsAtMost s.view (after_ask me quorum a s).view
-ask_grows me quorum a s = either_grows (is_idle s.phase) s.view _ _ (begun_grows me quorum a s) (at_most_same s.view)
+ask_grows me quorum a s = either_grows (is_idle s.phase) s.view _ _ (round_grows me quorum (a ∷ []) s) (at_most_same s.view)
 
 pub view_grows : (c : Core) (e : Event) → IsAtMost c.ops.view (next c e).ops.view
 unfolding next

@@ -7,6 +7,7 @@ use Rattle.std.proofs.lemmas.Bool.Decides.{eqb_tells}
 use Rattle.std.proofs.Math.Bool.{and-false, and-true, or-false}
 use Rattle.std.proofs.lemmas.Bool.{leb-false, ltb-false, lt-ltb, le-ltb, or_parts, and_parts}
 use Rattle.cc_views.specs.Limits.{counter_limit, overruns}
+use Rattle.cc_ops.specs.Refusals.{passes}
 use Rattle.cc_views.specs.Rows.{ViewMap}
 use Rattle.cc_changes.specs.ChangeSets.{ChangeSets}
 use Rattle.cc_changes.specs.declared.fraction.Fraction.{Fraction}
@@ -72,6 +73,13 @@ stays n = ap (λ b. (n == counter_limit) && b) (less_itself n) ∙ and-false (n 
 
 pub stays_at : (n m : ℕ) → m ≡ n → overruns n m ≡ false
 stays_at n m e = ap (overruns n) e ∙ stays n
+
+-- so it is with the own number
+pub passes_none : (n : ℕ) → passes n n ≡ false
+passes_none n = ap (λ b. b && nat_lt counter_limit n) (le-ltb n n (omega arith))
+
+pub passes_at : (n m : ℕ) → m ≡ n → passes n m ≡ false
+passes_at n m e = ap (passes n) e ∙ passes_none n
 
 pub rises : (n : ℕ) → overruns n (n + 1) ≡ (n == counter_limit)
 rises n = ap (λ b. (n == counter_limit) && b) (less_next n) ∙ and-true (n == counter_limit)
@@ -214,40 +222,40 @@ either_last a b c p q = rw (p, q) refl
 pub spent_enter : (c : Core) → spent c event.Enter ≡ then_some (c.posts == counter_limit) refusal.Spent
 unfolding next
 spent_enter c = ap (λ b. then_some b refusal.Spent)
-    (any_of _ _ _ _ _ false false (c.posts == counter_limit) false false (stays c.ops.number) (stays c.ops.tag) (rises c.posts) (stays c.churn.echoes) refl
+    (any_of _ _ _ _ _ false false (c.posts == counter_limit) false false (passes_none c.ops.number) (stays c.ops.tag) (rises c.posts) (stays c.churn.echoes) refl
     ∙ or-false _ ∙ or-false _)
 
 pub spent_leave : (c : Core) → spent c event.Leave ≡ then_some (c.posts == counter_limit) refusal.Spent
 unfolding next
 spent_leave c = ap (λ b. then_some b refusal.Spent)
-    (any_of _ _ _ _ _ false false (c.posts == counter_limit) false false (stays c.ops.number) (stays c.ops.tag) (rises c.posts) (stays c.churn.echoes) refl
+    (any_of _ _ _ _ _ false false (c.posts == counter_limit) false false (passes_none c.ops.number) (stays c.ops.tag) (rises c.posts) (stays c.churn.echoes) refl
     ∙ or-false _ ∙ or-false _)
 
 pub spent_ack : (c : Core) (peer n : ℕ) → spent c (event.Acked peer n) ≡ None
 unfolding next
 spent_ack c peer n = ap (λ b. then_some b refusal.Spent)
-    (any_of _ _ _ _ _ false false false false false (stays c.ops.number) (stays c.ops.tag) (stays_at c.posts (c.posts + 0) (omega arith)) (stays c.churn.echoes) refl)
+    (any_of _ _ _ _ _ false false false false false (passes_none c.ops.number) (stays c.ops.tag) (stays_at c.posts (c.posts + 0) (omega arith)) (stays c.churn.echoes) refl)
 
 pub spent_retire : (c : Core) (q : ℕ) → spent c (event.Retire q) ≡ None
 unfolding next
 spent_retire c q = ap (λ b. then_some b refusal.Spent)
-    (any_of _ _ _ _ _ false false false false false (stays c.ops.number) (stays c.ops.tag) (stays_at c.posts (c.posts + 0) (omega arith)) (stays c.churn.echoes) refl)
+    (any_of _ _ _ _ _ false false false false false (passes_none c.ops.number) (stays c.ops.tag) (stays_at c.posts (c.posts + 0) (omega arith)) (stays c.churn.echoes) refl)
 
 pub spent_snapshot : (c : Core) → spent c event.Snapshot ≡ then_some (c.posts == counter_limit) refusal.Spent
 unfolding next
 spent_snapshot c = ap (λ b. then_some b refusal.Spent)
-    (any_of _ _ _ _ _ false false (c.posts == counter_limit) false false (stays c.ops.number) (stays c.ops.tag) (rises c.posts) (stays c.churn.echoes) refl
+    (any_of _ _ _ _ _ false false (c.posts == counter_limit) false false (passes_none c.ops.number) (stays c.ops.tag) (rises c.posts) (stays c.churn.echoes) refl
     ∙ or-false _ ∙ or-false _)
 
 pub spent_lapse : (c : Core) (q : ℕ) → spent c (event.Lapse q) ≡ None
 unfolding next
 spent_lapse c q = ap (λ b. then_some b refusal.Spent)
-    (any_of _ _ _ _ _ false false false false false (stays c.ops.number) (stays c.ops.tag) (stays_at c.posts (c.posts + 0) (omega arith)) (stays c.churn.echoes) refl)
+    (any_of _ _ _ _ _ false false false false false (passes_none c.ops.number) (stays c.ops.tag) (stays_at c.posts (c.posts + 0) (omega arith)) (stays c.churn.echoes) refl)
 
 -- a delivery of what isn't a snapshot
 pub spent_delivery : (c : Core) (from n : ℕ) (m : Message) → is_snapshot m ≡ false
     → any_overruns c (next c (event.Deliver from n m)) (event.Deliver from n m)
-    ≡ ((overruns c.ops.number (ops.after_message c.me (quorum c) m c.ops).number || overruns c.ops.tag (ops.after_message c.me (quorum c) m c.ops).tag) || (is_some (post c (event.Deliver from n m)) && (c.posts == counter_limit))
+    ≡ ((passes c.ops.number (ops.after_message c.me (quorum c) m c.ops).number || overruns c.ops.tag (ops.after_message c.me (quorum c) m c.ops).tag) || (is_some (post c (event.Deliver from n m)) && (c.posts == counter_limit))
     || overruns c.churn.echoes (churn.after_message c.me c.gamma m c.churn).echoes || nat_lt counter_limit n)
 unfolding next
 spent_delivery c from n m e =
@@ -255,7 +263,7 @@ spent_delivery c from n m e =
     let again = churn.quorum c.beta (churn_told c from n m) in
     let same : ops_anew c from n m ≡ after = ap (λ b. anew_if b again after) (not_anew c from n m e) in
     let told : churn_told c from n m ≡ churned c m = ap (λ b. told_if b c.me c.gamma (churned c m)) (not_told c from n m e) in
-    any_of _ _ _ _ _ _ _ _ _ _ (ap (λ (s : ops.Ops). overruns c.ops.number s.number) same) (ap (λ (s : ops.Ops). overruns c.ops.tag s.tag) same)
+    any_of _ _ _ _ _ _ _ _ _ _ (ap (λ (s : ops.Ops). passes c.ops.number s.number) same) (ap (λ (s : ops.Ops). overruns c.ops.tag s.tag) same)
     (rises_with c.posts (post c (event.Deliver from n m))) (ap (λ (s : churn.Churn). overruns c.churn.echoes s.echoes) told)
     (ap (nat_lt counter_limit) (hears_now c from n m))
 
@@ -275,7 +283,7 @@ spent_told c from n m e =
     let a = asks_anew c from n m in
     let t = tells c from n m in
     any_of _ _ _ _ _ false _ _ _ _
-    (stays_at c.ops.number _ (anew_number a again after ∙ snapshot_number c.me (quorum c) m c.ops e))
+    (passes_at c.ops.number _ (anew_number a again after ∙ snapshot_number c.me (quorum c) m c.ops e))
     (one_more a c.ops.tag after.tag (ops_anew c from n m).tag (snapshot_tag c.me (quorum c) m c.ops e) (anew_one a again after) (λ f. ap (λ b. (anew_if b again after).tag) f))
     (rises_with c.posts (post c (event.Deliver from n m)))
     (one_more t c.churn.echoes (churned c m).echoes (churn_told c from n m).echoes (snapshot_echoes c.me c.gamma m c.churn e) (told_one t c.me c.gamma (churned c m)) (λ f. ap (λ b. (told_if b c.me c.gamma (churned c m)).echoes) f))
@@ -303,11 +311,11 @@ posts_if_idle c s r k = one_if (ops.is_idle c.ops.phase) (asked_of s r k) (λ as
 -- an ask of the last request or of the next one
 pub spent_ask : (c : Core) (s r : ℕ) (k : Command) → (r ≡ last_request c.sessions s) ⊎ (r ≡ last_request c.sessions s + 1) → last_request c.sessions s ≤ counter_limit
     → any_overruns c (next c (event.Ask s r k)) (event.Ask s r k)
-    ≡ ((overruns c.ops.number (ops.after_ask c.me (quorum c) (asked_of s r k) c.ops).number || overruns c.ops.tag (ops.after_ask c.me (quorum c) (asked_of s r k) c.ops).tag)
+    ≡ ((passes c.ops.number (ops.after_ask c.me (quorum c) (asked_of s r k) c.ops).number || overruns c.ops.tag (ops.after_ask c.me (quorum c) (asked_of s r k) c.ops).tag)
     || (ops.is_idle c.ops.phase && (c.posts == counter_limit)) || nat_lt counter_limit r)
 unfolding next
 spent_ask c s r k e h =
-    let number = overruns c.ops.number (ops.after_ask c.me (quorum c) (asked_of s r k) c.ops).number in
+    let number = passes c.ops.number (ops.after_ask c.me (quorum c) (asked_of s r k) c.ops).number in
     let tag = overruns c.ops.tag (ops.after_ask c.me (quorum c) (asked_of s r k) c.ops).tag in
     any_of number tag _ _ _ number tag _ false _ refl refl
     (rises_with c.posts (post c (event.Ask s r k)) ∙ ap (λ b. b && (c.posts == counter_limit)) (posts_if_idle c s r k)) (stays c.churn.echoes)

@@ -66,7 +66,13 @@ fresh_lawful o h =
         joined = λ q k. k;
         links = add_all_links 0 (ids_of o) table.empty (get-empty (λ _. IsLinkWithin 0));
         phase = tt;
-        line = record { behind = refl; few = omega arith; apart = tt; last = tt };
+        line = record {
+          behind = refl;
+          few = omega arith;
+          apart = tt;
+          last = tt;
+          round = record { some = h.some; most = h.most; few = omega (arith, h.some); alike = refl; last = tt };
+        };
         sessions = get-empty (λ _ last. (0 < last) × (last ≤ counter_limit));
         session_count = omega (arith, table.len-empty nat_cmp ℕ);
         counts = record { number = omega arith; tag = omega arith; posts = omega arith; echoes = omega arith };

@@ -16,7 +16,9 @@ use Rattle.cc_wire.specs.declared.answer.Answer.{Answer}
 use Rattle.cc_wire.specs.declared.event.Event.{Event}
 use Rattle.cc_wire.specs.declared.event.Event.TheVariants as event
 use Rattle.cc_wire.specs.declared.message.Message.{Message}
-use Rattle.cc_ops.specs.OwnLaws.{AnswersFirst}
+use Rattle.cc_ops.specs.Ops.{Ops, pending, unanswered}
+use Rattle.cc_ops.specs.OwnLaws.{AnswersRound, AreAnswered}
+use Rattle.cc_ops.specs.RoundLaws.{round_has}
 use Rattle.cc_ops.specs.Waiting.{has_session, AreApart}
 use Rattle.cc_ops.specs.WaitingLaws.{none_last}
 use Rattle.cc_ops.specs.declared.pending.Asked.{Asked}
@@ -124,19 +126,29 @@ first_kept ss a asks answer kept last alone h x j =
       | inr e ↦ ((h x e).0, (or_parts _ _ (h x e).1).1)
     ]
 
--- so it is with each reply that answers one of the first
-pub first_answers : (ss : Requests) (before after : List Asked) (rs : List Reply) (o : Outbox) → AnswersFirst before after rs → AreApart before → AllByRecursion (IsLastOf ss) before
-    → KeepsAnswers ss before o.answers → KeepsAnswers ss after (keep rs o).answers
-first_answers ss before after [] o e apart last h = subst (λ (l : List Asked). KeepsAnswers ss l o.answers) (sym e) h
-first_answers ss before after (r ∷ rs) o e apart last h =
-    let a = e.0 in
-    let behind = e.1 in
-    let each = subst (AllByRecursion (IsLastOf ss)) e.2 last in
-    let alone = subst AreApart e.2 apart in
-    let kept_now : KeepsAnswers ss behind (table.insert o.answers r.session r.answer) =
-    subst (λ (s : ℕ). KeepsAnswers ss behind (table.insert o.answers s r.answer)) e.3
-    (first_kept ss a behind r.answer o.answers each.0 alone.0 (subst (λ (l : List Asked). KeepsAnswers ss l o.answers) e.2 h)) in
-    first_answers ss behind after rs (kept.keep r.session r.answer o) e.5 alone.1 each.1 kept_now
+-- so it is with each reply that answers one of those in front
+all_kept : (ss : Requests) (asks line : List Asked) (rs : List Reply) (o : Outbox) → AreAnswered asks rs → AreApart (asks ++ line) → AllByRecursion (IsLastOf ss) asks
+    → KeepsAnswers ss (asks ++ line) o.answers → KeepsAnswers ss line (keep rs o).answers
+all_kept ss [] line [] o e apart last h = h
+all_kept ss [] line (r ∷ rs) o e apart last h = absurd e
+all_kept ss (a ∷ asks) line [] o e apart last h = absurd e
+all_kept ss (a ∷ asks) line (r ∷ rs) o e apart last h =
+    let kept_now : KeepsAnswers ss (asks ++ line) (table.insert o.answers r.session r.answer) =
+    subst (λ (s : ℕ). KeepsAnswers ss (asks ++ line) (table.insert o.answers s r.answer)) e.0
+    (first_kept ss a (asks ++ line) r.answer o.answers last.0 apart.0 h) in
+    all_kept ss asks line rs (kept.keep r.session r.answer o) e.2 apart.1 last.1 kept_now
+
+front_each : (P : Asked → Type 0) (xs ys : List Asked) → AllByRecursion P (xs ++ ys) → AllByRecursion P xs
+front_each P [] ys h = tt
+front_each P (x ∷ xs) ys h = (h.0, front_each P xs ys h.1)
+
+pub round_answers : (ss : Requests) (s t : Ops) (rs : List Reply) (o : Outbox) → AnswersRound s t rs → AreApart (unanswered s) → AllByRecursion (IsLastOf ss) (unanswered s)
+    → KeepsAnswers ss (unanswered s) o.answers → KeepsAnswers ss (unanswered t) (keep rs o).answers
+round_answers ss s t rs o (inl h) apart last k =
+    subst (λ (l : List Reply). KeepsAnswers ss (unanswered t) (keep l o).answers) (sym h.0) (subst (λ (l : List Asked). KeepsAnswers ss l o.answers) (sym h.1) k)
+round_answers ss s t rs o (inr h) apart last k =
+    let left = all_kept ss (pending s) s.line rs o h.0 apart (front_each (IsLastOf ss) (pending s) s.line last) k in
+    subst (λ (l : List Asked). KeepsAnswers ss l (keep rs o).answers) (sym h.1) (λ x j. ((left x j).0, round_has x s.share s.line ∙ (left x j).1))
 
 -- one more ask isn't answered yet, and its session's answer is forgotten
 pub last_answers : (ss : Requests) (asks : List Asked) (a : Asked) (kept : FinMap nat_cmp Answer) → KeepsAnswers ss asks kept

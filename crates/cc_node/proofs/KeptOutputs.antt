@@ -1,7 +1,7 @@
 -- What a node keeps of the post and the answer of an event that it took in.
 --     post_kept       the post is kept, where a live link is there to be sent it
 --     answers_kept    each answer is kept
-use Rattle.std.proofs.Common.{◌≡◌, ℕ, ◌+◌, ◌≤◌, Bool, true, false, cond, not, nat_eq, List, [], ◌∷◌, refl, sym, ap, subst, ◌∙◌, arith}
+use Rattle.std.proofs.Common.{◌≡◌, ℕ, ◌+◌, ◌≤◌, Bool, true, false, cond, not, nat_eq, List, [], ◌∷◌, ◌++◌, refl, sym, ap, subst, ◌∙◌, inl, inr, arith}
 use Rattle.std.specs.Prelude.{Option, Some, None, IfSome}
 use Rattle.std.specs.Option.{option_len}
 use Rattle.std.specs.List.{AllByRecursion}
@@ -16,7 +16,9 @@ use Rattle.cc_wire.specs.declared.message.Message.{Message}
 use Rattle.cc_ops.specs.declared.pending.Asked.{Asked}
 use Rattle.cc_ops.specs.declared.pending.Reply.{Reply}
 use Rattle.cc_ops.specs.Ops as ops
-use Rattle.cc_ops.specs.OwnLaws.{AnswersFirst, message_answers}
+use Rattle.cc_ops.specs.Ops.{Ops}
+use Rattle.cc_ops.specs.OwnLaws.{AnswersRound, AreAnswered, message_answers}
+use Rattle.cc_ops.specs.RoundLaws.{has_both}
 use Rattle.cc_ops.specs.Waiting.{has_session, AreApart}
 use Rattle.cc_links.specs.Links.{Link, Links, with_row, add_all, reach, ReachesWithin, LinksWithin}
 use Rattle.cc_links.specs.LinkLaws.{get-live, lowest_below, reaches_within, add_all_links}
@@ -100,29 +102,37 @@ post_kept n e m made h =
 -- ---- the answer
 
 -- an answer that others are kept after stays, where none of these is of its session
-stays_kept : (x : ℕ) (asks after : List Asked) (rs : List Reply) (o : Outbox) → AnswersFirst asks after rs → has_session x asks ≡ false
+stays_kept : (x : ℕ) (asks : List Asked) (rs : List Reply) (o : Outbox) → AreAnswered asks rs → has_session x asks ≡ false
     → table.get (keep rs o).answers x ≡ table.get o.answers x
-stays_kept x asks after [] o e none = refl
-stays_kept x asks after (r ∷ rs) o e none =
-    let parts = or_parts _ _ (sym (ap (has_session x) e.2) ∙ none) in
-    let apart : nat_eq x r.session ≡ false = ap (nat_eq x) (sym e.3) ∙ parts.0 in
-    stays_kept x e.1 after rs (kept.keep r.session r.answer o) e.5 parts.1
+stays_kept x [] [] o e none = refl
+stays_kept x [] (r ∷ rs) o e none = absurd e
+stays_kept x (a ∷ asks) [] o e none = absurd e
+stays_kept x (a ∷ asks) (r ∷ rs) o e none =
+    let parts = or_parts _ _ none in
+    let apart : nat_eq x r.session ≡ false = ap (nat_eq x) (sym e.0) ∙ parts.0 in
+    stays_kept x asks rs (kept.keep r.session r.answer o) e.2 parts.1
     ∙ get-insert_key o.answers r.session r.answer x
     ∙ ap (λ b. cond b (Some r.answer) (table.get o.answers x)) apart
 
-first_kept : (before after : List Asked) (rs : List Reply) (o : Outbox) → AnswersFirst before after rs → AreApart before
+each_kept : (asks line : List Asked) (rs : List Reply) (o : Outbox) → AreAnswered asks rs → AreApart (asks ++ line)
     → AllByRecursion (λ r. table.get (keep rs o).answers r.session ≡ Some r.answer) rs
-first_kept before after [] o e apart = tt
-first_kept before after (r ∷ rs) o e apart =
-    let behind = e.1 in
-    let alone = subst AreApart e.2 apart in
+each_kept [] line [] o e apart = tt
+each_kept [] line (r ∷ rs) o e apart = absurd e
+each_kept (a ∷ asks) line [] o e apart = tt
+each_kept (a ∷ asks) line (r ∷ rs) o e apart =
     let o_now = kept.keep r.session r.answer o in
-    let none_behind : has_session r.session behind ≡ false = subst (λ (s : ℕ). has_session s behind ≡ false) e.3 alone.0 in (
-      stays_kept r.session behind after rs o_now e.5 none_behind
+    let none = (or_parts _ _ (sym (has_both a.session asks line) ∙ apart.0)).0 in
+    let none_behind : has_session r.session asks ≡ false = subst (λ (s : ℕ). has_session s asks ≡ false) e.0 none in (
+      stays_kept r.session asks rs o_now e.2 none_behind
           ∙ get-insert_key o.answers r.session r.answer r.session
           ∙ ap (λ b. cond b (Some r.answer) (table.get o.answers r.session)) (same_number r.session),
-      first_kept behind after rs o_now e.5 alone.1,
+      each_kept asks line rs o_now e.2 apart.1,
     )
+
+round_kept : (s t : Ops) (rs : List Reply) (o : Outbox) → AnswersRound s t rs → AreApart (ops.unanswered s)
+    → AllByRecursion (λ r. table.get (keep rs o).answers r.session ≡ Some r.answer) rs
+round_kept s t rs o (inl h) apart = subst (λ (l : List Reply). AllByRecursion (λ r. table.get (keep l o).answers r.session ≡ Some r.answer) l) (sym h.0) tt
+round_kept s t rs o (inr h) apart = each_kept (ops.pending s) s.line rs o h.0 apart
 
 pub answers_kept : (n : Node) (e : Event) → IsLawfulNode n
     → AllByRecursion (λ r. table.get (step n e).outbox.answers r.session ≡ Some r.answer) (replies n.core e)
@@ -131,7 +141,7 @@ answers_kept n event.Enter h = tt
 answers_kept n event.Leave h = tt
 answers_kept n (event.Deliver from k m) h =
     let c = n.core in
-    first_kept (ops.unanswered c.ops) (ops.unanswered (ops.after_message c.me (quorum c) m c.ops)) (ops.replies_of c.me m c.ops)
+    round_kept c.ops (ops.after_message c.me (quorum c) m c.ops) (ops.replies_of c.me m c.ops)
     (add (post c (event.Deliver from k m)) n.outbox) (message_answers c.me (quorum c) m c.ops) h.core.line.apart
 answers_kept n (event.Acked peer k) h = tt
 answers_kept n (event.Ask s r k) h = tt

@@ -4,8 +4,8 @@
 --     left_stays                         who left has left for good
 --     KeepsOps, message_ops, ask_ops     what the client and the server keep, and the asks that wait
 --     all_last, same_tests               each ask that isn't answered is its session's last request;  two numbers apart
-use Rattle.std.proofs.Common.{◌≡◌, ℕ, ◌+◌, ◌<◌, ◌≤◌, Bool, true, false, cond, not, ◌&&◌, ◌||◌, nat_eq, nat_le, List, [], ◌∷◌, ◌++◌, length, length-append, refl, sym, ap, subst, ◌∙◌, inl, inr, arith}
-use Rattle.std.specs.Prelude.{Option, Some, None, IsTrue, ◌==◌}
+use Rattle.std.proofs.Common.{◌≡◌, ℕ, zero, suc, ◌+◌, ◌<◌, ◌≤◌, Bool, true, false, cond, not, ◌&&◌, ◌||◌, nat_eq, nat_le, List, [], ◌∷◌, ◌++◌, length, length-append, refl, sym, ap, subst, ◌∙◌, inl, inr, arith}
+use Rattle.std.specs.Prelude.{Option, Some, IsTrue, ◌==◌}
 use Rattle.std.specs.List.{list_any, AllByRecursion}
 use Rattle.std.specs.Ordering.{nat_cmp}
 use Rattle.std.specs.FinMap as table
@@ -31,7 +31,9 @@ use Rattle.cc_churn.specs.Churn.{Churn}
 use Rattle.cc_ops.specs.Commands.{is_writing}
 use Rattle.cc_ops.specs.Ops as ops
 use Rattle.cc_ops.specs.Ops.{Ops, Phase, Idle, Storing, Querying, StoringBack}
-use Rattle.cc_ops.specs.OwnLaws.{AnswersFirst, begun_line, begun_unanswered, message_line, message_answers}
+use Rattle.cc_ops.specs.OwnLaws.{AnswersRound, Parts, round_line, round_unanswered, message_parts, message_answers}
+use Rattle.cc_ops.specs.Rounds.{picked, spared, first_round, line_behind}
+use Rattle.cc_ops.specs.RoundLaws.{has_both, round_apart, behind_few, each_first, each_behind, picked_alike, picked_few}
 use Rattle.cc_ops.specs.Stages.{stage_of, WaitsBehind}
 use Rattle.cc_ops.specs.Waiting.{line_limit, has_session, AreApart}
 use Rattle.cc_ops.specs.WaitingLaws.{apart_last}
@@ -41,7 +43,8 @@ use Rattle.cc_ops.specs.declared.pending.Reply.{Reply}
 use Rattle.cc_links.specs.Links.{Links}
 use Rattle.cc_sessions.specs.Sessions.{Requests}
 use Rattle.cc_node.specs.Core.{ids_of}
-use Rattle.cc_node.specs.Lawful.{IsKnown, IsPendingIn, IsPhaseOf, IsLastOf, IsLineOf}
+use Rattle.cc_node.specs.Rounds.{share_limit}
+use Rattle.cc_node.specs.Lawful.{IsKnown, IsPendingIn, IsPhaseOf, IsLastOf, IsLineOf, IsRoundOf, IsBeside}
 
 pub same_number : (n : ℕ) → nat_eq n n ≡ true
 same_number n = eq-eqb n n refl
@@ -232,12 +235,20 @@ phase_more ls ms ss (StoringBack p seen) more h = (h.0, h.1, λ q k. more q (h.2
 pub same_tests : (x y : ℕ) → nat_eq x y ≡ false → nat_eq y x ≡ false
 same_tests x y e = let apart : x ≡ y → ⊥ = eqb-false x y e in ne_eqb y x (λ t. apart (sym t))
 
+both_all : (P : Asked → Type 0) (xs ys : List Asked) → AllByRecursion P xs → AllByRecursion P ys → AllByRecursion P (xs ++ ys)
+both_all P [] ys h k = k
+both_all P (x ∷ xs) ys h k = (h.0, both_all P xs ys h.1 k)
+
+first_last : (ls : Links) (ss : Requests) (phase : Phase) → IsPhaseOf ls ss phase → AllByRecursion (IsLastOf ss) (ops.asked_in phase)
+first_last ls ss Idle h = tt
+first_last ls ss (Storing p) h = (h.0.session, tt)
+first_last ls ss (Querying p) h = (h.0.session, tt)
+first_last ls ss (StoringBack p seen) h = (h.0.session, tt)
+
 -- each ask that isn't answered is its session's last request
-pub all_last : (ls : Links) (ss : Requests) (phase : Phase) (line : List Asked) → IsPhaseOf ls ss phase → AllByRecursion (IsLastOf ss) line → AllByRecursion (IsLastOf ss) (ops.asked_in phase ++ line)
-all_last ls ss Idle line h k = k
-all_last ls ss (Storing p) line h k = (h.0.session, k)
-all_last ls ss (Querying p) line h k = (h.0.session, k)
-all_last ls ss (StoringBack p seen) line h k = (h.0.session, k)
+pub all_last : (ls : Links) (ss : Requests) (s : Ops) → IsPhaseOf ls ss s.phase → IsLineOf ss s → AllByRecursion (IsLastOf ss) (ops.unanswered s)
+all_last ls ss s phase line =
+    both_all (IsLastOf ss) (ops.pending s) s.line (both_all (IsLastOf ss) (ops.asked_in s.phase) s.others (first_last ls ss s.phase phase) line.round.last) line.last
 
 -- nothing waits where nothing is pending; anything may where something is
 pub none_waits : (phase : Phase) (line : List Asked) → ops.is_idle phase ≡ true → WaitsBehind (stage_of phase) line → line ≡ []
@@ -246,31 +257,47 @@ none_waits (Storing p) line idle h = cc
 none_waits (Querying p) line idle h = cc
 none_waits (StoringBack p seen) line idle h = cc
 
+none_beside : (phase : Phase) (others : List Asked) → ops.is_idle phase ≡ true → IsBeside phase others → others ≡ []
+none_beside Idle others idle h = h
+none_beside (Storing p) others idle h = cc
+none_beside (Querying p) others idle h = cc
+none_beside (StoringBack p seen) others idle h = cc
+
+-- where nothing is pending none waits, and none is beside it
+pub none_left : {ss : Requests} (s : Ops) → IsLineOf ss s → ops.is_idle s.phase ≡ true → (s.line ≡ []) × (s.others ≡ [])
+none_left s h idle = (none_waits s.phase s.line idle h.behind, none_beside s.phase s.others idle h.round.alike)
+
 may_wait : (phase : Phase) (line : List Asked) → ops.is_idle phase ≡ false → WaitsBehind (stage_of phase) line
 may_wait Idle line busy = cc
 may_wait (Storing p) line busy = tt
 may_wait (Querying p) line busy = tt
 may_wait (StoringBack p seen) line busy = tt
 
-begun_behind : (me quorum : ℕ) (a : Asked) (s : Ops) → WaitsBehind (stage_of (ops.with_begun me quorum a s).phase) (ops.with_begun me quorum a s).line
-begun_behind me quorum a s =
-    cond_both (is_writing a.command) (ops.next_round (Storing (ops.round_of quorum a)) (ops.with_own_row me (ops.with_written a.command s)))
+round_behind : (me quorum : ℕ) (a : Asked) (others : List Asked) (s : Ops)
+    → WaitsBehind (stage_of (ops.begin_round me quorum (a ∷ others) s).phase) (ops.begin_round me quorum (a ∷ others) s).line
+round_behind me quorum a others s =
+    cond_both (is_writing a.command) (ops.next_round (Storing (ops.round_of quorum a)) (ops.with_own_row me (ops.with_written (a ∷ others) s)))
     (ops.next_round (Querying (ops.round_of quorum a)) s) (λ (t : Ops). WaitsBehind (stage_of t.phase) t.line) (λ _. tt) (λ _. tt)
 
-last_behind : (me quorum : ℕ) (line : List Asked) (s : Ops) → s.line ≡ line → WaitsBehind (stage_of (ops.after_last me quorum line s).phase) (ops.after_last me quorum line s).line
-last_behind me quorum [] s e = e
-last_behind me quorum (a ∷ line) s e = begun_behind me quorum a (record s { line = line })
+last_behind : (me quorum : ℕ) (s : Ops) → 1 ≤ s.share → WaitsBehind (stage_of (ops.after_last me quorum s).phase) (ops.after_last me quorum s).line
+last_behind me quorum s some = of_line s.share s.line some
+  where
+    of_line : (share : ℕ) (line : List Asked) → 1 ≤ share
+        → (let t = ops.begin_round me quorum (first_round share line) (record s { line = line_behind share line }) in WaitsBehind (stage_of t.phase) t.line)
+    of_line zero line some = absurd (omega (arith, some))
+    of_line (suc n) [] some = refl
+    of_line (suc n) (a ∷ line) some = round_behind me quorum a (picked (is_writing a.command) n line) (record s { line = spared (is_writing a.command) n line })
 
-ack_behind : (me quorum : ℕ) (phase : Phase) (s : Ops) → WaitsBehind (stage_of s.phase) s.line
+ack_behind : (me quorum : ℕ) (phase : Phase) (s : Ops) → 1 ≤ s.share → WaitsBehind (stage_of s.phase) s.line
     → WaitsBehind (stage_of (ops.after_ack me quorum phase s).phase) (ops.after_ack me quorum phase s).line
-ack_behind me quorum Idle s h = h
-ack_behind me quorum (Storing p) s h =
-    cond_both (ops.is_last p) (ops.after_last me quorum s.line s) (record s { phase = Storing (ops.counted p) }) (λ (t : Ops). WaitsBehind (stage_of t.phase) t.line)
-    (λ _. last_behind me quorum s.line s refl) (λ _. tt)
-ack_behind me quorum (Querying p) s h = h
-ack_behind me quorum (StoringBack p seen) s h =
-    cond_both (ops.is_last p) (ops.after_last me quorum s.line s) (record s { phase = StoringBack (ops.counted p) seen }) (λ (t : Ops). WaitsBehind (stage_of t.phase) t.line)
-    (λ _. last_behind me quorum s.line s refl) (λ _. tt)
+ack_behind me quorum Idle s some h = h
+ack_behind me quorum (Storing p) s some h =
+    cond_both (ops.is_last p) (ops.after_last me quorum s) (record s { phase = Storing (ops.counted p) }) (λ (t : Ops). WaitsBehind (stage_of t.phase) t.line)
+    (λ _. last_behind me quorum s some) (λ _. tt)
+ack_behind me quorum (Querying p) s some h = h
+ack_behind me quorum (StoringBack p seen) s some h =
+    cond_both (ops.is_last p) (ops.after_last me quorum s) (record s { phase = StoringBack (ops.counted p) seen }) (λ (t : Ops). WaitsBehind (stage_of t.phase) t.line)
+    (λ _. last_behind me quorum s some) (λ _. tt)
 
 reply_behind : (quorum : ℕ) (v : ViewMap) (phase : Phase) (s : Ops) → WaitsBehind (stage_of s.phase) s.line
     → WaitsBehind (stage_of (ops.after_reply quorum v phase s).phase) (ops.after_reply quorum v phase s).line
@@ -282,50 +309,57 @@ reply_behind quorum v (Querying p) s h =
     (record (ops.merged v s) { phase = Querying (ops.counted p) }) (λ (t : Ops). WaitsBehind (stage_of t.phase) t.line) (λ _. tt) (λ _. tt)
 reply_behind quorum v (StoringBack p seen) s h = h
 
-message_behind : (me quorum : ℕ) (m : Message) (s : Ops) → WaitsBehind (stage_of s.phase) s.line
+message_behind : (me quorum : ℕ) (m : Message) (s : Ops) → 1 ≤ s.share → WaitsBehind (stage_of s.phase) s.line
     → WaitsBehind (stage_of (ops.after_message me quorum m s).phase) (ops.after_message me quorum m s).line
-message_behind me quorum (message.Enter q) s h = h
-message_behind me quorum (message.EnterEcho c v j q) s h = h
-message_behind me quorum (message.Join q) s h = h
-message_behind me quorum (message.JoinEcho q) s h = h
-message_behind me quorum (message.Leave q) s h = h
-message_behind me quorum (message.LeaveEcho q) s h = h
-message_behind me quorum (message.Query tag q) s h = h
-message_behind me quorum (message.QueryReply v tag q) s h =
+message_behind me quorum (message.Enter q) s some h = h
+message_behind me quorum (message.EnterEcho c v j q) s some h = h
+message_behind me quorum (message.Join q) s some h = h
+message_behind me quorum (message.JoinEcho q) s some h = h
+message_behind me quorum (message.Leave q) s some h = h
+message_behind me quorum (message.LeaveEcho q) s some h = h
+message_behind me quorum (message.Query tag q) s some h = h
+message_behind me quorum (message.QueryReply v tag q) s some h =
     cond_both (ops.is_own me tag q s) (ops.after_reply quorum v s.phase s) s (λ (t : Ops). WaitsBehind (stage_of t.phase) t.line) (λ _. reply_behind quorum v s.phase s h) (λ _. h)
-message_behind me quorum (message.Store v tag q) s h = h
-message_behind me quorum (message.StoreAck tag q) s h =
-    cond_both (ops.is_own me tag q s) (ops.after_ack me quorum s.phase s) s (λ (t : Ops). WaitsBehind (stage_of t.phase) t.line) (λ _. ack_behind me quorum s.phase s h) (λ _. h)
-message_behind me quorum (message.Snapshot c v) s h = h
+message_behind me quorum (message.Store v tag q) s some h = h
+message_behind me quorum (message.StoreAck tag q) s some h =
+    cond_both (ops.is_own me tag q s) (ops.after_ack me quorum s.phase s) s (λ (t : Ops). WaitsBehind (stage_of t.phase) t.line) (λ _. ack_behind me quorum s.phase s some h) (λ _. h)
+message_behind me quorum (message.Snapshot c v) s some h = h
 
--- of the asks that wait the first ones begin, or none
-shorter : (asks line : List Asked) → length line ≤ length (asks ++ line)
-shorter [] line = omega arith
-shorter (a ∷ asks) line = let rest : length line ≤ length (asks ++ line) = shorter asks line in omega (arith, rest)
+-- of the asks that wait the first round begins, or none
+parted_few : (s : Ops) (begun line : List Asked) → Parts s begun line → length line ≤ length s.line
+parted_few s begun line (inl h) = omega (arith, ap length h.1)
+parted_few s begun line (inr h) = omega (arith, ap length h.1, behind_few s.share s.line)
 
-behind_first : (P : Asked → Type 0) (asks line : List Asked) → AllByRecursion P (asks ++ line) → AllByRecursion P line
-behind_first P [] line h = h
-behind_first P (a ∷ asks) line h = behind_first P asks line h.1
+parted_each : (P : Asked → Type 0) (s : Ops) (begun line : List Asked) → Parts s begun line → AllByRecursion P s.line → AllByRecursion P line
+parted_each P s begun line (inl h) each = subst (AllByRecursion P) (sym h.1) each
+parted_each P s begun line (inr h) each = subst (AllByRecursion P) (sym h.1) (each_behind P s.share s.line each)
 
-left_apart : (before after : List Asked) (rs : List Reply) → AnswersFirst before after rs → AreApart before → AreApart after
-left_apart before after [] e h = subst AreApart (sym e) h
-left_apart before after (r ∷ rs) e h = left_apart e.1 after rs e.5 (subst AreApart e.2 h).1
+apart_behind : (xs ys : List Asked) → AreApart (xs ++ ys) → AreApart ys
+apart_behind [] ys h = h
+apart_behind (x ∷ xs) ys h = apart_behind xs ys h.1
 
-message_line_of : (ss : Requests) (me quorum : ℕ) (m : Message) (s : Ops) → IsLineOf ss s → IsLineOf ss (ops.after_message me quorum m s)
-message_line_of ss me quorum m s h =
+left_apart : (s t : Ops) (rs : List Reply) → AnswersRound s t rs → AreApart (ops.unanswered s) → AreApart (ops.unanswered t)
+left_apart s t rs (inl h) apart = subst AreApart (sym h.1) apart
+left_apart s t rs (inr h) apart = subst AreApart (sym h.1) (round_apart s.share s.line (apart_behind (ops.pending s) s.line apart))
+
+message_line_of : (ss : Requests) (me quorum : ℕ) (m : Message) (s : Ops) → IsLineOf ss s
+    → (let t = ops.after_message me quorum m s in IsRoundOf ss t.share t.phase t.others → IsLineOf ss t)
+message_line_of ss me quorum m s h round =
     let t = ops.after_message me quorum m s in
-    let front : s.line ≡ ops.begun_by me m s ++ t.line = message_line me quorum m s in
+    let parts = message_parts me quorum m s in
     record {
-      behind = message_behind me quorum m s h.behind;
-      few = let less = shorter (ops.begun_by me m s) t.line in omega (arith, less, ap length front, h.few);
-      apart = left_apart (ops.unanswered s) (ops.unanswered t) (ops.replies_of me m s) (message_answers me quorum m s) h.apart;
-      last = behind_first (IsLastOf ss) (ops.begun_by me m s) t.line (subst (AllByRecursion (IsLastOf ss)) front h.last);
+      behind = message_behind me quorum m s h.round.some h.behind;
+      few = omega (arith, parted_few s (ops.begun_by me m s) t.line parts, h.few);
+      apart = left_apart s t (ops.replies_of me m s) (message_answers me quorum m s) h.apart;
+      last = parted_each (IsLastOf ss) s (ops.begun_by me m s) t.line parts h.last;
+      round = round;
     }
 
 -- what a view and a phase keep
 pub record KeepsRound (ls : Links) (ss : Requests) (s : Ops) : Type 0 where
   pub view : IsWithin s.view ls
   pub phase : IsPhaseOf ls ss s.phase
+  pub round : IsRoundOf ss s.share s.phase s.others
 
 pub record KeepsOps (ls : Links) (ss : Requests) (s : Ops) : Type 0 where
   pub view : IsWithin s.view ls
@@ -343,68 +377,102 @@ counted_more ss p last h = record {
 }
 
 reply_round : (ls : Links) (ss : Requests) (quorum : ℕ) (v : ViewMap) (phase : Phase) (s : Ops) → 0 < quorum → quorum ≤ known_limit → IsWithin v ls
-    → KeepsRound ls ss s → IsPhaseOf ls ss phase → KeepsRound ls ss (ops.after_reply quorum v phase s)
-reply_round ls ss quorum v Idle s some few k h i = h
-reply_round ls ss quorum v (Storing p) s some few k h i = h
-reply_round ls ss quorum v (Querying p) s some few k h i =
+    → KeepsRound ls ss s → IsPhaseOf ls ss phase → IsBeside phase s.others → KeepsRound ls ss (ops.after_reply quorum v phase s)
+reply_round ls ss quorum v Idle s some few k h i j = h
+reply_round ls ss quorum v (Storing p) s some few k h i j = h
+reply_round ls ss quorum v (Querying p) s some few k h i j =
     let all : IsWithin (merge s.view v) ls = merge_within s.view v ls h.view k in
     cond_both (ops.is_last p)
     (ops.next_round (StoringBack (ops.round_of quorum p.asked) (merge s.view v)) (ops.merged v s))
     (record (ops.merged v s) { phase = Querying (ops.counted p) })
     (KeepsRound ls ss)
-    (λ _. record { view = all; phase = (record { session = i.0.session; need = few; count = some }, i.1, all) })
-    (λ last. record { view = all; phase = (counted_more ss p last i.0, i.1) })
-reply_round ls ss quorum v (StoringBack p seen) s some few k h i = h
+    (λ _. record { view = all; phase = (record { session = i.0.session; need = few; count = some }, i.1, all); round = record { some = h.round.some; most = h.round.most; few = h.round.few; alike = j; last = h.round.last } })
+    (λ last. record { view = all; phase = (counted_more ss p last i.0, i.1); round = record { some = h.round.some; most = h.round.most; few = h.round.few; alike = j; last = h.round.last } })
+reply_round ls ss quorum v (StoringBack p seen) s some few k h i j = h
 
-begun_round : (ls : Links) (ss : Requests) (me quorum : ℕ) (a : Asked) (s : Ops) → 0 < quorum → quorum ≤ known_limit → IsKnown ls me → IsWithin s.view ls → IsLastOf ss a
-    → KeepsRound ls ss (ops.with_begun me quorum a s)
-begun_round ls ss me quorum a s some few own view last =
-    let pending : IsPendingIn ss (ops.round_of quorum a) = record { session = last; need = few; count = some } in
-    let w = ops.with_own_row me (ops.with_written a.command s) in
-    cond_both (is_writing a.command) (ops.next_round (Storing (ops.round_of quorum a)) w) (ops.next_round (Querying (ops.round_of quorum a)) s) (KeepsRound ls ss)
+round_keeps : (ls : Links) (ss : Requests) (me quorum : ℕ) (a : Asked) (others : List Asked) (s : Ops) → 0 < quorum → quorum ≤ known_limit → IsKnown ls me → IsWithin s.view ls
+    → AllByRecursion (IsLastOf ss) (a ∷ others) → AllByRecursion (λ b. is_writing b.command ≡ is_writing a.command) others → length others < s.share → s.share ≤ share_limit
+    → KeepsRound ls ss (ops.begin_round me quorum (a ∷ others) s)
+round_keeps ls ss me quorum a others s some few own view last alike less most =
+    let pending : IsPendingIn ss (ops.round_of quorum a) = record { session = last.0; need = few; count = some } in
+    let w = ops.with_own_row me (ops.with_written (a ∷ others) s) in
+    cond_both (is_writing a.command) (ops.next_round (Storing (ops.round_of quorum a)) w) (ops.next_round (Querying (ops.round_of quorum a)) s)
+    (λ (t : Ops). KeepsRound ls ss (record t { others = others }))
     (λ writes. record {
-      view = merge_within s.view (single (record { node = me; number = s.number + 1; value = w.mine })) ls view (insert_within table.empty ls me (s.number + 1, w.mine) (empty_within Pair ls) own);
+      view = merge_within s.view (single (record { node = me; number = w.number; value = w.mine })) ls view (insert_within table.empty ls me (w.number, w.mine) (empty_within Pair ls) own);
       phase = (pending, writes);
+      round = record {
+        some = omega (arith, less);
+        most = most;
+        few = less;
+        alike = subst (λ k. AllByRecursion (λ (b : Asked). is_writing b.command ≡ k) others) writes alike;
+        last = last.1;
+      };
     })
-    (λ reads. record { view = view; phase = (pending, reads) })
+    (λ reads. record {
+      view = view;
+      phase = (pending, reads);
+      round = record {
+        some = omega (arith, less);
+        most = most;
+        few = less;
+        alike = subst (λ k. AllByRecursion (λ (b : Asked). is_writing b.command ≡ k) others) reads alike;
+        last = last.1;
+      };
+    })
 
-last_round : (ls : Links) (ss : Requests) (me quorum : ℕ) (line : List Asked) (s : Ops) → 0 < quorum → quorum ≤ known_limit → IsKnown ls me → IsWithin s.view ls
-    → AllByRecursion (IsLastOf ss) line → KeepsRound ls ss (ops.after_last me quorum line s)
-last_round ls ss me quorum [] s some few own view last = record { view = view; phase = tt }
-last_round ls ss me quorum (a ∷ line) s some few own view last = begun_round ls ss me quorum a (record s { line = line }) some few own view last.0
+last_round : (ls : Links) (ss : Requests) (me quorum : ℕ) (s : Ops) → 0 < quorum → quorum ≤ known_limit → IsKnown ls me → IsWithin s.view ls
+    → AllByRecursion (IsLastOf ss) s.line → 1 ≤ s.share → s.share ≤ share_limit → KeepsRound ls ss (ops.after_last me quorum s)
+last_round ls ss me quorum s some few own view last one most = of_line s.share s.line refl last one most
+  where
+    of_line : (share : ℕ) (line : List Asked) → s.share ≡ share → AllByRecursion (IsLastOf ss) line → 1 ≤ share → share ≤ share_limit
+        → KeepsRound ls ss (ops.begin_round me quorum (first_round share line) (record s { line = line_behind share line }))
+    of_line zero line is last one most = absurd (omega (arith, one))
+    of_line (suc n) [] is last one most = record {
+      view = view;
+      phase = tt;
+      round = record { some = omega (arith, is); most = omega (arith, is, most); few = omega (arith, is); alike = refl; last = tt };
+    }
+    of_line (suc n) (a ∷ line) is last one most =
+        let kind = is_writing a.command in
+        let begun = each_first (IsLastOf ss) (suc n) (a ∷ line) last in
+        round_keeps ls ss me quorum a (picked kind n line) (record s { line = spared kind n line }) some few own view begun (picked_alike kind n line)
+        (omega (arith, picked_few kind n line, is)) (omega (arith, is, most))
 
 ack_round : (ls : Links) (ss : Requests) (me quorum : ℕ) (phase : Phase) (s : Ops) → 0 < quorum → quorum ≤ known_limit → IsKnown ls me → KeepsRound ls ss s
-    → AllByRecursion (IsLastOf ss) s.line → IsPhaseOf ls ss phase → KeepsRound ls ss (ops.after_ack me quorum phase s)
-ack_round ls ss me quorum Idle s some few own h last i = h
-ack_round ls ss me quorum (Storing p) s some few own h last i =
-    cond_both (ops.is_last p) (ops.after_last me quorum s.line s) (record s { phase = Storing (ops.counted p) }) (KeepsRound ls ss)
-    (λ _. last_round ls ss me quorum s.line s some few own h.view last) (λ more. record { view = h.view; phase = (counted_more ss p more i.0, i.1) })
-ack_round ls ss me quorum (Querying p) s some few own h last i = h
-ack_round ls ss me quorum (StoringBack p seen) s some few own h last i =
-    cond_both (ops.is_last p) (ops.after_last me quorum s.line s) (record s { phase = StoringBack (ops.counted p) seen }) (KeepsRound ls ss)
-    (λ _. last_round ls ss me quorum s.line s some few own h.view last) (λ more. record { view = h.view; phase = (counted_more ss p more i.0, i.1, i.2) })
+    → AllByRecursion (IsLastOf ss) s.line → IsPhaseOf ls ss phase → IsBeside phase s.others → KeepsRound ls ss (ops.after_ack me quorum phase s)
+ack_round ls ss me quorum Idle s some few own h last i j = h
+ack_round ls ss me quorum (Storing p) s some few own h last i j =
+    cond_both (ops.is_last p) (ops.after_last me quorum s) (record s { phase = Storing (ops.counted p) }) (KeepsRound ls ss)
+    (λ _. last_round ls ss me quorum s some few own h.view last h.round.some h.round.most)
+    (λ more. record { view = h.view; phase = (counted_more ss p more i.0, i.1); round = record { some = h.round.some; most = h.round.most; few = h.round.few; alike = j; last = h.round.last } })
+ack_round ls ss me quorum (Querying p) s some few own h last i j = h
+ack_round ls ss me quorum (StoringBack p seen) s some few own h last i j =
+    cond_both (ops.is_last p) (ops.after_last me quorum s) (record s { phase = StoringBack (ops.counted p) seen }) (KeepsRound ls ss)
+    (λ _. last_round ls ss me quorum s some few own h.view last h.round.some h.round.most)
+    (λ more. record { view = h.view; phase = (counted_more ss p more i.0, i.1, i.2); round = record { some = h.round.some; most = h.round.most; few = h.round.few; alike = j; last = h.round.last } })
 
 message_round : (ls : Links) (ss : Requests) (me quorum : ℕ) (m : Message) (s : Ops) → 0 < quorum → quorum ≤ known_limit → IsKnown ls me → MessageKnown ls m
     → AllByRecursion (IsLastOf ss) s.line → KeepsRound ls ss s → KeepsRound ls ss (ops.after_message me quorum m s)
 message_round ls ss me quorum (message.Enter q) s some few own k last h = h
-message_round ls ss me quorum (message.EnterEcho c v j q) s some few own k last h = record { view = merge_within s.view v ls h.view k.1; phase = h.phase }
+message_round ls ss me quorum (message.EnterEcho c v j q) s some few own k last h = record { view = merge_within s.view v ls h.view k.1; phase = h.phase; round = h.round }
 message_round ls ss me quorum (message.Join q) s some few own k last h = h
 message_round ls ss me quorum (message.JoinEcho q) s some few own k last h = h
 message_round ls ss me quorum (message.Leave q) s some few own k last h = h
 message_round ls ss me quorum (message.LeaveEcho q) s some few own k last h = h
 message_round ls ss me quorum (message.Query tag q) s some few own k last h = h
 message_round ls ss me quorum (message.QueryReply v tag q) s some few own k last h =
-    cond_both (ops.is_own me tag q s) (ops.after_reply quorum v s.phase s) s (KeepsRound ls ss) (λ _. reply_round ls ss quorum v s.phase s some few k h h.phase) (λ _. h)
-message_round ls ss me quorum (message.Store v tag q) s some few own k last h = record { view = merge_within s.view v ls h.view k; phase = h.phase }
+    cond_both (ops.is_own me tag q s) (ops.after_reply quorum v s.phase s) s (KeepsRound ls ss) (λ _. reply_round ls ss quorum v s.phase s some few k h h.phase h.round.alike) (λ _. h)
+message_round ls ss me quorum (message.Store v tag q) s some few own k last h = record { view = merge_within s.view v ls h.view k; phase = h.phase; round = h.round }
 message_round ls ss me quorum (message.StoreAck tag q) s some few own k last h =
-    cond_both (ops.is_own me tag q s) (ops.after_ack me quorum s.phase s) s (KeepsRound ls ss) (λ _. ack_round ls ss me quorum s.phase s some few own h last h.phase) (λ _. h)
-message_round ls ss me quorum (message.Snapshot c v) s some few own k last h = record { view = merge_within s.view v ls h.view k.1; phase = h.phase }
+    cond_both (ops.is_own me tag q s) (ops.after_ack me quorum s.phase s) s (KeepsRound ls ss) (λ _. ack_round ls ss me quorum s.phase s some few own h last h.phase h.round.alike) (λ _. h)
+message_round ls ss me quorum (message.Snapshot c v) s some few own k last h = record { view = merge_within s.view v ls h.view k.1; phase = h.phase; round = h.round }
 
 pub message_ops : (ls : Links) (ss : Requests) (me quorum : ℕ) (m : Message) (s : Ops) → 0 < quorum → quorum ≤ known_limit → IsKnown ls me → MessageKnown ls m
     → KeepsOps ls ss s → KeepsOps ls ss (ops.after_message me quorum m s)
 message_ops ls ss me quorum m s some few own k h =
-    let round = message_round ls ss me quorum m s some few own k h.line.last (record { view = h.view; phase = h.phase }) in
-    record { view = round.view; phase = round.phase; line = message_line_of ss me quorum m s h.line }
+    let round = message_round ls ss me quorum m s some few own k h.line.last (record { view = h.view; phase = h.phase; round = h.line.round }) in
+    record { view = round.view; phase = round.phase; line = message_line_of ss me quorum m s h.line round.round }
 
 -- ---- an ask
 
@@ -426,12 +494,23 @@ all_behind P (b ∷ line) a h k = (h.0, all_behind P line a h.1 k)
 other_pending : (ss : Requests) (s r : ℕ) (p : Pending) → nat_eq s p.asked.session ≡ false → IsPendingIn ss p → IsPendingIn (table.insert ss s r) p
 other_pending ss s r p apart h = record { session = other_last ss s r p.asked.session (Some p.asked.request) apart h.session; need = h.need; count = h.count }
 
-other_phase : (ls : Links) (ss : Requests) (s r : ℕ) (phase : Phase) (line : List Asked) → has_session s (ops.asked_in phase ++ line) ≡ false → IsPhaseOf ls ss phase
-    → IsPhaseOf ls (table.insert ss s r) phase × (has_session s line ≡ false)
-other_phase ls ss s r Idle line apart h = (tt, apart)
-other_phase ls ss s r (Storing p) line apart h = let parts = or_parts _ _ apart in ((other_pending ss s r p parts.0 h.0, h.1), parts.1)
-other_phase ls ss s r (Querying p) line apart h = let parts = or_parts _ _ apart in ((other_pending ss s r p parts.0 h.0, h.1), parts.1)
-other_phase ls ss s r (StoringBack p seen) line apart h = let parts = or_parts _ _ apart in ((other_pending ss s r p parts.0 h.0, h.1, h.2), parts.1)
+other_phase : (ls : Links) (ss : Requests) (s r : ℕ) (phase : Phase) → has_session s (ops.asked_in phase) ≡ false → IsPhaseOf ls ss phase → IsPhaseOf ls (table.insert ss s r) phase
+other_phase ls ss s r Idle apart h = tt
+other_phase ls ss s r (Storing p) apart h = (other_pending ss s r p (or_parts _ _ apart).0 h.0, h.1)
+other_phase ls ss s r (Querying p) apart h = (other_pending ss s r p (or_parts _ _ apart).0 h.0, h.1)
+other_phase ls ss s r (StoringBack p seen) apart h = (other_pending ss s r p (or_parts _ _ apart).0 h.0, h.1, h.2)
+
+-- who has no ask that isn't answered has none in any part of them
+record NoneOf (s : ℕ) (o : Ops) : Type 0 where
+  first : has_session s (ops.asked_in o.phase) ≡ false
+  others : has_session s o.others ≡ false
+  line : has_session s o.line ≡ false
+
+none_of : (s : ℕ) (o : Ops) → has_session s (ops.unanswered o) ≡ false → NoneOf s o
+none_of s o h =
+    let both = or_parts _ _ (sym (has_both s (ops.pending o) o.line) ∙ h) in
+    let pending = or_parts _ _ (sym (has_both s (ops.asked_in o.phase) o.others) ∙ both.0) in
+    record { first = pending.0; others = pending.1; line = both.1 }
 
 -- where an operation is pending, fewer wait than may, and none of the session
 pub record MayWait (s : ℕ) (o : Ops) : Type 0 where
@@ -452,17 +531,18 @@ begins_ops : (ls : Links) (ss : Requests) (me quorum : ℕ) (a : Asked) (s : Ops
 begins_ops ls ss me quorum a s some few own none h =
     let now = table.insert ss a.session a.request in
     let t = ops.with_begun me quorum a s in
-    let round = begun_round ls now me quorum a s some few own h.view (begun_last ss a) in
-    let empty : t.line ≡ [] = begun_line me quorum a s ∙ none in
-    let alone : ops.unanswered t ≡ a ∷ [] = begun_unanswered me quorum a s ∙ ap (λ (l : List Asked). a ∷ l) none in
+    let round = round_keeps ls now me quorum a [] s some few own h.view (begun_last ss a, tt) tt (omega (arith, h.line.round.some)) h.line.round.most in
+    let empty : t.line ≡ [] = round_line me quorum (a ∷ []) s ∙ none in
+    let alone : ops.unanswered t ≡ a ∷ [] = round_unanswered me quorum (a ∷ []) s ∙ ap (λ (l : List Asked). a ∷ l) none in
     record {
       view = round.view;
       phase = round.phase;
       line = record {
-        behind = begun_behind me quorum a s;
+        behind = round_behind me quorum a [] s;
         few = omega (arith, ap length empty);
         apart = subst AreApart (sym alone) (refl, tt);
         last = subst (AllByRecursion (IsLastOf now)) (sym empty) tt;
+        round = round.round;
       };
     }
 
@@ -470,15 +550,22 @@ waits_ops : (ls : Links) (ss : Requests) (a : Asked) (s : Ops) → ops.is_idle s
     → KeepsOps ls ss s → KeepsOps ls (table.insert ss a.session a.request) (record s { line = s.line ++ a ∷ [] })
 waits_ops ls ss a s pends may h =
     let now = table.insert ss a.session a.request in
-    let others = other_phase ls ss a.session a.request s.phase s.line may.apart h.phase in
+    let none = none_of a.session s may.apart in
     record {
       view = h.view;
-      phase = others.0;
+      phase = other_phase ls ss a.session a.request s.phase none.first h.phase;
       line = record {
         behind = may_wait s.phase (s.line ++ a ∷ []) pends;
         few = omega (arith, length-append s.line (a ∷ []), may.few);
-        apart = subst AreApart (append_assoc (ops.asked_in s.phase) s.line (a ∷ [])) (apart_last (ops.unanswered s) a h.line.apart may.apart);
-        last = all_behind (IsLastOf now) s.line a (others_last ss a.session a.request s.line others.1 h.line.last) (begun_last ss a);
+        apart = subst AreApart (append_assoc (ops.pending s) s.line (a ∷ [])) (apart_last (ops.unanswered s) a h.line.apart may.apart);
+        last = all_behind (IsLastOf now) s.line a (others_last ss a.session a.request s.line none.line h.line.last) (begun_last ss a);
+        round = record {
+          some = h.line.round.some;
+          most = h.line.round.most;
+          few = h.line.round.few;
+          alike = h.line.round.alike;
+          last = others_last ss a.session a.request s.others none.others h.line.round.last;
+        };
       };
     }
 

@@ -2,7 +2,7 @@
 --     next_core, step_lawful        the core, and the node
 --     lowest_next                   lowest doesn't fall
 --     links_go_on, left_grows       no link is lost or falls back, and who left has left for good
-use Rattle.std.proofs.Common.{◌≡◌, ℕ, ◌+◌, ◌<◌, ◌≤◌, true, false, cond, ◌||◌, ◌&&◌, nat_eq, nat_lt, List, [], ◌∷◌, ◌++◌, length, refl, sym, ap, subst, ◌∙◌, inl, inr, arith}
+use Rattle.std.proofs.Common.{◌≡◌, ℕ, ◌+◌, ◌<◌, ◌≤◌, true, false, cond, ◌||◌, ◌&&◌, nat_eq, nat_lt, List, [], ◌∷◌, ◌++◌, refl, sym, ap, subst, ◌∙◌, inl, inr, arith}
 use Rattle.std.specs.Prelude.{Option, Some, None, IfSome, IsTrue, is_some, ◌==◌}
 use Rattle.std.specs.Option.{option_len, option_map_or, unwrap_or}
 use Rattle.std.specs.List.{list_any}
@@ -30,59 +30,47 @@ use Rattle.cc_churn.specs.Churn.{Churn}
 use Rattle.cc_ops.specs.Commands.{is_writing}
 use Rattle.cc_ops.specs.Ops as ops
 use Rattle.cc_ops.specs.Ops.{Ops, Phase, Idle, Storing, Querying, StoringBack, unanswered, mine_at_last}
-use Rattle.cc_ops.specs.OwnLaws.{message_last, message_answers, message_begins, ask_last, ask_unanswered, ask_begins}
-use Rattle.cc_ops.specs.WaitingLaws.{writes_most}
-use Rattle.cc_ops.specs.Waiting.{writes_by}
+use Rattle.cc_ops.specs.OwnLaws.{message_last, message_answers, ask_last, ask_unanswered}
+use Rattle.cc_ops.specs.Rounds.{first_round, line_behind}
 use Rattle.cc_ops.specs.WaitingLaws.{written_fits}
 use Rattle.cc_ops.specs.declared.pending.Asked.{Asked}
 use Rattle.cc_links.specs.Links.{Link, Links, new_link, with_row, add_absent, add_all, hear, ack, lapse, heard_from, LinksWithin}
 use Rattle.cc_links.specs.LinkLaws.{LinksGoOn, go_same, go_then, add_all_goes, hear_goes, ack_goes, lapse_goes, go_within, lowest_within, lowest_grows, links_more_posts, add_all_links, hear_links, ack_links, lapse_links, contains-add_all, hear_len, ack_len, lapse_len}
 use Rattle.cc_sessions.specs.Sessions.{Requests, last_request, begin_fits}
 use Rattle.cc_outbox.specs.Outbox.{forget}
-use Rattle.cc_node.specs.Core.{Core, quorum, ids_of, asked_of, begun, churned, tells, churn_told, asks_anew, ops_anew, next, post, replies, lowest}
+use Rattle.cc_node.specs.Core.{Core, quorum, ids_of, asked_of, churned, tells, churn_told, asks_anew, ops_anew, next, post, replies, lowest}
 use Rattle.cc_node.specs.Refusals.{decides}
 use Rattle.cc_node.specs.Node.{Node, step}
 use Rattle.cc_node.specs.Lawful.{CountsWithin, KeepsAnswers, IsLawfulCore, IsLawfulNode}
-use Rattle.cc_node.proofs.CoreLaws.{own_number}
-use Rattle.cc_node.proofs.KnownLaws.{same_number, AllListed, tail_listed, MessageKnown, message_known, among_more, KeepsChanges, enter_changes, leave_changes, KeepsChurn, members_fit, message_churn, left_stays, KeepsOps, ops_more, message_ops, ask_ops, all_last, none_waits}
-use Rattle.cc_node.proofs.KeptLaws.{step_posts, posted, first_answers, last_answers}
-use Rattle.cc_node.proofs.RefusalLaws.{Fits, takes_enter, takes_leave, takes_delivery, takes_ack, takes_ask, takes_retire, takes_lapse, takes_snapshot, takes_any, stays_within, none_overruns}
+use Rattle.cc_node.proofs.KnownLaws.{same_number, AllListed, tail_listed, MessageKnown, message_known, among_more, KeepsChanges, enter_changes, leave_changes, KeepsChurn, members_fit, message_churn, left_stays, KeepsOps, ops_more, message_ops, ask_ops, all_last, none_waits, none_left}
+use Rattle.cc_node.proofs.KeptLaws.{step_posts, posted, round_answers, last_answers}
+use Rattle.cc_node.proofs.RefusalLaws.{Fits, takes_enter, takes_leave, takes_delivery, takes_ack, takes_ask, takes_retire, takes_lapse, takes_snapshot, takes_any, stays_within, passes_within, none_overruns}
 use Rattle.cc_node.proofs.ToldLaws.{told_churn, left_told, echoes_told, anew_last, anew_unanswered, anew_tag, anew_ops, snapshot_tag, snapshot_echoes, tells_snapshot, anew_snapshot}
 
 -- ---- counters rise by one at most
-
-begins_one : (c : Core) (e : Event) → length (begun c e) ≤ 1
-begins_one c event.Enter = omega arith
-begins_one c event.Leave = omega arith
-begins_one c (event.Deliver from n m) = message_begins c.me m c.ops
-begins_one c (event.Acked peer n) = omega arith
-begins_one c (event.Ask s r k) = ask_begins (asked_of s r k) c.ops
-begins_one c (event.Retire q) = omega arith
-begins_one c (event.Lapse q) = omega arith
-begins_one c event.Snapshot = omega arith
 
 one_post : (p : Option Message) → option_len p ≤ 1
 one_post None = omega arith
 one_post (Some m) = omega arith
 
-begun_tag : (me quorum : ℕ) (a : Asked) (s : Ops) → (ops.with_begun me quorum a s).tag ≤ s.tag + 1
-begun_tag me quorum a s =
-    cond_both (is_writing a.command) (ops.next_round (Storing (ops.round_of quorum a)) (ops.with_own_row me (ops.with_written a.command s)))
+round_tag : (me quorum : ℕ) (asks : List Asked) (s : Ops) → (ops.begin_round me quorum asks s).tag ≤ s.tag + 1
+round_tag me quorum [] s = omega arith
+round_tag me quorum (a ∷ others) s =
+    cond_both (is_writing a.command) (ops.next_round (Storing (ops.round_of quorum a)) (ops.with_own_row me (ops.with_written (a ∷ others) s)))
     (ops.next_round (Querying (ops.round_of quorum a)) s) (λ t. t.tag ≤ s.tag + 1) (λ _. omega arith) (λ _. omega arith)
 
-last_tag : (me quorum : ℕ) (line : List Asked) (s : Ops) → (ops.after_last me quorum line s).tag ≤ s.tag + 1
-last_tag me quorum [] s = omega arith
-last_tag me quorum (a ∷ line) s = begun_tag me quorum a (record s { line = line })
+last_tag : (me quorum : ℕ) (s : Ops) → (ops.after_last me quorum s).tag ≤ s.tag + 1
+last_tag me quorum s = round_tag me quorum (first_round s.share s.line) (record s { line = line_behind s.share s.line })
 
 ack_tag : (me quorum : ℕ) (phase : Phase) (s : Ops) → (ops.after_ack me quorum phase s).tag ≤ s.tag + 1
 ack_tag me quorum Idle s = omega arith
 ack_tag me quorum (Storing p) s =
-    cond_both (ops.is_last p) (ops.after_last me quorum s.line s) (record s { phase = Storing (ops.counted p) }) (λ t. t.tag ≤ s.tag + 1)
-    (λ _. last_tag me quorum s.line s) (λ _. omega arith)
+    cond_both (ops.is_last p) (ops.after_last me quorum s) (record s { phase = Storing (ops.counted p) }) (λ t. t.tag ≤ s.tag + 1)
+    (λ _. last_tag me quorum s) (λ _. omega arith)
 ack_tag me quorum (Querying p) s = omega arith
 ack_tag me quorum (StoringBack p seen) s =
-    cond_both (ops.is_last p) (ops.after_last me quorum s.line s) (record s { phase = StoringBack (ops.counted p) seen }) (λ t. t.tag ≤ s.tag + 1)
-    (λ _. last_tag me quorum s.line s) (λ _. omega arith)
+    cond_both (ops.is_last p) (ops.after_last me quorum s) (record s { phase = StoringBack (ops.counted p) seen }) (λ t. t.tag ≤ s.tag + 1)
+    (λ _. last_tag me quorum s) (λ _. omega arith)
 
 reply_tag : (quorum : ℕ) (v : ViewMap) (phase : Phase) (s : Ops) → (ops.after_reply quorum v phase s).tag ≤ s.tag + 1
 reply_tag quorum v Idle s = omega arith
@@ -119,7 +107,7 @@ tag_next c (event.Acked peer n) = omega arith
 tag_next c (event.Ask s r k) =
     let a = asked_of s r k in
     cond_both (ops.is_idle c.ops.phase) (ops.with_begun c.me (quorum c) a c.ops) (record c.ops { line = c.ops.line ++ a ∷ [] }) (λ t. t.tag ≤ c.ops.tag + 1)
-    (λ _. begun_tag c.me (quorum c) a c.ops) (λ _. omega arith)
+    (λ _. round_tag c.me (quorum c) (a ∷ []) c.ops) (λ _. omega arith)
 tag_next c (event.Retire q) = omega arith
 tag_next c (event.Lapse q) = omega arith
 tag_next c event.Snapshot = omega arith
@@ -164,9 +152,8 @@ posts_next c e = let one = one_post (post c e) in omega arith
 counts_next : (c : Core) (e : Event) → Fits c e → CountsWithin c → CountsWithin (next c e)
 counts_next c e fits h =
     let none = none_overruns c (next c e) e fits.counts in
-    let up : (next c e).ops.number ≤ c.ops.number + 1 = omega (arith, own_number c e, writes_most (begun c e), begins_one c e) in
     record {
-      number = stays_within counter_limit c.ops.number (next c e).ops.number none.number h.number up;
+      number = passes_within c.ops.number (next c e).ops.number none.number h.number;
       tag = stays_within counter_limit c.ops.tag (next c e).ops.tag none.tag h.tag (tag_next c e);
       posts = stays_within counter_limit c.posts (next c e).posts none.posts h.posts (posts_next c e);
       echoes = stays_within counter_limit c.churn.echoes (next c e).churn.echoes none.echoes h.echoes (echoes_next c e);
@@ -497,8 +484,8 @@ step_answers n (event.Deliver from k m) h =
     let after = ops.after_message c.me (quorum c) m c.ops in
     subst (λ (l : List Asked). KeepsAnswers c.sessions l (step n e).outbox.answers) (sym (anew_unanswered (asks_anew c from k m) _ after))
     (posted c.sessions (unanswered after) (post c e) (ops.replies_of c.me m c.ops) n.outbox
-    (first_answers c.sessions (unanswered c.ops) (unanswered after) (ops.replies_of c.me m c.ops) n.outbox (message_answers c.me (quorum c) m c.ops) h.core.line.apart
-    (all_last c.links c.sessions c.ops.phase c.ops.line h.core.phase h.core.line.last) h.answers))
+    (round_answers c.sessions c.ops after (ops.replies_of c.me m c.ops) n.outbox (message_answers c.me (quorum c) m c.ops) h.core.line.apart
+    (all_last c.links c.sessions c.ops h.core.phase h.core.line) h.answers))
 step_answers n (event.Acked peer k) h = h.answers
 step_answers n (event.Ask s r k) h =
     let c = n.core in
@@ -507,7 +494,7 @@ step_answers n (event.Ask s r k) h =
     let asks = table.insert c.sessions s r in
     posted asks (unanswered (ops.after_ask c.me (quorum c) a c.ops)) (post c e) [] (forget s n.outbox)
     (subst (λ (l : List Asked). KeepsAnswers asks l (table.remove n.outbox.answers s))
-    (sym (ask_unanswered c.me (quorum c) a c.ops (λ idle. none_waits c.ops.phase c.ops.line idle h.core.line.behind)))
+    (sym (ask_unanswered c.me (quorum c) a c.ops (none_left c.ops h.core.line)))
     (last_answers c.sessions (unanswered c.ops) a n.outbox.answers h.answers))
 step_answers n (event.Retire q) h = h.answers
 step_answers n (event.Lapse q) h = h.answers

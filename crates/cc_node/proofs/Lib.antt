@@ -15,6 +15,7 @@ pub mod Named
 pub mod Openings
 pub mod OrderLaws
 pub mod RefusalLaws
+pub mod ShareLaws
 pub mod StandingLaws
 pub mod ToldLaws
 mod Restoring

@@ -28,7 +28,8 @@ use Rattle.cc_wire.specs.declared.output.Output.{Output}
 use Rattle.cc_wire.specs.declared.output.Output.TheVariants as output
 use Rattle.cc_ops.specs.Ops as ops
 use Rattle.cc_ops.specs.Ops.{Ops, unanswered}
-use Rattle.cc_ops.specs.OwnLaws.{AnswersFirst, message_answers, ask_unanswered}
+use Rattle.cc_ops.specs.OwnLaws.{AnswersRound, AreAnswered, message_answers, ask_unanswered}
+use Rattle.cc_ops.specs.RoundLaws.{has_both, round_has}
 use Rattle.cc_ops.specs.Waiting.{has_session, AreApart}
 use Rattle.cc_ops.specs.WaitingLaws.{none_last}
 use Rattle.cc_ops.specs.declared.pending.Asked.{Asked}
@@ -44,7 +45,7 @@ use Rattle.cc_node.specs.Node.{Node, step, line, HasOutput, IsLawful}
 use Rattle.cc_node.specs.Lines.{Follows}
 use Rattle.cc_node.specs.Lawful.{IsLastOf, IsLawfulCore, IsLawfulNode}
 use Rattle.cc_node.proofs.KeptLaws.{same_some}
-use Rattle.cc_node.proofs.KnownLaws.{all_last, none_waits}
+use Rattle.cc_node.proofs.KnownLaws.{all_last, none_left}
 use Rattle.cc_node.proofs.LawfulLaws.{links_go_on, hears_now, request_now, step_lawful}
 use Rattle.cc_node.proofs.RefusalLaws.{takes_delivery, takes_ask}
 use Rattle.cc_node.proofs.ToldLaws.{anew_unanswered}
@@ -236,36 +237,36 @@ record Ends (ss : Requests) (before after : List Asked) (r : Reply) : Type 0 whe
   pending : has_session r.session before ≡ true
   done : has_session r.session after ≡ false
 
-none_left : (x : ℕ) (before after : List Asked) (rs : List Reply) → AnswersFirst before after rs → has_session x before ≡ false → has_session x after ≡ false
-none_left x before after [] e h = ap (has_session x) e ∙ h
-none_left x before after (r ∷ rs) e h = none_left x e.1 after rs e.5 (or_parts _ _ (sym (ap (has_session x) e.2) ∙ h)).1
-
-first_ends : (ss : Requests) (before after : List Asked) (rs : List Reply) → AnswersFirst before after rs → AreApart before → AllByRecursion (IsLastOf ss) before
+told_ends : (ss : Requests) (asks line before after : List Asked) (rs : List Reply) → AreAnswered asks rs → AreApart (asks ++ line) → AllByRecursion (IsLastOf ss) (asks ++ line)
+    → ((x : ℕ) → has_session x asks ≡ true → has_session x before ≡ true) → ((x : ℕ) → has_session x line ≡ false → has_session x after ≡ false)
     → AllByRecursion (Ends ss before after) rs
-first_ends ss before after [] e apart last = tt
-first_ends ss before after (r ∷ rs) e apart last =
-    let a = e.0 in
-    let behind = e.1 in
-    let each = subst (AllByRecursion (IsLastOf ss)) e.2 last in
-    let alone = subst AreApart e.2 apart in
-    let is_last : table.get ss a.session ≡ Some a.request = each.0 in
-    let there : has_session r.session (a ∷ behind) ≡ true = or_left _ _ (eq-eqb r.session a.session (sym e.3)) in
-    let none_behind : has_session r.session behind ≡ false = subst (λ (s : ℕ). has_session s behind ≡ false) e.3 alone.0 in (
+told_ends ss [] line before after [] e apart last there gone = tt
+told_ends ss [] line before after (r ∷ rs) e apart last there gone = absurd e
+told_ends ss (a ∷ asks) line before after [] e apart last there gone = tt
+told_ends ss (a ∷ asks) line before after (r ∷ rs) e apart last there gone =
+    let is_last : table.get ss a.session ≡ Some a.request = last.0 in
+    let none = (or_parts _ _ (sym (has_both a.session asks line) ∙ apart.0)).1 in (
       record {
-        last = ap (table.get ss) (sym e.3) ∙ is_last ∙ ap (λ (q : ℕ). Some q) e.4;
-        pending = ap (has_session r.session) e.2 ∙ there;
-        done = none_left r.session behind after rs e.5 none_behind;
+        last = ap (table.get ss) (sym e.0) ∙ is_last ∙ ap (λ (q : ℕ). Some q) e.1;
+        pending = there r.session (or_left _ _ (eq-eqb r.session a.session (sym e.0)));
+        done = gone r.session (subst (λ (s : ℕ). has_session s line ≡ false) e.0 none);
       },
-      all_map (Ends ss behind after) (Ends ss before after)
-          (λ k ends. record { last = ends.last; pending = ap (has_session k.session) e.2 ∙ or_right _ _ ends.pending; done = ends.done })
-          rs (first_ends ss behind after rs e.5 alone.1 each.1),
+      told_ends ss asks line before after rs e.2 apart.1 last.1 (λ x h. there x (or_right _ _ h)) gone,
     )
+
+round_ends : (ss : Requests) (s t : Ops) (rs : List Reply) → AnswersRound s t rs → AreApart (unanswered s) → AllByRecursion (IsLastOf ss) (unanswered s)
+    → AllByRecursion (Ends ss (unanswered s) (unanswered t)) rs
+round_ends ss s t rs (inl h) apart last = subst (AllByRecursion (Ends ss (unanswered s) (unanswered t))) (sym h.0) tt
+round_ends ss s t rs (inr h) apart last =
+    told_ends ss (ops.pending s) s.line (unanswered s) (unanswered t) rs h.0 apart last
+    (λ x there. has_both x (ops.pending s) s.line ∙ or_left _ _ there)
+    (λ x none. ap (has_session x) h.1 ∙ round_has x s.share s.line ∙ none)
 
 replies_end : (c : Core) (m : Message) → IsLawfulCore c
     → AllByRecursion (Ends c.sessions (unanswered c.ops) (unanswered (ops.after_message c.me (quorum c) m c.ops))) (ops.replies_of c.me m c.ops)
 replies_end c m h =
-    first_ends c.sessions (unanswered c.ops) (unanswered (ops.after_message c.me (quorum c) m c.ops)) (ops.replies_of c.me m c.ops) (message_answers c.me (quorum c) m c.ops)
-    h.line.apart (all_last c.links c.sessions c.ops.phase c.ops.line h.phase h.line.last)
+    round_ends c.sessions c.ops (ops.after_message c.me (quorum c) m c.ops) (ops.replies_of c.me m c.ops) (message_answers c.me (quorum c) m c.ops)
+    h.line.apart (all_last c.links c.sessions c.ops h.phase h.line)
 
 each_reply : (P : Output → Type 0) (rs : List Reply) → AllByRecursion (λ r. P (output.Reply r.session r.request r.answer)) rs → AllByRecursion P (send_replies rs)
 each_reply P [] h = tt
@@ -281,24 +282,30 @@ each_answer P c m h f =
     (ops.replies_of c.me m c.ops) (replies_end c m h))
 
 -- no two of one event are of one session
-replies_apart : (before after : List Asked) (rs : List Reply) → AnswersFirst before after rs → AreApart before → EachRises (send_replies rs)
-replies_apart before after [] e apart = tt
-replies_apart before after (r ∷ rs) e apart =
-    let behind = e.1 in
-    let alone = subst AreApart e.2 apart in
-    let none_behind : has_session r.session behind ≡ false = subst (λ (s : ℕ). has_session s behind ≡ false) e.3 alone.0 in (
-      later_apart r behind rs none_behind e.5,
-      replies_apart behind after rs e.5 alone.1,
+later_apart : (r : Reply) (asks : List Asked) (rs : List Reply) → has_session r.session asks ≡ false → AreAnswered asks rs
+    → AllByRecursion (Follows (output.Reply r.session r.request r.answer)) (send_replies rs)
+later_apart r [] [] none e = tt
+later_apart r [] (k ∷ rs) none e = absurd e
+later_apart r (a ∷ asks) [] none e = tt
+later_apart r (a ∷ asks) (k ∷ rs) none e =
+    let parts = or_parts _ _ none in (
+      λ same. absurd (both_ways (nat_eq r.session a.session) parts.0 (eq-eqb r.session a.session (same ∙ sym e.0))),
+      later_apart r asks rs parts.1 e.2,
     )
-  where
-    later_apart : (r : Reply) (asks : List Asked) (rs : List Reply) → has_session r.session asks ≡ false → AnswersFirst asks after rs
-        → AllByRecursion (Follows (output.Reply r.session r.request r.answer)) (send_replies rs)
-    later_apart r asks [] none e = tt
-    later_apart r asks (k ∷ rs) none e =
-        let parts = or_parts _ _ (sym (ap (has_session r.session) e.2) ∙ none) in (
-          λ same. absurd (both_ways (nat_eq r.session (e.0).session) parts.0 (eq-eqb r.session (e.0).session (same ∙ sym e.3))),
-          later_apart r e.1 rs parts.1 e.5,
-        )
+
+told_apart : (asks line : List Asked) (rs : List Reply) → AreAnswered asks rs → AreApart (asks ++ line) → EachRises (send_replies rs)
+told_apart [] line [] e apart = tt
+told_apart [] line (r ∷ rs) e apart = absurd e
+told_apart (a ∷ asks) line [] e apart = tt
+told_apart (a ∷ asks) line (r ∷ rs) e apart =
+    let none = (or_parts _ _ (sym (has_both a.session asks line) ∙ apart.0)).0 in (
+      later_apart r asks rs (subst (λ (s : ℕ). has_session s asks ≡ false) e.0 none) e.2,
+      told_apart asks line rs e.2 apart.1,
+    )
+
+replies_apart : (s t : Ops) (rs : List Reply) → AnswersRound s t rs → AreApart (unanswered s) → EachRises (send_replies rs)
+replies_apart s t rs (inl h) apart = subst (λ (l : List Reply). EachRises (send_replies l)) (sym h.0) tt
+replies_apart s t rs (inr h) apart = told_apart (ops.pending s) s.line rs h.0 apart
 
 last_is : (ss : Requests) (s r : ℕ) → table.get ss s ≡ Some r → last_request ss s ≡ r
 last_is ss s r e = ap (λ o. unwrap_or o 0) e
@@ -340,13 +347,14 @@ reply_past c (event.Deliver from n m) h =
       ended = λ t. absurd (both_ways (has_session r.session after) ends.done t);
     }))
 
-still_there : (x : ℕ) (before after : List Asked) (rs : List Reply) → AnswersFirst before after rs → has_session x after ≡ true → has_session x before ≡ true
-still_there x before after [] e h = ap (has_session x) (sym e) ∙ h
-still_there x before after (r ∷ rs) e h = ap (has_session x) e.2 ∙ or_right _ _ (still_there x e.1 after rs e.5 h)
+still_there : (x : ℕ) (s t : Ops) (rs : List Reply) → AnswersRound s t rs → has_session x (unanswered t) ≡ true → has_session x (unanswered s) ≡ true
+still_there x s t rs (inl h) there = ap (has_session x) (sym h.1) ∙ there
+still_there x s t rs (inr h) there =
+    has_both x (ops.pending s) s.line ∙ or_right _ _ (sym (round_has x s.share s.line) ∙ ap (has_session x) (sym h.1) ∙ there)
 
 -- a message brings no ask
 message_there : (me quorum : ℕ) (m : Message) (s : Ops) (x : ℕ) → has_session x (unanswered (ops.after_message me quorum m s)) ≡ true → has_session x (unanswered s) ≡ true
-message_there me quorum m s x h = still_there x (unanswered s) (unanswered (ops.after_message me quorum m s)) (ops.replies_of me m s) (message_answers me quorum m s) h
+message_there me quorum m s x h = still_there x s (ops.after_message me quorum m s) (ops.replies_of me m s) (message_answers me quorum m s) h
 
 -- one more ask is of its own session
 there_before : (s : ℕ) (asks : List Asked) (a : Asked) → nat_eq s a.session ≡ false → has_session s (asks ++ a ∷ []) ≡ true → has_session s asks ≡ true
@@ -382,7 +390,7 @@ answered_asked c y r k s request d h past =
     let takes = takes_ask c y r k d in
     let above : last_request c.sessions y < r = request_rises c.sessions y r takes.repeat takes.new in
     let old : request ≤ last_request c.sessions s = past.begun in
-    let more : unanswered (next c e).ops ≡ unanswered c.ops ++ a ∷ [] = ask_unanswered c.me (quorum c) a c.ops (λ idle. none_waits c.ops.phase c.ops.line idle h.line.behind) in
+    let more : unanswered (next c e).ops ≡ unanswered c.ops ++ a ∷ [] = ask_unanswered c.me (quorum c) a c.ops (none_left c.ops h.line) in
     elim (eqb_tells s y) as (λ _. IsAnswered (next c e).sessions (unanswered (next c e).ops) s request) [
       | inl t ↦
           let now : last_request (next c e).sessions s ≡ r = ap (last_request (next c e).sessions) t.1 ∙ request_now c.sessions y r in
@@ -447,7 +455,7 @@ replies_rise : (c : Core) (e : Event) → IsLawfulCore c → EachRises (send_rep
 replies_rise c event.Enter h = tt
 replies_rise c event.Leave h = tt
 replies_rise c (event.Deliver from n m) h =
-    replies_apart (unanswered c.ops) (unanswered (ops.after_message c.me (quorum c) m c.ops)) (ops.replies_of c.me m c.ops) (message_answers c.me (quorum c) m c.ops) h.line.apart
+    replies_apart c.ops (ops.after_message c.me (quorum c) m c.ops) (ops.replies_of c.me m c.ops) (message_answers c.me (quorum c) m c.ops) h.line.apart
 replies_rise c (event.Acked peer n) h = tt
 replies_rise c (event.Ask s r k) h = tt
 replies_rise c (event.Retire q) h = tt

@@ -1,8 +1,8 @@
 -- Asks begin in the order in which they were accepted; and what is taken where none may wait is taken where some may.
---     begin_in_order             what waited and what was accepted is what began and what waits still
+--     begin_in_order             of each kind what waited and what was accepted is what began and what waits still
 --     taken_within, taken_along  what isn't refused where no ask may wait isn't refused;  the same along a list
 --     none_waiting, .._along     and none waits then
-use Rattle.std.proofs.Common.{◌≡◌, ℕ, Bool, true, false, not, ◌&&◌, ◌||◌, nat_le, List, [], ◌∷◌, ◌++◌, length, refl, sym, ap, ◌∙◌, arith}
+use Rattle.std.proofs.Common.{◌≡◌, ℕ, zero, suc, inl, inr, Bool, true, false, not, ◌&&◌, ◌||◌, nat_le, List, [], ◌∷◌, ◌++◌, length, refl, sym, ap, ◌∙◌, arith}
 use Rattle.std.specs.Prelude.{Option, Some, None, if◌then◌else◌}
 use Rattle.std.specs.Bool.{then_some}
 use Rattle.std.proofs.lemmas.Bool.{le-leb}
@@ -15,7 +15,10 @@ use Rattle.cc_wire.specs.declared.refusal.Refusal.TheVariants as refusal
 use Rattle.cc_wire.specs.Refusals.{first_of}
 use Rattle.cc_ops.specs.declared.pending.Asked.{Asked}
 use Rattle.cc_ops.specs.Ops as ops
-use Rattle.cc_ops.specs.OwnLaws.{begun_line, message_line, ask_line}
+use Rattle.cc_ops.specs.OwnLaws.{Parts, round_line, message_parts, ask_line}
+use Rattle.cc_ops.specs.Ops.{Ops}
+use Rattle.cc_ops.specs.Rounds.{of_kind, line_behind}
+use Rattle.cc_ops.specs.RoundLaws.{kind_both, round_kinds}
 use Rattle.cc_ops.specs.Waiting.{line_limit, has_session}
 use Rattle.cc_node.specs.Core.{Core, quorum, asked_of, asks_anew, begun, next}
 use Rattle.cc_node.specs.Refusals.{decides, decides_within, left, not_entered, not_joined, too_many_sessions, repeat, stale, skip, busy, set_full, outbox_full, spent}
@@ -29,30 +32,40 @@ use Rattle.cc_node.proofs.ToldLaws.{anew_line}
 
 -- ---- the order of asks
 
-one_in_order : (c : Core) (e : Event) → IsLawfulCore c → c.ops.line ++ asked_by e ≡ begun c e ++ (next c e).ops.line
-unfolding next
-one_in_order c event.Enter h = append-nil c.ops.line
-one_in_order c event.Leave h = append-nil c.ops.line
-one_in_order c (event.Deliver from n m) h =
-    append-nil c.ops.line ∙ message_line c.me (quorum c) m c.ops
-    ∙ ap (λ (l : List Asked). ops.begun_by c.me m c.ops ++ l) (sym (anew_line (asks_anew c from n m) _ (ops.after_message c.me (quorum c) m c.ops)))
-one_in_order c (event.Acked peer n) h = append-nil c.ops.line
-one_in_order c (event.Ask s r k) h = ask_line c.me (quorum c) (asked_of s r k) c.ops (λ idle. none_waits c.ops.phase c.ops.line idle h.line.behind)
-one_in_order c (event.Retire q) h = append-nil c.ops.line
-one_in_order c (event.Lapse q) h = append-nil c.ops.line
-one_in_order c event.Snapshot h = append-nil c.ops.line
+parted_kinds : (k : Bool) (s : Ops) (begun line : List Asked) → Parts s begun line → of_kind k s.line ≡ of_kind k (begun ++ line)
+parted_kinds k s begun line (inl h) = sym (λ i. of_kind k (h.0 i ++ h.1 i))
+parted_kinds k s begun line (inr h) = sym (round_kinds k s.share s.line) ∙ sym (λ i. of_kind k (h.0 i ++ h.1 i))
 
-pub begin_in_order : (n : Node) (es : List Event) → IsLawfulNode n → IsLawful n es → n.core.ops.line ++ asked_along es ≡ begun_along n es ++ (after n es).core.ops.line
+one_in_order : (k : Bool) (c : Core) (e : Event) → IsLawfulCore c → of_kind k (c.ops.line ++ asked_by e) ≡ of_kind k (begun c e ++ (next c e).ops.line)
+unfolding next
+one_in_order k c event.Enter h = ap (of_kind k) (append-nil c.ops.line)
+one_in_order k c event.Leave h = ap (of_kind k) (append-nil c.ops.line)
+one_in_order k c (event.Deliver from n m) h =
+    let t = ops.after_message c.me (quorum c) m c.ops in
+    ap (of_kind k) (append-nil c.ops.line) ∙ parted_kinds k c.ops (ops.begun_by c.me m c.ops) t.line (message_parts c.me (quorum c) m c.ops)
+    ∙ ap (λ (l : List Asked). of_kind k (ops.begun_by c.me m c.ops ++ l)) (sym (anew_line (asks_anew c from n m) _ t))
+one_in_order k c (event.Acked peer n) h = ap (of_kind k) (append-nil c.ops.line)
+one_in_order k c (event.Ask s r command) h = ap (of_kind k) (ask_line c.me (quorum c) (asked_of s r command) c.ops (λ idle. none_waits c.ops.phase c.ops.line idle h.line.behind))
+one_in_order k c (event.Retire q) h = ap (of_kind k) (append-nil c.ops.line)
+one_in_order k c (event.Lapse q) h = ap (of_kind k) (append-nil c.ops.line)
+one_in_order k c event.Snapshot h = ap (of_kind k) (append-nil c.ops.line)
+
+pub begin_in_order : (k : Bool) (n : Node) (es : List Event) → IsLawfulNode n → IsLawful n es
+    → of_kind k (n.core.ops.line ++ asked_along es) ≡ of_kind k (begun_along n es ++ (after n es).core.ops.line)
 unfolding step
-begin_in_order n [] h d = append-nil n.core.ops.line
-begin_in_order n (e ∷ es) h d =
+begin_in_order k n [] h d = ap (of_kind k) (append-nil n.core.ops.line)
+begin_in_order k n (e ∷ es) h d =
     let b = begun n.core e in
     let line = (next n.core e).ops.line in
-    sym (append_assoc n.core.ops.line (asked_by e) (asked_along es))
-    ∙ ap (λ (l : List Asked). l ++ asked_along es) (one_in_order n.core e h.core)
-    ∙ append_assoc b line (asked_along es)
-    ∙ ap (λ (l : List Asked). b ++ l) (begin_in_order (step n e) es (step_lawful n e d.0 h) d.1)
-    ∙ sym (append_assoc b (begun_along (step n e) es) (after (step n e) es).core.ops.line)
+    let rest = asked_along es in
+    let later = begun_along (step n e) es in
+    let left = (after (step n e) es).core.ops.line in
+    ap (of_kind k) (sym (append_assoc n.core.ops.line (asked_by e) rest))
+    ∙ kind_both k (n.core.ops.line ++ asked_by e) rest
+    ∙ ap (λ (l : List Asked). l ++ of_kind k rest) (one_in_order k n.core e h.core)
+    ∙ sym (kind_both k (b ++ line) rest) ∙ ap (of_kind k) (append_assoc b line rest) ∙ kind_both k b (line ++ rest)
+    ∙ ap (λ (l : List Asked). of_kind k b ++ l) (begin_in_order k (step n e) es (step_lawful n e d.0 h) d.1)
+    ∙ sym (kind_both k b (later ++ left)) ∙ ap (of_kind k) (sym (append_assoc b later left))
 
 -- ---- where no ask may wait
 
@@ -102,14 +115,18 @@ pub taken_along : (n : Node) (es : List Event) → IsLawfulWithin 0 n es → IsL
 taken_along n [] d = tt
 taken_along n (e ∷ es) d = (taken_within n.core e d.0, taken_along (step n e) es d.1)
 
-none_behind : (asks line : List Asked) → [] ≡ asks ++ line → line ≡ []
-none_behind [] line e = sym e
-none_behind (a ∷ asks) line e = cc
+parted_none : (s : Ops) (begun line : List Asked) → Parts s begun line → s.line ≡ [] → line ≡ []
+parted_none s begun line (inl h) none = h.1 ∙ none
+parted_none s begun line (inr h) none = h.1 ∙ ap (line_behind s.share) none ∙ nothing s.share
+  where
+    nothing : (share : ℕ) → line_behind share [] ≡ []
+    nothing zero = refl
+    nothing (suc n) = refl
 
 none_asked : (c : Core) (s r : ℕ) (k : Command) → c.ops.line ≡ [] → ops.is_idle c.ops.phase ≡ true → (ops.after_ask c.me (quorum c) (asked_of s r k) c.ops).line ≡ []
 none_asked c s r k none idle =
     let a = asked_of s r k in
-    ap (λ b. (if b then ops.with_begun c.me (quorum c) a c.ops else record c.ops { line = c.ops.line ++ a ∷ [] }).line) idle ∙ begun_line c.me (quorum c) a c.ops ∙ none
+    ap (λ b. (if b then ops.with_begun c.me (quorum c) a c.ops else record c.ops { line = c.ops.line ++ a ∷ [] }).line) idle ∙ round_line c.me (quorum c) (a ∷ []) c.ops ∙ none
 
 pub none_waiting : (c : Core) (e : Event) → c.ops.line ≡ [] → decides_within 0 c e ≡ None → (next c e).ops.line ≡ []
 unfolding next
@@ -117,7 +134,7 @@ none_waiting c event.Enter none d = none
 none_waiting c event.Leave none d = none
 none_waiting c (event.Deliver from n m) none d =
     anew_line (asks_anew c from n m) _ (ops.after_message c.me (quorum c) m c.ops)
-    ∙ none_behind (ops.begun_by c.me m c.ops) _ (sym none ∙ message_line c.me (quorum c) m c.ops)
+    ∙ parted_none c.ops (ops.begun_by c.me m c.ops) _ (message_parts c.me (quorum c) m c.ops) none
 none_waiting c (event.Acked peer n) none d = none
 none_waiting c (event.Ask s r k) none d =
     let there = has_session s (ops.unanswered c.ops) in

@@ -9,7 +9,8 @@ use Rattle.std.specs.Bool.{then_some}
 use Rattle.std.specs.List.{AllByRecursion}
 use Rattle.std.specs.FinMap as table
 use Rattle.std.proofs.lemmas.Bool.{or_parts, and_cases, eqb-false, ltb-false}
-use Rattle.cc_views.specs.Limits.{known_limit, overruns}
+use Rattle.cc_views.specs.Limits.{counter_limit, known_limit, overruns}
+use Rattle.cc_ops.specs.Refusals.{passes}
 use Rattle.cc_wire.specs.declared.command.Command.{Command}
 use Rattle.cc_wire.specs.Messages.{is_snapshot}
 use Rattle.cc_wire.specs.declared.event.Event.{Event}
@@ -161,8 +162,16 @@ stays_within limit before after h a b =
       | inr e ↦ let down : after ≤ before = ltb-false before after e in omega arith
     ]
 
+-- a counter that isn't raised past it, by however much
+pub passes_within : (before after : ℕ) → passes before after ≡ false → before ≤ counter_limit → after ≤ counter_limit
+passes_within before after h a =
+    elim (and_cases (nat_lt before after) (nat_lt counter_limit after) h) as (λ _. after ≤ counter_limit) [
+      | inl e ↦ let down : after ≤ before = ltb-false before after e in omega (arith, a)
+      | inr e ↦ let down : after ≤ counter_limit = ltb-false counter_limit after e in omega arith
+    ]
+
 pub record NoneOverruns (c d : Core) (e : Event) : Type 0 where
-  pub number : overruns c.ops.number d.ops.number ≡ false
+  pub number : passes c.ops.number d.ops.number ≡ false
   pub tag : overruns c.ops.tag d.ops.tag ≡ false
   pub posts : overruns c.posts d.posts ≡ false
   pub echoes : overruns c.churn.echoes d.churn.echoes ≡ false

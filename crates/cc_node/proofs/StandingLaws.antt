@@ -3,7 +3,7 @@
 --     posts_keep, last_forget     an answer is no post, and to forget one makes none
 --     get-above                   the posts above a number
 use Rattle.std.proofs.Common.{◌≡◌, ℕ, ◌+◌, ◌-◌, ◌<◌, ◌≤◌, ◌⊎◌, Bool, true, false, cond, not, nat_eq, nat_lt, List, [], ◌∷◌, ◌++◌, refl, sym, ap, subst, ◌∙◌, inl, inr, arith}
-use Rattle.std.specs.Prelude.{Option, Some, None, IfSome, is_some}
+use Rattle.std.specs.Prelude.{Option, Some, None, is_some}
 use Rattle.std.specs.Option.{option_len, option_map_or}
 use Rattle.std.specs.List.{Contains, AllByRecursion}
 use Rattle.std.specs.Ordering.{nat_cmp}
@@ -22,7 +22,8 @@ use Rattle.cc_wire.specs.declared.message.Message.{Message}
 use Rattle.cc_wire.specs.declared.output.Output.{Output}
 use Rattle.cc_wire.specs.declared.output.Output.TheVariants as output
 use Rattle.cc_ops.specs.Ops as ops
-use Rattle.cc_ops.specs.OwnLaws.{AnswersFirst, message_answers}
+use Rattle.cc_ops.specs.Ops.{Ops}
+use Rattle.cc_ops.specs.OwnLaws.{AnswersRound, AreAnswered, message_answers}
 use Rattle.cc_ops.specs.declared.pending.Asked.{Asked}
 use Rattle.cc_ops.specs.declared.pending.Reply.{Reply}
 use Rattle.cc_links.specs.Links.{Link, Links, with_row, add_all, hear, heard_from}
@@ -218,17 +219,22 @@ step_ack n event.Snapshot to heard s = inl s
 abbrev IsLast : Requests → Reply → Type 0
 IsLast ss r = table.get ss r.session ≡ Some r.request
 
-first_are_last : (ss : Requests) (before after : List Asked) (rs : List Reply) → AnswersFirst before after rs → AllByRecursion (IsLastOf ss) before → AllByRecursion (IsLast ss) rs
-first_are_last ss before after [] e h = tt
-first_are_last ss before after (r ∷ rs) e h =
-    let each = subst (AllByRecursion (IsLastOf ss)) e.2 h in
-    let last : table.get ss (e.0).session ≡ Some (e.0).request = each.0 in
-    (ap (table.get ss) (sym e.3) ∙ last ∙ ap (λ (q : ℕ). Some q) e.4, first_are_last ss e.1 after rs e.5 each.1)
+told_last : (ss : Requests) (asks line : List Asked) (rs : List Reply) → AreAnswered asks rs → AllByRecursion (IsLastOf ss) (asks ++ line) → AllByRecursion (IsLast ss) rs
+told_last ss [] line [] e h = tt
+told_last ss [] line (r ∷ rs) e h = absurd e
+told_last ss (a ∷ asks) line [] e h = tt
+told_last ss (a ∷ asks) line (r ∷ rs) e h =
+    let last : table.get ss a.session ≡ Some a.request = h.0 in
+    (ap (table.get ss) (sym e.0) ∙ last ∙ ap (λ (q : ℕ). Some q) e.1, told_last ss asks line rs e.2 h.1)
+
+round_last : (ss : Requests) (s t : Ops) (rs : List Reply) → AnswersRound s t rs → AllByRecursion (IsLastOf ss) (ops.unanswered s) → AllByRecursion (IsLast ss) rs
+round_last ss s t rs (inl h) last = subst (AllByRecursion (IsLast ss)) (sym h.0) tt
+round_last ss s t rs (inr h) last = told_last ss (ops.pending s) s.line rs h.0 last
 
 replies_last : (c : Core) (m : Message) → IsLawfulCore c → AllByRecursion (IsLast c.sessions) (ops.replies_of c.me m c.ops)
 replies_last c m h =
-    first_are_last c.sessions (ops.unanswered c.ops) (ops.unanswered (ops.after_message c.me (quorum c) m c.ops)) (ops.replies_of c.me m c.ops) (message_answers c.me (quorum c) m c.ops)
-    (all_last c.links c.sessions c.ops.phase c.ops.line h.phase h.line.last)
+    round_last c.sessions c.ops (ops.after_message c.me (quorum c) m c.ops) (ops.replies_of c.me m c.ops) (message_answers c.me (quorum c) m c.ops)
+    (all_last c.links c.sessions c.ops h.phase h.line)
 
 kept_or_told : (ss : Requests) (rs : List Reply) (o : Outbox) (x q : ℕ) (a : Answer) → AllByRecursion (IsLast ss) rs → table.get (keep rs o).answers x ≡ Some a → table.get ss x ≡ Some q
     → (table.get o.answers x ≡ Some a) ⊎ Contains (send_replies rs) (output.Reply x q a)

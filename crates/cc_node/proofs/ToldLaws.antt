@@ -28,7 +28,7 @@ use Rattle.cc_ops.specs.declared.pending.Asked.{Asked}
 use Rattle.cc_links.specs.Links.{Links}
 use Rattle.cc_sessions.specs.Sessions.{Requests}
 use Rattle.cc_node.specs.Core.{Core, told_if, anew_if, tells, asks_anew}
-use Rattle.cc_node.specs.Lawful.{IsKnown, IsPhaseOf}
+use Rattle.cc_node.specs.Lawful.{IsKnown, IsPhaseOf, IsBeside}
 use Rattle.cc_node.proofs.KnownLaws.{KeepsChurn, KeepsOps, need_churn, joined_churn}
 
 -- ---- one that counts as an echo
@@ -86,7 +86,7 @@ anew_last b q s = cond_both b (ops.anew q s) s (λ (t : Ops). mine_at_last t ≡
 
 pub anew_unanswered : (b : Bool) (q : ℕ) (s : Ops) → unanswered (anew_if b q s) ≡ unanswered s
 anew_unanswered b q s =
-    cond_both b (ops.anew q s) s (λ (t : Ops). unanswered t ≡ unanswered s) (λ _. ap (λ (l : List Asked). l ++ s.line) (anew_keeps q s).asked) (λ _. refl)
+    cond_both b (ops.anew q s) s (λ (t : Ops). unanswered t ≡ unanswered s) (λ _. ap (λ (l : List Asked). (l ++ s.others) ++ s.line) (anew_keeps q s).asked) (λ _. refl)
 
 pub anew_tag : (b : Bool) (q : ℕ) (s : Ops) (n : ℕ) → (b ≡ true → s.tag ≡ n) → s.tag ≤ n + 1 → (anew_if b q s).tag ≤ n + 1
 anew_tag b q s n same up = cond_both b (ops.anew q s) s (λ t. t.tag ≤ n + 1) (λ e. omega (arith, same e)) (λ _. up)
@@ -110,6 +110,12 @@ behind_anew q (Storing p) line h = tt
 behind_anew q (Querying p) line h = tt
 behind_anew q (StoringBack p seen) line h = tt
 
+beside_anew : (q : ℕ) (p : Phase) (others : List Asked) → IsBeside p others → IsBeside (ops.again q p) others
+beside_anew q Idle others h = h
+beside_anew q (Storing p) others h = h
+beside_anew q (Querying p) others h = h
+beside_anew q (StoringBack p seen) others h = h
+
 pub anew_ops : (ls : Links) (ss : Requests) (b : Bool) (q : ℕ) (s : Ops) → 0 < q → q ≤ known_limit → KeepsOps ls ss s → KeepsOps ls ss (anew_if b q s)
 anew_ops ls ss b q s some few h =
     cond_both b (ops.anew q s) s (KeepsOps ls ss)
@@ -119,8 +125,15 @@ anew_ops ls ss b q s some few h =
       line = record {
         behind = behind_anew q s.phase s.line h.line.behind;
         few = h.line.few;
-        apart = subst AreApart (sym (ap (λ (l : List Asked). l ++ s.line) (anew_keeps q s).asked)) h.line.apart;
+        apart = subst AreApart (sym (ap (λ (l : List Asked). (l ++ s.others) ++ s.line) (anew_keeps q s).asked)) h.line.apart;
         last = h.line.last;
+        round = record {
+          some = h.line.round.some;
+          most = h.line.round.most;
+          few = h.line.round.few;
+          alike = beside_anew q s.phase s.others h.line.round.alike;
+          last = h.line.round.last;
+        };
       };
     })
     (λ _. h)

@@ -8,6 +8,7 @@ use Rattle.std.specs.Bool.{then_some}
 use Rattle.std.specs.FinMap as table
 use Rattle.cc_views.specs.Rows.{ViewMap}
 use Rattle.cc_views.specs.Limits.{overruns}
+use Rattle.cc_ops.specs.Refusals.{passes}
 use Rattle.cc_wire.specs.declared.event.Event.{Event}
 use Rattle.cc_wire.specs.declared.event.Event.TheVariants as event
 use Rattle.cc_wire.specs.declared.message.Message.{Message}
@@ -22,7 +23,7 @@ use Rattle.cc_ops.specs.Ops.{Ops, Phase, Idle, Storing, Querying, StoringBack, i
 use Rattle.cc_outbox.specs.Outbox.{post_limit}
 use Rattle.cc_node.specs.Core.{Core, quorum, asked_of, ids_of, links_heard, churn_told, join_told, asks_anew, anew_if, question_if, lowest}
 use Rattle.cc_node.specs.Refusals.{left, has_gone, not_entered, already_entered, not_joined, old, gap, nothing_to_ack, too_many_nodes, too_many_sessions, repeat, stale, skip, nothing_to_lapse, any_overruns, row_overruns}
-use Rattle.cc_node.specs.OneAtATime.{other_line, waiting, ops_alone, quorum_told, answer_alone, next_alone, post_alone, busy_alone, set_full_alone, outbox_full_alone, spent_alone, decides_alone}
+use Rattle.cc_node.specs.OneAtATime.{acked_alone, other_line, waiting, ops_alone, quorum_told, answer_alone, next_alone, post_alone, busy_alone, set_full_alone, outbox_full_alone, spent_alone, decides_alone}
 use Rattle.cc_node.proofs.AloneLaws.{behind}
 
 either_other : (l : List Asked) (b : Bool) (s t : Ops) → (if b then other_line l s else other_line l t) ≡ other_line l (if b then s else t)
@@ -34,6 +35,12 @@ reply_other l quorum v Idle s = refl
 reply_other l quorum v (Storing p) s = refl
 reply_other l quorum v (Querying p) s = either_other l (is_last p) _ _
 reply_other l quorum v (StoringBack p seen) s = refl
+
+acked_other : (l : List Asked) (phase : Phase) (s : Ops) → acked_alone phase (other_line l s) ≡ other_line l (acked_alone phase s)
+acked_other l Idle s = refl
+acked_other l (Storing p) s = either_other l (is_last p) _ _
+acked_other l (Querying p) s = refl
+acked_other l (StoringBack p seen) s = either_other l (is_last p) _ _
 
 told_other : (l : List Asked) (me quorum : ℕ) (m : Message) (s : Ops) → ops_alone me quorum m (other_line l s) ≡ other_line l (ops_alone me quorum m s)
 told_other l me quorum (message.Enter q) s = refl
@@ -47,7 +54,8 @@ told_other l me quorum (message.QueryReply v tag q) s =
     ap (λ (t : Ops). if is_own me tag q s then t else other_line l s) (reply_other l quorum v s.phase s)
     ∙ either_other l (is_own me tag q s) (after_reply quorum v s.phase s) s
 told_other l me quorum (message.Store v tag q) s = refl
-told_other l me quorum (message.StoreAck tag q) s = either_other l (is_own me tag q s) _ _
+told_other l me quorum (message.StoreAck tag q) s =
+    ap (λ (t : Ops). if is_own me tag q s then t else other_line l s) (acked_other l s.phase s) ∙ either_other l (is_own me tag q s) (acked_alone s.phase s) s
 told_other l me quorum (message.Snapshot k v) s = refl
 
 anew_other : (l : List Asked) (b : Bool) (q : ℕ) (s : Ops) → anew_if b q (other_line l s) ≡ other_line l (anew_if b q s)
@@ -67,7 +75,7 @@ answer_other l me joined (message.StoreAck tag q) s t = refl
 answer_other l me joined (message.Snapshot k v) s t = refl
 
 begun_other : (l : List Asked) (me quorum : ℕ) (a : Asked) (s : Ops) → with_begun me quorum a (other_line l s) ≡ other_line l (with_begun me quorum a s)
-begun_other l me quorum a s = either_other l (is_writing a.command) _ _
+begun_other l me quorum a s = ap (λ (t : Ops). record t { others = [] }) (either_other l (is_writing a.command) _ _)
 
 pub post_unaware : (c : Core) (l : List Asked) (e : Event) → post_alone (waiting l c) e ≡ post_alone c e
 post_unaware c l event.Enter = refl
@@ -138,7 +146,7 @@ spent_unaware : (c : Core) (l : List Asked) (e : Event) → spent_alone (waiting
 spent_unaware c l e =
     let d = next_alone c e in
     ap (λ (k : Core). then_some (any_overruns (waiting l c) k e) refusal.Spent) (next_unaware c l e)
-    ∙ ap (λ (b : Bool). then_some (overruns c.ops.number d.ops.number || overruns c.ops.tag d.ops.tag || overruns c.posts d.posts
+    ∙ ap (λ (b : Bool). then_some (passes c.ops.number d.ops.number || overruns c.ops.tag d.ops.tag || overruns c.posts d.posts
     || overruns c.churn.echoes d.churn.echoes || b) refusal.Spent) (rows_unaware c d l e)
 
 full_unaware : (c : Core) (l : List Asked) (e : Event) → outbox_full_alone (waiting l c) e ≡ outbox_full_alone c e

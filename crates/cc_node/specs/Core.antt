@@ -106,7 +106,7 @@ ops_anew c from n m = anew_if (asks_anew c from n m) (churn.quorum c.beta (churn
 abbrev pub asked_of : ℕ → ℕ → Command → Asked
 asked_of s r command = record { session = s; request = r; command = command }
 
--- the asks that an event begins, at most one: itself, or one that waited for the last acknowledgement
+-- the asks that an event begins: itself, or the first round of those that waited for the last acknowledgement
 abbrev pub begun : Core → Event → List Asked
 begun c event.Enter = []
 begun c event.Leave = []

@@ -1,10 +1,11 @@
 -- Which states a node can be in.
 --     IsLawfulCore, IsLawfulNode         a core, and a node with what it keeps
---     IsPhaseOf                          an operation pends for its session's last request
---     IsLineOf                           asks wait, each for its session's last request, and no two of one session
+--     IsPhaseOf                          a round pends, whose first ask is its session's last request
+--     IsBeside, IsRoundOf                its others are of the kind of that one, and fewer than the share
+--     IsLineOf                           asks wait, each its session's last request, and no two of one session
 --     SessionsWithin, CountsWithin       counters are within their limit
 --     KeepsAnswers                       for which sessions an answer is kept
-use Rattle.std.specs.Prelude.{◌≡◌, ℕ, ◌<◌, ◌≤◌, IsTrue, IsFalse, List, length, Some, ⊤, IfSome}
+use Rattle.std.specs.Prelude.{◌≡◌, ℕ, ◌<◌, ◌≤◌, true, false, IsTrue, IsFalse, List, [], length, Some, ⊤, IfSome}
 use Rattle.std.specs.List.{AllByRecursion}
 use Rattle.std.specs.Ordering.{nat_cmp}
 use Rattle.std.specs.FinMap as table
@@ -23,6 +24,7 @@ use Rattle.cc_links.specs.Links.{Links, LinksWithin}
 use Rattle.cc_sessions.specs.Sessions.{Requests}
 use Rattle.cc_views.specs.Limits.{counter_limit, known_limit, session_limit}
 use Rattle.cc_node.specs.Core.{Core, lowest}
+use Rattle.cc_node.specs.Rounds.{share_limit}
 use Rattle.cc_outbox.specs.OutboxLaws.{KeepsPosts}
 use Rattle.cc_node.specs.Node.{Node}
 
@@ -45,12 +47,28 @@ IsPhaseOf ls sessions (StoringBack p seen) = IsPendingIn sessions p × IsFalse (
 abbrev pub IsLastOf : Requests → Asked → Type 0
 IsLastOf sessions a = table.get sessions a.session ≡ Some a.request
 
--- asks wait only behind a pending operation, and no two that aren't answered are of one session
+-- the others of a round are of the kind of its first ask
+abbrev pub IsBeside : Phase → List Asked → Type 0
+IsBeside Idle others = others ≡ []
+IsBeside (Storing p) others = AllByRecursion (λ a. is_writing a.command ≡ true) others
+IsBeside (Querying p) others = AllByRecursion (λ a. is_writing a.command ≡ false) others
+IsBeside (StoringBack p seen) others = AllByRecursion (λ a. is_writing a.command ≡ false) others
+
+-- fewer others than the share, each its session's last request
+pub record IsRoundOf (sessions : Requests) (share : ℕ) (phase : Phase) (others : List Asked) : Type 0 where
+  pub some : 1 ≤ share
+  pub most : share ≤ share_limit
+  pub few : length others < share
+  pub alike : IsBeside phase others
+  pub last : AllByRecursion (IsLastOf sessions) others
+
+-- asks wait only behind a pending round, and no two that aren't answered are of one session
 pub record IsLineOf (sessions : Requests) (s : Ops) : Type 0 where
   pub behind : WaitsBehind (stage_of s.phase) s.line
   pub few : length s.line ≤ line_limit
   pub apart : AreApart (unanswered s)
   pub last : AllByRecursion (IsLastOf sessions) s.line
+  pub round : IsRoundOf sessions s.share s.phase s.others
 
 abbrev pub SessionsWithin : Requests → Type 0
 SessionsWithin sessions = (s : ℕ) → IfSome (table.get sessions s) (λ last. (0 < last) × (last ≤ counter_limit))

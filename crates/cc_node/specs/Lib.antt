@@ -2,12 +2,14 @@ pub mod Core
 pub mod Refusals
 pub mod Node
 pub mod OneAtATime
+pub mod Rounds
 pub mod Lawful
 pub mod Opening
 pub mod Codes
 pub mod Writes
 pub mod Known
 pub mod Lines
+pub mod Layouts
 pub mod States
 pub mod Sides
 pub mod Good

@@ -38,11 +38,11 @@ use Rattle.cc_node.specs.Refusals.{left, has_gone, not_entered, already_entered,
 -- ---- operations
 
 -- one more acknowledgement of the store: with the last one the operation is done
-abbrev pub acked_alone : Phase → Phase
-acked_alone Idle = Idle
-acked_alone (Storing p) = if is_last p then Idle else Storing (counted p)
-acked_alone (Querying p) = Querying p
-acked_alone (StoringBack p seen) = if is_last p then Idle else StoringBack (counted p) seen
+abbrev pub acked_alone : Phase → Ops → Ops
+acked_alone Idle s = s
+acked_alone (Storing p) s = if is_last p then record s { phase = Idle; others = [] } else record s { phase = Storing (counted p) }
+acked_alone (Querying p) s = s
+acked_alone (StoringBack p seen) s = if is_last p then record s { phase = Idle; others = [] } else record s { phase = StoringBack (counted p) seen }
 
 abbrev pub ops_alone : ℕ → ℕ → Message → Ops → Ops
 ops_alone me quorum (message.Enter q) s = s
@@ -54,7 +54,7 @@ ops_alone me quorum (message.LeaveEcho q) s = s
 ops_alone me quorum (message.Query tag q) s = s
 ops_alone me quorum (message.QueryReply v tag q) s = if is_own me tag q s then after_reply quorum v s.phase s else s
 ops_alone me quorum (message.Store v tag q) s = merged v s
-ops_alone me quorum (message.StoreAck tag q) s = if is_own me tag q s then record s { phase = acked_alone s.phase } else s
+ops_alone me quorum (message.StoreAck tag q) s = if is_own me tag q s then acked_alone s.phase s else s
 ops_alone me quorum (message.Snapshot c v) s = merged v s
 
 -- before and after are the states around the message. Only a node that has joined serves others

@@ -13,6 +13,7 @@ use Rattle.cc_ops.specs.Ops.{nothing_done}
 use Rattle.cc_outbox.specs.Outbox.{starting_after}
 use Rattle.cc_links.specs.Links.{add_all}
 use Rattle.cc_node.specs.Node.{Node}
+use Rattle.cc_node.specs.Rounds.{share_limit}
 use Rattle.cc_changes.specs.Need.{IsShare}
 use Rattle.cc_node.specs.declared.opening.Opening.{Opening as Told}
 
@@ -24,10 +25,12 @@ pub record Opening : Type 0 where
   pub contacts : List ℕ
   pub beta : Fraction
   pub gamma : Fraction
+  -- how many asks of one kind begin together at most
+  pub share : ℕ
 
 -- an opening, without the references
 abbrev pub told : Told → Opening
-told o = record { me = o.me; initial = o.initial.now; contacts = o.contacts.now; beta = o.beta; gamma = o.gamma }
+told o = record { me = o.me; initial = o.initial.now; contacts = o.contacts.now; beta = o.beta; gamma = o.gamma; share = o.share }
 
 abbrev pub ids_of : Opening → List ℕ
 ids_of o = o.me ∷ o.initial ++ o.contacts
@@ -41,6 +44,8 @@ pub record IsOpening (o : Opening) : Type 0 where
   pub few : set.len (set.from_list (ids_of o)) ≤ known_limit
   pub beta : IsShare o.beta
   pub gamma : IsShare o.gamma
+  pub some : 1 ≤ o.share
+  pub most : o.share ≤ share_limit
 
 unfoldable pub fresh : Opening → Node
 fresh o = record {
@@ -53,7 +58,7 @@ fresh o = record {
       echoes = 0;
       need = 0;
     };
-    ops = nothing_done;
+    ops = nothing_done o.share;
     posts = 0;
     links = add_all 0 (ids_of o) table.empty;
     sessions = table.empty;

@@ -18,6 +18,7 @@ pub use Rattle.cc_wire.specs.Refusals.{decided}
 use Rattle.cc_churn.specs.Churn as churn
 use Rattle.cc_churn.specs.Refusals as coming
 use Rattle.cc_ops.specs.Refusals as pending
+use Rattle.cc_ops.specs.Refusals.{passes}
 use Rattle.cc_ops.specs.Waiting.{line_limit}
 use Rattle.cc_links.specs.Links as links
 use Rattle.cc_outbox.specs.Outbox.{post_limit}
@@ -94,7 +95,7 @@ row_overruns c d event.Snapshot = false
 
 abbrev pub any_overruns : Core → Core → Event → Bool
 any_overruns c d e =
-    overruns c.ops.number d.ops.number || overruns c.ops.tag d.ops.tag || overruns c.posts d.posts
+    passes c.ops.number d.ops.number || overruns c.ops.tag d.ops.tag || overruns c.posts d.posts
     || overruns c.churn.echoes d.churn.echoes || row_overruns c d e
 
 abbrev pub spent : Core → Event → Option Refusal

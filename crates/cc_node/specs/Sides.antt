@@ -1,6 +1,5 @@
 -- What the bytes of a side hold, and what two sides stand for.
 --     OPEN, IsArmed, generation_of         the open gate;  a side that begins with it, and its generation
---     VERSION, IsVersion                   the version in which states are written;  one that is known
 --     SpellsHead, SpellsRecords, IsFront   a state behind its gate, generation and version;  records behind open gates;  both
 --     SpellsRecord, SpellsBatch            a list of events;  the same, and the closed gate of the next one
 --     Holds, Yields                        a node up to a closed gate;  a side that counts less than a generation
@@ -11,18 +10,12 @@ use Rattle.std.specs.Int.{to_be_bytes, from_be_bytes, w32, w64}
 use Rattle.cc_wire.specs.declared.event.Event.{Event}
 use Rattle.cc_wire.specs.Events.{event_spelling, IsEvent}
 use Rattle.cc_node.specs.Node.{Node, after, IsLawful}
-use Rattle.cc_node.specs.States.{has_line, SpellsNode}
+use Rattle.cc_node.specs.Layouts.{IsVersion, layout_of}
+use Rattle.cc_node.specs.States.{SpellsNode}
 
 -- the gate byte that is open; every other byte is closed
 abbrev pub OPEN : ℕ
 OPEN = 165
-
--- the version of the format in which states are written; that without a place for asks that wait is known too
-abbrev pub VERSION : ℕ
-VERSION = 2
-
-abbrev pub IsVersion : ℕ → Type 0
-IsVersion version = (version ≡ 1) ⊎ (version ≡ VERSION)
 
 -- how many events a record has at most, and how many bytes behind its length
 abbrev pub batch_limit : ℕ
@@ -46,7 +39,7 @@ pub record SpellsHead (version : ℕ) (bytes : List ℕ) (generation : ℕ) (sta
   pub from_one : 1 ≤ generation
   pub fits : generation < 2 ^ 64
   pub short : length state < 2 ^ 32
-  pub spelled : SpellsNode (has_line version) state start
+  pub spelled : SpellsNode (layout_of version) state start
 
 -- an event behind its size
 abbrev pub sized_spelling : Event → List ℕ

@@ -1,12 +1,12 @@
 -- The bytes of a node's state: its fields in order, and which bytes spell a node.
 --     State                            the fields, in three parts: Membership, Work and Tables
 --     state_spelling, IsState          the one spelling of a state, and which states have one
---     SpellsState lined bytes s        the bytes spell the state, with a place for asks that wait or without
+--     SpellsState layout bytes s       the bytes spell the state in this layout
 --     state_at                         reading a state
 --     node_of s, state_of n            the node of a state, and the state of a node
---     has_line version                 whether a version of the format has a place for asks that wait
---     SpellsNode lined bytes n         the bytes spell the state of a node that can be
-use Rattle.std.specs.Prelude.{◌≡◌, ℕ, ◌-◌, ◌<◌, ◌≤◌, ◌^◌, List, [], ◌∷◌, ◌++◌, length, Ok, Err, nat_lt, Bool, true, false, not, ◌==◌, if◌then◌else◌}
+--     SpellsNode layout bytes n        the bytes spell the state of a node that can be
+--     layout_of_node, node_spelling    the layout in which a node is written, and its spelling in that
+use Rattle.std.specs.Prelude.{◌≡◌, ℕ, ◌-◌, ◌<◌, ◌≤◌, ◌^◌, List, [], ◌∷◌, ◌++◌, length, Ok, Err, nat_lt, ◌||◌, ◌==◌, if◌then◌else◌}
 use Rattle.std.specs.Int.{w16, w32, w64, to_be_bytes}
 use Rattle.std.specs.List.{flat_map, AllByRecursion}
 use Rattle.std.specs.Ordering.{nat_cmp}
@@ -37,6 +37,10 @@ use Rattle.cc_outbox.specs.Rows.{numbered}
 use Rattle.cc_node.specs.Core.{Core}
 use Rattle.cc_node.specs.Node.{Node}
 use Rattle.cc_node.specs.Lawful.{IsLawfulNode}
+use Rattle.cc_node.specs.Rounds.{share_limit}
+use Rattle.cc_node.specs.Layouts.{layout_for}
+use Rattle.cc_node.specs.declared.layout.Layout.{Layout}
+use Rattle.cc_node.specs.declared.layout.Layout.TheVariants.{Plain, Lined, Shared}
 
 -- ---- the fields
 
@@ -47,7 +51,7 @@ pub record Membership : Type 0 where
   pub gamma : Fraction
   pub changes : ChangeSets
 
--- what is stored, how far the own entering has come, the pending operation, and the asks that wait behind it
+-- what is stored, how far the own entering has come, the pending round, and the asks that wait behind it
 pub record Work : Type 0 where
   pub view : ViewMap
   pub number : ℕ
@@ -56,6 +60,9 @@ pub record Work : Type 0 where
   pub echoes : ℕ
   pub need : ℕ
   pub phase : Phase
+  -- how many asks a round has at most, and those of the pending one beside that of the phase
+  pub share : ℕ
+  pub others : List Asked
   pub line : List Asked
 
 -- what passed between the node and others; of the kept posts the last has the number `posts`
@@ -145,11 +152,7 @@ phase_fields kind =
 unfoldable pub phase_at : Reading Phase
 phase_at bytes = byte_at bytes >>= λ kind. phase_fields kind.0 kind.1
 
--- ---- the asks that wait: a count, and so many asks. Version 1 has no place for them
-
--- whether a version has a place for asks that wait
-abbrev pub has_line : ℕ → Bool
-has_line version = not (version == 1)
+-- ---- asks in order: a count, and so many asks
 
 abbrev pub ask_spelling : Asked → List ℕ
 ask_spelling a = asked_spelling a.session a.request a.command
@@ -166,32 +169,67 @@ ask_at = via ask_with asked_at
 abbrev pub asks_at : ℕ → Reading (List Asked)
 asks_at count = items_at (λ _. ask_at) (λ _. 0) count 0
 
-abbrev pub line_spelling : Bool → List Asked → List ℕ
-line_spelling true line = (length line ∷ []) ++ flat_map ask_spelling line
-line_spelling false line = []
+abbrev pub asks_spelling : List Asked → List ℕ
+asks_spelling asks = (length asks ∷ []) ++ flat_map ask_spelling asks
 
--- so few, each in its place; without a place there is none
-pub record IsLine (line : List Asked) : Type 0 where
-  pub fits : length line ≤ line_limit
-  pub each : AllByRecursion IsAsk line
+-- so few, each in its place
+pub record AreAsks (asks : List Asked) : Type 0 where
+  pub fits : length asks ≤ line_limit
+  pub each : AllByRecursion IsAsk asks
 
-abbrev pub IsLineOf : Bool → List Asked → Type 0
-IsLineOf true line = IsLine line
-IsLineOf false line = line ≡ []
+unfoldable pub ask_list_at : Reading (List Asked)
+ask_list_at bytes = limited line_limit byte_at bytes >>= λ n. asks_at n.0 n.1
 
-unfoldable pub some_line_at : Reading (List Asked)
-some_line_at bytes = limited line_limit byte_at bytes >>= λ n. asks_at n.0 n.1
+-- ---- the asks that wait. Version 1 has no place for them: there are none
 
-abbrev pub line_at : Bool → Reading (List Asked)
-line_at true = some_line_at
-line_at false = via (λ _. []) nothing_at
+abbrev pub line_spelling : Layout → List Asked → List ℕ
+line_spelling Plain line = []
+line_spelling Lined line = asks_spelling line
+line_spelling Shared line = asks_spelling line
 
--- the pending operation, and those behind it
-abbrev pub round_spelling : Bool → Phase → List Asked → List ℕ
-round_spelling lined phase line = phase_spelling phase ++ line_spelling lined line
+abbrev pub IsLineOf : Layout → List Asked → Type 0
+IsLineOf Plain line = line ≡ []
+IsLineOf Lined line = AreAsks line
+IsLineOf Shared line = AreAsks line
 
-abbrev pub round_at : Bool → Reading (Phase × List Asked)
-round_at lined = phase_at ⊗ line_at lined
+abbrev pub line_at : Layout → Reading (List Asked)
+line_at Plain = via (λ _. []) nothing_at
+line_at Lined = ask_list_at
+line_at Shared = ask_list_at
+
+-- ---- the share, and the others of the pending round. Only version 32 has a place for them: else the share is 1, and there
+-- are none
+
+abbrev pub others_spelling : Layout → ℕ → List Asked → List ℕ
+others_spelling Plain share others = []
+others_spelling Lined share others = []
+others_spelling Shared share others = (share ∷ []) ++ asks_spelling others
+
+-- a share of 1 is written without a place for it
+pub record IsRoundShare (share : ℕ) : Type 0 where
+  pub several : 2 ≤ share
+  pub most : share ≤ share_limit
+
+abbrev pub AreOthersOf : Layout → ℕ → List Asked → Type 0
+AreOthersOf Plain share others = (share ≡ 1) × (others ≡ [])
+AreOthersOf Lined share others = (share ≡ 1) × (others ≡ [])
+AreOthersOf Shared share others = IsRoundShare share × AreAsks others
+
+-- it is read as kinds are: another byte has no meaning
+unfoldable pub share_at : Reading ℕ
+share_at bytes = byte_at bytes >>= λ n. if nat_lt n.0 2 || nat_lt share_limit n.0 then Err (BadKind n.0) else Ok n
+
+abbrev pub others_at : Layout → Reading (ℕ × List Asked)
+others_at Plain = via (λ _. (1, [])) nothing_at
+others_at Lined = via (λ _. (1, [])) nothing_at
+others_at Shared = share_at ⊗ ask_list_at
+
+-- the pending round, and the asks behind it
+abbrev pub round_spelling : Layout → Phase → ℕ → List Asked → List Asked → List ℕ
+round_spelling layout phase share others line = phase_spelling phase ++ (others_spelling layout share others ++ line_spelling layout line)
+
+abbrev pub round_at : Layout → Reading (Phase × ((ℕ × List Asked) × List Asked))
+round_at layout = phase_at ⊗ others_at layout ⊗ line_at layout
 
 -- ---- the second part
 
@@ -203,10 +241,11 @@ stored_spelling view number mine tag = view_spelling view ++ (to_be_bytes w64 nu
 abbrev pub entering_spelling : ℕ → ℕ → List ℕ
 entering_spelling echoes need = to_be_bytes w64 echoes ++ to_be_bytes w16 need
 
-abbrev pub work_spelling : Bool → Work → List ℕ
-work_spelling lined w = stored_spelling w.view w.number w.mine w.tag ++ (entering_spelling w.echoes w.need ++ round_spelling lined w.phase w.line)
+abbrev pub work_spelling : Layout → Work → List ℕ
+work_spelling layout w =
+    stored_spelling w.view w.number w.mine w.tag ++ (entering_spelling w.echoes w.need ++ round_spelling layout w.phase w.share w.others w.line)
 
-pub record IsWork (lined : Bool) (w : Work) : Type 0 where
+pub record IsWork (layout : Layout) (w : Work) : Type 0 where
   pub view : IsView w.view
   pub number : w.number < 2 ^ 64
   pub mine : IsValue w.mine
@@ -214,7 +253,8 @@ pub record IsWork (lined : Bool) (w : Work) : Type 0 where
   pub echoes : w.echoes < 2 ^ 64
   pub need : w.need < 2 ^ 16
   pub phase : IsPhase w.phase
-  pub line : IsLineOf lined w.line
+  pub others : AreOthersOf layout w.share w.others
+  pub line : IsLineOf layout w.line
 
 abbrev pub stored_at : Reading (ViewMap × (ℕ × (Value × ℕ)))
 stored_at = view_at ⊗ number_at w64 ⊗ value_at ⊗ number_at w64
@@ -222,11 +262,22 @@ stored_at = view_at ⊗ number_at w64 ⊗ value_at ⊗ number_at w64
 abbrev pub entering_at : Reading (ℕ × ℕ)
 entering_at = number_at w64 ⊗ number_at w16
 
-abbrev pub work_with : (ViewMap × (ℕ × (Value × ℕ))) × ((ℕ × ℕ) × (Phase × List Asked)) → Work
-work_with f = record { view = f.0.0; number = f.0.1.0; mine = f.0.1.1.0; tag = f.0.1.1.1; echoes = f.1.0.0; need = f.1.0.1; phase = f.1.1.0; line = f.1.1.1 }
+abbrev pub work_with : (ViewMap × (ℕ × (Value × ℕ))) × ((ℕ × ℕ) × (Phase × ((ℕ × List Asked) × List Asked))) → Work
+work_with f = record {
+  view = f.0.0;
+  number = f.0.1.0;
+  mine = f.0.1.1.0;
+  tag = f.0.1.1.1;
+  echoes = f.1.0.0;
+  need = f.1.0.1;
+  phase = f.1.1.0;
+  share = f.1.1.1.0.0;
+  others = f.1.1.1.0.1;
+  line = f.1.1.1.1;
+}
 
-unfoldable pub work_at : Bool → Reading Work
-work_at lined = via work_with (stored_at ⊗ entering_at ⊗ round_at lined)
+unfoldable pub work_at : Layout → Reading Work
+work_at layout = via work_with (stored_at ⊗ entering_at ⊗ round_at layout)
 
 -- ---- tables: a count, and rows whose keys rise
 
@@ -335,24 +386,24 @@ tables_at =
 
 -- ---- states
 
-abbrev pub state_spelling : Bool → State → List ℕ
-state_spelling lined s = membership_spelling s.membership ++ (work_spelling lined s.work ++ tables_spelling s.tables)
+abbrev pub state_spelling : Layout → State → List ℕ
+state_spelling layout s = membership_spelling s.membership ++ (work_spelling layout s.work ++ tables_spelling s.tables)
 
-pub record IsState (lined : Bool) (s : State) : Type 0 where
+pub record IsState (layout : Layout) (s : State) : Type 0 where
   pub membership : IsMembership s.membership
-  pub work : IsWork lined s.work
+  pub work : IsWork layout s.work
   pub tables : IsTables s.tables
 
--- the bytes spell the state, with a place for asks that wait or without
-pub record SpellsState (lined : Bool) (bytes : List ℕ) (s : State) : Type 0 where
-  pub fits : IsState lined s
-  pub spelled : bytes ≡ state_spelling lined s
+-- the bytes spell the state in this layout
+pub record SpellsState (layout : Layout) (bytes : List ℕ) (s : State) : Type 0 where
+  pub fits : IsState layout s
+  pub spelled : bytes ≡ state_spelling layout s
 
 abbrev pub state_with : Membership × (Work × Tables) → State
 state_with f = record { membership = f.0; work = f.1.0; tables = f.1.1 }
 
-unfoldable pub state_at : Bool → Reading State
-state_at lined = via state_with (membership_at ⊗ work_at lined ⊗ tables_at)
+unfoldable pub state_at : Layout → Reading State
+state_at layout = via state_with (membership_at ⊗ work_at layout ⊗ tables_at)
 
 -- ---- nodes
 
@@ -362,7 +413,16 @@ core_of s = record {
   beta = s.membership.beta;
   gamma = s.membership.gamma;
   churn = record { changes = s.membership.changes; echoes = s.work.echoes; need = s.work.need };
-  ops = record { view = s.work.view; number = s.work.number; mine = s.work.mine; tag = s.work.tag; phase = s.work.phase; line = s.work.line };
+  ops = record {
+    view = s.work.view;
+    number = s.work.number;
+    mine = s.work.mine;
+    tag = s.work.tag;
+    share = s.work.share;
+    phase = s.work.phase;
+    others = s.work.others;
+    line = s.work.line;
+  };
   posts = s.tables.posts;
   links = s.tables.links;
   sessions = s.tables.sessions;
@@ -390,6 +450,8 @@ work_of c = record {
   echoes = c.churn.echoes;
   need = c.churn.need;
   phase = c.ops.phase;
+  share = c.ops.share;
+  others = c.ops.others;
   line = c.ops.line;
 }
 
@@ -406,6 +468,13 @@ abbrev pub state_of : Node → State
 state_of n = record { membership = membership_of n.core; work = work_of n.core; tables = tables_of n }
 
 -- the bytes spell the state of a node that can be
-pub record SpellsNode (lined : Bool) (bytes : List ℕ) (n : Node) : Type 0 where
+pub record SpellsNode (layout : Layout) (bytes : List ℕ) (n : Node) : Type 0 where
   pub lawful : IsLawfulNode n
-  pub state : SpellsState lined bytes (state_of n)
+  pub state : SpellsState layout bytes (state_of n)
+
+-- in which layout a node is written, and how
+abbrev pub layout_of_node : Node → Layout
+layout_of_node n = layout_for n.core.ops.share
+
+abbrev pub node_spelling : Node → List ℕ
+node_spelling n = state_spelling (layout_of_node n) (state_of n)

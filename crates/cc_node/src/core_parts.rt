@@ -1,6 +1,6 @@
 //! The parts of a core, and whether they make a lawful one.
 
-ghost use Rattle.std.specs.Prelude.{◌≡◌, ◌≤◌, ◌↔◌, Some, IsTrue, IsFalse};
+ghost use Rattle.std.specs.Prelude.{◌≡◌, ◌≤◌, ◌↔◌, not, Some, IsTrue, IsFalse};
 ghost use Rattle.std.specs.List.{list_all};
 ghost use Rattle.std.specs.FinMap as table;
 ghost use Rattle.cc_views.specs.Limits.{known_limit, session_limit};
@@ -10,10 +10,10 @@ ghost use Rattle.cc_views.specs.Rows.{ViewMap};
 ghost use Rattle.cc_changes.specs.ChangeLaws.{IsAmong};
 ghost use Rattle.cc_links.specs.Links.{LinksWithin};
 ghost use Rattle.cc_links.specs.Rows.{link_of};
-ghost use Rattle.cc_ops.specs.Commands.{is_writing};
+ghost use Rattle.cc_ops.specs.Commands as commands;
 ghost use Rattle.cc_ops.specs.Ops.{IsWaiting, seen_in};
 ghost use Rattle.cc_ops.specs.Stages.{HasRoom};
-ghost use Rattle.cc_node.specs.Lawful.{CountsWithin, IsLawfulCore, IsLineOf, IsPendingIn, IsPhaseOf, SessionsWithin};
+ghost use Rattle.cc_node.specs.Lawful.{CountsWithin, IsBeside, IsLawfulCore, IsLineOf, IsRoundOf, IsPendingIn, IsPhaseOf, SessionsWithin};
 ghost use Rattle.cc_node.specs.Parts.{core_of, is_link_within, is_request_within, is_last_of};
 
 use cc_changes::{Changes, Fraction};
@@ -213,7 +213,7 @@ fn phase_fits(links: &Links, sessions: &Sessions, ops: &Ops) -> bool
 // Whether the operation is a read, and of its session's last request.
 fn is_last_read(sessions: &Sessions, pending: &Pending) -> bool
     requires { IsWaiting pending.now }
-    ensures { IsTrue result ↔ (IsPendingIn sessions.now pending.now × IsFalse (is_writing pending.now.asked.command)) }
+    ensures { IsTrue result ↔ (IsPendingIn sessions.now pending.now × IsFalse (commands.is_writing pending.now.asked.command)) }
 {
     is_last_request(sessions, pending) && !is_writing(&pending.asked.command)
 }
@@ -233,7 +233,50 @@ fn line_fits(sessions: &Sessions, ops: &Ops) -> bool
     ensures room { HasRoom ops.now.line ops.now.mine }
 {
     let asks = ops.line().asks();
-    ops.are_apart() && are_last_requests(sessions, asks)
+    if !ops.are_apart() {
+        return false;
+    }
+    if !are_last_requests(sessions, asks) {
+        return false;
+    }
+    round_fits(sessions, ops)
+}
+
+// Whether the others of the pending round are of the kind of its first ask, and each its session's last request. There are
+// fewer than the share, which is never too great.
+fn round_fits(sessions: &Sessions, ops: &Ops) -> bool
+    ensures { IsTrue result ↔ IsRoundOf sessions.now ops.now.share ops.now.phase ops.now.others }
+{
+    let _ = ops.share();
+    if !are_beside(ops, ops.others().asks()) {
+        return false;
+    }
+    are_last_requests(sessions, ops.others().asks())
+}
+
+// Whether all are of the kind of the pending round, and there are none where none is pending.
+fn are_beside(ops: &Ops, others: &[Asked]) -> bool
+    ensures { IsTrue result ↔ IsBeside ops.now.phase others.now }
+{
+    let stage = ops.stage();
+    match stage {
+        Stage::Idle => others.is_empty(),
+        Stage::Storing(_) => all_write(others),
+        Stage::Querying(_) => all_read(others),
+        Stage::StoringBack(_) => all_read(others),
+    }
+}
+
+fn all_write(asks: &[Asked]) -> bool
+    ensures { result ≡ list_all (λ a. commands.is_writing a.command) asks.now }
+{
+    asks.iter().all(|asked| is_writing(&asked.command))
+}
+
+fn all_read(asks: &[Asked]) -> bool
+    ensures { result ≡ list_all (λ a. not (commands.is_writing a.command)) asks.now }
+{
+    asks.iter().all(|asked| !is_writing(&asked.command))
 }
 
 fn are_last_requests(sessions: &Sessions, asks: &[Asked]) -> bool

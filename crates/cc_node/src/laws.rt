@@ -1,6 +1,6 @@
 //! The laws of a node's histories. Each is a function with an empty body, whose contract is the law.
 
-ghost use Rattle.std.specs.Prelude.{◌≡◌, ◌≢◌, ◌↔◌, ◌+◌, ◌-◌, ◌≤◌, ◌++◌, ℕ, List, [], None, Some, true, false};
+ghost use Rattle.std.specs.Prelude.{◌≡◌, ◌≢◌, ◌↔◌, ◌+◌, ◌-◌, ◌≤◌, ◌++◌, ◌∷◌, ℕ, Bool, List, [], length, None, Some, true, false};
 ghost use Rattle.std.specs.FinMap as table;
 ghost use Rattle.std.specs.List.{All, AllPairs};
 ghost use Rattle.cc_views.specs.Merge.{IsAtMost};
@@ -17,13 +17,14 @@ ghost use Rattle.cc_ops.specs.Ops.{merged, after_message};
 ghost use Rattle.cc_ops.specs.OwnLaws.{AsksAnewAlone};
 ghost use Rattle.cc_wire.specs.declared.output.Output.{Output};
 ghost use Rattle.cc_ops.specs.declared.pending.Asked.{Asked};
+ghost use Rattle.cc_ops.specs.Rounds.{first_round, line_behind, of_kind, IsAt, ComesOn};
 ghost use Rattle.cc_ops.specs.Waiting.{writes_by, written_by};
-ghost use Rattle.cc_node.specs.Core.{Core, quorum, churned, churn_told, asks_anew, ops_anew, begun, next};
+ghost use Rattle.cc_node.specs.Core.{Core, quorum, churned, churn_told, asks_anew, ops_anew, begun, replies, next};
 ghost use Rattle.cc_node.specs.Node.{Node, step, after, line, HasOutput, MayBeOut, IsLawful, IsLawfulWithin};
 ghost use Rattle.cc_node.specs.OneAtATime.{waiting, decides_alone, next_alone, post_alone, step_alone, after_alone, line_alone, IsLawfulAlone};
 ghost use Rattle.cc_node.specs.Refusals.{decides, decides_within, row_overruns};
 ghost use Rattle.cc_node.specs.Sides.{SpellsRecord};
-ghost use Rattle.cc_node.specs.Lawful.{IsLawfulNode};
+ghost use Rattle.cc_node.specs.Lawful.{IsLawfulCore, IsLawfulNode};
 ghost use Rattle.cc_node.specs.Opening.{Opening, IsOpening, fresh};
 ghost use Rattle.cc_node.specs.Lines.{Follows};
 ghost use Rattle.cc_node.specs.Writes.{asked_along, begun_along};
@@ -49,10 +50,33 @@ pub fn own_number_counts_writes()
     ensures value_after { (n : Node) (es : List Event) → (after n es).core.ops.mine ≡ written_by (begun_along n es) n.core.ops.mine }
 {}
 
-/// Asks begin in the order in which they were accepted: those that waited at the start and those that were accepted since
-/// are those that began since and those that wait still.
+/// Asks of a kind, which write or read, begin in the order in which they were accepted: those that waited at the start and
+/// those that were accepted since are those that began since and those that wait still. At a share of 1 so do all asks.
 pub fn asks_begin_in_order()
-    ensures { (n : Node) (es : List Event) → IsLawfulNode n → IsLawful n es → n.core.ops.line ++ asked_along es ≡ begun_along n es ++ (after n es).core.ops.line }
+    ensures kinds { (writes : Bool) (n : Node) (es : List Event) → IsLawfulNode n → IsLawful n es
+        → of_kind writes (n.core.ops.line ++ asked_along es) ≡ of_kind writes (begun_along n es ++ (after n es).core.ops.line) }
+    ensures one_by_one { (n : Node) (es : List Event) → n.core.ops.share ≡ 1 → IsLawfulNode n → IsLawful n es
+        → n.core.ops.line ++ asked_along es ≡ begun_along n es ++ (after n es).core.ops.line }
+{}
+
+/// No more asks begin with an event than the share, nor are more answered, and no event changes the share. At a share of 1
+/// the first round of a line is its first ask alone.
+pub fn share_one()
+    ensures begun { (c : Core) (e : Event) → 1 ≤ c.ops.share → length (begun c e) ≤ c.ops.share }
+    ensures answered { (c : Core) (e : Event) → IsLawfulCore c → length (replies c e) ≤ c.ops.share }
+    ensures share { (n : Node) (es : List Event) → (after n es).core.ops.share ≡ n.core.ops.share }
+    ensures one_begun { (c : Core) (e : Event) → c.ops.share ≡ 1 → length (begun c e) ≤ 1 }
+    ensures one_answered { (c : Core) (e : Event) → IsLawfulCore c → c.ops.share ≡ 1 → length (replies c e) ≤ 1 }
+    ensures first { (a : Asked) (line : List Asked) → first_round 1 (a ∷ line) ≡ a ∷ [] }
+    ensures behind { (a : Asked) (line : List Asked) → line_behind 1 (a ∷ line) ≡ line }
+{}
+
+/// No ask is passed over for ever: with each event that answers clients, an ask that waits begins, or fewer stand before it
+/// than did; with any other it keeps its place.
+pub fn rounds_are_fair()
+    ensures comes_on { (c : Core) (e : Event) (n : ℕ) (a : Asked) → 1 ≤ c.ops.share → IsAt n a c.ops.line → replies c e ≢ []
+        → ComesOn n a (begun c e) (next c e).ops.line }
+    ensures stays { (c : Core) (e : Event) (n : ℕ) (a : Asked) → IsAt n a c.ops.line → replies c e ≡ [] → IsAt n a (next c e).ops.line }
 {}
 
 /// What isn't refused where no ask may wait isn't refused where 32 may; and then none waits.

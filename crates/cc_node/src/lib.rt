@@ -3,6 +3,7 @@
 
 mod core_parts;
 mod laws;
+mod layout;
 mod made;
 mod named_nodes;
 mod needs;
@@ -15,8 +16,9 @@ pub use core_parts::CoreParts;
 pub use laws::{
     asks_anew_alone, asks_begin_in_order, lapse_is_an_acknowledgement, lawful_kept,
     lines_add_nothing, lines_may_grow, no_output_twice, one_spelling_of_records, others_stay,
-    own_number_counts_writes, standing_made, view_only_grows,
+    own_number_counts_writes, rounds_are_fair, share_one, standing_made, view_only_grows,
 };
+pub use layout::Layout;
 pub use made::{LinkAck, Made};
 pub use node::Node;
 pub use node_core::Core;

@@ -75,7 +75,7 @@ impl Core {
             beta: opening.beta,
             gamma: opening.gamma,
             churn: Churn::from_parts(opening.changes(alloc)?, 0, 0),
-            ops: Ops::new(alloc)?,
+            ops: Ops::new(alloc, opening.share)?,
             posts: 0,
             links: opening.links(alloc)?,
             sessions: Sessions::new(alloc)?,

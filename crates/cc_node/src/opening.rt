@@ -33,9 +33,15 @@ pub struct Opening<'a> {
 
     /// The share of those present whose echoes an entering node waits for.
     pub gamma: Fraction,
+
+    /// How many asks of one kind, which write or read, begin together at most.
+    pub share: usize,
 }
 
 impl Opening<'_> {
+    /// The greatest share.
+    pub const MAX_SHARE: usize = 32;
+
     // Whether a node can begin so; needs no memory.
     pub(crate) fn is_good(&self) -> bool
         ensures { IsTrue result ↔ IsOpening (told self.now) }
@@ -59,6 +65,9 @@ impl Opening<'_> {
             return false;
         }
         if self.names_zero() {
+            return false;
+        }
+        if self.share == 0 || self.share > Self::MAX_SHARE {
             return false;
         }
         self.names_few()

@@ -1,8 +1,10 @@
 pub mod Commands
 pub mod Waiting
+pub mod Rounds
 pub mod Ops
 pub mod Codes
 pub mod Stages
 pub mod WaitingLaws
+pub mod RoundLaws
 pub mod OwnLaws
 pub mod Refusals

@@ -1,32 +1,34 @@
 -- The client and the server of the store-collect object.
---     Phase, Ops                   how far the pending operation has come; the view, the own value under its number, the tag,
---                                  the phase, and the asks that wait behind it
---     with_begun me quorum a s     a new operation begins
---     after_ask me quorum a s      so it does where none is pending; else the ask waits
---     after_message me quorum m s  what a message makes of it; the last acknowledgement lets the first ask that waits begin
---     begun_by_ask, begun_by       the asks that begin: at most one
+--     Phase, Ops                   how far the pending round has come, with its first ask; the view, the own value under its
+--                                  number, the tag, how many asks a round has at most, the phase, the others of its round, and
+--                                  the asks that wait behind it
+--     begin_round me quorum asks s a new round begins of these asks, if there are any; else nothing is pending
+--     after_ask me quorum a s      it begins where none is pending; else the ask waits
+--     after_message me quorum m s  what a message makes of it; the last acknowledgement lets the first round of the line begin
+--     begun_by_ask, begun_by       the asks that begin
 --     post_of, first_post          what is posted in return, or as an operation begins
 --     post_of_round                what asks that begin are posted with, if any do
 --     replies_of                   what clients are told
 --     anew quorum s                the pending phase begins anew;  question: what it asks the others
---     unanswered, mine_at_last     the pending ask and those behind it; the own value once all of these have begun
-use Rattle.std.specs.Prelude.{◌==◌, ℕ, ◌+◌, ◌<◌, ◌≤◌, Bool, true, false, ◌&&◌, if◌then◌else◌, List, [], ◌∷◌, ◌++◌}
+--     pending, unanswered          the asks of the pending round; these, and those that wait
+--     mine_at_last                 the own value once all that wait have begun
+use Rattle.std.specs.Prelude.{◌==◌, ℕ, ◌+◌, ◌<◌, ◌≤◌, Bool, true, false, ◌&&◌, if◌then◌else◌, List, [], ◌∷◌, ◌++◌, map}
 use Rattle.std.specs.Prelude.{Option, Some, None, option_map}
 use Rattle.std.specs.Bool.{then_some}
-use Rattle.std.specs.FinMap as map
+use Rattle.std.specs.FinMap as table
 use Rattle.cc_views.specs.Limits.{known_limit}
 use Rattle.cc_views.specs.NatSets as set
 use Rattle.cc_views.specs.Rows.{ViewMap, single}
 use Rattle.cc_views.specs.Merge.{merge}
 use Rattle.cc_views.specs.declared.value.Value.{Value}
-use Rattle.cc_wire.specs.declared.command.Command.{Command}
 use Rattle.cc_wire.specs.declared.message.Message.{Message}
 use Rattle.cc_wire.specs.declared.message.Message.TheVariants as message
 use Rattle.cc_ops.specs.declared.pending.Asked.{Asked}
 use Rattle.cc_ops.specs.declared.pending.Pending.{Pending}
 use Rattle.cc_ops.specs.declared.pending.Reply.{Reply}
-use Rattle.cc_ops.specs.Commands.{is_writing, written, answer_of}
-use Rattle.cc_ops.specs.Waiting.{first_in, first_round, written_by}
+use Rattle.cc_ops.specs.Commands.{is_writing, answer_of}
+use Rattle.cc_ops.specs.Rounds.{first_round, line_behind}
+use Rattle.cc_ops.specs.Waiting.{first_in, writes_by, written_by}
 
 -- how far the client's operation has come; the last holds the view that is stored back
 pub data Phase : Type 0 where
@@ -41,16 +43,20 @@ pub record Ops : Type 0 where
   pub number : ℕ
   pub mine : Value
   pub tag : ℕ
+  -- how many asks of one kind begin together at most
+  pub share : ℕ
   pub phase : Phase
-  -- the asks that wait until the pending operation has ended, in the order in which they were accepted
+  -- the asks that are pending beside that of the phase, in the order in which they were accepted
+  pub others : List Asked
+  -- the asks that wait until the pending round has ended, in the order in which they were accepted
   pub line : List Asked
 
 abbrev pub nothing_stored : Value
 nothing_stored = record { text = []; max = 0; flag = false; set = set.empty }
 
 -- nothing stored, and no operation pending
-abbrev pub nothing_done : Ops
-nothing_done = record { view = map.empty; number = 0; mine = nothing_stored; tag = 0; phase = Idle; line = [] }
+abbrev pub nothing_done : ℕ → Ops
+nothing_done share = record { view = table.empty; number = 0; mine = nothing_stored; tag = 0; share = share; phase = Idle; others = []; line = [] }
 
 abbrev pub is_idle : Phase → Bool
 is_idle Idle = true
@@ -83,22 +89,30 @@ merged v s = record s { view = merge s.view v }
 abbrev pub next_round : Phase → Ops → Ops
 next_round phase s = record s { tag = s.tag + 1; phase = phase }
 
--- the own value is written, under the next number
-abbrev pub with_written : Command → Ops → Ops
-with_written command s = record s { number = s.number + 1; mine = written command s.mine }
+-- the own value as these asks leave it, under the number of the last write among them
+abbrev pub with_written : List Asked → Ops → Ops
+with_written asks s = record s { number = s.number + writes_by asks; mine = written_by asks s.mine }
 
 -- the view has the own value under its number
 abbrev pub with_own_row : ℕ → Ops → Ops
 with_own_row me s = merged (single (record { node = me; number = s.number; value = s.mine })) s
 
--- a new operation begins
-abbrev pub with_begun : ℕ → ℕ → Asked → Ops → Ops
-with_begun me quorum asked s =
+-- a new round begins: of an ask, and of others of its kind
+abbrev pub round_begun : ℕ → ℕ → Asked → List Asked → Ops → Ops
+round_begun me quorum asked others s =
     if is_writing asked.command
-    then next_round (Storing (round_of quorum asked)) (with_own_row me (with_written asked.command s))
+    then next_round (Storing (round_of quorum asked)) (with_own_row me (with_written (asked ∷ others) s))
     else next_round (Querying (round_of quorum asked)) s
 
--- where an operation is pending, the ask waits behind the others
+abbrev pub begin_round : ℕ → ℕ → List Asked → Ops → Ops
+begin_round me quorum [] s = record s { phase = Idle; others = [] }
+begin_round me quorum (asked ∷ others) s = record (round_begun me quorum asked others s) { others = others }
+
+-- an ask begins alone
+abbrev pub with_begun : ℕ → ℕ → Asked → Ops → Ops
+with_begun me quorum asked s = begin_round me quorum (asked ∷ []) s
+
+-- where a round is pending, the ask waits behind the others
 abbrev pub after_ask : ℕ → ℕ → Asked → Ops → Ops
 after_ask me quorum asked s =
     if is_idle s.phase then with_begun me quorum asked s else record s { line = s.line ++ asked ∷ [] }
@@ -130,17 +144,16 @@ after_reply quorum v (Querying p) s =
     else record (merged v s) { phase = Querying (counted p) }
 after_reply quorum v (StoringBack p seen) s = s
 
--- the operation is done: the first of the asks that wait begins
-abbrev pub after_last : ℕ → ℕ → List Asked → Ops → Ops
-after_last me quorum [] s = record s { phase = Idle }
-after_last me quorum (asked ∷ line) s = with_begun me quorum asked (record s { line = line })
+-- the round is done: the first one of the asks that wait begins
+abbrev pub after_last : ℕ → ℕ → Ops → Ops
+after_last me quorum s = begin_round me quorum (first_round s.share s.line) (record s { line = line_behind s.share s.line })
 
 -- one more acknowledgement of the store: with the last one the operation is done
 abbrev pub after_ack : ℕ → ℕ → Phase → Ops → Ops
 after_ack me quorum Idle s = s
-after_ack me quorum (Storing p) s = if is_last p then after_last me quorum s.line s else record s { phase = Storing (counted p) }
+after_ack me quorum (Storing p) s = if is_last p then after_last me quorum s else record s { phase = Storing (counted p) }
 after_ack me quorum (Querying p) s = s
-after_ack me quorum (StoringBack p seen) s = if is_last p then after_last me quorum s.line s else record s { phase = StoringBack (counted p) seen }
+after_ack me quorum (StoringBack p seen) s = if is_last p then after_last me quorum s else record s { phase = StoringBack (counted p) seen }
 
 -- whether one more acknowledgement ends the operation
 abbrev pub ends_store : Phase → Bool
@@ -163,8 +176,8 @@ after_message me quorum (message.StoreAck tag q) s = if is_own me tag q s then a
 after_message me quorum (message.Snapshot c v) s = merged v s
 
 -- the asks that begin with one more acknowledgement
-abbrev pub begun_in : Phase → List Asked → List Asked
-begun_in phase line = if ends_store phase then first_round line else []
+abbrev pub begun_in : Phase → Ops → List Asked
+begun_in phase s = if ends_store phase then first_round s.share s.line else []
 
 -- the asks that a message lets begin
 abbrev pub begun_by : ℕ → Message → Ops → List Asked
@@ -177,7 +190,7 @@ begun_by me (message.LeaveEcho q) s = []
 begun_by me (message.Query tag q) s = []
 begun_by me (message.QueryReply v tag q) s = []
 begun_by me (message.Store v tag q) s = []
-begun_by me (message.StoreAck tag q) s = if is_own me tag q s then begun_in s.phase s.line else []
+begun_by me (message.StoreAck tag q) s = if is_own me tag q s then begun_in s.phase s else []
 begun_by me (message.Snapshot c v) s = []
 
 -- whether a reply ends the query
@@ -203,16 +216,16 @@ post_of me is_joined (message.StoreAck tag q) before after =
     post_of_round me (begun_by me (message.StoreAck tag q) before) after
 post_of me is_joined (message.Snapshot c v) before after = None
 
--- the answer of an operation, read from that view
-abbrev pub told : Pending → ViewMap → Reply
-told p seen = record { session = p.asked.session; request = p.asked.request; answer = answer_of p.asked.command seen }
+-- the answer to an ask, read from that view
+abbrev pub told : ViewMap → Asked → Reply
+told seen asked = record { session = asked.session; request = asked.request; answer = answer_of asked.command seen }
 
--- what one more acknowledgement lets clients be told: at most one answer; a store reads no view
-abbrev pub replies_in : ViewMap → Phase → List Reply
-replies_in view Idle = []
-replies_in view (Storing p) = if is_last p then told p view ∷ [] else []
-replies_in view (Querying p) = []
-replies_in view (StoringBack p seen) = if is_last p then told p seen ∷ [] else []
+-- what one more acknowledgement lets clients be told: the answers of a round, in its order; a store reads no view
+abbrev pub replies_in : ViewMap → List Asked → Phase → List Reply
+replies_in view others Idle = []
+replies_in view others (Storing p) = if is_last p then map (told view) (p.asked ∷ others) else []
+replies_in view others (Querying p) = []
+replies_in view others (StoringBack p seen) = if is_last p then map (told seen) (p.asked ∷ others) else []
 
 abbrev pub replies_of : ℕ → Message → Ops → List Reply
 replies_of me (message.Enter q) s = []
@@ -224,7 +237,7 @@ replies_of me (message.LeaveEcho q) s = []
 replies_of me (message.Query tag q) s = []
 replies_of me (message.QueryReply v tag q) s = []
 replies_of me (message.Store v tag q) s = []
-replies_of me (message.StoreAck tag q) s = if is_own me tag q s then replies_in s.view s.phase else []
+replies_of me (message.StoreAck tag q) s = if is_own me tag q s then replies_in s.view s.others s.phase else []
 replies_of me (message.Snapshot c v) s = []
 
 -- the pending phase of the same ask, of which no answer has come; what is stored back stays
@@ -253,16 +266,20 @@ pub record IsWaiting (p : Pending) : Type 0 where
   pub count : p.count < p.need
   pub need : p.need ≤ known_limit
 
--- what the pending operation was asked by
+-- the first ask of the pending round
 abbrev pub asked_in : Phase → List Asked
 asked_in Idle = []
 asked_in (Storing p) = p.asked ∷ []
 asked_in (Querying p) = p.asked ∷ []
 asked_in (StoringBack p seen) = p.asked ∷ []
 
+-- the asks that are pending
+abbrev pub pending : Ops → List Asked
+pending s = asked_in s.phase ++ s.others
+
 -- the asks that are not answered yet
 abbrev pub unanswered : Ops → List Asked
-unanswered s = asked_in s.phase ++ s.line
+unanswered s = pending s ++ s.line
 
 -- the own value once all that wait have begun
 abbrev pub mine_at_last : Ops → Value

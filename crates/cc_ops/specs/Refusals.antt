@@ -1,13 +1,19 @@
 -- Why a command can't begin, as far as the pending operation and the own value say.
+--     passes                    whether the own number would pass its limit
 --     busy limit, set_full      one reason each; no more than `limit` asks may wait
-use Rattle.std.specs.Prelude.{ℕ, nat_le, not, ◌&&◌, ◌||◌, length, Option}
+use Rattle.std.specs.Prelude.{ℕ, Bool, nat_le, nat_lt, not, ◌&&◌, ◌||◌, length, Option}
 use Rattle.std.specs.Bool.{then_some}
+use Rattle.cc_views.specs.Limits.{counter_limit}
 use Rattle.cc_wire.specs.declared.command.Command.{Command}
 use Rattle.cc_wire.specs.declared.refusal.Refusal.{Refusal}
 use Rattle.cc_wire.specs.declared.refusal.Refusal.TheVariants as refusal
 use Rattle.cc_ops.specs.Commands.{finds_no_room}
 use Rattle.cc_ops.specs.Ops.{Ops, is_idle, unanswered, mine_at_last}
 use Rattle.cc_ops.specs.Waiting.{has_session}
+
+-- whether the own number, which a round raises by the number of its writes, would be raised past its limit
+abbrev pub passes : ℕ → ℕ → Bool
+passes before after = nat_lt before after && nat_lt counter_limit after
 
 -- an operation is pending, and as many asks wait as may, or one of the session isn't answered yet
 abbrev pub busy : ℕ → ℕ → Ops → Option Refusal

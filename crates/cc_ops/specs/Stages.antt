@@ -2,8 +2,8 @@
 --     phase_of stage seen      the phase, by its stage and the view that is stored back
 --     WaitsBehind              asks wait only behind a pending operation
 --     HasRoom line mine        the own set has room for what those that wait will put in
---     IsKept inside            both, the counters within their limits, and an operation that waits for more answers than it has
-use Rattle.std.specs.Prelude.{◌≡◌, ℕ, ◌≤◌, List, [], ⊤}
+--     IsKept inside            both, the counters and the share within their limits, and a round that waits for more answers than it has
+use Rattle.std.specs.Prelude.{◌≡◌, ℕ, ◌≤◌, ◌<◌, List, [], length, ⊤}
 use Rattle.cc_views.specs.Limits.{counter_limit, set_limit}
 use Rattle.cc_views.specs.NatSets as set
 use Rattle.cc_views.specs.Rows.{ViewMap}
@@ -12,7 +12,7 @@ use Rattle.cc_ops.specs.declared.pending.Asked.{Asked}
 use Rattle.cc_ops.specs.declared.stage.Stage.{Stage}
 use Rattle.cc_ops.specs.declared.stage.Stage.TheVariants as stage
 use Rattle.cc_ops.specs.Ops.{Phase, Idle, Storing, Querying, StoringBack, IsWaiting}
-use Rattle.cc_ops.specs.Waiting.{written_by}
+use Rattle.cc_ops.specs.Waiting.{line_limit, written_by}
 
 abbrev pub phase_of : Stage → ViewMap → Phase
 phase_of stage.Idle seen = Idle
@@ -43,9 +43,12 @@ WaitsBehind (stage.StoringBack p) line = ⊤
 abbrev pub HasRoom : List Asked → Value → Type 0
 HasRoom line mine = set.len (written_by line mine).set ≤ set_limit
 
-pub record IsKept (written rounds : ℕ) (mine : Value) (at : Stage) (line : List Asked) : Type 0 where
+pub record IsKept (written rounds share : ℕ) (mine : Value) (at : Stage) (others line : List Asked) : Type 0 where
   pub number : written ≤ counter_limit
   pub tag : rounds ≤ counter_limit
+  pub some : 1 ≤ share
+  pub few : share ≤ line_limit
+  pub beside : length others < share
   pub waits : HasWaiting at
   pub behind : WaitsBehind at line
   pub room : HasRoom line mine

@@ -1,6 +1,6 @@
 -- Asks that wait, one behind the other.
 --     line_limit, FitsLine    how many wait at most; so many, and room for them
---     first_in, first_round   the first of them; what begins once nothing is pending: the first of them alone
+--     first_in                the first of them
 --     has_session s asks      whether one of them is of that session
 --     AreApart asks           no two of them are of one session
 --     writes_by, written_by   how often they write the own value, and what they make of it, one after the other
@@ -21,11 +21,6 @@ pub record FitsLine (asks : List Asked) (capacity : ℕ) : Type 0 where
 abbrev pub first_in : List Asked → Option Asked
 first_in [] = None
 first_in (asked ∷ asks) = Some asked
-
--- the asks that begin where nothing is pending any more
-abbrev pub first_round : List Asked → List Asked
-first_round [] = []
-first_round (asked ∷ asks) = asked ∷ []
 
 abbrev pub has_session : ℕ → List Asked → Bool
 has_session session asks = list_any (λ (asked : Asked). nat_eq session asked.session) asks

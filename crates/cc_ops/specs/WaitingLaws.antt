@@ -1,12 +1,14 @@
 -- What the own value and the sessions are along asks that wait.
+--     reading_leaves            a reading command leaves the own value
 --     written_last              the own value once one more has begun behind them
 --     written_fits, fits_written  a command that finds room leaves the own set within its limit, and one that does found room
 --     first_room, room_behind, own_room   where all that wait find room, so does the first of them, so do the others, and what is there
 --     none_last, apart_last     none of them is of a session, and no two are of one, with one more behind them
 --     writes_both, written_both   how often they write, and what they make of the own value, with others behind them
 --     writes_most               they write no more often than there are of them
+--     no_writes                 those that never write leave the own value
 use Rattle.std.proofs.Common.{◌≡◌, ℕ, ◌+◌, ◌≤◌, Bool, true, false, cond, not, ◌&&◌, ◌||◌, nat_eq, List, [], ◌∷◌, ◌++◌, length, refl, sym, ap, ◌∙◌, inl, inr, arith}
-use Rattle.std.specs.Prelude.{◌==◌}
+use Rattle.std.specs.Prelude.{◌==◌, if◌then◌else◌}
 use Rattle.std.proofs.lemmas.Bool.{cond_both, and_cases, or_parts, or_left, eq-eqb, eqb-false, ne_eqb}
 use Rattle.cc_views.specs.Limits.{set_limit}
 use Rattle.cc_views.specs.NatSets as set
@@ -18,6 +20,17 @@ use Rattle.cc_wire.specs.declared.command.Command.TheVariants as command
 use Rattle.cc_ops.specs.declared.pending.Asked.{Asked}
 use Rattle.cc_ops.specs.Commands.{is_writing, written, finds_no_room}
 use Rattle.cc_ops.specs.Waiting.{has_session, AreApart, writes_by, written_by}
+
+-- a reading command leaves the own value
+pub reading_leaves : (k : Command) (mine : Value) → is_writing k ≡ false → mine ≡ written k mine
+reading_leaves (command.Store text) mine e = cc
+reading_leaves command.Collect mine e = refl
+reading_leaves (command.WriteMax x) mine e = cc
+reading_leaves command.ReadMax mine e = refl
+reading_leaves command.SetFlag mine e = cc
+reading_leaves command.ReadFlag mine e = refl
+reading_leaves (command.AddMember x) mine e = cc
+reading_leaves command.ReadSet mine e = refl
 
 pub written_last : (asks : List Asked) (a : Asked) (mine : Value) → written_by (asks ++ a ∷ []) mine ≡ written a.command (written_by asks mine)
 written_last [] a mine = refl
@@ -71,7 +84,7 @@ more_within (command.AddMember x) mine more h =
     insert_within mine.set (set.insert more.set x) x tt (λ q there. within_insert more.set x tt q (h q there)) (contains-insert more.set x x ∙ or_left _ _ (eq-eqb x x refl))
 more_within command.ReadSet mine more h = h
 
-written_within : (k : Command) (mine : Value) → IsWithin mine.set (written k mine).set
+pub written_within : (k : Command) (mine : Value) → IsWithin mine.set (written k mine).set
 written_within (command.Store text) mine q h = h
 written_within command.Collect mine q h = h
 written_within (command.WriteMax x) mine q h = h
@@ -81,7 +94,7 @@ written_within command.ReadFlag mine q h = h
 written_within (command.AddMember x) mine q h = within_insert mine.set x tt q h
 written_within command.ReadSet mine q h = h
 
-all_within : (asks : List Asked) (mine more : Value) → IsWithin mine.set more.set → IsWithin (written_by asks mine).set (written_by asks more).set
+pub all_within : (asks : List Asked) (mine more : Value) → IsWithin mine.set more.set → IsWithin (written_by asks mine).set (written_by asks more).set
 all_within [] mine more h = h
 all_within (a ∷ asks) mine more h = all_within asks (written a.command mine) (written a.command more) (more_within a.command mine more h)
 
@@ -144,3 +157,12 @@ writes_most (a ∷ asks) =
 pub written_both : (asks more : List Asked) (mine : Value) → written_by (asks ++ more) mine ≡ written_by more (written_by asks mine)
 written_both [] more mine = refl
 written_both (a ∷ asks) more mine = written_both asks more (written a.command mine)
+
+pub no_writes : (asks : List Asked) (mine : Value) → writes_by asks ≡ 0 → written_by asks mine ≡ mine
+no_writes [] mine none = refl
+no_writes (a ∷ asks) mine none =
+    elim (is_writing a.command)
+    as (λ b. is_writing a.command ≡ b → (if b then 1 else 0) + writes_by asks ≡ 0 → written_by asks (written a.command mine) ≡ mine) [
+      | true ↦ λ _ some. absurd (omega (arith, some))
+      | false ↦ λ reads more. ap (written_by asks) (sym (reading_leaves a.command mine reads)) ∙ no_writes asks mine (omega (arith, more))
+    ] refl none

@@ -6,6 +6,7 @@ ghost use Rattle.cc_views.specs.Limits.{counter_limit, known_limit, overruns};
 ghost use Rattle.cc_views.specs.Merge.{merge};
 ghost use Rattle.cc_ops.specs.Ops as ops;
 ghost use Rattle.cc_ops.specs.OwnLaws.{AsksAnewAlone};
+ghost use Rattle.cc_ops.specs.Refusals.{passes};
 
 use crate::ops::Ops;
 use crate::pending::round_of;
@@ -72,7 +73,7 @@ impl Ops {
 
     /// Whether a phase that begins anew would raise a counter that stands at its limit, `2 ^ 62`.
     pub fn anew_is_spent(&self) -> bool
-        ensures { (quorum : ℕ) → result ≡ (overruns self.now.number (ops.anew quorum self.now).number
+        ensures { (quorum : ℕ) → result ≡ (passes self.now.number (ops.anew quorum self.now).number
             || overruns self.now.tag (ops.anew quorum self.now).tag) }
     {
         self.tag == COUNTER_LIMIT

@@ -1,6 +1,6 @@
 //! What a client's command does: it begins an operation, writes the own value, and is answered.
 
-ghost use Rattle.std.specs.Prelude.{◌≡◌, ℕ, ◌+◌, ◌≤◌, ◌||◌, [], ◌∷◌, IfOk, IsFalse, None};
+ghost use Rattle.std.specs.Prelude.{◌≡◌, ℕ, ◌+◌, ◌≤◌, ◌||◌, [], ◌∷◌, true, IfOk, IsFalse, None};
 ghost use Rattle.std.specs.FinMap.{len};
 ghost use Rattle.cc_views.specs.Limits.{counter_limit, known_limit, overruns};
 ghost use Rattle.cc_objects.specs.Objects as objects;
@@ -10,9 +10,12 @@ ghost use Rattle.std.specs.Bool.{then_some};
 ghost use Rattle.cc_ops.specs.Commands as commands;
 ghost use Rattle.cc_ops.specs.Ops as ops;
 ghost use Rattle.cc_ops.specs.Stages.{HasRoom};
-ghost use Rattle.cc_ops.specs.Refusals.{busy, set_full};
-ghost use Rattle.cc_ops.specs.Waiting.{line_limit};
+ghost use Rattle.cc_ops.specs.Refusals.{busy, passes, set_full};
+ghost use Rattle.cc_ops.specs.OwnLaws.{IsRound};
+ghost use Rattle.cc_ops.specs.Waiting as waiting;
+ghost use Rattle.cc_ops.specs.Waiting.{line_limit, written_by};
 
+use crate::ask_list::writes_by;
 use crate::ops::Ops;
 use crate::pending::{Asked, round_of};
 use crate::stage::Stage;
@@ -51,24 +54,17 @@ impl Ops {
         Ok(())
     }
 
-    // Whether an operation of the command would raise a counter that stands at its limit, as it begins.
-    pub(crate) fn begin_is_spent(&self, command: &Command) -> bool
-        ensures { (me quorum session request : ℕ) → result ≡ (overruns self.now.number (ops.with_begun me quorum (record { session = session; request = request; command = command.now }) self.now).number
-            || overruns self.now.tag (ops.with_begun me quorum (record { session = session; request = request; command = command.now }) self.now).tag) }
-    {
-        self.tag == COUNTER_LIMIT || (is_writing(command) && self.number == COUNTER_LIMIT)
-    }
-
     /// Whether an ask of the command would raise a counter that stands at its limit, `2 ^ 62`. One that waits raises none.
     pub fn ask_is_spent(&self, command: &Command) -> bool
-        ensures { (me quorum session request : ℕ) → result ≡ (overruns self.now.number (ops.after_ask me quorum (record { session = session; request = request; command = command.now }) self.now).number
+        ensures { (me quorum session request : ℕ) → result ≡ (passes self.now.number (ops.after_ask me quorum (record { session = session; request = request; command = command.now }) self.now).number
             || overruns self.now.tag (ops.after_ask me quorum (record { session = session; request = request; command = command.now }) self.now).tag) }
     {
-        self.is_idle() && self.begin_is_spent(command)
+        let raises = is_writing(command) && self.number == COUNTER_LIMIT;
+        self.is_idle() && (raises || self.tag == COUNTER_LIMIT)
     }
 
-    /// Takes an ask, which isn't refused: its operation begins where none is pending, and waits behind the others where
-    /// one is. It takes no memory.
+    /// Takes an ask, which isn't refused: a round of it alone begins where none is pending, and it waits behind the others
+    /// where one is. It takes no memory.
     pub fn ask(&mut self, me: NodeId, quorum: u64, asked: &Asked)
         requires free { busy line_limit asked.now.session self.old ≡ None }
         requires room { IsFalse (commands.finds_no_room (ops.mine_at_last self.old) asked.now.command) }
@@ -80,26 +76,27 @@ impl Ops {
         ensures { self.new ≡ ops.after_ask me quorum asked.now self.old }
     {
         if self.is_idle() {
+            self.others.clear();
             self.begin(me, quorum, asked);
         } else {
             self.line.push(asked);
         }
     }
 
-    // Begins an operation that needs so many answers: a write stores the own value under its next number, a read asks
-    // for the views of others (CCC, client).
+    // Begins a round of this ask and the others, which needs so many answers: writes store the own value under the number of
+    // the last of them, reads ask for the views of others (CCC, client).
     pub(crate) fn begin(&mut self, me: NodeId, quorum: u64, asked: &Asked)
-        requires room { IsFalse (commands.finds_no_room self.old.mine asked.now.command) }
-        requires later { HasRoom self.old.line (commands.written asked.now.command self.old.mine) }
+        requires room { HasRoom self.old.line (written_by (asked.now ∷ self.old.others) self.old.mine) }
         requires some { 1 ≤ quorum }
         requires few { quorum ≤ known_limit }
-        requires fits { len (ops.with_begun me quorum asked.now self.old).view ≤ known_limit }
-        requires number { (ops.with_begun me quorum asked.now self.old).number ≤ counter_limit }
-        requires tag { (ops.with_begun me quorum asked.now self.old).tag ≤ counter_limit }
-        ensures { self.new ≡ ops.with_begun me quorum asked.now self.old }
+        requires fits { len (ops.begin_round me quorum (asked.now ∷ self.old.others) self.old).view ≤ known_limit }
+        requires number { (ops.begin_round me quorum (asked.now ∷ self.old.others) self.old).number ≤ counter_limit }
+        requires tag { (ops.begin_round me quorum (asked.now ∷ self.old.others) self.old).tag ≤ counter_limit }
+        requires alike { IsRound (asked.now ∷ self.old.others) }
+        ensures { self.new ≡ ops.begin_round me quorum (asked.now ∷ self.old.others) self.old }
     {
         if is_writing(&asked.command) {
-            self.write(me, &asked.command);
+            self.write(me, asked);
             self.stage = Stage::Storing(round_of(asked, quorum));
         } else {
             self.stage = Stage::Querying(round_of(asked, quorum));
@@ -107,16 +104,17 @@ impl Ops {
         self.tag += 1;
     }
 
-    // Writes the own value, under the next number, and its row in the view.
-    fn write(&mut self, me: NodeId, command: &Command)
-        requires room { IsFalse (commands.finds_no_room self.old.mine command.now) }
-        requires later { HasRoom self.old.line (commands.written command.now self.old.mine) }
-        requires fits { len (ops.with_own_row me (ops.with_written command.now self.old)).view ≤ known_limit }
-        requires number { self.old.number + 1 ≤ counter_limit }
-        ensures { self.new ≡ ops.with_own_row me (ops.with_written command.now self.old) }
+    // Writes the own value for this ask and the others, and its row in the view, under the number of the last write.
+    fn write(&mut self, me: NodeId, asked: &Asked)
+        requires writes { commands.is_writing asked.now.command ≡ true }
+        requires room { HasRoom self.old.line (written_by (asked.now ∷ self.old.others) self.old.mine) }
+        requires fits { len (ops.with_own_row me (ops.with_written (asked.now ∷ self.old.others) self.old)).view ≤ known_limit }
+        requires number { self.old.number + waiting.writes_by (asked.now ∷ self.old.others) ≤ counter_limit }
+        ensures { self.new ≡ ops.with_own_row me (ops.with_written (asked.now ∷ self.old.others) self.old) }
     {
-        self.number += 1;
-        self.mine = written(command, &self.mine);
+        let first = written(&asked.command, &self.mine);
+        self.mine = self.others.last_value(&first).unwrap();
+        self.number += 1 + writes_by(self.others.asks());
         self.view.merge_row(Row {
             node: me,
             number: self.number,
@@ -134,10 +132,10 @@ impl Ops {
         asked: &Asked,
     ) -> Result<Message, NoMemory>
         requires room { IsFalse (commands.finds_no_room self.now.mine asked.now.command) }
-        requires fits { len (ops.with_begun me quorum asked.now self.now).view ≤ known_limit }
-        requires number { (ops.with_begun me quorum asked.now self.now).number ≤ counter_limit }
-        requires tag { (ops.with_begun me quorum asked.now self.now).tag ≤ counter_limit }
-        ensures { IfOk result (λ m. m ≡ ops.first_post me asked.now (ops.with_begun me quorum asked.now self.now)) }
+        requires fits { len (ops.begin_round me quorum (asked.now ∷ []) self.now).view ≤ known_limit }
+        requires number { (ops.begin_round me quorum (asked.now ∷ []) self.now).number ≤ counter_limit }
+        requires tag { (ops.begin_round me quorum (asked.now ∷ []) self.now).tag ≤ counter_limit }
+        ensures { IfOk result (λ m. m ≡ ops.first_post me asked.now (ops.begin_round me quorum (asked.now ∷ []) self.now)) }
     {
         if !is_writing(&asked.command) {
             return Ok(Message::Query {

@@ -1,30 +1,35 @@
 //! The state of a client and server.
 
-ghost use Rattle.std.specs.Prelude.{◌≡◌, ◌≤◌, ◌↔◌, IfOk, IsTrue};
+ghost use Rattle.std.specs.Prelude.{◌≡◌, ◌≤◌, ◌<◌, ◌↔◌, IfOk, IsTrue, length};
 ghost use Rattle.std.specs.Option.{option_map};
 ghost use Rattle.cc_views.specs.Limits.{counter_limit};
 ghost use Rattle.cc_ops.specs.Ops as ops;
 ghost use Rattle.cc_ops.specs.Stages.{stage_of, phase_of, HasWaiting, WaitsBehind, HasRoom};
-ghost use Rattle.cc_ops.specs.Waiting.{has_session, AreApart};
+ghost use Rattle.cc_ops.specs.Waiting.{line_limit, has_session, AreApart};
 
+use crate::ask_list::{AskList, are_apart};
 use crate::stage::Stage;
-use crate::waiting_line::{WaitingLine, are_apart};
 use cc_views::{NoMemory, Value, View};
 use std::alloc::Global;
 use std::marker::Model;
 
-/// The view, the own value under its number, the pending operation, and the asks that wait behind it (CCC, client and
-/// server).
+/// The view, the own value under its number, the pending round, and the asks that wait behind it (CCC, client and server).
+/// A round has up to `share` asks of one kind, which write or read.
 #[derive(Debug, Drop)]
 pub struct Ops {
     pub(crate) view: View,
     pub(crate) number: u64,
     pub(crate) mine: Value,
     pub(crate) tag: u64,
+    pub(crate) share: usize,
     pub(crate) stage: Stage,
     // What is stored back, where the stage says so. Its room is made at the start.
     pub(crate) seen: View,
-    pub(crate) line: WaitingLine,
+    // The asks that are pending beside that of the stage.
+    pub(crate) others: AskList,
+    pub(crate) line: AskList,
+    // What is left of the line as a round is taken from it.
+    pub(crate) spare: AskList,
 }
 
 impl Model for Ops {
@@ -36,54 +41,69 @@ impl Model for Ops {
 
     ghost coded = { ops_code };
 
-    ghost view = { λ a. record { view = a.view; number = a.number; mine = a.mine; tag = a.tag; phase = phase_of a.stage a.seen; line = a.line } };
+    ghost view = { λ a. record { view = a.view; number = a.number; mine = a.mine; tag = a.tag; share = a.share; phase = phase_of a.stage a.seen; others = a.others; line = a.line } };
 
-    ghost invariant = { λ a. IsKept a.number a.tag a.mine a.stage a.line };
+    ghost invariant = { λ a. IsKept a.number a.tag a.share a.mine a.stage a.others a.line };
 }
 
 impl Ops {
-    /// Nothing stored, and no operation pending. The only error is a refused growth.
-    pub fn new(alloc: Global) -> Result<Self, NoMemory>
-        ensures { IfOk result (λ o. o ≡ ops.nothing_done) }
+    /// Nothing stored, and no round pending; up to `share` asks begin together. The only error is a refused growth.
+    pub fn new(alloc: Global, share: usize) -> Result<Self, NoMemory>
+        requires some { 1 ≤ share }
+        requires few { share ≤ line_limit }
+        ensures { IfOk result (λ o. o ≡ ops.nothing_done share) }
     {
         Ok(Ops {
             view: View::new(alloc)?,
             number: 0,
             mine: Value::empty(),
             tag: 0,
+            share,
             stage: Stage::Idle,
             seen: View::new(alloc)?,
-            line: WaitingLine::new(alloc)?,
+            others: AskList::new(alloc)?,
+            line: AskList::new(alloc)?,
+            spare: AskList::new(alloc)?,
         })
     }
 
     /// These parts, and `seen` is what is stored back, where the stage says that something is; it has its room from the
-    /// start. Asks wait only where an operation is pending, and the own set has room for theirs. For a decoder of states.
+    /// start. Asks wait only where a round is pending, and the own set has room for theirs. For a decoder of states. The
+    /// only error is a refused growth.
     pub fn from_parts(
+        alloc: Global,
         view: View,
         number: u64,
         mine: Value,
         tag: u64,
+        share: usize,
         stage: Stage,
         seen: View,
-        line: WaitingLine,
-    ) -> Self
+        others: AskList,
+        line: AskList,
+    ) -> Result<Self, NoMemory>
         requires number { number ≤ counter_limit }
         requires tag { tag ≤ counter_limit }
+        requires some { 1 ≤ share }
+        requires few { share ≤ line_limit }
+        requires beside { length others < share }
         requires waits { HasWaiting stage }
         requires behind { WaitsBehind stage line }
         requires room { HasRoom line mine }
-        ensures { result ≡ record { view = view; number = number; mine = mine; tag = tag; phase = phase_of stage seen; line = line } }
+        ensures { IfOk result (λ o. o ≡ record { view = view; number = number; mine = mine; tag = tag; share = share; phase = phase_of stage seen; others = others; line = line }) }
     {
-        Ops {
+        Ok(Ops {
             view,
             number,
             mine,
             tag,
+            share,
             stage,
             seen,
+            others,
             line,
-        }
+            spare: AskList::new(alloc)?,
+        })
     }
 
     /// The same in memory of its own. The only error is a refused growth.
@@ -95,9 +115,12 @@ impl Ops {
             number: self.number,
             mine: self.mine,
             tag: self.tag,
+            share: self.share,
             stage: self.stage,
             seen: self.seen.copy(alloc)?,
+            others: self.others.copy(alloc)?,
             line: self.line.copy(alloc)?,
+            spare: AskList::new(alloc)?,
         })
     }
 
@@ -131,7 +154,16 @@ impl Ops {
         self.tag
     }
 
-    /// The pending operation, which waits for more answers than it has.
+    /// How many asks of one kind begin together at most.
+    pub fn share(&self) -> usize
+        ensures share { result ≡ self.now.share }
+        ensures some { 1 ≤ result }
+        ensures few { result ≤ line_limit }
+    {
+        self.share
+    }
+
+    /// How far the pending round has come, with its first ask. It waits for more answers than it has.
     pub fn stage(&self) -> Stage
         ensures stage { result ≡ stage_of self.now.phase }
         ensures waits { HasWaiting result }
@@ -161,9 +193,17 @@ impl Ops {
         }
     }
 
-    /// The asks that wait until the pending operation has ended. None waits where none is pending, and the own set has
+    /// The asks that are pending beside that of the stage, behind it. There are fewer than the share.
+    pub fn others(&self) -> &AskList
+        ensures others { result.now ≡ self.now.others }
+        ensures few { length result.now < self.now.share }
+    {
+        &self.others
+    }
+
+    /// The asks that wait until the pending round has ended. None waits where none is pending, and the own set has
     /// room for what those that wait will put in.
-    pub fn line(&self) -> &WaitingLine
+    pub fn line(&self) -> &AskList
         ensures line { result.now ≡ self.now.line }
         ensures behind { WaitsBehind (stage_of self.now.phase) result.now }
         ensures room { HasRoom result.now self.now.mine }
@@ -175,11 +215,18 @@ impl Ops {
     pub fn is_unanswered(&self, session: u64) -> bool
         ensures { result ≡ has_session session (ops.unanswered self.now) }
     {
+        self.is_first(session) || self.others.has_session(session) || self.line.has_session(session)
+    }
+
+    // Whether the first ask of the pending round is of the session.
+    fn is_first(&self, session: u64) -> bool
+        ensures { result ≡ has_session session (ops.asked_in self.now.phase) }
+    {
         let stage = self.stage;
         match stage {
-            Stage::Idle => self.line.has_session(session),
+            Stage::Idle => false,
             Stage::Storing(pending) | Stage::Querying(pending) | Stage::StoringBack(pending) => {
-                session == pending.asked.session || self.line.has_session(session)
+                session == pending.asked.session
             }
         }
     }
@@ -188,14 +235,15 @@ impl Ops {
     pub fn are_apart(&self) -> bool
         ensures { IsTrue result ↔ AreApart (ops.unanswered self.now) }
     {
-        if !are_apart(self.line.asks()) {
+        if !are_apart(self.others.asks(), self.line.asks()) {
             return false;
         }
         let stage = self.stage;
         match stage {
             Stage::Idle => true,
             Stage::Storing(pending) | Stage::Querying(pending) | Stage::StoringBack(pending) => {
-                !self.line.has_session(pending.asked.session)
+                let session = pending.asked.session;
+                !self.others.has_session(session) && !self.line.has_session(session)
             }
         }
     }

@@ -1,28 +1,29 @@
 //! How an operation goes from phase to phase and ends, and what is posted and told on the way.
 
-ghost use Rattle.std.specs.Prelude.{◌≡◌, ℕ, ◌≤◌, ◌||◌, [], ◌∷◌, if◌then◌else◌, IfOk, IfSome, IsFalse, is_some, option_map};
+ghost use Rattle.std.specs.Prelude.{◌≡◌, ℕ, ◌+◌, ◌≤◌, ◌||◌, [], ◌∷◌, map, if◌then◌else◌, Some, IfOk, IsFalse, is_some, option_map};
 ghost use Rattle.std.specs.Bool.{then_some};
 ghost use Rattle.std.specs.FinMap.{len};
 ghost use Rattle.cc_views.specs.Limits.{counter_limit, known_limit, overruns};
 ghost use Rattle.cc_wire.specs.declared.message.Message.TheVariants as message;
-ghost use Rattle.cc_ops.specs.Commands as commands;
 ghost use Rattle.cc_ops.specs.Ops as ops;
 ghost use Rattle.cc_ops.specs.Ops.{IsWaiting};
+ghost use Rattle.cc_ops.specs.Refusals.{passes};
 ghost use Rattle.cc_ops.specs.Waiting.{first_in};
 
-use crate::commands::answer_of;
+use crate::commands::{answer_of, is_writing};
 use crate::ops::Ops;
+use crate::parting::{take_round, value_of_round, writes_of_round};
 use crate::pending::{Asked, Pending, Reply, counted, is_last, round_of};
 use crate::replies::Replies;
 use crate::stage::Stage;
-use cc_views::{COUNTER_LIMIT, NoMemory, NodeId, View};
+use cc_views::{COUNTER_LIMIT, NoMemory, NodeId, Row, View};
 use cc_wire::Message;
 use std::alloc::Global;
 
 impl Ops {
     /// Takes a message: views that it carries are merged, and an operation goes on only by answers to its own tag. A
     /// read that has its replies needs `quorum` acknowledgements of what it stores back (CCC, client and server). With the
-    /// last acknowledgement the first ask that waits begins. It takes no memory.
+    /// last acknowledgement the first round of the asks that wait begins. It takes no memory.
     pub fn apply(&mut self, me: NodeId, quorum: u64, message: &Message)
         requires some { 1 ≤ quorum }
         requires few { quorum ≤ known_limit }
@@ -94,17 +95,23 @@ impl Ops {
         }
     }
 
-    // The operation is done: the first of the asks that wait begins.
+    // The round is done: the first one of the asks that wait begins.
     fn begin_first(&mut self, me: NodeId, quorum: u64)
         requires pending { IsFalse (ops.is_idle self.old.phase) }
         requires some { 1 ≤ quorum }
         requires few { quorum ≤ known_limit }
-        requires fits { len (ops.after_last me quorum self.old.line self.old).view ≤ known_limit }
-        requires number { (ops.after_last me quorum self.old.line self.old).number ≤ counter_limit }
-        requires tag { (ops.after_last me quorum self.old.line self.old).tag ≤ counter_limit }
-        ensures { self.new ≡ ops.after_last me quorum self.old.line self.old }
+        requires fits { len (ops.after_last me quorum self.old).view ≤ known_limit }
+        requires number { (ops.after_last me quorum self.old).number ≤ counter_limit }
+        requires tag { (ops.after_last me quorum self.old).tag ≤ counter_limit }
+        ensures { self.new ≡ ops.after_last me quorum self.old }
     {
-        match self.line.take_first() {
+        let round = take_round(
+            &mut self.line,
+            self.share,
+            &mut self.others,
+            &mut self.spare,
+        );
+        match round {
             Some(asked) => self.begin(me, quorum, &asked),
             None => self.stage = Stage::Idle,
         }
@@ -112,7 +119,7 @@ impl Ops {
 
     /// What a message is answered with. A node serves others only once it has joined (CCC, server); the last reply to the
     /// own query is answered with a Store of what is seen by then (CCC, client), and the last acknowledgement with what
-    /// the first ask that waits begins with. The only error is a refused growth.
+    /// the first round of the asks that wait begins with. The only error is a refused growth.
     pub fn post(
         &self,
         alloc: Global,
@@ -174,7 +181,7 @@ impl Ops {
         Ok(None)
     }
 
-    // With the last acknowledgement, what the first ask that waits begins with.
+    // With the last acknowledgement, what the first round of the asks that wait begins with.
     fn post_of_ack(
         &self,
         alloc: Global,
@@ -184,18 +191,43 @@ impl Ops {
         requires fits { len (ops.after_ack me quorum self.now.phase self.now).view ≤ known_limit }
         requires number { (ops.after_ack me quorum self.now.phase self.now).number ≤ counter_limit }
         requires tag { (ops.after_ack me quorum self.now.phase self.now).tag ≤ counter_limit }
-        ensures { IfOk result (λ p. p ≡ ops.post_of_round me (ops.begun_in self.now.phase self.now.line) (ops.after_ack me quorum self.now.phase self.now)) }
+        ensures { IfOk result (λ p. p ≡ ops.post_of_round me (ops.begun_in self.now.phase self.now) (ops.after_ack me quorum self.now.phase self.now)) }
     {
         match self.begun_by_ack() {
-            Some(asked) => Ok(Some(self.first_post(alloc, me, quorum, asked)?)),
+            Some(asked) => Ok(Some(self.round_post(alloc, me, asked)?)),
             None => Ok(None),
         }
     }
 
-    // The ask that begins with one more acknowledgement.
+    // What the first round of the line begins with, whose first ask this is: a write with a Store of the view after all of
+    // it, a read with a Query.
+    fn round_post(&self, alloc: Global, me: NodeId, asked: &Asked) -> Result<Message, NoMemory>
+        requires first { Some asked.now ≡ first_in self.now.line }
+        requires fits { (quorum : ℕ) → len (ops.after_last me quorum self.now).view ≤ known_limit }
+        requires number { (quorum : ℕ) → (ops.after_last me quorum self.now).number ≤ counter_limit }
+        requires tag { self.now.tag + 1 ≤ counter_limit }
+        ensures { (quorum : ℕ) → IfOk result (λ m. m ≡ ops.first_post me asked.now (ops.after_last me quorum self.now)) }
+    {
+        let tag = self.tag + 1;
+        if !is_writing(&asked.command) {
+            return Ok(Message::Query { tag, node: me });
+        }
+        let mut view = self.view.copy(alloc)?;
+        view.merge_row(Row {
+            node: me,
+            number: self.number + writes_of_round(self.line.asks(), self.share),
+            value: value_of_round(self.line.asks(), self.share, &self.mine),
+        });
+        Ok(Message::Store {
+            view,
+            tag,
+            node: me,
+        })
+    }
+
+    // The first ask of the round that begins with one more acknowledgement.
     fn begun_by_ack(&self) -> Option<&Asked>
-        ensures asked { option_map (λ asked. asked.now) result ≡ first_in (ops.begun_in self.now.phase self.now.line) }
-        ensures room { IfSome result (λ asked. IsFalse (commands.finds_no_room self.now.mine asked.now.command)) }
+        ensures asked { option_map (λ asked. asked.now) result ≡ first_in (ops.begun_in self.now.phase self.now) }
     {
         if !self.ends_store() {
             return None;
@@ -203,8 +235,8 @@ impl Ops {
         self.line.first()
     }
 
-    /// What clients are told on a message: the answer, where this is the last acknowledgement of an operation. A read is
-    /// answered from the view that it stored back (CCC, client). The only error is a refused growth.
+    /// What clients are told on a message: the answers of the round, where this is its last acknowledgement. Reads are
+    /// answered from the view that was stored back (CCC, client). The only error is a refused growth.
     pub fn replies(&self, alloc: Global, me: NodeId, message: &Message) -> Result<Replies, NoMemory>
         ensures { IfOk result (λ r. r ≡ ops.replies_of me message.now self.now) }
     {
@@ -217,14 +249,36 @@ impl Ops {
     }
 
     fn replies_of_ack(&self, alloc: Global) -> Result<Replies, NoMemory>
-        ensures { IfOk result (λ r. r ≡ ops.replies_in self.now.view self.now.phase) }
+        ensures { IfOk result (λ r. r ≡ ops.replies_in self.now.view self.now.others self.now.phase) }
     {
         let stage = self.stage;
         match stage {
             Stage::Idle | Stage::Querying(_) => Ok(Replies::none()),
-            Stage::Storing(pending) => told_if_last(alloc, &pending, &self.view),
-            Stage::StoringBack(pending) => told_if_last(alloc, &pending, &self.seen),
+            Stage::Storing(pending) => self.told_if_last(alloc, &pending, &self.view),
+            Stage::StoringBack(pending) => self.told_if_last(alloc, &pending, &self.seen),
         }
+    }
+
+    // The answers of the round, read from that view, where one more acknowledgement ends it.
+    fn told_if_last(
+        &self,
+        alloc: Global,
+        pending: &Pending,
+        seen: &View,
+    ) -> Result<Replies, NoMemory>
+        requires { IsWaiting pending.now }
+        ensures { IfOk result (λ r. r ≡ (if ops.is_last pending.now then map (ops.told seen.now) (pending.now.asked ∷ self.now.others) else [])) }
+    {
+        if !is_last(pending) {
+            return Ok(Replies::none());
+        }
+        let first = told(alloc, &pending.asked, seen)?;
+        let mut replies = Replies::one(alloc, first)?;
+        for asked in self.others.asks() {
+            let reply = told(alloc, asked, seen)?;
+            replies.push(reply)?;
+        }
+        Ok(replies)
     }
 
     /// Whether a message is answered with a post; needs no memory.
@@ -243,9 +297,9 @@ impl Ops {
         }
     }
 
-    /// Whether the message would raise a counter that stands at its limit, `2 ^ 62`.
+    /// Whether the message would raise a counter past its limit, `2 ^ 62`.
     pub fn is_spent(&self, me: NodeId, quorum: u64, message: &Message) -> bool
-        ensures { result ≡ (overruns self.now.number (ops.after_message me quorum message.now self.now).number
+        ensures { result ≡ (passes self.now.number (ops.after_message me quorum message.now self.now).number
             || overruns self.now.tag (ops.after_message me quorum message.now self.now).tag) }
     {
         match message {
@@ -259,15 +313,16 @@ impl Ops {
         }
     }
 
-    // Whether one more acknowledgement would raise a counter that stands at its limit.
+    // Whether one more acknowledgement would raise a counter past its limit.
     fn ack_is_spent(&self) -> bool
-        ensures { (me quorum : ℕ) → result ≡ (overruns self.now.number (ops.after_ack me quorum self.now.phase self.now).number
+        ensures { (me quorum : ℕ) → result ≡ (passes self.now.number (ops.after_ack me quorum self.now.phase self.now).number
             || overruns self.now.tag (ops.after_ack me quorum self.now.phase self.now).tag) }
     {
-        match self.begun_by_ack() {
-            Some(asked) => self.begin_is_spent(&asked.command),
-            None => false,
+        if self.begun_by_ack().is_none() {
+            return false;
         }
+        let writes = writes_of_round(self.line.asks(), self.share);
+        self.tag == COUNTER_LIMIT || self.number + writes > COUNTER_LIMIT
     }
 
     // Whether one more reply ends the query.
@@ -293,20 +348,12 @@ impl Ops {
     }
 }
 
-fn told_if_last(alloc: Global, pending: &Pending, seen: &View) -> Result<Replies, NoMemory>
-    requires { IsWaiting pending.now }
-    ensures { IfOk result (λ r. r ≡ (if ops.is_last pending.now then ops.told pending.now seen.now ∷ [] else [])) }
+fn told(alloc: Global, asked: &Asked, seen: &View) -> Result<Reply, NoMemory>
+    ensures { IfOk result (λ r. r ≡ ops.told seen.now asked.now) }
 {
-    if !is_last(pending) {
-        return Ok(Replies::none());
-    }
-    let answer = answer_of(alloc, &pending.asked.command, seen)?;
-    Replies::one(
-        alloc,
-        Reply {
-            session: pending.asked.session,
-            request: pending.asked.request,
-            answer,
-        },
-    )
+    Ok(Reply {
+        session: asked.session,
+        request: asked.request,
+        answer: answer_of(alloc, &asked.command, seen)?,
+    })
 }

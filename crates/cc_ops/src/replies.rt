@@ -1,6 +1,6 @@
 //! What clients are told on one event.
 
-ghost use Rattle.std.specs.Prelude.{◌≡◌, ◌≤◌, ◌==◌, [], ◌∷◌, length, IfOk, IfSome, None};
+ghost use Rattle.std.specs.Prelude.{◌≡◌, ◌≤◌, ◌<◌, ◌==◌, ◌++◌, [], ◌∷◌, length, IfOk, OnOk, IfSome, None};
 ghost use Rattle.cc_ops.specs.Waiting.{line_limit};
 
 use crate::pending::Reply;
@@ -50,6 +50,17 @@ impl Replies {
         Ok(Replies {
             replies: Some(replies),
         })
+    }
+
+    /// One more, behind the others. The only error is a refused growth.
+    pub fn push(&mut self, reply: Reply) -> Result<(), NoMemory>
+        requires some { 1 ≤ length self.old }
+        requires room { length self.old < line_limit }
+        ensures { OnOk result (self.new ≡ self.old ++ reply ∷ []) }
+    {
+        let replies = self.replies.as_mut().unwrap();
+        replies.push(reply)?;
+        Ok(())
     }
 
     /// All of them.

@@ -20,6 +20,9 @@ const MAX_NODES: usize = 16;
 /// The fractions of a node where no line says others.
 pub const FOUR_FIFTHS: Fraction = Fraction { num: 4, den: 5 };
 
+// The share of a node where no line says another: its asks begin one at a time.
+const ONE_BY_ONE: u32 = 1;
+
 /// What came of a line.
 #[derive(Clone, Copy, Debug, PartialEq, Eq)]
 pub enum Played {
@@ -29,12 +32,13 @@ pub enum Played {
     Ended,
 }
 
-/// Nodes in the order in which they were made, and the fractions of the next one.
+/// Nodes in the order in which they were made, and the fractions and the share of the next one.
 #[derive(Drop)]
 pub struct Cluster {
     stations: Vec<Station>,
     beta: Fraction,
     gamma: Fraction,
+    share: u32,
 }
 
 impl Cluster {
@@ -44,6 +48,7 @@ impl Cluster {
             stations: Vec::new(alloc),
             beta: FOUR_FIFTHS,
             gamma: FOUR_FIFTHS,
+            share: ONE_BY_ONE,
         }
     }
 
@@ -56,6 +61,7 @@ impl Cluster {
     ) -> Result<Played, PlayFault> {
         match line {
             Line::Fractions { beta, gamma } => Ok(self.set_fractions(beta, gamma)),
+            Line::Share { share } => Ok(self.set_share(share)),
             Line::Member { id, initial } => self.add(alloc, id, &initial, &[], output),
             Line::Entrant { id, contacts } => self.add(alloc, id, &[], &contacts, output),
             Line::Event { node, event } => self.take(alloc, node, event, output),
@@ -70,6 +76,11 @@ impl Cluster {
     fn set_fractions(&mut self, beta: Fraction, gamma: Fraction) -> Played {
         self.beta = beta;
         self.gamma = gamma;
+        Played::Good
+    }
+
+    fn set_share(&mut self, share: u32) -> Played {
+        self.share = share;
         Played::Good
     }
 
@@ -128,6 +139,7 @@ impl Cluster {
             contacts,
             beta: self.beta,
             gamma: self.gamma,
+            share: self.share as usize,
         };
         match Station::new(alloc, &opening) {
             Ok(station) => {

@@ -14,6 +14,8 @@ use std::alloc::{AllocError, Global};
 pub enum Line {
     /// The fractions of the nodes that are made after it.
     Fractions { beta: Fraction, gamma: Fraction },
+    /// How many asks of the nodes that are made after it begin together at most.
+    Share { share: u32 },
     /// Makes a member, one of these.
     Member { id: u32, initial: Vec<u32> },
     /// Makes an entrant that can reach these.
@@ -53,7 +55,6 @@ fn line_of(alloc: Global, words: &[&str]) -> Result<Option<Line>, AllocError> {
 // The line of these words, where it has no list.
 fn plain_line(words: &[&str]) -> Option<Line> {
     match words {
-        ["fractions", beta, gamma] => fractions(beta, gamma),
         ["enter", node] => event_at(node, Some(Event::Enter)),
         ["leave", node] => event_at(node, Some(Event::Leave)),
         ["ask", node, session, request, asked @ ..] => {
@@ -92,6 +93,15 @@ fn absent_line(words: &[&str]) -> Option<Line> {
     match words {
         ["lapse", node, absent] => event_at(node, lapse(absent)),
         ["snapshot", node] => event_at(node, Some(Event::Snapshot)),
+        _ => next_nodes(words),
+    }
+}
+
+// The line of these words, where it says how the nodes that are made after it begin.
+fn next_nodes(words: &[&str]) -> Option<Line> {
+    match words {
+        ["fractions", beta, gamma] => fractions(beta, gamma),
+        ["share", share] => share_of(share),
         _ => None,
     }
 }
@@ -100,6 +110,12 @@ fn fractions(beta: &str, gamma: &str) -> Option<Line> {
     Some(Line::Fractions {
         beta: fraction(beta)?,
         gamma: fraction(gamma)?,
+    })
+}
+
+fn share_of(share: &str) -> Option<Line> {
+    Some(Line::Share {
+        share: small_number(share)?,
     })
 }
 

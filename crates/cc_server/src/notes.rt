@@ -88,6 +88,12 @@ pub fn note_back<R: Eprint>(rt: &R, me: NodeId, peer: NodeId) {
     info!(logged; "node {} hears node {} again", me.number(), peer.number());
 }
 
+/// Several asks begin together: up to so many.
+pub fn note_share<R: Eprint>(rt: &R, me: NodeId, share: usize) {
+    let logged = Logged::new(rt, Level::Info, Console(rt));
+    info!(logged; "node {} begins up to {} asks together", me.number(), share);
+}
+
 /// A node of the folder has no address.
 pub fn note_unreachable<R: Eprint>(rt: &R, me: NodeId, node: NodeId) {
     let logged = Logged::new(rt, Level::Warn, Console(rt));

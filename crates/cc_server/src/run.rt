@@ -6,7 +6,7 @@ ghost use Rattle.cc_intake.specs.Accepting.{share_limit};
 
 use crate::channels::Channels;
 use crate::config::Config;
-use crate::notes::{note_unknown, note_unreachable};
+use crate::notes::{note_share, note_unknown, note_unreachable};
 use crate::of_life::OfLife;
 use crate::office::Office;
 use crate::run_fault::RunFault;
@@ -157,7 +157,7 @@ where
             let address = listener.local_addr().unwrap_or(run.config.listen);
             run.shared.known.learn_links(run.rt, &core);
             note(run, me, "runs", address);
-            note_addresses(run.rt, &core, &run.config.peers);
+            note_opened(run.rt, &core, &run.config.peers);
             let ready = Ready {
                 engine,
                 core,
@@ -207,6 +207,15 @@ where
 fn note<R: Eprint, H>(run: &Run<'_, R, H>, me: NodeId, what: &str, address: SocketAddr) {
     let logged = Logged::new(run.rt, Level::Info, Console(run.rt));
     info!(logged; "node {} {} at {}", me.number(), what, address);
+}
+
+// Notes the share of the node that was found, where it isn't 1, and how its folder and its peers agree.
+fn note_opened<R: Eprint>(rt: &R, core: &Core, peers: &[Peer]) {
+    let share = core.ops().share();
+    if share > 1 {
+        note_share(rt, core.me(), share);
+    }
+    note_addresses(rt, core, peers);
 }
 
 // Notes which nodes of the folder have no address, and which peers it doesn't know.

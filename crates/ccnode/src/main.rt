@@ -91,6 +91,7 @@ fn format(rt: &HostRuntime, formatted: &Formatted<'_>) -> anyhow::Result<ExitCod
         contacts: formatted.contacts,
         beta: formatted.beta,
         gamma: formatted.gamma,
+        share: formatted.share,
     };
     match FormatOrder::parse(rt.alloc(), &words) {
         Ok(order) => format_as(rt, formatted.folder, &order),

@@ -14,6 +14,8 @@ mod records;
 #[cfg(test)]
 mod refusals;
 #[cfg(test)]
+mod shared_states;
+#[cfg(test)]
 mod states;
 #[cfg(test)]
 mod windows;

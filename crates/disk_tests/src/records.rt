@@ -24,6 +24,7 @@ fn entrant(alloc: Global) -> Result<Node, Fail> {
         contacts: &[1],
         beta: fraction,
         gamma: fraction,
+        share: 1,
     };
     Ok(Node::fresh(alloc, &opening)?)
 }

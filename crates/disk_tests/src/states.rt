@@ -3,7 +3,7 @@
 use crate::refusals::unless_failed;
 use cc_changes::Fraction;
 use cc_checkpoint::{OpenFault, StateFault, decode_state, encode_state};
-use cc_node::{Node, Opening};
+use cc_node::{Layout, Node, Opening};
 use cc_site::{Call, DeviceFault, Side};
 use cc_views::NodeId;
 use cc_wire::{Command, Event, WireFault};
@@ -62,13 +62,25 @@ pub(crate) fn opened(
     initial: &[u32],
     contacts: &[u32],
 ) -> Result<Node, Fail> {
-    let share = Fraction { num: 4, den: 5 };
+    opened_with_share(alloc, me, initial, contacts, 1)
+}
+
+/// A node of that share.
+pub(crate) fn opened_with_share(
+    alloc: Global,
+    me: u32,
+    initial: &[u32],
+    contacts: &[u32],
+    share: usize,
+) -> Result<Node, Fail> {
+    let most = Fraction { num: 4, den: 5 };
     let opening = Opening {
         me,
         initial,
         contacts,
-        beta: share,
-        gamma: share,
+        beta: most,
+        gamma: most,
+        share,
     };
     Ok(Node::fresh(alloc, &opening)?)
 }
@@ -81,7 +93,7 @@ pub(crate) fn encoded(alloc: Global, node: &Node) -> Result<Vec<u8>, Fail> {
 }
 
 fn decoded(alloc: Global, bytes: &[u8]) -> Result<Node, Fail> {
-    Ok(decode_state(alloc, bytes, true)?)
+    Ok(decode_state(alloc, bytes, Layout::Lined)?)
 }
 
 // The state of the node that the bytes are decoded to.
@@ -93,7 +105,7 @@ fn stored_again(alloc: Global, bytes: &[u8]) -> Result<Vec<u8>, Fail> {
 }
 
 fn fault(alloc: Global, bytes: &[u8]) -> Option<StateFault> {
-    match decode_state(alloc, bytes, true) {
+    match decode_state(alloc, bytes, Layout::Lined) {
         Ok(node) => {
             drop(node);
             None
@@ -113,8 +125,8 @@ pub(crate) fn led_to(node: Node, done: Result<(), Fail>) -> Result<Node, Fail> {
     }
 }
 
-// The bytes, with another one at that place.
-fn turned(alloc: Global, bytes: &[u8], at: usize, byte: u8) -> Result<Vec<u8>, Fail> {
+/// The bytes, with another one at that place.
+pub(crate) fn turned(alloc: Global, bytes: &[u8], at: usize, byte: u8) -> Result<Vec<u8>, Fail> {
     let mut turned = Vec::from_slice(alloc, bytes)?;
     if let Some(place) = turned.get_mut(at) {
         *place = byte;
@@ -174,7 +186,7 @@ fn without_line(alloc: Global, bytes: &[u8]) -> Result<Vec<u8>, Fail> {
 
 // The state of the node whose state these bytes of version 1 are.
 fn from_version_1(alloc: Global, bytes: &[u8]) -> Result<Vec<u8>, Fail> {
-    let node = decode_state(alloc, bytes, false)?;
+    let node = decode_state(alloc, bytes, Layout::Plain)?;
     let state = encoded(alloc, &node);
     drop(node);
     state

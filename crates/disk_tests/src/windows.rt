@@ -36,6 +36,7 @@ fn member_of_256(alloc: Global) -> Result<Node, Fail> {
         contacts: &[],
         beta: Fraction { num: 1, den: 256 },
         gamma: Fraction { num: 4, den: 5 },
+        share: 1,
     };
     Ok(Node::fresh(alloc, &opening)?)
 }
@@ -94,8 +95,8 @@ fn holds(alloc: Global, site: &mut MemorySite, node: &Node) -> Result<bool, Fail
     Ok(holds)
 }
 
-// The node that is read off side A, and the place behind its state.
-fn read(alloc: Global, site: &mut MemorySite) -> Result<(Node, u64), OpenFault> {
+/// The node that is read off side A, and the place behind its state.
+pub(crate) fn read(alloc: Global, site: &mut MemorySite) -> Result<(Node, u64), OpenFault> {
     let mut piece = Piece::new(alloc)?;
     let read = read_state(alloc, site, Side::A, &mut piece);
     drop(piece);
@@ -150,17 +151,22 @@ fn a_short_state_is_read_back(rt: HostRuntime) -> Result<(), Fail> {
     Ok(())
 }
 
-// What an armed side has up to the end of a state, of which so many bytes are told.
-fn front(alloc: Global, state: &[u8], told: usize) -> Result<Vec<u8>, Fail> {
+/// What an armed side has up to the end of a state of that version, of which so many bytes are told.
+pub(crate) fn front(
+    alloc: Global,
+    version: u8,
+    state: &[u8],
+    told: usize,
+) -> Result<Vec<u8>, Fail> {
     let told = u32::try_from(told).or(Err("no state is so long"))?;
-    let mut bytes = Vec::from_slice(alloc, &[0xA5, 0, 0, 0, 0, 0, 0, 0, 1, 2])?;
+    let mut bytes = Vec::from_slice(alloc, &[0xA5, 0, 0, 0, 0, 0, 0, 0, 1, version])?;
     bytes.extend_from_slice(&told.to_be_bytes())?;
     bytes.extend_from_slice(state)?;
     Ok(bytes)
 }
 
-// Why the state of side A can't be read, where the side has just these bytes.
-fn fault(alloc: Global, bytes: &[u8]) -> Result<Option<OpenFault>, Fail> {
+/// Why the state of side A can't be read, where the side has just these bytes.
+pub(crate) fn fault(alloc: Global, bytes: &[u8]) -> Result<Option<OpenFault>, Fail> {
     let mut site = MemorySite::new(alloc, 0)?;
     let written = write_durably(&mut site, Side::A, 0, bytes);
     let fault = why_unread(alloc, &mut site);
@@ -179,8 +185,8 @@ fn why_unread(alloc: Global, site: &mut MemorySite) -> Option<OpenFault> {
     }
 }
 
-// A side of that node is cut off at each byte.
-fn check_cuts<R: Abort + AllocGlobal>(rt: &R, side: &[u8]) -> Result<(), Fail> {
+/// A side that holds a node is cut off at each byte.
+pub(crate) fn check_cuts<R: Abort + AllocGlobal>(rt: &R, side: &[u8]) -> Result<(), Fail> {
     for len in 0..side.len() {
         // No version stands there, or no length, or that goes past the end.
         let place = if len < 10 { 9 } else { 10 };
@@ -202,13 +208,18 @@ fn kept_state(alloc: Global) -> Result<Vec<u8>, Fail> {
 #[test]
 fn each_cut_of_a_side_is_damaged(rt: HostRuntime) -> Result<(), Fail> {
     let state = kept_state(rt.alloc())?;
-    let side = front(rt.alloc(), &state, state.len())?;
+    let side = front(rt.alloc(), 2, &state, state.len())?;
     check_cuts(&rt, &side)
 }
 
 // Of the state that long a part is told, whatever stands behind it.
-fn check_part<R: Abort + AllocGlobal>(rt: &R, state: &[u8], told: usize) -> Result<(), Fail> {
-    let side = front(rt.alloc(), state, told)?;
+fn check_part<R: Abort + AllocGlobal>(
+    rt: &R,
+    version: u8,
+    state: &[u8],
+    told: usize,
+) -> Result<(), Fail> {
+    let side = front(rt.alloc(), version, state, told)?;
     let part = side
         .get(..told.saturating_add(14))
         .ok_or("no state stands there")?;
@@ -218,11 +229,20 @@ fn check_part<R: Abort + AllocGlobal>(rt: &R, state: &[u8], told: usize) -> Resu
     Ok(())
 }
 
+/// Of a state each part but the whole is told.
+pub(crate) fn check_parts<R: Abort + AllocGlobal>(
+    rt: &R,
+    version: u8,
+    state: &[u8],
+) -> Result<(), Fail> {
+    for told in 0..state.len() {
+        check_part(rt, version, state, told)?;
+    }
+    Ok(())
+}
+
 #[test]
 fn each_part_of_a_state_is_damaged(rt: HostRuntime) -> Result<(), Fail> {
     let state = kept_state(rt.alloc())?;
-    for told in 0..state.len() {
-        check_part(&rt, &state, told)?;
-    }
-    Ok(())
+    check_parts(&rt, 2, &state)
 }

@@ -20,6 +20,8 @@ mod openings;
 #[cfg(test)]
 mod refusals;
 #[cfg(test)]
+mod shared_rounds;
+#[cfg(test)]
 mod ten_lives;
 #[cfg(test)]
 mod versions;

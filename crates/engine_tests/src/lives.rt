@@ -162,7 +162,8 @@ fn failing(alloc: Global, at: u64, failing: Failing) -> Result<MemorySite, Fail>
     image
 }
 
-fn failing_image(
+/// The site as a crash leaves it, of which the disk call with that number behind its opening fails.
+pub fn failing_image(
     alloc: Global,
     from: &MemorySite,
     at: u64,

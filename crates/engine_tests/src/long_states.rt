@@ -54,6 +54,7 @@ fn member_of_256(alloc: Global) -> Result<Node, Fail> {
         contacts: &[],
         beta: Fraction { num: 1, den: 256 },
         gamma: Fraction { num: 4, den: 5 },
+        share: 1,
     };
     Ok(Node::fresh(alloc, &opening)?)
 }

@@ -32,6 +32,7 @@ pub fn formatted(
         contacts,
         beta: share,
         gamma: share,
+        share: 1,
     };
     format(alloc, site, &opening)
 }

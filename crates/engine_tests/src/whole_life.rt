@@ -151,6 +151,7 @@ fn fresh(alloc: Global) -> Result<Node, Fail> {
         contacts: &[],
         beta: share,
         gamma: share,
+        share: 1,
     };
     Ok(Node::fresh(alloc, &opening)?)
 }

@@ -33,6 +33,7 @@ fn lived(alloc: Global, site: MemorySite) -> Result<(usize, Option<Stopped>), Fa
         contacts: &[1],
         beta: share,
         gamma: share,
+        share: 1,
     };
     let batch = batch_of_enter(alloc, &opening)?;
     let (site, stopped) = match live_once_in_memory(alloc, site, &opening, batch) {

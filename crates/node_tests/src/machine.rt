@@ -19,6 +19,7 @@ pub fn opening<'a>(me: u32, initial: &'a [u32], contacts: &'a [u32]) -> Opening<
         contacts,
         beta: FOUR_FIFTHS,
         gamma: FOUR_FIFTHS,
+        share: 1,
     }
 }
 
@@ -56,11 +57,21 @@ fn a_member_is_one_of_the_first_and_no_contact_of_its_own(rt: HostRuntime) -> Re
         gamma: Fraction { num: 6, den: 5 },
         ..opening(1, &[1], &[])
     };
+    let shareless = Opening {
+        share: 0,
+        ..opening(1, &[1], &[])
+    };
+    let shared = Opening {
+        share: Opening::MAX_SHARE + 1,
+        ..opening(1, &[1], &[])
+    };
     let bad = [
         opening(1, &[2], &[]),
         opening(1, &[], &[1]),
         nothing,
         beyond,
+        shareless,
+        shared,
     ];
     check_bad(&rt, &bad);
     Ok(())

@@ -7,7 +7,7 @@ use cc_changes::{Changes, Fraction, IdSet};
 use cc_churn::Churn;
 use cc_links::{LinkRow, Links};
 use cc_node::{CoreParts, Node};
-use cc_ops::{Asked, Ops, Pending, Stage, WaitingLine};
+use cc_ops::{AskList, Asked, Ops, Pending, Stage};
 use cc_outbox::Outbox;
 use cc_sessions::Sessions;
 use cc_views::{NodeId, Row, Value, View};
@@ -150,10 +150,11 @@ fn stage(round: Round) -> Stage
 fn ops(alloc: Global, state: &State) -> Result<Ops, Fail> {
     let stage = stage(state.round);
     let mine = Value::empty();
-    let line = WaitingLine::new(alloc)?;
+    let line = AskList::new(alloc)?;
+    let others = AskList::new(alloc)?;
     let known = view(alloc, state.known)?;
     let seen = view(alloc, state.seen)?;
-    Ok(Ops::from_parts(known, 1, mine, 1, stage, seen, line))
+    Ok(Ops::from_parts(alloc, known, 1, mine, 1, 1, stage, seen, others, line)?)
 }
 
 // The link of node 1 to itself.

@@ -1,7 +1,7 @@
 //! Asks that wait.
 
 use cc_objects::{add_member, write_text};
-use cc_ops::{Asked, WaitingLine};
+use cc_ops::{AskList, Asked};
 use cc_views::{Text, Value};
 use cc_wire::Command;
 use std::process::Abort;
@@ -16,7 +16,7 @@ fn first_request(session: u64, command: Command) -> Asked {
 }
 
 // The asks of two sessions wait: a store of `a`, and member 5 to be added.
-fn check_line<R: Abort>(rt: &R, line: &WaitingLine, text: Text) -> Result<(), Fail> {
+fn check_line<R: Abort>(rt: &R, line: &AskList, text: Text) -> Result<(), Fail> {
     let sessions = (
         line.asks().len(),
         line.first().map(|asked| asked.session),
@@ -33,7 +33,7 @@ fn check_line<R: Abort>(rt: &R, line: &WaitingLine, text: Text) -> Result<(), Fa
 #[test]
 fn a_line_tells_what_waits(rt: HostRuntime) -> Result<(), Fail> {
     let text = Text::new(b"a").ok_or("a is a text")?;
-    let mut line = WaitingLine::new(rt.alloc())?;
+    let mut line = AskList::new(rt.alloc())?;
     line.push(&first_request(7, Command::Store(text)));
     line.push(&first_request(8, Command::AddMember(5)));
     let checked = check_line(&rt, &line, text);

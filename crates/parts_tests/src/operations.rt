@@ -7,7 +7,7 @@ ghost use Rattle.cc_ops.specs.Ops as ops;
 ghost use Rattle.cc_wire.specs.declared.command.Command.TheVariants as command;
 ghost use Rattle.cc_wire.specs.declared.message.Message.TheVariants as message;
 
-use cc_ops::{Asked, Ops, Pending, Replies, Reply, Stage, WaitingLine, is_writing};
+use cc_ops::{AskList, Asked, Ops, Pending, Replies, Reply, Stage, is_writing};
 use cc_views::{NodeId, Row, Text, Value, View};
 use cc_wire::{Answer, Command, Message};
 use std::alloc::Global;
@@ -34,10 +34,10 @@ pub fn first_request(command: Command) -> Asked
 
 /// A collect has begun.
 pub fn querying(alloc: Global) -> Result<Ops, Fail>
-    ensures { IfOk result (λ o. o ≡ ops.after_ask 1 1 (record { session = 7; request = 1; command = command.Collect }) ops.nothing_done) }
+    ensures { IfOk result (λ o. o ≡ ops.after_ask 1 1 (record { session = 7; request = 1; command = command.Collect }) (ops.nothing_done 1)) }
 {
     let me = me()?;
-    let mut ops = Ops::new(alloc)?;
+    let mut ops = Ops::new(alloc, 1)?;
     ops.ask(me, 1, &first_request(Command::Collect));
     Ok(ops)
 }
@@ -98,7 +98,7 @@ fn check_new<R: Abort>(rt: &R, ops: &Ops) {
 
 #[test]
 fn a_new_node_has_stored_nothing(rt: HostRuntime) -> Result<(), Fail> {
-    let ops = Ops::new(rt.alloc())?;
+    let ops = Ops::new(rt.alloc(), 1)?;
     check_new(&rt, &ops);
     drop(ops);
     Ok(())
@@ -119,8 +119,20 @@ fn parts_are_put_together(rt: HostRuntime) -> Result<(), Fail> {
     });
     let view = View::new(rt.alloc())?;
     let seen = View::new(rt.alloc())?;
-    let line = WaitingLine::new(rt.alloc())?;
-    let ops = Ops::from_parts(view, 3, Value::empty(), 5, stage, seen, line);
+    let line = AskList::new(rt.alloc())?;
+    let others = AskList::new(rt.alloc())?;
+    let ops = Ops::from_parts(
+        rt.alloc(),
+        view,
+        3,
+        Value::empty(),
+        5,
+        1,
+        stage,
+        seen,
+        others,
+        line,
+    )?;
     check_parts(&rt, &ops, &stage);
     drop(ops);
     Ok(())
@@ -164,10 +176,10 @@ fn a_copy_waits_for_the_same(rt: HostRuntime) -> Result<(), Fail> {
 
 // The first post of an operation of a new node.
 fn first_post(alloc: Global, command: Command) -> Result<Message, Fail>
-    requires { IsFalse (commands.finds_no_room ops.nothing_done.mine command) }
+    requires { IsFalse (commands.finds_no_room (ops.nothing_done 1).mine command) }
 {
     let me = me()?;
-    let ops = Ops::new(alloc)?;
+    let ops = Ops::new(alloc, 1)?;
     let post = ops.first_post(alloc, me, 1, &first_request(command));
     drop(ops);
     Ok(post?)
@@ -270,7 +282,7 @@ fn empty_store(alloc: Global) -> Result<Message, Fail>
 
 fn said_to_a_store(alloc: Global) -> Result<Said, Fail> {
     let store = empty_store(alloc)?;
-    match Ops::new(alloc) {
+    match Ops::new(alloc, 1) {
         Ok(server) => {
             let said = answered(alloc, &server, &store);
             drop(server);

@@ -110,6 +110,20 @@ fractions -4/5 4/5
 fractions 4/5 4/4294967296
 fractions 4/5 a/b";
 
+const NO_SHARES: &str = "\
+share
+share\x20
+share 01
+share -1
+share +1
+share a
+share 1/2
+share 1 2
+share 1,2
+share 2\x20
+share 4294967296
+Share 2";
+
 const NO_NODES: &str = "\
 member
 member 2
@@ -242,6 +256,7 @@ fn a_bad_line_ends_the_script(rt: HostRuntime) -> Result<(), Fail> {
     for &lines in &[
         NO_COMMANDS,
         NO_FRACTIONS,
+        NO_SHARES,
         NO_NODES,
         NO_OPENINGS,
         NO_EVENTS,
@@ -259,26 +274,41 @@ fn a_bad_line_ends_the_script(rt: HostRuntime) -> Result<(), Fail> {
     Ok(())
 }
 
-// A fraction outside its bounds is bad once a node is to have it.
-const NO_SHARES: &str = "\
+// A fraction or a share outside its bounds is bad once a node is to have it.
+const OUT_OF_BOUNDS: &str = "\
 fractions 0/5 4/5
 fractions 6/5 4/5
 fractions 0/0 4/5
 fractions 4/5 0/5
 fractions 4/5 6/5
-fractions 4/5 4/0";
+fractions 4/5 4/0
+share 0
+share 33
+share 4294967295";
 
-fn check_bad_share<R: Abort + AllocGlobal>(rt: &R, line: &str) -> Result<(), Fail> {
+fn check_out_of_bounds<R: Abort + AllocGlobal>(rt: &R, line: &str) -> Result<(), Fail> {
     let script = format!(in rt.alloc(); "member 1 of 1\n{line}\nmember 2 of 2\n")?;
     check(rt, &script, 1, "line 3: bad\n")
 }
 
 #[test]
-fn a_node_with_a_bad_fraction_is_bad(rt: HostRuntime) -> Result<(), Fail> {
-    for line in NO_SHARES.split('\n') {
-        check_bad_share(&rt, line)?;
+fn a_node_out_of_bounds_is_bad(rt: HostRuntime) -> Result<(), Fail> {
+    for line in OUT_OF_BOUNDS.split('\n') {
+        check_out_of_bounds(&rt, line)?;
     }
     Ok(())
+}
+
+// A later line of the same kind takes it back.
+#[test]
+fn the_last_share_counts(rt: HostRuntime) -> Result<(), Fail> {
+    check(&rt, "share 33\nshare 2\nmember 1 of 1\n", 0, "")?;
+    check(
+        &rt,
+        "share 2\nshare 33\nmember 1 of 1\n",
+        1,
+        "line 3: bad\n",
+    )
 }
 
 // What came before it is printed, and a last line without a newline counts.

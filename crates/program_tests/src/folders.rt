@@ -22,6 +22,7 @@ const ENTRANT: FormatWords<'_> = FormatWords {
     contacts: Some("1"),
     beta: None,
     gamma: None,
+    share: None,
 };
 
 // Formats a folder for a node: the status, and what is printed.
@@ -200,6 +201,7 @@ fn a_folder_is_formatted_once(rt: HostRuntime) -> Result<(), Fail> {
         contacts: Some("3"),
         beta: Some("1/2"),
         gamma: Some("2/3"),
+        share: Some("32"),
     };
     check_format(&rt, FOLDER, &member, 0, "formatted 1\n")?;
     check_format(&rt, FOLDER, &member, 1, "AlreadyFormatted\n")?;
@@ -208,8 +210,8 @@ fn a_folder_is_formatted_once(rt: HostRuntime) -> Result<(), Fail> {
     Ok(())
 }
 
-// Words of the right form for nodes that can't begin: one without a name, one of no cluster, a list that doesn't ascend, and
-// a fraction above 1.
+// Words of the right form for nodes that can't begin: one without a name, one of no cluster, a list that doesn't ascend, a
+// fraction above 1, and shares of none and of more than 32.
 #[test]
 fn no_node_begins_so(rt: HostRuntime) -> Result<(), Fail> {
     const FOLDER: &str = "folder_of_no_node";
@@ -228,10 +230,66 @@ fn no_node_begins_so(rt: HostRuntime) -> Result<(), Fail> {
             beta: Some("5/4"),
             ..ENTRANT
         },
+        FormatWords {
+            share: Some("0"),
+            ..ENTRANT
+        },
+        FormatWords {
+            share: Some("33"),
+            ..ENTRANT
+        },
     ] {
         check_format(&rt, FOLDER, &words, 1, "BadOpening\n")?;
     }
     check_dump(&rt, FOLDER, 1, EMPTY)?;
     fs::remove_dir_all(&rt, FOLDER)?;
+    Ok(())
+}
+
+// Member 1 of 1.
+const MEMBER: FormatWords<'_> = FormatWords {
+    id: "1",
+    initial: Some("1"),
+    contacts: None,
+    beta: None,
+    gamma: None,
+    share: None,
+};
+
+// Side A of a new folder that is formatted for a node of that share.
+fn side_of_share<R: Abort + AllocGlobal + Files<File = File>>(
+    rt: &R,
+    folder: &str,
+    share: Option<&str>,
+) -> Result<Vec<u8>, Fail> {
+    made(rt, folder)?;
+    let words = FormatWords { share, ..MEMBER };
+    check_format(rt, folder, &words, 0, "formatted 1\n")?;
+    let path = format!(in rt.alloc(); "{folder}/side-a")?;
+    let side = fs::read(rt, path.as_str())?;
+    fs::remove_dir_all(rt, folder)?;
+    Ok(side)
+}
+
+// A node without the word has the share 1, and is kept as nodes were before there were shares.
+#[test]
+fn a_folder_of_share_1_is_as_one_without(rt: HostRuntime) -> Result<(), Fail> {
+    let without = side_of_share(&rt, "folder_without_share", None)?;
+    let one = side_of_share(&rt, "folder_of_share_1", Some("1"))?;
+    assert_eq!(rt; one.as_slice(), without.as_slice());
+    // The version, and the length of the state.
+    let head = [2, 0, 0, 0, 119];
+    assert_eq!(rt; (one.len(), one.get(9..14)), (134, Some(head.as_slice())));
+    Ok(())
+}
+
+// Its state has the share, no others of a round, and no ask that waits, from place 74 on.
+#[test]
+fn a_folder_keeps_its_share(rt: HostRuntime) -> Result<(), Fail> {
+    let side = side_of_share(&rt, "folder_of_share_32", Some("32"))?;
+    let (head, share) = ([32, 0, 0, 0, 121], [32, 0, 0]);
+    let parts = (side.get(9..14), side.get(88..91));
+    assert_eq!(rt; side.len(), 136);
+    assert_eq!(rt; parts, (Some(head.as_slice()), Some(share.as_slice())));
     Ok(())
 }

@@ -14,6 +14,8 @@ mod bad_lines;
 #[cfg(test)]
 mod checkpoints;
 #[cfg(test)]
+mod cluster_rounds;
+#[cfg(test)]
 mod clusters;
 #[cfg(test)]
 mod collects;
@@ -32,6 +34,8 @@ mod limits;
 #[cfg(test)]
 mod lines;
 #[cfg(test)]
+mod long_rounds;
+#[cfg(test)]
 mod node_faults;
 #[cfg(test)]
 mod objects;
@@ -39,6 +43,8 @@ mod objects;
 mod played;
 #[cfg(test)]
 mod retirements;
+#[cfg(test)]
+mod rounds;
 #[cfg(test)]
 mod rows;
 #[cfg(test)]

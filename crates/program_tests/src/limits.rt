@@ -67,8 +67,8 @@ fn a_cluster_has_room_for_16_nodes(rt: HostRuntime) -> Result<(), Fail> {
     Ok(())
 }
 
-// The script of a member that is made so, and that finishes so many stores by itself. Each makes two posts.
-fn stores(alloc: Global, member: &str, count: u64) -> Result<String, Fail> {
+/// The script of a member that is made so, and that finishes so many stores by itself. Each makes two posts.
+pub fn stores(alloc: Global, member: &str, count: u64) -> Result<String, Fail> {
     let mut script = String::from_str(alloc, member)?;
     for request in 1..=count {
         let lines = format!(in alloc; "ask 1 7 {request} store a\nall 2\n")?;

@@ -101,9 +101,9 @@ fn no_more_than_32_asks_wait(rt: HostRuntime) -> Result<(), Fail> {
     Ok(())
 }
 
-// So many numbers are in the own set, and then these lines.
-fn added(alloc: Global, numbers: u32, lines: &str) -> Result<String, Fail> {
-    let mut script = String::from_str(alloc, "member 1 of 1\n")?;
+/// The script of a member that is made so. So many numbers are in its own set, and then these lines.
+pub fn added(alloc: Global, member: &str, numbers: u32, lines: &str) -> Result<String, Fail> {
+    let mut script = String::from_str(alloc, member)?;
     for number in 1..=numbers {
         let line = format!(in alloc; "ask 1 7 {number} add {number}\nall 2\n")?;
         script.push_str(&line)?;
@@ -122,7 +122,7 @@ ask 1 9 1 add 32
 
 #[test]
 fn the_set_has_room_for_what_waits(rt: HostRuntime) -> Result<(), Fail> {
-    let script = added(rt.alloc(), 31, ADDS)?;
+    let script = added(rt.alloc(), "member 1 of 1\n", 31, ADDS)?;
     let (_, output) = played(rt.alloc(), &script)?;
     assert!(rt;
         output

@@ -1,10 +1,10 @@
-//! Scripts of members that stay away and of what begins anew: what they print, and that crashes and checkpoints after each
-//! line change nothing of it.
+//! Scripts of members that stay away, of what begins anew and of asks that begin together: what they print, and that crashes
+//! and checkpoints after each line change nothing of it.
 
 use crate::checkpoints::check_with;
 use crate::played::check;
 use crate::snapshots::{A_CRASH_IN_BETWEEN, A_CRASH_IN_BETWEEN_PRINTS};
-use crate::{absent, absent_entrants, anew, snapshots};
+use crate::{absent, absent_entrants, anew, cluster_rounds, long_rounds, rounds, snapshots};
 use std::alloc::Global;
 use std::process::Abort;
 use std::test::*;
@@ -18,7 +18,7 @@ pub struct Row {
 }
 
 // The words that begin the lines by which nodes are made.
-const MAKING: [&str; 3] = ["fractions ", "member ", "entrant "];
+const MAKING: [&str; 4] = ["fractions ", "share ", "member ", "entrant "];
 
 fn makes_nodes(line: &str) -> bool {
     MAKING.iter().any(|word| line.starts_with(word))
@@ -85,4 +85,19 @@ fn what_pends_begins_anew(rt: HostRuntime) -> Result<(), Fail> {
 #[test]
 fn snapshots_are_taken(rt: HostRuntime) -> Result<(), Fail> {
     check_rows(&rt, &snapshots::ROWS)
+}
+
+#[test]
+fn asks_begin_together(rt: HostRuntime) -> Result<(), Fail> {
+    check_rows(&rt, &rounds::ROWS)
+}
+
+#[test]
+fn thirty_two_asks_begin_together(rt: HostRuntime) -> Result<(), Fail> {
+    check_rows(&rt, &long_rounds::ROWS)
+}
+
+#[test]
+fn asks_begin_together_in_clusters(rt: HostRuntime) -> Result<(), Fail> {
+    check_rows(&rt, &cluster_rounds::ROWS)
 }

@@ -16,6 +16,7 @@ fn order(alloc: Global) -> Result<FormatOrder, Fail> {
         contacts: None,
         beta: None,
         gamma: None,
+        share: None,
     };
     Ok(FormatOrder::parse(alloc, &words)?)
 }

@@ -41,6 +41,7 @@ fn warned(
         contacts,
         beta,
         gamma: None,
+        share: None,
     };
     let order = FormatOrder::parse(alloc, &words)?;
     let warnings = order.warnings();

@@ -184,6 +184,7 @@ const GOOD: FormatWords<'_> = FormatWords {
     contacts: None,
     beta: None,
     gamma: None,
+    share: None,
 };
 
 #[test]
@@ -191,8 +192,8 @@ fn options_have_defaults(rt: HostRuntime) -> Result<(), Fail> {
     let order = FormatOrder::parse(rt.alloc(), &GOOD)?;
     assert_eq!(rt; order.id, 4);
     assert!(rt; order.initial.is_empty() && order.contacts.is_empty());
-    let share = Fraction { num: 4, den: 5 };
-    assert_eq!(rt; (order.beta, order.gamma), (share, share));
+    let most = Fraction { num: 4, den: 5 };
+    assert_eq!(rt; (order.beta, order.gamma, order.share), (most, most, 1));
     Ok(())
 }
 
@@ -227,6 +228,13 @@ fn each_word_of_format_is_checked(rt: HostRuntime) -> Result<(), Fail> {
                 ..GOOD
             },
             WordFault::Gamma,
+        ),
+        (
+            FormatWords {
+                share: Some("032"),
+                ..GOOD
+            },
+            WordFault::Share,
         ),
     ] {
         let refused = FormatOrder::parse(rt.alloc(), &words).err();

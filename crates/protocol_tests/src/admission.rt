@@ -181,6 +181,7 @@ fn who_acknowledged_least_is_furthest_behind(rt: HostRuntime) -> Result<(), Fail
             contacts: &[],
             beta: fraction,
             gamma: fraction,
+            share: 1,
         },
     )?;
     let checked = check_behind(&rt, &mut member);

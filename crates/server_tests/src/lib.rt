@@ -22,4 +22,6 @@ mod retiring;
 #[cfg(test)]
 mod routing;
 #[cfg(test)]
+mod sharing;
+#[cfg(test)]
 mod vectors;

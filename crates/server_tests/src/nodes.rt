@@ -77,13 +77,25 @@ pub(crate) fn format_member<R: AllocGlobal + Files<File = File>>(
     format_member_of(rt, folder, id, "1,2", None)
 }
 
-/// A new folder that keeps one of these members, of which a share β answers each operation.
+/// A new folder that keeps one of these members, of which a fraction β answers each operation.
 pub(crate) fn format_member_of<'w, R: AllocGlobal + Files<File = File>>(
     rt: &R,
     folder: &str,
     id: &'w str,
     members: &'w str,
     beta: Option<&'w str>,
+) -> Result<(), Fail> {
+    format_with_share(rt, folder, id, members, beta, None)
+}
+
+/// The same, up to so many of whose asks begin together.
+pub(crate) fn format_with_share<'w, R: AllocGlobal + Files<File = File>>(
+    rt: &R,
+    folder: &str,
+    id: &'w str,
+    members: &'w str,
+    beta: Option<&'w str>,
+    share: Option<&'w str>,
 ) -> Result<(), Fail> {
     let _ = fs::remove_dir_all(rt, folder);
     fs::create_dir(rt, folder)?;
@@ -93,6 +105,7 @@ pub(crate) fn format_member_of<'w, R: AllocGlobal + Files<File = File>>(
         contacts: None,
         beta,
         gamma: None,
+        share,
     };
     let order = FormatOrder::parse(rt.alloc(), &words)?;
     let mut output = Vec::new(rt.alloc());

@@ -29,8 +29,8 @@ const OUT_OF_TURN_REFUSED: [u8; 30] = [
 // Node 2 acknowledges a post that it was never sent: it is refused, and nobody is told.
 const ACK_OF_2: [u8; 17] = [0, 0, 0, 13, 2, 0, 0, 0, 2, 0, 0, 0, 0, 0, 0, 255, 1];
 
-// Reads the end.
-fn ends(stream: &mut TcpStream) -> bool {
+/// Reads the end.
+pub(crate) fn ends(stream: &mut TcpStream) -> bool {
     let mut piece = [0u8; 16];
     matches!(stream.read(&mut piece), Ok(0))
 }

@@ -31,15 +31,21 @@ pub(crate) fn check(holds: bool, what: &'static str) -> Result<(), Fail> {
 
 /// Member 1 of 1 on a disk in memory.
 pub(crate) fn formatted(alloc: Global) -> Result<MemorySite, Fail> {
-    let share = Fraction { num: 4, den: 5 };
+    formatted_with_share(alloc, 1)
+}
+
+/// The same, up to so many of whose asks begin together.
+pub(crate) fn formatted_with_share(alloc: Global, share: usize) -> Result<MemorySite, Fail> {
+    let most = Fraction { num: 4, den: 5 };
     let opening = Opening {
         me: 1,
         initial: &[1],
         contacts: &[],
-        beta: share,
-        gamma: share,
+        beta: most,
+        gamma: most,
+        share,
     };
-    match format(alloc, MemorySite::new(alloc, 1024)?, &opening) {
+    match format(alloc, MemorySite::new(alloc, 2048)?, &opening) {
         Ok(site) => Ok(site),
         Err(Back { site: _, fault }) => Err(fault)?,
     }

@@ -13,6 +13,8 @@ mod lives;
 #[cfg(test)]
 mod repeats;
 #[cfg(test)]
+mod sharing;
+#[cfg(test)]
 mod stories;
 #[cfg(test)]
 mod turns;

@@ -4,6 +4,7 @@ use crate::crashes::after_crash;
 use crate::fixtures::{Disk, drawn};
 use crate::holding::Hold;
 use crate::repeats::repeat;
+use crate::sharing::share_rounds;
 use crate::turns::{batches, full_queue, moves};
 use crate::workers::many;
 use cc_intake::{Intake, Lane, Life, Queue, Share, Turner};
@@ -22,6 +23,8 @@ pub(crate) enum Story {
     AfterCrash,
     /// So many workers bring so many events each.
     Workers(u32, u64),
+    /// Eight workers ask in 32 sessions each, and one ends what they begin.
+    Sharing,
 }
 
 pub(crate) fn play<L: Life + Send + Sync, Q: Lane + Send + Sync, R: Threads + Wait + Sync>(
@@ -34,8 +37,12 @@ pub(crate) fn play<L: Life + Send + Sync, Q: Lane + Send + Sync, R: Threads + Wa
     shares: &mut Vec<Share<L>>,
     story: Story,
 ) -> Result<(), Fail> {
-    if let Story::Workers(count, last) = story {
-        return many(rt, alloc, hooks, lock, turner, queue, shares, count, last);
+    match story {
+        Story::Workers(count, last) => {
+            return many(rt, alloc, hooks, lock, turner, queue, shares, count, last);
+        }
+        Story::Sharing => return share_rounds(rt, alloc, hooks, lock, turner, queue, shares),
+        _ => {}
     }
     shares.push(drawn(rt, lock)?)?;
     let share = shares.first_mut().ok_or("a share")?;
@@ -58,6 +65,6 @@ fn play_alone<L: Life, Q: Lane, R: Wait>(
         Story::FullQueue => full_queue(rt, alloc, lock, turner, queue, share),
         Story::Repeat => repeat(rt, alloc, hooks, lock, queue, share),
         Story::AfterCrash => after_crash(rt, alloc, lock, turner, queue, share),
-        Story::Workers(_, _) => Ok(()),
+        Story::Workers(_, _) | Story::Sharing => Ok(()),
     }
 }

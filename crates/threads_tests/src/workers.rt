@@ -3,6 +3,7 @@
 use crate::fixtures::{Disk, check, drawn, opened};
 use crate::holding::{Hold, Holding, TURNS};
 use crate::lives::lives;
+use crate::sharing::{Acker, Asker};
 use crate::stories::Story;
 use cc_intake::{Accepted, Intake, Lane, Life, Queue, Refused, Share, Source, Turner, work};
 use cc_node::Core;
@@ -25,7 +26,7 @@ const MOST_IDLE: u64 = 10_000_000;
 // Brings what it heard from one node, as messages 1 to `last`, each again where the queue was full, and none once the engine
 // has ended or the queue was full for too long.
 #[derive(Drop)]
-struct Peer<'a> {
+pub(crate) struct Peer<'a> {
     hooks: &'a Hold,
     node: NodeId,
     next: u64,
@@ -34,11 +35,7 @@ struct Peer<'a> {
     refused: u64,
 }
 
-impl Source for Peer<'_> {
-    ghost gives = { λ s e t. Unit {0} };
-
-    ghost hears = { λ s a t. Unit {0} };
-
+impl Peer<'_> {
     fn next(&mut self) -> Option<Event> {
         let done = self.next > self.last || self.full >= TURNS;
         if done || self.hooks.ended.load(Ordering::SeqCst) == 1 {
@@ -69,11 +66,52 @@ impl Source for Peer<'_> {
     }
 }
 
-// A worker: its share, and where its events come from.
+/// Where a worker's events come from.
 #[derive(Drop)]
-struct Worker<'a, L: Life> {
-    share: Share<L>,
-    peer: Peer<'a>,
+pub(crate) enum Client<'a> {
+    Peer(Peer<'a>),
+    Asker(Asker<'a>),
+    Acker(Acker<'a>),
+}
+
+impl Client<'_> {
+    // Whether all that it was to bring was accepted, by this share.
+    fn is_done(&self, count: u64) -> bool {
+        match self {
+            Client::Peer(peer) => count == peer.last && peer.refused == 0,
+            Client::Asker(asker) => asker.is_done(count),
+            Client::Acker(acker) => acker.is_done(),
+        }
+    }
+}
+
+impl Source for Client<'_> {
+    ghost gives = { λ s e t. Unit {0} };
+
+    ghost hears = { λ s a t. Unit {0} };
+
+    fn next(&mut self) -> Option<Event> {
+        match self {
+            Client::Peer(peer) => peer.next(),
+            Client::Asker(asker) => asker.next(),
+            Client::Acker(acker) => acker.next(),
+        }
+    }
+
+    fn told(&mut self, answer: Result<Accepted, Refused>) {
+        match self {
+            Client::Peer(peer) => peer.told(answer),
+            Client::Asker(asker) => asker.told(answer),
+            Client::Acker(acker) => acker.told(answer),
+        }
+    }
+}
+
+/// A worker: its share, and where its events come from.
+#[derive(Drop)]
+pub(crate) struct Worker<'a, L: Life> {
+    pub(crate) share: Share<L>,
+    pub(crate) client: Client<'a>,
 }
 
 // So many workers, each of a node of its own.
@@ -108,7 +146,8 @@ fn hire<'a, L: Life, Q: Lane, R: Wait>(
             refused: 0,
         };
         let share = drawn(rt, lock)?;
-        workers.push(Worker { share, peer })?;
+        let client = Client::Peer(peer);
+        workers.push(Worker { share, client })?;
     }
     Ok(())
 }
@@ -152,10 +191,10 @@ fn labour<'a, L: Life, Q: Lane, R: Wait>(
 ) -> Worker<'a, L> {
     let Worker {
         mut share,
-        mut peer,
+        mut client,
     } = worker;
-    work(rt, alloc, lock, queue, &mut share, hooks, &mut peer);
-    Worker { share, peer }
+    work(rt, alloc, lock, queue, &mut share, hooks, &mut client);
+    Worker { share, client }
 }
 
 fn labour_all<'a, L: Life + Send + Sync, Q: Lane + Send + Sync, R: Threads + Wait + Sync>(
@@ -174,13 +213,9 @@ fn labour_all<'a, L: Life + Send + Sync, Q: Lane + Send + Sync, R: Threads + Wai
 }
 
 // Takes the share of a worker, each of whose events was accepted.
-fn hand_in<L: Life>(
-    worker: Worker<'_, L>,
-    shares: &mut Vec<Share<L>>,
-    last: u64,
-) -> Result<(), Fail> {
-    let Worker { share, peer } = worker;
-    let whole = share.count() == last && peer.refused == 0;
+fn hand_in<L: Life>(worker: Worker<'_, L>, shares: &mut Vec<Share<L>>) -> Result<(), Fail> {
+    let Worker { share, client } = worker;
+    let whole = client.is_done(share.count());
     shares.push(share)?;
     check(whole, "each event of a worker is accepted")
 }
@@ -188,10 +223,9 @@ fn hand_in<L: Life>(
 fn hand_in_all<L: Life>(
     workers: Vec<Worker<'_, L>>,
     shares: &mut Vec<Share<L>>,
-    last: u64,
 ) -> Result<(), Fail> {
     for worker in workers {
-        hand_in(worker, shares, last)?;
+        hand_in(worker, shares)?;
     }
     Ok(())
 }
@@ -232,8 +266,25 @@ pub(crate) fn many<L: Life + Send + Sync, Q: Lane + Send + Sync, R: Threads + Wa
     last: u64,
 ) -> Result<(), Fail> {
     let workers = hired(rt, alloc, hooks, lock, count, last)?;
+    labour_whole(rt, alloc, hooks, lock, turner, queue, shares, workers)
+}
+
+/// The workers bring all that they are to bring, while one thread takes turns.
+pub(crate) fn labour_whole<'a, L: Life + Send + Sync, Q: Lane + Send + Sync, R>(
+    rt: &R,
+    alloc: Global,
+    hooks: &Hold,
+    lock: &Mutex<Intake<L, Q>>,
+    turner: &mut Turner<Disk<'_>, L, Q>,
+    queue: &Queue<L, Q>,
+    shares: &mut Vec<Share<L>>,
+    workers: Vec<Worker<'a, L>>,
+) -> Result<(), Fail>
+where
+    R: Threads + Wait + Sync,
+{
     let workers = labour_with_turns(rt, alloc, hooks, lock, turner, queue, workers)?;
-    hand_in_all(workers, shares, last)?;
+    hand_in_all(workers, shares)?;
     let late = hooks.late.load(Ordering::SeqCst);
     check(late == 0, "no hold gives up")
 }

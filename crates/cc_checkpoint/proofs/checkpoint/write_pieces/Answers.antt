@@ -1,7 +1,7 @@
-use Rattle.std.proofs.Common.{true, ◌≡◌, ◌≤◌, ◌++◌, inl, List, ℕ, length, sym, ap, ◌∙◌, append_assoc, arith}
+use Rattle.std.proofs.Common.{◌≡◌, ◌≤◌, ◌++◌, inl, List, ℕ, length, sym, ap, ◌∙◌, append_assoc, arith}
 use Rattle.std.proofs.lemmas.List.{length-append}
 use Rattle.std.proofs.lemmas.Result.{err_from_is_err_and}
-use Rattle.cc_node.specs.States.{state_spelling, state_of}
+use Rattle.cc_node.specs.States.{layout_of_node, node_spelling}
 use Rattle.cc_checkpoint.specs.Parts.{joined}
 use Rattle.cc_checkpoint.proofs.PartLaws.{joined_rest}
 use Rattle.cc_checkpoint.proofs.PastGate.{half_past, front_kept}
@@ -25,7 +25,7 @@ overflow_add-place g c =
     omega (
       arith,
       c.loop-pieces.invariant.place,
-      length-node true _ _ c.requires.spelled,
+      length-node (layout_of_node c.args.node.now) _ _ c.requires.spelled,
       c.requires.short,
       ap length c.as_slice-bytes.ensures,
       c.next.ensures.fits,
@@ -81,5 +81,5 @@ returns-in_err-write_at-clause-failed g c honest =
       inl (ap (λ f. f.call) c.in_err-write_at.ensures.fault.0),
       half_past (s.state mid side) (s.state c.write_at.new.self side) c.loop-pieces.place (length c.as_slice-bytes.result.now)
           (omega (arith, c.requires.there, so_far.from)) (omega (arith, so_far.within honest)) (c.in_err-write_at.ensures.failed honest_mid)
-          ∙ front_kept (s.state mid side).bytes (joined c.loop-pieces.pieces) (s.state old side).bytes (state_spelling true (state_of c.args.node.now)) some there (so_far.value honest),
+          ∙ front_kept (s.state mid side).bytes (joined c.loop-pieces.pieces) (s.state old side).bytes (node_spelling c.args.node.now) some there (so_far.value honest),
     )

@@ -1,7 +1,7 @@
-use Rattle.std.proofs.Common.{true, ◌≡◌, ◌≤◌, ◌+◌, ◌++◌, length}
+use Rattle.std.proofs.Common.{◌≡◌, ◌≤◌, ◌+◌, ◌++◌, length}
 use Rattle.std.specs.Prelude.{◌↔◌}
 use Rattle.cc_site.specs.Sides.{other}
-use Rattle.cc_node.specs.States.{state_spelling, state_of}
+use Rattle.cc_node.specs.States.{node_spelling}
 use Rattle.cc_checkpoint.specs.Parts.{joined}
 use Rattle.cc_checkpoint.specs.Checkpoints.{StaysBehind}
 use Rattle.cc_checkpoint.proofs.checkpoint.write_pieces.Given as goal
@@ -12,8 +12,8 @@ invariant-loop-pieces g l = let s = g.S.Site in let old = l.fn.site in record {
   tells : s.tells old ↔ s.tells l.site;
   sent : s.sent l.site ≡ s.sent old;
   other_side : s.honest old → s.state l.site (other l.side) ≡ s.state old (other l.side);
-  value : s.honest old → (s.state l.site l.side).bytes ++ joined l.pieces ≡ (s.state old l.side).bytes ++ state_spelling true (state_of l.node);
-  place : l.place + length (joined l.pieces) ≡ l.fn.from + length (state_spelling true (state_of l.node));
+  value : s.honest old → (s.state l.site l.side).bytes ++ joined l.pieces ≡ (s.state old l.side).bytes ++ node_spelling l.node;
+  place : l.place + length (joined l.pieces) ≡ l.fn.from + length (node_spelling l.node);
   within : s.honest old → l.place ≡ length (s.state l.site l.side).bytes;
   from : l.fn.from ≤ l.place;
   moments : s.honest old → StaysBehind s l.side old l.site;

@@ -6,4 +6,4 @@ pub returns-clause-one : goal.returns-clause-one
 returns-clause-one c = one_spelling_of_node
 
 pub returns-clause-same : goal.returns-clause-same
-returns-clause-same c = λ lined a b x p q. p.state.spelled ∙ sym q.state.spelled
+returns-clause-same c = λ layout a b x p q. p.state.spelled ∙ sym q.state.spelled

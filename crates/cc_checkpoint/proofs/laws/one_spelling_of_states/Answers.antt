@@ -6,4 +6,4 @@ pub returns-clause-one : goal.returns-clause-one
 returns-clause-one c = one_spelling_of_state
 
 pub returns-clause-same : goal.returns-clause-same
-returns-clause-same c = λ lined a b x p q. p.spelled ∙ sym q.spelled
+returns-clause-same c = λ layout a b x p q. p.spelled ∙ sym q.spelled

@@ -5,5 +5,5 @@ use Rattle.cc_checkpoint.proofs.pieces.state_length.Given as goal
 abbrev pub invariant-loop-at : goal.invariant-loop-at
 invariant-loop-at l = record {
   counted : l.length ≡ length (joined (take l.at (parts_of l.node)));
-  fits : l.length ≤ 58126 * l.at;
+  fits : l.length ≤ 60298 * l.at;
 }

@@ -14,7 +14,7 @@ returns-in_err-membership-clause-exact g c =
     let a = at c.args.site.now c.args.piece.now c.args.unread.now in
     let m1 = at c.read_membership.new.site c.read_membership.new.piece c.read_membership.new.unread in
     let p = err_from_is_err_and c.from_residual.result c.from_residual.ensures.1 in
-    rw (p.1, p.2) (made s state_with a m1 (Err _) (first_stops s (work_at c.args.lined ⊗ tables_at) a m1 _ c.in_err-membership.ensures))
+    rw (p.1, p.2) (made s state_with a m1 (Err _) (first_stops s (work_at c.args.layout ⊗ tables_at) a m1 _ c.in_err-membership.ensures))
 
 pub returns-in_err-work-clause-exact : goal.returns-in_err-work-clause-exact
 unfolding state_at

@@ -14,7 +14,7 @@ returns-in_err-fields-clause-exact g c =
     let a = at c.args.site.now c.args.piece.now c.args.unread.now in
     let m = at c.read_fields.new.site c.read_fields.new.piece c.read_fields.new.unread in
     let p = err_from_is_err_and c.from_residual.result c.from_residual.ensures.1 in
-    rw (p.1, p.2) (none_of s (state_at c.args.lined) a m _ c.in_err-fields.ensures.exact)
+    rw (p.1, p.2) (none_of s (state_at c.args.layout) a m _ c.in_err-fields.ensures.exact)
 
 pub returns-in_err-fields-clause-run : goal.returns-in_err-fields-clause-run
 returns-in_err-fields-clause-run g c =
@@ -30,7 +30,7 @@ returns-then-not-is_all_read-clause-exact g c =
     let a = at c.args.site.now c.args.piece.now c.args.unread.now in
     let m = at c.read_fields.new.site c.read_fields.new.piece c.read_fields.new.unread in
     let some = subst (λ (b : Bool). MatchBool b ((length m.held ≡ 0) × (m.unread.end ≤ m.unread.place)) ((0 < length m.held) ⊎ (m.unread.place < m.unread.end))) c.if-not-is_all_read.true c.is_all_read.ensures in
-    not_all s (state_at c.args.lined) a m (state_in c.in_ok-fields.fields) c.in_ok-fields.ensures.exact some
+    not_all s (state_at c.args.layout) a m (state_in c.in_ok-fields.fields) c.in_ok-fields.ensures.exact some
 
 pub returns-then-not-is_all_read-clause-run : goal.returns-then-not-is_all_read-clause-run
 returns-then-not-is_all_read-clause-run g c =
@@ -45,7 +45,7 @@ returns-clause-exact g c =
     let a = at c.args.site.now c.args.piece.now c.args.unread.now in
     let m = at c.read_fields.new.site c.read_fields.new.piece c.read_fields.new.unread in
     let none = subst (λ (b : Bool). MatchBool b ((length m.held ≡ 0) × (m.unread.end ≤ m.unread.place)) ((0 < length m.held) ⊎ (m.unread.place < m.unread.end))) c.if-not-is_all_read.false c.is_all_read.ensures in
-    all_of s (state_at c.args.lined) a m (state_in c.in_ok-fields.fields) c.in_ok-fields.ensures.exact none.0 none.1
+    all_of s (state_at c.args.layout) a m (state_in c.in_ok-fields.fields) c.in_ok-fields.ensures.exact none.0 none.1
 
 pub returns-clause-run : goal.returns-clause-run
 returns-clause-run g c =

@@ -9,7 +9,7 @@ use Rattle.cc_checkpoint.proofs.side_reader.read_round.Goals as goal
 pub returns-in_err-refill : goal.returns-in_err-refill
 returns-in_err-refill g c =
     let p = err_from_is_err_and c.from_residual.result c.from_residual.ensures.1 in
-    rw (p.1, p.2) (no_refill g.S.Site (round_at c.args.lined) (at c.args.site.now c.args.piece.now c.args.unread.now) (at c.refill.new.site c.refill.new.piece c.refill.new.unread) _ c.in_err-refill.ensures.run c.in_err-refill.ensures.device)
+    rw (p.1, p.2) (no_refill g.S.Site (round_at c.args.layout) (at c.args.site.now c.args.piece.now c.args.unread.now) (at c.refill.new.site c.refill.new.piece c.refill.new.unread) _ c.in_err-refill.ensures.run c.in_err-refill.ensures.device)
 
 pub returns-in_err-take_round : goal.returns-in_err-take_round
 returns-in_err-take_round g c =
@@ -17,11 +17,11 @@ returns-in_err-take_round g c =
     let filled = at c.refill.new.site c.refill.new.piece c.refill.new.unread in
     let told = c.in_ok-refill.ensures in
     let p = err_from_is_err_and c.from_residual-in_err-take_round.result c.from_residual-in_err-take_round.ensures.1 in
-    rw (p.1, p.2) (no_element g.S.Site (round_spelled c.args.lined) 57754 (length-round c.args.lined) before filled c.take_round.new.piece told.run told.same told.bytes told.reaches _ c.in_err-take_round.ensures)
+    rw (p.1, p.2) (no_element g.S.Site (round_spelled c.args.layout) 60380 (length-round c.args.layout) before filled c.take_round.new.piece told.run told.same told.bytes told.reaches _ c.in_err-take_round.ensures)
 
 pub returns : goal.returns
 returns g c =
     let before = at c.args.site.now c.args.piece.now c.args.unread.now in
     let filled = at c.refill.new.site c.refill.new.piece c.refill.new.unread in
     let told = c.in_ok-refill.ensures in
-    element g.S.Site (round_spelled c.args.lined) 57754 (length-round c.args.lined) before filled c.take_round.new.piece told.run told.same told.bytes told.reaches _ c.in_ok-take_round.ensures
+    element g.S.Site (round_spelled c.args.layout) 60380 (length-round c.args.layout) before filled c.take_round.new.piece told.run told.same told.bytes told.reaches _ c.in_ok-take_round.ensures

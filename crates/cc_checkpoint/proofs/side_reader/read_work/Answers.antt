@@ -14,7 +14,7 @@ returns-in_err-view g c =
     let a = at c.args.site.now c.args.piece.now c.args.unread.now in
     let m1 = at c.read_view.new.site c.read_view.new.piece c.read_view.new.unread in
     let p = err_from_is_err_and c.from_residual.result c.from_residual.ensures.1 in
-    rw (p.1, p.2) (made s work_with a m1 (Err _) (first_stops s (entering_at ⊗ (round_at c.args.lined)) a m1 _ (first_stops s own_at a m1 _ c.in_err-view.ensures)))
+    rw (p.1, p.2) (made s work_with a m1 (Err _) (first_stops s (entering_at ⊗ (round_at c.args.layout)) a m1 _ (first_stops s own_at a m1 _ c.in_err-view.ensures)))
 
 pub returns-in_err-number : goal.returns-in_err-number
 unfolding work_at
@@ -24,7 +24,7 @@ returns-in_err-number g c =
     let m1 = at c.read_view.new.site c.read_view.new.piece c.read_view.new.unread in
     let m2 = at c.read_own.new.site c.read_own.new.piece c.read_own.new.unread in
     let p = err_from_is_err_and c.from_residual-in_err-number.result c.from_residual-in_err-number.ensures.1 in
-    rw (p.1, p.2) (made s work_with a m2 (Err _) (first_stops s (entering_at ⊗ (round_at c.args.lined)) a m2 _ (in_turn s a m1 m2 _ (Err _) c.in_ok-view.ensures c.in_err-number.ensures)))
+    rw (p.1, p.2) (made s work_with a m2 (Err _) (first_stops s (entering_at ⊗ (round_at c.args.layout)) a m2 _ (in_turn s a m1 m2 _ (Err _) c.in_ok-view.ensures c.in_err-number.ensures)))
 
 pub returns-in_err-echoes : goal.returns-in_err-echoes
 unfolding work_at
@@ -36,7 +36,7 @@ returns-in_err-echoes g c =
     let m3 = at c.read_entering.new.site c.read_entering.new.piece c.read_entering.new.unread in
     let stored = in_turn s a m1 m2 _ (Ok (own_in c.in_ok-number.field-0)) c.in_ok-view.ensures c.in_ok-number.ensures in
     let p = err_from_is_err_and c.from_residual-in_err-echoes.result c.from_residual-in_err-echoes.ensures.1 in
-    rw (p.1, p.2) (made s work_with a m3 (Err _) (in_turn s a m2 m3 _ (Err _) stored (first_stops s (round_at c.args.lined) m2 m3 _ c.in_err-echoes.ensures)))
+    rw (p.1, p.2) (made s work_with a m3 (Err _) (in_turn s a m2 m3 _ (Err _) stored (first_stops s (round_at c.args.layout) m2 m3 _ c.in_err-echoes.ensures)))
 
 pub returns-in_err-round : goal.returns-in_err-round
 unfolding work_at

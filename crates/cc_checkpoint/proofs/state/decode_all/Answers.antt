@@ -6,5 +6,5 @@ use Rattle.cc_checkpoint.proofs.state.decode_all.Goals as goal
 
 pub returns : goal.returns
 returns c =
-    subst (Decodes c.args.lined c.args.bytes.now) (sym c.ok_or.ensures.value)
-    (decodes c.args.lined c.args.bytes.now (state_in c.in_ok-fields.fields) c.in_ok-node.node (λ i. omega (arith, c.type_inv.bytes i)) c.in_ok-fields.ensures.exact c.in_ok-node.ensures.lawful c.in_ok-node.ensures.node)
+    subst (Decodes c.args.layout c.args.bytes.now) (sym c.ok_or.ensures.value)
+    (decodes c.args.layout c.args.bytes.now (state_in c.in_ok-fields.fields) c.in_ok-node.node (λ i. omega (arith, c.type_inv.bytes i)) c.in_ok-fields.ensures.exact c.in_ok-node.ensures.lawful c.in_ok-node.ensures.node)

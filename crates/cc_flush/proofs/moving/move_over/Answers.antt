@@ -6,7 +6,8 @@ use Rattle.cc_site.specs.Moments.{Possible}
 use Rattle.cc_site.specs.Runs.{EachMoment, joined}
 use Rattle.cc_node.specs.Node.{Node, after}
 use Rattle.cc_node.specs.Sides.{OPEN, IsArmed}
-use Rattle.cc_node.specs.States.{state_spelling, state_of}
+use Rattle.cc_node.specs.Layouts.{version_of}
+use Rattle.cc_node.specs.States.{layout_of_node, node_spelling}
 use Rattle.cc_checkpoint.specs.Checkpoints as checkpoints
 use Rattle.cc_checkpoint.specs.Checkpoints.{IsSurelyShut, IsFilled, KeepsOff, ArmsFor, image_of}
 use Rattle.cc_checkpoint.proofs.Imaged.{length-image}
@@ -22,7 +23,7 @@ overflow_add-state_length g c = omega (arith, c.state_length.ensures.short)
 pub returns-clause-moved : goal.returns-clause-moved
 returns-clause-moved g c =
     let place : 14 + c.state_length.result ≡ length (image_of c.args.generation c.args.node.now) =
-    omega (arith, c.state_length.ensures.len, length-image c.args.generation (state_spelling true (state_of c.args.node.now))) in
+    omega (arith, c.state_length.ensures.len, length-image (version_of (layout_of_node c.args.node.now)) c.args.generation (node_spelling c.args.node.now)) in
     rw (c.move_to.ensures, c.other-side.ensures, c.side-old.ensures, place) refl
 
 pub returns-clause-short : goal.returns-clause-short

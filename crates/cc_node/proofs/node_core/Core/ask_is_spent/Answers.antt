@@ -2,6 +2,7 @@ use Rattle.std.proofs.Common.{◌≡◌, ◌&&◌, ◌||◌, [], ◌∷◌, nat_
 use Rattle.std.specs.Prelude.{None, ◌==◌}
 use Rattle.std.specs.FinMap as table
 use Rattle.cc_views.specs.Limits.{counter_limit, overruns}
+use Rattle.cc_ops.specs.Refusals.{passes}
 use Rattle.cc_ops.specs.Ops as ops
 use Rattle.cc_wire.specs.declared.event.Event.TheVariants as event
 use Rattle.cc_wire.specs.Refusals.{first_of}
@@ -19,7 +20,7 @@ returns-then-ask_is_spent c s h =
     let k = c.args.command.now in
     let e = event.Ask s r k in
     let after = ops.after_ask a.me (quorum a) (asked_of s r k) a.ops in
-    let counted = overruns a.ops.number after.number || overruns a.ops.tag after.tag in
+    let counted = passes a.ops.number after.number || overruns a.ops.tag after.tag in
     let posts = ops.is_idle a.ops.phase && (a.posts == counter_limit) in
     let request = nat_lt counter_limit r in
     let all = spent_ask a s r k (next_request a s r (subst (λ (t : Core). first_of (stale t s r ∷ skip t s r ∷ []) ≡ None) (sym c.self.view_is) h))
@@ -34,7 +35,7 @@ returns-then-posts_are_spent c s h =
     let k = c.args.command.now in
     let e = event.Ask s r k in
     let after = ops.after_ask a.me (quorum a) (asked_of s r k) a.ops in
-    let counted = overruns a.ops.number after.number || overruns a.ops.tag after.tag in
+    let counted = passes a.ops.number after.number || overruns a.ops.tag after.tag in
     let posts = ops.is_idle a.ops.phase && (a.posts == counter_limit) in
     let request = nat_lt counter_limit r in
     let all = spent_ask a s r k (next_request a s r (subst (λ (t : Core). first_of (stale t s r ∷ skip t s r ∷ []) ≡ None) (sym c.self.view_is) h))
@@ -50,7 +51,7 @@ returns c s h =
     let k = c.args.command.now in
     let e = event.Ask s r k in
     let after = ops.after_ask a.me (quorum a) (asked_of s r k) a.ops in
-    let counted = overruns a.ops.number after.number || overruns a.ops.tag after.tag in
+    let counted = passes a.ops.number after.number || overruns a.ops.tag after.tag in
     let posts = ops.is_idle a.ops.phase && (a.posts == counter_limit) in
     let request = nat_lt counter_limit r in
     let all = spent_ask a s r k (next_request a s r (subst (λ (t : Core). first_of (stale t s r ∷ skip t s r ∷ []) ≡ None) (sym c.self.view_is) h))

@@ -1,5 +1,0 @@
-use Rattle.std.proofs.Common.{length}
-use Rattle.cc_ops.proofs.waiting_line.+are_apart.Given as goal
-
-abbrev pub decreases-are_apart : goal.decreases-are_apart
-decreases-are_apart l = length l.asks.now
