@@ -1,9 +1,10 @@
 //! Frames: what goes over a connection.
 
-ghost use Rattle.std.specs.Prelude.{◌≡◌, ◌≤◌, ◌<◌, ◌+◌, ℕ, List, [], ◌∷◌, ◌++◌, length, take, drop, IfOk, OnOk, OnErr, IsOk, Ok, vec_len};
+ghost use Rattle.std.specs.Prelude.{◌≡◌, ◌≤◌, ◌<◌, ◌+◌, ◌-◌, ℕ, List, [], ◌∷◌, ◌++◌, length, take, drop, IfOk, OnOk, OnErr, IsOk, Ok, vec_len};
 ghost use Rattle.std.specs.Int.{w32, w64, to_be_bytes};
 ghost use Rattle.std.specs.Vec.{vec_capacity};
 ghost use Rattle.cc_frames.specs.Limits.{body_limit};
+ghost use Rattle.cc_frames.specs.declared.frame.Frame.TheVariants as frames;
 ghost use Rattle.cc_wire.specs.Writing.{Writes};
 ghost use Rattle.cc_wire.specs.Reading.{Gives, whole};
 ghost use Rattle.cc_frames.specs.Frames.{replied_spelling, IsReplied, refused_spelling, IsRefused, body_spelling, frame_spelling, IsFrame, SpellsFrame, body_at, body_fields, replied_at, refused_at, body_length_at, enclosed_at, frame_at};
@@ -231,6 +232,34 @@ fn put_refused(
     put_refusal(out, refusal, value)
 }
 
+// The body that brings a message.
+fn put_post_body(
+    out: &mut Vec<u8>,
+    from: NodeId,
+    number: u64,
+    message: &Message,
+) -> Result<(), AllocError>
+    ensures writes { Writes out.old out.new (body_spelling (frames.Post from number message.now)) result }
+    ensures fits { OnOk result (IsFrame (frames.Post from number message.now)) }
+{
+    put_u8(out, 1)?;
+    put_delivery(out, from, number, message)
+}
+
+// The body that brings an answer.
+fn put_reply_body(
+    out: &mut Vec<u8>,
+    session: u64,
+    request: u64,
+    answer: &Answer,
+) -> Result<(), AllocError>
+    ensures writes { Writes out.old out.new (body_spelling (frames.Reply session request answer.now)) result }
+    ensures fits { OnOk result (IsFrame (frames.Reply session request answer.now)) }
+{
+    put_u8(out, 4)?;
+    put_replied(out, session, request, answer)
+}
+
 fn put_body(out: &mut Vec<u8>, frame: &Frame) -> Result<(), AllocError>
     ensures writes { Writes out.old out.new (body_spelling frame.now) result }
     ensures fits { OnOk result (IsFrame frame.now) }
@@ -240,10 +269,7 @@ fn put_body(out: &mut Vec<u8>, frame: &Frame) -> Result<(), AllocError>
             from,
             number,
             message,
-        } => {
-            put_u8(out, 1)?;
-            put_delivery(out, *from, *number, message)
-        }
+        } => put_post_body(out, *from, *number, message),
         Frame::Ack { from, number } => {
             put_u8(out, 2)?;
             put_numbered(out, *from, *number)
@@ -260,10 +286,7 @@ fn put_body(out: &mut Vec<u8>, frame: &Frame) -> Result<(), AllocError>
             session,
             request,
             answer,
-        } => {
-            put_u8(out, 4)?;
-            put_replied(out, *session, *request, answer)
-        }
+        } => put_reply_body(out, *session, *request, answer),
         Frame::Refused {
             session,
             request,
@@ -314,7 +337,18 @@ fn decode_all(alloc: Global, bytes: &[u8]) -> Result<Frame, WireFault>
     Ok(frame)
 }
 
-// The length is written last, over the bytes that keep its place.
+// Writes the length of the body that ends the bytes, over those that keep its place.
+fn close_body(out: &mut Vec<u8>, start: usize)
+    requires kept { start + 4 ≤ vec_len out.old }
+    requires fits { vec_len out.old ≤ start + 4 + body_limit }
+    ensures closed { out.new.items ≡ take start out.old.items ++ (to_be_bytes w32 (length out.old.items - start - 4) ++ drop (start + 4) out.old.items) }
+    ensures room { vec_capacity out.new ≡ vec_capacity out.old }
+{
+    let length = out.len() - start - Frame::LENGTH;
+    set_length(out, start, length as u32);
+}
+
+// The length is written last.
 fn put_frame(out: &mut Vec<u8>, frame: &Frame) -> Result<(), AllocError>
     ensures writes { Writes out.old out.new (frame_spelling frame.now) result }
     ensures fits { OnOk result (IsFrame frame.now) }
@@ -322,8 +356,40 @@ fn put_frame(out: &mut Vec<u8>, frame: &Frame) -> Result<(), AllocError>
     let start = out.len();
     put_u32(out, 0)?;
     put_body(out, frame)?;
-    let length = out.len() - start - Frame::LENGTH;
-    set_length(out, start, length as u32);
+    close_body(out, start);
+    Ok(())
+}
+
+// The same of a post and of a reply, whose message or answer stays where it is.
+fn put_post(
+    out: &mut Vec<u8>,
+    from: NodeId,
+    number: u64,
+    message: &Message,
+) -> Result<(), AllocError>
+    ensures writes { Writes out.old out.new (frame_spelling (frames.Post from number message.now)) result }
+    ensures fits { OnOk result (IsFrame (frames.Post from number message.now)) }
+{
+    let start = out.len();
+    put_u32(out, 0)?;
+    put_post_body(out, from, number, message)?;
+    close_body(out, start);
+    Ok(())
+}
+
+fn put_reply(
+    out: &mut Vec<u8>,
+    session: u64,
+    request: u64,
+    answer: &Answer,
+) -> Result<(), AllocError>
+    ensures writes { Writes out.old out.new (frame_spelling (frames.Reply session request answer.now)) result }
+    ensures fits { OnOk result (IsFrame (frames.Reply session request answer.now)) }
+{
+    let start = out.len();
+    put_u32(out, 0)?;
+    put_reply_body(out, session, request, answer)?;
+    close_body(out, start);
     Ok(())
 }
 
@@ -336,6 +402,41 @@ pub fn encode_frame(frame: &Frame, out: &mut Vec<u8>) -> Result<(), NoMemory>
 {
     let start = out.len();
     let put = put_frame(out, frame);
+    settled(out, start, put)
+}
+
+/// Appends the spelling of the frame that brings a message, the one with this number on the link from a node. The message
+/// isn't copied. On an `Err` nothing has changed.
+pub fn encode_post(
+    from: NodeId,
+    number: u64,
+    message: &Message,
+    out: &mut Vec<u8>,
+) -> Result<(), NoMemory>
+    ensures spelled { OnOk result (SpellsFrame (frame_spelling (frames.Post from number message.now)) (frames.Post from number message.now)) }
+    ensures ok { OnOk result (out.new.items ≡ out.old.items ++ frame_spelling (frames.Post from number message.now)) }
+    ensures err { OnErr result (out.new.items ≡ out.old.items) }
+    ensures room { vec_len out.old + length (frame_spelling (frames.Post from number message.now)) ≤ vec_capacity out.old → IsOk result }
+{
+    let start = out.len();
+    let put = put_post(out, from, number, message);
+    settled(out, start, put)
+}
+
+/// Appends the spelling of the frame that answers a request. The answer isn't copied. On an `Err` nothing has changed.
+pub fn encode_reply(
+    session: u64,
+    request: u64,
+    answer: &Answer,
+    out: &mut Vec<u8>,
+) -> Result<(), NoMemory>
+    ensures spelled { OnOk result (SpellsFrame (frame_spelling (frames.Reply session request answer.now)) (frames.Reply session request answer.now)) }
+    ensures ok { OnOk result (out.new.items ≡ out.old.items ++ frame_spelling (frames.Reply session request answer.now)) }
+    ensures err { OnErr result (out.new.items ≡ out.old.items) }
+    ensures room { vec_len out.old + length (frame_spelling (frames.Reply session request answer.now)) ≤ vec_capacity out.old → IsOk result }
+{
+    let start = out.len();
+    let put = put_reply(out, session, request, answer);
     settled(out, start, put)
 }
 

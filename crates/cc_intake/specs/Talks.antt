@@ -28,11 +28,11 @@ IsAnswer opening accepted taken e (Ok a) =
 IsAnswer opening accepted taken e (Err r) =
     (i : Accepting) × (j : Accepting) × accepted i.entries × Refuses opening taken i e r.why j × (r.accepted ≡ length i.entries)
 
-module _ {S : Type 0} (gives : S → Option Event → S → Type 0) (hears : S → Answer → S → Type 0) (answers : Event → Answer → Type 0) where
-  -- from s to t it gave an event, this was answered, and it heard the answer, in turn
+module _ {S : Type 0} (gives : S → Option Event → S → Type 0) (hears : S → Event → Answer → S → Type 0) (answers : Event → Answer → Type 0) where
+  -- from s to t it gave an event, this was answered, and it heard the answer to it, in turn
   abbrev pub Spoke : S → List Answer → S → Type 0
   Spoke s [] t = s ≡ t
-  Spoke s (a ∷ rest) t = (e : Event) × (u : S) × (w : S) × gives s (Some e) u × answers e a × hears u a w × Spoke w rest t
+  Spoke s (a ∷ rest) t = (e : Event) × (u : S) × (w : S) × gives s (Some e) u × answers e a × hears u e a w × Spoke w rest t
 
   -- and in the end it gave none
   abbrev pub Talks : S → List Answer → S → Type 0

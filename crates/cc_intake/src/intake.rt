@@ -208,9 +208,30 @@ impl<L: Life, Q: Lane> Intake<L, Q> {
         ensures uncounted { OnErr result (share.new ≡ share.old) }
         ensures of_life { L.accepted self.old.entries × L.accepted self.new.entries }
     {
-        let accepted = self.accepted;
-        let answer = self.accept_event(rt, alloc, share, queue, &event);
+        let answer = self.accept_copy(rt, alloc, share, queue, &event);
         drop(event);
+        answer
+    }
+
+    /// The same of an event that stays the caller's: a copy of it is what is taken in.
+    pub fn accept_copy<R: Wait>(
+        &mut self,
+        rt: &R,
+        alloc: Global,
+        share: &mut Share<L>,
+        queue: &Queue<L, Q>,
+        event: &Event,
+    ) -> Result<Accepted, Refused>
+        ensures accepted { IfOk result (λ a. MayAccept L.opening self.old event.now × (a.place ≡ length self.new.entries)
+            × (self.new ≡ record { entries = self.old.entries ++ entry_at (core_after L.opening self.old.entries) event.now ∷ []; finds = self.old.finds; issued = self.old.issued })) }
+        ensures stirs { IfOk result (λ a. a.stirs ≡ stirs (made (core_after L.opening self.old.entries) event.now)) }
+        ensures counted { IfOk result (λ a. (share.new ≡ share.old + 1) × (share.old < a.place)) }
+        ensures refused { IfErr result (λ r. Refuses L.opening L.taken self.old event.now r.why self.new × (r.accepted ≡ length self.old.entries)) }
+        ensures uncounted { OnErr result (share.new ≡ share.old) }
+        ensures of_life { L.accepted self.old.entries × L.accepted self.new.entries }
+    {
+        let accepted = self.accepted;
+        let answer = self.accept_event(rt, alloc, share, queue, event);
         match answer {
             Ok(answer) => Ok(answer),
             Err(why) => Err(Refused {
@@ -221,7 +242,7 @@ impl<L: Life, Q: Lane> Intake<L, Q> {
         }
     }
 
-    // Accepts an event, which stays the caller's.
+    // The same, without how many were accepted by then.
     fn accept_event<R: Wait>(
         &mut self,
         rt: &R,

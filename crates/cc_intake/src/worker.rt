@@ -20,20 +20,21 @@ pub trait Source {
     /// What `next` gives, and what it leaves.
     ghost gives: { Self → Option Event → Self → Type 0 };
 
-    /// What an answer leaves.
-    ghost hears: { Self → Answer → Self → Type 0 };
+    /// What the answer to an event leaves.
+    ghost hears: { Self → Event → Answer → Self → Type 0 };
 
     /// The next event. None at the end.
     fn next(&mut self) -> Option<Event>
         ensures { gives self.old result self.new };
 
-    /// The answer to the event that was given last.
-    fn told(&mut self, answer: Result<Accepted, Refused>)
-        ensures { hears self.old answer self.new };
+    /// The event that was given last comes back, with the answer to it.
+    fn told(&mut self, event: Event, answer: Result<Accepted, Refused>)
+        ensures { hears self.old event answer self.new };
 }
 
-/// Brings each event of a source to the intake, under the lock, and tells the source what the intake answered to that very
-/// event, until there is no further one. The hooks are called round each accept, outside the lock. What finds no memory is answered NoMemory.
+/// Brings each event of a source to the intake, under the lock, and hands it back with what the intake answered to that very
+/// event, until there is no further one. The hooks are called round each accept, outside the lock. What finds no memory is
+/// answered NoMemory.
 pub fn work<L: Life, Q: Lane, H: Hooks, S: Source, R: Wait>(
     rt: &R,
     alloc: Global,
@@ -50,9 +51,9 @@ pub fn work<L: Life, Q: Lane, H: Hooks, S: Source, R: Wait>(
             return;
         };
         hooks.before_accept();
-        let answer = bring(rt, alloc, lock, queue, share, event);
+        let answer = bring(rt, alloc, lock, queue, share, &event);
         hooks.after_accept();
-        source.told(answer);
+        source.told(event, answer);
     }
     unreachable!()
 }
@@ -64,11 +65,11 @@ fn bring<L: Life, Q: Lane, R: Wait>(
     lock: &Mutex<Intake<L, Q>>,
     queue: &Queue<L, Q>,
     share: &mut Share<L>,
-    event: Event,
+    event: &Event,
 ) -> Result<Accepted, Refused>
-    ensures answer { IsAnswer L.opening L.accepted L.taken event result }
+    ensures answer { IsAnswer L.opening L.accepted L.taken event.now result }
     ensures count { share.new ≡ step result share.old }
     ensures above { IsAbove result share.old }
 {
-    lock.lock(rt).accept(rt, alloc, share, queue, event)
+    lock.lock(rt).accept_copy(rt, alloc, share, queue, event)
 }

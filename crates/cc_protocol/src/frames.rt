@@ -1,10 +1,11 @@
 //! Which event a frame brings, and which frame an output or a refusal is.
 
 ghost use Rattle.std.specs.Prelude.{◌≡◌, ℕ, IfOk};
+ghost use Rattle.cc_frames.specs.Frames.{frame_spelling};
 ghost use Rattle.cc_wire.specs.declared.output.Output.TheVariants as output;
 ghost use Rattle.cc_protocol.specs.Frames.{event_in, output_frame, refusing, refusal_frame};
 
-use cc_frames::Frame;
+use cc_frames::{Frame, encode_post, encode_reply};
 use cc_views::{NoMemory, NodeId};
 use cc_wire::{Answer, Event, Message, Refusal};
 use std::alloc::Global;
@@ -39,21 +40,18 @@ pub fn event_of(frame: Frame) -> Option<Event>
     }
 }
 
-/// A message of the node `me`, the one with this number on the link that it goes over.
-pub fn post_frame(
+/// The bytes of a message of the node `me`, the one with this number on the link that it goes over.
+pub fn post_bytes(
     alloc: Global,
     me: NodeId,
     number: u64,
     message: &Message,
-) -> Result<Frame, NoMemory>
-    ensures { IfOk result (λ f. (to : ℕ) → f ≡ output_frame me (output.Send to number message.now)) }
+) -> Result<Vec<u8>, NoMemory>
+    ensures { IfOk result (λ v. (to : ℕ) → v.items ≡ frame_spelling (output_frame me (output.Send to number message.now))) }
 {
-    let message = message.copy(alloc)?;
-    Ok(Frame::Post {
-        from: me,
-        number,
-        message,
-    })
+    let mut bytes = Vec::new(alloc);
+    encode_post(me, number, message, &mut bytes)?;
+    Ok(bytes)
 }
 
 /// What tells a peer that the node `me` has all that it sent up to this number.
@@ -63,21 +61,18 @@ pub fn ack_frame(me: NodeId, number: u64) -> Frame
     Frame::Ack { from: me, number }
 }
 
-/// The answer to a request.
-pub fn reply_frame(
+/// The bytes of the answer to a request.
+pub fn reply_bytes(
     alloc: Global,
     session: u64,
     request: u64,
     answer: &Answer,
-) -> Result<Frame, NoMemory>
-    ensures { IfOk result (λ f. (me : ℕ) → f ≡ output_frame me (output.Reply session request answer.now)) }
+) -> Result<Vec<u8>, NoMemory>
+    ensures { IfOk result (λ v. (me : ℕ) → v.items ≡ frame_spelling (output_frame me (output.Reply session request answer.now))) }
 {
-    let answer = answer.copy(alloc)?;
-    Ok(Frame::Reply {
-        session,
-        request,
-        answer,
-    })
+    let mut bytes = Vec::new(alloc);
+    encode_reply(session, request, answer, &mut bytes)?;
+    Ok(bytes)
 }
 
 /// What a connection is told of an event that it brought and that was refused. None for what no client asked for.

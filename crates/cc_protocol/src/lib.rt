@@ -28,7 +28,7 @@ pub use asking::{
 };
 pub use bundle::{Bundle, Parcel};
 pub use calling::{Calls, snapshots_keep_apart};
-pub use frames::{ack_frame, event_of, post_frame, refused_frame, reply_frame};
+pub use frames::{ack_frame, event_of, post_bytes, refused_frame, reply_bytes};
 pub use heeding::{Duty, heed};
 pub use incoming::{Ending, Incoming, Input};
 pub use lasting::{AskName, Lasting};

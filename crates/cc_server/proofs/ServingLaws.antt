@@ -38,8 +38,8 @@ module _ (fails turns : Type 0) (answers : Event → Answer → Type 0) where
     abbrev Gave : S → Option Event → S → Type 0
     Gave s e t = Gives fails turns (worker s) e (worker t)
 
-    abbrev Heard : S → Answer → S → Type 0
-    Heard s a t = Hears (worker s) a (worker t)
+    abbrev Heard : S → Event → Answer → S → Type 0
+    Heard s e a t = Hears (worker s) e a (worker t)
 
     brings_then : (s : S) (heard : List Answer) (t end : S) → Spoke Gave Heard answers s heard t
         → Gave t None end → More (worker end).done (worker s).due (worker s).ahead heard
@@ -52,12 +52,11 @@ module _ (fails turns : Type 0) (answers : Event → Answer → Type 0) where
         let why = (worker end).done in
         let g = spoke.3 in
         let h = spoke.5 in
-        let due : (worker w).due ≡ due_after e answer = subst (λ (x : Option Event). IfSome x (λ e. (worker w).due ≡ due_after e answer)) g.0 h.1 in
         let more : More why (worker w).due (worker u).ahead rest = subst (λ (x : Option (List ℕ)). More why (worker w).due x rest) h.0 (brings_then w rest t end spoke.6 last) in
-        one_more why (worker s).due (worker s).ahead (worker u).ahead e answer rest g.1 spoke.4
-        (subst (λ (d : Option Event). More why d (worker u).ahead rest) due more)
+        one_more why (worker s).due (worker s).ahead (worker u).ahead e answer rest g spoke.4
+        (subst (λ (d : Option Event). More why d (worker u).ahead rest) h.1 more)
 
 pub brings : (fails turns : Type 0) (answers : Event → Answer → Type 0) {S : Type 0} (s end : S) (worker : S → Worker) (heard : List Answer)
-    → Talks (λ s e t. Gives fails turns (worker s) e (worker t)) (λ s a t. Hears (worker s) a (worker t)) answers s heard end
+    → Talks (λ s e t. Gives fails turns (worker s) e (worker t)) (λ s e a t. Hears (worker s) e a (worker t)) answers s heard end
     → IfSome (worker s).ahead (λ bytes. Brings fails turns answers (worker end).done (worker s).due bytes heard)
 brings fails turns answers s end worker heard talks = brings_then fails turns answers worker s heard talks.0 end talks.1 talks.2

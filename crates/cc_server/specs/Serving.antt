@@ -45,19 +45,18 @@ Stops fails turns due ahead done.Unasked = (due ≡ None) × IfSome ahead (λ by
 Stops fails turns due ahead (done.TurnedAway why) = turns
 Stops fails turns due ahead done.NoMemory = ⊤
 
--- what a worker has: the event that is due, the one that was given last, the bytes ahead, and why no event came
+-- what a worker has: the event that is due, the bytes ahead, and why no event came
 pub record Worker : Type 0 where
   pub due : Option Event
-  pub given : Option Event
   pub ahead : Option (List ℕ)
   pub done : Done
 
 abbrev pub Gives : Type 0 → Type 0 → Worker → Option Event → Worker → Type 0
 Gives fails turns s None t = Stops fails turns s.due s.ahead t.done
-Gives fails turns s (Some e) t = (t.given ≡ Some e) × Takes s.due s.ahead e t.ahead
+Gives fails turns s (Some e) t = Takes s.due s.ahead e t.ahead
 
-abbrev pub Hears : Worker → Answer → Worker → Type 0
-Hears s answer t = (t.ahead ≡ s.ahead) × IfSome s.given (λ e. t.due ≡ due_after e answer)
+abbrev pub Hears : Worker → Event → Answer → Worker → Type 0
+Hears s e answer t = (t.ahead ≡ s.ahead) × (t.due ≡ due_after e answer)
 
 -- The answers are those to the events of the frames that the bytes spell, frame by frame: the intake's to that very event.
 -- An event that is due is answered once more before. Behind the last answer stands why there is no further one.

@@ -1,6 +1,6 @@
 //! A worker of one connection.
 
-ghost use Rattle.std.specs.Prelude.{◌≡◌, ◌+◌, List, Some, None, IfSome, MatchResult};
+ghost use Rattle.std.specs.Prelude.{◌≡◌, ◌+◌, List, None, IfSome, MatchResult};
 ghost use Rattle.cc_intake.specs.Talks.{Answer, IsAnswer, places_of, PlacesRise};
 ghost use Rattle.cc_server.specs.Serving.{brings_again, Takes, Stops, Brings};
 
@@ -50,8 +50,7 @@ pub struct Caller<'a, R: Wait, I: Input, S: Seating, D: Replies, F: Flushed> {
     door: &'a D,
     ticket: u64,
     frames: Incoming<I>,
-    // The event that was given last, until it is answered, and the place of its route, if it is an ask that has one.
-    given: Option<Event>,
+    // The place of the route of the event that was given last, if that is an ask that has one.
     place: Option<u64>,
     // The event that is to be given again.
     due: Option<Event>,
@@ -81,22 +80,16 @@ impl<R: Wait + Eprint, I: Input, S: Seating, D: Replies, F: Flushed> Caller<'_, 
     // The event that comes next, which has a seat then, or why none does.
     fn seated(&mut self) -> Result<Event, Done>
         ensures { MatchResult result
-            (λ e. (self.new.given ≡ Some e) × Takes self.old.due self.old.frames e self.new.frames)
+            (λ e. Takes self.old.due self.old.frames e self.new.frames)
             (λ done. Stops I.may_fail S.may_turn_away self.old.due self.old.frames done) }
     {
         let event = self.event()?;
         self.hear_voice(&event);
-        let Ok(kept) = event.copy(self.alloc) else {
-            drop(event);
-            return Err(Done::NoMemory);
-        };
         if let Err(why) = self.seating.sit(self.rt, &event) {
             drop(event);
-            drop(kept);
             return Err(Done::TurnedAway(why));
         }
         self.place = self.route(&event);
-        drop(self.given.replace(kept));
         Ok(event)
     }
 
@@ -210,12 +203,12 @@ impl<R: Wait + Eprint, I: Input, S: Seating, D: Replies, F: Flushed> Source
     ghost use Rattle.cc_server.specs.Serving.{Gives, Hears};
 
     ghost gives = { λ s e t. Gives I.may_fail S.may_turn_away
-        (record { due = s.due; given = s.given; ahead = s.frames; done = s.done }) e
-        (record { due = t.due; given = t.given; ahead = t.frames; done = t.done }) };
+        (record { due = s.due; ahead = s.frames; done = s.done }) e
+        (record { due = t.due; ahead = t.frames; done = t.done }) };
 
-    ghost hears = { λ s a t. Hears
-        (record { due = s.due; given = s.given; ahead = s.frames; done = s.done }) a
-        (record { due = t.due; given = t.given; ahead = t.frames; done = t.done }) };
+    ghost hears = { λ s e a t. Hears
+        (record { due = s.due; ahead = s.frames; done = s.done }) e a
+        (record { due = t.due; ahead = t.frames; done = t.done }) };
 
     fn next(&mut self) -> Option<Event> {
         match self.seated() {
@@ -227,10 +220,7 @@ impl<R: Wait + Eprint, I: Input, S: Seating, D: Replies, F: Flushed> Source
         }
     }
 
-    fn told(&mut self, answer: Result<Accepted, Refused>) {
-        let Some(event) = self.given.take() else {
-            return;
-        };
+    fn told(&mut self, event: Event, answer: Result<Accepted, Refused>) {
         self.note(&event, &answer);
         let duty = duty_of(&event, &answer);
         let is_due = self.act(duty, answer);
@@ -271,7 +261,6 @@ pub fn serve<R: Wait + Eprint, H: Hooks, L: Life, Q: Lane, I: Input + Drop, S: S
         door,
         ticket,
         frames,
-        given: None,
         place: None,
         due: None,
         done: Done::NoMemory,

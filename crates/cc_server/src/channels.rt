@@ -2,8 +2,8 @@
 
 use crate::shared::Shared;
 use cc_files::Outlet;
-use cc_lines::{Line, bytes_of};
-use cc_protocol::{Parcel, post_frame, reply_frame};
+use cc_lines::Line;
+use cc_protocol::{Parcel, post_bytes, reply_bytes};
 use cc_views::NodeId;
 use cc_wire::{Answer, Event, Message};
 use std::alloc::Global;
@@ -53,14 +53,12 @@ impl<R: Wait> Channels<'_, R> {
     // The bytes of a message as a peer reads them.
     fn posted(&self, number: u64, message: &Message) -> Option<Vec<u8>> {
         let me = self.shared.me.get()?;
-        let frame = post_frame(self.alloc, *me, number, message).ok()?;
-        bytes_of(self.alloc, &frame).ok()
+        post_bytes(self.alloc, *me, number, message).ok()
     }
 
     // The bytes of an answer as its client reads them.
     fn replied(&self, session: u64, request: u64, answer: &Answer) -> Option<Vec<u8>> {
-        let frame = reply_frame(self.alloc, session, request, answer).ok()?;
-        bytes_of(self.alloc, &frame).ok()
+        reply_bytes(self.alloc, session, request, answer).ok()
     }
 
     fn acknowledge(&self, line: &Line, number: u64) {

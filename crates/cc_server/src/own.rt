@@ -8,66 +8,45 @@ use cc_lines::{Flushed, Room};
 use cc_protocol::Duty;
 use cc_wire::Event;
 use crossbeam_channel::Receiver;
-use std::alloc::Global;
 use std::sync::Wait;
 
 /// The events of the node's own messages, until None comes.
 #[derive(Drop)]
 struct Own<'a, R: Wait, F: Flushed> {
     rt: &'a R,
-    alloc: Global,
     shared: &'a Shared,
     room: &'a Room<F>,
     from: Receiver<Option<Event>>,
-    // The event that was given last.
-    given: Option<Event>,
-    // It is to be given again.
-    is_due: bool,
+    // The event that is to be given again.
+    due: Option<Event>,
 }
 
 impl<R: Wait, F: Flushed> Own<'_, R, F> {
     fn event(&mut self) -> Option<Event> {
-        if self.is_due {
-            self.is_due = false;
-            return self.given.take();
+        match self.due.take() {
+            Some(event) => Some(event),
+            None => self.from.recv(self.rt).unwrap_or(None),
         }
-        self.from.recv(self.rt).unwrap_or(None)
-    }
-
-    // The next event, and a copy of it. An event that there is no memory to copy is lost: links resend.
-    fn pair(&mut self) -> Option<(Event, Event)> {
-        for _ in self.rt.forever() {
-            let event = self.event()?;
-            match event.copy(self.alloc) {
-                Ok(kept) => return Some((event, kept)),
-                Err(_) => drop(event),
-            }
-        }
-        unreachable!()
     }
 }
 
 impl<R: Wait, F: Flushed> Source for Own<'_, R, F> {
     ghost gives = { λ s e t. Unit {0} };
 
-    ghost hears = { λ s a t. Unit {0} };
+    ghost hears = { λ s e a t. Unit {0} };
 
     fn next(&mut self) -> Option<Event> {
-        let (event, kept) = self.pair()?;
-        if !self.room.sit_anyway(self.rt, &self.shared.bell) {
+        let event = self.event()?;
+        if self.room.sit_anyway(self.rt, &self.shared.bell) {
+            Some(event)
+        } else {
             drop(event);
-            drop(kept);
-            return None;
+            None
         }
-        drop(self.given.replace(kept));
-        Some(event)
     }
 
-    fn told(&mut self, answer: Result<Accepted, Refused>) {
-        let Some(event) = &self.given else {
-            return;
-        };
-        let duty = duty_of(event, &answer);
+    fn told(&mut self, event: Event, answer: Result<Accepted, Refused>) {
+        let duty = duty_of(&event, &answer);
         match answer {
             Ok(_) => self.room.accept(),
             Err(_) => self.room.leave(self.rt),
@@ -76,7 +55,7 @@ impl<R: Wait, F: Flushed> Source for Own<'_, R, F> {
             Duty::Wake => self.shared.bell.ring(),
             Duty::Ride => self.shared.bell.ride(),
             Duty::Reack(peer) => self.shared.reack(self.rt, peer),
-            Duty::BringAgain => self.is_due = true,
+            Duty::BringAgain => self.due = Some(event),
             other => drop(other),
         }
     }
@@ -92,12 +71,10 @@ pub fn serve_own<R: Wait, H: Hooks, L: Life, Q: Lane>(
     };
     let mut own = Own {
         rt: office.rt,
-        alloc: office.alloc,
         shared: office.shared,
         room: office.room,
         from,
-        given: None,
-        is_due: false,
+        due: None,
     };
     office.work(&mut share, &mut own);
     office.give_back(share);

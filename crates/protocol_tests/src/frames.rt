@@ -3,7 +3,7 @@
 use crate::bytes::{ASK, SKIPPED, STORED, is_spelled};
 use cc_frames::{Frame, decode_frame};
 use cc_protocol::{
-    Outcome, ack_frame, event_of, outcome_of, post_frame, refused_frame, reply_frame,
+    Outcome, ack_frame, event_of, outcome_of, post_bytes, refused_frame, reply_bytes,
 };
 use cc_views::NodeId;
 use cc_wire::{Answer, Command, Event, Message, Refusal};
@@ -114,24 +114,26 @@ const POST: [u8; 30] = [
 // Node 1 has what it was sent up to number 9.
 const ACK: [u8; 17] = [0, 0, 0, 0x0D, 2, 0, 0, 0, 1, 0, 0, 0, 0, 0, 0, 0, 9];
 
-fn posted(alloc: Global, me: NodeId) -> Result<Frame, Fail> {
+// Whether a message of a node is spelled so, under number 2.
+fn is_posted(alloc: Global, me: NodeId, bytes: &[u8]) -> Result<bool, Fail> {
     let message = Message::StoreAck { tag: 1, node: me };
-    let frame = post_frame(alloc, me, 2, &message);
+    let posted = post_bytes(alloc, me, 2, &message);
     drop(message);
-    Ok(frame?)
+    Ok(posted?.as_slice() == bytes)
 }
 
-fn replied(alloc: Global) -> Result<Frame, Fail> {
-    Ok(reply_frame(alloc, 7, 1, &Answer::Stored)?)
+fn is_replied(alloc: Global, bytes: &[u8]) -> Result<bool, Fail> {
+    let replied = reply_bytes(alloc, 7, 1, &Answer::Stored)?;
+    Ok(replied.as_slice() == bytes)
 }
 
 #[test]
 fn outputs_are_frames_of_their_sender(rt: HostRuntime) -> Result<(), Fail> {
     let me = node(1)?;
     let are_spelled = [
-        is_spelled(rt.alloc(), posted(rt.alloc(), me)?, &POST)?,
+        is_posted(rt.alloc(), me, &POST)?,
         is_spelled(rt.alloc(), ack_frame(me, 9), &ACK)?,
-        is_spelled(rt.alloc(), replied(rt.alloc())?, &STORED)?,
+        is_replied(rt.alloc(), &STORED)?,
     ];
     assert_eq!(rt; are_spelled, [true; 3]);
     Ok(())

@@ -21,7 +21,7 @@ struct Twice {
 impl Source for Twice {
     ghost gives = { λ s e t. Unit {0} };
 
-    ghost hears = { λ s a t. Unit {0} };
+    ghost hears = { λ s e a t. Unit {0} };
 
     fn next(&mut self) -> Option<Event> {
         if self.asked >= 2 {
@@ -31,7 +31,8 @@ impl Source for Twice {
         store_a()
     }
 
-    fn told(&mut self, answer: Result<Accepted, Refused>) {
+    fn told(&mut self, event: Event, answer: Result<Accepted, Refused>) {
+        drop(event);
         if self.first.is_none() {
             self.first = Some(shown(answer));
         } else {

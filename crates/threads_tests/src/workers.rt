@@ -88,7 +88,7 @@ impl Client<'_> {
 impl Source for Client<'_> {
     ghost gives = { λ s e t. Unit {0} };
 
-    ghost hears = { λ s a t. Unit {0} };
+    ghost hears = { λ s e a t. Unit {0} };
 
     fn next(&mut self) -> Option<Event> {
         match self {
@@ -98,7 +98,8 @@ impl Source for Client<'_> {
         }
     }
 
-    fn told(&mut self, answer: Result<Accepted, Refused>) {
+    fn told(&mut self, event: Event, answer: Result<Accepted, Refused>) {
+        drop(event);
         match self {
             Client::Peer(peer) => peer.told(answer),
             Client::Asker(asker) => asker.told(answer),

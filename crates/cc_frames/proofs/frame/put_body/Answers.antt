@@ -5,25 +5,15 @@ use Rattle.cc_wire.specs.Writing.{Writes}
 use Rattle.cc_wire.proofs.Writes.{writes_then}
 use Rattle.cc_frames.proofs.frame.put_body.Goals as goal
 
-pub returns-in_ok-put_u8-in-Post-clause-writes : goal.returns-in_ok-put_u8-in-Post-clause-writes
-returns-in_ok-put_u8-in-Post-clause-writes c =
-    subst (λ (f : Frame). Writes c.args.out.now c.put_delivery.new.out (body_spelling f) c.put_delivery.result) (sym c.in-Post.is)
-    (writes_then c.args.out.now c.put_u8.new.out c.put_delivery.new.out (1 ∷ []) _ c.put_delivery.result c.in_ok-put_u8-in-Post.ensures c.put_delivery.ensures.writes)
-
 pub returns-in_ok-put_u8-in-Ack-clause-writes : goal.returns-in_ok-put_u8-in-Ack-clause-writes
 returns-in_ok-put_u8-in-Ack-clause-writes c =
     subst (λ (f : Frame). Writes c.args.out.now c.put_numbered.new.out (body_spelling f) c.put_numbered.result) (sym c.in-Ack.is)
-    (writes_then c.args.out.now c.put_u8-in-Ack.new.out c.put_numbered.new.out (2 ∷ []) _ c.put_numbered.result c.in_ok-put_u8-in-Ack.ensures c.put_numbered.ensures.writes)
+    (writes_then c.args.out.now c.put_u8.new.out c.put_numbered.new.out (2 ∷ []) _ c.put_numbered.result c.in_ok-put_u8-in-Ack.ensures c.put_numbered.ensures.writes)
 
 pub returns-in_ok-put_u8-in-Ask-clause-writes : goal.returns-in_ok-put_u8-in-Ask-clause-writes
 returns-in_ok-put_u8-in-Ask-clause-writes c =
     subst (λ (f : Frame). Writes c.args.out.now c.put_asked.new.out (body_spelling f) c.put_asked.result) (sym c.in-Ask.is)
     (writes_then c.args.out.now c.put_u8-in-Ask.new.out c.put_asked.new.out (3 ∷ []) _ c.put_asked.result c.in_ok-put_u8-in-Ask.ensures c.put_asked.ensures.writes)
-
-pub returns-in_ok-put_u8-in-Reply-clause-writes : goal.returns-in_ok-put_u8-in-Reply-clause-writes
-returns-in_ok-put_u8-in-Reply-clause-writes c =
-    subst (λ (f : Frame). Writes c.args.out.now c.put_replied.new.out (body_spelling f) c.put_replied.result) (sym c.in-Reply.is)
-    (writes_then c.args.out.now c.put_u8-in-Reply.new.out c.put_replied.new.out (4 ∷ []) _ c.put_replied.result c.in_ok-put_u8-in-Reply.ensures c.put_replied.ensures.writes)
 
 pub returns-in_ok-put_u8-in-Refused-clause-writes : goal.returns-in_ok-put_u8-in-Refused-clause-writes
 returns-in_ok-put_u8-in-Refused-clause-writes c =

@@ -5,8 +5,8 @@ use Rattle.cc_frames.specs.Frames.{body_spelling}
 use Rattle.cc_frames.proofs.BodyLengths.{length-body}
 use Rattle.cc_frames.proofs.frame.put_frame.Goals as goal
 
-pub overflow_cast-length : goal.overflow_cast-length
-overflow_cast-length c =
+pub close_body-requires-clause-fits : goal.close_body-requires-clause-fits
+close_body-requires-clause-fits c =
     omega (
       arith,
       ap length c.in_ok-put_body.ensures.writes.ok,
@@ -14,6 +14,8 @@ overflow_cast-length c =
       ap length c.in_ok-put_u32.ensures.ok,
       length-append c.args.out.now.items (to_be_bytes w32 0),
       length-body c.args.frame.now c.in_ok-put_body.ensures.fits,
-      c.len.ensures,
       c.len-start.ensures,
+      c.put_body.new.out.ok,
+      c.args.out.now.ok,
+      c.put_u32.new.out.ok,
     )
