@@ -1,22 +1,31 @@
 //! A state in pieces, and the steps of a checkpoint.
 
+use crate::memory_sites::contents;
 use crate::states::{answered_node, encoded, opened};
 use cc_checkpoint::{Piece, Pieces, arm, fill, retire, state_length};
 use cc_node::Node;
 use cc_site::{Failing, MemorySite, Side, Site, write_durably};
 use std::alloc::Global;
-use std::process::Abort;
 use std::test::*;
 
-// What the pieces of a node's state are together. They end within a hundred.
+// The pieces of a node's state. They end within a hundred.
+fn put_pieces(pieces: &mut Pieces, piece: &mut Piece, all: &mut Vec<u8>) -> Result<(), Fail> {
+    for _ in 0..100 {
+        pieces.next(piece);
+        all.extend_from_slice(piece.as_slice())?;
+    }
+    Ok(())
+}
+
+// What they are together.
 fn joined(alloc: Global, node: &Node) -> Result<Vec<u8>, Fail> {
     let mut piece = Piece::new(alloc)?;
     let mut all = Vec::new(alloc);
     let mut pieces = Pieces::new(node);
-    for _ in 0..100 {
-        pieces.next(&mut piece);
-        all.extend_from_slice(piece.as_slice())?;
-    }
+    let put = put_pieces(&mut pieces, &mut piece, &mut all);
+    drop(pieces);
+    drop(piece);
+    put?;
     Ok(all)
 }
 
@@ -28,19 +37,16 @@ fn comes_in_pieces(alloc: Global, node: &Node) -> Result<bool, Fail> {
     Ok(pieces.as_slice() == plain.as_slice() && length == plain.len() as u64)
 }
 
-// A state of 119 bytes comes in pieces.
-fn check_pieces<R: Abort + AllocGlobal>(rt: &R, member: &Node) -> Result<(), Fail> {
-    let comes_in_pieces = comes_in_pieces(rt.alloc(), member)?;
-    assert_eq!(rt; (state_length(member), comes_in_pieces), (119, true));
-    Ok(())
-}
-
+// It has 119 bytes.
 #[test]
 fn a_state_comes_in_pieces(rt: HostRuntime) -> Result<(), Fail> {
     let member = opened(rt.alloc(), 1, &[1], &[])?;
-    let checked = check_pieces(&rt, &member);
+    let comes_in_pieces = comes_in_pieces(rt.alloc(), &member);
+    let length = state_length(&member);
     drop(member);
-    checked
+    assert!(rt; length == 119);
+    assert!(rt; comes_in_pieces?);
+    Ok(())
 }
 
 #[test]
@@ -91,13 +97,6 @@ pub(crate) fn two_sides(alloc: Global) -> Result<MemorySite, Fail> {
     Ok(site)
 }
 
-fn bytes_of<S: Site>(alloc: Global, site: &mut S, side: Side) -> Result<Vec<u8>, Fail> {
-    let length = site.length(side).or(Err("the length can't be read"))?;
-    let mut bytes = vec![in alloc; 0; length as usize]?;
-    site.read(side, 0, &mut bytes).or(Err("the read failed"))?;
-    Ok(bytes)
-}
-
 // Whether a whole checkpoint is done, from the first side on.
 fn is_moved(alloc: Global, site: &mut MemorySite, node: &Node) -> Result<bool, Fail> {
     let mut piece = Piece::new(alloc)?;
@@ -106,51 +105,48 @@ fn is_moved(alloc: Global, site: &mut MemorySite, node: &Node) -> Result<bool, F
     Ok(is_moved)
 }
 
-// What a whole checkpoint leaves of side A, and of side B.
-fn sides_of_moved(
-    alloc: Global,
-    site: &mut MemorySite,
-    node: &Node,
-) -> Result<(Vec<u8>, Vec<u8>), Fail> {
-    if !is_moved(alloc, site, node)? {
-        return Err("the checkpoint stopped")?;
-    }
-    let old = bytes_of(alloc, site, Side::A)?;
-    let new = bytes_of(alloc, site, Side::B)?;
-    Ok((old, new))
-}
-
-fn moved_over(alloc: Global, node: &Node) -> Result<(Vec<u8>, Vec<u8>), Fail> {
-    let mut site = two_sides(alloc)?;
-    let sides = sides_of_moved(alloc, &mut site, node);
-    drop(site);
-    sides
-}
-
 // What stands before the state of 119 bytes: an open gate, generation 2, version 2, and that length.
 const HEAD: [u8; 14] = [0xA5, 0, 0, 0, 0, 0, 0, 0, 2, 2, 0, 0, 0, 0x77];
 
-// What a checkpoint leaves of both sides, for a node of that state.
-fn check_sides<R: Abort>(rt: &R, old: &[u8], new: &[u8], state: &[u8]) {
-    assert_eq!(rt; old, [0].as_slice());
-    assert_eq!(rt; new.get(..14), Some(HEAD.as_slice()));
-    assert_eq!(rt; new.get(14..133), Some(state));
-    assert_eq!(rt; new.get(133..), Some([0].as_slice()));
+// Whether a side has that head, the state, and a closed gate.
+fn has_state(side: &[u8], state: &[u8]) -> bool {
+    side.get(..14) == Some(HEAD.as_slice())
+        && side.get(14..133) == Some(state)
+        && side.get(133..) == Some([0].as_slice())
 }
 
-fn check_checkpoint<R: Abort + AllocGlobal>(rt: &R, member: &Node) -> Result<(), Fail> {
-    let state = encoded(rt.alloc(), member)?;
-    let (old, new) = moved_over(rt.alloc(), member)?;
-    check_sides(rt, &old, &new, &state);
-    Ok(())
+fn is_closed(alloc: Global, site: &mut MemorySite) -> Result<bool, Fail> {
+    Ok(contents(alloc, site, Side::A)?.as_slice() == [0].as_slice())
+}
+
+fn has_node(alloc: Global, site: &mut MemorySite, node: &Node) -> Result<bool, Fail> {
+    let state = encoded(alloc, node)?;
+    let new = contents(alloc, site, Side::B)?;
+    Ok(has_state(&new, &state))
+}
+
+// Whether a whole checkpoint leaves one closed byte of side A, and the state on side B.
+fn is_moved_over(alloc: Global, site: &mut MemorySite, node: &Node) -> Result<[bool; 2], Fail> {
+    if !is_moved(alloc, site, node)? {
+        return Err("the checkpoint stopped")?;
+    }
+    Ok([is_closed(alloc, site)?, has_node(alloc, site, node)?])
+}
+
+fn moved_over(alloc: Global, node: &Node) -> Result<[bool; 2], Fail> {
+    let mut site = two_sides(alloc)?;
+    let moved = is_moved_over(alloc, &mut site, node);
+    drop(site);
+    moved
 }
 
 #[test]
 fn a_checkpoint_moves_to_the_other_side(rt: HostRuntime) -> Result<(), Fail> {
     let member = opened(rt.alloc(), 1, &[1], &[])?;
-    let checked = check_checkpoint(&rt, &member);
+    let moved = moved_over(rt.alloc(), &member);
     drop(member);
-    checked
+    assert!(rt; moved? == [true; 2]);
+    Ok(())
 }
 
 // Whether a checkpoint is done where that disk call fails, and all after it.
@@ -178,6 +174,6 @@ fn a_checkpoint_tells_each_failed_call(rt: HostRuntime) -> Result<(), Fail> {
     let member = opened(rt.alloc(), 1, &[1], &[])?;
     let calls = first_unneeded(rt.alloc(), &member, 4);
     drop(member);
-    assert_eq!(rt; calls?, 26);
+    assert!(rt; calls? == 26);
     Ok(())
 }

@@ -20,119 +20,149 @@ fn put<S: Site>(site: &mut S, side: Side, place: u64, bytes: &[u8]) -> Result<()
     unless_failed(written, is_as_before)
 }
 
-// The same, made sure of.
-fn keep<S: Site>(site: &mut S, side: Side, place: u64, bytes: &[u8]) -> Result<(), Fail> {
-    let length = site.length(side).or(Err("the length can't be read"))?;
-    if length < place {
-        return Err("the place is past the end")?;
-    }
-    write_durably(site, side, place, bytes).or(Err("the write failed"))?;
+// Bytes that are sure, at the start of a side.
+fn keep(site: &mut MemorySite, side: Side, bytes: &[u8]) -> Result<(), Fail> {
+    write_durably(site, side, 0, bytes).or(Err("the write failed"))?;
     Ok(())
 }
 
-fn contents<S: Site>(alloc: Global, site: &mut S, side: Side) -> Result<Vec<u8>, Fail> {
+/// All that a side has.
+pub(crate) fn contents<S: Site>(alloc: Global, site: &mut S, side: Side) -> Result<Vec<u8>, Fail> {
     let length = site.length(side).or(Err("the length can't be read"))?;
     let mut bytes = vec![in alloc; 0; length as usize]?;
     site.read(side, 0, &mut bytes).or(Err("the read failed"))?;
     Ok(bytes)
 }
 
-// What a crash leaves of a side.
-fn left(alloc: Global, site: &MemorySite, side: Side, choice: &Choice) -> Result<Vec<u8>, Fail> {
-    let mut image = site.image(alloc, choice)?;
-    contents(alloc, &mut image, side)
+// Whether a crash leaves these bytes of a side.
+fn is_left(
+    alloc: Global,
+    site: &MemorySite,
+    side: Side,
+    choice: Choice,
+    bytes: &[u8],
+) -> Result<bool, Fail> {
+    let image = site.image(alloc, &choice);
+    drop(choice);
+    let mut image = image?;
+    let left = contents(alloc, &mut image, side);
+    drop(image);
+    Ok(left?.as_slice() == bytes)
 }
 
-fn node(number: u32) -> Result<NodeId, Fail> {
-    Ok(NodeId::new(number).ok_or("an id is at least 1")?)
+/// The id of this number, which is at least 1.
+pub(crate) fn id(number: u32) -> NodeId {
+    NodeId::new(number.max(1)).unwrap()
+}
+
+fn tear(site: &mut MemorySite) -> Result<(), Fail> {
+    keep(site, Side::A, &[1, 2, 3])?;
+    put(site, Side::A, 1, &[9])?;
+    put(site, Side::A, 3, &[4, 5])
 }
 
 // Three bytes that are sure, the middle one written over, and two more behind them.
 fn torn(alloc: Global) -> Result<MemorySite, Fail> {
     let mut site = MemorySite::new(alloc, 1)?;
-    tear(&mut site)?;
-    Ok(site)
+    match tear(&mut site) {
+        Ok(()) => Ok(site),
+        Err(fault) => {
+            drop(site);
+            Err(fault)
+        }
+    }
 }
 
-fn tear(site: &mut MemorySite) -> Result<(), Fail> {
-    keep(site, Side::A, 0, &[1, 2, 3])?;
-    put(site, Side::A, 1, &[9])?;
-    put(site, Side::A, 3, &[4, 5])
-}
-
-// What a crash leaves of them.
-fn left_torn(alloc: Global, choice: &Choice) -> Result<Vec<u8>, Fail> {
-    let site = torn(alloc)?;
-    left(alloc, &site, Side::A, choice)
-}
-
-#[test]
-fn a_crash_leaves_what_a_read_gives(rt: HostRuntime) -> Result<(), Fail> {
-    let bytes = left_torn(rt.alloc(), &Choice::Read)?;
-    assert_eq!(rt; bytes.as_slice(), [1, 9, 3, 4, 5].as_slice());
-    Ok(())
-}
-
-#[test]
-fn a_crash_fills_touched_places(rt: HostRuntime) -> Result<(), Fail> {
-    let bytes = left_torn(rt.alloc(), &Choice::Fill(0xA5))?;
-    assert_eq!(rt; bytes.as_slice(), [1, 0xA5, 3, 0xA5, 0xA5].as_slice());
-    Ok(())
+// What a read gives, touched places filled, and the end where the side was extended.
+fn are_left(alloc: Global, site: &MemorySite) -> Result<[bool; 3], Fail> {
+    let a = Side::A;
+    Ok([
+        is_left(alloc, site, a, Choice::Read, &[1, 9, 3, 4, 5])?,
+        is_left(
+            alloc,
+            site,
+            a,
+            Choice::Fill(0xA5),
+            &[1, 0xA5, 3, 0xA5, 0xA5],
+        )?,
+        is_left(alloc, site, a, Choice::Short, &[1, 9, 3])?,
+    ])
 }
 
 #[test]
-fn a_crash_ends_a_side_where_it_was_extended(rt: HostRuntime) -> Result<(), Fail> {
-    let bytes = left_torn(rt.alloc(), &Choice::Short)?;
-    assert_eq!(rt; bytes.as_slice(), [1, 9, 3].as_slice());
+fn a_crash_reads_fills_or_ends_torn_bytes(rt: HostRuntime) -> Result<(), Fail> {
+    let site = torn(rt.alloc())?;
+    let are_left = are_left(rt.alloc(), &site);
+    drop(site);
+    assert!(rt; are_left? == [true; 3]);
     Ok(())
+}
+
+fn laid(alloc: Global) -> Result<Choice, Fail> {
+    Ok(Choice::Bytes([7, 8, 9, 10].to_vec(alloc)?))
 }
 
 // Side A takes three of the bytes, and side B the fourth.
+fn are_laid(alloc: Global, site: &mut MemorySite) -> Result<[bool; 2], Fail> {
+    put(site, Side::B, 0, &[6, 6])?;
+    Ok([
+        is_left(alloc, site, Side::A, laid(alloc)?, &[1, 7, 3, 8, 9])?,
+        is_left(alloc, site, Side::B, laid(alloc)?, &[10, 6])?,
+    ])
+}
+
 #[test]
 fn a_crash_lays_bytes_over_both_sides(rt: HostRuntime) -> Result<(), Fail> {
-    let alloc = rt.alloc();
-    let mut site = torn(alloc)?;
-    put(&mut site, Side::B, 0, &[6, 6])?;
-    let choice = Choice::Bytes([7, 8, 9, 10].to_vec(alloc)?);
-    let a = left(alloc, &site, Side::A, &choice)?;
-    assert_eq!(rt; a.as_slice(), [1, 7, 3, 8, 9].as_slice());
-    let b = left(alloc, &site, Side::B, &choice)?;
-    assert_eq!(rt; b.as_slice(), [10, 6].as_slice());
+    let mut site = torn(rt.alloc())?;
+    let are_laid = are_laid(rt.alloc(), &mut site);
+    drop(site);
+    assert!(rt; are_laid? == [true; 2]);
     Ok(())
+}
+
+fn image_filled(alloc: Global, site: &MemorySite) -> Result<MemorySite, Fail> {
+    let choice = Choice::Fill(7);
+    let image = site.image(alloc, &choice);
+    drop(choice);
+    Ok(image?)
+}
+
+// How many outputs an image has after one was put, and whether what it has is sure.
+fn image_of(alloc: Global, site: &mut MemorySite) -> Result<(usize, bool), Fail> {
+    site.ack(id(2), 1);
+    let image = image_filled(alloc, site)?;
+    let count = image.outputs().len();
+    let is_sure = is_left(alloc, &image, Side::A, Choice::Fill(0), &[1, 7, 3, 7, 7]);
+    drop(image);
+    Ok((count, is_sure?))
 }
 
 #[test]
 fn an_image_is_sure_and_put_nothing(rt: HostRuntime) -> Result<(), Fail> {
-    let alloc = rt.alloc();
-    let peer = node(2)?;
-    let mut site = torn(alloc)?;
-    site.ack(peer, 1);
-    let image = site.image(alloc, &Choice::Fill(7))?;
-    assert_eq!(rt; image.outputs().len(), 0);
-    let bytes = left(alloc, &image, Side::A, &Choice::Fill(0))?;
-    assert_eq!(rt; bytes.as_slice(), [1, 7, 3, 7, 7].as_slice());
+    let mut site = torn(rt.alloc())?;
+    let image = image_of(rt.alloc(), &mut site);
+    drop(site);
+    assert!(rt; image? == (0, true));
     Ok(())
 }
 
-// Puts a byte on side B, and one on side A that is made sure of. What a crash leaves of a side.
-fn left_of_one_sync(alloc: Global, site: &mut MemorySite, side: Side) -> Result<Vec<u8>, Fail> {
+// Puts a byte on side B, and one on side A that is made sure of. What a crash leaves of both.
+fn left_of_one_sync(alloc: Global, site: &mut MemorySite) -> Result<[bool; 2], Fail> {
     put(site, Side::B, 0, &[1])?;
-    keep(site, Side::B.other(), 0, &[2])?;
-    left(alloc, site, side, &Choice::Fill(0))
-}
-
-fn left_of_new_site(alloc: Global, side: Side) -> Result<Vec<u8>, Fail> {
-    let mut site = MemorySite::new(alloc, 0)?;
-    left_of_one_sync(alloc, &mut site, side)
+    keep(site, Side::B.other(), &[2])?;
+    Ok([
+        is_left(alloc, site, Side::A, Choice::Fill(0), &[2])?,
+        is_left(alloc, site, Side::B, Choice::Fill(0), &[0])?,
+    ])
 }
 
 // A synced side is sure, and the other is not.
 #[test]
 fn a_sync_is_of_one_side(rt: HostRuntime) -> Result<(), Fail> {
-    let a = left_of_new_site(rt.alloc(), Side::A)?;
-    assert_eq!(rt; a.as_slice(), [2].as_slice());
-    let b = left_of_new_site(rt.alloc(), Side::B)?;
-    assert_eq!(rt; b.as_slice(), [0].as_slice());
+    let mut site = MemorySite::new(rt.alloc(), 0)?;
+    let left = left_of_one_sync(rt.alloc(), &mut site);
+    drop(site);
+    assert!(rt; left? == [true; 2]);
     Ok(())
 }
 
@@ -145,45 +175,59 @@ fn cut<S: Site>(site: &mut S, len: u64) -> Result<(), Fail> {
     Ok(())
 }
 
+fn left_of_cut(alloc: Global, site: &mut MemorySite) -> Result<bool, Fail> {
+    cut(site, 2)?;
+    is_left(alloc, site, Side::A, Choice::Fill(0), &[1, 9])
+}
+
 #[test]
 fn a_cut_side_ends_there(rt: HostRuntime) -> Result<(), Fail> {
-    let alloc = rt.alloc();
-    let mut site = torn(alloc)?;
-    cut(&mut site, 2)?;
-    let bytes = left(alloc, &site, Side::A, &Choice::Fill(0))?;
-    assert_eq!(rt; bytes.as_slice(), [1, 9].as_slice());
+    let mut site = torn(rt.alloc())?;
+    let is_left = left_of_cut(rt.alloc(), &mut site);
+    drop(site);
+    assert!(rt; is_left?);
     Ok(())
 }
 
-// Two bytes that are sure, by disk calls 0 to 2. Call 4 is to fail.
-fn fused(alloc: Global, failing: Failing) -> Result<MemorySite, Fail> {
-    let mut site = MemorySite::new(alloc, 0)?;
-    keep(&mut site, Side::A, 0, &[1, 2])?;
+// Two bytes that are sure, by disk calls 0 to 2: a length, a write and a sync. Call 4 is to fail.
+fn fuse(site: &mut MemorySite, failing: Failing) -> Result<(), Fail> {
+    site.length(Side::A).or(Err("the length can't be read"))?;
+    keep(site, Side::A, &[1, 2])?;
     site.fuse(4, failing);
-    Ok(site)
+    Ok(())
 }
 
-// The write is call 4: it leaves the byte as a read gives it, and touches it.
+type Outcomes = (Result<u64, DeviceFault>, Result<(), DeviceFault>, [bool; 2]);
+
+// The outcomes of the calls 3 and 4, a length and a write; and whether a read gives the byte as it was, and a crash fills it.
+fn fail_once(alloc: Global, site: &mut MemorySite) -> Result<Outcomes, Fail> {
+    fuse(site, Failing::Once)?;
+    let length = site.length(Side::B);
+    let written = site.write_at(Side::A, 0, &[7]);
+    let read = contents(alloc, site, Side::A)?;
+    let is_read = read.as_slice() == [1, 2].as_slice();
+    drop(read);
+    let is_filled = is_left(alloc, site, Side::A, Choice::Fill(0), &[0, 2])?;
+    Ok((length, written, [is_read, is_filled]))
+}
+
+// The write leaves the byte as a read gives it, and touches it.
 #[test]
 fn a_fuse_fails_one_call(rt: HostRuntime) -> Result<(), Fail> {
-    let alloc = rt.alloc();
-    let mut site = fused(alloc, Failing::Once)?;
-    assert_eq!(rt; site.length(Side::B), Ok(0));
+    let mut site = MemorySite::new(rt.alloc(), 0)?;
+    let outcomes = fail_once(rt.alloc(), &mut site);
+    drop(site);
     let write = DeviceFault {
         side: Side::A,
         call: Call::Write,
     };
-    assert_eq!(rt; site.write_at(Side::A, 0, &[7]), Err(write));
-    let read = contents(alloc, &mut site, Side::A)?;
-    assert_eq!(rt; read.as_slice(), [1, 2].as_slice());
-    let fill = left(alloc, &site, Side::A, &Choice::Fill(0))?;
-    assert_eq!(rt; fill.as_slice(), [0, 2].as_slice());
+    assert!(rt; outcomes? == (Ok(0), Err(write), [true; 2]));
     Ok(())
 }
 
 // The outcomes of the calls 3 to 5 of a disk that stops at the fourth: two lengths and a sync.
-fn stopped(alloc: Global) -> Result<[Option<DeviceFault>; 3], Fail> {
-    let mut site = fused(alloc, Failing::Stop)?;
+fn stop(site: &mut MemorySite) -> Result<[Option<DeviceFault>; 3], Fail> {
+    fuse(site, Failing::Stop)?;
     let first = site.length(Side::B).err();
     let second = site.length(Side::A).err();
     let third = site.sync(Side::B).err();
@@ -192,6 +236,9 @@ fn stopped(alloc: Global) -> Result<[Option<DeviceFault>; 3], Fail> {
 
 #[test]
 fn a_fuse_stops_the_disk(rt: HostRuntime) -> Result<(), Fail> {
+    let mut site = MemorySite::new(rt.alloc(), 0)?;
+    let stopped = stop(&mut site);
+    drop(site);
     let length = DeviceFault {
         side: Side::A,
         call: Call::Length,
@@ -200,26 +247,27 @@ fn a_fuse_stops_the_disk(rt: HostRuntime) -> Result<(), Fail> {
         side: Side::B,
         call: Call::Sync,
     };
-    assert_eq!(rt; stopped(rt.alloc())?, [None, Some(length), Some(sync)]);
+    assert!(rt; stopped? == [None, Some(length), Some(sync)]);
     Ok(())
 }
 
-// Tells a peer that a node joined, and answers session 7.
-fn send_and_reply(site: &mut MemorySite, peer: NodeId, joined: NodeId, number: u64, request: u64) {
-    let message = Message::Join { node: joined };
-    site.send(peer, number, &message);
+// Tells peer 2 that node 3 joined, and answers session 7.
+fn send_and_reply(site: &mut MemorySite, number: u64, request: u64) {
+    let message = Message::Join { node: id(3) };
+    site.send(id(2), number, &message);
+    drop(message);
     site.reply(7, request, &Answer::Stored);
 }
 
 #[test]
 fn outputs_past_the_reserve_are_lost(rt: HostRuntime) -> Result<(), Fail> {
-    let (peer, joined) = (node(2)?, node(3)?);
     let mut site = MemorySite::new(rt.alloc(), 2)?;
-    send_and_reply(&mut site, peer, joined, 1, 1);
-    assert_eq!(rt; site.lost(), 0);
-    site.ack(peer, 1);
-    assert_eq!(rt; site.outputs().len(), 2);
-    assert_eq!(rt; site.lost(), 1);
+    send_and_reply(&mut site, 1, 1);
+    let lost = site.lost();
+    site.ack(id(2), 1);
+    let then = (site.outputs().len(), site.lost());
+    drop(site);
+    assert!(rt; (lost, then) == (0, (2, 1)));
     Ok(())
 }
 
@@ -235,34 +283,41 @@ fn number(output: Option<&Output>) -> u64 {
 
 #[test]
 fn outputs_stand_in_their_order(rt: HostRuntime) -> Result<(), Fail> {
-    let (peer, joined) = (node(2)?, node(3)?);
     let mut site = MemorySite::new(rt.alloc(), 3)?;
-    site.ack(peer, 5);
-    send_and_reply(&mut site, peer, joined, 6, 8);
-    assert_eq!(rt; number(site.outputs().first()), 5);
-    assert_eq!(rt; number(site.outputs().get(1)), 6);
-    assert_eq!(rt; number(site.outputs().get(2)), 8);
+    site.ack(id(2), 5);
+    send_and_reply(&mut site, 6, 8);
+    let outputs = site.outputs();
+    let numbers = [
+        number(outputs.first()),
+        number(outputs.get(1)),
+        number(outputs.get(2)),
+    ];
+    drop(site);
+    assert!(rt; numbers == [5, 6, 8]);
     Ok(())
+}
+
+const NAMES: [(Side, Call, &str); 10] = [
+    (Side::A, Call::Length, "A Length"),
+    (Side::A, Call::Read, "A Read"),
+    (Side::A, Call::Write, "A Write"),
+    (Side::A, Call::Cut, "A Cut"),
+    (Side::A, Call::Sync, "A Sync"),
+    (Side::B, Call::Length, "B Length"),
+    (Side::B, Call::Read, "B Read"),
+    (Side::B, Call::Write, "B Write"),
+    (Side::B, Call::Cut, "B Cut"),
+    (Side::B, Call::Sync, "B Sync"),
+];
+
+fn says(alloc: Global, fault: DeviceFault, wanted: &str) -> Result<bool, Fail> {
+    Ok(format!(in alloc; "{fault}")?.as_str() == wanted)
 }
 
 #[test]
 fn faults_print_their_side_and_call(rt: HostRuntime) -> Result<(), Fail> {
-    let texts = [
-        (Call::Length, "A Length", "B Length"),
-        (Call::Read, "A Read", "B Read"),
-        (Call::Write, "A Write", "B Write"),
-        (Call::Cut, "A Cut", "B Cut"),
-        (Call::Sync, "A Sync", "B Sync"),
-    ];
-    for (call, in_a, in_b) in texts {
-        let side = Side::A;
-        let fault = DeviceFault { side, call };
-        let text = format!(in rt.alloc(); "{fault}")?;
-        assert_eq!(rt; text.as_str(), in_a);
-        let side = Side::B;
-        let fault = DeviceFault { side, call };
-        let text = format!(in rt.alloc(); "{fault}")?;
-        assert_eq!(rt; text.as_str(), in_b);
+    for &(side, call, name) in &NAMES {
+        assert!(rt; says(rt.alloc(), DeviceFault { side, call }, name)?);
     }
     Ok(())
 }

@@ -4,6 +4,7 @@ ghost use Rattle.std.specs.Prelude.{◌≡◌, ◌≤◌, length, OnOk, IfOk};
 ghost use Rattle.cc_node.specs.Node.{after};
 ghost use Rattle.cc_journal.specs.Batches.{AreLawful, events_in};
 
+use crate::memory_sites::contents;
 use cc_changes::Fraction;
 use cc_journal::{Batch, Entry, Journal, ScanFault, Scanned, scan};
 use cc_node::{Core, Node, Opening};
@@ -29,19 +30,14 @@ fn entrant(alloc: Global) -> Result<Node, Fail> {
     Ok(Node::fresh(alloc, &opening)?)
 }
 
-// A site whose side A has these bytes.
-fn holding(alloc: Global, bytes: &[u8]) -> Result<MemorySite, Fail> {
+/// A site whose side A has these bytes.
+pub(crate) fn holding(alloc: Global, bytes: &[u8]) -> Result<MemorySite, Fail> {
     let mut site = MemorySite::new(alloc, 0)?;
-    write_durably(&mut site, Side::A, 0, bytes).or(Err("the write failed"))?;
+    if write_durably(&mut site, Side::A, 0, bytes).is_err() {
+        drop(site);
+        return Err("the write failed")?;
+    }
     Ok(site)
-}
-
-fn contents<S: Site>(alloc: Global, site: &mut S) -> Result<Vec<u8>, Fail> {
-    let length = site.length(Side::A).or(Err("the length can't be read"))?;
-    let mut bytes = vec![in alloc; 0; length as usize]?;
-    site.read(Side::A, 0, &mut bytes)
-        .or(Err("the read failed"))?;
-    Ok(bytes)
 }
 
 // Writes a batch, opens its gate, and puts what its events make of the node. Whether it landed.
@@ -107,11 +103,6 @@ fn found(alloc: Global, bytes: &[u8]) -> Result<Result<Found, ScanFault>, Fail> 
     found
 }
 
-// Damage at that place.
-const fn damaged(place: u64) -> Result<Found, ScanFault> {
-    Err(ScanFault::Damaged(place))
-}
-
 // Writes an event of the node behind the gate of a journal. The place behind it.
 fn place_after(
     alloc: Global,
@@ -135,7 +126,7 @@ fn two_places(
     node: &mut Node,
 ) -> Result<(Vec<u8>, [u64; 2]), Fail> {
     let first = place_after(alloc, journal, site, node, Event::Enter)?;
-    let bytes = contents(alloc, site)?;
+    let bytes = contents(alloc, site, Side::A)?;
     let second = place_after(alloc, journal, site, node, Event::Leave)?;
     Ok((bytes, [first, second]))
 }
@@ -155,19 +146,17 @@ fn a_record_stands_behind_its_open_gate(rt: HostRuntime) -> Result<(), Fail> {
     let entered = entered_and_left(rt.alloc(), &mut site);
     drop(site);
     let (bytes, places) = entered?;
-    assert_eq!(rt; (bytes.as_slice(), places), (ENTERED.as_slice(), [11, 22]));
+    assert!(rt; (bytes.as_slice(), places) == (ENTERED.as_slice(), [11, 22]));
     Ok(())
 }
 
-// Entries of an Enter that makes nothing, so many of them that fit, up to a limit.
-fn batch_of(limit: usize) -> Batch {
-    let mut batch = Batch::new();
+// Adds entries of an Enter that makes nothing, so many of them that fit, up to a limit.
+fn fill(batch: &mut Batch, limit: usize) {
     for _ in 0..limit {
         if batch.push(Entry::default()).is_err() {
             break;
         }
     }
-    batch
 }
 
 // How many entries a batch has, and the size of its record.
@@ -176,23 +165,23 @@ fn measure(batch: &Batch) -> (usize, usize, usize) {
 }
 
 // The measures of a batch of 64 entries, once one is taken out, and once another one is put in.
-fn measures() -> [(usize, usize, usize); 3] {
-    let mut batch = batch_of(65);
-    let full = measure(&batch);
+fn measures(batch: &mut Batch) -> [(usize, usize, usize); 3] {
+    fill(batch, 65);
+    let full = measure(batch);
     drop(batch.take_first());
-    let taken = measure(&batch);
-    let _ = batch.push(Entry::default());
-    let again = measure(&batch);
-    drop(batch);
-    [full, taken, again]
+    let taken = measure(batch);
+    fill(batch, 1);
+    [full, taken, measure(batch)]
 }
 
 #[test]
-fn a_batch_takes_64_entries(rt: HostRuntime) -> Result<(), Fail> {
+fn a_batch_takes_64_entries(rt: HostRuntime) {
+    let mut batch = Batch::new();
+    let measures = measures(&mut batch);
+    drop(batch);
     // a count, and the size and the byte of each event
     let full = (64, 64, 1 + 64 * 5);
-    assert_eq!(rt; measures(), [full, (63, 63, 1 + 63 * 5), full]);
-    Ok(())
+    assert!(rt; measures == [full, (63, 63, 1 + 63 * 5), full]);
 }
 
 // Adds an event to a batch that is lawful from a node on, and to the core that the batch leads to.
@@ -266,7 +255,7 @@ fn place_of_two(alloc: Global, site: &mut MemorySite, node: &mut Node) -> Result
 // What is sure of a site.
 fn sure(alloc: Global, site: &MemorySite) -> Result<Vec<u8>, Fail> {
     let mut image = site.image(alloc, &Choice::Fill(0xA5))?;
-    let bytes = contents(alloc, &mut image);
+    let bytes = contents(alloc, &mut image, Side::A);
     drop(image);
     bytes
 }
@@ -283,7 +272,7 @@ fn a_batch_of_two_has_one_record(rt: HostRuntime) -> Result<(), Fail> {
     drop(site);
     let (place, bytes) = sure?;
     let record = [0xA5, 0, 0, 0, 11, 2, 0, 0, 0, 1, 1, 0, 0, 0, 1, 2, 0];
-    assert_eq!(rt; (place, bytes.as_slice()), (16, record.as_slice()));
+    assert!(rt; (place, bytes.as_slice()) == (16, record.as_slice()));
     Ok(())
 }
 
@@ -306,73 +295,81 @@ fn a_record_is_read_again(rt: HostRuntime) -> Result<(), Fail> {
     let mut site = holding(rt.alloc(), &ENTERED)?;
     let read = read_again(rt.alloc(), &mut site);
     drop(site);
-    assert_eq!(rt; read?, (Side::A, (11, 1, 1), 1));
+    assert!(rt; read? == (Side::A, (11, 1, 1), 1));
     Ok(())
 }
 
+// What a scan finds of these bytes, or why it stops.
+const SCANS: [(&[u8], Result<Found, ScanFault>); 12] = [
+    // Two records, and one of two events, up to a closed gate.
+    (
+        &[
+            0xA5, 0, 0, 0, 6, 1, 0, 0, 0, 1, 1, 0xA5, 0, 0, 0, 6, 1, 0, 0, 0, 1, 2, 0xFF, 0xA5,
+        ],
+        Ok((22, 2, 2)),
+    ),
+    (
+        &[0xA5, 0, 0, 0, 11, 2, 0, 0, 0, 1, 1, 0, 0, 0, 1, 2, 0],
+        Ok((16, 1, 2)),
+    ),
+    // What stands behind a closed gate is not read.
+    (
+        &[0, 0xA5, 0, 0, 0, 6, 1, 0, 0, 0, 1, 1, 0xA5],
+        Ok((0, 0, 0)),
+    ),
+    // No gate, and none behind a record.
+    (&[], Err(ScanFault::Damaged(0))),
+    (
+        &[0xA5, 0, 0, 0, 6, 1, 0, 0, 0, 1, 1],
+        Err(ScanFault::Damaged(11)),
+    ),
+    // A record that is cut off.
+    (&[0xA5, 0, 0, 0], Err(ScanFault::Damaged(1))),
+    (
+        &[0xA5, 0, 0, 0, 6, 1, 0, 0, 0, 1],
+        Err(ScanFault::Damaged(1)),
+    ),
+    // No event, 65 events, no such event, an event of no byte, and a byte too many.
+    (&[0xA5, 0, 0, 0, 1, 0, 0], Err(ScanFault::Damaged(1))),
+    (
+        &[0xA5, 0, 0, 0, 6, 65, 0, 0, 0, 1, 1, 0],
+        Err(ScanFault::Damaged(1)),
+    ),
+    (
+        &[0xA5, 0, 0, 0, 6, 1, 0, 0, 0, 1, 7, 0],
+        Err(ScanFault::Damaged(1)),
+    ),
+    (
+        &[0xA5, 0, 0, 0, 5, 1, 0, 0, 0, 0, 0],
+        Err(ScanFault::Damaged(1)),
+    ),
+    (
+        &[0xA5, 0, 0, 0, 7, 1, 0, 0, 0, 1, 1, 0, 0],
+        Err(ScanFault::Damaged(1)),
+    ),
+];
+
+// A node enters once.
+const TWICE: [u8; 23] = [
+    0xA5, 0, 0, 0, 6, 1, 0, 0, 0, 1, 1, 0xA5, 0, 0, 0, 6, 1, 0, 0, 0, 1, 1, 0,
+];
+
 #[test]
-fn records_are_read_up_to_a_closed_gate(rt: HostRuntime) -> Result<(), Fail> {
-    let alloc = rt.alloc();
-    let two = [
-        0xA5, 0, 0, 0, 6, 1, 0, 0, 0, 1, 1, 0xA5, 0, 0, 0, 6, 1, 0, 0, 0, 1, 2, 0xFF, 0xA5,
-    ];
-    let of_two = [0xA5, 0, 0, 0, 11, 2, 0, 0, 0, 1, 1, 0, 0, 0, 1, 2, 0];
-    let found = [found(alloc, &two)?, found(alloc, &of_two)?];
-    assert_eq!(rt; found, [Ok((22, 2, 2)), Ok((16, 1, 2))]);
+fn records_are_read_up_to_a_closed_gate_or_damage(rt: HostRuntime) -> Result<(), Fail> {
+    for &(bytes, wanted) in &SCANS {
+        assert!(rt; found(rt.alloc(), bytes)? == wanted);
+    }
+    assert!(rt; found(rt.alloc(), &TWICE)? == Err(ScanFault::Damaged(12)));
     Ok(())
 }
 
 #[test]
 fn a_record_behind_a_closed_gate_is_not_read(rt: HostRuntime) -> Result<(), Fail> {
-    let alloc = rt.alloc();
     for &gate in &[0, 1, 0xA4, 0xFF] {
         let mut bytes = ENTERED;
         bytes[0] = gate;
-        assert_eq!(rt; found(alloc, &bytes)?, Ok((0, 0, 0)));
+        assert!(rt; found(rt.alloc(), &bytes)? == Ok((0, 0, 0)));
     }
-    let behind = [0, 0xA5, 0, 0, 0, 6, 1, 0, 0, 0, 1, 1, 0xA5];
-    assert_eq!(rt; found(alloc, &behind)?, Ok((0, 0, 0)));
-    Ok(())
-}
-
-#[test]
-fn a_side_is_damaged_where_a_gate_is_missing(rt: HostRuntime) -> Result<(), Fail> {
-    let alloc = rt.alloc();
-    let found = [found(alloc, &[])?, found(alloc, &ENTERED[..11])?];
-    assert_eq!(rt; found, [damaged(0), damaged(11)]);
-    Ok(())
-}
-
-#[test]
-fn a_record_that_is_cut_off_is_damage(rt: HostRuntime) -> Result<(), Fail> {
-    let alloc = rt.alloc();
-    let found = [found(alloc, &ENTERED[..4])?, found(alloc, &ENTERED[..10])?];
-    assert_eq!(rt; found, [damaged(1); 2]);
-    Ok(())
-}
-
-#[test]
-fn a_side_is_damaged_at_the_length_of_a_record(rt: HostRuntime) -> Result<(), Fail> {
-    let alloc = rt.alloc();
-    let found = [
-        // no event, 65 events, no such event, an event of no byte, a byte too many
-        found(alloc, &[0xA5, 0, 0, 0, 1, 0, 0])?,
-        found(alloc, &[0xA5, 0, 0, 0, 6, 65, 0, 0, 0, 1, 1, 0])?,
-        found(alloc, &[0xA5, 0, 0, 0, 6, 1, 0, 0, 0, 1, 7, 0])?,
-        found(alloc, &[0xA5, 0, 0, 0, 5, 1, 0, 0, 0, 0, 0])?,
-        found(alloc, &[0xA5, 0, 0, 0, 7, 1, 0, 0, 0, 1, 1, 0, 0])?,
-    ];
-    assert_eq!(rt; found, [damaged(1); 5]);
-    Ok(())
-}
-
-// A node enters once.
-#[test]
-fn an_event_that_is_refused_is_damage(rt: HostRuntime) -> Result<(), Fail> {
-    let twice = [
-        0xA5, 0, 0, 0, 6, 1, 0, 0, 0, 1, 1, 0xA5, 0, 0, 0, 6, 1, 0, 0, 0, 1, 1, 0,
-    ];
-    assert_eq!(rt; found(rt.alloc(), &twice)?, damaged(12));
     Ok(())
 }
 
@@ -392,7 +389,7 @@ fn a_scan_tells_a_failed_call(rt: HostRuntime) -> Result<(), Fail> {
     for &(at, call) in &[(2, Call::Length), (3, Call::Read), (4, Call::Read)] {
         let device = DeviceFault { side, call };
         let found = found_failing(rt.alloc(), at)?;
-        assert_eq!(rt; found, Err(ScanFault::Device(device)));
+        assert!(rt; found == Err(ScanFault::Device(device)));
     }
     Ok(())
 }
@@ -420,7 +417,7 @@ fn entered_on(alloc: Global, site: &mut MemorySite) -> Result<(bool, u64), Fail>
 #[test]
 fn a_failed_call_forfeits_the_batch(rt: HostRuntime) -> Result<(), Fail> {
     for &at in &[3, 4, 5, 6] {
-        assert_eq!(rt; entered_failing(rt.alloc(), at)?, (false, 0));
+        assert!(rt; entered_failing(rt.alloc(), at)? == (false, 0));
     }
     Ok(())
 }

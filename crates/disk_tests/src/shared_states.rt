@@ -1,109 +1,103 @@
 //! States of nodes whose asks begin together.
 
+ghost use Rattle.std.specs.Prelude.{◌≤◌, length};
+
+use crate::memory_sites::id;
+use crate::records::holding;
 use crate::states::{deliver, led_to, opened_with_share, take, turned};
 use crate::windows::{check_cuts, check_parts, fault, front, read};
 use cc_checkpoint::{OpenFault, StateFault, decode_state, encode_image};
 use cc_node::{Layout, Node};
-use cc_site::{MemorySite, Side, write_durably};
-use cc_views::{NodeId, Text};
+use cc_site::Side;
+use cc_views::Text;
 use cc_wire::{Command, Event, Message, Refusal, WireFault};
 use std::alloc::Global;
-use std::process::Abort;
 use std::test::*;
 
 // Member 1 of 1, of share 32, as it is formatted.
-const FORMATTED: &str = "\
-a5000000 00000000 01200000 00790000 00010000 00040000 00050000 00040000
-00050001 00000001 00010000 00010000 00000000 00000000 00000000 00000000
-00000000 00000000 00000000 00000000 00000000 00000000 20000000 00000000
-00000000 01000000 01000000 00000000 00000000 00000000 00000000 00000000
-00000000 00000000";
+const FORMATTED: [u8; 136] = [
+    0xa5, 0, 0, 0, 0, 0, 0, 0, 1, 0x20, 0, 0, 0, 0x79, 0, 0, 0, 1, 0, 0, 0, 4, 0, 0, 0, 5, 0, 0, 0,
+    4, 0, 0, 0, 5, 0, 1, 0, 0, 0, 1, 0, 1, 0, 0, 0, 1, 0, 0, 0, 0, 0, 0, 0, 0, 0, 0, 0, 0, 0, 0, 0,
+    0, 0, 0, 0, 0, 0, 0, 0, 0, 0, 0, 0, 0, 0, 0, 0, 0, 0, 0, 0, 0, 0, 0, 0, 0, 0, 0, 0x20, 0, 0, 0,
+    0, 0, 0, 0, 0, 0, 0, 0, 1, 0, 0, 0, 1, 0, 0, 0, 0, 0, 0, 0, 0, 0, 0, 0, 0, 0, 0, 0, 0, 0, 0, 0,
+    0, 0, 0, 0, 0, 0, 0, 0, 0, 0, 0, 0,
+];
 
 // Entrant 4 with contact 1, of share 2, as it is formatted.
-const ENTRANT: &str = "\
-a5000000 00000000 01200000 008d0000 00040000 00040000 00050000 00040000
-00050000 00000000 00000000 00000000 00000000 00000000 00000000 00000000
-00000000 00000000 00000000 00000000 02000000 00000000 00000000 02000000
-01000000 00000000 00000000 00000000 00000000 00000000 00000000 04000000
-00000000 00000000 00000000 00000000 00000000 00000000 00000000";
+const ENTRANT: [u8; 156] = [
+    0xa5, 0, 0, 0, 0, 0, 0, 0, 1, 0x20, 0, 0, 0, 0x8d, 0, 0, 0, 4, 0, 0, 0, 4, 0, 0, 0, 5, 0, 0, 0,
+    4, 0, 0, 0, 5, 0, 0, 0, 0, 0, 0, 0, 0, 0, 0, 0, 0, 0, 0, 0, 0, 0, 0, 0, 0, 0, 0, 0, 0, 0, 0, 0,
+    0, 0, 0, 0, 0, 0, 0, 0, 0, 0, 0, 0, 0, 0, 0, 0, 0, 0, 0, 2, 0, 0, 0, 0, 0, 0, 0, 0, 0, 0, 0, 2,
+    0, 0, 0, 1, 0, 0, 0, 0, 0, 0, 0, 0, 0, 0, 0, 0, 0, 0, 0, 0, 0, 0, 0, 0, 0, 0, 0, 0, 0, 0, 0, 4,
+    0, 0, 0, 0, 0, 0, 0, 0, 0, 0, 0, 0, 0, 0, 0, 0, 0, 0, 0, 0, 0, 0, 0, 0, 0, 0, 0, 0, 0, 0, 0,
+];
 
 // The member of share 32 has stored for session 7, stores for 8 and 9 together, and a collect of 10 waits.
-const STORING: &str = "\
-a5000000 00000000 02200000 01770000 00010000 00040000 00050000 00040000
-00050001 00000001 00010000 00010000 00010000 00010000 00000000 00030162
-00000000 00000005 00000000 00000000 00030162 00000000 00000005 00000000
-00000000 00020000 00000000 00000000 01000000 00000000 08000000 00000000
-01010162 00010000 20010000 00000000 00090000 00000000 00010300 00000000
-00000501 00000000 0000000a 00000000 00000001 02000000 00000000 03000100
-00000100 00000000 00000000 00000000 00000000 00000000 00000200 04000000
-00000000 07000000 00000000 01000000 00000000 08000000 00000000 01000000
-00000000 09000000 00000000 01000000 00000000 0a000000 00000000 01000309
-00010000 00010000 00000000 00010161 00000000 00000000 00000000 00000000
-00010000 00010a00 00000000 00000100 00000109 00010000 00010000 00000000
-00030162 00000000 00000005 00000000 00000000 00020000 00010001 00000000
-00000007 0100";
+const STORING: [u8; 390] = [
+    0xa5, 0, 0, 0, 0, 0, 0, 0, 2, 0x20, 0, 0, 1, 0x77, 0, 0, 0, 1, 0, 0, 0, 4, 0, 0, 0, 5, 0, 0, 0,
+    4, 0, 0, 0, 5, 0, 1, 0, 0, 0, 1, 0, 1, 0, 0, 0, 1, 0, 0, 0, 1, 0, 0, 0, 1, 0, 0, 0, 0, 0, 0, 0,
+    3, 1, 0x62, 0, 0, 0, 0, 0, 0, 0, 5, 0, 0, 0, 0, 0, 0, 0, 0, 0, 3, 1, 0x62, 0, 0, 0, 0, 0, 0, 0,
+    5, 0, 0, 0, 0, 0, 0, 0, 0, 0, 2, 0, 0, 0, 0, 0, 0, 0, 0, 0, 0, 1, 0, 0, 0, 0, 0, 0, 0, 8, 0, 0,
+    0, 0, 0, 0, 0, 1, 1, 1, 0x62, 0, 1, 0, 0, 0x20, 1, 0, 0, 0, 0, 0, 0, 0, 9, 0, 0, 0, 0, 0, 0, 0,
+    1, 3, 0, 0, 0, 0, 0, 0, 0, 5, 1, 0, 0, 0, 0, 0, 0, 0, 0x0a, 0, 0, 0, 0, 0, 0, 0, 1, 2, 0, 0, 0,
+    0, 0, 0, 0, 3, 0, 1, 0, 0, 0, 1, 0, 0, 0, 0, 0, 0, 0, 0, 0, 0, 0, 0, 0, 0, 0, 0, 0, 0, 0, 0, 0,
+    0, 0, 2, 0, 4, 0, 0, 0, 0, 0, 0, 0, 7, 0, 0, 0, 0, 0, 0, 0, 1, 0, 0, 0, 0, 0, 0, 0, 8, 0, 0, 0,
+    0, 0, 0, 0, 1, 0, 0, 0, 0, 0, 0, 0, 9, 0, 0, 0, 0, 0, 0, 0, 1, 0, 0, 0, 0, 0, 0, 0, 0x0a, 0, 0,
+    0, 0, 0, 0, 0, 1, 0, 3, 9, 0, 1, 0, 0, 0, 1, 0, 0, 0, 0, 0, 0, 0, 1, 1, 0x61, 0, 0, 0, 0, 0, 0,
+    0, 0, 0, 0, 0, 0, 0, 0, 0, 0, 0, 1, 0, 0, 0, 1, 0x0a, 0, 0, 0, 0, 0, 0, 0, 1, 0, 0, 0, 1, 9, 0,
+    1, 0, 0, 0, 1, 0, 0, 0, 0, 0, 0, 0, 3, 1, 0x62, 0, 0, 0, 0, 0, 0, 0, 5, 0, 0, 0, 0, 0, 0, 0, 0,
+    0, 2, 0, 0, 0, 1, 0, 1, 0, 0, 0, 0, 0, 0, 0, 7, 1, 0,
+];
 
 // Both are answered, and what the collect has seen is stored back.
-const STORING_BACK: &str = "\
-a5000000 00000000 03200000 01df0000 00010000 00040000 00050000 00040000
-00050001 00000001 00010000 00010000 00010000 00010000 00000000 00030162
-00000000 00000005 00000000 00000000 00030162 00000000 00000005 00000000
-00000000 00040000 00000000 00000000 03000000 00000000 0a000000 00000000
-01020001 00000001 00000001 00000000 00000003 01620000 00000000 00050000
-20000000 00000000 00000700 01000000 01000000 00000000 00000000 00000000
-00000000 00000000 06000400 00000000 00000700 00000000 00000100 00000000
-00000800 00000000 00000100 00000000 00000900 00000000 00000100 00000000
-00000a00 00000000 00000100 07090001 00000001 00000000 00000001 01610000
-00000000 00000000 00000000 00000001 00000001 0a000000 00000000 01000000
-01090001 00000001 00000000 00000003 01620000 00000000 00050000 00000000
-00000002 00000001 0a000000 00000000 02000000 01070000 00000000 00030000
-00010800 01000000 01000000 00000000 03016200 00000000 00000500 00000000
-00000000 03000000 01090001 00000001 00000000 00000003 01620000 00000000
-00050000 00000000 00000004 00000001 00030000 00000000 00070100 00000000
-00000801 00000000 00000009 0100";
+const STORING_BACK: [u8; 494] = [
+    0xa5, 0, 0, 0, 0, 0, 0, 0, 3, 0x20, 0, 0, 1, 0xdf, 0, 0, 0, 1, 0, 0, 0, 4, 0, 0, 0, 5, 0, 0, 0,
+    4, 0, 0, 0, 5, 0, 1, 0, 0, 0, 1, 0, 1, 0, 0, 0, 1, 0, 0, 0, 1, 0, 0, 0, 1, 0, 0, 0, 0, 0, 0, 0,
+    3, 1, 0x62, 0, 0, 0, 0, 0, 0, 0, 5, 0, 0, 0, 0, 0, 0, 0, 0, 0, 3, 1, 0x62, 0, 0, 0, 0, 0, 0, 0,
+    5, 0, 0, 0, 0, 0, 0, 0, 0, 0, 4, 0, 0, 0, 0, 0, 0, 0, 0, 0, 0, 3, 0, 0, 0, 0, 0, 0, 0, 0x0a, 0,
+    0, 0, 0, 0, 0, 0, 1, 2, 0, 1, 0, 0, 0, 1, 0, 0, 0, 1, 0, 0, 0, 0, 0, 0, 0, 3, 1, 0x62, 0, 0, 0,
+    0, 0, 0, 0, 5, 0, 0, 0x20, 0, 0, 0, 0, 0, 0, 0, 0, 0, 7, 0, 1, 0, 0, 0, 1, 0, 0, 0, 0, 0, 0, 0,
+    0, 0, 0, 0, 0, 0, 0, 0, 0, 0, 0, 0, 0, 0, 0, 0, 6, 0, 4, 0, 0, 0, 0, 0, 0, 0, 7, 0, 0, 0, 0, 0,
+    0, 0, 1, 0, 0, 0, 0, 0, 0, 0, 8, 0, 0, 0, 0, 0, 0, 0, 1, 0, 0, 0, 0, 0, 0, 0, 9, 0, 0, 0, 0, 0,
+    0, 0, 1, 0, 0, 0, 0, 0, 0, 0, 0x0a, 0, 0, 0, 0, 0, 0, 0, 1, 0, 7, 9, 0, 1, 0, 0, 0, 1, 0, 0, 0,
+    0, 0, 0, 0, 1, 1, 0x61, 0, 0, 0, 0, 0, 0, 0, 0, 0, 0, 0, 0, 0, 0, 0, 0, 0, 1, 0, 0, 0, 1, 0x0a,
+    0, 0, 0, 0, 0, 0, 0, 1, 0, 0, 0, 1, 9, 0, 1, 0, 0, 0, 1, 0, 0, 0, 0, 0, 0, 0, 3, 1, 0x62, 0, 0,
+    0, 0, 0, 0, 0, 5, 0, 0, 0, 0, 0, 0, 0, 0, 0, 2, 0, 0, 0, 1, 0x0a, 0, 0, 0, 0, 0, 0, 0, 2, 0, 0,
+    0, 1, 7, 0, 0, 0, 0, 0, 0, 0, 3, 0, 0, 0, 1, 8, 0, 1, 0, 0, 0, 1, 0, 0, 0, 0, 0, 0, 0, 3, 1,
+    0x62, 0, 0, 0, 0, 0, 0, 0, 5, 0, 0, 0, 0, 0, 0, 0, 0, 0, 3, 0, 0, 0, 1, 9, 0, 1, 0, 0, 0, 1, 0,
+    0, 0, 0, 0, 0, 0, 3, 1, 0x62, 0, 0, 0, 0, 0, 0, 0, 5, 0, 0, 0, 0, 0, 0, 0, 0, 0, 4, 0, 0, 0, 1,
+    0, 3, 0, 0, 0, 0, 0, 0, 0, 7, 1, 0, 0, 0, 0, 0, 0, 0, 8, 1, 0, 0, 0, 0, 0, 0, 0, 9, 1, 0,
+];
 
 // Member 1 of 1, of share 2, whose own number is one below its limit: a store is pending, whose acknowledgement under
 // number 2 is to come, and the stores of sessions 8 and 9 wait.
-const NEAR_THE_LIMIT: &str = "\
-a5000000 00000000 01200000 01330000 00010000 00040000 00050000 00040000
-00050001 00000001 00010000 00010000 00010000 00013fff ffffffff ffff0161
-00000000 00000000 00003fff ffffffff ffff0161 00000000 00000000 00000000
-00000000 00010000 00000000 00000000 01000000 00000000 07000000 00000000
-01010161 00010000 02000200 00000000 00000800 00000000 00000101 01620000
-00000000 00090000 00000000 00010101 63000000 00000000 02000100 00000100
-00000000 00000000 00000000 00000000 00000000 00000100 03000000 00000000
-07000000 00000000 01000000 00000000 08000000 00000000 01000000 00000000
-09000000 00000000 01000209 00010000 00013fff ffffffff ffff0161 00000000
-00000000 00000000 00000000 00010000 00010a00 00000000 00000100 00000100
-0000";
+const NEAR_THE_LIMIT: [u8; 322] = [
+    0xa5, 0, 0, 0, 0, 0, 0, 0, 1, 0x20, 0, 0, 1, 0x33, 0, 0, 0, 1, 0, 0, 0, 4, 0, 0, 0, 5, 0, 0, 0,
+    4, 0, 0, 0, 5, 0, 1, 0, 0, 0, 1, 0, 1, 0, 0, 0, 1, 0, 0, 0, 1, 0, 0, 0, 1, 0x3f, 0xff, 0xff,
+    0xff, 0xff, 0xff, 0xff, 0xff, 1, 0x61, 0, 0, 0, 0, 0, 0, 0, 0, 0, 0, 0x3f, 0xff, 0xff, 0xff,
+    0xff, 0xff, 0xff, 0xff, 1, 0x61, 0, 0, 0, 0, 0, 0, 0, 0, 0, 0, 0, 0, 0, 0, 0, 0, 0, 1, 0, 0, 0,
+    0, 0, 0, 0, 0, 0, 0, 1, 0, 0, 0, 0, 0, 0, 0, 7, 0, 0, 0, 0, 0, 0, 0, 1, 1, 1, 0x61, 0, 1, 0, 0,
+    2, 0, 2, 0, 0, 0, 0, 0, 0, 0, 8, 0, 0, 0, 0, 0, 0, 0, 1, 1, 1, 0x62, 0, 0, 0, 0, 0, 0, 0, 9, 0,
+    0, 0, 0, 0, 0, 0, 1, 1, 1, 0x63, 0, 0, 0, 0, 0, 0, 0, 2, 0, 1, 0, 0, 0, 1, 0, 0, 0, 0, 0, 0, 0,
+    0, 0, 0, 0, 0, 0, 0, 0, 0, 0, 0, 0, 0, 0, 0, 0, 1, 0, 3, 0, 0, 0, 0, 0, 0, 0, 7, 0, 0, 0, 0, 0,
+    0, 0, 1, 0, 0, 0, 0, 0, 0, 0, 8, 0, 0, 0, 0, 0, 0, 0, 1, 0, 0, 0, 0, 0, 0, 0, 9, 0, 0, 0, 0, 0,
+    0, 0, 1, 0, 2, 9, 0, 1, 0, 0, 0, 1, 0x3f, 0xff, 0xff, 0xff, 0xff, 0xff, 0xff, 0xff, 1, 0x61, 0,
+    0, 0, 0, 0, 0, 0, 0, 0, 0, 0, 0, 0, 0, 0, 0, 0, 1, 0, 0, 0, 1, 0x0a, 0, 0, 0, 0, 0, 0, 0, 1, 0,
+    0, 0, 1, 0, 0, 0,
+];
 
-const ALL: [&str; 5] = [FORMATTED, ENTRANT, STORING, STORING_BACK, NEAR_THE_LIMIT];
-
-// The bytes of these hexadecimal digits.
-fn bytes_of(alloc: Global, digits: &str) -> Result<Vec<u8>, Fail> {
-    let mut bytes = Vec::new(alloc);
-    let mut high = None;
-    for digit in digits.chars() {
-        let Some(value) = digit.to_digit(16) else {
-            continue;
-        };
-        match high {
-            None => high = Some(value),
-            Some(first) => {
-                let both = first.saturating_mul(16).saturating_add(value);
-                bytes.push(u8::try_from(both).or(Err("two digits are a byte"))?)?;
-                high = None;
-            }
-        }
-    }
-    Ok(bytes)
-}
+const ALL: [&[u8]; 5] = [
+    &FORMATTED,
+    &ENTRANT,
+    &STORING,
+    &STORING_BACK,
+    &NEAR_THE_LIMIT,
+];
 
 // The state that stands on a side behind the head, and before a closed gate.
-fn state_of(alloc: Global, side: &[u8]) -> Result<Vec<u8>, Fail> {
+fn state_of(side: &[u8]) -> Result<&[u8], Fail> {
     let end = side.len().saturating_sub(1);
-    let state = side.get(14..end).ok_or("there is no state")?;
-    Ok(Vec::from_slice(alloc, state)?)
+    Ok(side.get(14..end).ok_or("there is no state")?)
 }
 
 // What the node is on a side, under that generation, which is 1 or more.
@@ -116,11 +110,9 @@ fn side_of(alloc: Global, node: &Node, generation: u64) -> Result<Vec<u8>, Fail>
 
 // The node on a side of these bytes, and the place behind its state.
 fn node_on(alloc: Global, side: &[u8]) -> Result<(Node, u64), Fail> {
-    let mut site = MemorySite::new(alloc, 0)?;
-    let written = write_durably(&mut site, Side::A, 0, side);
+    let mut site = holding(alloc, side)?;
     let found = read(alloc, &mut site);
     drop(site);
-    written.or(Err("the write failed"))?;
     Ok(found?)
 }
 
@@ -130,36 +122,31 @@ fn is_read_and_written(alloc: Global, side: &[u8]) -> Result<bool, Fail> {
     let (node, place) = node_on(alloc, side)?;
     let again = side_of(alloc, &node, u64::from(*generation));
     drop(node);
-    Ok(again?.as_slice() == side && place as usize == side.len().saturating_sub(1))
+    let is_same = again?.as_slice() == side;
+    Ok(is_same && place as usize == side.len().saturating_sub(1))
 }
 
 #[test]
 fn shared_states_are_read_and_written_again(rt: HostRuntime) -> Result<(), Fail> {
-    for &digits in &ALL {
-        let side = bytes_of(rt.alloc(), digits)?;
-        let is_same = is_read_and_written(rt.alloc(), &side)?;
-        assert!(rt; is_same, "{digits}");
+    for side in &ALL {
+        assert!(rt; is_read_and_written(rt.alloc(), side)?);
     }
     Ok(())
 }
 
 #[test]
 fn each_cut_of_a_shared_state_is_damaged(rt: HostRuntime) -> Result<(), Fail> {
-    for &digits in &ALL {
-        let mut side = bytes_of(rt.alloc(), digits)?;
+    for side in &ALL {
         // Without the gate behind it.
-        side.pop();
-        check_cuts(&rt, &side)?;
+        check_cuts(&rt, &side[..side.len().saturating_sub(1)])?;
     }
     Ok(())
 }
 
 #[test]
 fn each_part_of_a_shared_state_is_damaged(rt: HostRuntime) -> Result<(), Fail> {
-    for &digits in &ALL {
-        let side = bytes_of(rt.alloc(), digits)?;
-        let state = state_of(rt.alloc(), &side)?;
-        check_parts(&rt, 32, &state)?;
+    for side in &ALL {
+        check_parts(&rt, 32, state_of(side)?)?;
     }
     Ok(())
 }
@@ -180,19 +167,20 @@ fn formatted(
 
 #[test]
 fn a_share_is_formatted(rt: HostRuntime) -> Result<(), Fail> {
-    let member = bytes_of(rt.alloc(), FORMATTED)?;
     let side = formatted(rt.alloc(), 1, &[1], &[], 32)?;
-    assert_eq!(rt; side.as_slice(), member.as_slice());
-    let entrant = bytes_of(rt.alloc(), ENTRANT)?;
+    assert!(rt; side.as_slice() == FORMATTED.as_slice());
+    drop(side);
     let side = formatted(rt.alloc(), 4, &[], &[1], 2)?;
-    assert_eq!(rt; side.as_slice(), entrant.as_slice());
+    assert!(rt; side.as_slice() == ENTRANT.as_slice());
     Ok(())
 }
 
 #[test]
 fn a_share_of_1_is_written_in_version_2(rt: HostRuntime) -> Result<(), Fail> {
     let side = formatted(rt.alloc(), 1, &[1], &[], 1)?;
-    assert_eq!(rt; (side.get(9), side.len()), (Some(&2), 134));
+    let found = (side.get(9) == Some(&2), side.len());
+    drop(side);
+    assert!(rt; found == (true, 134));
     Ok(())
 }
 
@@ -205,20 +193,21 @@ fn ask(session: u64, command: Command) -> Event {
     }
 }
 
-fn text(bytes: &[u8]) -> Result<Command, Fail> {
-    Ok(Command::Store(Text::new(bytes).ok_or("it is a text")?))
+fn store(text: &[u8]) -> Command
+    requires { length text.now ≤ 64 }
+{
+    Command::Store(Text::new(text).unwrap())
 }
 
 // A store is answered, two writing asks begin together, and that one waits.
 fn begin_two(alloc: Global, node: &mut Node, last: Command) -> Result<(), Fail> {
-    let asks = [
-        ask(7, text(b"a")?),
-        ask(8, text(b"b")?),
-        ask(9, Command::WriteMax(5)),
-        ask(10, last),
-    ];
-    for asked in asks {
-        take(alloc, node, asked)?;
+    for &(session, command) in &[
+        (7, store(b"a")),
+        (8, store(b"b")),
+        (9, Command::WriteMax(5)),
+        (10, last),
+    ] {
+        take(alloc, node, ask(session, command))?;
     }
     deliver(alloc, node, 1)?;
     deliver(alloc, node, 2)
@@ -248,9 +237,8 @@ fn side_of_two(alloc: Global, last: Command) -> Result<Vec<u8>, Fail> {
 
 #[test]
 fn a_round_is_written_with_all_its_asks(rt: HostRuntime) -> Result<(), Fail> {
-    let wanted = bytes_of(rt.alloc(), STORING)?;
     let side = side_of_two(rt.alloc(), Command::Collect)?;
-    assert_eq!(rt; side.as_slice(), wanted.as_slice());
+    assert!(rt; side.as_slice() == STORING.as_slice());
     Ok(())
 }
 
@@ -265,9 +253,8 @@ fn side_after_two(alloc: Global) -> Result<Vec<u8>, Fail> {
 
 #[test]
 fn each_answer_of_a_round_is_kept(rt: HostRuntime) -> Result<(), Fail> {
-    let wanted = bytes_of(rt.alloc(), STORING_BACK)?;
     let side = side_after_two(rt.alloc())?;
-    assert_eq!(rt; side.as_slice(), wanted.as_slice());
+    assert!(rt; side.as_slice() == STORING_BACK.as_slice());
     Ok(())
 }
 
@@ -286,58 +273,85 @@ const NO_ROUND: [(usize, u8); 6] = [
     (145, 10),
 ];
 
+// Why a side can't be read with another byte at that place.
+fn fault_turned(
+    alloc: Global,
+    side: &[u8],
+    at: usize,
+    byte: u8,
+) -> Result<Option<OpenFault>, Fail> {
+    let side = turned(alloc, side, at, byte)?;
+    let fault = fault(alloc, &side);
+    drop(side);
+    fault
+}
+
+const DAMAGED: OpenFault = OpenFault::Damaged(Side::A, 14);
+
 #[test]
 fn rounds_that_no_node_has_pending(rt: HostRuntime) -> Result<(), Fail> {
-    let side = bytes_of(rt.alloc(), STORING)?;
     for &(at, byte) in &NO_ROUND {
-        let side = turned(rt.alloc(), &side, at, byte)?;
-        let fault = fault(rt.alloc(), &side)?;
-        assert_eq!(rt; fault, Some(OpenFault::Damaged(Side::A, 14)));
+        assert!(rt; fault_turned(rt.alloc(), &STORING, at, byte)? == Some(DAMAGED));
     }
-    let unknown = turned(rt.alloc(), &side, 9, 3)?;
-    assert_eq!(rt; fault(rt.alloc(), &unknown)?, Some(OpenFault::Version(3)));
+    assert!(rt; fault_turned(rt.alloc(), &STORING, 9, 3)? == Some(OpenFault::Version(3)));
     Ok(())
+}
+
+// The count of others, and the faults with a share of three and of two.
+type Shares = (Option<u8>, Option<OpenFault>, Option<OpenFault>);
+
+fn shares(alloc: Global, side: &[u8]) -> Result<Shares, Fail> {
+    let three = fault_turned(alloc, side, 136, 3)?;
+    let two = fault_turned(alloc, side, 136, 2)?;
+    Ok((side.get(137).copied(), three, two))
 }
 
 // Three writing asks are pending. A state that has two others has a share of three at least.
 #[test]
 fn a_round_has_no_more_than_the_share(rt: HostRuntime) -> Result<(), Fail> {
     let side = side_of_two(rt.alloc(), Command::SetFlag)?;
-    // The count of others.
-    assert_eq!(rt; side.get(137), Some(&2));
-    let three = turned(rt.alloc(), &side, 136, 3)?;
-    assert_eq!(rt; fault(rt.alloc(), &three)?, None);
-    let two = turned(rt.alloc(), &side, 136, 2)?;
-    let damaged = OpenFault::Damaged(Side::A, 14);
-    assert_eq!(rt; fault(rt.alloc(), &two)?, Some(damaged));
+    let shares = shares(rt.alloc(), &side);
+    drop(side);
+    assert!(rt; shares? == (Some(2), None, Some(DAMAGED)));
     Ok(())
 }
 
 // The acknowledgement that ends the store near the limit.
-fn last_ack() -> Result<Event, Fail> {
-    let node = NodeId::new(1).ok_or("1 is an id")?;
-    Ok(Event::Deliver {
+fn last_ack() -> Event {
+    let node = id(1);
+    Event::Deliver {
         from: node,
         number: 2,
         message: Message::StoreAck { tag: 1, node },
-    })
-}
-
-// What the node near the limit says to it, its own number then, and what it is on a side.
-fn ended(alloc: Global, node: &mut Node) -> Result<(Option<Refusal>, u64, Vec<u8>), Fail> {
-    let ack = last_ack()?;
-    let refusal = node.core().decide(&ack).err();
-    if refusal.is_none() {
-        take(alloc, node, ack)?;
     }
-    let side = side_of(alloc, node, 1)?;
-    Ok((refusal, node.core().ops().number(), side))
 }
 
-// The same of the node on a side.
-fn ended_on(alloc: Global, side: &[u8]) -> Result<(Option<Refusal>, u64, Vec<u8>), Fail> {
+// What the node near the limit says to it.
+fn refusal_of(node: &Node) -> Option<Refusal> {
+    let ack = last_ack();
+    let refusal = node.core().decide(&ack).err();
+    drop(ack);
+    refusal
+}
+
+// What the node near the limit says to it, its own number then, and whether it is as on that side.
+fn ended(
+    alloc: Global,
+    node: &mut Node,
+    side: &[u8],
+) -> Result<(Option<Refusal>, u64, bool), Fail> {
+    let refusal = refusal_of(node);
+    if refusal.is_none() {
+        take(alloc, node, last_ack())?;
+    }
+    let is_same = side_of(alloc, node, 1)?.as_slice() == side;
+    Ok((refusal, node.core().ops().number(), is_same))
+}
+
+// The same of the node on that side.
+fn ended_on(alloc: Global, side: &[u8]) -> Result<(Option<Refusal>, u64, bool), Fail> {
     let (mut node, _) = node_on(alloc, side)?;
-    let told = ended(alloc, &mut node);
+    let told = ended(alloc, &mut node, side);
     drop(node);
     told
 }
@@ -345,27 +359,28 @@ fn ended_on(alloc: Global, side: &[u8]) -> Result<(Option<Refusal>, u64, Vec<u8>
 // Two that would begin together raise the own number past its limit.
 #[test]
 fn a_round_past_the_limit_is_spent(rt: HostRuntime) -> Result<(), Fail> {
-    let side = bytes_of(rt.alloc(), NEAR_THE_LIMIT)?;
-    let (refusal, number, after) = ended_on(rt.alloc(), &side)?;
-    assert_eq!(rt; (refusal, number), (Some(Refusal::Spent), (1 << 62) - 1));
-    assert_eq!(rt; after.as_slice(), side.as_slice());
+    let told = ended_on(rt.alloc(), &NEAR_THE_LIMIT)?;
+    assert!(rt; told == (Some(Refusal::Spent), (1 << 62) - 1, true));
     Ok(())
 }
 
 // The state near the limit without the ask of session 9, the second of two that wait and have 19 bytes each.
-fn with_one_waiting(alloc: Global) -> Result<Vec<u8>, Fail> {
-    let side = bytes_of(alloc, NEAR_THE_LIMIT)?;
-    let state = state_of(alloc, &side)?;
-    let mut fewer = turned(alloc, state.get(..144).ok_or("it is long")?, 124, 1)?;
-    fewer.extend_from_slice(state.get(163..).ok_or("it is long")?)?;
-    front(alloc, 32, &fewer, fewer.len())
+fn with_one_waiting() -> [u8; 288] {
+    let mut fewer = [0; 288];
+    fewer[..144].copy_from_slice(&NEAR_THE_LIMIT[14..158]);
+    fewer[144..].copy_from_slice(&NEAR_THE_LIMIT[177..321]);
+    fewer[124] = 1;
+    fewer
 }
 
 #[test]
 fn a_round_up_to_the_limit_is_taken(rt: HostRuntime) -> Result<(), Fail> {
-    let side = with_one_waiting(rt.alloc())?;
-    let (refusal, number, _) = ended_on(rt.alloc(), &side)?;
-    assert_eq!(rt; (refusal, number), (None, 1 << 62));
+    let state = with_one_waiting();
+    let side = front(rt.alloc(), 32, &state, state.len())?;
+    let told = ended_on(rt.alloc(), &side);
+    drop(side);
+    let (refusal, number, _) = told?;
+    assert!(rt; (refusal, number) == (None, 1 << 62));
     Ok(())
 }
 
@@ -396,37 +411,33 @@ const FAULTS: [(usize, u8, StateFault); 8] = [
     (131, 11, StateFault::Unlawful),
 ];
 
-fn storing_state(alloc: Global) -> Result<Vec<u8>, Fail> {
-    let side = bytes_of(alloc, STORING)?;
-    state_of(alloc, &side)
+// Why the state that stores for two sessions isn't decoded with another byte at that place, if it isn't.
+fn storing_fault(alloc: Global, at: usize, byte: u8) -> Option<StateFault> {
+    let mut side = STORING;
+    if let Some(place) = side.get_mut(at.saturating_add(14)) {
+        *place = byte;
+    }
+    decoder_fault(alloc, &side[14..389], Layout::Shared)
 }
 
 #[test]
-fn faults_of_rounds_are_told(rt: HostRuntime) -> Result<(), Fail> {
-    let state = storing_state(rt.alloc())?;
+fn faults_of_rounds_are_told(rt: HostRuntime) {
     for &(at, byte, wanted) in &FAULTS {
-        let bytes = turned(rt.alloc(), &state, at, byte)?;
-        let told = decoder_fault(rt.alloc(), &bytes, Layout::Shared);
-        assert_eq!(rt; told, Some(wanted));
+        assert!(rt; storing_fault(rt.alloc(), at, byte) == Some(wanted));
     }
-    Ok(())
 }
 
 #[test]
-fn a_shared_state_is_none_of_version_2(rt: HostRuntime) -> Result<(), Fail> {
-    let state = storing_state(rt.alloc())?;
-    let told = decoder_fault(rt.alloc(), &state, Layout::Lined);
+fn a_shared_state_is_none_of_version_2(rt: HostRuntime) {
+    let told = decoder_fault(rt.alloc(), &STORING[14..389], Layout::Lined);
     assert!(rt; matches!(&told, Some(StateFault::Wire(_))));
-    Ok(())
 }
 
 #[test]
-fn each_prefix_of_a_shared_state_is_short(rt: HostRuntime) -> Result<(), Fail> {
-    let state = storing_state(rt.alloc())?;
+fn each_prefix_of_a_shared_state_is_short(rt: HostRuntime) {
+    let state = &STORING[14..389];
     for len in 0..state.len() {
-        let prefix = state.get(..len).ok_or("it is a prefix")?;
-        let told = decoder_fault(rt.alloc(), prefix, Layout::Shared);
-        assert_eq!(rt; told, Some(StateFault::Wire(WireFault::Short)));
+        let told = decoder_fault(rt.alloc(), &state[..len], Layout::Shared);
+        assert!(rt; told == Some(StateFault::Wire(WireFault::Short)));
     }
-    Ok(())
 }

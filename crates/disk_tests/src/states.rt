@@ -1,60 +1,39 @@
 //! The bytes of states.
 
+use crate::memory_sites::id;
 use crate::refusals::unless_failed;
 use cc_changes::Fraction;
 use cc_checkpoint::{OpenFault, StateFault, decode_state, encode_state};
 use cc_node::{Layout, Node, Opening};
 use cc_site::{Call, DeviceFault, Side};
-use cc_views::NodeId;
 use cc_wire::{Command, Event, WireFault};
 use std::alloc::Global;
 use std::test::*;
 
-// Appends so many bytes that are 0.
-fn put_zeros(out: &mut Vec<u8>, count: usize) -> Result<(), Fail> {
-    for _ in 0..count {
-        out.push(0)?;
-    }
-    Ok(())
-}
-
-// Appends the fields from the own number to the count of posts, where nothing was done yet.
-fn put_nothing_done(out: &mut Vec<u8>) -> Result<(), Fail> {
-    // The number, the own value, the tag, the echoes and how many are needed, the phase, the asks that wait, and the posts.
-    put_zeros(out, 8 + 11 + 8 + 10 + 1 + 1 + 8)
-}
-
 // The opening state of member 1 of 1, both shares 4/5.
-fn member(alloc: Global) -> Result<Vec<u8>, Fail> {
-    let mut out = Vec::new(alloc);
-    out.extend_from_slice(&[0, 0, 0, 1])?;
-    out.extend_from_slice(&[0, 0, 0, 4, 0, 0, 0, 5])?;
-    out.extend_from_slice(&[0, 0, 0, 4, 0, 0, 0, 5])?;
+const MEMBER: [u8; 119] = [
+    0, 0, 0, 1, 0, 0, 0, 4, 0, 0, 0, 5, 0, 0, 0, 4, 0, 0, 0, 5,
     // It has entered and joined, nobody left, and nothing is seen.
-    out.extend_from_slice(&[0, 1, 0, 0, 0, 1])?;
-    out.extend_from_slice(&[0, 1, 0, 0, 0, 1])?;
-    put_zeros(&mut out, 2 + 2)?;
-    put_nothing_done(&mut out)?;
+    0, 1, 0, 0, 0, 1, 0, 1, 0, 0, 0, 1, 0, 0, 0, 0,
+    // The number, the own value and the tag,
+    0, 0, 0, 0, 0, 0, 0, 0, 0, 0, 0, 0, 0, 0, 0, 0, 0, 0, 0, 0, 0, 0, 0, 0, 0, 0, 0,
+    // the echoes and how many are needed, the phase, the asks that wait, and the posts: nothing was done yet.
+    0, 0, 0, 0, 0, 0, 0, 0, 0, 0, 0, 0, 0, 0, 0, 0, 0, 0, 0, 0,
     // One link, no session, and nothing kept.
-    out.extend_from_slice(&[0, 1, 0, 0, 0, 1])?;
-    put_zeros(&mut out, 24 + 6)?;
-    Ok(out)
-}
+    0, 1, 0, 0, 0, 1, 0, 0, 0, 0, 0, 0, 0, 0, 0, 0, 0, 0, 0, 0, 0, 0, 0, 0, 0, 0, 0, 0, 0, 0, 0, 0,
+    0, 0, 0, 0,
+];
 
 // The opening state of entrant 4 with contact 1.
-fn entrant(alloc: Global) -> Result<Vec<u8>, Fail> {
-    let mut out = Vec::new(alloc);
-    out.extend_from_slice(&[0, 0, 0, 4])?;
-    out.extend_from_slice(&[0, 0, 0, 4, 0, 0, 0, 5])?;
-    out.extend_from_slice(&[0, 0, 0, 4, 0, 0, 0, 5])?;
-    put_zeros(&mut out, 3 * 2 + 2)?;
-    put_nothing_done(&mut out)?;
-    out.extend_from_slice(&[0, 2, 0, 0, 0, 1])?;
-    put_zeros(&mut out, 24)?;
-    out.extend_from_slice(&[0, 0, 0, 4])?;
-    put_zeros(&mut out, 24 + 6)?;
-    Ok(out)
-}
+const ENTRANT: [u8; 139] = [
+    0, 0, 0, 4, 0, 0, 0, 4, 0, 0, 0, 5, 0, 0, 0, 4, 0, 0, 0, 5,
+    // Nobody has entered, joined or left, nothing is seen, and nothing was done yet.
+    0, 0, 0, 0, 0, 0, 0, 0, 0, 0, 0, 0, 0, 0, 0, 0, 0, 0, 0, 0, 0, 0, 0, 0, 0, 0, 0, 0, 0, 0, 0, 0,
+    0, 0, 0, 0, 0, 0, 0, 0, 0, 0, 0, 0, 0, 0, 0, 0, 0, 0, 0, 0, 0, 0, 0,
+    // Two links, no session, and nothing kept.
+    0, 2, 0, 0, 0, 1, 0, 0, 0, 0, 0, 0, 0, 0, 0, 0, 0, 0, 0, 0, 0, 0, 0, 0, 0, 0, 0, 0, 0, 0, 0, 0,
+    0, 4, 0, 0, 0, 0, 0, 0, 0, 0, 0, 0, 0, 0, 0, 0, 0, 0, 0, 0, 0, 0, 0, 0, 0, 0, 0, 0, 0, 0, 0, 0,
+];
 
 pub(crate) fn opened(
     alloc: Global,
@@ -96,12 +75,12 @@ fn decoded(alloc: Global, bytes: &[u8]) -> Result<Node, Fail> {
     Ok(decode_state(alloc, bytes, Layout::Lined)?)
 }
 
-// The state of the node that the bytes are decoded to.
-fn stored_again(alloc: Global, bytes: &[u8]) -> Result<Vec<u8>, Fail> {
+// Whether the state that is read and written again is these bytes.
+fn is_stored_again(alloc: Global, bytes: &[u8]) -> Result<bool, Fail> {
     let node = decoded(alloc, bytes)?;
     let state = encoded(alloc, &node);
     drop(node);
-    state
+    Ok(state?.as_slice() == bytes)
 }
 
 fn fault(alloc: Global, bytes: &[u8]) -> Option<StateFault> {
@@ -134,14 +113,7 @@ pub(crate) fn turned(alloc: Global, bytes: &[u8], at: usize, byte: u8) -> Result
     Ok(turned)
 }
 
-// Whether the node's state is these bytes, and is read again.
-fn is_stored_as(alloc: Global, node: &Node, bytes: &[u8]) -> Result<bool, Fail> {
-    let written = encoded(alloc, node)?;
-    let again = stored_again(alloc, bytes)?;
-    Ok(written.as_slice() == bytes && again.as_slice() == bytes)
-}
-
-// Whether the node that begins so is stored as these bytes.
+// Whether the state of the node that begins so is these bytes.
 fn begins_as(
     alloc: Global,
     me: u32,
@@ -150,36 +122,30 @@ fn begins_as(
     bytes: &[u8],
 ) -> Result<bool, Fail> {
     let node = opened(alloc, me, initial, contacts)?;
-    let is_stored = is_stored_as(alloc, &node, bytes);
+    let state = encoded(alloc, &node);
     drop(node);
-    is_stored
+    Ok(state?.as_slice() == bytes)
 }
 
 #[test]
 fn a_member_begins_with_119_bytes(rt: HostRuntime) -> Result<(), Fail> {
-    let bytes = member(rt.alloc())?;
-    assert_eq!(rt; bytes.len(), 119);
-    let begins = begins_as(rt.alloc(), 1, &[1], &[], &bytes)?;
-    assert!(rt; begins);
+    assert!(rt; begins_as(rt.alloc(), 1, &[1], &[], &MEMBER)?);
+    assert!(rt; is_stored_again(rt.alloc(), &MEMBER)?);
     Ok(())
 }
 
 #[test]
 fn an_entrant_begins_with_139_bytes(rt: HostRuntime) -> Result<(), Fail> {
-    let bytes = entrant(rt.alloc())?;
-    assert_eq!(rt; bytes.len(), 139);
-    let begins = begins_as(rt.alloc(), 4, &[], &[1], &bytes)?;
-    assert!(rt; begins);
+    assert!(rt; begins_as(rt.alloc(), 4, &[], &[1], &ENTRANT)?);
+    assert!(rt; is_stored_again(rt.alloc(), &ENTRANT)?);
     Ok(())
 }
 
 // An opening state as version 1 has it, without the count of asks that wait: one of the zeros around place 74.
 fn without_line(alloc: Global, bytes: &[u8]) -> Result<Vec<u8>, Fail> {
-    let mut first = Vec::new(alloc);
-    for (at, byte) in bytes.iter().enumerate() {
-        if at != 74 {
-            first.push(*byte)?;
-        }
+    let mut first = Vec::from_slice(alloc, bytes)?;
+    if first.len() > 74 {
+        first.remove(74);
     }
     Ok(first)
 }
@@ -201,38 +167,39 @@ fn is_stored_anew(alloc: Global, length: usize, second: &[u8]) -> Result<bool, F
 
 #[test]
 fn a_state_of_version_1_has_no_line(rt: HostRuntime) -> Result<(), Fail> {
-    let of_member = member(rt.alloc())?;
-    let of_entrant = entrant(rt.alloc())?;
-    let stored = (
-        is_stored_anew(rt.alloc(), 118, &of_member)?,
-        is_stored_anew(rt.alloc(), 138, &of_entrant)?,
-    );
-    assert_eq!(rt; stored, (true, true));
+    assert!(rt; is_stored_anew(rt.alloc(), 118, &MEMBER)?);
+    assert!(rt; is_stored_anew(rt.alloc(), 138, &ENTRANT)?);
     Ok(())
 }
 
 #[test]
 fn an_entrant_is_read(rt: HostRuntime) -> Result<(), Fail> {
-    let bytes = entrant(rt.alloc())?;
-    let node = decoded(rt.alloc(), &bytes)?;
+    let node = decoded(rt.alloc(), &ENTRANT)?;
     let read = (
         node.me().number(),
         node.is_joined(),
         node.core().links().len(),
     );
     drop(node);
-    assert_eq!(rt; read, (4, false, 2));
+    assert!(rt; read == (4, false, 2));
     Ok(())
 }
 
 #[test]
-fn each_prefix_of_a_state_is_short(rt: HostRuntime) -> Result<(), Fail> {
-    let bytes = member(rt.alloc())?;
-    for len in 0..bytes.len() {
-        let cut = fault(rt.alloc(), &bytes[..len]);
-        assert_eq!(rt; cut, Some(StateFault::Wire(WireFault::Short)));
+fn each_prefix_of_a_state_is_short(rt: HostRuntime) {
+    for len in 0..MEMBER.len() {
+        let cut = fault(rt.alloc(), &MEMBER[..len]);
+        assert!(rt; cut == Some(StateFault::Wire(WireFault::Short)));
     }
-    Ok(())
+}
+
+// The fault of an opening state of a member with another byte at that place.
+fn fault_of(alloc: Global, member: &[u8; 119], at: usize, byte: u8) -> Option<StateFault> {
+    let mut bytes = *member;
+    if let Some(place) = bytes.get_mut(at) {
+        *place = byte;
+    }
+    fault(alloc, &bytes)
 }
 
 // A byte of the opening state of member 1 of 1, and the fault that the decoder then meets.
@@ -257,25 +224,21 @@ const FAULTS: [(usize, u8, WireFault); 12] = [
 ];
 
 #[test]
-fn faults_of_the_wire_come_before_unlawful(rt: HostRuntime) -> Result<(), Fail> {
+fn faults_of_the_wire_come_before_unlawful(rt: HostRuntime) {
     // With a share of nothing the state is unlawful too.
-    let nothing = turned(rt.alloc(), &member(rt.alloc())?, 7, 0)?;
+    let mut nothing = MEMBER;
+    nothing[7] = 0;
     for &(at, byte, wire) in &FAULTS {
-        let fault = fault_with(rt.alloc(), &nothing, at, byte)?;
-        assert_eq!(rt; fault, Some(StateFault::Wire(wire)));
+        assert!(rt; fault_of(rt.alloc(), &nothing, at, byte) == Some(StateFault::Wire(wire)));
     }
-    Ok(())
 }
 
 #[test]
-fn no_byte_follows_a_state(rt: HostRuntime) -> Result<(), Fail> {
-    let mut bytes = member(rt.alloc())?;
-    bytes.push(0)?;
-    assert_eq!(rt;
-        fault(rt.alloc(), &bytes),
-        Some(StateFault::Wire(WireFault::Trailing))
-    );
-    Ok(())
+fn no_byte_follows_a_state(rt: HostRuntime) {
+    let mut bytes = [0; 120];
+    bytes[..119].copy_from_slice(&MEMBER);
+    let trailing = fault(rt.alloc(), &bytes);
+    assert!(rt; trailing == Some(StateFault::Wire(WireFault::Trailing)));
 }
 
 // A byte of the opening state of member 1 of 1 that makes it the state of no node.
@@ -305,38 +268,28 @@ const UNLAWFUL: [(usize, u8); 17] = [
     (104, 1),
 ];
 
-// The fault of a state with another byte at that place.
-fn fault_with(
-    alloc: Global,
-    state: &[u8],
-    at: usize,
-    byte: u8,
-) -> Result<Option<StateFault>, Fail> {
-    let bytes = turned(alloc, state, at, byte)?;
-    Ok(fault(alloc, &bytes))
-}
-
 #[test]
-fn states_in_which_no_node_can_be(rt: HostRuntime) -> Result<(), Fail> {
-    let state = member(rt.alloc())?;
+fn states_in_which_no_node_can_be(rt: HostRuntime) {
     for &(at, byte) in &UNLAWFUL {
-        let fault = fault_with(rt.alloc(), &state, at, byte)?;
-        assert_eq!(rt; fault, Some(StateFault::Unlawful));
+        assert!(rt; fault_of(rt.alloc(), &MEMBER, at, byte) == Some(StateFault::Unlawful));
     }
     // Something was heard.
-    assert_eq!(rt; fault_with(rt.alloc(), &state, 112, 1)?, None);
-    Ok(())
+    assert!(rt; fault_of(rt.alloc(), &MEMBER, 112, 1).is_none());
 }
 
-// The opening state of member 1 of 1 with links to the nodes up to that one.
-fn linked_to(alloc: Global, nodes: u16) -> Result<Vec<u8>, Fail> {
-    let mut bytes = member(alloc)?;
-    bytes.truncate(83);
+fn put_links(bytes: &mut Vec<u8>, nodes: u16) -> Result<(), Fail> {
     bytes.extend_from_slice(&nodes.to_be_bytes())?;
     for peer in 0..nodes {
         bytes.extend_from_slice(&(u32::from(peer) + 1).to_be_bytes())?;
         bytes.extend_from_slice(&[0; 24])?;
     }
+    Ok(())
+}
+
+// The opening state of member 1 of 1 with links to the nodes up to that one.
+fn linked_to(alloc: Global, nodes: u16) -> Result<Vec<u8>, Fail> {
+    let mut bytes = Vec::from_slice(alloc, &MEMBER[..83])?;
+    put_links(&mut bytes, nodes)?;
     bytes.extend_from_slice(&[0; 6])?;
     Ok(bytes)
 }
@@ -344,9 +297,13 @@ fn linked_to(alloc: Global, nodes: u16) -> Result<Vec<u8>, Fail> {
 #[test]
 fn more_than_256_links_are_unlawful(rt: HostRuntime) -> Result<(), Fail> {
     let most = linked_to(rt.alloc(), 256)?;
-    assert_eq!(rt; link_count(rt.alloc(), &most)?, 256);
+    let count = link_count(rt.alloc(), &most);
+    drop(most);
+    assert!(rt; count? == 256);
     let many = linked_to(rt.alloc(), 257)?;
-    assert_eq!(rt; fault(rt.alloc(), &many), Some(StateFault::Unlawful));
+    let fault = fault(rt.alloc(), &many);
+    drop(many);
+    assert!(rt; fault == Some(StateFault::Unlawful));
     Ok(())
 }
 
@@ -360,15 +317,25 @@ fn link_count(alloc: Global, bytes: &[u8]) -> Result<usize, Fail> {
 
 // Takes the event in, which isn't refused.
 pub(crate) fn take(alloc: Global, node: &mut Node, event: Event) -> Result<(), Fail> {
-    node.core().decide(&event)?;
-    let made = node.core().made(alloc, &event)?;
-    node.settle(event, made);
-    Ok(())
+    if let Err(refusal) = node.core().decide(&event) {
+        drop(event);
+        return Err(refusal)?;
+    }
+    match node.core().made(alloc, &event) {
+        Ok(made) => {
+            node.settle(event, made);
+            Ok(())
+        }
+        Err(fault) => {
+            drop(event);
+            Err(fault)?
+        }
+    }
 }
 
 // The node's own post of that number comes back to it.
 pub(crate) fn deliver(alloc: Global, node: &mut Node, number: u64) -> Result<(), Fail> {
-    let from = NodeId::new(1).ok_or("1 is an id")?;
+    let from = id(1);
     let post = node.outbox().post(number).ok_or("there is no such post")?;
     let message = post.copy(alloc)?;
     let event = Event::Deliver {
@@ -424,16 +391,19 @@ fn answered(alloc: Global) -> Result<Vec<u8>, Fail> {
     state
 }
 
+// The first request of session 7, a collect that needs one answer, and an empty view.
+const PHASE: [u8; 24] = [
+    3, 0, 0, 0, 0, 0, 0, 0, 7, 0, 0, 0, 0, 0, 0, 0, 1, 2, 0, 1, 0, 0, 0, 0,
+];
+
 #[test]
 fn a_pending_collect_is_stored(rt: HostRuntime) -> Result<(), Fail> {
     let bytes = storing_back(rt.alloc())?;
-    // The first request of session 7, a collect that needs one answer, and an empty view.
-    let phase = [
-        3, 0, 0, 0, 0, 0, 0, 0, 7, 0, 0, 0, 0, 0, 0, 0, 1, 2, 0, 1, 0, 0, 0, 0,
-    ];
-    assert_eq!(rt; bytes.get(73..97), Some(phase.as_slice()));
-    let again = stored_again(rt.alloc(), &bytes)?;
-    assert_eq!(rt; again.as_slice(), bytes.as_slice());
+    let is_pending = bytes.get(73..97) == Some(PHASE.as_slice());
+    let is_stored = is_stored_again(rt.alloc(), &bytes);
+    drop(bytes);
+    assert!(rt; is_pending);
+    assert!(rt; is_stored?);
     Ok(())
 }
 
@@ -456,14 +426,28 @@ fn state_of_waiting(alloc: Global, node: &mut Node) -> Result<Vec<u8>, Fail> {
     encoded(alloc, node)
 }
 
+const LINE: [u8; 18] = [1, 0, 0, 0, 0, 0, 0, 0, 8, 0, 0, 0, 0, 0, 0, 0, 1, 5];
+
 #[test]
 fn an_ask_that_waits_is_stored(rt: HostRuntime) -> Result<(), Fail> {
     let bytes = waiting(rt.alloc())?;
-    let again = stored_again(rt.alloc(), &bytes)?;
-    let line = [1, 0, 0, 0, 0, 0, 0, 0, 8, 0, 0, 0, 0, 0, 0, 0, 1, 5];
-    assert_eq!(rt; bytes.get(97..115), Some(line.as_slice()));
-    assert_eq!(rt; again.as_slice(), bytes.as_slice());
+    let is_waiting = bytes.get(97..115) == Some(LINE.as_slice());
+    let is_stored = is_stored_again(rt.alloc(), &bytes);
+    drop(bytes);
+    assert!(rt; is_waiting);
+    assert!(rt; is_stored?);
     Ok(())
+}
+
+// Whether the state is unlawful with each of these bytes at its place.
+fn are_unlawful(alloc: Global, state: &[u8], turns: &[(usize, u8)]) -> Result<bool, Fail> {
+    let mut are_unlawful = true;
+    for &(at, byte) in turns {
+        let bytes = turned(alloc, state, at, byte)?;
+        are_unlawful = are_unlawful && fault(alloc, &bytes) == Some(StateFault::Unlawful);
+        drop(bytes);
+    }
+    Ok(are_unlawful)
 }
 
 // A byte of that state which no node can have there.
@@ -477,10 +461,9 @@ const NOT_WAITING: [(usize, u8); 3] = [
 #[test]
 fn asks_that_wait_in_no_node(rt: HostRuntime) -> Result<(), Fail> {
     let state = waiting(rt.alloc())?;
-    for &(at, byte) in &NOT_WAITING {
-        let fault = fault_with(rt.alloc(), &state, at, byte)?;
-        assert_eq!(rt; fault, Some(StateFault::Unlawful));
-    }
+    let are_unlawful = are_unlawful(rt.alloc(), &state, &NOT_WAITING);
+    drop(state);
+    assert!(rt; are_unlawful?);
     Ok(())
 }
 
@@ -498,18 +481,9 @@ const NOT_PENDING: [(usize, u8); 4] = [
 #[test]
 fn operations_that_no_node_has_pending(rt: HostRuntime) -> Result<(), Fail> {
     let state = storing_back(rt.alloc())?;
-    for &(at, byte) in &NOT_PENDING {
-        let fault = fault_with(rt.alloc(), &state, at, byte)?;
-        assert_eq!(rt; fault, Some(StateFault::Unlawful));
-    }
-    Ok(())
-}
-
-#[test]
-fn what_a_node_keeps_is_stored(rt: HostRuntime) -> Result<(), Fail> {
-    let bytes = answered(rt.alloc())?;
-    let again = stored_again(rt.alloc(), &bytes)?;
-    assert_eq!(rt; again.as_slice(), bytes.as_slice());
+    let are_unlawful = are_unlawful(rt.alloc(), &state, &NOT_PENDING);
+    drop(state);
+    assert!(rt; are_unlawful?);
     Ok(())
 }
 
@@ -519,25 +493,43 @@ fn keeps_an_answer(node: &Node) -> bool {
     node.kept() == 4 && node.outbox().answer(7).is_some() && request == Some(1)
 }
 
-#[test]
-fn what_a_node_keeps_is_read(rt: HostRuntime) -> Result<(), Fail> {
-    let bytes = answered(rt.alloc())?;
-    let node = decoded(rt.alloc(), &bytes)?;
-    let keeps_an_answer = keeps_an_answer(&node);
+// Whether such a state is read and written again, and the node that is read keeps them.
+fn is_kept(alloc: Global, bytes: &[u8]) -> Result<[bool; 2], Fail> {
+    let is_stored = is_stored_again(alloc, bytes)?;
+    let node = decoded(alloc, bytes)?;
+    let keeps = keeps_an_answer(&node);
     drop(node);
-    assert!(rt; keeps_an_answer);
+    Ok([is_stored, keeps])
+}
+
+#[test]
+fn what_a_node_keeps_is_stored_and_read(rt: HostRuntime) -> Result<(), Fail> {
+    let bytes = answered(rt.alloc())?;
+    let is_kept = is_kept(rt.alloc(), &bytes);
+    drop(bytes);
+    assert!(rt; is_kept? == [true; 2]);
     Ok(())
+}
+
+fn says(alloc: Global, fault: StateFault, wanted: &str) -> Result<bool, Fail> {
+    Ok(format!(in alloc; "{fault}")?.as_str() == wanted)
 }
 
 #[test]
 fn faults_of_states_print_what_is_wrong(rt: HostRuntime) -> Result<(), Fail> {
     let cut = StateFault::Wire(WireFault::Short);
-    let text = format!(in rt.alloc(); "{cut}")?;
-    assert_eq!(rt; text.as_str(), "the bytes end inside a field");
-    let unlawful = StateFault::Unlawful;
-    let text = format!(in rt.alloc(); "{unlawful}")?;
-    assert_eq!(rt; text.as_str(), "no node can be in that state");
+    let texts = [
+        (cut, "the bytes end inside a field"),
+        (StateFault::Unlawful, "no node can be in that state"),
+    ];
+    for &(fault, wanted) in &texts {
+        assert!(rt; says(rt.alloc(), fault, wanted)?);
+    }
     Ok(())
+}
+
+fn names(alloc: Global, fault: OpenFault, wanted: &str) -> Result<bool, Fail> {
+    Ok(format!(in alloc; "{fault}")?.as_str() == wanted)
 }
 
 #[test]
@@ -554,9 +546,8 @@ fn faults_of_opening_print_their_names(rt: HostRuntime) -> Result<(), Fail> {
         (OpenFault::Device(device), "Device A Read"),
         (OpenFault::NoMemory, "NoMemory"),
     ];
-    for (fault, expected) in texts {
-        let text = format!(in rt.alloc(); "{fault}")?;
-        assert_eq!(rt; text.as_str(), expected);
+    for &(fault, wanted) in &texts {
+        assert!(rt; names(rt.alloc(), fault, wanted)?);
     }
     Ok(())
 }

@@ -1,34 +1,41 @@
 //! States that are read off a side through one buffer.
 
 use crate::checkpoints::{fills, two_sides};
+use crate::memory_sites::id;
+use crate::records::holding;
 use crate::states::{answered_node, deliver, encoded, led_to, take};
 use cc_changes::Fraction;
 use cc_checkpoint::{OpenFault, Piece, arm, read_state};
 use cc_node::{Node, Opening};
-use cc_site::{MemorySite, Side, write_durably};
-use cc_views::{NodeId, Text, View};
+use cc_site::{MemorySite, Side};
+use cc_views::{Text, View};
 use cc_wire::{Command, Event, Message, decode_view};
 use std::alloc::Global;
 use std::process::Abort;
 use std::test::*;
 
-// The view that shows a text of 64 bytes of each of 256 nodes, all under number 1.
-fn long_view(alloc: Global) -> Result<View, Fail> {
-    let mut bytes = Vec::from_slice(alloc, &[1, 0])?;
+fn put_rows(bytes: &mut Vec<u8>) -> Result<(), Fail> {
     for node in 1..257u32 {
         bytes.extend_from_slice(&node.to_be_bytes())?;
         bytes.extend_from_slice(&[0, 0, 0, 0, 0, 0, 0, 1, 64])?;
         bytes.extend_from_slice(&[b'x'; 64])?;
         bytes.extend_from_slice(&[0; 10])?;
     }
+    Ok(())
+}
+
+// The view that shows a text of 64 bytes of each of 256 nodes, all under number 1.
+fn long_view(alloc: Global) -> Result<View, Fail> {
+    let mut bytes = Vec::from_slice(alloc, &[1, 0])?;
+    put_rows(&mut bytes)?;
     Ok(decode_view(alloc, &bytes)?)
 }
 
 // Member 1 of 256, for which one answer is enough.
 fn member_of_256(alloc: Global) -> Result<Node, Fail> {
-    let mut initial = Vec::new(alloc);
-    for id in 1..257 {
-        initial.push(id)?;
+    let mut initial = [0; 256];
+    for at in 0..256u32 {
+        initial[at as usize] = at + 1;
     }
     let opening = Opening {
         me: 1,
@@ -43,7 +50,7 @@ fn member_of_256(alloc: Global) -> Result<Node, Fail> {
 
 // Member 2 has stored a long view, which the node acknowledges in its post 1.
 fn show_all(alloc: Global, node: &mut Node) -> Result<(), Fail> {
-    let from = NodeId::new(2).ok_or("2 is an id")?;
+    let from = id(2);
     let view = long_view(alloc)?;
     let message = Message::Store {
         view,
@@ -60,7 +67,7 @@ fn show_all(alloc: Global, node: &mut Node) -> Result<(), Fail> {
 
 // The store of a text, whose posts are that one and the next.
 fn store(alloc: Global, node: &mut Node, request: u64, post: u64) -> Result<(), Fail> {
-    let text = Text::new(&[b'y'; 64]).ok_or("64 bytes are a text")?;
+    let text = Text::new(&[b'y'; 64]).unwrap();
     let asked = Event::Ask {
         session: 7,
         request,
@@ -167,11 +174,9 @@ pub(crate) fn front(
 
 /// Why the state of side A can't be read, where the side has just these bytes.
 pub(crate) fn fault(alloc: Global, bytes: &[u8]) -> Result<Option<OpenFault>, Fail> {
-    let mut site = MemorySite::new(alloc, 0)?;
-    let written = write_durably(&mut site, Side::A, 0, bytes);
+    let mut site = holding(alloc, bytes)?;
     let fault = why_unread(alloc, &mut site);
     drop(site);
-    written.or(Err("the write failed"))?;
     Ok(fault)
 }
 
@@ -191,9 +196,9 @@ pub(crate) fn check_cuts<R: Abort + AllocGlobal>(rt: &R, side: &[u8]) -> Result<
         // No version stands there, or no length, or that goes past the end.
         let place = if len < 10 { 9 } else { 10 };
         let cut = fault(rt.alloc(), &side[..len])?;
-        assert_eq!(rt; cut, Some(OpenFault::Damaged(Side::A, place)));
+        assert!(rt; cut == Some(OpenFault::Damaged(Side::A, place)));
     }
-    assert_eq!(rt; fault(rt.alloc(), side)?, None);
+    assert!(rt; fault(rt.alloc(), side)? == None);
     Ok(())
 }
 
@@ -212,6 +217,14 @@ fn each_cut_of_a_side_is_damaged(rt: HostRuntime) -> Result<(), Fail> {
     check_cuts(&rt, &side)
 }
 
+type Faults = (Option<OpenFault>, Option<OpenFault>);
+
+// Why a side can't be read up to a place, and as a whole.
+fn part_faults(alloc: Global, side: &[u8], end: usize) -> Result<Faults, Fail> {
+    let part = side.get(..end).ok_or("no state stands there")?;
+    Ok((fault(alloc, part)?, fault(alloc, side)?))
+}
+
 // Of the state that long a part is told, whatever stands behind it.
 fn check_part<R: Abort + AllocGlobal>(
     rt: &R,
@@ -220,12 +233,10 @@ fn check_part<R: Abort + AllocGlobal>(
     told: usize,
 ) -> Result<(), Fail> {
     let side = front(rt.alloc(), version, state, told)?;
-    let part = side
-        .get(..told.saturating_add(14))
-        .ok_or("no state stands there")?;
-    let faults = (fault(rt.alloc(), part)?, fault(rt.alloc(), &side)?);
+    let faults = part_faults(rt.alloc(), &side, told.saturating_add(14));
+    drop(side);
     let damage = Some(OpenFault::Damaged(Side::A, 14));
-    assert_eq!(rt; faults, (damage, damage));
+    assert!(rt; faults? == (damage, damage));
     Ok(())
 }
 
