@@ -4,18 +4,19 @@ ghost use Rattle.std.specs.Prelude.{◌+◌, ◌≤◌, ◌^◌};
 ghost use Rattle.std.specs.FinMap as map;
 ghost use Rattle.cc_views.specs.Merge.{merge};
 
-use crate::formats::{check_bytes, copied_event, copied_message, event_fault};
+use crate::formats::{
+    check_bytes, copied_event, copied_message, event_fault, len_of, len_of_delivery,
+};
 use crate::links::two_links;
 use crate::operations::{Said, first_request, me, querying, said};
 use crate::sets::{changes_of, id};
-use cc_changes::Fraction;
+use cc_changes::{Changes, Fraction};
 use cc_churn::Churn;
 use cc_links::Links;
 use cc_ops::{Ops, Pending, Stage};
 use cc_views::View;
-use cc_wire::{Command, Event, Message, WireFault, decode_message, event_len};
+use cc_wire::{Command, Event, Message, WireFault, decode_message};
 use std::alloc::Global;
-use std::process::Abort;
 use std::test::*;
 
 // The message Snapshot: 1 and 2 entered and joined, nobody left, and the view of one row, of node 1, number 1, text "a".
@@ -52,46 +53,33 @@ fn message_fault(alloc: Global, bytes: &[u8]) -> Option<WireFault> {
 fn each_cut_of_a_snapshot_is_short(rt: HostRuntime) {
     for len in 0..SNAPSHOT.len() {
         let fault = message_fault(rt.alloc(), &SNAPSHOT[..len]);
-        assert_eq!(rt; fault, Some(WireFault::Short));
+        assert!(rt; fault == Some(WireFault::Short));
     }
 }
 
 #[test]
 fn kinds_between_are_of_no_message_or_event(rt: HostRuntime) {
     for kind in 11..32 {
-        assert_eq!(rt;
-            message_fault(rt.alloc(), &[kind]),
-            Some(WireFault::BadKind(kind))
-        );
+        assert!(rt; message_fault(rt.alloc(), &[kind]) == Some(WireFault::BadKind(kind)));
     }
     for kind in 7..32 {
-        assert_eq!(rt;
-            event_fault(rt.alloc(), &[kind]),
-            Some(WireFault::BadKind(kind))
-        );
+        assert!(rt; event_fault(rt.alloc(), &[kind]) == Some(WireFault::BadKind(kind)));
     }
-    assert_eq!(rt;
-        message_fault(rt.alloc(), &[33]),
-        Some(WireFault::BadKind(33))
-    );
-    assert_eq!(rt;
-        event_fault(rt.alloc(), &[34]),
-        Some(WireFault::BadKind(34))
-    );
+    assert!(rt; message_fault(rt.alloc(), &[33]) == Some(WireFault::BadKind(33)));
+    assert!(rt; event_fault(rt.alloc(), &[34]) == Some(WireFault::BadKind(34)));
 }
 
 #[test]
-fn faults_of_a_lapse(rt: HostRuntime) -> Result<(), Fail> {
+fn faults_of_a_lapse(rt: HostRuntime) {
     let cases: [(&[u8], WireFault); 4] = [
         (&[32, 0, 0, 0, 0], WireFault::NotAscending),
         (&[32, 0, 0, 0], WireFault::Short),
         (&[32, 0, 0, 0, 1, 0], WireFault::Trailing),
         (&[33, 0], WireFault::Trailing),
     ];
-    for (bytes, fault) in cases {
-        assert_eq!(rt; event_fault(rt.alloc(), bytes), Some(fault));
+    for &(bytes, fault) in &cases {
+        assert!(rt; event_fault(rt.alloc(), bytes) == Some(fault));
     }
-    Ok(())
 }
 
 fn is_told(alloc: Global, bytes: &[u8]) -> Result<bool, Fail> {
@@ -107,80 +95,60 @@ fn a_snapshot_is_told_from_a_join(rt: HostRuntime) -> Result<(), Fail> {
         is_told(rt.alloc(), &SNAPSHOT)?,
         is_told(rt.alloc(), &[3, 0, 0, 0, 3])?,
     ];
-    assert_eq!(rt; found, [true, false]);
+    assert!(rt; found == [true, false]);
     Ok(())
-}
-
-fn len_of(event: Event) -> usize {
-    let len = event_len(&event);
-    drop(event);
-    len
 }
 
 #[test]
 fn sizes_of_absent_members(rt: HostRuntime) -> Result<(), Fail> {
-    let node = id(3)?;
-    let message = decode_message(rt.alloc(), &SNAPSHOT)?;
-    let delivery = Event::Deliver {
-        from: node,
-        number: 7,
-        message,
-    };
     let found = [
-        len_of(delivery),
-        len_of(Event::Lapse { node }),
+        len_of_delivery(rt.alloc(), 3, 7, &SNAPSHOT)?,
+        len_of(Event::Lapse { node: id(3) }),
         len_of(Event::Snapshot),
     ];
-    assert_eq!(rt; found, [62, 5, 1]);
+    assert!(rt; found == [62, 5, 1]);
     Ok(())
+}
+
+// Which peers wait for which post, what peer 2 has acknowledged, and how many were heard.
+fn is_lapsed(links: &Links) -> bool {
+    let (first, second, ninth) = (id(1), id(2), id(9));
+    links.awaits_any(first, 3)
+        && !links.awaits_any(second, 3)
+        && links.awaits_any(second, 4)
+        && !links.awaits_any(ninth, 3)
+        && matches!(links.get(second), Some(row) if row.acked == 3)
+        && links.heard_of() == 1
 }
 
 // Of three posts peer 1 has acknowledged two and peer 2 one. What was sent to peer 2 lapses, and peer 1 is heard.
-fn lapsed(alloc: Global) -> Result<Links, Fail> {
-    let (first, second, ninth) = (id(1)?, id(2)?, id(9)?);
-    let mut links = two_links(alloc)?;
-    links.lapse(second, 3);
-    links.lapse(ninth, 3);
-    links.hear(first, 7);
-    Ok(links)
-}
-
-fn check_lapsed<R: Abort>(rt: &R, links: &Links) -> Result<(), Fail> {
-    let (first, second, ninth) = (id(1)?, id(2)?, id(9)?);
-    let awaits = [
-        links.awaits_any(first, 3),
-        links.awaits_any(second, 3),
-        links.awaits_any(second, 4),
-        links.awaits_any(ninth, 3),
-    ];
-    let acked = links.get(second).map(|row| row.acked);
-    assert_eq!(rt; awaits, [true, false, true, false]);
-    assert_eq!(rt; (acked, links.heard_of()), (Some(3), 1));
-    Ok(())
-}
-
 #[test]
 fn what_is_kept_for_a_peer_lapses(rt: HostRuntime) -> Result<(), Fail> {
-    let links = lapsed(rt.alloc())?;
-    let checked = check_lapsed(&rt, &links);
+    let mut links = two_links(rt.alloc())?;
+    links.lapse(id(2), 3);
+    links.lapse(id(9), 3);
+    links.hear(id(1), 7);
+    let is_lapsed = is_lapsed(&links);
     drop(links);
-    checked
+    assert!(rt; is_lapsed);
+    Ok(())
 }
 
 const GAMMA: Fraction = Fraction { num: 4, den: 5 };
 
-// Whether node 4, which has entered, joins with a snapshot that tells of itself alone, after so many echoes, with that need.
+// Whether node 4, which has entered, joins with what it is told, after so many echoes, with that need.
+fn joins_with(alloc: Global, echoes: u8, need: u64, told: &Changes) -> Result<bool, Fail> {
+    let entered = changes_of(alloc, 4, 0, 0)?;
+    let churn = Churn::from_parts(entered, u64::from(echoes), need);
+    let joins = churn.joins_told(GAMMA, told);
+    drop(churn);
+    Ok(joins)
+}
+
+// The same with a snapshot that tells of itself alone.
 fn joins_told(alloc: Global, echoes: u8, need: u64) -> Result<bool, Fail> {
     let told = changes_of(alloc, 4, 0, 0)?;
-    let joins = match changes_of(alloc, 4, 0, 0) {
-        Ok(entered) => {
-            let churn = Churn::from_parts(entered, u64::from(echoes), need);
-            let joins = churn.joins_told(GAMMA, &told);
-            drop(churn);
-            Ok(joins)
-        }
-        Err(fault) => Err(fault),
-    };
+    let joins = joins_with(alloc, echoes, need, &told);
     drop(told);
     joins
 }
@@ -193,18 +161,18 @@ fn a_snapshot_counts_as_the_echo_of_a_joined_node(rt: HostRuntime) -> Result<(),
         joins_told(rt.alloc(), 0, 2)?,
         joins_told(rt.alloc(), 1, 2)?,
     ];
-    assert_eq!(rt; found, [true, false, true]);
+    assert!(rt; found == [true, false, true]);
     Ok(())
 }
 
 #[test]
 fn a_node_joins_with_what_it_was_told(rt: HostRuntime) -> Result<(), Fail> {
-    let me = id(1)?;
+    let me = id(1);
     let mut churn = Churn::new(rt.alloc())?;
     churn.count_told(me, GAMMA);
     let found = (churn.has_joined(me), churn.echoes(), churn.need());
     drop(churn);
-    assert_eq!(rt; found, (true, 1, 1));
+    assert!(rt; found == (true, 1, 1));
     Ok(())
 }
 
@@ -213,8 +181,7 @@ fn said_anew(alloc: Global, ops: &Ops, told: &View) -> Result<Said, Fail>
     requires fits { map.len (merge ops.now.view told.now) ≤ 256 }
     requires tag { ops.now.tag + 1 ≤ 2 ^ 62 }
 {
-    let me = me()?;
-    let question = ops.question(alloc, me, told)?;
+    let question = ops.question(alloc, me(), told)?;
     let question = question.ok_or("an operation is pending")?;
     let said = said(&question);
     drop(question);
@@ -241,7 +208,7 @@ fn said_of_a_collect(alloc: Global) -> Result<Said, Fail> {
 #[test]
 fn a_collect_asks_anew_under_the_next_tag(rt: HostRuntime) -> Result<(), Fail> {
     let said = said_of_a_collect(rt.alloc())?;
-    assert_eq!(rt; said, ("Query", 0, 2, 1));
+    assert!(rt; said == ("Query", 0, 2, 1));
     Ok(())
 }
 
@@ -254,8 +221,8 @@ fn a_collect_begins_anew_with_the_need_of_now(rt: HostRuntime) -> Result<(), Fai
     });
     let mut ops = querying(rt.alloc())?;
     ops.ask_anew(2);
-    let found = (ops.tag(), ops.anew_is_spent(), ops.stage());
+    let found = (ops.tag(), ops.anew_is_spent(), ops.stage() == stage);
     drop(ops);
-    assert_eq!(rt; found, (2, false, stage));
+    assert!(rt; found == (2, false, true));
     Ok(())
 }

@@ -2,8 +2,7 @@
 
 use crate::sets::{changes_of, id};
 use cc_changes::{Changes, Fraction, need};
-use cc_views::NoMemory;
-use std::process::Abort;
+use std::alloc::Global;
 use std::test::*;
 
 // How many nodes there are, and four fifths of them.
@@ -11,9 +10,9 @@ const NEEDS: [(u64, u64); 6] = [(0, 1), (1, 1), (2, 2), (3, 3), (4, 4), (10, 8)]
 
 #[test]
 fn a_need_is_rounded_up_and_at_least_one(rt: HostRuntime) {
-    for (count, needed) in NEEDS {
+    for &(count, needed) in &NEEDS {
         let share = Fraction { num: 4, den: 5 };
-        assert_eq!(rt; need(share, count), needed);
+        assert!(rt; need(share, count) == needed);
     }
 }
 
@@ -26,85 +25,66 @@ fn takes(changes: &mut Changes, other: &Changes) -> bool {
     true
 }
 
-fn check_counts<R: Abort>(rt: &R, changes: &Changes) -> Result<(), Fail> {
-    let (one, two) = (id(1)?, id(2)?);
-    let counts = (changes.present_count(), changes.member_count());
-    let has = (changes.has_entered(one), changes.has_joined(two));
-    assert_eq!(rt; (counts, has), ((2, 1), (true, false)));
-    Ok(())
-}
-
-fn check_told<R: Abort + AllocGlobal>(rt: &R, other: &Changes) -> Result<(), Fail> {
-    let mut changes = Changes::new(rt.alloc())?;
-    let fits = takes(&mut changes, other);
-    assert!(rt; fits);
-    let checked = check_counts(rt, &changes);
+// How many are present and how many are members after that, and whether node 1 has entered and node 2 has joined. Before it
+// nobody is known.
+fn known_of(alloc: Global, other: &Changes) -> Result<(bool, u64, u64, bool, bool), Fail> {
+    let mut changes = Changes::new(alloc)?;
+    let known = (
+        takes(&mut changes, other),
+        changes.present_count(),
+        changes.member_count(),
+        changes.has_entered(id(1)),
+        changes.has_joined(id(2)),
+    );
     drop(changes);
-    checked
+    Ok(known)
 }
 
 #[test]
 fn who_joined_has_entered(rt: HostRuntime) -> Result<(), Fail> {
     let other = changes_of(rt.alloc(), 2, 1, 0)?;
-    let checked = check_told(&rt, &other);
+    let known = known_of(rt.alloc(), &other);
     drop(other);
-    checked
-}
-
-fn check_left<R: Abort>(
-    rt: &R,
-    copy: Result<Changes, NoMemory>,
-    changes: &Changes,
-) -> Result<(), Fail> {
-    let copy = copy?;
-    let counts = (
-        changes.present_count(),
-        changes.entered().len(),
-        copy.present_count(),
-    );
-    drop(copy);
-    assert_eq!(rt; counts, (0, 1, 1));
+    assert!(rt; known? == (true, 2, 1, true, false));
     Ok(())
 }
 
 #[test]
 fn who_left_is_not_present(rt: HostRuntime) -> Result<(), Fail> {
-    let seven = id(7)?;
     let mut changes = Changes::new(rt.alloc())?;
-    changes.add_join(seven);
+    changes.add_join(id(7));
     let copy = changes.copy(rt.alloc());
-    changes.add_leave(seven);
-    let checked = check_left(&rt, copy, &changes);
+    changes.add_leave(id(7));
+    let counts = (changes.present_count(), changes.entered().len());
     drop(changes);
-    checked
-}
-
-fn check_known<R: Abort>(rt: &R, mine: &Changes, other: &Changes) -> Result<(), Fail> {
-    let (six, seven) = (id(6)?, id(7)?);
-    assert_eq!(rt;
-        (mine.joined(), mine.left()),
-        ([six].as_slice(), [seven].as_slice())
-    );
-    // Nodes 4, 2 and 1, of which none has left.
-    assert_eq!(rt;
-        (mine.present_count_with(other), mine.present_count()),
-        (3, 1)
-    );
+    let copy = copy?;
+    let before = copy.present_count();
+    drop(copy);
+    assert!(rt; (counts, before) == ((0, 1), 1));
     Ok(())
 }
 
-fn check_other<R: Abort + AllocGlobal>(rt: &R, mine: &Changes) -> Result<(), Fail> {
-    let other = changes_of(rt.alloc(), 2, 1, 0)?;
-    let checked = check_known(rt, mine, &other);
+// How many are present beside those that are told of, and without them.
+fn present(alloc: Global, mine: &Changes) -> Result<(u64, u64), Fail> {
+    let other = changes_of(alloc, 2, 1, 0)?;
+    let counts = (mine.present_count_with(&other), mine.present_count());
     drop(other);
-    checked
+    Ok(counts)
+}
+
+fn are_known(changes: &Changes) -> bool {
+    changes.joined() == [id(6)].as_slice() && changes.left() == [id(7)].as_slice()
 }
 
 #[test]
 fn what_is_told_would_make_more_present(rt: HostRuntime) -> Result<(), Fail> {
     // Node 4 has entered, node 6 has joined, and node 7 has left.
     let mine = changes_of(rt.alloc(), 4, 6, 7)?;
-    let checked = check_other(&rt, &mine);
+    let present = present(rt.alloc(), &mine);
+    let are_known = are_known(&mine);
     drop(mine);
-    checked
+    assert!(rt; are_known);
+    // Nodes 4, 2 and 1, of which none has left.
+    assert!(rt; present? == (3, 1));
+    Ok(())
 }

@@ -3,8 +3,10 @@
 ghost use Rattle.std.specs.Prelude.{◌≤◌, IfOk, length};
 
 use crate::refusals::unless_failed;
+use crate::sets::id;
+use crate::views::{row, text};
 use cc_frames::{Frame, FrameReader, decode_frame, encode_frame};
-use cc_views::{NodeId, Row, Text, Value, View};
+use cc_views::View;
 use cc_wire::{
     Answer, Command, Event, Message, Refusal, WireFault, decode_answer, decode_command,
     decode_event, decode_message, decode_view, encode_answer, encode_command, encode_event,
@@ -16,15 +18,8 @@ use std::test::*;
 
 // A view of one row: node 1, number 1, text "a".
 fn one_row(alloc: Global) -> Result<View, Fail> {
-    let mut value = Value::empty();
-    value.text = Text::new(b"a").ok_or("the text is short")?;
-    let node = NodeId::new(1).ok_or("1 is an id")?;
     let mut view = View::new(alloc)?;
-    view.push(Row {
-        node,
-        number: 1,
-        value,
-    });
+    view.push(row(1, b"a"));
     Ok(view)
 }
 
@@ -41,33 +36,30 @@ pub fn check_bytes<R: Abort>(
     wanted: &[u8],
 ) -> Result<(), Fail> {
     let written = written?;
-    assert_eq!(rt; written.as_slice(), wanted);
+    let is_wanted = written.as_slice() == wanted;
     drop(written);
+    assert!(rt; is_wanted);
     Ok(())
 }
 
-fn message_bytes(alloc: Global, message: &Message) -> Result<Vec<u8>, Fail> {
+// The bytes of a message, which is let go.
+fn message_bytes(alloc: Global, message: Message) -> Result<Vec<u8>, Fail> {
     let mut out = Vec::new(alloc);
-    let put = encode_message(message, &mut out);
+    let put = encode_message(&message, &mut out);
+    drop(message);
     unless_failed(put, out.is_empty())?;
     Ok(out)
 }
 
 fn store_bytes(alloc: Global) -> Result<Vec<u8>, Fail> {
-    let node = NodeId::new(1).ok_or("1 is an id")?;
     let view = one_row(alloc)?;
-    let store = Message::Store { view, tag: 1, node };
-    let bytes = message_bytes(alloc, &store);
-    drop(store);
-    bytes
+    let node = id(1);
+    message_bytes(alloc, Message::Store { view, tag: 1, node })
 }
 
 // The bytes of the message that these bytes spell.
 fn read_and_written(alloc: Global, bytes: &[u8]) -> Result<Vec<u8>, Fail> {
-    let read = decode_message(alloc, bytes)?;
-    let again = message_bytes(alloc, &read);
-    drop(read);
-    again
+    message_bytes(alloc, decode_message(alloc, bytes)?)
 }
 
 #[test]
@@ -80,39 +72,27 @@ fn view_fault(alloc: Global, bytes: &[u8]) -> Option<WireFault> {
     decode_view(alloc, bytes).err()
 }
 
-// The fault of the view of that message with another byte at a place.
-fn fault_of_changed(alloc: Global, at: usize, byte: u8) -> Result<Option<WireFault>, Fail> {
-    let mut bytes = Vec::from_slice(alloc, &STORE[1..27])?;
+// The fault of the view of that message with another byte at a place of the message.
+fn fault_of_changed(alloc: Global, at: usize, byte: u8) -> Option<WireFault> {
+    let mut bytes = STORE;
     if let Some(old) = bytes.get_mut(at) {
         *old = byte;
     }
-    let fault = view_fault(alloc, &bytes);
-    drop(bytes);
-    Ok(fault)
+    view_fault(alloc, &bytes[1..27])
 }
 
 #[test]
-fn faults_of_a_view(rt: HostRuntime) -> Result<(), Fail> {
+fn faults_of_a_view(rt: HostRuntime) {
     // The view, without its last byte, and with a byte too many.
-    let found = [
+    let cut = [
         view_fault(rt.alloc(), &STORE[1..27]),
         view_fault(rt.alloc(), &STORE[1..26]),
         view_fault(rt.alloc(), &STORE[1..28]),
     ];
-    assert_eq!(rt;
-        found,
-        [None, Some(WireFault::Short), Some(WireFault::Trailing)]
-    );
+    assert!(rt; cut == [None, Some(WireFault::Short), Some(WireFault::Trailing)]);
     // A flag of 2, and a text of 65 bytes.
-    let found = [
-        fault_of_changed(rt.alloc(), 24, 2)?,
-        fault_of_changed(rt.alloc(), 14, 65)?,
-    ];
-    assert_eq!(rt;
-        found,
-        [Some(WireFault::BadKind(2)), Some(WireFault::TooLarge)]
-    );
-    Ok(())
+    assert!(rt; fault_of_changed(rt.alloc(), 25, 2) == Some(WireFault::BadKind(2)));
+    assert!(rt; fault_of_changed(rt.alloc(), 15, 65) == Some(WireFault::TooLarge));
 }
 
 // A view of two rows, of these nodes, each with number 1 and an empty value.
@@ -124,16 +104,12 @@ fn two_rows(first: u8, second: u8) -> [u8; 48] {
 }
 
 #[test]
-fn rows_rise(rt: HostRuntime) -> Result<(), Fail> {
-    // Rising nodes, falling ones, and equal ones.
-    let found = [
-        view_fault(rt.alloc(), &two_rows(1, 2)),
-        view_fault(rt.alloc(), &two_rows(2, 1)),
-        view_fault(rt.alloc(), &two_rows(1, 1)),
-    ];
+fn rows_rise(rt: HostRuntime) {
     let refused = Some(WireFault::NotAscending);
-    assert_eq!(rt; found, [None, refused, refused]);
-    Ok(())
+    // Rising nodes, falling ones, and equal ones.
+    for &(first, second, fault) in &[(1, 2, None), (2, 1, refused), (1, 1, refused)] {
+        assert!(rt; view_fault(rt.alloc(), &two_rows(first, second)) == fault);
+    }
 }
 
 // The echo of a node that hasn't joined: it knows that 4 entered and 5 joined. A node that joined need not be told of
@@ -152,25 +128,19 @@ fn message_fault(alloc: Global, bytes: &[u8]) -> Option<WireFault> {
 }
 
 #[test]
-fn faults_of_a_leave(rt: HostRuntime) -> Result<(), Fail> {
-    let found = [
-        message_fault(rt.alloc(), &[5, 0, 0, 0, 1]),
-        message_fault(rt.alloc(), &[5, 0, 0, 0, 0]),
-        message_fault(rt.alloc(), &[2, 1, 1]),
+fn faults_of_a_leave(rt: HostRuntime) {
+    let cases: [(&[u8], Option<WireFault>); 3] = [
+        (&[5, 0, 0, 0, 1], None),
+        (&[5, 0, 0, 0, 0], Some(WireFault::NotAscending)),
+        (&[2, 1, 1], Some(WireFault::TooLarge)),
     ];
-    assert_eq!(rt;
-        found,
-        [
-            None,
-            Some(WireFault::NotAscending),
-            Some(WireFault::TooLarge)
-        ]
-    );
-    Ok(())
+    for &(bytes, fault) in &cases {
+        assert!(rt; message_fault(rt.alloc(), bytes) == fault);
+    }
 }
 
 #[test]
-fn a_text_has_at_most_64_bytes(rt: HostRuntime) -> Result<(), Fail> {
+fn a_text_has_at_most_64_bytes(rt: HostRuntime) {
     let mut longest = [0x61; 66];
     longest[0] = 1;
     longest[1] = 64;
@@ -178,12 +148,11 @@ fn a_text_has_at_most_64_bytes(rt: HostRuntime) -> Result<(), Fail> {
     let mut longer = [0x61; 67];
     longer[0] = 1;
     longer[1] = 65;
-    assert_eq!(rt; decode_command(&longer).err(), Some(WireFault::TooLarge));
-    Ok(())
+    assert!(rt; decode_command(&longer).err() == Some(WireFault::TooLarge));
 }
 
 fn put_commands(out: &mut Vec<u8>) -> Result<(), Fail> {
-    for command in [
+    for command in &[
         Command::Collect,
         Command::WriteMax(9),
         Command::ReadMax,
@@ -193,7 +162,7 @@ fn put_commands(out: &mut Vec<u8>) -> Result<(), Fail> {
         Command::ReadSet,
     ] {
         let before = out.len();
-        let put = encode_command(&command, out);
+        let put = encode_command(command, out);
         unless_failed(put, out.len() == before)?;
     }
     Ok(())
@@ -210,33 +179,28 @@ const COMMANDS: [u8; 19] = [2, 3, 0, 0, 0, 0, 0, 0, 0, 9, 4, 5, 6, 7, 0, 0, 0, 3
 #[test]
 fn commands_are_written_by_kind(rt: HostRuntime) -> Result<(), Fail> {
     check_bytes(&rt, bytes_of_commands(rt.alloc()), &COMMANDS)?;
-    assert_eq!(rt; decode_command(&[9]).err(), Some(WireFault::BadKind(9)));
+    assert!(rt; decode_command(&[9]).err() == Some(WireFault::BadKind(9)));
     Ok(())
 }
 
 // The answer Set of 2, 5 and 9.
 const SET: [u8; 15] = [5, 0, 3, 0, 0, 0, 2, 0, 0, 0, 5, 0, 0, 0, 9];
 
-fn answer_bytes(alloc: Global, answer: &Answer) -> Result<Vec<u8>, Fail> {
+// The bytes of an answer, which is let go.
+fn answer_bytes(alloc: Global, answer: Answer) -> Result<Vec<u8>, Fail> {
     let mut out = Vec::new(alloc);
-    let put = encode_answer(answer, &mut out);
+    let put = encode_answer(&answer, &mut out);
+    drop(answer);
     unless_failed(put, out.is_empty())?;
     Ok(out)
-}
-
-fn bytes_of_answer_copy(alloc: Global, answer: &Answer) -> Result<Vec<u8>, Fail> {
-    let copy = answer.copy(alloc)?;
-    let bytes = answer_bytes(alloc, &copy);
-    drop(copy);
-    bytes
 }
 
 // The bytes of a copy of the answer that these bytes spell.
 fn copied_answer(alloc: Global, bytes: &[u8]) -> Result<Vec<u8>, Fail> {
     let read = decode_answer(alloc, bytes)?;
-    let copied = bytes_of_answer_copy(alloc, &read);
+    let copy = read.copy(alloc);
     drop(read);
-    copied
+    answer_bytes(alloc, copy?)
 }
 
 #[test]
@@ -249,46 +213,36 @@ fn answer_fault(alloc: Global, bytes: &[u8]) -> Option<WireFault> {
 }
 
 #[test]
-fn faults_of_an_answer(rt: HostRuntime) -> Result<(), Fail> {
-    let found = [
-        answer_fault(rt.alloc(), &[5, 0, 2, 0, 0, 0, 2, 0, 0, 0, 2]),
-        answer_fault(rt.alloc(), &[5, 0x20, 1]),
-        answer_fault(rt.alloc(), &[4, 2]),
-        answer_fault(rt.alloc(), &[6]),
+fn faults_of_an_answer(rt: HostRuntime) {
+    let cases: [(&[u8], WireFault); 4] = [
+        (&[5, 0, 2, 0, 0, 0, 2, 0, 0, 0, 2], WireFault::NotAscending),
+        (&[5, 0x20, 1], WireFault::TooLarge),
+        (&[4, 2], WireFault::BadKind(2)),
+        (&[6], WireFault::BadKind(6)),
     ];
-    let faults = [
-        WireFault::NotAscending,
-        WireFault::TooLarge,
-        WireFault::BadKind(2),
-        WireFault::BadKind(6),
-    ];
-    assert_eq!(rt; found, faults.map(Some));
-    Ok(())
+    for &(bytes, fault) in &cases {
+        assert!(rt; answer_fault(rt.alloc(), bytes) == Some(fault));
+    }
 }
 
 // The event Deliver from node 1, number 2, of the message Join 3.
 const DELIVER: [u8; 18] = [3, 0, 0, 0, 1, 0, 0, 0, 0, 0, 0, 0, 2, 3, 0, 0, 0, 3];
 
-fn event_bytes(alloc: Global, event: &Event) -> Result<Vec<u8>, Fail> {
+// The bytes of an event, which is let go.
+fn event_bytes(alloc: Global, event: Event) -> Result<Vec<u8>, Fail> {
     let mut out = Vec::new(alloc);
-    let put = encode_event(event, &mut out);
+    let put = encode_event(&event, &mut out);
+    drop(event);
     unless_failed(put, out.is_empty())?;
     Ok(out)
-}
-
-fn bytes_of_event_copy(alloc: Global, event: &Event) -> Result<Vec<u8>, Fail> {
-    let copy = event.copy(alloc)?;
-    let bytes = event_bytes(alloc, &copy);
-    drop(copy);
-    bytes
 }
 
 /// The bytes of a copy of the event that these bytes spell.
 pub fn copied_event(alloc: Global, bytes: &[u8]) -> Result<Vec<u8>, Fail> {
     let read = decode_event(alloc, bytes)?;
-    let copied = bytes_of_event_copy(alloc, &read);
+    let copy = read.copy(alloc);
     drop(read);
-    copied
+    event_bytes(alloc, copy?)
 }
 
 #[test]
@@ -296,18 +250,18 @@ fn an_event_is_copied_and_read_again(rt: HostRuntime) -> Result<(), Fail> {
     check_bytes(&rt, copied_event(rt.alloc(), &DELIVER), &DELIVER)
 }
 
-fn put_small_events(out: &mut Vec<u8>) -> Result<(), Fail> {
-    let peer = NodeId::new(7).ok_or("7 is an id")?;
-    put_one(Event::Enter, out)?;
-    put_one(Event::Leave, out)?;
-    put_one(Event::Acked { peer, number: 8 }, out)?;
-    put_one(Event::Retire { node: peer }, out)
-}
-
 fn put_one(event: Event, out: &mut Vec<u8>) -> Result<(), Fail> {
     let put = encode_event(&event, out);
     drop(event);
     Ok(put?)
+}
+
+fn put_small_events(out: &mut Vec<u8>) -> Result<(), Fail> {
+    let peer = id(7);
+    put_one(Event::Enter, out)?;
+    put_one(Event::Leave, out)?;
+    put_one(Event::Acked { peer, number: 8 }, out)?;
+    put_one(Event::Retire { node: peer }, out)
 }
 
 fn bytes_of_small_events(alloc: Global) -> Result<Vec<u8>, Fail> {
@@ -338,7 +292,7 @@ fn a_retire_is_copied_and_read_again(rt: HostRuntime) -> Result<(), Fail> {
 }
 
 #[test]
-fn faults_of_an_event(rt: HostRuntime) -> Result<(), Fail> {
+fn faults_of_an_event(rt: HostRuntime) {
     let cases: [(&[u8], WireFault); 6] = [
         (&[0], WireFault::BadKind(0)),
         (&[7, 0, 0, 0, 1], WireFault::BadKind(7)),
@@ -347,74 +301,57 @@ fn faults_of_an_event(rt: HostRuntime) -> Result<(), Fail> {
         (&[6], WireFault::Short),
         (&[6, 0, 0, 0, 1, 0], WireFault::Trailing),
     ];
-    for (bytes, fault) in cases {
-        assert_eq!(rt; event_fault(rt.alloc(), bytes), Some(fault));
+    for &(bytes, fault) in &cases {
+        assert!(rt; event_fault(rt.alloc(), bytes) == Some(fault));
     }
-    Ok(())
 }
 
-fn len_of(event: Event) -> usize {
+/// How long an event is told to be, which is let go.
+pub fn len_of(event: Event) -> usize {
     let len = event_len(&event);
     drop(event);
     len
 }
 
-// The length of the Store as it comes from node 1 under number 1.
-fn len_of_store(alloc: Global) -> Result<usize, Fail> {
-    let from = NodeId::new(1).ok_or("1 is an id")?;
-    let message = decode_message(alloc, &STORE)?;
+/// The length of the message that these bytes spell, as it comes from a node under a number.
+pub fn len_of_delivery(alloc: Global, from: u32, number: u64, bytes: &[u8]) -> Result<usize, Fail> {
+    let message = decode_message(alloc, bytes)?;
     Ok(len_of(Event::Deliver {
-        from,
-        number: 1,
+        from: id(from),
+        number,
         message,
     }))
 }
 
 fn len_of_join(alloc: Global) -> Result<usize, Fail> {
-    let join = decode_event(alloc, &DELIVER)?;
-    Ok(len_of(join))
-}
-
-fn len_of_retire() -> Result<usize, Fail> {
-    let node = NodeId::new(9).ok_or("9 is an id")?;
-    Ok(len_of(Event::Retire { node }))
-}
-
-fn len_of_ask() -> Result<usize, Fail> {
-    let text = Text::new(b"a").ok_or("the text is short")?;
-    Ok(len_of(Event::Ask {
-        session: 7,
-        request: 1,
-        command: Command::Store(text),
-    }))
+    Ok(len_of(decode_event(alloc, &DELIVER)?))
 }
 
 // A kind, and then ids of four bytes and numbers of eight; a Store of one row has 39 bytes, a text its length before it.
 #[test]
 fn sizes_of_events(rt: HostRuntime) -> Result<(), Fail> {
-    let enter = len_of(Event::Enter);
-    let store = len_of_store(rt.alloc())?;
-    let join = len_of_join(rt.alloc())?;
-    let asked = len_of_ask()?;
-    let retire = len_of_retire()?;
-    let found = [enter, store, join, asked, retire];
-    assert_eq!(rt; found, [1, 52, DELIVER.len(), 20, RETIRE.len()]);
+    let ask = Event::Ask {
+        session: 7,
+        request: 1,
+        command: Command::Store(text(b"a")),
+    };
+    let found = [
+        len_of(ask),
+        len_of(Event::Enter),
+        len_of(Event::Retire { node: id(9) }),
+        len_of_delivery(rt.alloc(), 1, 1, &STORE)?,
+        len_of_join(rt.alloc())?,
+    ];
+    assert!(rt; found == [20, 1, RETIRE.len(), 52, DELIVER.len()]);
     Ok(())
-}
-
-fn bytes_of_message_copy(alloc: Global, message: &Message) -> Result<Vec<u8>, Fail> {
-    let copy = message.copy(alloc)?;
-    let bytes = message_bytes(alloc, &copy);
-    drop(copy);
-    bytes
 }
 
 /// The bytes of a copy of the message that these bytes spell.
 pub fn copied_message(alloc: Global, bytes: &[u8]) -> Result<Vec<u8>, Fail> {
     let read = decode_message(alloc, bytes)?;
-    let copied = bytes_of_message_copy(alloc, &read);
+    let copy = read.copy(alloc);
     drop(read);
-    copied
+    message_bytes(alloc, copy?)
 }
 
 #[test]
@@ -422,19 +359,18 @@ fn a_message_is_copied(rt: HostRuntime) -> Result<(), Fail> {
     check_bytes(&rt, copied_message(rt.alloc(), &STORE), &STORE)
 }
 
-fn view_bytes(alloc: Global, view: &View) -> Result<Vec<u8>, Fail> {
+fn view_bytes(alloc: Global) -> Result<Vec<u8>, Fail> {
+    let view = one_row(alloc)?;
     let mut out = Vec::new(alloc);
-    let put = encode_view(view, &mut out);
+    let put = encode_view(&view, &mut out);
+    drop(view);
     unless_failed(put, out.is_empty())?;
     Ok(out)
 }
 
 #[test]
 fn a_view_is_written(rt: HostRuntime) -> Result<(), Fail> {
-    let view = one_row(rt.alloc())?;
-    let written = view_bytes(rt.alloc(), &view);
-    drop(view);
-    check_bytes(&rt, written, &STORE[1..27])
+    check_bytes(&rt, view_bytes(rt.alloc()), &STORE[1..27])
 }
 
 // Ask 7 1 Store a.
@@ -461,31 +397,24 @@ fn frame_bytes(alloc: Global, frame: Frame) -> Result<Vec<u8>, Fail> {
     Ok(out)
 }
 
-fn ask_bytes(alloc: Global) -> Result<Vec<u8>, Fail> {
-    let command = Command::Store(Text::new(b"a").ok_or("the text is short")?);
+#[test]
+fn an_ask_is_written(rt: HostRuntime) -> Result<(), Fail> {
     let ask = Frame::Ask {
         session: 7,
         request: 1,
-        command,
+        command: Command::Store(text(b"a")),
     };
-    frame_bytes(alloc, ask)
+    check_bytes(&rt, frame_bytes(rt.alloc(), ask), &ASK)
 }
 
 #[test]
-fn an_ask_is_written(rt: HostRuntime) -> Result<(), Fail> {
-    check_bytes(&rt, ask_bytes(rt.alloc()), &ASK)
-}
-
-fn reply_bytes(alloc: Global) -> Result<Vec<u8>, Fail> {
+fn what_a_client_is_told_is_written(rt: HostRuntime) -> Result<(), Fail> {
     let reply = Frame::Reply {
         session: 7,
         request: 1,
         answer: Answer::Stored,
     };
-    frame_bytes(alloc, reply)
-}
-
-fn refused_bytes(alloc: Global) -> Result<Vec<u8>, Fail> {
+    check_bytes(&rt, frame_bytes(rt.alloc(), reply), &REPLY)?;
     let skip = Refusal::Skip(1);
     let refused = Frame::Refused {
         session: 7,
@@ -493,13 +422,7 @@ fn refused_bytes(alloc: Global) -> Result<Vec<u8>, Fail> {
         refusal: skip.number(),
         value: skip.value(),
     };
-    frame_bytes(alloc, refused)
-}
-
-#[test]
-fn what_a_client_is_told_is_written(rt: HostRuntime) -> Result<(), Fail> {
-    check_bytes(&rt, reply_bytes(rt.alloc()), &REPLY)?;
-    check_bytes(&rt, refused_bytes(rt.alloc()), &REFUSED)
+    check_bytes(&rt, frame_bytes(rt.alloc(), refused), &REFUSED)
 }
 
 // The bytes of the frame that these bytes spell.
@@ -514,37 +437,28 @@ fn frame_fault(alloc: Global, bytes: &[u8]) -> Option<WireFault> {
 
 #[test]
 fn frames_are_read_whole(rt: HostRuntime) -> Result<(), Fail> {
-    check_bytes(&rt, frame_again(rt.alloc(), &ASK), &ASK)?;
-    // An unknown kind, and a body that is longer than its fields.
-    let found = [
-        frame_fault(rt.alloc(), &[0, 0, 0, 5, 8, 0, 0, 0, 1]),
-        frame_fault(rt.alloc(), &[0, 0, 0, 2, 6, 6]),
-        frame_fault(rt.alloc(), &[0, 0, 0, 5, 7, 0, 0, 0, 0]),
-    ];
-    let faults = [
-        WireFault::BadKind(8),
-        WireFault::Trailing,
-        WireFault::NotAscending,
-    ];
-    assert_eq!(rt; found, faults.map(Some));
-    Ok(())
+    check_bytes(&rt, frame_again(rt.alloc(), &ASK), &ASK)
 }
 
-// A body that is cut off is Short only where all fields can be read as far as they go.
+// An unknown kind, a body that is longer than its fields, and an id of 0. A body that is cut off is Short only where all
+// fields can be read as far as they go.
+const FRAME_FAULTS: [(&[u8], WireFault); 9] = [
+    (&[0, 0, 0, 5, 8, 0, 0, 0, 1], WireFault::BadKind(8)),
+    (&[0, 0, 0, 2, 6, 6], WireFault::Trailing),
+    (&[0, 0, 0, 5, 7, 0, 0, 0, 0], WireFault::NotAscending),
+    (&[0, 0, 0, 5], WireFault::Short),
+    (&[0, 0, 0, 5, 8], WireFault::BadKind(8)),
+    (&[0, 0, 0, 5, 1, 0, 0, 0], WireFault::Short),
+    (&[0, 0, 0, 9, 1, 0, 0, 0, 0], WireFault::NotAscending),
+    (&[0, 0, 0, 2, 6], WireFault::Short),
+    (&[0, 0, 0, 3, 6, 6], WireFault::Trailing),
+];
+
 #[test]
-fn a_bad_field_of_a_cut_off_body_is_the_fault(rt: HostRuntime) -> Result<(), Fail> {
-    let cases: [(&[u8], WireFault); 6] = [
-        (&[0, 0, 0, 5], WireFault::Short),
-        (&[0, 0, 0, 5, 8], WireFault::BadKind(8)),
-        (&[0, 0, 0, 5, 1, 0, 0, 0], WireFault::Short),
-        (&[0, 0, 0, 9, 1, 0, 0, 0, 0], WireFault::NotAscending),
-        (&[0, 0, 0, 2, 6], WireFault::Short),
-        (&[0, 0, 0, 3, 6, 6], WireFault::Trailing),
-    ];
-    for (bytes, fault) in cases {
-        assert_eq!(rt; frame_fault(rt.alloc(), bytes), Some(fault));
+fn a_bad_field_of_a_cut_off_body_is_the_fault(rt: HostRuntime) {
+    for &(bytes, fault) in &FRAME_FAULTS {
+        assert!(rt; frame_fault(rt.alloc(), bytes) == Some(fault));
     }
-    Ok(())
 }
 
 fn stream_fault(alloc: Global, reader: &mut FrameReader, bytes: &[u8]) -> Option<WireFault> {
@@ -567,31 +481,20 @@ fn stream_faults(
 #[test]
 fn a_bad_length_breaks_a_stream(rt: HostRuntime) -> Result<(), Fail> {
     let (long, then) = stream_faults(rt.alloc(), &[0, 1, 0, 1], &ASK)?;
+    assert!(rt; (long, then) == (Some(WireFault::TooLarge), Some(WireFault::Broken)));
     let (empty, _) = stream_faults(rt.alloc(), &[0, 0, 0, 0], &ASK)?;
-    let faults = [WireFault::TooLarge, WireFault::Broken, WireFault::Short];
-    assert_eq!(rt; [long, then, empty], faults.map(Some));
+    assert!(rt; empty == Some(WireFault::Short));
     Ok(())
 }
 
-// A frame of each kind: Leave, an Ack, a Post of Leave 1, and Retire 9.
-const NEWS: [u8; 53] = [
+// A frame of each kind: Leave, an Ack, a Post of Leave 1, Retire 9, and then those above.
+const STREAM: [u8; 129] = [
     0, 0, 0, 1, 6, 0, 0, 0, 0x0D, 2, 0, 0, 0, 2, 0, 0, 0, 0, 0, 0, 0, 3, 0, 0, 0, 0x12, 1, 0, 0, 0,
-    1, 0, 0, 0, 0, 0, 0, 0, 1, 5, 0, 0, 0, 1, 0, 0, 0, 5, 7, 0, 0, 0, 9,
+    1, 0, 0, 0, 0, 0, 0, 0, 1, 5, 0, 0, 0, 1, 0, 0, 0, 5, 7, 0, 0, 0, 9, // the Ask
+    0, 0, 0, 0x14, 3, 0, 0, 0, 0, 0, 0, 0, 7, 0, 0, 0, 0, 0, 0, 0, 1, 1, 1, 0x61, // the Reply
+    0, 0, 0, 0x12, 4, 0, 0, 0, 0, 0, 0, 0, 7, 0, 0, 0, 0, 0, 0, 0, 1, 1, // the Refused
+    0, 0, 0, 0x1A, 5, 0, 0, 0, 0, 0, 0, 0, 7, 0, 0, 0, 0, 0, 0, 0, 3, 0x0C, 0, 0, 0, 0, 0, 0, 0, 1,
 ];
-
-fn put_others(bytes: &mut Vec<u8>) -> Result<(), Fail> {
-    bytes.extend_from_slice(&ASK)?;
-    bytes.extend_from_slice(&REPLY)?;
-    bytes.extend_from_slice(&REFUSED)?;
-    Ok(())
-}
-
-// The stream with these, and with an Ask, a Reply and a Refused.
-fn stream(alloc: Global) -> Result<Vec<u8>, Fail> {
-    let mut bytes = Vec::from_slice(alloc, &NEWS)?;
-    put_others(&mut bytes)?;
-    Ok(bytes)
-}
 
 // Writes the frame that the reader gives for the piece, if it gives one. How much of the piece was used.
 fn write_frame(
@@ -639,44 +542,23 @@ fn write_pieces(
     write_frames(reader, alloc, back, out)
 }
 
-// Writes the frames of a stream that comes in two pieces.
-fn write_both(alloc: Global, front: &[u8], back: &[u8], out: &mut Vec<u8>) -> Result<(), Fail> {
-    let mut reader = FrameReader::new(alloc)?;
-    let written = write_pieces(&mut reader, alloc, front, back, out);
-    drop(reader);
-    written
-}
-
+// The frames of a stream that comes in two pieces, as they are written.
 fn read_in_two(alloc: Global, front: &[u8], back: &[u8]) -> Result<Vec<u8>, Fail> {
+    let mut reader = FrameReader::new(alloc)?;
     let mut out = Vec::new(alloc);
-    write_both(alloc, front, back, &mut out)?;
+    let written = write_pieces(&mut reader, alloc, front, back, &mut out);
+    drop(reader);
+    written?;
     Ok(out)
-}
-
-fn check_cuts<R: Abort + AllocGlobal>(rt: &R, bytes: &[u8]) -> Result<(), Fail> {
-    for cut in 0..bytes.len() {
-        let (front, back) = bytes.split_at(cut);
-        let out = read_in_two(rt.alloc(), front, back)?;
-        assert_eq!(rt; out.as_slice(), bytes, "cut at {cut}");
-        drop(out);
-    }
-    Ok(())
 }
 
 #[test]
 fn a_stream_is_cut_anywhere(rt: HostRuntime) -> Result<(), Fail> {
-    let bytes = stream(rt.alloc())?;
-    let checked = check_cuts(&rt, &bytes);
-    drop(bytes);
-    checked
-}
-
-// Writes the frames of a stream that comes byte by byte.
-fn write_each(alloc: Global, bytes: &[u8], out: &mut Vec<u8>) -> Result<(), Fail> {
-    let mut reader = FrameReader::new(alloc)?;
-    let written = write_bytes(&mut reader, alloc, bytes, out);
-    drop(reader);
-    written
+    for cut in 0..STREAM.len() {
+        let (front, back) = STREAM.split_at(cut);
+        check_bytes(&rt, read_in_two(rt.alloc(), front, back), &STREAM)?;
+    }
+    Ok(())
 }
 
 fn write_bytes(
@@ -691,51 +573,53 @@ fn write_bytes(
     Ok(())
 }
 
+// The frames of a stream that comes byte by byte, as they are written.
 fn read_each(alloc: Global, bytes: &[u8]) -> Result<Vec<u8>, Fail> {
+    let mut reader = FrameReader::new(alloc)?;
     let mut out = Vec::new(alloc);
-    write_each(alloc, bytes, &mut out)?;
+    let written = write_bytes(&mut reader, alloc, bytes, &mut out);
+    drop(reader);
+    written?;
     Ok(out)
-}
-
-fn check_each<R: Abort + AllocGlobal>(rt: &R, bytes: &[u8]) -> Result<(), Fail> {
-    check_bytes(rt, read_each(rt.alloc(), bytes), bytes)
 }
 
 #[test]
 fn a_stream_comes_byte_by_byte(rt: HostRuntime) -> Result<(), Fail> {
-    let bytes = stream(rt.alloc())?;
-    let checked = check_each(&rt, &bytes);
-    drop(bytes);
-    checked
+    check_bytes(&rt, read_each(rt.alloc(), &STREAM), &STREAM)
+}
+
+fn names(alloc: Global, refusal: Refusal, wanted: &str) -> Result<bool, Fail> {
+    Ok(format!(in alloc; "{refusal}")?.as_str() == wanted)
 }
 
 #[test]
 fn refusals_print_their_number_and_name(rt: HostRuntime) -> Result<(), Fail> {
-    for (refusal, wanted) in [(Refusal::Gap(1), "6 Gap 1"), (Refusal::Busy, "13 Busy")] {
-        let text = format!(in rt.alloc(); "{refusal}")?;
-        assert_eq!(rt; text.as_str(), wanted);
-        drop(text);
-    }
+    assert!(rt; names(rt.alloc(), Refusal::Gap(1), "6 Gap 1")?);
+    assert!(rt; names(rt.alloc(), Refusal::Busy, "13 Busy")?);
     Ok(())
+}
+
+const FAULTS: [(WireFault, &str); 7] = [
+    (WireFault::Short, "the bytes end inside a field"),
+    (WireFault::BadKind(7), "7 is no kind or flag"),
+    (
+        WireFault::NotAscending,
+        "a list isn't ascending, or an id is 0",
+    ),
+    (WireFault::TooLarge, "a length is above its limit"),
+    (WireFault::Trailing, "bytes are left"),
+    (WireFault::NoMemory, "out of memory"),
+    (WireFault::Broken, "the stream was refused before"),
+];
+
+fn says(alloc: Global, fault: WireFault, wanted: &str) -> Result<bool, Fail> {
+    Ok(format!(in alloc; "{fault}")?.as_str() == wanted)
 }
 
 #[test]
 fn faults_of_the_wire_print_what_is_wrong(rt: HostRuntime) -> Result<(), Fail> {
-    for (fault, wanted) in [
-        (WireFault::Short, "the bytes end inside a field"),
-        (WireFault::BadKind(7), "7 is no kind or flag"),
-        (
-            WireFault::NotAscending,
-            "a list isn't ascending, or an id is 0",
-        ),
-        (WireFault::TooLarge, "a length is above its limit"),
-        (WireFault::Trailing, "bytes are left"),
-        (WireFault::NoMemory, "out of memory"),
-        (WireFault::Broken, "the stream was refused before"),
-    ] {
-        let text = format!(in rt.alloc(); "{fault}")?;
-        assert_eq!(rt; text.as_str(), wanted);
-        drop(text);
+    for &(fault, wanted) in &FAULTS {
+        assert!(rt; says(rt.alloc(), fault, wanted)?);
     }
     Ok(())
 }

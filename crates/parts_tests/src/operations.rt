@@ -7,18 +7,18 @@ ghost use Rattle.cc_ops.specs.Ops as ops;
 ghost use Rattle.cc_wire.specs.declared.command.Command.TheVariants as command;
 ghost use Rattle.cc_wire.specs.declared.message.Message.TheVariants as message;
 
+use crate::views::{row, text};
 use cc_ops::{AskList, Asked, Ops, Pending, Replies, Reply, Stage, is_writing};
-use cc_views::{NodeId, Row, Text, Value, View};
+use cc_views::{NoMemory, NodeId, Row, Text, Value, View};
 use cc_wire::{Answer, Command, Message};
 use std::alloc::Global;
-use std::process::Abort;
 use std::test::*;
 
 /// The one member of its cluster, so that each round needs one answer.
-pub fn me() -> Result<NodeId, Fail>
-    ensures { IfOk result (λ id. id ≡ 1) }
+pub fn me() -> NodeId
+    ensures { result ≡ 1 }
 {
-    Ok(NodeId::new(1).ok_or("1 is an id")?)
+    NodeId::new(1).unwrap()
 }
 
 /// The first request of session 7.
@@ -36,7 +36,7 @@ pub fn first_request(command: Command) -> Asked
 pub fn querying(alloc: Global) -> Result<Ops, Fail>
     ensures { IfOk result (λ o. o ≡ ops.after_ask 1 1 (record { session = 7; request = 1; command = command.Collect }) (ops.nothing_done 1)) }
 {
-    let me = me()?;
+    let me = me();
     let mut ops = Ops::new(alloc, 1)?;
     ops.ask(me, 1, &first_request(Command::Collect));
     Ok(ops)
@@ -46,14 +46,14 @@ pub fn querying(alloc: Global) -> Result<Ops, Fail>
 fn empty_reply(alloc: Global) -> Result<Message, Fail>
     ensures { IfOk result (λ m. m ≡ message.QueryReply map.empty 1 1) }
 {
-    let node = me()?;
+    let node = me();
     let view = View::new(alloc)?;
     Ok(Message::QueryReply { view, tag: 1, node })
 }
 
 // What was seen, which is nothing, is stored back.
 fn storing_back(alloc: Global) -> Result<Ops, Fail> {
-    let me = me()?;
+    let me = me();
     let reply = empty_reply(alloc)?;
     match querying(alloc) {
         Ok(mut ops) => {
@@ -91,23 +91,14 @@ fn rows(message: &Message) -> &[Row] {
     }
 }
 
-fn check_new<R: Abort>(rt: &R, ops: &Ops) {
-    let is_empty = ops.is_idle() && ops.view().rows().is_empty();
-    assert_eq!(rt; (is_empty, ops.number(), ops.tag()), (true, 0, 0));
-}
-
 #[test]
 fn a_new_node_has_stored_nothing(rt: HostRuntime) -> Result<(), Fail> {
     let ops = Ops::new(rt.alloc(), 1)?;
-    check_new(&rt, &ops);
+    let is_empty = ops.is_idle() && ops.view().rows().is_empty();
+    let numbers = (ops.number(), ops.tag());
     drop(ops);
+    assert!(rt; (is_empty, numbers) == (true, (0, 0)));
     Ok(())
-}
-
-fn check_parts<R: Abort>(rt: &R, ops: &Ops, stage: &Stage) {
-    let has_seen = ops.seen().is_some();
-    assert_eq!(rt; (ops.number(), ops.tag(), has_seen), (3, 5, true));
-    assert_eq!(rt; ops.stage(), *stage);
 }
 
 #[test]
@@ -133,14 +124,16 @@ fn parts_are_put_together(rt: HostRuntime) -> Result<(), Fail> {
         others,
         line,
     )?;
-    check_parts(&rt, &ops, &stage);
+    let found = (ops.number(), ops.tag(), ops.seen().is_some());
+    let is_staged = ops.stage() == stage;
     drop(ops);
+    assert!(rt; (found, is_staged) == ((3, 5, true), true));
     Ok(())
 }
 
 #[test]
 fn a_command_writes_or_reads(rt: HostRuntime) {
-    for (command, writes) in [
+    for &(command, writes) in &[
         (Command::Store(Text::empty()), true),
         (Command::Collect, false),
         (Command::WriteMax(1), true),
@@ -150,35 +143,32 @@ fn a_command_writes_or_reads(rt: HostRuntime) {
         (Command::AddMember(1), true),
         (Command::ReadSet, false),
     ] {
-        assert_eq!(rt; is_writing(&command), writes);
+        assert!(rt; is_writing(&command) == writes);
     }
 }
 
-fn check_copy<R: Abort>(rt: &R, copy: &Ops, ops: &Ops) {
-    assert_eq!(rt; (copy.tag(), copy.is_idle()), (1, false));
-    assert_eq!(rt; copy.stage(), ops.stage());
-}
-
-fn check_a_copy<R: Abort + AllocGlobal>(rt: &R, ops: &Ops) -> Result<(), Fail> {
-    let copy = ops.copy(rt.alloc())?;
-    check_copy(rt, &copy, ops);
+// The tag of a copy, whether it is idle, and whether it waits for the same.
+fn copied(alloc: Global, ops: &Ops) -> Result<(u64, bool, bool), NoMemory> {
+    let copy = ops.copy(alloc)?;
+    let found = (copy.tag(), copy.is_idle(), copy.stage() == ops.stage());
     drop(copy);
-    Ok(())
+    Ok(found)
 }
 
 #[test]
 fn a_copy_waits_for_the_same(rt: HostRuntime) -> Result<(), Fail> {
     let ops = querying(rt.alloc())?;
-    let checked = check_a_copy(&rt, &ops);
+    let copied = copied(rt.alloc(), &ops);
     drop(ops);
-    checked
+    assert!(rt; copied? == (1, false, true));
+    Ok(())
 }
 
 // The first post of an operation of a new node.
 fn first_post(alloc: Global, command: Command) -> Result<Message, Fail>
     requires { IsFalse (commands.finds_no_room (ops.nothing_done 1).mine command) }
 {
-    let me = me()?;
+    let me = me();
     let ops = Ops::new(alloc, 1)?;
     let post = ops.first_post(alloc, me, 1, &first_request(command));
     drop(ops);
@@ -190,28 +180,15 @@ fn a_collect_begins_with_a_query(rt: HostRuntime) -> Result<(), Fail> {
     let post = first_post(rt.alloc(), Command::Collect)?;
     let said = said(&post);
     drop(post);
-    assert_eq!(rt; said, ("Query", 0, 1, 1));
+    assert!(rt; said == ("Query", 0, 1, 1));
     Ok(())
-}
-
-// Whether it stores that row alone, with tag 1 and node 1.
-fn is_store_of(message: &Message, row: Row) -> bool {
-    said(message) == ("Store", 1, 1, 1) && rows(message) == [row].as_slice()
 }
 
 #[test]
 fn a_store_begins_with_its_row(rt: HostRuntime) -> Result<(), Fail> {
-    let node = me()?;
-    let text = Text::new(b"a").ok_or("the text is short")?;
-    let mut value = Value::empty();
-    value.text = text;
-    let row = Row {
-        node,
-        number: 1,
-        value,
-    };
-    let post = first_post(rt.alloc(), Command::Store(text))?;
-    let is_stored = is_store_of(&post, row);
+    let post = first_post(rt.alloc(), Command::Store(text(b"a")))?;
+    // It stores that row alone, with tag 1 and node 1.
+    let is_stored = said(&post) == ("Store", 1, 1, 1) && rows(&post) == [row(1, b"a")].as_slice();
     drop(post);
     assert!(rt; is_stored);
     Ok(())
@@ -223,7 +200,7 @@ fn answered(alloc: Global, server: &Ops, message: &Message) -> Result<Said, Fail
     requires number { (ops.after_message 1 1 message.now server.now).number ≤ 2 ^ 62 }
     requires tag { (ops.after_message 1 1 message.now server.now).tag ≤ 2 ^ 62 }
 {
-    let me = me()?;
+    let me = me();
     let post = server.post(alloc, me, 1, true, message)?;
     let answer = post.ok_or("it is answered")?;
     let said = said(&answer);
@@ -232,7 +209,7 @@ fn answered(alloc: Global, server: &Ops, message: &Message) -> Result<Said, Fail
 }
 
 fn said_to_a_query(alloc: Global) -> Result<Said, Fail> {
-    let node = me()?;
+    let node = me();
     let server = querying(alloc)?;
     let query = Message::Query { tag: 1, node };
     let said = answered(alloc, &server, &query);
@@ -244,7 +221,7 @@ fn said_to_a_query(alloc: Global) -> Result<Said, Fail> {
 #[test]
 fn a_query_is_replied_to(rt: HostRuntime) -> Result<(), Fail> {
     let said = said_to_a_query(rt.alloc())?;
-    assert_eq!(rt; said, ("QueryReply", 0, 1, 1));
+    assert!(rt; said == ("QueryReply", 0, 1, 1));
     Ok(())
 }
 
@@ -267,7 +244,7 @@ fn said_to_a_reply(alloc: Global) -> Result<Said, Fail> {
 #[test]
 fn what_was_seen_is_stored_back(rt: HostRuntime) -> Result<(), Fail> {
     let said = said_to_a_reply(rt.alloc())?;
-    assert_eq!(rt; said, ("Store", 0, 2, 1));
+    assert!(rt; said == ("Store", 0, 2, 1));
     Ok(())
 }
 
@@ -275,7 +252,7 @@ fn what_was_seen_is_stored_back(rt: HostRuntime) -> Result<(), Fail> {
 fn empty_store(alloc: Global) -> Result<Message, Fail>
     ensures { IfOk result (λ m. m ≡ message.Store map.empty 2 1) }
 {
-    let node = me()?;
+    let node = me();
     let view = View::new(alloc)?;
     Ok(Message::Store { view, tag: 2, node })
 }
@@ -299,13 +276,13 @@ fn said_to_a_store(alloc: Global) -> Result<Said, Fail> {
 #[test]
 fn a_store_is_acknowledged(rt: HostRuntime) -> Result<(), Fail> {
     let said = said_to_a_store(rt.alloc())?;
-    assert_eq!(rt; said, ("StoreAck", 0, 2, 1));
+    assert!(rt; said == ("StoreAck", 0, 2, 1));
     Ok(())
 }
 
 // What clients are told by the acknowledgement of what a collect stored back.
 fn last_replies(alloc: Global) -> Result<Replies, Fail> {
-    let node = me()?;
+    let node = me();
     let ops = storing_back(alloc)?;
     let acknowledgement = Message::StoreAck { tag: 2, node };
     let replies = ops.replies(alloc, node, &acknowledgement);
@@ -314,32 +291,43 @@ fn last_replies(alloc: Global) -> Result<Replies, Fail> {
     Ok(replies?)
 }
 
-fn check_told<R: Abort>(rt: &R, told: &[Reply]) {
-    assert_eq!(rt; told.len(), 1);
-    assert_eq!(rt; (told[0].session, told[0].request), (7, 1));
-    assert!(rt; matches!(&told[0].answer, Answer::Seen(view) if view.rows().is_empty()));
+// Whether the first request of session 7 alone is told of no row.
+fn are_told_nothing(told: &[Reply]) -> bool {
+    let [reply] = told else {
+        return false;
+    };
+    let of = (reply.session, reply.request);
+    of == (7, 1) && matches!(&reply.answer, Answer::Seen(view) if view.rows().is_empty())
 }
 
 #[test]
 fn a_collect_is_told_what_it_stored_back(rt: HostRuntime) -> Result<(), Fail> {
     let told = last_replies(rt.alloc())?;
-    check_told(&rt, told.as_slice());
+    let are_told = are_told_nothing(told.as_slice());
     drop(told);
+    assert!(rt; are_told);
     Ok(())
+}
+
+// The session of the first reply, which is taken.
+fn take_first(told: &mut Replies) -> Option<u64> {
+    let reply = told.take_first()?;
+    let session = reply.session;
+    drop(reply);
+    Some(session)
 }
 
 #[test]
 fn the_only_reply_is_taken_once(rt: HostRuntime) -> Result<(), Fail> {
     let mut told = last_replies(rt.alloc())?;
     let was_empty = told.is_empty();
-    let session = told.take_first().map(|reply| reply.session);
-    let is_empty = told.is_empty();
-    let more = told.take_first().is_some();
-    drop(told);
-    assert_eq!(rt;
-        (was_empty, session, is_empty, more),
-        (false, Some(7), true, false)
+    let taken = (
+        take_first(&mut told),
+        told.is_empty(),
+        take_first(&mut told),
     );
+    drop(told);
+    assert!(rt; (was_empty, taken) == (false, (Some(7), true, None)));
     assert!(rt; Replies::none().is_empty());
     Ok(())
 }

@@ -4,12 +4,11 @@ use crate::sets::id;
 use cc_outbox::Outbox;
 use cc_wire::{Answer, Message};
 use std::alloc::Global;
-use std::process::Abort;
 use std::test::*;
 
-// The node that a message names, to tell messages apart.
-fn named(message: Option<&Message>) -> u32 {
-    match message {
+// The node that a post of that number names, to tell posts apart.
+fn named(outbox: &Outbox, number: u64) -> u32 {
+    match outbox.post(number) {
         Some(Message::Join { node }) => node.number(),
         _ => 0,
     }
@@ -18,54 +17,54 @@ fn named(message: Option<&Message>) -> u32 {
 // Posts 5 and 6.
 #[tactic(auto, using(cc_views::specs::MapLaws::len_insert))]
 fn two_posts(alloc: Global) -> Result<Outbox, Fail> {
-    let (fifth, sixth) = (id(50)?, id(60)?);
     let mut outbox = Outbox::starting_after(alloc, 4)?;
-    outbox.add(Message::Join { node: fifth });
-    outbox.add(Message::Join { node: sixth });
+    outbox.add(Message::Join { node: id(50) });
+    outbox.add(Message::Join { node: id(60) });
     Ok(outbox)
 }
 
-fn check_posts<R: Abort>(rt: &R, outbox: &Outbox) {
-    assert_eq!(rt; (outbox.post_count(), outbox.last()), (2, 6));
-    let found = [
-        named(outbox.post(4)),
-        named(outbox.post(5)),
-        named(outbox.post(6)),
-        named(outbox.post(7)),
+fn has_both(outbox: &Outbox) -> bool {
+    let named = [
+        named(outbox, 4),
+        named(outbox, 5),
+        named(outbox, 6),
+        named(outbox, 7),
     ];
-    assert_eq!(rt; found, [0, 50, 60, 0]);
+    named == [0, 50, 60, 0] && outbox.post_count() == 2 && outbox.last() == 6
 }
 
 #[test]
 fn posts_are_found_by_number(rt: HostRuntime) -> Result<(), Fail> {
     let outbox = two_posts(rt.alloc())?;
-    check_posts(&rt, &outbox);
+    let has_both = has_both(&outbox);
     drop(outbox);
+    assert!(rt; has_both);
     Ok(())
 }
 
-fn check_trim<R: Abort>(rt: &R, outbox: &mut Outbox) {
+// How many posts are left of those after 4, and what is left of those after 5.
+fn trimmed(outbox: &mut Outbox) -> (usize, u32, u32) {
     outbox.trim(4);
-    assert_eq!(rt; outbox.post_count(), 2);
+    let count = outbox.post_count();
     outbox.trim(5);
-    let found = [named(outbox.post(5)), named(outbox.post(6))];
-    assert_eq!(rt; found, [0, 60]);
+    (count, named(outbox, 5), named(outbox, 6))
 }
 
 #[test]
 fn posts_up_to_a_number_are_dropped(rt: HostRuntime) -> Result<(), Fail> {
     let mut outbox = two_posts(rt.alloc())?;
-    check_trim(&rt, &mut outbox);
+    let trimmed = trimmed(&mut outbox);
     drop(outbox);
+    assert!(rt; trimmed == (2, 0, 60));
     Ok(())
 }
 
-fn check_kept<R: Abort>(rt: &R, outbox: &mut Outbox) {
-    let has = [outbox.answer(7).is_some(), outbox.answer(8).is_some()];
+// Whether the answer to session 7 is the only one, and is gone once it is forgotten.
+fn keeps_one(outbox: &mut Outbox) -> bool {
+    let has_one = outbox.answer(7).is_some() && outbox.answer(8).is_none();
     let count = outbox.answers().len();
     outbox.forget(7);
-    let has_then = outbox.answer(7).is_some();
-    assert_eq!(rt; (has, count, has_then), ([true, false], 1, false));
+    has_one && count == 1 && outbox.answer(7).is_none()
 }
 
 #[test]
@@ -73,7 +72,8 @@ fn check_kept<R: Abort>(rt: &R, outbox: &mut Outbox) {
 fn the_last_answer_of_a_session_is_kept(rt: HostRuntime) -> Result<(), Fail> {
     let mut outbox = Outbox::new(rt.alloc())?;
     outbox.keep(7, Answer::Stored);
-    check_kept(&rt, &mut outbox);
+    let keeps_one = keeps_one(&mut outbox);
     drop(outbox);
+    assert!(rt; keeps_one);
     Ok(())
 }

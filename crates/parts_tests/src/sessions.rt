@@ -1,58 +1,55 @@
 //! Requests of a session.
 
 use cc_sessions::{Checked, Sessions};
-use std::process::Abort;
+use cc_views::NoMemory;
+use std::alloc::Global;
 use std::test::*;
+
+// A new session begins at one.
+fn begins_at_one(sessions: &Sessions) -> bool {
+    sessions.check(7, 0) == Checked::Stale(0)
+        && sessions.check(7, 1) == Checked::Fresh
+        && sessions.check(7, 2) == Checked::Skip(0)
+}
+
+// After its first request, which may be repeated, the second is next.
+fn goes_on_with_two(sessions: &Sessions) -> bool {
+    sessions.check(7, 1) == Checked::Repeat
+        && sessions.check(7, 0) == Checked::Stale(1)
+        && sessions.check(7, 2) == Checked::Fresh
+        && sessions.check(7, 3) == Checked::Skip(1)
+}
 
 #[test]
 fn a_request_runs_once_and_in_turn(rt: HostRuntime) -> Result<(), Fail> {
     let mut sessions = Sessions::new(rt.alloc())?;
+    let begins_at_one = begins_at_one(&sessions);
     sessions.begin(7, 1);
-    let found = [
-        sessions.check(7, 1),
-        sessions.check(7, 0),
-        sessions.check(7, 2),
-        sessions.check(7, 3),
-    ];
+    let goes_on = goes_on_with_two(&sessions);
     drop(sessions);
-    let stale = Checked::Stale(1);
-    assert_eq!(rt;
-        found,
-        [Checked::Repeat, stale, Checked::Fresh, Checked::Skip(1)]
-    );
+    assert!(rt; begins_at_one);
+    assert!(rt; goes_on);
     Ok(())
 }
 
-#[test]
-fn a_new_session_begins_at_one(rt: HostRuntime) -> Result<(), Fail> {
-    let sessions = Sessions::new(rt.alloc())?;
-    let found = [
-        sessions.check(7, 0),
-        sessions.check(7, 1),
-        sessions.check(7, 2),
-    ];
-    drop(sessions);
-    assert_eq!(rt;
-        found,
-        [Checked::Stale(0), Checked::Fresh, Checked::Skip(0)]
-    );
-    Ok(())
-}
-
-fn check_copy<R: Abort + AllocGlobal>(rt: &R, sessions: &Sessions) -> Result<(), Fail> {
-    let copy = sessions.copy(rt.alloc())?;
-    let found = [copy.finish(7), copy.finish(8)];
-    let len = copy.rows().len();
+// What a copy tells of sessions 7 and 8, and how many rows it has.
+fn copied(
+    alloc: Global,
+    sessions: &Sessions,
+) -> Result<(Option<u64>, Option<u64>, usize), NoMemory> {
+    let copy = sessions.copy(alloc)?;
+    let found = (copy.finish(7), copy.finish(8), copy.rows().len());
     drop(copy);
-    assert_eq!(rt; (found, len), ([Some(1), None], sessions.rows().len()));
-    Ok(())
+    Ok(found)
 }
 
 #[test]
 fn a_copy_has_the_same_rows(rt: HostRuntime) -> Result<(), Fail> {
     let mut sessions = Sessions::new(rt.alloc())?;
     sessions.begin(7, 1);
-    let checked = check_copy(&rt, &sessions);
+    let copied = copied(rt.alloc(), &sessions);
+    let count = sessions.rows().len();
     drop(sessions);
-    checked
+    assert!(rt; copied? == (Some(1), None, count));
+    Ok(())
 }

@@ -1,37 +1,46 @@
 //! Views, texts and sets of numbers.
 
-ghost use Rattle.std.specs.Prelude.{◌≡◌, ◌≤◌, IfOk, IsSome};
+ghost use Rattle.std.specs.Prelude.{◌≡◌, ◌≤◌, IfOk, IsSome, length};
 ghost use Rattle.std.specs.FinMap.{len};
 
-use cc_views::{NodeId, NumberSet, Row, Text, Value, View};
+use crate::sets::id;
+use cc_views::{NumberSet, Row, Text, Value, View};
 use std::alloc::Global;
-use std::process::Abort;
 use std::test::*;
 
-// A row with number 1.
-fn row(node: u32, text: &[u8]) -> Option<Row> {
+/// A text of at most 64 bytes.
+pub fn text(bytes: &[u8]) -> Text
+    requires { length bytes.now ≤ 64 }
+{
+    Text::new(bytes).unwrap()
+}
+
+/// A row with number 1.
+pub fn row(node: u32, bytes: &[u8]) -> Row
+    requires { length bytes.now ≤ 64 }
+{
     let mut value = Value::empty();
-    value.text = Text::new(text)?;
-    Some(Row {
-        node: NodeId::new(node)?,
+    value.text = text(bytes);
+    Row {
+        node: id(node),
         number: 1,
         value,
-    })
+    }
 }
 
 fn view(alloc: Global, node: u32, text: &[u8]) -> Result<View, Fail>
+    requires { length text.now ≤ 64 }
     ensures { IfOk result (λ v. len v ≡ 1) }
 {
-    let row = row(node, text).ok_or("the row has an id and a short text")?;
     let mut view = View::new(alloc)?;
-    view.push(row);
+    view.push(row(node, text));
     Ok(view)
 }
 
 #[test]
 fn a_text_has_at_most_64_bytes(rt: HostRuntime) -> Result<(), Fail> {
     let text = Text::new(&[7; 64]).ok_or("64 bytes are taken")?;
-    assert_eq!(rt; text.as_bytes(), [7; 64].as_slice());
+    assert!(rt; text.as_bytes() == [7; 64].as_slice());
     assert!(rt; Text::new(&[7; 65]).is_none());
     Ok(())
 }
@@ -43,81 +52,61 @@ fn a_number_stands_once_in_a_set(rt: HostRuntime) {
     set.insert(9);
     set.insert(5);
     set.insert(9);
-    assert_eq!(rt; set.as_slice(), [5, 9].as_slice());
+    assert!(rt; set.as_slice() == [5, 9].as_slice());
 }
 
-// The view of node 1 with text "a", merged with that of a node with text "b".
-fn merged(alloc: Global, node: u32) -> Result<View, Fail> {
-    let right = view(alloc, node, b"b")?;
-    let left = left_merged(alloc, &right);
-    drop(right);
-    left
-}
-
+// Merges in the view of a node with text "b".
 #[tactic(auto, using(cc_views::specs::MergeLaws::merge_is_no_larger))]
-fn left_merged(alloc: Global, right: &View) -> Result<View, Fail>
-    requires { len right.now ≡ 1 }
+fn merge_other(alloc: Global, node: u32, to: &mut View) -> Result<(), Fail>
+    requires { len to.old ≡ 1 }
 {
-    let mut left = view(alloc, 1, b"a")?;
-    left.merge(right);
-    Ok(left)
+    let other = view(alloc, node, b"b")?;
+    to.merge(&other);
+    drop(other);
+    Ok(())
 }
 
-fn check_rows<R: Abort + AllocGlobal>(rt: &R, left: &View) -> Result<(), Fail> {
-    let first = view(rt.alloc(), 1, b"a")?;
-    assert_eq!(rt; left.rows(), first.rows());
-    drop(first);
-    Ok(())
+// How many rows the view of node 1 with text "a" has then, and whether its own is the only one.
+fn merged(alloc: Global, node: u32) -> Result<(usize, bool), Fail> {
+    let mut left = view(alloc, 1, b"a")?;
+    let merged = merge_other(alloc, node, &mut left);
+    let found = (left.rows().len(), left.rows() == [row(1, b"a")].as_slice());
+    drop(left);
+    merged?;
+    Ok(found)
 }
 
 #[test]
 fn equal_numbers_keep_the_left_row(rt: HostRuntime) -> Result<(), Fail> {
-    let left = merged(rt.alloc(), 1)?;
-    let checked = check_rows(&rt, &left);
-    drop(left);
-    checked
+    assert!(rt; merged(rt.alloc(), 1)? == (1, true));
+    Ok(())
 }
 
 #[test]
 fn both_nodes_stand_in_a_merge(rt: HostRuntime) -> Result<(), Fail> {
-    let left = merged(rt.alloc(), 2)?;
-    let count = left.rows().len();
-    drop(left);
-    assert_eq!(rt; count, 2);
+    assert!(rt; merged(rt.alloc(), 2)? == (2, false));
     Ok(())
 }
 
-fn check_copy<R: Abort>(rt: &R, copy: &View, view: &View) {
-    let found = (copy.rows().len(), copy.at_most(view), view.at_most(copy));
-    assert_eq!(rt; found, (1, true, false));
-}
-
+// How many rows a copy has once the view has one more, whether it is at most the view, and the view at most it.
 #[tactic(auto, using(cc_views::specs::MergeLaws::merge_row_is_no_larger))]
-fn check_changed<R: Abort + AllocGlobal>(rt: &R, view: &mut View) -> Result<(), Fail>
+fn copied_before(alloc: Global, view: &mut View) -> Result<(usize, bool, bool), Fail>
     requires { len view.old ≡ 1 }
 {
-    let row = row(2, b"b").ok_or("the row has an id and a short text")?;
-    let copy = view.copy(rt.alloc())?;
-    view.merge_row(row);
-    check_copy(rt, &copy, view);
+    let copy = view.copy(alloc)?;
+    view.merge_row(row(2, b"b"));
+    let found = (copy.rows().len(), copy.at_most(view), view.at_most(&copy));
     drop(copy);
-    Ok(())
+    Ok(found)
 }
 
 #[test]
 fn a_copy_stays_as_it_was(rt: HostRuntime) -> Result<(), Fail> {
     let mut view = view(rt.alloc(), 1, b"a")?;
-    let checked = check_changed(&rt, &mut view);
+    let found = copied_before(rt.alloc(), &mut view);
     drop(view);
-    checked
-}
-
-// The node and the text of a view's only row.
-fn only_row(view: &View) -> Option<(u32, Text)> {
-    let [row] = view.rows() else {
-        return None;
-    };
-    Some((row.node.number(), row.value.text))
+    assert!(rt; found? == (1, true, false));
+    Ok(())
 }
 
 fn take_over(alloc: Global, to: &mut View) -> Result<(), Fail> {
@@ -129,12 +118,11 @@ fn take_over(alloc: Global, to: &mut View) -> Result<(), Fail> {
 
 #[test]
 fn rows_are_taken_over(rt: HostRuntime) -> Result<(), Fail> {
-    let text = Text::new(b"b").ok_or("b is a text")?;
     let mut view = view(rt.alloc(), 1, b"a")?;
     let taken = take_over(rt.alloc(), &mut view);
-    let row = only_row(&view);
+    let is_other = view.rows() == [row(2, b"b")].as_slice();
     drop(view);
     taken?;
-    assert_eq!(rt; row, Some((2, text)));
+    assert!(rt; is_other);
     Ok(())
 }
