@@ -150,12 +150,10 @@ fn a_record_stands_behind_its_open_gate(rt: HostRuntime) -> Result<(), Fail> {
     Ok(())
 }
 
-// Adds entries of an Enter that makes nothing, so many of them that fit, up to a limit.
-fn fill(batch: &mut Batch, limit: usize) {
-    for _ in 0..limit {
-        if batch.push(Entry::default()).is_err() {
-            break;
-        }
+// Adds the entry of an Enter that makes nothing, where it fits.
+fn add_one(batch: &mut Batch) {
+    if let Err(entry) = batch.push(Entry::default()) {
+        drop(entry);
     }
 }
 
@@ -166,11 +164,13 @@ fn measure(batch: &Batch) -> (usize, usize, usize) {
 
 // The measures of a batch of 64 entries, once one is taken out, and once another one is put in.
 fn measures(batch: &mut Batch) -> [(usize, usize, usize); 3] {
-    fill(batch, 65);
+    for _ in 0..65 {
+        add_one(batch);
+    }
     let full = measure(batch);
     drop(batch.take_first());
     let taken = measure(batch);
-    fill(batch, 1);
+    add_one(batch);
     [full, taken, measure(batch)]
 }
 

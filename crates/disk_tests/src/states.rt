@@ -511,22 +511,39 @@ fn what_a_node_keeps_is_stored_and_read(rt: HostRuntime) -> Result<(), Fail> {
     Ok(())
 }
 
+const FAULT_TEXTS: [(StateFault, &str); 2] = [
+    (
+        StateFault::Wire(WireFault::Short),
+        "the bytes end inside a field",
+    ),
+    (StateFault::Unlawful, "no node can be in that state"),
+];
+
 fn says(alloc: Global, fault: StateFault, wanted: &str) -> Result<bool, Fail> {
     Ok(format!(in alloc; "{fault}")?.as_str() == wanted)
 }
 
 #[test]
 fn faults_of_states_print_what_is_wrong(rt: HostRuntime) -> Result<(), Fail> {
-    let cut = StateFault::Wire(WireFault::Short);
-    let texts = [
-        (cut, "the bytes end inside a field"),
-        (StateFault::Unlawful, "no node can be in that state"),
-    ];
-    for &(fault, wanted) in &texts {
+    for &(fault, wanted) in &FAULT_TEXTS {
         assert!(rt; says(rt.alloc(), fault, wanted)?);
     }
     Ok(())
 }
+
+const READ: DeviceFault = DeviceFault {
+    side: Side::A,
+    call: Call::Read,
+};
+
+const OPEN_FAULTS: [(OpenFault, &str); 6] = [
+    (OpenFault::NotFormatted, "NotFormatted"),
+    (OpenFault::Damaged(Side::A, 153), "Damaged A 153"),
+    (OpenFault::Damaged(Side::B, 1), "Damaged B 1"),
+    (OpenFault::Version(7), "Version 7"),
+    (OpenFault::Device(READ), "Device A Read"),
+    (OpenFault::NoMemory, "NoMemory"),
+];
 
 fn names(alloc: Global, fault: OpenFault, wanted: &str) -> Result<bool, Fail> {
     Ok(format!(in alloc; "{fault}")?.as_str() == wanted)
@@ -534,19 +551,7 @@ fn names(alloc: Global, fault: OpenFault, wanted: &str) -> Result<bool, Fail> {
 
 #[test]
 fn faults_of_opening_print_their_names(rt: HostRuntime) -> Result<(), Fail> {
-    let device = DeviceFault {
-        side: Side::A,
-        call: Call::Read,
-    };
-    let texts = [
-        (OpenFault::NotFormatted, "NotFormatted"),
-        (OpenFault::Damaged(Side::A, 153), "Damaged A 153"),
-        (OpenFault::Damaged(Side::B, 1), "Damaged B 1"),
-        (OpenFault::Version(7), "Version 7"),
-        (OpenFault::Device(device), "Device A Read"),
-        (OpenFault::NoMemory, "NoMemory"),
-    ];
-    for &(fault, wanted) in &texts {
+    for &(fault, wanted) in &OPEN_FAULTS {
         assert!(rt; names(rt.alloc(), fault, wanted)?);
     }
     Ok(())
