@@ -1,49 +1,44 @@
 //! Outboxes that absent members fill.
 
-use crate::checkpoints::check_with;
+use crate::moves::check_through;
 use crate::played::played;
-use crate::rows::{crash_all, move_all};
 use std::alloc::Global;
 use std::process::Abort;
 use std::test::*;
 
-// The script of members that are made so, of which node 1 finishes so many stores by itself. Each makes two posts.
-fn stores(alloc: Global, members: &str, count: u64) -> Result<String, Fail> {
+// The script of members that are made so, of which node 1 finishes so many stores by itself, with these lines behind it. Each
+// store makes two posts.
+fn stores(alloc: Global, members: &str, count: u64, lines: &str) -> Result<String, Fail> {
     let mut script = String::from_str(alloc, members)?;
-    for request in 1..=count {
-        push_store(alloc, &mut script, request)?;
-    }
+    push_stores(&mut script, count)?;
+    script.push_str(lines)?;
     Ok(script)
 }
 
-fn push_store(alloc: Global, script: &mut String, request: u64) -> Result<(), Fail> {
-    let own = request.saturating_mul(2);
-    let store = own.saturating_sub(1);
-    let lines = format!(in alloc;
-        "ask 1 7 {request} store a\ncarry 1 1 {store}\ncarry 1 1 {own}\n"
-    )?;
-    script.push_str(&lines)?;
+fn push_stores(script: &mut String, count: u64) -> Result<(), Fail> {
+    for request in 1..=count {
+        let own = request.saturating_mul(2);
+        let store = own.saturating_sub(1);
+        write!(
+            script,
+            "ask 1 7 {request} store a\ncarry 1 1 {store}\ncarry 1 1 {own}\n"
+        )?;
+    }
     Ok(())
 }
 
-// These lines behind a script print that text in the end, also where the nodes crash after each of them, and where they make
-// a checkpoint before each such crash.
+// A script prints that text in the end, also where the nodes crash after each line behind the first `made`, and where they
+// make a checkpoint before each such crash.
 fn check_behind<R: Abort + AllocGlobal>(
     rt: &R,
-    mut script: String,
-    lines: &str,
+    script: &str,
+    made: usize,
     nodes: &[u32],
     wanted: &str,
 ) -> Result<(), Fail> {
-    let made = script.lines().count();
-    script.push_str(lines)?;
-    let (status, output) = played(rt.alloc(), &script)?;
-    assert_eq!(rt; status, 0);
-    assert!(rt; output.ends_with(wanted));
-    let crashes = crash_all(rt.alloc(), nodes)?;
-    check_with(rt, &script, made, &crashes, &output)?;
-    let moves = move_all(rt.alloc(), nodes)?;
-    check_with(rt, &script, made, &moves, &output)
+    let (status, output) = played(rt.alloc(), script)?;
+    assert!(rt; status == 0 && output.ends_with(wanted), "{status}");
+    check_through(rt, script, made, nodes, &output)
 }
 
 const OF_TWO: &str = "\
@@ -87,8 +82,8 @@ const A_FULL_OUTBOX_PRINTS: &str = "\
 // A snapshot finds no room, and a lapse makes some.
 #[test]
 fn a_lapse_empties_a_full_outbox(rt: HostRuntime) -> Result<(), Fail> {
-    let script = stores(rt.alloc(), OF_TWO, 256)?;
-    check_behind(&rt, script, A_FULL_OUTBOX, &[1, 2], A_FULL_OUTBOX_PRINTS)
+    let script = stores(rt.alloc(), OF_TWO, 256, A_FULL_OUTBOX)?;
+    check_behind(&rt, &script, 3 + 256 * 3, &[1, 2], A_FULL_OUTBOX_PRINTS)
 }
 
 const OF_THREE: &str = "\
@@ -154,6 +149,6 @@ const TWO_DEAD_PRINTS: &str = "\
 // Of two dead members both have to lapse, and a phase that would begin anew waits for room.
 #[test]
 fn two_dead_members_fill_an_outbox_until_both_lapsed(rt: HostRuntime) -> Result<(), Fail> {
-    let script = stores(rt.alloc(), OF_THREE, 255)?;
-    check_behind(&rt, script, TWO_DEAD, &[1], TWO_DEAD_PRINTS)
+    let script = stores(rt.alloc(), OF_THREE, 255, TWO_DEAD)?;
+    check_behind(&rt, &script, 2 + 255 * 3, &[1], TWO_DEAD_PRINTS)
 }

@@ -1,7 +1,6 @@
 //! Lines of no known form, and lines that can't be played.
 
-use crate::played::{STORE, STORED, check};
-use cc_play::play;
+use crate::played::{STORE, STORED, check, played_bytes};
 use std::process::Abort;
 use std::test::*;
 
@@ -245,35 +244,6 @@ all a
 all 18446744073709551616
 all 1\x20";
 
-fn check_bad<R: Abort + AllocGlobal>(rt: &R, line: &str) -> Result<(), Fail> {
-    let script = format!(in rt.alloc(); "member 1 of 1\n{line}\nask 1 7 1 collect\n")?;
-    check(rt, &script, 1, "line 2: bad\n")
-}
-
-// A bad line ends the script, and nothing comes of it.
-#[test]
-fn a_bad_line_ends_the_script(rt: HostRuntime) -> Result<(), Fail> {
-    for &lines in &[
-        NO_COMMANDS,
-        NO_FRACTIONS,
-        NO_SHARES,
-        NO_NODES,
-        NO_OPENINGS,
-        NO_EVENTS,
-        NO_ASKS,
-        NO_CARRIES,
-        NO_CHECKPOINTS,
-        NO_CRASHES,
-        NO_RETIREMENTS,
-        NOTHING_AGAIN,
-    ] {
-        for line in lines.split('\n') {
-            check_bad(&rt, line)?;
-        }
-    }
-    Ok(())
-}
-
 // A fraction or a share outside its bounds is bad once a node is to have it.
 const OUT_OF_BOUNDS: &str = "\
 fractions 0/5 4/5
@@ -286,17 +256,56 @@ share 0
 share 33
 share 4294967295";
 
-fn check_out_of_bounds<R: Abort + AllocGlobal>(rt: &R, line: &str) -> Result<(), Fail> {
-    let script = format!(in rt.alloc(); "member 1 of 1\n{line}\nmember 2 of 2\n")?;
-    check(rt, &script, 1, "line 3: bad\n")
+const NO_LINES: [&str; 12] = [
+    NO_COMMANDS,
+    NO_FRACTIONS,
+    NO_SHARES,
+    NO_NODES,
+    NO_OPENINGS,
+    NO_EVENTS,
+    NO_ASKS,
+    NO_CARRIES,
+    NO_CHECKPOINTS,
+    NO_CRASHES,
+    NO_RETIREMENTS,
+    NOTHING_AGAIN,
+];
+
+// A line after a member 1 by itself and before that line has the script end so.
+fn check_bad<R: Abort + AllocGlobal>(
+    rt: &R,
+    line: &str,
+    behind: &str,
+    wanted: &str,
+) -> Result<(), Fail> {
+    let script = format!(in rt.alloc(); "member 1 of 1\n{line}\n{behind}\n")?;
+    check(rt, &script, 1, wanted)
+}
+
+fn check_each<R: Abort + AllocGlobal>(
+    rt: &R,
+    lines: &str,
+    behind: &str,
+    wanted: &str,
+) -> Result<(), Fail> {
+    for line in lines.split('\n') {
+        check_bad(rt, line, behind, wanted)?;
+    }
+    Ok(())
+}
+
+// A bad line ends the script, and nothing comes of it.
+#[test]
+fn a_bad_line_ends_the_script(rt: HostRuntime) -> Result<(), Fail> {
+    for &lines in &NO_LINES {
+        check_each(&rt, lines, "ask 1 7 1 collect", "line 2: bad\n")?;
+    }
+    Ok(())
 }
 
 #[test]
 fn a_node_out_of_bounds_is_bad(rt: HostRuntime) -> Result<(), Fail> {
-    for line in OUT_OF_BOUNDS.split('\n') {
-        check_out_of_bounds(&rt, line)?;
-    }
-    Ok(())
+    check_each(&rt, OUT_OF_BOUNDS, "member 2 of 2", "line 3: bad\n")
 }
 
 // A later line of the same kind takes it back.
@@ -321,10 +330,7 @@ fn a_bad_line_is_told_by_its_number(rt: HostRuntime) -> Result<(), Fail> {
 
 #[test]
 fn a_line_that_is_no_text_is_bad(rt: HostRuntime) -> Result<(), Fail> {
-    let mut input = b"all \xff\n".as_slice();
-    let mut output = Vec::new(rt.alloc());
-    let status = play(rt.alloc(), &mut input, &mut output)?;
-    assert_eq!(rt; status, 1);
-    assert_eq!(rt; output.as_slice(), b"line 1: bad\n".as_slice());
+    let (status, output) = played_bytes(rt.alloc(), b"all \xff\n")?;
+    assert!(rt; status == 1 && output.as_str() == "line 1: bad\n");
     Ok(())
 }

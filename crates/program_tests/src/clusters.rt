@@ -1,7 +1,7 @@
 //! Clusters: what their nodes send one another.
 
 use crate::played::{STORE, STORED, check, check_after_store, played};
-use std::process::Abort;
+use std::alloc::Global;
 use std::test::*;
 
 // The last line has no newline.
@@ -210,54 +210,6 @@ const LEFT: &str = "\
 1 send 1 2 Store [1:1=a/0/0/] 1 1
 ";
 
-#[test]
-fn clusters_store_and_collect(rt: HostRuntime) -> Result<(), Fail> {
-    for &(script, wanted) in &[
-        (STORE, STORED),
-        (COLLECT, COLLECTED),
-        (STORE_OF_THREE, STORED_AT_THREE),
-        (OUT_OF_ORDER, KEPT_IN_ORDER),
-        (EARLY, WAITED),
-    ] {
-        check(&rt, script, 0, wanted)?;
-    }
-    Ok(())
-}
-
-#[test]
-fn nodes_enter_and_leave(rt: HostRuntime) -> Result<(), Fail> {
-    for &(script, wanted) in &[(ENTER, ENTERED), (LEAVE, LEFT)] {
-        check(&rt, script, 0, wanted)?;
-    }
-    Ok(())
-}
-
-// What else is asked after the script STORE: a line, and what it prints.
-const AFTER_STORE: [(&str, &str); 8] = [
-    ("ask 1 7 1 store a", "1 refused 10 Repeat\n"),
-    ("ask 1 9 0 collect", "1 refused 11 Stale 0\n"),
-    ("ask 1 9 2 collect", "1 refused 12 Skip 0\n"),
-    ("acked 1 1 3", "1 refused 7 NothingToAck\n"),
-    ("acked 1 2 1", "1 refused 7 NothingToAck\n"),
-    ("acked 1 1 2", "1 accepted\n"),
-    (
-        "acked 1 1 2\nacked 1 1 2",
-        "1 accepted\n1 refused 7 NothingToAck\n",
-    ),
-    (
-        "carry 1 1 3\ncarry 2 1 1\ncarry 1 2 1",
-        "nothing 1 1 3\nnothing 2 1 1\nnothing 1 2 1\n",
-    ),
-];
-
-#[test]
-fn requests_and_acknowledgements_count_once(rt: HostRuntime) -> Result<(), Fail> {
-    for &(line, wanted) in &AFTER_STORE {
-        check_after_store(&rt, line, wanted)?;
-    }
-    Ok(())
-}
-
 const BY_ITSELF: &str = "\
 member 1 of 1,2
 entrant 2 via 1
@@ -315,14 +267,6 @@ const ALL_STORED: &str = "\
 2 ack 2 1
 ";
 
-#[test]
-fn all_carries_by_receiver_and_sender(rt: HostRuntime) -> Result<(), Fail> {
-    for &(script, wanted) in &[(BY_ITSELF, STOPPED), (ALL_OF_TWO, ALL_STORED)] {
-        check(&rt, script, 0, wanted)?;
-    }
-    Ok(())
-}
-
 // A fifth of two members is one; a fifth of two present nodes is one echo. The nodes before keep their fractions.
 const FIFTHS: &str = "\
 member 3 of 3
@@ -361,9 +305,53 @@ const BY_FIFTHS: &str = "\
 4 send 4 2 Join 4
 ";
 
+// Each of these scripts, and what it prints: stores and collects, nodes that enter and leave, `all` by receiver and sender,
+// and the fractions of later nodes.
+const SCRIPTS: [(&str, &str); 10] = [
+    (STORE, STORED),
+    (COLLECT, COLLECTED),
+    (STORE_OF_THREE, STORED_AT_THREE),
+    (OUT_OF_ORDER, KEPT_IN_ORDER),
+    (EARLY, WAITED),
+    (ENTER, ENTERED),
+    (LEAVE, LEFT),
+    (BY_ITSELF, STOPPED),
+    (ALL_OF_TWO, ALL_STORED),
+    (FIFTHS, BY_FIFTHS),
+];
+
 #[test]
-fn fractions_are_those_of_later_nodes(rt: HostRuntime) -> Result<(), Fail> {
-    check(&rt, FIFTHS, 0, BY_FIFTHS)
+fn clusters_print_what_they_do(rt: HostRuntime) -> Result<(), Fail> {
+    for &(script, wanted) in &SCRIPTS {
+        check(&rt, script, 0, wanted)?;
+    }
+    Ok(())
+}
+
+// What else is asked after the script STORE: a line, and what it prints.
+const AFTER_STORE: [(&str, &str); 8] = [
+    ("ask 1 7 1 store a", "1 refused 10 Repeat\n"),
+    ("ask 1 9 0 collect", "1 refused 11 Stale 0\n"),
+    ("ask 1 9 2 collect", "1 refused 12 Skip 0\n"),
+    ("acked 1 1 3", "1 refused 7 NothingToAck\n"),
+    ("acked 1 2 1", "1 refused 7 NothingToAck\n"),
+    ("acked 1 1 2", "1 accepted\n"),
+    (
+        "acked 1 1 2\nacked 1 1 2",
+        "1 accepted\n1 refused 7 NothingToAck\n",
+    ),
+    (
+        "carry 1 1 3\ncarry 2 1 1\ncarry 1 2 1",
+        "nothing 1 1 3\nnothing 2 1 1\nnothing 1 2 1\n",
+    ),
+];
+
+#[test]
+fn requests_and_acknowledgements_count_once(rt: HostRuntime) -> Result<(), Fail> {
+    for &(line, wanted) in &AFTER_STORE {
+        check_after_store(&rt, line, wanted)?;
+    }
+    Ok(())
 }
 
 // After the script STORE. A link begins with the first post after its peer was known, and ends with the last one before
@@ -523,20 +511,23 @@ nothing 2 5 2
 2 send 5 3 QueryReply [1:1=a/0/0/] 1 5
 ";
 
+// Whether the whole script is good, and prints that behind PLAYED_BY_FIVE, without a refusal.
+fn has_rest(alloc: Global, script: &str, wanted: &str) -> Result<bool, Fail> {
+    let (status, output) = played(alloc, script)?;
+    Ok(status == 0 && is_rest(&output, wanted))
+}
+
+fn is_rest(output: &str, wanted: &str) -> bool {
+    match output.strip_prefix(PLAYED_BY_FIVE) {
+        Some(rest) => rest.contains(wanted) && !rest.contains("refused"),
+        None => false,
+    }
+}
+
 #[test]
 fn losses_and_repeats_stop_nobody(rt: HostRuntime) -> Result<(), Fail> {
     let script = format!(in rt.alloc(); "{FIVE}all 1000\n")?;
-    let (status, output) = played(rt.alloc(), &script)?;
-    assert_eq!(rt; status, 0);
-    check_rest(&rt, &output)
-}
-
-// What is printed behind PLAYED_BY_FIVE.
-fn check_rest<R: Abort>(rt: &R, output: &str) -> Result<(), Fail> {
-    let rest = output
-        .strip_prefix(PLAYED_BY_FIVE)
-        .ok_or("it begins otherwise")?;
-    assert!(rt; rest.contains("\n5 reply 8 1 Seen [1:1=a/0/0/]\n"));
-    assert!(rt; !rest.contains("refused"));
+    let told = has_rest(rt.alloc(), &script, "\n5 reply 8 1 Seen [1:1=a/0/0/]\n")?;
+    assert!(rt; told);
     Ok(())
 }

@@ -1,25 +1,30 @@
 //! Collects of a cluster that is cut in two again and again, against what was answered before they were asked for.
 
-use crate::played::played;
-use cc_play::{Cluster, Played, parse};
+use crate::played::{played, say_all};
+use cc_play::Cluster;
 use cc_words::number;
 use std::alloc::Global;
 use std::test::*;
 
 const NODES: [&str; 4] = ["1", "2", "3", "4"];
 
-const MEMBERS: &str = "\
+// Of four members an operation waits for three, which is more than half of them.
+const ABOVE_HALF: &str = "\
+fractions 3/5 4/5
 member 1 of 1,2,3,4
 member 2 of 1,2,3,4
 member 3 of 1,2,3,4
 member 4 of 1,2,3,4
 ";
 
-// Of four members an operation waits for three, which is more than half of them.
-const ABOVE_HALF: &str = "fractions 3/5 4/5\n";
-
 // It waits for two.
-const AT_HALF: &str = "fractions 1/2 4/5\n";
+const AT_HALF: &str = "\
+fractions 1/2 4/5
+member 1 of 1,2,3,4
+member 2 of 1,2,3,4
+member 3 of 1,2,3,4
+member 4 of 1,2,3,4
+";
 
 // One of the two parts into which the cluster is cut: no message goes from one to the other.
 const PARTS: [&str; 8] = ["", "1", "2", "3", "4", "12", "13", "14"];
@@ -61,49 +66,46 @@ struct Trial {
     asked: Vec<usize>,
 }
 
-fn say_all(alloc: Global, trial: &mut Trial, lines: &str) -> Result<(), Fail> {
-    for line in lines.lines() {
-        say(alloc, trial, line)?;
-    }
-    Ok(())
-}
-
-fn say(alloc: Global, trial: &mut Trial, line: &str) -> Result<(), Fail> {
-    let line = parse(alloc, line.as_bytes())?.ok_or("each line is of a form")?;
-    match trial.cluster.play(alloc, line, &mut trial.printed)? {
-        Played::Good => Ok(()),
-        Played::Bad | Played::Ended => Err("each line is good")?,
-    }
-}
-
-// Each part of the cluster goes on by itself for some rounds. In a round some node is asked.
+// Each part of the cluster goes on by itself for some rounds.
 fn play_rounds(alloc: Global, trial: &mut Trial, seed: u64) -> Result<(), Fail> {
     let mut chance = Chance { state: seed };
     for _ in 0..CUTS {
         let part = chance.pick(&PARTS);
         for _ in 0..ROUNDS {
-            let lines = next_lines(alloc, trial, part, &mut chance)?;
-            trial.asked.push(lines.1)?;
-            say_all(alloc, trial, &lines.0)?;
+            play_round(alloc, trial, part, &mut chance)?;
         }
     }
     Ok(())
 }
 
-// The lines of a round, by what was printed so far, and how many lines that were.
-fn next_lines(
+// In a round some node is asked.
+fn play_round(
     alloc: Global,
-    trial: &Trial,
+    trial: &mut Trial,
     part: &str,
     chance: &mut Chance,
-) -> Result<(String, usize), Fail> {
+) -> Result<(), Fail> {
+    let session = trial.asked.len();
     let printed = str::from_utf8(&trial.printed)?;
+    trial.asked.push(printed.lines().count())?;
+    let mut lines = String::new(alloc);
+    push_round(alloc, &mut lines, printed, session, part, chance)?;
+    say_all(alloc, &mut trial.cluster, &lines, &mut trial.printed)
+}
+
+// The lines of a round, by what was printed so far.
+fn push_round(
+    alloc: Global,
+    lines: &mut String,
+    printed: &str,
+    session: usize,
+    part: &str,
+    chance: &mut Chance,
+) -> Result<(), Fail> {
     let node = chance.pick(&NODES);
     let command = chance.pick(&COMMANDS);
-    let session = trial.asked.len();
-    let mut lines = format!(in alloc; "ask {node} {session} 1 {command}\n")?;
-    push_carries(alloc, &mut lines, printed, part, chance)?;
-    Ok((lines, printed.lines().count()))
+    write!(lines, "ask {node} {session} 1 {command}\n")?;
+    push_carries(alloc, lines, printed, part, chance)
 }
 
 fn push_carries(
@@ -132,41 +134,39 @@ fn push_link(
     most: u64,
 ) -> Result<(), Fail> {
     let (from, to) = link;
-    let sent = format!(in alloc; "{from} send {to} ")?;
-    let heard = format!(in alloc; "{to} ack {from} ")?;
-    let last = last_behind(printed, &sent);
-    let first = last_behind(printed, &heard);
-    for count in 1..=most {
-        let number = first.saturating_add(count);
-        if number <= last {
-            push_carry(alloc, lines, link, number)?;
-        }
+    let first = last_told(alloc, printed, (to, "ack", from))?;
+    let last = last_told(alloc, printed, (from, "send", to))?;
+    let end = first.saturating_add(most).min(last);
+    for number in first..end {
+        write!(lines, "carry {from} {to} {}\n", number.saturating_add(1))?;
     }
-    Ok(())
-}
-
-fn push_carry(
-    alloc: Global,
-    lines: &mut String,
-    link: (&str, &str),
-    number: u64,
-) -> Result<(), Fail> {
-    let (from, to) = link;
-    let line = format!(in alloc; "carry {from} {to} {number}\n")?;
-    lines.push_str(&line)?;
     Ok(())
 }
 
 // The number behind these words in the last line that begins with them, or 0.
+fn last_told(alloc: Global, printed: &str, words: (&str, &str, &str)) -> Result<u64, Fail> {
+    let (node, word, other) = words;
+    let words = format!(in alloc; "{node} {word} {other} ")?;
+    Ok(last_behind(printed, &words))
+}
+
 fn last_behind(printed: &str, words: &str) -> u64 {
     let mut last = 0;
     for line in printed.lines() {
         if let Some(rest) = line.strip_prefix(words) {
-            let word = rest.split_once(' ').map_or(rest, |parts| parts.0);
-            last = number(word).unwrap_or(0);
+            last = first_number(rest, ' ');
         }
     }
     last
+}
+
+// The number before that letter, or the whole one, or 0.
+fn first_number(words: &str, letter: char) -> u64 {
+    let word = match words.split_once(letter) {
+        Some((word, _)) => word,
+        None => words,
+    };
+    number(word).unwrap_or(0)
 }
 
 // The number of a node's row in a view, or 0.
@@ -174,9 +174,7 @@ fn number_of(view: &str, node: &str) -> u64 {
     for row in view.trim_matches(['[', ']']).split(',') {
         if let Some((name, rest)) = row.split_once(':') {
             if name == node {
-                return rest
-                    .split_once('=')
-                    .map_or(0, |parts| number(parts.0).unwrap_or(0));
+                return first_number(rest, '=');
             }
         }
     }
@@ -185,20 +183,20 @@ fn number_of(view: &str, node: &str) -> u64 {
 
 // Whether the view has of some node less than an earlier one.
 fn is_behind(view: &str, earlier: &str) -> bool {
-    NODES
-        .iter()
-        .any(|node| number_of(view, node) < number_of(earlier, node))
+    for &node in &NODES {
+        if number_of(view, node) < number_of(earlier, node) {
+            return true;
+        }
+    }
+    false
 }
 
-// How many stores of a node are answered in these lines.
+// How many stores of a node are answered in these lines. No other line ends so.
 fn stores_of(printed: &str, lines: usize, node: &str) -> u64 {
     let mut count: u64 = 0;
     for line in printed.lines().take(lines) {
-        if let Some((name, answer)) = line.split_once(" reply ") {
-            if name == node && answer.ends_with(" Stored") {
-                count = count.saturating_add(1);
-            }
-        }
+        let is_store = line.starts_with(node) && line.ends_with(" Stored");
+        count = count.saturating_add(u64::from(is_store));
     }
     count
 }
@@ -224,7 +222,7 @@ fn misses(view: &str, printed: &str, lines: usize) -> bool {
 fn collected(line: &str) -> Option<(usize, &str)> {
     let (head, view) = line.split_once(" 1 Seen ")?;
     let (_, session) = head.split_once(" reply ")?;
-    Some((usize::try_from(number(session)?).ok()?, view))
+    Some((number(session)? as usize, view))
 }
 
 // How many collects are answered, and how many of these miss something that was answered before they were asked for.
@@ -242,35 +240,29 @@ fn answered_and_stale(printed: &str, asked: &[usize]) -> (u64, u64) {
 }
 
 // The same of a trial.
-fn tried(alloc: Global, fractions: &str, seed: u64) -> Result<(u64, u64), Fail> {
+fn tried(alloc: Global, members: &str, seed: u64) -> Result<(u64, u64), Fail> {
     let asked = vec![in alloc; 0]?;
     let mut trial = Trial {
         cluster: Cluster::new(alloc),
         printed: Vec::new(alloc),
         asked,
     };
-    try_out(alloc, &mut trial, fractions, seed)
+    try_out(alloc, &mut trial, members, seed)
 }
 
-fn try_out(
-    alloc: Global,
-    trial: &mut Trial,
-    fractions: &str,
-    seed: u64,
-) -> Result<(u64, u64), Fail> {
-    say_all(alloc, trial, fractions)?;
-    say_all(alloc, trial, MEMBERS)?;
+fn try_out(alloc: Global, trial: &mut Trial, members: &str, seed: u64) -> Result<(u64, u64), Fail> {
+    say_all(alloc, &mut trial.cluster, members, &mut trial.printed)?;
     play_rounds(alloc, trial, seed)?;
     let printed = str::from_utf8(&trial.printed)?;
     Ok(answered_and_stale(printed, &trial.asked))
 }
 
-// The same of so many trials.
-fn tried_all(alloc: Global, fractions: &str, seeds: u64) -> Result<(u64, u64), Fail> {
+// The same of four trials.
+fn tried_all(alloc: Global, members: &str) -> Result<(u64, u64), Fail> {
     let mut answered: u64 = 0;
     let mut stale: u64 = 0;
-    for seed in 0..seeds {
-        let counts = tried(alloc, fractions, seed)?;
+    for seed in 0..4 {
+        let counts = tried(alloc, members, seed)?;
         answered = answered.saturating_add(counts.0);
         stale = stale.saturating_add(counts.1);
     }
@@ -279,17 +271,15 @@ fn tried_all(alloc: Global, fractions: &str, seeds: u64) -> Result<(u64, u64), F
 
 #[test]
 fn no_collect_is_stale_above_half(rt: HostRuntime) -> Result<(), Fail> {
-    let (answered, stale) = tried_all(rt.alloc(), ABOVE_HALF, 4)?;
-    assert!(rt; answered >= 25, "{answered}");
-    assert_eq!(rt; stale, 0);
+    let (answered, stale) = tried_all(rt.alloc(), ABOVE_HALF)?;
+    assert!(rt; answered >= 25 && stale == 0, "{answered} {stale}");
     Ok(())
 }
 
 #[test]
 fn stale_collects_are_found_at_half(rt: HostRuntime) -> Result<(), Fail> {
-    let (answered, stale) = tried_all(rt.alloc(), AT_HALF, 4)?;
-    assert!(rt; answered >= 50, "{answered}");
-    assert!(rt; stale >= 5, "{stale}");
+    let (answered, stale) = tried_all(rt.alloc(), AT_HALF)?;
+    assert!(rt; answered >= 50 && stale >= 5, "{answered} {stale}");
     Ok(())
 }
 
@@ -312,21 +302,33 @@ carry 3 3 4
 carry 4 3 2
 ";
 
+// How many lines a text has before that one.
+fn lines_before(text: &str, wanted: &str) -> usize {
+    let mut count: usize = 0;
+    for line in text.lines() {
+        if line == wanted {
+            return count;
+        }
+        count = count.saturating_add(1);
+    }
+    count
+}
+
+// Whether the store and the collect are answered, and the collect is told to be stale where it was asked for behind the answer
+// of the store, and not where it was asked for before it.
+fn is_told(output: &str) -> bool {
+    let before = lines_before(output, "1 reply 1 1 Stored");
+    let behind = before.saturating_add(1);
+    output.contains("\n1 reply 1 1 Stored\n")
+        && output.ends_with("\n3 reply 2 1 Seen []\n")
+        && answered_and_stale(output, &[0, 0, behind]) == (1, 1)
+        && answered_and_stale(output, &[0, 0, before]) == (1, 0)
+}
+
 #[test]
 fn a_stale_collect_is_told(rt: HostRuntime) -> Result<(), Fail> {
-    let alloc = rt.alloc();
-    let script = format!(in alloc; "{AT_HALF}{MEMBERS}{STALE}")?;
-    let (status, output) = played(alloc, &script)?;
-    assert_eq!(rt; status, 0);
-    assert!(rt; output.contains("\n1 reply 1 1 Stored\n"));
-    assert!(rt; output.ends_with("\n3 reply 2 1 Seen []\n"));
-    // The answer of the store is the next line behind these.
-    let before = output
-        .lines()
-        .take_while(|line| *line != "1 reply 1 1 Stored")
-        .count();
-    let behind = before.saturating_add(1);
-    assert_eq!(rt; answered_and_stale(&output, &[0, 0, behind]), (1, 1));
-    assert_eq!(rt; answered_and_stale(&output, &[0, 0, before]), (1, 0));
+    let script = format!(in rt.alloc(); "{AT_HALF}{STALE}")?;
+    let (status, output) = played(rt.alloc(), &script)?;
+    assert!(rt; status == 0 && is_told(&output), "{output}");
     Ok(())
 }

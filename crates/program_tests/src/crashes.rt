@@ -1,17 +1,17 @@
 //! Nodes that crash and are opened again.
 
 use crate::clusters::{ENTER, ENTERED, FIVE, KEPT_IN_ORDER, OUT_OF_ORDER, PLAYED_BY_FIVE};
-use crate::played::{STORE, check, check_after_store, played};
-use std::alloc::Global;
+use crate::moves::{Moves, OPENED, check_with, with_moves};
+use crate::played::{STORE, check, check_after_store};
 use std::process::Abort;
 use std::test::*;
 
 // The crashes of a node, by what they leave of what wasn't made sure of.
 const CRASHES: [&str; 4] = [
-    "crash 1",
-    "crash 1 fill a5",
-    "crash 1 fill 00",
-    "crash 1 fill ff",
+    "crash 1\n",
+    "crash 1 fill a5\n",
+    "crash 1 fill 00\n",
+    "crash 1 fill ff\n",
 ];
 
 // What STORE prints where node 1 crashes after each line but the first.
@@ -31,93 +31,45 @@ const STORED_THROUGH_CRASHES: &str = "\
 
 #[test]
 fn a_member_stores_through_crashes(rt: HostRuntime) -> Result<(), Fail> {
-    for &crash in &CRASHES {
-        let script = store_with(rt.alloc(), crash)?;
-        check(&rt, &script, 0, STORED_THROUGH_CRASHES)?;
+    for &lines in &CRASHES {
+        check_store_with(&rt, lines, STORED_THROUGH_CRASHES)?;
     }
     Ok(())
 }
 
-/// The script STORE with these lines after each line but the first.
-pub fn store_with(alloc: Global, lines: &str) -> Result<String, Fail> {
-    let mut script = String::new(alloc);
-    for (i, line) in STORE.lines().enumerate() {
-        push_line(&mut script, line)?;
-        if i > 0 {
-            push_line(&mut script, lines)?;
-        }
-    }
-    Ok(script)
+/// The script STORE with these lines after each line but the first prints that text.
+pub fn check_store_with<R: Abort + AllocGlobal>(
+    rt: &R,
+    lines: &str,
+    wanted: &str,
+) -> Result<(), Fail> {
+    let moves = Moves {
+        lines,
+        nodes: &[1],
+        ends: &[],
+    };
+    let script = with_moves(rt.alloc(), STORE, 1, &moves)?;
+    check(rt, &script, 0, wanted)
 }
 
-pub fn push_line(script: &mut String, line: &str) -> Result<(), Fail> {
-    script.push_str(line)?;
-    script.push('\n')?;
-    Ok(())
-}
-
-// The script with a crash of each of the nodes 1 to `last` after each line behind the first `made`.
-fn with_crashes(alloc: Global, script: &str, made: usize, last: u32) -> Result<String, Fail> {
-    let mut crashing = String::new(alloc);
-    for (i, line) in script.lines().enumerate() {
-        push_line(&mut crashing, line)?;
-        if i >= made {
-            push_crashes(alloc, &mut crashing, last)?;
-        }
-    }
-    Ok(crashing)
-}
-
-fn push_crashes(alloc: Global, script: &mut String, last: u32) -> Result<(), Fail> {
-    for id in 1..=last {
-        let crash = format!(in alloc; "crash {id} fill a5\n")?;
-        script.push_str(&crash)?;
-    }
-    Ok(())
-}
-
-// The lines that don't tell that a node was opened.
-fn without_openings(alloc: Global, output: &str) -> Result<String, Fail> {
-    let mut rest = String::new(alloc);
-    for line in output.lines().filter(|line| !line.ends_with(" opened")) {
-        push_line(&mut rest, line)?;
-    }
-    Ok(rest)
-}
+// A script, how many of its lines make nodes, which nodes crash, and what it prints.
+const THROUGH_CRASHES: [(&str, usize, &[u32], &str); 3] = [
+    (ENTER, 4, &[1, 2, 3, 4], ENTERED),
+    (OUT_OF_ORDER, 2, &[1, 2], KEPT_IN_ORDER),
+    (FIVE, 6, &[1, 2, 3, 4, 5], PLAYED_BY_FIVE),
+];
 
 // A cluster whose nodes all crash after each line does what it does without.
 #[test]
 fn clusters_go_on_through_crashes(rt: HostRuntime) -> Result<(), Fail> {
-    let alloc = rt.alloc();
-    let scripts = [
-        (ENTER, 4, 4, ENTERED),
-        (OUT_OF_ORDER, 2, 2, KEPT_IN_ORDER),
-        (FIVE, 6, 5, PLAYED_BY_FIVE),
-    ];
-    for (script, made, last, wanted) in scripts {
-        let crashing = with_crashes(alloc, script, made, last)?;
-        let crashes = crashing
-            .lines()
-            .count()
-            .saturating_sub(script.lines().count());
-        check_through(&rt, &crashing, crashes, wanted)?;
+    for &(script, made, nodes, wanted) in &THROUGH_CRASHES {
+        let crashes = Moves {
+            lines: "crash # fill a5\n",
+            nodes,
+            ends: &OPENED,
+        };
+        check_with(&rt, script, made, &crashes, wanted)?;
     }
-    Ok(())
-}
-
-// Plays a script with so many crashes, which has to print that text beside the openings.
-fn check_through<R: Abort + AllocGlobal>(
-    rt: &R,
-    crashing: &str,
-    crashes: usize,
-    wanted: &str,
-) -> Result<(), Fail> {
-    let (status, output) = played(rt.alloc(), crashing)?;
-    assert_eq!(rt; status, 0);
-    let lines = wanted.lines().count().saturating_add(crashes);
-    assert_eq!(rt; output.lines().count(), lines);
-    let rest = without_openings(rt.alloc(), &output)?;
-    assert_eq!(rt; rest.as_str(), wanted);
     Ok(())
 }
 

@@ -111,15 +111,14 @@ const ANSWERS: [&str; 6] = [
 // The beginnings of the rows of each node.
 const NODES: [&str; 5] = ["1:", "2:", "3:", "4:", "5:"];
 
+// The rows of a word that is a view.
+fn rows_in(word: &str) -> Option<&str> {
+    word.strip_prefix('[')?.strip_suffix(']')
+}
+
 // Adds the rows of a word, if it is a view, each as `NODE:NUMBER` and the value.
 fn push_rows<'a>(rows: &mut Vec<(&'a str, &'a str)>, word: &'a str) -> Result<(), Fail> {
-    let Some(opened) = word.strip_prefix('[') else {
-        return Ok(());
-    };
-    let Some(list) = opened.strip_suffix(']') else {
-        return Ok(());
-    };
-    for row in list.split(',') {
+    for row in rows_in(word).unwrap_or("").split(',') {
         if let Some(parts) = row.split_once('=') {
             rows.push(parts)?;
         }
@@ -130,52 +129,82 @@ fn push_rows<'a>(rows: &mut Vec<(&'a str, &'a str)>, word: &'a str) -> Result<()
 // All rows of the views that are printed.
 fn rows_of<'a>(alloc: Global, output: &'a str) -> Result<Vec<(&'a str, &'a str)>, Fail> {
     let mut rows = Vec::new(alloc);
-    for line in output.lines() {
-        for word in line.split(' ') {
-            push_rows(&mut rows, word)?;
-        }
-    }
+    push_all(&mut rows, output)?;
     Ok(rows)
 }
 
-// Whether rows of equal node and number have equal values.
-fn are_equal(rows: &[(&str, &str)]) -> bool {
-    rows.iter().all(|(name, value)| {
-        rows.iter()
-            .all(|(other, its)| name != other || value == its)
-    })
-}
-
-// How many rows are of that node.
-fn count_of(rows: &[(&str, &str)], node: &str) -> usize {
-    rows.iter()
-        .filter(|(name, _)| name.starts_with(node))
-        .count()
-}
-
-// Equal numbers have equal values, and so many rows at least are of each of these nodes.
-fn check_rows<R: Abort + AllocGlobal>(
-    rt: &R,
-    output: &str,
-    nodes: &[&str],
-    least: usize,
-) -> Result<(), Fail> {
-    let rows = rows_of(rt.alloc(), output)?;
-    assert!(rt; are_equal(&rows));
-    for node in nodes {
-        assert!(rt; count_of(&rows, node) >= least, "{node}");
+fn push_all<'a>(rows: &mut Vec<(&'a str, &'a str)>, output: &'a str) -> Result<(), Fail> {
+    for word in output.split([' ', '\n']) {
+        push_rows(rows, word)?;
     }
     Ok(())
 }
 
-#[test]
-fn five_nodes_show_one_value_of_each_number(rt: HostRuntime) -> Result<(), Fail> {
-    let (status, output) = played(rt.alloc(), SCRIPT)?;
-    assert_eq!(rt; status, 0);
-    for &answer in &ANSWERS {
+// Whether each row of that node and number has that value.
+fn is_equal(rows: &[(&str, &str)], name: &str, value: &str) -> bool {
+    for &(other, its) in rows {
+        if other == name && its != value {
+            return false;
+        }
+    }
+    true
+}
+
+// Whether rows of equal node and number have equal values.
+fn are_equal(rows: &[(&str, &str)]) -> bool {
+    for &(name, value) in rows {
+        if !is_equal(rows, name, value) {
+            return false;
+        }
+    }
+    true
+}
+
+// Whether so many rows at least are of each of these nodes.
+fn are_many(rows: &[(&str, &str)], nodes: &[&str], least: usize) -> bool {
+    for &node in nodes {
+        if count_of(rows, node) < least {
+            return false;
+        }
+    }
+    true
+}
+
+// How many rows are of that node.
+fn count_of(rows: &[(&str, &str)], node: &str) -> usize {
+    let mut count: usize = 0;
+    for &(name, _) in rows {
+        count = count.saturating_add(usize::from(name.starts_with(node)));
+    }
+    count
+}
+
+// The script is good, these answers are told, equal numbers have equal values, and so many rows at least are of each of these
+// nodes.
+fn check_script<R: Abort + AllocGlobal>(
+    rt: &R,
+    script: &str,
+    answers: &[&str],
+    nodes: &[&str],
+    least: usize,
+) -> Result<(), Fail> {
+    let (status, output) = played(rt.alloc(), script)?;
+    check_answers(rt, &output, answers);
+    let rows = rows_of(rt.alloc(), &output)?;
+    let are_good = status == 0 && are_equal(&rows) && are_many(&rows, nodes, least);
+    assert!(rt; are_good);
+    Ok(())
+}
+
+fn check_answers<R: Abort>(rt: &R, output: &str, answers: &[&str]) {
+    for &answer in answers {
         assert!(rt; output.contains(answer), "{answer}");
     }
-    check_rows(&rt, &output, &NODES, 300)
+}
+
+#[test]
+fn five_nodes_show_one_value_of_each_number(rt: HostRuntime) -> Result<(), Fail> {
+    check_script(&rt, SCRIPT, &ANSWERS, &NODES, 300)
 }
 
 // Five members of which three are enough. What is kept for two of them lapses, a store begins anew once they are told by a
@@ -259,12 +288,7 @@ const STORING: [&str; 3] = ["1:", "4:", "5:"];
 
 #[test]
 fn five_nodes_that_stay_away_show_one_value_of_each_number(rt: HostRuntime) -> Result<(), Fail> {
-    let (status, output) = played(rt.alloc(), AWAY)?;
-    assert_eq!(rt; status, 0);
-    for &answer in &ANSWERS_AWAY {
-        assert!(rt; output.contains(answer), "{answer}");
-    }
-    check_rows(&rt, &output, &STORING, 150)
+    check_script(&rt, AWAY, &ANSWERS_AWAY, &STORING, 150)
 }
 
 // Two values of number 1 of node 1, in a message and in an answer.
@@ -273,10 +297,16 @@ const TWO_VALUES: &str = "\
 2 reply 7 1 Seen [1:1=b/0/0/,2:1=a/0/0/]
 ";
 
+// How many rows are printed, whether they are equal, and whether all behind the first one are.
+fn equal_rows(alloc: Global, output: &str) -> Result<(usize, bool, bool), Fail> {
+    let rows = rows_of(alloc, output)?;
+    let behind = rows.get(1..).unwrap_or(&[]);
+    Ok((rows.len(), are_equal(&rows), are_equal(behind)))
+}
+
 #[test]
 fn two_values_of_one_number_are_told(rt: HostRuntime) -> Result<(), Fail> {
-    let rows = rows_of(rt.alloc(), TWO_VALUES)?;
-    assert_eq!(rt; (rows.len(), are_equal(&rows)), (3, false));
-    assert!(rt; are_equal(rows.get(1..).ok_or("there are three")?));
+    let told = equal_rows(rt.alloc(), TWO_VALUES)?;
+    assert!(rt; told == (3, false, true));
     Ok(())
 }

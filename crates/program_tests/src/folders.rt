@@ -32,8 +32,16 @@ fn formatted<R: AllocGlobal + Files<File = File>>(
     words: &FormatWords<'_>,
 ) -> Result<(u8, String), Fail> {
     let order = FormatOrder::parse(rt.alloc(), words)?;
+    told_of_format(rt, folder, &order)
+}
+
+fn told_of_format<R: AllocGlobal + Files<File = File>>(
+    rt: &R,
+    folder: &str,
+    order: &FormatOrder,
+) -> Result<(u8, String), Fail> {
     let mut output = Vec::new(rt.alloc());
-    let status = format_folder(rt, rt.alloc(), folder, &order, &mut output)?;
+    let status = format_folder(rt, rt.alloc(), folder, order, &mut output)?;
     Ok((status, String::from_utf8(output)?))
 }
 
@@ -52,8 +60,10 @@ fn check_format<R: Abort + AllocGlobal + Files<File = File>>(
     wanted: &str,
 ) -> Result<(), Fail> {
     let (ended, output) = formatted(rt, folder, words)?;
-    assert_eq!(rt; output.as_str(), wanted);
-    assert_eq!(rt; ended, status);
+    assert!(rt;
+        ended == status && output.as_str() == wanted,
+        "{ended} {output}"
+    );
     Ok(())
 }
 
@@ -64,84 +74,99 @@ fn check_dump<R: Abort + AllocGlobal + Files<File = File>>(
     wanted: &str,
 ) -> Result<(), Fail> {
     let (ended, output) = dumped(rt, folder)?;
-    assert_eq!(rt; output.as_str(), wanted);
-    assert_eq!(rt; ended, status);
+    assert!(rt;
+        ended == status && output.as_str() == wanted,
+        "{ended} {output}"
+    );
     Ok(())
 }
 
-// A new folder that keeps entrant 4, with these bytes behind its state on side A.
-fn entrant<R: Abort + AllocGlobal + Files<File = File>>(
+// Puts these bytes behind the state of entrant 4, which ends a side.
+fn put_behind<R: Abort + AllocGlobal + Files>(
+    rt: &R,
+    path: &str,
+    bytes: &[u8],
+) -> Result<(), Fail> {
+    let mut side = fs::read(rt, path)?;
+    assert!(rt; side.len() == 154);
+    side.truncate(153);
+    push_and_write(rt, path, &mut side, bytes)
+}
+
+fn push_and_write<R: AllocGlobal + Files>(
+    rt: &R,
+    path: &str,
+    side: &mut Vec<u8>,
+    bytes: &[u8],
+) -> Result<(), Fail> {
+    side.extend_from_slice(bytes)?;
+    fs::write(rt, path, &*side)?;
+    Ok(())
+}
+
+// A folder that keeps entrant 4, its side A, the bytes that are put behind its state there, and the status and what is printed
+// then: of nothing, of the record of one Enter, and of a record with a bad length.
+const ENTRANTS: [(&str, &str, &[u8], u8, &str); 3] = [
+    (
+        "formatted_folder",
+        "formatted_folder/side-a",
+        &[0],
+        0,
+        "A armed 1\nB closed\nopened A records 0 events 0\n",
+    ),
+    (
+        "entered_folder",
+        "entered_folder/side-a",
+        &[0xA5, 0, 0, 0, 6, 1, 0, 0, 0, 1, 1, 0],
+        0,
+        "A armed 1\nB closed\nopened A records 1 events 1\n",
+    ),
+    (
+        "damaged_folder",
+        "damaged_folder/side-a",
+        &[0xA5, 0, 0, 1, 0],
+        1,
+        "A armed 1\nB closed\nfault Damaged A 154\n",
+    ),
+];
+
+fn check_entrant<R: Abort + AllocGlobal + Files<File = File>>(
     rt: &R,
     folder: &str,
+    path: &str,
     bytes: &[u8],
 ) -> Result<(), Fail> {
     made(rt, folder)?;
     check_format(rt, folder, &ENTRANT, 0, "formatted 4\n")?;
-    let path = format!(in rt.alloc(); "{folder}/side-a")?;
-    let mut side = fs::read(rt, path.as_str())?;
-    assert_eq!(rt; side.len(), 154);
-    side.truncate(153);
-    side.extend_from_slice(bytes)?;
-    fs::write(rt, path.as_str(), &side)?;
-    Ok(())
+    put_behind(rt, path, bytes)
 }
 
 #[test]
 fn a_formatted_folder_is_dumped(rt: HostRuntime) -> Result<(), Fail> {
-    const FOLDER: &str = "formatted_folder";
-    entrant(&rt, FOLDER, &[0])?;
-    let wanted = "A armed 1\nB closed\nopened A records 0 events 0\n";
-    check_dump(&rt, FOLDER, 0, wanted)?;
-    fs::remove_dir_all(&rt, FOLDER)?;
-    Ok(())
-}
-
-// The record of one Enter counts.
-#[test]
-fn a_folder_is_dumped_after_an_enter(rt: HostRuntime) -> Result<(), Fail> {
-    const FOLDER: &str = "entered_folder";
-    let record = [0xA5, 0, 0, 0, 6, 1, 0, 0, 0, 1, 1, 0];
-    entrant(&rt, FOLDER, &record)?;
-    let wanted = "A armed 1\nB closed\nopened A records 1 events 1\n";
-    check_dump(&rt, FOLDER, 0, wanted)?;
-    fs::remove_dir_all(&rt, FOLDER)?;
-    Ok(())
-}
-
-#[test]
-fn a_damaged_side_is_dumped(rt: HostRuntime) -> Result<(), Fail> {
-    const FOLDER: &str = "damaged_folder";
-    entrant(&rt, FOLDER, &[0xA5, 0, 0, 1, 0])?;
-    let wanted = "A armed 1\nB closed\nfault Damaged A 154\n";
-    check_dump(&rt, FOLDER, 1, wanted)?;
-    fs::remove_dir_all(&rt, FOLDER)?;
+    for &(folder, path, bytes, status, wanted) in &ENTRANTS {
+        check_entrant(&rt, folder, path, bytes)?;
+        check_dump(&rt, folder, status, wanted)?;
+        fs::remove_dir_all(&rt, folder)?;
+    }
     Ok(())
 }
 
 // What is printed of sides that aren't there, or have no byte.
 const EMPTY: &str = "A closed\nB closed\nfault NotFormatted\n";
 
+// The second time the files are there.
 #[test]
 fn an_empty_folder_is_dumped(rt: HostRuntime) -> Result<(), Fail> {
     const FOLDER: &str = "empty_folder";
     made(&rt, FOLDER)?;
     check_dump(&rt, FOLDER, 1, EMPTY)?;
-    // Now the files are there.
     check_dump(&rt, FOLDER, 1, EMPTY)?;
     fs::remove_dir_all(&rt, FOLDER)?;
     Ok(())
 }
 
-#[test]
-fn a_folder_has_to_exist(rt: HostRuntime) -> Result<(), Fail> {
-    const FOLDER: &str = "missing_folder";
-    check_dump(&rt, FOLDER, 1, "fault Device A Length\n")?;
-    check_format(&rt, FOLDER, &ENTRANT, 1, "Device A Length\n")?;
-    Ok(())
-}
-
-// What is told of a folder that another program holds.
-fn check_held<R: Abort + AllocGlobal + Files<File = File>>(
+// What is told of a folder of which side A can't be opened.
+fn check_closed<R: Abort + AllocGlobal + Files<File = File>>(
     rt: &R,
     folder: &str,
 ) -> Result<(), Fail> {
@@ -150,13 +175,26 @@ fn check_held<R: Abort + AllocGlobal + Files<File = File>>(
 }
 
 #[test]
+fn a_folder_has_to_exist(rt: HostRuntime) -> Result<(), Fail> {
+    check_closed(&rt, "missing_folder")
+}
+
+// What is told of a folder that another program holds.
+fn check_held<R: Abort + AllocGlobal + Files<File = File>>(
+    rt: &R,
+    folder: &str,
+) -> Result<(), Fail> {
+    let holder = FileSite::open(rt, rt.alloc(), folder, NoOutlet)?;
+    let outcome = check_closed(rt, folder);
+    drop(holder);
+    outcome
+}
+
+#[test]
 fn a_folder_is_held_by_one(rt: HostRuntime) -> Result<(), Fail> {
     const FOLDER: &str = "held_folder";
     made(&rt, FOLDER)?;
-    let holder = FileSite::open(&rt, rt.alloc(), FOLDER, NoOutlet)?;
-    let outcome = check_held(&rt, FOLDER);
-    drop(holder);
-    outcome?;
+    check_held(&rt, FOLDER)?;
     check_dump(&rt, FOLDER, 1, EMPTY)?;
     fs::remove_dir_all(&rt, FOLDER)?;
     Ok(())
@@ -191,55 +229,65 @@ fn a_file_without_permission_is_not_opened(rt: HostRuntime) -> Result<(), Fail> 
     Ok(())
 }
 
+// A member, and what is printed of its folder and that of others.
+const MEMBER_OF_TWO: FormatWords<'_> = FormatWords {
+    id: "1",
+    initial: Some("1,2"),
+    contacts: Some("3"),
+    beta: Some("1/2"),
+    gamma: Some("2/3"),
+    share: Some("32"),
+};
+
+const FORMATS: [(FormatWords<'_>, u8, &str); 3] = [
+    (MEMBER_OF_TWO, 0, "formatted 1\n"),
+    (MEMBER_OF_TWO, 1, "AlreadyFormatted\n"),
+    (ENTRANT, 1, "AlreadyFormatted\n"),
+];
+
 #[test]
 fn a_folder_is_formatted_once(rt: HostRuntime) -> Result<(), Fail> {
     const FOLDER: &str = "folder_formatted_twice";
     made(&rt, FOLDER)?;
-    let member = FormatWords {
-        id: "1",
-        initial: Some("1,2"),
-        contacts: Some("3"),
-        beta: Some("1/2"),
-        gamma: Some("2/3"),
-        share: Some("32"),
-    };
-    check_format(&rt, FOLDER, &member, 0, "formatted 1\n")?;
-    check_format(&rt, FOLDER, &member, 1, "AlreadyFormatted\n")?;
-    check_format(&rt, FOLDER, &ENTRANT, 1, "AlreadyFormatted\n")?;
+    for (words, status, wanted) in &FORMATS {
+        check_format(&rt, FOLDER, words, *status, wanted)?;
+    }
     fs::remove_dir_all(&rt, FOLDER)?;
     Ok(())
 }
 
 // Words of the right form for nodes that can't begin: one without a name, one of no cluster, a list that doesn't ascend, a
 // fraction above 1, and shares of none and of more than 32.
+const NO_NODES: [FormatWords<'_>; 6] = [
+    FormatWords { id: "0", ..ENTRANT },
+    FormatWords {
+        initial: Some("1,2"),
+        ..ENTRANT
+    },
+    FormatWords {
+        contacts: Some("2,1"),
+        ..ENTRANT
+    },
+    FormatWords {
+        beta: Some("5/4"),
+        ..ENTRANT
+    },
+    FormatWords {
+        share: Some("0"),
+        ..ENTRANT
+    },
+    FormatWords {
+        share: Some("33"),
+        ..ENTRANT
+    },
+];
+
 #[test]
 fn no_node_begins_so(rt: HostRuntime) -> Result<(), Fail> {
     const FOLDER: &str = "folder_of_no_node";
     made(&rt, FOLDER)?;
-    for words in [
-        FormatWords { id: "0", ..ENTRANT },
-        FormatWords {
-            initial: Some("1,2"),
-            ..ENTRANT
-        },
-        FormatWords {
-            contacts: Some("2,1"),
-            ..ENTRANT
-        },
-        FormatWords {
-            beta: Some("5/4"),
-            ..ENTRANT
-        },
-        FormatWords {
-            share: Some("0"),
-            ..ENTRANT
-        },
-        FormatWords {
-            share: Some("33"),
-            ..ENTRANT
-        },
-    ] {
-        check_format(&rt, FOLDER, &words, 1, "BadOpening\n")?;
+    for words in &NO_NODES {
+        check_format(&rt, FOLDER, words, 1, "BadOpening\n")?;
     }
     check_dump(&rt, FOLDER, 1, EMPTY)?;
     fs::remove_dir_all(&rt, FOLDER)?;
@@ -256,40 +304,52 @@ const MEMBER: FormatWords<'_> = FormatWords {
     share: None,
 };
 
-// Side A of a new folder that is formatted for a node of that share.
+// Side A, at that path, of a new folder that is formatted for a node of that share.
 fn side_of_share<R: Abort + AllocGlobal + Files<File = File>>(
     rt: &R,
     folder: &str,
+    path: &str,
     share: Option<&str>,
 ) -> Result<Vec<u8>, Fail> {
     made(rt, folder)?;
     let words = FormatWords { share, ..MEMBER };
     check_format(rt, folder, &words, 0, "formatted 1\n")?;
-    let path = format!(in rt.alloc(); "{folder}/side-a")?;
-    let side = fs::read(rt, path.as_str())?;
+    let side = fs::read(rt, path);
     fs::remove_dir_all(rt, folder)?;
-    Ok(side)
+    Ok(side?)
 }
 
-// A node without the word has the share 1, and is kept as nodes were before there were shares.
+// Whether a side has the version and the length of the state of a node of share 1: it is kept as nodes were before there were
+// shares.
+fn has_no_share(side: &[u8]) -> bool {
+    let head = [2, 0, 0, 0, 119];
+    side.len() == 134 && side.get(9..14) == Some(head.as_slice())
+}
+
+// A node without the word has the share 1.
 #[test]
 fn a_folder_of_share_1_is_as_one_without(rt: HostRuntime) -> Result<(), Fail> {
-    let without = side_of_share(&rt, "folder_without_share", None)?;
-    let one = side_of_share(&rt, "folder_of_share_1", Some("1"))?;
-    assert_eq!(rt; one.as_slice(), without.as_slice());
-    // The version, and the length of the state.
-    let head = [2, 0, 0, 0, 119];
-    assert_eq!(rt; (one.len(), one.get(9..14)), (134, Some(head.as_slice())));
+    const WITHOUT: &str = "folder_without_share";
+    const ONE: &str = "folder_of_share_1";
+    let without = side_of_share(&rt, WITHOUT, "folder_without_share/side-a", None)?;
+    let one = side_of_share(&rt, ONE, "folder_of_share_1/side-a", Some("1"))?;
+    assert!(rt; one.as_slice() == without.as_slice());
+    assert!(rt; has_no_share(&one));
     Ok(())
 }
 
-// Its state has the share, no others of a round, and no ask that waits, from place 74 on.
+// Whether the state of a side has the share 32, no others of a round, and no ask that waits, from place 74 on.
+fn has_share(side: &[u8]) -> bool {
+    let (head, share) = ([32, 0, 0, 0, 121], [32, 0, 0]);
+    side.len() == 136
+        && side.get(9..14) == Some(head.as_slice())
+        && side.get(88..91) == Some(share.as_slice())
+}
+
 #[test]
 fn a_folder_keeps_its_share(rt: HostRuntime) -> Result<(), Fail> {
-    let side = side_of_share(&rt, "folder_of_share_32", Some("32"))?;
-    let (head, share) = ([32, 0, 0, 0, 121], [32, 0, 0]);
-    let parts = (side.get(9..14), side.get(88..91));
-    assert_eq!(rt; side.len(), 136);
-    assert_eq!(rt; parts, (Some(head.as_slice()), Some(share.as_slice())));
+    const FOLDER: &str = "folder_of_share_32";
+    let side = side_of_share(&rt, FOLDER, "folder_of_share_32/side-a", Some("32"))?;
+    assert!(rt; has_share(&side));
     Ok(())
 }

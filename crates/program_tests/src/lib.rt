@@ -36,9 +36,13 @@ mod lines;
 #[cfg(test)]
 mod long_rounds;
 #[cfg(test)]
+mod moves;
+#[cfg(test)]
 mod node_faults;
 #[cfg(test)]
 mod objects;
+#[cfg(test)]
+mod parts;
 #[cfg(test)]
 mod played;
 #[cfg(test)]

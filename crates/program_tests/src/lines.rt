@@ -1,5 +1,6 @@
 //! Asks that wait in line behind a pending operation.
 
+use crate::parts::{Part, check_parts, spelled};
 use crate::played::{check, played};
 use std::alloc::Global;
 use std::test::*;
@@ -29,11 +30,6 @@ const BEGUN: &str = "\
 1 send 1 3 Store [1:2=b/0/0/] 2 1
 1 reply 7 1 Stored
 ";
-
-#[test]
-fn an_ask_begins_as_the_one_before_it_ends(rt: HostRuntime) -> Result<(), Fail> {
-    check(&rt, BEHIND, 0, BEGUN)
-}
 
 // The same with a crash after each line, and a checkpoint before it.
 const KEPT: &str = "\
@@ -72,62 +68,63 @@ const KEPT_IN_LINE: &str = "\
 ";
 
 #[test]
+fn an_ask_begins_as_the_one_before_it_ends(rt: HostRuntime) -> Result<(), Fail> {
+    check(&rt, BEHIND, 0, BEGUN)
+}
+
+#[test]
 fn an_ask_waits_over_a_crash(rt: HostRuntime) -> Result<(), Fail> {
     check(&rt, KEPT, 0, KEPT_IN_LINE)
 }
 
-// A store pends, and so many sessions ask behind it, from session 8 on.
-fn asked_by(alloc: Global, sessions: u32) -> Result<String, Fail> {
-    let mut script = String::from_str(alloc, "member 1 of 1\nask 1 7 1 store a\n")?;
-    for session in 0..sessions {
-        let line = format!(in alloc; "ask 1 {} 1 flag\n", session.saturating_add(8))?;
-        script.push_str(&line)?;
-    }
-    Ok(script)
-}
+// A store pends, and 33 sessions ask behind it.
+const ASKED_BY_33: [Part; 2] = [
+    Part::Text("member 1 of 1\nask 1 7 1 store a\n"),
+    Part::Each(8, 40, "ask 1 # 1 flag\n"),
+];
 
 // How many lines of the output are that one.
 fn count(output: &str, wanted: &str) -> usize {
-    output.lines().filter(|line| *line == wanted).count()
+    let mut count: usize = 0;
+    for line in output.lines() {
+        count = count.saturating_add(usize::from(line == wanted));
+    }
+    count
+}
+
+// How many asks are accepted, how many find the node busy, and whether the last one does.
+fn counts(alloc: Global, parts: &[Part]) -> Result<(usize, usize, bool), Fail> {
+    let script = spelled(alloc, parts)?;
+    let (_, output) = played(alloc, &script)?;
+    let accepted = count(&output, "1 accepted");
+    let busy = count(&output, "1 refused 13 Busy");
+    Ok((accepted, busy, output.ends_with("1 refused 13 Busy\n")))
 }
 
 #[test]
 fn no_more_than_32_asks_wait(rt: HostRuntime) -> Result<(), Fail> {
-    let script = asked_by(rt.alloc(), 33)?;
-    let (_, output) = played(rt.alloc(), &script)?;
-    assert_eq!(rt; count(&output, "1 accepted"), 33);
-    assert_eq!(rt; count(&output, "1 refused 13 Busy"), 1);
-    assert!(rt; output.as_str().ends_with("1 refused 13 Busy\n"));
+    let counted = counts(rt.alloc(), &ASKED_BY_33)?;
+    assert!(rt; counted == (33, 1, true));
     Ok(())
 }
 
-/// The script of a member that is made so. So many numbers are in its own set, and then these lines.
-pub fn added(alloc: Global, member: &str, numbers: u32, lines: &str) -> Result<String, Fail> {
-    let mut script = String::from_str(alloc, member)?;
-    for number in 1..=numbers {
-        let line = format!(in alloc; "ask 1 7 {number} add {number}\nall 2\n")?;
-        script.push_str(&line)?;
-    }
-    script.push_str(lines)?;
-    Ok(script)
-}
-
 // A number that waits counts. One that is there already, or waits, finds room.
-const ADDS: &str = "\
+const ADDS: [Part; 3] = [
+    Part::Text("member 1 of 1\n"),
+    Part::Each(1, 31, "ask 1 7 # add #\nall 2\n"),
+    Part::Text(
+        "\
 ask 1 7 32 collect
 ask 1 8 1 add 32
 ask 1 9 1 add 33
 ask 1 9 1 add 32
-";
+",
+    ),
+];
 
 #[test]
 fn the_set_has_room_for_what_waits(rt: HostRuntime) -> Result<(), Fail> {
-    let script = added(rt.alloc(), "member 1 of 1\n", 31, ADDS)?;
-    let (_, output) = played(rt.alloc(), &script)?;
-    assert!(rt;
-        output
-            .as_str()
-            .ends_with("1 accepted\n1 refused 14 SetFull\n1 accepted\n")
-    );
+    let wanted = "1 accepted\n1 refused 14 SetFull\n1 accepted\n";
+    check_parts(&rt, &ADDS, 0, wanted)?;
     Ok(())
 }

@@ -1,10 +1,7 @@
 //! Rounds at the limits: of 32 asks, of what finds room in the own set, and behind a full outbox.
 
-use crate::limits::stores;
-use crate::lines::added;
-use crate::played::played;
+use crate::parts::{Part, check_parts};
 use crate::rows::Row;
-use std::process::Abort;
 use std::test::*;
 
 const ALL_THAT_WAIT_BEGIN: &str = "\
@@ -143,18 +140,14 @@ pub const ROWS: [Row; 1] = [Row {
 }];
 
 // A member of that share by itself.
-const OF_SHARE_32: &str = "share 32\nmember 1 of 1\n";
-
-// The script is good, and what it prints ends so.
-fn check_end<R: Abort + AllocGlobal>(rt: &R, script: &str, wanted: &str) -> Result<(), Fail> {
-    let (status, output) = played(rt.alloc(), script)?;
-    assert_eq!(rt; status, 0);
-    assert!(rt; output.ends_with(wanted));
-    Ok(())
-}
+const OF_SHARE_32: Part = Part::Text("share 32\nmember 1 of 1\n");
 
 // 30 numbers are in the own set, and two wait to be. Then a round of three writing asks begins, and the set is full.
-const TWO_NUMBERS_WAIT: &str = "\
+const TWO_NUMBERS_WAIT: [Part; 3] = [
+    OF_SHARE_32,
+    Part::Each(1, 30, "ask 1 7 # add #\nall 2\n"),
+    Part::Text(
+        "\
 ask 1 7 31 store a
 ask 1 8 1 add 31
 ask 1 9 1 collect
@@ -164,7 +157,9 @@ ask 1 11 1 add 31
 all 2
 ask 1 12 1 add 33
 ask 1 12 1 add 32
-";
+",
+    ),
+];
 
 const TWO_NUMBERS_WAIT_PRINTS: &str = "\
 1 accepted
@@ -185,13 +180,17 @@ const TWO_NUMBERS_WAIT_PRINTS: &str = "\
 
 #[test]
 fn the_set_has_room_for_what_waits_behind_reads(rt: HostRuntime) -> Result<(), Fail> {
-    let script = added(rt.alloc(), OF_SHARE_32, 30, TWO_NUMBERS_WAIT)?;
-    check_end(&rt, &script, TWO_NUMBERS_WAIT_PRINTS)
+    check_parts(&rt, &TWO_NUMBERS_WAIT, 0, TWO_NUMBERS_WAIT_PRINTS)?;
+    Ok(())
 }
 
 // 510 posts are kept, and the last store and its acknowledgement make 512. So the acknowledgement, which would begin three
 // asks, finds no room for the one post of theirs.
-const A_ROUND_WITHOUT_ROOM: &str = "\
+const A_ROUND_WITHOUT_ROOM: [Part; 3] = [
+    OF_SHARE_32,
+    Part::Each(1, 255, "ask 1 7 # store a\nall 2\n"),
+    Part::Text(
+        "\
 ask 1 7 256 store b
 ask 1 8 1 store c
 ask 1 9 1 store d
@@ -200,7 +199,9 @@ carry 1 1 511
 carry 1 1 512
 acked 1 1 1
 carry 1 1 512
-";
+",
+    ),
+];
 
 const A_ROUND_WITHOUT_ROOM_PRINTS: &str = "\
 1 accepted
@@ -219,7 +220,6 @@ const A_ROUND_WITHOUT_ROOM_PRINTS: &str = "\
 
 #[test]
 fn a_round_needs_room_for_one_post(rt: HostRuntime) -> Result<(), Fail> {
-    let mut script = stores(rt.alloc(), OF_SHARE_32, 255)?;
-    script.push_str(A_ROUND_WITHOUT_ROOM)?;
-    check_end(&rt, &script, A_ROUND_WITHOUT_ROOM_PRINTS)
+    check_parts(&rt, &A_ROUND_WITHOUT_ROOM, 0, A_ROUND_WITHOUT_ROOM_PRINTS)?;
+    Ok(())
 }

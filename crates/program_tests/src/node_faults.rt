@@ -38,9 +38,9 @@ const TEXTS: [(NodeFault, &str); 8] = [
 
 #[test]
 fn faults_of_a_node_print_their_texts(rt: HostRuntime) -> Result<(), Fail> {
-    for (fault, wanted) in TEXTS {
+    for &(fault, wanted) in &TEXTS {
         let text = format!(in rt.alloc(); "{fault}")?;
-        assert_eq!(rt; text.as_str(), wanted);
+        assert!(rt; text.as_str() == wanted, "{text}");
     }
     Ok(())
 }

@@ -1,5 +1,6 @@
 //! What clients ask for, and how the answers are printed.
 
+use crate::parts::{Part, check_parts};
 use crate::played::played;
 use std::alloc::Global;
 use std::test::*;
@@ -52,36 +53,37 @@ const REPLIES: &str = "\
 1 reply 7 13 Seen [1:6=aZ09._-%2f%2b%7e%21/9/1/0+30]
 ";
 
-// The lines that are replies.
-fn replies(alloc: Global, output: &str) -> Result<String, Fail> {
+// The status of a script, and the lines that are replies.
+fn replies(alloc: Global, script: &str) -> Result<(u8, String), Fail> {
+    let (status, output) = played(alloc, script)?;
     let mut replies = String::new(alloc);
+    push_replies(&mut replies, &output)?;
+    Ok((status, replies))
+}
+
+fn push_replies(replies: &mut String, output: &str) -> Result<(), Fail> {
     for line in output.lines() {
         if line.starts_with("1 reply ") {
             replies.push_str(line)?;
             replies.push('\n')?;
         }
     }
-    Ok(replies)
+    Ok(())
 }
 
 #[test]
 fn each_object_is_written_and_read(rt: HostRuntime) -> Result<(), Fail> {
-    let (status, output) = played(rt.alloc(), OPERATIONS)?;
-    assert_eq!(rt; status, 0);
-    let told = replies(rt.alloc(), &output)?;
-    assert_eq!(rt; told.as_str(), REPLIES);
+    let (status, told) = replies(rt.alloc(), OPERATIONS)?;
+    assert!(rt; status == 0 && told.as_str() == REPLIES, "{told}");
     Ok(())
 }
 
-// The script of a member that adds the numbers from 1 to 32, one after the other.
-fn additions(alloc: Global) -> Result<String, Fail> {
-    let mut script = String::from_str(alloc, "member 1 of 1\n")?;
-    for n in 1..33 {
-        let lines = format!(in alloc; "ask 1 7 {n} add {n}\nall 2\n")?;
-        script.push_str(&lines)?;
-    }
-    Ok(script)
-}
+// A member adds the numbers from 1 to 32, one after the other, and then one more and one of these.
+const ADDITIONS: [Part; 3] = [
+    Part::Text("member 1 of 1\n"),
+    Part::Each(1, 32, "ask 1 7 # add #\nall 2\n"),
+    Part::Text("ask 1 7 33 add 33\nask 1 7 33 add 7\n"),
+];
 
 const FULL_SET: &str = "\
 1 refused 14 SetFull
@@ -91,10 +93,6 @@ const FULL_SET: &str = "\
 
 #[test]
 fn a_set_has_room_for_32_numbers(rt: HostRuntime) -> Result<(), Fail> {
-    let mut script = additions(rt.alloc())?;
-    script.push_str("ask 1 7 33 add 33\nask 1 7 33 add 7\n")?;
-    let (status, output) = played(rt.alloc(), &script)?;
-    assert_eq!(rt; status, 0);
-    assert!(rt; output.ends_with(FULL_SET));
+    check_parts(&rt, &ADDITIONS, 0, FULL_SET)?;
     Ok(())
 }

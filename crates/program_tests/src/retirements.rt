@@ -1,7 +1,7 @@
 //! Nodes that an operator has retired.
 
-use crate::played::{check, played};
-use std::alloc::Global;
+use crate::parts::{Part, check_whole};
+use crate::played::check;
 use std::test::*;
 
 // Node 2 is dead. An operation that waits for it keeps its need, and what was sent to node 2 isn't sent again.
@@ -98,38 +98,37 @@ const STRANGER_RETIRED: &str = "\
 4 refused 2 NotEntered
 ";
 
+// Each of these scripts, and what it prints.
+const SCRIPTS: [(&str, &str); 4] = [
+    (OTHER, OTHER_RETIRED),
+    (FIRST, FIRST_RETIRED),
+    (ITSELF, ITSELF_RETIRED),
+    (STRANGER, STRANGER_RETIRED),
+];
+
 #[test]
 fn the_operator_retires_nodes(rt: HostRuntime) -> Result<(), Fail> {
-    for &(script, wanted) in &[
-        (OTHER, OTHER_RETIRED),
-        (FIRST, FIRST_RETIRED),
-        (ITSELF, ITSELF_RETIRED),
-        (STRANGER, STRANGER_RETIRED),
-    ] {
+    for &(script, wanted) in &SCRIPTS {
         check(&rt, script, 0, wanted)?;
     }
     Ok(())
 }
 
 // Node 1 knows so many nodes, and retires the last of them and one more.
-fn retires_past(alloc: Global, count: u32) -> Result<String, Fail> {
-    let mut script = String::from_str(alloc, "member 1 of 1")?;
-    for id in 2..=count {
-        let more = format!(in alloc; ",{id}")?;
-        script.push_str(&more)?;
-    }
-    let lines = format!(in alloc;
-        "\nretire 1 {count}\nretire 1 {}\n",
-        count.saturating_add(1)
-    )?;
-    script.push_str(&lines)?;
-    Ok(script)
-}
+const OF_255: [Part; 3] = [
+    Part::Text("member 1 of 1"),
+    Part::Each(2, 255, ",#"),
+    Part::Text("\nretire 1 255\nretire 1 256\n"),
+];
+
+const OF_256: [Part; 3] = [
+    Part::Text("member 1 of 1"),
+    Part::Each(2, 256, ",#"),
+    Part::Text("\nretire 1 256\nretire 1 257\n"),
+];
 
 #[test]
 fn a_node_knows_256_nodes_at_most(rt: HostRuntime) -> Result<(), Fail> {
-    let script = retires_past(rt.alloc(), 255)?;
-    check(&rt, &script, 0, "1 accepted\n1 accepted\n")?;
-    let script = retires_past(rt.alloc(), 256)?;
-    check(&rt, &script, 0, "1 accepted\n1 refused 8 TooManyNodes\n")
+    check_whole(&rt, &OF_255, 0, "1 accepted\n1 accepted\n")?;
+    check_whole(&rt, &OF_256, 0, "1 accepted\n1 refused 8 TooManyNodes\n")
 }

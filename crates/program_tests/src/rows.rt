@@ -1,11 +1,10 @@
 //! Scripts of members that stay away, of what begins anew and of asks that begin together: what they print, and that crashes
 //! and checkpoints after each line change nothing of it.
 
-use crate::checkpoints::check_with;
+use crate::moves::check_through;
 use crate::played::check;
 use crate::snapshots::{A_CRASH_IN_BETWEEN, A_CRASH_IN_BETWEEN_PRINTS};
 use crate::{absent, absent_entrants, anew, cluster_rounds, long_rounds, rounds, snapshots};
-use std::alloc::Global;
 use std::process::Abort;
 use std::test::*;
 
@@ -17,46 +16,31 @@ pub struct Row {
     pub prints: &'static str,
 }
 
-// The words that begin the lines by which nodes are made.
-const MAKING: [&str; 4] = ["fractions ", "share ", "member ", "entrant "];
-
+// Whether nodes are made by that line.
 fn makes_nodes(line: &str) -> bool {
-    MAKING.iter().any(|word| line.starts_with(word))
+    line.starts_with("fractions ")
+        || line.starts_with("share ")
+        || line.starts_with("member ")
+        || line.starts_with("entrant ")
 }
 
 // How many lines at the beginning of a script make its nodes.
 fn count_making(script: &str) -> usize {
-    script.lines().take_while(|line| makes_nodes(line)).count()
-}
-
-/// Each of the nodes crashes.
-pub fn crash_all(alloc: Global, nodes: &[u32]) -> Result<String, Fail> {
-    let mut moves = String::new(alloc);
-    for id in nodes {
-        let lines = format!(in alloc; "crash {id} fill a5\n")?;
-        moves.push_str(&lines)?;
+    let mut count: usize = 0;
+    for line in script.lines() {
+        if !makes_nodes(line) {
+            return count;
+        }
+        count = count.saturating_add(1);
     }
-    Ok(moves)
-}
-
-/// Each of the nodes makes a checkpoint and crashes.
-pub fn move_all(alloc: Global, nodes: &[u32]) -> Result<String, Fail> {
-    let mut moves = String::new(alloc);
-    for id in nodes {
-        let lines = format!(in alloc; "checkpoint {id}\ncrash {id} fill ff\n")?;
-        moves.push_str(&lines)?;
-    }
-    Ok(moves)
+    count
 }
 
 // Plays a script as it is, with crashes after each line, and with checkpoints and crashes after each line.
 fn check_row<R: Abort + AllocGlobal>(rt: &R, row: &Row) -> Result<(), Fail> {
     check(rt, row.script, 0, row.prints)?;
     let made = count_making(row.script);
-    let crashes = crash_all(rt.alloc(), row.nodes)?;
-    check_with(rt, row.script, made, &crashes, row.prints)?;
-    let moves = move_all(rt.alloc(), row.nodes)?;
-    check_with(rt, row.script, made, &moves, row.prints)
+    check_through(rt, row.script, made, row.nodes, row.prints)
 }
 
 fn check_rows<R: Abort + AllocGlobal>(rt: &R, rows: &[Row]) -> Result<(), Fail> {

@@ -9,21 +9,22 @@ use std::process::Abort;
 use std::test::*;
 
 // Member 1 of 1.
-fn order(alloc: Global) -> Result<FormatOrder, Fail> {
-    let words = FormatWords {
-        id: "1",
-        initial: Some("1"),
-        contacts: None,
-        beta: None,
-        gamma: None,
-        share: None,
-    };
-    Ok(FormatOrder::parse(alloc, &words)?)
-}
+const MEMBER: FormatWords<'_> = FormatWords {
+    id: "1",
+    initial: Some("1"),
+    contacts: None,
+    beta: None,
+    gamma: None,
+    share: None,
+};
 
 // A site that keeps it.
 fn member(alloc: Global) -> Result<MemorySite, Fail> {
-    let order = order(alloc)?;
+    let order = FormatOrder::parse(alloc, &MEMBER)?;
+    keep(alloc, &order)
+}
+
+fn keep(alloc: Global, order: &FormatOrder) -> Result<MemorySite, Fail> {
     match format(alloc, MemorySite::new(alloc, 0)?, &order.opening()) {
         Ok(site) => Ok(site),
         Err(Back { site: _, fault }) => Err(fault)?,
@@ -32,7 +33,10 @@ fn member(alloc: Global) -> Result<MemorySite, Fail> {
 
 // The same site, of whose disk calls the one with that number fails, and all after it.
 fn failing(alloc: Global, at: u64) -> Result<MemorySite, Fail> {
-    let mut site = member(alloc)?.image(alloc, &Choice::Read)?;
+    let site = member(alloc)?;
+    let image = site.image(alloc, &Choice::Read);
+    drop(site);
+    let mut site = image?;
     site.fuse(at, Failing::Stop);
     Ok(site)
 }
@@ -51,22 +55,27 @@ fn check_dump<R: Abort + AllocGlobal>(
     wanted: &str,
 ) -> Result<(), Fail> {
     let (ended, output) = dumped(rt.alloc(), site)?;
-    assert_eq!(rt; output.as_str(), wanted);
-    assert_eq!(rt; ended, status);
+    assert!(rt;
+        ended == status && output.as_str() == wanted,
+        "{ended} {output}"
+    );
     Ok(())
 }
 
-// The calls that fail are: length, gate and generation of side A, length and gate of side B, and the first sync of opening.
+// The disk call that fails, and what is printed then: length, gate and generation of side A, length and gate of side B, and the
+// first sync of opening.
+const FAULTS: [(u64, &str); 6] = [
+    (0, "fault Device A Length\n"),
+    (1, "fault Device A Read\n"),
+    (2, "fault Device A Read\n"),
+    (3, "A armed 1\nfault Device B Length\n"),
+    (4, "A armed 1\nfault Device B Read\n"),
+    (5, "A armed 1\nB closed\nfault Device A Sync\n"),
+];
+
 #[test]
 fn a_fault_takes_the_place_of_the_lines_to_come(rt: HostRuntime) -> Result<(), Fail> {
-    for (at, wanted) in [
-        (0, "fault Device A Length\n"),
-        (1, "fault Device A Read\n"),
-        (2, "fault Device A Read\n"),
-        (3, "A armed 1\nfault Device B Length\n"),
-        (4, "A armed 1\nfault Device B Read\n"),
-        (5, "A armed 1\nB closed\nfault Device A Sync\n"),
-    ] {
+    for &(at, wanted) in &FAULTS {
         check_dump(&rt, failing(rt.alloc(), at)?, 1, wanted)?;
     }
     Ok(())
@@ -100,8 +109,10 @@ fn moved(alloc: Global) -> Result<MemorySite, Fail> {
             drop(core);
             let outcome = checkpoint(&mut flusher);
             let site = flusher.close();
-            outcome?;
-            Ok(site)
+            match outcome {
+                Ok(()) => Ok(site),
+                Err(fail) => Err(fail),
+            }
         }
         Err(Back { site: _, fault }) => Err(fault)?,
     }
@@ -115,29 +126,46 @@ fn a_site_is_dumped_behind_a_checkpoint(rt: HostRuntime) -> Result<(), Fail> {
 
 // Formats a site whose first disk call fails: the status, and what is printed.
 fn formatted_failing(alloc: Global) -> Result<(u8, String), Fail> {
-    let order = order(alloc)?;
+    let order = FormatOrder::parse(alloc, &MEMBER)?;
+    let mut output = Vec::new(alloc);
+    let status = format_failing(alloc, &order, &mut output)?;
+    Ok((status, String::from_utf8(output)?))
+}
+
+fn format_failing(alloc: Global, order: &FormatOrder, output: &mut Vec<u8>) -> Result<u8, Fail> {
     let mut site = MemorySite::new(alloc, 0)?;
     site.fuse(0, Failing::Once);
-    let mut output = Vec::new(alloc);
-    let status = format_site(alloc, site, &order, &mut output)?;
-    Ok((status, String::from_utf8(output)?))
+    Ok(format_site(alloc, site, order, output)?)
 }
 
 #[test]
 fn a_fault_of_formatting_is_printed(rt: HostRuntime) -> Result<(), Fail> {
     let (status, output) = formatted_failing(rt.alloc())?;
-    assert_eq!(rt; output.as_str(), "Device A Length\n");
-    assert_eq!(rt; status, 1);
+    assert!(rt;
+        status == 1 && output.as_str() == "Device A Length\n",
+        "{status} {output}"
+    );
     Ok(())
+}
+
+// Whether an output that fails ends the formatting of a site.
+fn ends_formatting(alloc: Global, order: &FormatOrder) -> Result<bool, Fail> {
+    let site = MemorySite::new(alloc, 0)?;
+    Ok(format_site(alloc, site, order, &mut Full { writes: 0 }).is_err())
+}
+
+// Whether it ends what is told of a site.
+fn ends_dump(alloc: Global) -> Result<bool, Fail> {
+    let site = member(alloc)?;
+    Ok(dump_site(alloc, site, &mut Full { writes: 0 }).is_err())
 }
 
 #[test]
 fn an_output_that_fails_ends_a_command(rt: HostRuntime) -> Result<(), Fail> {
-    let alloc = rt.alloc();
-    let mut full = Full { writes: 0 };
-    let formatted = format_site(alloc, MemorySite::new(alloc, 0)?, &order(alloc)?, &mut full);
-    assert!(rt; formatted.is_err());
-    let dumped = dump_site(alloc, member(alloc)?, &mut full);
-    assert!(rt; dumped.is_err());
+    let order = FormatOrder::parse(rt.alloc(), &MEMBER)?;
+    let is_formatting_ended = ends_formatting(rt.alloc(), &order)?;
+    drop(order);
+    assert!(rt; is_formatting_ended);
+    assert!(rt; ends_dump(rt.alloc())?);
     Ok(())
 }

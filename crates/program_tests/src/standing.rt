@@ -1,6 +1,6 @@
 //! What a node puts out again.
 
-use crate::played::{STORE, STORED, check};
+use crate::played::{check, check_after_store};
 use std::test::*;
 
 const AGAIN: &str = "\
@@ -10,8 +10,7 @@ again 1 8
 reack 1 2
 resend 1
 acked 1 1 2
-resend 1
-";
+resend 1";
 
 const PUT_AGAIN: &str = "\
 1 ack 1 2
@@ -24,14 +23,33 @@ const PUT_AGAIN: &str = "\
 1 nothing
 ";
 
+// The same behind a crash.
+const AGAIN_AFTER_A_CRASH: &str = "\
+crash 1
+reack 1 1
+again 1 7
+again 1 8
+reack 1 2
+resend 1
+acked 1 1 2
+resend 1";
+
+const PUT_AGAIN_AFTER_A_CRASH: &str = "\
+1 opened
+1 ack 1 2
+1 reply 7 1 Stored
+1 nothing
+1 nothing
+1 send 1 1 Store [1:1=a/0/0/] 1 1
+1 send 1 2 StoreAck 1 1
+1 accepted
+1 nothing
+";
+
 #[test]
 fn what_stands_is_put_again(rt: HostRuntime) -> Result<(), Fail> {
-    for &(crash, opened) in &[("", ""), ("crash 1\n", "1 opened\n")] {
-        let script = format!(in rt.alloc(); "{STORE}{crash}{AGAIN}")?;
-        let expected = format!(in rt.alloc(); "{STORED}{opened}{PUT_AGAIN}")?;
-        check(&rt, &script, 0, &expected)?;
-    }
-    Ok(())
+    check_after_store(&rt, AGAIN, PUT_AGAIN)?;
+    check_after_store(&rt, AGAIN_AFTER_A_CRASH, PUT_AGAIN_AFTER_A_CRASH)
 }
 
 // Node 2 has the post, node 3 leaves, and nothing is answered or heard yet.

@@ -53,7 +53,7 @@ fn warned(
 fn an_operator_is_warned(rt: HostRuntime) -> Result<(), Fail> {
     for &(initial, contacts, beta, wanted) in &CASES {
         let warnings = warned(rt.alloc(), initial, contacts, beta)?;
-        assert_eq!(rt; warnings, wanted);
+        assert!(rt; warnings == wanted);
     }
     Ok(())
 }

@@ -7,91 +7,140 @@ use cc_commands::{
 use cc_views::NodeId;
 use cc_wire::Command;
 use cc_words::{Peer, fraction, list, number, small_number};
+use std::alloc::Global;
 use std::net::{Ipv4Addr, SocketAddr, SocketAddrV4};
 use std::test::*;
 
+// Words, and the number that each of them is.
+const NUMBERS: [(&str, Option<u64>); 13] = [
+    ("0", Some(0)),
+    ("18446744073709551615", Some(u64::MAX)),
+    ("18446744073709551616", None),
+    ("", None),
+    ("01", None),
+    ("00", None),
+    ("+1", None),
+    ("-1", None),
+    ("1x", None),
+    (" 1", None),
+    ("1 ", None),
+    ("0x1", None),
+    ("1.0", None),
+];
+
 #[test]
-fn numbers_are_plain_digits(rt: HostRuntime) -> Result<(), Fail> {
-    assert_eq!(rt; number("0"), Some(0));
-    assert_eq!(rt; number("18446744073709551615"), Some(u64::MAX));
-    assert_eq!(rt; number("18446744073709551616"), None);
-    assert_eq!(rt; small_number("4294967295"), Some(u32::MAX));
-    assert_eq!(rt; small_number("4294967296"), None);
-    for &word in &["", "01", "00", "+1", "-1", "1x", " 1", "1 ", "0x1", "1.0"] {
-        assert_eq!(rt; number(word), None, "{word}");
+fn numbers_are_plain_digits(rt: HostRuntime) {
+    for &(word, wanted) in &NUMBERS {
+        assert!(rt; number(word) == wanted, "{word}");
     }
-    Ok(())
+    assert!(rt; small_number("4294967295") == Some(u32::MAX));
+    assert!(rt; small_number("4294967296").is_none());
+}
+
+// Words, and the list that each of them is.
+const LISTS: [(&str, Option<&[u32]>); 11] = [
+    ("3,1,4294967295,1", Some(&[3, 1, u32::MAX, 1])),
+    ("0", Some(&[0])),
+    ("", None),
+    (",", None),
+    ("1,", None),
+    (",1", None),
+    ("1,,2", None),
+    ("1, 2", None),
+    ("1;2", None),
+    ("1,02", None),
+    ("4294967296", None),
+];
+
+fn is_list(alloc: Global, word: &str, wanted: Option<&[u32]>) -> Result<bool, Fail> {
+    Ok(match (list(alloc, word)?, wanted) {
+        (Some(ids), Some(wanted)) => ids.as_slice() == wanted,
+        (None, None) => true,
+        _ => false,
+    })
 }
 
 #[test]
 fn lists_are_numbers_and_commas(rt: HostRuntime) -> Result<(), Fail> {
-    let ids = list(rt.alloc(), "3,1,4294967295,1")?.ok_or("a list")?;
-    assert_eq!(rt; ids.as_slice(), [3, 1, u32::MAX, 1].as_slice());
-    let one = list(rt.alloc(), "0")?.ok_or("a list")?;
-    assert_eq!(rt; one.as_slice(), [0].as_slice());
-    for &word in &[
-        "",
-        ",",
-        "1,",
-        ",1",
-        "1,,2",
-        "1, 2",
-        "1;2",
-        "1,02",
-        "4294967296",
-    ] {
-        assert!(rt; list(rt.alloc(), word)?.is_none(), "{word}");
+    for &(word, wanted) in &LISTS {
+        assert!(rt; is_list(rt.alloc(), word, wanted)?, "{word}");
     }
     Ok(())
 }
 
+// Words, and the fraction that each of them is.
+const FRACTIONS: [(&str, Option<Fraction>); 12] = [
+    ("4/5", Some(Fraction { num: 4, den: 5 })),
+    ("5/0", Some(Fraction { num: 5, den: 0 })),
+    ("", None),
+    ("4", None),
+    ("/", None),
+    ("4/", None),
+    ("/5", None),
+    ("4/5/6", None),
+    ("04/5", None),
+    ("4/05", None),
+    ("4 /5", None),
+    ("4:5", None),
+];
+
 #[test]
-fn fractions_are_numbers_and_a_slash(rt: HostRuntime) -> Result<(), Fail> {
-    assert_eq!(rt; fraction("4/5"), Some(Fraction { num: 4, den: 5 }));
-    assert_eq!(rt; fraction("5/0"), Some(Fraction { num: 5, den: 0 }));
-    for &word in &[
-        "", "4", "/", "4/", "/5", "4/5/6", "04/5", "4/05", "4 /5", "4:5",
-    ] {
-        assert_eq!(rt; fraction(word), None, "{word}");
+fn fractions_are_numbers_and_a_slash(rt: HostRuntime) {
+    for &(word, wanted) in &FRACTIONS {
+        assert!(rt; fraction(word) == wanted, "{word}");
     }
-    Ok(())
 }
 
 fn local(port: u16) -> SocketAddr {
     SocketAddr::V4(SocketAddrV4::new(Ipv4Addr::new(127, 0, 0, 1), port))
 }
 
-fn peer(id: u32, port: u16) -> Result<Peer, Fail> {
-    Ok(Peer {
-        id: NodeId::new(id).ok_or("ids begin at 1")?,
-        address: local(port),
-    })
+// Whether a node listens at the first port, and knows node 2 at the second one alone, or no other node.
+fn runs(alloc: Global, peers: Option<&str>, known: &[Peer]) -> Result<bool, Fail> {
+    let order = RunOrder::parse(alloc, "127.0.0.1:7001", peers)?;
+    Ok(order.listen == local(7001) && order.peers.as_slice() == known)
+}
+
+// Whether a node that is told of node 2 knows that one.
+fn knows(alloc: Global, node: NodeId) -> Result<bool, Fail> {
+    let order = RunOrder::parse(alloc, "127.0.0.1:7001", Some("2=127.0.0.1:7002"))?;
+    Ok(order.names(node))
 }
 
 #[test]
 fn run_listens_and_knows_its_peers(rt: HostRuntime) -> Result<(), Fail> {
-    let order = RunOrder::parse(rt.alloc(), "127.0.0.1:7001", Some("2=127.0.0.1:7002"))?;
-    let [two, three] = [peer(2, 7002)?, peer(3, 7003)?];
-    assert_eq!(rt;
-        (order.listen, order.peers.as_slice()),
-        (local(7001), [two].as_slice())
-    );
-    assert!(rt; order.names(two.id) && !order.names(three.id));
-    let alone = RunOrder::parse(rt.alloc(), "127.0.0.1:7001", None)?;
-    assert!(rt; alone.peers.is_empty());
-    for (listen, peers, fault) in [
-        ("7001", None, WordFault::Listen),
-        ("127.0.0.1:7001", Some(""), WordFault::Peers),
-        (
-            "127.0.0.1:7001",
-            Some("2=127.0.0.1:7002,2=127.0.0.1:7003"),
-            WordFault::PeerTwice,
-        ),
-    ] {
-        let refused = RunOrder::parse(rt.alloc(), listen, peers).err();
-        assert_eq!(rt; refused, Some(fault));
-    }
+    let [two, three] = [
+        NodeId::new(2).ok_or("ids begin at 1")?,
+        NodeId::new(3).ok_or("ids begin at 1")?,
+    ];
+    let peer = Peer {
+        id: two,
+        address: local(7002),
+    };
+    let alloc = rt.alloc();
+    assert!(rt; runs(alloc, Some("2=127.0.0.1:7002"), &[peer])?);
+    assert!(rt; runs(alloc, None, &[])?);
+    assert!(rt; knows(alloc, two)? && !knows(alloc, three)?);
     Ok(())
+}
+
+// What a node can't run by, and why.
+const NO_RUNS: [(&str, Option<&str>, WordFault); 3] = [
+    ("7001", None, WordFault::Listen),
+    ("127.0.0.1:7001", Some(""), WordFault::Peers),
+    (
+        "127.0.0.1:7001",
+        Some("2=127.0.0.1:7002,2=127.0.0.1:7003"),
+        WordFault::PeerTwice,
+    ),
+];
+
+#[test]
+fn each_word_of_run_is_checked(rt: HostRuntime) {
+    for &(listen, peers, fault) in &NO_RUNS {
+        let refused = RunOrder::parse(rt.alloc(), listen, peers).err();
+        assert!(rt; refused == Some(fault), "{listen}");
+    }
 }
 
 const COLLECT: AskWords<'_> = AskWords {
@@ -101,80 +150,70 @@ const COLLECT: AskWords<'_> = AskWords {
     timeout: None,
 };
 
-#[test]
-fn ask_waits_ten_seconds_by_itself(rt: HostRuntime) -> Result<(), Fail> {
-    let collect = AskOrder {
-        address: local(7001),
-        session: 7,
-        command: Command::Collect,
-        timeout: 10,
-    };
-    assert_eq!(rt; AskOrder::parse(&COLLECT)?, collect);
-    let patient = AskOrder::parse(&AskWords {
-        timeout: Some("60"),
-        ..COLLECT
-    })?;
-    assert_eq!(rt;
-        patient,
-        AskOrder {
-            timeout: 60,
-            ..collect
-        }
-    );
-    Ok(())
-}
+// How long it may take, and how many seconds that are.
+const TIMEOUTS: [(Option<&str>, u64); 2] = [(None, 10), (Some("60"), 60)];
 
 #[test]
-fn the_address_of_ask_is_checked(rt: HostRuntime) -> Result<(), Fail> {
-    let order = AskOrder::parse(&AskWords {
-        address: "7001",
-        ..COLLECT
-    });
-    assert_eq!(rt; order, Err(WordFault::Address));
-    Ok(())
+fn ask_waits_ten_seconds_by_itself(rt: HostRuntime) {
+    for &(timeout, seconds) in &TIMEOUTS {
+        let order = AskOrder::parse(&AskWords { timeout, ..COLLECT });
+        let wanted = AskOrder {
+            address: local(7001),
+            session: 7,
+            command: Command::Collect,
+            timeout: seconds,
+        };
+        assert!(rt; order == Ok(wanted), "{seconds}");
+    }
 }
 
-#[test]
-fn the_session_of_ask_is_checked(rt: HostRuntime) -> Result<(), Fail> {
-    let order = AskOrder::parse(&AskWords {
-        session: "07",
-        ..COLLECT
-    });
-    assert_eq!(rt; order, Err(WordFault::Session));
-    Ok(())
-}
+const NO_ASKS: [(AskWords<'_>, WordFault); 4] = [
+    (
+        AskWords {
+            address: "7001",
+            ..COLLECT
+        },
+        WordFault::Address,
+    ),
+    (
+        AskWords {
+            session: "07",
+            ..COLLECT
+        },
+        WordFault::Session,
+    ),
+    (
+        AskWords {
+            command: &["collects"],
+            ..COLLECT
+        },
+        WordFault::Command,
+    ),
+    (
+        AskWords {
+            timeout: Some("1.5"),
+            ..COLLECT
+        },
+        WordFault::Timeout,
+    ),
+];
 
 #[test]
-fn the_command_of_ask_is_checked(rt: HostRuntime) -> Result<(), Fail> {
-    let order = AskOrder::parse(&AskWords {
-        command: &["collects"],
-        ..COLLECT
-    });
-    assert_eq!(rt; order, Err(WordFault::Command));
-    Ok(())
-}
-
-#[test]
-fn the_timeout_of_ask_is_checked(rt: HostRuntime) -> Result<(), Fail> {
-    let order = AskOrder::parse(&AskWords {
-        timeout: Some("1.5"),
-        ..COLLECT
-    });
-    assert_eq!(rt; order, Err(WordFault::Timeout));
-    Ok(())
+fn each_word_of_ask_is_checked(rt: HostRuntime) {
+    for (words, fault) in &NO_ASKS {
+        assert!(rt; AskOrder::parse(words) == Err(*fault), "{fault}");
+    }
 }
 
 #[test]
 fn the_operator_names_a_node(rt: HostRuntime) -> Result<(), Fail> {
     let order = LeaveOrder::parse("127.0.0.1:7001")?;
-    assert_eq!(rt; order.address, local(7001));
-    assert_eq!(rt; LeaveOrder::parse("").err(), Some(WordFault::Address));
+    assert!(rt; order.address == local(7001));
+    assert!(rt; LeaveOrder::parse("").err() == Some(WordFault::Address));
     let order = RetireOrder::parse("127.0.0.1:7001", "3")?;
-    assert_eq!(rt; (order.address, order.node.number()), (local(7001), 3));
-    assert_eq!(rt;
-        RetireOrder::parse("127.0.0.1:7001", "0").err(),
-        Some(WordFault::Node)
-    );
+    assert!(rt; order.address == local(7001) && order.node.number() == 3);
+    let refused = RetireOrder::parse("127.0.0.1:7001", "0").err();
+    assert!(rt; refused == Some(WordFault::Node));
     Ok(())
 }
 
@@ -187,58 +226,65 @@ const GOOD: FormatWords<'_> = FormatWords {
     share: None,
 };
 
-#[test]
-fn options_have_defaults(rt: HostRuntime) -> Result<(), Fail> {
-    let order = FormatOrder::parse(rt.alloc(), &GOOD)?;
-    assert_eq!(rt; order.id, 4);
-    assert!(rt; order.initial.is_empty() && order.contacts.is_empty());
+// Whether the order has what stands where the options are left out.
+fn has_defaults(order: &FormatOrder) -> bool {
     let most = Fraction { num: 4, den: 5 };
-    assert_eq!(rt; (order.beta, order.gamma, order.share), (most, most, 1));
-    Ok(())
+    order.id == 4
+        && order.initial.is_empty()
+        && order.contacts.is_empty()
+        && (order.beta, order.gamma, order.share) == (most, most, 1)
 }
 
 #[test]
-fn each_word_of_format_is_checked(rt: HostRuntime) -> Result<(), Fail> {
-    for (words, fault) in [
-        (FormatWords { id: "04", ..GOOD }, WordFault::Id),
-        (
-            FormatWords {
-                initial: Some("4,"),
-                ..GOOD
-            },
-            WordFault::Initial,
-        ),
-        (
-            FormatWords {
-                contacts: Some(""),
-                ..GOOD
-            },
-            WordFault::Contacts,
-        ),
-        (
-            FormatWords {
-                beta: Some("4"),
-                ..GOOD
-            },
-            WordFault::Beta,
-        ),
-        (
-            FormatWords {
-                gamma: Some("4/-5"),
-                ..GOOD
-            },
-            WordFault::Gamma,
-        ),
-        (
-            FormatWords {
-                share: Some("032"),
-                ..GOOD
-            },
-            WordFault::Share,
-        ),
-    ] {
-        let refused = FormatOrder::parse(rt.alloc(), &words).err();
-        assert_eq!(rt; refused, Some(fault));
-    }
+fn options_have_defaults(rt: HostRuntime) -> Result<(), Fail> {
+    let order = FormatOrder::parse(rt.alloc(), &GOOD)?;
+    assert!(rt; has_defaults(&order));
     Ok(())
+}
+
+const NO_FORMATS: [(FormatWords<'_>, WordFault); 6] = [
+    (FormatWords { id: "04", ..GOOD }, WordFault::Id),
+    (
+        FormatWords {
+            initial: Some("4,"),
+            ..GOOD
+        },
+        WordFault::Initial,
+    ),
+    (
+        FormatWords {
+            contacts: Some(""),
+            ..GOOD
+        },
+        WordFault::Contacts,
+    ),
+    (
+        FormatWords {
+            beta: Some("4"),
+            ..GOOD
+        },
+        WordFault::Beta,
+    ),
+    (
+        FormatWords {
+            gamma: Some("4/-5"),
+            ..GOOD
+        },
+        WordFault::Gamma,
+    ),
+    (
+        FormatWords {
+            share: Some("032"),
+            ..GOOD
+        },
+        WordFault::Share,
+    ),
+];
+
+#[test]
+fn each_word_of_format_is_checked(rt: HostRuntime) {
+    for (words, fault) in &NO_FORMATS {
+        let refused = FormatOrder::parse(rt.alloc(), words).err();
+        assert!(rt; refused == Some(*fault), "{fault}");
+    }
 }
