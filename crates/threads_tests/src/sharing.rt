@@ -1,6 +1,6 @@
 //! Workers whose asks begin together, each of which is answered once.
 
-use crate::fixtures::{Disk, check, drawn, formatted_with_share, opened};
+use crate::fixtures::{Disk, check, drawn, formatted_with_share, opened, shown};
 use crate::holding::{Hold, Holding, TURNS, comes};
 use crate::lives::{counts, live};
 use crate::stories::Story;
@@ -64,13 +64,13 @@ impl<'a> Asker<'a> {
     }
 
     pub(crate) fn told(&mut self, answer: Result<Accepted, Refused>) {
-        match answer.map_err(|refused| refused.why) {
+        match shown(answer) {
             Ok(_) => {
                 self.hooks.asked.fetch_add(1, Ordering::SeqCst);
                 self.next = self.next.saturating_add(1);
                 self.tries = 0;
             }
-            Err(Refusal::Busy | Refusal::QueueFull) => {
+            Err((Refusal::Busy | Refusal::QueueFull, _)) => {
                 self.tries = self.tries.saturating_add(1);
                 thread::yield_now();
             }
@@ -141,14 +141,14 @@ impl<'a> Acker<'a> {
     }
 
     pub(crate) fn told(&mut self, answer: Result<Accepted, Refused>) {
-        match answer.map_err(|refused| refused.why) {
+        match shown(answer) {
             Ok(accepted) => {
                 self.number = self.number.saturating_add(1);
                 self.tag = self.tag.saturating_add(u64::from(accepted.stirs));
                 self.is_idle = !accepted.stirs;
                 self.tries = 0;
             }
-            Err(Refusal::QueueFull) => {
+            Err((Refusal::QueueFull, _)) => {
                 self.tries = self.tries.saturating_add(1);
                 thread::yield_now();
             }
@@ -201,10 +201,11 @@ where
 
 // How many replies these are to the first request of that session.
 fn replies_to(outputs: &[Output], wanted: u64) -> usize {
-    outputs
-        .iter()
-        .filter(|output| is_reply(output, wanted))
-        .count()
+    let mut count: usize = 0;
+    for output in outputs {
+        count = count.saturating_add(usize::from(is_reply(output, wanted)));
+    }
+    count
 }
 
 fn is_reply(output: &Output, wanted: u64) -> bool {
@@ -239,7 +240,8 @@ fn progress(alloc: Global, site: &MemorySite) -> Result<(u64, u64), Fail> {
 }
 
 // The second round has 32 asks, so there are 225 rounds at most, with a post each.
-fn is_shared(alloc: Global, site: &MemorySite) -> Result<(), Fail> {
+fn is_shared(alloc: Global, site: &MemorySite, is_whole: bool) -> Result<(), Fail> {
+    check(is_whole, "what was accepted is told, and flushed")?;
     check(
         each_is_answered_once(site.outputs()),
         "each ask is answered once",
@@ -258,6 +260,5 @@ fn asks_of_many_workers_begin_together(rt: HostRuntime) -> Result<(), Fail> {
     let [accepted, told, flushed, rest] = counts(&finished);
     let is_whole = told == accepted && flushed == accepted && rest == 0;
     let site = finished.site.site;
-    check(is_whole, "what was accepted is told, and flushed")?;
-    is_shared(alloc, &site)
+    is_shared(alloc, &site, is_whole)
 }

@@ -5,7 +5,7 @@ use crate::holding::{Hold, Holding};
 use crate::lives::lives;
 use crate::stories::Story;
 use cc_intake::{Intake, Lane, Life, Queue, Share, Turned, Turner};
-use cc_site::{Side, Site};
+use cc_site::{MemorySite, Side, Site};
 use cc_wire::Refusal;
 use std::alloc::Global;
 use std::sync::atomic::Ordering;
@@ -77,12 +77,16 @@ pub(crate) fn moves<L: Life, Q: Lane, R: Wait>(
 }
 
 // Side A is in use again, and side B is one closed byte.
+fn is_moved(site: &mut MemorySite) -> Result<(), Fail> {
+    check(site.outputs().len() == 65, "each event is acknowledged")?;
+    check(site.length(Side::B) == Ok(1), "side B is closed")
+}
+
 #[test]
 fn a_checkpoint_goes_between_two_turns(rt: HostRuntime) -> Result<(), Fail> {
     let expected = [65, 65, 65, 0];
     let mut site = lives(&rt, rt.alloc(), Holding::Nothing, Story::Moves, expected)?;
-    check(site.outputs().len() == 65, "each event is acknowledged")?;
-    check(site.length(Side::B) == Ok(1), "side B is closed")
+    is_moved(&mut site)
 }
 
 /// The queue takes 256 events, and another one after a turn.

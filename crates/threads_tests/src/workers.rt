@@ -1,6 +1,6 @@
 //! Workers that bring events side by side, while one thread takes turns.
 
-use crate::fixtures::{Disk, check, drawn, opened};
+use crate::fixtures::{Disk, check, drawn, opened, shown};
 use crate::holding::{Hold, Holding, TURNS};
 use crate::lives::lives;
 use crate::sharing::{Acker, Asker};
@@ -49,12 +49,12 @@ impl Peer<'_> {
     }
 
     fn told(&mut self, answer: Result<Accepted, Refused>) {
-        match answer.map_err(|refused| refused.why) {
+        match shown(answer) {
             Ok(_) => {
                 self.next = self.next.saturating_add(1);
                 self.full = 0;
             }
-            Err(Refusal::QueueFull) => {
+            Err((Refusal::QueueFull, _)) => {
                 self.full = self.full.saturating_add(1);
                 thread::yield_now();
             }
@@ -115,20 +115,7 @@ pub(crate) struct Worker<'a, L: Life> {
     pub(crate) client: Client<'a>,
 }
 
-// So many workers, each of a node of its own.
-fn hired<'a, L: Life, Q: Lane, R: Wait>(
-    rt: &R,
-    alloc: Global,
-    hooks: &'a Hold,
-    lock: &Mutex<Intake<L, Q>>,
-    count: u32,
-    last: u64,
-) -> Result<Vec<Worker<'a, L>>, Fail> {
-    let mut workers = Vec::new(alloc);
-    hire(rt, hooks, lock, count, last, &mut workers)?;
-    Ok(workers)
-}
-
+// Hires so many workers, each of a node of its own.
 fn hire<'a, L: Life, Q: Lane, R: Wait>(
     rt: &R,
     hooks: &'a Hold,
@@ -266,7 +253,8 @@ pub(crate) fn many<L: Life + Send + Sync, Q: Lane + Send + Sync, R: Threads + Wa
     count: u32,
     last: u64,
 ) -> Result<(), Fail> {
-    let workers = hired(rt, alloc, hooks, lock, count, last)?;
+    let mut workers = Vec::new(alloc);
+    hire(rt, hooks, lock, count, last, &mut workers)?;
     labour_whole(rt, alloc, hooks, lock, turner, queue, shares, workers)
 }
 
