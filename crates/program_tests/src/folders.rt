@@ -1,6 +1,7 @@
 //! Folders that are formatted, and what stands in them.
 
-use cc_commands::{FormatOrder, FormatWords, dump_folder, format_folder};
+use crate::words::with;
+use cc_commands::{FormatOrder, FormatWords, WordFault, dump_folder, format_folder};
 use cc_files::{FileSite, NoOutlet};
 use std::fs;
 use std::fs::{File, Files, Permissions};
@@ -229,7 +230,6 @@ fn a_file_without_permission_is_not_opened(rt: HostRuntime) -> Result<(), Fail> 
     Ok(())
 }
 
-// A member, and what is printed of its folder and that of others.
 const MEMBER_OF_TWO: FormatWords<'_> = FormatWords {
     id: "1",
     initial: Some("1,2"),
@@ -239,55 +239,34 @@ const MEMBER_OF_TWO: FormatWords<'_> = FormatWords {
     share: Some("32"),
 };
 
-const FORMATS: [(FormatWords<'_>, u8, &str); 3] = [
-    (MEMBER_OF_TWO, 0, "formatted 1\n"),
-    (MEMBER_OF_TWO, 1, "AlreadyFormatted\n"),
-    (ENTRANT, 1, "AlreadyFormatted\n"),
-];
-
 #[test]
 fn a_folder_is_formatted_once(rt: HostRuntime) -> Result<(), Fail> {
     const FOLDER: &str = "folder_formatted_twice";
     made(&rt, FOLDER)?;
-    for (words, status, wanted) in &FORMATS {
-        check_format(&rt, FOLDER, words, *status, wanted)?;
-    }
+    check_format(&rt, FOLDER, &MEMBER_OF_TWO, 0, "formatted 1\n")?;
+    check_format(&rt, FOLDER, &MEMBER_OF_TWO, 1, "AlreadyFormatted\n")?;
+    check_format(&rt, FOLDER, &ENTRANT, 1, "AlreadyFormatted\n")?;
     fs::remove_dir_all(&rt, FOLDER)?;
     Ok(())
 }
 
 // Words of the right form for nodes that can't begin: one without a name, one of no cluster, a list that doesn't ascend, a
 // fraction above 1, and shares of none and of more than 32.
-const NO_NODES: [FormatWords<'_>; 6] = [
-    FormatWords { id: "0", ..ENTRANT },
-    FormatWords {
-        initial: Some("1,2"),
-        ..ENTRANT
-    },
-    FormatWords {
-        contacts: Some("2,1"),
-        ..ENTRANT
-    },
-    FormatWords {
-        beta: Some("5/4"),
-        ..ENTRANT
-    },
-    FormatWords {
-        share: Some("0"),
-        ..ENTRANT
-    },
-    FormatWords {
-        share: Some("33"),
-        ..ENTRANT
-    },
+const NO_NODES: [(WordFault, &str); 6] = [
+    (WordFault::Id, "0"),
+    (WordFault::Initial, "1,2"),
+    (WordFault::Contacts, "2,1"),
+    (WordFault::Beta, "5/4"),
+    (WordFault::Share, "0"),
+    (WordFault::Share, "33"),
 ];
 
 #[test]
 fn no_node_begins_so(rt: HostRuntime) -> Result<(), Fail> {
     const FOLDER: &str = "folder_of_no_node";
     made(&rt, FOLDER)?;
-    for words in &NO_NODES {
-        check_format(&rt, FOLDER, words, 1, "BadOpening\n")?;
+    for &(place, text) in &NO_NODES {
+        check_format(&rt, FOLDER, &with(&ENTRANT, place, text), 1, "BadOpening\n")?;
     }
     check_dump(&rt, FOLDER, 1, EMPTY)?;
     fs::remove_dir_all(&rt, FOLDER)?;

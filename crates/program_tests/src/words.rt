@@ -242,49 +242,47 @@ fn options_have_defaults(rt: HostRuntime) -> Result<(), Fail> {
     Ok(())
 }
 
-const NO_FORMATS: [(FormatWords<'_>, WordFault); 6] = [
-    (FormatWords { id: "04", ..GOOD }, WordFault::Id),
-    (
-        FormatWords {
-            initial: Some("4,"),
-            ..GOOD
+/// The same words, but for that text in place of the one that a fault names.
+pub fn with<'a>(words: &FormatWords<'a>, place: WordFault, text: &'a str) -> FormatWords<'a> {
+    match place {
+        WordFault::Id => FormatWords { id: text, ..*words },
+        WordFault::Initial => FormatWords {
+            initial: Some(text),
+            ..*words
         },
-        WordFault::Initial,
-    ),
-    (
-        FormatWords {
-            contacts: Some(""),
-            ..GOOD
+        WordFault::Contacts => FormatWords {
+            contacts: Some(text),
+            ..*words
         },
-        WordFault::Contacts,
-    ),
-    (
-        FormatWords {
-            beta: Some("4"),
-            ..GOOD
+        WordFault::Beta => FormatWords {
+            beta: Some(text),
+            ..*words
         },
-        WordFault::Beta,
-    ),
-    (
-        FormatWords {
-            gamma: Some("4/-5"),
-            ..GOOD
+        WordFault::Gamma => FormatWords {
+            gamma: Some(text),
+            ..*words
         },
-        WordFault::Gamma,
-    ),
-    (
-        FormatWords {
-            share: Some("032"),
-            ..GOOD
+        _ => FormatWords {
+            share: Some(text),
+            ..*words
         },
-        WordFault::Share,
-    ),
+    }
+}
+
+// A bad text, and the fault that names its place.
+const NO_FORMATS: [(WordFault, &str); 6] = [
+    (WordFault::Id, "04"),
+    (WordFault::Initial, "4,"),
+    (WordFault::Contacts, ""),
+    (WordFault::Beta, "4"),
+    (WordFault::Gamma, "4/-5"),
+    (WordFault::Share, "032"),
 ];
 
 #[test]
 fn each_word_of_format_is_checked(rt: HostRuntime) {
-    for (words, fault) in &NO_FORMATS {
-        let refused = FormatOrder::parse(rt.alloc(), words).err();
-        assert!(rt; refused == Some(*fault), "{fault}");
+    for &(fault, text) in &NO_FORMATS {
+        let refused = FormatOrder::parse(rt.alloc(), &with(&GOOD, fault, text)).err();
+        assert!(rt; refused == Some(fault), "{fault}");
     }
 }
