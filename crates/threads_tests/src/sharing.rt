@@ -168,17 +168,21 @@ fn hire<'a, L: Life, Q: Lane, R: Wait>(
     workers: &mut Vec<Worker<'a, L>>,
 ) -> Result<(), Fail> {
     let node = NodeId::new(1).ok_or("a node")?;
-    for place in 0..ASKERS {
-        let asker = Asker::new(hooks, place);
+    for place in 0..=ASKERS {
         let share = drawn(rt, lock)?;
-        let client = Client::Asker(asker);
+        let client = client_at(hooks, place, node);
         workers.push(Worker { share, client })?;
     }
-    let acker = Acker::new(hooks, node);
-    let share = drawn(rt, lock)?;
-    let client = Client::Acker(acker);
-    workers.push(Worker { share, client })?;
     Ok(())
+}
+
+// Those at the first places ask, and the one behind them acknowledges.
+fn client_at(hooks: &Hold, place: u64, node: NodeId) -> Client<'_> {
+    if place < ASKERS {
+        Client::Asker(Asker::new(hooks, place))
+    } else {
+        Client::Acker(Acker::new(hooks, node))
+    }
 }
 
 /// Eight workers ask in 32 sessions each, and one ends what they begin, while one thread takes turns.
