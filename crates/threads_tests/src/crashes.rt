@@ -128,12 +128,10 @@ pub(crate) fn after_crash<L: Life, Q: Lane, R: Wait>(
     share: &mut Share<L>,
 ) -> Result<(), Fail> {
     let answer = ask_again(rt, alloc, lock, queue, share);
-    let is_repeat = answer == Some(Err((Refusal::Repeat, 0)));
-    let is_put = turner.again(7) == Ok(true);
-    check(
-        is_repeat && is_put,
-        "the ask is a repeat, and its answer is put again",
-    )?;
+    let repeat = Some(Err((Refusal::Repeat, 0)));
+    check(answer == repeat, "the ask is a repeat")?;
+    let was_put = turner.again(7);
+    check(was_put == Ok(true), "the answer is put again")?;
     let number = turner.engine().twin().core().ops().number();
     check(number == 1, "the own number is 1")
 }
