@@ -1,25 +1,17 @@
-//! A side that is cut off at each of its bytes.
+//! A side that is cut at each of its bytes.
 
-use crate::openings::{ENTERED, posts, with_sides};
-use crate::versions::ENTRANT;
+use crate::openings::{ENTERED, HEAD};
+use crate::sites::{laid, with_sides};
+use crate::steps::{Left, left_of};
+use crate::versions::ENTRANT_STATE;
 use cc_checkpoint::OpenFault;
 use cc_site::Side;
 use std::alloc::Global;
 use std::process::Abort;
 use std::test::*;
 
-// What stands before the opening state of entrant 4: an open gate, generation 1, version 2, and its 139 bytes.
-const HEAD: [u8; 14] = [0xA5, 0, 0, 0, 0, 0, 0, 0, 1, 2, 0, 0, 0, 0x8B];
-
-// A side of entrant 4, with the record of one Enter: 165 bytes.
-fn whole_side(alloc: Global) -> Result<Vec<u8>, Fail> {
-    let mut side = Vec::from_slice(alloc, &HEAD)?;
-    side.extend_from_slice(&ENTRANT)?;
-    side.extend_from_slice(&ENTERED)?;
-    Ok(side)
-}
-
-// Which place is damaged where the side has so many bytes or more, and fewer than so many.
+// Which place of the 165 bytes of entrant 4 with the record of one Enter is damaged, where the side has so many bytes or more, and
+// fewer than so many.
 const CUTS: [(usize, usize, u64); 6] = [
     // No generation, no version, and no length of the state, or one that goes past the end.
     (1, 9, 1),
@@ -31,48 +23,27 @@ const CUTS: [(usize, usize, u64); 6] = [
     (164, 165, 164),
 ];
 
-type Posts = Result<u64, OpenFault>;
-
-// How many posts the node has that is opened where one side has these bytes and the other is closed: side A, or side B.
-fn posts_of_either(alloc: Global, side: &[u8]) -> Result<(Posts, Posts), Fail> {
-    let of_a = posts(alloc, with_sides(alloc, side, &[0])?);
-    let of_b = posts(alloc, with_sides(alloc, &[0], side)?);
-    Ok((of_a, of_b))
+// What is opened where one side has these bytes and the other is closed: side A, or side B.
+fn left_of_either(alloc: Global, side: &[u8]) -> Result<[Left; 2], Fail> {
+    let of_a = left_of(alloc, with_sides(alloc, side, &[0])?);
+    let of_b = left_of(alloc, with_sides(alloc, &[0], side)?);
+    Ok([of_a, of_b])
 }
 
-fn check_cut<R: Abort + AllocGlobal>(
-    rt: &R,
-    side: &[u8],
-    len: usize,
-    place: u64,
-) -> Result<(), Fail> {
-    let cut = side.get(..len).ok_or("the side is that long")?;
-    let posts = posts_of_either(rt.alloc(), cut)?;
-    let damages = (
-        Err(OpenFault::Damaged(Side::A, place)),
-        Err(OpenFault::Damaged(Side::B, place)),
-    );
-    assert_eq!(rt; posts, damages);
-    Ok(())
-}
-
-#[test]
-fn each_cut_of_a_side_is_told(rt: HostRuntime) -> Result<(), Fail> {
-    let side = whole_side(rt.alloc())?;
+fn check_cuts<R: Abort + AllocGlobal>(rt: &R, side: &[u8]) -> Result<(), Fail> {
     for &(from, to, place) in &CUTS {
+        let of_a = Err(OpenFault::Damaged(Side::A, place));
+        let of_b = Err(OpenFault::Damaged(Side::B, place));
         for len in from..to {
-            check_cut(&rt, &side, len, place)?;
+            let cut = side.get(..len).ok_or("the side is that long")?;
+            assert_eq!(rt; left_of_either(rt.alloc(), cut)?, [of_a, of_b]);
         }
     }
     Ok(())
 }
 
 #[test]
-fn a_side_is_empty_or_whole(rt: HostRuntime) -> Result<(), Fail> {
-    let side = whole_side(rt.alloc())?;
-    let of_empty = posts_of_either(rt.alloc(), &[])?;
-    let of_whole = posts_of_either(rt.alloc(), &side)?;
-    let nothing = Err(OpenFault::NotFormatted);
-    assert_eq!(rt; (of_empty, of_whole), ((nothing, nothing), (Ok(1), Ok(1))));
-    Ok(())
+fn each_cut_of_a_side_is_told(rt: HostRuntime) -> Result<(), Fail> {
+    let side = laid(rt.alloc(), &[&HEAD, &ENTRANT_STATE, &ENTERED])?;
+    check_cuts(&rt, &side)
 }

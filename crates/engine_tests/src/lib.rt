@@ -18,9 +18,17 @@ mod long_states;
 #[cfg(test)]
 mod openings;
 #[cfg(test)]
+mod parts;
+#[cfg(test)]
+mod puts;
+#[cfg(test)]
 mod refusals;
 #[cfg(test)]
 mod shared_rounds;
+#[cfg(test)]
+mod sites;
+#[cfg(test)]
+mod steps;
 #[cfg(test)]
 mod ten_lives;
 #[cfg(test)]

@@ -1,8 +1,8 @@
 //! A checkpoint of a node whose state is written and read in several pieces.
 
-use crate::checkpoints::{calls_of_opening, moved, moved_sides, state_left, stopped_at};
-use crate::commits::delivery;
-use crate::openings::with_sides;
+use crate::parts::delivery;
+use crate::sites::{failing_image, sides, with_sides};
+use crate::steps::{Came, Step, calls_of_opening, run, state_of};
 use crate::whole_life::settle;
 use cc_changes::Fraction;
 use cc_checkpoint::encode_image;
@@ -13,20 +13,14 @@ use cc_wire::{Command, Event, Message, decode_view};
 use std::alloc::Global;
 use std::test::*;
 
-// Appends a row with number 1 and a text of 64 bytes.
-fn put_row(out: &mut Vec<u8>, node: u32) -> Result<(), Fail> {
-    out.extend_from_slice(&node.to_be_bytes())?;
-    out.extend_from_slice(&[0, 0, 0, 0, 0, 0, 0, 1, 64])?;
-    out.extend_from_slice(&[b'x'; 64])?;
-    out.extend_from_slice(&[0; 10])?;
-    Ok(())
-}
-
-// Appends a row for each of 256 nodes.
+// Appends a row for each of 256 nodes, with number 1 and a text of 64 bytes.
 fn put_rows(out: &mut Vec<u8>) -> Result<(), Fail> {
     out.extend_from_slice(&[1, 0])?;
-    for node in 1..257 {
-        put_row(out, node)?;
+    for node in 1_u32..257 {
+        out.extend_from_slice(&node.to_be_bytes())?;
+        out.extend_from_slice(&[0, 0, 0, 0, 0, 0, 0, 1, 64])?;
+        out.extend_from_slice(&[b'x'; 64])?;
+        out.extend_from_slice(&[0; 10])?;
     }
     Ok(())
 }
@@ -37,20 +31,20 @@ fn long_view(alloc: Global) -> Result<View, Fail> {
     Ok(decode_view(alloc, &bytes)?)
 }
 
-fn put_ids(ids: &mut Vec<u32>) -> Result<(), Fail> {
-    for id in 1..257 {
-        ids.push(id)?;
+// The numbers from 1 to 256.
+fn ids() -> [u32; 256] {
+    let mut ids = [0; 256];
+    for (place, id) in ids.iter_mut().zip(1..257) {
+        *place = id;
     }
-    Ok(())
+    ids
 }
 
 // Member 1 of 256, for which one answer is enough.
 fn member_of_256(alloc: Global) -> Result<Node, Fail> {
-    let mut initial = Vec::new(alloc);
-    put_ids(&mut initial)?;
     let opening = Opening {
         me: 1,
-        initial: &initial,
+        initial: &ids(),
         contacts: &[],
         beta: Fraction { num: 1, den: 256 },
         gamma: Fraction { num: 4, den: 5 },
@@ -103,17 +97,13 @@ fn store_six_times(alloc: Global, node: &mut Node) -> Result<(), Fail> {
     Ok(())
 }
 
-// The node under generation 1, as it stands on a side.
-fn side_of(alloc: Global, node: &Node) -> Result<Vec<u8>, Fail> {
+// Side A of the node under generation 1, once it has stored that.
+fn side_after_stores(alloc: Global, node: &mut Node) -> Result<Vec<u8>, Fail> {
+    store_six_times(alloc, node)?;
     let mut side = Vec::from_slice(alloc, &[0xA5])?;
     let image = encode_image(alloc, 1, node)?;
     side.extend_from_slice(&image)?;
     Ok(side)
-}
-
-fn side_after_stores(alloc: Global, node: &mut Node) -> Result<Vec<u8>, Fail> {
-    store_six_times(alloc, node)?;
-    side_of(alloc, node)
 }
 
 // Side A of the node that keeps six stores.
@@ -124,33 +114,34 @@ fn long_side(alloc: Global) -> Result<Vec<u8>, Fail> {
     side
 }
 
-// Whether a checkpoint leaves the node of side A on side B, under generation 2, and one closed byte on side A.
-fn is_moved(alloc: Global, side: &[u8]) -> Result<bool, Fail> {
-    let (fault, a, b) = moved_sides(alloc, with_sides(alloc, side, &[0])?)?;
-    let head = [0xA5, 0, 0, 0, 0, 0, 0, 0, 2];
-    Ok(
-        fault.is_none()
-            && a.as_slice() == [0].as_slice()
-            && b.get(..9) == Some(head.as_slice())
-            && b.get(9..) == side.get(9..),
-    )
+fn state_on(alloc: Global, a: &[u8], b: &[u8]) -> Result<Vec<u8>, Fail> {
+    state_of(alloc, with_sides(alloc, a, b)?)
 }
 
-// Whether the node that is opened then has the state of that side, before its closed gate.
-fn is_found(alloc: Global, side: &[u8]) -> Result<bool, Fail> {
-    let (site, _) = moved(alloc, with_sides(alloc, side, &[0])?)?;
-    let state = state_left(alloc, &site, &Choice::Read);
-    drop(site);
-    let state = state?;
-    Ok(side.get(14..14 + state.len()) == Some(state.as_slice()) && side.len() == 15 + state.len())
+// Whether a checkpoint leaves the node of side A on side B, under generation 2, and one closed byte on side A; and whether the node
+// that is opened then has the state of side A, before its closed gate.
+fn is_moved(alloc: Global, side: &[u8]) -> Result<(Came, [bool; 5]), Fail> {
+    let (site, came) = run(alloc, with_sides(alloc, side, &[0])?, &[Step::Checkpoint])?;
+    let (a, b) = sides(alloc, site)?;
+    let state = state_on(alloc, &a, &b)?;
+    let is_moved = [
+        a.as_slice() == [0].as_slice(),
+        b.get(..9) == Some([0xA5, 0, 0, 0, 0, 0, 0, 0, 2].as_slice()),
+        b.get(9..) == side.get(9..),
+        side.get(14..14 + state.len()) == Some(state.as_slice()),
+        side.len() == 15 + state.len(),
+    ];
+    Ok((came, is_moved))
 }
 
 #[test]
 fn a_state_longer_than_two_pieces_is_moved(rt: HostRuntime) -> Result<(), Fail> {
     let side = long_side(rt.alloc())?;
-    let moved = (is_moved(rt.alloc(), &side)?, is_found(rt.alloc(), &side)?);
-    assert!(rt; side.len() > 131_072 + 15);
-    assert_eq!(rt; moved, (true, true));
+    let moved = is_moved(rt.alloc(), &side)?;
+    assert_eq!(rt;
+        (moved, side.len() > 131_072 + 15),
+        ((Came::Put(0), [true; 5]), true)
+    );
     Ok(())
 }
 
@@ -163,10 +154,11 @@ fn length_of_b(alloc: Global, site: &MemorySite) -> Result<u64, Fail> {
 
 // How long side B is where a checkpoint stops at that disk call, and whether it comes to its end.
 fn length_at(alloc: Global, from: &MemorySite, at: u64) -> Result<(u64, bool), Fail> {
-    let (site, fault) = stopped_at(alloc, from, at, Failing::Stop)?;
+    let site = failing_image(alloc, from, at, Failing::Stop)?;
+    let (site, came) = run(alloc, site, &[Step::Checkpoint])?;
     let length = length_of_b(alloc, &site);
     drop(site);
-    Ok((length?, fault.is_none()))
+    Ok((length?, matches!(came, Came::Put(_))))
 }
 
 // By how many bytes one disk call of a checkpoint makes side B longer at most, and how long it is in the end.

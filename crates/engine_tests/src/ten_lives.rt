@@ -5,18 +5,17 @@ ghost use Rattle.cc_node.specs.Node.{after};
 ghost use Rattle.cc_journal.specs.Batches.{AreLawful, events_in};
 ghost use Rattle.cc_flush.specs.Lives.{AreTurnsLawful};
 
-use crate::checkpoints::calls_of_opening;
-use crate::commits::{add, delivery};
 use crate::lives::batch_of;
-use crate::openings::{formatted, opened};
-use cc_flush::{Action, Back, Failed, Flusher};
+use crate::parts::{add, delivery};
+use crate::sites::member;
+use crate::steps::{Came, Life, Step, calls_of_opening, carry_out, opened};
+use cc_flush::{Action, Flusher};
 use cc_journal::Batch;
 use cc_node::{Core, Node};
-use cc_site::{Choice, DeviceFault, Failing, MemorySite};
+use cc_site::{Choice, Failing, MemorySite};
 use cc_views::{NodeId, Row, Text, Value, View};
 use cc_wire::{Answer, Command, Event, Message, Output};
 use std::alloc::Global;
-use std::process::Abort;
 use std::test::*;
 
 // The disk call that ends each life, counted from its opening on. A round has 8 calls, two batches of 4; between those each
@@ -52,11 +51,8 @@ fn next_ask(live: &Core, life: u8) -> Result<Event, Fail> {
     })
 }
 
-// What node 2, which enters and never joins, sends under that number: each of its stores has the number as its maximum.
-fn message_of_other(alloc: Global, node: NodeId, number: u64) -> Result<Message, Fail> {
-    if number == 1 {
-        return Ok(Message::Enter { node });
-    }
+// The view of node 2's store under that number, which is its maximum too.
+fn view_of_other(alloc: Global, node: NodeId, number: u64) -> Result<View, Fail> {
     let mut value = Value::empty();
     value.max = number;
     let mut view = View::new(alloc)?;
@@ -65,17 +61,22 @@ fn message_of_other(alloc: Global, node: NodeId, number: u64) -> Result<Message,
         number,
         value,
     });
-    Ok(Message::Store {
-        view,
-        tag: number,
-        node,
-    })
+    Ok(view)
 }
 
+// What node 2, which enters and never joins, sends next: its Enter, and then stores.
 fn next_of_other(alloc: Global, live: &Core) -> Result<Event, Fail> {
     let from = NodeId::new(2).ok_or("2 is an id")?;
     let number = live.heard(from).saturating_add(1);
-    let message = message_of_other(alloc, from, number)?;
+    let message = if number == 1 {
+        Message::Enter { node: from }
+    } else {
+        Message::Store {
+            view: view_of_other(alloc, from, number)?,
+            tag: number,
+            node: from,
+        }
+    };
     Ok(Event::Deliver {
         from,
         number,
@@ -162,35 +163,26 @@ fn actions_from(
     ]?)
 }
 
-// The actions of a round. Each third round moves the node to the other side.
-fn actions(alloc: Global, node: &Node, life: u8, round: u32) -> Result<Vec<Action>, Fail>
+/// The actions of a round. Each third round moves the node to the other side.
+pub fn actions_of_round(
+    alloc: Global,
+    node: &Node,
+    life: u8,
+    round: u32,
+) -> Result<Vec<Action>, Fail>
     ensures { IfOk result (λ actions. AreTurnsLawful node.now actions.items) }
 {
     let mut live = node.core().copy(alloc)?;
-    actions_from(alloc, node, &mut live, life, round % 3 == 2)
-}
-
-// The disk call that failed in a round, if one did.
-fn live_on(
-    alloc: Global,
-    flusher: &mut Flusher<MemorySite>,
-    life: u8,
-    round: u32,
-) -> Result<Option<DeviceFault>, Fail> {
-    if flusher.owes() {
-        return Err("outputs are owed")?;
-    }
-    let actions = actions(alloc, flusher.twin(), life, round)?;
-    match flusher.run_life(actions) {
-        Ok(()) => Ok(None),
-        Err(Failed { fault }) => Ok(Some(fault)),
-    }
+    let actions = actions_from(alloc, node, &mut live, life, round % 3 == 2);
+    drop(live);
+    actions
 }
 
 // Lives on an engine until a disk call fails.
 fn live(alloc: Global, flusher: &mut Flusher<MemorySite>, life: u8) -> Result<(), Fail> {
     for round in 0..100 {
-        if live_on(alloc, flusher, life, round)?.is_some() {
+        let came = carry_out(alloc, flusher, Step::Life(Life::Round(life, round)))?;
+        if !matches!(came, Came::Put(_)) {
             return Ok(());
         }
     }
@@ -211,22 +203,20 @@ fn lived(alloc: Global, site: MemorySite, life: u8) -> Result<MemorySite, Fail> 
     }
 }
 
-// What a crash leaves of the life before: the touched places are full of A5, or of 00.
-fn left_of(alloc: Global, site: &MemorySite, life: u8) -> Result<MemorySite, Fail> {
-    let choice = if life % 2 == 0 {
-        Choice::Fill(0)
-    } else {
-        Choice::Fill(0xA5)
-    };
-    Ok(site.image(alloc, &choice)?)
-}
-
-// The site after one more life.
+// The site after one more life. Of the life before a crash leaves the touched places full of A5, or of 00.
 fn next_life(alloc: Global, site: &MemorySite, life: u8, end: u64) -> Result<MemorySite, Fail> {
-    let mut left = left_of(alloc, site, life)?;
-    let calls = calls_of_opening(alloc, &left)?;
-    left.fuse(calls.saturating_add(end), Failing::Stop);
-    lived(alloc, left, life)
+    let byte = if life % 2 == 0 { 0 } else { 0xA5 };
+    let mut left = site.image(alloc, &Choice::Fill(byte))?;
+    match calls_of_opening(alloc, &left) {
+        Ok(calls) => {
+            left.fuse(calls.saturating_add(end), Failing::Stop);
+            lived(alloc, left, life)
+        }
+        Err(fault) => {
+            drop(left);
+            Err(fault)
+        }
+    }
 }
 
 // The views that were put: how many, whether each is in line with all before it, and each different one once.
@@ -295,21 +285,17 @@ fn take_in(alloc: Global, shown: &mut Shown, view: &View) -> Result<(), Fail> {
     Ok(())
 }
 
-fn take_in_all(alloc: Global, shown: &mut Shown, outputs: &[Output]) -> Result<(), Fail> {
-    for output in outputs {
-        if let Some(view) = view_in(output) {
-            take_in(alloc, shown, view)?;
-        }
-    }
-    Ok(())
-}
-
 // Takes in what a life put.
 fn take_in_life(alloc: Global, shown: &mut Shown, site: &MemorySite) -> Result<(), Fail> {
     if site.lost() > 0 {
         return Err("an output was lost")?;
     }
-    take_in_all(alloc, shown, site.outputs())
+    for output in site.outputs() {
+        if let Some(view) = view_in(output) {
+            take_in(alloc, shown, view)?;
+        }
+    }
+    Ok(())
 }
 
 // The site after ten lives.
@@ -323,16 +309,8 @@ fn live_ten_times(alloc: Global, site: &mut MemorySite, shown: &mut Shown) -> Re
     Ok(())
 }
 
-// Member 1 of 1, with room for what a life puts.
-fn roomy_member(alloc: Global) -> Result<MemorySite, Fail> {
-    match formatted(alloc, MemorySite::new(alloc, 4_096)?, 1, &[1], &[]) {
-        Ok(site) => Ok(site),
-        Err(Back { site: _, fault }) => Err(fault)?,
-    }
-}
-
 fn show_ten_lives(alloc: Global, shown: &mut Shown) -> Result<(), Fail> {
-    let mut site = roomy_member(alloc)?;
+    let mut site = member(alloc, 4_096)?;
     let lived = live_ten_times(alloc, &mut site, shown);
     drop(site);
     lived
@@ -340,9 +318,10 @@ fn show_ten_lives(alloc: Global, shown: &mut Shown) -> Result<(), Fail> {
 
 // One more life, on a disk that knows nothing of the others.
 fn show_life_on_fresh_disk(alloc: Global, shown: &mut Shown) -> Result<(), Fail> {
-    let fresh = roomy_member(alloc)?;
-    let site = next_life(alloc, &fresh, 10, 9)?;
+    let fresh = member(alloc, 4_096)?;
+    let site = next_life(alloc, &fresh, 10, 9);
     drop(fresh);
+    let site = site?;
     let taken = take_in_life(alloc, shown, &site);
     drop(site);
     taken

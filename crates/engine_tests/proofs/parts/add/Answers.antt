@@ -5,7 +5,7 @@ use Rattle.cc_node.specs.Refusals.{decides}
 use Rattle.cc_journal.specs.declared.entry.Entry.{Entry}
 use Rattle.cc_journal.specs.Batches.{AreLawful, events_in}
 use Rattle.cc_journal.specs.BatchLaws.{lawful_more, core_more}
-use Rattle.engine_tests.proofs.commits.add.Goals as goal
+use Rattle.engine_tests.proofs.parts.add.Goals as goal
 
 pub returns-clause-lawful : goal.returns-clause-lawful
 returns-clause-lawful c =
