@@ -7,7 +7,7 @@ use crate::steps::{
     Came, Left, Step, are_left, calls_of_opening, carry_out, check_each, check_outcomes, left_of,
     opened, run, state_of, state_of_twin,
 };
-use crate::versions::{ENTRANT_STATE, FIRST, FIRST_MEMBER, MEMBER_STATE, SECOND_SIDE};
+use crate::versions::{ENTRANT_STATE, FIRST_MEMBER_SIDE, FIRST_SIDE, MEMBER_STATE, SECOND_SIDE};
 use cc_flush::Flusher;
 use cc_site::{Call, Choice, Failing, MemorySite, Side};
 use std::alloc::Global;
@@ -46,50 +46,57 @@ const LAST_MEMBER_BUT_ONE: Laid = [
 // An armed side with nothing behind its generation 4 that can be read.
 const FOURTH: Laid = [&[0xA5, 0, 0, 0, 0, 0, 0, 0, 4], &[0xFF, 0xA5], &[]];
 
-// What stands on side A before a checkpoint, and on side B after it, whose other sides are closed.
-const MOVES: [(Laid, Laid); 4] = [
-    (BEGUN_MEMBER, SECOND_MEMBER),
-    // What version 1 laid out is moved to version 2.
-    ([&FIRST_MEMBER, &[0], &[]], SECOND_MEMBER),
-    ([&FIRST, &[], &[]], SECOND_SIDE),
-    // The last generation is reached.
-    (LAST_MEMBER_BUT_ONE, LAST_MEMBER),
-];
-
 const SIXTH: Laid = [
     &[0xA5, 0, 0, 0, 0, 0, 0, 0, 6, 2, 0, 0, 0, 0x8B],
     &ENTRANT_STATE,
     &[0],
 ];
 
-// What a checkpoint comes to where this stands on the sides, and whether it leaves that.
-fn moved(alloc: Global, from: (&Laid, &Laid), to: (&Laid, &Laid)) -> Result<(Came, bool), Fail> {
-    let site = with_laid(alloc, from.0, from.1)?;
-    let (site, came) = run(alloc, site, &[Step::Checkpoint])?;
-    Ok((came, are_sides(alloc, site, to.0, to.1)?))
+// Checks what a checkpoint comes to where this stands on the sides, and that it leaves that.
+fn check_moved<R: Abort + AllocGlobal>(
+    rt: &R,
+    from: (&Laid, &Laid),
+    came: Came,
+    to: (&Laid, &Laid),
+) -> Result<(), Fail> {
+    let site = with_laid(rt.alloc(), from.0, from.1)?;
+    let (site, found) = run(rt.alloc(), site, &[Step::Checkpoint])?;
+    let are_sides = are_sides(rt.alloc(), site, to.0, to.1)?;
+    assert_eq!(rt; (found, are_sides), (came, true));
+    Ok(())
 }
 
+// What version 1 laid out is moved to version 2.
 #[test]
 fn a_checkpoint_changes_sides(rt: HostRuntime) -> Result<(), Fail> {
-    for (a, b) in &MOVES {
-        let moved = moved(rt.alloc(), (a, &CLOSED), (&CLOSED, b))?;
-        assert_eq!(rt; moved, (Came::Put(0), true));
-    }
-    Ok(())
+    let came = Came::Put(0);
+    check_moved(
+        &rt,
+        (&BEGUN_MEMBER, &CLOSED),
+        came,
+        (&CLOSED, &SECOND_MEMBER),
+    )?;
+    check_moved(
+        &rt,
+        (&FIRST_MEMBER_SIDE, &CLOSED),
+        came,
+        (&CLOSED, &SECOND_MEMBER),
+    )?;
+    check_moved(&rt, (&FIRST_SIDE, &CLOSED), came, (&CLOSED, &SECOND_SIDE))
 }
 
 #[test]
 fn a_checkpoint_goes_over_an_armed_side(rt: HostRuntime) -> Result<(), Fail> {
-    let moved = moved(rt.alloc(), (&FOURTH, &FIFTH), (&SIXTH, &CLOSED))?;
-    assert_eq!(rt; moved, (Came::Put(0), true));
-    Ok(())
+    check_moved(&rt, (&FOURTH, &FIFTH), Came::Put(0), (&SIXTH, &CLOSED))
 }
 
+// The last generation is reached, and under it nothing is changed.
 #[test]
 fn a_spent_checkpoint_changes_nothing(rt: HostRuntime) -> Result<(), Fail> {
-    let sides = (&LAST_MEMBER, &CLOSED);
-    assert_eq!(rt; moved(rt.alloc(), sides, sides)?, (Came::Spent, true));
-    Ok(())
+    let last = (&LAST_MEMBER, &CLOSED);
+    let but_one = (&LAST_MEMBER_BUT_ONE, &CLOSED);
+    check_moved(&rt, but_one, Came::Put(0), (&CLOSED, &LAST_MEMBER))?;
+    check_moved(&rt, last, Came::Spent, last)
 }
 
 // A checkpoint, an Enter, and another checkpoint.

@@ -71,18 +71,14 @@ const DELIVERED: Left = Ok((2, 1, 0));
 
 const LIFE: [Step; 1] = [Step::Life(Life::Store)];
 
-// What a life comes to and leaves where this stands on side A: whether it puts all, how side A begins then, and whether side B is
-// closed.
-fn lived(alloc: Global, a: &Laid) -> Result<(Outcome, bool, [u8; 9], bool), Fail> {
+// What a life comes to where this stands on side A; and whether it puts all, side A begins so then, and side B is closed.
+fn lived(alloc: Global, a: &Laid, head: &[u8]) -> Result<(Outcome, [bool; 3]), Fail> {
     let (_, are_put) = put_by(alloc, with_laid(alloc, a, &CLOSED)?, &LIFE, &PUTS)?;
     let outcome = outcome_of(alloc, with_laid(alloc, a, &CLOSED)?, &LIFE)?;
     let (site, _) = run(alloc, with_laid(alloc, a, &CLOSED)?, &LIFE)?;
     let (a, b) = sides(alloc, site)?;
-    let mut head = [0; 9];
-    for (byte, found) in head.iter_mut().zip(a.iter()) {
-        *byte = *found;
-    }
-    Ok((outcome, are_put, head, b.as_slice() == [0].as_slice()))
+    let is_closed = b.as_slice() == [0].as_slice();
+    Ok((outcome, [are_put, a.starts_with(head), is_closed]))
 }
 
 const WHOLE: Outcome = (Came::Put(0), 5, [DELIVERED; 5]);
@@ -92,8 +88,8 @@ const WHOLE: Outcome = (Came::Put(0), 5, [DELIVERED; 5]);
 fn a_life_goes_on_behind_a_checkpoint(rt: HostRuntime) -> Result<(), Fail> {
     let head = [0xA5, 0, 0, 0, 0, 0, 0, 0, 3];
     assert_eq!(rt;
-        lived(rt.alloc(), &BEGUN_MEMBER)?,
-        (WHOLE, true, head, true)
+        lived(rt.alloc(), &BEGUN_MEMBER, &head)?,
+        (WHOLE, [true; 3])
     );
     Ok(())
 }
@@ -102,7 +98,7 @@ fn a_life_goes_on_behind_a_checkpoint(rt: HostRuntime) -> Result<(), Fail> {
 #[test]
 fn a_life_goes_on_where_checkpoints_are_spent(rt: HostRuntime) -> Result<(), Fail> {
     let head = [0xA5, 0x40, 0, 0, 0, 0, 0, 0, 0];
-    assert_eq!(rt; lived(rt.alloc(), &LAST_MEMBER)?, (WHOLE, true, head, true));
+    assert_eq!(rt; lived(rt.alloc(), &LAST_MEMBER, &head)?, (WHOLE, [true; 3]));
     Ok(())
 }
 

@@ -3,10 +3,11 @@
 use crate::openings::ENTERED;
 use crate::sites::{CLOSED, Laid, with_laid};
 use crate::steps::state_of;
+use std::process::Abort;
 use std::test::*;
 
-/// Side A of member 1 of 1 in version 1, after a store and the ask of a collect, with a record behind the state.
-pub const FIRST: [u8; 269] = [
+// Side A of member 1 of 1 in version 1, after a store and the ask of a collect, with a record behind the state.
+const FIRST: [u8; 269] = [
     // An open gate, generation 1, version 1, and the length of the state.
     0xA5, 0, 0, 0, 0, 0, 0, 0, 1, 1, 0, 0, 0, 0xDA,
     // Node 1, and beta and gamma, 4/5 each.
@@ -36,8 +37,8 @@ pub const FIRST: [u8; 269] = [
     0, 0, 2, 0, 0, 0, 1, 0,
 ];
 
-/// The state of that node in version 2, after the record: 258 bytes.
-pub const SECOND: [u8; 258] = [
+// The state of that node in version 2, after the record: 258 bytes.
+const SECOND: [u8; 258] = [
     // Node 1, and beta and gamma, 4/5 each.
     0, 0, 0, 1, 0, 0, 0, 4, 0, 0, 0, 5, 0, 0, 0, 4, 0, 0, 0, 5,
     // Node 1 has entered and joined, and nobody left.
@@ -125,8 +126,8 @@ const ENTERED_STATE: [u8; 148] = [
     0, 0, 0, 1, 1, 0, 0, 0, 4, 0, 0,
 ];
 
-/// What stands before the first gate on side A of member 1 of 1 in version 1, as it begins.
-pub const FIRST_MEMBER: [u8; 132] = [
+// What stands before the first gate on side A of member 1 of 1 in version 1, as it begins.
+const FIRST_MEMBER: [u8; 132] = [
     // An open gate, generation 1, version 1, and the length of the state.
     0xA5, 0, 0, 0, 0, 0, 0, 0, 1, 1, 0, 0, 0, 0x76,
     // Node 1, and beta and gamma, 4/5 each.
@@ -171,21 +172,34 @@ pub const SECOND_SIDE: Laid = [
     &[0],
 ];
 
-// The state in version 2 of the node that is opened where this stands on side A and on side B.
-const STATES: [(Laid, Laid, &[u8]); 5] = [
-    ([&FIRST, &[], &[]], CLOSED, &SECOND),
-    (CLOSED, SECOND_SIDE, &SECOND),
-    ([&FIRST_ENTRANT, &[0], &[]], CLOSED, &ENTRANT_STATE),
-    ([&FIRST_MEMBER, &[0], &[]], CLOSED, &MEMBER_STATE),
-    // A record behind the state of version 1.
-    ([&FIRST_ENTRANT, &ENTERED, &[]], CLOSED, &ENTERED_STATE),
-];
+/// Side A of both members of version 1, with a closed gate behind the one as it begins.
+pub const FIRST_SIDE: Laid = [&FIRST, &[], &[]];
 
+pub const FIRST_MEMBER_SIDE: Laid = [&FIRST_MEMBER, &[0], &[]];
+
+// Checks the state in version 2 of the node that is opened where this stands on side A and on side B.
+fn check_state<R: Abort + AllocGlobal>(
+    rt: &R,
+    a: &Laid,
+    b: &Laid,
+    state: &[u8],
+) -> Result<(), Fail> {
+    let left = state_of(rt.alloc(), with_laid(rt.alloc(), a, b)?)?;
+    assert_eq!(rt; left.as_slice(), state);
+    Ok(())
+}
+
+// The last one has a record behind its state.
 #[test]
 fn states_of_version_1_are_opened(rt: HostRuntime) -> Result<(), Fail> {
-    for (a, b, state) in &STATES {
-        let left = state_of(rt.alloc(), with_laid(rt.alloc(), a, b)?)?;
-        assert_eq!(rt; left.as_slice(), *state);
-    }
-    Ok(())
+    check_state(&rt, &FIRST_SIDE, &CLOSED, &SECOND)?;
+    check_state(&rt, &CLOSED, &SECOND_SIDE, &SECOND)?;
+    check_state(&rt, &[&FIRST_ENTRANT, &[0], &[]], &CLOSED, &ENTRANT_STATE)?;
+    check_state(&rt, &FIRST_MEMBER_SIDE, &CLOSED, &MEMBER_STATE)?;
+    check_state(
+        &rt,
+        &[&FIRST_ENTRANT, &ENTERED, &[]],
+        &CLOSED,
+        &ENTERED_STATE,
+    )
 }
