@@ -7,8 +7,8 @@ use crate::steps::{Came, Step, put_by, run};
 use std::alloc::Global;
 use std::test::*;
 
-// What an acknowledgement for the node with that number comes to where member 1 of 1 has heard two messages over its own link and
-// put nothing since, and whether it puts this.
+// What an acknowledgement for the node with that number comes to where member 1 of 1 has heard two messages over its own
+// link and put nothing since, and whether it puts this.
 fn reacked(alloc: Global, number: u32, puts: &[Put]) -> Result<(Came, bool), Fail> {
     let (site, _) = run(alloc, member(alloc, 16)?, &[Step::Turn(Part::Store)])?;
     put_by(alloc, crashed(alloc, site)?, &[Step::Reack(number)], puts)

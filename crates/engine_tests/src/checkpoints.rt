@@ -14,7 +14,8 @@ use std::alloc::Global;
 use std::process::Abort;
 use std::test::*;
 
-/// Member 1 of 1 as it begins: an open gate, generation 1, version 2, the length of the state, the state, and a closed gate.
+/// Member 1 of 1 as it begins: an open gate, generation 1, version 2, the length of the state, the state, and a closed
+/// gate.
 pub const BEGUN_MEMBER: Laid = [
     &[0xA5, 0, 0, 0, 0, 0, 0, 0, 1, 2, 0, 0, 0, 0x77],
     &MEMBER_STATE,
@@ -129,8 +130,8 @@ const CALLS: [(bool, Call); 13] = [
     (false, Call::Sync),
 ];
 
-/// Checks what steps come to where a call of a checkpoint fails, of which the first has that number behind the opening: the side in
-/// use, how many outputs were put before, and what each crash leaves.
+/// Checks what steps come to where a call of a checkpoint fails, of which the first has that number behind the opening: the
+/// side in use, how many outputs were put before, and what each crash leaves.
 pub fn check_calls<R: Abort + AllocGlobal>(
     rt: &R,
     steps: (MemorySite, &[Step]),
@@ -229,8 +230,8 @@ fn check_from<R: Abort + AllocGlobal>(rt: &R, from: &MemorySite, calls: u64) -> 
     check_each_stop(rt, from, calls, &states)
 }
 
-// The node is found again, whatever a crash leaves of a checkpoint that fails at any of its disk calls, of which there are so
-// many.
+// The node is found again, whatever a crash leaves of a checkpoint that fails at any of its disk calls, of which there are
+// so many.
 fn check_stops<R: Abort + AllocGlobal>(rt: &R, from: MemorySite, calls: u64) -> Result<(), Fail> {
     let checked = check_from(rt, &from, calls);
     drop(from);

@@ -8,7 +8,8 @@ use cc_site::{MemorySite, Side};
 use std::alloc::Global;
 use std::test::*;
 
-// What opening tells of a site on which steps were carried out: the side, how many records count on it, and of how many events.
+// What opening tells of a site on which steps were carried out: the side, how many records count on it, and of how many
+// events.
 fn told(alloc: Global, site: MemorySite, steps: &[Step]) -> Result<Opened, Fail> {
     let (site, _) = run(alloc, site, steps)?;
     let flusher = opened(alloc, site)?;

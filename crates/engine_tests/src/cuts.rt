@@ -10,8 +10,8 @@ use std::alloc::Global;
 use std::process::Abort;
 use std::test::*;
 
-// Which place of the 165 bytes of entrant 4 with the record of one Enter is damaged, where the side has so many bytes or more, and
-// fewer than so many.
+// Which place of the 165 bytes of entrant 4 with the record of one Enter is damaged, where the side has so many bytes or
+// more, and fewer than so many.
 const CUTS: [(usize, usize, u64); 6] = [
     // No generation, no version, and no length of the state, or one that goes past the end.
     (1, 9, 1),

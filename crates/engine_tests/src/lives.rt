@@ -44,8 +44,8 @@ fn actions_from(alloc: Global, live: &mut Core) -> Result<Vec<Action>, Fail>
     ]?)
 }
 
-/// The ask of a store and the post that it makes, as it comes back: a batch each, and a checkpoint behind each. What is kept then
-/// is put again.
+/// The ask of a store and the post that it makes, as it comes back: a batch each, and a checkpoint behind each. What is
+/// kept then is put again.
 pub fn actions_of_store(alloc: Global, node: &Node) -> Result<Vec<Action>, Fail>
     ensures { IfOk result (λ actions. AreTurnsLawful node.now actions.items) }
 {

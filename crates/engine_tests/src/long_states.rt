@@ -118,8 +118,8 @@ fn state_on(alloc: Global, a: &[u8], b: &[u8]) -> Result<Vec<u8>, Fail> {
     state_of(alloc, with_sides(alloc, a, b)?)
 }
 
-// Whether a checkpoint leaves the node of side A on side B, under generation 2, and one closed byte on side A; and whether the node
-// that is opened then has the state of side A, before its closed gate.
+// Whether a checkpoint leaves the node of side A on side B, under generation 2, and one closed byte on side A; and whether
+// the node that is opened then has the state of side A, before its closed gate.
 fn is_moved(alloc: Global, side: &[u8]) -> Result<(Came, [bool; 5]), Fail> {
     let (site, came) = run(alloc, with_sides(alloc, side, &[0])?, &[Step::Checkpoint])?;
     let (a, b) = sides(alloc, site)?;

@@ -241,8 +241,8 @@ fn a_record_behind_a_closed_gate_is_not_kept(rt: HostRuntime) -> Result<(), Fail
     Ok(())
 }
 
-// What stands on side A, where side B is empty, and why it isn't opened: the generation, the version, the length of the state, the
-// state, or a version that isn't known.
+// What stands on side A, where side B is empty, and why it isn't opened: the generation, the version, the length of the
+// state, the state, or a version that isn't known.
 const FAULTS: [(&[u8], OpenFault); 7] = [
     (&[0xA5], OpenFault::Damaged(Side::A, 1)),
     (

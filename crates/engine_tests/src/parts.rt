@@ -11,10 +11,10 @@ use cc_wire::{Command, Event, Message};
 use std::alloc::Global;
 use std::test::*;
 
-/// Which batch is committed: the node's Enter; the ask of a store in session 7, as its first request; that ask, its post as it
-/// comes back and the acknowledgement of that; the two deliveries that follow the ask; the ask of a collect after them; the first
-/// ask of a session, which sets the flag; the own post of that number, as it comes back; a lapse of what is kept for the node
-/// itself, and its snapshot; the snapshot alone; or the node's leaving.
+/// Which batch is committed: the node's Enter; the ask of a store in session 7, as its first request; that ask, its post as
+/// it comes back and the acknowledgement of that; the two deliveries that follow the ask; the ask of a collect after them;
+/// the first ask of a session, which sets the flag; the own post of that number, as it comes back; a lapse of what is kept
+/// for the node itself, and its snapshot; the snapshot alone; or the node's leaving.
 #[derive(Clone, Copy)]
 pub enum Part {
     Enter,

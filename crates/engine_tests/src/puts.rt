@@ -2,8 +2,8 @@
 
 use cc_wire::{Answer, Message, Output};
 
-/// What is put: a message to a peer under its number, an acknowledgement to a peer up to a number, or the reply to a session's
-/// request, and whether that is Stored.
+/// What is put: a message to a peer under its number, an acknowledgement to a peer up to a number, or the reply to a
+/// session's request, and whether that is Stored.
 #[derive(Clone, Copy, PartialEq, Eq)]
 pub enum Put {
     Send(u32, u64, Kind),

@@ -40,14 +40,14 @@ fn pending(alloc: Global) -> Result<MemorySite, Fail> {
 
 const ACKNOWLEDGED: [Step; 1] = [Step::Turn(Part::Own(4))];
 
-// The node with the round pending, and after its acknowledgement, which begins the ask of session 40: its posts, its own number, and
-// how many answers it keeps.
+// The node with the round pending, and after its acknowledgement, which begins the ask of session 40: its posts, its own
+// number, and how many answers it keeps.
 const BEFORE: Left = Ok((4, 33, 1));
 
 const AFTER: Left = Ok((5, 34, 33));
 
-// What the acknowledgement comes to where such a call behind the opening fails: the whole round is left as it was, or all its
-// answers.
+// What the acknowledgement comes to where such a call behind the opening fails: the whole round is left as it was, or all
+// its answers.
 const ROUNDS: [(u64, Outcome); 5] = [
     // The record, and its sync.
     (0, (Came::Failed(Side::A, Call::Write), 0, [BEFORE; 5])),

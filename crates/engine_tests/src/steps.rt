@@ -19,7 +19,8 @@ use std::alloc::Global;
 use std::process::Abort;
 use std::test::*;
 
-/// What is done with an engine: a batch is committed and released by one call, a whole life is lived, or the call of that name.
+/// What is done with an engine: a batch is committed and released by one call, a whole life is lived, or the call of that
+/// name.
 #[derive(Clone, Copy)]
 pub enum Step {
     Turn(Part),
@@ -30,8 +31,8 @@ pub enum Step {
     Checkpoint,
 }
 
-/// A life of an engine: an Enter, and what may be put again; the batches of a store with checkpoints behind them; or a round of
-/// one of ten lives.
+/// A life of an engine: an Enter, and what may be put again; the batches of a store with checkpoints behind them; or a
+/// round of one of ten lives.
 #[derive(Clone, Copy)]
 pub enum Life {
     Enter,
@@ -165,8 +166,8 @@ pub fn put_by(
     Ok((came, are_put))
 }
 
-/// What a node has made and keeps: how many posts it has made, its own number, and how many answers it keeps. Or why no node is
-/// opened.
+/// What a node has made and keeps: how many posts it has made, its own number, and how many answers it keeps. Or why no
+/// node is opened.
 pub type Left = Result<(u64, u64, usize), OpenFault>;
 
 /// What the node of a site has made and keeps.
@@ -231,8 +232,8 @@ pub fn calls_of_opening(alloc: Global, site: &MemorySite) -> Result<u64, Fail> {
     Ok(calls)
 }
 
-/// Checks what steps on a site come to where the disk call with such a number behind the opening fails: it alone, and it with all
-/// after it.
+/// Checks what steps on a site come to where the disk call with such a number behind the opening fails: it alone, and it
+/// with all after it.
 pub fn check_outcomes<R: Abort + AllocGlobal>(
     rt: &R,
     from: MemorySite,

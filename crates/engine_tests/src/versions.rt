@@ -164,8 +164,8 @@ pub const MEMBER_STATE: [u8; 119] = [
     0, 0, 0, 0, 0, 0,
 ];
 
-/// Side B once the node of the store is moved to it: an open gate, generation 2, version 2, the length of the state, the state,
-/// and a closed gate.
+/// Side B once the node of the store is moved to it: an open gate, generation 2, version 2, the length of the state, the
+/// state, and a closed gate.
 pub const SECOND_SIDE: Laid = [
     &[0xA5, 0, 0, 0, 0, 0, 0, 0, 2, 2, 0, 0, 1, 2],
     &SECOND,

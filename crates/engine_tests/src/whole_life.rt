@@ -1,5 +1,5 @@
-//! A whole life of a node on its site, of which each disk call fails in turn: formatting, opening, four batches, with a lapse
-//! and a snapshot among their events, posts that are put again, and two checkpoints.
+//! A whole life of a node on its site, of which each disk call fails in turn: formatting, opening, four batches, with a
+//! lapse and a snapshot among their events, posts that are put again, and two checkpoints.
 
 use crate::parts::{Part, first_of};
 use crate::puts::{Kind, Put, are_put};
