@@ -12,7 +12,7 @@ crates = os.path.join(here, "..", "..", "crates")
 
 TYPES = """cc_views/value cc_views/row cc_changes/fraction cc_wire/command cc_wire/message cc_wire/event cc_wire/answer
     cc_wire/output cc_wire/refusal cc_wire/fault cc_ops/pending cc_ops/stage cc_outbox/kept_answer cc_site/site
-    cc_node/made cc_node/opening"""
+    cc_node/made cc_node/opening cc_node/layout"""
 
 SPECS = """cc_views: NatSets Rows Merge Limits Tables
     cc_changes: ChangeSets ChangeLaws Need
@@ -22,9 +22,9 @@ SPECS = """cc_views: NatSets Rows Merge Limits Tables
     cc_sessions: Sessions
     cc_outbox: Outbox OutboxLaws Rows
     cc_churn: Churn Refusals
-    cc_ops: Commands Waiting Ops Stages Refusals
+    cc_ops: Commands Waiting Rounds Ops Stages Refusals
     cc_site: Sides Moments
-    cc_node: Core Refusals Node OneAtATime Opening Writes Lawful States Sides Good
+    cc_node: Core Refusals Node OneAtATime Rounds Opening Writes Lawful Layouts States Sides Good
     cc_laws: Shown Orders Written Histories Lives Clusters Runs"""
 
 
