@@ -17,6 +17,7 @@ HEAD = """//! Programs that must not compile.
 use cc_intake::Refused;
 use cc_journal::{Batch, Flight, Landed};
 use cc_wire::Refusal;
+use std::snapshot::Snapshot;
 
 """
 
@@ -46,10 +47,10 @@ GROUPS = [
         ("pub fn cloned_flight(flight: &Flight) -> Flight { flight.clone() }", "unsupported-method"),
         ("pub fn forgotten_landed(landed: Landed) { std::mem::forget(landed) }", "unsatisfied-bound"),
         ("pub fn forgotten_flight(flight: Flight) { std::mem::forget(flight) }", "unsatisfied-bound"),
-        ("pub fn opened_landed(landed: Landed) -> Batch { landed.batch }", "private-field"),
-        ("pub fn opened_flight(flight: Flight) -> Batch { flight.batch }", "private-field"),
-        ("pub fn made_landed(batch: Batch) -> Landed { Landed { batch } }", "private-field"),
-        ("pub fn made_flight(batch: Batch) -> Flight { Flight { batch, size: 0 } }", "private-field"),
+        ("pub fn opened_landed(landed: Landed) -> Snapshot<Batch> { landed.batch }", "private-field"),
+        ("pub fn opened_flight(flight: Flight) -> Snapshot<Batch> { flight.batch }", "private-field"),
+        ("pub fn made_landed(batch: Snapshot<Batch>) -> Landed { Landed { batch } }", "private-field"),
+        ("pub fn made_flight(batch: Snapshot<Batch>) -> Flight { Flight { batch, size: 0 } }", "private-field"),
         ("pub fn copied_refused(refused: &Refused) -> Refused { *refused }", "move-out-of-place"),
         ("pub fn cloned_refused(refused: &Refused) -> Refused { refused.clone() }", "unsupported-method"),
         ("pub fn made_refused(why: Refusal) -> Refused { Refused { why, accepted: 0 } }", "missing-field"),

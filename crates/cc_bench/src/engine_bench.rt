@@ -231,12 +231,11 @@ pub fn run<S: Site + Drop>(
     for event in events {
         add(alloc, engine, live, &mut batch, event)?;
         if batch.len() >= full {
-            turn(engine, batch)?;
-            batch = Batch::new();
+            turn(engine, &mut batch)?;
         }
     }
     if batch.len() > 0 {
-        turn(engine, batch)?;
+        turn(engine, &mut batch)?;
     }
     Ok(())
 }
@@ -262,12 +261,13 @@ fn add<S: Site + Drop>(
 }
 
 // Makes a batch durable, and puts its outputs.
-fn turn<S: Site + Drop>(engine: &mut Flusher<S>, batch: Batch) -> Result<(), BenchFault>
+fn turn<S: Site + Drop>(engine: &mut Flusher<S>, batch: &mut Batch) -> Result<(), BenchFault>
     requires owes { engine.old.owes ≡ false }
-    requires some { 1 ≤ length batch }
-    requires lawful { AreLawful engine.old.twin batch }
+    requires some { 1 ≤ length batch.old }
+    requires lawful { AreLawful engine.old.twin batch.old }
+    ensures empties { OnOk result (batch.new ≡ []) }
     ensures owes { OnOk result (engine.new.owes ≡ false) }
-    ensures twin { OnOk result (engine.new.twin ≡ after engine.old.twin (events_in batch)) }
+    ensures twin { OnOk result (engine.new.twin ≡ after engine.old.twin (events_in batch.old)) }
 {
     if !engine.room() {
         return Err(BenchFault::Full);

@@ -92,8 +92,8 @@ fn take_next<S: Site + Drop>(alloc: Global, engine: &mut Flusher<S>) -> Result<u
     if !engine.room() {
         return Err(BenchFault::Full);
     }
-    let batch = next_batch(alloc, engine.twin())?;
-    engine.flush(batch)?;
+    let mut batch = next_batch(alloc, engine.twin())?;
+    engine.flush(&mut batch)?;
     Ok(taken(engine.twin().core()))
 }
 

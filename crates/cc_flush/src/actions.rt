@@ -79,7 +79,8 @@ impl<S: Site> Flusher<S> {
     {
         match action {
             Action::Turn(batch) => {
-                self.flush(batch)?;
+                let mut batch = batch;
+                self.flush(&mut batch)?;
             }
             Action::Resend => {
                 self.resend()?;

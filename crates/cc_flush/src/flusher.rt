@@ -240,18 +240,18 @@ impl<S: Site> Flusher<S> {
     }
 
     /// Makes a batch durable, under two syncs. Its outputs are owed from then on, until `release` puts them. It takes no
-    /// memory. It fails only where a disk call does; then the batch is given up, nothing is put, and the engine has ended.
-    pub fn commit(&mut self, batch: Batch) -> Result<Landed, Failed>
+    /// memory. It fails only where a disk call does; then nothing is put, and the engine has ended.
+    pub fn commit(&mut self, batch: &Batch) -> Result<Landed, Failed>
         requires owes { self.old.owes ≡ false }
-        requires some { 1 ≤ length batch }
-        requires lawful { AreLawful self.old.twin batch }
+        requires some { 1 ≤ length batch.now }
+        requires lawful { AreLawful self.old.twin batch.now }
         requires room { self.old.used < room_limit }
         ensures ended { (fault : DeviceFault) → self.old.failed ≡ Some fault → (result ≡ Err (record { fault = fault })) × (self.new ≡ self.old) }
-        ensures landed { IfOk result (λ landed. landed ≡ batch) }
+        ensures landed { IfOk result (λ landed. landed ≡ batch.now) }
         ensures owed { IfOk result (IsOwed self.new) }
         ensures owes { MatchResult result (λ _. self.new.owes ≡ true) (λ _. self.new.owes ≡ false) }
         ensures same_twin { self.new.twin ≡ self.old.twin }
-        ensures moved { OnOk result (self.new.at ≡ record { side = self.old.at.side; place = self.old.at.place + length (batch_bytes batch) }) }
+        ensures moved { OnOk result (self.new.at ≡ record { side = self.old.at.side; place = self.old.at.place + length (batch_bytes batch.now) }) }
         ensures used { OnOk result (self.new.used ≡ max self.old.used (self.new.at.place + 1)) }
         ensures kept { OnErr result ((self.new.at ≡ self.old.at) × (self.new.used ≡ self.old.used)) }
         ensures goes_on { OnOk result (self.new.failed ≡ None) }
@@ -261,10 +261,10 @@ impl<S: Site> Flusher<S> {
         ensures honest { S.honest self.old.site ↔ S.honest self.new.site }
         ensures tells { (S.tells self.old.site ↔ S.tells self.new.site) × (S.sent self.new.site ≡ S.sent self.old.site) }
         ensures other_side { S.honest self.old.site → S.state self.new.site (other self.old.at.side) ≡ S.state self.old.site (other self.old.at.side) }
-        ensures every_moment { S.honest self.old.site → self.old.failed ≡ None → KeepsGood S.Site (LeadsTo S.Site self.old) (events_in batch) self.old.site self.new.site }
+        ensures every_moment { S.honest self.old.site → self.old.failed ≡ None → KeepsGood S.Site (LeadsTo S.Site self.old) (events_in batch.now) self.old.site self.new.site }
         ensures at_rest { S.honest self.old.site → self.old.failed ≡ None → (start : NodeValue) (events : List EventValue) (opening : ℕ) → LeadsTo S.Site self.old start events opening
-            → OnOk result (IsGoodNow S.Site self.new.site start (events ++ events_in batch) opening) }
-        ensures stops { S.honest self.old.site → self.old.failed ≡ None → OnErr result (CommitStops (S.state self.old.site self.old.at.side) self.old.at.place batch (S.state self.new.site self.old.at.side)) }
+            → OnOk result (IsGoodNow S.Site self.new.site start (events ++ events_in batch.now) opening) }
+        ensures stops { S.honest self.old.site → self.old.failed ≡ None → OnErr result (CommitStops (S.state self.old.site self.old.at.side) self.old.at.place batch.now (S.state self.new.site self.old.at.side)) }
         ensures device { self.old.failed ≡ None → IfErr result (λ f. (f.fault.side ≡ self.old.at.side) × ((f.fault.call ≡ Write) ⊎ (f.fault.call ≡ Sync))) }
         ensures count { self.old.failed ≡ None → MatchResult result (λ _. S.failures self.new.site ≡ S.failures self.old.site) (λ _. Rose (S.failures self.old.site) (S.failures self.new.site)) }
     {
@@ -282,10 +282,12 @@ impl<S: Site> Flusher<S> {
         }
     }
 
-    /// Takes the events of the batch that is owed, which `commit` answered last, into the node, and puts the outputs of each
-    /// in turn. It makes no disk call, takes no memory and can't fail. Nothing is owed then.
-    pub fn release(&mut self, landed: Landed)
+    /// Takes the events of the batch that is owed, which `commit` made durable last, out of it and into the node, and puts the
+    /// outputs of each in turn. It makes no disk call, takes no memory and can't fail. Nothing is owed then.
+    pub fn release(&mut self, landed: Landed, batch: &mut Batch)
+        requires batch { batch.old ≡ landed }
         requires owed { IsOwed self.old landed }
+        ensures empties { batch.new ≡ [] }
         ensures twin { self.new.twin ≡ after self.old.twin (events_in landed) }
         ensures owes { self.new.owes ≡ false }
         ensures same { (self.new.at ≡ self.old.at) × (self.new.generation ≡ self.old.generation) × (self.new.used ≡ self.old.used) × (self.new.failed ≡ self.old.failed) }
@@ -298,26 +300,34 @@ impl<S: Site> Flusher<S> {
         ensures good { S.honest self.old.site → S.tells self.new.site → StaysGood S.Site (LeadsToOwed S.Site landed self.old) self.old.site self.new.site }
         ensures count { S.failures self.new.site ≡ S.failures self.old.site }
     {
-        landed.put_outputs(&mut self.node, &mut self.site);
+        landed.put_outputs(batch, &mut self.node, &mut self.site);
         self.owed = None;
     }
 
     /// Makes a batch durable and puts its outputs: a `commit`, and then a `release`. It takes no memory. It fails only where
-    /// a disk call does; then the batch is given up, nothing is put, and the engine has ended.
-    pub fn flush(&mut self, batch: Batch) -> Result<(), Failed>
+    /// a disk call does; then the batch is given up, nothing is put, and the engine has ended. The batch is empty then.
+    pub fn flush(&mut self, batch: &mut Batch) -> Result<(), Failed>
         requires owes { self.old.owes ≡ false }
-        requires some { 1 ≤ length batch }
-        requires lawful { AreLawful self.old.twin batch }
+        requires some { 1 ≤ length batch.old }
+        requires lawful { AreLawful self.old.twin batch.old }
         requires room { self.old.used < room_limit }
+        ensures empties { batch.new ≡ [] }
         ensures ended { (fault : DeviceFault) → self.old.failed ≡ Some fault → (result ≡ Err (record { fault = fault })) × (self.new ≡ self.old) }
         ensures flushed { self.old.failed ≡ None → MatchResult result
-            (λ _. Flushes S.Site batch self.old self.new)
-            (λ f. FlushFails S.Site batch self.old self.new f.fault) }
+            (λ _. Flushes S.Site batch.old self.old self.new)
+            (λ f. FlushFails S.Site batch.old self.old self.new f.fault) }
         ensures same_opened { self.new.opened ≡ self.old.opened }
     {
-        let landed = self.commit(batch)?;
-        self.release(landed);
-        Ok(())
+        match self.commit(batch) {
+            Ok(landed) => {
+                self.release(landed, batch);
+                Ok(())
+            }
+            Err(failed) => {
+                batch.clear();
+                Err(failed)
+            }
+        }
     }
 
     /// Moves the node to the other side, under the next generation: then that side is in use, with no record behind the

@@ -1,5 +1,5 @@
 -- A batch with no entry goes through an engine that was asked for nothing.
---     flushed_none
+--     no_entry, flushed_none
 use Rattle.std.proofs.Common.{◌≡◌, List, [], ◌∷◌, length, refl, sym, subst, arith}
 use Rattle.std.specs.Prelude.{false, None}
 use Rattle.cc_site.specs.declared.site.Site.{Ghosts}
@@ -9,7 +9,7 @@ use Rattle.cc_flush.specs.Engine.{Engine}
 use Rattle.cc_flush.specs.Flushing.{LeadsTo, Flushes}
 use Rattle.cc_flush.proofs.Advancing.{stays}
 
-no_entry : (batch : List Entry) → length batch ≡ 0 → batch ≡ []
+pub no_entry : (batch : List Entry) → length batch ≡ 0 → batch ≡ []
 no_entry [] none = refl
 no_entry (e ∷ es) none = absurd (omega arith)
 

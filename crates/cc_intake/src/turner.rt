@@ -38,12 +38,14 @@ pub struct Turner<S: Site, L: Life, Q: Lane> {
     engine: Flusher<S>,
     consumer: Consumer<L, Q>,
     kept: Option<Entry>,
+    // What a turn gathers. It is empty between the turns, and stays where it is: it has the room of 64 entries.
+    batch: Batch,
     // How many entries were handed to the engine.
     flushed: u64,
 }
 
 impl<S: Site, L: Life, Q: Lane> Model for Turner<S, L, Q> {
-    ghost use Rattle.std.specs.Prelude.{ℕ, take};
+    ghost use Rattle.std.specs.Prelude.{◌≡◌, ℕ, [], take};
     ghost use Rattle.cc_intake.specs.Turning.{Turning, turning_code, IsTurner};
 
     ghost Value = { Turning S };
@@ -52,7 +54,7 @@ impl<S: Site, L: Life, Q: Lane> Model for Turner<S, L, Q> {
 
     ghost view = { λ t. record { handed = take t.flushed t.consumer.entries; kept = t.kept; finds = t.consumer.finds; engine = t.engine } };
 
-    ghost invariant = { λ t. IsTurner L.opening t.consumer.entries t.flushed t.kept t.engine × ((count : ℕ) → L.flushed count) };
+    ghost invariant = { λ t. IsTurner L.opening t.consumer.entries t.flushed t.kept t.engine × (t.batch ≡ []) × ((count : ℕ) → L.flushed count) };
 }
 
 impl<S: Site, L: Life, Q: Lane> Turner<S, L, Q> {
@@ -67,6 +69,7 @@ impl<S: Site, L: Life, Q: Lane> Turner<S, L, Q> {
             engine,
             consumer,
             kept: None,
+            batch: Batch::new(),
             flushed: 0,
         }
     }
@@ -82,6 +85,7 @@ impl<S: Site, L: Life, Q: Lane> Turner<S, L, Q> {
             engine,
             consumer,
             kept,
+            batch: _,
             flushed,
         } = self;
         (engine, consumer, kept, flushed)
@@ -133,11 +137,11 @@ impl<S: Site, L: Life, Q: Lane> Turner<S, L, Q> {
             });
         }
         let kept = self.kept.take();
-        let (batch, kept) = gather(rt, queue, &mut self.consumer, kept);
+        let kept = gather(rt, queue, &mut self.consumer, kept, &mut self.batch);
         drop(mem::replace(&mut self.kept, kept));
-        let events = batch.len();
+        let events = self.batch.len();
         self.flushed += events as u64;
-        flush(&mut self.engine, batch)?;
+        flush(&mut self.engine, &mut self.batch)?;
         Ok(Turned {
             events,
             full: false,
@@ -190,50 +194,53 @@ impl<S: Site, L: Life, Q: Lane> Turner<S, L, Q> {
     }
 }
 
-// Pops entries, up to one batch that begins with the kept one.
+// Pops entries into an empty batch behind the kept one, up to what one record takes. The entry that it doesn't take.
 fn gather<L: Life, Q: Lane, R: Wait>(
     rt: &R,
     queue: &Queue<L, Q>,
     consumer: &mut Consumer<L, Q>,
     kept: Option<Entry>,
-) -> (Batch, Option<Entry>)
-    ensures gathers { Gathers consumer.old.entries kept result.0 result.1 consumer.new.entries }
-    ensures done { IsDone L.reached result.0 result.1 consumer.new.entries consumer.old.finds consumer.new.finds }
+    batch: &mut Batch,
+) -> Option<Entry>
+    requires empty { batch.old ≡ [] }
+    ensures gathers { Gathers consumer.old.entries kept batch.new result consumer.new.entries }
+    ensures done { IsDone L.reached batch.new result consumer.new.entries consumer.old.finds consumer.new.finds }
     ensures lawful { AreLawful L.opening consumer.new.entries }
     ensures limit { length consumer.new.entries ≤ life_limit }
 {
     consumer.look();
-    let mut batch = begun(kept);
+    begin(batch, kept);
     while batch.len() < Batch::MAX_ENTRIES {
         let Some(entry) = consumer.pop(rt, queue) else {
-            return (batch, None);
+            return None;
         };
         if let Err(entry) = batch.push(entry) {
-            return (batch, Some(entry));
+            return Some(entry);
         }
     }
-    (batch, None)
+    None
 }
 
-// A batch that begins with the kept entry.
-fn begun(kept: Option<Entry>) -> Batch
-    ensures { result ≡ listed kept }
+// Puts the kept entry into an empty batch.
+fn begin(batch: &mut Batch, kept: Option<Entry>)
+    requires { batch.old ≡ [] }
+    ensures { batch.new ≡ listed kept }
 {
-    match kept {
-        Some(entry) => Batch::of_one(entry),
-        None => Batch::new(),
+    if let Some(entry) = kept {
+        drop(mem::replace(batch, Batch::of_one(entry)));
     }
 }
 
-// Makes a batch durable and puts its outputs, if it has any entry.
-fn flush<S: Site>(engine: &mut Flusher<S>, batch: Batch) -> Result<(), Failed>
+// Makes a batch durable and puts its outputs, if it has any entry. It is empty then.
+fn flush<S: Site>(engine: &mut Flusher<S>, batch: &mut Batch) -> Result<(), Failed>
     requires owes { engine.old.owes ≡ false }
     requires goes_on { engine.old.failed ≡ None }
-    requires lawful { AreLawful engine.old.twin batch }
+    requires lawful { AreLawful engine.old.twin batch.old }
     requires room { engine.old.used < room_limit }
-    ensures { MatchResult result
-        (λ _. Flushes S.Site batch engine.old engine.new)
-        (λ f. FlushFails S.Site batch engine.old engine.new f.fault) }
+    ensures empties { batch.new ≡ [] }
+    ensures flushed { MatchResult result
+        (λ _. Flushes S.Site batch.old engine.old engine.new)
+        (λ f. FlushFails S.Site batch.old engine.old engine.new f.fault) }
 {
     if batch.len() > 0 {
         engine.flush(batch)?;

@@ -3,9 +3,8 @@
 --     length_batch      how long a record and the gate behind it are
 --     batch_spelled     the record is a batch's
 use Rattle.std.proofs.Common.{◌≡◌, ℕ, suc, ◌+◌, ◌<◌, ◌≤◌, List, [], ◌∷◌, ◌++◌, length, get_or, drop, drop-cons, add-one, refl, sym, ◌∙◌, ap, arith, length-append}
-use Rattle.std.specs.Prelude.{Option, Some, unwrap_or, slice_get}
 use Rattle.std.specs.Int.{w32, to_be_bytes}
-use Rattle.std.specs.List.{flat_map, remove}
+use Rattle.std.specs.List.{flat_map}
 use Rattle.std.proofs.lemmas.List.{append_assoc, length-map}
 use Rattle.std.proofs.lemmas.List.Concat.{flat_map-cons}
 use Rattle.cc_wire.specs.declared.event.Event.{Event}
@@ -36,21 +35,6 @@ unfolding record_spelling
 record_is entries =
     append_assoc (to_be_bytes w32 (length (events_spelling (events_in entries)))) (length entries ∷ []) (sized entries)
     ∙ ap (λ (n : ℕ). to_be_bytes w32 (length (events_spelling (events_in entries))) ++ n ∷ sized entries) (sym (length-map entries (λ (entry : Entry). entry.event)))
-
--- the first entry, and what the others take
-pub first_out : (entries : List Entry) (entry : Entry) → slice_get entries 0 ≡ Some entry → entries ≡ entry ∷ remove entries 0
-first_out [] entry is = absurd cc
-first_out (e ∷ entries) entry is = ap (λ (o : Option Entry). unwrap_or o entry ∷ entries) is
-
-pub length_first : (entries rest : List Entry) (entry : Entry) → entries ≡ entry ∷ rest → length (events_spelling (events_in entries)) ≡ 4 + length (event_spelling entry.event) + length (events_spelling (events_in rest))
-length_first entries rest entry is =
-    omega (
-      arith,
-      ap (λ (es : List Entry). length (events_spelling (events_in es))) is,
-      flat_map-cons sized_spelling entry.event (events_in rest),
-      length-append (sized_spelling entry.event) (sized rest),
-      length_sized entry.event,
-    )
 
 -- a batch and the gate behind it fill no more than the room of one record
 pub length_batch : (entries : List Entry) → SpellsRecord (record_spelling (events_in entries)) (events_in entries) → length (batch_bytes entries) ≤ 262149

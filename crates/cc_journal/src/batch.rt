@@ -1,11 +1,16 @@
 //! Entries that become durable together.
 
-ghost use Rattle.std.specs.Prelude.{◌≡◌, ◌↔◌, ◌≤◌, ◌<◌, ◌++◌, ◌∷◌, [], None, length, OnOk, OnErr, IfErr, IfSome, IsOk};
+ghost use Rattle.std.specs.Prelude.{◌≡◌, ◌↔◌, ◌≤◌, ◌<◌, ◌++◌, ◌∷◌, [], length, OnOk, OnErr, IfErr, IsOk};
 ghost use Rattle.cc_node.specs.Sides.{batch_limit, record_limit, events_spelling};
-ghost use Rattle.cc_journal.specs.Batches.{events_in};
+ghost use Rattle.cc_node.specs.Node.{after, line};
+ghost use Rattle.cc_journal.specs.Batches.{AreLawful, events_in};
+ghost use Rattle.cc_journal.specs.Outlet.{Puts};
 
 use crate::entry::Entry;
+use crate::outlet::put_entry;
 use arrayvec::ArrayVec;
+use cc_node::Node;
+use cc_site::Site;
 use cc_wire::event_len;
 use std::marker::Model;
 
@@ -82,14 +87,25 @@ impl Batch {
         Ok(())
     }
 
-    /// Takes the first entry out. None where there is none.
-    pub fn take_first(&mut self) -> Option<Entry>
-        ensures some { IfSome result (λ entry. self.old ≡ entry ∷ self.new) }
-        ensures none { result ≡ None → (self.old ≡ []) × (self.new ≡ []) }
+    /// Gives all entries up.
+    pub fn clear(&mut self)
+        ensures { self.new ≡ [] }
     {
-        let entry = self.entries.pop_at(0)?;
-        self.size -= SIZE + event_len(&entry.event);
-        Some(entry)
+        self.entries.clear();
+        self.size = COUNT;
+    }
+
+    // Takes the entries out and into the node, and puts the outputs of each in turn.
+    pub(crate) fn put_outputs<S: Site>(&mut self, node: &mut Node, site: &mut S)
+        requires { AreLawful node.old self.old }
+        ensures empties { self.new ≡ [] }
+        ensures node { node.new ≡ after node.old (events_in self.old) }
+        ensures puts { Puts S.Site (line node.old (events_in self.old)) site.old site.new }
+    {
+        self.size = COUNT;
+        for entry in self.entries.drain(..) {
+            put_entry(node, site, entry);
+        }
     }
 
     /// How many entries there are.

@@ -14,17 +14,18 @@ ghost use Rattle.cc_journal.specs.Outlet.{Puts};
 ghost use Rattle.cc_journal.specs.Journals.{Position, with_record, with_open_gate, record_room, room_limit, KeepsGood, MayHaveOpened, RestsFor, RestsNow};
 
 use crate::batch::Batch;
-use crate::outlet::put_entries;
 use crate::record::put_record;
 use cc_node::Node;
 use cc_site::{DeviceFault, OPEN_GATE, Side, Site, write_durably};
 use cc_views::NoMemory;
 use std::alloc::Global;
 use std::marker::Model;
+use std::snapshot::Snapshot;
 
-/// A batch that is written, and not made sure of yet. It can be neither dropped nor copied: `Journal::append` takes it.
+/// That a batch is written, and not made sure of yet. It names the batch, which stays where it is. It can be neither dropped
+/// nor copied: `Journal::append` takes it.
 pub struct Flight {
-    batch: Batch,
+    batch: Snapshot<Batch>,
     // How many bytes its record and the gate behind that have.
     size: u64,
 }
@@ -39,14 +40,15 @@ impl Model for Flight {
 
     ghost coded = { entries_code };
 
-    ghost view = { λ f. f.batch };
+    ghost view = { λ f. f.batch.value };
 
-    ghost invariant = { λ f. IsWritten f.batch f.size };
+    ghost invariant = { λ f. IsWritten f.batch.value f.size };
 }
 
-/// A durable batch, whose outputs are owed. It can be neither dropped nor copied.
+/// That a batch is durable, and its outputs are owed. It names the batch, which stays where it is. It can be neither dropped
+/// nor copied.
 pub struct Landed {
-    batch: Batch,
+    batch: Snapshot<Batch>,
 }
 
 impl Model for Landed {
@@ -58,18 +60,21 @@ impl Model for Landed {
 
     ghost coded = { entries_code };
 
-    ghost view = { λ l. l.batch };
+    ghost view = { λ l. l.batch.value };
 }
 
 impl Landed {
-    /// Takes its events into the node that accepted them, and puts the outputs of each in turn. Nothing else spends it.
-    pub fn put_outputs<S: Site>(self, node: &mut Node, site: &mut S)
+    /// Takes the events of its batch out, and into the node that accepted them, and puts the outputs of each in turn. Nothing
+    /// else spends it.
+    pub fn put_outputs<S: Site>(self, batch: &mut Batch, node: &mut Node, site: &mut S)
+        requires batch { batch.old ≡ self }
         requires lawful { AreLawful node.old self }
+        ensures empties { batch.new ≡ [] }
         ensures node { node.new ≡ after node.old (events_in self) }
         ensures puts { Puts S.Site (line node.old (events_in self)) site.old site.new }
     {
-        let Landed { batch } = self;
-        put_entries(node, site, batch);
+        let Landed { batch: _ } = self;
+        batch.put_outputs(node, site);
     }
 }
 
@@ -148,30 +153,33 @@ impl Journal {
 
     /// Writes the batch's record, and a closed gate, behind the closed gate that ends the records, without a sync. Until
     /// `append` opens that gate the record doesn't count, so a crash leaves what was there.
-    pub fn write<S: Site>(&mut self, site: &mut S, batch: Batch) -> Result<Flight, Forfeit>
+    pub fn write<S: Site>(&mut self, site: &mut S, batch: &Batch) -> Result<Flight, Forfeit>
         requires within { S.honest site.old → self.old.place + 1 ≤ length (S.state site.old self.old.side).bytes }
         requires room { self.old.place < room_limit }
-        requires some { 1 ≤ length batch }
+        requires some { 1 ≤ length batch.now }
         ensures same { self.new ≡ self.old }
-        ensures flight { IfOk result (λ flight. flight ≡ batch) }
+        ensures flight { IfOk result (λ flight. flight ≡ batch.now) }
         ensures honest { S.honest site.old ↔ S.honest site.new }
         ensures tells { (S.tells site.old ↔ S.tells site.new) × (S.sent site.new ≡ S.sent site.old) }
         ensures other_side { S.honest site.old → S.state site.new (other self.old.side) ≡ S.state site.old (other self.old.side) }
-        ensures holds { S.honest site.old → OnOk result (S.state site.new self.old.side ≡ with_record (S.state site.old self.old.side) self.old.place batch) }
-        ensures failed { S.honest site.old → OnErr result (HalfWritten (S.state site.old self.old.side) (self.old.place + 1) (length (batch_bytes batch)) (S.state site.new self.old.side) ⊎ (S.state site.new self.old.side ≡ S.state site.old self.old.side)) }
-        ensures every_moment { S.honest site.old → (generation : ℕ) → KeepsGood S.Site (RestsNow S.Site site.old self.old generation) (events_in batch) site.old site.new }
+        ensures holds { S.honest site.old → OnOk result (S.state site.new self.old.side ≡ with_record (S.state site.old self.old.side) self.old.place batch.now) }
+        ensures failed { S.honest site.old → OnErr result (HalfWritten (S.state site.old self.old.side) (self.old.place + 1) (length (batch_bytes batch.now)) (S.state site.new self.old.side) ⊎ (S.state site.new self.old.side ≡ S.state site.old self.old.side)) }
+        ensures every_moment { S.honest site.old → (generation : ℕ) → KeepsGood S.Site (RestsNow S.Site site.old self.old generation) (events_in batch.now) site.old site.new }
         ensures at_rest { S.honest site.old → (generation : ℕ) (start : NodeValue) (events : List Event) (opening : ℕ)
             → RestsNow S.Site site.old self.old generation start events opening → RestsNow S.Site site.new self.old generation start events opening }
         ensures within { S.honest site.old → OnOk result (self.old.place + 1 ≤ length (S.state site.new self.old.side).bytes) }
-        ensures behind { S.honest site.old → OnOk result (StandsBehind (S.state site.new self.old.side).bytes self.old.place (batch_bytes batch)) }
-        ensures length { S.honest site.old → OnOk result (length (S.state site.new self.old.side).bytes ≡ max (length (S.state site.old self.old.side).bytes) (self.old.place + 1 + length (batch_bytes batch))) }
+        ensures behind { S.honest site.old → OnOk result (StandsBehind (S.state site.new self.old.side).bytes self.old.place (batch_bytes batch.now)) }
+        ensures length { S.honest site.old → OnOk result (length (S.state site.new self.old.side).bytes ≡ max (length (S.state site.old self.old.side).bytes) (self.old.place + 1 + length (batch_bytes batch.now))) }
         ensures device { IfErr result (λ forfeit. forfeit.fault ≡ record { side = self.old.side; call = Write }) }
         ensures fault { MatchResult result (λ _. S.failures site.new ≡ S.failures site.old) (λ forfeit. Rose (S.failures site.old) (S.failures site.new)) }
     {
-        put_record(&mut self.text, &batch);
+        put_record(&mut self.text, batch);
         let size = self.text.len() as u64;
         site.write_at(self.side, self.place + 1, &self.text)?;
-        Ok(Flight { batch, size })
+        Ok(Flight {
+            batch: Snapshot::of(batch),
+            size,
+        })
     }
 
     /// Makes sure of the record, opens its gate, and makes sure of that: then the batch is durable. The flight is the

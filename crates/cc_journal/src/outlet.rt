@@ -4,11 +4,10 @@ ghost use Rattle.std.specs.Prelude.{◌≡◌, ◌≤◌, ◌∷◌, [], Some, m
 ghost use Rattle.std.specs.FinMap as table;
 ghost use Rattle.cc_links.specs.Links.{LinksWithin};
 ghost use Rattle.cc_node.specs.Core.{send_ack, send_post, send_replies, outputs};
-ghost use Rattle.cc_node.specs.Node.{after, line, step};
-ghost use Rattle.cc_journal.specs.Batches.{AreLawful, events_in};
+ghost use Rattle.cc_node.specs.Node.{step};
+ghost use Rattle.cc_journal.specs.Batches.{AreLawful};
 ghost use Rattle.cc_journal.specs.Outlet.{Puts, request_of, new_post, kept_reply, kept_replies, on_link};
 
-use crate::batch::Batch;
 use crate::entry::Entry;
 use arrayvec::ArrayVec;
 use cc_links::LinkRow;
@@ -25,21 +24,9 @@ struct Answered {
     request: u64,
 }
 
-// Takes accepted events into the node, and puts the outputs of each in turn.
-pub(crate) fn put_entries<S: Site>(node: &mut Node, site: &mut S, batch: Batch)
-    requires { AreLawful node.old batch }
-    ensures node { node.new ≡ after node.old (events_in batch) }
-    ensures puts { Puts S.Site (line node.old (events_in batch)) site.old site.new }
-{
-    let mut left = batch;
-    while let Some(entry) = left.take_first() {
-        put_entry(node, site, entry);
-    }
-}
-
 // Takes an accepted event into the node, and puts its outputs: the acknowledgement, the post on each live link by
 // ascending peer, the replies.
-fn put_entry<S: Site>(node: &mut Node, site: &mut S, entry: Entry)
+pub(crate) fn put_entry<S: Site>(node: &mut Node, site: &mut S, entry: Entry)
     requires { AreLawful node.old (entry ∷ []) }
     ensures node { node.new ≡ step node.old entry.event }
     ensures puts { Puts S.Site (outputs node.old.core entry.event) site.old site.new }

@@ -35,22 +35,22 @@ pub enum Stopped {
 }
 
 // Makes a batch durable and puts its outputs.
-fn turn<S: Site>(engine: &mut Flusher<S>, batch: Batch) -> Result<(), Stopped>
+fn turn<S: Site>(engine: &mut Flusher<S>, batch: &mut Batch) -> Result<(), Stopped>
     requires honest { S.honest engine.old.site }
     requires owes { engine.old.owes ≡ false }
     requires goes_on { engine.old.failed ≡ None }
-    requires some { 1 ≤ length batch }
-    requires lawful { AreLawful engine.old.twin batch }
+    requires some { 1 ≤ length batch.old }
+    requires lawful { AreLawful engine.old.twin batch.old }
     ensures lived { S.tells engine.new.site → (opening : ℕ) → IsGoodNow S.Site engine.old.site engine.old.twin [] opening
-        → OnOk result (LeavesAll (S.state engine.new.site) (S.sent engine.new.site) engine.old.twin (events_in batch) opening) }
+        → OnOk result (LeavesAll (S.state engine.new.site) (S.sent engine.new.site) engine.old.twin (events_in batch.old) opening) }
     ensures put { S.tells engine.new.site
-        → OnOk result (S.sent engine.new.site ≡ S.sent engine.old.site ++ line engine.old.twin (events_in batch)) }
+        → OnOk result (S.sent engine.new.site ≡ S.sent engine.old.site ++ line engine.old.twin (events_in batch.old)) }
     ensures stops { (opening : ℕ) → IsGoodNow S.Site engine.old.site engine.old.twin [] opening
-        → IfErr result (LifeStops (λ _. ⊥) (S.state engine.new.site) (S.sent engine.new.site) engine.old.twin (events_in batch) opening) }
+        → IfErr result (LifeStops (λ _. ⊥) (S.state engine.new.site) (S.sent engine.new.site) engine.old.twin (events_in batch.old) opening) }
     ensures moments { (opening : ℕ) → IsGoodNow S.Site engine.old.site engine.old.twin [] opening
         → MatchResult result
-        (λ _. S.tells engine.new.site → EachMoment S.Site engine.old.site engine.new.site (IsGood engine.old.twin (events_in batch) 0 opening))
-        (λ _. EachMoment S.Site engine.old.site engine.new.site (IsGood engine.old.twin (events_in batch) 0 opening)) }
+        (λ _. S.tells engine.new.site → EachMoment S.Site engine.old.site engine.new.site (IsGood engine.old.twin (events_in batch.old) 0 opening))
+        (λ _. EachMoment S.Site engine.old.site engine.new.site (IsGood engine.old.twin (events_in batch.old) 0 opening)) }
     ensures count { MatchResult result (λ _. S.failures engine.new.site ≡ S.failures engine.old.site)
         (LifeRose (S.failures engine.old.site) (S.failures engine.new.site)) }
 {
@@ -59,7 +59,7 @@ fn turn<S: Site>(engine: &mut Flusher<S>, batch: Batch) -> Result<(), Stopped>
     }
     match engine.commit(batch) {
         Ok(landed) => {
-            engine.release(landed);
+            engine.release(landed, batch);
             Ok(())
         }
         Err(failed) => Err(Stopped::Commit(failed)),
@@ -93,7 +93,9 @@ fn live_on<S: Site>(alloc: Global, site: S, batch: Batch) -> Result<S, Back<S, S
             });
         }
     };
-    let outcome = turn(&mut engine, batch);
+    let mut batch = batch;
+    let outcome = turn(&mut engine, &mut batch);
+    drop(batch);
     let site = engine.close();
     match outcome {
         Ok(()) => Ok(site),

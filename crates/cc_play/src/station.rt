@@ -145,7 +145,8 @@ impl Station {
         if !self.engine.room() {
             return Err(PlayFault::NoMemory);
         }
-        Ok(self.engine.flush(Batch::of_one(entry)))
+        let mut batch = Batch::of_one(entry);
+        Ok(self.engine.flush(&mut batch))
     }
 
     /// Puts out again what stands in the node, and prints it.

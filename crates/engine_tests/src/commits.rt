@@ -92,11 +92,11 @@ fn unreleased(alloc: Global, flusher: &mut Flusher<MemorySite>) -> Result<Memory
     if flusher.owes() || !flusher.room() {
         return Err("there is no room")?;
     }
-    let batch = batch_of(alloc, flusher.twin(), Part::Store)?;
-    match flusher.commit(batch) {
+    let mut batch = batch_of(alloc, flusher.twin(), Part::Store)?;
+    match flusher.commit(&batch) {
         Ok(landed) => {
             let image = flusher.site().image(alloc, &Choice::Read);
-            flusher.release(landed);
+            flusher.release(landed, &mut batch);
             Ok(image?)
         }
         Err(failed) => Err(failed)?,

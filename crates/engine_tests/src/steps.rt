@@ -106,8 +106,8 @@ pub fn carry_out(
     }
     Ok(match step {
         Step::Turn(part) => {
-            let batch = batch_of(alloc, flusher.twin(), part)?;
-            came_of(flusher.flush(batch).and(Ok(0)))
+            let mut batch = batch_of(alloc, flusher.twin(), part)?;
+            came_of(flusher.flush(&mut batch).and(Ok(0)))
         }
         Step::Life(life) => {
             let actions = actions_of(alloc, flusher.twin(), life)?;

@@ -32,8 +32,8 @@ fn take(alloc: Global, engine: &mut Flusher<Disk<'_>>, event: &Event) -> Result<
     if engine.owes() || !engine.room() {
         return Err("there is no room")?;
     }
-    let batch = batch_of(alloc, engine, event)?;
-    engine.flush(batch)?;
+    let mut batch = batch_of(alloc, engine, event)?;
+    engine.flush(&mut batch)?;
     Ok(())
 }
 
@@ -42,11 +42,11 @@ fn crash(alloc: Global, engine: &mut Flusher<Disk<'_>>, event: &Event) -> Result
     if engine.owes() || !engine.room() {
         return Err("there is no room")?;
     }
-    let batch = batch_of(alloc, engine, event)?;
-    match engine.commit(batch) {
+    let mut batch = batch_of(alloc, engine, event)?;
+    match engine.commit(&batch) {
         Ok(landed) => {
             let image = engine.site().site.image(alloc, &Choice::Read);
-            engine.release(landed);
+            engine.release(landed, &mut batch);
             Ok(image?)
         }
         Err(failed) => Err(failed)?,

@@ -7,7 +7,7 @@ use Rattle.cc_flush.proofs.committing.make_durable.Goals as goal
 pub returns-clause-every_moment : goal.returns-clause-every_moment
 returns-clause-every_moment g c honest generation start events opening led =
     let appended = rw (c.write.ensures.same, c.in_ok-flight.ensures.flight) at c.append.ensures.every_moment in
-    joined g.S.Site c.args.site.now c.write.new.site c.append.new.site (IsGood start (events ++ events_in c.args.batch) (length events) opening)
+    joined g.S.Site c.args.site.now c.write.new.site c.append.new.site (IsGood start (events ++ events_in c.args.batch.now) (length events) opening)
     (c.write.ensures.every_moment honest generation start events opening led.rests)
     (appended (c.write.ensures.honest.0 honest) (c.in_ok-flight.ensures.behind honest) generation start events opening
     (record { rests = c.write.ensures.at_rest honest generation start events opening led.rests; lawful = led.lawful }))

@@ -21,7 +21,7 @@ returns-in-Ok-clause-lived g c tells opening good =
     let new = c.release.new.self in
     let e = c.in-Ok.ensures in
     let stays = c.release.ensures.good (e.honest.0 c.requires.honest) tells in
-    turned s c.args.engine.now mid new c.args.batch opening c.requires.lawful good e.same_twin (e.at_rest c.requires.honest c.requires.goes_on)
+    turned s c.args.engine.now mid new c.args.batch.now opening c.requires.lawful good e.same_twin (e.at_rest c.requires.honest c.requires.goes_on)
     (subst (λ entries. StaysGood s (LeadsToOwed s entries mid) mid.site new.site) e.landed stays)
 
 pub returns-in-Err-clause-stops : goal.returns-in-Err-clause-stops
@@ -29,13 +29,13 @@ returns-in-Err-clause-stops g c opening good =
     let new = c.commit.new.self.site in
     let e = c.in-Err.ensures in
     let old = c.args.engine.now in
-    failed_leaves g.S.Site old new (events_in c.args.batch) opening (batch_lawful old.twin c.args.batch c.requires.lawful)
+    failed_leaves g.S.Site old new (events_in c.args.batch.now) opening (batch_lawful old.twin c.args.batch.now c.requires.lawful)
     (g.met.S.Site.counts_now new (e.honest.0 c.requires.honest)) good (e.every_moment c.requires.honest c.requires.goes_on)
 
 pub returns-then-not-room-clause-moments : goal.returns-then-not-room-clause-moments
 returns-then-not-room-clause-moments g c opening good =
     let engine = c.args.engine.now in
-    rest_moments g.S.Site engine.site engine.twin (events_in c.args.batch) opening (g.met.S.Site.only_now engine.site c.requires.honest) good
+    rest_moments g.S.Site engine.site engine.twin (events_in c.args.batch.now) opening (g.met.S.Site.only_now engine.site c.requires.honest) good
 
 pub returns-in-Ok-clause-moments : goal.returns-in-Ok-clause-moments
 returns-in-Ok-clause-moments g c opening good tells =
@@ -44,10 +44,10 @@ returns-in-Ok-clause-moments g c opening good tells =
     let new = c.release.new.self in
     let e = c.in-Ok.ensures in
     let stays = c.release.ensures.good (e.honest.0 c.requires.honest) tells in
-    turned_moments s c.args.engine.now mid new c.args.batch opening good e.same_twin (e.every_moment c.requires.honest c.requires.goes_on)
+    turned_moments s c.args.engine.now mid new c.args.batch.now opening good e.same_twin (e.every_moment c.requires.honest c.requires.goes_on)
     (e.at_rest c.requires.honest c.requires.goes_on) (subst (λ entries. StaysGood s (LeadsToOwed s entries mid) mid.site new.site) e.landed stays)
 
 pub returns-in-Err-clause-moments : goal.returns-in-Err-clause-moments
 returns-in-Err-clause-moments g c opening good =
-    failed_moments g.S.Site c.args.engine.now c.commit.new.self.site (events_in c.args.batch) opening good
+    failed_moments g.S.Site c.args.engine.now c.commit.new.self.site (events_in c.args.batch.now) opening good
     (c.in-Err.ensures.every_moment c.requires.honest c.requires.goes_on)

@@ -18,7 +18,7 @@ overflow_add-place g c =
 pub returns-in-Ok-clause-every_moment : goal.returns-in-Ok-clause-every_moment
 returns-in-Ok-clause-every_moment g c =
     let s = g.S.Site in
-    let batch = c.args.batch in
+    let batch = c.args.batch.now in
     subst (λ e. e.owes ≡ false → AreLawful e.twin batch → s.honest e.site → e.failed ≡ None → KeepsGood s (LeadsTo s e) (events_in batch) e.site c.make_durable.new.site) c.self.view_is
     (λ idle lawful h none start events opening led.
     c.make_durable.ensures.every_moment h c.self.inside.generation start events opening (ready s _ batch c.self.invariant h none idle lawful g.met.S.Site.may_read start events opening led))
@@ -27,7 +27,7 @@ returns-in-Ok-clause-every_moment g c =
 pub returns-in-Ok-clause-at_rest : goal.returns-in-Ok-clause-at_rest
 returns-in-Ok-clause-at_rest g c =
     let s = g.S.Site in
-    let batch = c.args.batch in
+    let batch = c.args.batch.now in
     let new = c.make_durable.new.site in
     subst (λ e. e.owes ≡ false → AreLawful e.twin batch → s.honest e.site → e.failed ≡ None → (start : Node) (events : List Event) (opening : ℕ) → LeadsTo s e start events opening
     → IsGoodNow s new start (events ++ events_in batch) opening) c.self.view_is
@@ -39,7 +39,7 @@ returns-in-Ok-clause-at_rest g c =
 pub returns-in-Err-clause-every_moment : goal.returns-in-Err-clause-every_moment
 returns-in-Err-clause-every_moment g c =
     let s = g.S.Site in
-    let batch = c.args.batch in
+    let batch = c.args.batch.now in
     subst (λ e. e.owes ≡ false → AreLawful e.twin batch → s.honest e.site → e.failed ≡ None → KeepsGood s (LeadsTo s e) (events_in batch) e.site c.make_durable.new.site) c.self.view_is
     (λ idle lawful h none start events opening led.
     c.make_durable.ensures.every_moment h c.self.inside.generation start events opening (ready s _ batch c.self.invariant h none idle lawful g.met.S.Site.may_read start events opening led))
@@ -55,7 +55,7 @@ invariant_of-self g c =
     let place = ap (λ p. p.place) c.in-Ok.ensures.ok in
     let was = c.self.invariant in
     let owed = c.of.ensures ∙ c.in-Ok.ensures.landed in
-    let lawful = subst (λ e. AreLawful e.twin c.args.batch) view c.requires.lawful in
+    let lawful = subst (λ e. AreLawful e.twin c.args.batch.now) view c.requires.lawful in
     record {
       reaches = omega (arith, c.max-self-inside.ensures, c.place.ensures);
       within = λ h none. subst (λ (t : Side). at.place + 1 ≤ length (s.state new t).bytes) (sym side) (omega (arith, place, c.in-Ok.ensures.length (c.make_durable.ensures.honest.1 h)));
@@ -71,7 +71,7 @@ invariant_of-self g c =
           subst (λ (t : Side). IsSettled (s.state new (other t))) (sym side) (subst IsSettled (sym (c.make_durable.ensures.other_side old)) (was.other_settled old none));
       stands = λ h none there.
           let old = c.make_durable.ensures.honest.1 h in
-          rw owed (committed_stands s _ c.args.batch was old none (subst (λ e. e.owes ≡ false) view c.requires.owes) lawful new at side (c.make_durable.ensures.other_side old) (c.in-Ok.ensures.at_rest old) there);
+          rw owed (committed_stands s _ c.args.batch.now was old none (subst (λ e. e.owes ≡ false) view c.requires.owes) lawful new at side (c.make_durable.ensures.other_side old) (c.in-Ok.ensures.at_rest old) there);
     }
 
 pub returns-in-Ok-clause-owed : goal.returns-in-Ok-clause-owed

@@ -1,14 +1,12 @@
 use Rattle.std.proofs.Common.{ap, subst}
-use Rattle.std.proofs.lemmas.Result.{err_from_is_err_and}
 use Rattle.cc_journal.specs.Batches.{events_in}
 use Rattle.cc_flush.proofs.Flushing.{call_keeps_sides, flushed, Released}
 use Rattle.cc_flush.proofs.flusher.Flusher.flush.Goals as goal
 
-pub returns-in_err-landed-clause-flushed : goal.returns-in_err-landed-clause-flushed
-returns-in_err-landed-clause-flushed g c none =
-    let e = c.in_err-landed.ensures in
-    let p = err_from_is_err_and c.from_residual.result c.from_residual.ensures.1 in
-    rw (p.1, p.2) (record {
+pub returns-in-Err-clause-flushed : goal.returns-in-Err-clause-flushed
+returns-in-Err-clause-flushed g c none =
+    let e = c.in-Err.ensures in
+    record {
       twin = e.same_twin;
       owes = e.owes;
       at = e.kept.0;
@@ -18,16 +16,16 @@ returns-in_err-landed-clause-flushed g c none =
       same_honest = e.honest;
       told = e.tells;
       moments = λ h. e.every_moment h none;
-      sides = λ h. call_keeps_sides g.S.Site c.args.self.now (events_in c.args.batch) c.commit.new.self.site (e.every_moment h none);
+      sides = λ h. call_keeps_sides g.S.Site c.args.self.now (events_in c.args.batch.now) c.commit.new.self.site (e.every_moment h none);
       device = (e.device none, e.count none);
-    })
+    }
 
-pub returns-clause-flushed : goal.returns-clause-flushed
-returns-clause-flushed g c none =
+pub returns-in-Ok-clause-flushed : goal.returns-in-Ok-clause-flushed
+returns-in-Ok-clause-flushed g c none =
     let s = g.S.Site in
-    let e = c.in_ok-landed.ensures in
+    let e = c.in-Ok.ensures in
     let r = c.release.ensures in
-    flushed s c.args.self.now c.commit.new.self c.release.new.self c.args.batch none
+    flushed s c.args.self.now c.commit.new.self c.release.new.self c.args.batch.now none
     (record {
       same_twin = e.same_twin;
       goes_on = e.goes_on;

@@ -10,7 +10,7 @@ use Rattle.cc_journal.proofs.Steps.{still_good, gate_opens, gate_opened}
 use Rattle.cc_journal.proofs.journal.Journal.append.Goals as goal
 
 pub overflow_add-self : goal.overflow_add-self
-overflow_add-self g c = omega (arith, c.requires.room, ap (λ p. p.place) c.self.view_is, c.flight.invariant.size, length_batch c.flight.inside.batch c.flight.invariant.spelled)
+overflow_add-self g c = omega (arith, c.requires.room, ap (λ p. p.place) c.self.view_is, c.flight.invariant.size, length_batch c.flight.inside.batch.value c.flight.invariant.spelled)
 
 pub returns-in_err-sync-clause-every_moment : goal.returns-in_err-sync-clause-every_moment
 returns-in_err-sync-clause-every_moment g c honest standing =
@@ -27,7 +27,7 @@ returns-in_err-write_durably-clause-every_moment g c honest standing =
     let mid = c.sync.new.self in
     let new = c.write_durably.new.site in
     let batch = c.args.flight in
-    let spelled = subst (λ b. SpellsBatch (batch_bytes b) (events_in b)) c.flight.view_is (batch_spelled c.flight.inside.batch c.flight.invariant.spelled) in
+    let spelled = subst (λ b. SpellsBatch (batch_bytes b) (events_in b)) c.flight.view_is (batch_spelled c.flight.inside.batch.value c.flight.invariant.spelled) in
     let standing_at = subst (λ p. StandsBehind (s.state old p.side).bytes p.place (batch_bytes batch)) (sym c.self.view_is) standing in
     let honest_mid = c.sync.ensures.honest.0 honest in
     subst (λ p. (generation : ℕ) → KeepsGood s (RestsFor s (events_in batch) old p generation) (events_in batch) old new) c.self.view_is
@@ -41,7 +41,7 @@ returns-clause-every_moment g c honest standing =
     let mid = c.sync.new.self in
     let new = c.write_durably.new.site in
     let batch = c.args.flight in
-    let spelled = subst (λ b. SpellsBatch (batch_bytes b) (events_in b)) c.flight.view_is (batch_spelled c.flight.inside.batch c.flight.invariant.spelled) in
+    let spelled = subst (λ b. SpellsBatch (batch_bytes b) (events_in b)) c.flight.view_is (batch_spelled c.flight.inside.batch.value c.flight.invariant.spelled) in
     let standing_at = subst (λ p. StandsBehind (s.state old p.side).bytes p.place (batch_bytes batch)) (sym c.self.view_is) standing in
     let honest_mid = c.sync.ensures.honest.0 honest in
     subst (λ p. (generation : ℕ) → KeepsGood s (RestsFor s (events_in batch) old p generation) (events_in batch) old new) c.self.view_is
@@ -55,7 +55,7 @@ returns-clause-at_rest g c honest standing generation start events opening led =
     let mid = c.sync.new.self in
     let new = c.write_durably.new.site in
     let batch = c.args.flight in
-    let spelled = subst (λ b. SpellsBatch (batch_bytes b) (events_in b)) c.flight.view_is (batch_spelled c.flight.inside.batch c.flight.invariant.spelled) in
+    let spelled = subst (λ b. SpellsBatch (batch_bytes b) (events_in b)) c.flight.view_is (batch_spelled c.flight.inside.batch.value c.flight.invariant.spelled) in
     let standing_at = subst (λ p. StandsBehind (s.state old p.side).bytes p.place (batch_bytes batch)) (sym c.self.view_is) standing in
     let honest_mid = c.sync.ensures.honest.0 honest in
     let size_is = sym (c.flight.invariant.size ∙ ap (λ b. length (batch_bytes b)) c.flight.view_is) in
@@ -65,7 +65,7 @@ returns-clause-at_rest g c honest standing generation start events opening led =
     generation start events opening (subst (λ p. RestsFor s (events_in batch) old p generation start events opening) (sym c.self.view_is) led))
 
 pub returns-clause-short : goal.returns-clause-short
-returns-clause-short g c = subst (λ b. length (batch_bytes b) ≤ record_room) c.flight.view_is (length_batch c.flight.inside.batch c.flight.invariant.spelled)
+returns-clause-short g c = subst (λ b. length (batch_bytes b) ≤ record_room) c.flight.view_is (length_batch c.flight.inside.batch.value c.flight.invariant.spelled)
 
 on_err : {T E : Type 0} (r : Result T E) (P : Type 0) → P → OnErr r P
 on_err (Ok v) P p = tt

@@ -11,8 +11,8 @@ returns-in_err-write_at-clause-every_moment g c honest =
     let old = c.args.site.now in
     let new = c.write_at.new.self in
     let within = subst (λ p. p.place + 1 ≤ length (s.state old p.side).bytes) (sym c.self.view_is) (c.requires.within honest) in
-    subst (λ p. (generation : ℕ) → KeepsGood s (RestsNow s old p generation) (events_in c.args.batch) old new) c.self.view_is
-    (behind_good s old new (the_view c.self.inside) (g.met.S.Site.only_now old honest) (length c.deref.result.now) (c.write_at.ensures.time honest) within (events_in c.args.batch))
+    subst (λ p. (generation : ℕ) → KeepsGood s (RestsNow s old p generation) (events_in c.args.batch.now) old new) c.self.view_is
+    (behind_good s old new (the_view c.self.inside) (g.met.S.Site.only_now old honest) (length c.deref.result.now) (c.write_at.ensures.time honest) within (events_in c.args.batch.now))
 
 pub returns-in_err-write_at-clause-at_rest : goal.returns-in_err-write_at-clause-at_rest
 returns-in_err-write_at-clause-at_rest g c honest generation start events opening =
@@ -29,8 +29,8 @@ returns-clause-every_moment g c honest =
     let old = c.args.site.now in
     let new = c.write_at.new.self in
     let within = subst (λ p. p.place + 1 ≤ length (s.state old p.side).bytes) (sym c.self.view_is) (c.requires.within honest) in
-    subst (λ p. (generation : ℕ) → KeepsGood s (RestsNow s old p generation) (events_in c.args.batch) old new) c.self.view_is
-    (behind_good s old new (the_view c.self.inside) (g.met.S.Site.only_now old honest) (length c.deref.result.now) (c.write_at.ensures.time honest) within (events_in c.args.batch))
+    subst (λ p. (generation : ℕ) → KeepsGood s (RestsNow s old p generation) (events_in c.args.batch.now) old new) c.self.view_is
+    (behind_good s old new (the_view c.self.inside) (g.met.S.Site.only_now old honest) (length c.deref.result.now) (c.write_at.ensures.time honest) within (events_in c.args.batch.now))
 
 pub returns-clause-at_rest : goal.returns-clause-at_rest
 returns-clause-at_rest g c honest generation start events opening =
