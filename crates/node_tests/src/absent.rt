@@ -99,6 +99,39 @@ fn a_store_begins_anew(rt: HostRuntime) -> Result<(), Fail> {
     checked
 }
 
+// How many answers the store has once node 2 has acknowledged this tag.
+fn count_after(alloc: Global, node: &mut Node, number: u64, tag: u64) -> Result<u64, Fail> {
+    let (from, me) = (id(2)?, node.me());
+    let message = Message::StoreAck { tag, node: me };
+    let acknowledged = Event::Deliver {
+        from,
+        number,
+        message,
+    };
+    take(alloc, node, acknowledged)?;
+    match node.phase() {
+        Stage::Storing(pending) => Ok(pending.count),
+        _ => Err("no store is pending")?,
+    }
+}
+
+// The store was begun under tag 1, and anew under tag 2.
+fn check_tags<R: Abort + AllocGlobal>(rt: &R, node: &mut Node) -> Result<(), Fail> {
+    check_anew(rt, node)?;
+    let older = count_after(rt.alloc(), node, 1, 1)?;
+    let own = count_after(rt.alloc(), node, 2, 2)?;
+    assert!(rt; (older, own) == (0, 1));
+    Ok(())
+}
+
+#[test]
+fn an_older_tag_counts_nothing(rt: HostRuntime) -> Result<(), Fail> {
+    let mut node = Node::fresh(rt.alloc(), &opening(1, &[1, 2], &[]))?;
+    let checked = check_tags(&rt, &mut node);
+    drop(node);
+    checked
+}
+
 // Of three members all are needed, and once node 3 is retired two are: so the store needs too many until it begins anew.
 fn check_need<R: Abort + AllocGlobal>(rt: &R, node: &mut Node) -> Result<(), Fail> {
     let third = id(3)?;
