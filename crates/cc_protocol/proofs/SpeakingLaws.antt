@@ -1,7 +1,7 @@
 -- What a table of speakers keeps.
 --     kept_speakers       without some of them
 --     pushed_speaker      with one more
-use Rattle.std.proofs.Common.{◌≡◌, ◌≤◌, ◌<◌, Bool, ℕ, [], ◌∷◌, ◌++◌, length, arith}
+use Rattle.std.proofs.Common.{◌≤◌, ◌<◌, Bool, ℕ, [], ◌∷◌, ◌++◌, length, arith}
 use Rattle.std.specs.Prelude.{filter}
 use Rattle.std.proofs.lemmas.List.{length-append}
 use Rattle.cc_protocol.specs.declared.speakers.Speaker.{Speaker}

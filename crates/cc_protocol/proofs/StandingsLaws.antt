@@ -1,9 +1,9 @@
 -- What a table of standings keeps.
 --     kept_standings       without some of them
-use Rattle.std.proofs.Common.{◌≡◌, ◌≤◌, Bool, ℕ, length, arith}
+use Rattle.std.proofs.Common.{Bool, ℕ, arith}
 use Rattle.std.specs.Prelude.{filter}
 use Rattle.cc_protocol.specs.declared.standings.PeerStanding.{PeerStanding}
-use Rattle.cc_protocol.specs.Standings.{Standings, IsStanding, peer_limit}
+use Rattle.cc_protocol.specs.Standings.{Standings, IsStanding}
 use Rattle.cc_protocol.proofs.RoutingLaws.{shorter}
 
 pub kept_standings : (rows : Standings) (capacity : ℕ) → IsStanding rows capacity → (p : PeerStanding → Bool) → IsStanding (filter p rows) capacity

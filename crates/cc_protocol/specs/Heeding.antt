@@ -32,16 +32,16 @@ heed_refused (event.Retire node) why = duty.Refuse (refusing 0 0 why)
 heed_refused (event.Lapse node) why = duty.Nothing
 heed_refused event.Snapshot why = duty.Nothing
 
--- a lapse makes the room that others wait for, though it makes no post; all others ride with the next batch
+-- a lapse makes the room that others wait for, though it makes no post; all others defer with the next batch
 abbrev pub heed_unstirred : Event → Duty
-heed_unstirred event.Enter = duty.Ride
-heed_unstirred event.Leave = duty.Ride
-heed_unstirred (event.Deliver from number m) = duty.Ride
-heed_unstirred (event.Acked peer number) = duty.Ride
-heed_unstirred (event.Ask session request command) = duty.Ride
-heed_unstirred (event.Retire node) = duty.Ride
+heed_unstirred event.Enter = duty.Defer
+heed_unstirred event.Leave = duty.Defer
+heed_unstirred (event.Deliver from number m) = duty.Defer
+heed_unstirred (event.Acked peer number) = duty.Defer
+heed_unstirred (event.Ask session request command) = duty.Defer
+heed_unstirred (event.Retire node) = duty.Defer
 heed_unstirred (event.Lapse node) = duty.Wake
-heed_unstirred event.Snapshot = duty.Ride
+heed_unstirred event.Snapshot = duty.Defer
 
 -- an accepted event that stirs made a post or an answer
 abbrev pub heed_of : Event → Result Bool Refusal → Duty

@@ -1,6 +1,6 @@
 -- For how long one operation has been pending.
 --     is_same, lasts_after     whether two asks are one;  for how long one has been pending once a second has passed
-use Rattle.std.specs.Prelude.{ℕ, ◌+◌, ◌==◌, ◌&&◌, nat_le, min, Bool, false, Option, Some, None, if◌then◌else◌}
+use Rattle.std.specs.Prelude.{◌+◌, ◌==◌, ◌&&◌, nat_le, min, Bool, false, Option, Some, None, if◌then◌else◌}
 use Rattle.cc_protocol.specs.Absence.{long}
 use Rattle.cc_protocol.specs.declared.lasting.AskName.{AskName}
 use Rattle.cc_protocol.specs.declared.lasting.Lasting.{Lasting}

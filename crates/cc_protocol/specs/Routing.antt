@@ -1,13 +1,13 @@
 -- Which connections are open, and where the answers of sessions go.
 --     Routing                      the open connections by their tickets, the routes of asks, newest first, and what was given
---     door_limit_for, spare_limit  how many connections there are from each origin, and beside them for the operator
+--     connection_limit_for, spare_limit  how many connections there are from each origin, and beside them for the operator
 --     admitted, entered            what one more connection may do, and what is open then
 --     may_route, routed            whether an ask over a connection can have a route, and where answers go then
 --     taken, taken_back            the ask was taken by the node;  it was refused
 --     closed                       without a connection and its routes
---     door_of                      the connection that an answer goes to
+--     connection_of                      the connection that an answer goes to
 --     IsRouting                    how many there are, that routes lead to open connections, and that tickets and places were given
-use Rattle.std.specs.Prelude.{◌≤◌, ℕ, ◌+◌, ◌^◌, ◌==◌, ◌&&◌, ◌||◌, nat_lt, not, Bool, true, false, List, [], ◌∷◌, ◌++◌, length, filter, find, Option, Some, None, if◌then◌else◌, option_map, IsTrue}
+use Rattle.std.specs.Prelude.{◌≤◌, ℕ, ◌+◌, ◌^◌, ◌==◌, ◌&&◌, ◌||◌, nat_lt, not, Bool, List, [], ◌∷◌, ◌++◌, length, filter, find, Option, Some, None, if◌then◌else◌, option_map, IsTrue}
 use Rattle.std.specs.List.{list_any, AllByRecursion}
 use Rattle.cc_protocol.specs.declared.origin.Origin.{Origin}
 use Rattle.cc_protocol.specs.declared.origin.Origin.TheVariants as origin
@@ -15,7 +15,7 @@ use Rattle.cc_protocol.specs.declared.origin.Admitted.{Admitted}
 use Rattle.cc_protocol.specs.declared.route.Route.{Route}
 
 pub record Routing : Type 0 where
-  pub doors : List ℕ
+  pub connections : List ℕ
   -- connections beyond the bounds, which take the operator's requests alone
   pub spare : List ℕ
   pub routes : List Route
@@ -24,16 +24,16 @@ pub record Routing : Type 0 where
   pub asked : ℕ
 
 abbrev pub no_routing : Routing
-no_routing = record { doors = []; spare = []; routes = []; issued = 0; asked = 0 }
+no_routing = record { connections = []; spare = []; routes = []; issued = 0; asked = 0 }
 
-abbrev pub door_limit : ℕ
-door_limit = 1024
+abbrev pub connection_limit : ℕ
+connection_limit = 1024
 
 -- a part of the connections is kept for the addresses of peers, and a part of these for the machine itself
-abbrev pub door_limit_for : Origin → ℕ
-door_limit_for origin.Stranger = 768
-door_limit_for origin.Peer = 1016
-door_limit_for origin.Loopback = 1024
+abbrev pub connection_limit_for : Origin → ℕ
+connection_limit_for origin.Stranger = 768
+connection_limit_for origin.Peer = 1016
+connection_limit_for origin.Loopback = 1024
 
 abbrev pub spare_limit : ℕ
 spare_limit = 8
@@ -43,13 +43,13 @@ abbrev pub route_limit : ℕ
 route_limit = 1280
 
 abbrev pub is_open : ℕ → List ℕ → Bool
-is_open ticket doors = list_any (λ door. door == ticket) doors
+is_open ticket connections = list_any (λ connection. connection == ticket) connections
 
 abbrev pub has_ticket : Routing → Bool
 has_ticket g = nat_lt (g.issued + 1) (2 ^ 64)
 
 abbrev pub has_room : Origin → Routing → Bool
-has_room from g = nat_lt (length g.doors) (door_limit_for from)
+has_room from g = nat_lt (length g.connections) (connection_limit_for from)
 
 abbrev pub has_spare : Routing → Bool
 has_spare g = nat_lt (length g.spare) spare_limit
@@ -62,7 +62,7 @@ admitted from g =
 
 abbrev pub entered : Origin → Routing → Routing
 entered from g =
-    if has_ticket g && has_room from g then record g { doors = g.doors ++ (g.issued + 1) ∷ []; issued = g.issued + 1 } else (
+    if has_ticket g && has_room from g then record g { connections = g.connections ++ (g.issued + 1) ∷ []; issued = g.issued + 1 } else (
     if has_ticket g && has_spare g then record g { spare = g.spare ++ (g.issued + 1) ∷ []; issued = g.issued + 1 } else g
     )
 
@@ -77,15 +77,15 @@ or_else (Some ticket) other = Some ticket
 or_else None other = other
 
 -- to the connection over which that very request came last, else to the one over which its session asked last
-abbrev pub door_in : ℕ → ℕ → List Route → Option ℕ
-door_in session request routes =
+abbrev pub connection_in : ℕ → ℕ → List Route → Option ℕ
+connection_in session request routes =
     or_else (ticket_of (find (is_ask session request) routes)) (ticket_of (find (λ (r : Route). r.session == session) routes))
 
-abbrev pub door_of : ℕ → ℕ → Routing → Option ℕ
-door_of session request g = door_in session request g.routes
+abbrev pub connection_of : ℕ → ℕ → Routing → Option ℕ
+connection_of session request g = connection_in session request g.routes
 
 abbrev pub may_route : ℕ → Routing → Bool
-may_route ticket g = is_open ticket g.doors && nat_lt (length g.routes) route_limit && nat_lt (g.asked + 1) (2 ^ 64)
+may_route ticket g = is_open ticket g.connections && nat_lt (length g.routes) route_limit && nat_lt (g.asked + 1) (2 ^ 64)
 
 abbrev pub routed : ℕ → ℕ → ℕ → Routing → Routing
 routed session request ticket g =
@@ -106,17 +106,17 @@ taken_back place g = record g { routes = filter (λ (r : Route). not (r.place ==
 
 abbrev pub closed : ℕ → Routing → Routing
 closed ticket g = record g {
-  doors = filter (λ door. not (door == ticket)) g.doors;
-  spare = filter (λ door. not (door == ticket)) g.spare;
+  connections = filter (λ connection. not (connection == ticket)) g.connections;
+  spare = filter (λ connection. not (connection == ticket)) g.spare;
   routes = filter (λ (r : Route). not (r.ticket == ticket)) g.routes;
 }
 
-pub record IsRouting (g : Routing) (door_capacity spare_capacity route_capacity : ℕ) : Type 0 where
-  pub doors_fit : length g.doors ≤ door_limit
-  pub door_room : door_limit ≤ door_capacity
+pub record IsRouting (g : Routing) (connection_capacity spare_capacity route_capacity : ℕ) : Type 0 where
+  pub connections_fit : length g.connections ≤ connection_limit
+  pub connection_room : connection_limit ≤ connection_capacity
   pub spare_fits : length g.spare ≤ spare_limit
   pub spare_room : spare_limit ≤ spare_capacity
   pub routes_fit : length g.routes ≤ route_limit
   pub route_room : route_limit ≤ route_capacity
   pub placed : AllByRecursion (λ (r : Route). r.place ≤ g.asked) g.routes
-  pub lead : AllByRecursion (λ (r : Route). IsTrue (is_open r.ticket g.doors)) g.routes
+  pub lead : AllByRecursion (λ (r : Route). IsTrue (is_open r.ticket g.connections)) g.routes

@@ -15,8 +15,8 @@ pub enum Duty {
     Nothing,
     /// Wake the flusher: a post or an answer waits for it.
     Wake,
-    /// Let the event ride with the next batch: it made no post and no answer.
-    Ride,
+    /// Let the event defer with the next batch: it made no post and no answer.
+    Defer,
     /// Have the flusher tell this peer again what was heard from it.
     Reack(NodeId),
     /// Have the flusher put out the answer of this session's last request again.
@@ -45,7 +45,7 @@ fn heed_unstirred(event: &Event) -> Duty
 {
     match event {
         Event::Lapse { .. } => Duty::Wake,
-        _ => Duty::Ride,
+        _ => Duty::Defer,
     }
 }
 

@@ -4,7 +4,7 @@ ghost use Rattle.std.specs.Prelude.{◌≡◌, ◌≢◌, ◌≤◌, ◌<◌, �
 ghost use Rattle.std.specs.List.{AllByRecursion};
 ghost use Rattle.std.specs.Bool.{then_some};
 ghost use Rattle.std.specs.Vec.{vec_capacity};
-ghost use Rattle.cc_protocol.specs.Routing.{Routing, no_routing, is_open, is_ask, door_in, door_of, admitted, entered, may_route, routed, is_passed, taken, taken_back, ticket_of, closed, door_limit, door_limit_for};
+ghost use Rattle.cc_protocol.specs.Routing.{Routing, no_routing, is_open, is_ask, connection_in, connection_of, admitted, entered, may_route, routed, is_passed, taken, taken_back, ticket_of, closed, connection_limit, connection_limit_for};
 
 use crate::origin::{Admitted, Origin};
 use crate::route::Route;
@@ -16,7 +16,7 @@ use std::marker::Model;
 /// memory.
 #[derive(Debug, Drop)]
 pub struct Routes {
-    doors: Vec<u64>,
+    connections: Vec<u64>,
     spare: Vec<u64>,
     // Newest first.
     routes: Vec<Route>,
@@ -30,14 +30,14 @@ impl Model for Routes {
 
     ghost Value = { Routing };
 
-    ghost view = { λ r. record { doors = r.doors.items; spare = r.spare.items; routes = r.routes.items; issued = r.issued; asked = r.asked } };
+    ghost view = { λ r. record { connections = r.connections.items; spare = r.spare.items; routes = r.routes.items; issued = r.issued; asked = r.asked } };
 
-    ghost invariant = { λ r. IsRouting (record { doors = r.doors.items; spare = r.spare.items; routes = r.routes.items; issued = r.issued; asked = r.asked }) (vec_capacity r.doors) (vec_capacity r.spare) (vec_capacity r.routes) };
+    ghost invariant = { λ r. IsRouting (record { connections = r.connections.items; spare = r.spare.items; routes = r.routes.items; issued = r.issued; asked = r.asked }) (vec_capacity r.connections) (vec_capacity r.spare) (vec_capacity r.routes) };
 }
 
 impl Routes {
     /// How many connections are open at most, but for those of the operator.
-    pub const MAX_DOORS: usize = 1024;
+    pub const MAX_CONNECTIONS: usize = 1024;
 
     /// How many of them come from other machines.
     pub const MAX_REMOTE: usize = 1016;
@@ -56,7 +56,7 @@ impl Routes {
         ensures { IfOk result (λ r. r ≡ no_routing) }
     {
         Ok(Routes {
-            doors: Vec::with_capacity(alloc, Self::MAX_DOORS)?,
+            connections: Vec::with_capacity(alloc, Self::MAX_CONNECTIONS)?,
             spare: Vec::with_capacity(alloc, Self::MAX_SPARE)?,
             routes: Vec::with_capacity(alloc, Self::MAX_ROUTES)?,
             issued: 0,
@@ -72,8 +72,8 @@ impl Routes {
         ensures routes { self.new ≡ entered from self.old }
     {
         let ticket = self.issued.checked_add(1)?;
-        if self.doors.len() < Self::door_limit(from) {
-            self.doors.push(ticket).unwrap();
+        if self.connections.len() < Self::connection_limit(from) {
+            self.connections.push(ticket).unwrap();
             self.issued = ticket;
             return Some(Admitted {
                 ticket,
@@ -92,12 +92,12 @@ impl Routes {
     }
 
     // How many connections may be open beside one more.
-    fn door_limit(from: Origin) -> usize
-        ensures limit { result ≡ door_limit_for from }
-        ensures most { result ≤ door_limit }
+    fn connection_limit(from: Origin) -> usize
+        ensures limit { result ≡ connection_limit_for from }
+        ensures most { result ≤ connection_limit }
     {
         match from {
-            Origin::Loopback => Self::MAX_DOORS,
+            Origin::Loopback => Self::MAX_CONNECTIONS,
             Origin::Peer => Self::MAX_REMOTE,
             Origin::Stranger => Self::MAX_STRANGERS,
         }
@@ -109,7 +109,7 @@ impl Routes {
         ensures place { result ≡ then_some (may_route ticket self.old) (self.old.asked + 1) }
         ensures routes { self.new ≡ routed session request ticket self.old }
     {
-        if !is_open(&self.doors, ticket) || self.routes.len() >= Self::MAX_ROUTES {
+        if !is_open(&self.connections, ticket) || self.routes.len() >= Self::MAX_ROUTES {
             return None;
         }
         let place = self.asked.checked_add(1)?;
@@ -126,11 +126,11 @@ impl Routes {
 
     /// The connection that the answer to a request goes to: the one over which that request came last, else the one over
     /// which its session asked last.
-    pub fn door_of(&self, session: u64, request: u64) -> Option<u64>
-        ensures door { result ≡ door_of session request self.now }
-        ensures open { IfSome result (λ ticket. IsTrue (is_open ticket self.now.doors)) }
+    pub fn connection_of(&self, session: u64, request: u64) -> Option<u64>
+        ensures connection { result ≡ connection_of session request self.now }
+        ensures open { IfSome result (λ ticket. IsTrue (is_open ticket self.now.connections)) }
     {
-        door_in(&self.routes, session, request)
+        connection_in(&self.routes, session, request)
     }
 
     /// The ask at that place was taken, or had been before: older routes of its session are gone.
@@ -152,35 +152,35 @@ impl Routes {
     pub fn leave(&mut self, ticket: u64)
         ensures { self.new ≡ closed ticket self.old }
     {
-        remove_door(&mut self.doors, ticket);
-        remove_door(&mut self.spare, ticket);
+        remove_connection(&mut self.connections, ticket);
+        remove_connection(&mut self.spare, ticket);
         remove_routes(&mut self.routes, ticket);
     }
 }
 
-fn is_open(doors: &[u64], ticket: u64) -> bool
-    ensures { result ≡ is_open ticket doors.now }
+fn is_open(connections: &[u64], ticket: u64) -> bool
+    ensures { result ≡ is_open ticket connections.now }
 {
-    doors.iter().any(|door| *door == ticket)
+    connections.iter().any(|connection| *connection == ticket)
 }
 
-fn door_in(routes: &[Route], session: u64, request: u64) -> Option<u64>
-    ensures { result ≡ door_in session request routes.now }
+fn connection_in(routes: &[Route], session: u64, request: u64) -> Option<u64>
+    ensures { result ≡ connection_in session request routes.now }
 {
-    match door_of_request(routes, session, request) {
+    match connection_of_request(routes, session, request) {
         Some(ticket) => Some(ticket),
-        None => door_of_session(routes, session),
+        None => connection_of_session(routes, session),
     }
 }
 
-fn door_of_request(routes: &[Route], session: u64, request: u64) -> Option<u64>
+fn connection_of_request(routes: &[Route], session: u64, request: u64) -> Option<u64>
     ensures { result ≡ ticket_of (find (is_ask session request) routes.now) }
 {
     let route = routes.iter().find(|route| route.session == session && route.request == request)?;
     Some(route.ticket)
 }
 
-fn door_of_session(routes: &[Route], session: u64) -> Option<u64>
+fn connection_of_session(routes: &[Route], session: u64) -> Option<u64>
     ensures { result ≡ ticket_of (find (λ (r : Route). r.session == session) routes.now) }
 {
     let route = routes.iter().find(|route| route.session == session)?;
@@ -208,20 +208,20 @@ fn remove_routes(routes: &mut Vec<Route>, ticket: u64)
     routes.retain(|route| route.ticket != ticket);
 }
 
-fn remove_door(doors: &mut Vec<u64>, ticket: u64)
-    ensures items { doors.new.items ≡ filter (λ door. not (door == ticket)) doors.old.items }
-    ensures capacity { vec_capacity doors.new ≡ vec_capacity doors.old }
+fn remove_connection(connections: &mut Vec<u64>, ticket: u64)
+    ensures items { connections.new.items ≡ filter (λ connection. not (connection == ticket)) connections.old.items }
+    ensures capacity { vec_capacity connections.new ≡ vec_capacity connections.old }
 {
-    doors.retain(|door| *door != ticket);
+    connections.retain(|connection| *connection != ticket);
 }
 
 /// The answer to an ask goes to the connection that it came over. While another ask of its session is judged, and once that
 /// was refused, the answer to what was asked before goes where it went. Those of other sessions go where they went, and none
 /// to a connection that is gone.
 pub fn answers_follow_asks()
-    ensures asked { (session request ticket : ℕ) (g : Routing) → IsTrue (may_route ticket g) → door_of session request (routed session request ticket g) ≡ Some ticket }
-    ensures judged { (session request ticket other : ℕ) (g : Routing) → other ≢ request → IsSome (find (is_ask session other) g.routes) → door_of session other (routed session request ticket g) ≡ door_of session other g }
+    ensures asked { (session request ticket : ℕ) (g : Routing) → IsTrue (may_route ticket g) → connection_of session request (routed session request ticket g) ≡ Some ticket }
+    ensures judged { (session request ticket other : ℕ) (g : Routing) → other ≢ request → IsSome (find (is_ask session other) g.routes) → connection_of session other (routed session request ticket g) ≡ connection_of session other g }
     ensures refused { (session request ticket : ℕ) (g : Routing) → AllByRecursion (λ (r : Route). r.place ≤ g.asked) g.routes → IsTrue (may_route ticket g) → (taken_back (g.asked + 1) (routed session request ticket g)).routes ≡ g.routes }
-    ensures others { (session request ticket other that : ℕ) (g : Routing) → other ≢ session → door_of other that (routed session request ticket g) ≡ door_of other that g }
-    ensures gone { (session request ticket : ℕ) (g : Routing) → door_of session request (closed ticket g) ≢ Some ticket }
+    ensures others { (session request ticket other that : ℕ) (g : Routing) → other ≢ session → connection_of other that (routed session request ticket g) ≡ connection_of other that g }
+    ensures gone { (session request ticket : ℕ) (g : Routing) → connection_of session request (closed ticket g) ≢ Some ticket }
 {}

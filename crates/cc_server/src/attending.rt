@@ -1,10 +1,10 @@
 //! One connection: its worker and its writer.
 
 use crate::caller::{Done, serve};
-use crate::office::Office;
+use crate::context::Context;
 use crate::shared::Shared;
+use cc_channels::{Connection, write_frames};
 use cc_intake::{Hooks, Lane, Life};
-use cc_lines::{Door, write_frames};
 use cc_protocol::{Admitted, Ending, Origin};
 use cc_words::Peer;
 use crossbeam_channel::{Receiver, bounded};
@@ -17,7 +17,7 @@ use std::thread::Threads;
 use std::time::{Clock, Duration};
 
 // How many frames wait for a connection's writer at most.
-const DOOR_ROOM: usize = 256;
+const CONNECTION_ROOM: usize = 256;
 
 // How long a client may take nothing, in milliseconds.
 const PATIENCE_MS: u64 = 5000;
@@ -30,28 +30,30 @@ const OPERATOR_SILENCE_S: u64 = 5;
 
 /// Serves a connection from that address, with a writer of its own.
 pub fn attend<L: Life + Send + Sync, Q: Lane + Send + Sync, R, H: Hooks + Sync>(
-    office: &Office<'_, R, H, L, Q>,
+    context: &Context<'_, R, H, L, Q>,
     stream: TcpStream,
     from: SocketAddr,
 )
 where
     R: Threads + Wait + Clock + Eprint + Sync,
 {
-    let rt = office.rt;
+    let rt = context.rt;
     let _ = stream.set_nodelay(true);
     let _ = stream.set_write_timeout(Some(Duration::from_millis(PATIENCE_MS)));
-    let Some((pen, door)) = opened(office.alloc, stream) else {
+    let Some((pen, connection)) = opened(context.alloc, stream) else {
         return;
     };
-    let Some(admitted) = admitted(office, &door, from) else {
+    let Some(admitted) = admitted(context, &connection, from) else {
         return;
     };
-    let _ = door.reader().set_read_timeout(Some(silence_of(admitted)));
+    let _ = connection
+        .reader()
+        .set_read_timeout(Some(silence_of(admitted)));
     thread::scope(thread::scope_env(), rt, move |scope| -> () {
         if scope.spawn(move || write_out(rt, pen)).is_ok() {
-            serve_in(office, door, admitted, from);
+            serve_in(context, connection, admitted, from);
         } else {
-            office.shared.doors.leave(rt, admitted.ticket);
+            context.shared.connections.leave(rt, admitted.ticket);
         }
     });
 }
@@ -64,29 +66,29 @@ struct Pen {
     waiting: Arc<AtomicU64>,
 }
 
-// The writer's end of a connection, and its door.
-fn opened(alloc: Global, stream: TcpStream) -> Option<(Pen, Arc<Door>)> {
+// The writer's end of a connection, and the connection.
+fn opened(alloc: Global, stream: TcpStream) -> Option<(Pen, Arc<Connection>)> {
     let stream = Arc::new(alloc, stream).ok()?;
     let waiting = Arc::new(alloc, AtomicU64::new(0)).ok()?;
-    let (to, from) = bounded(alloc, DOOR_ROOM).ok()?;
+    let (to, from) = bounded(alloc, CONNECTION_ROOM).ok()?;
     let pen = Pen {
         stream: Arc::try_clone(&stream).ok()?,
         from,
         waiting: Arc::try_clone(&waiting).ok()?,
     };
-    let door = Arc::new(alloc, Door::new(stream, to, waiting)).ok()?;
-    Some((pen, door))
+    let connection = Arc::new(alloc, Connection::new(stream, to, waiting)).ok()?;
+    Some((pen, connection))
 }
 
 // Lets a connection in. None where there are too many.
 fn admitted<R: Wait, H: Hooks, L: Life, Q: Lane>(
-    office: &Office<'_, R, H, L, Q>,
-    door: &Arc<Door>,
+    context: &Context<'_, R, H, L, Q>,
+    connection: &Arc<Connection>,
     from: SocketAddr,
 ) -> Option<Admitted> {
-    let known = Arc::try_clone(door).ok()?;
-    let origin = origin_of(office.peers, from);
-    office.shared.doors.enter(office.rt, known, origin)
+    let known = Arc::try_clone(connection).ok()?;
+    let origin = origin_of(context.peers, from);
+    context.shared.connections.enter(context.rt, known, origin)
 }
 
 fn origin_of(peers: &[Peer], from: SocketAddr) -> Origin {
@@ -117,43 +119,50 @@ fn write_out<R: Wait>(rt: &R, pen: Pen) {
     let _ = pen.stream.shutdown(Shutdown::Both);
 }
 
-// Serves with a share out of the pool, or a new one. Who says that nothing more comes is answered all the same. The door is
-// closed at the return, and so the channel to the writer, which then ends.
+// Serves with a share out of the pool, or a new one. Who says that nothing more comes is answered all the same. The connection is
+// let go at the return, and so the channel to the writer, which then ends.
 fn serve_in<R: Wait + Eprint, H: Hooks, L: Life, Q: Lane>(
-    office: &Office<'_, R, H, L, Q>,
-    door: Arc<Door>,
+    context: &Context<'_, R, H, L, Q>,
+    connection: Arc<Connection>,
     admitted: Admitted,
     from: SocketAddr,
 ) {
-    let inside: &Door = &door;
-    if serve_out(office, inside, admitted, from) == Some(Done::Frames(Ending::Input)) {
-        let Shared { bell, doors, .. } = office.shared;
+    let inside: &Connection = &connection;
+    if serve_out(context, inside, admitted, from) == Some(Done::Frames(Ending::Input)) {
+        let Shared {
+            waker,
+            connections,
+            ..
+        } = context.shared;
         let over = inside.over();
-        office
-            .room
-            .outlast(office.rt, bell, doors, admitted.ticket, over);
+        context
+            .admission
+            .outlast(context.rt, waker, connections, admitted.ticket, over);
     }
-    office.shared.doors.leave(office.rt, admitted.ticket);
+    context
+        .shared
+        .connections
+        .leave(context.rt, admitted.ticket);
 }
 
 // Why no further event came. None where there is no share.
 fn serve_out<R: Wait + Eprint, H: Hooks, L: Life, Q: Lane>(
-    office: &Office<'_, R, H, L, Q>,
-    door: &Door,
+    context: &Context<'_, R, H, L, Q>,
+    connection: &Connection,
     admitted: Admitted,
     from: SocketAddr,
 ) -> Option<Done> {
-    let mut share = office.draw()?;
-    let seat = office.seat(door, admitted);
+    let mut share = context.draw()?;
+    let admission = context.admission_over(connection, admitted);
     let done = serve(
-        office,
-        &seat,
-        door,
+        context,
+        &admission,
+        connection,
         admitted.ticket,
         from,
-        door.reader(),
+        connection.reader(),
         &mut share,
     );
-    office.give_back(share);
+    context.give_back(share);
     Some(done)
 }

@@ -4,16 +4,16 @@ ghost use Rattle.std.specs.Prelude.{◌≡◌, ◌+◌, List, None, IfSome, Matc
 ghost use Rattle.cc_intake.specs.Talks.{Answer, IsAnswer, places_of, PlacesRise};
 ghost use Rattle.cc_server.specs.Serving.{brings_again, Takes, Stops, Brings};
 
+use crate::context::Context;
 use crate::duties::duty_of;
 use crate::meeting::Meeting;
 use crate::notes::note_back;
 use crate::of_life::OfLife;
-use crate::office::Office;
 use crate::replies::Replies;
 use crate::shared::Shared;
+use cc_channels::{Admission, Admitting, Flushed, NotAdmitted, bytes_of, speaker_of};
 use cc_frames::Frame;
 use cc_intake::{Accepted, Hooks, Lane, Life, Refused, Share, Source};
-use cc_lines::{Flushed, NoSeat, Room, Seating, bytes_of, speaker_of};
 use cc_protocol::{Duty, Ending, Incoming, Input, event_of};
 use cc_views::NodeId;
 use cc_wire::{Event, Refusal};
@@ -29,25 +29,25 @@ pub enum Done {
     Frames(Ending),
     /// A frame came that only a node sends.
     Unasked,
-    /// An event got no seat.
-    TurnedAway(NoSeat),
+    /// An event wasn't admitted.
+    TurnedAway(NotAdmitted),
     /// A growth was refused.
     NoMemory,
 }
 
 /// The events of one connection, and where their answers go.
 #[derive(Drop)]
-pub struct Caller<'a, R: Wait, I: Input, S: Seating, D: Replies, F: Flushed> {
+pub struct Caller<'a, R: Wait, I: Input, S: Admitting, D: Replies, F: Flushed> {
     rt: &'a R,
     alloc: Global,
     shared: &'a Shared,
-    room: &'a Room<F>,
+    admission: &'a Admission<F>,
     me: NodeId,
     peers: &'a [Peer],
     // Where the connection comes from.
     address: SocketAddr,
-    seating: &'a S,
-    door: &'a D,
+    admitting: &'a S,
+    connection: &'a D,
     ticket: u64,
     frames: Incoming<I>,
     // The place of the route of the event that was given last, if that is an ask that has one.
@@ -58,7 +58,7 @@ pub struct Caller<'a, R: Wait, I: Input, S: Seating, D: Replies, F: Flushed> {
     done: Done,
 }
 
-impl<R: Wait + Eprint, I: Input, S: Seating, D: Replies, F: Flushed> Caller<'_, R, I, S, D, F> {
+impl<R: Wait + Eprint, I: Input, S: Admitting, D: Replies, F: Flushed> Caller<'_, R, I, S, D, F> {
     // The event that comes next, or why none does.
     fn event(&mut self) -> Result<Event, Done>
         ensures { MatchResult result
@@ -77,15 +77,15 @@ impl<R: Wait + Eprint, I: Input, S: Seating, D: Replies, F: Flushed> Caller<'_, 
         }
     }
 
-    // The event that comes next, which has a seat then, or why none does.
-    fn seated(&mut self) -> Result<Event, Done>
+    // The event that comes next, which is admitted then, or why none does.
+    fn admitted_event(&mut self) -> Result<Event, Done>
         ensures { MatchResult result
             (λ e. Takes self.old.due self.old.frames e self.new.frames)
             (λ done. Stops I.may_fail S.may_turn_away self.old.due self.old.frames done) }
     {
         let event = self.event()?;
         self.hear_voice(&event);
-        if let Err(why) = self.seating.sit(self.rt, &event) {
+        if let Err(why) = self.admitting.admit(self.rt, &event) {
             drop(event);
             return Err(Done::TurnedAway(why));
         }
@@ -108,8 +108,8 @@ impl<R: Wait + Eprint, I: Input, S: Seating, D: Replies, F: Flushed> Caller<'_, 
                 request,
                 ..
             } => {
-                let doors = &self.shared.doors;
-                doors.route(self.rt, *session, *request, self.ticket)
+                let connections = &self.shared.connections;
+                connections.route(self.rt, *session, *request, self.ticket)
             }
             _ => None,
         }
@@ -120,23 +120,23 @@ impl<R: Wait + Eprint, I: Input, S: Seating, D: Replies, F: Flushed> Caller<'_, 
         let Some(place) = self.place else {
             return;
         };
-        let doors = &self.shared.doors;
+        let connections = &self.shared.connections;
         match event {
-            Event::Ask { session, .. } if is_taken => doors.take(self.rt, *session, place),
-            _ => doors.take_back(self.rt, place),
+            Event::Ask { session, .. } if is_taken => connections.take(self.rt, *session, place),
+            _ => connections.take_back(self.rt, place),
         }
     }
 
-    // What the answer to an event makes of its seat and its route, and whom it was news of.
+    // What the answer to an event makes of its permit and its route, and whom it was news of.
     fn note(&self, event: &Event, answer: &Result<Accepted, Refused>) {
         match answer {
             Ok(_) => {
-                self.room.accept();
+                self.admission.accept();
                 self.settle_route(event, true);
                 self.hear(event);
             }
             Err(refused) => {
-                self.room.leave(self.rt);
+                self.admission.release(self.rt);
                 self.settle_route(event, refused.why == Refusal::Repeat);
             }
         }
@@ -168,12 +168,12 @@ impl<R: Wait + Eprint, I: Input, S: Seating, D: Replies, F: Flushed> Caller<'_, 
     // Tells a client why not, once all is durable that this was judged by.
     fn refuse(&self, frame: &Frame, refused: Refused) {
         let judged = refused.accepted;
-        let Some(durable) = self.room.settle(self.rt, &self.shared.bell, judged) else {
+        let Some(durable) = self.admission.settle(self.rt, &self.shared.waker, judged) else {
             return;
         };
         match bytes_of(self.alloc, frame) {
-            Ok(bytes) => self.door.refuse(self.rt, bytes, refused, durable),
-            Err(_) => self.door.give_up(),
+            Ok(bytes) => self.connection.refuse(self.rt, bytes, refused, durable),
+            Err(_) => self.connection.give_up(),
         }
     }
 
@@ -182,8 +182,8 @@ impl<R: Wait + Eprint, I: Input, S: Seating, D: Replies, F: Flushed> Caller<'_, 
         ensures { result ≡ brings_again duty }
     {
         match duty {
-            Duty::Wake => self.shared.bell.ring(),
-            Duty::Ride => self.shared.bell.ride(),
+            Duty::Wake => self.shared.waker.wake(),
+            Duty::Defer => self.shared.waker.defer(),
             Duty::Nothing => {}
             Duty::Reack(peer) => self.shared.reack(self.rt, peer),
             Duty::Again(session) => self.shared.again(self.rt, session),
@@ -198,7 +198,7 @@ impl<R: Wait + Eprint, I: Input, S: Seating, D: Replies, F: Flushed> Caller<'_, 
     }
 }
 
-impl<R: Wait + Eprint, I: Input, S: Seating, D: Replies, F: Flushed> Source
+impl<R: Wait + Eprint, I: Input, S: Admitting, D: Replies, F: Flushed> Source
     for Caller<'_, R, I, S, D, F> {
     ghost use Rattle.cc_server.specs.Serving.{Gives, Hears};
 
@@ -211,7 +211,7 @@ impl<R: Wait + Eprint, I: Input, S: Seating, D: Replies, F: Flushed> Source
         (record { due = t.due; ahead = t.frames; done = t.done }) };
 
     fn next(&mut self) -> Option<Event> {
-        match self.seated() {
+        match self.admitted_event() {
             Ok(event) => Some(event),
             Err(done) => {
                 self.done = done;
@@ -233,10 +233,18 @@ impl<R: Wait + Eprint, I: Input, S: Seating, D: Replies, F: Flushed> Source
 /// Of bytes that are known it brings the events of their frames, one after the other, each again where the queue was full;
 /// each answer is the intake's to that very event, and the share counts those that were accepted. It tells why it ended: that
 /// a read failed only where one can, and that an event was turned away only where one can be.
-pub fn serve<R: Wait + Eprint, H: Hooks, L: Life, Q: Lane, I: Input + Drop, S: Seating, D: Replies>(
-    office: &Office<'_, R, H, L, Q>,
-    seating: &S,
-    door: &D,
+pub fn serve<
+    R: Wait + Eprint,
+    H: Hooks,
+    L: Life,
+    Q: Lane,
+    I: Input + Drop,
+    S: Admitting,
+    D: Replies,
+>(
+    context: &Context<'_, R, H, L, Q>,
+    admitting: &S,
+    connection: &D,
     ticket: u64,
     from: SocketAddr,
     reader: I,
@@ -245,26 +253,26 @@ pub fn serve<R: Wait + Eprint, H: Hooks, L: Life, Q: Lane, I: Input + Drop, S: S
     ensures { (answers : List Answer) × (share.new ≡ share.old + places_of answers) × PlacesRise share.old answers
         × IfSome (I.remaining reader) (λ bytes. Brings I.may_fail S.may_turn_away (IsAnswer L.opening L.accepted L.taken) result None bytes answers) }
 {
-    let alloc = office.alloc;
+    let alloc = context.alloc;
     let Ok(frames) = Incoming::new(alloc, reader) else {
         return Done::NoMemory;
     };
     let mut caller = Caller {
-        rt: office.rt,
+        rt: context.rt,
         alloc,
-        shared: office.shared,
-        room: office.room,
-        me: office.me,
-        peers: office.peers,
+        shared: context.shared,
+        admission: context.admission,
+        me: context.me,
+        peers: context.peers,
         address: from,
-        seating,
-        door,
+        admitting,
+        connection,
         ticket,
         frames,
         place: None,
         due: None,
         done: Done::NoMemory,
     };
-    office.work(share, &mut caller);
+    context.work(share, &mut caller);
     caller.done
 }

@@ -3,10 +3,10 @@
 use crate::looking::{Looks, look};
 use crate::of_life::OfLife;
 use crate::shared::Shared;
+use cc_channels::{Admission, Durable};
 use cc_flush::{CheckpointFault, Failed};
 use cc_intake::{Lane, Life, Queue, Turner};
 use cc_journal::Batch;
-use cc_lines::{Durable, Room};
 use cc_site::Site;
 use crossbeam_utils::sync::Parker;
 use std::sync::Wait;
@@ -33,7 +33,7 @@ pub fn flush_all<S: Site, L: Life, Q: Lane, R: Wait>(
     rt: &R,
     turner: &mut Turner<S, L, Q>,
     queue: &Queue<L, Q>,
-    room: &Room<OfLife<L>>,
+    admission: &Admission<OfLife<L>>,
     watch: &Watch<'_>,
 ) -> Result<(), Failed> {
     let mut is_fresh = true;
@@ -41,13 +41,13 @@ pub fn flush_all<S: Site, L: Life, Q: Lane, R: Wait>(
     let mut looks = Looks::new();
     for _ in rt.forever() {
         let is_done = watch.shared.done.is_set();
-        watch.shared.bell.look();
-        let events = turn(rt, turner, queue, room)?;
+        watch.shared.waker.look();
+        let events = turn(rt, turner, queue, admission)?;
         let is_wished = grant(rt, turner, watch.shared)?;
         is_fresh &= events == 0;
         let is_tick = watch.shared.ticked.take();
         if is_tick {
-            room.tick(rt);
+            admission.tick(rt);
             resend(turner, watch.shared)?;
             if !is_fresh {
                 is_fresh = spare(turner, &mut begun)?;
@@ -66,17 +66,17 @@ pub fn flush_all<S: Site, L: Life, Q: Lane, R: Wait>(
     unreachable!()
 }
 
-// A turn. How many events it flushed, whose seats are free then.
+// A turn. How many events it flushed, whose permits are free then.
 fn turn<S: Site, L: Life, Q: Lane, R: Wait>(
     rt: &R,
     turner: &mut Turner<S, L, Q>,
     queue: &Queue<L, Q>,
-    room: &Room<OfLife<L>>,
+    admission: &Admission<OfLife<L>>,
 ) -> Result<u64, Failed> {
     let events = turner.turn(rt, queue)?.events as u64;
     if events > 0 {
         let flushed = Durable::new(turner.handed());
-        room.turned(rt, events, flushed, turner.engine().twin());
+        admission.turned(rt, events, flushed, turner.engine().twin());
     }
     Ok(events)
 }
@@ -108,14 +108,14 @@ fn resend<S: Site, L: Life, Q: Lane>(
     turner: &mut Turner<S, L, Q>,
     shared: &Shared,
 ) -> Result<(), Failed> {
-    for line in &shared.lines {
-        line.mute();
+    for channel in &shared.channels {
+        channel.mute();
     }
     shared.own.mute();
     let resent = turner.resend();
     shared.own.unmute();
-    for line in &shared.lines {
-        line.unmute();
+    for channel in &shared.channels {
+        channel.unmute();
     }
     resent?;
     Ok(())

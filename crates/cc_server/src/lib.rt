@@ -4,8 +4,8 @@
 
 mod attending;
 mod caller;
-mod channels;
 mod config;
+mod context;
 mod duties;
 mod flushing;
 mod known;
@@ -13,7 +13,7 @@ mod looking;
 mod meeting;
 mod notes;
 mod of_life;
-mod office;
+mod outlet;
 mod own;
 mod replies;
 mod run;

@@ -28,7 +28,7 @@ impl Looks {
 }
 
 /// Looks at a node as it was flushed: at each tick how its peers stand, and whether it posts a snapshot; and always what
-/// lapses. It hands events in on the node's own line, and waits for none of them.
+/// lapses. It hands events in on the node's own channel, and waits for none of them.
 pub fn look<R: Wait>(rt: &R, core: &Core, shared: &Shared, looks: &mut Looks, is_tick: bool) {
     if is_tick {
         let is_back = pass_second(rt, core, shared);
@@ -68,10 +68,10 @@ fn pass_link<R: Wait>(rt: &R, core: &Core, shared: &Shared, link: &LinkRow) -> P
     standings.pass_second(link.peer, link.acked, sent, is_live)
 }
 
-// Tells the line to a peer whether it is late, and notes that it is taken for absent.
+// Tells the channel to a peer whether it is late, and notes that it is taken for absent.
 fn note_passed<R: Wait>(rt: &R, shared: &Shared, peer: NodeId, passed: Passed) {
-    if let Some(line) = shared.lines.iter().find(|line| line.peer == peer) {
-        line.note_progress(passed.standing.is_late());
+    if let Some(channel) = shared.channels.iter().find(|channel| channel.peer == peer) {
+        channel.note_progress(passed.standing.is_late());
     }
     if passed.is_taken {
         shared.notes.put(rt, Note::Absent(peer));

@@ -28,15 +28,15 @@ pub enum Note {
     Pending(Waiting),
 }
 
-/// The line on which notes of the flusher wait for their writer, since it waits for nobody who reads standard error. None
+/// The channel on which notes of the flusher wait for their writer, since it waits for nobody who reads standard error. None
 /// ends the writer.
 #[derive(Drop)]
-pub struct NoteLine {
+pub struct NoteChannel {
     to: Sender<Option<Note>>,
 }
 
-impl NoteLine {
-    /// Puts a note on the line. What finds no room is lost.
+impl NoteChannel {
+    /// Puts a note on the channel. What finds no room is lost.
     pub fn put<R: Wait>(&self, rt: &R, note: Note) {
         let _ = self.to.try_send(rt, Some(note));
     }
@@ -47,10 +47,10 @@ impl NoteLine {
     }
 }
 
-/// The line, and what its writer takes.
-pub fn note_line(alloc: Global) -> Result<(NoteLine, Receiver<Option<Note>>), AllocError> {
+/// The channel, and what its writer takes.
+pub fn note_channel(alloc: Global) -> Result<(NoteChannel, Receiver<Option<Note>>), AllocError> {
     let (to, from) = bounded(alloc, NOTE_ROOM)?;
-    Ok((NoteLine { to }, from))
+    Ok((NoteChannel { to }, from))
 }
 
 /// Writes the notes of the node `me`, until None comes.

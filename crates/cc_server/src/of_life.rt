@@ -1,7 +1,7 @@
-//! What the room of a node knows of the life that the node lives.
+//! What admission to a node knows of the life that the node lives.
 
+use cc_channels::Flushed;
 use cc_intake::Life;
-use cc_lines::Flushed;
 use std::marker::PhantomData;
 
 /// A life, of whose events its turner tells how many are durable.

@@ -1,10 +1,10 @@
 //! The worker of what a node sends to itself.
 
+use crate::context::Context;
 use crate::duties::duty_of;
-use crate::office::Office;
 use crate::shared::Shared;
+use cc_channels::{Admission, Flushed};
 use cc_intake::{Accepted, Hooks, Lane, Life, Refused, Source};
-use cc_lines::{Flushed, Room};
 use cc_protocol::Duty;
 use cc_wire::Event;
 use crossbeam_channel::Receiver;
@@ -15,7 +15,7 @@ use std::sync::Wait;
 struct Own<'a, R: Wait, F: Flushed> {
     rt: &'a R,
     shared: &'a Shared,
-    room: &'a Room<F>,
+    admission: &'a Admission<F>,
     from: Receiver<Option<Event>>,
     // The event that is to be given again.
     due: Option<Event>,
@@ -37,7 +37,7 @@ impl<R: Wait, F: Flushed> Source for Own<'_, R, F> {
 
     fn next(&mut self) -> Option<Event> {
         let event = self.event()?;
-        if self.room.sit_anyway(self.rt, &self.shared.bell) {
+        if self.admission.admit_any(self.rt, &self.shared.waker) {
             Some(event)
         } else {
             drop(event);
@@ -48,12 +48,12 @@ impl<R: Wait, F: Flushed> Source for Own<'_, R, F> {
     fn told(&mut self, event: Event, answer: Result<Accepted, Refused>) {
         let duty = duty_of(&event, &answer);
         match answer {
-            Ok(_) => self.room.accept(),
-            Err(_) => self.room.leave(self.rt),
+            Ok(_) => self.admission.accept(),
+            Err(_) => self.admission.release(self.rt),
         }
         match duty {
-            Duty::Wake => self.shared.bell.ring(),
-            Duty::Ride => self.shared.bell.ride(),
+            Duty::Wake => self.shared.waker.wake(),
+            Duty::Defer => self.shared.waker.defer(),
             Duty::Reack(peer) => self.shared.reack(self.rt, peer),
             Duty::BringAgain => self.due = Some(event),
             other => drop(other),
@@ -63,19 +63,19 @@ impl<R: Wait, F: Flushed> Source for Own<'_, R, F> {
 
 /// Brings what the node sends to itself to the intake, until None comes.
 pub fn serve_own<R: Wait, H: Hooks, L: Life, Q: Lane>(
-    office: &Office<'_, R, H, L, Q>,
+    context: &Context<'_, R, H, L, Q>,
     from: Receiver<Option<Event>>,
 ) {
-    let Some(mut share) = office.draw() else {
+    let Some(mut share) = context.draw() else {
         return;
     };
     let mut own = Own {
-        rt: office.rt,
-        shared: office.shared,
-        room: office.room,
+        rt: context.rt,
+        shared: context.shared,
+        admission: context.admission,
         from,
         due: None,
     };
-    office.work(&mut share, &mut own);
-    office.give_back(share);
+    context.work(&mut share, &mut own);
+    context.give_back(share);
 }

@@ -2,8 +2,8 @@
 
 ghost use Rattle.std.specs.Prelude.{◌≤◌};
 
+use cc_channels::{Connection, Durable, Flushed};
 use cc_intake::Refused;
-use cc_lines::{Door, Durable, Flushed};
 use std::sync::Wait;
 
 /// A connection, as its worker tells refusals over it.
@@ -23,7 +23,7 @@ pub trait Replies {
     fn give_up(&self);
 }
 
-impl Replies for Door {
+impl Replies for Connection {
     fn refuse<R: Wait, F: Flushed>(
         &self,
         rt: &R,

@@ -4,18 +4,18 @@ ghost use Rattle.std.specs.Prelude.{◌≡◌, ℕ, List, None, false};
 ghost use Rattle.cc_journal.specs.declared.entry.Entry.{Entry as EntryValue};
 ghost use Rattle.cc_intake.specs.Accepting.{share_limit};
 
-use crate::channels::Channels;
 use crate::config::Config;
+use crate::context::Context;
 use crate::notes::{note_share, note_unknown, note_unreachable};
 use crate::of_life::OfLife;
-use crate::office::Office;
+use crate::outlet::ServerOutlet;
 use crate::run_fault::RunFault;
 use crate::shared::{Inlets, Shared};
 use crate::threads::live;
+use cc_channels::{Admission, Durable, Stop};
 use cc_files::FileSite;
 use cc_flush::{Back, Failed, Flusher};
 use cc_intake::{Ends, Finished, Hooked, Hooks, Lane, Life, Share, finish, lane, start};
-use cc_lines::{Durable, Room, Stop};
 use cc_node::Core;
 use cc_protocol::Routes;
 use cc_site::Site;
@@ -34,7 +34,7 @@ use std::thread::Threads;
 use std::time::Clock;
 
 // How many workers there are at most: one for each connection, and that of the node's own messages.
-const MOST_WORKERS: usize = Routes::MAX_DOORS + Routes::MAX_SPARE + 1;
+const MOST_WORKERS: usize = Routes::MAX_CONNECTIONS + Routes::MAX_SPARE + 1;
 
 /// Runs the node of a folder, which listens once the folder is open, until the flag is set or a disk call fails. What it came
 /// to is told without its site. It notes its start and its end on standard error, and what it misses of its peers.
@@ -122,7 +122,7 @@ where
         + Eprint
         + Sync,
 {
-    let channels = Channels {
+    let channels = ServerOutlet {
         rt: run.rt,
         alloc: run.alloc,
         shared: run.shared,
@@ -253,10 +253,10 @@ where
     match (
         lane::<L>(run.alloc),
         Vec::with_capacity(run.alloc, MOST_WORKERS),
-        Room::new(run.alloc, Durable::<OfLife<L>>::new(0)),
+        Admission::new(run.alloc, Durable::<OfLife<L>>::new(0)),
     ) {
-        (Ok(ends), Ok(shares), Ok(room)) => {
-            run_at::<L, Brand, S, R, H>(run, ready, blank, ends, shares, &room)
+        (Ok(ends), Ok(shares), Ok(admission)) => {
+            run_at::<L, Brand, S, R, H>(run, ready, blank, ends, shares, &admission)
         }
         _ => {
             drop(ready);
@@ -271,7 +271,7 @@ fn run_at<L: Life + Send + Sync, Q: Lane + Send + Sync, S: Site + Drop, R, H: Ho
     blank: Blank,
     ends: Ends<L>,
     shares: Vec<Share<L>>,
-    room: &Room<OfLife<L>>,
+    admission: &Admission<OfLife<L>>,
 ) -> Result<Finished<()>, RunFault>
 where
     R: Net<Listener = TcpListener, Stream = TcpStream> + Threads + Wait + Clock + Eprint + Sync,
@@ -292,24 +292,24 @@ where
         inlets,
     } = ready;
     let me = core.me();
-    room.turned(run.rt, 0, Durable::new(0), engine.twin());
+    admission.turned(run.rt, 0, Durable::new(0), engine.twin());
     let (intake, mut turner, queue) = start::<S, L, Q>(engine, core, blank, ends);
     let lock = Mutex::new(intake);
     let shares = Mutex::new(shares);
-    let office = Office {
+    let context = Context {
         rt: run.rt,
         alloc: run.alloc,
         me,
         hooks: run.hooks,
         peers: &run.config.peers,
         shared: run.shared,
-        room,
+        admission,
         lock: &lock,
         queue: &queue,
         shares: &shares,
     };
     let (watch, far_ends) = inlets.cut(me, run.shared);
-    let outcome = live(&office, &mut turner, watch, far_ends, &listener, run.stop);
+    let outcome = live(&context, &mut turner, watch, far_ends, &listener, run.stop);
     let finished = finish(
         run.rt,
         lock.into_inner(),

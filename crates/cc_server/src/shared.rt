@@ -1,11 +1,11 @@
 //! What the threads of a node pass things on by.
 
-use crate::flushing::Watch;
 use crate::known::Known;
-use crate::notes::{Note, NoteLine, note_line};
+use crate::notes::{Note, NoteChannel, note_channel};
 use crate::run_fault::RunFault;
-use crate::threads::FarEnds;
-use cc_lines::{Bell, Doors, FarEnd, Line, OwnLine, Stop, lines_to, own_line};
+use cc_channels::{
+    Connections, FarEnd, Flag, OwnChannel, PeerChannel, Waker, channels_to, own_channel,
+};
 use cc_protocol::{Standings, Wishes};
 use cc_views::NodeId;
 use cc_wire::Event;
@@ -20,24 +20,24 @@ use std::sync::{Mutex, OnceLock, Wait};
 pub struct Shared {
     /// The node, once its folder was read.
     pub me: OnceLock<NodeId>,
-    pub doors: Doors,
-    pub lines: Vec<Line>,
-    pub own: OwnLine,
-    pub bell: Bell,
+    pub connections: Connections,
+    pub channels: Vec<PeerChannel>,
+    pub own: OwnChannel,
+    pub waker: Waker,
     /// The nodes that were heard of.
     pub known: Known,
     pub wishes: Mutex<Wishes>,
     /// How its peers stand, and whether one is absent.
     pub standings: Mutex<Standings>,
-    pub any_absent: Stop,
+    pub any_absent: Flag,
     /// What the flusher notes.
-    pub notes: NoteLine,
+    pub notes: NoteChannel,
     /// A second has passed.
-    pub ticked: Stop,
+    pub ticked: Flag,
     /// No worker is left.
-    pub done: Stop,
+    pub done: Flag,
     /// The flusher has ended.
-    pub ended: Stop,
+    pub ended: Flag,
 }
 
 /// The other ends: what a thread takes out of.
@@ -52,25 +52,25 @@ pub struct Inlets {
 impl Shared {
     /// What the threads of a node with these peers need, and the other ends of it.
     pub fn new(alloc: Global, peers: &[Peer]) -> Result<(Self, Inlets), RunFault> {
-        let (lines, far) = lines_to(alloc, peers)?;
-        let (own, taken) = own_line(alloc)?;
-        let (notes, noted) = note_line(alloc)?;
+        let (channels, far) = channels_to(alloc, peers)?;
+        let (own, taken) = own_channel(alloc)?;
+        let (notes, noted) = note_channel(alloc)?;
         let parker = Parker::new(alloc)?;
-        let bell = Bell::new(parker.unparker().clone()?);
+        let waker = Waker::new(parker.unparker().clone()?);
         let shared = Shared {
             me: OnceLock::new(),
-            doors: Doors::new(alloc)?,
-            lines,
+            connections: Connections::new(alloc)?,
+            channels,
             own,
-            bell,
+            waker,
             known: Known::new(alloc),
             wishes: Mutex::new(Wishes::new(alloc)?),
             standings: Mutex::new(Standings::new(alloc)?),
-            any_absent: Stop::new(),
+            any_absent: Flag::new(),
             notes,
-            ticked: Stop::new(),
-            done: Stop::new(),
-            ended: Stop::new(),
+            ticked: Flag::new(),
+            done: Flag::new(),
+            ended: Flag::new(),
         };
         let inlets = Inlets {
             parker,
@@ -84,7 +84,7 @@ impl Shared {
     /// Has the flusher tell a peer again what was heard from it.
     pub fn reack<R: Wait>(&self, rt: &R, peer: NodeId) {
         self.wishes.lock(rt).reack(peer);
-        self.bell.ring();
+        self.waker.wake();
     }
 
     /// A frame of that peer came. It is looked at only while a peer is absent.
@@ -105,26 +105,6 @@ impl Shared {
     /// Has the flusher put out the last answer of a session again.
     pub fn again<R: Wait>(&self, rt: &R, session: u64) {
         self.wishes.lock(rt).again(session);
-        self.bell.ring();
-    }
-}
-
-impl Inlets {
-    /// What the flusher takes out of, and what the workers and writers of the node `me` do.
-    pub fn cut(self, me: NodeId, shared: &Shared) -> (Watch<'_>, FarEnds) {
-        let Inlets {
-            parker,
-            far,
-            own,
-            notes,
-        } = self;
-        let watch = Watch { parker, shared };
-        let ends = FarEnds {
-            me,
-            far,
-            own,
-            notes,
-        };
-        (watch, ends)
+        self.waker.wake();
     }
 }

@@ -3,15 +3,15 @@
 ghost use Rattle.std.specs.Thread.{IsSend};
 
 use crate::attending::attend;
+use crate::context::Context;
 use crate::flushing::{Watch, flush_all};
 use crate::notes::{Note, write_notes};
 use crate::of_life::OfLife;
-use crate::office::Office;
 use crate::own::serve_own;
-use crate::shared::Shared;
+use crate::shared::{Inlets, Shared};
+use cc_channels::{Admission, FarEnd, Flag, Stop, write_peer};
 use cc_flush::Failed;
 use cc_intake::{Hooks, Lane, Life, Queue, Turner};
-use cc_lines::{FarEnd, Room, Stop, write_peer};
 use cc_site::Site;
 use cc_views::NodeId;
 use cc_wire::Event;
@@ -37,10 +37,30 @@ pub struct FarEnds {
     pub notes: Receiver<Option<Note>>,
 }
 
+impl Inlets {
+    /// What the flusher takes out of, and what the workers and writers of the node `me` do.
+    pub fn cut(self, me: NodeId, shared: &Shared) -> (Watch<'_>, FarEnds) {
+        let Inlets {
+            parker,
+            far,
+            own,
+            notes,
+        } = self;
+        let watch = Watch { parker, shared };
+        let ends = FarEnds {
+            me,
+            far,
+            own,
+            notes,
+        };
+        (watch, ends)
+    }
+}
+
 /// Starts the ticker and what serves, flushes in this thread until all is done, and ends them. None where a thread can't be
 /// made.
 pub fn live<'x, L: Life + Send + Sync, Q: Lane + Send + Sync, S: Site, R, H: Hooks + Sync>(
-    office: &'x Office<'x, R, H, L, Q>,
+    context: &'x Context<'x, R, H, L, Q>,
     turner: &'x mut Turner<S, L, Q>,
     watch: Watch<'x>,
     ends: FarEnds,
@@ -50,10 +70,10 @@ pub fn live<'x, L: Life + Send + Sync, Q: Lane + Send + Sync, S: Site, R, H: Hoo
 where
     R: Net<Listener = TcpListener, Stream = TcpStream> + Threads + Wait + Clock + Eprint + Sync,
 {
-    let rt = office.rt;
-    let queue = office.queue;
-    let shared = office.shared;
-    let room = office.room;
+    let rt = context.rt;
+    let queue = context.queue;
+    let shared = context.shared;
+    let admission = context.admission;
     let address = listener.local_addr().ok();
     let turner = &mut *turner;
     thread::scope(
@@ -65,11 +85,11 @@ where
             scope
                 .spawn(move || tick_until(rt, shared, address, stop))
                 .ok()?;
-            let Ok(server) = scope.spawn(move || serve_until(office, ends, listener, stop)) else {
+            let Ok(server) = scope.spawn(move || serve_until(context, ends, listener, stop)) else {
                 shared.done.set();
                 return None;
             };
-            let outcome = flush_until(rt, turner, queue, room, &watch);
+            let outcome = flush_until(rt, turner, queue, admission, &watch);
             let is_served = server.join(rt);
             match outcome {
                 Ok(()) if !is_served => None,
@@ -84,18 +104,18 @@ fn flush_until<S: Site, L: Life, Q: Lane, R: Wait>(
     rt: &R,
     turner: &mut Turner<S, L, Q>,
     queue: &Queue<L, Q>,
-    room: &Room<OfLife<L>>,
+    admission: &Admission<OfLife<L>>,
     watch: &Watch<'_>,
 ) -> Result<(), Failed> {
-    let outcome = flush_all(rt, turner, queue, room, watch);
+    let outcome = flush_all(rt, turner, queue, admission, watch);
     watch.shared.ended.set();
-    room.close(rt);
+    admission.close(rt);
     outcome
 }
 
 // Serves until a flag is set, and then tells the flusher that nothing more comes. Whether it served.
 fn serve_until<L: Life + Send + Sync, Q: Lane + Send + Sync, R, H: Hooks + Sync>(
-    office: &Office<'_, R, H, L, Q>,
+    context: &Context<'_, R, H, L, Q>,
     ends: FarEnds,
     listener: &TcpListener,
     stop: &Stop,
@@ -103,9 +123,9 @@ fn serve_until<L: Life + Send + Sync, Q: Lane + Send + Sync, R, H: Hooks + Sync>
 where
     R: Net<Listener = TcpListener, Stream = TcpStream> + Threads + Wait + Clock + Eprint + Sync,
 {
-    let is_served = serve_all(office, ends, listener, stop);
-    office.shared.done.set();
-    office.shared.bell.ring();
+    let is_served = serve_all(context, ends, listener, stop);
+    context.shared.done.set();
+    context.shared.waker.wake();
     is_served
 }
 
@@ -119,7 +139,7 @@ fn tick_until<R: Wait + Clock + Net<Stream = TcpStream>>(
     for _ in rt.forever() {
         thread::sleep(rt, Duration::from_millis(TICK_MS));
         shared.ticked.set();
-        shared.bell.ring();
+        shared.waker.wake();
         if shared.done.is_set() {
             return;
         }
@@ -140,7 +160,7 @@ fn knock<R: Net<Stream = TcpStream>>(rt: &R, address: Option<SocketAddr>) {
 // Starts the writers and the worker of the own messages, accepts connections until a flag is set, and then ends the writers
 // to peers first and the workers next. False, and nothing is accepted, where a thread of these can't be made.
 fn serve_all<L: Life + Send + Sync, Q: Lane + Send + Sync, R, H: Hooks + Sync>(
-    office: &Office<'_, R, H, L, Q>,
+    context: &Context<'_, R, H, L, Q>,
     ends: FarEnds,
     listener: &TcpListener,
     stop: &Stop,
@@ -148,9 +168,9 @@ fn serve_all<L: Life + Send + Sync, Q: Lane + Send + Sync, R, H: Hooks + Sync>(
 where
     R: Net<Listener = TcpListener, Stream = TcpStream> + Threads + Wait + Clock + Eprint + Sync,
 {
-    let rt = office.rt;
-    let alloc = office.alloc;
-    let over = Stop::new();
+    let rt = context.rt;
+    let alloc = context.alloc;
+    let over = Flag::new();
     let over = &over;
     let FarEnds {
         me,
@@ -174,17 +194,17 @@ where
                     Err(_) => is_whole = false,
                 }
             }
-            is_whole &= start_inner(scope, office, own, notes);
+            is_whole &= start_inner(scope, context, own, notes);
             if is_whole {
-                accept_all(scope, office, listener, stop);
+                accept_all(scope, context, listener, stop);
             }
             over.set();
             for writer in writers {
                 writer.join(rt);
             }
-            office.shared.own.end(rt);
-            office.shared.notes.end(rt);
-            office.shared.doors.close(rt);
+            context.shared.own.end(rt);
+            context.shared.notes.end(rt);
+            context.shared.connections.close(rt);
             is_whole
         },
     )
@@ -193,39 +213,39 @@ where
 // Starts the worker of the own messages and the writer of notes. Whether both threads could be made.
 fn start_inner<'s, 'e: 's, L: Life + Send + Sync, Q: Lane + Send + Sync, R, H: Hooks + Sync>(
     scope: &'s Scope<'s, &'e ()>,
-    office: &'e Office<'e, R, H, L, Q>,
+    context: &'e Context<'e, R, H, L, Q>,
     own: Receiver<Option<Event>>,
     notes: Receiver<Option<Note>>,
 ) -> bool
 where
     R: Net<Listener = TcpListener, Stream = TcpStream> + Threads + Wait + Clock + Eprint + Sync,
 {
-    let rt = office.rt;
-    let me = office.me;
-    let is_served = scope.spawn(move || serve_own(office, own)).is_ok();
+    let rt = context.rt;
+    let me = context.me;
+    let is_served = scope.spawn(move || serve_own(context, own)).is_ok();
     let is_noted = scope.spawn(move || write_notes(rt, me, &notes)).is_ok();
     is_served && is_noted
 }
 
 fn accept_all<'s, 'e: 's, L: Life + Send + Sync, Q: Lane + Send + Sync, R, H: Hooks + Sync>(
     scope: &'s Scope<'s, &'e ()>,
-    office: &'e Office<'e, R, H, L, Q>,
+    context: &'e Context<'e, R, H, L, Q>,
     listener: &TcpListener,
     stop: &Stop,
 )
 where
     R: Net<Listener = TcpListener, Stream = TcpStream> + Threads + Wait + Clock + Eprint + Sync,
 {
-    for _ in office.rt.forever() {
+    for _ in context.rt.forever() {
         let accepted = listener.accept();
-        if stop.is_set() || office.shared.ended.is_set() {
+        if stop.is_set() || context.shared.ended.is_set() {
             return;
         }
         match accepted {
             Ok((stream, from)) => {
-                let _ = scope.spawn(move || attend(office, stream, from));
+                let _ = scope.spawn(move || attend(context, stream, from));
             }
-            Err(_) => thread::sleep(office.rt, Duration::from_millis(PAUSE_MS)),
+            Err(_) => thread::sleep(context.rt, Duration::from_millis(PAUSE_MS)),
         }
     }
     unreachable!()

@@ -6,11 +6,11 @@ mod network;
 mod streams;
 
 use cc_arguments::{Formatted, Order, parse};
+use cc_channels::Stop;
 use cc_commands::{
     FormatOrder, FormatWords, RunOrder, Warning, WordFault, dump_folder, format_folder,
 };
 use cc_intake::NoHooks;
-use cc_lines::Stop;
 use cc_play::{PlayFault, play};
 use cc_server::{Config, RunFault, run_node};
 use network::{ask, leave, retire};

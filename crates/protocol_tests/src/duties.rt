@@ -15,7 +15,7 @@ fn node(id: u32) -> Result<NodeId, Fail> {
 enum Does {
     Nothing,
     Wakes,
-    Rides,
+    Defers,
     Reacks(u32),
     AnswersAgain(u64),
     Refuses(u64, u64, u8, u64),
@@ -36,7 +36,7 @@ fn does_in(duty: &Duty) -> Does {
     match duty {
         Duty::Nothing => Does::Nothing,
         Duty::Wake => Does::Wakes,
-        Duty::Ride => Does::Rides,
+        Duty::Defer => Does::Defers,
         Duty::Reack(peer) => Does::Reacks(peer.number()),
         Duty::Again(session) => Does::AnswersAgain(*session),
         Duty::Refuse(frame) => sends(frame),
@@ -89,14 +89,14 @@ fn what_stirs_wakes_the_flusher(rt: HostRuntime) -> Result<(), Fail> {
 }
 
 #[test]
-fn what_makes_nothing_rides_along(rt: HostRuntime) -> Result<(), Fail> {
+fn what_makes_nothing_is_deferred(rt: HostRuntime) -> Result<(), Fail> {
     let peer = node(2)?;
     let does = [
         does_after(Event::Acked { peer, number: 1 }, Ok(false)),
         does_after(asked(1), Ok(false)),
         does_after(joined(peer), Ok(false)),
     ];
-    assert_eq!(rt; does, [Does::Rides; 3]);
+    assert_eq!(rt; does, [Does::Defers; 3]);
     Ok(())
 }
 

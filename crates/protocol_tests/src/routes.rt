@@ -5,11 +5,11 @@ use std::process::Abort;
 use std::test::*;
 
 // Where the answers to requests 1 of the sessions 7, 8 and 9 go.
-fn doors(routes: &Routes) -> [Option<u64>; 3] {
+fn connections(routes: &Routes) -> [Option<u64>; 3] {
     [
-        routes.door_of(7, 1),
-        routes.door_of(8, 1),
-        routes.door_of(9, 1),
+        routes.connection_of(7, 1),
+        routes.connection_of(8, 1),
+        routes.connection_of(9, 1),
     ]
 }
 
@@ -37,14 +37,14 @@ fn check_asks<R: Abort>(rt: &R, routes: &mut Routes) {
         routes.route(8, 1, 1),
         routes.route(9, 1, 2),
     ];
-    let first = doors(routes);
+    let first = connections(routes);
     let place = routes.route(7, 1, 2);
     assert_eq!(rt;
         (entered, places, place),
         ([whole(1), whole(2)], [Some(1), Some(2), Some(3)], Some(4))
     );
     assert_eq!(rt;
-        [first, doors(routes)],
+        [first, connections(routes)],
         [[Some(1), Some(1), Some(2)], [Some(2), Some(1), Some(2)]]
     );
 }
@@ -53,7 +53,7 @@ fn check_asks<R: Abort>(rt: &R, routes: &mut Routes) {
 // answered there.
 fn check_leaves<R: Abort>(rt: &R, routes: &mut Routes) {
     routes.leave(2);
-    let left = doors(routes);
+    let left = connections(routes);
     let places = [routes.route(7, 1, 2), routes.route(7, 1, 3)];
     assert_eq!(rt; (left, places), ([Some(1), Some(1), None], [None; 2]));
     assert_eq!(rt; routes.enter(Origin::Stranger), whole(3));
@@ -71,9 +71,9 @@ fn answers_go_to_who_asked_last(rt: HostRuntime) -> Result<(), Fail> {
 // Where the answers to requests 5, 6 and 9 of session 7 go.
 fn sevens(routes: &Routes) -> [Option<u64>; 3] {
     [
-        routes.door_of(7, 5),
-        routes.door_of(7, 6),
-        routes.door_of(7, 9),
+        routes.connection_of(7, 5),
+        routes.connection_of(7, 6),
+        routes.connection_of(7, 9),
     ]
 }
 
@@ -106,10 +106,10 @@ fn check_refused<R: Abort>(rt: &R, routes: &mut Routes) {
 fn check_late<R: Abort>(rt: &R, routes: &mut Routes) {
     let places = [routes.route(8, 1, 1), routes.route(8, 1, 2)];
     routes.take(8, 5);
-    let newer = routes.door_of(8, 1);
+    let newer = routes.connection_of(8, 1);
     routes.take(8, 4);
     assert_eq!(rt; places, [Some(4), Some(5)]);
-    assert_eq!(rt; [newer, routes.door_of(8, 1)], [Some(2); 2]);
+    assert_eq!(rt; [newer, routes.connection_of(8, 1)], [Some(2); 2]);
 }
 
 #[test]
@@ -130,7 +130,7 @@ fn check_full<R: Abort>(rt: &R, routes: &mut Routes, from: Origin, count: u64) {
     }
 }
 
-fn check_doors<R: Abort>(rt: &R, routes: &mut Routes) {
+fn check_connections<R: Abort>(rt: &R, routes: &mut Routes) {
     check_full(rt, routes, Origin::Stranger, 768);
     assert_eq!(rt; routes.enter(Origin::Stranger), spare(769));
     check_full(rt, routes, Origin::Peer, 248);
@@ -157,7 +157,7 @@ fn check_left<R: Abort>(rt: &R, routes: &mut Routes) {
 #[test]
 fn parts_of_the_connections_are_kept(rt: HostRuntime) -> Result<(), Fail> {
     let mut routes = Routes::new(rt.alloc())?;
-    check_doors(&rt, &mut routes);
+    check_connections(&rt, &mut routes);
     check_left(&rt, &mut routes);
     drop(routes);
     Ok(())
@@ -174,8 +174,8 @@ fn check_sessions<R: Abort>(rt: &R, routes: &mut Routes) -> Result<(), Fail> {
     routes.take_back(4);
     let freed = routes.route(1280, 1, one.ticket);
     assert_eq!(rt; (full, freed), (None, Some(1281)));
-    let doors = [routes.door_of(3, 1), routes.door_of(1280, 1)];
-    assert_eq!(rt; doors, [None, Some(one.ticket)]);
+    let connections = [routes.connection_of(3, 1), routes.connection_of(1280, 1)];
+    assert_eq!(rt; connections, [None, Some(one.ticket)]);
     Ok(())
 }
 

@@ -3,10 +3,10 @@
 use crate::nodes::{
     Places, check, check_end, end, end_at, format_member_of, run, run_among, set_up_of_three,
 };
+use cc_channels::Stop;
 use cc_client::{ask_node, retire_node};
 use cc_commands::{AskOrder, RetireOrder};
 use cc_intake::NoHooks;
-use cc_lines::Stop;
 use cc_views::NodeId;
 use cc_words::command;
 use std::alloc::Global;

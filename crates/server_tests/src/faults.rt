@@ -1,10 +1,10 @@
 //! Why a node doesn't run: each fault, and its text.
 
 use crate::nodes::{check, format_member};
+use cc_channels::Stop;
 use cc_checkpoint::OpenFault;
 use cc_flush::Failed;
 use cc_intake::NoHooks;
-use cc_lines::Stop;
 use cc_server::{Config, RunFault, run_node};
 use cc_site::{Call, DeviceFault, Side};
 use cc_views::NodeId;

@@ -3,8 +3,8 @@
 use crate::clients::{FIRST_ASK, FIRST_REPLY, OTHER_ASK, OTHER_REPLY, connected, reads};
 use crate::holding::Hold;
 use crate::nodes::{Places, check, check_end, end, run, set_up};
+use cc_channels::Stop;
 use cc_intake::NoHooks;
-use cc_lines::Stop;
 use std::alloc::Global;
 use std::io::Write;
 use std::net::{Net, SocketAddr, TcpStream};

@@ -1,8 +1,8 @@
 //! Nodes on loopback.
 
+use cc_channels::Stop;
 use cc_commands::{FormatOrder, FormatWords, format_folder};
 use cc_intake::{Finished, Hooks};
-use cc_lines::Stop;
 use cc_server::{Config, RunFault, run_on};
 use cc_views::NodeId;
 use cc_words::Peer;

@@ -2,8 +2,8 @@
 
 use crate::clients::{THIRD_ASK, connected, exchange, reads};
 use crate::nodes::{Places, check, check_end, end, run, set_up};
+use cc_channels::Stop;
 use cc_intake::{Hooks, NoHooks};
-use cc_lines::Stop;
 use std::alloc::Global;
 use std::io::Write;
 use std::net::{Net, SocketAddr, TcpStream};

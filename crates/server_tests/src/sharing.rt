@@ -3,8 +3,8 @@
 use crate::clients::{FIRST_ASK, FIRST_REPLY, connected, reads};
 use crate::nodes::{check, check_end, end_at, format_with_share, run_among};
 use crate::routing::ends;
+use cc_channels::Stop;
 use cc_intake::NoHooks;
-use cc_lines::Stop;
 use std::alloc::Global;
 use std::io::Write;
 use std::net::{Net, Shutdown, SocketAddr, TcpListener, TcpStream};

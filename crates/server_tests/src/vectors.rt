@@ -5,8 +5,8 @@ use crate::clients::{
 };
 use crate::hostile::attack;
 use crate::nodes::{Places, check_end, end, run, set_up};
+use cc_channels::Stop;
 use cc_intake::NoHooks;
-use cc_lines::Stop;
 use std::alloc::Global;
 use std::net::{Net, SocketAddr, TcpStream};
 use std::test::*;

@@ -1,17 +1,17 @@
-use Rattle.cc_protocol.proofs.RoutingLaws.{door_asked, door_judged, ask_refused, door_others, door_closed}
+use Rattle.cc_protocol.proofs.RoutingLaws.{connection_asked, connection_judged, ask_refused, connection_others, connection_closed}
 use Rattle.cc_protocol.proofs.routes.answers_follow_asks.Goals as goal
 
 pub returns-clause-asked : goal.returns-clause-asked
-returns-clause-asked c = door_asked
+returns-clause-asked c = connection_asked
 
 pub returns-clause-judged : goal.returns-clause-judged
-returns-clause-judged c = door_judged
+returns-clause-judged c = connection_judged
 
 pub returns-clause-refused : goal.returns-clause-refused
 returns-clause-refused c = ask_refused
 
 pub returns-clause-others : goal.returns-clause-others
-returns-clause-others c = door_others
+returns-clause-others c = connection_others
 
 pub returns-clause-gone : goal.returns-clause-gone
-returns-clause-gone c = door_closed
+returns-clause-gone c = connection_closed

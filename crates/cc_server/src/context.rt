@@ -5,8 +5,8 @@ ghost use Rattle.cc_intake.specs.Talks.{Answer, IsAnswer, Talks, places_of, Plac
 
 use crate::of_life::OfLife;
 use crate::shared::Shared;
+use cc_channels::{Admission, Connection, ConnectionAdmission};
 use cc_intake::{Hooks, Intake, Lane, Life, Queue, Share, Source, work};
-use cc_lines::{Door, Room, Seat};
 use cc_protocol::Admitted;
 use cc_views::NodeId;
 use cc_words::Peer;
@@ -15,20 +15,20 @@ use std::sync::{Mutex, Wait};
 
 /// What all workers share.
 #[derive(Drop)]
-pub struct Office<'x, R: Wait, H: Hooks, L: Life, Q: Lane> {
+pub struct Context<'x, R: Wait, H: Hooks, L: Life, Q: Lane> {
     pub rt: &'x R,
     pub alloc: Global,
     pub me: NodeId,
     pub hooks: &'x H,
     pub peers: &'x [Peer],
     pub shared: &'x Shared,
-    pub room: &'x Room<OfLife<L>>,
+    pub admission: &'x Admission<OfLife<L>>,
     pub lock: &'x Mutex<Intake<L, Q>>,
     pub queue: &'x Queue<L, Q>,
     pub shares: &'x Mutex<Vec<Share<L>>>,
 }
 
-impl<R: Wait, H: Hooks, L: Life, Q: Lane> Office<'_, R, H, L, Q> {
+impl<R: Wait, H: Hooks, L: Life, Q: Lane> Context<'_, R, H, L, Q> {
     /// A share out of the pool, or a new one.
     pub fn draw(&self) -> Option<Share<L>> {
         let pooled = self.shares.lock(self.rt).pop();
@@ -39,9 +39,24 @@ impl<R: Wait, H: Hooks, L: Life, Q: Lane> Office<'_, R, H, L, Q> {
     }
 
     /// Where what comes over a connection waits.
-    pub fn seat<'a>(&'a self, door: &'a Door, admitted: Admitted) -> Seat<'a, OfLife<L>> {
-        let Shared { bell, doors, .. } = self.shared;
-        Seat::new(self.room, bell, doors, door, admitted, self.me)
+    pub fn admission_over<'a>(
+        &'a self,
+        connection: &'a Connection,
+        admitted: Admitted,
+    ) -> ConnectionAdmission<'a, OfLife<L>> {
+        let Shared {
+            waker,
+            connections,
+            ..
+        } = self.shared;
+        ConnectionAdmission::new(
+            self.admission,
+            waker,
+            connections,
+            connection,
+            admitted,
+            self.me,
+        )
     }
 
     /// Brings each event of a source to the intake.

@@ -1,6 +1,6 @@
 //! The connections that are open, and which of them asked last in each session.
 
-use crate::stop::Stop;
+use crate::flags::Flag;
 use cc_ops::Asked;
 use cc_protocol::{Admitted, Origin, Routes, Speakers, Spoken};
 use cc_views::{NoMemory, NodeId};
@@ -17,27 +17,27 @@ const MOST_WAITING: u64 = 262_144 + 32 * 55_077;
 
 /// One connection: its socket, and the channel to its writer.
 #[derive(Drop)]
-pub struct Door {
+pub struct Connection {
     stream: Arc<TcpStream>,
     out: Sender<Vec<u8>>,
     // How many bytes wait for the writer.
     waiting: Arc<AtomicU64>,
     // It is closed.
-    over: Stop,
+    over: Flag,
 }
 
-impl Door {
+impl Connection {
     pub fn new(stream: Arc<TcpStream>, out: Sender<Vec<u8>>, waiting: Arc<AtomicU64>) -> Self {
-        Door {
+        Connection {
             stream,
             out,
             waiting,
-            over: Stop::new(),
+            over: Flag::new(),
         }
     }
 
     /// The flag that tells whether it is closed.
-    pub fn over(&self) -> &Stop {
+    pub fn over(&self) -> &Flag {
         &self.over
     }
 
@@ -71,7 +71,7 @@ impl Door {
 
 #[derive(Drop)]
 struct Table {
-    doors: BTreeMap<u64, Arc<Door>>,
+    connections: BTreeMap<u64, Arc<Connection>>,
     routes: Routes,
     speakers: Speakers,
     is_closed: bool,
@@ -79,12 +79,16 @@ struct Table {
 
 impl Table {
     // None where there are so many connections, or no memory.
-    fn enter(&mut self, door: Arc<Door>, from: Origin) -> Option<Admitted> {
+    fn enter(&mut self, connection: Arc<Connection>, from: Origin) -> Option<Admitted> {
         if self.is_closed {
             return None;
         }
         let admitted = self.routes.enter(from)?;
-        if self.doors.insert(admitted.ticket, door).is_err() {
+        if self
+            .connections
+            .insert(admitted.ticket, connection)
+            .is_err()
+        {
             self.routes.leave(admitted.ticket);
             return None;
         }
@@ -95,20 +99,20 @@ impl Table {
     fn speak(&mut self, node: NodeId, ticket: u64) -> Spoken {
         let spoken = self.speakers.speak(node, ticket);
         if let Spoken::Instead(older) = spoken {
-            if let Some(door) = self.doors.get(&older) {
-                door.close();
+            if let Some(connection) = self.connections.get(&older) {
+                connection.close();
             }
         }
         spoken
     }
 
-    fn door_of(&self, session: u64, request: u64) -> Option<Arc<Door>> {
-        let ticket = self.routes.door_of(session, request)?;
-        Arc::try_clone(self.doors.get(&ticket)?).ok()
+    fn connection_of(&self, session: u64, request: u64) -> Option<Arc<Connection>> {
+        let ticket = self.routes.connection_of(session, request)?;
+        Arc::try_clone(self.connections.get(&ticket)?).ok()
     }
 
     fn leave(&mut self, ticket: u64) {
-        let _ = self.doors.remove(&ticket);
+        let _ = self.connections.remove(&ticket);
         self.routes.leave(ticket);
         self.speakers.leave(ticket);
     }
@@ -116,17 +120,17 @@ impl Table {
 
 /// All open connections.
 #[derive(Drop)]
-pub struct Doors {
+pub struct Connections {
     table: Mutex<Table>,
 }
 
-impl Doors {
+impl Connections {
     pub fn new(alloc: Global) -> Result<Self, NoMemory> {
         let routes = Routes::new(alloc)?;
         let speakers = Speakers::new(alloc)?;
-        Ok(Doors {
+        Ok(Connections {
             table: Mutex::new(Table {
-                doors: BTreeMap::new(alloc),
+                connections: BTreeMap::new(alloc),
                 routes,
                 speakers,
                 is_closed: false,
@@ -135,8 +139,13 @@ impl Doors {
     }
 
     /// Lets a connection from there in. None where there are too many.
-    pub fn enter<R: Wait>(&self, rt: &R, door: Arc<Door>, from: Origin) -> Option<Admitted> {
-        self.table.lock(rt).enter(door, from)
+    pub fn enter<R: Wait>(
+        &self,
+        rt: &R,
+        connection: Arc<Connection>,
+        from: Origin,
+    ) -> Option<Admitted> {
+        self.table.lock(rt).enter(connection, from)
     }
 
     /// The connection with that ticket has ended, and so have its routes.
@@ -167,23 +176,23 @@ impl Doors {
     /// Whether the reply to one of these goes to the connection with that ticket.
     pub fn awaits<R: Wait>(&self, rt: &R, ticket: u64, unanswered: &[Asked]) -> bool {
         let table = self.table.lock(rt);
-        unanswered.iter().any(|asked| table.routes.door_of(asked.session, asked.request)
+        unanswered.iter().any(|asked| table.routes.connection_of(asked.session, asked.request)
             == Some(ticket))
     }
 
     /// Passes a reply on to the connection that it is for.
     pub fn pass<R: Wait>(&self, rt: &R, session: u64, request: u64, bytes: Vec<u8>) {
-        let door = self.table.lock(rt).door_of(session, request);
-        if let Some(door) = door {
-            door.pass(rt, bytes);
+        let connection = self.table.lock(rt).connection_of(session, request);
+        if let Some(connection) = connection {
+            connection.pass(rt, bytes);
         }
     }
 
     /// Closes the connection that a reply is for, which is lost for want of memory: so whoever asked has to ask again.
     pub fn give_up<R: Wait>(&self, rt: &R, session: u64, request: u64) {
-        let door = self.table.lock(rt).door_of(session, request);
-        if let Some(door) = door {
-            door.close();
+        let connection = self.table.lock(rt).connection_of(session, request);
+        if let Some(connection) = connection {
+            connection.close();
         }
     }
 
@@ -191,8 +200,8 @@ impl Doors {
     pub fn close<R: Wait>(&self, rt: &R) {
         let mut table = self.table.lock(rt);
         table.is_closed = true;
-        for door in table.doors.values() {
-            door.close();
+        for connection in table.connections.values() {
+            connection.close();
         }
     }
 }

@@ -1,8 +1,8 @@
-//! The outlet of a node: the lines to its peers and to itself, and its connections.
+//! The outlet of a node: the channels to its peers and to itself, and its connections.
 
 use crate::shared::Shared;
+use cc_channels::PeerChannel;
 use cc_files::Outlet;
-use cc_lines::Line;
 use cc_protocol::{Parcel, post_bytes, reply_bytes};
 use cc_views::NodeId;
 use cc_wire::{Answer, Event, Message};
@@ -11,15 +11,18 @@ use std::sync::Wait;
 
 /// Passes outputs on. What finds no room is lost.
 #[derive(Drop)]
-pub struct Channels<'a, R: Wait> {
+pub struct ServerOutlet<'a, R: Wait> {
     pub rt: &'a R,
     pub alloc: Global,
     pub shared: &'a Shared,
 }
 
-impl<R: Wait> Channels<'_, R> {
-    fn line_to(&self, peer: NodeId) -> Option<&Line> {
-        self.shared.lines.iter().find(|line| line.peer == peer)
+impl<R: Wait> ServerOutlet<'_, R> {
+    fn channel_to(&self, peer: NodeId) -> Option<&PeerChannel> {
+        self.shared
+            .channels
+            .iter()
+            .find(|channel| channel.peer == peer)
     }
 
     fn is_me(&self, node: NodeId) -> bool {
@@ -41,12 +44,12 @@ impl<R: Wait> Channels<'_, R> {
         }
     }
 
-    fn post(&self, line: &Line, number: u64, message: &Message) {
-        if line.is_muted() {
+    fn post(&self, channel: &PeerChannel, number: u64, message: &Message) {
+        if channel.is_muted() {
             return;
         }
         if let Some(bytes) = self.posted(number, message) {
-            line.put(self.rt, Parcel::Post(bytes));
+            channel.put(self.rt, Parcel::Post(bytes));
         }
     }
 
@@ -61,32 +64,35 @@ impl<R: Wait> Channels<'_, R> {
         reply_bytes(self.alloc, session, request, answer).ok()
     }
 
-    fn acknowledge(&self, line: &Line, number: u64) {
-        line.put(self.rt, Parcel::Ack(number));
+    fn acknowledge(&self, channel: &PeerChannel, number: u64) {
+        channel.put(self.rt, Parcel::Ack(number));
     }
 }
 
-impl<R: Wait> Outlet for Channels<'_, R> {
+impl<R: Wait> Outlet for ServerOutlet<'_, R> {
     fn send(&mut self, to: NodeId, number: u64, message: &Message) {
         if self.is_me(to) {
             self.deliver(to, number, message);
-        } else if let Some(line) = self.line_to(to) {
-            self.post(line, number, message);
+        } else if let Some(channel) = self.channel_to(to) {
+            self.post(channel, number, message);
         }
     }
 
     fn ack(&mut self, to: NodeId, number: u64) {
         if self.is_me(to) {
             self.hear(Event::Acked { peer: to, number });
-        } else if let Some(line) = self.line_to(to) {
-            self.acknowledge(line, number);
+        } else if let Some(channel) = self.channel_to(to) {
+            self.acknowledge(channel, number);
         }
     }
 
     fn reply(&mut self, session: u64, request: u64, answer: &Answer) {
         match self.replied(session, request, answer) {
-            Some(bytes) => self.shared.doors.pass(self.rt, session, request, bytes),
-            None => self.shared.doors.give_up(self.rt, session, request),
+            Some(bytes) => self
+                .shared
+                .connections
+                .pass(self.rt, session, request, bytes),
+            None => self.shared.connections.give_up(self.rt, session, request),
         }
     }
 }

@@ -2,10 +2,10 @@
 
 ghost use Rattle.std.specs.Prelude.{OnErr};
 
-use crate::bell::Bell;
-use crate::doors::{Door, Doors};
+use crate::admission::{Admission, NotAdmitted};
+use crate::connections::{Connection, Connections};
 use crate::durable::Flushed;
-use crate::room::{NoSeat, Room};
+use crate::waker::Waker;
 use cc_protocol::{Admitted, Spoken};
 use cc_views::NodeId;
 use cc_wire::Event;
@@ -13,42 +13,42 @@ use std::sync::Wait;
 use std::sync::atomic::{AtomicU64, Ordering};
 
 /// Where an event waits until the node has room for it.
-pub trait Seating {
+pub trait Admitting {
     /// That an event that waits can be turned away.
     ghost may_turn_away: { Type 0 };
 
-    /// Waits until the event may be handed over, and takes a seat for it, or says why it got none.
-    fn sit<R: Wait>(&self, rt: &R, event: &Event) -> Result<(), NoSeat>
+    /// Waits until the event may be handed over, and takes a permit for it, or says why it got none.
+    fn admit<R: Wait>(&self, rt: &R, event: &Event) -> Result<(), NotAdmitted>
         ensures { OnErr result may_turn_away };
 }
 
-/// The seats of a node for what comes over one connection.
+/// The permits of a node for what comes over one connection.
 #[derive(Drop)]
-pub struct Seat<'a, F: Flushed> {
-    room: &'a Room<F>,
-    bell: &'a Bell,
-    doors: &'a Doors,
-    door: &'a Door,
+pub struct ConnectionAdmission<'a, F: Flushed> {
+    admission: &'a Admission<F>,
+    waker: &'a Waker,
+    connections: &'a Connections,
+    connection: &'a Connection,
     admitted: Admitted,
     me: NodeId,
     // For which node it spoke last, by its number, which is never 0.
     speaks_for: AtomicU64,
 }
 
-impl<'a, F: Flushed> Seat<'a, F> {
+impl<'a, F: Flushed> ConnectionAdmission<'a, F> {
     pub fn new(
-        room: &'a Room<F>,
-        bell: &'a Bell,
-        doors: &'a Doors,
-        door: &'a Door,
+        admission: &'a Admission<F>,
+        waker: &'a Waker,
+        connections: &'a Connections,
+        connection: &'a Connection,
         admitted: Admitted,
         me: NodeId,
     ) -> Self {
-        Seat {
-            room,
-            bell,
-            doors,
-            door,
+        ConnectionAdmission {
+            admission,
+            waker,
+            connections,
+            connection,
             admitted,
             me,
             speaks_for: AtomicU64::new(0),
@@ -59,28 +59,28 @@ impl<'a, F: Flushed> Seat<'a, F> {
     fn is_replaced<R: Wait>(&self, rt: &R, node: NodeId) -> bool {
         let number = u64::from(node.number());
         if self.speaks_for.swap(number, Ordering::SeqCst) == number {
-            return self.door.over().is_set();
+            return self.connection.over().is_set();
         }
-        self.doors.speak(rt, node, self.admitted.ticket) == Spoken::Replaced
+        self.connections.speak(rt, node, self.admitted.ticket) == Spoken::Replaced
     }
 }
 
-impl<F: Flushed> Seating for Seat<'_, F> {
+impl<F: Flushed> Admitting for ConnectionAdmission<'_, F> {
     ghost use Rattle.std.specs.Prelude.{⊤};
 
     ghost may_turn_away = { ⊤ };
 
-    fn sit<R: Wait>(&self, rt: &R, event: &Event) -> Result<(), NoSeat> {
+    fn admit<R: Wait>(&self, rt: &R, event: &Event) -> Result<(), NotAdmitted> {
         if self.admitted.is_spare && !is_of_operator(event) {
-            return Err(NoSeat::Spare);
+            return Err(NotAdmitted::Spare);
         }
         if let Some(node) = speaker_of(event) {
             if self.is_replaced(rt, node) {
-                return Err(NoSeat::Replaced);
+                return Err(NotAdmitted::Replaced);
             }
         }
-        self.room
-            .sit(rt, self.bell, self.me, event, self.door.over())
+        self.admission
+            .admit(rt, self.waker, self.me, event, self.connection.over())
     }
 }
 

@@ -1,6 +1,6 @@
-//! The lines on which a node's outputs wait for their writers.
+//! The channels on which a node's outputs wait for their writers.
 
-use crate::stop::Stop;
+use crate::flags::Flag;
 use cc_protocol::Parcel;
 use cc_views::NodeId;
 use cc_wire::Event;
@@ -12,7 +12,7 @@ use std::sync::atomic::{AtomicU64, Ordering};
 use std::sync::{Arc, Wait};
 
 // How many parcels wait for a peer's writer at most.
-const LINE_ROOM: usize = 256;
+const CHANNEL_ROOM: usize = 256;
 
 // After so many seconds in which a peer was late, it is connected to anew.
 const MOST_SILENCE: u64 = 5;
@@ -20,28 +20,28 @@ const MOST_SILENCE: u64 = 5;
 // How many events wait for the worker of the node's own messages at most.
 const OWN_ROOM: usize = 4096;
 
-/// The line to a peer.
+/// The channel to a peer.
 #[derive(Drop)]
-pub struct Line {
+pub struct PeerChannel {
     pub peer: NodeId,
     to: Sender<Parcel>,
     // Nothing is put on it.
-    is_muted: Stop,
+    is_muted: Flag,
     // Its writer is to connect anew.
-    is_stale: Arc<Stop>,
+    is_stale: Arc<Flag>,
     // For how many seconds the peer has been late.
     silence: AtomicU64,
 }
 
-impl Line {
-    /// Puts a parcel on the line. What finds no room is lost: links resend.
+impl PeerChannel {
+    /// Puts a parcel on the channel. What finds no room is lost: links resend.
     pub fn put<R: Wait>(&self, rt: &R, parcel: Parcel) {
         if !self.is_muted.is_set() {
             let _ = self.to.try_send(rt, parcel);
         }
     }
 
-    /// Mutes the line where something waits on it.
+    /// Mutes the channel where something waits on it.
     pub fn mute(&self) {
         self.is_muted.put(!self.to.is_empty());
     }
@@ -70,15 +70,15 @@ impl Line {
     }
 }
 
-/// The line to the node itself. None ends its worker.
+/// The channel to the node itself. None ends its worker.
 #[derive(Drop)]
-pub struct OwnLine {
+pub struct OwnChannel {
     to: Sender<Option<Event>>,
-    is_muted: Stop,
+    is_muted: Flag,
 }
 
-impl OwnLine {
-    /// Puts an event on the line. What finds no room is lost: links resend.
+impl OwnChannel {
+    /// Puts an event on the channel. What finds no room is lost: links resend.
     pub fn put<R: Wait>(&self, rt: &R, event: Event) {
         if !self.is_muted.is_set() {
             let _ = self.to.try_send(rt, Some(event));
@@ -99,36 +99,39 @@ impl OwnLine {
     }
 }
 
-/// The far end of a line: a peer's address, and what its writer is to write.
+/// The far end of a channel: a peer's address, and what its writer is to write.
 #[derive(Drop)]
 pub struct FarEnd {
     pub address: SocketAddr,
     pub from: Receiver<Parcel>,
     /// The peer is to be connected to anew.
-    pub is_stale: Arc<Stop>,
+    pub is_stale: Arc<Flag>,
 }
 
-/// The lines to these peers, and their far ends.
-pub fn lines_to(alloc: Global, peers: &[Peer]) -> Result<(Vec<Line>, Vec<FarEnd>), AllocError> {
-    let mut lines = Vec::new(alloc);
+/// The channels to these peers, and their far ends.
+pub fn channels_to(
+    alloc: Global,
+    peers: &[Peer],
+) -> Result<(Vec<PeerChannel>, Vec<FarEnd>), AllocError> {
+    let mut channels = Vec::new(alloc);
     let mut ends = Vec::new(alloc);
     for peer in peers {
-        let (line, end) = line_to(alloc, peer)?;
-        lines.push(line)?;
+        let (channel, end) = channel_to(alloc, peer)?;
+        channels.push(channel)?;
         ends.push(end)?;
     }
-    Ok((lines, ends))
+    Ok((channels, ends))
 }
 
-// The line to a peer, and its far end.
-fn line_to(alloc: Global, peer: &Peer) -> Result<(Line, FarEnd), AllocError> {
-    let is_stale = Arc::new(alloc, Stop::new()).or(Err(AllocError))?;
+// The channel to a peer, and its far end.
+fn channel_to(alloc: Global, peer: &Peer) -> Result<(PeerChannel, FarEnd), AllocError> {
+    let is_stale = Arc::new(alloc, Flag::new()).or(Err(AllocError))?;
     let seen = Arc::try_clone(&is_stale).or(Err(AllocError))?;
-    let (to, from) = bounded(alloc, LINE_ROOM)?;
-    let line = Line {
+    let (to, from) = bounded(alloc, CHANNEL_ROOM)?;
+    let channel = PeerChannel {
         peer: peer.id,
         to,
-        is_muted: Stop::new(),
+        is_muted: Flag::new(),
         is_stale,
         silence: AtomicU64::new(0),
     };
@@ -137,16 +140,16 @@ fn line_to(alloc: Global, peer: &Peer) -> Result<(Line, FarEnd), AllocError> {
         from,
         is_stale: seen,
     };
-    Ok((line, end))
+    Ok((channel, end))
 }
 
-/// The line of a node to itself, and what its worker takes.
-pub fn own_line(alloc: Global) -> Result<(OwnLine, Receiver<Option<Event>>), AllocError> {
+/// The channel of a node to itself, and what its worker takes.
+pub fn own_channel(alloc: Global) -> Result<(OwnChannel, Receiver<Option<Event>>), AllocError> {
     let (to, from) = bounded(alloc, OWN_ROOM)?;
     Ok((
-        OwnLine {
+        OwnChannel {
             to,
-            is_muted: Stop::new(),
+            is_muted: Flag::new(),
         },
         from,
     ))

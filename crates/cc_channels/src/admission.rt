@@ -1,11 +1,12 @@
-//! Room in the queue and among the posts, which workers wait for: so none of them finds the queue full.
+//! Admission to the queue, for which workers wait until it has room, and the node has room for posts: so none of them finds
+//! the queue full.
 
 ghost use Rattle.std.specs.Prelude.{◌≤◌, IfSome};
 
-use crate::bell::Bell;
-use crate::doors::Doors;
+use crate::connections::Connections;
 use crate::durable::{Durable, Flushed};
-use crate::stop::Stop;
+use crate::flags::Flag;
+use crate::waker::Waker;
 use cc_node::{Core, Node};
 use cc_ops::{Asked, Stage};
 use cc_protocol::{is_furthest_behind, is_given_up, may_hand_over};
@@ -16,7 +17,7 @@ use std::sync::atomic::{AtomicU64, Ordering};
 use std::sync::{Condvar, Mutex, Wait};
 
 // How many entries the queue has.
-const SEATS: u64 = 256;
+const PERMITS: u64 = 256;
 
 // How many peers that are furthest behind are known by name.
 const MOST_FURTHEST: usize = 256;
@@ -24,9 +25,9 @@ const MOST_FURTHEST: usize = 256;
 // How many asks of a node aren't answered at most: the 32 of a round, and the 32 that wait behind it.
 const MOST_UNANSWERED: usize = 64;
 
-/// Why an event got no seat.
+/// Why an event wasn't admitted.
 #[derive(Clone, Copy, Debug, PartialEq, Eq)]
-pub enum NoSeat {
+pub enum NotAdmitted {
     /// The node takes no further event.
     Closed,
     /// Its connection is over.
@@ -39,12 +40,12 @@ pub enum NoSeat {
     Spare,
 }
 
-/// One seat for each entry of the queue. An event takes one before it is handed over, and leaves it when it is refused or
-/// flushed.
+/// One permit for each entry of the queue. An event takes one before it is handed over, and gives it back when it is refused
+/// or flushed.
 #[derive(Drop)]
-pub struct Room<F: Flushed> {
-    seats: Mutex<Seats<F>>,
-    // A seat may be free, or what waits for one may be let in.
+pub struct Admission<F: Flushed> {
+    permits: Mutex<Permits<F>>,
+    // A permit may be free, or what waits for one may be let in.
     changed: Condvar,
     // Events were flushed.
     settled: Condvar,
@@ -53,7 +54,7 @@ pub struct Room<F: Flushed> {
 }
 
 #[derive(Drop)]
-struct Seats<F: Flushed> {
+struct Permits<F: Flushed> {
     taken: u64,
     // How many events were flushed since the start.
     flushed: Durable<F>,
@@ -66,18 +67,18 @@ struct Seats<F: Flushed> {
     is_closed: bool,
 }
 
-impl<F: Flushed> Seats<F> {
-    // Whether there is a seat for an event that was held back for so long, where so many events were accepted.
+impl<F: Flushed> Permits<F> {
+    // Whether there is a permit for an event that was held back for so long, where so many events were accepted.
     fn has_one_for(&self, me: NodeId, event: &Event, waited: u64, accepted: u64) -> bool {
         let unflushed = accepted.saturating_sub(self.flushed.count());
         let kept = self.kept.saturating_add(unflushed);
-        self.taken < SEATS && may_hand_over(me, event, kept, self.is_furthest(event), waited)
+        self.taken < PERMITS && may_hand_over(me, event, kept, self.is_furthest(event), waited)
     }
 
     // Wakes the flusher where something may lie in the queue.
-    fn wake(&self, bell: &Bell) {
+    fn wake(&self, waker: &Waker) {
         if self.taken > 0 {
-            bell.ring();
+            waker.wake();
         }
     }
 
@@ -131,11 +132,11 @@ fn pending_ask(stage: Stage) -> Option<Asked> {
     }
 }
 
-impl<F: Flushed> Room<F> {
-    /// The room of a node that was opened, of which no event is flushed yet.
+impl<F: Flushed> Admission<F> {
+    /// Admission to a node that was opened, of which no event is flushed yet.
     pub fn new(alloc: Global, flushed: Durable<F>) -> Result<Self, AllocError> {
-        Ok(Room {
-            seats: Mutex::new(Seats {
+        Ok(Admission {
+            permits: Mutex::new(Permits {
                 taken: 0,
                 flushed,
                 kept: 0,
@@ -150,53 +151,53 @@ impl<F: Flushed> Room<F> {
         })
     }
 
-    /// Waits until the event may be handed to the node `me`, and takes a seat for it. It wakes the flusher, since what would
-    /// make room may lie in the queue. It gives up where the room is closed or the connection is over, and of a message that
+    /// Waits until the event may be handed to the node `me`, and takes a permit for it. It wakes the flusher, since what would
+    /// make room may lie in the queue. It gives up where admission is closed or the connection is over, and of a message that
     /// its link sends again.
-    pub fn sit<R: Wait>(
+    pub fn admit<R: Wait>(
         &self,
         rt: &R,
-        bell: &Bell,
+        waker: &Waker,
         me: NodeId,
         event: &Event,
-        over: &Stop,
-    ) -> Result<(), NoSeat> {
-        let mut seats = self.seats.lock(rt);
-        let since = seats.ticks;
+        over: &Flag,
+    ) -> Result<(), NotAdmitted> {
+        let mut permits = self.permits.lock(rt);
+        let since = permits.ticks;
         for _ in rt.forever() {
-            if seats.is_closed {
-                return Err(NoSeat::Closed);
+            if permits.is_closed {
+                return Err(NotAdmitted::Closed);
             }
             if over.is_set() {
-                return Err(NoSeat::Over);
+                return Err(NotAdmitted::Over);
             }
-            let waited = seats.ticks.saturating_sub(since);
-            if seats.has_one_for(me, event, waited, self.accepted.load(Ordering::SeqCst)) {
-                seats.taken = seats.taken.saturating_add(1);
+            let waited = permits.ticks.saturating_sub(since);
+            if permits.has_one_for(me, event, waited, self.accepted.load(Ordering::SeqCst)) {
+                permits.taken = permits.taken.saturating_add(1);
                 return Ok(());
             }
             if is_given_up(event, waited) {
-                return Err(NoSeat::Waited);
+                return Err(NotAdmitted::Waited);
             }
-            seats.wake(bell);
-            seats = self.changed.wait(rt, seats);
+            permits.wake(waker);
+            permits = self.changed.wait(rt, permits);
         }
         unreachable!()
     }
 
-    /// Waits for a seat, whatever it is for. False where the room is closed.
-    pub fn sit_anyway<R: Wait>(&self, rt: &R, bell: &Bell) -> bool {
-        let mut seats = self.seats.lock(rt);
+    /// Waits for a permit, whatever it is for. False where admission is closed.
+    pub fn admit_any<R: Wait>(&self, rt: &R, waker: &Waker) -> bool {
+        let mut permits = self.permits.lock(rt);
         for _ in rt.forever() {
-            if seats.is_closed {
+            if permits.is_closed {
                 return false;
             }
-            if seats.taken < SEATS {
-                seats.taken = seats.taken.saturating_add(1);
+            if permits.taken < PERMITS {
+                permits.taken = permits.taken.saturating_add(1);
                 return true;
             }
-            seats.wake(bell);
-            seats = self.changed.wait(rt, seats);
+            permits.wake(waker);
+            permits = self.changed.wait(rt, permits);
         }
         unreachable!()
     }
@@ -206,82 +207,89 @@ impl<F: Flushed> Room<F> {
         self.accepted.fetch_add(1, Ordering::SeqCst);
     }
 
-    /// An event was refused: its seat is free.
-    pub fn leave<R: Wait>(&self, rt: &R) {
-        let mut seats = self.seats.lock(rt);
-        let was_full = seats.taken >= SEATS;
-        seats.taken = seats.taken.saturating_sub(1);
-        drop(seats);
+    /// An event was refused: its permit is free.
+    pub fn release<R: Wait>(&self, rt: &R) {
+        let mut permits = self.permits.lock(rt);
+        let was_full = permits.taken >= PERMITS;
+        permits.taken = permits.taken.saturating_sub(1);
+        drop(permits);
         if was_full {
             self.changed.notify_all();
         }
     }
 
-    /// Waits until so many events are durable, and wakes the flusher where they aren't. None where the room is closed before
+    /// Waits until so many events are durable, and wakes the flusher where they aren't. None where admission is closed before
     /// that.
-    pub fn settle<R: Wait>(&self, rt: &R, bell: &Bell, judged: u64) -> Option<Durable<F>>
+    pub fn settle<R: Wait>(&self, rt: &R, waker: &Waker, judged: u64) -> Option<Durable<F>>
         ensures { IfSome result (λ durable. judged ≤ durable) }
     {
-        let mut seats = self.seats.lock(rt);
-        if seats.flushed.count() < judged {
-            bell.ring();
+        let mut permits = self.permits.lock(rt);
+        if permits.flushed.count() < judged {
+            waker.wake();
         }
         for _ in rt.forever() {
-            let durable = seats.flushed.again();
+            let durable = permits.flushed.again();
             if durable.count() >= judged {
                 return Some(durable);
             }
-            if seats.is_closed {
+            if permits.is_closed {
                 return None;
             }
-            seats = self.settled.wait(rt, seats);
+            permits = self.settled.wait(rt, permits);
         }
         unreachable!()
     }
 
     /// Waits until all that was asked over the connection with that ticket is answered, or asked over another one.
-    pub fn outlast<R: Wait>(&self, rt: &R, bell: &Bell, doors: &Doors, ticket: u64, over: &Stop) {
+    pub fn outlast<R: Wait>(
+        &self,
+        rt: &R,
+        waker: &Waker,
+        connections: &Connections,
+        ticket: u64,
+        over: &Flag,
+    ) {
         let accepted = self.accepted.load(Ordering::SeqCst);
-        let mut seats = self.seats.lock(rt);
-        if seats.flushed.count() < accepted {
-            bell.ring();
+        let mut permits = self.permits.lock(rt);
+        if permits.flushed.count() < accepted {
+            waker.wake();
         }
         for _ in rt.forever() {
-            let is_flushed = seats.flushed.count() >= accepted;
-            if is_flushed && !doors.awaits(rt, ticket, &seats.unanswered) {
+            let is_flushed = permits.flushed.count() >= accepted;
+            if is_flushed && !connections.awaits(rt, ticket, &permits.unanswered) {
                 return;
             }
-            if seats.is_closed || over.is_set() {
+            if permits.is_closed || over.is_set() {
                 return;
             }
-            seats = self.settled.wait(rt, seats);
+            permits = self.settled.wait(rt, permits);
         }
         unreachable!()
     }
 
-    /// So many of `flushed` events were flushed just now, and left the node like this: their seats are free.
+    /// So many of `flushed` events were flushed just now, and left the node like this: their permits are free.
     pub fn turned<R: Wait>(&self, rt: &R, events: u64, flushed: Durable<F>, node: &Node) {
-        let mut seats = self.seats.lock(rt);
-        seats.taken = seats.taken.saturating_sub(events);
-        seats.flushed = flushed;
-        seats.look(node);
-        drop(seats);
+        let mut permits = self.permits.lock(rt);
+        permits.taken = permits.taken.saturating_sub(events);
+        permits.flushed = flushed;
+        permits.look(node);
+        drop(permits);
         self.changed.notify_all();
         self.settled.notify_all();
     }
 
     /// A second has passed.
     pub fn tick<R: Wait>(&self, rt: &R) {
-        let mut seats = self.seats.lock(rt);
-        seats.ticks = seats.ticks.saturating_add(1);
-        drop(seats);
+        let mut permits = self.permits.lock(rt);
+        permits.ticks = permits.ticks.saturating_add(1);
+        drop(permits);
         self.changed.notify_all();
         self.settled.notify_all();
     }
 
     /// Nobody waits any more.
     pub fn close<R: Wait>(&self, rt: &R) {
-        self.seats.lock(rt).is_closed = true;
+        self.permits.lock(rt).is_closed = true;
         self.changed.notify_all();
         self.settled.notify_all();
     }

@@ -2,26 +2,26 @@
 
 use std::sync::atomic::{AtomicU64, Ordering};
 
-/// A flag by which a node is told to end.
+/// A flag that threads share.
 #[derive(Drop)]
-pub struct Stop {
+pub struct Flag {
     word: AtomicU64,
 }
 
-impl Stop {
+impl Flag {
     /// A flag that isn't set.
     pub fn new() -> Self {
-        Stop {
+        Flag {
             word: AtomicU64::new(0),
         }
     }
 
-    /// Sets it. A node ends within a second or two then.
+    /// Sets it.
     pub fn set(&self) {
         self.word.store(1, Ordering::SeqCst);
     }
 
-    /// Whether it was set.
+    /// Whether it is set.
     pub fn is_set(&self) -> bool {
         self.word.load(Ordering::SeqCst) != 0
     }
@@ -34,5 +34,28 @@ impl Stop {
     /// Sets it so.
     pub fn put(&self, is_set: bool) {
         self.word.store(u64::from(is_set), Ordering::SeqCst);
+    }
+}
+
+/// By which a node is told to end.
+#[derive(Drop)]
+pub struct Stop {
+    flag: Flag,
+}
+
+impl Stop {
+    /// Nobody has told it yet.
+    pub fn new() -> Self {
+        Stop { flag: Flag::new() }
+    }
+
+    /// Tells it: a node ends within a second or two then.
+    pub fn set(&self) {
+        self.flag.set();
+    }
+
+    /// Whether it was told.
+    pub fn is_set(&self) -> bool {
+        self.flag.is_set()
     }
 }

@@ -1,7 +1,7 @@
 //! Writers: each writes to a stream what comes out of a channel.
 
-use crate::lines::FarEnd;
-use crate::stop::Stop;
+use crate::channels::FarEnd;
+use crate::flags::Flag;
 use cc_protocol::{Bundle, Parcel};
 use cc_views::{NoMemory, NodeId};
 use crossbeam_channel::Receiver;
@@ -70,7 +70,7 @@ pub fn write_peer<R: Wait + Clock + Net<Stream = TcpStream>>(
     alloc: Global,
     me: NodeId,
     end: FarEnd,
-    over: &Stop,
+    over: &Flag,
 ) {
     let FarEnd {
         address,
@@ -97,8 +97,8 @@ fn write_while<R: Wait + Clock>(
     me: NodeId,
     from: &Receiver<Parcel>,
     stream: &TcpStream,
-    is_stale: &Stop,
-    over: &Stop,
+    is_stale: &Flag,
+    over: &Flag,
 ) {
     let _ = stream.set_nodelay(true);
     let _ = stream.set_write_timeout(Some(Duration::from_millis(PATIENCE_MS)));
