@@ -2,8 +2,8 @@
 
 use crate::deadline::Deadline;
 use crate::sending::{connect, pause, receive, send};
-use cc_commands::AskOrder;
 use cc_frames::Frame;
+use cc_orders::AskOrder;
 use cc_protocol::{Client, Heard, Incoming, Step};
 use cc_texts::PrintedAnswer;
 use cc_wire::{Answer, Refusal};

@@ -3,8 +3,8 @@
 use crate::asking::print_refusal;
 use crate::deadline::Deadline;
 use crate::sending::{connect, receive, send};
-use cc_commands::{LeaveOrder, RetireOrder};
 use cc_frames::Frame;
+use cc_orders::{LeaveOrder, RetireOrder};
 use cc_protocol::{Incoming, Outcome, outcome_of};
 use cc_wire::Refusal;
 use std::alloc::Global;

@@ -1,9 +1,9 @@
 //! How a folder is to be formatted.
 
 use crate::warning::Warning;
-use crate::word_fault::WordFault;
 use cc_changes::{Fraction, need};
 use cc_node::Opening;
+use cc_orders::WordFault;
 use cc_words::{fraction, list, small_number};
 use std::alloc::Global;
 

@@ -7,10 +7,9 @@ mod streams;
 
 use cc_arguments::{Formatted, Order, parse};
 use cc_channels::Stop;
-use cc_commands::{
-    FormatOrder, FormatWords, RunOrder, Warning, WordFault, dump_folder, format_folder,
-};
+use cc_commands::{FormatOrder, FormatWords, Warning, dump_folder, format_folder};
 use cc_intake::NoHooks;
+use cc_orders::{RunOrder, WordFault};
 use cc_play::{PlayFault, play};
 use cc_server::{Config, RunFault, run_node};
 use network::{ask, leave, retire};

@@ -3,7 +3,7 @@
 use crate::print_word_fault;
 use cc_arguments::Asked;
 use cc_client::{ask_node, leave_node, retire_node};
-use cc_commands::{AskOrder, AskWords, LeaveOrder, RetireOrder};
+use cc_orders::{AskOrder, AskWords, LeaveOrder, RetireOrder};
 use std::process::ExitCode;
 
 /// Has a command done: the status of that.

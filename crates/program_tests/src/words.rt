@@ -1,9 +1,8 @@
 //! The words of the command line.
 
 use cc_changes::Fraction;
-use cc_commands::{
-    AskOrder, AskWords, FormatOrder, FormatWords, LeaveOrder, RetireOrder, RunOrder, WordFault,
-};
+use cc_commands::{FormatOrder, FormatWords};
+use cc_orders::{AskOrder, AskWords, LeaveOrder, RetireOrder, RunOrder, WordFault};
 use cc_views::NodeId;
 use cc_wire::Command;
 use cc_words::{Peer, fraction, list, number, small_number};

@@ -5,8 +5,8 @@ use crate::nodes::{
 };
 use cc_channels::Stop;
 use cc_client::{ask_node, retire_node};
-use cc_commands::{AskOrder, RetireOrder};
 use cc_intake::NoHooks;
+use cc_orders::{AskOrder, RetireOrder};
 use cc_views::NodeId;
 use cc_words::command;
 use std::alloc::Global;

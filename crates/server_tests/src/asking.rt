@@ -3,8 +3,8 @@
 use crate::nodes::{Places, check, check_end, end, run, set_up};
 use cc_channels::Stop;
 use cc_client::{ask_node, leave_node, retire_node};
-use cc_commands::{AskOrder, LeaveOrder, RetireOrder};
 use cc_intake::NoHooks;
+use cc_orders::{AskOrder, LeaveOrder, RetireOrder};
 use cc_views::NodeId;
 use cc_words::command;
 use std::alloc::Global;
