@@ -1,7 +1,7 @@
 # The commands of the README. The toolchain is Rattle's kit, with its command rt on the PATH.
 .PHONY: try run install test check bench edits must-not-compile refused-growths failing-calls kill-files cluster load \
     kill-cluster soak soak-absent hostile closed-streams dead-member refused-flood stray-frames many-sessions \
-    stale-collects costs worked-rows trusted
+    stale-collects costs worked-rows trusted links beside
 
 # Plays the script that ships with the program before any proof.
 try:
@@ -93,6 +93,12 @@ load:
 	@$(BUILD) ccnode
 	@python3 tools/load.py crates/ccnode/out/ccnode 10 $(PAUSE) $(SHARE)
 
+# Measures three nodes of share 1 and of share 32, and three of etcd and of ZooKeeper in the same run, which have to be there
+# (Debian's etcd-server and zookeeper): about four minutes. It fails nothing.
+beside:
+	@$(BUILD) ccnode
+	@python3 tools/beside.py crates/ccnode/out/ccnode
+
 # Kills nodes of a cluster under load 200 times with SIGKILL, starts each again, and checks what clients are told: about
 # three minutes. KILLS=20 does fewer, AWAY=20 has a killed node wait for up to so many seconds.
 kill-cluster: KILLS = 200
@@ -173,3 +179,7 @@ worked-rows:
 # nothing, and takes a second.
 trusted:
 	@python3 tools/trusted.py
+
+# Looks whether each link of the pages leads to a file that is there, and each name in one to a word of that file.
+links:
+	@python3 tools/links.py

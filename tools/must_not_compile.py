@@ -16,7 +16,7 @@ HEAD = """//! Programs that must not compile.
 
 use cc_intake::Refused;
 use cc_journal::{Batch, Flight, Landed};
-use cc_wire::Refusal;
+use cc_messages::Refusal;
 use std::snapshot::Snapshot;
 
 """
@@ -77,7 +77,7 @@ def repository_at(folder):
     with open("crates.txt") as crates:
         listed = crates.read()
     with open(os.path.join(folder, "crates.txt"), "w") as crates:
-        crates.write(listed + "\ntried: cc_intake cc_journal cc_wire\n")
+        crates.write(listed + "\ntried: cc_messages cc_intake cc_journal\n")
     tried = os.path.join(folder, "crates", "tried")
     os.makedirs(os.path.join(tried, "src"))
     return tried

@@ -4,4 +4,4 @@
 mod command_line;
 mod order;
 
-pub use order::{Asked, Formatted, Order, parse};
+pub use order::{Order, parse};

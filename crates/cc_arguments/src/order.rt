@@ -1,6 +1,7 @@
 //! What a command line asks for.
 
 use crate::command_line::command_line;
+use cc_orders::{AskWords, FormatWords};
 use clap::ArgMatches;
 use std::alloc::Global;
 
@@ -10,7 +11,10 @@ pub enum Order<'a> {
     /// Play the script on standard input.
     Play,
     /// Format a folder.
-    Format(Formatted<'a>),
+    Format {
+        folder: &'a str,
+        words: FormatWords<'a>,
+    },
     /// Run the node of a folder.
     Run {
         folder: &'a str,
@@ -18,7 +22,7 @@ pub enum Order<'a> {
         peers: Option<&'a str>,
     },
     /// Ask a node that runs.
-    Ask(Asked<'a>),
+    Ask(AskWords<'a>),
     /// Have a node leave.
     Leave {
         address: &'a str,
@@ -32,28 +36,6 @@ pub enum Order<'a> {
     Dump {
         folder: &'a str,
     },
-}
-
-/// The words of `format`.
-#[derive(Clone, Copy)]
-pub struct Formatted<'a> {
-    pub folder: &'a str,
-    pub id: &'a str,
-    pub initial: Option<&'a str>,
-    pub contacts: Option<&'a str>,
-    pub beta: Option<&'a str>,
-    pub gamma: Option<&'a str>,
-    pub share: Option<&'a str>,
-}
-
-/// The words of `ask`.
-#[derive(Clone, Copy)]
-pub struct Asked<'a> {
-    pub address: &'a str,
-    pub session: &'a str,
-    pub command: &'a str,
-    pub value: Option<&'a str>,
-    pub timeout: Option<&'a str>,
 }
 
 /// What a command line asks for, the program's name its first word. The error is the help that was asked for, or what is
@@ -77,7 +59,10 @@ fn order_of<'a>(matches: &ArgMatches<'a>) -> Order<'a> {
 // What has the folder of a node.
 fn order_at_folder<'a>(name: &str, words: &ArgMatches<'a>) -> Option<Order<'a>> {
     match name {
-        "format" => Some(Order::Format(formatted_words(words))),
+        "format" => Some(Order::Format {
+            folder: required(words, "DIR"),
+            words: format_words(words),
+        }),
         "run" => Some(Order::Run {
             folder: required(words, "DIR"),
             listen: required(words, "listen"),
@@ -93,7 +78,7 @@ fn order_at_folder<'a>(name: &str, words: &ArgMatches<'a>) -> Option<Order<'a>> 
 // What has the address of a node that runs.
 fn order_at_node<'a>(name: &str, words: &ArgMatches<'a>) -> Option<Order<'a>> {
     match name {
-        "ask" => Some(Order::Ask(asked_words(words))),
+        "ask" => Some(Order::Ask(ask_words(words))),
         "leave" => Some(Order::Leave {
             address: required(words, "ADDR"),
         }),
@@ -105,9 +90,8 @@ fn order_at_node<'a>(name: &str, words: &ArgMatches<'a>) -> Option<Order<'a>> {
     }
 }
 
-fn formatted_words<'a>(words: &ArgMatches<'a>) -> Formatted<'a> {
-    Formatted {
-        folder: required(words, "DIR"),
+fn format_words<'a>(words: &ArgMatches<'a>) -> FormatWords<'a> {
+    FormatWords {
         id: required(words, "ID"),
         initial: words.get_str("initial"),
         contacts: words.get_str("contacts"),
@@ -117,8 +101,8 @@ fn formatted_words<'a>(words: &ArgMatches<'a>) -> Formatted<'a> {
     }
 }
 
-fn asked_words<'a>(words: &ArgMatches<'a>) -> Asked<'a> {
-    Asked {
+fn ask_words<'a>(words: &ArgMatches<'a>) -> AskWords<'a> {
+    AskWords {
         address: required(words, "ADDR"),
         session: required(words, "SESSION"),
         command: required(words, "COMMAND"),

@@ -2,8 +2,8 @@
 
 use crate::bench_fault::BenchFault;
 use crate::events::{Kind, acknowledgements, delivery, first_of, members};
+use cc_messages::{Event, Refusal};
 use cc_node::{Core, Node, Opening};
-use cc_wire::{Event, Refusal};
 use std::alloc::Global;
 use std::time::{Clock, Instant};
 

@@ -2,9 +2,9 @@
 
 use crate::bench_fault::BenchFault;
 use cc_changes::Fraction;
+use cc_messages::{Event, Message};
 use cc_node::{Core, Opening};
 use cc_views::{NodeId, Row, Value, View};
-use cc_wire::{Event, Message};
 use std::alloc::{AllocError, Global};
 
 // Both fractions of the nodes.

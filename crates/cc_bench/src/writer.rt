@@ -7,10 +7,10 @@ use crate::bench_fault::BenchFault;
 use cc_files::{FileSite, NoOutlet};
 use cc_flush::{Back, Flusher};
 use cc_journal::{Batch, Entry};
+use cc_messages::{Command, Event};
 use cc_node::{Core, Node};
 use cc_site::Site;
 use cc_views::{NodeId, Text};
-use cc_wire::{Command, Event};
 use std::alloc::Global;
 use std::io::Write;
 

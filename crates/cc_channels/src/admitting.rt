@@ -6,9 +6,9 @@ use crate::admission::{Admission, NotAdmitted};
 use crate::connections::{Connection, Connections};
 use crate::durable::Flushed;
 use crate::waker::Waker;
+use cc_messages::Event;
 use cc_protocol::{Admitted, Spoken};
 use cc_views::NodeId;
-use cc_wire::Event;
 use std::sync::Wait;
 use std::sync::atomic::{AtomicU64, Ordering};
 

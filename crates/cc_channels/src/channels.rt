@@ -1,10 +1,10 @@
 //! The channels on which a node's outputs wait for their writers.
 
 use crate::flags::Flag;
+use cc_frames::Peer;
+use cc_messages::Event;
 use cc_protocol::Parcel;
 use cc_views::NodeId;
-use cc_wire::Event;
-use cc_words::Peer;
 use crossbeam_channel::{Receiver, Sender, bounded};
 use std::alloc::{AllocError, Global};
 use std::net::SocketAddr;

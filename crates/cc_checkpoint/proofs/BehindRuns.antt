@@ -7,7 +7,7 @@
 use Rattle.std.proofs.Common.{◌≡◌, ℕ, ◌+◌, ◌≤◌, ◌<◌, List, [], ◌∷◌, ◌++◌, length, take, drop, get_or, refl, sym, ◌∙◌, ap, subst, inl, arith, length-take}
 use Rattle.std.specs.Prelude.{Result, Ok, Err, OnOk}
 use Rattle.std.proofs.lemmas.List.{take_all, drop_all, append-nil}
-use Rattle.cc_wire.specs.declared.output.Output.{Output}
+use Rattle.cc_messages.specs.declared.output.Output.{Output}
 use Rattle.cc_site.specs.declared.site.Side.{Side}
 use Rattle.cc_site.specs.declared.site.Site.{Ghosts}
 use Rattle.cc_site.specs.declared.site.DeviceFault.{DeviceFault}
@@ -18,7 +18,7 @@ use Rattle.cc_site.specs.Moments.{Contents, Within, SeenFrom}
 use Rattle.cc_site.specs.Gates.{shut_like}
 use Rattle.cc_site.specs.Runs.{EachMoment, OnlyNow, CountsNow, Passes, started, goes_on, joined, weaker, now_has}
 use Rattle.cc_site.specs.Crashes.{after_crash_of}
-use Rattle.cc_node.specs.Good.{AllMade, RestsAt}
+use Rattle.cc_sides.specs.Good.{AllMade, RestsAt}
 use Rattle.cc_checkpoint.specs.Checkpoints.{IsShutNow, Behind, StaysBehind, RestsOff, KeepsOff}
 
 -- what lies within a bound that has the gates of before

@@ -5,13 +5,13 @@ use Rattle.std.proofs.lemmas.List.{length-take}
 use Rattle.cc_site.specs.Sides.{SideState, overwritten, written, settled, durable}
 use Rattle.cc_site.specs.Gates.{IsShut}
 use Rattle.cc_node.specs.Node.{Node}
-use Rattle.cc_node.specs.declared.layout.Layout.{Layout}
-use Rattle.cc_node.specs.Layouts.{version_of, layout_back}
-use Rattle.cc_node.specs.Sides.{OPEN}
-use Rattle.cc_node.specs.States.{SpellsNode, layout_of_node, node_spelling}
+use Rattle.cc_sides.specs.declared.layout.Layout.{Layout}
+use Rattle.cc_sides.specs.Layouts.{version_of, layout_back}
+use Rattle.cc_sides.specs.Sides.{OPEN}
+use Rattle.cc_sides.specs.States.{SpellsNode, layout_of_node, node_spelling}
 use Rattle.cc_checkpoint.specs.Images.{SpellsImage, head_spelling, image_spelling}
 use Rattle.cc_checkpoint.specs.Checkpoints.{image_of, IsFilled}
-use Rattle.cc_checkpoint.proofs.StateLengths.{length-node}
+use Rattle.cc_states.proofs.StateLengths.{length-node}
 use Rattle.cc_checkpoint.proofs.BehindRuns.{at_end}
 
 pub image_spelled : (version generation : ℕ) (state : List ℕ) (node : Node) → version ≡ version_of (layout_of_node node) → 1 ≤ generation → generation < 2 ^ 64 → SpellsNode (layout_of_node node) state node → length state < 2 ^ 32

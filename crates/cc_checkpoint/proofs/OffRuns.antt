@@ -6,8 +6,8 @@
 use Rattle.std.proofs.Common.{◌≡◌, ℕ, ◌≤◌, List, [], ◌∷◌, length, take, set, get_or, get_or-take, refl, sym, ◌∙◌, ap, subst, inl, inr, arith}
 use Rattle.std.proofs.lemmas.Bool.{cases_eq}
 use Rattle.std.proofs.lemmas.List.{length-set}
-use Rattle.cc_wire.specs.declared.event.Event.{Event}
-use Rattle.cc_wire.specs.declared.output.Output.{Output}
+use Rattle.cc_messages.specs.declared.event.Event.{Event}
+use Rattle.cc_messages.specs.declared.output.Output.{Output}
 use Rattle.cc_site.specs.declared.site.Side.{Side}
 use Rattle.cc_site.specs.declared.site.Side.TheVariants.{A, B}
 use Rattle.cc_site.specs.declared.site.Site.{Ghosts}
@@ -20,10 +20,10 @@ use Rattle.cc_site.specs.Reads.{OnlyReads, read_each}
 use Rattle.cc_site.specs.Runs.{EachMoment, OnlyNow, CountsNow, joined, weaker, now_has}
 use Rattle.cc_site.specs.Crashes.{after_crash_of}
 use Rattle.cc_node.specs.Node.{Node, after}
-use Rattle.cc_node.specs.Sides.{OPEN, IsArmed, Yields}
-use Rattle.cc_node.specs.Fronts.{generation_held}
-use Rattle.cc_node.specs.Good.{AllMade, IsGoodAt, RestsAt}
-use Rattle.cc_node.specs.GoodLaws.{good_other_way, whole_good}
+use Rattle.cc_sides.specs.Sides.{OPEN, IsArmed, Yields}
+use Rattle.cc_sides.specs.Fronts.{generation_held}
+use Rattle.cc_sides.specs.Good.{AllMade, IsGoodAt, RestsAt}
+use Rattle.cc_sides.specs.GoodLaws.{good_other_way, whole_good}
 use Rattle.cc_checkpoint.specs.Images.{image_holds}
 use Rattle.cc_checkpoint.specs.Checkpoints.{image_of, RestsOff, RestsOn, KeepsOff, ArmsFor, IsGoodForAll}
 

@@ -12,15 +12,15 @@ use Rattle.cc_site.specs.declared.site.Side.{Side}
 use Rattle.cc_site.specs.Telling.{LooksAt}
 use Rattle.cc_node.specs.Lawful.{IsLawfulNode}
 use Rattle.cc_node.specs.Node.{Node}
-use Rattle.cc_node.specs.Layouts.{layout_of}
-use Rattle.cc_node.specs.declared.layout.Layout.{Layout}
-use Rattle.cc_node.specs.States.{State, state_at, node_of, state_of as state_of_node}
+use Rattle.cc_sides.specs.Layouts.{layout_of}
+use Rattle.cc_sides.specs.declared.layout.Layout.{Layout}
+use Rattle.cc_sides.specs.States.{State, state_at, node_of, state_of as state_of_node}
 use Rattle.cc_checkpoint.specs.declared.read_fault.ReadFault.{ReadFault}
 use Rattle.cc_checkpoint.specs.declared.read_fault.ReadFault.TheVariants.{Device, NoMemory, NoState}
 use Rattle.cc_checkpoint.specs.Faults.{FaultRose}
 use Rattle.cc_checkpoint.specs.Heads.{state_of, fault_of, HasState, HeadFails, NodeFound}
 use Rattle.cc_checkpoint.specs.Windows.{IsMissing, Misses, FaultRead, CountsRead}
-use Rattle.cc_checkpoint.proofs.Decoded.{decodes, state_is_read, not_unlawful}
+use Rattle.cc_states.proofs.Decoded.{decodes, state_is_read, not_unlawful}
 
 pub ahead_all : (held bytes : List ℕ) (end size : ℕ) → held ≡ [] → end ≡ 14 + size → held ++ take (end - 14) (drop 14 bytes) ≡ take size (drop 14 bytes)
 ahead_all held bytes end size none is =

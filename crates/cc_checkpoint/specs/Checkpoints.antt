@@ -7,8 +7,8 @@
 --     IsGoodForAll                    the moment is good, with all events durable
 --     ArmsFor                   a history after which a side that was filled may be armed
 use Rattle.std.specs.Prelude.{true, ◌≡◌, ◌≢◌, ◌<◌, ℕ, List, ◌∷◌, length, take}
-use Rattle.cc_wire.specs.declared.event.Event.{Event}
-use Rattle.cc_wire.specs.declared.output.Output.{Output}
+use Rattle.cc_messages.specs.declared.event.Event.{Event}
+use Rattle.cc_messages.specs.declared.output.Output.{Output}
 use Rattle.cc_site.specs.declared.site.Side.{Side}
 use Rattle.cc_site.specs.declared.site.Side.TheVariants.{A}
 use Rattle.cc_site.specs.declared.site.Site.{Ghosts}
@@ -18,10 +18,10 @@ use Rattle.cc_site.specs.Gates.{IsShut}
 use Rattle.cc_site.specs.Runs.{EachMoment}
 use Rattle.cc_site.specs.Crashes.{AfterCrash}
 use Rattle.cc_node.specs.Node.{Node, after}
-use Rattle.cc_node.specs.Layouts.{version_of}
-use Rattle.cc_node.specs.States.{layout_of_node, node_spelling}
-use Rattle.cc_node.specs.Sides.{OPEN}
-use Rattle.cc_node.specs.Good.{IsGoodAt, RestsAt}
+use Rattle.cc_sides.specs.Layouts.{version_of}
+use Rattle.cc_sides.specs.States.{layout_of_node, node_spelling}
+use Rattle.cc_sides.specs.Sides.{OPEN}
+use Rattle.cc_sides.specs.Good.{IsGoodAt, RestsAt}
 use Rattle.cc_checkpoint.specs.Images.{image_spelling, SpellsImage}
 
 abbrev pub IsShutNow : SideState → Type 0

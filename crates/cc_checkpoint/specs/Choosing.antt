@@ -6,7 +6,7 @@
 use Rattle.std.specs.Prelude.{◌≡◌, ℕ, List, length, slice_index_or, nat_lt, ◌||◌, ◌==◌, if◌then◌else◌, Option, Some, None, Result, Ok, Err}
 use Rattle.cc_site.specs.declared.site.Side.{Side}
 use Rattle.cc_site.specs.declared.site.Side.TheVariants.{A, B}
-use Rattle.cc_node.specs.Sides.{OPEN, generation_of}
+use Rattle.cc_sides.specs.Sides.{OPEN, generation_of}
 use Rattle.cc_checkpoint.specs.declared.choosing.InUse.{InUse}
 use Rattle.cc_checkpoint.specs.declared.choosing.Peeked.{Peeked}
 use Rattle.cc_checkpoint.specs.declared.choosing.Peeked.TheVariants.{Closed, Armed, Short}

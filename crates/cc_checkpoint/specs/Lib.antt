@@ -1,10 +1,7 @@
 pub mod Choosing
 pub mod Heads
 pub mod Faults
-pub mod Fields
 pub mod Images
-pub mod Decoding
-pub mod Parts
 pub mod Windows
 pub mod Checkpoints
 pub mod Stops

@@ -2,7 +2,7 @@
 //! other side is retired. A crash at any moment leaves two sides that stand for the node.
 
 ghost use Rattle.std.specs.Prelude.{ℕ, List, ◌≡◌, ◌↔◌, ◌+◌, ◌≤◌, ◌++◌, ◌∷◌, [], length, take, OnOk, OnErr, IfOk, IfErr};
-ghost use Rattle.cc_wire.specs.declared.event.Event.{Event};
+ghost use Rattle.cc_messages.specs.declared.event.Event.{Event};
 ghost use Rattle.cc_site.specs.declared.site.Call.TheVariants.{Read, Write, Cut, Sync};
 ghost use Rattle.cc_site.specs.Sides.{durable, other, settled, written, MayHaveWritten};
 ghost use Rattle.cc_site.specs.Moments.{CountsFault, CountsOneFault};
@@ -10,19 +10,19 @@ ghost use Rattle.cc_site.specs.Gates.{IsShut};
 ghost use Rattle.cc_site.specs.Runs.{EachMoment};
 ghost use Rattle.cc_site.specs.Telling.{CountsCalls};
 ghost use Rattle.cc_node.specs.Node.{Node as NodeState, after};
-ghost use Rattle.cc_node.specs.States.{SpellsNode, layout_of_node, node_spelling};
-ghost use Rattle.cc_node.specs.Sides.{IsArmed, OPEN};
+ghost use Rattle.cc_sides.specs.States.{SpellsNode, layout_of_node, node_spelling};
+ghost use Rattle.cc_sides.specs.Sides.{IsArmed, OPEN};
 ghost use Rattle.cc_checkpoint.specs.Stops.{Fills, Retires, HasClosed, ClosingStops, IsPastGate, ImageStops, FillStops, RetireStops};
 ghost use Rattle.cc_checkpoint.specs.Checkpoints.{IsShutNow, IsSurelyShut, IsFilled, StaysBehind, KeepsOff, RestsOn, ArmsFor, IsGoodForAll, image_of};
 
 use crate::image::version_for;
 use crate::piece::Piece;
 use crate::pieces::{Pieces, state_length};
-use crate::spellable::node_is_spellable;
 use cc_node::Node;
 use cc_site::{
     CLOSED_GATE, DeviceFault, OPEN_GATE, Side, Site, cut_durably, read_into, write_durably,
 };
+use cc_states::node_is_spellable;
 
 // Where the state begins: behind the gate, the generation, the version and the state's length.
 const STATE_PLACE: u64 = 14;

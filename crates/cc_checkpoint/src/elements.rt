@@ -9,23 +9,23 @@ ghost use Rattle.cc_wire.specs.Reading.{Gives, number_at, view_at};
 ghost use Rattle.cc_links.specs.Rows as links;
 ghost use Rattle.cc_sessions.specs.Rows as sessions;
 ghost use Rattle.cc_outbox.specs.Rows as answers;
-ghost use Rattle.cc_node.specs.States.{membership_at, entering_at, round_at, phase_spelling, round_spelling, table_at, link_at, session_at, kept_answer_at};
-ghost use Rattle.cc_checkpoint.specs.Fields.{membership_in, own_at, own_in, entering_in, round_in};
+ghost use Rattle.cc_sides.specs.States.{membership_at, entering_at, round_at, phase_spelling, round_spelling, table_at, link_at, session_at, kept_answer_at};
+ghost use Rattle.cc_states.specs.Fields.{membership_in, own_at, own_in, entering_in, round_in};
 
-use crate::fields::{Entering, Membership, Own, Round};
-use crate::parts::{COUNT, FRACTION, ID, LINK, NUMBER, SESSION, line_len, others_len, pending_len};
 use crate::piece::Piece;
-use crate::state_reader::{
-    read_entering, read_kept_answer, read_link, read_membership, read_own, read_round,
-    read_session_table,
-};
 use cc_links::LinkRow;
-use cc_node::Layout;
+use cc_messages::Message;
 use cc_ops::Stage;
 use cc_outbox::KeptAnswer;
 use cc_sessions::SessionRow;
+use cc_sides::Layout;
+use cc_states::{
+    COUNT_LEN, Entering, FRACTION_LEN, ID_LEN, LINK_LEN, Membership, NUMBER_LEN, Own, Round,
+    SESSION_LEN, line_len, others_len, pending_len, read_entering, read_kept_answer, read_link,
+    read_membership, read_own, read_round, read_session_table,
+};
 use cc_views::View;
-use cc_wire::{Message, WireFault, answer_len, changes_len, message_len, value_len, view_len};
+use cc_wire::{WireFault, answer_len, changes_len, message_len, value_len, view_len};
 use std::alloc::Global;
 
 pub(crate) fn take_membership(alloc: Global, piece: &mut Piece) -> Result<Membership, WireFault>
@@ -33,7 +33,7 @@ pub(crate) fn take_membership(alloc: Global, piece: &mut Piece) -> Result<Member
 {
     let mut reader = piece.reader();
     let membership = read_membership(alloc, &mut reader)?;
-    piece.advance(ID + 2 * FRACTION + changes_len(&membership.changes));
+    piece.advance(ID_LEN + 2 * FRACTION_LEN + changes_len(&membership.changes));
     Ok(membership)
 }
 
@@ -51,7 +51,7 @@ pub(crate) fn take_own(piece: &mut Piece) -> Result<Own, WireFault>
 {
     let mut reader = piece.reader();
     let own = read_own(&mut reader)?;
-    piece.advance(NUMBER + value_len(&own.mine) + NUMBER);
+    piece.advance(NUMBER_LEN + value_len(&own.mine) + NUMBER_LEN);
     Ok(own)
 }
 
@@ -60,7 +60,7 @@ pub(crate) fn take_entering(piece: &mut Piece) -> Result<Entering, WireFault>
 {
     let mut reader = piece.reader();
     let entering = read_entering(&mut reader)?;
-    piece.advance(NUMBER + COUNT);
+    piece.advance(NUMBER_LEN + COUNT_LEN);
     Ok(entering)
 }
 
@@ -99,7 +99,7 @@ pub(crate) fn take_number(piece: &mut Piece) -> Result<u64, WireFault>
 {
     let mut reader = piece.reader();
     let number = reader.u64()?;
-    piece.advance(NUMBER);
+    piece.advance(NUMBER_LEN);
     Ok(number)
 }
 
@@ -108,7 +108,7 @@ pub(crate) fn take_count(piece: &mut Piece) -> Result<u16, WireFault>
 {
     let mut reader = piece.reader();
     let count = reader.u16()?;
-    piece.advance(COUNT);
+    piece.advance(COUNT_LEN);
     Ok(count)
 }
 
@@ -119,7 +119,7 @@ pub(crate) fn take_link(piece: &mut Piece, least: u64) -> Result<LinkRow, WireFa
 {
     let mut reader = piece.reader();
     let row = read_link(&mut reader, least)?;
-    piece.advance(LINK);
+    piece.advance(LINK_LEN);
     Ok(row)
 }
 
@@ -133,7 +133,7 @@ pub(crate) fn take_session_table(
 {
     let mut reader = piece.reader();
     let rows = read_session_table(alloc, &mut reader)?;
-    piece.advance(COUNT + SESSION * rows.len());
+    piece.advance(COUNT_LEN + SESSION_LEN * rows.len());
     Ok(rows)
 }
 
@@ -156,6 +156,6 @@ pub(crate) fn take_kept_answer(
 {
     let mut reader = piece.reader();
     let kept = read_kept_answer(alloc, &mut reader, least)?;
-    piece.advance(NUMBER + answer_len(&kept.answer));
+    piece.advance(NUMBER_LEN + answer_len(&kept.answer));
     Ok(kept)
 }

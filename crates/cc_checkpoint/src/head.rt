@@ -1,7 +1,7 @@
 //! The state of an armed side.
 
 ghost use Rattle.std.specs.Prelude.{◌≡◌, ◌≤◌, ◌+◌, length, slice_index, take, drop, IfOk, MatchResult};
-ghost use Rattle.cc_node.specs.Layouts.{layout_of};
+ghost use Rattle.cc_sides.specs.Layouts.{layout_of};
 ghost use Rattle.cc_site.specs.Reads.{OnlyReads};
 ghost use Rattle.cc_site.specs.Telling.{LooksAt};
 ghost use Rattle.cc_checkpoint.specs.Faults.{CountsDevice};
@@ -11,11 +11,12 @@ ghost use Rattle.cc_checkpoint.specs.Windows.{CountsRead};
 use crate::open_fault::OpenFault;
 use crate::piece::Piece;
 use crate::read_fault::ReadFault;
-use crate::restore::restore;
 use crate::side_reader::read_off;
 use crate::unread::Unread;
-use cc_node::{Layout, Node};
+use cc_node::Node;
+use cc_sides::Layout;
 use cc_site::{Side, Site, length_of, read_into};
+use cc_states::restore;
 use std::alloc::Global;
 
 // Where the state of a side begins.

@@ -10,27 +10,28 @@ ghost use Rattle.cc_links.specs.Rows as links;
 ghost use Rattle.cc_sessions.specs.Rows as sessions;
 ghost use Rattle.cc_outbox.specs.Outbox.{post_limit};
 ghost use Rattle.cc_outbox.specs.Rows as answers;
-ghost use Rattle.cc_node.specs.States.{membership_at, entering_at, round_at, work_at, rows_at, table_at, link_at, session_at, kept_answer_at, posts_at, kept_at, most_rows, tables_at, state_at};
-ghost use Rattle.cc_checkpoint.specs.Fields.{membership_in, own_at, own_in, entering_in, round_in, work_in, tables_in, state_in, AreRead};
+ghost use Rattle.cc_sides.specs.States.{membership_at, entering_at, round_at, work_at, rows_at, table_at, link_at, session_at, kept_answer_at, posts_at, kept_at, most_rows, tables_at, state_at};
+ghost use Rattle.cc_states.specs.Fields.{membership_in, own_at, own_in, entering_in, round_in, work_in, tables_in, state_in, AreRead};
 ghost use Rattle.cc_checkpoint.specs.Windows.{Finds, LiesOn, ReadsOff, Runs, ahead, at, seen_by};
 
 use crate::elements::{
     take_count, take_entering, take_kept_answer, take_link, take_membership, take_message,
     take_number, take_own, take_round, take_session_table, take_view,
 };
-use crate::fields::{Entering, Fields, Membership, Own, Round, Tables, Work};
-use crate::parts::{COUNT, LINK, NUMBER};
 use crate::piece::Piece;
 use crate::read_fault::ReadFault;
 use crate::unread::Unread;
 use crate::window::refill;
 use cc_links::LinkRow;
-use cc_node::Layout;
+use cc_messages::Message;
 use cc_outbox::{KeptAnswer, Outbox};
 use cc_sessions::SessionRow;
+use cc_sides::Layout;
 use cc_site::Site;
+use cc_states::{
+    COUNT_LEN, Entering, Fields, LINK_LEN, Membership, NUMBER_LEN, Own, Round, Tables, Work,
+};
 use cc_views::View;
-use cc_wire::Message;
 use std::alloc::Global;
 
 // How many bytes each element has at most.
@@ -40,7 +41,7 @@ const VIEW: usize = 55_042;
 
 const OWN: usize = 219;
 
-const ENTERING: usize = NUMBER + COUNT;
+const ENTERING: usize = NUMBER_LEN + COUNT_LEN;
 
 const ROUND: usize = 60_380;
 
@@ -118,7 +119,7 @@ fn read_number<S: Site>(
     requires { LiesOn S.Site site.old unread.old }
     ensures { ReadsOff S.Site (number_at w64) (at site.old piece.old unread.old) (at site.new piece.new unread.new) result }
 {
-    refill(site, piece, unread, NUMBER)?;
+    refill(site, piece, unread, NUMBER_LEN)?;
     Ok(take_number(piece)?)
 }
 
@@ -130,7 +131,7 @@ fn read_count<S: Site>(
     requires { LiesOn S.Site site.old unread.old }
     ensures { ReadsOff S.Site (number_at w16) (at site.old piece.old unread.old) (at site.new piece.new unread.new) result }
 {
-    refill(site, piece, unread, COUNT)?;
+    refill(site, piece, unread, COUNT_LEN)?;
     Ok(take_count(piece)?)
 }
 
@@ -145,7 +146,7 @@ fn read_link<S: Site>(
     ensures exact { ReadsOff S.Site (link_at least) (at site.old piece.old unread.old) (at site.new piece.new unread.new) (seen_by links.entry_of result) }
     ensures least { IfOk result (λ row. least ≤ row.peer) }
 {
-    refill(site, piece, unread, LINK)?;
+    refill(site, piece, unread, LINK_LEN)?;
     Ok(take_link(piece, least)?)
 }
 

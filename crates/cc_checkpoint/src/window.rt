@@ -2,7 +2,7 @@
 //! or the state ends.
 
 ghost use Rattle.std.specs.Prelude.{◌≡◌, ◌⊎◌, ◌≤◌, length, OnOk, IfErr};
-ghost use Rattle.cc_checkpoint.specs.Parts.{piece_limit};
+ghost use Rattle.cc_states.specs.Parts.{piece_limit};
 ghost use Rattle.cc_checkpoint.specs.Windows.{AreBytes, IsOfDevice, LiesOn, Runs, ahead, at};
 
 use crate::piece::Piece;

@@ -7,8 +7,8 @@ use Rattle.std.specs.Bool.{then_some}
 use Rattle.cc_views.specs.NatSets.{contains-insert}
 use Rattle.cc_changes.specs.ChangeSets.{ChangeSets, add_join}
 use Rattle.cc_changes.specs.declared.fraction.Fraction.{Fraction}
-use Rattle.cc_wire.specs.declared.message.Message.{Message}
-use Rattle.cc_wire.specs.declared.message.Message.TheVariants as message
+use Rattle.cc_messages.specs.declared.message.Message.{Message}
+use Rattle.cc_messages.specs.declared.message.Message.TheVariants as message
 use Rattle.cc_churn.specs.Churn.{Churn, with_need, with_echo, is_answered, echoed, counted, has_joined, united, join_of, joins_by}
 
 same_joined : (b : Bool) (need me : ℕ) (s : Churn) → has_joined me (cond b (record s { need = need }) s) ≡ has_joined me s

@@ -13,8 +13,8 @@ use Rattle.cc_views.specs.Rows.{ViewMap}
 use Rattle.cc_changes.specs.ChangeSets.{ChangeSets, change_sets_code, nothing_known, present, members, add_enter, add_join, add_leave, union}
 use Rattle.cc_changes.specs.Need.{needed}
 use Rattle.cc_changes.specs.declared.fraction.Fraction.{Fraction}
-use Rattle.cc_wire.specs.declared.message.Message.{Message}
-use Rattle.cc_wire.specs.declared.message.Message.TheVariants as message
+use Rattle.cc_messages.specs.declared.message.Message.{Message}
+use Rattle.cc_messages.specs.declared.message.Message.TheVariants as message
 
 pub record Churn : Type 0 where
   pub changes : ChangeSets

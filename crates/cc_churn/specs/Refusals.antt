@@ -3,8 +3,8 @@
 --     left, already_entered, not_entered, not_joined      one reason each
 use Rattle.std.specs.Prelude.{ℕ, not, Option}
 use Rattle.std.specs.Bool.{then_some}
-use Rattle.cc_wire.specs.declared.refusal.Refusal.{Refusal}
-use Rattle.cc_wire.specs.declared.refusal.Refusal.TheVariants as refusal
+use Rattle.cc_messages.specs.declared.refusal.Refusal.{Refusal}
+use Rattle.cc_messages.specs.declared.refusal.Refusal.TheVariants as refusal
 use Rattle.cc_churn.specs.Churn.{Churn, has_entered, has_joined, has_left}
 
 abbrev pub left : ℕ → Churn → Option Refusal

@@ -6,11 +6,11 @@ ghost use Rattle.cc_views.specs.Rows.{ViewMap};
 ghost use Rattle.cc_changes.specs.ChangeSets.{FitsRoom};
 ghost use Rattle.cc_churn.specs.Churn as churn;
 ghost use Rattle.cc_churn.specs.Refusals.{left, already_entered, not_entered, not_joined};
-ghost use Rattle.cc_wire.specs.Refusals.{first_of, decided};
+ghost use Rattle.cc_messages.specs.Refusals.{first_of, decided};
 
 use cc_changes::{Changes, Fraction, need};
+use cc_messages::{Message, Refusal};
 use cc_views::{COUNTER_LIMIT, NoMemory, NodeId, View};
-use cc_wire::{Message, Refusal};
 use std::alloc::Global;
 use std::marker::Model;
 

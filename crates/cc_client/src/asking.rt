@@ -3,10 +3,10 @@
 use crate::deadline::Deadline;
 use crate::sending::{connect, pause, receive, send};
 use cc_frames::Frame;
+use cc_messages::{Answer, Refusal};
 use cc_orders::AskOrder;
 use cc_protocol::{Client, Heard, Incoming, Step};
 use cc_texts::PrintedAnswer;
-use cc_wire::{Answer, Refusal};
 use std::alloc::Global;
 use std::io;
 use std::io::Write;

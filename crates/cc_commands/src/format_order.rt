@@ -3,7 +3,7 @@
 use crate::warning::Warning;
 use cc_changes::{Fraction, need};
 use cc_node::Opening;
-use cc_orders::WordFault;
+use cc_orders::{FormatWords, WordFault};
 use cc_words::{fraction, list, small_number};
 use std::alloc::Global;
 
@@ -12,17 +12,6 @@ const FOUR_FIFTHS: Fraction = Fraction { num: 4, den: 5 };
 
 // The share of a node where no word says another: its asks begin one at a time.
 const ONE_BY_ONE: u32 = 1;
-
-/// The words of `format` behind its folder, as they are given. None for an option that isn't.
-#[derive(Clone, Copy, Debug)]
-pub struct FormatWords<'a> {
-    pub id: &'a str,
-    pub initial: Option<&'a str>,
-    pub contacts: Option<&'a str>,
-    pub beta: Option<&'a str>,
-    pub gamma: Option<&'a str>,
-    pub share: Option<&'a str>,
-}
 
 /// The node that a folder is to keep.
 #[derive(Debug, Drop, PartialEq, Eq)]

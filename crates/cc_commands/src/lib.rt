@@ -8,6 +8,6 @@ mod status;
 mod warning;
 
 pub use dumping::{dump_folder, dump_site};
-pub use format_order::{FormatOrder, FormatWords};
+pub use format_order::FormatOrder;
 pub use formatting::{format_folder, format_site};
 pub use warning::Warning;

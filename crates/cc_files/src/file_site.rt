@@ -6,9 +6,9 @@ ghost use Rattle.cc_site.specs.Moments.{CountsFault};
 use crate::outlet::Outlet;
 use crate::places::{read_whole, write_whole};
 use crate::site_fault::SiteFault;
+use cc_messages::{Answer, Message};
 use cc_site::{Call, DeviceFault, Side, Site};
 use cc_views::NodeId;
-use cc_wire::{Answer, Message};
 use std::alloc::Global;
 use std::fs::{File, Files};
 

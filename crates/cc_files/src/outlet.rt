@@ -1,7 +1,7 @@
 //! Where a site of files passes outputs on.
 
+use cc_messages::{Answer, Message};
 use cc_views::NodeId;
-use cc_wire::{Answer, Message};
 
 /// Takes the outputs of a site. No call fails: what can't be passed on is lost.
 pub trait Outlet {

@@ -1,7 +1,7 @@
 -- The events of a lawful batch are lawful.
 --     lawful_after             after the events that led to its node
 use Rattle.std.proofs.Common.{◌≡◌, List, [], ◌∷◌, subst}
-use Rattle.cc_wire.specs.declared.event.Event.{Event}
+use Rattle.cc_messages.specs.declared.event.Event.{Event}
 use Rattle.cc_node.specs.Node.{Node, after, step, IsLawful}
 use Rattle.cc_journal.specs.declared.entry.Entry.{Entry}
 use Rattle.cc_journal.specs.Batches.{AreLawful, events_in}

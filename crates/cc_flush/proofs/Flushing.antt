@@ -7,8 +7,8 @@
 --     flushed                 both, one after the other
 use Rattle.std.proofs.Common.{◌≡◌, ℕ, ◌≤◌, List, [], ◌++◌, length, refl, sym, subst, ◌∙◌, ap, arith, append-nil, length-append}
 use Rattle.std.specs.Prelude.{◌↔◌, false, None}
-use Rattle.cc_wire.specs.declared.event.Event.{Event}
-use Rattle.cc_wire.specs.declared.output.Output.{Output}
+use Rattle.cc_messages.specs.declared.event.Event.{Event}
+use Rattle.cc_messages.specs.declared.output.Output.{Output}
 use Rattle.cc_site.specs.declared.site.Side.{Side}
 use Rattle.cc_site.specs.declared.site.Side.TheVariants.{A, B}
 use Rattle.cc_site.specs.declared.site.Site.{Ghosts}
@@ -16,7 +16,7 @@ use Rattle.cc_site.specs.Sides.{SideState, MayLeave}
 use Rattle.cc_site.specs.Moments.{Contents}
 use Rattle.cc_site.specs.Runs.{joined, weaker}
 use Rattle.cc_node.specs.Node.{Node, after, line}
-use Rattle.cc_node.specs.GoodLaws.{good_for_more}
+use Rattle.cc_sides.specs.GoodLaws.{good_for_more}
 use Rattle.cc_node.specs.Histories.{after-append}
 use Rattle.cc_journal.specs.declared.entry.Entry.{Entry}
 use Rattle.cc_journal.specs.Batches.{events_in}

@@ -2,15 +2,15 @@
 use Rattle.std.proofs.Common.{◌≡◌, inl, ℕ, List, [], ◌∷◌, length, drop, sym, ◌∙◌, ap, subst, arith}
 use Rattle.std.specs.List.{Contains}
 use Rattle.std.proofs.lemmas.List.{drop_all}
-use Rattle.cc_wire.specs.declared.output.Output.{Output}
+use Rattle.cc_messages.specs.declared.output.Output.{Output}
 use Rattle.cc_site.specs.declared.site.Side.{Side}
 use Rattle.cc_site.specs.declared.site.Side.TheVariants.{A, B}
 use Rattle.cc_site.specs.Sides.{SideState, MayLeave, durable}
 use Rattle.cc_site.specs.SideLaws.{durable_only}
 use Rattle.cc_node.specs.Node.{Node}
 use Rattle.std.specs.Prelude.{slice_index_or}
-use Rattle.cc_node.specs.Sides.{OPEN, Holds}
-use Rattle.cc_node.specs.Good.{AllMade}
+use Rattle.cc_sides.specs.Sides.{OPEN, Holds}
+use Rattle.cc_sides.specs.Good.{AllMade}
 use Rattle.cc_checkpoint.specs.Images.{SpellsImage, image_holds}
 use Rattle.cc_journal.specs.Journals.{IsAtRest}
 

@@ -9,7 +9,7 @@ use Rattle.cc_site.specs.Sides.{SideState, MayLeave, other, settled}
 use Rattle.cc_site.specs.SideLaws.{settled_only}
 use Rattle.cc_site.specs.Moments.{Contents}
 use Rattle.cc_node.specs.Node.{Node}
-use Rattle.cc_node.specs.Sides.{StandsAt, Yields}
+use Rattle.cc_sides.specs.Sides.{StandsAt, Yields}
 use Rattle.cc_checkpoint.specs.declared.choosing.InUse.{InUse}
 use Rattle.cc_checkpoint.specs.declared.open_fault.OpenFault.{OpenFault}
 use Rattle.cc_checkpoint.specs.Choosing.{chosen}

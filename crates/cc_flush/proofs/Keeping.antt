@@ -6,8 +6,8 @@
 --     sound_put, sound_released          what it keeps while outputs are put again;  while those of a batch are
 use Rattle.std.proofs.Common.{◌≡◌, ℕ, ◌+◌, ◌≤◌, List, [], ◌++◌, length, refl, sym, ◌∙◌, ap, subst, arith}
 use Rattle.std.specs.Prelude.{false, None}
-use Rattle.cc_wire.specs.declared.event.Event.{Event}
-use Rattle.cc_wire.specs.declared.output.Output.{Output}
+use Rattle.cc_messages.specs.declared.event.Event.{Event}
+use Rattle.cc_messages.specs.declared.output.Output.{Output}
 use Rattle.cc_site.specs.declared.site.Side.{Side}
 use Rattle.cc_site.specs.declared.site.Site.{Ghosts}
 use Rattle.cc_site.specs.declared.site.Side.TheVariants.{A, B}
@@ -16,8 +16,8 @@ use Rattle.cc_site.specs.SideLaws.{settled_only}
 use Rattle.cc_site.specs.Moments.{Contents}
 use Rattle.cc_site.specs.Crashes.{AfterCrash}
 use Rattle.cc_node.specs.Node.{Node, after}
-use Rattle.cc_node.specs.Good.{IsGoodAt}
-use Rattle.cc_node.specs.GoodLaws.{good_other_way, at_rest_is}
+use Rattle.cc_sides.specs.Good.{IsGoodAt}
+use Rattle.cc_sides.specs.GoodLaws.{good_other_way, at_rest_is}
 use Rattle.cc_node.specs.Histories.{after-append}
 use Rattle.cc_journal.specs.declared.entry.Entry.{Entry}
 use Rattle.cc_journal.specs.Batches.{AreLawful, events_in}

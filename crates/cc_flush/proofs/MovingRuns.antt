@@ -8,8 +8,8 @@
 --     to_filled, arms, armed_still     from the start on: up to the filled side, what arming it asks, and that the old side is armed still
 use Rattle.std.proofs.Common.{◌≡◌, ℕ, ◌+◌, ◌<◌, ◌≤◌, List, [], ◌∷◌, length, inl, refl, sym, ◌∙◌, ap, subst, arith}
 use Rattle.std.specs.Prelude.{false, None}
-use Rattle.cc_wire.specs.declared.event.Event.{Event}
-use Rattle.cc_wire.specs.declared.output.Output.{Output}
+use Rattle.cc_messages.specs.declared.event.Event.{Event}
+use Rattle.cc_messages.specs.declared.output.Output.{Output}
 use Rattle.cc_site.specs.declared.site.Side.{Side}
 use Rattle.cc_site.specs.declared.site.Side.TheVariants.{A, B}
 use Rattle.cc_site.specs.declared.site.Site.{Ghosts}
@@ -19,9 +19,9 @@ use Rattle.cc_site.specs.Moments.{Contents, Possible, SeenFrom}
 use Rattle.cc_site.specs.Gates.{IsShut}
 use Rattle.cc_site.specs.Runs.{EachMoment, OnlyNow, CountsNow, started, joined, weaker, now_has}
 use Rattle.cc_node.specs.Node.{Node, after}
-use Rattle.cc_node.specs.Sides.{OPEN, IsArmed, StandsAt}
-use Rattle.cc_node.specs.Fronts.{held_armed}
-use Rattle.cc_node.specs.Good.{RestsAt}
+use Rattle.cc_sides.specs.Sides.{OPEN, IsArmed, StandsAt}
+use Rattle.cc_sides.specs.Fronts.{held_armed}
+use Rattle.cc_sides.specs.Good.{RestsAt}
 use Rattle.cc_checkpoint.specs.Images.{SpellsImage, image_holds}
 use Rattle.cc_checkpoint.specs.Checkpoints as checkpoints
 use Rattle.cc_checkpoint.specs.Checkpoints.{image_of, IsSurelyShut, IsFilled, KeepsOff, RestsOff, ArmsFor}

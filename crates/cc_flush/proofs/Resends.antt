@@ -17,11 +17,11 @@ use Rattle.std.proofs.lemmas.List.Elements.{All-contains, All-from_recursion}
 use Rattle.std.proofs.lemmas.Bool.{and_parts, ltb-true}
 use Rattle.cc_views.specs.MapLaws.{all_entries}
 use Rattle.cc_views.specs.NatSets as set
-use Rattle.cc_wire.specs.declared.answer.Answer.{Answer}
-use Rattle.cc_wire.specs.declared.event.Event.{Event}
-use Rattle.cc_wire.specs.declared.message.Message.{Message}
-use Rattle.cc_wire.specs.declared.output.Output.{Output}
-use Rattle.cc_wire.specs.declared.output.Output.TheVariants as output
+use Rattle.cc_messages.specs.declared.answer.Answer.{Answer}
+use Rattle.cc_messages.specs.declared.event.Event.{Event}
+use Rattle.cc_messages.specs.declared.message.Message.{Message}
+use Rattle.cc_messages.specs.declared.output.Output.{Output}
+use Rattle.cc_messages.specs.declared.output.Output.TheVariants as output
 use Rattle.cc_links.specs.Links.{Link}
 use Rattle.cc_links.specs.Rows.{row_of, rows_of}
 use Rattle.cc_outbox.specs.OutboxLaws.{KeepsPosts}
@@ -30,7 +30,7 @@ use Rattle.cc_node.specs.Core.{Core, live_links}
 use Rattle.cc_node.specs.Lawful.{IsLawfulNode}
 use Rattle.cc_node.specs.Node.{Node, after, IsLawful, HasOutput, MayBeOut}
 use Rattle.cc_node.proofs.StandingLaws.{standing_made}
-use Rattle.cc_checkpoint.proofs.NodeStates.{entries_numbered, post_at, length-values}
+use Rattle.cc_states.proofs.NodeStates.{entries_numbered, post_at, length-values}
 use Rattle.cc_flush.specs.Standing.{waits_for, resend_on, resend_row, resend_post, resends, reply_of, reply_again, ack_again}
 use Rattle.cc_journal.proofs.LinkSends.{entries_where}
 

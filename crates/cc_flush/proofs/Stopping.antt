@@ -7,7 +7,7 @@ use Rattle.cc_site.specs.declared.site.DeviceFault.{DeviceFault}
 use Rattle.cc_site.specs.Sides.{SideState, other, written, settled, durable, MayHaveWritten}
 use Rattle.cc_site.specs.SideLaws.{other_other}
 use Rattle.cc_node.specs.Node.{Node}
-use Rattle.cc_node.specs.Sides.{OPEN}
+use Rattle.cc_sides.specs.Sides.{OPEN}
 use Rattle.cc_checkpoint.specs.Checkpoints.{image_of, IsFilled}
 use Rattle.cc_checkpoint.specs.Stops.{WritesOrSyncs, HasClosed, FillStops, RetireStops}
 use Rattle.cc_flush.specs.Moving.{BeginStops, SidesStop}

@@ -11,7 +11,7 @@
 --     FormatFails         when each fault comes, and what it leaves unchanged
 --     FormatRose          a device fault is told where the count of failures rose, and only there
 use Rattle.std.specs.Prelude.{◌≡◌, ◌⊎◌, ℕ, List, [], ◌∷◌, take}
-use Rattle.cc_wire.specs.declared.output.Output.{Output}
+use Rattle.cc_messages.specs.declared.output.Output.{Output}
 use Rattle.cc_site.specs.declared.site.Side.{Side}
 use Rattle.cc_site.specs.declared.site.Site.{Ghosts}
 use Rattle.cc_site.specs.declared.site.Side.TheVariants.{A, B}
@@ -21,7 +21,7 @@ use Rattle.cc_site.specs.Gates.{IsShut}
 use Rattle.cc_site.specs.Moments.{Contents, Rose}
 use Rattle.cc_site.specs.Telling.{Looks}
 use Rattle.cc_node.specs.Node.{Node}
-use Rattle.cc_node.specs.Sides.{OPEN, IsArmed, Stands}
+use Rattle.cc_sides.specs.Sides.{OPEN, IsArmed, Stands}
 use Rattle.cc_node.specs.declared.opening.Fresh.{Fresh}
 use Rattle.cc_node.specs.declared.opening.Fresh.TheVariants as fresh
 use Rattle.cc_flush.specs.declared.formatting.FormatFault.{FormatFault}

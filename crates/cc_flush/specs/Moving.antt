@@ -8,7 +8,7 @@
 --     SidesStop         which call of it failed, and how both sides are then
 --     MoveFails, MoveStops     a disk call of it failed, and the engine has ended;  why it ended early
 use Rattle.std.specs.Prelude.{◌≡◌, ◌⊎◌, ◌+◌, ℕ, List, ◌∷◌, [], length, None, Some}
-use Rattle.cc_wire.specs.declared.event.Event.{Event}
+use Rattle.cc_messages.specs.declared.event.Event.{Event}
 use Rattle.cc_site.specs.declared.site.Site.{Ghosts}
 use Rattle.cc_site.specs.declared.site.Side.{Side}
 use Rattle.cc_site.specs.declared.site.Call.{Call}
@@ -17,7 +17,7 @@ use Rattle.cc_site.specs.declared.site.DeviceFault.{DeviceFault}
 use Rattle.cc_site.specs.Telling.{Tells}
 use Rattle.cc_site.specs.Sides.{SideState, other, durable, MayHaveWritten}
 use Rattle.cc_node.specs.Node.{Node, after}
-use Rattle.cc_node.specs.Sides.{OPEN}
+use Rattle.cc_sides.specs.Sides.{OPEN}
 use Rattle.cc_checkpoint.specs.Checkpoints.{image_of, IsFilled}
 use Rattle.cc_checkpoint.specs.Stops.{WritesOrSyncs, Fills, Retires, HasClosed, FillStops, RetireStops}
 use Rattle.cc_journal.specs.Journals.{Position, RestsNow}

@@ -16,7 +16,7 @@ use Rattle.cc_site.specs.declared.site.Call.TheVariants.{Sync}
 use Rattle.cc_site.specs.Sides.{SideState, other, settled}
 use Rattle.cc_site.specs.Moments.{Contents}
 use Rattle.cc_site.specs.Telling.{Looks, LooksAtEither}
-use Rattle.cc_node.specs.Sides.{Holds, StandsAt, events_of}
+use Rattle.cc_sides.specs.Sides.{Holds, StandsAt, events_of}
 use Rattle.cc_node.specs.Node.{Node}
 use Rattle.cc_checkpoint.specs.declared.choosing.InUse.{InUse}
 use Rattle.cc_checkpoint.specs.declared.open_fault.OpenFault.{OpenFault}

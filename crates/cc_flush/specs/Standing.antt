@@ -13,10 +13,10 @@ use Rattle.cc_views.specs.NatSets as set
 use Rattle.cc_links.specs.declared.link_row.LinkRow.{LinkRow}
 use Rattle.cc_links.specs.Links.{Link, heard_from}
 use Rattle.cc_links.specs.Rows.{entry_of}
-use Rattle.cc_wire.specs.declared.answer.Answer.{Answer}
-use Rattle.cc_wire.specs.declared.message.Message.{Message}
-use Rattle.cc_wire.specs.declared.output.Output.{Output}
-use Rattle.cc_wire.specs.declared.output.Output.TheVariants as output
+use Rattle.cc_messages.specs.declared.answer.Answer.{Answer}
+use Rattle.cc_messages.specs.declared.message.Message.{Message}
+use Rattle.cc_messages.specs.declared.output.Output.{Output}
+use Rattle.cc_messages.specs.declared.output.Output.TheVariants as output
 use Rattle.cc_node.specs.Core.{Core, live_links}
 use Rattle.cc_node.specs.Node.{Node}
 

@@ -1,7 +1,7 @@
 //! A batch is made durable.
 
 ghost use Rattle.std.specs.Prelude.{max, ◌≡◌, ◌↔◌, ◌≤◌, ◌<◌, ◌+◌, ◌^◌, ◌++◌, length, List, ℕ, ◌⊎◌, OnOk, OnErr, IfOk, IfErr, MatchResult};
-ghost use Rattle.cc_wire.specs.declared.event.Event.{Event};
+ghost use Rattle.cc_messages.specs.declared.event.Event.{Event};
 ghost use Rattle.cc_site.specs.declared.site.Call.TheVariants.{Write, Sync};
 ghost use Rattle.cc_site.specs.Sides.{other};
 ghost use Rattle.cc_site.specs.Moments.{Rose};

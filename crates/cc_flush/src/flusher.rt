@@ -2,7 +2,7 @@
 
 ghost use Rattle.std.specs.Prelude.{max, ◌≡◌, ◌↔◌, ◌⊎◌, ◌≤◌, ◌<◌, ◌+◌, ◌^◌, ◌++◌, [], ℕ, List, true, false, nat_lt, None, Some, Ok, Err, IsTrue, IfOk, IfErr, OnOk, OnErr, MatchResult, length};
 ghost use Rattle.std.specs.FinMap as table;
-ghost use Rattle.cc_wire.specs.declared.event.Event.{Event as EventValue};
+ghost use Rattle.cc_messages.specs.declared.event.Event.{Event as EventValue};
 ghost use Rattle.cc_site.specs.declared.site.Side.{Side as SideValue};
 ghost use Rattle.cc_site.specs.declared.site.Call.TheVariants.{Write, Sync};
 ghost use Rattle.cc_site.specs.Sides.{other};
@@ -13,7 +13,7 @@ ghost use Rattle.cc_views.specs.Limits.{counter_limit};
 ghost use Rattle.cc_links.specs.Links.{heard_from};
 ghost use Rattle.cc_node.specs.Lawful.{IsLawfulNode};
 ghost use Rattle.cc_node.specs.Node.{Node as NodeValue, IsLawful, after, line};
-ghost use Rattle.cc_node.specs.Sides.{StandsAt};
+ghost use Rattle.cc_sides.specs.Sides.{StandsAt};
 ghost use Rattle.cc_checkpoint.specs.Faults.{FaultRose};
 ghost use Rattle.cc_journal.specs.Batches.{AreLawful, events_in, batch_bytes};
 ghost use Rattle.cc_journal.specs.GoodSides.{MayBeLeft, EachLeaves};

@@ -10,7 +10,7 @@ ghost use Rattle.cc_site.specs.Reads.{OnlyReads};
 ghost use Rattle.cc_site.specs.Telling.{Looks, LooksAt, LooksAtEither, IsOn, CountsCalls};
 ghost use Rattle.cc_node.specs.Node.{Node as NodeState};
 ghost use Rattle.cc_node.specs.Opening.{told, fresh, IsOpening};
-ghost use Rattle.cc_node.specs.Sides.{OPEN, IsArmed};
+ghost use Rattle.cc_sides.specs.Sides.{OPEN, IsArmed};
 ghost use Rattle.cc_checkpoint.specs.Images.{SpellsImage};
 ghost use Rattle.cc_journal.specs.Journals.{RestsNow};
 ghost use Rattle.cc_flush.specs.declared.formatting.FormatFault.TheVariants as faults;

@@ -1,21 +1,21 @@
 //! Laws of what two sides stand for. Each is a function whose contract is the law.
 
 ghost use Rattle.std.specs.Prelude.{◌≡◌, ◌↔◌, ◌≤◌, ◌<◌, ◌++◌, ℕ, List, length, take, slice_index};
-ghost use Rattle.cc_wire.specs.declared.event.Event.{Event};
-ghost use Rattle.cc_wire.specs.declared.output.Output.{Output};
+ghost use Rattle.cc_messages.specs.declared.event.Event.{Event};
+ghost use Rattle.cc_messages.specs.declared.output.Output.{Output};
 ghost use Rattle.cc_site.specs.declared.site.Side.{Side};
 ghost use Rattle.cc_site.specs.declared.site.Side.TheVariants.{A, B};
 ghost use Rattle.cc_site.specs.Moments.{Contents};
 ghost use Rattle.cc_node.specs.Node.{Node, after};
-ghost use Rattle.cc_node.specs.Sides.{IsArmed, StandsAt, StandsIn, Stands};
-ghost use Rattle.cc_node.specs.Good.{AllMade, IsGoodAt, RestsAt};
+ghost use Rattle.cc_sides.specs.Sides.{IsArmed, StandsAt, StandsIn, Stands};
+ghost use Rattle.cc_sides.specs.Good.{AllMade, IsGoodAt, RestsAt};
 ghost use Rattle.cc_journal.specs.GoodSides.{HasGoodSides};
 ghost use Rattle.cc_journal.specs.Journals.{IsGood};
 ghost use Rattle.cc_checkpoint.specs.declared.open_fault.OpenFault.{OpenFault};
 ghost use Rattle.cc_flush.specs.Opening.{IsReadingFault, ReadingFails};
 
-use cc_checkpoint::one_spelling_of_nodes;
 use cc_journal::scans_once;
+use cc_states::one_spelling_of_nodes;
 
 /// Two sides stand for at most one node: on one side, under one generation, up to one gate.
 pub fn one_node()

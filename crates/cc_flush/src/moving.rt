@@ -5,7 +5,7 @@ ghost use Rattle.cc_site.specs.Moments.{Possible};
 ghost use Rattle.cc_site.specs.Runs.{EachMoment};
 ghost use Rattle.cc_site.specs.Sides.{durable, other};
 ghost use Rattle.cc_site.specs.Telling.{CountsCalls};
-ghost use Rattle.cc_node.specs.Sides.{OPEN};
+ghost use Rattle.cc_sides.specs.Sides.{OPEN};
 ghost use Rattle.cc_checkpoint.specs.Checkpoints.{image_of};
 ghost use Rattle.cc_checkpoint.specs.Images.{SpellsImage};
 ghost use Rattle.cc_checkpoint.specs.Stops.{HasClosed};

@@ -7,10 +7,10 @@ ghost use Rattle.cc_flush.specs.Standing.{resend_row, resend_post, resends, repl
 ghost use Rattle.cc_links.specs.Links.{heard_from};
 
 use cc_links::LinkRow;
+use cc_messages::Message;
 use cc_node::{Core, Node};
 use cc_site::Site;
 use cc_views::NodeId;
-use cc_wire::Message;
 
 /// Puts each kept post on each live link that waits for it, by ascending number and then by ascending peer. How many
 /// outputs those are.
@@ -54,10 +54,12 @@ fn put_on_waiting_link<S: Site>(
     ensures one { result ≤ 1 }
     ensures puts { Puts S.Site (resend_row core.now (number, post.now) row.now) site.old site.new }
 {
-    if core.churn().has_left(row.peer) || number <= row.start {
+    if core.churn().has_left(row.peer) {
         return 0;
     }
-    let wire = number - row.start;
+    let Some(wire) = row.wire_number(number) else {
+        return 0;
+    };
     if wire <= row.acked {
         return 0;
     }

@@ -1,7 +1,7 @@
 -- How long the body of a frame is.
 use Rattle.std.proofs.Common.{ℕ, ◌≤◌, length, arith}
 use Rattle.std.proofs.lemmas.List.{length-append}
-use Rattle.cc_wire.specs.declared.answer.Answer.{Answer}
+use Rattle.cc_messages.specs.declared.answer.Answer.{Answer}
 use Rattle.cc_wire.specs.Answers.{answer_spelling}
 use Rattle.cc_wire.specs.Events.{place_spelling}
 use Rattle.cc_wire.proofs.Lengths.{length-answer, length-delivery, length-asked}

@@ -10,10 +10,11 @@ ghost use Rattle.cc_wire.specs.Reading.{Gives, whole};
 ghost use Rattle.cc_frames.specs.Frames.{replied_spelling, IsReplied, refused_spelling, IsRefused, body_spelling, frame_spelling, IsFrame, SpellsFrame, body_at, body_fields, replied_at, refused_at, body_length_at, enclosed_at, frame_at};
 
 use byteorder::{BigEndian, ByteOrder};
+use cc_messages::{Answer, Command, Message};
 use cc_views::{NoMemory, NodeId};
 use cc_wire::{
-    Answer, Command, Message, Reader, WireFault, put_answer, put_asked, put_delivery, put_id,
-    put_numbered, put_place, put_u8, put_u32, put_u64, settled,
+    Reader, WireFault, put_answer, put_asked, put_delivery, put_id, put_numbered, put_place,
+    put_u8, put_u32, put_u64, settled,
 };
 use std::alloc::{AllocError, Global};
 

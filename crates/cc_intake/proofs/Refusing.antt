@@ -8,11 +8,11 @@ use Rattle.std.proofs.Common.{◌≡◌, inl, inr, refl, sym, Bool, true, false,
 use Rattle.std.specs.Prelude.{◌⊎◌, Option, Some, None, IfSome, ⊤}
 use Rattle.std.specs.Bool.{then_some}
 use Rattle.std.specs.List.{AllByRecursion}
-use Rattle.cc_wire.specs.declared.event.Event.{Event}
-use Rattle.cc_wire.specs.declared.event.Event.TheVariants as event
-use Rattle.cc_wire.specs.declared.refusal.Refusal.{Refusal}
-use Rattle.cc_wire.specs.declared.refusal.Refusal.TheVariants as refusal
-use Rattle.cc_wire.specs.Refusals.{first_of}
+use Rattle.cc_messages.specs.declared.event.Event.{Event}
+use Rattle.cc_messages.specs.declared.event.Event.TheVariants as event
+use Rattle.cc_messages.specs.declared.refusal.Refusal.{Refusal}
+use Rattle.cc_messages.specs.declared.refusal.Refusal.TheVariants as refusal
+use Rattle.cc_messages.specs.Refusals.{first_of}
 use Rattle.cc_node.specs.Core.{Core}
 use Rattle.cc_node.specs.Node.{Node}
 use Rattle.cc_ops.specs.Waiting.{line_limit}

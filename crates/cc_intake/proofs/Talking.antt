@@ -1,7 +1,7 @@
 -- One answer more.
 use Rattle.std.proofs.Common.{◌≡◌, ◌+◌, ℕ, List, [], ◌∷◌, ◌++◌, Option, Some, refl, sym, ap, subst, arith}
 use Rattle.std.specs.Prelude.{Ok, Err}
-use Rattle.cc_wire.specs.declared.event.Event.{Event}
+use Rattle.cc_messages.specs.declared.event.Event.{Event}
 use Rattle.cc_intake.specs.Talks.{Answer, Spoke, places_of, PlacesRise, step, IsAbove}
 
 pub spoke-push : {S : Type 0} (gives : S → Option Event → S → Type 0) (hears : S → Event → Answer → S → Type 0) (answers : Event → Answer → Type 0) (s : S) (rest : List Answer) (t : S) (e : Event) (u : S) (a : Answer) (w : S)

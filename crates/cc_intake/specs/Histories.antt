@@ -4,7 +4,7 @@
 --     entry_at                the next one, for an event
 --     stirs                   whether an event makes a post or an answer
 use Rattle.std.specs.Prelude.{ℕ, ◌^◌, ◌||◌, ◌==◌, not, Bool, List, length, is_some}
-use Rattle.cc_wire.specs.declared.event.Event.{Event}
+use Rattle.cc_messages.specs.declared.event.Event.{Event}
 use Rattle.cc_node.specs.Core.{Core, made}
 use Rattle.cc_node.specs.Node.{Node, after}
 use Rattle.cc_node.specs.declared.made.Made.{Made}

@@ -3,9 +3,9 @@
 --     Refuses                 what each refusal says, and leaves
 use Rattle.std.specs.Prelude.{◌≡◌, ◌⊎◌, ◌+◌, ◌<◌, ℕ, None, Some, List, length}
 use Rattle.crossbeam_queue.specs.Fifo.{Held}
-use Rattle.cc_wire.specs.declared.event.Event.{Event}
-use Rattle.cc_wire.specs.declared.refusal.Refusal.{Refusal}
-use Rattle.cc_wire.specs.declared.refusal.Refusal.TheVariants.{Spent, NoMemory, QueueFull}
+use Rattle.cc_messages.specs.declared.event.Event.{Event}
+use Rattle.cc_messages.specs.declared.refusal.Refusal.{Refusal}
+use Rattle.cc_messages.specs.declared.refusal.Refusal.TheVariants.{Spent, NoMemory, QueueFull}
 use Rattle.cc_node.specs.Node.{Node}
 use Rattle.cc_node.specs.Refusals.{decides}
 use Rattle.cc_journal.specs.declared.entry.Entry.{Entry}

@@ -6,7 +6,7 @@
 --     step, IsAbove           what one answer adds
 use Rattle.std.specs.Prelude.{◌≡◌, ◌<◌, ◌+◌, ℕ, List, [], ◌∷◌, ◌++◌, length, Option, None, Some}
 use Rattle.std.specs.Prelude.{Result, Ok, Err}
-use Rattle.cc_wire.specs.declared.event.Event.{Event}
+use Rattle.cc_messages.specs.declared.event.Event.{Event}
 use Rattle.cc_node.specs.Core.{made}
 use Rattle.cc_node.specs.Node.{Node}
 use Rattle.cc_journal.specs.declared.entry.Entry.{Entry}

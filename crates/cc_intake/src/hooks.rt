@@ -1,8 +1,8 @@
 //! Calls round each accept and each sync, by which a test sees how they fall together.
 
+use cc_messages::{Answer, Message};
 use cc_site::{DeviceFault, Side, Site};
 use cc_views::NodeId;
-use cc_wire::{Answer, Message};
 
 /// Calls round each accept of a worker, and round each sync of a site.
 pub trait Hooks {

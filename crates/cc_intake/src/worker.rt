@@ -7,14 +7,14 @@ use crate::ends::Queue;
 use crate::hooks::Hooks;
 use crate::intake::{Accepted, Intake, Refused, Share};
 use crate::rule::{Lane, Life};
-use cc_wire::Event;
+use cc_messages::Event;
 use std::alloc::Global;
 use std::sync::{Mutex, Wait};
 
 /// Where a worker's events come from, and where their answers go.
 pub trait Source {
     ghost use Rattle.std.specs.Prelude.{Option};
-    ghost use Rattle.cc_wire.specs.declared.event.Event.{Event};
+    ghost use Rattle.cc_messages.specs.declared.event.Event.{Event};
     ghost use Rattle.cc_intake.specs.Talks.{Answer};
 
     /// What `next` gives, and what it leaves.

@@ -4,12 +4,12 @@ use Rattle.std.specs.Int.{to_be_bytes, from_be_bytes, w32}
 use Rattle.std.specs.List.{flat_map, AllByRecursion}
 use Rattle.std.proofs.lemmas.Nat.{from_be_bytes-to_be_bytes_4, be_bytes_4}
 use Rattle.std.proofs.lemmas.List.{append_assoc, append-nil, take_at, length-take, length-drop, drop-drop}
-use Rattle.cc_wire.specs.declared.event.Event.{Event}
+use Rattle.cc_messages.specs.declared.event.Event.{Event}
 use Rattle.cc_wire.specs.Events.{event_spelling, IsEvent, SpellsEvent}
 use Rattle.cc_wire.proofs.Lengths.{length-event}
 use Rattle.cc_wire.proofs.Spelled.{IsBytes}
-use Rattle.cc_node.specs.Sides.{sized_spelling}
-use Rattle.cc_node.specs.RecordLaws.{one_sized, one_run}
+use Rattle.cc_sides.specs.Sides.{sized_spelling}
+use Rattle.cc_sides.specs.RecordLaws.{one_sized, one_run}
 use Rattle.cc_journal.specs.Reading.{SpellsEvents, BeginsWith, NoEvent}
 
 pub first_byte : (bytes : List ℕ) → 1 ≤ length bytes → bytes ≡ get_or bytes 0 0 ∷ drop 1 bytes

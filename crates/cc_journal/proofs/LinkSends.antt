@@ -15,9 +15,9 @@ use Rattle.cc_views.specs.NatSets as set
 use Rattle.cc_views.specs.Entries.{entries_back, from_T}
 use Rattle.cc_views.specs.MapLaws.{all_entries}
 use Rattle.cc_views.specs.Tables.{retain-from_entries}
-use Rattle.cc_wire.specs.declared.message.Message.{Message}
-use Rattle.cc_wire.specs.declared.output.Output.{Output}
-use Rattle.cc_wire.specs.declared.output.Output.TheVariants as output
+use Rattle.cc_messages.specs.declared.message.Message.{Message}
+use Rattle.cc_messages.specs.declared.output.Output.{Output}
+use Rattle.cc_messages.specs.declared.output.Output.TheVariants as output
 use Rattle.cc_links.specs.declared.link_row.LinkRow.{LinkRow}
 use Rattle.cc_links.specs.Links.{Link, Links, LinksWithin, IsLinkWithin}
 use Rattle.cc_links.specs.Rows.{row_of, rows_of}

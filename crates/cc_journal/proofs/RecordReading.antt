@@ -3,10 +3,10 @@ use Rattle.std.proofs.Common.{◌≡◌, ℕ, ◌+◌, ◌≤◌, List, [], ◌�
 use Rattle.std.specs.Int.{to_be_bytes, from_be_bytes, w32}
 use Rattle.std.specs.List.{flat_map}
 use Rattle.std.proofs.lemmas.List.{take_at}
-use Rattle.cc_wire.specs.declared.event.Event.{Event}
+use Rattle.cc_messages.specs.declared.event.Event.{Event}
 use Rattle.cc_wire.specs.Events.{event_spelling}
 use Rattle.cc_node.specs.Node.{Node}
-use Rattle.cc_node.specs.Sides.{sized_spelling, events_spelling, record_spelling, SpellsRecord}
+use Rattle.cc_sides.specs.Sides.{sized_spelling, events_spelling, record_spelling, SpellsRecord}
 use Rattle.cc_journal.specs.Scanning.{NoRecord}
 use Rattle.cc_journal.specs.Reading.{BytesLead, LeadNowhere, RecordLeads, BodyStands, NoBody, IfDamaged}
 use Rattle.cc_journal.specs.declared.scanning.ScanFault.{ScanFault}

@@ -7,11 +7,11 @@ use Rattle.std.specs.Int.{w32, to_be_bytes}
 use Rattle.std.specs.List.{flat_map}
 use Rattle.std.proofs.lemmas.List.{append_assoc, length-map}
 use Rattle.std.proofs.lemmas.List.Concat.{flat_map-cons}
-use Rattle.cc_wire.specs.declared.event.Event.{Event}
+use Rattle.cc_messages.specs.declared.event.Event.{Event}
 use Rattle.cc_wire.specs.Events.{event_spelling}
 use Rattle.cc_journal.specs.declared.entry.Entry.{Entry}
 use Rattle.cc_journal.specs.Batches.{events_in, batch_bytes}
-use Rattle.cc_node.specs.Sides.{SpellsBatch, SpellsRecord, record_spelling, events_spelling, sized_spelling}
+use Rattle.cc_sides.specs.Sides.{SpellsBatch, SpellsRecord, record_spelling, events_spelling, sized_spelling}
 
 -- the events of some entries, each behind its size
 abbrev pub sized : List Entry → List ℕ

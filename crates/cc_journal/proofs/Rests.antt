@@ -2,8 +2,8 @@
 use Rattle.std.proofs.Common.{◌≡◌, inl, inr, ℕ, ◌+◌, ◌<◌, ◌≤◌, List, ◌++◌, length, drop, set, slice_index, sym, ◌∙◌, ap, subst, arith, length-append}
 use Rattle.std.specs.List.{Contains}
 use Rattle.std.proofs.lemmas.Bool.{cases_eq}
-use Rattle.cc_wire.specs.declared.event.Event.{Event}
-use Rattle.cc_wire.specs.declared.output.Output.{Output}
+use Rattle.cc_messages.specs.declared.event.Event.{Event}
+use Rattle.cc_messages.specs.declared.output.Output.{Output}
 use Rattle.cc_site.specs.declared.site.Side.{Side}
 use Rattle.cc_site.specs.declared.site.Side.TheVariants.{A, B}
 use Rattle.cc_site.specs.Sides.{SideState, MayLeave, other, touch}
@@ -11,11 +11,11 @@ use Rattle.cc_site.specs.Moments.{Contents, Within}
 use Rattle.cc_site.specs.Crashes.{after_crash_of}
 use Rattle.cc_site.specs.FrontLaws.{touch_keeps, restored}
 use Rattle.cc_node.specs.Node.{Node, after, IsLawful}
-use Rattle.cc_node.specs.Sides.{OPEN, Holds, SpellsBatch, StandsBehind}
-use Rattle.cc_node.specs.Good.{IsGoodAt, RestsAt, AllMade}
+use Rattle.cc_sides.specs.Sides.{OPEN, Holds, SpellsBatch, StandsBehind}
+use Rattle.cc_sides.specs.Good.{IsGoodAt, RestsAt, AllMade}
 use Rattle.cc_node.specs.Histories.{after-append, made_more}
-use Rattle.cc_node.specs.Fronts.{holds_within, holds_kept, holds_closed, holds_opened, one_byte}
-use Rattle.cc_node.specs.GoodLaws.{good_other_way, more_good, whole_good}
+use Rattle.cc_sides.specs.Fronts.{holds_within, holds_kept, holds_closed, holds_opened, one_byte}
+use Rattle.cc_sides.specs.GoodLaws.{good_other_way, more_good, whole_good}
 use Rattle.cc_journal.specs.Journals.{Position, IsGood, Rests, IsAtRest}
 
 -- what is good of a side and the other one is good

@@ -1,10 +1,10 @@
 -- Bytes are scanned in one way.
 use Rattle.std.proofs.Common.{◌≡◌, ◌≢◌, ◌⊎◌, inl, inr, ℕ, zero, suc, ◌+◌, ◌≤◌, eqb, List, [], ◌∷◌, ◌++◌, length, drop, get_or, refl, sym, ◌∙◌, ap, arith, length-drop}
 use Rattle.std.proofs.lemmas.Bool.{cases_Bool, eqb-true, eqb-false}
-use Rattle.cc_wire.specs.declared.event.Event.{Event}
+use Rattle.cc_messages.specs.declared.event.Event.{Event}
 use Rattle.cc_node.specs.Node.{Node, after}
-use Rattle.cc_node.specs.Sides.{OPEN, events_of}
-use Rattle.cc_node.specs.RecordLaws.{Ends, one_front}
+use Rattle.cc_sides.specs.Sides.{OPEN, events_of}
+use Rattle.cc_sides.specs.RecordLaws.{Ends, one_front}
 use Rattle.cc_journal.specs.Scanning.{ScansTo, StopsAt, NoRecord}
 use Rattle.cc_journal.proofs.Scans.{SoFar, none_so_far, one_more, scanned, ended, stopped}
 

@@ -1,11 +1,11 @@
 -- A scan goes on from record to record.
 use Rattle.std.proofs.Common.{◌≡◌, ◌≢◌, inl, inr, ℕ, ◌+◌, ◌-◌, ◌≤◌, List, [], ◌∷◌, ◌++◌, length, drop, refl, sym, ◌∙◌, ap, subst, arith, length-append}
 use Rattle.std.proofs.lemmas.List.{append_assoc, drop_at, drop-drop, drop_all}
-use Rattle.cc_wire.specs.declared.event.Event.{Event}
+use Rattle.cc_messages.specs.declared.event.Event.{Event}
 use Rattle.cc_node.specs.Node.{Node, after, IsLawful}
 use Rattle.cc_node.specs.Histories.{after-append, IsLawful-append}
-use Rattle.cc_node.specs.Sides.{OPEN, SpellsRecords, events_of}
-use Rattle.cc_node.specs.Fronts.{records_push, events_push}
+use Rattle.cc_sides.specs.Sides.{OPEN, SpellsRecords, events_of}
+use Rattle.cc_sides.specs.Fronts.{records_push, events_push}
 use Rattle.cc_journal.specs.Scanning.{ScansTo, StopsAt, NoRecord}
 use Rattle.cc_journal.specs.Reading.{RecordLeads, BeginsOpen, BeginsClosed, IsStopped}
 

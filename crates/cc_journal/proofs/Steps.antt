@@ -4,8 +4,8 @@
 --     gate_opens, gate_opened          a sync made sure of the record, and then the gate is opened
 use Rattle.std.proofs.Common.{◌≡◌, ℕ, ◌+◌, ◌<◌, ◌≤◌, List, [], ◌∷◌, ◌++◌, length, take, drop, set, refl, sym, ◌∙◌, ap, subst, arith, add-one}
 use Rattle.std.proofs.lemmas.List.{append_assoc, set_split}
-use Rattle.cc_wire.specs.declared.event.Event.{Event}
-use Rattle.cc_wire.specs.declared.output.Output.{Output}
+use Rattle.cc_messages.specs.declared.event.Event.{Event}
+use Rattle.cc_messages.specs.declared.output.Output.{Output}
 use Rattle.cc_site.specs.declared.site.Side.{Side}
 use Rattle.cc_site.specs.declared.site.Site.{Ghosts}
 use Rattle.cc_site.specs.Sides.{SideState, MayLeave, other, touch, written, settled}
@@ -13,9 +13,9 @@ use Rattle.cc_site.specs.SideLaws.{settled_only}
 use Rattle.cc_site.specs.Moments.{Contents, Within, Nothing}
 use Rattle.cc_site.specs.Runs.{Passes, EachMoment, OnlyNow, CountsNow, started, goes_on, rests, joined, weaker, now_has}
 use Rattle.cc_node.specs.Node.{Node, after, IsLawful}
-use Rattle.cc_node.specs.Sides.{OPEN, SpellsBatch, StandsBehind}
-use Rattle.cc_node.specs.Good.{RestsAt}
-use Rattle.cc_node.specs.Fronts.{holds_within}
+use Rattle.cc_sides.specs.Sides.{OPEN, SpellsBatch, StandsBehind}
+use Rattle.cc_sides.specs.Good.{RestsAt}
+use Rattle.cc_sides.specs.Fronts.{holds_within}
 use Rattle.cc_journal.specs.Journals.{Position, IsGood, Rests, RestsNow, RestsFor, KeepsGood}
 use Rattle.cc_journal.proofs.Rests.{behind_rests, rest_of, rests_more_good, gate_good, opened_rests}
 

@@ -4,11 +4,11 @@
 --     batch_bytes         their record, and the closed gate of the next one
 --     FitsRecord          they are few enough for one record, which has so many bytes behind its length
 use Rattle.std.specs.Prelude.{◌≡◌, ◌≤◌, ℕ, ⊤, List, [], ◌∷◌, ◌++◌, length, map, None}
-use Rattle.cc_wire.specs.declared.event.Event.{Event}
+use Rattle.cc_messages.specs.declared.event.Event.{Event}
 use Rattle.cc_node.specs.Core.{made}
 use Rattle.cc_node.specs.Node.{Node, step}
 use Rattle.cc_node.specs.Refusals.{decides}
-use Rattle.cc_node.specs.Sides.{batch_limit, record_limit, record_spelling, events_spelling}
+use Rattle.cc_sides.specs.Sides.{batch_limit, record_limit, record_spelling, events_spelling}
 use Rattle.cc_journal.specs.declared.entry.Entry.{Entry}
 
 abbrev pub events_in : List Entry → List Event

@@ -7,15 +7,15 @@ use Rattle.std.proofs.Common.{◌≡◌, ℕ, ◌≤◌, List, [], ◌++◌, len
 use Rattle.std.specs.Prelude.{◌↔◌}
 use Rattle.std.specs.List.{Contains}
 use Rattle.std.proofs.lemmas.List.{drop_all, take-append-le}
-use Rattle.cc_wire.specs.declared.event.Event.{Event}
-use Rattle.cc_wire.specs.declared.output.Output.{Output}
+use Rattle.cc_messages.specs.declared.event.Event.{Event}
+use Rattle.cc_messages.specs.declared.output.Output.{Output}
 use Rattle.cc_site.specs.declared.site.Side.TheVariants.{A, B}
 use Rattle.cc_site.specs.declared.site.Site.{Ghosts}
 use Rattle.cc_site.specs.Moments.{Contents}
 use Rattle.cc_site.specs.Runs.{EachMoment, weaker}
 use Rattle.cc_node.specs.Node.{Node, after}
-use Rattle.cc_node.specs.Sides.{Stands}
-use Rattle.cc_node.specs.Good.{AllMade}
+use Rattle.cc_sides.specs.Sides.{Stands}
+use Rattle.cc_sides.specs.Good.{AllMade}
 use Rattle.cc_journal.specs.Journals.{IsGood, IsGoodNow}
 use Rattle.cc_journal.specs.GoodSides.{HasGoodSides, HasGoodSidesNow, EachLeaves}
 

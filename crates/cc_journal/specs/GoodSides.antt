@@ -5,7 +5,7 @@
 --     HasGoodSidesNow     whatever a crash leaves now, the sides stand for the node after all events
 --     KeepsSides          from every history that led to a call on, the sides are good at each moment of it
 use Rattle.std.proofs.Common.{ℕ, ◌≤◌, List, ◌++◌, length, take}
-use Rattle.cc_wire.specs.declared.event.Event.{Event}
+use Rattle.cc_messages.specs.declared.event.Event.{Event}
 use Rattle.cc_site.specs.declared.site.Side.{Side}
 use Rattle.cc_site.specs.declared.site.Side.TheVariants.{A, B}
 use Rattle.cc_site.specs.declared.site.Site.{Ghosts}
@@ -13,7 +13,7 @@ use Rattle.cc_site.specs.Sides.{SideState, MayLeave}
 use Rattle.cc_site.specs.Moments.{Contents}
 use Rattle.cc_site.specs.Runs.{EachMoment}
 use Rattle.cc_node.specs.Node.{Node, after}
-use Rattle.cc_node.specs.Sides.{Stands}
+use Rattle.cc_sides.specs.Sides.{Stands}
 
 abbrev pub MayBeLeft : (Side → SideState) → Contents → Type 0
 MayBeLeft state left = (side : Side) → MayLeave (state side) (left side)

@@ -12,8 +12,8 @@
 --     KeepsGood           from every history that led to a call on, each moment of it is good
 --     StaysGood           the same of a call before which all events were durable, and so is the moment after it
 use Rattle.std.specs.Prelude.{◌≡◌, ◌⊎◌, ◌+◌, ◌^◌, ℕ, List, [], ◌∷◌, ◌++◌, length}
-use Rattle.cc_wire.specs.declared.event.Event.{Event}
-use Rattle.cc_wire.specs.declared.output.Output.{Output}
+use Rattle.cc_messages.specs.declared.event.Event.{Event}
+use Rattle.cc_messages.specs.declared.output.Output.{Output}
 use Rattle.cc_site.specs.declared.site.Side.{Side}
 use Rattle.cc_site.specs.declared.site.Side.TheVariants.{A, B}
 use Rattle.cc_site.specs.declared.site.Site.{Ghosts}
@@ -22,8 +22,8 @@ use Rattle.cc_site.specs.Moments.{Contents}
 use Rattle.cc_site.specs.Runs.{EachMoment}
 use Rattle.cc_site.specs.Crashes.{AfterCrash}
 use Rattle.cc_node.specs.Node.{Node, IsLawful, after}
-use Rattle.cc_node.specs.Good.{IsGoodAt, RestsAt}
-use Rattle.cc_node.specs.Sides.{OPEN, SpellsRecord, record_spelling}
+use Rattle.cc_sides.specs.Good.{IsGoodAt, RestsAt}
+use Rattle.cc_sides.specs.Sides.{OPEN, SpellsRecord, record_spelling}
 use Rattle.cc_journal.specs.declared.entry.Entry.{Entry}
 use Rattle.cc_journal.specs.Batches.{events_in, batch_bytes}
 

@@ -9,11 +9,11 @@ use Rattle.std.specs.Prelude.{◌≡◌, ◌↔◌, ℕ, ◌-◌, List, [], ◌�
 use Rattle.std.specs.FinMap as table
 use Rattle.cc_views.specs.NatSets as set
 use Rattle.cc_links.specs.declared.link_row.LinkRow.{LinkRow}
-use Rattle.cc_wire.specs.declared.answer.Answer.{Answer}
-use Rattle.cc_wire.specs.declared.output.Output.TheVariants as output
+use Rattle.cc_messages.specs.declared.answer.Answer.{Answer}
+use Rattle.cc_messages.specs.declared.output.Output.TheVariants as output
 use Rattle.cc_node.specs.Core.{Core}
-use Rattle.cc_wire.specs.declared.message.Message.{Message}
-use Rattle.cc_wire.specs.declared.output.Output.{Output}
+use Rattle.cc_messages.specs.declared.message.Message.{Message}
+use Rattle.cc_messages.specs.declared.output.Output.{Output}
 use Rattle.cc_ops.specs.declared.pending.Reply.{Reply}
 use Rattle.cc_outbox.specs.Outbox.{Outbox}
 use Rattle.cc_node.specs.Node.{Node}

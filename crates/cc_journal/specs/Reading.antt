@@ -11,10 +11,10 @@
 use Rattle.std.specs.Prelude.{◌≡◌, ◌≢◌, ⊤, ℕ, ◌+◌, ◌-◌, ◌≤◌, List, ◌∷◌, ◌++◌, length, drop, Result, MatchResult}
 use Rattle.std.specs.Int.{to_be_bytes, w32}
 use Rattle.std.specs.List.{AllByRecursion}
-use Rattle.cc_wire.specs.declared.event.Event.{Event}
+use Rattle.cc_messages.specs.declared.event.Event.{Event}
 use Rattle.cc_wire.specs.Events.{IsEvent}
 use Rattle.cc_node.specs.Node.{Node, after, IsLawful}
-use Rattle.cc_node.specs.Sides.{OPEN, batch_limit, record_limit, sized_spelling, events_spelling, SpellsRecord}
+use Rattle.cc_sides.specs.Sides.{OPEN, batch_limit, record_limit, sized_spelling, events_spelling, SpellsRecord}
 use Rattle.cc_site.specs.declared.site.Side.{Side}
 use Rattle.cc_site.specs.Telling.{LooksAt, Tells}
 use Rattle.cc_journal.specs.Scanning.{ScansTo, StopsAt}

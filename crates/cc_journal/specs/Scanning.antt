@@ -2,9 +2,9 @@
 --     ScansTo             they are there, and lead from one node to another
 --     StopsAt             some are there, and what stands at this place is no gate, or no record that the node takes
 use Rattle.std.specs.Prelude.{◌≡◌, ◌≢◌, ◌⊎◌, ℕ, ◌+◌, List, [], ◌∷◌, ◌++◌, length}
-use Rattle.cc_wire.specs.declared.event.Event.{Event}
+use Rattle.cc_messages.specs.declared.event.Event.{Event}
 use Rattle.cc_node.specs.Node.{Node, after, IsLawful}
-use Rattle.cc_node.specs.Sides.{OPEN, SpellsRecord, SpellsRecords, events_of}
+use Rattle.cc_sides.specs.Sides.{OPEN, SpellsRecord, SpellsRecords, events_of}
 
 -- Records of lawful events, so many bytes of them with their gates, so many records and so many events, and behind them a
 -- closed gate.

@@ -1,14 +1,14 @@
 //! An event that was accepted, and what it makes.
 
 ghost use Rattle.std.specs.Prelude.{◌≡◌, ◌⊎◌, [], None, Some, IfOk, IfErr};
-ghost use Rattle.cc_wire.specs.declared.event.Event.TheVariants as event;
-ghost use Rattle.cc_wire.specs.declared.refusal.Refusal.TheVariants as refusal;
+ghost use Rattle.cc_messages.specs.declared.event.Event.TheVariants as event;
+ghost use Rattle.cc_messages.specs.declared.refusal.Refusal.TheVariants as refusal;
 ghost use Rattle.cc_node.specs.Core.{made};
 ghost use Rattle.cc_node.specs.Refusals.{decides};
 
+use cc_messages::{Event, Refusal};
 use cc_node::{Core, Made};
 use cc_ops::Replies;
-use cc_wire::{Event, Refusal};
 use std::alloc::Global;
 
 /// An event that was accepted, and what it makes.

@@ -1,15 +1,16 @@
 //! The events of a record.
 
 ghost use Rattle.std.specs.Prelude.{◌≡◌, List, IfOk, MatchOption, MatchBool};
-ghost use Rattle.cc_wire.specs.declared.event.Event.{Event};
+ghost use Rattle.cc_messages.specs.declared.event.Event.{Event};
 ghost use Rattle.cc_wire.specs.Events.{SpellsEvent};
 ghost use Rattle.cc_node.specs.Node.{after, IsLawful};
 ghost use Rattle.cc_journal.specs.Reading.{SpellsEvents, BeginsWith, NoEvent, BytesLead, LeadNowhere};
 
 use crate::batch::Batch;
+use cc_messages::{Event, Refusal};
 use cc_node::Node;
 use cc_views::NoMemory;
-use cc_wire::{Event, Refusal, WireFault, decode_event};
+use cc_wire::{WireFault, decode_event};
 use std::alloc::Global;
 
 // An event behind its size, and how many bytes both have.

@@ -2,13 +2,13 @@
 
 ghost use Rattle.std.specs.Prelude.{max, ◌≡◌, ◌↔◌, ◌≤◌, ◌<◌, ◌+◌, ◌^◌, ◌++◌, ◌∷◌, [], length, List, ℕ, OnOk, OnErr, IfOk, IfErr, MatchResult, slice_index_or, ◌⊎◌};
 ghost use Rattle.std.specs.Vec.{vec_capacity};
-ghost use Rattle.cc_wire.specs.declared.event.Event.{Event};
+ghost use Rattle.cc_messages.specs.declared.event.Event.{Event};
 ghost use Rattle.cc_wire.specs.Events.{IsEvent};
 ghost use Rattle.cc_site.specs.declared.site.Call.TheVariants.{Write, Sync};
 ghost use Rattle.cc_site.specs.Sides.{other, HalfWritten};
 ghost use Rattle.cc_site.specs.Moments.{Rose};
 ghost use Rattle.cc_node.specs.Node.{Node as NodeValue, after, line};
-ghost use Rattle.cc_node.specs.Sides.{StandsBehind, SpellsBatch};
+ghost use Rattle.cc_sides.specs.Sides.{StandsBehind, SpellsBatch};
 ghost use Rattle.cc_journal.specs.Batches.{AreLawful, events_in, batch_bytes};
 ghost use Rattle.cc_journal.specs.Outlet.{Puts};
 ghost use Rattle.cc_journal.specs.Journals.{Position, with_record, with_open_gate, record_room, room_limit, KeepsGood, MayHaveOpened, RestsFor, RestsNow};

@@ -11,11 +11,11 @@ ghost use Rattle.cc_journal.specs.Outlet.{Puts, request_of, new_post, kept_reply
 use crate::entry::Entry;
 use arrayvec::ArrayVec;
 use cc_links::LinkRow;
+use cc_messages::Message;
 use cc_node::{Core, LinkAck, Made, Node};
 use cc_ops::Replies;
 use cc_outbox::Outbox;
 use cc_site::Site;
-use cc_wire::Message;
 
 // Which request of its session an event answers. The answer is kept in the outbox.
 #[derive(Clone, Copy, Default)]

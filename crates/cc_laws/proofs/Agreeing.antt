@@ -10,7 +10,7 @@ use Rattle.cc_views.specs.Rows.{Pair, ViewMap}
 use Rattle.cc_views.specs.Merge.{merge, AgreeAt}
 use Rattle.cc_views.specs.MergeLaws.{merge_comm}
 use Rattle.cc_views.specs.declared.value.Value.{Value}
-use Rattle.cc_wire.specs.declared.event.Event.{Event}
+use Rattle.cc_messages.specs.declared.event.Event.{Event}
 use Rattle.cc_node.specs.Writes.{asked_along}
 use Rattle.cc_ops.specs.Ops.{nothing_stored}
 use Rattle.cc_laws.specs.Shown.{in_output, Has}

@@ -6,7 +6,7 @@ use Rattle.std.specs.List.{AllByRecursion}
 use Rattle.std.specs.FinMap as table
 use Rattle.std.proofs.lemmas.List.Elements.{All-contains, All-from_recursion}
 use Rattle.cc_views.specs.Rows.{ViewMap}
-use Rattle.cc_wire.specs.declared.event.Event.{Event}
+use Rattle.cc_messages.specs.declared.event.Event.{Event}
 use Rattle.cc_node.specs.Node.{Node, after, line}
 use Rattle.cc_node.specs.Opening.{Opening, fresh}
 use Rattle.cc_laws.specs.Shown.{in_output}

@@ -9,8 +9,8 @@ use Rattle.std.specs.FinMap as table
 use Rattle.std.proofs.lemmas.Bool.Decides.{eqb_tells}
 use Rattle.cc_views.specs.NatSets.{get-insert_key}
 use Rattle.cc_views.specs.declared.value.Value.{Value}
-use Rattle.cc_wire.specs.declared.event.Event.{Event}
-use Rattle.cc_wire.specs.declared.output.Output.{Output}
+use Rattle.cc_messages.specs.declared.event.Event.{Event}
+use Rattle.cc_messages.specs.declared.output.Output.{Output}
 use Rattle.cc_laws.specs.Written.{IsWriteOf}
 use Rattle.cc_laws.specs.Clusters.{Member, Sent, Cluster, with_member, with_sent}
 use Rattle.cc_laws.proofs.Lists.{all_both, all_changed}

@@ -7,10 +7,10 @@ use Rattle.std.specs.Bool.{then_some}
 use Rattle.cc_views.specs.Rows.{ViewMap}
 use Rattle.cc_views.specs.Merge.{merge, IsAtMost}
 use Rattle.cc_views.specs.MergeLaws.{merged_at_most}
-use Rattle.cc_wire.specs.declared.event.Event.{Event}
-use Rattle.cc_wire.specs.declared.event.Event.TheVariants as event
-use Rattle.cc_wire.specs.declared.message.Message.{Message}
-use Rattle.cc_wire.specs.declared.message.Message.TheVariants as message
+use Rattle.cc_messages.specs.declared.event.Event.{Event}
+use Rattle.cc_messages.specs.declared.event.Event.TheVariants as event
+use Rattle.cc_messages.specs.declared.message.Message.{Message}
+use Rattle.cc_messages.specs.declared.message.Message.TheVariants as message
 use Rattle.cc_ops.specs.Ops.{Ops, Phase, Idle, Storing, Querying, StoringBack, is_last, is_own, round_of, counted, merged, next_round, after_reply}
 use Rattle.cc_node.specs.Core.{Core, quorum, next}
 use Rattle.cc_laws.specs.Rounds.{awaits_views, awaits_acks, counts}

@@ -10,8 +10,8 @@
 use Rattle.std.proofs.Common.{◌≡◌, inl, inr, ℕ, List, [], ◌∷◌, ◌++◌, length, refl, subst, arith}
 use Rattle.std.specs.Prelude.{Result, Ok, Err, IfOk, IfErr, MatchResult}
 use Rattle.std.proofs.lemmas.List.{take_all}
-use Rattle.cc_wire.specs.declared.event.Event.{Event}
-use Rattle.cc_wire.specs.declared.output.Output.{Output}
+use Rattle.cc_messages.specs.declared.event.Event.{Event}
+use Rattle.cc_messages.specs.declared.output.Output.{Output}
 use Rattle.cc_site.specs.declared.site.Side.{Side}
 use Rattle.cc_site.specs.declared.site.Side.TheVariants.{A, B}
 use Rattle.cc_site.specs.declared.site.Site.{Ghosts}
@@ -20,9 +20,9 @@ use Rattle.cc_site.specs.Moments.{Contents, Possible}
 use Rattle.cc_site.specs.Reads.{bytes_of}
 use Rattle.cc_site.specs.Runs.{EachMoment, OnlyNow, CountsNow, started, joined, weaker, now_has}
 use Rattle.cc_node.specs.Node.{Node, after, step, IsLawful}
-use Rattle.cc_node.specs.Good.{IsGoodAt, RestsAt}
-use Rattle.cc_node.specs.GoodLaws.{whole_good, good_other_way, good_for_more}
-use Rattle.cc_node.specs.Sides.{StandsAt, Stands}
+use Rattle.cc_sides.specs.Good.{IsGoodAt, RestsAt}
+use Rattle.cc_sides.specs.GoodLaws.{whole_good, good_other_way, good_for_more}
+use Rattle.cc_sides.specs.Sides.{StandsAt, Stands}
 use Rattle.cc_journal.specs.declared.entry.Entry.{Entry}
 use Rattle.cc_journal.specs.Batches.{AreLawful, events_in}
 use Rattle.cc_journal.specs.Journals.{Position, IsGood, RestsNow, IsGoodNow, KeepsGood, StaysGood}

@@ -10,7 +10,7 @@ use Rattle.cc_views.specs.Rows.{Pair, ViewMap}
 use Rattle.cc_views.specs.Merge.{merged, merge, IsKept, IsAtMost}
 use Rattle.cc_views.specs.MergeLaws.{get-merge}
 use Rattle.cc_views.specs.declared.value.Value.{Value}
-use Rattle.cc_wire.specs.declared.event.Event.{Event}
+use Rattle.cc_messages.specs.declared.event.Event.{Event}
 use Rattle.cc_ops.specs.declared.pending.Asked.{Asked}
 use Rattle.cc_ops.specs.Ops.{Ops}
 use Rattle.cc_ops.specs.Waiting.{writes_by}

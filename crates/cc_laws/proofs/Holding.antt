@@ -6,8 +6,8 @@ use Rattle.std.specs.Prelude.{Some}
 use Rattle.std.proofs.lemmas.List.{take_all}
 use Rattle.cc_views.specs.Rows.{ViewMap}
 use Rattle.cc_views.specs.Merge.{IsAtMost}
-use Rattle.cc_wire.specs.declared.event.Event.{Event}
-use Rattle.cc_wire.specs.declared.output.Output.{Output}
+use Rattle.cc_messages.specs.declared.event.Event.{Event}
+use Rattle.cc_messages.specs.declared.output.Output.{Output}
 use Rattle.cc_node.specs.Node.{Node, after, MayBeOut}
 use Rattle.cc_node.specs.Opening.{Opening, fresh}
 use Rattle.cc_laws.specs.Shown.{in_output, Shows}

@@ -4,13 +4,13 @@
 use Rattle.std.proofs.Common.{◌≡◌, ◌⊎◌, inl, inr, ℕ, List, [], ◌∷◌, ◌++◌, take, drop, refl, sym, subst, ◌∙◌, arith, take-append-drop}
 use Rattle.std.specs.List.{Contains}
 use Rattle.std.proofs.lemmas.List.Elements.{Contains-append_right, Contains-append_cases}
-use Rattle.cc_wire.specs.declared.event.Event.{Event}
-use Rattle.cc_wire.specs.declared.output.Output.{Output}
+use Rattle.cc_messages.specs.declared.event.Event.{Event}
+use Rattle.cc_messages.specs.declared.output.Output.{Output}
 use Rattle.cc_site.specs.declared.site.Side.TheVariants.{A, B}
 use Rattle.cc_node.specs.Node.{Node, after, line, MayBeOut, IsLawful}
 use Rattle.cc_node.specs.Lawful.{IsLawfulNode}
 use Rattle.cc_node.specs.Histories.{after-append, line-append, IsLawful-append, lawful_parts, made_more}
-use Rattle.cc_node.specs.Sides.{Stands}
+use Rattle.cc_sides.specs.Sides.{Stands}
 use Rattle.cc_node.proofs.FreshLaws.{after_lawful}
 use Rattle.cc_node.proofs.StandingLaws.{standing_made}
 use Rattle.cc_laws.specs.Lives.{Life, LivesFrom, put_by, put_along, IsHistoryOf}

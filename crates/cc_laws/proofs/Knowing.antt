@@ -13,11 +13,11 @@ use Rattle.std.proofs.lemmas.List.Elements.{All-contains, All-from_recursion, Co
 use Rattle.cc_views.specs.Rows.{ViewMap}
 use Rattle.cc_views.specs.Merge.{IsAtMost}
 use Rattle.cc_views.specs.MergeLaws.{at_most_trans}
-use Rattle.cc_wire.specs.declared.event.Event.{Event}
-use Rattle.cc_wire.specs.declared.event.Event.TheVariants as event
-use Rattle.cc_wire.specs.declared.message.Message.{Message}
-use Rattle.cc_wire.specs.declared.message.Message.TheVariants as message
-use Rattle.cc_wire.specs.declared.output.Output.TheVariants as output
+use Rattle.cc_messages.specs.declared.event.Event.{Event}
+use Rattle.cc_messages.specs.declared.event.Event.TheVariants as event
+use Rattle.cc_messages.specs.declared.message.Message.{Message}
+use Rattle.cc_messages.specs.declared.message.Message.TheVariants as message
+use Rattle.cc_messages.specs.declared.output.Output.TheVariants as output
 use Rattle.cc_node.specs.Core.{Core, next, post, outputs}
 use Rattle.cc_node.specs.Node.{Node, step, after, line, IsLawful}
 use Rattle.cc_node.specs.Opening.{fresh}

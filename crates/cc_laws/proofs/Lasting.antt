@@ -13,8 +13,8 @@ use Rattle.cc_views.specs.NatSets.{contains-insert, contains-union, contains-emp
 use Rattle.cc_views.specs.Rows.{Pair, ViewMap, row_of}
 use Rattle.cc_views.specs.declared.value.Value.{Value}
 use Rattle.cc_objects.specs.Objects.{greatest, union_all, max_of, flag_of, set_of}
-use Rattle.cc_wire.specs.declared.command.Command.{Command}
-use Rattle.cc_wire.specs.declared.command.Command.TheVariants as command
+use Rattle.cc_messages.specs.declared.command.Command.{Command}
+use Rattle.cc_messages.specs.declared.command.Command.TheVariants as command
 use Rattle.cc_ops.specs.declared.pending.Asked.{Asked}
 use Rattle.cc_ops.specs.Commands.{is_writing, written}
 use Rattle.cc_ops.specs.Waiting.{writes_by, written_by}

@@ -3,8 +3,8 @@
 use Rattle.std.proofs.Common.{inl, inr, List, [], ◌∷◌, refl, ap, arith}
 use Rattle.std.specs.List.{Contains}
 use Rattle.std.proofs.lemmas.List.Elements.{Contains-append_cases}
-use Rattle.cc_wire.specs.declared.event.Event.{Event}
-use Rattle.cc_wire.specs.declared.output.Output.{Output}
+use Rattle.cc_messages.specs.declared.event.Event.{Event}
+use Rattle.cc_messages.specs.declared.output.Output.{Output}
 use Rattle.cc_node.specs.Core.{outputs}
 use Rattle.cc_node.specs.Node.{Node, step, line}
 use Rattle.cc_laws.specs.Histories.{IsMadeIn}

@@ -9,9 +9,9 @@ use Rattle.std.proofs.lemmas.List.{take-append-le, take-take, append-nil, length
 use Rattle.std.proofs.lemmas.List.Elements.{All-contains, All-from_recursion}
 use Rattle.cc_views.specs.NatSets.{get-insert_key}
 use Rattle.cc_views.specs.declared.value.Value.{Value}
-use Rattle.cc_wire.specs.declared.event.Event.{Event}
-use Rattle.cc_wire.specs.declared.event.Event.TheVariants as event
-use Rattle.cc_wire.specs.declared.output.Output.{Output}
+use Rattle.cc_messages.specs.declared.event.Event.{Event}
+use Rattle.cc_messages.specs.declared.event.Event.TheVariants as event
+use Rattle.cc_messages.specs.declared.output.Output.{Output}
 use Rattle.cc_node.specs.Node.{HasOutput, IsLawful}
 use Rattle.cc_node.specs.Opening.{fresh}
 use Rattle.cc_node.specs.Histories.{IsLawful-append}

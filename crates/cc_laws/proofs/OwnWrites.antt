@@ -8,7 +8,7 @@ use Rattle.std.specs.Ordering.{nat_cmp}
 use Rattle.std.proofs.lemmas.List.{take_all}
 use Rattle.cc_views.specs.Rows.{Pair}
 use Rattle.cc_views.specs.declared.value.Value.{Value}
-use Rattle.cc_wire.specs.declared.event.Event.{Event}
+use Rattle.cc_messages.specs.declared.event.Event.{Event}
 use Rattle.cc_ops.specs.Ops.{nothing_stored}
 use Rattle.cc_ops.specs.Waiting.{writes_by, written_by}
 use Rattle.cc_node.specs.Node.{Node, step, after, IsLawful}

@@ -13,12 +13,12 @@ use Rattle.cc_views.specs.NatSets.{NatSet, contains-insert}
 use Rattle.cc_views.specs.Rows.{Pair, ViewMap}
 use Rattle.cc_views.specs.Merge.{IsKept}
 use Rattle.cc_views.specs.declared.value.Value.{Value}
-use Rattle.cc_wire.specs.declared.answer.Answer.{Answer}
-use Rattle.cc_wire.specs.declared.answer.Answer.TheVariants as answer
-use Rattle.cc_wire.specs.declared.command.Command.{Command}
-use Rattle.cc_wire.specs.declared.command.Command.TheVariants as command
-use Rattle.cc_wire.specs.declared.event.Event.{Event}
-use Rattle.cc_wire.specs.declared.event.Event.TheVariants as event
+use Rattle.cc_messages.specs.declared.answer.Answer.{Answer}
+use Rattle.cc_messages.specs.declared.answer.Answer.TheVariants as answer
+use Rattle.cc_messages.specs.declared.command.Command.{Command}
+use Rattle.cc_messages.specs.declared.command.Command.TheVariants as command
+use Rattle.cc_messages.specs.declared.event.Event.{Event}
+use Rattle.cc_messages.specs.declared.event.Event.TheVariants as event
 use Rattle.cc_objects.specs.Objects.{max_of, flag_of, set_of}
 use Rattle.cc_ops.specs.Commands.{is_writing, written, answer_of}
 use Rattle.cc_ops.specs.declared.pending.Asked.{Asked}

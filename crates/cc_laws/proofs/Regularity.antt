@@ -9,13 +9,13 @@ use Rattle.std.proofs.lemmas.Bool.{cases_lt}
 use Rattle.std.proofs.lemmas.List.Elements.{All-contains, All-from_recursion}
 use Rattle.cc_views.specs.Rows.{Pair, ViewMap}
 use Rattle.cc_views.specs.Merge.{IsKept, IsAtMost}
-use Rattle.cc_wire.specs.declared.answer.Answer.{Answer}
-use Rattle.cc_wire.specs.declared.answer.Answer.TheVariants as answer
-use Rattle.cc_wire.specs.declared.event.Event.{Event}
-use Rattle.cc_wire.specs.declared.output.Output.TheVariants as output
+use Rattle.cc_messages.specs.declared.answer.Answer.{Answer}
+use Rattle.cc_messages.specs.declared.answer.Answer.TheVariants as answer
+use Rattle.cc_messages.specs.declared.event.Event.{Event}
+use Rattle.cc_messages.specs.declared.output.Output.TheVariants as output
 use Rattle.cc_views.specs.declared.value.Value.{Value}
-use Rattle.cc_wire.specs.declared.command.Command.{Command}
-use Rattle.cc_wire.specs.declared.command.Command.TheVariants as command
+use Rattle.cc_messages.specs.declared.command.Command.{Command}
+use Rattle.cc_messages.specs.declared.command.Command.TheVariants as command
 use Rattle.cc_ops.specs.declared.pending.Pending.{Pending}
 use Rattle.cc_ops.specs.Commands.{answer_of}
 use Rattle.cc_ops.specs.Ops.{Storing, StoringBack, pending as pending_asks}

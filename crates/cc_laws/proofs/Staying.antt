@@ -15,10 +15,10 @@ use Rattle.cc_views.specs.Rows.{ViewMap}
 use Rattle.cc_changes.specs.ChangeSets as known
 use Rattle.cc_changes.specs.ChangeSets.{ChangeSets}
 use Rattle.cc_changes.specs.Need.{needed}
-use Rattle.cc_wire.specs.declared.event.Event.{Event}
-use Rattle.cc_wire.specs.declared.event.Event.TheVariants as event
-use Rattle.cc_wire.specs.declared.message.Message.{Message}
-use Rattle.cc_wire.specs.declared.message.Message.TheVariants as message
+use Rattle.cc_messages.specs.declared.event.Event.{Event}
+use Rattle.cc_messages.specs.declared.event.Event.TheVariants as event
+use Rattle.cc_messages.specs.declared.message.Message.{Message}
+use Rattle.cc_messages.specs.declared.message.Message.TheVariants as message
 use Rattle.cc_ops.specs.declared.pending.Asked.{Asked}
 use Rattle.cc_ops.specs.Commands.{is_writing}
 use Rattle.cc_churn.specs.Churn as churn

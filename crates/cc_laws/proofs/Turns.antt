@@ -6,8 +6,8 @@ use Rattle.std.proofs.Common.{◌≡◌, ℕ, ◌+◌, List, [], ◌∷◌, ◌+
 use Rattle.std.specs.Prelude.{Some, None}
 use Rattle.std.specs.FinMap as table
 use Rattle.std.proofs.lemmas.List.{append-nil, take_at, take_all, drop_at}
-use Rattle.cc_wire.specs.declared.event.Event.{Event}
-use Rattle.cc_wire.specs.declared.output.Output.{Output}
+use Rattle.cc_messages.specs.declared.event.Event.{Event}
+use Rattle.cc_messages.specs.declared.output.Output.{Output}
 use Rattle.cc_node.specs.Core.{outputs}
 use Rattle.cc_node.specs.Node.{Node, step, after, line}
 use Rattle.cc_node.specs.Opening.{Opening, fresh}

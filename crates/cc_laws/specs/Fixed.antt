@@ -5,8 +5,8 @@ use Rattle.std.specs.Prelude.{◌≡◌, ℕ, ◌*◌, ◌<◌, IsTrue, List, So
 use Rattle.std.specs.FinMap as table
 use Rattle.cc_views.specs.NatSets as set
 use Rattle.cc_changes.specs.Need.{needed}
-use Rattle.cc_wire.specs.declared.event.Event.{Event}
-use Rattle.cc_wire.specs.declared.event.Event.TheVariants as event
+use Rattle.cc_messages.specs.declared.event.Event.{Event}
+use Rattle.cc_messages.specs.declared.event.Event.TheVariants as event
 use Rattle.cc_laws.specs.Clusters.{Member, Cluster, Move, Accept, Receive, Sync, Release, Resend, Crash}
 
 abbrev pub count_of : List ℕ → ℕ

@@ -8,8 +8,8 @@ use Rattle.std.specs.Prelude.{◌≡◌, ℕ, ◌<◌, ◌≤◌, List, [], ◌�
 use Rattle.std.specs.List.{Contains}
 use Rattle.std.specs.FinMap as table
 use Rattle.cc_views.specs.Rows.{Pair, ViewMap}
-use Rattle.cc_wire.specs.declared.event.Event.{Event}
-use Rattle.cc_wire.specs.declared.output.Output.{Output}
+use Rattle.cc_messages.specs.declared.event.Event.{Event}
+use Rattle.cc_messages.specs.declared.output.Output.{Output}
 use Rattle.cc_node.specs.Core.{Core, outputs}
 use Rattle.cc_node.specs.Node.{Node, after, line, step}
 use Rattle.cc_laws.specs.Shown.{in_event, in_output, Shows}

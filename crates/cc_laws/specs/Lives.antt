@@ -12,13 +12,13 @@
 use Rattle.std.specs.Prelude.{◌≡◌, ◌⊎◌, ◌≤◌, ℕ, List, [], ◌∷◌, ◌++◌, length, take, drop, Some}
 use Rattle.std.specs.List.{Contains}
 use Rattle.cc_views.specs.Rows.{ViewMap}
-use Rattle.cc_wire.specs.declared.event.Event.{Event}
-use Rattle.cc_wire.specs.declared.output.Output.{Output}
+use Rattle.cc_messages.specs.declared.event.Event.{Event}
+use Rattle.cc_messages.specs.declared.output.Output.{Output}
 use Rattle.cc_site.specs.declared.site.Side.TheVariants.{A, B}
 use Rattle.cc_site.specs.Moments.{Contents}
 use Rattle.cc_node.specs.Node.{Node, after, MayBeOut, IsLawful}
-use Rattle.cc_node.specs.Sides.{Stands}
-use Rattle.cc_node.specs.Good.{IsGoodAt}
+use Rattle.cc_sides.specs.Sides.{Stands}
+use Rattle.cc_sides.specs.Good.{IsGoodAt}
 use Rattle.cc_laws.specs.Shown.{in_output, Shows}
 
 pub record Life : Type 0 where

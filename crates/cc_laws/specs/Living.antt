@@ -6,8 +6,8 @@
 --     LifeStops        what a crash leaves where a first life stops early, and when it does
 --     LifeRose         a device fault is told where the count of failures rose, and only there
 use Rattle.std.specs.Prelude.{◌≡◌, ◌⊎◌, ◌≤◌, ℕ, List, [], ◌∷◌, length}
-use Rattle.cc_wire.specs.declared.event.Event.{Event}
-use Rattle.cc_wire.specs.declared.output.Output.{Output}
+use Rattle.cc_messages.specs.declared.event.Event.{Event}
+use Rattle.cc_messages.specs.declared.output.Output.{Output}
 use Rattle.cc_site.specs.declared.site.Side.{Side}
 use Rattle.cc_site.specs.Sides.{SideState}
 use Rattle.cc_site.specs.Moments.{Contents, Rose}

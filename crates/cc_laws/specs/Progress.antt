@@ -7,8 +7,8 @@
 --     EndsRound s t          the round that pends in the one state doesn't pend in the next, and its phase doesn't begin anew
 --     IsFrom q e             the event is the delivery of a message of node q
 use Rattle.std.specs.Prelude.{◌≡◌, ◌≢◌, ℕ, ◌+◌, true, Option, Some, None, is_some}
-use Rattle.cc_wire.specs.declared.event.Event.{Event}
-use Rattle.cc_wire.specs.declared.event.Event.TheVariants as event
+use Rattle.cc_messages.specs.declared.event.Event.{Event}
+use Rattle.cc_messages.specs.declared.event.Event.TheVariants as event
 use Rattle.cc_ops.specs.Ops.{Ops, Phase, Idle, Storing, Querying, StoringBack, pending, seen_in}
 use Rattle.cc_laws.specs.Rounds.{awaits_views}
 

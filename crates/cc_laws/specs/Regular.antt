@@ -13,12 +13,12 @@ use Rattle.std.specs.List.{Contains}
 use Rattle.std.specs.FinMap as table
 use Rattle.cc_views.specs.Rows.{ViewMap}
 use Rattle.cc_views.specs.declared.value.Value.{Value}
-use Rattle.cc_wire.specs.declared.answer.Answer.{Answer}
-use Rattle.cc_wire.specs.declared.answer.Answer.TheVariants as answer
-use Rattle.cc_wire.specs.declared.command.Command.{Command}
-use Rattle.cc_wire.specs.declared.event.Event.{Event}
-use Rattle.cc_wire.specs.declared.event.Event.TheVariants as event
-use Rattle.cc_wire.specs.declared.output.Output.TheVariants as output
+use Rattle.cc_messages.specs.declared.answer.Answer.{Answer}
+use Rattle.cc_messages.specs.declared.answer.Answer.TheVariants as answer
+use Rattle.cc_messages.specs.declared.command.Command.{Command}
+use Rattle.cc_messages.specs.declared.event.Event.{Event}
+use Rattle.cc_messages.specs.declared.event.Event.TheVariants as event
+use Rattle.cc_messages.specs.declared.output.Output.TheVariants as output
 use Rattle.cc_ops.specs.declared.pending.Asked.{Asked}
 use Rattle.cc_ops.specs.Commands.{is_writing}
 use Rattle.cc_ops.specs.Ops.{Phase, pending}

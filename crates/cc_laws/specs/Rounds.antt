@@ -7,10 +7,10 @@
 -- A law says that they are what the node's own state shows (Progress).
 use Rattle.std.specs.Prelude.{◌≡◌, ℕ, Bool, true, false, ◌&&◌, ◌||◌, List, [], ◌∷◌, ◌++◌, Option, Some, None, if◌then◌else◌}
 use Rattle.std.specs.Bool.{then_some}
-use Rattle.cc_wire.specs.declared.event.Event.{Event}
-use Rattle.cc_wire.specs.declared.event.Event.TheVariants as event
-use Rattle.cc_wire.specs.declared.message.Message.{Message}
-use Rattle.cc_wire.specs.declared.message.Message.TheVariants as message
+use Rattle.cc_messages.specs.declared.event.Event.{Event}
+use Rattle.cc_messages.specs.declared.event.Event.TheVariants as event
+use Rattle.cc_messages.specs.declared.message.Message.{Message}
+use Rattle.cc_messages.specs.declared.message.Message.TheVariants as message
 use Rattle.cc_ops.specs.Ops.{Ops, Phase, Idle, Storing, Querying, StoringBack, is_own, ends_query, ends_store}
 use Rattle.cc_node.specs.Core.{Core, asks_anew}
 use Rattle.cc_node.specs.Node.{Node, step, after}

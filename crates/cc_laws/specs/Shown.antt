@@ -8,14 +8,14 @@ use Rattle.std.specs.Prelude.{◌≡◌, ℕ, Option, Some, None}
 use Rattle.std.specs.FinMap as table
 use Rattle.cc_views.specs.Rows.{ViewMap}
 use Rattle.cc_views.specs.declared.value.Value.{Value}
-use Rattle.cc_wire.specs.declared.answer.Answer.{Answer}
-use Rattle.cc_wire.specs.declared.answer.Answer.TheVariants as answer
-use Rattle.cc_wire.specs.declared.event.Event.{Event}
-use Rattle.cc_wire.specs.declared.event.Event.TheVariants as event
-use Rattle.cc_wire.specs.declared.message.Message.{Message}
-use Rattle.cc_wire.specs.declared.message.Message.TheVariants as message
-use Rattle.cc_wire.specs.declared.output.Output.{Output}
-use Rattle.cc_wire.specs.declared.output.Output.TheVariants as output
+use Rattle.cc_messages.specs.declared.answer.Answer.{Answer}
+use Rattle.cc_messages.specs.declared.answer.Answer.TheVariants as answer
+use Rattle.cc_messages.specs.declared.event.Event.{Event}
+use Rattle.cc_messages.specs.declared.event.Event.TheVariants as event
+use Rattle.cc_messages.specs.declared.message.Message.{Message}
+use Rattle.cc_messages.specs.declared.message.Message.TheVariants as message
+use Rattle.cc_messages.specs.declared.output.Output.{Output}
+use Rattle.cc_messages.specs.declared.output.Output.TheVariants as output
 use Rattle.cc_ops.specs.Ops.{seen_in}
 use Rattle.cc_node.specs.Node.{Node}
 

@@ -4,7 +4,7 @@
 --     IsWriteOf events k x      the k-th writing ask among the events of a node made x
 use Rattle.std.specs.Prelude.{◌≡◌, ℕ, ◌+◌, List, [], ◌∷◌, Some, slice_get, if◌then◌else◌}
 use Rattle.cc_views.specs.declared.value.Value.{Value}
-use Rattle.cc_wire.specs.declared.event.Event.{Event}
+use Rattle.cc_messages.specs.declared.event.Event.{Event}
 use Rattle.cc_ops.specs.declared.pending.Asked.{Asked}
 use Rattle.cc_ops.specs.Commands.{is_writing, written}
 use Rattle.cc_ops.specs.Ops.{nothing_stored}

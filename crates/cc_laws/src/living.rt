@@ -2,13 +2,13 @@
 
 ghost use Rattle.std.specs.Prelude.{⊤, ◌≡◌, ◌≤◌, ◌++◌, [], ℕ, length, false, None, List, IfOk, OnOk, IfErr, MatchResult};
 ghost use Rattle.cc_site.specs.declared.site.Side.TheVariants.{A, B};
-ghost use Rattle.cc_wire.specs.declared.output.Output.{Output};
+ghost use Rattle.cc_messages.specs.declared.output.Output.{Output};
 ghost use Rattle.cc_site.specs.Memory.{memory_state, memory_outputs, memory_lost, memory_failures, memory_moment, memory_left_since};
 ghost use Rattle.cc_site.specs.Moments.{Contents};
 ghost use Rattle.cc_site.specs.Runs.{EachMoment};
 ghost use Rattle.cc_node.specs.Node.{Node, line};
 ghost use Rattle.cc_node.specs.Opening.{told, fresh, IsOpening};
-ghost use Rattle.cc_node.specs.Sides.{Stands};
+ghost use Rattle.cc_sides.specs.Sides.{Stands};
 ghost use Rattle.cc_journal.specs.Batches.{AreLawful, events_in};
 ghost use Rattle.cc_journal.specs.Journals.{IsGood, IsGoodNow};
 ghost use Rattle.cc_flush.specs.Formatting.{AreShut, FormatFails};

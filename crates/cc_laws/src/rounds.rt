@@ -1,7 +1,7 @@
 //! The law of the answers that a node counts.
 
 ghost use Rattle.std.specs.Prelude.{◌≡◌, ◌↔◌, ◌⊎◌, ℕ, true, List, [], length, Some};
-ghost use Rattle.cc_wire.specs.declared.event.Event.{Event};
+ghost use Rattle.cc_messages.specs.declared.event.Event.{Event};
 ghost use Rattle.cc_node.specs.Core.{Core, next};
 ghost use Rattle.cc_node.specs.Node.{after};
 ghost use Rattle.cc_node.specs.Opening.{Opening, fresh};

@@ -1,3 +1,7 @@
+ghost use Rattle.std.specs.Prelude.{◌≡◌, Some};
+ghost use Rattle.cc_links.specs.Links.{wire_number_on};
+ghost use Rattle.cc_links.specs.Rows.{link_of};
+
 use cc_views::NodeId;
 
 /// The link to one peer. Post number n of the node goes to the peer under the number n - `start`, so that
@@ -14,4 +18,18 @@ pub struct LinkRow {
 
     /// The last number that the peer has sent and that was taken in, 0 for none.
     pub heard: u64,
+}
+
+impl LinkRow {
+    /// The number under which post `n` goes over the link. None where it isn't sent there: the node got to know the peer
+    /// after that post.
+    pub fn wire_number(&self, n: u64) -> Option<u64>
+        ensures { result ≡ wire_number_on n (Some (link_of self.now)) }
+    {
+        if self.start < n {
+            Some(n - self.start)
+        } else {
+            None
+        }
+    }
 }

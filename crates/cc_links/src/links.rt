@@ -102,12 +102,7 @@ impl Links {
     pub fn wire_number(&self, peer: NodeId, n: u64) -> Option<u64>
         ensures { result ≡ links.wire_number peer n self.now }
     {
-        let row = self.get(peer)?;
-        if row.start < n {
-            Some(n - row.start)
-        } else {
-            None
-        }
+        self.get(peer)?.wire_number(n)
     }
 
     /// Whether the peer's acknowledgement of number `n` is news, where `posts` posts were made: the number was sent to

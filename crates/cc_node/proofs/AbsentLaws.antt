@@ -12,11 +12,11 @@ use Rattle.std.proofs.lemmas.Bool.{or_parts}
 use Rattle.cc_views.specs.Limits.{counter_limit, overruns}
 use Rattle.cc_views.specs.Rows.{ViewMap}
 use Rattle.cc_changes.specs.ChangeSets.{ChangeSets}
-use Rattle.cc_wire.specs.declared.event.Event.TheVariants as event
-use Rattle.cc_wire.specs.Messages.{is_snapshot}
-use Rattle.cc_wire.specs.declared.message.Message.{Message}
-use Rattle.cc_wire.specs.declared.message.Message.TheVariants as message
-use Rattle.cc_wire.specs.declared.refusal.Refusal.TheVariants as refusal
+use Rattle.cc_messages.specs.declared.event.Event.TheVariants as event
+use Rattle.cc_messages.specs.Messages.{is_snapshot}
+use Rattle.cc_messages.specs.declared.message.Message.{Message}
+use Rattle.cc_messages.specs.declared.message.Message.TheVariants as message
+use Rattle.cc_messages.specs.declared.refusal.Refusal.TheVariants as refusal
 use Rattle.cc_churn.specs.Churn as churn
 use Rattle.cc_links.specs.Links.{Link, Links, heard_from, awaits_any, awaits_ack}
 use Rattle.cc_links.specs.LinkLaws.{lapse_is_ack, lapse_is_news}

@@ -11,20 +11,20 @@ use Rattle.cc_ops.specs.Refusals.{passes}
 use Rattle.cc_views.specs.Rows.{ViewMap}
 use Rattle.cc_changes.specs.ChangeSets.{ChangeSets}
 use Rattle.cc_changes.specs.declared.fraction.Fraction.{Fraction}
-use Rattle.cc_wire.specs.Messages.{is_snapshot}
-use Rattle.cc_wire.specs.declared.event.Event.TheVariants as event
-use Rattle.cc_wire.specs.declared.message.Message.{Message}
-use Rattle.cc_wire.specs.declared.message.Message.TheVariants as message
-use Rattle.cc_wire.specs.declared.refusal.Refusal.{Refusal}
-use Rattle.cc_wire.specs.declared.refusal.Refusal.TheVariants as refusal
-use Rattle.cc_wire.specs.Refusals.{first_of, decided}
+use Rattle.cc_messages.specs.Messages.{is_snapshot}
+use Rattle.cc_messages.specs.declared.event.Event.TheVariants as event
+use Rattle.cc_messages.specs.declared.message.Message.{Message}
+use Rattle.cc_messages.specs.declared.message.Message.TheVariants as message
+use Rattle.cc_messages.specs.declared.refusal.Refusal.{Refusal}
+use Rattle.cc_messages.specs.declared.refusal.Refusal.TheVariants as refusal
+use Rattle.cc_messages.specs.Refusals.{first_of, decided}
 use Rattle.cc_churn.specs.Churn as churn
 use Rattle.cc_ops.specs.Ops as ops
 use Rattle.cc_ops.specs.declared.pending.Asked.{Asked}
 use Rattle.cc_ops.specs.Waiting.{first_in}
 use Rattle.cc_links.specs.Links.{heard_from}
 use Rattle.cc_sessions.specs.Sessions.{last_request, is_stale, is_skip, is_repeat, finds_no_room}
-use Rattle.cc_wire.specs.declared.command.Command.{Command}
+use Rattle.cc_messages.specs.declared.command.Command.{Command}
 use Rattle.cc_node.specs.Core.{Core, asked_of, churned, tells, told_if, churn_told, join_told, asks_anew, anew_if, ops_anew, question_if, post_of_snapshot, handled, next, post, quorum}
 use Rattle.cc_node.specs.Refusals.{any_overruns, spent, decides, decides_within, old, gap, nothing_to_ack, too_many_sessions, repeat, stale, skip}
 use Rattle.cc_node.proofs.LawfulLaws.{hears_now, request_now}

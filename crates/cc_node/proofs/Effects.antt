@@ -24,11 +24,11 @@ use Rattle.cc_ops.specs.declared.pending.Asked.{Asked}
 use Rattle.cc_ops.specs.Refusals.{busy}
 use Rattle.cc_ops.specs.Waiting.{line_limit, first_in, written_by}
 use Rattle.cc_sessions.specs.Sessions.{finds_no_room as finds_no_session}
-use Rattle.cc_wire.specs.declared.command.Command.{Command}
-use Rattle.cc_wire.specs.declared.event.Event.{Event}
-use Rattle.cc_wire.specs.declared.event.Event.TheVariants as event
-use Rattle.cc_wire.specs.declared.message.Message.{Message}
-use Rattle.cc_wire.specs.declared.refusal.Refusal.TheVariants as refusal
+use Rattle.cc_messages.specs.declared.command.Command.{Command}
+use Rattle.cc_messages.specs.declared.event.Event.{Event}
+use Rattle.cc_messages.specs.declared.event.Event.TheVariants as event
+use Rattle.cc_messages.specs.declared.message.Message.{Message}
+use Rattle.cc_messages.specs.declared.refusal.Refusal.TheVariants as refusal
 use Rattle.cc_outbox.specs.Outbox.{post_limit}
 use Rattle.cc_outbox.specs.OutboxLaws.{room_for_post}
 use Rattle.cc_node.specs.Core.{Core, asked_of, links_heard, churned, told_if, tells, churn_told, asks_anew, ops_anew, handled, next, post, replies, quorum, ids_of, lowest}

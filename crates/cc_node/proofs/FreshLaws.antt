@@ -12,8 +12,8 @@ use Rattle.cc_views.specs.NatSets.{IsWithin, contains-from_list, len_within}
 use Rattle.cc_views.specs.MapLaws.{get-empty, empty_within}
 use Rattle.cc_views.specs.Rows.{Pair}
 use Rattle.cc_views.specs.Limits.{counter_limit, known_limit}
-use Rattle.cc_wire.specs.declared.answer.Answer.{Answer}
-use Rattle.cc_wire.specs.declared.event.Event.{Event}
+use Rattle.cc_messages.specs.declared.answer.Answer.{Answer}
+use Rattle.cc_messages.specs.declared.event.Event.{Event}
 use Rattle.cc_links.specs.Links.{Link, Links, add_all, IsLinkWithin}
 use Rattle.cc_links.specs.LinkLaws.{add_all_links, contains-add_all, lowest_within}
 use Rattle.cc_outbox.specs.OutboxLaws.{KeepsPosts, keeps_none}

@@ -9,7 +9,7 @@ use Rattle.std.proofs.lemmas.Bool.{lt-ltb, le-ltb}
 use Rattle.cc_links.specs.Links.{Link, Links, add_all, hear, heard_from, heard_of}
 use Rattle.cc_links.specs.LinkLaws.{contains-add_all}
 use Rattle.cc_links.specs.HeardLaws.{heard_of-hear, heard_of-add_all}
-use Rattle.cc_wire.specs.declared.message.Message.{Message}
+use Rattle.cc_messages.specs.declared.message.Message.{Message}
 use Rattle.cc_node.specs.Core.{Core, ids_of, links_heard}
 use Rattle.cc_node.proofs.KnownLaws.{same_number}
 use Rattle.cc_node.proofs.LawfulLaws.{add_all_heard}

@@ -12,10 +12,10 @@ use Rattle.std.specs.FinMap.{FinMap}
 use Rattle.std.proofs.lemmas.Bool.{and_parts, eqb-true, or_cases, or_parts, not-true}
 use Rattle.cc_views.specs.NatSets.{contains-remove, contains-insert_key}
 use Rattle.cc_views.specs.MapLaws.{within_insert}
-use Rattle.cc_wire.specs.declared.answer.Answer.{Answer}
-use Rattle.cc_wire.specs.declared.event.Event.{Event}
-use Rattle.cc_wire.specs.declared.event.Event.TheVariants as event
-use Rattle.cc_wire.specs.declared.message.Message.{Message}
+use Rattle.cc_messages.specs.declared.answer.Answer.{Answer}
+use Rattle.cc_messages.specs.declared.event.Event.{Event}
+use Rattle.cc_messages.specs.declared.event.Event.TheVariants as event
+use Rattle.cc_messages.specs.declared.message.Message.{Message}
 use Rattle.cc_ops.specs.Ops.{Ops, pending, unanswered}
 use Rattle.cc_ops.specs.OwnLaws.{AnswersRound, AreAnswered}
 use Rattle.cc_ops.specs.RoundLaws.{round_has}

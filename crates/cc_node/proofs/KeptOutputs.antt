@@ -10,9 +10,9 @@ use Rattle.std.proofs.lemmas.Bool.{eq-eqb, lt-ltb, or_parts}
 use Rattle.cc_views.specs.NatSets as set
 use Rattle.cc_views.specs.NatSets.{get-insert_key}
 use Rattle.cc_views.specs.MapLaws.{all_insert, all_entries}
-use Rattle.cc_wire.specs.declared.event.Event.{Event}
-use Rattle.cc_wire.specs.declared.event.Event.TheVariants as event
-use Rattle.cc_wire.specs.declared.message.Message.{Message}
+use Rattle.cc_messages.specs.declared.event.Event.{Event}
+use Rattle.cc_messages.specs.declared.event.Event.TheVariants as event
+use Rattle.cc_messages.specs.declared.message.Message.{Message}
 use Rattle.cc_ops.specs.declared.pending.Asked.{Asked}
 use Rattle.cc_ops.specs.declared.pending.Reply.{Reply}
 use Rattle.cc_ops.specs.Ops as ops

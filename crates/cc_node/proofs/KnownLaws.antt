@@ -24,8 +24,8 @@ use Rattle.cc_changes.specs.ChangeSets.{ChangeSets, present, members, add_enter,
 use Rattle.cc_changes.specs.ChangeLaws.{IsAmong, enter_among, join_among, leave_among, union_among, present_within, members_within, need_within}
 use Rattle.cc_changes.specs.Need.{IsShare, needed}
 use Rattle.cc_changes.specs.declared.fraction.Fraction.{Fraction}
-use Rattle.cc_wire.specs.declared.message.Message.{Message}
-use Rattle.cc_wire.specs.declared.message.Message.TheVariants as message
+use Rattle.cc_messages.specs.declared.message.Message.{Message}
+use Rattle.cc_messages.specs.declared.message.Message.TheVariants as message
 use Rattle.cc_churn.specs.Churn as churn
 use Rattle.cc_churn.specs.Churn.{Churn}
 use Rattle.cc_ops.specs.Commands.{is_writing}

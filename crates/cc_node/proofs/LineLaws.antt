@@ -20,12 +20,12 @@ use Rattle.std.proofs.lemmas.List.Kept.{AllPairs-cons}
 use Rattle.cc_views.specs.NatSets as set
 use Rattle.cc_views.specs.NatSets.{NatSet, get-insert_key, lt_both}
 use Rattle.cc_views.specs.MapLaws.{all_entries}
-use Rattle.cc_wire.specs.declared.command.Command.{Command}
-use Rattle.cc_wire.specs.declared.event.Event.{Event}
-use Rattle.cc_wire.specs.declared.event.Event.TheVariants as event
-use Rattle.cc_wire.specs.declared.message.Message.{Message}
-use Rattle.cc_wire.specs.declared.output.Output.{Output}
-use Rattle.cc_wire.specs.declared.output.Output.TheVariants as output
+use Rattle.cc_messages.specs.declared.command.Command.{Command}
+use Rattle.cc_messages.specs.declared.event.Event.{Event}
+use Rattle.cc_messages.specs.declared.event.Event.TheVariants as event
+use Rattle.cc_messages.specs.declared.message.Message.{Message}
+use Rattle.cc_messages.specs.declared.output.Output.{Output}
+use Rattle.cc_messages.specs.declared.output.Output.TheVariants as output
 use Rattle.cc_ops.specs.Ops as ops
 use Rattle.cc_ops.specs.Ops.{Ops, unanswered}
 use Rattle.cc_ops.specs.OwnLaws.{AnswersRound, AreAnswered, message_answers, ask_unanswered}

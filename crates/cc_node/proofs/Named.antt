@@ -20,8 +20,8 @@ use Rattle.cc_links.specs.LinkLaws.{add_all-append, len_add_all}
 use Rattle.cc_links.specs.KnownIds.{len-add_all}
 use Rattle.cc_links.specs.Rows.{nodes_of}
 use Rattle.cc_links.proofs.KnownSets.{len_insert_all}
-use Rattle.cc_wire.specs.declared.message.Message.{Message}
-use Rattle.cc_wire.specs.declared.message.Message.TheVariants as message
+use Rattle.cc_messages.specs.declared.message.Message.{Message}
+use Rattle.cc_messages.specs.declared.message.Message.TheVariants as message
 use Rattle.cc_node.specs.declared.named_nodes.Named.{Named}
 use Rattle.cc_node.specs.Core.{ids_of}
 use Rattle.cc_node.specs.Known.{Marks}

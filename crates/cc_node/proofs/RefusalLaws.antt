@@ -11,14 +11,14 @@ use Rattle.std.specs.FinMap as table
 use Rattle.std.proofs.lemmas.Bool.{or_parts, and_cases, eqb-false, ltb-false}
 use Rattle.cc_views.specs.Limits.{counter_limit, known_limit, overruns}
 use Rattle.cc_ops.specs.Refusals.{passes}
-use Rattle.cc_wire.specs.declared.command.Command.{Command}
-use Rattle.cc_wire.specs.Messages.{is_snapshot}
-use Rattle.cc_wire.specs.declared.event.Event.{Event}
-use Rattle.cc_wire.specs.declared.event.Event.TheVariants as event
-use Rattle.cc_wire.specs.declared.message.Message.{Message}
-use Rattle.cc_wire.specs.declared.refusal.Refusal.{Refusal}
-use Rattle.cc_wire.specs.declared.refusal.Refusal.TheVariants as refusal
-use Rattle.cc_wire.specs.Refusals.{first_of}
+use Rattle.cc_messages.specs.declared.command.Command.{Command}
+use Rattle.cc_messages.specs.Messages.{is_snapshot}
+use Rattle.cc_messages.specs.declared.event.Event.{Event}
+use Rattle.cc_messages.specs.declared.event.Event.TheVariants as event
+use Rattle.cc_messages.specs.declared.message.Message.{Message}
+use Rattle.cc_messages.specs.declared.refusal.Refusal.{Refusal}
+use Rattle.cc_messages.specs.declared.refusal.Refusal.TheVariants as refusal
+use Rattle.cc_messages.specs.Refusals.{first_of}
 use Rattle.cc_ops.specs.Commands.{finds_no_room}
 use Rattle.cc_ops.specs.Ops.{is_idle, unanswered, mine_at_last}
 use Rattle.cc_ops.specs.Waiting.{line_limit, has_session}

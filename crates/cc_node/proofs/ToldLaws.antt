@@ -14,9 +14,9 @@ use Rattle.cc_views.specs.NatSets as set
 use Rattle.cc_changes.specs.ChangeSets.{present, add_join}
 use Rattle.cc_changes.specs.Need.{IsShare, needed}
 use Rattle.cc_changes.specs.declared.fraction.Fraction.{Fraction}
-use Rattle.cc_wire.specs.Messages.{is_snapshot}
-use Rattle.cc_wire.specs.declared.message.Message.{Message}
-use Rattle.cc_wire.specs.declared.message.Message.TheVariants as message
+use Rattle.cc_messages.specs.Messages.{is_snapshot}
+use Rattle.cc_messages.specs.declared.message.Message.{Message}
+use Rattle.cc_messages.specs.declared.message.Message.TheVariants as message
 use Rattle.cc_churn.specs.Churn as churn
 use Rattle.cc_churn.specs.Churn.{Churn}
 use Rattle.cc_ops.specs.Ops as ops

@@ -13,7 +13,7 @@ use Rattle.std.specs.FinMap.{FinMap}
 use Rattle.cc_changes.specs.ChangeLaws.{IsAmong}
 use Rattle.cc_views.specs.NatSets.{IsWithin}
 use Rattle.cc_changes.specs.Need.{IsShare}
-use Rattle.cc_wire.specs.declared.answer.Answer.{Answer}
+use Rattle.cc_messages.specs.declared.answer.Answer.{Answer}
 use Rattle.cc_ops.specs.Commands.{is_writing}
 use Rattle.cc_ops.specs.declared.pending.Asked.{Asked}
 use Rattle.cc_ops.specs.declared.pending.Pending.{Pending}

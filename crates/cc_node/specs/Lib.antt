@@ -9,13 +9,6 @@ pub mod Codes
 pub mod Writes
 pub mod Known
 pub mod Lines
-pub mod Layouts
-pub mod States
-pub mod Sides
-pub mod Good
 pub mod Histories
-pub mod Fronts
-pub mod RecordLaws
-pub mod GoodLaws
 pub mod Parts
 pub mod Needs

@@ -1,8 +1,8 @@
 -- How a node's outputs follow one another.
 --     Follows x y        y may come after x: on one link it has a greater number, and in one session it answers a later request
 use Rattle.std.specs.Prelude.{◌≡◌, ◌<◌, ⊤}
-use Rattle.cc_wire.specs.declared.output.Output.{Output}
-use Rattle.cc_wire.specs.declared.output.Output.TheVariants as output
+use Rattle.cc_messages.specs.declared.output.Output.{Output}
+use Rattle.cc_messages.specs.declared.output.Output.TheVariants as output
 
 -- outputs of two kinds are never one
 abbrev pub Follows : Output → Output → Type 0

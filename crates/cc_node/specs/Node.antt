@@ -7,11 +7,11 @@
 use Rattle.std.specs.Prelude.{◌≡◌, ℕ, ◌-◌, ◌<◌, ◌⊎◌, List, [], ◌∷◌, ◌++◌, Option, Some, None}
 use Rattle.std.specs.List.{Contains}
 use Rattle.std.specs.FinMap as table
-use Rattle.cc_wire.specs.declared.event.Event.{Event}
-use Rattle.cc_wire.specs.declared.event.Event.TheVariants as event
-use Rattle.cc_wire.specs.declared.message.Message.{Message}
-use Rattle.cc_wire.specs.declared.output.Output.{Output}
-use Rattle.cc_wire.specs.declared.output.Output.TheVariants as output
+use Rattle.cc_messages.specs.declared.event.Event.{Event}
+use Rattle.cc_messages.specs.declared.event.Event.TheVariants as event
+use Rattle.cc_messages.specs.declared.message.Message.{Message}
+use Rattle.cc_messages.specs.declared.output.Output.{Output}
+use Rattle.cc_messages.specs.declared.output.Output.TheVariants as output
 use Rattle.cc_links.specs.Links.{Link}
 use Rattle.cc_outbox.specs.Outbox as kept
 use Rattle.cc_outbox.specs.Outbox.{Outbox, trim, forget}

@@ -3,8 +3,8 @@
 --     asked_along es       the asks among a list of events, in order
 --     begun_along n es     those that begin along it
 use Rattle.std.specs.Prelude.{List, [], ◌∷◌, ◌++◌}
-use Rattle.cc_wire.specs.declared.event.Event.{Event}
-use Rattle.cc_wire.specs.declared.event.Event.TheVariants as event
+use Rattle.cc_messages.specs.declared.event.Event.{Event}
+use Rattle.cc_messages.specs.declared.event.Event.TheVariants as event
 use Rattle.cc_ops.specs.declared.pending.Asked.{Asked}
 use Rattle.cc_node.specs.Core.{asked_of, begun}
 use Rattle.cc_node.specs.Node.{Node, step}

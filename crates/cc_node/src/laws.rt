@@ -8,14 +8,14 @@ ghost use Rattle.cc_views.specs.Rows.{ViewMap};
 ghost use Rattle.cc_changes.specs.ChangeSets.{ChangeSets};
 ghost use Rattle.cc_links.specs.Links.{Link, heard_from};
 ghost use Rattle.cc_views.specs.Limits.{counter_limit, overruns};
-ghost use Rattle.cc_wire.specs.Messages.{is_snapshot};
-ghost use Rattle.cc_wire.specs.declared.message.Message.{Message};
-ghost use Rattle.cc_wire.specs.declared.event.Event.{Event};
-ghost use Rattle.cc_wire.specs.declared.event.Event.TheVariants as event;
-ghost use Rattle.cc_wire.specs.declared.message.Message.TheVariants as message;
+ghost use Rattle.cc_messages.specs.Messages.{is_snapshot};
+ghost use Rattle.cc_messages.specs.declared.message.Message.{Message};
+ghost use Rattle.cc_messages.specs.declared.event.Event.{Event};
+ghost use Rattle.cc_messages.specs.declared.event.Event.TheVariants as event;
+ghost use Rattle.cc_messages.specs.declared.message.Message.TheVariants as message;
 ghost use Rattle.cc_ops.specs.Ops.{merged, after_message};
 ghost use Rattle.cc_ops.specs.OwnLaws.{AsksAnewAlone};
-ghost use Rattle.cc_wire.specs.declared.output.Output.{Output};
+ghost use Rattle.cc_messages.specs.declared.output.Output.{Output};
 ghost use Rattle.cc_ops.specs.declared.pending.Asked.{Asked};
 ghost use Rattle.cc_ops.specs.Rounds.{first_round, line_behind, of_kind, IsAt, ComesOn};
 ghost use Rattle.cc_ops.specs.Waiting.{writes_by, written_by};
@@ -23,7 +23,6 @@ ghost use Rattle.cc_node.specs.Core.{Core, quorum, churned, churn_told, asks_ane
 ghost use Rattle.cc_node.specs.Node.{Node, step, after, line, HasOutput, MayBeOut, IsLawful, IsLawfulWithin};
 ghost use Rattle.cc_node.specs.OneAtATime.{waiting, decides_alone, next_alone, post_alone, step_alone, after_alone, line_alone, IsLawfulAlone};
 ghost use Rattle.cc_node.specs.Refusals.{decides, decides_within, row_overruns};
-ghost use Rattle.cc_node.specs.Sides.{SpellsRecord};
 ghost use Rattle.cc_node.specs.Lawful.{IsLawfulCore, IsLawfulNode};
 ghost use Rattle.cc_node.specs.Opening.{Opening, IsOpening, fresh};
 ghost use Rattle.cc_node.specs.Lines.{Follows};
@@ -134,10 +133,4 @@ pub fn asks_anew_alone()
     ensures { (c : Core) (from n : ℕ) (d : ChangeSets) (v : ViewMap) → asks_anew c from n (message.Snapshot d v) ≡ true
         → AsksAnewAlone (merged v c.ops) (next c (event.Deliver from n (message.Snapshot d v))).ops
         × ((next c (event.Deliver from n (message.Snapshot d v))).sessions ≡ c.sessions) }
-{}
-
-/// Each record has one spelling, and none begins another.
-pub fn one_spelling_of_records()
-    ensures one { (a b u w : List ℕ) (x y : List Event) → SpellsRecord a x → SpellsRecord b y → a ++ u ≡ b ++ w → (x ≡ y) × (a ≡ b) }
-    ensures same { (a b : List ℕ) (x : List Event) → SpellsRecord a x → SpellsRecord b x → a ≡ b }
 {}

@@ -1,9 +1,10 @@
 //! The state of a node, and what each event makes of it.
 #![tactic(auto)]
 
+mod applying;
 mod core_parts;
+mod decisions;
 mod laws;
-mod layout;
 mod made;
 mod named_nodes;
 mod needs;
@@ -15,10 +16,9 @@ mod told;
 pub use core_parts::CoreParts;
 pub use laws::{
     asks_anew_alone, asks_begin_in_order, lapse_is_an_acknowledgement, lawful_kept,
-    lines_add_nothing, lines_may_grow, no_output_twice, one_spelling_of_records, others_stay,
-    own_number_counts_writes, rounds_are_fair, share_one, standing_made, view_only_grows,
+    lines_add_nothing, lines_may_grow, no_output_twice, others_stay, own_number_counts_writes,
+    rounds_are_fair, share_one, standing_made, view_only_grows,
 };
-pub use layout::Layout;
 pub use made::{LinkAck, Made};
 pub use node::Node;
 pub use node_core::Core;

@@ -2,9 +2,9 @@
 
 ghost use Rattle.std.specs.Prelude.{◌≡◌, Some, None, []};
 
+use cc_messages::Message;
 use cc_ops::Replies;
 use cc_views::NodeId;
-use cc_wire::Message;
 
 /// The acknowledgement of a delivered message.
 #[derive(Clone, Copy, Debug, PartialEq, Eq)]

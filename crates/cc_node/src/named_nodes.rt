@@ -10,8 +10,8 @@ ghost use Rattle.cc_node.specs.Core.{ids_of};
 ghost use Rattle.cc_node.specs.Known.{Marks};
 
 use cc_links::{KnownIds, Links};
+use cc_messages::Message;
 use cc_views::{NodeId, Row};
-use cc_wire::Message;
 use std::slice;
 
 // The nodes that a message names: those of its view, those of its changes, and one, or none.

@@ -23,11 +23,11 @@ use crate::core_parts::CoreParts;
 use crate::made::Made;
 use crate::node_core::Core;
 use crate::opening::{Fresh, Opening};
+use cc_messages::{Event, Message};
 use cc_ops::{Ops, Replies, Stage};
 use cc_outbox::{KeptAnswer, Outbox};
 use cc_sessions::Sessions;
 use cc_views::{NodeId, View};
-use cc_wire::{Event, Message};
 use std::alloc::Global;
 use std::marker::Model;
 

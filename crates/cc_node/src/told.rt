@@ -9,10 +9,10 @@ ghost use Rattle.cc_changes.specs.ChangeSets.{FitsRoom};
 ghost use Rattle.cc_churn.specs.Churn as churn;
 ghost use Rattle.cc_ops.specs.Ops as ops;
 ghost use Rattle.cc_links.specs.Links as links;
-ghost use Rattle.cc_wire.specs.Messages.{is_snapshot};
-ghost use Rattle.cc_wire.specs.declared.event.Event.TheVariants as event;
-ghost use Rattle.cc_wire.specs.declared.message.Message.{Message};
-ghost use Rattle.cc_wire.specs.declared.message.Message.TheVariants as message;
+ghost use Rattle.cc_messages.specs.Messages.{is_snapshot};
+ghost use Rattle.cc_messages.specs.declared.event.Event.TheVariants as event;
+ghost use Rattle.cc_messages.specs.declared.message.Message.{Message};
+ghost use Rattle.cc_messages.specs.declared.message.Message.TheVariants as message;
 ghost use Rattle.cc_node.specs.Core as machine;
 ghost use Rattle.cc_node.specs.Refusals.{decides, any_overruns};
 
@@ -20,9 +20,9 @@ use crate::made::{LinkAck, Made};
 use crate::node_core::Core;
 use cc_changes::{Changes, Fraction};
 use cc_churn::Churn;
+use cc_messages::Message;
 use cc_ops::{Ops, Replies};
 use cc_views::{COUNTER_LIMIT, NoMemory, NodeId, View};
-use cc_wire::Message;
 use std::alloc::Global;
 
 impl Core {

@@ -12,7 +12,7 @@ use Rattle.cc_views.specs.NatSets.{len_within}
 use Rattle.cc_views.specs.Rows.{ViewMap, single}
 use Rattle.cc_views.specs.Merge.{merge}
 use Rattle.cc_views.specs.declared.value.Value.{Value}
-use Rattle.cc_wire.specs.declared.command.Command.{Command}
+use Rattle.cc_messages.specs.declared.command.Command.{Command}
 use Rattle.cc_ops.specs.declared.pending.Asked.{Asked}
 use Rattle.cc_ops.specs.declared.stage.Stage.{Stage}
 use Rattle.cc_ops.specs.declared.stage.Stage.TheVariants as stage

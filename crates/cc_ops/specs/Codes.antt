@@ -4,7 +4,7 @@ use Rattle.std.specs.Coded.{Coded, code_by, coded_list, coded×, coded_ℕ}
 use Rattle.cc_views.specs.Rows.{ViewMap, view_code, value_code}
 use Rattle.cc_views.specs.declared.value.Value.{Value}
 use Rattle.std.specs.FinMap as map
-use Rattle.cc_wire.specs.declared.command.Command.TheVariants as command
+use Rattle.cc_messages.specs.declared.command.Command.TheVariants as command
 use Rattle.cc_ops.specs.declared.pending.Asked.{Asked}
 use Rattle.cc_ops.specs.declared.pending.Pending.{Pending}
 use Rattle.cc_ops.specs.declared.pending.Reply.{Reply}

@@ -9,10 +9,10 @@ use Rattle.cc_views.specs.NatSets as set
 use Rattle.cc_views.specs.Rows.{ViewMap}
 use Rattle.cc_views.specs.declared.value.Value.{Value}
 use Rattle.cc_objects.specs.Objects.{max_of, flag_of, set_of}
-use Rattle.cc_wire.specs.declared.command.Command.{Command}
-use Rattle.cc_wire.specs.declared.command.Command.TheVariants as command
-use Rattle.cc_wire.specs.declared.answer.Answer.{Answer}
-use Rattle.cc_wire.specs.declared.answer.Answer.TheVariants as answer
+use Rattle.cc_messages.specs.declared.command.Command.{Command}
+use Rattle.cc_messages.specs.declared.command.Command.TheVariants as command
+use Rattle.cc_messages.specs.declared.answer.Answer.{Answer}
+use Rattle.cc_messages.specs.declared.answer.Answer.TheVariants as answer
 
 abbrev pub is_writing : Command → Bool
 is_writing (command.Store text) = true

@@ -4,9 +4,9 @@
 use Rattle.std.specs.Prelude.{ℕ, Bool, nat_le, nat_lt, not, ◌&&◌, ◌||◌, length, Option}
 use Rattle.std.specs.Bool.{then_some}
 use Rattle.cc_views.specs.Limits.{counter_limit}
-use Rattle.cc_wire.specs.declared.command.Command.{Command}
-use Rattle.cc_wire.specs.declared.refusal.Refusal.{Refusal}
-use Rattle.cc_wire.specs.declared.refusal.Refusal.TheVariants as refusal
+use Rattle.cc_messages.specs.declared.command.Command.{Command}
+use Rattle.cc_messages.specs.declared.refusal.Refusal.{Refusal}
+use Rattle.cc_messages.specs.declared.refusal.Refusal.TheVariants as refusal
 use Rattle.cc_ops.specs.Commands.{finds_no_room}
 use Rattle.cc_ops.specs.Ops.{Ops, is_idle, unanswered, mine_at_last}
 use Rattle.cc_ops.specs.Waiting.{has_session}

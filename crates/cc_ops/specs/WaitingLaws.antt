@@ -15,8 +15,8 @@ use Rattle.cc_views.specs.NatSets as set
 use Rattle.cc_views.specs.NatSets.{IsWithin, contains-insert, len_within}
 use Rattle.cc_views.specs.MapLaws.{within_insert, insert_within}
 use Rattle.cc_views.specs.declared.value.Value.{Value}
-use Rattle.cc_wire.specs.declared.command.Command.{Command}
-use Rattle.cc_wire.specs.declared.command.Command.TheVariants as command
+use Rattle.cc_messages.specs.declared.command.Command.{Command}
+use Rattle.cc_messages.specs.declared.command.Command.TheVariants as command
 use Rattle.cc_ops.specs.declared.pending.Asked.{Asked}
 use Rattle.cc_ops.specs.Commands.{is_writing, written, finds_no_room}
 use Rattle.cc_ops.specs.Waiting.{has_session, AreApart, writes_by, written_by}

@@ -11,8 +11,8 @@ ghost use Rattle.cc_ops.specs.Refusals.{passes};
 use crate::ops::Ops;
 use crate::pending::round_of;
 use crate::stage::Stage;
+use cc_messages::Message;
 use cc_views::{COUNTER_LIMIT, NoMemory, NodeId, View};
-use cc_wire::Message;
 use std::alloc::Global;
 
 impl Ops {

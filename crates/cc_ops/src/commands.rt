@@ -4,8 +4,8 @@ ghost use Rattle.std.specs.Prelude.{◌≡◌, ℕ, ◌+◌, ◌≤◌, ◌||◌
 ghost use Rattle.std.specs.FinMap.{len};
 ghost use Rattle.cc_views.specs.Limits.{counter_limit, known_limit, overruns};
 ghost use Rattle.cc_objects.specs.Objects as objects;
-ghost use Rattle.cc_wire.specs.Refusals.{first_of, decided};
-ghost use Rattle.cc_wire.specs.declared.refusal.Refusal.TheVariants as refusal;
+ghost use Rattle.cc_messages.specs.Refusals.{first_of, decided};
+ghost use Rattle.cc_messages.specs.declared.refusal.Refusal.TheVariants as refusal;
 ghost use Rattle.std.specs.Bool.{then_some};
 ghost use Rattle.cc_ops.specs.Commands as commands;
 ghost use Rattle.cc_ops.specs.Ops as ops;
@@ -19,9 +19,9 @@ use crate::ask_list::writes_by;
 use crate::ops::Ops;
 use crate::pending::{Asked, round_of};
 use crate::stage::Stage;
+use cc_messages::{Answer, Command, Message, NumberList, Refusal};
 use cc_objects::{add_member, flag_of, max_of, set_flag, set_of, write_max, write_text};
 use cc_views::{COUNTER_LIMIT, NoMemory, NodeId, NumberSet, Row, Value, View};
-use cc_wire::{Answer, Command, Message, NumberList, Refusal};
 use std::alloc::Global;
 
 impl Ops {

@@ -4,7 +4,7 @@ ghost use Rattle.std.specs.Prelude.{◌≡◌};
 ghost use Rattle.cc_ops.specs.Ops as ops;
 ghost use Rattle.cc_ops.specs.Ops.{IsWaiting};
 
-use cc_wire::{Answer, Command};
+use cc_messages::{Answer, Command};
 
 /// What a client asked for, and under which request of its session.
 #[derive(Clone, Copy, Debug, PartialEq, Eq)]

@@ -4,7 +4,7 @@ ghost use Rattle.std.specs.Prelude.{◌≡◌, ℕ, ◌+◌, ◌≤◌, ◌||◌
 ghost use Rattle.std.specs.Bool.{then_some};
 ghost use Rattle.std.specs.FinMap.{len};
 ghost use Rattle.cc_views.specs.Limits.{counter_limit, known_limit, overruns};
-ghost use Rattle.cc_wire.specs.declared.message.Message.TheVariants as message;
+ghost use Rattle.cc_messages.specs.declared.message.Message.TheVariants as message;
 ghost use Rattle.cc_ops.specs.Ops as ops;
 ghost use Rattle.cc_ops.specs.Ops.{IsWaiting};
 ghost use Rattle.cc_ops.specs.Refusals.{passes};
@@ -16,8 +16,8 @@ use crate::parting::{take_round, value_of_round, writes_of_round};
 use crate::pending::{Asked, Pending, Reply, counted, is_last, round_of};
 use crate::replies::Replies;
 use crate::stage::Stage;
+use cc_messages::Message;
 use cc_views::{COUNTER_LIMIT, NoMemory, NodeId, Row, View};
-use cc_wire::Message;
 use std::alloc::Global;
 
 impl Ops {
@@ -37,12 +37,12 @@ impl Ops {
             Message::Store { view, .. } => self.view.merge(view),
             Message::Snapshot { view, .. } => self.view.merge(view),
             Message::QueryReply { view, tag, node } => {
-                if *node == me && *tag == self.tag {
+                if self.is_own(me, *tag, *node) {
                     self.take_reply(quorum, view);
                 }
             }
             Message::StoreAck { tag, node } => {
-                if *node == me && *tag == self.tag {
+                if self.is_own(me, *tag, *node) {
                     self.take_ack(me, quorum);
                 }
             }
@@ -53,6 +53,13 @@ impl Ops {
             | Message::LeaveEcho { .. }
             | Message::Query { .. } => {}
         }
+    }
+
+    // Whether an answer for that node under that tag is to the pending round.
+    fn is_own(&self, me: NodeId, tag: u64, node: NodeId) -> bool
+        ensures { result ≡ ops.is_own me tag node self.now }
+    {
+        node == me && tag == self.tag
     }
 
     // One more reply to the query. With the last one, what is seen by then is stored back.
@@ -143,10 +150,10 @@ impl Ops {
                 tag: *tag,
                 node: *node,
             })),
-            Message::QueryReply { view, tag, node } if *node == me && *tag == self.tag => {
+            Message::QueryReply { view, tag, node } if self.is_own(me, *tag, *node) => {
                 self.post_of_reply(alloc, me, quorum, view)
             }
-            Message::StoreAck { tag, node } if *node == me && *tag == self.tag => {
+            Message::StoreAck { tag, node } if self.is_own(me, *tag, *node) => {
                 self.post_of_ack(alloc, me, quorum)
             }
             _ => Ok(None),
@@ -241,7 +248,7 @@ impl Ops {
         ensures { IfOk result (λ r. r ≡ ops.replies_of me message.now self.now) }
     {
         match message {
-            Message::StoreAck { tag, node } if *node == me && *tag == self.tag => {
+            Message::StoreAck { tag, node } if self.is_own(me, *tag, *node) => {
                 self.replies_of_ack(alloc)
             }
             _ => Ok(Replies::none()),
@@ -287,10 +294,10 @@ impl Ops {
     {
         match message {
             Message::Query { .. } | Message::Store { .. } => is_joined,
-            Message::QueryReply { tag, node, .. } if *node == me && *tag == self.tag => {
+            Message::QueryReply { tag, node, .. } if self.is_own(me, *tag, *node) => {
                 self.ends_query()
             }
-            Message::StoreAck { tag, node } if *node == me && *tag == self.tag => {
+            Message::StoreAck { tag, node } if self.is_own(me, *tag, *node) => {
                 self.begun_by_ack().is_some()
             }
             _ => false,
@@ -303,10 +310,10 @@ impl Ops {
             || overruns self.now.tag (ops.after_message me quorum message.now self.now).tag) }
     {
         match message {
-            Message::QueryReply { tag, node, .. } if *node == me && *tag == self.tag => {
+            Message::QueryReply { tag, node, .. } if self.is_own(me, *tag, *node) => {
                 self.tag == COUNTER_LIMIT && self.ends_query()
             }
-            Message::StoreAck { tag, node } if *node == me && *tag == self.tag => {
+            Message::StoreAck { tag, node } if self.is_own(me, *tag, *node) => {
                 self.ack_is_spent()
             }
             _ => false,

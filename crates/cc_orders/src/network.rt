@@ -1,9 +1,10 @@
 //! What a node is told that is to run, and what one is asked that runs.
 
 use crate::word_fault::WordFault;
+use cc_frames::Peer;
+use cc_messages::Command;
 use cc_views::NodeId;
-use cc_wire::Command;
-use cc_words::{Peer, address, command, number, peers, small_number};
+use cc_words::{address, command, number, peers, small_number};
 use std::alloc::Global;
 use std::net::SocketAddr;
 
@@ -50,12 +51,13 @@ fn count_of(peers: &[Peer], id: NodeId) -> usize {
     peers.iter().filter(|peer| peer.id == id).count()
 }
 
-/// The words of `ask`, as they are given.
+/// The words of `ask`, as they are given. None for one that isn't.
 #[derive(Clone, Copy, Debug)]
 pub struct AskWords<'a> {
     pub address: &'a str,
     pub session: &'a str,
-    pub command: &'a [&'a str],
+    pub command: &'a str,
+    pub value: Option<&'a str>,
     pub timeout: Option<&'a str>,
 }
 
@@ -75,9 +77,16 @@ impl AskOrder {
         Ok(AskOrder {
             address: address(words.address).ok_or(WordFault::Address)?,
             session: number(words.session).ok_or(WordFault::Session)?,
-            command: command(words.command).ok_or(WordFault::Command)?,
+            command: command_in(words).ok_or(WordFault::Command)?,
             timeout: seconds(words.timeout).ok_or(WordFault::Timeout)?,
         })
+    }
+}
+
+fn command_in(words: &AskWords<'_>) -> Option<Command> {
+    match words.value {
+        Some(value) => command(&[words.command, value]),
+        None => command(&[words.command]),
     }
 }
 

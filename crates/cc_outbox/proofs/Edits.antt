@@ -9,8 +9,8 @@ use Rattle.cc_views.specs.Entries.{entries_back}
 use Rattle.std.specs.List.{insert, remove}
 use Rattle.cc_views.specs.MapLaws.{remove_absent}
 use Rattle.cc_views.specs.Tables.{IsRising, IsTable, IsAt, IsGapFor, table_of, table_of-set, table_of-insert, table_of-remove, get-gap, retain-from_entries}
-use Rattle.cc_wire.specs.declared.answer.Answer.{Answer}
-use Rattle.cc_wire.specs.declared.message.Message.{Message}
+use Rattle.cc_messages.specs.declared.answer.Answer.{Answer}
+use Rattle.cc_messages.specs.declared.message.Message.{Message}
 use Rattle.cc_outbox.specs.declared.kept_answer.KeptAnswer.{KeptAnswer}
 use Rattle.cc_outbox.specs.Outbox.{Outbox, add, trim, keep, forget}
 use Rattle.cc_outbox.specs.Rows.{entry_of, numbered, outbox_of, IsKept}

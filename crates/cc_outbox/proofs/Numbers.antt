@@ -5,7 +5,7 @@ use Rattle.std.specs.Ordering.{nat_cmp, is_lt}
 use Rattle.std.specs.FinMap.Entries.{find, where_key, below_all, is_sorted}
 use Rattle.std.proofs.lemmas.Bool.{and_from, cases_lt, lt-ltb, le-ltb}
 use Rattle.cc_views.specs.Entries.{cmp_lt, cmp_eq, cmp_gt, find_below}
-use Rattle.cc_wire.specs.declared.message.Message.{Message}
+use Rattle.cc_messages.specs.declared.message.Message.{Message}
 use Rattle.cc_outbox.specs.Rows.{numbered}
 
 below_numbered : (k n : ℕ) (ms : List Message) → k ≤ n → below_all nat_cmp k (numbered n ms) ≡ true

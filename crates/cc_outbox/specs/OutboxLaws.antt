@@ -12,7 +12,7 @@ use Rattle.std.specs.FinMap as table
 use Rattle.std.specs.FinMap.{FinMap}
 use Rattle.std.proofs.lemmas.Bool.{and_parts, and_from, eq-eqb, eqb-true, eqb-false, ne_eqb, or_cases, or_left, or_right, ltb-true, lt-ltb, not-true, not_from_false}
 use Rattle.cc_views.specs.NatSets.{contains-remove, contains-retain, contains-insert_key, len_within, len_positive}
-use Rattle.cc_wire.specs.declared.message.Message.{Message}
+use Rattle.cc_messages.specs.declared.message.Message.{Message}
 use Rattle.cc_outbox.specs.Outbox.{Outbox, post_limit, add, trim}
 
 -- the kept posts are those above low, up to the last one

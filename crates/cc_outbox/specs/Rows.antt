@@ -3,8 +3,8 @@ use Rattle.std.specs.Prelude.{ℕ, ◌+◌, ◌-◌, ◌≤◌, List, [], ◌∷
 use Rattle.std.specs.FinMap.{from_entries, entries}
 use Rattle.cc_views.specs.Limits.{session_limit}
 use Rattle.cc_views.specs.Tables.{IsTable, table_of}
-use Rattle.cc_wire.specs.declared.answer.Answer.{Answer}
-use Rattle.cc_wire.specs.declared.message.Message.{Message}
+use Rattle.cc_messages.specs.declared.answer.Answer.{Answer}
+use Rattle.cc_messages.specs.declared.message.Message.{Message}
 use Rattle.cc_outbox.specs.declared.kept_answer.KeptAnswer.{KeptAnswer}
 use Rattle.cc_outbox.specs.Outbox.{Outbox, post_limit}
 

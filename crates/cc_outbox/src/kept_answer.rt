@@ -1,4 +1,4 @@
-use cc_wire::Answer;
+use cc_messages::Answer;
 
 /// The answer to the last request of a session.
 #[derive(Debug, Drop)]

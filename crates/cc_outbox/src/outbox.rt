@@ -9,8 +9,8 @@ ghost use Rattle.cc_outbox.specs.OutboxLaws.{KeepsPosts};
 ghost use Rattle.cc_outbox.specs.Rows.{entry_of, answers_of};
 
 use crate::kept_answer::KeptAnswer;
+use cc_messages::{Answer, Message};
 use cc_views::NoMemory;
-use cc_wire::{Answer, Message};
 use std::alloc::Global;
 use std::collections::VecDeque;
 use std::marker::Model;

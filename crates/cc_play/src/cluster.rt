@@ -8,10 +8,10 @@ use crate::station::{Outcome, Standing, Station};
 use cc_changes::Fraction;
 use cc_checkpoint::OpenFault;
 use cc_flush::FormatFault;
+use cc_messages::Event;
 use cc_node::Opening;
 use cc_site::Choice;
 use cc_views::NodeId;
-use cc_wire::Event;
 use std::alloc::{AllocFailed, Global};
 use std::io::Write;
 

@@ -3,9 +3,9 @@
 use crate::delivery::Delivery;
 use crate::station::Standing;
 use cc_changes::Fraction;
+use cc_messages::Event;
 use cc_site::Choice;
 use cc_views::NodeId;
-use cc_wire::Event;
 use cc_words::{command, fraction, list, number, small_number};
 use std::alloc::{AllocError, Global};
 

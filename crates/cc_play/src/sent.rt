@@ -1,7 +1,8 @@
 //! What a node sent.
 
+use cc_messages::Output;
 use cc_views::{NoMemory, NodeId};
-use cc_wire::{Output, encode_message};
+use cc_wire::encode_message;
 use std::alloc::Global;
 
 /// A post that was sent: its spelling, once for all that it went to.

@@ -4,12 +4,12 @@
 --     told_whole     a refusal is known by its number and what it carries
 use Rattle.std.proofs.Common.{◌≡◌, ◌⊎◌, inl, inr, refl, sym, subst, ℕ, Bool, true, false, List, [], ◌∷◌, Option, Some, None, if◌then◌else◌}
 use Rattle.std.specs.List.{AllByRecursion}
-use Rattle.cc_wire.specs.declared.command.Command.{Command}
+use Rattle.cc_messages.specs.declared.command.Command.{Command}
 use Rattle.cc_frames.specs.declared.frame.Frame.{Frame}
 use Rattle.cc_frames.specs.declared.frame.Frame.TheVariants as frame
-use Rattle.cc_wire.specs.declared.refusal.Refusal.{Refusal}
-use Rattle.cc_wire.specs.declared.refusal.Refusal.TheVariants as refusal
-use Rattle.cc_wire.specs.Refusals.{number_of, value_of}
+use Rattle.cc_messages.specs.declared.refusal.Refusal.{Refusal}
+use Rattle.cc_messages.specs.declared.refusal.Refusal.TheVariants as refusal
+use Rattle.cc_messages.specs.Refusals.{number_of, value_of}
 use Rattle.cc_protocol.specs.declared.asking.Client.{Client}
 use Rattle.cc_protocol.specs.declared.asking.Heard.{Heard}
 use Rattle.cc_protocol.specs.declared.asking.Heard.TheVariants as heard

@@ -1,9 +1,9 @@
 -- What makes no post and no answer.
 --     no_post          a message that can't stir the node
 use Rattle.std.proofs.Common.{◌≡◌, ℕ, false, [], None, refl}
-use Rattle.cc_wire.specs.declared.event.Event.TheVariants as event
-use Rattle.cc_wire.specs.declared.message.Message.{Message}
-use Rattle.cc_wire.specs.declared.message.Message.TheVariants as message
+use Rattle.cc_messages.specs.declared.event.Event.TheVariants as event
+use Rattle.cc_messages.specs.declared.message.Message.{Message}
+use Rattle.cc_messages.specs.declared.message.Message.TheVariants as message
 use Rattle.cc_node.specs.Core as machine
 use Rattle.cc_node.specs.Core.{Core}
 use Rattle.cc_protocol.specs.Admission.{may_stir}

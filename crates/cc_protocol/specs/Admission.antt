@@ -7,16 +7,17 @@
 use Rattle.std.specs.Prelude.{ℕ, ◌-◌, ◌==◌, ◌&&◌, ◌||◌, not, nat_le, Bool, true, false}
 use Rattle.std.specs.Option.{option_map_or}
 use Rattle.std.specs.FinMap as table
-use Rattle.cc_wire.specs.declared.event.Event.{Event}
-use Rattle.cc_wire.specs.declared.event.Event.TheVariants as event
-use Rattle.cc_wire.specs.declared.message.Message.{Message}
-use Rattle.cc_wire.specs.declared.message.Message.TheVariants as message
+use Rattle.cc_messages.specs.declared.event.Event.{Event}
+use Rattle.cc_messages.specs.declared.event.Event.TheVariants as event
+use Rattle.cc_messages.specs.declared.message.Message.{Message}
+use Rattle.cc_messages.specs.declared.message.Message.TheVariants as message
 use Rattle.cc_links.specs.Links.{reach}
+use Rattle.cc_outbox.specs.Outbox.{post_limit}
 use Rattle.cc_node.specs.Core.{Core, live_links, lowest}
 
 -- a node keeps 512 posts at most
 abbrev pub free_posts : ℕ → ℕ
-free_posts kept = 512 - kept
+free_posts kept = post_limit - kept
 
 -- the two echoes that end what they echo are never answered, and answers to the operation of another node are its alone
 abbrev pub may_stir : ℕ → Message → Bool

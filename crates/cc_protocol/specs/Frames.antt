@@ -4,14 +4,14 @@
 --     refusing           the frame that tells a client why its request was refused
 --     refusal_frame      what a connection is told of a refused event, if anything
 use Rattle.std.specs.Prelude.{ℕ, Option, Some, None}
-use Rattle.cc_wire.specs.Refusals.{number_of, value_of}
-use Rattle.cc_wire.specs.declared.event.Event.{Event}
-use Rattle.cc_wire.specs.declared.event.Event.TheVariants as event
+use Rattle.cc_messages.specs.Refusals.{number_of, value_of}
+use Rattle.cc_messages.specs.declared.event.Event.{Event}
+use Rattle.cc_messages.specs.declared.event.Event.TheVariants as event
 use Rattle.cc_frames.specs.declared.frame.Frame.{Frame}
 use Rattle.cc_frames.specs.declared.frame.Frame.TheVariants as frame
-use Rattle.cc_wire.specs.declared.output.Output.{Output}
-use Rattle.cc_wire.specs.declared.output.Output.TheVariants as output
-use Rattle.cc_wire.specs.declared.refusal.Refusal.{Refusal}
+use Rattle.cc_messages.specs.declared.output.Output.{Output}
+use Rattle.cc_messages.specs.declared.output.Output.TheVariants as output
+use Rattle.cc_messages.specs.declared.refusal.Refusal.{Refusal}
 
 abbrev pub event_in : Frame → Option Event
 event_in (frame.Post from number message) = Some (event.Deliver from number message)

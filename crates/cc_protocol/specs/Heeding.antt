@@ -1,12 +1,13 @@
 -- What a worker does once it has the answer to an event.
 --     heed_of         what the answer asks for
 --     heed_unstirred  what it does of an accepted event that made no post and no answer
-use Rattle.std.specs.Prelude.{ℕ, Bool, true, false, Result, Ok, Err}
-use Rattle.cc_wire.specs.declared.event.Event.{Event}
-use Rattle.cc_wire.specs.declared.event.Event.TheVariants as event
-use Rattle.cc_wire.specs.declared.refusal.Refusal.{Refusal}
-use Rattle.cc_wire.specs.declared.refusal.Refusal.TheVariants as refusal
-use Rattle.cc_protocol.specs.Frames.{refusing}
+use Rattle.std.specs.Prelude.{ℕ, Bool, true, false, Option, Some, None, Result, Ok, Err}
+use Rattle.cc_messages.specs.declared.event.Event.{Event}
+use Rattle.cc_messages.specs.declared.event.Event.TheVariants as event
+use Rattle.cc_messages.specs.declared.refusal.Refusal.{Refusal}
+use Rattle.cc_messages.specs.declared.refusal.Refusal.TheVariants as refusal
+use Rattle.cc_frames.specs.declared.frame.Frame.{Frame}
+use Rattle.cc_protocol.specs.Frames.{refusal_frame}
 use Rattle.cc_protocol.specs.declared.heeding.Duty.{Duty}
 use Rattle.cc_protocol.specs.declared.heeding.Duty.TheVariants as duty
 
@@ -17,20 +18,28 @@ heed_undelivered from (refusal.Old heard) = duty.Reack from
 heed_undelivered from refusal.QueueFull = duty.BringAgain
 heed_undelivered from _ = duty.Nothing
 
--- the last request of a session is answered again; all others are told why they are refused
-abbrev pub heed_unasked : ℕ → ℕ → Refusal → Duty
-heed_unasked session request refusal.Repeat = duty.Again session
-heed_unasked session request why = duty.Refuse (refusing session request why)
+-- who asked is told why, and nobody else is told anything
+abbrev pub refusal_told : Option Frame → Duty
+refusal_told None = duty.Nothing
+refusal_told (Some frame) = duty.Refuse frame
+
+abbrev pub told : Event → Refusal → Duty
+told e why = refusal_told (refusal_frame e why)
+
+-- the last request of a session is answered again
+abbrev pub heed_unasked : ℕ → Event → Refusal → Duty
+heed_unasked session e refusal.Repeat = duty.Again session
+heed_unasked session e why = told e why
 
 abbrev pub heed_refused : Event → Refusal → Duty
-heed_refused event.Enter why = duty.Nothing
-heed_refused event.Leave why = duty.Refuse (refusing 0 0 why)
+heed_refused event.Enter why = told event.Enter why
+heed_refused event.Leave why = told event.Leave why
 heed_refused (event.Deliver from number m) why = heed_undelivered from why
-heed_refused (event.Acked peer number) why = duty.Nothing
-heed_refused (event.Ask session request command) why = heed_unasked session request why
-heed_refused (event.Retire node) why = duty.Refuse (refusing 0 0 why)
-heed_refused (event.Lapse node) why = duty.Nothing
-heed_refused event.Snapshot why = duty.Nothing
+heed_refused (event.Acked peer number) why = told (event.Acked peer number) why
+heed_refused (event.Ask session request command) why = heed_unasked session (event.Ask session request command) why
+heed_refused (event.Retire node) why = told (event.Retire node) why
+heed_refused (event.Lapse node) why = told (event.Lapse node) why
+heed_refused event.Snapshot why = told event.Snapshot why
 
 -- a lapse makes the room that others wait for, though it makes no post; all others defer with the next batch
 abbrev pub heed_unstirred : Event → Duty

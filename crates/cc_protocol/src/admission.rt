@@ -1,18 +1,19 @@
 //! What may be handed to a node, so that there is room left for what others need of it.
 
 ghost use Rattle.std.specs.Prelude.{◌≡◌, ◌-◌, ℕ, nat_le, false, [], None};
-ghost use Rattle.cc_wire.specs.declared.event.Event.TheVariants as event;
-ghost use Rattle.cc_wire.specs.declared.message.Message.{Message};
+ghost use Rattle.cc_messages.specs.declared.event.Event.TheVariants as event;
+ghost use Rattle.cc_messages.specs.declared.message.Message.{Message};
 ghost use Rattle.cc_node.specs.Core as machine;
 ghost use Rattle.cc_node.specs.Core.{Core};
 ghost use Rattle.cc_protocol.specs.Admission.{free_posts, may_stir, may_hand_over, is_given_up, is_furthest_behind};
 
+use cc_messages::{Event, Message};
 use cc_node::Core;
+use cc_outbox::Outbox;
 use cc_views::NodeId;
-use cc_wire::{Event, Message};
 
 // How many posts a node keeps at most.
-const MAX_POSTS: u64 = 512;
+const MAX_POSTS: u64 = Outbox::MAX_POSTS as u64;
 
 // How many posts an ask leaves room for.
 const ROOM_BESIDE_ASKS: u64 = 384;

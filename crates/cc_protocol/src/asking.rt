@@ -2,8 +2,8 @@
 
 ghost use Rattle.std.specs.Prelude.{◌≡◌, ◌⊎◌, ℕ, List, Some, None, if◌then◌else◌};
 ghost use Rattle.std.specs.List.{AllByRecursion};
-ghost use Rattle.cc_wire.specs.Refusals.{number_of, value_of};
-ghost use Rattle.cc_wire.specs.declared.event.Event.TheVariants as event;
+ghost use Rattle.cc_messages.specs.Refusals.{number_of, value_of};
+ghost use Rattle.cc_messages.specs.declared.event.Event.TheVariants as event;
 ghost use Rattle.cc_sessions.specs.Sessions.{last_request};
 ghost use Rattle.cc_node.specs.Core.{Core};
 ghost use Rattle.cc_node.specs.Lawful.{IsLawfulCore};
@@ -12,7 +12,7 @@ ghost use Rattle.cc_node.specs.Refusals.{decides};
 ghost use Rattle.cc_protocol.specs.Asking.{ask_of, is_about, knows_number, refusal_told, refused_step, refused_client, told_step, told_client, came_step, came_client, step_of, client_after, steps, AsksUnder};
 
 use cc_frames::Frame;
-use cc_wire::{Answer, Command, Refusal};
+use cc_messages::{Answer, Command, Refusal};
 
 /// One command of a client in its session. A session has one client at a time.
 #[derive(Clone, Copy, Debug, PartialEq, Eq)]

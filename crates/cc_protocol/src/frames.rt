@@ -2,12 +2,12 @@
 
 ghost use Rattle.std.specs.Prelude.{◌≡◌, ℕ, IfOk};
 ghost use Rattle.cc_frames.specs.Frames.{frame_spelling};
-ghost use Rattle.cc_wire.specs.declared.output.Output.TheVariants as output;
+ghost use Rattle.cc_messages.specs.declared.output.Output.TheVariants as output;
 ghost use Rattle.cc_protocol.specs.Frames.{event_in, output_frame, refusing, refusal_frame};
 
 use cc_frames::{Frame, encode_post, encode_reply};
+use cc_messages::{Answer, Event, Message, Refusal};
 use cc_views::{NoMemory, NodeId};
-use cc_wire::{Answer, Event, Message, Refusal};
 use std::alloc::Global;
 
 /// The event that a frame brings. None for a frame that a node only sends: then the connection is to be closed.
@@ -96,7 +96,7 @@ pub fn refused_frame(event: &Event, refusal: Refusal) -> Option<Frame>
 }
 
 // What tells that a request is refused, and why.
-pub(crate) fn refusing(session: u64, request: u64, refusal: Refusal) -> Frame
+fn refusing(session: u64, request: u64, refusal: Refusal) -> Frame
     ensures { result ≡ refusing session request refusal }
 {
     Frame::Refused {

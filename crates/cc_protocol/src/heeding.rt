@@ -1,12 +1,12 @@
 //! What a worker does once it has the answer to an event that it brought.
 
 ghost use Rattle.std.specs.Prelude.{◌≡◌};
-ghost use Rattle.cc_protocol.specs.Heeding.{heed_undelivered, heed_unasked, heed_refused, heed_unstirred, heed_of};
+ghost use Rattle.cc_protocol.specs.Heeding.{heed_undelivered, heed_unasked, heed_refused, told, heed_unstirred, heed_of};
 
-use crate::frames::refusing;
+use crate::frames::refused_frame;
 use cc_frames::Frame;
+use cc_messages::{Event, Refusal};
 use cc_views::NodeId;
-use cc_wire::{Event, Refusal};
 
 /// What an answer asks of the worker that brought the event.
 #[derive(Debug, Drop)]
@@ -54,13 +54,8 @@ fn heed_refused(event: &Event, refusal: Refusal) -> Duty
 {
     match event {
         Event::Deliver { from, .. } => heed_undelivered(*from, refusal),
-        Event::Ask {
-            session,
-            request,
-            ..
-        } => heed_unasked(*session, *request, refusal),
-        Event::Leave | Event::Retire { .. } => Duty::Refuse(refusing(0, 0, refusal)),
-        Event::Enter | Event::Acked { .. } | Event::Lapse { .. } | Event::Snapshot => Duty::Nothing,
+        Event::Ask { session, .. } => heed_unasked(*session, event, refusal),
+        _ => told(event, refusal),
     }
 }
 
@@ -74,11 +69,21 @@ fn heed_undelivered(from: NodeId, refusal: Refusal) -> Duty
     }
 }
 
-fn heed_unasked(session: u64, request: u64, refusal: Refusal) -> Duty
-    ensures { result ≡ heed_unasked session request refusal }
+fn heed_unasked(session: u64, event: &Event, refusal: Refusal) -> Duty
+    ensures { result ≡ heed_unasked session event.now refusal }
 {
     match refusal {
         Refusal::Repeat => Duty::Again(session),
-        _ => Duty::Refuse(refusing(session, request, refusal)),
+        _ => told(event, refusal),
+    }
+}
+
+// Who asked is told why, and nobody else is told anything.
+fn told(event: &Event, refusal: Refusal) -> Duty
+    ensures { result ≡ told event.now refusal }
+{
+    match refused_frame(event, refusal) {
+        Some(frame) => Duty::Refuse(frame),
+        None => Duty::Nothing,
     }
 }

@@ -1,15 +1,15 @@
 //! What the operator's request to leave, or to retire a node, came to.
 
 ghost use Rattle.std.specs.Prelude.{◌≡◌, ℕ, Some};
-ghost use Rattle.cc_wire.specs.declared.event.Event.TheVariants as event;
-ghost use Rattle.cc_wire.specs.declared.refusal.Refusal.TheVariants as refusal;
+ghost use Rattle.cc_messages.specs.declared.event.Event.TheVariants as event;
+ghost use Rattle.cc_messages.specs.declared.refusal.Refusal.TheVariants as refusal;
 ghost use Rattle.cc_node.specs.Core.{Core, next};
 ghost use Rattle.cc_node.specs.Refusals.{decides};
 ghost use Rattle.cc_protocol.specs.Operating.{outcome_told, outcome_in};
 
 use crate::asking::refusal_of;
 use cc_frames::Frame;
-use cc_wire::Refusal;
+use cc_messages::Refusal;
 
 /// What the operator's request came to.
 #[derive(Clone, Copy, Debug, PartialEq, Eq)]

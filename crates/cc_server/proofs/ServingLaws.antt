@@ -3,7 +3,7 @@
 --     brings       of one that gives and hears so
 use Rattle.std.proofs.Common.{◌≡◌, ℕ, List, [], ◌∷◌, Option, Some, None, sym, subst}
 use Rattle.std.specs.Prelude.{IfSome}
-use Rattle.cc_wire.specs.declared.event.Event.{Event}
+use Rattle.cc_messages.specs.declared.event.Event.{Event}
 use Rattle.cc_intake.specs.Talks.{Answer, Spoke, Talks}
 use Rattle.cc_frames.specs.declared.frame.Frame.{Frame}
 use Rattle.cc_protocol.specs.Incoming.{Next}

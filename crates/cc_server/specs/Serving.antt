@@ -5,7 +5,7 @@
 --     Gives, Hears        what one event and one answer leave of a worker
 --     Brings              in which order events are answered
 use Rattle.std.specs.Prelude.{◌≡◌, ℕ, ◌++◌, List, [], ◌∷◌, Bool, true, false, Option, Some, None, IfSome, if◌then◌else◌, Ok, Err, ⊤}
-use Rattle.cc_wire.specs.declared.event.Event.{Event}
+use Rattle.cc_messages.specs.declared.event.Event.{Event}
 use Rattle.cc_frames.specs.declared.frame.Frame.{Frame}
 use Rattle.cc_frames.specs.Frames.{frame_spelling, IsFrame}
 use Rattle.cc_intake.specs.Talks.{Answer}

@@ -1,6 +1,6 @@
 //! What a node is run with.
 
-use cc_words::Peer;
+use cc_frames::Peer;
 use std::net::SocketAddr;
 
 /// What a node is run with.

@@ -6,10 +6,10 @@ ghost use Rattle.cc_intake.specs.Talks.{Answer, IsAnswer, Talks, places_of, Plac
 use crate::of_life::OfLife;
 use crate::shared::Shared;
 use cc_channels::{Admission, Connection, ConnectionAdmission};
+use cc_frames::Peer;
 use cc_intake::{Hooks, Intake, Lane, Life, Queue, Share, Source, work};
 use cc_protocol::Admitted;
 use cc_views::NodeId;
-use cc_words::Peer;
 use std::alloc::Global;
 use std::sync::{Mutex, Wait};
 

@@ -4,8 +4,8 @@ ghost use Rattle.std.specs.Prelude.{◌≡◌};
 ghost use Rattle.cc_server.specs.Serving.{duty_of};
 
 use cc_intake::{Accepted, Refused};
+use cc_messages::Event;
 use cc_protocol::{Duty, heed};
-use cc_wire::Event;
 
 /// What the answer to an event asks of the worker that brought it.
 pub fn duty_of(event: &Event, answer: &Result<Accepted, Refused>) -> Duty

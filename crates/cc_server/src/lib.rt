@@ -10,6 +10,7 @@ mod duties;
 mod flushing;
 mod known;
 mod looking;
+mod machine;
 mod meeting;
 mod notes;
 mod of_life;
@@ -22,5 +23,6 @@ mod shared;
 mod threads;
 
 pub use config::Config;
+pub use machine::Machine;
 pub use run::{run_node, run_on};
 pub use run_fault::RunFault;

@@ -3,11 +3,11 @@
 use crate::notes::{Note, Waiting};
 use crate::shared::Shared;
 use cc_links::LinkRow;
+use cc_messages::Event;
 use cc_node::Core;
 use cc_ops::{Pending, Stage};
 use cc_protocol::{AskName, Calls, Lasting, Passed};
 use cc_views::NodeId;
-use cc_wire::Event;
 use std::sync::Wait;
 
 /// What the flusher remembers of the seconds before. Begun anew, it finds the same in the state within three seconds.

@@ -2,9 +2,9 @@
 
 use crate::known::Known;
 use cc_changes::Changes;
+use cc_frames::Peer;
+use cc_messages::Message;
 use cc_views::NodeId;
-use cc_wire::Message;
-use cc_words::Peer;
 use log::sink::Console;
 use log::{Level, Logged, warn};
 use std::net::SocketAddr;

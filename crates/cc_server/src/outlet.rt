@@ -3,9 +3,9 @@
 use crate::shared::Shared;
 use cc_channels::PeerChannel;
 use cc_files::Outlet;
+use cc_messages::{Answer, Event, Message};
 use cc_protocol::{Parcel, post_bytes, reply_bytes};
 use cc_views::NodeId;
-use cc_wire::{Answer, Event, Message};
 use std::alloc::Global;
 use std::sync::Wait;
 

@@ -6,6 +6,7 @@ ghost use Rattle.cc_intake.specs.Accepting.{share_limit};
 
 use crate::config::Config;
 use crate::context::Context;
+use crate::machine::Machine;
 use crate::notes::{note_share, note_unknown, note_unreachable};
 use crate::of_life::OfLife;
 use crate::outlet::ServerOutlet;
@@ -15,13 +16,13 @@ use crate::threads::live;
 use cc_channels::{Admission, Durable, Stop};
 use cc_files::FileSite;
 use cc_flush::{Back, Failed, Flusher};
+use cc_frames::Peer;
 use cc_intake::{Ends, Finished, Hooked, Hooks, Lane, Life, Share, finish, lane, start};
+use cc_messages::Event;
 use cc_node::Core;
 use cc_protocol::Routes;
 use cc_site::Site;
 use cc_views::NodeId;
-use cc_wire::Event;
-use cc_words::Peer;
 use log::sink::Console;
 use log::{Level, Logged, info};
 use std::alloc::Global;
@@ -30,8 +31,6 @@ use std::marker::Brand;
 use std::net::{Net, SocketAddr, TcpListener, TcpStream};
 use std::sync::ledger::Blank;
 use std::sync::{Mutex, Wait};
-use std::thread::Threads;
-use std::time::Clock;
 
 // How many workers there are at most: one for each connection, and that of the node's own messages.
 const MOST_WORKERS: usize = Routes::MAX_CONNECTIONS + Routes::MAX_SPARE + 1;
@@ -46,13 +45,7 @@ pub fn run_node<'a, R, H: Hooks + Sync>(
     hooks: &'a H,
 ) -> Result<Finished<()>, RunFault>
 where
-    R: Files<File = File>
-        + Net<Listener = TcpListener, Stream = TcpStream>
-        + Threads
-        + Wait
-        + Clock
-        + Eprint
-        + Sync,
+    R: Files<File = File> + Machine,
 {
     run_on(rt, alloc, config, None, stop, hooks)
 }
@@ -67,13 +60,7 @@ pub fn run_on<'a, R, H: Hooks + Sync>(
     hooks: &'a H,
 ) -> Result<Finished<()>, RunFault>
 where
-    R: Files<File = File>
-        + Net<Listener = TcpListener, Stream = TcpStream>
-        + Threads
-        + Wait
-        + Clock
-        + Eprint
-        + Sync,
+    R: Files<File = File> + Machine,
 {
     let (shared, inlets) = Shared::new(alloc, &config.peers)?;
     let run = Run {
@@ -114,13 +101,7 @@ fn open_and_run<R, H: Hooks + Sync>(
     inlets: Inlets,
 ) -> Result<Finished<()>, RunFault>
 where
-    R: Files<File = File>
-        + Net<Listener = TcpListener, Stream = TcpStream>
-        + Threads
-        + Wait
-        + Clock
-        + Eprint
-        + Sync,
+    R: Files<File = File> + Machine,
 {
     let channels = ServerOutlet {
         rt: run.rt,
@@ -147,7 +128,7 @@ fn run_opened<R, H: Hooks + Sync, S: Site + Drop>(
     core: Core,
 ) -> Result<Finished<()>, RunFault>
 where
-    R: Net<Listener = TcpListener, Stream = TcpStream> + Threads + Wait + Clock + Eprint + Sync,
+    R: Machine,
     requires core { core ≡ engine.twin.core }
     requires owes { engine.owes ≡ false }
 {
@@ -240,7 +221,7 @@ fn run_as<L: Life + Send + Sync, S: Site + Drop, R, H: Hooks + Sync>(
     blank: Blank,
 ) -> Result<Finished<()>, RunFault>
 where
-    R: Net<Listener = TcpListener, Stream = TcpStream> + Threads + Wait + Clock + Eprint + Sync,
+    R: Machine,
     requires core { ready.core ≡ L.opening.core }
     requires owes { ready.engine.owes ≡ false }
     requires twin { ready.engine.failed ≡ None → ready.engine.twin ≡ L.opening }
@@ -274,7 +255,7 @@ fn run_at<L: Life + Send + Sync, Q: Lane + Send + Sync, S: Site + Drop, R, H: Ho
     admission: &Admission<OfLife<L>>,
 ) -> Result<Finished<()>, RunFault>
 where
-    R: Net<Listener = TcpListener, Stream = TcpStream> + Threads + Wait + Clock + Eprint + Sync,
+    R: Machine,
     requires core { ready.core ≡ L.opening.core }
     requires owes { ready.engine.owes ≡ false }
     requires twin { ready.engine.failed ≡ None → ready.engine.twin ≡ L.opening }

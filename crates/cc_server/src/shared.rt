@@ -6,10 +6,10 @@ use crate::run_fault::RunFault;
 use cc_channels::{
     Connections, FarEnd, Flag, OwnChannel, PeerChannel, Waker, channels_to, own_channel,
 };
+use cc_frames::Peer;
+use cc_messages::Event;
 use cc_protocol::{Standings, Wishes};
 use cc_views::NodeId;
-use cc_wire::Event;
-use cc_words::Peer;
 use crossbeam_channel::Receiver;
 use crossbeam_utils::sync::Parker;
 use std::alloc::Global;

@@ -5,6 +5,7 @@ ghost use Rattle.std.specs.Thread.{IsSend};
 use crate::attending::attend;
 use crate::context::Context;
 use crate::flushing::{Watch, flush_all};
+use crate::machine::Machine;
 use crate::notes::{Note, write_notes};
 use crate::of_life::OfLife;
 use crate::own::serve_own;
@@ -12,14 +13,14 @@ use crate::shared::{Inlets, Shared};
 use cc_channels::{Admission, FarEnd, Flag, Stop, write_peer};
 use cc_flush::Failed;
 use cc_intake::{Hooks, Lane, Life, Queue, Turner};
+use cc_messages::Event;
 use cc_site::Site;
 use cc_views::NodeId;
-use cc_wire::Event;
 use crossbeam_channel::Receiver;
 use std::net::{Net, SocketAddr, TcpListener, TcpStream};
 use std::sync::Wait;
 use std::thread;
-use std::thread::{Scope, Threads};
+use std::thread::Scope;
 use std::time::{Clock, Duration};
 
 // How long a tick takes, in milliseconds.
@@ -68,7 +69,7 @@ pub fn live<'x, L: Life + Send + Sync, Q: Lane + Send + Sync, S: Site, R, H: Hoo
     stop: &'x Stop,
 ) -> Option<Result<(), Failed>>
 where
-    R: Net<Listener = TcpListener, Stream = TcpStream> + Threads + Wait + Clock + Eprint + Sync,
+    R: Machine,
 {
     let rt = context.rt;
     let queue = context.queue;
@@ -121,7 +122,7 @@ fn serve_until<L: Life + Send + Sync, Q: Lane + Send + Sync, R, H: Hooks + Sync>
     stop: &Stop,
 ) -> bool
 where
-    R: Net<Listener = TcpListener, Stream = TcpStream> + Threads + Wait + Clock + Eprint + Sync,
+    R: Machine,
 {
     let is_served = serve_all(context, ends, listener, stop);
     context.shared.done.set();
@@ -166,7 +167,7 @@ fn serve_all<L: Life + Send + Sync, Q: Lane + Send + Sync, R, H: Hooks + Sync>(
     stop: &Stop,
 ) -> bool
 where
-    R: Net<Listener = TcpListener, Stream = TcpStream> + Threads + Wait + Clock + Eprint + Sync,
+    R: Machine,
 {
     let rt = context.rt;
     let alloc = context.alloc;
@@ -218,7 +219,7 @@ fn start_inner<'s, 'e: 's, L: Life + Send + Sync, Q: Lane + Send + Sync, R, H: H
     notes: Receiver<Option<Note>>,
 ) -> bool
 where
-    R: Net<Listener = TcpListener, Stream = TcpStream> + Threads + Wait + Clock + Eprint + Sync,
+    R: Machine,
 {
     let rt = context.rt;
     let me = context.me;
@@ -234,7 +235,7 @@ fn accept_all<'s, 'e: 's, L: Life + Send + Sync, Q: Lane + Send + Sync, R, H: Ho
     stop: &Stop,
 )
 where
-    R: Net<Listener = TcpListener, Stream = TcpStream> + Threads + Wait + Clock + Eprint + Sync,
+    R: Machine,
 {
     for _ in context.rt.forever() {
         let accepted = listener.accept();

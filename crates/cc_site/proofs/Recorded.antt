@@ -2,7 +2,7 @@
 -- one step, and the records `Leaves` and `LeavesSynced` that gather them for a write, a cut and a sync.
 use Rattle.std.proofs.Common.{◌≡◌, ◌⊎◌, inl, inr, ⊎_elim, ℕ, ◌+◌, ◌≤◌, min, Bool, true, false, cond, nat_lt, List, [], ◌∷◌, ◌++◌, length, take, drop, Option, None, Some, unwrap_or, Result, Ok, Err, is_err, OnOk, OnErr, sym, ◌∙◌, ap, subst, arith}
 use Rattle.std.proofs.lemmas.Grind.{common_steps}
-use Rattle.cc_wire.specs.declared.output.Output.{Output}
+use Rattle.cc_messages.specs.declared.output.Output.{Output}
 use Rattle.cc_site.specs.declared.site.Side.{Side}
 use Rattle.cc_site.specs.declared.site.Side.TheVariants.{A, B}
 use Rattle.cc_site.specs.declared.steps.Step.{Step}

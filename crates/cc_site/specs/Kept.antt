@@ -1,6 +1,6 @@
 -- Which outputs a site in memory keeps (`kept`), and how many it has lost (`lost_after`).
 use Rattle.std.specs.Prelude.{ℕ, ◌+◌, ◌-◌, ◌^◌, min, nat_lt, if◌then◌else◌, List, [], ◌∷◌, ◌++◌, length, Option, None, Some}
-use Rattle.cc_wire.specs.declared.output.Output.{Output}
+use Rattle.cc_messages.specs.declared.output.Output.{Output}
 
 -- the outputs, where one more comes: None is one for which there was no memory
 abbrev pub kept : ℕ → List Output → Option Output → List Output

@@ -7,7 +7,7 @@
 --     CountsCall, Keeps                   what a disk call leaves of all but the disk;  what an output does
 --     OnlyArms                            all is as it was but which calls are to fail
 use Rattle.std.specs.Prelude.{◌≡◌, ◌↔◌, ◌+◌, ◌%◌, ◌^◌, ℕ, List, [], length, Option, None}
-use Rattle.cc_wire.specs.declared.output.Output.{Output}
+use Rattle.cc_messages.specs.declared.output.Output.{Output}
 use Rattle.cc_site.specs.declared.fuse.Fuse.{Fuse}
 use Rattle.cc_site.specs.declared.site.Side.{Side}
 use Rattle.cc_site.specs.declared.memory.MemorySite.{MemorySite}

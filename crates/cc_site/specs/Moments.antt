@@ -4,7 +4,7 @@
 --     Elapses                             what one call adds to the moments
 --     Rose, CountsFault, CountsOneFault   the count of failures, and the fault that is told
 use Rattle.std.specs.Prelude.{◌≡◌, ◌⊎◌, ℕ, ◌+◌, ◌%◌, ◌^◌, ◌≤◌, List, Result, MatchResult}
-use Rattle.cc_wire.specs.declared.output.Output.{Output}
+use Rattle.cc_messages.specs.declared.output.Output.{Output}
 use Rattle.cc_site.specs.declared.site.Side.{Side}
 use Rattle.cc_site.specs.declared.site.Call.{Call}
 use Rattle.cc_site.specs.declared.site.DeviceFault.{DeviceFault}

@@ -5,7 +5,7 @@
 --     read_each                              at each moment of them a crash leaves what it might have left before
 use Rattle.std.specs.Prelude.{◌≡◌, ◌↔◌, List}
 use Rattle.std.proofs.Common.{inl, inr, ⊎_elim, arith, ◌∙◌, refl}
-use Rattle.cc_wire.specs.declared.output.Output.{Output}
+use Rattle.cc_messages.specs.declared.output.Output.{Output}
 use Rattle.cc_site.specs.declared.site.Site.{Ghosts}
 use Rattle.cc_site.specs.Moments.{Contents, Nothing}
 use Rattle.cc_site.specs.Runs.{Passes, EachMoment, started, rests}

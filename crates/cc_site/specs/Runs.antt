@@ -5,7 +5,7 @@
 --     started, goes_on, rests, joined, weaker, now_has     how a run is put together
 use Rattle.std.specs.Prelude.{◌≡◌, ◌⊎◌, ◌↔◌, ℕ, ◌≤◌, List}
 use Rattle.std.proofs.Common.{inl, inr, ⊎_elim, arith}
-use Rattle.cc_wire.specs.declared.output.Output.{Output}
+use Rattle.cc_messages.specs.declared.output.Output.{Output}
 use Rattle.cc_site.specs.declared.site.Site.{Ghosts}
 use Rattle.cc_site.specs.Moments.{Contents, Possible, Nothing, Elapses}
 

@@ -2,8 +2,8 @@
 
 ghost use Rattle.std.specs.Prelude.{◌≡◌, ◌⊎◌, ◌↔◌, ◌+◌, ◌%◌, ◌^◌, ◌≤◌, ◌<◌, ◌++◌, [], ◌∷◌, length, take, drop, Option, None, Some, IsTrue, is_err, IsSome, IfSome, OnOk, OnErr, IfOk, ⊤};
 ghost use Rattle.std.specs.Vec.{vec_capacity};
-ghost use Rattle.cc_wire.specs.declared.output.Output.{Output};
-ghost use Rattle.cc_wire.specs.declared.output.Output.TheVariants.{Send, Ack, Reply};
+ghost use Rattle.cc_messages.specs.declared.output.Output.{Output};
+ghost use Rattle.cc_messages.specs.declared.output.Output.TheVariants.{Send, Ack, Reply};
 ghost use Rattle.cc_site.specs.declared.site.Side.{Side};
 ghost use Rattle.cc_site.specs.declared.site.Call.TheVariants.{Length, Read, Write, Cut, Sync};
 ghost use Rattle.cc_site.specs.Fuse.{MayFail};
@@ -19,8 +19,8 @@ use crate::fuse::{Failing, Fuse};
 use crate::image::{Choice, filled, laid, shortened};
 use crate::site::{Call, DeviceFault, Side, Site};
 use crate::steps::Step;
+use cc_messages::{Answer, Message, Output};
 use cc_views::{NoMemory, NodeId};
-use cc_wire::{Answer, Message, Output};
 use std::alloc::{AllocError, Global};
 
 /// A site in memory. It is honest, and it tells its outputs as long as none was lost.

@@ -1,14 +1,14 @@
 //! A site: two byte files and an outlet. Its disk model is this project's own.
 
 ghost use Rattle.std.specs.Prelude.{◌≡◌, ◌⊎◌, ◌↔◌, ◌+◌, ◌<◌, ◌≤◌, ◌++◌, [], ◌∷◌, ℕ, List, length, take, drop, slice_index, OnOk, OnErr, IfOk};
-ghost use Rattle.cc_wire.specs.declared.output.Output.{Output};
-ghost use Rattle.cc_wire.specs.declared.output.Output.TheVariants.{Send, Ack, Reply};
+ghost use Rattle.cc_messages.specs.declared.output.Output.{Output};
+ghost use Rattle.cc_messages.specs.declared.output.Output.TheVariants.{Send, Ack, Reply};
 ghost use Rattle.cc_site.specs.declared.site.Call.TheVariants.{Length, Read, Write, Cut, Sync};
 ghost use Rattle.cc_site.specs.Sides.{SideState, MayLeave, HalfWritten, HalfCut, other, touch, written, shift, cut_to, settled};
 ghost use Rattle.cc_site.specs.Moments.{Contents, Possible, Within, Nothing, Elapses, CountsFault};
 
+use cc_messages::{Answer, Message};
 use cc_views::NodeId;
-use cc_wire::{Answer, Message};
 use std::error::Error;
 use std::fmt;
 

@@ -1,8 +1,8 @@
 //! How views, messages, answers and outputs are printed.
 
 use cc_changes::Changes;
+use cc_messages::{Answer, Message, Output};
 use cc_views::{NodeId, Text, Value, View};
-use cc_wire::{Answer, Message, Output};
 use std::fmt;
 
 /// Letters, digits, `.`, `_` and `-` as they are, every other byte as `%` and two hexadecimal digits.

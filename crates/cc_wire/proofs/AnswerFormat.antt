@@ -1,7 +1,7 @@
 -- Answers are read as they are spelled.
 use Rattle.std.proofs.Common.{◌≡◌, ℕ, cond, eqb, List, [], ◌∷◌, ◌++◌, Ok, refl}
-use Rattle.cc_wire.specs.declared.answer.Answer.{Answer}
-use Rattle.cc_wire.specs.declared.answer.Answer.TheVariants.{Stored, Seen, Max, Flag, Set}
+use Rattle.cc_messages.specs.declared.answer.Answer.{Answer}
+use Rattle.cc_messages.specs.declared.answer.Answer.TheVariants.{Stored, Seen, Max, Flag, Set}
 use Rattle.cc_wire.specs.Reading.{Reading, via}
 use Rattle.cc_wire.specs.Answers.{answer_spelling, IsAnswer, answer_fields, answer_at}
 use Rattle.cc_wire.proofs.Spelled.{IsBytes, Takes, Spelled, nothing_spelled, kind_or, kinded_takes}

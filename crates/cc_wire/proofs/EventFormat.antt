@@ -1,7 +1,7 @@
 -- Events are read as they are spelled.
 use Rattle.std.proofs.Common.{◌≡◌, ℕ, cond, eqb, List, [], ◌∷◌, ◌++◌, Ok, refl}
-use Rattle.cc_wire.specs.declared.event.Event.{Event}
-use Rattle.cc_wire.specs.declared.event.Event.TheVariants.{Enter, Leave, Deliver, Acked, Ask, Retire, Lapse, Snapshot}
+use Rattle.cc_messages.specs.declared.event.Event.{Event}
+use Rattle.cc_messages.specs.declared.event.Event.TheVariants.{Enter, Leave, Deliver, Acked, Ask, Retire, Lapse, Snapshot}
 use Rattle.cc_wire.specs.Reading.{Reading, via}
 use Rattle.cc_wire.specs.Events.{numbered_spelling, IsNumbered, numbered_at, delivery_spelling, IsDelivery, delivery_at, place_spelling, IsPlace, place_at, asked_spelling, IsAsked, asked_at, event_spelling, IsEvent, event_fields, event_at}
 use Rattle.cc_wire.proofs.Spelled.{IsBytes, Takes, Spelled, both, as_facts, nothing_spelled, kind_or, kinded_takes}

@@ -9,14 +9,14 @@ use Rattle.cc_views.specs.declared.value.Value.{Value}
 use Rattle.cc_views.specs.declared.row.Row.{Row}
 use Rattle.cc_views.specs.Rows.{ViewMap, rows_of}
 use Rattle.cc_changes.specs.ChangeSets.{ChangeSets}
-use Rattle.cc_wire.specs.declared.message.Message.{Message}
-use Rattle.cc_wire.specs.declared.message.Message.TheVariants as messages
-use Rattle.cc_wire.specs.declared.command.Command.{Command}
-use Rattle.cc_wire.specs.declared.command.Command.TheVariants as commands
-use Rattle.cc_wire.specs.declared.answer.Answer.{Answer}
-use Rattle.cc_wire.specs.declared.answer.Answer.TheVariants as answers
-use Rattle.cc_wire.specs.declared.event.Event.{Event}
-use Rattle.cc_wire.specs.declared.event.Event.TheVariants as events
+use Rattle.cc_messages.specs.declared.message.Message.{Message}
+use Rattle.cc_messages.specs.declared.message.Message.TheVariants as messages
+use Rattle.cc_messages.specs.declared.command.Command.{Command}
+use Rattle.cc_messages.specs.declared.command.Command.TheVariants as commands
+use Rattle.cc_messages.specs.declared.answer.Answer.{Answer}
+use Rattle.cc_messages.specs.declared.answer.Answer.TheVariants as answers
+use Rattle.cc_messages.specs.declared.event.Event.{Event}
+use Rattle.cc_messages.specs.declared.event.Event.TheVariants as events
 use Rattle.cc_wire.specs.Spelling.{text_spelling, IsText, flag_spelling, number_spelling, number_set_spelling, IsNumberSet, value_spelling, IsValue, row_spelling, IsRow, view_spelling, IsView, listed_spelling, number_list_spelling, IsNumberList, id_set_spelling, IsIdSet, changes_spelling, IsChanges}
 use Rattle.cc_wire.specs.Messages.{call_spelling, echo_spelling, IsEcho, snapshot_spelling, IsSnapshot, message_spelling, IsMessage}
 use Rattle.cc_wire.specs.Commands.{command_spelling, IsCommand}

@@ -1,4 +1,3 @@
-pub mod Limits
 pub mod Reading
 pub mod Writing
 pub mod Spelling
@@ -6,5 +5,4 @@ pub mod Messages
 pub mod Commands
 pub mod Answers
 pub mod Events
-pub mod Refusals
 pub mod Sizes

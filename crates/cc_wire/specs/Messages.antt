@@ -4,8 +4,8 @@ use Rattle.std.specs.Int.{w32, w64, to_be_bytes}
 use Rattle.cc_views.specs.Rows.{ViewMap}
 use Rattle.cc_changes.specs.ChangeSets.{ChangeSets}
 use Rattle.cc_wire.specs.declared.fault.WireFault.TheVariants.{BadKind}
-use Rattle.cc_wire.specs.declared.message.Message.{Message}
-use Rattle.cc_wire.specs.declared.message.Message.TheVariants.{Enter, EnterEcho, Join, JoinEcho, Leave, LeaveEcho, Query, QueryReply, Store, StoreAck, Snapshot}
+use Rattle.cc_messages.specs.declared.message.Message.{Message}
+use Rattle.cc_messages.specs.declared.message.Message.TheVariants.{Enter, EnterEcho, Join, JoinEcho, Leave, LeaveEcho, Query, QueryReply, Store, StoreAck, Snapshot}
 use Rattle.cc_wire.specs.Reading.{Reading, ◌⊗◌, via, kinded, number_at, number_from, flag_at, view_at, changes_at}
 use Rattle.cc_wire.specs.Spelling.{Spells, view_spelling, IsView, flag_spelling, changes_spelling, IsChanges, IsId}
 
@@ -65,11 +65,6 @@ abbrev pub SpellsMessage : List ℕ → Message → Type 0
 SpellsMessage = Spells IsMessage message_spelling
 
 -- ---- what stands alone
-
--- a snapshot is taken under any number above the last that was heard
-abbrev pub is_snapshot : Message → Bool
-is_snapshot (Snapshot changes view) = true
-is_snapshot _ = false
 
 -- ---- reading
 

@@ -8,7 +8,7 @@ use Rattle.cc_views.specs.NatSets.{NatSet, from_list}
 use Rattle.cc_views.specs.Rows.{ViewMap, entries_of}
 use Rattle.cc_changes.specs.ChangeSets.{ChangeSets}
 use Rattle.cc_views.specs.Limits.{known_limit, set_limit, text_limit}
-use Rattle.cc_wire.specs.Limits.{list_limit}
+use Rattle.cc_messages.specs.Limits.{list_limit}
 use Rattle.cc_wire.specs.declared.fault.WireFault.{WireFault}
 use Rattle.cc_wire.specs.declared.fault.WireFault.TheVariants.{Short, BadKind, NotAscending, TooLarge, Trailing, NoMemory}
 

@@ -9,7 +9,7 @@ use Rattle.cc_views.specs.declared.row.Row.{Row}
 use Rattle.cc_views.specs.Rows.{ViewMap, rows_of}
 use Rattle.cc_changes.specs.ChangeSets.{ChangeSets}
 use Rattle.cc_views.specs.Limits.{known_limit, set_limit, text_limit}
-use Rattle.cc_wire.specs.Limits.{list_limit}
+use Rattle.cc_messages.specs.Limits.{list_limit}
 
 -- the bytes spell what has a spelling
 pub record Spells {X : Type 0} (Is : X → Type 0) (spelling : X → List ℕ) (bytes : List ℕ) (x : X) : Type 0 where

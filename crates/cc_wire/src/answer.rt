@@ -1,4 +1,4 @@
-//! Answers: what a client is told.
+//! Answers as bytes.
 
 ghost use Rattle.std.specs.Prelude.{◌≡◌, ◌≤◌, ◌+◌, ℕ, List, [], ◌++◌, length, IfOk, OnOk, OnErr, IsOk, Ok, vec_len};
 ghost use Rattle.std.specs.Vec.{vec_capacity};
@@ -7,41 +7,12 @@ ghost use Rattle.cc_wire.specs.Reading.{Gives, whole};
 ghost use Rattle.cc_wire.specs.Answers.{answer_at, answer_spelling, IsAnswer, SpellsAnswer};
 
 use crate::fault::WireFault;
-use crate::number_list::{NumberList, put_number_list};
+use crate::number_list::put_number_list;
 use crate::reader::Reader;
 use crate::writer::{put_flag, put_u8, put_u64, put_view, settled};
-use cc_views::{NoMemory, View};
+use cc_messages::Answer;
+use cc_views::NoMemory;
 use std::alloc::{AllocError, Global};
-
-/// What a client is told, once its command is done.
-#[derive(Debug, Drop)]
-pub enum Answer {
-    /// What was to be written stands.
-    Stored,
-    /// What each node stored last.
-    Seen(View),
-    /// The greatest maximum of all nodes.
-    Max(u64),
-    /// Whether a node's flag is set.
-    Flag(bool),
-    /// The union of all nodes' sets.
-    Set(NumberList),
-}
-
-impl Answer {
-    /// The same answer in memory of its own.
-    pub fn copy(&self, alloc: Global) -> Result<Self, NoMemory>
-        ensures { IfOk result (λ a. a ≡ self.now) }
-    {
-        match self {
-            Answer::Stored => Ok(Answer::Stored),
-            Answer::Seen(view) => Ok(Answer::Seen(view.copy(alloc)?)),
-            Answer::Max(number) => Ok(Answer::Max(*number)),
-            Answer::Flag(flag) => Ok(Answer::Flag(*flag)),
-            Answer::Set(numbers) => Ok(Answer::Set(numbers.copy(alloc)?)),
-        }
-    }
-}
 
 impl<'a> Reader<'a> {
     /// An answer: its kind, and the field of that. BadKind for a kind that no answer has.

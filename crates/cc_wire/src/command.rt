@@ -1,4 +1,4 @@
-//! Commands: what a client asks of a node.
+//! Commands as bytes.
 
 ghost use Rattle.std.specs.Prelude.{◌≡◌, ◌≤◌, ◌+◌, ℕ, List, [], ◌++◌, length, IfOk, OnOk, OnErr, IsOk, Ok, vec_len};
 ghost use Rattle.std.specs.Vec.{vec_capacity};
@@ -9,29 +9,9 @@ ghost use Rattle.cc_wire.specs.Commands.{command_at, command_spelling, IsCommand
 use crate::fault::WireFault;
 use crate::reader::Reader;
 use crate::writer::{put_text, put_u8, put_u32, put_u64, settled};
-use cc_views::{NoMemory, Text};
+use cc_messages::Command;
+use cc_views::NoMemory;
 use std::alloc::AllocError;
-
-/// What a client asks of a node.
-#[derive(Clone, Copy, Debug, PartialEq, Eq)]
-pub enum Command {
-    /// Store this text as the node's own.
-    Store(Text),
-    /// Tell what each node stored last.
-    Collect,
-    /// Raise the node's own maximum to this number, where it is below.
-    WriteMax(u64),
-    /// Tell the greatest maximum of all nodes.
-    ReadMax,
-    /// Set the node's own flag.
-    SetFlag,
-    /// Tell whether a node's flag is set.
-    ReadFlag,
-    /// Add this number to the node's own set.
-    AddMember(u32),
-    /// Tell the union of all nodes' sets.
-    ReadSet,
-}
 
 impl<'a> Reader<'a> {
     /// A command: its kind, and the field of that. BadKind for a kind that no command has. It takes no memory.

@@ -1,4 +1,4 @@
-//! Events: what happens to a node.
+//! Events as bytes.
 
 ghost use Rattle.std.specs.Prelude.{◌≡◌, ◌≤◌, ◌+◌, ℕ, List, [], ◌++◌, length, IfOk, OnOk, OnErr, IsOk, Ok, vec_len};
 ghost use Rattle.std.specs.Vec.{vec_capacity};
@@ -7,86 +7,14 @@ ghost use Rattle.cc_wire.specs.Reading.{Gives, whole};
 ghost use Rattle.cc_wire.specs.Events.{numbered_spelling, IsNumbered, delivery_spelling, IsDelivery, asked_spelling, IsAsked, place_spelling, IsPlace, event_at, event_fields, numbered_at, delivery_at, place_at, asked_at, event_spelling, IsEvent, SpellsEvent};
 
 use crate::changes_bytes::put_id;
-use crate::command::{Command, put_command};
+use crate::command::put_command;
 use crate::fault::WireFault;
-use crate::message::{Message, put_message};
+use crate::message::put_message;
 use crate::reader::Reader;
 use crate::writer::{put_u8, put_u64, settled};
+use cc_messages::{Command, Event, Message};
 use cc_views::{NoMemory, NodeId};
 use std::alloc::{AllocError, Global};
-
-/// What happens to a node.
-#[derive(Debug, Drop)]
-pub enum Event {
-    /// The node enters the cluster.
-    Enter,
-    /// The node leaves the cluster for good.
-    Leave,
-    /// A message came over the link from a node, as the one with this number.
-    Deliver {
-        from: NodeId,
-        number: u64,
-        message: Message,
-    },
-    /// A node has what was sent to it up to this number.
-    Acked {
-        peer: NodeId,
-        number: u64,
-    },
-    /// A client asks for something: the request with this number in its session.
-    Ask {
-        session: u64,
-        request: u64,
-        command: Command,
-    },
-    /// The operator tells that a node, maybe this one, is dead for good: from now on it counts as one that left.
-    Retire {
-        node: NodeId,
-    },
-    /// What is kept for a node that stays away lapses: it counts as acknowledged.
-    Lapse {
-        node: NodeId,
-    },
-    /// The node posts what it knows, for nodes that missed what lapsed.
-    Snapshot,
-}
-
-impl Event {
-    /// The same event in memory of its own.
-    pub fn copy(&self, alloc: Global) -> Result<Self, NoMemory>
-        ensures { IfOk result (λ e. e ≡ self.now) }
-    {
-        match self {
-            Event::Enter => Ok(Event::Enter),
-            Event::Leave => Ok(Event::Leave),
-            Event::Deliver {
-                from,
-                number,
-                message,
-            } => Ok(Event::Deliver {
-                from: *from,
-                number: *number,
-                message: message.copy(alloc)?,
-            }),
-            Event::Acked { peer, number } => Ok(Event::Acked {
-                peer: *peer,
-                number: *number,
-            }),
-            Event::Ask {
-                session,
-                request,
-                command,
-            } => Ok(Event::Ask {
-                session: *session,
-                request: *request,
-                command: *command,
-            }),
-            Event::Retire { node } => Ok(Event::Retire { node: *node }),
-            Event::Lapse { node } => Ok(Event::Lapse { node: *node }),
-            Event::Snapshot => Ok(Event::Snapshot),
-        }
-    }
-}
 
 impl<'a> Reader<'a> {
     /// A node and a number on the link to it.

@@ -1,5 +1,5 @@
-//! Messages, commands, answers and events, and how these and views are spelled as bytes. The messages are those of CCC,
-//! and all formats are this project's own. Numbers are big-endian, and each value has one spelling.
+//! How values, views, messages, commands, answers and events are spelled as bytes. All formats are this project's own:
+//! numbers are big-endian, and each value has one spelling.
 #![tactic(auto)]
 
 mod answer;
@@ -9,9 +9,7 @@ mod event;
 mod fault;
 mod message;
 mod number_list;
-mod output;
 mod reader;
-mod refusal;
 mod rising;
 mod sizes;
 mod spellable;
@@ -20,19 +18,17 @@ mod values;
 mod view_bytes;
 mod writer;
 
-pub use answer::{Answer, decode_answer, encode_answer, one_spelling_of_answers, put_answer};
+pub use answer::{decode_answer, encode_answer, one_spelling_of_answers, put_answer};
+pub use cc_messages::{Answer, Command, Event, Message, NumberList, Output, Refusal};
 pub use changes_bytes::{put_changes, put_id};
-pub use command::{Command, decode_command, encode_command, one_spelling_of_commands};
+pub use command::{decode_command, encode_command, one_spelling_of_commands};
 pub use event::{
-    Event, decode_event, encode_event, one_spelling_of_events, put_asked, put_delivery,
-    put_numbered, put_place,
+    decode_event, encode_event, one_spelling_of_events, put_asked, put_delivery, put_numbered,
+    put_place,
 };
 pub use fault::WireFault;
-pub use message::{Message, decode_message, encode_message, one_spelling_of_messages, put_message};
-pub use number_list::NumberList;
-pub use output::Output;
+pub use message::{decode_message, encode_message, one_spelling_of_messages, put_message};
 pub use reader::Reader;
-pub use refusal::Refusal;
 pub use sizes::largest_sizes;
 pub use spellable::{
     answer_is_spellable, changes_are_spellable, command_is_spellable, event_is_spellable,

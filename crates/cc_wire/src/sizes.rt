@@ -5,7 +5,7 @@ ghost use Rattle.cc_wire.specs.Spelling.{value_spelling, IsValue, row_spelling, 
 ghost use Rattle.cc_wire.specs.Messages.{message_spelling, IsMessage};
 ghost use Rattle.cc_wire.specs.Commands.{command_spelling, IsCommand};
 ghost use Rattle.cc_wire.specs.Answers.{answer_spelling, IsAnswer};
-ghost use Rattle.cc_wire.specs.declared.answer.Answer.TheVariants as answers;
+ghost use Rattle.cc_messages.specs.declared.answer.Answer.TheVariants as answers;
 ghost use Rattle.cc_wire.specs.Events.{event_spelling, IsEvent};
 
 /// How many bytes the spelling of each thing has at most. So an event always fits into 65,536 bytes.

@@ -8,11 +8,8 @@ ghost use Rattle.cc_wire.specs.Commands.{IsCommand};
 ghost use Rattle.cc_wire.specs.Answers.{IsAnswer};
 ghost use Rattle.cc_wire.specs.Events.{IsEvent, event_spelling, SpellsEvent};
 
-use crate::answer::Answer;
-use crate::command::Command;
-use crate::event::Event;
-use crate::message::Message;
 use cc_changes::Changes;
+use cc_messages::{Answer, Command, Event, Message};
 use cc_views::{NodeId, NumberSet, Row, Text, Value, View};
 
 fn number_fits(number: u64)

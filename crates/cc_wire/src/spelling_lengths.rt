@@ -9,11 +9,8 @@ ghost use Rattle.cc_wire.specs.Commands.{command_spelling};
 ghost use Rattle.cc_wire.specs.Answers.{answer_spelling};
 ghost use Rattle.cc_wire.specs.Events.{event_spelling};
 
-use crate::answer::Answer;
-use crate::command::Command;
-use crate::event::Event;
-use crate::message::Message;
 use cc_changes::Changes;
+use cc_messages::{Answer, Command, Event, Message};
 use cc_views::{NodeId, Row, Text, Value, View};
 
 // A kind, a flag, and numbers of four and eight bytes.

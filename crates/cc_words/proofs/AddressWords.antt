@@ -20,7 +20,7 @@ use Rattle.std.proofs.lemmas.Bool.{eqb-false}
 use Rattle.std.proofs.lemmas.Fmt.{decimal_injective}
 use Rattle.std.proofs.lemmas.List.Elements.{All-append, All-cons, All-nil}
 use Rattle.std.proofs.lemmas.Str.Pattern.{IsSplitOnceResult, split_after, split_parts}
-use Rattle.cc_words.specs.declared.addresses.Peer.{Peer}
+use Rattle.cc_frames.specs.declared.peer.Peer.{Peer}
 use Rattle.cc_words.specs.Words.{NoNumber}
 use Rattle.cc_words.specs.Addresses.{SpellsV4, SpellsAddress, NoAddress, NoId, SpellsPeer, NoPeer, ArePeers, NonePeers, SpellsPeers, NoPeers}
 use Rattle.cc_words.proofs.Digits.{fits}

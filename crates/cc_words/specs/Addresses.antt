@@ -13,7 +13,7 @@ use Rattle.std.specs.Net.Socket.{v4_ip, v4_port}
 use Rattle.std.specs.declared.net.socket_addr.SocketAddr.{SocketAddr}
 use Rattle.std.specs.declared.net.socket_addr.SocketAddr.TheVariants as socket
 use Rattle.std.specs.declared.net.socket_addr.SocketAddrV4.{SocketAddrV4}
-use Rattle.cc_words.specs.declared.addresses.Peer.{Peer}
+use Rattle.cc_frames.specs.declared.peer.Peer.{Peer}
 
 pub record SpellsV4 (word : List ℕ) (a : SocketAddrV4) : Type 0 where
   pub ip : List ℕ

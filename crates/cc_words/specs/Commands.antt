@@ -8,8 +8,8 @@ use Rattle.std.specs.Fmt.{decimal}
 use Rattle.std.specs.Int.{IsInRange}
 use Rattle.std.specs.List.{AllByRecursion}
 use Rattle.cc_views.specs.Limits.{text_limit}
-use Rattle.cc_wire.specs.declared.command.Command.{Command}
-use Rattle.cc_wire.specs.declared.command.Command.TheVariants as command
+use Rattle.cc_messages.specs.declared.command.Command.{Command}
+use Rattle.cc_messages.specs.declared.command.Command.TheVariants as command
 
 abbrev pub command_words : Command → List (List ℕ)
 command_words (command.Store text) = codes "store" ∷ text ∷ []

@@ -5,16 +5,10 @@ ghost use Rattle.std.specs.Fmt.{decimal};
 ghost use Rattle.cc_words.specs.Addresses.{SpellsAddress, NoAddress, NoId, SpellsPeer, NoPeer, ArePeers, NonePeers, SpellsPeers, NoPeers};
 
 use crate::numbers::{port_number, small_number};
+use cc_frames::Peer;
 use cc_views::NodeId;
 use std::alloc::{AllocError, Global};
 use std::net::{Ipv4Addr, SocketAddr, SocketAddrV4};
-
-/// Another node, and where it listens.
-#[derive(Clone, Copy, Debug, PartialEq, Eq)]
-pub struct Peer {
-    pub id: NodeId,
-    pub address: SocketAddr,
-}
 
 /// The IPv4 address and port that a word is, as `127.0.0.1:7001`: all numbers in plain decimal digits without leading
 /// zeros. None for any other word.

@@ -6,8 +6,8 @@ ghost use Rattle.std.specs.List.{AllByRecursion};
 ghost use Rattle.cc_words.specs.Commands.{SaysCommand, NoCommand, IsVisible};
 
 use crate::numbers::{number, small_number};
+use cc_messages::Command;
 use cc_views::Text;
-use cc_wire::Command;
 
 /// The command that these words are: `store WORD` of 1 to 64 visible ASCII characters, `collect`, `max N`, `readmax`,
 /// `flag`, `readflag`, `add N` or `readset`. None for any other words.

@@ -8,7 +8,8 @@ mod fractions;
 mod lists;
 mod numbers;
 
-pub use addresses::{Peer, address, peers};
+pub use addresses::{address, peers};
+pub use cc_frames::Peer;
 pub use commands::command;
 pub use fractions::fraction;
 pub use lists::list;

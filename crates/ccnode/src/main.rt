@@ -5,11 +5,11 @@
 mod network;
 mod streams;
 
-use cc_arguments::{Formatted, Order, parse};
+use cc_arguments::{Order, parse};
 use cc_channels::Stop;
-use cc_commands::{FormatOrder, FormatWords, Warning, dump_folder, format_folder};
+use cc_commands::{FormatOrder, Warning, dump_folder, format_folder};
 use cc_intake::NoHooks;
-use cc_orders::{RunOrder, WordFault};
+use cc_orders::{FormatWords, RunOrder, WordFault};
 use cc_play::{PlayFault, play};
 use cc_server::{Config, RunFault, run_node};
 use network::{ask, leave, retire};
@@ -49,8 +49,8 @@ fn main(rt: HostRuntime) -> anyhow::Result<ExitCode> {
 // Does what needs no threads.
 fn obey(rt: &HostRuntime, order: Order<'_>) -> anyhow::Result<ExitCode> {
     match order {
-        Order::Format(words) => format(rt, &words),
-        Order::Ask(asked) => ask(rt, &asked),
+        Order::Format { folder, words } => format(rt, folder, &words),
+        Order::Ask(words) => ask(rt, &words),
         Order::Leave { address } => leave(rt, address),
         Order::Retire { address, node } => retire(rt, address, node),
         Order::Dump { folder } => dump(rt, folder),
@@ -83,17 +83,9 @@ fn print_fault(rt: &HostRuntime, fault: &PlayFault) -> anyhow::Result<ExitCode> 
     Ok(ExitCode::from(FAULT))
 }
 
-fn format(rt: &HostRuntime, formatted: &Formatted<'_>) -> anyhow::Result<ExitCode> {
-    let words = FormatWords {
-        id: formatted.id,
-        initial: formatted.initial,
-        contacts: formatted.contacts,
-        beta: formatted.beta,
-        gamma: formatted.gamma,
-        share: formatted.share,
-    };
-    match FormatOrder::parse(rt.alloc(), &words) {
-        Ok(order) => format_as(rt, formatted.folder, &order),
+fn format(rt: &HostRuntime, folder: &str, words: &FormatWords<'_>) -> anyhow::Result<ExitCode> {
+    match FormatOrder::parse(rt.alloc(), words) {
+        Ok(order) => format_as(rt, folder, &order),
         Err(fault) => print_word_fault(rt, fault),
     }
 }

@@ -1,27 +1,13 @@
 //! What is asked of a node over TCP.
 
 use crate::print_word_fault;
-use cc_arguments::Asked;
 use cc_client::{ask_node, leave_node, retire_node};
 use cc_orders::{AskOrder, AskWords, LeaveOrder, RetireOrder};
 use std::process::ExitCode;
 
 /// Has a command done: the status of that.
-pub fn ask(rt: &HostRuntime, asked: &Asked<'_>) -> anyhow::Result<ExitCode> {
-    match asked.value {
-        Some(value) => ask_words(rt, asked, &[asked.command, value]),
-        None => ask_words(rt, asked, &[asked.command]),
-    }
-}
-
-fn ask_words(rt: &HostRuntime, asked: &Asked<'_>, command: &[&str]) -> anyhow::Result<ExitCode> {
-    let words = AskWords {
-        address: asked.address,
-        session: asked.session,
-        command,
-        timeout: asked.timeout,
-    };
-    let order = match AskOrder::parse(&words) {
+pub fn ask(rt: &HostRuntime, words: &AskWords<'_>) -> anyhow::Result<ExitCode> {
+    let order = match AskOrder::parse(words) {
         Ok(order) => order,
         Err(fault) => return print_word_fault(rt, fault),
     };

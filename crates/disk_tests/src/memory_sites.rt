@@ -1,11 +1,11 @@
 //! A site in memory: its calls, its fuse and its images.
 
 use crate::refusals::unless_failed;
+use cc_messages::{Answer, Message, Output};
 use cc_site::{
     Call, Choice, DeviceFault, Failing, MemorySite, Side, Site, cut_durably, write_durably,
 };
 use cc_views::NodeId;
-use cc_wire::{Answer, Message, Output};
 use std::alloc::Global;
 use std::test::*;
 

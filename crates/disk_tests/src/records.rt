@@ -7,9 +7,9 @@ ghost use Rattle.cc_journal.specs.Batches.{AreLawful, events_in};
 use crate::memory_sites::contents;
 use cc_changes::Fraction;
 use cc_journal::{Batch, Entry, Journal, ScanFault, Scanned, scan};
+use cc_messages::Event;
 use cc_node::{Core, Node, Opening};
 use cc_site::{Call, Choice, DeviceFault, Failing, MemorySite, Side, Site, write_durably};
-use cc_wire::Event;
 use std::alloc::Global;
 use std::test::*;
 

@@ -6,11 +6,14 @@ use crate::memory_sites::id;
 use crate::records::holding;
 use crate::states::{deliver, led_to, opened_with_share, take, turned};
 use crate::windows::{check_cuts, check_parts, fault, front, read};
-use cc_checkpoint::{OpenFault, StateFault, decode_state, encode_image};
-use cc_node::{Layout, Node};
+use cc_checkpoint::{OpenFault, encode_image};
+use cc_messages::{Command, Event, Message, Refusal};
+use cc_node::Node;
+use cc_sides::Layout;
 use cc_site::Side;
+use cc_states::{StateFault, decode_state};
 use cc_views::Text;
-use cc_wire::{Command, Event, Message, Refusal, WireFault};
+use cc_wire::WireFault;
 use std::alloc::Global;
 use std::test::*;
 

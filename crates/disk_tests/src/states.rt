@@ -3,10 +3,13 @@
 use crate::memory_sites::id;
 use crate::refusals::unless_failed;
 use cc_changes::Fraction;
-use cc_checkpoint::{OpenFault, StateFault, decode_state, encode_state};
-use cc_node::{Layout, Node, Opening};
+use cc_checkpoint::OpenFault;
+use cc_messages::{Command, Event};
+use cc_node::{Node, Opening};
+use cc_sides::Layout;
 use cc_site::{Call, DeviceFault, Side};
-use cc_wire::{Command, Event, WireFault};
+use cc_states::{StateFault, decode_state, encode_state};
+use cc_wire::WireFault;
 use std::alloc::Global;
 use std::test::*;
 

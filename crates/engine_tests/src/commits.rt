@@ -7,8 +7,8 @@ use crate::puts::{Kind, Put, are_put};
 use crate::sites::{crashed, member};
 use crate::steps::{Came, Left, Outcome, Step, check_outcomes, opened, outcome_of, put_by, run};
 use cc_flush::Flusher;
+use cc_messages::Refusal;
 use cc_site::{Call, Choice, Failing, MemorySite, Side};
-use cc_wire::Refusal;
 use std::alloc::Global;
 use std::test::*;
 

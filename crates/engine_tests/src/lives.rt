@@ -12,9 +12,9 @@ use crate::sites::{CLOSED, Laid, member, sides, with_laid};
 use crate::steps::{Came, Left, Life, Outcome, Step, check_outcomes, outcome_of, put_by, run};
 use cc_flush::Action;
 use cc_journal::{Batch, Entry};
+use cc_messages::Event;
 use cc_node::{Core, Node};
 use cc_site::{Call, Side};
-use cc_wire::Event;
 use std::alloc::Global;
 use std::test::*;
 

@@ -6,10 +6,11 @@ use crate::steps::{Came, Step, calls_of_opening, run, state_of};
 use crate::whole_life::settle;
 use cc_changes::Fraction;
 use cc_checkpoint::encode_image;
+use cc_messages::{Command, Event, Message};
 use cc_node::{Node, Opening};
 use cc_site::{Choice, Failing, MemorySite, Side, Site};
 use cc_views::{NodeId, Text, View};
-use cc_wire::{Command, Event, Message, decode_view};
+use cc_wire::decode_view;
 use std::alloc::Global;
 use std::test::*;
 

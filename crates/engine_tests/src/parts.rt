@@ -5,9 +5,9 @@ ghost use Rattle.cc_node.specs.Node.{after};
 ghost use Rattle.cc_journal.specs.Batches.{AreLawful, events_in};
 
 use cc_journal::{Batch, Entry};
+use cc_messages::{Command, Event, Message};
 use cc_node::{Core, Node};
 use cc_views::{NodeId, Text};
-use cc_wire::{Command, Event, Message};
 use std::alloc::Global;
 use std::test::*;
 

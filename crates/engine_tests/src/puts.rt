@@ -1,6 +1,6 @@
 //! What is put, as tests compare it.
 
-use cc_wire::{Answer, Message, Output};
+use cc_messages::{Answer, Message, Output};
 
 /// What is put: a message to a peer under its number, an acknowledgement to a peer up to a number, or the reply to a
 /// session's request, and whether that is Stored.

@@ -11,10 +11,10 @@ use crate::sites::member;
 use crate::steps::{Came, Life, Step, calls_of_opening, carry_out, opened};
 use cc_flush::{Action, Flusher};
 use cc_journal::Batch;
+use cc_messages::{Answer, Command, Event, Message, Output};
 use cc_node::{Core, Node};
 use cc_site::{Choice, Failing, MemorySite};
 use cc_views::{NodeId, Row, Text, Value, View};
-use cc_wire::{Answer, Command, Event, Message, Output};
 use std::alloc::Global;
 use std::test::*;
 

@@ -5,11 +5,12 @@ use crate::parts::{Part, first_of};
 use crate::puts::{Kind, Put, are_put};
 use crate::sites::MEMBER;
 use crate::steps::{Came, Step, are_left, carry_out};
-use cc_checkpoint::{OpenFault, encode_state};
+use cc_checkpoint::OpenFault;
 use cc_flush::{Back, Flusher, FormatFault, format};
+use cc_messages::{Event, Output};
 use cc_node::Node;
 use cc_site::{Failing, MemorySite};
-use cc_wire::{Event, Output};
+use cc_states::encode_state;
 use std::alloc::Global;
 use std::test::*;
 

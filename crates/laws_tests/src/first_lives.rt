@@ -9,9 +9,9 @@ use cc_checkpoint::OpenFault;
 use cc_flush::{Back, Failed, FormatFault};
 use cc_journal::{Batch, Entry};
 use cc_laws::{Stopped, live_once_in_memory};
+use cc_messages::Event;
 use cc_node::{Node, Opening};
 use cc_site::{Call, DeviceFault, Failing, MemorySite, Side};
-use cc_wire::Event;
 use std::alloc::Global;
 use std::test::*;
 

@@ -1,10 +1,11 @@
 //! Members that stay away: what lapses, what a snapshot takes over, and what begins anew.
 
 use crate::machine::{ask, opening, refusal, take};
+use cc_messages::{Command, Event, Message, Refusal};
 use cc_node::Node;
 use cc_ops::Stage;
 use cc_views::NodeId;
-use cc_wire::{Command, Event, Message, Refusal, decode_message};
+use cc_wire::decode_message;
 use std::alloc::Global;
 use std::process::Abort;
 use std::test::*;

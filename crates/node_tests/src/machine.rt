@@ -1,10 +1,10 @@
 //! Openings, and what a node answers to events.
 
 use cc_changes::Fraction;
+use cc_messages::{Command, Event, Message, Refusal};
 use cc_node::{Core, Fresh, Node, Opening};
 use cc_ops::Stage;
 use cc_views::NodeId;
-use cc_wire::{Command, Event, Message, Refusal};
 use std::alloc::Global;
 use std::process::Abort;
 use std::test::*;

@@ -17,8 +17,8 @@ use Rattle.cc_changes.specs.declared.fraction.Fraction.{Fraction}
 use Rattle.cc_changes.proofs.Unions.{first_joins}
 use Rattle.cc_churn.specs.Churn.{nobody, with_need, with_echo, is_answered, told}
 use Rattle.cc_churn.proofs.Fits.{before_join}
-use Rattle.cc_wire.specs.declared.command.Command.TheVariants as command
-use Rattle.cc_wire.specs.declared.message.Message.TheVariants as message
+use Rattle.cc_messages.specs.declared.command.Command.TheVariants as command
+use Rattle.cc_messages.specs.declared.message.Message.TheVariants as message
 use Rattle.cc_ops.specs.declared.pending.Asked.{Asked}
 use Rattle.cc_ops.specs.Commands.{is_writing, written}
 use Rattle.cc_ops.specs.Waiting.{writes_by}

@@ -13,9 +13,10 @@ use crate::sets::{changes_of, id};
 use cc_changes::{Changes, Fraction};
 use cc_churn::Churn;
 use cc_links::Links;
+use cc_messages::{Command, Event, Message};
 use cc_ops::{Ops, Pending, Stage};
 use cc_views::View;
-use cc_wire::{Command, Event, Message, WireFault, decode_message};
+use cc_wire::{WireFault, decode_message};
 use std::alloc::Global;
 use std::test::*;
 

@@ -3,8 +3,8 @@
 use crate::sets::{changes_of, id};
 use cc_changes::{Changes, Fraction};
 use cc_churn::Churn;
+use cc_messages::{Message, Refusal};
 use cc_views::{NoMemory, NodeId, View};
-use cc_wire::{Message, Refusal};
 use std::alloc::Global;
 use std::test::*;
 

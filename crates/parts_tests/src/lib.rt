@@ -10,6 +10,8 @@ mod churn;
 #[cfg(test)]
 mod formats;
 #[cfg(test)]
+mod frames;
+#[cfg(test)]
 mod lines;
 #[cfg(test)]
 mod links;

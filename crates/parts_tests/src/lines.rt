@@ -1,10 +1,10 @@
 //! Asks that wait.
 
 use crate::views::text;
+use cc_messages::Command;
 use cc_objects::{add_member, write_text};
 use cc_ops::{AskList, Asked};
 use cc_views::Value;
-use cc_wire::Command;
 use std::test::*;
 
 fn first_request(session: u64, command: Command) -> Asked {

@@ -4,13 +4,13 @@ ghost use Rattle.std.specs.Prelude.{◌≡◌, ◌≤◌, ◌^◌, IfOk, IsFalse
 ghost use Rattle.std.specs.FinMap as map;
 ghost use Rattle.cc_ops.specs.Commands as commands;
 ghost use Rattle.cc_ops.specs.Ops as ops;
-ghost use Rattle.cc_wire.specs.declared.command.Command.TheVariants as command;
-ghost use Rattle.cc_wire.specs.declared.message.Message.TheVariants as message;
+ghost use Rattle.cc_messages.specs.declared.command.Command.TheVariants as command;
+ghost use Rattle.cc_messages.specs.declared.message.Message.TheVariants as message;
 
 use crate::views::{row, text};
+use cc_messages::{Answer, Command, Message};
 use cc_ops::{AskList, Asked, Ops, Pending, Replies, Reply, Stage, is_writing};
 use cc_views::{NoMemory, NodeId, Row, Text, Value, View};
-use cc_wire::{Answer, Command, Message};
 use std::alloc::Global;
 use std::test::*;
 

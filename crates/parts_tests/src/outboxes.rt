@@ -1,8 +1,8 @@
 //! Kept posts and answers.
 
 use crate::sets::id;
+use cc_messages::{Answer, Message};
 use cc_outbox::Outbox;
-use cc_wire::{Answer, Message};
 use std::alloc::Global;
 use std::test::*;
 

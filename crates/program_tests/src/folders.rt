@@ -1,9 +1,9 @@
 //! Folders that are formatted, and what stands in them.
 
 use crate::words::with;
-use cc_commands::{FormatOrder, FormatWords, dump_folder, format_folder};
+use cc_commands::{FormatOrder, dump_folder, format_folder};
 use cc_files::{FileSite, NoOutlet};
-use cc_orders::WordFault;
+use cc_orders::{FormatWords, WordFault};
 use std::fs;
 use std::fs::{File, Files, Permissions};
 use std::os::unix::fs::PermissionsExt;

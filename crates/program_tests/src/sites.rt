@@ -1,8 +1,9 @@
 //! What is printed of a site in memory, also where its disk calls or the output fail.
 
 use crate::faults::Full;
-use cc_commands::{FormatOrder, FormatWords, dump_site, format_site};
+use cc_commands::{FormatOrder, dump_site, format_site};
 use cc_flush::{Back, Flusher, format};
+use cc_orders::FormatWords;
 use cc_site::{Choice, Failing, MemorySite, Side, write_durably};
 use std::alloc::Global;
 use std::process::Abort;

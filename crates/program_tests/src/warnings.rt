@@ -1,6 +1,7 @@
 //! What is told of a node that can begin so, though its operator may not want it.
 
-use cc_commands::{FormatOrder, FormatWords, Warning};
+use cc_commands::{FormatOrder, Warning};
+use cc_orders::FormatWords;
 use std::alloc::Global;
 use std::test::*;
 

@@ -1,10 +1,10 @@
 //! The words of the command line.
 
 use cc_changes::Fraction;
-use cc_commands::{FormatOrder, FormatWords};
-use cc_orders::{AskOrder, AskWords, LeaveOrder, RetireOrder, RunOrder, WordFault};
+use cc_commands::FormatOrder;
+use cc_messages::Command;
+use cc_orders::{AskOrder, AskWords, FormatWords, LeaveOrder, RetireOrder, RunOrder, WordFault};
 use cc_views::NodeId;
-use cc_wire::Command;
 use cc_words::{Peer, fraction, list, number, small_number};
 use std::alloc::Global;
 use std::net::{Ipv4Addr, SocketAddr, SocketAddrV4};
@@ -145,7 +145,8 @@ fn each_word_of_run_is_checked(rt: HostRuntime) {
 const COLLECT: AskWords<'_> = AskWords {
     address: "127.0.0.1:7001",
     session: "7",
-    command: &["collect"],
+    command: "collect",
+    value: None,
     timeout: None,
 };
 
@@ -183,7 +184,7 @@ const NO_ASKS: [(AskWords<'_>, WordFault); 4] = [
     ),
     (
         AskWords {
-            command: &["collects"],
+            command: "collects",
             ..COLLECT
         },
         WordFault::Command,

@@ -1,10 +1,10 @@
 //! What is handed over, and who is furthest behind.
 
 use cc_changes::Fraction;
+use cc_messages::{Command, Event, Message};
 use cc_node::{Node, Opening};
 use cc_protocol::{is_furthest_behind, is_given_up, may_hand_over};
 use cc_views::NodeId;
-use cc_wire::{Command, Event, Message};
 use std::alloc::Global;
 use std::process::Abort;
 use std::test::*;

@@ -2,9 +2,9 @@
 
 use crate::bytes::{ASK, LEARN, SKIPPED, STORED, bytes_of};
 use cc_frames::{Frame, decode_frame};
+use cc_messages::{Answer, Command, Refusal};
 use cc_protocol::{Client, Heard, Step, refusal_of};
 use cc_views::Text;
-use cc_wire::{Answer, Command, Refusal};
 use std::alloc::Global;
 use std::process::Abort;
 use std::test::*;

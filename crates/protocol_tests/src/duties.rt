@@ -1,9 +1,9 @@
 //! What a worker does after an answer.
 
 use cc_frames::Frame;
+use cc_messages::{Command, Event, Message, Refusal};
 use cc_protocol::{Duty, heed};
 use cc_views::NodeId;
-use cc_wire::{Command, Event, Message, Refusal};
 use std::test::*;
 
 fn node(id: u32) -> Result<NodeId, Fail> {

@@ -2,11 +2,12 @@
 
 use crate::bytes::{ASK, SKIPPED, STORED, is_spelled};
 use cc_frames::{Frame, decode_frame};
+use cc_messages::{Answer, Command, Event, Message, Refusal};
 use cc_protocol::{
-    Outcome, ack_frame, event_of, outcome_of, post_bytes, refused_frame, reply_bytes,
+    Bundle, Outcome, Parcel, ack_frame, event_of, outcome_of, post_bytes, refused_frame,
+    reply_bytes,
 };
 use cc_views::NodeId;
-use cc_wire::{Answer, Command, Event, Message, Refusal};
 use std::alloc::Global;
 use std::test::*;
 
@@ -136,6 +137,29 @@ fn outputs_are_frames_of_their_sender(rt: HostRuntime) -> Result<(), Fail> {
         is_replied(rt.alloc(), &STORED)?,
     ];
     assert_eq!(rt; are_spelled, [true; 3]);
+    Ok(())
+}
+
+// A post and two acknowledgements are put into a bundle, the post last. What it writes, and how many bytes its posts had.
+fn bundled(alloc: Global, me: NodeId) -> Result<(Vec<u8>, usize), Fail> {
+    let post = Vec::from_slice(alloc, &POST)?;
+    let mut bundle = Bundle::new(alloc);
+    bundle.add(Parcel::Ack(8))?;
+    bundle.add(Parcel::Ack(9))?;
+    bundle.add(Parcel::Post(post))?;
+    let len = bundle.len();
+    Ok((bundle.close(me)?, len))
+}
+
+#[test]
+fn the_last_acknowledgement_goes_behind_the_posts(rt: HostRuntime) -> Result<(), Fail> {
+    let (bytes, len) = bundled(rt.alloc(), node(1)?)?;
+    let is_so = len == POST.len()
+        && bytes.len() == POST.len() + ACK.len()
+        && bytes.as_slice().starts_with(&POST)
+        && bytes.as_slice().ends_with(&ACK);
+    drop(bytes);
+    assert!(rt; is_so);
     Ok(())
 }
 

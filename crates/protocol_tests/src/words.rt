@@ -1,7 +1,7 @@
 //! The words of commands, addresses and peers.
 
+use cc_messages::Command;
 use cc_views::{NodeId, Text};
-use cc_wire::Command;
 use cc_words::{Peer, address, command, peers};
 use std::alloc::Global;
 use std::net::{Ipv4Addr, SocketAddr, SocketAddrV4};

@@ -1,8 +1,9 @@
 //! Nodes on loopback.
 
 use cc_channels::Stop;
-use cc_commands::{FormatOrder, FormatWords, format_folder};
+use cc_commands::{FormatOrder, format_folder};
 use cc_intake::{Finished, Hooks};
+use cc_orders::FormatWords;
 use cc_server::{Config, RunFault, run_on};
 use cc_views::NodeId;
 use cc_words::Peer;

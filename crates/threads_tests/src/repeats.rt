@@ -5,7 +5,7 @@ use crate::holding::{Hold, Holding};
 use crate::lives::lives;
 use crate::stories::Story;
 use cc_intake::{Accepted, Intake, Lane, Life, Queue, Refused, Share, Source, work};
-use cc_wire::{Event, Refusal};
+use cc_messages::{Event, Refusal};
 use std::alloc::Global;
 use std::sync::{Mutex, Wait};
 use std::test::*;

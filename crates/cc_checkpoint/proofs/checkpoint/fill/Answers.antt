@@ -1,5 +1,5 @@
 use Rattle.std.proofs.Common.{arith}
-use Rattle.cc_checkpoint.proofs.TableWrites.{on_ok}
+use Rattle.cc_states.proofs.TableWrites.{on_ok}
 use Rattle.cc_checkpoint.proofs.BehindRuns.{behind_rests}
 use Rattle.cc_checkpoint.proofs.OffRuns.{then_off}
 use Rattle.cc_checkpoint.proofs.Imaged.{filled_by}

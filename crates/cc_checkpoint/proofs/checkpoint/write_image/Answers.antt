@@ -1,6 +1,6 @@
 use Rattle.std.proofs.Common.{◌≤◌, length, take, ap, ◌∙◌, arith, length-append, length-take}
-use Rattle.cc_node.specs.States.{node_spelling}
-use Rattle.cc_checkpoint.proofs.TableWrites.{on_ok}
+use Rattle.cc_sides.specs.States.{node_spelling}
+use Rattle.cc_states.proofs.TableWrites.{on_ok}
 use Rattle.cc_checkpoint.proofs.BehindRuns.{then_behind, run_behind}
 use Rattle.cc_checkpoint.proofs.Imaged.{image_laid, laid_end}
 use Rattle.cc_checkpoint.proofs.PastGate.{image_stops}

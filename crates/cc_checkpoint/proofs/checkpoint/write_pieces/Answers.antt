@@ -1,11 +1,11 @@
 use Rattle.std.proofs.Common.{◌≡◌, ◌≤◌, ◌++◌, inl, List, ℕ, length, sym, ap, ◌∙◌, append_assoc, arith}
 use Rattle.std.proofs.lemmas.List.{length-append}
 use Rattle.std.proofs.lemmas.Result.{err_from_is_err_and}
-use Rattle.cc_node.specs.States.{layout_of_node, node_spelling}
-use Rattle.cc_checkpoint.specs.Parts.{joined}
-use Rattle.cc_checkpoint.proofs.PartLaws.{joined_rest}
+use Rattle.cc_sides.specs.States.{layout_of_node, node_spelling}
+use Rattle.cc_states.specs.Parts.{joined}
+use Rattle.cc_states.proofs.PartLaws.{joined_rest}
 use Rattle.cc_checkpoint.proofs.PastGate.{half_past, front_kept}
-use Rattle.cc_checkpoint.proofs.StateLengths.{length-node}
+use Rattle.cc_states.proofs.StateLengths.{length-node}
 use Rattle.cc_checkpoint.proofs.BehindRuns.{written_behind, then_behind, grown}
 use Rattle.cc_checkpoint.proofs.checkpoint.write_pieces.Goals as goal
 

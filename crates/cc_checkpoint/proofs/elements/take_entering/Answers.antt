@@ -1,6 +1,6 @@
 use Rattle.std.proofs.Common.{arith}
-use Rattle.cc_checkpoint.specs.Fields.{entering_in}
-use Rattle.cc_checkpoint.proofs.StateFormat.{entering_spelled}
+use Rattle.cc_states.specs.Fields.{entering_in}
+use Rattle.cc_states.proofs.StateFormat.{entering_spelled}
 use Rattle.cc_checkpoint.proofs.Ahead.{used, taken}
 use Rattle.cc_checkpoint.proofs.elements.take_entering.Goals as goal
 

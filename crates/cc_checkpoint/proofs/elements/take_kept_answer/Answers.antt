@@ -1,6 +1,6 @@
 use Rattle.std.proofs.Common.{arith}
 use Rattle.cc_outbox.specs.Rows.{entry_of}
-use Rattle.cc_checkpoint.proofs.StateFormat.{kept_answer_spelled}
+use Rattle.cc_states.proofs.StateFormat.{kept_answer_spelled}
 use Rattle.cc_checkpoint.proofs.Ahead.{used, taken}
 use Rattle.cc_checkpoint.proofs.elements.take_kept_answer.Goals as goal
 

@@ -1,6 +1,6 @@
 use Rattle.std.proofs.Common.{arith}
 use Rattle.cc_links.specs.Rows.{entry_of}
-use Rattle.cc_checkpoint.proofs.StateFormat.{link_spelled}
+use Rattle.cc_states.proofs.StateFormat.{link_spelled}
 use Rattle.cc_checkpoint.proofs.Ahead.{used, taken}
 use Rattle.cc_checkpoint.proofs.elements.take_link.Goals as goal
 

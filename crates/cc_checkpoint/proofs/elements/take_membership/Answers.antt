@@ -1,6 +1,6 @@
 use Rattle.std.proofs.Common.{arith}
-use Rattle.cc_checkpoint.specs.Fields.{membership_in}
-use Rattle.cc_checkpoint.proofs.StateFormat.{membership_spelled}
+use Rattle.cc_states.specs.Fields.{membership_in}
+use Rattle.cc_states.proofs.StateFormat.{membership_spelled}
 use Rattle.cc_checkpoint.proofs.Ahead.{used, taken}
 use Rattle.cc_checkpoint.proofs.elements.take_membership.Goals as goal
 

@@ -2,8 +2,8 @@ use Rattle.std.proofs.Common.{arith}
 use Rattle.std.specs.Int.{w64, to_be_bytes}
 use Rattle.std.proofs.lemmas.List.{length-append}
 use Rattle.cc_wire.specs.Spelling.{value_spelling}
-use Rattle.cc_checkpoint.specs.Fields.{own_in}
-use Rattle.cc_checkpoint.proofs.StateFormat.{own_spelled}
+use Rattle.cc_states.specs.Fields.{own_in}
+use Rattle.cc_states.proofs.StateFormat.{own_spelled}
 use Rattle.cc_checkpoint.proofs.Ahead.{used, taken}
 use Rattle.cc_checkpoint.proofs.elements.take_own.Goals as goal
 

@@ -1,5 +1,5 @@
-use Rattle.cc_checkpoint.specs.Fields.{round_in}
-use Rattle.cc_checkpoint.proofs.StateFormat.{round_spelled}
+use Rattle.cc_states.specs.Fields.{round_in}
+use Rattle.cc_states.proofs.StateFormat.{round_spelled}
 use Rattle.cc_checkpoint.proofs.Ahead.{used, taken}
 use Rattle.cc_checkpoint.proofs.elements.take_round.Goals as goal
 

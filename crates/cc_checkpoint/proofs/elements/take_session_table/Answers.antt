@@ -1,8 +1,8 @@
 use Rattle.std.proofs.Common.{arith}
 use Rattle.cc_views.specs.Tables.{table_of, len-table_of}
 use Rattle.cc_sessions.specs.Rows.{entry_of}
-use Rattle.cc_checkpoint.proofs.PartLaws.{length-session_table}
-use Rattle.cc_checkpoint.proofs.StateFormat.{sessions_spelled}
+use Rattle.cc_states.proofs.PartLaws.{length-session_table}
+use Rattle.cc_states.proofs.StateFormat.{sessions_spelled}
 use Rattle.cc_checkpoint.proofs.Ahead.{used, taken}
 use Rattle.cc_checkpoint.proofs.elements.take_session_table.Goals as goal
 

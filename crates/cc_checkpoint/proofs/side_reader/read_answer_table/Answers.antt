@@ -2,7 +2,7 @@ use Rattle.std.proofs.Common.{ℕ, map, Err, arith}
 use Rattle.std.specs.FinMap as table
 use Rattle.std.proofs.lemmas.Result.{err_from_is_err_and}
 use Rattle.cc_outbox.specs.Rows.{entry_of}
-use Rattle.cc_node.specs.States.{row_list_at, rows_at, kept_answer_at, most_rows}
+use Rattle.cc_sides.specs.States.{row_list_at, rows_at, kept_answer_at, most_rows}
 use Rattle.cc_checkpoint.specs.Windows.{at, seen_by}
 use Rattle.cc_checkpoint.proofs.Ahead.{made, seen_twice, few, uncounted}
 use Rattle.cc_checkpoint.proofs.side_reader.read_answer_table.Goals as goal

@@ -1,8 +1,8 @@
 use Rattle.std.proofs.Common.{Ok, Err}
 use Rattle.std.proofs.lemmas.Result.{err_from_is_err_and}
 use Rattle.cc_wire.specs.Reading.{◌⊗◌}
-use Rattle.cc_node.specs.States.{state_at, state_with, work_at, tables_at}
-use Rattle.cc_checkpoint.specs.Fields.{tables_in}
+use Rattle.cc_sides.specs.States.{state_at, state_with, work_at, tables_at}
+use Rattle.cc_states.specs.Fields.{tables_in}
 use Rattle.cc_checkpoint.specs.Windows.{at}
 use Rattle.cc_checkpoint.proofs.Ahead.{in_turn, first_stops, made}
 use Rattle.cc_checkpoint.proofs.side_reader.read_fields.Goals as goal

@@ -1,6 +1,6 @@
 use Rattle.std.proofs.Common.{arith}
 use Rattle.std.proofs.lemmas.Result.{err_from_is_err_and}
-use Rattle.cc_node.specs.States.{kept_at, posts_at}
+use Rattle.cc_sides.specs.States.{kept_at, posts_at}
 use Rattle.cc_checkpoint.specs.Windows.{at, seen_by}
 use Rattle.cc_checkpoint.proofs.Ahead.{few, too_many, uncounted}
 use Rattle.cc_checkpoint.proofs.side_reader.read_kept.Goals as goal

@@ -1,7 +1,7 @@
 use Rattle.std.proofs.lemmas.Result.{err_from_is_err_and}
-use Rattle.cc_node.specs.States.{kept_answer_at}
-use Rattle.cc_checkpoint.proofs.StateFormat.{kept_answer_spelled}
-use Rattle.cc_checkpoint.proofs.StateLengths.{length-kept_answer}
+use Rattle.cc_sides.specs.States.{kept_answer_at}
+use Rattle.cc_states.proofs.StateFormat.{kept_answer_spelled}
+use Rattle.cc_states.proofs.StateLengths.{length-kept_answer}
 use Rattle.cc_checkpoint.specs.Windows.{at}
 use Rattle.cc_checkpoint.proofs.Ahead.{no_refill, element, no_element}
 use Rattle.cc_checkpoint.proofs.side_reader.read_kept_answer.Goals as goal

@@ -3,9 +3,9 @@ use Rattle.std.proofs.lemmas.Result.{err_from_is_err_and}
 use Rattle.cc_outbox.specs.Rows.{entry_of}
 use Rattle.cc_wire.proofs.Items.{is_done, still_below, below_next}
 use Rattle.cc_views.specs.Tables.{rising-push}
-use Rattle.cc_node.specs.States.{kept_answer_at}
+use Rattle.cc_sides.specs.States.{kept_answer_at}
 use Rattle.cc_checkpoint.specs.Windows.{at}
-use Rattle.cc_checkpoint.proofs.TableReads.{rows_go_on}
+use Rattle.cc_states.proofs.TableReads.{rows_go_on}
 use Rattle.cc_checkpoint.proofs.Ahead.{misses_along, no_memory, runs_as, runs_none, runs_on, runs_stop}
 use Rattle.cc_checkpoint.proofs.side_reader.read_kept_answers.Goals as goal
 

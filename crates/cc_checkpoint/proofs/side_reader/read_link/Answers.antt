@@ -1,7 +1,7 @@
 use Rattle.std.proofs.Common.{arith}
 use Rattle.std.proofs.lemmas.Result.{err_from_is_err_and}
-use Rattle.cc_node.specs.States.{link_at}
-use Rattle.cc_checkpoint.proofs.StateFormat.{link_spelled}
+use Rattle.cc_sides.specs.States.{link_at}
+use Rattle.cc_states.proofs.StateFormat.{link_spelled}
 use Rattle.cc_checkpoint.specs.Windows.{at}
 use Rattle.cc_checkpoint.proofs.Ahead.{no_refill, element, no_element}
 use Rattle.cc_checkpoint.proofs.side_reader.read_link.Goals as goal

@@ -3,7 +3,7 @@ use Rattle.std.specs.List.{AllByRecursion}
 use Rattle.cc_views.specs.Tables.{IsRising}
 use Rattle.cc_links.specs.Rows.{entry_of}
 use Rattle.cc_wire.proofs.Items.{with_front}
-use Rattle.cc_node.specs.States.{rows_at, link_at}
+use Rattle.cc_sides.specs.States.{rows_at, link_at}
 use Rattle.cc_checkpoint.specs.Windows.{Runs, ahead, at}
 use Rattle.cc_checkpoint.proofs.side_reader.read_links.Given as goal
 

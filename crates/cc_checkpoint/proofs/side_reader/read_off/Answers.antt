@@ -2,8 +2,8 @@ use Rattle.std.proofs.Common.{Bool, length, ◌≡◌, ◌<◌, ◌≤◌, ◌�
 use Rattle.std.specs.Prelude.{MatchBool}
 use Rattle.std.proofs.lemmas.Result.{err_from_is_err_and}
 use Rattle.cc_wire.specs.declared.fault.WireFault.TheVariants.{Trailing}
-use Rattle.cc_node.specs.States.{state_at}
-use Rattle.cc_checkpoint.specs.Fields.{state_in}
+use Rattle.cc_sides.specs.States.{state_at}
+use Rattle.cc_states.specs.Fields.{state_in}
 use Rattle.cc_checkpoint.specs.Windows.{at}
 use Rattle.cc_checkpoint.proofs.Ahead.{all_of, not_all, none_of, runs_as, runs_quietly, runs_stop}
 use Rattle.cc_checkpoint.proofs.side_reader.read_off.Goals as goal

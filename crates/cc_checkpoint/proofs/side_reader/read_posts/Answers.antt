@@ -4,7 +4,7 @@ use Rattle.std.proofs.lemmas.List.{length-append}
 use Rattle.cc_wire.specs.Messages.{message_at}
 use Rattle.cc_wire.proofs.Items.{is_done}
 use Rattle.cc_checkpoint.specs.Windows.{at}
-use Rattle.cc_checkpoint.proofs.TableReads.{posts_go_on}
+use Rattle.cc_states.proofs.TableReads.{posts_go_on}
 use Rattle.cc_checkpoint.proofs.Ahead.{misses_along, no_memory, runs_as, runs_none, runs_on, runs_stop}
 use Rattle.cc_checkpoint.proofs.side_reader.read_posts.Goals as goal
 

@@ -1,6 +1,6 @@
 use Rattle.std.proofs.Common.{◌≡◌, ◌-◌, Ok, length}
 use Rattle.cc_wire.proofs.Items.{with_front}
-use Rattle.cc_node.specs.States.{posts_at}
+use Rattle.cc_sides.specs.States.{posts_at}
 use Rattle.cc_checkpoint.specs.Windows.{Runs, ahead, at}
 use Rattle.cc_checkpoint.proofs.side_reader.read_posts.Given as goal
 

@@ -1,7 +1,7 @@
 use Rattle.std.proofs.lemmas.Result.{err_from_is_err_and}
-use Rattle.cc_node.specs.States.{round_at}
-use Rattle.cc_checkpoint.proofs.StateFormat.{round_spelled}
-use Rattle.cc_checkpoint.proofs.StateLengths.{length-round}
+use Rattle.cc_sides.specs.States.{round_at}
+use Rattle.cc_states.proofs.StateFormat.{round_spelled}
+use Rattle.cc_states.proofs.StateLengths.{length-round}
 use Rattle.cc_checkpoint.specs.Windows.{at}
 use Rattle.cc_checkpoint.proofs.Ahead.{no_refill, element, no_element}
 use Rattle.cc_checkpoint.proofs.side_reader.read_round.Goals as goal

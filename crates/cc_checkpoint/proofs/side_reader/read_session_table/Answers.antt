@@ -1,7 +1,7 @@
 use Rattle.std.proofs.lemmas.Result.{err_from_is_err_and}
-use Rattle.cc_node.specs.States.{table_at, session_at}
-use Rattle.cc_checkpoint.proofs.StateFormat.{sessions_spelled}
-use Rattle.cc_checkpoint.proofs.StateLengths.{length-sessions}
+use Rattle.cc_sides.specs.States.{table_at, session_at}
+use Rattle.cc_states.proofs.StateFormat.{sessions_spelled}
+use Rattle.cc_states.proofs.StateLengths.{length-sessions}
 use Rattle.cc_checkpoint.specs.Windows.{at}
 use Rattle.cc_checkpoint.proofs.Ahead.{no_refill, element, no_element}
 use Rattle.cc_checkpoint.proofs.side_reader.read_session_table.Goals as goal

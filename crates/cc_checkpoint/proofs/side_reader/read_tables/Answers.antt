@@ -3,7 +3,7 @@ use Rattle.std.proofs.lemmas.Result.{err_from_is_err_and}
 use Rattle.cc_wire.specs.Reading.{◌⊗◌}
 use Rattle.cc_views.specs.Tables.{table_of}
 use Rattle.cc_outbox.specs.Rows.{entry_of}
-use Rattle.cc_node.specs.States.{tables_at, tables_with, table_at, link_at, session_at, kept_at, kept_answer_at, most_rows}
+use Rattle.cc_sides.specs.States.{tables_at, tables_with, table_at, link_at, session_at, kept_at, kept_answer_at, most_rows}
 use Rattle.cc_checkpoint.specs.Windows.{at}
 use Rattle.cc_checkpoint.proofs.Ahead.{in_turn, first_stops, made}
 use Rattle.cc_checkpoint.proofs.side_reader.read_tables.Goals as goal

@@ -1,8 +1,8 @@
 use Rattle.std.proofs.Common.{Ok, Err}
 use Rattle.std.proofs.lemmas.Result.{err_from_is_err_and}
 use Rattle.cc_wire.specs.Reading.{◌⊗◌}
-use Rattle.cc_node.specs.States.{work_at, work_with, entering_at, round_at}
-use Rattle.cc_checkpoint.specs.Fields.{own_at, own_in, round_in}
+use Rattle.cc_sides.specs.States.{work_at, work_with, entering_at, round_at}
+use Rattle.cc_states.specs.Fields.{own_at, own_in, round_in}
 use Rattle.cc_checkpoint.specs.Windows.{at}
 use Rattle.cc_checkpoint.proofs.Ahead.{in_turn, first_stops, made}
 use Rattle.cc_checkpoint.proofs.side_reader.read_work.Goals as goal

@@ -1,13 +1,13 @@
 use Rattle.std.proofs.Common.{◌≡◌, ℕ, ◌+◌, ◌≤◌, List, [], ◌∷◌, length, refl, ap, arith}
 use Rattle.std.proofs.lemmas.Result.{err_from_is_err_and}
-use Rattle.cc_wire.specs.declared.event.Event.{Event}
+use Rattle.cc_messages.specs.declared.event.Event.{Event}
 use Rattle.cc_site.specs.Sides.{other, written, settled}
 use Rattle.cc_site.specs.Moments.{Possible}
 use Rattle.cc_site.specs.Runs.{EachMoment, joined}
 use Rattle.cc_node.specs.Node.{Node, after}
-use Rattle.cc_node.specs.Sides.{OPEN, IsArmed}
-use Rattle.cc_node.specs.Layouts.{version_of}
-use Rattle.cc_node.specs.States.{layout_of_node, node_spelling}
+use Rattle.cc_sides.specs.Sides.{OPEN, IsArmed}
+use Rattle.cc_sides.specs.Layouts.{version_of}
+use Rattle.cc_sides.specs.States.{layout_of_node, node_spelling}
 use Rattle.cc_checkpoint.specs.Checkpoints as checkpoints
 use Rattle.cc_checkpoint.specs.Checkpoints.{IsSurelyShut, IsFilled, KeepsOff, ArmsFor, image_of}
 use Rattle.cc_checkpoint.proofs.Imaged.{length-image}

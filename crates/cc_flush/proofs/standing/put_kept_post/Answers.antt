@@ -1,6 +1,6 @@
 use Rattle.std.proofs.Common.{◌≡◌, ℕ, ◌+◌, ◌∙◌, drop, length, length-append, ap, arith}
 use Rattle.std.specs.List.{flat_map}
-use Rattle.cc_wire.specs.declared.message.Message.{Message}
+use Rattle.cc_messages.specs.declared.message.Message.{Message}
 use Rattle.cc_links.specs.Rows.{rows_of}
 use Rattle.cc_flush.specs.Standing.{resend_row, resend_post}
 use Rattle.cc_journal.proofs.LinkSends.{next}

@@ -1,7 +1,7 @@
 use Rattle.std.proofs.Common.{◌≡◌, ℕ, ◌+◌, ◌-◌, ◌≤◌, ◌∷◌, drop, length, length-append, refl, ap, subst, arith}
 use Rattle.std.specs.List.{flat_map}
 use Rattle.std.specs.FinMap as table
-use Rattle.cc_wire.specs.declared.message.Message.{Message}
+use Rattle.cc_messages.specs.declared.message.Message.{Message}
 use Rattle.cc_journal.specs.Outlet.{Puts}
 use Rattle.cc_flush.specs.Standing.{resend_post}
 use Rattle.cc_flush.proofs.Resends.{next_post, next_piece, after_pieces}

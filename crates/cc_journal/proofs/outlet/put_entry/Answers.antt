@@ -1,6 +1,6 @@
 use Rattle.std.proofs.Common.{◌≡◌, ◌++◌, List, ◌∙◌, ap, subst}
 use Rattle.std.specs.Prelude.{map}
-use Rattle.cc_wire.specs.declared.output.Output.{Output}
+use Rattle.cc_messages.specs.declared.output.Output.{Output}
 use Rattle.cc_node.specs.declared.made.Made.{Made}
 use Rattle.cc_node.specs.Core as core
 use Rattle.cc_node.specs.Core.{next, send_ack, send_post, send_replies}

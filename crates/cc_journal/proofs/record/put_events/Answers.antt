@@ -3,7 +3,7 @@ use Rattle.std.specs.Int.{w32, to_be_bytes}
 use Rattle.std.specs.List.{AllByRecursion}
 use Rattle.std.proofs.lemmas.List.{append_assoc}
 use Rattle.cc_wire.specs.Events.{IsEvent, event_spelling}
-use Rattle.cc_node.specs.Sides.{sized_spelling}
+use Rattle.cc_sides.specs.Sides.{sized_spelling}
 use Rattle.cc_journal.proofs.Records.{sized, next_events, next_sized}
 use Rattle.cc_journal.proofs.record.put_events.Goals as goal
 

@@ -1,6 +1,6 @@
 use Rattle.std.proofs.Common.{◌≡◌, ℕ, ◌+◌, ◌-◌, ◌<◌, List, length, drop, arith, ap, ◌∙◌, length-drop}
 use Rattle.std.proofs.lemmas.List.{drop-drop}
-use Rattle.cc_wire.specs.declared.message.Message.{Message}
+use Rattle.cc_messages.specs.declared.message.Message.{Message}
 use Rattle.cc_outbox.proofs.outbox.keep_last.Goals as goal
 
 -- without the first post, one post less is to be dropped

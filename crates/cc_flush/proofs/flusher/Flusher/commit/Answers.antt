@@ -1,6 +1,6 @@
 use Rattle.std.proofs.Common.{◌≡◌, ℕ, ◌≤◌, ◌+◌, List, ◌++◌, length, refl, sym, ◌∙◌, ap, subst, arith}
 use Rattle.std.specs.Prelude.{false, None}
-use Rattle.cc_wire.specs.declared.event.Event.{Event}
+use Rattle.cc_messages.specs.declared.event.Event.{Event}
 use Rattle.cc_site.specs.declared.site.Side.{Side}
 use Rattle.cc_site.specs.Sides.{other}
 use Rattle.cc_node.specs.Node.{Node}

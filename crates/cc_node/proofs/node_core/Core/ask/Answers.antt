@@ -1,5 +1,5 @@
 use Rattle.std.proofs.Common.{◌≡◌, ◌+◌, rules, ◌∙◌, ap, sym}
-use Rattle.cc_wire.specs.declared.event.Event.TheVariants as event
+use Rattle.cc_messages.specs.declared.event.Event.TheVariants as event
 use Rattle.cc_node.specs.Core.{next, quorum}
 use Rattle.cc_node.specs.contracts.node_core.Core.{the_view}
 use Rattle.cc_node.proofs.Effects.{ask_room, next_ask, next_keeps, byte_is}

@@ -4,8 +4,8 @@ use Rattle.std.specs.FinMap as table
 use Rattle.cc_views.specs.Limits.{counter_limit, overruns}
 use Rattle.cc_ops.specs.Refusals.{passes}
 use Rattle.cc_ops.specs.Ops as ops
-use Rattle.cc_wire.specs.declared.event.Event.TheVariants as event
-use Rattle.cc_wire.specs.Refusals.{first_of}
+use Rattle.cc_messages.specs.declared.event.Event.TheVariants as event
+use Rattle.cc_messages.specs.Refusals.{first_of}
 use Rattle.cc_node.specs.Core.{Core, asked_of, next, quorum}
 use Rattle.cc_node.specs.Refusals.{any_overruns, stale, skip}
 use Rattle.cc_node.specs.contracts.node_core.Core.{the_view}

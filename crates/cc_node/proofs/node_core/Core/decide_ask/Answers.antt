@@ -1,8 +1,8 @@
 use Rattle.std.proofs.Common.{ℕ, List, [], ◌∷◌, sym, ap, ◌∙◌}
 use Rattle.std.specs.Prelude.{Option}
-use Rattle.cc_wire.specs.declared.refusal.Refusal.{Refusal}
-use Rattle.cc_wire.specs.declared.command.Command.{Command}
-use Rattle.cc_wire.specs.Refusals.{first_of, decided}
+use Rattle.cc_messages.specs.declared.refusal.Refusal.{Refusal}
+use Rattle.cc_messages.specs.declared.command.Command.{Command}
+use Rattle.cc_messages.specs.Refusals.{first_of, decided}
 use Rattle.cc_ops.specs.Waiting.{line_limit}
 use Rattle.cc_node.specs.Core.{Core}
 use Rattle.cc_node.specs.Refusals.{decides, decides_within, left, not_entered, not_joined, too_many_sessions, repeat, stale, skip, busy, set_full}

@@ -1,8 +1,8 @@
 use Rattle.std.proofs.Common.{List, [], ◌∷◌, sym, ap, ◌∙◌}
 use Rattle.std.specs.Prelude.{Option}
-use Rattle.cc_wire.specs.declared.event.Event.TheVariants as event
-use Rattle.cc_wire.specs.declared.refusal.Refusal.{Refusal}
-use Rattle.cc_wire.specs.Refusals.{first_of, decided}
+use Rattle.cc_messages.specs.declared.event.Event.TheVariants as event
+use Rattle.cc_messages.specs.declared.refusal.Refusal.{Refusal}
+use Rattle.cc_messages.specs.Refusals.{first_of, decided}
 use Rattle.cc_node.specs.Core.{Core}
 use Rattle.cc_node.specs.Refusals.{decides, decides_within, left, already_entered, outbox_full}
 use Rattle.cc_node.proofs.Deciding.{err_there, ok_later, spent_enter}

@@ -1,6 +1,6 @@
 use Rattle.std.proofs.Common.{sym, ◌∙◌, ap}
 use Rattle.std.specs.Prelude.{is_some}
-use Rattle.cc_wire.specs.declared.event.Event.TheVariants as event
+use Rattle.cc_messages.specs.declared.event.Event.TheVariants as event
 use Rattle.cc_node.specs.Core.{Core, post}
 use Rattle.cc_node.specs.contracts.node_core.Core.{the_view}
 use Rattle.cc_node.proofs.Deciding.{makes_either, or_there}

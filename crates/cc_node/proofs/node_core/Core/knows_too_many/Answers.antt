@@ -4,7 +4,7 @@ use Rattle.std.specs.Bool.{then_some}
 use Rattle.cc_links.specs.KnownIds.{peers_of-rows_of}
 use Rattle.cc_links.specs.Rows.{peers_of}
 use Rattle.cc_views.specs.NatSets as set
-use Rattle.cc_wire.specs.declared.refusal.Refusal.TheVariants as refusal
+use Rattle.cc_messages.specs.declared.refusal.Refusal.TheVariants as refusal
 use Rattle.cc_node.specs.Core.{Core, ids_of}
 use Rattle.cc_node.specs.Known.{Marks}
 use Rattle.cc_node.specs.Refusals.{too_many_nodes}

@@ -2,7 +2,7 @@ use Rattle.std.proofs.Common.{[], ◌∷◌, not, ◌&&◌, refl, sym, ap, ◌�
 use Rattle.std.specs.Prelude.{◌==◌}
 use Rattle.std.specs.Bool.{then_some}
 use Rattle.std.specs.FinMap as table
-use Rattle.cc_wire.specs.declared.refusal.Refusal.TheVariants as refusal
+use Rattle.cc_messages.specs.declared.refusal.Refusal.TheVariants as refusal
 use Rattle.cc_node.specs.Core.{Core}
 use Rattle.cc_node.specs.Refusals.{too_many_nodes}
 use Rattle.cc_node.specs.contracts.node_core.Core.{the_view}

@@ -1,7 +1,7 @@
 use Rattle.std.proofs.Common.{◌≡◌, false, not, ◌&&◌, nat_lt, sym, ap, ◌∙◌}
 use Rattle.cc_churn.specs.Churn.{has_joined, united}
 use Rattle.cc_links.specs.Links.{heard_of}
-use Rattle.cc_wire.specs.declared.message.Message.TheVariants as message
+use Rattle.cc_messages.specs.declared.message.Message.TheVariants as message
 use Rattle.cc_node.specs.Core.{Core, lacks_echo, links_heard}
 use Rattle.cc_node.specs.contracts.node_core.Core.{the_view}
 use Rattle.cc_node.proofs.node_core.Core.lacks_echo.Goals as goal

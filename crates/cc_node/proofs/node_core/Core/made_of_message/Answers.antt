@@ -1,8 +1,8 @@
 use Rattle.std.proofs.Common.{◌≡◌, refl, sym, ap, ◌∙◌}
 use Rattle.std.specs.Prelude.{List, Option, Some}
 use Rattle.std.specs.Option.{option_or}
-use Rattle.cc_wire.specs.declared.event.Event.TheVariants as event
-use Rattle.cc_wire.specs.declared.message.Message.{Message}
+use Rattle.cc_messages.specs.declared.event.Event.TheVariants as event
+use Rattle.cc_messages.specs.declared.message.Message.{Message}
 use Rattle.cc_ops.specs.Ops.{replies_of}
 use Rattle.cc_ops.specs.declared.pending.Reply.{Reply}
 use Rattle.cc_node.specs.Core.{Core, made, post}

@@ -4,7 +4,7 @@ use Rattle.cc_views.specs.Limits.{counter_limit, overruns}
 use Rattle.cc_ops.specs.Refusals.{passes}
 use Rattle.cc_churn.specs.Churn as churn
 use Rattle.cc_ops.specs.Ops as ops
-use Rattle.cc_wire.specs.declared.event.Event.TheVariants as event
+use Rattle.cc_messages.specs.declared.event.Event.TheVariants as event
 use Rattle.cc_node.specs.Core.{Core, next, post, quorum}
 use Rattle.cc_node.specs.Refusals.{any_overruns}
 use Rattle.cc_node.specs.contracts.node_core.Core.{the_view}

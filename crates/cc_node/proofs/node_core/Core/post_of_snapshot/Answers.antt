@@ -5,8 +5,8 @@ use Rattle.std.proofs.lemmas.Bool.{leb-false}
 use Rattle.cc_views.specs.Limits.{counter_limit, known_limit}
 use Rattle.cc_churn.specs.Churn as churn
 use Rattle.cc_ops.specs.Ops as ops
-use Rattle.cc_wire.specs.declared.message.Message.{Message}
-use Rattle.cc_wire.specs.declared.message.Message.TheVariants as message
+use Rattle.cc_messages.specs.declared.message.Message.{Message}
+use Rattle.cc_messages.specs.declared.message.Message.TheVariants as message
 use Rattle.cc_node.specs.Core.{Core, quorum, asks_anew, churn_told, join_told, question_if, post_of_snapshot}
 use Rattle.cc_node.specs.contracts.node_core.Core.{the_view}
 use Rattle.cc_node.proofs.Deciding.{only_question}

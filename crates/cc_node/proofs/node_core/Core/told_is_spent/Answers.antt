@@ -1,7 +1,7 @@
 use Rattle.std.proofs.Common.{◌≡◌, ◌&&◌, nat_lt, sym, ap, ◌∙◌}
 use Rattle.std.specs.Prelude.{is_some, ◌==◌}
 use Rattle.cc_views.specs.Limits.{counter_limit}
-use Rattle.cc_wire.specs.declared.event.Event.TheVariants as event
+use Rattle.cc_messages.specs.declared.event.Event.TheVariants as event
 use Rattle.cc_node.specs.Core.{tells, asks_anew, post}
 use Rattle.cc_node.proofs.Deciding.{spent_told, any_first, any_second, any_third, only_last}
 use Rattle.cc_node.proofs.node_core.Core.told_is_spent.Goals as goal

@@ -1,7 +1,7 @@
 use Rattle.std.proofs.Common.{◌-◌, length, map, ap, ◌∙◌}
 use Rattle.std.specs.Ordering.{nat_cmp}
 use Rattle.std.specs.FinMap as finite
-use Rattle.cc_wire.specs.declared.answer.Answer.{Answer}
+use Rattle.cc_messages.specs.declared.answer.Answer.{Answer}
 use Rattle.cc_outbox.specs.Rows.{entry_of}
 use Rattle.cc_outbox.proofs.Edits.{len_posts}
 use Rattle.cc_outbox.proofs.outbox.Outbox.starting_after.Goals as goal

@@ -1,0 +1,19 @@
+//! What a running node has of its machine.
+
+use std::net::{Net, TcpListener, TcpStream};
+use std::sync::Wait;
+use std::thread::Threads;
+use std::time::Clock;
+
+/// Sockets, threads, waiting, a clock and standard error, together. Whatever has them all is one.
+pub trait Machine: Net<Listener = TcpListener, Stream = TcpStream>
+    + Threads
+    + Wait
+    + Clock
+    + Eprint
+    + Sync {}
+
+impl<R> Machine for R
+where
+    R: Net<Listener = TcpListener, Stream = TcpStream> + Threads + Wait + Clock + Eprint + Sync,
+{}
