@@ -34,7 +34,7 @@ use crate::standing::{put_ack_again, put_kept_answer, put_kept_posts};
 use cc_checkpoint::{OpenFault, Piece};
 use cc_journal::{Batch, Forfeit, Journal, Landed};
 use cc_node::{Core, Node};
-use cc_site::{DeviceFault, Site};
+use cc_site::{DeviceFault, Side, Site};
 use cc_views::{COUNTER_LIMIT, NoMemory, NodeId};
 use std::alloc::Global;
 use std::error::Error;
@@ -156,6 +156,20 @@ impl<S: Site> Flusher<S> {
         ensures { result ≡ self.now.opened }
     {
         self.opened
+    }
+
+    /// The side in use.
+    pub fn side(&self) -> Side
+        ensures { result ≡ self.now.at.side }
+    {
+        self.journal.side()
+    }
+
+    /// The generation in use.
+    pub fn generation(&self) -> u64
+        ensures { result ≡ self.now.generation }
+    {
+        self.generation
     }
 
     /// How many bytes the side in use has.

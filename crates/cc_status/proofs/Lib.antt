@@ -1,0 +1,2 @@
+mod LiveIds
+mod ShownTexts

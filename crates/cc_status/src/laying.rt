@@ -1,0 +1,152 @@
+//! What is shown of a node is laid out.
+
+ghost use Rattle.std.specs.Prelude.{◌≡◌, [], IfOk, OnOk};
+ghost use Rattle.cc_status.specs.Showing.{Shows, Begins};
+
+use crate::counting::{put_refusals, put_syncs};
+use crate::live::{Live, Shown};
+use crate::members::{push_all, push_live, push_sessions};
+use crate::peers::push_peers;
+use crate::rows::push_rows;
+use crate::standing::{Standing, quorum_status, reason, round_status};
+use crate::status::{Counts, DiskStatus, PostStatus, QuorumStatus, Status, SyncStatus};
+use cc_outbox::Outbox;
+use cc_sessions::Sessions;
+use cc_site::Side;
+use cc_views::NoMemory;
+use std::alloc::Global;
+use std::collections::BTreeMap;
+
+/// What is shown of a node, and of what is known of it beside its state. The only error is a refused growth.
+pub fn status_of(alloc: Global, shown: &Shown, live: &Live<'_>) -> Result<Status, NoMemory>
+    ensures { IfOk result (λ s. Shows shown.now.core shown.now.kept s) }
+{
+    let mut status = blank(alloc, shown, live);
+    lay_state(alloc, shown, &mut status)?;
+    lay_rest(alloc, shown, live, &mut status)?;
+    Ok(status)
+}
+
+// What takes no memory.
+fn blank(alloc: Global, shown: &Shown, live: &Live<'_>) -> Status
+    ensures { Begins shown.now.core shown.now.kept result }
+{
+    let core = &shown.core;
+    Status {
+        id: core.me().number(),
+        version: String::new(alloc),
+        started: live.started,
+        now: live.now,
+        standing: String::new(alloc),
+        is_ready: false,
+        reason: String::new(alloc),
+        quorum: blank_quorum(alloc),
+        members: Vec::new(alloc),
+        present: Vec::new(alloc),
+        left: Vec::new(alloc),
+        view: Vec::new(alloc),
+        round: None,
+        waiting: core.ops().line().asks().len() as u64,
+        share: core.ops().share() as u64,
+        sessions: Vec::new(alloc),
+        session_limit: Sessions::MAX_ROWS as u64,
+        posts: PostStatus {
+            made: core.posts(),
+            kept: shown.kept,
+            limit: Outbox::MAX_POSTS as u64,
+        },
+        peers: Vec::new(alloc),
+        disk: blank_disk(alloc, live),
+        counts: blank_counts(alloc, live),
+        syncs: blank_syncs(alloc),
+    }
+}
+
+fn blank_quorum(alloc: Global) -> QuorumStatus {
+    QuorumStatus {
+        beta: String::new(alloc),
+        gamma: String::new(alloc),
+        members: 0,
+        need: 0,
+        may_be_away: 0,
+    }
+}
+
+fn blank_disk(alloc: Global, live: &Live<'_>) -> DiskStatus {
+    DiskStatus {
+        side: String::new(alloc),
+        generation: live.disk.generation,
+        bytes: live.disk.bytes,
+        records: live.disk.records,
+        events: live.disk.events,
+    }
+}
+
+fn blank_counts(alloc: Global, live: &Live<'_>) -> Counts {
+    Counts {
+        commits: live.counted.commits,
+        events: live.counted.events,
+        checkpoints: live.counted.checkpoints,
+        connections: live.counted.connections,
+        refusals: BTreeMap::new(alloc),
+    }
+}
+
+fn blank_syncs(alloc: Global) -> SyncStatus {
+    SyncStatus {
+        count: 0,
+        total_us: 0,
+        mean_us: 0,
+        p50_us: 0,
+        p99_us: 0,
+        worst_us: 0,
+        buckets: Vec::new(alloc),
+    }
+}
+
+// Lays out the view, who is there, and the sessions.
+#[tactic(auto, using(crate::proofs::LiveIds::live_members, crate::proofs::LiveIds::live_present))]
+fn lay_state(alloc: Global, shown: &Shown, status: &mut Status) -> Result<(), NoMemory>
+    requires { Begins shown.now.core shown.now.kept status.old }
+    ensures { OnOk result (Shows shown.now.core shown.now.kept status.new) }
+{
+    let core = &shown.core;
+    let changes = core.churn().changes();
+    push_rows(alloc, core.view().rows(), &mut status.view)?;
+    push_live(changes.joined(), changes, &mut status.members)?;
+    push_live(changes.entered(), changes, &mut status.present)?;
+    push_all(changes.left(), &mut status.left)?;
+    push_sessions(core.sessions().rows(), &mut status.sessions)?;
+    Ok(())
+}
+
+// Lays out what else is shown.
+fn lay_rest(
+    alloc: Global,
+    shown: &Shown,
+    live: &Live<'_>,
+    status: &mut Status,
+) -> Result<(), NoMemory>
+    requires { Shows shown.now.core shown.now.kept status.old }
+    ensures { OnOk result (Shows shown.now.core shown.now.kept status.new) }
+{
+    let core = &shown.core;
+    status.version.push_str(live.version)?;
+    status.standing.push_str(Standing::of(core).name())?;
+    status.reason = reason(alloc, shown, live)?;
+    status.is_ready = status.reason.is_empty();
+    status.quorum = quorum_status(alloc, shown, live)?;
+    status.round = round_status(alloc, core, live)?;
+    push_peers(alloc, core, live, &mut status.peers)?;
+    status.disk.side.push_str(side_name(live))?;
+    put_refusals(alloc, live.counted, &mut status.counts.refusals)?;
+    put_syncs(&live.counted.syncs, &mut status.syncs)?;
+    Ok(())
+}
+
+fn side_name(live: &Live<'_>) -> &'static str {
+    match live.disk.side {
+        Side::A => "A",
+        Side::B => "B",
+    }
+}

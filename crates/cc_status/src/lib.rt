@@ -1,0 +1,25 @@
+//! What a node shows of itself to an operator: a value that is laid out from the node as it was flushed at one moment and from
+//! what was counted, as JSON and as metrics.
+#![tactic(auto)]
+
+mod counting;
+mod counts;
+mod laying;
+mod live;
+mod members;
+mod metrics;
+mod peers;
+mod rows;
+mod standing;
+mod status;
+mod texts;
+
+pub use counts::{Counted, REFUSALS, SYNC_BOUNDS, SyncCounts};
+pub use laying::status_of;
+pub use live::{DiskShown, Live, PeerNote, Shown};
+pub use metrics::Metrics;
+pub use rows::rows_of;
+pub use status::{
+    Counts, DiskStatus, PeerStatus, PostStatus, QuorumStatus, RoundStatus, RowStatus,
+    SessionStatus, Status, SyncStatus,
+};

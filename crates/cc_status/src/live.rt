@@ -1,0 +1,78 @@
+//! What is known of a running node beside its state.
+
+ghost use Rattle.std.specs.Prelude.{◌≡◌, IfOk};
+ghost use Rattle.std.specs.FinMap as table;
+ghost use Rattle.cc_churn.specs.Churn as churn;
+
+use crate::counts::Counted;
+use cc_node::{Core, Node};
+use cc_site::Side;
+use cc_views::{NoMemory, NodeId};
+use std::alloc::Global;
+use std::net::SocketAddr;
+
+/// A node as it was flushed at one moment: its core, how many posts it kept, and how many answers an operation needs that
+/// begins then.
+#[derive(Drop)]
+pub struct Shown {
+    pub core: Core,
+    pub kept: u64,
+    pub need: u64,
+}
+
+impl Shown {
+    /// What is shown of a node. The only error is a refused growth.
+    pub fn of(alloc: Global, node: &Node) -> Result<Self, NoMemory>
+        ensures core { IfOk result (λ s. s.core ≡ node.now.core) }
+        ensures kept { IfOk result (λ s. s.kept ≡ table.len node.now.outbox.posts) }
+        ensures need { IfOk result (λ s. s.need ≡ churn.quorum node.now.core.beta node.now.core.churn) }
+    {
+        let core = node.core();
+        let need = core.churn().quorum(core.beta());
+        Ok(Shown {
+            core: core.copy(alloc)?,
+            kept: node.kept() as u64,
+            need,
+        })
+    }
+}
+
+/// The side in use, how long it is, and what counts on it behind the state.
+#[derive(Clone, Copy, Debug)]
+pub struct DiskShown {
+    pub side: Side,
+    pub generation: u64,
+    pub bytes: u64,
+    pub records: u64,
+    pub events: u64,
+}
+
+/// What is known of a peer beside its link. Moments are milliseconds since 1970.
+#[derive(Clone, Copy, Debug)]
+pub struct PeerNote {
+    pub peer: NodeId,
+    pub address: Option<SocketAddr>,
+    pub connected_since: Option<u64>,
+    pub absent_since: Option<u64>,
+    pub last_heard: Option<u64>,
+}
+
+/// What is known of a running node beside its state.
+#[derive(Clone, Copy, Debug)]
+pub struct Live<'a> {
+    pub version: &'a str,
+    pub started: u64,
+    pub now: u64,
+    /// Since when the round has been under way, if one is.
+    pub round_since: u64,
+    pub disk: DiskShown,
+    pub peers: &'a [PeerNote],
+    pub counted: &'a Counted,
+}
+
+impl Live<'_> {
+    /// What is known of that peer.
+    pub fn note_of(&self, peer: NodeId) -> Option<&PeerNote> {
+        self.peers.iter().find(|note| note.peer == peer)
+    }
+}

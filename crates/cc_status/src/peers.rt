@@ -1,0 +1,61 @@
+//! The peers of a node.
+
+use crate::live::{Live, PeerNote};
+use crate::status::PeerStatus;
+use cc_links::LinkRow;
+use cc_node::Core;
+use cc_views::NoMemory;
+use std::alloc::Global;
+use std::net::SocketAddr;
+
+/// Adds each node to which there is a link and that hasn't left, but the node itself, by ascending number.
+pub(crate) fn push_peers(
+    alloc: Global,
+    core: &Core,
+    live: &Live<'_>,
+    peers: &mut Vec<PeerStatus>,
+) -> Result<(), NoMemory> {
+    for link in core.links().rows() {
+        if link.peer != core.me() && core.is_live(link.peer) {
+            peers.push(peer_status(alloc, core.posts(), link, live.note_of(link.peer))?)?;
+        }
+    }
+    Ok(())
+}
+
+fn peer_status(
+    alloc: Global,
+    posts: u64,
+    link: &LinkRow,
+    note: Option<&PeerNote>,
+) -> Result<PeerStatus, NoMemory> {
+    let reach = link.start.saturating_add(link.acked);
+    let mut status = PeerStatus {
+        id: link.peer.number(),
+        address: None,
+        connected_since: None,
+        absent_since: None,
+        behind: posts.saturating_sub(reach),
+        acknowledged: link.acked,
+        heard: link.heard,
+        last_heard: None,
+    };
+    if let Some(note) = note {
+        add_note(alloc, note, &mut status)?;
+    }
+    Ok(status)
+}
+
+fn add_note(alloc: Global, note: &PeerNote, status: &mut PeerStatus) -> Result<(), NoMemory> {
+    if let Some(address) = note.address {
+        status.address = Some(address_text(alloc, address)?);
+    }
+    status.connected_since = note.connected_since;
+    status.absent_since = note.absent_since;
+    status.last_heard = note.last_heard;
+    Ok(())
+}
+
+fn address_text(alloc: Global, address: SocketAddr) -> Result<String, NoMemory> {
+    Ok(format!(in alloc; "{address}")?)
+}

@@ -1,0 +1,48 @@
+//! The rows of a view, as they are shown.
+
+ghost use Rattle.std.specs.Prelude.{◌≡◌, ◌++◌, ◌∷◌, [], map, IfOk, OnOk};
+ghost use Rattle.cc_views.specs.Rows.{rows_of};
+ghost use Rattle.cc_status.specs.Showing.{told_row, row_told};
+
+use crate::status::RowStatus;
+use crate::texts::shown_text;
+use cc_views::{NoMemory, Row, View};
+use std::alloc::Global;
+
+/// The rows of a view, by ascending node. The only error is a refused growth.
+pub fn rows_of(alloc: Global, view: &View) -> Result<Vec<RowStatus>, NoMemory>
+    ensures { IfOk result (λ v. map told_row v.items ≡ map row_told (rows_of view.now)) }
+{
+    let mut rows = Vec::new(alloc);
+    push_rows(alloc, view.rows(), &mut rows)?;
+    Ok(rows)
+}
+
+pub(crate) fn push_rows(
+    alloc: Global,
+    rows: &[Row],
+    shown: &mut Vec<RowStatus>,
+) -> Result<(), NoMemory>
+    ensures { OnOk result (map told_row shown.new.items ≡ map told_row shown.old.items ++ map row_told rows.now) }
+{
+    for row in rows {
+        shown.push(shown_row(alloc, row)?)?;
+    }
+    Ok(())
+}
+
+fn shown_row(alloc: Global, row: &Row) -> Result<RowStatus, NoMemory>
+    ensures { IfOk result (λ r. told_row r ≡ row_told row.now) }
+{
+    let text = shown_text(alloc, &row.value.text)?;
+    let mut set = Vec::new(alloc);
+    set.extend_from_slice(row.value.set.as_slice())?;
+    Ok(RowStatus {
+        node: row.node.number(),
+        number: row.number,
+        text,
+        max: row.value.max,
+        flag: row.value.flag,
+        set,
+    })
+}
