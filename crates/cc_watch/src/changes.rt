@@ -1,0 +1,88 @@
+//! The rows of a node's view, as they change.
+
+use crate::board::Board;
+use cc_channels::Flag;
+use cc_http::{HEARTBEAT, Outcome, Page, answer_page, put_event};
+use cc_status::{RowStatus, rows_of};
+use cc_views::{NoMemory, View};
+use std::alloc::Global;
+use std::collections::BTreeMap;
+use std::io::Write;
+use std::sync::Wait;
+use std::thread;
+use std::time::{Clock, Duration};
+
+// How long is waited between two looks, in milliseconds.
+const PAUSE_MS: u64 = 250;
+
+// After so many looks something is sent at the latest, so that a connection that leads nowhere is found.
+const MOST_LOOKS: u64 = 60;
+
+/// Sends the rows of the view, and then each one as it changes, until a write fails or the flag is set.
+pub fn send_changes<R: Wait + Clock, W: Write>(
+    rt: &R,
+    alloc: Global,
+    board: &Board,
+    over: &Flag,
+    to: &mut W,
+) {
+    let mut sent = BTreeMap::new(alloc);
+    let mut out = Vec::new(alloc);
+    if answer_page(&mut out, Page::Changes, Outcome::Served, false, b"").is_err() {
+        return;
+    }
+    let mut looks: u64 = 0;
+    for _ in rt.forever() {
+        if over.is_set() || put_changes(rt, alloc, board, &mut sent, &mut out).is_err() {
+            return;
+        }
+        looks = looks.saturating_add(1);
+        if looks >= MOST_LOOKS && out.is_empty() && out.extend_from_slice(HEARTBEAT).is_err() {
+            return;
+        }
+        if !out.is_empty() {
+            looks = 0;
+            if to.write_all(out.as_slice()).is_err() {
+                return;
+            }
+            out.clear();
+        }
+        thread::sleep(rt, Duration::from_millis(PAUSE_MS));
+    }
+    unreachable!()
+}
+
+// Adds what changed since it was sent.
+fn put_changes<R: Wait>(
+    rt: &R,
+    alloc: Global,
+    board: &Board,
+    sent: &mut BTreeMap<u32, u64>,
+    out: &mut Vec<u8>,
+) -> Result<(), NoMemory> {
+    match board.look(rt) {
+        Some(laid) => put_rows(alloc, laid.shown.core.view(), sent, out),
+        None => Ok(()),
+    }
+}
+
+fn put_rows(
+    alloc: Global,
+    view: &View,
+    sent: &mut BTreeMap<u32, u64>,
+    out: &mut Vec<u8>,
+) -> Result<(), NoMemory> {
+    for row in &rows_of(alloc, view)? {
+        if sent.insert(row.node, row.number)? != Some(row.number) {
+            put_row(alloc, row, out)?;
+        }
+    }
+    Ok(())
+}
+
+fn put_row(alloc: Global, row: &RowStatus, out: &mut Vec<u8>) -> Result<(), NoMemory> {
+    match serde_json::to_string(alloc, row) {
+        Ok(text) => put_event(out, "row", &text),
+        Err(_) => Err(NoMemory),
+    }
+}

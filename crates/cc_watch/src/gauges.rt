@@ -1,0 +1,92 @@
+//! What the threads of a node count.
+
+use cc_messages::Refusal;
+use cc_status::{Counted, SYNC_BOUNDS, SyncCounts};
+use std::alloc::{AllocError, Global};
+use std::sync::atomic::{AtomicU64, Ordering};
+
+// How many refusals and how many buckets of syncs there are.
+const REFUSALS: usize = 18;
+
+const BUCKETS: usize = 17;
+
+/// What the threads of a node count, without waiting for each other.
+#[derive(Drop)]
+pub struct Gauges {
+    // How many events were refused, by the refusal's number less one.
+    refusals: Vec<AtomicU64>,
+    // How many syncs took so long, by their bucket.
+    buckets: Vec<AtomicU64>,
+    total_us: AtomicU64,
+    worst_us: AtomicU64,
+    connections: AtomicU64,
+}
+
+impl Gauges {
+    /// Nothing was counted yet.
+    pub fn new(alloc: Global) -> Result<Self, AllocError> {
+        Ok(Gauges {
+            refusals: zeros(alloc, REFUSALS)?,
+            buckets: zeros(alloc, BUCKETS)?,
+            total_us: AtomicU64::new(0),
+            worst_us: AtomicU64::new(0),
+            connections: AtomicU64::new(0),
+        })
+    }
+
+    /// An event was refused.
+    pub fn refuse(&self, why: Refusal) {
+        let place = usize::from(why.number()).saturating_sub(1);
+        if let Some(count) = self.refusals.get(place) {
+            count.fetch_add(1, Ordering::SeqCst);
+        }
+    }
+
+    /// A sync took so many microseconds.
+    pub fn sync(&self, micros: u64) {
+        if let Some(count) = self.buckets.get(bucket_of(micros)) {
+            count.fetch_add(1, Ordering::SeqCst);
+        }
+        self.total_us.fetch_add(micros, Ordering::SeqCst);
+        self.worst_us.fetch_max(micros, Ordering::SeqCst);
+    }
+
+    /// A connection was opened.
+    pub fn open(&self) {
+        self.connections.fetch_add(1, Ordering::SeqCst);
+    }
+
+    /// A connection was closed.
+    pub fn close(&self) {
+        self.connections.fetch_sub(1, Ordering::SeqCst);
+    }
+
+    /// Puts what was counted where it is shown.
+    pub fn read(&self, counted: &mut Counted) {
+        copy_all(&self.refusals, &mut counted.refusals);
+        counted.connections = self.connections.load(Ordering::SeqCst);
+        let syncs = &mut counted.syncs;
+        copy_all(&self.buckets, &mut syncs.buckets);
+        syncs.total_us = self.total_us.load(Ordering::SeqCst);
+        syncs.worst_us = self.worst_us.load(Ordering::SeqCst);
+    }
+}
+
+fn zeros(alloc: Global, count: usize) -> Result<Vec<AtomicU64>, AllocError> {
+    let mut zeros = Vec::with_capacity(alloc, count)?;
+    for _ in 0..count {
+        zeros.push(AtomicU64::new(0))?;
+    }
+    Ok(zeros)
+}
+
+// The bucket of a sync that took so many microseconds: the first whose bound it doesn't pass.
+fn bucket_of(micros: u64) -> usize {
+    SYNC_BOUNDS.iter().take_while(|bound| **bound < micros).count()
+}
+
+fn copy_all(from: &[AtomicU64], to: &mut [u64]) {
+    for (count, place) in from.iter().zip(to.iter_mut()) {
+        *place = count.load(Ordering::SeqCst);
+    }
+}

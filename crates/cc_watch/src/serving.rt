@@ -1,0 +1,162 @@
+//! Those who look at a node come over a listener of their own: 16 at most, of whom eight stay for changes. Each has five seconds
+//! for one request, and nothing that comes changes the node.
+
+use crate::board::Board;
+use crate::changes::send_changes;
+use crate::pages::put_page;
+use crate::visitors::Places;
+use cc_channels::Flag;
+use cc_http::{Asked, MOST_HEAD, Page, answer_wrong, read_request};
+use cc_views::NoMemory;
+use std::alloc::Global;
+use std::io::{Read, Write};
+use std::net::{Shutdown, TcpListener, TcpStream};
+use std::sync::Wait;
+use std::thread;
+use std::thread::{Scope, Threads};
+use std::time::{Clock, Duration, Instant};
+
+// How many look at once at most, and how many of them stay for changes.
+const MOST_VISITORS: u64 = 16;
+
+const MOST_WATCHERS: u64 = 8;
+
+// How long somebody has for a request, and for taking an answer, in seconds.
+const PATIENCE_S: u64 = 5;
+
+// How long the acceptor pauses after a connection that can't be accepted, in milliseconds.
+const PAUSE_MS: u64 = 50;
+
+/// Who looks at a node, and how many may.
+#[derive(Drop)]
+pub struct Visitors<'x> {
+    board: &'x Board,
+    all: Places,
+    watchers: Places,
+    over: &'x Flag,
+}
+
+impl<'x> Visitors<'x> {
+    /// Nobody looks yet. They go once the flag is set.
+    pub fn new(board: &'x Board, over: &'x Flag) -> Self {
+        Visitors {
+            board,
+            all: Places::new(MOST_VISITORS),
+            watchers: Places::new(MOST_WATCHERS),
+            over,
+        }
+    }
+}
+
+/// Accepts those who look, until the flag is set and one more comes.
+pub fn serve_pages<'s, 'e: 's, R>(
+    scope: &'s Scope<'s, &'e ()>,
+    rt: &'e R,
+    alloc: Global,
+    visitors: &'e Visitors<'e>,
+    listener: &TcpListener,
+)
+where
+    R: Threads + Wait + Clock + Sync,
+{
+    for _ in rt.forever() {
+        let accepted = listener.accept();
+        if visitors.over.is_set() {
+            return;
+        }
+        match accepted {
+            Ok((stream, _)) => begin_visit(scope, rt, alloc, visitors, stream),
+            Err(_) => thread::sleep(rt, Duration::from_millis(PAUSE_MS)),
+        }
+    }
+    unreachable!()
+}
+
+// Starts a thread for one who looks. Where too many do, or it can't be made, the connection is closed.
+fn begin_visit<'s, 'e: 's, R>(
+    scope: &'s Scope<'s, &'e ()>,
+    rt: &'e R,
+    alloc: Global,
+    visitors: &'e Visitors<'e>,
+    stream: TcpStream,
+)
+where
+    R: Threads + Wait + Clock + Sync,
+{
+    if visitors.all.enter() {
+        if scope.spawn(move || visit(rt, alloc, visitors, &stream)).is_err() {
+            visitors.all.leave();
+        }
+    }
+}
+
+fn visit<R: Wait + Clock>(rt: &R, alloc: Global, visitors: &Visitors<'_>, stream: &TcpStream) {
+    let _ = stream.set_nodelay(true);
+    let _ = stream.set_write_timeout(Some(Duration::from_secs(PATIENCE_S)));
+    if let Some(asked) = request(rt, alloc, stream) {
+        serve(rt, alloc, visitors, stream, asked);
+    }
+    let _ = stream.shutdown(Shutdown::Both);
+    visitors.all.leave();
+}
+
+fn serve<R: Wait + Clock>(
+    rt: &R,
+    alloc: Global,
+    visitors: &Visitors<'_>,
+    stream: &TcpStream,
+    asked: Asked,
+) {
+    let mut to: &TcpStream = stream;
+    match asked {
+        Asked::Page {
+            page: Page::Changes,
+            is_head: false,
+        } => {
+            if visitors.watchers.enter() {
+                send_changes(rt, alloc, visitors.board, visitors.over, &mut to);
+                visitors.watchers.leave();
+            }
+        }
+        asked => {
+            let mut out = Vec::new(alloc);
+            if put_answer(rt, alloc, visitors.board, asked, &mut out).is_ok() {
+                let _ = to.write_all(out.as_slice());
+            }
+        }
+    }
+}
+
+fn put_answer<R: Wait>(
+    rt: &R,
+    alloc: Global,
+    board: &Board,
+    asked: Asked,
+    out: &mut Vec<u8>,
+) -> Result<(), NoMemory> {
+    match asked {
+        Asked::More => Ok(()),
+        Asked::Page { page, is_head } => put_page(rt, alloc, board, page, is_head, out),
+        Asked::Wrong { wrong, is_head } => answer_wrong(out, wrong, is_head),
+    }
+}
+
+// What is asked for. None where the connection ends before that, or takes too long.
+fn request<R: Clock>(rt: &R, alloc: Global, stream: &TcpStream) -> Option<Asked> {
+    let start = Instant::now(rt).ok()?;
+    let mut from: &TcpStream = stream;
+    let mut head = Vec::new(alloc);
+    let mut piece = [0; 1024];
+    for _ in 0..=MOST_HEAD {
+        let left = Duration::from_secs(PATIENCE_S).checked_sub(start.elapsed(rt).ok()?)?;
+        stream.set_read_timeout(Some(left)).ok()?;
+        let count = from.read(&mut piece).ok()?;
+        head.extend_from_slice(piece.get(..count)?).ok()?;
+        match read_request(&head) {
+            Asked::More if count > 0 => {}
+            Asked::More => return None,
+            asked => return Some(asked),
+        }
+    }
+    None
+}
