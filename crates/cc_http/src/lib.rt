@@ -1,0 +1,11 @@
+//! Which page of a node's status a request asks for, and which bytes an answer is. It has no socket and no clock: bytes
+//! come in, bytes go out.
+#![tactic(auto)]
+
+mod answer;
+mod asking;
+mod page;
+
+pub use answer::Outcome;
+pub use asking::{Asked, MOST_FIELDS, MOST_HEAD, Wrong, read_request};
+pub use page::Page;
