@@ -77,8 +77,12 @@ page_head page outcome size = head (digits_of outcome) (reason_of outcome)
     ∷ (common_fields ++ (policy_fields page ++ length_fields (is_stream page) size)))
 
 -- an answer to HEAD has the head alone
+abbrev pub body_spelling : Bool → List ℕ → List ℕ
+body_spelling true body = []
+body_spelling false body = body
+
 abbrev pub answer_spelling : ResponseHead → Bool → List ℕ → List ℕ
-answer_spelling h is_head body = print_response h ++ (if is_head then [] else body)
+answer_spelling h is_head body = print_response h ++ body_spelling is_head body
 
 -- the status of what can't be served
 abbrev pub wrong_digits : Wrong → List ℕ
@@ -108,3 +112,11 @@ abbrev pub wrong_head : Wrong → ℕ → ResponseHead
 wrong_head wrong size = head (wrong_digits wrong) (wrong_reason wrong)
     (field (codes "Content-Type") (form_of Health)
     ∷ (common_fields ++ (allow_fields wrong ++ length_fields false size)))
+
+-- what is told of it, in a line
+abbrev pub wrong_text : Wrong → List ℕ
+wrong_text Malformed = codes "no request that is read here: GET or HEAD by HTTP/1.1, without a body\n"
+wrong_text NoPage = codes "no such page: see /\n"
+wrong_text Method = codes "no such method: GET and HEAD alone\n"
+wrong_text TooLong = codes "the head of the request is too long\n"
+wrong_text Version = codes "no such version: HTTP/1.0 and HTTP/1.1 alone\n"

@@ -1,5 +1,5 @@
 -- The lines of an answer's head.
-use Rattle.std.specs.Prelude.{ℕ, List, ◌++◌, codes}
+use Rattle.std.specs.Prelude.{ℕ, Bool, true, false, List, [], ◌++◌, codes, decimal}
 use Rattle.std.specs.List.{flat_map}
 use Rattle.httparse.specs.Ascii.{crlf_bytes}
 use Rattle.httparse.specs.Grammar.{Field, print_field}
@@ -11,3 +11,8 @@ status_line digits reason = codes "HTTP/1.1 " ++ (digits ++ (codes " " ++ (reaso
 -- those of fields
 abbrev pub lines : List Field → List ℕ
 lines fields = flat_map print_field fields
+
+-- the line that says how many bytes follow
+abbrev pub length_lines : Bool → ℕ → List ℕ
+length_lines true size = []
+length_lines false size = codes "Content-Length: " ++ (decimal size ++ crlf_bytes)

@@ -6,6 +6,6 @@ mod answer;
 mod asking;
 mod page;
 
-pub use answer::Outcome;
+pub use answer::{Outcome, answer_page, answer_wrong};
 pub use asking::{Asked, MOST_FIELDS, MOST_HEAD, Wrong, read_request};
 pub use page::Page;
