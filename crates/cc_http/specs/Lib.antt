@@ -1,4 +1,5 @@
 pub mod Answers
+pub mod Events
 pub mod Lines
 pub mod Pages
 pub mod Requests

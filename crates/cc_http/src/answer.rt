@@ -10,6 +10,7 @@ ghost use Rattle.cc_http.specs.Answers.{field, form_of, common_fields, policy_fi
 ghost use Rattle.cc_http.specs.Lines.{status_line, lines, length_lines};
 
 use crate::asking::Wrong;
+use crate::bytes::{put_bytes, settled};
 use crate::page::Page;
 use cc_views::NoMemory;
 use itoa::Buffer;
@@ -101,12 +102,6 @@ fn text_of(wrong: Wrong) -> &'static [u8]
         Wrong::TooLong => b"the head of the request is too long\n",
         Wrong::Version => b"no such version: HTTP/1.0 and HTTP/1.1 alone\n",
     }
-}
-
-fn put_bytes(out: &mut Vec<u8>, bytes: &[u8]) -> Result<(), AllocError>
-    ensures { Writes out.old out.new bytes.now result }
-{
-    out.extend_from_slice(bytes)
 }
 
 // The line that says how many bytes follow the head, unless they are a stream.
@@ -230,18 +225,6 @@ fn put_wrong(out: &mut Vec<u8>, wrong: Wrong, is_head: bool) -> Result<(), Alloc
     let body = text_of(wrong);
     put_wrong_head(out, wrong, body.len())?;
     put_body(out, is_head, body)
-}
-
-// Where a write failed, takes away what stands behind the bytes that were there.
-fn settled(out: &mut Vec<u8>, start: usize, put: Result<(), AllocError>) -> Result<(), NoMemory>
-    ensures ok { OnOk put (IsOk result × (out.new.items ≡ out.old.items)) }
-    ensures err { OnErr put (IsErr result × (out.new.items ≡ take start out.old.items)) }
-{
-    if put.is_err() {
-        out.truncate(start);
-        return Err(NoMemory);
-    }
-    Ok(())
 }
 
 /// Appends the answer that gives a page, or says why the node isn't ready. On an `Err` nothing has changed.

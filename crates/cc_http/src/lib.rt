@@ -4,8 +4,11 @@
 
 mod answer;
 mod asking;
+mod bytes;
+mod event;
 mod page;
 
 pub use answer::{Outcome, answer_page, answer_wrong};
 pub use asking::{Asked, MOST_FIELDS, MOST_HEAD, Wrong, read_request};
+pub use event::{HEARTBEAT, put_event};
 pub use page::Page;
