@@ -82,7 +82,10 @@ fn zeros(alloc: Global, count: usize) -> Result<Vec<AtomicU64>, AllocError> {
 
 // The bucket of a sync that took so many microseconds: the first whose bound it doesn't pass.
 fn bucket_of(micros: u64) -> usize {
-    SYNC_BOUNDS.iter().take_while(|bound| **bound < micros).count()
+    SYNC_BOUNDS
+        .iter()
+        .take_while(|bound| **bound < micros)
+        .count()
 }
 
 fn copy_all(from: &[AtomicU64], to: &mut [u64]) {

@@ -21,7 +21,13 @@ pub fn put_page<R: Wait>(
         Page::Health => answer_page(out, page, Outcome::Served, is_head, b"ok\n"),
         _ => match board.look(rt) {
             Some(laid) => put_shown(alloc, board, &laid, page, is_head, out),
-            None => answer_page(out, page, Outcome::NotReady, is_head, b"it has just been started\n"),
+            None => answer_page(
+                out,
+                page,
+                Outcome::NotReady,
+                is_head,
+                b"it has just been started\n",
+            ),
         },
     }
 }
@@ -56,7 +62,13 @@ fn put_readiness(
     }
     let reason = status.reason.as_str();
     let text = format!(in alloc; "{reason}\n")?;
-    answer_page(out, Page::Ready, Outcome::NotReady, is_head, text.as_bytes())
+    answer_page(
+        out,
+        Page::Ready,
+        Outcome::NotReady,
+        is_head,
+        text.as_bytes(),
+    )
 }
 
 // What stands on a page that shows the node.

@@ -84,7 +84,10 @@ where
     R: Threads + Wait + Clock + Sync,
 {
     if visitors.all.enter() {
-        if scope.spawn(move || visit(rt, alloc, visitors, &stream)).is_err() {
+        if scope
+            .spawn(move || visit(rt, alloc, visitors, &stream))
+            .is_err()
+        {
             visitors.all.leave();
         }
     }

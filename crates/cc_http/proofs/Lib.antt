@@ -1,0 +1,3 @@
+mod Fields
+mod Heads
+mod Writes

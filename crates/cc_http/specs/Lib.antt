@@ -1,0 +1,6 @@
+pub mod Answers
+pub mod Events
+pub mod Lines
+pub mod Pages
+pub mod Requests
+pub mod Writing
