@@ -24,13 +24,43 @@ const OWN_ROOM: usize = 4096;
 #[derive(Drop)]
 pub struct PeerChannel {
     pub peer: NodeId,
+    pub address: SocketAddr,
     to: Sender<Parcel>,
     // Nothing is put on it.
     is_muted: Flag,
-    // Its writer is to connect anew.
-    is_stale: Arc<Flag>,
+    // What its writer is told, and what it tells.
+    way: Arc<Way>,
     // For how many seconds the peer has been late.
     silence: AtomicU64,
+    // When a frame of the peer came last, and since when it is taken for absent, in milliseconds since 1970. 0 for never.
+    last_heard: AtomicU64,
+    absent_since: AtomicU64,
+}
+
+/// How the connection to a peer stands.
+#[derive(Drop)]
+pub struct Way {
+    // The peer is to be connected to anew.
+    is_stale: Flag,
+    // Since when it is connected to, in milliseconds since 1970. 0 where it isn't.
+    connected_since: AtomicU64,
+}
+
+impl Way {
+    /// Whether the peer is to be connected to anew. It is told once.
+    pub fn take_stale(&self) -> bool {
+        self.is_stale.take()
+    }
+
+    /// The peer is connected to since then, in milliseconds since 1970; at 0 it isn't.
+    pub fn put_connected(&self, since: u64) {
+        self.connected_since.store(since, Ordering::SeqCst);
+    }
+}
+
+// A moment, which is none where it is 0.
+fn moment(millis: u64) -> Option<u64> {
+    if millis == 0 { None } else { Some(millis) }
 }
 
 impl PeerChannel {
@@ -60,8 +90,33 @@ impl PeerChannel {
         let silence = self.silence.fetch_add(1, Ordering::SeqCst);
         if silence.saturating_add(1) >= MOST_SILENCE {
             self.silence.store(0, Ordering::SeqCst);
-            self.is_stale.set();
+            self.way.is_stale.set();
         }
+    }
+
+    /// Since when the peer is connected to, in milliseconds since 1970.
+    pub fn connected_since(&self) -> Option<u64> {
+        moment(self.way.connected_since.load(Ordering::SeqCst))
+    }
+
+    /// A frame of the peer came at that moment, in milliseconds since 1970.
+    pub fn hear(&self, now: u64) {
+        self.last_heard.store(now, Ordering::SeqCst);
+    }
+
+    /// When a frame of the peer came last.
+    pub fn last_heard(&self) -> Option<u64> {
+        moment(self.last_heard.load(Ordering::SeqCst))
+    }
+
+    /// The peer is taken for absent since that moment, in milliseconds since 1970; at 0 it isn't.
+    pub fn put_absent(&self, since: u64) {
+        self.absent_since.store(since, Ordering::SeqCst);
+    }
+
+    /// Since when the peer is taken for absent.
+    pub fn absent_since(&self) -> Option<u64> {
+        moment(self.absent_since.load(Ordering::SeqCst))
     }
 
     /// Whether it takes nothing now.
@@ -99,13 +154,13 @@ impl OwnChannel {
     }
 }
 
-/// The far end of a channel: a peer's address, and what its writer is to write.
+/// The far end of a channel: a peer and its address, and what its writer is to write.
 #[derive(Drop)]
 pub struct FarEnd {
+    pub peer: NodeId,
     pub address: SocketAddr,
     pub from: Receiver<Parcel>,
-    /// The peer is to be connected to anew.
-    pub is_stale: Arc<Flag>,
+    pub way: Arc<Way>,
 }
 
 /// The channels to these peers, and their far ends.
@@ -125,20 +180,28 @@ pub fn channels_to(
 
 // The channel to a peer, and its far end.
 fn channel_to(alloc: Global, peer: &Peer) -> Result<(PeerChannel, FarEnd), AllocError> {
-    let is_stale = Arc::new(alloc, Flag::new()).or(Err(AllocError))?;
-    let seen = Arc::try_clone(&is_stale).or(Err(AllocError))?;
+    let way = Way {
+        is_stale: Flag::new(),
+        connected_since: AtomicU64::new(0),
+    };
+    let way = Arc::new(alloc, way).or(Err(AllocError))?;
+    let seen = Arc::try_clone(&way).or(Err(AllocError))?;
     let (to, from) = bounded(alloc, CHANNEL_ROOM)?;
     let channel = PeerChannel {
         peer: peer.id,
+        address: peer.address,
         to,
         is_muted: Flag::new(),
-        is_stale,
+        way,
         silence: AtomicU64::new(0),
+        last_heard: AtomicU64::new(0),
+        absent_since: AtomicU64::new(0),
     };
     let end = FarEnd {
+        peer: peer.id,
         address: peer.address,
         from,
-        is_stale: seen,
+        way: seen,
     };
     Ok((channel, end))
 }

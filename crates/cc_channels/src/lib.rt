@@ -14,10 +14,10 @@ mod writing;
 
 pub use admission::{Admission, NotAdmitted};
 pub use admitting::{Admitting, ConnectionAdmission, speaker_of};
-pub use channels::{FarEnd, OwnChannel, PeerChannel, channels_to, own_channel};
+pub use channels::{FarEnd, OwnChannel, PeerChannel, Way, channels_to, own_channel};
 pub use connections::{Connection, Connections};
 pub use durable::{Durable, Flushed};
 pub use flags::{Flag, Stop};
 pub use spelling::bytes_of;
 pub use waker::Waker;
-pub use writing::{write_frames, write_peer};
+pub use writing::{millis, write_frames, write_peer};

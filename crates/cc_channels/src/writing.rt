@@ -5,6 +5,7 @@ use crate::flags::Flag;
 use cc_protocol::{Bundle, Parcel};
 use cc_views::{NoMemory, NodeId};
 use crossbeam_channel::Receiver;
+use log::{Log, info};
 use std::alloc::{AllocError, Global};
 use std::io::Write;
 use std::net::{Net, TcpStream};
@@ -21,6 +22,9 @@ const PAUSE_MS: u64 = 100;
 
 // How long a peer may take nothing, in milliseconds.
 const PATIENCE_MS: u64 = 1000;
+
+// For how long nothing more is noted of a connection that was lost, in milliseconds.
+const QUIET_MS: u64 = 1000;
 
 // For how many pauses there may be nothing for a peer: half an hour. Then its connection is made anew, long before the peer
 // takes this machine for one that vanished.
@@ -64,30 +68,53 @@ fn gather<R: Wait>(
     Ok(())
 }
 
-/// Writes to one peer, which it connects to again after a failure, until the flag is set.
-pub fn write_peer<R: Wait + Clock + Net<Stream = TcpStream>>(
+/// Writes to one peer, which it connects to again after a failure, until the flag is set. It notes when the node is connected, and
+/// when it isn't any longer, each once a second at most.
+pub fn write_peer<R: Wait + Clock + Log + Net<Stream = TcpStream>>(
     rt: &R,
     alloc: Global,
     me: NodeId,
     end: FarEnd,
     over: &Flag,
 ) {
-    let FarEnd {
-        address,
-        from,
-        is_stale,
-    } = end;
+    let mut noted = 0;
     for _ in rt.forever() {
         if over.is_set() {
             return;
         }
-        if let Ok(stream) = TcpStream::connect_timeout(rt, &address, Duration::from_secs(1)) {
-            let _ = is_stale.take();
-            write_while(rt, alloc, me, &from, &stream, &is_stale, over);
+        if let Ok(stream) = TcpStream::connect_timeout(rt, &end.address, Duration::from_secs(1)) {
+            let now = millis(rt);
+            let is_noted = now >= noted;
+            end.way.put_connected(now);
+            note_way(rt, me, &end, is_noted, "is connected to");
+            let _ = end.way.take_stale();
+            write_while(rt, alloc, me, &end, &stream, over);
+            end.way.put_connected(0);
+            note_way(rt, me, &end, is_noted, "has lost its connection to");
+            noted = if is_noted {
+                millis(rt).saturating_add(QUIET_MS)
+            } else {
+                noted
+            };
         }
         thread::sleep(rt, Duration::from_millis(PAUSE_MS));
     }
     unreachable!()
+}
+
+/// The moment by the machine's clock, in milliseconds since 1970, and 1 where it can't be read.
+pub fn millis<R: Clock>(rt: &R) -> u64 {
+    match rt.since_1970() {
+        Ok(since) => u64::try_from(since.as_millis()).unwrap_or(u64::MAX).max(1),
+        Err(_) => 1,
+    }
+}
+
+// Notes what became of the connection to a peer.
+fn note_way<R: Log>(rt: &R, me: NodeId, end: &FarEnd, is_noted: bool, what: &str) {
+    if is_noted {
+        info!(rt; "node {} {} node {} at {}", me.number(), what, end.peer.number(), end.address);
+    }
 }
 
 // Writes until a write fails, there was nothing to write for too long, or a flag is set.
@@ -95,9 +122,8 @@ fn write_while<R: Wait + Clock>(
     rt: &R,
     alloc: Global,
     me: NodeId,
-    from: &Receiver<Parcel>,
+    end: &FarEnd,
     stream: &TcpStream,
-    is_stale: &Flag,
     over: &Flag,
 ) {
     let _ = stream.set_nodelay(true);
@@ -105,15 +131,15 @@ fn write_while<R: Wait + Clock>(
     let mut to: &TcpStream = stream;
     let mut pauses: u64 = 0;
     for _ in rt.forever() {
-        if over.is_set() || is_stale.take() || pauses >= MOST_PAUSES {
+        if over.is_set() || end.way.take_stale() || pauses >= MOST_PAUSES {
             return;
         }
-        let Ok(first) = from.recv_timeout(rt, Duration::from_millis(PAUSE_MS)) else {
+        let Ok(first) = end.from.recv_timeout(rt, Duration::from_millis(PAUSE_MS)) else {
             pauses = pauses.saturating_add(1);
             continue;
         };
         pauses = 0;
-        let Ok(bytes) = bundled(rt, alloc, me, from, first) else {
+        let Ok(bytes) = bundled(rt, alloc, me, &end.from, first) else {
             continue;
         };
         if to.write_all(bytes.as_slice()).is_err() {

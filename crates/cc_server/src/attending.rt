@@ -8,6 +8,7 @@ use cc_frames::Peer;
 use cc_intake::{Hooks, Lane, Life};
 use cc_protocol::{Admitted, Ending, Origin};
 use crossbeam_channel::{Receiver, bounded};
+use log::{Log, debug};
 use std::alloc::Global;
 use std::net::{Shutdown, SocketAddr, TcpStream};
 use std::sync::atomic::AtomicU64;
@@ -35,7 +36,7 @@ pub fn attend<L: Life + Send + Sync, Q: Lane + Send + Sync, R, H: Hooks + Sync>(
     from: SocketAddr,
 )
 where
-    R: Threads + Wait + Clock + Eprint + Sync,
+    R: Threads + Wait + Clock + Log + Sync,
 {
     let rt = context.rt;
     let _ = stream.set_nodelay(true);
@@ -44,8 +45,10 @@ where
         return;
     };
     let Some(admitted) = admitted(context, &connection, from) else {
+        debug!(rt; "node {} takes no connection from {}: too many are open", context.me.number(), from);
         return;
     };
+    context.shared.gauges.open();
     let _ = connection
         .reader()
         .set_read_timeout(Some(silence_of(admitted)));
@@ -56,6 +59,7 @@ where
             context.shared.connections.leave(rt, admitted.ticket);
         }
     });
+    context.shared.gauges.close();
 }
 
 /// What a connection's writer has.
@@ -121,7 +125,7 @@ fn write_out<R: Wait>(rt: &R, pen: Pen) {
 
 // Serves with a share out of the pool, or a new one. Who says that nothing more comes is answered all the same. The connection is
 // let go at the return, and so the channel to the writer, which then ends.
-fn serve_in<R: Wait + Eprint, H: Hooks, L: Life, Q: Lane>(
+fn serve_in<R: Wait + Log, H: Hooks, L: Life, Q: Lane>(
     context: &Context<'_, R, H, L, Q>,
     connection: Arc<Connection>,
     admitted: Admitted,
@@ -146,7 +150,7 @@ fn serve_in<R: Wait + Eprint, H: Hooks, L: Life, Q: Lane>(
 }
 
 // Why no further event came. None where there is no share.
-fn serve_out<R: Wait + Eprint, H: Hooks, L: Life, Q: Lane>(
+fn serve_out<R: Wait + Log, H: Hooks, L: Life, Q: Lane>(
     context: &Context<'_, R, H, L, Q>,
     connection: &Connection,
     admitted: Admitted,

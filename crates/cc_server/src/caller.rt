@@ -17,6 +17,7 @@ use cc_intake::{Accepted, Hooks, Lane, Life, Refused, Share, Source};
 use cc_messages::{Event, Refusal};
 use cc_protocol::{Duty, Ending, Incoming, Input, event_of};
 use cc_views::NodeId;
+use log::Log;
 use std::alloc::Global;
 use std::net::SocketAddr;
 use std::sync::Wait;
@@ -57,7 +58,7 @@ pub struct Caller<'a, R: Wait, I: Input, S: Admitting, D: Replies, F: Flushed> {
     done: Done,
 }
 
-impl<R: Wait + Eprint, I: Input, S: Admitting, D: Replies, F: Flushed> Caller<'_, R, I, S, D, F> {
+impl<R: Wait + Log, I: Input, S: Admitting, D: Replies, F: Flushed> Caller<'_, R, I, S, D, F> {
     // The event that comes next, or why none does.
     fn event(&mut self) -> Result<Event, Done>
         ensures { MatchResult result
@@ -135,6 +136,7 @@ impl<R: Wait + Eprint, I: Input, S: Admitting, D: Replies, F: Flushed> Caller<'_
                 self.hear(event);
             }
             Err(refused) => {
+                self.shared.gauges.refuse(refused.why);
                 self.admission.release(self.rt);
                 self.settle_route(event, refused.why == Refusal::Repeat);
             }
@@ -197,7 +199,7 @@ impl<R: Wait + Eprint, I: Input, S: Admitting, D: Replies, F: Flushed> Caller<'_
     }
 }
 
-impl<R: Wait + Eprint, I: Input, S: Admitting, D: Replies, F: Flushed> Source
+impl<R: Wait + Log, I: Input, S: Admitting, D: Replies, F: Flushed> Source
     for Caller<'_, R, I, S, D, F> {
     ghost use Rattle.cc_server.specs.Serving.{Gives, Hears};
 
@@ -232,15 +234,7 @@ impl<R: Wait + Eprint, I: Input, S: Admitting, D: Replies, F: Flushed> Source
 /// Of bytes that are known it brings the events of their frames, one after the other, each again where the queue was full;
 /// each answer is the intake's to that very event, and the share counts those that were accepted. It tells why it ended: that
 /// a read failed only where one can, and that an event was turned away only where one can be.
-pub fn serve<
-    R: Wait + Eprint,
-    H: Hooks,
-    L: Life,
-    Q: Lane,
-    I: Input + Drop,
-    S: Admitting,
-    D: Replies,
->(
+pub fn serve<R: Wait + Log, H: Hooks, L: Life, Q: Lane, I: Input + Drop, S: Admitting, D: Replies>(
     context: &Context<'_, R, H, L, Q>,
     admitting: &S,
     connection: &D,

@@ -12,4 +12,8 @@ pub struct Config<'a> {
     pub listen: SocketAddr,
     /// Where other nodes listen. What is for one that isn't among them is lost.
     pub peers: Vec<Peer>,
+    /// Where those who look at the node are served, if they are.
+    pub status: Option<SocketAddr>,
+    /// The program's version, which they are shown.
+    pub version: &'a str,
 }

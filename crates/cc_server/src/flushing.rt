@@ -1,15 +1,19 @@
 //! The flusher's thread.
 
 use crate::looking::{Looks, look};
+use crate::notes::Note;
 use crate::of_life::OfLife;
 use crate::shared::Shared;
-use cc_channels::{Admission, Durable};
+use crate::showing::{Tally, show};
+use cc_channels::{Admission, Durable, millis};
 use cc_flush::{CheckpointFault, Failed};
 use cc_intake::{Lane, Life, Queue, Turner};
 use cc_journal::Batch;
 use cc_site::Site;
 use crossbeam_utils::sync::Parker;
+use std::alloc::Global;
 use std::sync::Wait;
+use std::time::Clock;
 
 // How many wishes of either kind are granted between two turns at most.
 const MOST_WISHES: u64 = 64;
@@ -19,9 +23,13 @@ const PLENTY: u64 = 4_194_304;
 
 const GROWTH: u64 = 1_048_576;
 
+// From how many microseconds on a sync is noted.
+const SLOW_US: u64 = 1_000_000;
+
 /// What the flusher looks at.
 #[derive(Drop)]
 pub struct Watch<'x> {
+    pub alloc: Global,
     pub parker: Parker,
     pub shared: &'x Shared,
 }
@@ -29,7 +37,7 @@ pub struct Watch<'x> {
 /// Takes a turn each time that it is woken, and more where one batch didn't take all that waited, until nothing is left after
 /// `done` was set. What nobody woke it for waits for the next turn. After each turn it looks what lapses, and at each tick how
 /// the peers stand.
-pub fn flush_all<S: Site, L: Life, Q: Lane, R: Wait>(
+pub fn flush_all<S: Site, L: Life, Q: Lane, R: Wait + Clock>(
     rt: &R,
     turner: &mut Turner<S, L, Q>,
     queue: &Queue<L, Q>,
@@ -39,10 +47,14 @@ pub fn flush_all<S: Site, L: Life, Q: Lane, R: Wait>(
     let mut is_fresh = true;
     let mut begun = 0;
     let mut looks = Looks::new();
+    let mut tally = Tally::new(turner.engine().opened(), turner.engine().twin().core());
     for _ in rt.forever() {
         let is_done = watch.shared.done.is_set();
         watch.shared.waker.look();
         let events = turn(rt, turner, queue, admission)?;
+        if events > 0 {
+            tally.commit(events);
+        }
         let is_wished = grant(rt, turner, watch.shared)?;
         is_fresh &= events == 0;
         let is_tick = watch.shared.ticked.take();
@@ -50,8 +62,9 @@ pub fn flush_all<S: Site, L: Life, Q: Lane, R: Wait>(
             admission.tick(rt);
             resend(turner, watch.shared)?;
             if !is_fresh {
-                is_fresh = spare(turner, &mut begun)?;
+                is_fresh = spare(rt, turner, watch.shared, &mut tally, &mut begun)?;
             }
+            pass_second(rt, turner, watch, &mut tally);
         }
         let core = turner.engine().twin().core();
         look(rt, core, watch.shared, &mut looks, is_tick);
@@ -64,6 +77,22 @@ pub fn flush_all<S: Site, L: Life, Q: Lane, R: Wait>(
         watch.parker.park(rt);
     }
     unreachable!()
+}
+
+// A second has passed: what is seen of it is noted, and the node is laid out for those who look at it.
+fn pass_second<S: Site, L: Life, Q: Lane, R: Wait>(
+    rt: &R,
+    turner: &Turner<S, L, Q>,
+    watch: &Watch<'_>,
+    tally: &mut Tally,
+) {
+    let engine = turner.engine();
+    let slowest = watch.shared.gauges.take_slowest();
+    if slowest >= SLOW_US {
+        watch.shared.notes.put(rt, Note::SlowSync(slowest));
+    }
+    tally.pass_second(rt, engine.twin().core(), watch.shared);
+    show(rt, watch.alloc, engine, tally, watch.shared);
 }
 
 // A turn. How many events it flushed, whose permits are free then.
@@ -122,18 +151,34 @@ fn resend<S: Site, L: Life, Q: Lane>(
 }
 
 // Moves to the other side where the one in use is long, and longer than it was `begun`. Whether it was moved.
-fn spare<S: Site, L: Life, Q: Lane>(
+fn spare<S: Site, L: Life, Q: Lane, R: Wait + Clock>(
+    rt: &R,
     turner: &mut Turner<S, L, Q>,
+    shared: &Shared,
+    tally: &mut Tally,
     begun: &mut u64,
 ) -> Result<bool, Failed> {
     let used = turner.engine().used();
     if used <= PLENTY || used.saturating_sub(*begun) <= GROWTH {
         return Ok(false);
     }
+    let start = millis(rt);
     let moved = turner.checkpoint();
     *begun = turner.engine().used();
     match moved {
-        Ok(()) | Err(CheckpointFault::Spent) => Ok(true),
+        Ok(()) => {
+            tally.move_over();
+            let millis = millis(rt).saturating_sub(start);
+            shared.notes.put(
+                rt,
+                Note::Moved {
+                    bytes: *begun,
+                    millis,
+                },
+            );
+            Ok(true)
+        }
+        Err(CheckpointFault::Spent) => Ok(true),
         Err(CheckpointFault::Failed(failed)) => Err(failed),
     }
 }

@@ -11,6 +11,7 @@ mod flushing;
 mod known;
 mod looking;
 mod machine;
+mod measured;
 mod meeting;
 mod notes;
 mod of_life;
@@ -20,6 +21,7 @@ mod replies;
 mod run;
 mod run_fault;
 mod shared;
+mod showing;
 mod threads;
 
 pub use config::Config;

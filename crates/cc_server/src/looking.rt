@@ -70,8 +70,11 @@ fn pass_link<R: Wait>(rt: &R, core: &Core, shared: &Shared, link: &LinkRow) -> P
 
 // Tells the channel to a peer whether it is late, and notes that it is taken for absent.
 fn note_passed<R: Wait>(rt: &R, shared: &Shared, peer: NodeId, passed: Passed) {
-    if let Some(channel) = shared.channels.iter().find(|channel| channel.peer == peer) {
+    if let Some(channel) = shared.channel_to(peer) {
         channel.note_progress(passed.standing.is_late());
+        if passed.is_taken {
+            channel.put_absent(shared.now());
+        }
     }
     if passed.is_taken {
         shared.notes.put(rt, Note::Absent(peer));
@@ -96,8 +99,8 @@ fn name_of(pending: Option<Waiting>) -> Option<AskName> {
     }
 }
 
-// The operation that pends, if one does, and what it waits for.
-fn wait_of(stage: Stage) -> Option<Waiting> {
+/// The operation that pends, if one does, and what it waits for.
+pub fn wait_of(stage: Stage) -> Option<Waiting> {
     match stage {
         Stage::Idle => None,
         Stage::Storing(pending) | Stage::Querying(pending) | Stage::StoringBack(pending) => {

@@ -1,19 +1,20 @@
 //! What a running node has of its machine.
 
+use log::Log;
 use std::net::{Net, TcpListener, TcpStream};
 use std::sync::Wait;
 use std::thread::Threads;
 use std::time::Clock;
 
-/// Sockets, threads, waiting, a clock and standard error, together. Whatever has them all is one.
+/// Sockets, threads, waiting, a clock and a log, together. Whatever has them all is one.
 pub trait Machine: Net<Listener = TcpListener, Stream = TcpStream>
     + Threads
     + Wait
     + Clock
-    + Eprint
+    + Log
     + Sync {}
 
 impl<R> Machine for R
 where
-    R: Net<Listener = TcpListener, Stream = TcpStream> + Threads + Wait + Clock + Eprint + Sync,
+    R: Net<Listener = TcpListener, Stream = TcpStream> + Threads + Wait + Clock + Log + Sync,
 {}

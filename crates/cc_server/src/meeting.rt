@@ -5,8 +5,7 @@ use cc_changes::Changes;
 use cc_frames::Peer;
 use cc_messages::Message;
 use cc_views::NodeId;
-use log::sink::Console;
-use log::{Level, Logged, warn};
+use log::{Log, warn};
 use std::net::SocketAddr;
 use std::sync::Wait;
 
@@ -23,7 +22,7 @@ pub struct Meeting<'a> {
 impl Meeting<'_> {
     /// A message of that node was accepted. A node that it is of or tells of, that isn't one of the peers and that none of
     /// them told of, is noted on standard error, once.
-    pub fn hear<R: Wait + Eprint>(&self, rt: &R, from: NodeId, message: &Message) {
+    pub fn hear<R: Wait + Log>(&self, rt: &R, from: NodeId, message: &Message) {
         self.hear_of(rt, from, from);
         if let Some(node) = subject_of(message) {
             self.hear_of(rt, from, node);
@@ -42,7 +41,7 @@ impl Meeting<'_> {
         }
     }
 
-    fn hear_of<R: Wait + Eprint>(&self, rt: &R, from: NodeId, node: NodeId) {
+    fn hear_of<R: Wait + Log>(&self, rt: &R, from: NodeId, node: NodeId) {
         if node == self.me || self.is_peer(node) || !self.known.learn(rt, node) {
             return;
         }
@@ -51,9 +50,8 @@ impl Meeting<'_> {
         }
     }
 
-    fn note<R: Eprint>(&self, rt: &R, node: NodeId) {
-        let logged = Logged::new(rt, Level::Warn, Console(rt));
-        warn!(logged; "node {} heard of node {}, which is none of its peers, from {}", self.me.number(), node.number(), self.address);
+    fn note<R: Log>(&self, rt: &R, node: NodeId) {
+        warn!(rt; "node {} heard of node {}, which is none of its peers, from {}", self.me.number(), node.number(), self.address);
     }
 
     fn is_peer(&self, node: NodeId) -> bool {

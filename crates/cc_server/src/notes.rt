@@ -3,8 +3,7 @@
 use cc_protocol::{AskName, Lasting};
 use cc_views::NodeId;
 use crossbeam_channel::{Receiver, Sender, bounded};
-use log::sink::Console;
-use log::{Level, Logged, info, warn};
+use log::{Log, info, warn};
 use std::alloc::{AllocError, Global};
 use std::sync::Wait;
 
@@ -26,6 +25,16 @@ pub enum Note {
     Absent(NodeId),
     /// An operation has been pending for long.
     Pending(Waiting),
+    /// The node was moved to the other side, which has so many bytes then, in so many milliseconds.
+    Moved { bytes: u64, millis: u64 },
+    /// A sync took so many microseconds.
+    SlowSync(u64),
+    /// The node has joined.
+    Joined,
+    /// The node has left.
+    Left,
+    /// So many sessions are served, of 256 in its life.
+    Sessions(usize),
 }
 
 /// The channel on which notes of the flusher wait for their writer, since it waits for nobody who reads standard error. None
@@ -54,7 +63,7 @@ pub fn note_channel(alloc: Global) -> Result<(NoteChannel, Receiver<Option<Note>
 }
 
 /// Writes the notes of the node `me`, until None comes.
-pub fn write_notes<R: Wait + Eprint>(rt: &R, me: NodeId, from: &Receiver<Option<Note>>) {
+pub fn write_notes<R: Wait + Log>(rt: &R, me: NodeId, from: &Receiver<Option<Note>>) {
     for _ in rt.forever() {
         let Some(note) = from.recv(rt).unwrap_or(None) else {
             return;
@@ -64,44 +73,55 @@ pub fn write_notes<R: Wait + Eprint>(rt: &R, me: NodeId, from: &Receiver<Option<
     unreachable!()
 }
 
-fn write_note<R: Eprint>(rt: &R, me: NodeId, note: Note) {
+fn write_note<R: Log>(rt: &R, me: NodeId, note: Note) {
     match note {
         Note::Absent(peer) => note_absent(rt, me, peer),
         Note::Pending(waiting) => note_pending(rt, me, waiting),
+        Note::Moved { bytes, millis } => note_moved(rt, me, bytes, millis),
+        Note::SlowSync(micros) => note_slow(rt, me, micros),
+        Note::Joined => info!(rt; "node {} has joined", me.number()),
+        Note::Left => info!(rt; "node {} has left", me.number()),
+        Note::Sessions(count) => note_sessions(rt, me, count),
     }
 }
 
-fn note_absent<R: Eprint>(rt: &R, me: NodeId, peer: NodeId) {
-    let logged = Logged::new(rt, Level::Warn, Console(rt));
-    warn!(logged; "node {} takes node {} for absent", me.number(), peer.number());
+fn note_absent<R: Log>(rt: &R, me: NodeId, peer: NodeId) {
+    warn!(rt; "node {} takes node {} for absent", me.number(), peer.number());
 }
 
-fn note_pending<R: Eprint>(rt: &R, me: NodeId, waiting: Waiting) {
-    let logged = Logged::new(rt, Level::Warn, Console(rt));
+fn note_pending<R: Log>(rt: &R, me: NodeId, waiting: Waiting) {
     let Waiting { asked, count, need } = waiting;
-    warn!(logged; "node {} has {} of {} answers for request {} of session {}, pending for {} seconds", me.number(), count, need, asked.request, asked.session, Lasting::LONG_SECONDS);
+    warn!(rt; "node {} has {} of {} answers for request {} of session {}, pending for {} seconds", me.number(), count, need, asked.request, asked.session, Lasting::LONG_SECONDS);
+}
+
+fn note_moved<R: Log>(rt: &R, me: NodeId, bytes: u64, millis: u64) {
+    info!(rt; "node {} has moved to its other side: {} bytes in {} ms", me.number(), bytes, millis);
+}
+
+fn note_slow<R: Log>(rt: &R, me: NodeId, micros: u64) {
+    warn!(rt; "node {} waited for a sync of its disk for {} ms", me.number(), micros / 1000);
+}
+
+fn note_sessions<R: Log>(rt: &R, me: NodeId, count: usize) {
+    warn!(rt; "node {} serves {} sessions, of 256 in its life", me.number(), count);
 }
 
 /// A peer that was taken for absent acknowledges again.
-pub fn note_back<R: Eprint>(rt: &R, me: NodeId, peer: NodeId) {
-    let logged = Logged::new(rt, Level::Info, Console(rt));
-    info!(logged; "node {} hears node {} again", me.number(), peer.number());
+pub fn note_back<R: Log>(rt: &R, me: NodeId, peer: NodeId) {
+    info!(rt; "node {} hears node {} again", me.number(), peer.number());
 }
 
 /// Several asks begin together: up to so many.
-pub fn note_share<R: Eprint>(rt: &R, me: NodeId, share: usize) {
-    let logged = Logged::new(rt, Level::Info, Console(rt));
-    info!(logged; "node {} begins up to {} asks together", me.number(), share);
+pub fn note_share<R: Log>(rt: &R, me: NodeId, share: usize) {
+    info!(rt; "node {} begins up to {} asks together", me.number(), share);
 }
 
 /// A node of the folder has no address.
-pub fn note_unreachable<R: Eprint>(rt: &R, me: NodeId, node: NodeId) {
-    let logged = Logged::new(rt, Level::Warn, Console(rt));
-    warn!(logged; "node {} knows node {}, which has no address among its peers", me.number(), node.number());
+pub fn note_unreachable<R: Log>(rt: &R, me: NodeId, node: NodeId) {
+    warn!(rt; "node {} knows node {}, which has no address among its peers", me.number(), node.number());
 }
 
 /// A peer is unknown to the folder.
-pub fn note_unknown<R: Eprint>(rt: &R, me: NodeId, peer: NodeId) {
-    let logged = Logged::new(rt, Level::Warn, Console(rt));
-    warn!(logged; "node {} doesn't know its peer {}", me.number(), peer.number());
+pub fn note_unknown<R: Log>(rt: &R, me: NodeId, peer: NodeId) {
+    warn!(rt; "node {} doesn't know its peer {}", me.number(), peer.number());
 }

@@ -18,13 +18,6 @@ pub struct ServerOutlet<'a, R: Wait> {
 }
 
 impl<R: Wait> ServerOutlet<'_, R> {
-    fn channel_to(&self, peer: NodeId) -> Option<&PeerChannel> {
-        self.shared
-            .channels
-            .iter()
-            .find(|channel| channel.peer == peer)
-    }
-
     fn is_me(&self, node: NodeId) -> bool {
         self.shared.me.get() == Some(&node)
     }
@@ -73,7 +66,7 @@ impl<R: Wait> Outlet for ServerOutlet<'_, R> {
     fn send(&mut self, to: NodeId, number: u64, message: &Message) {
         if self.is_me(to) {
             self.deliver(to, number, message);
-        } else if let Some(channel) = self.channel_to(to) {
+        } else if let Some(channel) = self.shared.channel_to(to) {
             self.post(channel, number, message);
         }
     }
@@ -81,7 +74,7 @@ impl<R: Wait> Outlet for ServerOutlet<'_, R> {
     fn ack(&mut self, to: NodeId, number: u64) {
         if self.is_me(to) {
             self.hear(Event::Acked { peer: to, number });
-        } else if let Some(channel) = self.channel_to(to) {
+        } else if let Some(channel) = self.shared.channel_to(to) {
             self.acknowledge(channel, number);
         }
     }

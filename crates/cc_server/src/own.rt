@@ -49,7 +49,10 @@ impl<R: Wait, F: Flushed> Source for Own<'_, R, F> {
         let duty = duty_of(&event, &answer);
         match answer {
             Ok(_) => self.admission.accept(),
-            Err(_) => self.admission.release(self.rt),
+            Err(refused) => {
+                self.shared.gauges.refuse(refused.why);
+                self.admission.release(self.rt);
+            }
         }
         match duty {
             Duty::Wake => self.shared.waker.wake(),

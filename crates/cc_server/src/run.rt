@@ -7,13 +7,14 @@ ghost use Rattle.cc_intake.specs.Accepting.{share_limit};
 use crate::config::Config;
 use crate::context::Context;
 use crate::machine::Machine;
+use crate::measured::Measured;
 use crate::notes::{note_share, note_unknown, note_unreachable};
 use crate::of_life::OfLife;
 use crate::outlet::ServerOutlet;
 use crate::run_fault::RunFault;
 use crate::shared::{Inlets, Shared};
-use crate::threads::live;
-use cc_channels::{Admission, Durable, Stop};
+use crate::threads::{Listeners, live};
+use cc_channels::{Admission, Durable, Stop, millis};
 use cc_files::FileSite;
 use cc_flush::{Back, Failed, Flusher};
 use cc_frames::Peer;
@@ -23,8 +24,8 @@ use cc_node::Core;
 use cc_protocol::Routes;
 use cc_site::Site;
 use cc_views::NodeId;
-use log::sink::Console;
-use log::{Level, Logged, info};
+use cc_watch::Board;
+use log::{Log, error, info};
 use std::alloc::Global;
 use std::fs::{File, Files};
 use std::marker::Brand;
@@ -62,7 +63,9 @@ pub fn run_on<'a, R, H: Hooks + Sync>(
 where
     R: Files<File = File> + Machine,
 {
-    let (shared, inlets) = Shared::new(alloc, &config.peers)?;
+    let now = millis(rt);
+    let board = board(alloc, config, now)?;
+    let (shared, inlets) = Shared::new(alloc, &config.peers, board, now)?;
     let run = Run {
         rt,
         alloc,
@@ -72,6 +75,15 @@ where
         shared: &shared,
     };
     open_and_run(&run, listener, inlets)
+}
+
+// What those who may look at the node look at.
+fn board(alloc: Global, config: &Config<'_>, now: u64) -> Result<Option<Board>, RunFault> {
+    if config.status.is_none() {
+        return Ok(None);
+    }
+    let version = String::from_str(alloc, config.version)?;
+    Ok(Some(Board::new(version, now)))
 }
 
 // What a run goes by.
@@ -90,7 +102,7 @@ struct Run<'a, R, H> {
 struct Ready<S: Site> {
     engine: Flusher<S>,
     core: Core,
-    listener: TcpListener,
+    listeners: Listeners,
     inlets: Inlets,
 }
 
@@ -109,9 +121,10 @@ where
         shared: run.shared,
     };
     let site = FileSite::open(run.rt, run.alloc, run.config.dir, channels)?;
+    let measured = Measured::new(run.rt, run.hooks, &run.shared.gauges);
     let hooked = Hooked {
         site,
-        hooks: run.hooks,
+        hooks: &measured,
     };
     match Flusher::open(run.alloc, hooked) {
         Ok((engine, core)) => run_opened(run, listener, inlets, engine, core),
@@ -133,16 +146,16 @@ where
     requires owes { engine.owes ≡ false }
 {
     match prepare(run, listener, &core) {
-        Ok(listener) => {
+        Ok(listeners) => {
             let me = core.me();
-            let address = listener.local_addr().unwrap_or(run.config.listen);
+            let address = listeners.node.local_addr().unwrap_or(run.config.listen);
             run.shared.known.learn_links(run.rt, &core);
             note(run, me, "runs", address);
             note_opened(run.rt, &core, &run.config.peers);
             let ready = Ready {
                 engine,
                 core,
-                listener,
+                listeners,
                 inlets,
             };
             let outcome = run_as::<Brand, S, R, H>(run, ready, Blank::new(1 << 20));
@@ -162,9 +175,9 @@ fn prepare<R, H>(
     run: &Run<'_, R, H>,
     listener: Option<TcpListener>,
     core: &Core,
-) -> Result<TcpListener, RunFault>
+) -> Result<Listeners, RunFault>
 where
-    R: Net<Listener = TcpListener, Stream = TcpStream> + Wait,
+    R: Net<Listener = TcpListener, Stream = TcpStream> + Wait + Log,
 {
     let me = core.me();
     let listen = run.config.listen;
@@ -179,19 +192,37 @@ where
     if !core.churn().has_entered(me) {
         run.shared.own.put(run.rt, Event::Enter);
     }
-    match listener {
-        Some(listener) => Ok(listener),
-        None => TcpListener::bind(run.rt, run.config.listen).or(Err(RunFault::Listen)),
+    let node = match listener {
+        Some(listener) => listener,
+        None => listening(run.rt, run.config.listen)?,
+    };
+    let pages = match run.config.status {
+        Some(status) => Some(listening(run.rt, status)?),
+        None => None,
+    };
+    Ok(Listeners { node, pages })
+}
+
+// Listens at an address. Why it can't is noted.
+fn listening<R>(rt: &R, address: SocketAddr) -> Result<TcpListener, RunFault>
+where
+    R: Net<Listener = TcpListener, Stream = TcpStream> + Log,
+{
+    match TcpListener::bind(rt, address) {
+        Ok(listener) => Ok(listener),
+        Err(why) => {
+            error!(rt; "can't listen at {}: {}", address, why);
+            Err(RunFault::Listen)
+        }
     }
 }
 
-fn note<R: Eprint, H>(run: &Run<'_, R, H>, me: NodeId, what: &str, address: SocketAddr) {
-    let logged = Logged::new(run.rt, Level::Info, Console(run.rt));
-    info!(logged; "node {} {} at {}", me.number(), what, address);
+fn note<R: Log, H>(run: &Run<'_, R, H>, me: NodeId, what: &str, address: SocketAddr) {
+    info!(run.rt; "node {} {} at {}", me.number(), what, address);
 }
 
 // Notes the share of the node that was found, where it isn't 1, and how its folder and its peers agree.
-fn note_opened<R: Eprint>(rt: &R, core: &Core, peers: &[Peer]) {
+fn note_opened<R: Log>(rt: &R, core: &Core, peers: &[Peer]) {
     let share = core.ops().share();
     if share > 1 {
         note_share(rt, core.me(), share);
@@ -200,7 +231,7 @@ fn note_opened<R: Eprint>(rt: &R, core: &Core, peers: &[Peer]) {
 }
 
 // Notes which nodes of the folder have no address, and which peers it doesn't know.
-fn note_addresses<R: Eprint>(rt: &R, core: &Core, peers: &[Peer]) {
+fn note_addresses<R: Log>(rt: &R, core: &Core, peers: &[Peer]) {
     let me = core.me();
     for link in core.links().rows() {
         let is_peer = peers.iter().any(|peer| peer.id == link.peer);
@@ -269,7 +300,7 @@ where
     let Ready {
         engine,
         core,
-        listener,
+        listeners,
         inlets,
     } = ready;
     let me = core.me();
@@ -289,8 +320,8 @@ where
         queue: &queue,
         shares: &shares,
     };
-    let (watch, far_ends) = inlets.cut(me, run.shared);
-    let outcome = live(&context, &mut turner, watch, far_ends, &listener, run.stop);
+    let (watch, far_ends) = inlets.cut(run.alloc, me, run.shared);
+    let outcome = live(&context, &mut turner, watch, far_ends, &listeners, run.stop);
     let finished = finish(
         run.rt,
         lock.into_inner(),

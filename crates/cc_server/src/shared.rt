@@ -10,9 +10,11 @@ use cc_frames::Peer;
 use cc_messages::Event;
 use cc_protocol::{Standings, Wishes};
 use cc_views::NodeId;
+use cc_watch::{Board, Gauges};
 use crossbeam_channel::Receiver;
 use crossbeam_utils::sync::Parker;
 use std::alloc::Global;
+use std::sync::atomic::{AtomicU64, Ordering};
 use std::sync::{Mutex, OnceLock, Wait};
 
 /// What the threads of a node pass things on by.
@@ -32,6 +34,11 @@ pub struct Shared {
     pub any_absent: Flag,
     /// What the flusher notes.
     pub notes: NoteChannel,
+    /// What is counted, and where it is laid out what the node shows, if anybody may look.
+    pub gauges: Gauges,
+    pub board: Option<Board>,
+    // The moment of the last tick, in milliseconds since 1970.
+    now: AtomicU64,
     /// A second has passed.
     pub ticked: Flag,
     /// No worker is left.
@@ -50,8 +57,13 @@ pub struct Inlets {
 }
 
 impl Shared {
-    /// What the threads of a node with these peers need, and the other ends of it.
-    pub fn new(alloc: Global, peers: &[Peer]) -> Result<(Self, Inlets), RunFault> {
+    /// What the threads of a node with these peers need that is started at that moment, and the other ends of it.
+    pub fn new(
+        alloc: Global,
+        peers: &[Peer],
+        board: Option<Board>,
+        now: u64,
+    ) -> Result<(Self, Inlets), RunFault> {
         let (channels, far) = channels_to(alloc, peers)?;
         let (own, taken) = own_channel(alloc)?;
         let (notes, noted) = note_channel(alloc)?;
@@ -68,6 +80,9 @@ impl Shared {
             standings: Mutex::new(Standings::new(alloc)?),
             any_absent: Flag::new(),
             notes,
+            gauges: Gauges::new(alloc)?,
+            board,
+            now: AtomicU64::new(now),
             ticked: Flag::new(),
             done: Flag::new(),
             ended: Flag::new(),
@@ -81,14 +96,34 @@ impl Shared {
         Ok((shared, inlets))
     }
 
+    /// The moment of the last tick, in milliseconds since 1970.
+    pub fn now(&self) -> u64 {
+        self.now.load(Ordering::SeqCst)
+    }
+
+    /// A second has passed, and it is that moment.
+    pub fn tick(&self, now: u64) {
+        self.now.store(now, Ordering::SeqCst);
+        self.ticked.set();
+        self.waker.wake();
+    }
+
+    /// The channel to a peer.
+    pub fn channel_to(&self, peer: NodeId) -> Option<&PeerChannel> {
+        self.channels.iter().find(|channel| channel.peer == peer)
+    }
+
     /// Has the flusher tell a peer again what was heard from it.
     pub fn reack<R: Wait>(&self, rt: &R, peer: NodeId) {
         self.wishes.lock(rt).reack(peer);
         self.waker.wake();
     }
 
-    /// A frame of that peer came. It is looked at only while a peer is absent.
+    /// A frame of that peer came. How it stands is looked at only while a peer is absent.
     pub fn hear_voice<R: Wait>(&self, rt: &R, peer: NodeId) {
+        if let Some(channel) = self.channel_to(peer) {
+            channel.hear(self.now());
+        }
         if self.any_absent.is_set() {
             self.standings.lock(rt).note_voice(peer);
         }

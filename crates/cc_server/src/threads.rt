@@ -10,13 +10,15 @@ use crate::notes::{Note, write_notes};
 use crate::of_life::OfLife;
 use crate::own::serve_own;
 use crate::shared::{Inlets, Shared};
-use cc_channels::{Admission, FarEnd, Flag, Stop, write_peer};
+use cc_channels::{Admission, FarEnd, Flag, Stop, millis, write_peer};
 use cc_flush::Failed;
 use cc_intake::{Hooks, Lane, Life, Queue, Turner};
 use cc_messages::Event;
 use cc_site::Site;
 use cc_views::NodeId;
+use cc_watch::{Visitors, serve_pages};
 use crossbeam_channel::Receiver;
+use std::alloc::Global;
 use std::net::{Net, SocketAddr, TcpListener, TcpStream};
 use std::sync::Wait;
 use std::thread;
@@ -29,6 +31,13 @@ const TICK_MS: u64 = 1000;
 // How long the acceptor pauses after a connection that can't be accepted, in milliseconds.
 const PAUSE_MS: u64 = 50;
 
+/// Where a node listens: for nodes and clients, and for those who look at it, if they may.
+#[derive(Drop)]
+pub struct Listeners {
+    pub node: TcpListener,
+    pub pages: Option<TcpListener>,
+}
+
 /// What the writers of the peers and of notes, and the worker of the own messages, take out of.
 #[derive(Drop)]
 pub struct FarEnds {
@@ -40,14 +49,18 @@ pub struct FarEnds {
 
 impl Inlets {
     /// What the flusher takes out of, and what the workers and writers of the node `me` do.
-    pub fn cut(self, me: NodeId, shared: &Shared) -> (Watch<'_>, FarEnds) {
+    pub fn cut(self, alloc: Global, me: NodeId, shared: &Shared) -> (Watch<'_>, FarEnds) {
         let Inlets {
             parker,
             far,
             own,
             notes,
         } = self;
-        let watch = Watch { parker, shared };
+        let watch = Watch {
+            alloc,
+            parker,
+            shared,
+        };
         let ends = FarEnds {
             me,
             far,
@@ -65,7 +78,7 @@ pub fn live<'x, L: Life + Send + Sync, Q: Lane + Send + Sync, S: Site, R, H: Hoo
     turner: &'x mut Turner<S, L, Q>,
     watch: Watch<'x>,
     ends: FarEnds,
-    listener: &'x TcpListener,
+    listeners: &'x Listeners,
     stop: &'x Stop,
 ) -> Option<Result<(), Failed>>
 where
@@ -75,7 +88,6 @@ where
     let queue = context.queue;
     let shared = context.shared;
     let admission = context.admission;
-    let address = listener.local_addr().ok();
     let turner = &mut *turner;
     thread::scope(
         thread::scope_env(),
@@ -84,9 +96,13 @@ where
             requires { IsSend L.row × IsSend Q.row }
         {
             scope
-                .spawn(move || tick_until(rt, shared, address, stop))
+                .spawn(move || tick_until(rt, shared, listeners, stop))
                 .ok()?;
-            let Ok(server) = scope.spawn(move || serve_until(context, ends, listener, stop)) else {
+            if let Some(pages) = &listeners.pages {
+                let _ = scope.spawn(move || show_until(context, pages));
+            }
+            let Ok(server) = scope.spawn(move || serve_until(context, ends, &listeners.node, stop))
+            else {
                 shared.done.set();
                 return None;
             };
@@ -101,7 +117,7 @@ where
 }
 
 // Flushes, and has all end where that fails.
-fn flush_until<S: Site, L: Life, Q: Lane, R: Wait>(
+fn flush_until<S: Site, L: Life, Q: Lane, R: Wait + Clock>(
     rt: &R,
     turner: &mut Turner<S, L, Q>,
     queue: &Queue<L, Q>,
@@ -134,28 +150,52 @@ where
 fn tick_until<R: Wait + Clock + Net<Stream = TcpStream>>(
     rt: &R,
     shared: &Shared,
-    address: Option<SocketAddr>,
+    listeners: &Listeners,
     stop: &Stop,
 ) {
     for _ in rt.forever() {
         thread::sleep(rt, Duration::from_millis(TICK_MS));
-        shared.ticked.set();
-        shared.waker.wake();
+        shared.tick(millis(rt));
         if shared.done.is_set() {
+            if let Some(pages) = &listeners.pages {
+                knock(rt, pages);
+            }
             return;
         }
         if stop.is_set() || shared.ended.is_set() {
-            knock(rt, address);
+            knock(rt, &listeners.node);
         }
     }
     unreachable!()
 }
 
-// Wakes the acceptor, which then looks at the flags.
-fn knock<R: Net<Stream = TcpStream>>(rt: &R, address: Option<SocketAddr>) {
-    if let Some(address) = address {
+// Wakes the acceptor of a listener, which then looks at the flags.
+fn knock<R: Net<Stream = TcpStream>>(rt: &R, listener: &TcpListener) {
+    if let Ok(address) = listener.local_addr() {
         let _ = TcpStream::connect_timeout(rt, &address, Duration::from_secs(1));
     }
+}
+
+// Serves those who look at the node until no worker is left.
+fn show_until<L: Life, Q: Lane, R, H: Hooks + Sync>(
+    context: &Context<'_, R, H, L, Q>,
+    listener: &TcpListener,
+)
+where
+    R: Machine,
+{
+    let rt = context.rt;
+    let alloc = context.alloc;
+    let Some(board) = &context.shared.board else {
+        return;
+    };
+    let visitors = Visitors::new(board, &context.shared.done);
+    let visitors = &visitors;
+    thread::scope(
+        thread::scope_env(),
+        rt,
+        |scope| serve_pages(scope, rt, alloc, visitors, listener),
+    );
 }
 
 // Starts the writers and the worker of the own messages, accepts connections until a flag is set, and then ends the writers

@@ -20,7 +20,7 @@ pub struct Laid {
 /// even for that.
 #[derive(Drop)]
 pub struct Board {
-    version: &'static str,
+    version: String,
     // In milliseconds since 1970.
     started: u64,
     laid: Mutex<Option<Arc<Laid>>>,
@@ -28,7 +28,7 @@ pub struct Board {
 
 impl Board {
     /// A board on which nothing is laid out yet.
-    pub fn new(version: &'static str, started: u64) -> Self {
+    pub fn new(version: String, started: u64) -> Self {
         Board {
             version,
             started,
@@ -56,9 +56,9 @@ impl Board {
     }
 
     /// What is known of the node beside its state.
-    pub fn live<'a>(&self, laid: &'a Laid) -> Live<'a> {
+    pub fn live<'a>(&'a self, laid: &'a Laid) -> Live<'a> {
         Live {
-            version: self.version,
+            version: &self.version,
             started: self.started,
             now: laid.now,
             round_since: laid.round_since,

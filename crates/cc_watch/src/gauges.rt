@@ -19,6 +19,8 @@ pub struct Gauges {
     buckets: Vec<AtomicU64>,
     total_us: AtomicU64,
     worst_us: AtomicU64,
+    // The longest since it was asked for last.
+    slowest_us: AtomicU64,
     connections: AtomicU64,
 }
 
@@ -30,6 +32,7 @@ impl Gauges {
             buckets: zeros(alloc, BUCKETS)?,
             total_us: AtomicU64::new(0),
             worst_us: AtomicU64::new(0),
+            slowest_us: AtomicU64::new(0),
             connections: AtomicU64::new(0),
         })
     }
@@ -49,6 +52,12 @@ impl Gauges {
         }
         self.total_us.fetch_add(micros, Ordering::SeqCst);
         self.worst_us.fetch_max(micros, Ordering::SeqCst);
+        self.slowest_us.fetch_max(micros, Ordering::SeqCst);
+    }
+
+    /// How many microseconds the longest sync took since this was called last.
+    pub fn take_slowest(&self) -> u64 {
+        self.slowest_us.swap(0, Ordering::SeqCst)
     }
 
     /// A connection was opened.

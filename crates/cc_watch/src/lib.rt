@@ -10,4 +10,4 @@ mod visitors;
 
 pub use board::{Board, Laid};
 pub use gauges::Gauges;
-pub use serving::serve_pages;
+pub use serving::{Visitors, serve_pages};

@@ -1,7 +1,10 @@
 //! What each page has on it.
 
 use crate::board::{Board, Laid};
-use cc_http::{HOME, Outcome, Page, answer_page};
+use cc_http::{Outcome, Page, answer_page};
+
+const HOME: &str = "";
+
 use cc_status::{Metrics, Status, status_of};
 use cc_views::NoMemory;
 use std::alloc::Global;

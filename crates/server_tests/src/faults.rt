@@ -9,6 +9,7 @@ use cc_server::{Config, RunFault, run_node};
 use cc_site::{Call, DeviceFault, Side};
 use cc_views::NodeId;
 use cc_words::Peer;
+use log::Log;
 use std::fs;
 use std::fs::{File, Files};
 use std::net::{Net, SocketAddr, TcpListener, TcpStream};
@@ -68,10 +69,16 @@ where
         + Threads
         + Wait
         + Clock
-        + Eprint
+        + Log
         + Sync,
 {
-    let config = Config { dir, listen, peers };
+    let config = Config {
+        dir,
+        listen,
+        peers,
+        status: None,
+        version: "",
+    };
     let outcome = run_node(rt, rt.alloc(), &config, &Stop::new(), &NoHooks);
     check(outcome.err() == Some(wanted), "why a node doesn't run")
 }

@@ -18,6 +18,8 @@ mod hostile;
 #[cfg(test)]
 mod nodes;
 #[cfg(test)]
+mod pages;
+#[cfg(test)]
 mod retiring;
 #[cfg(test)]
 mod routing;

@@ -7,6 +7,7 @@ use cc_orders::FormatWords;
 use cc_server::{Config, RunFault, run_on};
 use cc_views::NodeId;
 use cc_words::Peer;
+use log::Log;
 use std::alloc::{AllocError, Global};
 use std::fs;
 use std::fs::{File, Files};
@@ -130,7 +131,7 @@ where
         + Threads
         + Wait
         + Clock
-        + Eprint
+        + Log
         + Sync,
 {
     run_among(rt, alloc, folder, listener, &[peer], stop, hooks)
@@ -152,7 +153,7 @@ where
         + Threads
         + Wait
         + Clock
-        + Eprint
+        + Log
         + Sync,
 {
     let listen = listener.local_addr().or(Err(RunFault::Listen))?;
@@ -160,6 +161,8 @@ where
         dir: folder,
         listen,
         peers: peers_of(alloc, peers)?,
+        status: None,
+        version: "",
     };
     run_on(rt, alloc, &config, Some(listener), stop, hooks)
 }
