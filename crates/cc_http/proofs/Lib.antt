@@ -1,3 +1,4 @@
 mod Fields
 mod Heads
+mod Lawful
 mod Writes

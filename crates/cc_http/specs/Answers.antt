@@ -16,7 +16,14 @@ field name value = record { name = name; raw = space ∷ value; end = crlf }
 -- an answer's head: its status, why, and its fields
 abbrev pub head : List ℕ → List ℕ → List Field → ResponseHead
 head digits reason fields = record {
-  blank = []; minor = 1; digits = digits; reason = Some reason; line_end = crlf; fields = fields; last = crlf }
+  blank = [];
+  minor = 1;
+  digits = digits;
+  reason = Some reason;
+  line_end = crlf;
+  fields = fields;
+  last = crlf;
+}
 
 -- the status of an outcome
 abbrev pub digits_of : Outcome → List ℕ

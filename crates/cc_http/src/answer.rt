@@ -1,10 +1,13 @@
 //! Which bytes an answer is.
 
-ghost use Rattle.std.specs.Prelude.{◌≡◌, ◌≤◌, ◌+◌, ◌++◌, length, take, OnOk, OnErr, IsOk, IsErr, vec_len, decimal, codes, IsTrue, nat_le};
+ghost use Rattle.std.specs.Prelude.{ℕ, ◌≡◌, ◌<◌, ◌^◌, ◌≤◌, ◌+◌, ◌++◌, length, take, OnOk, OnErr, IsOk, IsErr, vec_len, decimal, codes, IsTrue, nat_le};
 ghost use Rattle.std.specs.Vec.{vec_capacity};
 ghost use Rattle.std.specs.List.{flat_map};
 ghost use Rattle.httparse.specs.Ascii.{crlf_bytes};
-ghost use Rattle.httparse.specs.Grammar.{print_field, print_response};
+ghost use Rattle.httparse.specs.Grammar.{print_field, print_response, IsResponseHead};
+ghost use Rattle.cc_http.specs.declared.page.Page.{Page};
+ghost use Rattle.cc_http.specs.declared.asking.Wrong.{Wrong};
+ghost use Rattle.cc_http.specs.declared.answer.Outcome.{Outcome};
 ghost use Rattle.cc_http.specs.Writing.{Writes};
 ghost use Rattle.cc_http.specs.Answers.{field, form_of, common_fields, policy_fields, length_fields, is_stream, page_head, wrong_head, answer_spelling, wrong_digits, wrong_reason, allow_fields, wrong_text, body_spelling, digits_of, reason_of};
 ghost use Rattle.cc_http.specs.Lines.{status_line, lines, length_lines};
@@ -25,7 +28,8 @@ pub enum Outcome {
     NotReady,
 }
 
-const POLICY_LINE: &[u8] = b"Content-Security-Policy: default-src 'none'; style-src 'unsafe-inline'; script-src 'unsafe-inline'; connect-src 'self'; img-src data:; base-uri 'none'; form-action 'none'; frame-ancestors 'none'\r\n";
+const POLICY_LINE: &[u8] =
+    b"Content-Security-Policy: default-src 'none'; style-src 'unsafe-inline'; script-src 'unsafe-inline'; connect-src 'self'; img-src data:; base-uri 'none'; form-action 'none'; frame-ancestors 'none'\r\n";
 
 fn outcome_line(outcome: Outcome) -> &'static [u8]
     ensures { result.now ≡ status_line (digits_of outcome) (reason_of outcome) }
@@ -96,7 +100,8 @@ fn text_of(wrong: Wrong) -> &'static [u8]
     ensures { result.now ≡ wrong_text wrong }
 {
     match wrong {
-        Wrong::Malformed => b"no request that is read here: GET or HEAD by HTTP/1.1, without a body\n",
+        Wrong::Malformed =>
+            b"no request that is read here: GET or HEAD by HTTP/1.1, without a body\n",
         Wrong::NoPage => b"no such page: see /\n",
         Wrong::Method => b"no such method: GET and HEAD alone\n",
         Wrong::TooLong => b"the head of the request is too long\n",
@@ -105,11 +110,7 @@ fn text_of(wrong: Wrong) -> &'static [u8]
 }
 
 // The line that says how many bytes follow the head, unless they are a stream.
-fn put_length_line(
-    out: &mut Vec<u8>,
-    is_stream: bool,
-    size: usize,
-) -> Result<(), AllocError>
+fn put_length_line(out: &mut Vec<u8>, is_stream: bool, size: usize) -> Result<(), AllocError>
     ensures { Writes out.old out.new (length_lines is_stream size) result }
 {
     if is_stream {
@@ -254,3 +255,9 @@ pub fn answer_wrong(out: &mut Vec<u8>, wrong: Wrong, is_head: bool) -> Result<()
     let put = put_wrong(out, wrong, is_head);
     settled(out, start, put)
 }
+
+/// Each head is one of the grammar of HTTP, whatever stands behind it.
+pub fn answers_have_lawful_heads()
+    ensures page { (page : Page) (outcome : Outcome) (size : ℕ) → size < 2 ^ 64 → IsResponseHead (page_head page outcome size) }
+    ensures wrong { (wrong : Wrong) (size : ℕ) → size < 2 ^ 64 → IsResponseHead (wrong_head wrong size) }
+{}

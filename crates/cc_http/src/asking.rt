@@ -23,15 +23,9 @@ pub enum Asked {
     /// The head may still become whole.
     More,
     /// A page, or its head alone.
-    Page {
-        page: Page,
-        is_head: bool,
-    },
+    Page { page: Page, is_head: bool },
     /// Nothing that is given. An answer to HEAD has no body here either.
-    Wrong {
-        wrong: Wrong,
-        is_head: bool,
-    },
+    Wrong { wrong: Wrong, is_head: bool },
 }
 
 /// Why a request isn't served.
@@ -149,9 +143,7 @@ pub fn read_request(bytes: &[u8]) -> Asked
 {
     let mut fields = [EMPTY_HEADER_SPAN; MOST_FIELDS];
     match parse_request(bytes, &mut fields) {
-        Ok(Status::Complete(head)) if head.len <= MOST_HEAD => {
-            asked_by(bytes, &head, &fields)
-        }
+        Ok(Status::Complete(head)) if head.len <= MOST_HEAD => { asked_by(bytes, &head, &fields) }
         Ok(Status::Partial) if bytes.len() < MOST_HEAD => Asked::More,
         Ok(_) | Err(Error::TooManyHeaders) => refused(Wrong::TooLong),
         Err(Error::Version) => refused(Wrong::Version),
