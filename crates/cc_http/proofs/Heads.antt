@@ -1,5 +1,5 @@
 -- Heads as they are written, line by line.
-use Rattle.std.proofs.Common.{◌≡◌, ℕ, List, [], ◌∷◌, ◌++◌, refl, sym, ◌∙◌, ap, append_assoc, append-nil, Bool, true, false, decimal, codes}
+use Rattle.std.proofs.Common.{◌≡◌, ℕ, List, ◌∷◌, ◌++◌, refl, sym, ◌∙◌, ap, append_assoc, append-nil, Bool, true, false, decimal, codes}
 use Rattle.std.proofs.lemmas.Grind.{flat_map-append}
 use Rattle.httparse.specs.Ascii.{crlf_bytes, space}
 use Rattle.httparse.specs.Grammar.{Field, crlf, print_field, print_section, print_response}

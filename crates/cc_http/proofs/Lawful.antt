@@ -1,23 +1,23 @@
 -- Each head that is written is one of the grammar.
-use Rattle.std.proofs.Common.{◌≡◌, ℕ, ◌+◌, ◌<◌, ◌≤◌, ◌^◌, List, [], ◌∷◌, ◌++◌, length, refl, Bool, true, false, not, All, get_or, decimal, codes, arith, lit<, lit≤, subst, sym}
+use Rattle.std.proofs.Common.{◌≡◌, ℕ, ◌<◌, ◌^◌, List, [], ◌∷◌, ◌++◌, length, refl, Bool, true, false, All, decimal, codes, arith, lit<, lit≤}
 use Rattle.std.specs.List.{list_all}
 use Rattle.std.specs.Char.{is_ascii_digit}
 use Rattle.std.proofs.lemmas.Fmt.{decimal_is_IsNumeral}
 use Rattle.std.specs.Str.Parse.{AllDigits}
-use Rattle.std.specs.Char.{digit_value, digit_char, is_ascii_digit}
-use Rattle.std.proofs.lemmas.Bool.{eqb-true, eqb-false, and_from, or_right, not_from_false, ne_eqb, lt-ltb}
+use Rattle.std.specs.Char.{digit_value, is_ascii_digit}
+use Rattle.std.proofs.lemmas.Bool.{and_from}
 use Rattle.std.proofs.lemmas.Bool.Decides.{nat_tests}
 use Rattle.std.proofs.lemmas.List.Elements.{All-nil, All-cons, All-append}
 use Rattle.std.proofs.lemmas.List.Sums.{AllPass-from_list_all}
 use Rattle.httparse.specs.Ascii.{space}
-use Rattle.httparse.specs.Grammar.{AllPass, IsToken, is_token_byte, is_value_byte, Field, IsField, IsResponseHead}
+use Rattle.httparse.specs.Grammar.{AllPass, is_token_byte, is_value_byte, Field, IsField, IsResponseHead}
 use Rattle.cc_http.specs.declared.page.Page.{Page}
 use Rattle.cc_http.specs.declared.page.Page.TheVariants.{Home, Status, View, Changes, Metrics, Health, Ready}
 use Rattle.cc_http.specs.declared.answer.Outcome.{Outcome}
 use Rattle.cc_http.specs.declared.answer.Outcome.TheVariants.{Served, NotReady}
 use Rattle.cc_http.specs.declared.asking.Wrong.{Wrong}
 use Rattle.cc_http.specs.declared.asking.Wrong.TheVariants.{Malformed, NoPage, Method, TooLong, Version}
-use Rattle.cc_http.specs.Answers.{field, head, digits_of, reason_of, wrong_digits, wrong_reason, page_head, wrong_head, form_of, common_fields, policy_fields, allow_fields, length_fields, is_stream}
+use Rattle.cc_http.specs.Answers.{field, head, page_head, wrong_head, form_of, common_fields, policy_fields, allow_fields, length_fields, is_stream}
 
 -- a digit is a byte of a value
 digit_passes : (c : ℕ) → digit_value c < 10 → is_value_byte c ≡ true

@@ -1,5 +1,5 @@
 -- What an answer is, by the grammar of HTTP/1.x.
-use Rattle.std.specs.Prelude.{ℕ, Bool, true, false, List, [], ◌∷◌, ◌++◌, length, Some, codes, decimal, if◌then◌else◌}
+use Rattle.std.specs.Prelude.{ℕ, Bool, true, false, List, [], ◌∷◌, ◌++◌, Some, codes, decimal}
 use Rattle.httparse.specs.Ascii.{space}
 use Rattle.httparse.specs.Grammar.{crlf, Field, ResponseHead, print_response}
 use Rattle.cc_http.specs.declared.page.Page.{Page}

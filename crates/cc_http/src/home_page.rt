@@ -183,7 +183,7 @@ tr.is-new > * { animation: fresh 1.6s ease-out; }
 </main>
 <script>
 "use strict";
-const EACH = 1000, PATIENCE = 3000, SPAN = 300000;
+const EACH = 1000, PATIENCE = 3000, SPANS = [1, 2, 5];
 const STATES = ["joined", "entering", "absent", "left"];
 const at = id => document.getElementById(id);
 const samples = [];
@@ -405,29 +405,30 @@ function sample(status) {
     now: status.now, started: status.started, events, rate: isNext ? (events - before.events) / seconds : null,
     half: status.syncs.count ? status.syncs.p50_us / 1000 : null, most: status.syncs.count ? status.syncs.p99_us / 1000 : null,
   });
-  while (samples[0].now < status.now - SPAN) samples.shift();
+  while (samples[0].now < status.now - 60000 * SPANS[SPANS.length - 1]) samples.shift();
 }
 function ceiling(value) {
   const power = 10 ** Math.floor(Math.log10(Math.max(value, .1)));
   return [1, 2, 3, 5, 7, 10].map(it => it * power).find(it => it >= value);
 }
 const X0 = 0, X1 = 340, Y0 = 18, Y1 = 104;
-function runs(name, top, now) {
+function runs(name, top, now, span) {
   const found = [[]];
   for (const it of samples) {
     if (it[name] === null) found.push([]);
-    else found[found.length - 1].push([X1 - (now - it.now) / SPAN * (X1 - X0), Y1 - it[name] / top * (Y1 - Y0)]);
+    else found[found.length - 1].push([X1 - (now - it.now) / span * (X1 - X0), Y1 - it[name] / top * (Y1 - Y0)]);
   }
   return found.filter(run => run.length > 1);
 }
 function showChart(svg, names, unit, label) {
-  const now = samples[samples.length - 1].now, values = names.flatMap(name => samples.map(it => it[name]));
+  const now = samples[samples.length - 1].now, age = now - samples[0].now;
+  const minutes = SPANS.find(it => 60000 * it >= age) || SPANS[SPANS.length - 1], values = names.flatMap(name => samples.map(it => it[name]));
   const top = ceiling(Math.max(...values.filter(value => value !== null), 0)), parts = [];
   const path = points => points.map(([x, y]) => x.toFixed(1) + "," + y.toFixed(1)).join(" ");
   for (const y of [Y0, Y1]) parts.push(draw("line", { class: "axis", x1: X0, x2: X1, y1: y, y2: y }));
   parts.push(draw("text", { x: X0, y: Y0 - 5 }, top.toLocaleString("en") + unit));
-  parts.push(draw("text", { x: X0, y: Y1 + 15 }, "5 min ago"), draw("text", { x: X1, y: Y1 + 15, "text-anchor": "end" }, "now"));
-  names.forEach((name, i) => runs(name, top, now).forEach(run => {
+  parts.push(draw("text", { x: X0, y: Y1 + 15 }, minutes + " min ago"), draw("text", { x: X1, y: Y1 + 15, "text-anchor": "end" }, "now"));
+  names.forEach((name, i) => runs(name, top, now, 60000 * minutes).forEach(run => {
     if (!i) parts.push(draw("polygon", { points: path([[run[0][0], Y1], ...run, [run[run.length - 1][0], Y1]]) }));
     parts.push(draw("polyline", { class: i ? "second" : "", points: path(run) }));
   }));
@@ -441,8 +442,8 @@ function showCharts(status) {
   say(at("events-now"), rate);
   say(at("half-now"), half);
   say(at("most-now"), most);
-  showChart(at("events"), ["rate"], "", `Events a second over five minutes, now ${rate}`);
-  showChart(at("syncs"), ["half", "most"], " ms", `Disk sync over five minutes: half take at most ${half}, 99 of 100 at most ${most}`);
+  showChart(at("events"), ["rate"], "", `Events a second over the last minutes, now ${rate}`);
+  showChart(at("syncs"), ["half", "most"], " ms", `Disk sync over the last minutes: half take at most ${half}, 99 of 100 at most ${most}`);
 }
 
 function show(status) {

@@ -139,7 +139,7 @@ fn half_heads_are_waited_for(rt: HostRuntime) {
 #[test]
 fn an_endless_head_is_refused(rt: HostRuntime) -> Result<(), Fail> {
     let mut bytes = Vec::from_slice(rt.alloc(), b"GET / HTTP/1.1\r\nA: ")?;
-    while bytes.len() < MOST_HEAD - 1 {
+    for _ in bytes.len()..MOST_HEAD - 1 {
         bytes.push(b'a')?;
     }
     let is_waited_for = read_request(&bytes) == Asked::More;
