@@ -1,3 +1,4 @@
+mod EventLines
 mod Fields
 mod Heads
 mod Lawful
