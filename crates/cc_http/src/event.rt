@@ -1,6 +1,6 @@
 //! Events of a stream, as `text/event-stream` has them.
 
-ghost use Rattle.std.specs.Prelude.{◌≡◌, ◌≤◌, ◌+◌, ◌++◌, length, take, OnOk, OnErr, IsOk, IsTrue, vec_len, codes};
+ghost use Rattle.std.specs.Prelude.{◌≡◌, ◌≤◌, ◌+◌, ◌++◌, length, OnOk, OnErr, IsOk, IsTrue, vec_len, codes};
 ghost use Rattle.std.specs.Vec.{vec_capacity};
 ghost use Rattle.std.specs.List.{flat_map};
 ghost use Rattle.cc_http.specs.Writing.{Writes};

@@ -111,7 +111,7 @@ tr.is-new > * { animation: fresh 1.6s ease-out; }
 @keyframes fresh { from { background: color-mix(in srgb, var(--good) 20%, transparent); } }
 @media (prefers-reduced-motion: reduce) { tr.is-new > * { animation: none; } main { transition: none; } }
 @media (min-width: 640px) { .charts { grid-column: 1 / -1; display: grid; gap: 16px; grid-template-columns: 1fr 1fr; } }
-@media (max-width: 639px) { .summary { grid-template-columns: auto auto; } main { padding: 20px 14px 40px; } .charts { display: grid; gap: 16px; } .facts { grid-template-columns: 1fr 1fr; } td, th { padding-right: 12px; } }
+@media (max-width: 639px) { .summary { grid-template-columns: auto auto; } main { padding: 20px 14px 40px; } .charts { display: grid; gap: 16px; } .facts { grid-template-columns: 1fr 1fr; } table, tbody th { font-size: 13px; } td, th { padding-right: 10px; } .text { min-width: 7.4em; } }
 @media (min-width: 960px) {
   .grid { grid-template-columns: minmax(0, 5fr) minmax(0, 7fr); }
   #cluster-panel { grid-row: span 2; display: flex; flex-direction: column; }
@@ -396,7 +396,7 @@ function showPeers(status) {
   ], false);
 }
 
-// Samples of the last five minutes, and charts of them.
+// Samples of the last five minutes, and charts of them, as wide as there are minutes.
 function sample(status) {
   const before = samples[samples.length - 1], events = status.counts.events, seconds = before && (status.now - before.now) / 1000;
   if (before && before.started === status.started && seconds <= 0) return;
