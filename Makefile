@@ -1,7 +1,7 @@
 # The commands of the README. The toolchain is Rattle's kit, with its command rt on the PATH.
 .PHONY: try run install test check bench edits must-not-compile refused-growths failing-calls kill-files cluster load \
     kill-cluster soak soak-absent hostile closed-streams dead-member refused-flood stray-frames many-sessions \
-    stale-collects costs worked-rows trusted links beside
+    stale-collects costs worked-rows trusted links beside look look-picture hostile-status
 
 # Plays the script that ships with the program before any proof.
 try:
@@ -125,6 +125,24 @@ soak-absent:
 hostile:
 	@$(BUILD) ccnode
 	@python3 tools/hostile.py crates/ccnode/out/ccnode
+
+# Runs three nodes on loopback with status pages, and prints where these are: until Ctrl-C.
+look:
+	@$(BUILD) ccnode
+	@python3 tools/look.py crates/ccnode/out/ccnode
+
+# Takes docs/status-page.png: the status page of such a cluster, of which one node was killed. It needs Chromium, and takes
+# a minute and a half.
+look-picture:
+	@$(BUILD) ccnode
+	@python3 tools/look_picture.py crates/ccnode/out/ccnode docs/status-page.png
+
+# Misuses the status page of a node under load: half heads and endless ones, a thousand connections at once, pipelining,
+# bodies, garbage, streams that nobody reads. It fails where a request isn't answered as it should be, or the cluster
+# answers fewer than 95 of 100 asks meanwhile: two and a half minutes.
+hostile-status:
+	@$(BUILD) ccnode
+	@python3 tools/hostile_status.py crates/ccnode/out/ccnode
 
 # Runs a node with its standard streams closed in all seven ways, kills it KILLS times in each while a client stores, and
 # checks that what was answered is there, and that no command writes into a file of its folder: three minutes.

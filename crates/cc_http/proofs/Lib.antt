@@ -1,3 +1,5 @@
+mod EventLines
 mod Fields
 mod Heads
+mod Lawful
 mod Writes

@@ -1,5 +1,5 @@
 -- What an answer is, by the grammar of HTTP/1.x.
-use Rattle.std.specs.Prelude.{ℕ, Bool, true, false, List, [], ◌∷◌, ◌++◌, length, Some, codes, decimal, if◌then◌else◌}
+use Rattle.std.specs.Prelude.{ℕ, Bool, true, false, List, [], ◌∷◌, ◌++◌, length, Some, codes, decimal}
 use Rattle.httparse.specs.Ascii.{space}
 use Rattle.httparse.specs.Grammar.{crlf, Field, ResponseHead, print_response}
 use Rattle.cc_http.specs.declared.page.Page.{Page}
@@ -16,7 +16,14 @@ field name value = record { name = name; raw = space ∷ value; end = crlf }
 -- an answer's head: its status, why, and its fields
 abbrev pub head : List ℕ → List ℕ → List Field → ResponseHead
 head digits reason fields = record {
-  blank = []; minor = 1; digits = digits; reason = Some reason; line_end = crlf; fields = fields; last = crlf }
+  blank = [];
+  minor = 1;
+  digits = digits;
+  reason = Some reason;
+  line_end = crlf;
+  fields = fields;
+  last = crlf;
+}
 
 -- the status of an outcome
 abbrev pub digits_of : Outcome → List ℕ
@@ -84,6 +91,10 @@ body_spelling false body = body
 abbrev pub answer_spelling : ResponseHead → Bool → List ℕ → List ℕ
 answer_spelling h is_head body = print_response h ++ body_spelling is_head body
 
+-- the answer that gives a page, or says why the node isn't ready
+abbrev pub page_answer : Page → Outcome → Bool → List ℕ → List ℕ
+page_answer page outcome is_head body = answer_spelling (page_head page outcome (length body)) is_head body
+
 -- the status of what can't be served
 abbrev pub wrong_digits : Wrong → List ℕ
 wrong_digits Malformed = codes "400"
@@ -120,3 +131,7 @@ wrong_text NoPage = codes "no such page: see /\n"
 wrong_text Method = codes "no such method: GET and HEAD alone\n"
 wrong_text TooLong = codes "the head of the request is too long\n"
 wrong_text Version = codes "no such version: HTTP/1.0 and HTTP/1.1 alone\n"
+
+-- the answer that says what is wrong
+abbrev pub wrong_answer : Wrong → Bool → List ℕ
+wrong_answer wrong is_head = answer_spelling (wrong_head wrong (length (wrong_text wrong))) is_head (wrong_text wrong)

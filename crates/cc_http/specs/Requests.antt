@@ -7,7 +7,6 @@ use Rattle.httparse.specs.Spans.{name_and_value, RequestExceeds}
 use Rattle.cc_http.specs.declared.page.Page.{Page}
 use Rattle.cc_http.specs.declared.asking.Asked.{Asked}
 use Rattle.cc_http.specs.declared.asking.Asked.TheVariants as asked
-use Rattle.cc_http.specs.declared.asking.Wrong.{Wrong}
 use Rattle.cc_http.specs.declared.asking.Wrong.TheVariants as wrong
 use Rattle.cc_http.specs.Pages.{path_of}
 

@@ -1,12 +1,14 @@
 //! Which bytes an answer is.
 
-ghost use Rattle.std.specs.Prelude.{◌≡◌, ◌≤◌, ◌+◌, ◌++◌, length, take, OnOk, OnErr, IsOk, IsErr, vec_len, decimal, codes, IsTrue, nat_le};
+ghost use Rattle.std.specs.Prelude.{ℕ, ◌≡◌, ◌<◌, ◌^◌, ◌≤◌, ◌+◌, ◌++◌, length, OnOk, OnErr, IsOk, vec_len, codes};
 ghost use Rattle.std.specs.Vec.{vec_capacity};
-ghost use Rattle.std.specs.List.{flat_map};
 ghost use Rattle.httparse.specs.Ascii.{crlf_bytes};
-ghost use Rattle.httparse.specs.Grammar.{print_field, print_response};
+ghost use Rattle.httparse.specs.Grammar.{print_field, print_response, IsResponseHead};
+ghost use Rattle.cc_http.specs.declared.page.Page.{Page};
+ghost use Rattle.cc_http.specs.declared.asking.Wrong.{Wrong};
+ghost use Rattle.cc_http.specs.declared.answer.Outcome.{Outcome};
 ghost use Rattle.cc_http.specs.Writing.{Writes};
-ghost use Rattle.cc_http.specs.Answers.{field, form_of, common_fields, policy_fields, length_fields, is_stream, page_head, wrong_head, answer_spelling, wrong_digits, wrong_reason, allow_fields, wrong_text, body_spelling, digits_of, reason_of};
+ghost use Rattle.cc_http.specs.Answers.{field, form_of, common_fields, policy_fields, is_stream, page_head, wrong_head, page_answer, wrong_answer, wrong_digits, wrong_reason, allow_fields, wrong_text, body_spelling, digits_of, reason_of};
 ghost use Rattle.cc_http.specs.Lines.{status_line, lines, length_lines};
 
 use crate::asking::Wrong;
@@ -25,7 +27,8 @@ pub enum Outcome {
     NotReady,
 }
 
-const POLICY_LINE: &[u8] = b"Content-Security-Policy: default-src 'none'; style-src 'unsafe-inline'; script-src 'unsafe-inline'; connect-src 'self'; img-src data:; base-uri 'none'; form-action 'none'; frame-ancestors 'none'\r\n";
+const POLICY_LINE: &[u8] =
+    b"Content-Security-Policy: default-src 'none'; style-src 'unsafe-inline'; script-src 'unsafe-inline'; connect-src 'self'; img-src data:; base-uri 'none'; form-action 'none'; frame-ancestors 'none'\r\n";
 
 fn outcome_line(outcome: Outcome) -> &'static [u8]
     ensures { result.now ≡ status_line (digits_of outcome) (reason_of outcome) }
@@ -96,7 +99,8 @@ fn text_of(wrong: Wrong) -> &'static [u8]
     ensures { result.now ≡ wrong_text wrong }
 {
     match wrong {
-        Wrong::Malformed => b"no request that is read here: GET or HEAD by HTTP/1.1, without a body\n",
+        Wrong::Malformed =>
+            b"no request that is read here: GET or HEAD by HTTP/1.1, without a body\n",
         Wrong::NoPage => b"no such page: see /\n",
         Wrong::Method => b"no such method: GET and HEAD alone\n",
         Wrong::TooLong => b"the head of the request is too long\n",
@@ -105,11 +109,7 @@ fn text_of(wrong: Wrong) -> &'static [u8]
 }
 
 // The line that says how many bytes follow the head, unless they are a stream.
-fn put_length_line(
-    out: &mut Vec<u8>,
-    is_stream: bool,
-    size: usize,
-) -> Result<(), AllocError>
+fn put_length_line(out: &mut Vec<u8>, is_stream: bool, size: usize) -> Result<(), AllocError>
     ensures { Writes out.old out.new (length_lines is_stream size) result }
 {
     if is_stream {
@@ -213,14 +213,14 @@ fn put_answer(
     is_head: bool,
     body: &[u8],
 ) -> Result<(), AllocError>
-    ensures { Writes out.old out.new (answer_spelling (page_head page outcome (length body.now)) is_head body.now) result }
+    ensures { Writes out.old out.new (page_answer page outcome is_head body.now) result }
 {
     put_page_head(out, page, outcome, body.len())?;
     put_body(out, is_head, body)
 }
 
 fn put_wrong(out: &mut Vec<u8>, wrong: Wrong, is_head: bool) -> Result<(), AllocError>
-    ensures { Writes out.old out.new (answer_spelling (wrong_head wrong (length (wrong_text wrong))) is_head (wrong_text wrong)) result }
+    ensures { Writes out.old out.new (wrong_answer wrong is_head) result }
 {
     let body = text_of(wrong);
     put_wrong_head(out, wrong, body.len())?;
@@ -235,9 +235,9 @@ pub fn answer_page(
     is_head: bool,
     body: &[u8],
 ) -> Result<(), NoMemory>
-    ensures ok { OnOk result (out.new.items ≡ out.old.items ++ answer_spelling (page_head page outcome (length body.now)) is_head body.now) }
+    ensures ok { OnOk result (out.new.items ≡ out.old.items ++ page_answer page outcome is_head body.now) }
     ensures err { OnErr result (out.new.items ≡ out.old.items) }
-    ensures room { vec_len out.old + length (answer_spelling (page_head page outcome (length body.now)) is_head body.now) ≤ vec_capacity out.old → IsOk result }
+    ensures room { vec_len out.old + length (page_answer page outcome is_head body.now) ≤ vec_capacity out.old → IsOk result }
 {
     let start = out.len();
     let put = put_answer(out, page, outcome, is_head, body);
@@ -246,11 +246,17 @@ pub fn answer_page(
 
 /// Appends the answer that says in a line what is wrong. On an `Err` nothing has changed.
 pub fn answer_wrong(out: &mut Vec<u8>, wrong: Wrong, is_head: bool) -> Result<(), NoMemory>
-    ensures ok { OnOk result (out.new.items ≡ out.old.items ++ answer_spelling (wrong_head wrong (length (wrong_text wrong))) is_head (wrong_text wrong)) }
+    ensures ok { OnOk result (out.new.items ≡ out.old.items ++ wrong_answer wrong is_head) }
     ensures err { OnErr result (out.new.items ≡ out.old.items) }
-    ensures room { vec_len out.old + length (answer_spelling (wrong_head wrong (length (wrong_text wrong))) is_head (wrong_text wrong)) ≤ vec_capacity out.old → IsOk result }
+    ensures room { vec_len out.old + length (wrong_answer wrong is_head) ≤ vec_capacity out.old → IsOk result }
 {
     let start = out.len();
     let put = put_wrong(out, wrong, is_head);
     settled(out, start, put)
 }
+
+/// Each head is one of the grammar of HTTP, whatever stands behind it.
+pub fn answers_have_lawful_heads()
+    ensures page { (page : Page) (outcome : Outcome) (size : ℕ) → size < 2 ^ 64 → IsResponseHead (page_head page outcome size) }
+    ensures wrong { (wrong : Wrong) (size : ℕ) → size < 2 ^ 64 → IsResponseHead (wrong_head wrong size) }
+{}

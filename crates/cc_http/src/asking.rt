@@ -1,9 +1,8 @@
 //! What a request asks for.
 
-ghost use Rattle.std.specs.Prelude.{◌≡◌, ◌≤◌, ◌<◌, ◌↔◌, ℕ, List, All, IsTrue, IfSome, IfNone, false, length, map};
-ghost use Rattle.std.specs.List.{before_first};
-ghost use Rattle.httparse.specs.Grammar.{RequestHead, ReadsRequest, print_request};
-ghost use Rattle.httparse.specs.Spans.{IsRequestWithin, IsRequestAt, IsHeaderWithin, header_bytes, span_bytes};
+ghost use Rattle.std.specs.Prelude.{◌≡◌, ◌<◌, ◌↔◌, ℕ, List, All, IsTrue, IfSome, IfNone, false, length, map};
+ghost use Rattle.httparse.specs.Grammar.{RequestHead, ReadsRequest};
+ghost use Rattle.httparse.specs.Spans.{IsRequestWithin, IsRequestAt, IsHeaderWithin, header_bytes};
 ghost use Rattle.cc_http.specs.declared.asking.Asked.TheVariants as asked;
 ghost use Rattle.cc_http.specs.Requests.{path_in, BringsNoBody, BringNoBody, method_of, IsReading, IsAskedFor, IsShort, IsAskedBy, IsDue};
 
@@ -23,15 +22,9 @@ pub enum Asked {
     /// The head may still become whole.
     More,
     /// A page, or its head alone.
-    Page {
-        page: Page,
-        is_head: bool,
-    },
+    Page { page: Page, is_head: bool },
     /// Nothing that is given. An answer to HEAD has no body here either.
-    Wrong {
-        wrong: Wrong,
-        is_head: bool,
-    },
+    Wrong { wrong: Wrong, is_head: bool },
 }
 
 /// Why a request isn't served.
@@ -73,6 +66,7 @@ fn brings_no_body(bytes: &[u8], field: HeaderSpan) -> bool
     !name.eq_ignore_ascii_case(b"content-length") || field.value.of(bytes) == b"0".as_slice()
 }
 
+// Whether no field of the head brings a body.
 fn bring_no_body(bytes: &[u8], fields: &[HeaderSpan]) -> bool
     requires { All (IsHeaderWithin (length bytes.now)) fields.now }
     ensures { IsTrue result ↔ BringNoBody (map (header_bytes bytes.now) fields.now) }
@@ -99,7 +93,7 @@ fn is_for_head(method: &[u8]) -> Option<bool>
     None
 }
 
-// What asks for no page in whatever way it is asked.
+// Nothing that is given, in an answer that has a body.
 fn refused(wrong: Wrong) -> Asked
     ensures { result ≡ asked.Wrong wrong false }
 {
@@ -149,9 +143,7 @@ pub fn read_request(bytes: &[u8]) -> Asked
 {
     let mut fields = [EMPTY_HEADER_SPAN; MOST_FIELDS];
     match parse_request(bytes, &mut fields) {
-        Ok(Status::Complete(head)) if head.len <= MOST_HEAD => {
-            asked_by(bytes, &head, &fields)
-        }
+        Ok(Status::Complete(head)) if head.len <= MOST_HEAD => asked_by(bytes, &head, &fields),
         Ok(Status::Partial) if bytes.len() < MOST_HEAD => Asked::More,
         Ok(_) | Err(Error::TooManyHeaders) => refused(Wrong::TooLong),
         Err(Error::Version) => refused(Wrong::Version),

@@ -1,10 +1,10 @@
 //! Events of a stream, as `text/event-stream` has them.
 
-ghost use Rattle.std.specs.Prelude.{◌≡◌, ◌≤◌, ◌+◌, ◌++◌, length, take, OnOk, OnErr, IsOk, IsTrue, vec_len, codes};
+ghost use Rattle.std.specs.Prelude.{◌≡◌, ◌≤◌, ◌+◌, ◌++◌, length, OnOk, OnErr, IsOk, IsTrue, vec_len, codes};
 ghost use Rattle.std.specs.Vec.{vec_capacity};
 ghost use Rattle.std.specs.List.{flat_map};
 ghost use Rattle.cc_http.specs.Writing.{Writes};
-ghost use Rattle.cc_http.specs.Events.{is_one_line, data_byte, event_spelling};
+ghost use Rattle.cc_http.specs.Events.{is_one_line, data_byte, event_by_bytes, event_spelling};
 
 use crate::bytes::{put_bytes, settled};
 use cc_views::NoMemory;
@@ -40,12 +40,20 @@ fn put_name(out: &mut Vec<u8>, name: &str) -> Result<(), AllocError>
     put_bytes(out, b"\ndata: ")
 }
 
-fn put_whole(out: &mut Vec<u8>, name: &str, text: &str) -> Result<(), AllocError>
-    ensures { Writes out.old out.new (event_spelling name.now text.now) result }
+// The event, byte by byte.
+fn put_bytewise(out: &mut Vec<u8>, name: &str, text: &str) -> Result<(), AllocError>
+    ensures { Writes out.old out.new (event_by_bytes name.now text.now) result }
 {
     put_name(out, name)?;
     put_data(out, text.as_bytes())?;
     put_bytes(out, b"\n\n")
+}
+
+// The same, which is the event line by line.
+fn put_lines(out: &mut Vec<u8>, name: &str, text: &str) -> Result<(), AllocError>
+    ensures { Writes out.old out.new (event_spelling name.now text.now) result }
+{
+    put_bytewise(out, name, text)
 }
 
 /// Appends an event with that name, of one line, whose data is that text. On an `Err` nothing has changed.
@@ -56,6 +64,6 @@ pub fn put_event(out: &mut Vec<u8>, name: &str, text: &str) -> Result<(), NoMemo
     ensures room { vec_len out.old + length (event_spelling name.now text.now) ≤ vec_capacity out.old → IsOk result }
 {
     let start = out.len();
-    let put = put_whole(out, name, text);
+    let put = put_lines(out, name, text);
     settled(out, start, put)
 }

@@ -6,9 +6,11 @@ mod answer;
 mod asking;
 mod bytes;
 mod event;
+mod home_page;
 mod page;
 
-pub use answer::{Outcome, answer_page, answer_wrong};
+pub use answer::{Outcome, answer_page, answer_wrong, answers_have_lawful_heads};
 pub use asking::{Asked, MOST_FIELDS, MOST_HEAD, Wrong, read_request};
 pub use event::{HEARTBEAT, put_event};
+pub use home_page::home;
 pub use page::Page;

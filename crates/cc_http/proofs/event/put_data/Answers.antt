@@ -10,4 +10,4 @@ returns-in_err-put_data_byte c =
     let p = err_from_is_err_and c.from_residual.result c.from_residual.ensures.1 in
     let byte = get_or c.args.text.now c.loop-byte.byte-index 0 in
     rw p.1 (each_stops data_byte c.args.out.now c.loop-byte.out c.put_data_byte.new.out c.args.text.now c.loop-byte.byte-index byte _ _ c.loop-byte-test.true
-        (get_or_default c.args.text.now c.loop-byte.byte-index 0 byte c.loop-byte-test.true) c.loop-byte.invariant c.in_err-put_data_byte.ensures)
+    (get_or_default c.args.text.now c.loop-byte.byte-index 0 byte c.loop-byte-test.true) c.loop-byte.invariant c.in_err-put_data_byte.ensures)

@@ -1,4 +1,4 @@
-use Rattle.std.proofs.Common.{◌≡◌, ◌≢◌, ℕ, ◌<◌, get_or}
+use Rattle.std.proofs.Common.{◌≢◌, ℕ, ◌<◌, get_or}
 use Rattle.cc_http.specs.Pages.{path_of}
 use Rattle.cc_http.specs.declared.page.Page.TheVariants.{Home}
 use Rattle.cc_http.proofs.page.Page.at.Given as goal

@@ -1,0 +1,114 @@
+//! The bytes of answers and events.
+
+use cc_http::{HEARTBEAT, Outcome, Page, Wrong, answer_page, answer_wrong, home, put_event};
+use std::process::Abort;
+use std::test::*;
+
+const STATUS: &[u8] = b"HTTP/1.1 200 OK\r
+Content-Type: application/json\r
+Cache-Control: no-store\r
+Connection: close\r
+X-Content-Type-Options: nosniff\r
+Content-Length: 2\r
+\r
+{}";
+
+const CHANGES: &[u8] = b"HTTP/1.1 200 OK\r
+Content-Type: text/event-stream\r
+Cache-Control: no-store\r
+Connection: close\r
+X-Content-Type-Options: nosniff\r
+\r
+: \n\n";
+
+const READY: &[u8] = b"HTTP/1.1 503 Service Unavailable\r
+Content-Type: text/plain; charset=utf-8\r
+Cache-Control: no-store\r
+Connection: close\r
+X-Content-Type-Options: nosniff\r
+Content-Length: 15\r
+\r
+it has entered\n";
+
+const METHOD: &[u8] = b"HTTP/1.1 405 Method Not Allowed\r
+Content-Type: text/plain; charset=utf-8\r
+Cache-Control: no-store\r
+Connection: close\r
+X-Content-Type-Options: nosniff\r
+Allow: GET, HEAD\r
+Content-Length: 35\r
+\r
+no such method: GET and HEAD alone\n";
+
+const HOME: &[u8] = b"HTTP/1.1 200 OK\r
+Content-Type: text/html; charset=utf-8\r
+Cache-Control: no-store\r
+Connection: close\r
+X-Content-Type-Options: nosniff\r
+Content-Security-Policy: default-src 'none'; style-src 'unsafe-inline'; script-src 'unsafe-inline'; connect-src 'self'; img-src data:; base-uri 'none'; form-action 'none'; frame-ancestors 'none'\r
+Content-Length: 15\r
+\r
+<!doctype html>";
+
+// A page, its outcome and its body, and the bytes of the answer.
+type Case<'a> = (Page, Outcome, &'a [u8], &'a [u8]);
+
+fn check_cases<R: Abort>(rt: &R, out: &mut Vec<u8>, cases: &[Case<'_>]) -> Result<(), Fail> {
+    for (page, outcome, body, bytes) in cases {
+        out.clear();
+        answer_page(out, *page, *outcome, false, body)?;
+        assert!(rt; out.as_slice() == *bytes);
+        out.clear();
+        answer_page(out, *page, *outcome, true, body)?;
+        assert!(rt; out.as_slice() == &bytes[..bytes.len().saturating_sub(body.len())]);
+    }
+    Ok(())
+}
+
+#[test]
+fn pages_are_given(rt: HostRuntime) -> Result<(), Fail> {
+    let mut out = Vec::new(rt.alloc());
+    let checked = check_cases(
+        &rt,
+        &mut out,
+        &[
+            (Page::Status, Outcome::Served, b"{}", STATUS),
+            (Page::Changes, Outcome::Served, HEARTBEAT, CHANGES),
+            (Page::Ready, Outcome::NotReady, b"it has entered\n", READY),
+            (Page::Home, Outcome::Served, b"<!doctype html>", HOME),
+        ],
+    );
+    drop(out);
+    checked
+}
+
+#[test]
+fn what_is_wrong_is_told(rt: HostRuntime) -> Result<(), Fail> {
+    let mut out = Vec::new(rt.alloc());
+    answer_wrong(&mut out, Wrong::Method, false)?;
+    let is_told = out.as_slice() == METHOD;
+    drop(out);
+    assert!(rt; is_told);
+    Ok(())
+}
+
+// Each line of the text is data of its own.
+#[test]
+fn events_are_written(rt: HostRuntime) -> Result<(), Fail> {
+    let mut out = Vec::new(rt.alloc());
+    put_event(&mut out, "row", "{}")?;
+    let is_one = out.as_slice() == b"event: row\ndata: {}\n\n".as_slice();
+    put_event(&mut out, "row", "a\nb")?;
+    let is_two = out
+        .as_slice()
+        .ends_with(b"\n\nevent: row\ndata: a\ndata: b\n\n");
+    drop(out);
+    assert!(rt; is_one && is_two);
+    Ok(())
+}
+
+#[test]
+fn the_page_is_html(rt: HostRuntime) {
+    assert!(rt; home().starts_with("<!doctype html>\n"));
+    assert!(rt; home().ends_with("</html>\n"));
+}

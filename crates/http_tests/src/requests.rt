@@ -1,0 +1,174 @@
+//! What requests ask for, as they come in.
+
+use cc_http::{Asked, MOST_FIELDS, MOST_HEAD, Page, Wrong, read_request};
+use std::alloc::{AllocError, Global};
+use std::process::Abort;
+use std::test::*;
+
+fn page(page: Page) -> Asked {
+    Asked::Page {
+        page,
+        is_head: false,
+    }
+}
+
+fn head_of(page: Page) -> Asked {
+    Asked::Page {
+        page,
+        is_head: true,
+    }
+}
+
+fn wrong(wrong: Wrong) -> Asked {
+    Asked::Wrong {
+        wrong,
+        is_head: false,
+    }
+}
+
+// What came, and what it asks for.
+type Case<'a> = (&'a [u8], Asked);
+
+fn check_cases<R: Abort>(rt: &R, cases: &[Case<'_>]) {
+    for (bytes, asked) in cases {
+        assert!(rt; read_request(bytes) == *asked);
+    }
+}
+
+#[test]
+fn each_page_is_asked_for(rt: HostRuntime) {
+    check_cases(
+        &rt,
+        &[
+            (b"GET / HTTP/1.1\r\nHost: a\r\n\r\n", page(Page::Home)),
+            (b"GET /status.json HTTP/1.1\r\n\r\n", page(Page::Status)),
+            (b"GET /view HTTP/1.0\r\n\r\n", page(Page::View)),
+            (b"GET /view/changes HTTP/1.1\r\n\r\n", page(Page::Changes)),
+            (b"GET /metrics?name=a HTTP/1.1\r\n\r\n", page(Page::Metrics)),
+            (b"GET /healthz? HTTP/1.1\n\n", page(Page::Health)),
+            (b"\r\nHEAD /readyz HTTP/1.1\r\n\r\n", head_of(Page::Ready)),
+        ],
+    );
+}
+
+#[test]
+fn what_is_no_page_is_told_apart(rt: HostRuntime) {
+    check_cases(
+        &rt,
+        &[
+            (b"GET /views HTTP/1.1\r\n\r\n", wrong(Wrong::NoPage)),
+            (b"GET /view/ HTTP/1.1\r\n\r\n", wrong(Wrong::NoPage)),
+            (b"GET /VIEW HTTP/1.1\r\n\r\n", wrong(Wrong::NoPage)),
+            (b"GET ?/view HTTP/1.1\r\n\r\n", wrong(Wrong::NoPage)),
+            (
+                b"HEAD /favicon.ico HTTP/1.1\r\n\r\n",
+                Asked::Wrong {
+                    wrong: Wrong::NoPage,
+                    is_head: true,
+                },
+            ),
+            (b"PUT / HTTP/1.1\r\n\r\n", wrong(Wrong::Method)),
+            (b"get / HTTP/1.1\r\n\r\n", wrong(Wrong::Method)),
+            (
+                b"POST / HTTP/1.1\r\nContent-Length: 3\r\n\r\nabc",
+                wrong(Wrong::Method),
+            ),
+        ],
+    );
+}
+
+#[test]
+fn bodies_are_refused(rt: HostRuntime) {
+    check_cases(
+        &rt,
+        &[
+            (
+                b"GET / HTTP/1.1\r\nContent-Length: 0\r\n\r\n",
+                page(Page::Home),
+            ),
+            (
+                b"GET / HTTP/1.1\r\ncontent-LENGTH: 3\r\n\r\nabc",
+                wrong(Wrong::Malformed),
+            ),
+            (
+                b"GET / HTTP/1.1\r\nContent-Length: 00\r\n\r\n",
+                wrong(Wrong::Malformed),
+            ),
+            (
+                b"GET / HTTP/1.1\r\nContent-Length:\r\n\r\n",
+                wrong(Wrong::Malformed),
+            ),
+            (
+                b"GET / HTTP/1.1\r\nA: b\r\nTransfer-Encoding: chunked\r\n\r\n",
+                wrong(Wrong::Malformed),
+            ),
+        ],
+    );
+}
+
+#[test]
+fn bytes_that_are_no_head_are_refused(rt: HostRuntime) {
+    check_cases(
+        &rt,
+        &[
+            (b"\x16\x03\x01\x02\x00\x01\x00", wrong(Wrong::Malformed)),
+            (b"GET / HTTP/1.1\r\nA b\r\n\r\n", wrong(Wrong::Malformed)),
+            (
+                b"GET / HTTP/1.1\r\nA: \x00\r\n\r\n",
+                wrong(Wrong::Malformed),
+            ),
+            (b"GET /\xff HTTP/1.1\r\n\r\n", wrong(Wrong::Malformed)),
+            (b"GET / HTTP/2.0\r\n\r\n", wrong(Wrong::Version)),
+            (b"GET / HTTP/1.2\r\n\r\n", wrong(Wrong::Version)),
+        ],
+    );
+}
+
+// A head that is cut anywhere may still become whole; what stands behind it is another request.
+#[test]
+fn half_heads_are_waited_for(rt: HostRuntime) {
+    let bytes = b"GET /view HTTP/1.1\r\nHost: a\r\n\r\nGET / HTTP/1.1\r\n\r\n".as_slice();
+    for end in 0..31 {
+        assert!(rt; read_request(&bytes[..end]) == Asked::More);
+    }
+    assert!(rt; read_request(&bytes[..31]) == page(Page::View));
+    assert!(rt; read_request(bytes) == page(Page::View));
+}
+
+// A head of one field that never ends.
+#[test]
+fn an_endless_head_is_refused(rt: HostRuntime) -> Result<(), Fail> {
+    let mut bytes = Vec::from_slice(rt.alloc(), b"GET / HTTP/1.1\r\nA: ")?;
+    for _ in bytes.len()..MOST_HEAD - 1 {
+        bytes.push(b'a')?;
+    }
+    let is_waited_for = read_request(&bytes) == Asked::More;
+    bytes.push(b'a')?;
+    let is_refused = read_request(&bytes) == wrong(Wrong::TooLong);
+    drop(bytes);
+    assert!(rt; is_waited_for && is_refused);
+    Ok(())
+}
+
+// So many fields, and no end of the head.
+fn fields(alloc: Global, count: usize) -> Result<Vec<u8>, AllocError> {
+    let mut bytes = Vec::from_slice(alloc, b"GET / HTTP/1.1\r\n")?;
+    for _ in 0..count {
+        bytes.extend_from_slice(b"A: b\r\n")?;
+    }
+    Ok(bytes)
+}
+
+#[test]
+fn a_head_of_too_many_fields_is_refused(rt: HostRuntime) -> Result<(), Fail> {
+    let mut most = fields(rt.alloc(), MOST_FIELDS)?;
+    let is_waited_for = read_request(&most) == Asked::More;
+    most.extend_from_slice(b"\r\n")?;
+    let is_served = read_request(&most) == page(Page::Home);
+    most.truncate(most.len() - 2);
+    most.extend_from_slice(b"A: b\r\n")?;
+    let is_refused = read_request(&most) == wrong(Wrong::TooLong);
+    drop(most);
+    assert!(rt; is_waited_for && is_served && is_refused);
+    Ok(())
+}

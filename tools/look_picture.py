@@ -1,0 +1,135 @@
+#!/usr/bin/env python3
+"""Takes a picture of the status page of a cluster, one of whose three nodes was killed: look_picture.py PROGRAM PICTURE
+
+Node 3 is killed and taken for absent before the picture is taken, and the others store meanwhile. It needs Chromium,
+takes a minute and a half, and ends all that it started.
+"""
+import http.server
+import os
+import pathlib
+import shutil
+import subprocess
+import sys
+import tempfile
+import threading
+import time
+import urllib.error
+import urllib.request
+
+import nodes
+from look import WatchedCluster, store_values
+from nodes import LOOPBACK, say
+
+BROWSERS = ["chromium", "chromium-browser", "google-chrome", "chrome"]
+SIZE = "1400,1120"
+MOST_BYTES = 200_000
+# For how long the charts are filled with all nodes, and how long node 3 is away then.
+FILLED, AWAY = 50.0, 12.0
+PATIENCE = 30.0
+# A browser takes its picture once all of a page is loaded. So what it shows waits for an image, which comes in time.
+HELD = b'<img src="/held" alt="" width="0" height="0"></body>'
+
+
+class Front(http.server.ThreadingHTTPServer):
+    """Stands before a status page, and holds the picture back until it is let go."""
+
+    daemon_threads = True
+
+    def __init__(self, address):
+        super().__init__((LOOPBACK, 0), FrontRequest)
+        self.page = f"http://{address[0]}:{address[1]}"
+        self.may_go = threading.Event()
+        threading.Thread(target=self.serve_forever, daemon=True).start()
+
+    def url(self):
+        return f"http://{LOOPBACK}:{self.server_address[1]}/"
+
+
+class FrontRequest(http.server.BaseHTTPRequestHandler):
+    def do_GET(self):
+        if self.path == "/held":
+            self.server.may_go.wait(FILLED + AWAY + 2 * PATIENCE)
+            return self.answer(204, "image/gif", b"")
+        try:
+            with urllib.request.urlopen(self.server.page + self.path, timeout=PATIENCE) as answer:
+                body, form = answer.read(), answer.headers["Content-Type"]
+        except urllib.error.URLError as why:
+            return self.answer(502, "text/plain", str(why).encode())
+        self.answer(200, form, body.replace(b"</body>", HELD) if self.path == "/" else body)
+
+    def answer(self, status, form, body):
+        self.send_response(status)
+        self.send_header("Content-Type", form)
+        self.send_header("Content-Length", str(len(body)))
+        self.end_headers()
+        self.wfile.write(body)
+
+    def log_message(self, *_):
+        pass
+
+
+def browser():
+    found = next(filter(None, map(shutil.which, BROWSERS)), None)
+    return found or sys.exit(f"no browser: one of {', '.join(BROWSERS)}")
+
+
+def browser_words(program, url, picture, folder):
+    words = [program, "--headless=new", "--disable-gpu", "--hide-scrollbars", "--no-first-run", f"--user-data-dir={folder}"]
+    words += ["--no-sandbox"] if os.geteuid() == 0 else []
+    return [*words, f"--window-size={SIZE}", f"--screenshot={picture}", url]
+
+
+def take_picture(address, picture, prepare):
+    """Takes a picture of the page at that address, as it looks once `prepare` has returned."""
+    front, program = Front(address), browser()
+    with tempfile.TemporaryDirectory(prefix="look-", ignore_cleanup_errors=True) as folder:
+        words = browser_words(program, front.url(), picture, folder)
+        taking = subprocess.Popen(words, stdout=subprocess.DEVNULL, stderr=subprocess.DEVNULL)
+        try:
+            prepare()
+            front.may_go.set()
+            taking.wait(PATIENCE)
+        finally:
+            taking.kill()
+            taking.wait()
+            front.shutdown()
+
+
+def lose_node(cluster, node):
+    """Kills a node, and waits until node 1 takes it for absent, and for a while longer."""
+    cluster.kill(node)
+    killed = time.monotonic()
+    while not any(peer["id"] == node and peer["absent_since"] is not None for peer in cluster.status(1)["peers"]):
+        if time.monotonic() - killed > PATIENCE:
+            sys.exit(f"node {node} isn't taken for absent")
+        time.sleep(0.2)
+    say(f"node {node} is taken for absent after {time.monotonic() - killed:.1f} s")
+    time.sleep(max(0.0, AWAY - (time.monotonic() - killed)))
+
+
+def main(program, picture):
+    picture = pathlib.Path(picture).resolve()
+    picture.unlink(missing_ok=True)
+    with WatchedCluster(program, 3, beta="2/3") as cluster:
+        cluster.start_all()
+        cluster.wait_until_ready()
+        store_values(cluster)
+        load = nodes.Load(cluster, [1, 2], 2)
+
+        def prepare():
+            time.sleep(FILLED)
+            lose_node(cluster, 3)
+
+        take_picture(cluster.page_address(1), picture, prepare)
+        load.end()
+    size = picture.stat().st_size if picture.exists() else 0
+    if not 0 < size < MOST_BYTES:
+        sys.exit(f"the picture has {size} bytes")
+    say(f"{picture}: {size} bytes")
+
+
+if __name__ == "__main__":
+    if len(sys.argv) != 3:
+        sys.exit(__doc__)
+    nodes.end_on_signals()
+    main(*sys.argv[1:])
