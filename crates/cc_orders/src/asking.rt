@@ -48,6 +48,20 @@ pub struct AskOrder {
 }
 
 impl AskOrder {
+    /// A command that is done in a session, under the number after its last one, with so many seconds for the answer, which is
+    /// printed as `play` prints it.
+    pub fn new(address: SocketAddr, session: u64, command: Command, timeout: u64) -> Self {
+        AskOrder {
+            address,
+            session,
+            command,
+            request: None,
+            timeout,
+            form: AnswerForm::Plain,
+            waits: false,
+        }
+    }
+
     /// What these words ask for. The fault names the first word of another form.
     pub fn parse(words: &AskWords<'_>) -> Result<Self, WordFault> {
         Ok(AskOrder {
