@@ -4,7 +4,7 @@ use clap::{Arg, ArgAction, Command};
 use std::alloc::{AllocError, Global};
 
 /// The program's version.
-const VERSION: &str = "0.1.0";
+pub const VERSION: &str = "0.1.0";
 
 const PLAY_HELP: &str = "\
 Example: ccnode play < my-script

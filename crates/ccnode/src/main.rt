@@ -4,6 +4,7 @@
 
 mod folder;
 mod network;
+mod noting;
 mod running;
 mod streams;
 

@@ -1,7 +1,9 @@
 //! A node that runs.
 
 use crate::folder::{print_lost, print_trouble};
+use crate::noting::NotingRuntime;
 use crate::{BAD_COMMAND_LINE, FAULT, print_word_fault};
+use cc_arguments::VERSION;
 use cc_channels::Stop;
 use cc_commands::node_in_folder;
 use cc_intake::NoHooks;
@@ -27,6 +29,7 @@ where
         + Threads
         + Wait
         + Clock
+        + Drop
         + Sync,
 {
     match words.peers_file {
@@ -57,6 +60,7 @@ where
         + Threads
         + Wait
         + Clock
+        + Drop
         + Sync,
 {
     let lines = match file {
@@ -95,6 +99,7 @@ where
         + Threads
         + Wait
         + Clock
+        + Drop
         + Sync,
 {
     print_lost(rt, folder)?;
@@ -102,8 +107,9 @@ where
         true => node_in_folder(rt, rt.alloc(), folder),
         false => None,
     };
+    let noting = NotingRuntime::new(rt, order.log);
     let config = config_of(folder, order, own);
-    match run_node(rt, rt.alloc(), &config, &Stop::new(), &NoHooks) {
+    match run_node(&noting, rt.alloc(), &config, &Stop::new(), &NoHooks) {
         Ok(_) => Ok(ExitCode::SUCCESS),
         Err(fault) => print_run_fault(rt, folder, fault),
     }
@@ -115,11 +121,18 @@ fn config_of<'a>(folder: &'a str, order: RunOrder, own: Option<NodeId>) -> Confi
     if let Some(node) = own {
         order.pass_over(node);
     }
-    let RunOrder { listen, peers, .. } = order;
+    let RunOrder {
+        listen,
+        peers,
+        status,
+        log: _,
+    } = order;
     Config {
         dir: folder,
         listen,
         peers,
+        status,
+        version: VERSION,
     }
 }
 
