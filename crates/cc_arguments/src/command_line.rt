@@ -1,10 +1,10 @@
 //! The words of the command line, and their help.
 
-use clap::{Arg, Command};
+use clap::{Arg, ArgAction, Command};
 use std::alloc::{AllocError, Global};
 
 /// The program's version.
-const VERSION: &str = "0.1.0";
+pub const VERSION: &str = "0.1.0";
 
 const PLAY_HELP: &str = "\
 Example: ccnode play < my-script
@@ -40,8 +40,10 @@ Prints three lines:
   opened A records 2 events 3   the side in use, and what counts behind its state
 In place of the last line, or of all that are still to come, it prints `fault` and
 why the folder can't be opened: `Device A Length` where it is missing, or a node runs
-on it. It changes nothing but that it makes files that are missing. Statuses: 0 opened,
-1 after a fault, 2 after a command line that it doesn't take.";
+on it. It changes nothing but that it makes files that are missing. With --node further
+lines tell of the node: its members, its view, the round that is pending and what that
+needs, the asks that wait, and for each peer the posts that it owes an acknowledgement.
+Statuses: 0 opened, 1 after a fault, 2 after a command line that it doesn't take.";
 
 const RUN_HELP: &str = "\
 Example: ccnode run node-1 --listen 127.0.0.1:7001 \\
@@ -51,6 +53,9 @@ Runs the node of a folder that was formatted, until the program is ended, by SIG
 or else: what was answered is on the disk, and the next run goes on from there.
 A peer that isn't named gets nothing from this node. Whoever can reach ADDR may ask,
 tell the node to leave, or send it messages: keep it in a network that you trust.
+
+A FILE of peers has a line ID=ADDR for each node. Blank lines and those that begin
+with # say nothing, and the node's own line is passed over: one file serves all.
 
 It notes its start on standard error, and its end where a disk call fails. It prints
 why it doesn't run, or has ended. Statuses: 1 where the folder can't be opened
@@ -72,8 +77,14 @@ Commands, and what they print:
 It asks again where the node is busy or the connection breaks, under the same number,
 so that nothing is done twice. Else it prints `refused` and why, as `refused 4
 NotJoined`, or `no answer`: then it may still be done, and asking again does it once
-more. Statuses: 0 after an answer, 1 after a refusal or no answer, 2 after a command
-line that it doesn't take.";
+more. With --request the command is asked under that number and no other: it is done
+once, however often that line is run, and a number that isn't the session's last or
+the next is refused, 11 Stale or 12 Skip. With --wait a node that isn't in the cluster
+yet is asked again until the time is over.
+
+With --json it prints {\"answer\":\"Max\",\"max\":120} and the like, {\"refused\":\"Busy\",
+\"number\":13,\"carries\":0} or {\"no_answer\":true}. Statuses: 0 after an answer, 1 after
+a refusal or no answer, 2 after a command line that it doesn't take.";
 
 const LEAVE_HELP: &str = "\
 Example: ccnode leave 127.0.0.1:7001
@@ -89,6 +100,16 @@ To be done at each node that lives, once it is sure that the dead one never come
 Prints `retired 3`, also where it was retired before or has left, and where the node
 that is asked has left itself; else `refused` and why, or `no answer`. Statuses: 0
 retired, 1 not, 2 after a command line that it doesn't take.";
+
+const STATUS_HELP: &str = "\
+Example: ccnode status 127.0.0.1:8001
+
+Prints what the node tells of itself at the ADDR of `run --status`, a line for each part:
+whether it is ready or why not, how many members answer an operation, the round that is
+under way and the asks that wait, its sessions and posts, its disk and the times of its
+syncs, and for each peer whether it is there and how far it is behind. With --json it
+prints the JSON as it came. Else it prints `no answer`. Statuses: 0 where the node is
+ready, 1 where it isn't or doesn't answer, 2 after a command line that it doesn't take.";
 
 // A subcommand: its name, what it does, its words in their order, and what its help ends with.
 struct Subcommand {
@@ -109,6 +130,10 @@ enum Word {
     NeededOption(&'static str, &'static str, &'static str),
     // An option, and what its value is called.
     Option(&'static str, &'static str, &'static str),
+    // The same where the value may begin with a hyphen.
+    AnyOption(&'static str, &'static str, &'static str),
+    // An option without a value.
+    Flag(&'static str, &'static str),
 }
 
 const FOLDER: Word = Word::Needed("DIR", "The node's folder, which has to exist");
@@ -172,6 +197,21 @@ const RUN: Subcommand = Subcommand {
             "ID=ADDR,..",
             "Where the other nodes listen [default: none]",
         ),
+        Word::Option(
+            "peers-file",
+            "FILE",
+            "The same from a file, in place of --peers: a line ID=ADDR for each node",
+        ),
+        Word::Option(
+            "status",
+            "ADDR",
+            "Where it tells its status over HTTP [default: nowhere]",
+        ),
+        Word::Option(
+            "log",
+            "LEVEL",
+            "How much it notes: error, warn, info or debug [default: info]",
+        ),
     ],
     help: RUN_HELP,
 };
@@ -187,7 +227,19 @@ const ASK: Subcommand = Subcommand {
         ),
         Word::Needed("COMMAND", "What is to be done, as below"),
         Word::Spared("VALUE", "The word that some commands have"),
+        Word::AnyOption(
+            "text",
+            "TEXT",
+            "What is to be stored, in place of VALUE: any 1 to 64 bytes, blanks too",
+        ),
+        Word::Option(
+            "request",
+            "N",
+            "The number of the request, from 1 on [default: the one after the session's last]",
+        ),
         Word::Option("timeout", "SECONDS", "How long it waits [default: 10]"),
+        Word::Flag("wait", "Asks again while the node hasn't joined"),
+        Word::Flag("json", "Prints the answer as JSON, in a line"),
     ],
     help: ASK_HELP,
 };
@@ -212,11 +264,28 @@ const RETIRE: Subcommand = Subcommand {
 const DUMP: Subcommand = Subcommand {
     name: "dump",
     about: "Tells what stands in a node's folder",
-    words: &[FOLDER],
+    words: &[
+        FOLDER,
+        Word::Flag("node", "Tells of the node too, and what it waits for"),
+    ],
     help: DUMP_HELP,
 };
 
-const SUBCOMMANDS: [Subcommand; 7] = [PLAY, FORMAT, RUN, ASK, LEAVE, RETIRE, DUMP];
+const STATUS: Subcommand = Subcommand {
+    name: "status",
+    about: "Prints what a node tells of itself",
+    words: &[
+        Word::Needed(
+            "ADDR",
+            "Where the node tells its status, such as 127.0.0.1:8001",
+        ),
+        Word::Flag("json", "Prints it as JSON, as it came"),
+        Word::Flag("watch", "Asks once a second, until the program is ended"),
+    ],
+    help: STATUS_HELP,
+};
+
+const SUBCOMMANDS: [Subcommand; 8] = [PLAY, FORMAT, RUN, ASK, LEAVE, RETIRE, STATUS, DUMP];
 
 /// The program's subcommands and their words. The help has the program's own name, whatever its file is called.
 pub fn command_line<'a>(alloc: Global) -> Result<Command<'a>, AllocError> {
@@ -251,6 +320,13 @@ fn arg_of<'a>(alloc: Global, word: &Word) -> Arg<'a> {
             option(alloc, name, value).required(true).help(help)
         }
         Word::Option(name, value, help) => option(alloc, name, value).help(help),
+        Word::AnyOption(name, value, help) => option(alloc, name, value)
+            .allow_hyphen_values(true)
+            .help(help),
+        Word::Flag(name, help) => Arg::new(alloc, name)
+            .long(name)
+            .action(ArgAction::SetTrue)
+            .help(help),
     }
 }
 

@@ -4,4 +4,5 @@
 mod command_line;
 mod order;
 
+pub use command_line::VERSION;
 pub use order::{Order, parse};

@@ -1,7 +1,7 @@
 //! What a command line asks for.
 
 use crate::command_line::command_line;
-use cc_orders::{AskWords, FormatWords};
+use cc_orders::{AnswerForm, AskWords, FormatWords, RunWords};
 use clap::ArgMatches;
 use std::alloc::Global;
 
@@ -18,8 +18,7 @@ pub enum Order<'a> {
     /// Run the node of a folder.
     Run {
         folder: &'a str,
-        listen: &'a str,
-        peers: Option<&'a str>,
+        words: RunWords<'a>,
     },
     /// Ask a node that runs.
     Ask(AskWords<'a>),
@@ -32,9 +31,16 @@ pub enum Order<'a> {
         address: &'a str,
         node: &'a str,
     },
-    /// Tell what stands in a folder.
+    /// Print what a node tells of itself.
+    Status {
+        address: &'a str,
+        form: AnswerForm,
+        watches: bool,
+    },
+    /// Tell what stands in a folder, and of its node where that is asked for.
     Dump {
         folder: &'a str,
+        tells_node: bool,
     },
 }
 
@@ -65,11 +71,11 @@ fn order_at_folder<'a>(name: &str, words: &ArgMatches<'a>) -> Option<Order<'a>> 
         }),
         "run" => Some(Order::Run {
             folder: required(words, "DIR"),
-            listen: required(words, "listen"),
-            peers: words.get_str("peers"),
+            words: run_words(words),
         }),
         "dump" => Some(Order::Dump {
             folder: required(words, "DIR"),
+            tells_node: words.get_flag("node"),
         }),
         _ => None,
     }
@@ -86,6 +92,11 @@ fn order_at_node<'a>(name: &str, words: &ArgMatches<'a>) -> Option<Order<'a>> {
             address: required(words, "ADDR"),
             node: required(words, "ID"),
         }),
+        "status" => Some(Order::Status {
+            address: required(words, "ADDR"),
+            form: answer_form(words),
+            watches: words.get_flag("watch"),
+        }),
         _ => None,
     }
 }
@@ -101,13 +112,34 @@ fn format_words<'a>(words: &ArgMatches<'a>) -> FormatWords<'a> {
     }
 }
 
+fn run_words<'a>(words: &ArgMatches<'a>) -> RunWords<'a> {
+    RunWords {
+        listen: required(words, "listen"),
+        peers: words.get_str("peers"),
+        peers_file: words.get_str("peers-file"),
+        status: words.get_str("status"),
+        log: words.get_str("log"),
+    }
+}
+
 fn ask_words<'a>(words: &ArgMatches<'a>) -> AskWords<'a> {
     AskWords {
         address: required(words, "ADDR"),
         session: required(words, "SESSION"),
         command: required(words, "COMMAND"),
         value: words.get_str("VALUE"),
+        text: words.get_str("text"),
+        request: words.get_str("request"),
         timeout: words.get_str("timeout"),
+        form: answer_form(words),
+        waits: words.get_flag("wait"),
+    }
+}
+
+fn answer_form(words: &ArgMatches<'_>) -> AnswerForm {
+    match words.get_flag("json") {
+        true => AnswerForm::Json,
+        false => AnswerForm::Plain,
     }
 }
 

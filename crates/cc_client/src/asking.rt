@@ -1,40 +1,54 @@
 //! A command that is done at a node.
 
 use crate::deadline::Deadline;
+use crate::printing::{print_answer, print_refusal, print_silence};
 use crate::sending::{connect, pause, receive, send};
+use crate::silence::{Silence, Told};
 use cc_frames::Frame;
 use cc_messages::{Answer, Refusal};
 use cc_orders::AskOrder;
 use cc_protocol::{Client, Heard, Incoming, Step};
-use cc_texts::PrintedAnswer;
 use std::alloc::Global;
 use std::io;
 use std::io::Write;
 use std::net::{Net, TcpStream};
 use std::time::Clock;
 
-/// Has a command done: it asks, again where the node is busy or the connection breaks, and always under one number, so that
-/// nothing is done twice. It prints the answer, `refused` and why, or `no answer` where none came in time. The answer is the
-/// status to end with: 0 after an answer, else 1.
+/// Has a command done: it asks, again where the node is busy or the connection breaks, or hasn't joined and the order waits
+/// for that, and always under one number, so that nothing is done twice. It prints the answer, `refused` and why, or `no
+/// answer` where none came in time, in the form of the order.
 pub fn ask_node<R: Net<Stream = TcpStream> + Clock, W: Write>(
     rt: &R,
     alloc: Global,
     order: &AskOrder,
     output: &mut W,
-) -> io::Result<u8> {
+) -> io::Result<Told> {
     let mut asking = Asking {
-        client: Client::new(order.session, order.command),
+        client: client_of(order),
+        waits: order.waits,
         refusal: None,
+        silence: Silence::Mute(order.address),
     };
     let ended = asking.ask(rt, alloc, order);
-    print_ended(ended, asking.refusal, output)
+    asking.print(alloc, order, ended, output)
 }
 
-// A client, and why it has to try again, where a refusal is why.
+// A client that knows the number of its request where the order has one.
+fn client_of(order: &AskOrder) -> Client {
+    Client {
+        request: order.request,
+        ..Client::new(order.session, order.command)
+    }
+}
+
+// A client, whether it waits for its node to join, and why it has no answer yet: a refusal, where one is why, or what became of
+// its last try to connect.
 #[derive(Drop)]
 struct Asking {
     client: Client,
+    waits: bool,
     refusal: Option<Refusal>,
+    silence: Silence,
 }
 
 // What a client does next on a connection.
@@ -62,17 +76,35 @@ impl Asking {
     ) -> Option<Ended> {
         let deadline = Deadline::new(rt, order.timeout);
         for _ in 0..u64::MAX {
-            if let Some(stream) = connect(rt, &order.address) {
-                let ended = self.converse(rt, alloc, &stream, &deadline);
-                if ended.is_some() {
-                    return ended;
-                }
+            let ended = self.try_once(rt, alloc, order, &deadline);
+            if ended.is_some() {
+                return ended;
             }
             self.client.hear(Heard::Broken);
             deadline.left(rt)?;
             pause(rt);
         }
         None
+    }
+
+    // Connects, and asks. None where that breaks, or the time is over.
+    fn try_once<R: Net<Stream = TcpStream> + Clock>(
+        &mut self,
+        rt: &R,
+        alloc: Global,
+        order: &AskOrder,
+        deadline: &Deadline,
+    ) -> Option<Ended> {
+        match connect(rt, &order.address) {
+            Ok(stream) => {
+                self.silence = Silence::Mute(order.address);
+                self.converse(rt, alloc, &stream, deadline)
+            }
+            Err(silence) => {
+                self.silence = silence;
+                None
+            }
+        }
     }
 
     // Asks over one connection. None where it breaks, or the time is over.
@@ -118,14 +150,18 @@ impl Asking {
         match self.client.hear(heard) {
             Step::Send(frame) => self.send(rt, alloc, stream, &frame, deadline),
             Step::Wait => Some(Next::Listen),
-            Step::Retry(why) => {
-                self.refusal = why;
-                pause(rt);
-                Some(Next::Again)
-            }
+            Step::Retry(why) => Some(self.retry(rt, why)),
+            Step::Refused(why) if self.waits && is_outside(why) => Some(self.retry(rt, Some(why))),
             Step::Done(answer) => Some(Next::End(Ended::Answered(answer))),
             Step::Refused(why) => Some(Next::End(Ended::Refused(why))),
         }
+    }
+
+    // Pauses before it asks again, under the same number.
+    fn retry<R: Clock>(&mut self, rt: &R, why: Option<Refusal>) -> Next {
+        self.refusal = why;
+        pause(rt);
+        Next::Again
     }
 
     fn send<R: Clock>(
@@ -142,30 +178,47 @@ impl Asking {
         send(alloc, stream, frame)?;
         Some(Next::Listen)
     }
-}
 
-fn print_ended<W: Write>(
-    ended: Option<Ended>,
-    last: Option<Refusal>,
-    output: &mut W,
-) -> io::Result<u8> {
-    match ended {
-        Some(Ended::Answered(answer)) => {
-            writeln!(output, "{}", PrintedAnswer(&answer))?;
-            output.flush()?;
-            Ok(0)
+    // Prints how it ended.
+    fn print<W: Write>(
+        &self,
+        alloc: Global,
+        order: &AskOrder,
+        ended: Option<Ended>,
+        output: &mut W,
+    ) -> io::Result<Told> {
+        match ended {
+            Some(Ended::Answered(answer)) => {
+                print_answer(alloc, order.form, &answer, output)?;
+                Ok(Told::done())
+            }
+            Some(Ended::Refused(why)) => self.print_why(alloc, order, Some(why), output),
+            None => self.print_why(alloc, order, self.refusal, output),
         }
-        Some(Ended::Refused(why)) => print_refusal(Some(why), output),
-        None => print_refusal(last, output),
+    }
+
+    // Prints why there is no answer.
+    fn print_why<W: Write>(
+        &self,
+        alloc: Global,
+        order: &AskOrder,
+        why: Option<Refusal>,
+        output: &mut W,
+    ) -> io::Result<Told> {
+        match why {
+            Some(why) => {
+                print_refusal(alloc, order.form, why, output)?;
+                Ok(Told::refused())
+            }
+            None => {
+                print_silence(alloc, order.form, output)?;
+                Ok(Told::silent(self.silence))
+            }
+        }
     }
 }
 
-/// Prints why a request was refused, or that nothing came in time. The status to end with.
-pub fn print_refusal<W: Write>(why: Option<Refusal>, output: &mut W) -> io::Result<u8> {
-    match why {
-        Some(why) => writeln!(output, "refused {why}")?,
-        None => writeln!(output, "no answer")?,
-    }
-    output.flush()?;
-    Ok(1)
+// Whether a node refuses because it isn't in the cluster yet.
+fn is_outside(why: Refusal) -> bool {
+    matches!(why, Refusal::NotEntered | Refusal::NotJoined)
 }

@@ -3,8 +3,12 @@
 
 mod asking;
 mod deadline;
+mod json;
 mod operating;
+mod printing;
 mod sending;
+mod silence;
 
 pub use asking::ask_node;
 pub use operating::{leave_node, retire_node};
+pub use silence::{Silence, Told};

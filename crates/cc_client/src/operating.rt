@@ -1,11 +1,12 @@
 //! What the operator asks of a node.
 
-use crate::asking::print_refusal;
 use crate::deadline::Deadline;
+use crate::printing::{print_refusal, print_silence};
 use crate::sending::{connect, receive, send};
+use crate::silence::{Silence, Told};
 use cc_frames::Frame;
 use cc_messages::Refusal;
-use cc_orders::{LeaveOrder, RetireOrder};
+use cc_orders::{AnswerForm, LeaveOrder, RetireOrder};
 use cc_protocol::{Incoming, Outcome, outcome_of};
 use std::alloc::Global;
 use std::io;
@@ -16,21 +17,20 @@ use std::time::Clock;
 // For how many seconds it waits.
 const PATIENCE: u64 = 10;
 
-/// Has a node leave. It prints `left`, `refused` and why, or `no answer` where none came within ten seconds. The answer is
-/// the status to end with: 0 where the node has left, else 1.
+/// Has a node leave. It prints `left`, `refused` and why, or `no answer` where none came within ten seconds.
 pub fn leave_node<R: Net<Stream = TcpStream> + Clock, W: Write>(
     rt: &R,
     alloc: Global,
     order: &LeaveOrder,
     output: &mut W,
-) -> io::Result<u8> {
+) -> io::Result<Told> {
     match bring(rt, alloc, &order.address, &Frame::Leave) {
         Ok(()) => {
             writeln!(output, "left")?;
             output.flush()?;
-            Ok(0)
+            Ok(Told::done())
         }
-        Err(why) => print_refusal(why, output),
+        Err(why) => print_undone(alloc, why, output),
     }
 }
 
@@ -40,32 +40,54 @@ pub fn retire_node<R: Net<Stream = TcpStream> + Clock, W: Write>(
     alloc: Global,
     order: &RetireOrder,
     output: &mut W,
-) -> io::Result<u8> {
+) -> io::Result<Told> {
     let RetireOrder { address, node } = *order;
     let brought = bring(rt, alloc, &address, &Frame::Retire { node });
     match brought {
         Ok(()) => {
             writeln!(output, "retired {}", node.number())?;
             output.flush()?;
-            Ok(0)
+            Ok(Told::done())
         }
-        Err(why) => print_refusal(why, output),
+        Err(why) => print_undone(alloc, why, output),
     }
 }
 
-// Brings a request, and brings it again, since only a refusal is answered. An error is why it was refused, or None where
-// nothing came in time.
+// Why a request isn't done.
+#[derive(Clone, Copy)]
+enum Undone {
+    Refused(Refusal),
+    Silent(Silence),
+}
+
+fn print_undone<W: Write>(alloc: Global, why: Undone, output: &mut W) -> io::Result<Told> {
+    match why {
+        Undone::Refused(why) => {
+            print_refusal(alloc, AnswerForm::Plain, why, output)?;
+            Ok(Told::refused())
+        }
+        Undone::Silent(silence) => {
+            print_silence(alloc, AnswerForm::Plain, output)?;
+            Ok(Told::silent(silence))
+        }
+    }
+}
+
+// Brings a request, and brings it again, since only a refusal is answered.
 fn bring<R: Net<Stream = TcpStream> + Clock>(
     rt: &R,
     alloc: Global,
     address: &SocketAddr,
     request: &Frame,
-) -> Result<(), Option<Refusal>> {
-    let stream = connect(rt, address).ok_or(None)?;
+) -> Result<(), Undone> {
+    let stream = match connect(rt, address) {
+        Ok(stream) => stream,
+        Err(silence) => return Err(Undone::Silent(silence)),
+    };
     match outcome(rt, alloc, &stream, request) {
         Some(Outcome::Done) => Ok(()),
-        Some(Outcome::Refused(why)) => Err(Some(why)),
-        None => Err(None),
+        Some(Outcome::Refused(why)) => Err(Undone::Refused(why)),
+        None => Err(Undone::Silent(Silence::Mute(*address))),
     }
 }
 

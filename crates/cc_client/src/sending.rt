@@ -1,13 +1,14 @@
 //! Frames on their way to a node, and the time that an answer has.
 
 use crate::deadline::Deadline;
+use crate::silence::Silence;
 use cc_frames::{Frame, encode_frame};
 use cc_protocol::Incoming;
 use std::alloc::Global;
-use std::io::Write;
+use std::io::{ErrorKind, Write};
 use std::net::{Net, SocketAddr, TcpStream};
-use std::thread;
 use std::time::{Clock, Duration};
+use std::{io, thread};
 
 // How long one try to connect takes at most, and how long a client pauses between two, in milliseconds.
 const CONNECT_MS: u64 = 1000;
@@ -19,12 +20,26 @@ pub fn pause<R: Clock>(rt: &R) {
     thread::sleep(rt, Duration::from_millis(PAUSE_MS));
 }
 
-/// A connection to a node. None where it can't be made in a second.
-pub fn connect<R: Net<Stream = TcpStream>>(rt: &R, address: &SocketAddr) -> Option<TcpStream> {
+/// A connection to a node, which is made within a second; else why none is.
+pub fn connect<R: Net<Stream = TcpStream>>(
+    rt: &R,
+    address: &SocketAddr,
+) -> Result<TcpStream, Silence> {
     let patience = Duration::from_millis(CONNECT_MS);
-    let stream = TcpStream::connect_timeout(rt, address, patience).ok()?;
-    stream.set_nodelay(true).ok()?;
-    Some(stream)
+    match TcpStream::connect_timeout(rt, address, patience) {
+        Ok(stream) => {
+            let _ = stream.set_nodelay(true);
+            Ok(stream)
+        }
+        Err(error) => Err(silence_of(&error, address)),
+    }
+}
+
+fn silence_of(error: &io::Error, address: &SocketAddr) -> Silence {
+    match error.kind() {
+        ErrorKind::ConnectionRefused => Silence::Closed(*address),
+        _ => Silence::Mute(*address),
+    }
 }
 
 /// Sends a frame. None where that fails.

@@ -1,9 +1,11 @@
 //! What stands in the folder of a node.
 
+use crate::node_lines::print_node;
 use crate::status::{GOOD, REFUSED};
 use cc_checkpoint::{OpenFault, Peeked, peek};
 use cc_files::{FileSite, NoOutlet};
 use cc_flush::{Back, Flusher, Opened};
+use cc_node::Node;
 use cc_site::{DeviceFault, Side, Site};
 use std::alloc::Global;
 use std::fmt::Display;
@@ -11,17 +13,27 @@ use std::fs::{File, Files};
 use std::io;
 use std::io::Write;
 
+/// How much is told of a folder.
+#[derive(Clone, Copy, Debug, PartialEq, Eq)]
+pub enum DumpScope {
+    /// What its two sides are, and what counts on them.
+    Sides,
+    /// Its node too.
+    Node,
+}
+
 /// Prints what stands in the files of a folder: for side A and then B whether it is armed, and under which generation, and
-/// then what opening finds, or its fault. A fault of the files stands in place of all further lines. The answer is the
-/// status to end with: 0, or 1 after a fault.
+/// then what opening finds, and what its node is where that is told too, or its fault. A fault of the files stands in place
+/// of all further lines. The answer is the status to end with: 0, or 1 after a fault.
 pub fn dump_folder<R: Files<File = File>, W: Write>(
     rt: &R,
     alloc: Global,
     folder: &str,
+    scope: DumpScope,
     output: &mut W,
 ) -> io::Result<u8> {
     match FileSite::open(rt, alloc, folder, NoOutlet) {
-        Ok(site) => dump_site(alloc, site, output),
+        Ok(site) => dump_site(alloc, site, scope, output),
         Err(fault) => print_fault(&fault, output),
     }
 }
@@ -30,11 +42,12 @@ pub fn dump_folder<R: Files<File = File>, W: Write>(
 pub fn dump_site<S: Site + Drop, W: Write>(
     alloc: Global,
     site: S,
+    scope: DumpScope,
     output: &mut W,
 ) -> io::Result<u8> {
     let mut site = site;
     match print_sides(&mut site, output)? {
-        None => print_opened(found(alloc, site), output),
+        None => print_found(alloc, site, scope, output),
         Some(fault) => print_fault(&OpenFault::Device(fault), output),
     }
 }
@@ -58,36 +71,45 @@ fn print_side<W: Write>(side: Side, peeked: Peeked, output: &mut W) -> io::Resul
     }
 }
 
-// What opening finds.
-fn found<S: Site + Drop>(alloc: Global, site: S) -> Result<Opened, OpenFault> {
+// Opens the sides, and prints what was found, and the node where that is told too.
+fn print_found<S: Site + Drop, W: Write>(
+    alloc: Global,
+    site: S,
+    scope: DumpScope,
+    output: &mut W,
+) -> io::Result<u8> {
     match Flusher::open(alloc, site) {
         Ok((engine, core)) => {
             drop(core);
-            let opened = engine.opened();
+            let printed = print_opened(alloc, engine.opened(), engine.twin(), scope, output);
             drop(engine);
-            Ok(opened)
+            printed
         }
         Err(Back { site, fault }) => {
             drop(site);
-            Err(fault)
+            print_fault(&fault, output)
         }
     }
 }
 
-fn print_opened<W: Write>(found: Result<Opened, OpenFault>, output: &mut W) -> io::Result<u8> {
-    match found {
-        Ok(opened) => {
-            let Opened {
-                side,
-                records,
-                events,
-            } = opened;
-            writeln!(output, "opened {side} records {records} events {events}")?;
-            output.flush()?;
-            Ok(GOOD)
-        }
-        Err(fault) => print_fault(&fault, output),
+fn print_opened<W: Write>(
+    alloc: Global,
+    opened: Opened,
+    node: &Node,
+    scope: DumpScope,
+    output: &mut W,
+) -> io::Result<u8> {
+    let Opened {
+        side,
+        records,
+        events,
+    } = opened;
+    writeln!(output, "opened {side} records {records} events {events}")?;
+    if scope == DumpScope::Node {
+        print_node(alloc, node, output)?;
     }
+    output.flush()?;
+    Ok(GOOD)
 }
 
 fn print_fault<F: Display, W: Write>(fault: &F, output: &mut W) -> io::Result<u8> {

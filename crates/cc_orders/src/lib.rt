@@ -2,10 +2,16 @@
 //! something.
 #![tactic(auto)]
 
+mod asking;
+mod command_fault;
 mod format_words;
-mod network;
+mod operating;
+mod running;
 mod word_fault;
 
+pub use asking::{AnswerForm, AskOrder, AskWords};
+pub use command_fault::CommandFault;
 pub use format_words::FormatWords;
-pub use network::{AskOrder, AskWords, LeaveOrder, RetireOrder, RunOrder};
+pub use operating::{LeaveOrder, RetireOrder, StatusOrder};
+pub use running::{LogLevel, RunOrder, RunWords};
 pub use word_fault::WordFault;

@@ -1,5 +1,6 @@
 //! Words of another form.
 
+use cc_words::LineFault;
 use std::alloc::AllocError;
 use thiserror::Error;
 
@@ -28,10 +29,24 @@ pub enum WordFault {
     PeerTwice,
     #[error("--peers names the node itself")]
     PeerItself,
+    #[error("--peers and --peers-file are both given; one of them names the peers")]
+    PeersTwice,
+    /// The line with this number, of the file behind `--peers-file`.
+    #[error("line {0} isn't ID=ADDR, such as 2=127.0.0.1:7002")]
+    Line(usize),
+    /// In that file.
+    #[error("names a node twice")]
+    LineTwice,
+    #[error("--status isn't an address and a port, such as 127.0.0.1:8001")]
+    Status,
+    #[error("--log isn't one of: error, warn, info, debug")]
+    Log,
     #[error("SESSION isn't a number, such as 7")]
     Session,
     #[error("COMMAND isn't one of: store WORD, collect, max N, readmax, flag, readflag, add N, readset")]
     Command,
+    #[error("--request isn't a number from 1 on, such as 12")]
+    Request,
     #[error("--timeout isn't a number of seconds, such as 10")]
     Timeout,
     #[error("ID isn't the id of a node, such as 3")]
@@ -44,5 +59,14 @@ pub enum WordFault {
 impl From<AllocError> for WordFault {
     fn from(_: AllocError) -> Self {
         WordFault::NoMemory
+    }
+}
+
+impl From<LineFault> for WordFault {
+    fn from(fault: LineFault) -> Self {
+        match fault {
+            LineFault::NoPeer(number) => WordFault::Line(number),
+            LineFault::NoMemory => WordFault::NoMemory,
+        }
     }
 }

@@ -1,10 +1,11 @@
 -- Addresses with a colon in them, and peers with an equals sign and commas.
+--     Avoids, joined, ip_avoids                    no character of a text is that one;  of two in a row;  of an IPv4 address
 --     no_colon, not_ip, not_port, is_address       a word without a colon is no address;  one whose parts aren't such;  one whose parts are
 --     id_of                                        the id that a number is
 --     no_equals, not_id, not_address, is_peer      the same of a peer
 --     peers_of_parts, none_peers, peers_push       peers are what stands between commas;  one that is none;  one more
 use Rattle.std.proofs.Common.{◌≡◌, ◌≢◌, ◌↔◌, ℕ, zero, suc, ◌<◌, ◌≤◌, ◌^◌, List, [], ◌∷◌, ◌++◌, length, map, take, get_or, true, false, Option, Some, None, Result, Ok, Err, Bor, refl, sym, ap, subst, ◌∙◌, arith, lit<, lit≤}
-use Rattle.std.specs.Prelude.{IsSome, IfSome, IfOk, MatchOption, codes}
+use Rattle.std.specs.Prelude.{IsSome, IfSome, IfOk, MatchOption}
 use Rattle.std.specs.Fmt.{decimal}
 use Rattle.std.specs.Int.{IsInRange}
 use Rattle.std.specs.List.{All, slice_split}
@@ -34,25 +35,29 @@ Cut = Option (Bor (List ℕ) × Bor (List ℕ))
 colon_is_no_digit : ¬ (IsInRange 48 57 58)
 colon_is_no_digit is = omega (arith, is.1)
 
-abbrev AvoidsColon : List ℕ → Type 0
-AvoidsColon text = All (λ b. eqb b 58 ≡ false) text
+abbrev pub Avoids : ℕ → List ℕ → Type 0
+Avoids c text = All (λ b. eqb b c ≡ false) text
 
-octet : (n : ℕ) → n < 256 → AvoidsColon (decimal n)
-octet n small = let most : 256 ≤ 2 ^ 64 = lit≤ tt in avoids 58 n (omega (arith, small, most)) colon_is_no_digit
+octet : (c n : ℕ) → ¬ (IsInRange 48 57 c) → n < 256 → Avoids c (decimal n)
+octet c n out small = let most : 256 ≤ 2 ^ 64 = lit≤ tt in avoids c n (omega (arith, small, most)) out
 
-dot : AvoidsColon (codes ".")
-dot = All-cons (λ b. eqb b 58 ≡ false) 46 [] refl (All-nil (λ b. eqb b 58 ≡ false))
+one : (c b : ℕ) → eqb b c ≡ false → Avoids c (b ∷ [])
+one c b other = All-cons (λ b. eqb b c ≡ false) b [] other (All-nil (λ b. eqb b c ≡ false))
 
-joined : (xs ys : List ℕ) → AvoidsColon xs → AvoidsColon ys → AvoidsColon (xs ++ ys)
-joined xs ys = All-append (λ b. eqb b 58 ≡ false) xs ys
+pub joined : (c : ℕ) (xs ys : List ℕ) → Avoids c xs → Avoids c ys → Avoids c (xs ++ ys)
+joined c xs ys = All-append (λ b. eqb b c ≡ false) xs ys
 
-dotted : (a b c d : ℕ) → a < 256 → b < 256 → c < 256 → d < 256 → AvoidsColon (dotted_text a b c d)
-dotted a b c d p q r s = joined _ _ (joined _ _ (joined _ _ (joined _ _ (joined _ _ (joined _ _ (octet a p) dot) (octet b q)) dot) (octet c r)) dot) (octet d s)
+dotted : (k a b c d : ℕ) → ¬ (IsInRange 48 57 k) → eqb 46 k ≡ false → a < 256 → b < 256 → c < 256 → d < 256 → Avoids k (dotted_text a b c d)
+dotted k a b c d out other p q r s =
+    let dot = one k 46 other in
+    joined k _ _ (joined k _ _ (joined k _ _ (joined k _ _ (joined k _ _ (joined k _ _ (octet k a out p) dot) (octet k b out q)) dot) (octet k c out r)) dot) (octet k d out s)
+
+-- an address has digits and dots alone
+pub ip_avoids : (k : ℕ) (text : List ℕ) (ip : Ipv4Addr) → ¬ (IsInRange 48 57 k) → eqb 46 k ≡ false → IsIpv4Text text ip → Avoids k text
+ip_avoids k text ip out other is = subst (Avoids k) (sym is.spelled) (dotted k is.a is.b is.c is.d out other is.fit.0 is.fit.1 is.fit.2 is.fit.3)
 
 no_colon_in : (text : List ℕ) (ip : Ipv4Addr) → IsIpv4Text text ip → (i : ℕ) → i < length text → get_or text i 0 ≢ 58
-no_colon_in text ip is i within same =
-    let avoids_it : AvoidsColon text = subst AvoidsColon (sym is.spelled) (dotted is.a is.b is.c is.d is.fit.0 is.fit.1 is.fit.2 is.fit.3) in
-    eqb-false (get_or text i 0) 58 (avoids_it i 0 within) same
+no_colon_in text ip is i within same = eqb-false (get_or text i 0) 58 (ip_avoids 58 text ip colon_is_no_digit refl is i 0 within) same
 
 pub no_colon : (word : List ℕ) (r : Cut) → IsSplitOnceResult 58 word r → r ≡ None → NoAddress word
 no_colon word r cut none (socket.V4 a) is = rw none at (split_after 58 word is.ip (decimal (v4_port a)) r cut (lit< tt) is.spelled (no_colon_in is.ip (v4_ip a) is.ip_text))

@@ -1,4 +1,5 @@
 pub mod AddressWords
 pub mod Digits
 pub mod Parts
+pub mod SaidLines
 pub mod Slash

@@ -1,5 +1,6 @@
 -- The words of commands.
 --     command_words            the words that a command is
+--     IsStorable               a text of 1 to 64 bytes
 --     IsSpoken, IsVisible      its text is a word of 1 to 64 visible ASCII characters
 --     FitsNumber               its number is one that a command can have
 --     SaysCommand, NoCommand   these words are that command;  they are none
@@ -20,6 +21,10 @@ command_words command.SetFlag = codes "flag" ∷ []
 command_words command.ReadFlag = codes "readflag" ∷ []
 command_words (command.AddMember n) = codes "add" ∷ decimal n ∷ []
 command_words command.ReadSet = codes "readset" ∷ []
+
+pub record IsStorable (text : List ℕ) : Type 0 where
+  pub some : 1 ≤ length text
+  pub fits : length text ≤ text_limit
 
 pub record IsVisible (word : List ℕ) : Type 0 where
   pub some : 1 ≤ length word

@@ -1,3 +1,4 @@
 pub mod Addresses
 pub mod Commands
+pub mod PeerLines
 pub mod Words

@@ -44,7 +44,8 @@ fn peers_in(alloc: Global, words: &[&str]) -> Result<Option<Vec<Peer>>, AllocErr
     Ok(Some(peers))
 }
 
-fn peer_in(word: &str) -> Option<Peer>
+/// The peer that a word is, as `2=127.0.0.1:7002`.
+pub(crate) fn peer_in(word: &str) -> Option<Peer>
     ensures { MatchOption result (NoPeer word.now) (SpellsPeer word.now) }
 {
     let (id, address_word) = word.split_once('=')?;

@@ -3,7 +3,7 @@
 ghost use Rattle.std.specs.Prelude.{◌≡◌, ◌↔◌, IsTrue, [], ◌∷◌, map, MatchOption};
 ghost use Rattle.std.specs.Int.{IsInRange};
 ghost use Rattle.std.specs.List.{AllByRecursion};
-ghost use Rattle.cc_words.specs.Commands.{SaysCommand, NoCommand, IsVisible};
+ghost use Rattle.cc_words.specs.Commands.{SaysCommand, NoCommand, IsStorable, IsVisible};
 
 use crate::numbers::{number, small_number};
 use cc_messages::Command;
@@ -18,6 +18,19 @@ pub fn command(words: &[&str]) -> Option<Command>
         [name] => lone_command(name),
         [name, value] => command_with(name, value),
         _ => None,
+    }
+}
+
+/// The command that stores this text, whatever its 1 to 64 bytes are. None for any other text.
+pub fn store_of(text: &str) -> Option<Command>
+    ensures { MatchOption result (IsStorable text.now → ⊥) (λ c. (c ≡ Command.Store text.now) × IsStorable text.now) }
+{
+    if text.is_empty() {
+        return None;
+    }
+    match Text::new(text.as_bytes()) {
+        Some(text) => Some(Command::Store(text)),
+        None => None,
     }
 }
 

@@ -1,7 +1,7 @@
 //! Folders that are formatted, and what stands in them.
 
 use crate::words::with;
-use cc_commands::{FormatOrder, dump_folder, format_folder};
+use cc_commands::{DumpScope, FormatOrder, dump_folder, format_folder};
 use cc_files::{FileSite, NoOutlet};
 use cc_orders::{FormatWords, WordFault};
 use std::fs;
@@ -50,7 +50,7 @@ fn told_of_format<R: AllocGlobal + Files<File = File>>(
 // Tells what stands in a folder: the status, and what is printed.
 fn dumped<R: AllocGlobal + Files<File = File>>(rt: &R, folder: &str) -> Result<(u8, String), Fail> {
     let mut output = Vec::new(rt.alloc());
-    let status = dump_folder(rt, rt.alloc(), folder, &mut output)?;
+    let status = dump_folder(rt, rt.alloc(), folder, DumpScope::Sides, &mut output)?;
     Ok((status, String::from_utf8(output)?))
 }
 

@@ -36,6 +36,8 @@ mod lines;
 #[cfg(test)]
 mod long_rounds;
 #[cfg(test)]
+mod looks;
+#[cfg(test)]
 mod moves;
 #[cfg(test)]
 mod node_faults;
@@ -57,6 +59,10 @@ mod sites;
 mod snapshots;
 #[cfg(test)]
 mod standing;
+#[cfg(test)]
+mod told_folders;
+#[cfg(test)]
+mod told_words;
 #[cfg(test)]
 mod warnings;
 #[cfg(test)]

@@ -1,7 +1,7 @@
 //! What is printed of a site in memory, also where its disk calls or the output fail.
 
 use crate::faults::Full;
-use cc_commands::{FormatOrder, dump_site, format_site};
+use cc_commands::{DumpScope, FormatOrder, dump_site, format_site};
 use cc_flush::{Back, Flusher, format};
 use cc_orders::FormatWords;
 use cc_site::{Choice, Failing, MemorySite, Side, write_durably};
@@ -45,7 +45,7 @@ fn failing(alloc: Global, at: u64) -> Result<MemorySite, Fail> {
 // Tells what stands on a site: the status, and what is printed.
 fn dumped(alloc: Global, site: MemorySite) -> Result<(u8, String), Fail> {
     let mut output = Vec::new(alloc);
-    let status = dump_site(alloc, site, &mut output)?;
+    let status = dump_site(alloc, site, DumpScope::Sides, &mut output)?;
     Ok((status, String::from_utf8(output)?))
 }
 
@@ -158,7 +158,7 @@ fn ends_formatting(alloc: Global, order: &FormatOrder) -> Result<bool, Fail> {
 // Whether it ends what is told of a site.
 fn ends_dump(alloc: Global) -> Result<bool, Fail> {
     let site = member(alloc)?;
-    Ok(dump_site(alloc, site, &mut Full { writes: 0 }).is_err())
+    Ok(dump_site(alloc, site, DumpScope::Sides, &mut Full { writes: 0 }).is_err())
 }
 
 #[test]

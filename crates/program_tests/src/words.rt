@@ -3,7 +3,10 @@
 use cc_changes::Fraction;
 use cc_commands::FormatOrder;
 use cc_messages::Command;
-use cc_orders::{AskOrder, AskWords, FormatWords, LeaveOrder, RetireOrder, RunOrder, WordFault};
+use cc_orders::{
+    AnswerForm, AskOrder, AskWords, FormatWords, LeaveOrder, LogLevel, RetireOrder, RunOrder,
+    RunWords, StatusOrder, WordFault,
+};
 use cc_views::NodeId;
 use cc_words::{Peer, fraction, list, number, small_number};
 use std::alloc::Global;
@@ -94,51 +97,156 @@ fn local(port: u16) -> SocketAddr {
     SocketAddr::V4(SocketAddrV4::new(Ipv4Addr::new(127, 0, 0, 1), port))
 }
 
-// Whether a node listens at the first port, and knows node 2 at the second one alone, or no other node.
-fn runs(alloc: Global, peers: Option<&str>, known: &[Peer]) -> Result<bool, Fail> {
-    let order = RunOrder::parse(alloc, "127.0.0.1:7001", peers)?;
-    Ok(order.listen == local(7001) && order.peers.as_slice() == known)
-}
+const ALONE: RunWords<'_> = RunWords {
+    listen: "127.0.0.1:7001",
+    peers: None,
+    peers_file: None,
+    status: None,
+    log: None,
+};
 
-// Whether a node that is told of node 2 knows that one.
-fn knows(alloc: Global, node: NodeId) -> Result<bool, Fail> {
-    let order = RunOrder::parse(alloc, "127.0.0.1:7001", Some("2=127.0.0.1:7002"))?;
-    Ok(order.names(node))
+// The same beside node 2.
+const BESIDE_TWO: RunWords<'_> = RunWords {
+    peers: Some("2=127.0.0.1:7002"),
+    ..ALONE
+};
+
+// The same by the lines of a file.
+const BY_LINES: RunWords<'_> = RunWords {
+    peers_file: Some("peers"),
+    ..ALONE
+};
+
+const THREE_LINES: &str = "# three\n1=127.0.0.1:7001\n2=127.0.0.1:7002\n3=127.0.0.1:7003\n";
+
+// Whether these words, with the lines of a file or without, name so many peers, node 2 among them.
+fn names_two(
+    alloc: Global,
+    words: &RunWords<'_>,
+    lines: Option<&str>,
+    count: usize,
+) -> Result<bool, Fail> {
+    let order = RunOrder::parse(alloc, words, lines)?;
+    let two = NodeId::new(2).ok_or("ids begin at 1")?;
+    Ok(order.listen == local(7001) && order.peers.len() == count && order.names(two))
 }
 
 #[test]
 fn run_listens_and_knows_its_peers(rt: HostRuntime) -> Result<(), Fail> {
-    let [two, three] = [
-        NodeId::new(2).ok_or("ids begin at 1")?,
-        NodeId::new(3).ok_or("ids begin at 1")?,
-    ];
-    let peer = Peer {
-        id: two,
-        address: local(7002),
-    };
-    let alloc = rt.alloc();
-    assert!(rt; runs(alloc, Some("2=127.0.0.1:7002"), &[peer])?);
-    assert!(rt; runs(alloc, None, &[])?);
-    assert!(rt; knows(alloc, two)? && !knows(alloc, three)?);
+    assert!(rt; names_two(rt.alloc(), &BESIDE_TWO, None, 1)?);
+    assert!(rt; names_two(rt.alloc(), &BY_LINES, Some(THREE_LINES), 3)?);
+    assert!(rt; !names_two(rt.alloc(), &ALONE, None, 0)?);
     Ok(())
 }
 
-// What a node can't run by, and why.
-const NO_RUNS: [(&str, Option<&str>, WordFault); 3] = [
-    ("7001", None, WordFault::Listen),
-    ("127.0.0.1:7001", Some(""), WordFault::Peers),
+// Whether node 1 passes its own line over, and no other.
+fn passes_over_itself(alloc: Global) -> Result<bool, Fail> {
+    let mut order = RunOrder::parse(alloc, &BY_LINES, Some(THREE_LINES))?;
+    let one = NodeId::new(1).ok_or("ids begin at 1")?;
+    order.pass_over(one);
+    Ok(order.peers.len() == 2 && !order.names(one))
+}
+
+#[test]
+fn one_file_serves_all_nodes(rt: HostRuntime) -> Result<(), Fail> {
+    assert!(rt; passes_over_itself(rt.alloc())?);
+    Ok(())
+}
+
+// What a node tells of itself.
+type Telling = (Option<SocketAddr>, LogLevel);
+
+fn telling(alloc: Global, words: &RunWords<'_>) -> Result<Telling, WordFault> {
+    let order = RunOrder::parse(alloc, words, None)?;
+    Ok((order.status, order.log))
+}
+
+// Levels, and their words.
+const LEVELS: [(Option<&str>, LogLevel); 5] = [
+    (None, LogLevel::Info),
+    (Some("error"), LogLevel::Error),
+    (Some("warn"), LogLevel::Warn),
+    (Some("info"), LogLevel::Info),
+    (Some("debug"), LogLevel::Debug),
+];
+
+#[test]
+fn run_notes_by_levels(rt: HostRuntime) {
+    for &(log, level) in &LEVELS {
+        let told = telling(rt.alloc(), &RunWords { log, ..ALONE });
+        assert!(rt; told == Ok((None, level)));
+    }
+    let shown = RunWords {
+        status: Some("127.0.0.1:8001"),
+        ..ALONE
+    };
+    let told = telling(rt.alloc(), &shown);
+    assert!(rt; told == Ok((Some(local(8001)), LogLevel::Info)));
+}
+
+// What a node can't run by, the lines of its file, and why.
+const NO_RUNS: [(RunWords<'_>, Option<&str>, WordFault); 8] = [
     (
-        "127.0.0.1:7001",
-        Some("2=127.0.0.1:7002,2=127.0.0.1:7003"),
+        RunWords {
+            listen: "7001",
+            ..ALONE
+        },
+        None,
+        WordFault::Listen,
+    ),
+    (
+        RunWords {
+            peers: Some(""),
+            ..ALONE
+        },
+        None,
+        WordFault::Peers,
+    ),
+    (
+        RunWords {
+            peers: Some("2=127.0.0.1:7002,2=127.0.0.1:7003"),
+            ..ALONE
+        },
+        None,
         WordFault::PeerTwice,
+    ),
+    (
+        RunWords {
+            peers_file: Some("peers"),
+            ..BESIDE_TWO
+        },
+        Some(""),
+        WordFault::PeersTwice,
+    ),
+    (BY_LINES, Some("\n2"), WordFault::Line(2)),
+    (
+        BY_LINES,
+        Some("2=127.0.0.1:7002\n2=127.0.0.1:7003"),
+        WordFault::LineTwice,
+    ),
+    (
+        RunWords {
+            status: Some("8001"),
+            ..ALONE
+        },
+        None,
+        WordFault::Status,
+    ),
+    (
+        RunWords {
+            log: Some("Info"),
+            ..ALONE
+        },
+        None,
+        WordFault::Log,
     ),
 ];
 
 #[test]
 fn each_word_of_run_is_checked(rt: HostRuntime) {
-    for &(listen, peers, fault) in &NO_RUNS {
-        let refused = RunOrder::parse(rt.alloc(), listen, peers).err();
-        assert!(rt; refused == Some(fault), "{listen}");
+    for &(words, lines, fault) in &NO_RUNS {
+        let refused = RunOrder::parse(rt.alloc(), &words, lines).err();
+        assert!(rt; refused == Some(fault), "{fault}");
     }
 }
 
@@ -147,7 +255,11 @@ const COLLECT: AskWords<'_> = AskWords {
     session: "7",
     command: "collect",
     value: None,
+    text: None,
+    request: None,
     timeout: None,
+    form: AnswerForm::Plain,
+    waits: false,
 };
 
 // How long it may take, and how many seconds that are.
@@ -161,9 +273,28 @@ fn ask_waits_ten_seconds_by_itself(rt: HostRuntime) {
             address: local(7001),
             session: 7,
             command: Command::Collect,
+            request: None,
             timeout: seconds,
+            form: AnswerForm::Plain,
+            waits: false,
         };
         assert!(rt; order == Ok(wanted), "{seconds}");
+    }
+}
+
+// Numbers of requests.
+const REQUESTS: [(Option<&str>, Result<Option<u64>, WordFault>); 4] = [
+    (None, Ok(None)),
+    (Some("12"), Ok(Some(12))),
+    (Some("0"), Err(WordFault::Request)),
+    (Some("012"), Err(WordFault::Request)),
+];
+
+#[test]
+fn a_request_has_a_number(rt: HostRuntime) {
+    for &(request, wanted) in &REQUESTS {
+        let order = AskOrder::parse(&AskWords { request, ..COLLECT });
+        assert!(rt; order.map(|order| order.request) == wanted);
     }
 }
 
@@ -214,6 +345,8 @@ fn the_operator_names_a_node(rt: HostRuntime) -> Result<(), Fail> {
     assert!(rt; order.address == local(7001) && order.node.number() == 3);
     let refused = RetireOrder::parse("127.0.0.1:7001", "0").err();
     assert!(rt; refused == Some(WordFault::Node));
+    let refused = StatusOrder::parse("8001", AnswerForm::Plain, false).err();
+    assert!(rt; refused == Some(WordFault::Address));
     Ok(())
 }
 

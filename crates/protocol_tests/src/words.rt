@@ -2,7 +2,7 @@
 
 use cc_messages::Command;
 use cc_views::{NodeId, Text};
-use cc_words::{Peer, address, command, peers};
+use cc_words::{LineFault, Peer, address, command, peers, peers_in_lines, store_of};
 use std::alloc::Global;
 use std::net::{Ipv4Addr, SocketAddr, SocketAddrV4};
 use std::process::Abort;
@@ -138,4 +138,73 @@ fn other_words_are_no_commands(rt: HostRuntime) -> Result<(), Fail> {
         assert_eq!(rt; command(words), None);
     }
     Ok(())
+}
+
+// A text of 64 bytes, and one of 65.
+const LONG_TEXT: &str = "0123456789abcdef0123456789abcdef0123456789abcdef0123456789abcdef";
+
+const LONGER_TEXT: &str = "0123456789abcdef0123456789abcdef0123456789abcdef0123456789abcdef.";
+
+// Texts, and whether they may be stored: blanks and any characters, but 1 to 64 bytes of them.
+const TEXTS: [(&str, bool); 6] = [
+    ("two words", true),
+    ("\u{e4}\u{f6}", true),
+    ("-", true),
+    (LONG_TEXT, true),
+    (LONGER_TEXT, false),
+    ("", false),
+];
+
+#[test]
+fn any_short_text_may_be_stored(rt: HostRuntime) {
+    for &(text, is_taken) in &TEXTS {
+        let wanted = Text::new(text.as_bytes()).map(Command::Store);
+        assert!(rt;
+            store_of(text) == if is_taken { wanted } else { None },
+            "{text}"
+        );
+    }
+}
+
+// Lines that name nodes 2 and 3, in that order.
+const LINES: [&str; 4] = [
+    "2=127.0.0.1:7002\n3=127.0.0.1:7003",
+    "2=127.0.0.1:7002\n3=127.0.0.1:7003\n",
+    "# the cluster\n\n 2=127.0.0.1:7002 \r\n  # two of them\n\t3=127.0.0.1:7003\n\n",
+    "\n#2=127.0.0.1:7009\n2=127.0.0.1:7002\n3=127.0.0.1:7003\n#",
+];
+
+// Lines of which one says something else, and its number.
+const BAD_LINES: [(&str, usize); 5] = [
+    ("2", 1),
+    ("2=127.0.0.1:7002\n\nlocalhost", 3),
+    ("2=127.0.0.1:7002\n3=127.0.0.1\n4", 2),
+    ("2=127.0.0.1:7002,3=127.0.0.1:7003", 1),
+    ("2=127.0.0.1:7002 # two", 1),
+];
+
+// Whether the lines name these peers.
+fn name(alloc: Global, lines: &str, wanted: &[Peer]) -> Result<bool, Fail> {
+    let named = peers_in_lines(alloc, lines)?;
+    let are_named = named.as_slice() == wanted;
+    drop(named);
+    Ok(are_named)
+}
+
+#[test]
+fn lines_name_what_a_list_names(rt: HostRuntime) -> Result<(), Fail> {
+    let wanted = [peer(2, 7002)?, peer(3, 7003)?];
+    for lines in LINES {
+        assert!(rt; name(rt.alloc(), lines, &wanted)?, "{lines}");
+    }
+    assert!(rt; name(rt.alloc(), "# nobody\n", &[])?);
+    Ok(())
+}
+
+#[test]
+fn the_first_bad_line_is_told(rt: HostRuntime) {
+    for &(lines, number) in &BAD_LINES {
+        let fault = peers_in_lines(rt.alloc(), lines).err();
+        assert!(rt; fault == Some(LineFault::NoPeer(number)), "{lines}");
+    }
 }

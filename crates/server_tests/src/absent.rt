@@ -37,15 +37,10 @@ fn asked<R: Net<Stream = TcpStream> + Clock>(
     address: SocketAddr,
     words: &[&str],
 ) -> Told {
-    let order = AskOrder {
-        address,
-        session: 7,
-        command: command(words)?,
-        timeout: 20,
-    };
+    let order = AskOrder::new(address, 7, command(words)?, 20);
     let mut output = Vec::new(alloc);
-    let status = ask_node(rt, alloc, &order, &mut output).ok()?;
-    Some((status, output))
+    let told = ask_node(rt, alloc, &order, &mut output).ok()?;
+    Some((told.status, output))
 }
 
 fn store_all<R: Net<Stream = TcpStream> + Clock>(
@@ -133,8 +128,8 @@ fn retire_late<R: Net<Stream = TcpStream> + Clock + Wait>(
     };
     thread::sleep(rt, Duration::from_secs(1));
     let mut output = Vec::new(alloc);
-    let status = retire_node(rt, alloc, &order, &mut output).ok()?;
-    Some((status, output))
+    let told = retire_node(rt, alloc, &order, &mut output).ok()?;
+    Some((told.status, output))
 }
 
 // The store needs all three members as it begins.

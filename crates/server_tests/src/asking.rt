@@ -2,9 +2,9 @@
 
 use crate::nodes::{Places, check, check_end, end, run, set_up};
 use cc_channels::Stop;
-use cc_client::{ask_node, leave_node, retire_node};
+use cc_client::{Silence, Told, ask_node, leave_node, retire_node};
 use cc_intake::NoHooks;
-use cc_orders::{AskOrder, LeaveOrder, RetireOrder};
+use cc_orders::{AnswerForm, AskOrder, LeaveOrder, RetireOrder};
 use cc_views::NodeId;
 use cc_words::command;
 use std::alloc::Global;
@@ -26,27 +26,59 @@ const ASKED: [(&[&str], &str); 9] = [
     (&["readset"], "Set [5]\n"),
 ];
 
-// Asks for so many seconds at most. The client prints this, and ends with that status.
+// The same as JSON, and with the number of a request: what was done under it, and what is no longer.
+const ASKED_AS_JSON: [(&[&str], Option<u64>, u8, &str); 7] = [
+    (
+        &["collect"],
+        None,
+        0,
+        "{\"answer\":\"Seen\",\"view\":[{\"node\":1,\"number\":5,\"text\":\"a=b\",\"max\":9,\"flag\":true,\"set\":[5]}]}\n",
+    ),
+    (&["readmax"], None, 0, "{\"answer\":\"Max\",\"max\":9}\n"),
+    (
+        &["readflag"],
+        None,
+        0,
+        "{\"answer\":\"Flag\",\"flag\":true}\n",
+    ),
+    (&["readset"], None, 0, "{\"answer\":\"Set\",\"set\":[5]}\n"),
+    (&["add", "6"], Some(14), 0, "{\"answer\":\"Stored\"}\n"),
+    (&["add", "6"], Some(14), 0, "{\"answer\":\"Stored\"}\n"),
+    (
+        &["add", "7"],
+        Some(16),
+        1,
+        "{\"refused\":\"Skip\",\"number\":12,\"carries\":14}\n",
+    ),
+];
+
+const DONE: Told = Told {
+    status: 0,
+    silence: None,
+};
+
+const REFUSED: Told = Told {
+    status: 1,
+    silence: None,
+};
+
+// Asks for so many seconds at most. The client prints this, and ends so.
 fn check_asked<R: Net<Stream = TcpStream> + Clock>(
     rt: &R,
     alloc: Global,
     order: &AskOrder,
-    status: u8,
+    told: Told,
     wanted: &'static str,
 ) -> Result<(), Fail> {
     let mut output = Vec::new(alloc);
     let ended = ask_node(rt, alloc, order, &mut output)?;
     check(output.as_slice() == wanted.as_bytes(), wanted)?;
-    check(ended == status, "the status of a client")
+    check(ended == told, "how a client ends")
 }
 
 fn order(address: SocketAddr, words: &[&str], timeout: u64) -> Result<AskOrder, Fail> {
-    Ok(AskOrder {
-        address,
-        session: 7,
-        command: command(words).ok_or("a command")?,
-        timeout,
-    })
+    let command = command(words).ok_or("a command")?;
+    Ok(AskOrder::new(address, 7, command, timeout))
 }
 
 // All commands, one after the other, in one session.
@@ -56,7 +88,24 @@ fn ask_all<R: Net<Stream = TcpStream> + Clock>(
     one: SocketAddr,
 ) -> Result<(), Fail> {
     for (words, wanted) in ASKED {
-        check_asked(rt, alloc, &order(one, words, 20)?, 0, wanted)?;
+        check_asked(rt, alloc, &order(one, words, 20)?, DONE, wanted)?;
+    }
+    Ok(())
+}
+
+fn ask_for_json<R: Net<Stream = TcpStream> + Clock>(
+    rt: &R,
+    alloc: Global,
+    one: SocketAddr,
+) -> Result<(), Fail> {
+    for (words, request, status, wanted) in ASKED_AS_JSON {
+        let order = AskOrder {
+            request,
+            form: AnswerForm::Json,
+            ..order(one, words, 20)?
+        };
+        let told = if status == 0 { DONE } else { REFUSED };
+        check_asked(rt, alloc, &order, told, wanted)?;
     }
     Ok(())
 }
@@ -71,9 +120,9 @@ fn check_retired<R: Net<Stream = TcpStream> + Clock>(
         node: NodeId::new(2).ok_or("an id")?,
     };
     let mut output = Vec::new(alloc);
-    let status = retire_node(rt, alloc, &order, &mut output)?;
+    let told = retire_node(rt, alloc, &order, &mut output)?;
     check(output.as_slice() == b"retired 2\n".as_slice(), "retired 2")?;
-    check(status == 0, "the status of a retire")
+    check(told == DONE, "how a retire ends")
 }
 
 fn check_left<R: Net<Stream = TcpStream> + Clock>(
@@ -83,9 +132,9 @@ fn check_left<R: Net<Stream = TcpStream> + Clock>(
 ) -> Result<(), Fail> {
     let order = LeaveOrder { address: one };
     let mut output = Vec::new(alloc);
-    let status = leave_node(rt, alloc, &order, &mut output)?;
+    let told = leave_node(rt, alloc, &order, &mut output)?;
     check(output.as_slice() == b"left\n".as_slice(), "left")?;
-    check(status == 0, "the status of a leave")
+    check(told == DONE, "how a leave ends")
 }
 
 // Clients and the operator at node 1. What was done before is told once more, and who has left serves no client.
@@ -95,12 +144,13 @@ fn talk<R: Net<Stream = TcpStream> + Clock>(
     one: SocketAddr,
 ) -> Result<(), Fail> {
     ask_all(rt, alloc, one)?;
+    ask_for_json(rt, alloc, one)?;
     check_retired(rt, alloc, one)?;
     check_retired(rt, alloc, one)?;
     check_left(rt, alloc, one)?;
     check_left(rt, alloc, one)?;
     let late = order(one, &["collect"], 20)?;
-    check_asked(rt, alloc, &late, 1, "refused 1 Left\n")
+    check_asked(rt, alloc, &late, REFUSED, "refused 1 Left\n")
 }
 
 #[test]
@@ -133,13 +183,26 @@ fn clients_print_what_a_node_answers(rt: HostRuntime) -> Result<(), Fail> {
     check_end(ended_2)
 }
 
+// No answer came, since nothing listens there.
+fn closed(nobody: SocketAddr) -> Told {
+    Told {
+        status: 1,
+        silence: Some(Silence::Closed(nobody)),
+    }
+}
+
 fn check_no_answer<R: Net<Stream = TcpStream> + Clock>(
     rt: &R,
     alloc: Global,
     nobody: SocketAddr,
 ) -> Result<(), Fail> {
     let asked = order(nobody, &["collect"], 1)?;
-    check_asked(rt, alloc, &asked, 1, "no answer\n")
+    check_asked(rt, alloc, &asked, closed(nobody), "no answer\n")?;
+    let asked = AskOrder {
+        form: AnswerForm::Json,
+        ..asked
+    };
+    check_asked(rt, alloc, &asked, closed(nobody), "{\"no_answer\":true}\n")
 }
 
 fn check_not_left<R: Net<Stream = TcpStream> + Clock>(
@@ -149,9 +212,9 @@ fn check_not_left<R: Net<Stream = TcpStream> + Clock>(
 ) -> Result<(), Fail> {
     let order = LeaveOrder { address: nobody };
     let mut output = Vec::new(alloc);
-    let status = leave_node(rt, alloc, &order, &mut output)?;
+    let told = leave_node(rt, alloc, &order, &mut output)?;
     check(output.as_slice() == b"no answer\n".as_slice(), "no answer")?;
-    check(status == 1, "the status of a leave")
+    check(told == closed(nobody), "how a leave ends")
 }
 
 // Nothing listens at the port of a listener that is gone.

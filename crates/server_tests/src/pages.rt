@@ -78,15 +78,11 @@ fn store<R: Net<Stream = TcpStream> + Clock>(
     alloc: Global,
     node: SocketAddr,
 ) -> Result<(), Fail> {
-    let order = AskOrder {
-        address: node,
-        session: 7,
-        command: command(&["store", "a"]).ok_or("a command")?,
-        timeout: 20,
-    };
+    let command = command(&["store", "a"]).ok_or("a command")?;
+    let order = AskOrder::new(node, 7, command, 20);
     let mut output = Vec::new(alloc);
-    let status = ask_node(rt, alloc, &order, &mut output)?;
-    check(status == 0, "it is stored")
+    let told = ask_node(rt, alloc, &order, &mut output)?;
+    check(told.status == 0, "it is stored")
 }
 
 // What the node shows is JSON, with what it has stored once a second has passed.

@@ -1,0 +1,57 @@
+//! Why no answer came.
+
+use std::error::Error;
+use std::fmt;
+use std::net::SocketAddr;
+
+/// Why no answer came.
+#[derive(Clone, Copy, Debug, PartialEq, Eq)]
+pub enum Silence {
+    /// Nothing listens there: the last try to connect was refused.
+    Closed(SocketAddr),
+    /// No connection could be made there in a second, or no answer came over one.
+    Mute(SocketAddr),
+}
+
+impl fmt::Display for Silence {
+    fn fmt<W: fmt::Write>(&self, f: &mut fmt::Formatter<W>) -> fmt::Result {
+        match self {
+            Silence::Closed(address) => write!(f, "nothing listens at {address}"),
+            Silence::Mute(address) => write!(f, "{address} doesn't answer"),
+        }
+    }
+}
+
+impl Error for Silence {}
+
+/// How a client ended.
+#[derive(Clone, Copy, Debug, PartialEq, Eq)]
+pub struct Told {
+    /// The status to end with: 0 where what was asked was done, else 1.
+    pub status: u8,
+    /// Why no answer came, where none did.
+    pub silence: Option<Silence>,
+}
+
+impl Told {
+    pub(crate) fn done() -> Self {
+        Told {
+            status: 0,
+            silence: None,
+        }
+    }
+
+    pub(crate) fn refused() -> Self {
+        Told {
+            status: 1,
+            silence: None,
+        }
+    }
+
+    pub(crate) fn silent(silence: Silence) -> Self {
+        Told {
+            status: 1,
+            silence: Some(silence),
+        }
+    }
+}

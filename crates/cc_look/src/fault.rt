@@ -1,0 +1,46 @@
+//! Why a node's status isn't known.
+
+use std::alloc::AllocError;
+use std::error::Error;
+use std::fmt;
+use std::net::SocketAddr;
+
+/// Why the status of the node at an address isn't known.
+#[derive(Clone, Copy, Debug, PartialEq, Eq)]
+pub enum LookFault {
+    /// Nothing listens there.
+    Closed(SocketAddr),
+    /// No connection could be made there, or no whole answer came over one in five seconds.
+    Mute(SocketAddr),
+    /// What came isn't the status of a node.
+    Other(SocketAddr),
+    /// More than 4 MiB came.
+    TooLong(SocketAddr),
+    /// A growth was refused.
+    NoMemory,
+}
+
+impl fmt::Display for LookFault {
+    fn fmt<W: fmt::Write>(&self, f: &mut fmt::Formatter<W>) -> fmt::Result {
+        match self {
+            LookFault::Closed(address) => write!(f, "nothing listens at {address}"),
+            LookFault::Mute(address) => write!(f, "{address} doesn't answer"),
+            LookFault::Other(address) => {
+                write!(
+                    f,
+                    "{address} isn't where a node tells its status: see run --status"
+                )
+            }
+            LookFault::TooLong(address) => write!(f, "{address} answers more than 4 MiB"),
+            LookFault::NoMemory => write!(f, "out of memory"),
+        }
+    }
+}
+
+impl Error for LookFault {}
+
+impl From<AllocError> for LookFault {
+    fn from(_: AllocError) -> Self {
+        LookFault::NoMemory
+    }
+}

@@ -1,0 +1,101 @@
+//! The bytes that a node answers over HTTP.
+
+ghost use Rattle.std.specs.Prelude.{◌≤◌, length, IfOk};
+
+use crate::fault::LookFault;
+use std::alloc::Global;
+use std::io;
+use std::io::{ErrorKind, Read, Write};
+use std::net::{Net, SocketAddr, TcpStream};
+use std::time::{Clock, Duration, Instant};
+
+// How long one try to connect takes at most, in milliseconds.
+const CONNECT_MS: u64 = 1000;
+
+// For how many seconds it reads.
+const PATIENCE: u64 = 5;
+
+// How many bytes an answer has at most.
+const MOST_BYTES: usize = 4 << 20;
+
+/// What a node answers when it is asked for its status, up to the connection's end.
+pub fn fetch<R: Net<Stream = TcpStream> + Clock>(
+    rt: &R,
+    alloc: Global,
+    address: &SocketAddr,
+) -> Result<Vec<u8>, LookFault> {
+    let stream = connect(rt, address)?;
+    if ask(alloc, &stream, address).is_err() {
+        return Err(LookFault::Mute(*address));
+    }
+    let mut answer = Vec::new(alloc);
+    match read_all(rt, &stream, address, &mut answer) {
+        Ok(()) => Ok(answer),
+        Err(fault) => Err(fault),
+    }
+}
+
+fn connect<R: Net<Stream = TcpStream>>(
+    rt: &R,
+    address: &SocketAddr,
+) -> Result<TcpStream, LookFault> {
+    let patience = Duration::from_millis(CONNECT_MS);
+    match TcpStream::connect_timeout(rt, address, patience) {
+        Ok(stream) => Ok(stream),
+        Err(error) => match error.kind() {
+            ErrorKind::ConnectionRefused => Err(LookFault::Closed(*address)),
+            _ => Err(LookFault::Mute(*address)),
+        },
+    }
+}
+
+fn ask(alloc: Global, stream: &TcpStream, address: &SocketAddr) -> io::Result<()> {
+    let request = format!(in alloc;
+        "GET /status.json HTTP/1.1\r\nHost: {address}\r\nConnection: close\r\n\r\n"
+    )?;
+    let mut to = stream;
+    to.write_all(request.as_bytes())
+}
+
+// Reads to the end, for five seconds at most.
+fn read_all<R: Clock>(
+    rt: &R,
+    stream: &TcpStream,
+    address: &SocketAddr,
+    answer: &mut Vec<u8>,
+) -> Result<(), LookFault> {
+    let Ok(start) = Instant::now(rt) else {
+        return Err(LookFault::Mute(*address));
+    };
+    let mut piece = [0u8; 4096];
+    for _ in 0..u64::MAX {
+        let count = match read_some(rt, stream, start, &mut piece) {
+            Ok(0) => return Ok(()),
+            Ok(count) => count,
+            Err(_) => return Err(LookFault::Mute(*address)),
+        };
+        if answer.len() + count > MOST_BYTES {
+            return Err(LookFault::TooLong(*address));
+        }
+        answer.extend_from_slice(&piece[..count])?;
+    }
+    Ok(())
+}
+
+// What comes next. An error where nothing does in time.
+fn read_some<R: Clock>(
+    rt: &R,
+    stream: &TcpStream,
+    start: Instant,
+    piece: &mut [u8],
+) -> io::Result<usize>
+    ensures { IfOk result (λ count. count ≤ length piece.new) }
+{
+    let left = Duration::from_secs(PATIENCE).saturating_sub(start.elapsed(rt)?);
+    if left == Duration::ZERO {
+        return Err(ErrorKind::TimedOut.into());
+    }
+    stream.set_read_timeout(Some(left))?;
+    let mut from = stream;
+    from.read(piece)
+}

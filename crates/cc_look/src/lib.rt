@@ -1,0 +1,17 @@
+//! A look at a node that runs: what it tells of itself over HTTP, as a table or as it came.
+#![tactic(auto)]
+
+mod fault;
+mod fetching;
+mod head;
+mod looking;
+mod status;
+mod table;
+
+pub use fault::LookFault;
+pub use head::body_of;
+pub use looking::{Look, look_at};
+pub use status::{
+    DiskPart, PeerPart, PostPart, QuorumPart, RoundPart, SessionPart, Status, SyncPart,
+};
+pub use table::Table;

@@ -1,0 +1,86 @@
+//! A look at a node.
+
+use crate::fault::LookFault;
+use crate::fetching::fetch;
+use crate::head::body_of;
+use crate::status::Status;
+use crate::table::Table;
+use cc_orders::{AnswerForm, StatusOrder};
+use std::alloc::Global;
+use std::io;
+use std::io::Write;
+use std::net::{Net, TcpStream};
+use std::time::Clock;
+
+/// How a look at a node ended.
+#[derive(Clone, Copy, Debug, PartialEq, Eq)]
+pub struct Look {
+    /// The status to end with: 0 where the node is ready, else 1.
+    pub status: u8,
+    /// Why nothing is known of it.
+    pub fault: Option<LookFault>,
+}
+
+/// Asks a node what it tells of itself, and prints that as a table, or as it came; `no answer` where nothing came, or
+/// something else.
+pub fn look_at<R: Net<Stream = TcpStream> + Clock, W: Write>(
+    rt: &R,
+    alloc: Global,
+    order: &StatusOrder,
+    output: &mut W,
+) -> io::Result<Look> {
+    let looked = match fetch(rt, alloc, &order.address) {
+        Ok(answer) => print_answer(alloc, order, &answer, output)?,
+        Err(fault) => Err(fault),
+    };
+    match looked {
+        Ok(is_ready) => Ok(Look {
+            status: u8::from(!is_ready),
+            fault: None,
+        }),
+        Err(fault) => print_fault(fault, output),
+    }
+}
+
+fn print_fault<W: Write>(fault: LookFault, output: &mut W) -> io::Result<Look> {
+    writeln!(output, "no answer")?;
+    output.flush()?;
+    Ok(Look {
+        status: 1,
+        fault: Some(fault),
+    })
+}
+
+// Prints what came. Whether the node is ready.
+fn print_answer<W: Write>(
+    alloc: Global,
+    order: &StatusOrder,
+    answer: &[u8],
+    output: &mut W,
+) -> io::Result<Result<bool, LookFault>> {
+    let Some(text) = text_of(answer) else {
+        return Ok(Err(LookFault::Other(order.address)));
+    };
+    match serde_json::from_str::<Status>(alloc, text) {
+        Ok(status) => print_status(order.form, text, &status, output),
+        Err(_) => Ok(Err(LookFault::Other(order.address))),
+    }
+}
+
+fn text_of(answer: &[u8]) -> Option<&str> {
+    str::from_utf8(body_of(answer)?).ok()
+}
+
+fn print_status<W: Write>(
+    form: AnswerForm,
+    text: &str,
+    status: &Status,
+    output: &mut W,
+) -> io::Result<Result<bool, LookFault>> {
+    match form {
+        AnswerForm::Plain => write!(output, "{}", Table(status))?,
+        AnswerForm::Json => writeln!(output, "{}", text.trim_ascii())?,
+    }
+    output.flush()?;
+    Ok(Ok(status.is_ready))
+}

@@ -1,0 +1,141 @@
+//! A node's status as a table.
+
+use crate::status::{PeerPart, QuorumPart, RoundPart, Status};
+use std::fmt;
+
+/// A line for each part of the status, which begins with its word, and then a line for each peer.
+#[derive(Clone, Copy)]
+pub struct Table<'a>(pub &'a Status);
+
+impl fmt::Display for Table<'_> {
+    fn fmt<W: fmt::Write>(&self, f: &mut fmt::Formatter<W>) -> fmt::Result {
+        let status = self.0;
+        print_node(f, status)?;
+        print_quorum(f, &status.quorum)?;
+        print_members(f, &status.members)?;
+        print_round(f, status)?;
+        print_counts(f, status)?;
+        print_disk(f, status)?;
+        print_peers(f, status)
+    }
+}
+
+fn print_node<W: fmt::Write>(f: &mut fmt::Formatter<W>, status: &Status) -> fmt::Result {
+    let (id, version) = (status.id, status.version.as_str());
+    let (standing, reason) = (status.standing.as_str(), status.reason.as_str());
+    writeln!(f, "node      {id}, version {version}")?;
+    writeln!(f, "standing  {standing}")?;
+    if status.is_ready {
+        writeln!(f, "ready     yes")
+    } else {
+        writeln!(f, "ready     no: {reason}")
+    }
+}
+
+fn print_quorum<W: fmt::Write>(f: &mut fmt::Formatter<W>, quorum: &QuorumPart) -> fmt::Result {
+    let (need, members, away) = (quorum.need, quorum.members, quorum.may_be_away);
+    let (beta, gamma) = (quorum.beta.as_str(), quorum.gamma.as_str());
+    writeln!(
+        f,
+        "quorum    {need} of {members} members, {away} may be away, beta {beta}, gamma {gamma}"
+    )
+}
+
+fn print_members<W: fmt::Write>(f: &mut fmt::Formatter<W>, members: &[u32]) -> fmt::Result {
+    write!(f, "members   ")?;
+    for (i, member) in members.iter().enumerate() {
+        if i > 0 {
+            write!(f, ",")?;
+        }
+        write!(f, "{member}")?;
+    }
+    writeln!(f, "{}", if members.is_empty() { "none" } else { "" })
+}
+
+fn print_round<W: fmt::Write>(f: &mut fmt::Formatter<W>, status: &Status) -> fmt::Result {
+    match &status.round {
+        Some(round) => print_pending(f, round, status.now)?,
+        None => writeln!(f, "round     none")?,
+    }
+    let waiting = status.waiting;
+    writeln!(f, "waiting   {waiting} asks")
+}
+
+fn print_pending<W: fmt::Write>(
+    f: &mut fmt::Formatter<W>,
+    round: &RoundPart,
+    now: u64,
+) -> fmt::Result {
+    let phase = round.phase.as_str();
+    let (session, request, others) = (round.session, round.request, round.others);
+    let (answers, need) = (round.answers, round.need);
+    let seconds = seconds_since(round.since, now);
+    writeln!(
+        f,
+        "round     {phase} for {seconds} s, session {session}, request {request}, {others} others, {answers} of {need} answers"
+    )
+}
+
+fn print_counts<W: fmt::Write>(f: &mut fmt::Formatter<W>, status: &Status) -> fmt::Result {
+    let (used, limit) = (status.sessions.len(), status.session_limit);
+    let (kept, most, made) = (status.posts.kept, status.posts.limit, status.posts.made);
+    writeln!(f, "sessions  {used} of {limit}")?;
+    writeln!(f, "posts     {kept} of {most} kept, {made} made")
+}
+
+fn print_disk<W: fmt::Write>(f: &mut fmt::Formatter<W>, status: &Status) -> fmt::Result {
+    let (disk, syncs) = (&status.disk, &status.syncs);
+    let side = disk.side.as_str();
+    let (generation, bytes) = (disk.generation, disk.bytes);
+    let (records, events) = (disk.records, disk.events);
+    let (count, mean, half) = (syncs.count, syncs.mean_us, syncs.p50_us);
+    let (most, worst) = (syncs.p99_us, syncs.worst_us);
+    writeln!(
+        f,
+        "disk      side {side}, generation {generation}, {bytes} bytes, {records} records, {events} events"
+    )?;
+    writeln!(
+        f,
+        "syncs     {count}, mean {mean} us, p50 {half} us, p99 {most} us, worst {worst} us"
+    )
+}
+
+fn print_peers<W: fmt::Write>(f: &mut fmt::Formatter<W>, status: &Status) -> fmt::Result {
+    for peer in &status.peers {
+        print_peer(f, peer, status.now)?;
+    }
+    Ok(())
+}
+
+fn print_peer<W: fmt::Write>(f: &mut fmt::Formatter<W>, peer: &PeerPart, now: u64) -> fmt::Result {
+    let id = peer.id;
+    write!(f, "peer      {id}")?;
+    match &peer.address {
+        Some(address) => write!(f, " at {}", address.as_str())?,
+        None => write!(f, " without an address")?,
+    }
+    print_contact(f, peer, now)?;
+    let (behind, acknowledged, heard) = (peer.behind, peer.acknowledged, peer.heard);
+    writeln!(
+        f,
+        ", behind by {behind}, acknowledged {acknowledged}, heard {heard}"
+    )
+}
+
+// Whether a peer is there. One that is connected may be absent all the same: it acknowledges nothing.
+fn print_contact<W: fmt::Write>(
+    f: &mut fmt::Formatter<W>,
+    peer: &PeerPart,
+    now: u64,
+) -> fmt::Result {
+    match (peer.absent_since, peer.connected_since) {
+        (Some(since), _) => write!(f, ", absent for {} s", seconds_since(since, now)),
+        (None, Some(since)) => write!(f, ", connected for {} s", seconds_since(since, now)),
+        (None, None) => write!(f, ", not connected"),
+    }
+}
+
+// How many whole seconds lie between two moments, 0 where the clock went back.
+fn seconds_since(since: u64, now: u64) -> u64 {
+    now.saturating_sub(since) / 1000
+}

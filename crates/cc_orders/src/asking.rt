@@ -1,0 +1,103 @@
+//! What a node is asked that runs.
+
+use crate::word_fault::WordFault;
+use cc_messages::Command;
+use cc_words::{address, command, number, store_of};
+use std::net::SocketAddr;
+
+// How many seconds a client waits where no word says another number.
+const TIMEOUT: u64 = 10;
+
+/// The words of `ask`, as they are given. None for one that isn't.
+#[derive(Clone, Copy, Debug)]
+pub struct AskWords<'a> {
+    pub address: &'a str,
+    pub session: &'a str,
+    pub command: &'a str,
+    pub value: Option<&'a str>,
+    /// What is to be stored, where it isn't a word.
+    pub text: Option<&'a str>,
+    pub request: Option<&'a str>,
+    pub timeout: Option<&'a str>,
+    pub form: AnswerForm,
+    /// Whether it asks again while the node hasn't joined.
+    pub waits: bool,
+}
+
+/// How an answer is printed.
+#[derive(Clone, Copy, Debug, PartialEq, Eq)]
+pub enum AnswerForm {
+    /// As `play` prints it.
+    Plain,
+    Json,
+}
+
+/// A command that a client has done in its session.
+#[derive(Clone, Copy, Debug, PartialEq, Eq)]
+pub struct AskOrder {
+    pub address: SocketAddr,
+    pub session: u64,
+    pub command: Command,
+    /// The number of its request, from 1 on. None for the one after the session's last.
+    pub request: Option<u64>,
+    /// For how many seconds it waits.
+    pub timeout: u64,
+    pub form: AnswerForm,
+    /// Whether it asks again while the node hasn't joined.
+    pub waits: bool,
+}
+
+impl AskOrder {
+    /// A command that is done in a session, under the number after its last one, with so many seconds for the answer, which is
+    /// printed as `play` prints it.
+    pub fn new(address: SocketAddr, session: u64, command: Command, timeout: u64) -> Self {
+        AskOrder {
+            address,
+            session,
+            command,
+            request: None,
+            timeout,
+            form: AnswerForm::Plain,
+            waits: false,
+        }
+    }
+
+    /// What these words ask for. The fault names the first word of another form.
+    pub fn parse(words: &AskWords<'_>) -> Result<Self, WordFault> {
+        Ok(AskOrder {
+            address: address(words.address).ok_or(WordFault::Address)?,
+            session: number(words.session).ok_or(WordFault::Session)?,
+            command: command_in(words).ok_or(WordFault::Command)?,
+            request: request_in(words.request)?,
+            timeout: seconds(words.timeout).ok_or(WordFault::Timeout)?,
+            form: words.form,
+            waits: words.waits,
+        })
+    }
+}
+
+fn command_in(words: &AskWords<'_>) -> Option<Command> {
+    match (words.value, words.text) {
+        (None, None) => command(&[words.command]),
+        (Some(value), None) => command(&[words.command, value]),
+        (None, Some(text)) if words.command == "store" => store_of(text),
+        _ => None,
+    }
+}
+
+fn request_in(word: Option<&str>) -> Result<Option<u64>, WordFault> {
+    match word {
+        Some(word) => match number(word) {
+            Some(request) if request > 0 => Ok(Some(request)),
+            _ => Err(WordFault::Request),
+        },
+        None => Ok(None),
+    }
+}
+
+fn seconds(word: Option<&str>) -> Option<u64> {
+    match word {
+        Some(word) => number(word),
+        None => Some(TIMEOUT),
+    }
+}

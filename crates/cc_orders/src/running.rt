@@ -1,0 +1,134 @@
+//! What a node is told that is to run.
+
+use crate::word_fault::WordFault;
+use cc_frames::Peer;
+use cc_views::NodeId;
+use cc_words::{address, peers, peers_in_lines};
+use std::alloc::Global;
+use std::net::SocketAddr;
+
+/// The words of `run` behind its folder, as they are given. None for an option that isn't.
+#[derive(Clone, Copy, Debug)]
+pub struct RunWords<'a> {
+    pub listen: &'a str,
+    pub peers: Option<&'a str>,
+    /// The path of a file whose lines are the peers.
+    pub peers_file: Option<&'a str>,
+    pub status: Option<&'a str>,
+    pub log: Option<&'a str>,
+}
+
+/// How much a node notes: what is of a level, and of those before it.
+#[derive(Clone, Copy, Debug, PartialEq, Eq)]
+pub enum LogLevel {
+    Error,
+    Warn,
+    Info,
+    Debug,
+}
+
+impl LogLevel {
+    /// The level that a word names: `error`, `warn`, `info` or `debug`. None for any other word.
+    pub fn named(word: &str) -> Option<Self> {
+        match word {
+            "error" => Some(LogLevel::Error),
+            "warn" => Some(LogLevel::Warn),
+            "info" => Some(LogLevel::Info),
+            "debug" => Some(LogLevel::Debug),
+            _ => None,
+        }
+    }
+}
+
+/// Where a node that runs listens, where the others do, and what it tells of itself.
+#[derive(Debug, Drop, PartialEq, Eq)]
+pub struct RunOrder {
+    pub listen: SocketAddr,
+    pub peers: Vec<Peer>,
+    /// Where it tells its status. None where it doesn't.
+    pub status: Option<SocketAddr>,
+    pub log: LogLevel,
+}
+
+impl RunOrder {
+    /// What these words ask for: the address behind `--listen`, the peers behind `--peers` or those on the lines of the file
+    /// behind `--peers-file`, none where neither is given, the address behind `--status` if it is, and the level behind
+    /// `--log`, else info. `lines` is the text of that file. A peer that is named twice is a fault.
+    pub fn parse(
+        alloc: Global,
+        words: &RunWords<'_>,
+        lines: Option<&str>,
+    ) -> Result<Self, WordFault> {
+        let listen = address(words.listen).ok_or(WordFault::Listen)?;
+        let status = status_in(words.status)?;
+        let log = level_in(words.log)?;
+        if words.peers.is_some() && words.peers_file.is_some() {
+            return Err(WordFault::PeersTwice);
+        }
+        let peers = peers_of(alloc, words.peers, lines)?;
+        Ok(RunOrder {
+            listen,
+            peers,
+            status,
+            log,
+        })
+    }
+
+    /// Whether a node is one of the peers. That of the folder must not be.
+    pub fn names(&self, node: NodeId) -> bool {
+        self.peers.iter().any(|peer| peer.id == node)
+    }
+
+    /// The node isn't one of the peers any more, if it was: that of the folder, in a file that serves all nodes.
+    pub fn pass_over(&mut self, node: NodeId) {
+        self.peers.retain(|peer| peer.id != node);
+    }
+}
+
+fn status_in(word: Option<&str>) -> Result<Option<SocketAddr>, WordFault> {
+    match word {
+        Some(word) => match address(word) {
+            Some(address) => Ok(Some(address)),
+            None => Err(WordFault::Status),
+        },
+        None => Ok(None),
+    }
+}
+
+fn level_in(word: Option<&str>) -> Result<LogLevel, WordFault> {
+    match word {
+        Some(word) => LogLevel::named(word).ok_or(WordFault::Log),
+        None => Ok(LogLevel::Info),
+    }
+}
+
+// The peers of a list, or else those on the lines of a file.
+fn peers_of(
+    alloc: Global,
+    list: Option<&str>,
+    lines: Option<&str>,
+) -> Result<Vec<Peer>, WordFault> {
+    let (peers, twice) = match lines {
+        Some(lines) => (peers_in_lines(alloc, lines)?, WordFault::LineTwice),
+        None => (named_peers(alloc, list)?, WordFault::PeerTwice),
+    };
+    if names_one_twice(&peers) {
+        return Err(twice);
+    }
+    Ok(peers)
+}
+
+fn named_peers(alloc: Global, word: Option<&str>) -> Result<Vec<Peer>, WordFault> {
+    match word {
+        Some(word) => peers(alloc, word)?.ok_or(WordFault::Peers),
+        None => Ok(Vec::new(alloc)),
+    }
+}
+
+fn names_one_twice(peers: &[Peer]) -> bool {
+    peers.iter().any(|peer| count_of(peers, peer.id) > 1)
+}
+
+fn count_of(peers: &[Peer], id: NodeId) -> usize {
+    peers.iter().filter(|peer| peer.id == id).count()
+}

@@ -1,0 +1,87 @@
+//! What is done with the folder of a node.
+
+use crate::print_word_fault;
+use cc_commands::{
+    BadOpening, DumpScope, FormatOrder, Lost, Trouble, Warning, dump_folder, format_folder,
+};
+use cc_orders::FormatWords;
+use std::fs::{File, Files};
+use std::process::ExitCode;
+
+/// Formats a folder: the status of that. What the operator may not want is told on standard error, and so is why it isn't
+/// formatted.
+pub fn format(rt: &HostRuntime, folder: &str, words: &FormatWords<'_>) -> anyhow::Result<ExitCode> {
+    match FormatOrder::parse(rt.alloc(), words) {
+        Ok(order) => format_as(rt, folder, &order),
+        Err(fault) => print_word_fault(rt, fault),
+    }
+}
+
+fn format_as(rt: &HostRuntime, folder: &str, order: &FormatOrder) -> anyhow::Result<ExitCode> {
+    print_lost(rt, folder)?;
+    let mut output = std::io::writer(rt);
+    let status = format_folder(rt, rt.alloc(), folder, order, &mut output)?;
+    if status == 0 {
+        for warning in order.warnings() {
+            print_warning(rt, warning)?;
+        }
+    } else if !print_trouble(rt, folder)? {
+        print_bad_opening(rt, order)?;
+    }
+    Ok(ExitCode::from(status))
+}
+
+fn print_warning<R: Eprint>(rt: &R, warning: Option<Warning>) -> anyhow::Result<()> {
+    if let Some(warning) = warning {
+        eprintln!(rt; "ccnode: warning: {warning}")?;
+    }
+    Ok(())
+}
+
+// Prints the first rule that the beginning breaks, if it breaks one.
+fn print_bad_opening<R: Eprint>(rt: &R, order: &FormatOrder) -> anyhow::Result<()> {
+    if let Some(rule) = BadOpening::of(&order.opening()) {
+        eprintln!(rt; "ccnode: {rule}")?;
+    }
+    Ok(())
+}
+
+/// Tells what stands in a folder, and of its node where that is asked for: the status of that.
+pub fn dump(rt: &HostRuntime, folder: &str, tells_node: bool) -> anyhow::Result<ExitCode> {
+    print_lost(rt, folder)?;
+    let scope = match tells_node {
+        true => DumpScope::Node,
+        false => DumpScope::Sides,
+    };
+    let mut output = std::io::writer(rt);
+    let status = dump_folder(rt, rt.alloc(), folder, scope, &mut output)?;
+    if status != 0 {
+        print_trouble(rt, folder)?;
+    }
+    Ok(ExitCode::from(status))
+}
+
+/// Prints which files of a folder are missing, if one was lost. To be done before it is opened.
+pub fn print_lost<R: Files<File = File> + AllocGlobal + Eprint>(
+    rt: &R,
+    folder: &str,
+) -> anyhow::Result<()> {
+    if let Some(lost) = Lost::at(rt, rt.alloc(), folder)? {
+        eprintln!(rt; "ccnode: {folder}: {lost}")?;
+    }
+    Ok(())
+}
+
+/// Prints why a folder couldn't be opened, as far as that shows afterwards. Whether anything did.
+pub fn print_trouble<R: Files<File = File> + AllocGlobal + Eprint>(
+    rt: &R,
+    folder: &str,
+) -> anyhow::Result<bool> {
+    match Trouble::at(rt, rt.alloc(), folder)? {
+        Some(trouble) => {
+            eprintln!(rt; "ccnode: {trouble}")?;
+            Ok(true)
+        }
+        None => Ok(false),
+    }
+}

@@ -1,0 +1,153 @@
+//! A node that runs.
+
+use crate::folder::{print_lost, print_trouble};
+use crate::noting::NotingRuntime;
+use crate::{BAD_COMMAND_LINE, FAULT, print_word_fault};
+use cc_arguments::VERSION;
+use cc_channels::Stop;
+use cc_commands::node_in_folder;
+use cc_intake::NoHooks;
+use cc_orders::{RunOrder, RunWords, WordFault};
+use cc_server::{Config, RunFault, run_node};
+use cc_views::NodeId;
+use std::fs;
+use std::fs::{File, Files};
+use std::net::{Net, TcpListener, TcpStream};
+use std::process::ExitCode;
+use std::sync::Wait;
+use std::thread::Threads;
+use std::time::Clock;
+
+/// Runs the node of a folder: the status of that.
+pub fn run<R>(rt: &R, folder: &str, words: &RunWords<'_>) -> anyhow::Result<ExitCode>
+where
+    R: Files<File = File>
+        + Net<Listener = TcpListener, Stream = TcpStream>
+        + AllocGlobal
+        + Print
+        + Eprint
+        + Threads
+        + Wait
+        + Clock
+        + Drop
+        + Sync,
+{
+    match words.peers_file {
+        Some(file) => match fs::read_to_string(rt, file) {
+            Ok(lines) => run_with(rt, folder, words, Some((file, lines.as_str()))),
+            Err(error) => {
+                eprintln!(rt; "ccnode: {file}: {error}")?;
+                Ok(ExitCode::from(BAD_COMMAND_LINE))
+            }
+        },
+        None => run_with(rt, folder, words, None),
+    }
+}
+
+// The same with the path and the text of a file of peers, if there is one.
+fn run_with<R>(
+    rt: &R,
+    folder: &str,
+    words: &RunWords<'_>,
+    file: Option<(&str, &str)>,
+) -> anyhow::Result<ExitCode>
+where
+    R: Files<File = File>
+        + Net<Listener = TcpListener, Stream = TcpStream>
+        + AllocGlobal
+        + Print
+        + Eprint
+        + Threads
+        + Wait
+        + Clock
+        + Drop
+        + Sync,
+{
+    let lines = match file {
+        Some((_, lines)) => Some(lines),
+        None => None,
+    };
+    match RunOrder::parse(rt.alloc(), words, lines) {
+        Ok(order) => run_as(rt, folder, order, file.is_some()),
+        Err(fault) => print_order_fault(rt, fault, file),
+    }
+}
+
+// A fault of a file of peers is told with its path.
+fn print_order_fault<R: Eprint>(
+    rt: &R,
+    fault: WordFault,
+    file: Option<(&str, &str)>,
+) -> anyhow::Result<ExitCode> {
+    match (fault, file) {
+        (WordFault::Line(_) | WordFault::LineTwice, Some((path, _))) => {
+            eprintln!(rt; "ccnode: {path} {fault}")?;
+            Ok(ExitCode::from(BAD_COMMAND_LINE))
+        }
+        _ => print_word_fault(rt, fault),
+    }
+}
+
+// Runs the node. Its own line is passed over where the peers are from a file, which serves all nodes.
+fn run_as<R>(rt: &R, folder: &str, order: RunOrder, is_from_file: bool) -> anyhow::Result<ExitCode>
+where
+    R: Files<File = File>
+        + Net<Listener = TcpListener, Stream = TcpStream>
+        + AllocGlobal
+        + Print
+        + Eprint
+        + Threads
+        + Wait
+        + Clock
+        + Drop
+        + Sync,
+{
+    print_lost(rt, folder)?;
+    let own = match is_from_file {
+        true => node_in_folder(rt, rt.alloc(), folder),
+        false => None,
+    };
+    let noting = NotingRuntime::new(rt, order.log);
+    let config = config_of(folder, order, own);
+    match run_node(&noting, rt.alloc(), &config, &Stop::new(), &NoHooks) {
+        Ok(_) => Ok(ExitCode::SUCCESS),
+        Err(fault) => print_run_fault(rt, folder, fault),
+    }
+}
+
+// What a node is run with: what an order has of it, without that node among its peers.
+fn config_of<'a>(folder: &'a str, order: RunOrder, own: Option<NodeId>) -> Config<'a> {
+    let mut order = order;
+    if let Some(node) = own {
+        order.pass_over(node);
+    }
+    let RunOrder {
+        listen,
+        peers,
+        status,
+        log: _,
+    } = order;
+    Config {
+        dir: folder,
+        listen,
+        peers,
+        status,
+        version: VERSION,
+    }
+}
+
+// Prints why the node doesn't run, or has ended. A node among its own peers is a fault of the command line.
+fn print_run_fault<R: Files<File = File> + AllocGlobal + Print + Eprint>(
+    rt: &R,
+    folder: &str,
+    fault: RunFault,
+) -> anyhow::Result<ExitCode> {
+    if fault == RunFault::OwnPeer {
+        return print_word_fault(rt, WordFault::PeerItself);
+    }
+    println!(rt; "{fault}")?;
+    if matches!(fault, RunFault::Open(_)) {
+        print_trouble(rt, folder)?;
+    }
+    Ok(ExitCode::from(FAULT))
+}
