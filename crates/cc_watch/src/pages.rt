@@ -1,10 +1,7 @@
 //! What each page has on it.
 
 use crate::board::{Board, Laid};
-use cc_http::{Outcome, Page, answer_page};
-
-const HOME: &str = "";
-
+use cc_http::{Outcome, Page, answer_page, home};
 use cc_status::{Metrics, Status, status_of};
 use cc_views::NoMemory;
 use std::alloc::Global;
@@ -20,7 +17,7 @@ pub fn put_page<R: Wait>(
     out: &mut Vec<u8>,
 ) -> Result<(), NoMemory> {
     match page {
-        Page::Home => answer_page(out, page, Outcome::Served, is_head, HOME.as_bytes()),
+        Page::Home => answer_page(out, page, Outcome::Served, is_head, home().as_bytes()),
         Page::Health => answer_page(out, page, Outcome::Served, is_head, b"ok\n"),
         _ => match board.look(rt) {
             Some(laid) => put_shown(alloc, board, &laid, page, is_head, out),
