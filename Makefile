@@ -132,7 +132,7 @@ look:
 	@python3 tools/look.py crates/ccnode/out/ccnode
 
 # Takes docs/status-page.png: the status page of such a cluster, of which one node was killed. It needs Chromium, and takes
-# a minute and a half.
+# two and a half minutes.
 look-picture:
 	@$(BUILD) ccnode
 	@python3 tools/look_picture.py crates/ccnode/out/ccnode docs/status-page.png

@@ -307,7 +307,7 @@ def compare(cluster, load, verdicts):
         alone += count_answers(load, SECONDS) / PAIRS
         beside += count_beside(load, cluster.page_address(1)) / PAIRS
     fall = 1 - beside / alone
-    verdicts.add(fall < MOST_FALL, f"{alone:.0f} answers a second without, {beside:.0f} with misuse: {100 * fall:+.1f} % less")
+    verdicts.add(fall < MOST_FALL, f"{alone:.0f} answers a second without, {beside:.0f} with misuse: {100 * fall:.1f} % fewer")
 
 
 def raise_limit():

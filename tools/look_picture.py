@@ -2,7 +2,7 @@
 """Takes a picture of the status page of a cluster, one of whose three nodes was killed: look_picture.py PROGRAM PICTURE
 
 Node 3 is killed and taken for absent before the picture is taken, and the others store meanwhile. It needs Chromium,
-takes a minute and a half, and ends all that it started.
+takes two and a half minutes, and ends all that it started.
 """
 import http.server
 import os
@@ -22,9 +22,10 @@ from nodes import LOOPBACK, say
 
 BROWSERS = ["chromium", "chromium-browser", "google-chrome", "chrome"]
 SIZE = "1400,1120"
-MOST_BYTES = 200_000
+# A picture of less is one of nothing.
+LEAST_BYTES, MOST_BYTES = 40_000, 200_000
 # For how long the charts are filled with all nodes, and how long node 3 is away then.
-FILLED, AWAY = 50.0, 12.0
+FILLED, AWAY = 105.0, 12.0
 PATIENCE = 30.0
 # A browser takes its picture once all of a page is loaded. So what it shows waits for an image, which comes in time.
 HELD = b'<img src="/held" alt="" width="0" height="0"></body>'
@@ -123,7 +124,7 @@ def main(program, picture):
         take_picture(cluster.page_address(1), picture, prepare)
         load.end()
     size = picture.stat().st_size if picture.exists() else 0
-    if not 0 < size < MOST_BYTES:
+    if not LEAST_BYTES < size < MOST_BYTES:
         sys.exit(f"the picture has {size} bytes")
     say(f"{picture}: {size} bytes")
 
