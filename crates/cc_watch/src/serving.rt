@@ -99,8 +99,23 @@ fn visit<R: Wait + Clock>(rt: &R, alloc: Global, visitors: &Visitors<'_>, stream
     if let Some(asked) = request(rt, alloc, stream) {
         serve(rt, alloc, visitors, stream, asked);
     }
+    let _ = stream.shutdown(Shutdown::Write);
+    drain(stream);
     let _ = stream.shutdown(Shutdown::Both);
     visitors.all.leave();
+}
+
+// Takes what still comes behind a request, for a second and up to 64 KiB: a connection that is closed over bytes that nobody
+// read takes its answer with it.
+fn drain(stream: &TcpStream) {
+    let mut from: &TcpStream = stream;
+    let mut piece = [0; 1024];
+    let _ = stream.set_read_timeout(Some(Duration::from_secs(1)));
+    for _ in 0..64 {
+        if !matches!(from.read(&mut piece), Ok(count) if count > 0) {
+            return;
+        }
+    }
 }
 
 fn serve<R: Wait + Clock>(
