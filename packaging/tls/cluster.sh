@@ -140,6 +140,16 @@ ask() {
     esac
 }
 
+# What openssl heard: why it was refused, or that it wasn't in the second after both ends had shown what they had to.
+told_by_server() {
+    if grep -oE 'alert [a-z ]+' "$work/handshake"; then
+        return
+    fi
+    if grep -q '^Verify return code: 0 (ok)' "$work/handshake"; then
+        echo 'let in'
+    fi
+}
+
 # What the TLS server of machine 1 at a port says to a client that shows this certificate, or none.
 handshake() {
     local wanted=$1 port=$2 shown=()
@@ -147,8 +157,7 @@ handshake() {
     say "openssl s_client -connect 10.77.0.1:$port ${3:+-cert ${3#"$work"/}.pem}    (client)"
     (sleep 1; echo) | at client timeout 5 openssl s_client -connect "10.77.0.1:$port" -CAfile "$work/tls/ca.pem" \
         "${shown[@]}" > "$work/handshake" 2>&1 || true
-    grep -oE 'alert [a-z ]+:' "$work/handshake" > "$work/told" || echo 'let in' > "$work/told"
-    sort -u "$work/told" | tr -d :
+    told_by_server | tee "$work/told"
     if ! grep -q "$wanted" "$work/told"; then
         echo "wanted: $wanted" >&2
         exit 1

@@ -3,12 +3,12 @@
 # each:
 #
 #     configuration.sh 1 < machines              for the machine of node 1: its tunnels, the others', and clients'
-#     configuration.sh 1 nodes < machines        the same without the clients'
+#     configuration.sh 1 machines < machines     the same without the clients'
 #     configuration.sh 1 clients < machines      the clients' alone: for a second process beside the one above
 #     configuration.sh client NAME < machines    for the machine of client NAME
 #
 # On each machine port 7000 + ID of loopback leads to node ID: there the node listens itself, and elsewhere a tunnel
-# does. Over the network machines talk to each other at port 7443, and clients come in at 7444. Certificates are looked
+# does; so an ID is at most 58535. Over the network machines talk to each other at port 7443, and clients come in at 7444. Certificates are looked
 # for in FOLDER (/etc/stunnel/ccnode), and stunnel runs as TUNNEL_USER (stunnel4).
 set -eu
 folder=${FOLDER:-/etc/stunnel/ccnode}
@@ -48,66 +48,66 @@ TIMEOUTbusy = 10
 PART
 }
 
-# From this machine's loopback to a node elsewhere, whose machine has to show its own name.
+# From this machine's loopback to a node elsewhere, at an address and a port: its machine has to show its own name.
 tunnel_to() {
     cat << PART
 
 [to-$1]
 client = yes
 accept = 127.0.0.1:$((7000 + $1))
-connect = $(address_of "$1"):$2
+connect = $2:$3
 checkHost = machine-$1
 PART
 }
 
-# From the other machines, which have to show the name of one of them.
-from_machines() {
-    local other
-    cat << PART
-
-[machines]
-accept = $(address_of "$1"):$machine_port
-connect = 127.0.0.1:$((7000 + $1))
-PART
-    for other in $(others_of "$1"); do
-        echo "checkHost = machine-$other"
+tunnels_to() {
+    local other address
+    for other in $1; do
+        address=$(address_of "$other")
+        tunnel_to "$other" "$address" "$2"
     done
 }
 
-# From whoever has a certificate.
-from_clients() {
+# From the network at an address and a port to this machine's node.
+tunnel_from() {
     cat << PART
 
-[clients]
-accept = $(address_of "$1"):$client_port
+[$2]
+accept = $3:$4
 connect = 127.0.0.1:$((7000 + $1))
 PART
 }
 
+# The other machines have to show the name of one of them; who comes as a client shows any.
 machine() {
-    local part=${2:-both} other
+    local address others
+    address=$(address_of "$1")
+    others=$(others_of "$1")
     common_part "machine-$1"
-    if [ "$part" != clients ]; then
-        for other in $(others_of "$1"); do
-            tunnel_to "$other" "$machine_port"
-        done
-        from_machines "$1"
+    if [ "$2" != clients ] && [ -n "$others" ]; then
+        tunnels_to "$others" "$machine_port"
+        tunnel_from "$1" machines "$address" "$machine_port"
+        # One name a word.
+        # shellcheck disable=SC2086
+        printf 'checkHost = machine-%s\n' $others
     fi
-    if [ "$part" != nodes ]; then
-        from_clients "$1"
+    if [ "$2" != machines ]; then
+        tunnel_from "$1" clients "$address" "$client_port"
     fi
 }
 
 client() {
-    local node
     common_part "client-$1"
-    for node in $(others_of 0); do
-        tunnel_to "$node" "$client_port"
-    done
+    tunnels_to "$(others_of 0)" "$client_port"
 }
 
-case ${1:-} in
-    client) client "${2:?which client}" ;;
-    [1-9]*) machine "$@" ;;
-    *) sed -n '2,/^set/s/^# \{0,1\}//p' "$0" >&2; exit 2 ;;
+usage() {
+    sed -n '2,/^set/s/^# \{0,1\}//p' "$0" >&2
+    exit 2
+}
+
+case ${1:-}:${2:-} in
+    client:?*) client "$2" ;;
+    [1-9]*: | [1-9]*:machines | [1-9]*:clients) machine "$1" "${2:-}" ;;
+    *) usage ;;
 esac
