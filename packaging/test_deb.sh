@@ -104,6 +104,12 @@ configure() {
     done
 }
 
+# A node without an address, or without the list that it is to have, isn't begun: the unit doesn't start it again then.
+refuse_bad_words() {
+    expect 2 inside env LISTEN= /usr/libexec/ccnode/run-node 1
+    expect 2 inside env LISTEN="$(address 1)" PEERS_FILE=/etc/ccnode/none /usr/libexec/ccnode/run-node 1
+}
+
 run_nodes() {
     local node
     for node in 1 2 3; do
@@ -176,6 +182,7 @@ make_root "${2:-}"
 install_package ccnode.deb
 look_at_files
 configure
+refuse_bad_words
 run_nodes
 analyze
 upgrade
