@@ -1,7 +1,7 @@
 # The commands of the README. The toolchain is Rattle's kit, with its command rt on the PATH.
 .PHONY: try run install test check bench edits must-not-compile refused-growths failing-calls kill-files cluster load \
     kill-cluster soak soak-absent hostile closed-streams dead-member refused-flood stray-frames many-sessions \
-    stale-collects costs worked-rows trusted links beside look look-picture hostile-status
+    stale-collects costs worked-rows trusted links beside look look-picture hostile-status deb tls-cluster
 
 # Plays the script that ships with the program before any proof.
 try:
@@ -18,11 +18,40 @@ run:
 	@echo '$$ ccnode play < crates/ccnode/stdin'
 	@./crates/ccnode/out/ccnode play < crates/ccnode/stdin
 
-# Installs the program that `make run` has built, and its man page. PREFIX=/opt/ccnode puts them elsewhere.
+# Installs the program that `make run` has built, its man page, its unit and what that runs, completions and pages.
+# PREFIX=/opt/ccnode puts them elsewhere. The unit wants a user ccnode, whom the Debian package makes and this doesn't.
 PREFIX = /usr/local
+PROGRAM = crates/ccnode/out/ccnode
+SHARE_FOLDER = $(DESTDIR)$(PREFIX)/share
+ZSH_COMPLETIONS = $(PREFIX)/share/zsh/site-functions
+PAGES = docs/RUN.md docs/SECURITY.md docs/FORMATS.md docs/SERVER.md docs/DURABILITY.md CHANGELOG.md
 install:
-	install -D crates/ccnode/out/ccnode $(DESTDIR)$(PREFIX)/bin/ccnode
-	install -D -m 644 docs/ccnode.1 $(DESTDIR)$(PREFIX)/share/man/man1/ccnode.1
+	install -D $(PROGRAM) $(DESTDIR)$(PREFIX)/bin/ccnode
+	install -D -m 644 docs/ccnode.1 $(SHARE_FOLDER)/man/man1/ccnode.1
+	install -d $(DESTDIR)$(PREFIX)/libexec/ccnode $(DESTDIR)$(PREFIX)/lib/systemd/system
+	sed 's,/usr/,$(PREFIX)/,g' packaging/run-node > $(DESTDIR)$(PREFIX)/libexec/ccnode/run-node
+	chmod 755 $(DESTDIR)$(PREFIX)/libexec/ccnode/run-node
+	sed 's,/usr/,$(PREFIX)/,g' packaging/deb/ccnode@.service > $(DESTDIR)$(PREFIX)/lib/systemd/system/ccnode@.service
+	chmod 644 $(DESTDIR)$(PREFIX)/lib/systemd/system/ccnode@.service
+	install -D -m 644 packaging/completions/ccnode.bash $(SHARE_FOLDER)/bash-completion/completions/ccnode
+	install -D -m 644 packaging/completions/ccnode.fish $(SHARE_FOLDER)/fish/vendor_completions.d/ccnode.fish
+	install -D -m 644 packaging/completions/_ccnode $(DESTDIR)$(ZSH_COMPLETIONS)/_ccnode
+	install -d $(SHARE_FOLDER)/doc/ccnode/examples/tls
+	install -m 644 $(PAGES) $(SHARE_FOLDER)/doc/ccnode/
+	install -m 644 packaging/deb/examples/* examples/client.py $(SHARE_FOLDER)/doc/ccnode/examples/
+	install -m 755 packaging/tls/certificates.sh packaging/tls/configuration.sh $(SHARE_FOLDER)/doc/ccnode/examples/tls/
+
+# Makes a Debian package, packaging/out/ccnode_VERSION_ARCHITECTURE.deb, out of the program that `make run` or `make test`
+# has built. It proves nothing. It needs Debian's dpkg-dev and binutils.
+deb:
+	@bash packaging/deb/build.sh $(PROGRAM) packaging/out
+
+# Runs three nodes in network namespaces of their own behind mutual TLS, has clients refused that have no certificate or a
+# revoked one, kills a node, and measures what TLS costs: two minutes. It needs root, and Debian's stunnel4, openssl and
+# iproute2.
+tls-cluster:
+	@$(BUILD) ccnode
+	@bash packaging/tls/cluster.sh $(PROGRAM)
 
 # Proves every crate from nothing, tries the edits that must fail, and runs the tests and the programs.
 test:

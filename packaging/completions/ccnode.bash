@@ -1,0 +1,47 @@
+# Completion of ccnode for bash: subcommands, their options, the commands of `ask`, and folders.
+
+# The words that a subcommand has besides its options, by how many stand before it.
+_ccnode_places() {
+    case $1:$2 in
+        format:0 | run:0 | dump:0) compgen -d -- "$3" ;;
+        ask:2) compgen -W 'store collect max readmax flag readflag add readset' -- "$3" ;;
+    esac
+}
+
+_ccnode_options() {
+    case $1 in
+        format) echo '--initial --contacts --beta --gamma --share --help' ;;
+        run) echo '--listen --peers --help' ;;
+        ask) echo '--timeout --help' ;;
+        leave | retire | dump | play) echo '--help' ;;
+        '') echo '--help --version' ;;
+    esac
+}
+
+# The words are those between blanks: bash itself would take an address apart at its colon.
+_ccnode() {
+    local line=${COMP_LINE:0:COMP_POINT} words word before subcommand='' places=0 at
+    read -ra words <<< "$line"
+    [[ $line == *' ' ]] && words+=('')
+    word=${words[-1]} before=${words[-2]}
+    for ((at = 1; at < ${#words[@]} - 1; at++)); do
+        case ${words[at]} in
+            --initial | --contacts | --beta | --gamma | --share | --listen | --peers | --timeout) ((at++)) ;;
+            -*) ;;
+            *) if [[ -z $subcommand ]]; then subcommand=${words[at]}; else ((places++)); fi ;;
+        esac
+    done
+    COMPREPLY=()
+    case $before in
+        --initial | --contacts | --beta | --gamma | --share | --listen | --peers | --timeout) return ;;
+    esac
+    if [[ $word == -* ]]; then
+        mapfile -t COMPREPLY < <(compgen -W "$(_ccnode_options "$subcommand")" -- "$word")
+    elif [[ -z $subcommand ]]; then
+        mapfile -t COMPREPLY < <(compgen -W 'play format run ask leave retire dump' -- "$word")
+    else
+        mapfile -t COMPREPLY < <(_ccnode_places "$subcommand" "$places" "$word")
+    fi
+}
+
+complete -F _ccnode ccnode
