@@ -3,8 +3,8 @@
 
     languages.py
 
-Run by itself it runs the unit tests of each language whose tool is installed, and names the others as left out. The status
-is 1 where a test fails.
+Run by itself it runs the unit tests of each language whose tool is installed, names the others as left out, and tests the
+check of histories.py. The status is 1 where a test fails.
 """
 import pathlib
 import shutil
@@ -72,15 +72,19 @@ def installed():
             print(f"LEFT OUT: {language.name}, since {language.tool} isn't installed", flush=True)
 
 
+def passes(what, words, folder):
+    """Whether these tests pass; what they print is shown where they don't."""
+    tested = subprocess.run(words, cwd=folder, capture_output=True, text=True, timeout=600)
+    if tested.returncode:
+        print(tested.stdout + tested.stderr)
+    print(f"{'NOT' if tested.returncode else 'ok '} unit tests of {what}", flush=True)
+    return tested.returncode == 0
+
+
 def main():
-    status = 0
-    for language in installed():
-        tested = subprocess.run(language.unit_tests, cwd=language.folder, capture_output=True, text=True, timeout=600)
-        if tested.returncode:
-            print(tested.stdout + tested.stderr)
-            status = 1
-        print(f"{'NOT' if tested.returncode else 'ok '} unit tests of {language.name}", flush=True)
-    sys.exit(status)
+    verdicts = [passes(language.name, language.unit_tests, language.folder) for language in installed()]
+    verdicts.append(passes("the check of histories", [sys.executable, "-m", "unittest", "test_histories"], HERE))
+    sys.exit(not all(verdicts))
 
 
 if __name__ == "__main__":

@@ -41,7 +41,7 @@ export class Client {
   #session;
   #timeout;
   // Resolves once the calls so far have ended.
-  #turn = Promise.resolve();
+  #turn = Promise.resolve([]);
   #connection;
   // Which address is tried next.
   #place = 0;
@@ -104,8 +104,8 @@ export class Client {
     await this.#inTurn(deadline, () => this.#learn(deadline));
   }
 
-  async #call(command, { timeout = this.#timeout, signal } = {}) {
-    const deadline = new Deadline(milliseconds(timeout), signal);
+  async #call(command, options = {}) {
+    const deadline = new Deadline(milliseconds(options.timeout ?? this.#timeout), options.signal);
     return this.#inTurn(deadline, () => this.#request(command, deadline));
   }
 

@@ -46,6 +46,9 @@ export class Connection {
       if (told !== undefined) {
         return told;
       }
+      if (deadline.left() === 0) {
+        throw deadline.reason;
+      }
       // Bytes are read where somebody waits for them alone, so a flood fills no memory.
       const piece = this.#socket.read();
       if (piece !== null) {

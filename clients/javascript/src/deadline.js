@@ -55,7 +55,8 @@ export class Deadline {
   /** Waits so many milliseconds, or until it is over. */
   async pause(milliseconds) {
     try {
-      await sleep(Math.min(milliseconds, this.left()), undefined, { signal: this.#signal });
+      // Timers may fire a millisecond early: what is left then is no time for a further attempt.
+      await sleep(Math.min(milliseconds, Math.ceil(this.left()) + 1), undefined, { signal: this.#signal });
     } catch {
       // Aborted: whoever looks at what is left finds nothing.
     }

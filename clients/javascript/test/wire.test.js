@@ -90,6 +90,23 @@ test('each reply and each refusal cut short', () => {
   }
 });
 
+test('each byte changed', () => {
+  for (const vector of vectors.replies) {
+    const body = bytes(vector.frame).subarray(wire.PREFIX);
+    for (let place = 0; place < body.length; place += 1) {
+      for (let byte = 0; byte < 256; byte += 1) {
+        const changed = Buffer.from(body);
+        changed[place] = byte;
+        try {
+          wire.decodeBody(changed);
+        } catch (error) {
+          assert.ok(error instanceof Malformed, String(error));
+        }
+      }
+    }
+  }
+});
+
 test('arguments outside their limits', () => {
   for (const make of [
     () => wire.store(new Uint8Array(65)),

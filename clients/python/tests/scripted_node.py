@@ -5,7 +5,7 @@ from __future__ import annotations
 import socket
 import struct
 import threading
-from typing import List, Optional, Tuple, Union
+from typing import List, Optional, Sequence, Tuple, Union
 
 # What becomes of an ask: bytes are sent, None closes the connection, and no bytes leave the client waiting.
 Step = Optional[bytes]
@@ -33,7 +33,7 @@ STORED, FLAG_0, SEEN_NOTHING = "01", "0400", "020000"
 class ScriptedNode:
     """One step for each ask that comes, over whichever connection; after the last one it closes each connection."""
 
-    def __init__(self, steps: List[Step]) -> None:
+    def __init__(self, steps: Sequence[Step]) -> None:
         self._steps = list(steps)
         self._listener = socket.create_server(("127.0.0.1", 0))
         self.address = "127.0.0.1:%d" % self._listener.getsockname()[1]

@@ -5,7 +5,7 @@ from __future__ import annotations
 import json
 import pathlib
 import unittest
-from typing import Any, Dict
+from typing import Any, Callable, Dict
 
 from ccnode import Fault, InvalidArgument, Malformed, Refusal, Row, wire
 
@@ -14,7 +14,7 @@ VECTORS = json.loads((pathlib.Path(__file__).resolve().parents[2] / "vectors.jso
 
 def command_of(vector: Dict[str, Any]) -> wire.Command:
     argument = vector["argument"]
-    made = {
+    made: Dict[str, Callable[[], wire.Command]] = {
         "store": lambda: wire.store(bytes.fromhex(argument)),
         "collect": lambda: wire.COLLECT,
         "max": lambda: wire.write_max(int(argument)),
@@ -39,8 +39,8 @@ def row_of(vector: Dict[str, Any]) -> Row:
 
 
 def answer_of(vector: Dict[str, Any]) -> wire.Answer:
-    made = {
-        "Stored": lambda: wire.Stored(),
+    made: Dict[str, Callable[[], wire.Answer]] = {
+        "Stored": wire.Stored,
         "Seen": lambda: wire.Seen(tuple(map(row_of, vector["rows"]))),
         "Max": lambda: wire.Max(int(vector["max"])),
         "Flag": lambda: wire.Flag(vector["flag"] == "1"),
@@ -89,6 +89,16 @@ class WireTest(unittest.TestCase):
                 with self.assertRaises(Malformed) as raised:
                     wire.decode_body(body[:length])
                 self.assertEqual(raised.exception.fault, Fault.SHORT)
+
+    def test_each_byte_changed(self) -> None:
+        for vector in VECTORS["replies"]:
+            body = bytes.fromhex(vector["frame"])[4:]
+            for place in range(len(body)):
+                for byte in range(256):
+                    try:
+                        wire.decode_body(body[:place] + bytes([byte]) + body[place + 1 :])
+                    except Malformed:
+                        pass
 
     def test_arguments_outside_their_limits(self) -> None:
         for make in (

@@ -137,6 +137,21 @@ fn each_reply_and_each_refusal_cut_short() {
 }
 
 #[test]
+fn each_byte_changed() {
+    for vector in vectors("replies") {
+        let body = unhex(vector.text("frame")).split_off(4);
+        for place in 0..body.len() {
+            for byte in 0..=u8::MAX {
+                let mut changed = body.clone();
+                changed[place] = byte;
+                // A frame or a fault, and no panic.
+                let _ = decode_body(&changed);
+            }
+        }
+    }
+}
+
+#[test]
 fn a_text_that_is_too_long() {
     assert!(matches!(
         Command::store(&[0; 65]),
