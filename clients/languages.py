@@ -42,7 +42,7 @@ LANGUAGES = (
     Language(
         name="javascript",
         tool="node",
-        unit_tests=["node", "--test", "test/"],
+        unit_tests=["node", "--test"],
         build=[],
         driver=["node", "conformance.js"],
     ),

@@ -57,7 +57,7 @@ class DeadlineExceeded(CcnodeError, TimeoutError):
     it was never sent. `__cause__` is why the last attempt failed: an OSError, or the Refused that the node told last.
     """
 
-    is_pending = False
+    is_pending: bool = False
 
 
 class SessionInUse(CcnodeError):
