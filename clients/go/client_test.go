@@ -183,7 +183,7 @@ func TestWhatIsToldOfOthersIsPassedOver(t *testing.T) {
 }
 
 func TestMalformedFramesEndTheConnection(t *testing.T) {
-	node := newNode(t, unhex("00010001"), reply(6, stored), reply(7, stored))
+	node := newNode(t, unhex("00010001ff"), reply(6, stored), reply(7, stored))
 	client := newClient(t, node)
 	var malformed *MalformedError
 	if err := client.Store(context.Background(), []byte("a")); !errors.As(err, &malformed) || malformed.Fault != TooLarge {

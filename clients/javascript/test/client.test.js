@@ -149,7 +149,7 @@ test('what is told of others is passed over', async (context) => {
 });
 
 test('malformed frames end the connection', async (context) => {
-  const node = await nodeOf(context, Buffer.from('00010001', 'hex'), reply(6, STORED), reply(7, STORED));
+  const node = await nodeOf(context, Buffer.from('00010001ff', 'hex'), reply(6, STORED), reply(7, STORED));
   const client = await clientOf(context, node);
   await assert.rejects(client.store('a'), (error) => error instanceof Malformed && error.fault === 'TooLarge');
   await client.store('b');

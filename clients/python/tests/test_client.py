@@ -117,7 +117,7 @@ class ClientTest(unittest.TestCase):
         self.assertEqual(self.client(node).read_max(), 42)
 
     def test_malformed_frames_end_the_connection(self) -> None:
-        node = self.node(bytes.fromhex("00010001"), reply(6, STORED), reply(7, STORED))
+        node = self.node(bytes.fromhex("00010001ff"), reply(6, STORED), reply(7, STORED))
         client = self.client(node)
         with self.assertRaises(Malformed) as raised:
             client.store("a")

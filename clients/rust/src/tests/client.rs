@@ -190,7 +190,7 @@ fn what_is_told_of_others_is_passed_over() {
 
 #[test]
 fn malformed_frames_end_the_connection() {
-    let malformed = Step::Send(unhex("00010001"));
+    let malformed = Step::Send(unhex("00010001ff"));
     let node = node([malformed, reply(6, STORED), reply(7, STORED)]);
     let mut client = client(&node);
     let why = client.store("a").expect_err("no frame");
