@@ -99,14 +99,15 @@ def wait_until(drivers, is_so):
 
 
 def kill_and_start(cluster, drivers, kills):
-    """Spreads the kills over the operations. A node is killed only once the one before is back."""
+    """Spreads the kills over the operations. A node is killed only once the one before is back, and has been asked for its
+    view."""
     for kill in range(1, kills + 1):
         wait_until(drivers, lambda: drivers.done() * (kills + 1) >= drivers.total * kill)
         node = random.choice(cluster.nodes)
         cluster.kill(node)
         time.sleep(random.uniform(0, AWAY))
         cluster.start(node)
-        view_of(cluster, node)
+        yield view_of(cluster, node)
         if kill % 10 == 0:
             say(f"{kill} kills, {drivers.done()} of {drivers.total} operations")
     wait_until(drivers, drivers.are_over)
@@ -125,17 +126,17 @@ def view_of(cluster, node):
     return Operation({**line, "start": start, "end": microseconds() + 1, "answer": rows})
 
 
-def check(drivers, last_views, nodes):
-    """What isn't so, and of each language what its clients did."""
+def check(drivers, views, nodes):
+    """What isn't so, and of each language what its clients did. The last views are those of all nodes at the end."""
     checker = Checker(nodes)
     logs = {name: read_log(path) for name, path in drivers.logs.items()}
     operations = [operation for log in logs.values() for operation in settled(log, checker.faults)]
-    checker.run([*operations, *last_views])
-    if len(operations) == 0 or sum(map(len, logs.values())) != drivers.total:
+    checker.run([*operations, *views])
+    if sum(map(len, logs.values())) != drivers.total:
         checker.faults.append(f"{sum(map(len, logs.values()))} operations were logged, of {drivers.total}")
-    for view in last_views:
-        if view.answer != last_views[0].answer:
-            checker.faults.append(f"nodes {last_views[0].node} and {view.node} collect different views at the end")
+    for view in views[-len(nodes) :]:
+        if view.answer != views[-1].answer:
+            checker.faults.append(f"nodes {view.node} and {views[-1].node} collect different views at the end")
         for node, number, *_ in view.answer:
             if number != checker.asked[node].number:
                 checker.faults.append(f"node {node} has made {number} writes, and was asked {checker.asked[node].number}")
@@ -157,9 +158,9 @@ def run(cluster, chosen, operations, kills):
     cluster.start_all()
     cluster.wait_until_ready()
     clock = time.time() - time.monotonic()
-    faults, drivers = [], Drivers(cluster, chosen, operations)
+    faults, views, drivers = [], [], Drivers(cluster, chosen, operations)
     try:
-        kill_and_start(cluster, drivers, kills)
+        views.extend(kill_and_start(cluster, drivers, kills))
     except Standstill as why:
         faults.append(str(why))
     finally:
@@ -168,7 +169,8 @@ def run(cluster, chosen, operations, kills):
     if jump > JUMP:
         faults.append(f"the clock has jumped by {jump} seconds: nothing is told by this run")
     faults.extend(f"node {node} ended: {text}" for node, text in cluster.has_ended().items())
-    found, counts = check(drivers, [view_of(cluster, node) for node in cluster.nodes], cluster.nodes)
+    views.extend(view_of(cluster, node) for node in cluster.nodes)
+    found, counts = check(drivers, views, cluster.nodes)
     return faults + found, counts
 
 

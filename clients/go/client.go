@@ -184,17 +184,16 @@ func (c *Client) late(ctx context.Context, cause error) error {
 
 // What comes over a connection after a failure belongs to a call that has ended.
 func (c *Client) clean(err error) error {
-	var refused *RefusedError
-	if err != nil && !isRefused(err, &refused) {
+	if err != nil && !isRefused(err) {
 		c.disconnect()
 	}
 	return err
 }
 
-// A refusal that stands, and not one that is the cause of a deadline's passing.
-func isRefused(err error, refused **RefusedError) bool {
-	var late *DeadlineExceededError
-	return !errors.As(err, &late) && errors.As(err, refused)
+// Whether a refusal stands, and isn't the cause of a deadline's passing.
+func isRefused(err error) bool {
+	_, is := err.(*RefusedError)
+	return is
 }
 
 func (c *Client) request(ctx context.Context, asked command) (answer, error) {
@@ -232,8 +231,7 @@ func (c *Client) settle(ctx context.Context) error {
 	}
 	pending := *c.pending
 	got, err := c.done(ctx, pending)
-	var refused *RefusedError
-	if isRefused(err, &refused) {
+	if isRefused(err) {
 		return nil
 	}
 	if err == nil && got.kind != pending.asked.answer {

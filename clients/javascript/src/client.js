@@ -41,7 +41,7 @@ export class Client {
   #session;
   #timeout;
   // Resolves once the calls so far have ended.
-  #turn = Promise.resolve([]);
+  #turn = Promise.resolve();
   #connection;
   // Which address is tried next.
   #place = 0;
@@ -141,7 +141,8 @@ export class Client {
       return this.#clean(work);
     };
     const ended = run();
-    this.#turn = Promise.allSettled([before, ended]);
+    // Of what they came to nothing is kept.
+    this.#turn = Promise.allSettled([before, ended]).then(() => {});
     return ended;
   }
 
