@@ -42,15 +42,20 @@ class Drivers:
     def __init__(self, cluster, chosen, operations):
         self.logs = {language.name: cluster.folder / f"{language.name}.log" for language in chosen}
         clients = CLIENTS_A_NODE * len(cluster.nodes)
-        self.total = len(chosen) * clients * -(-operations // clients)
+        self.cluster, self.chosen = cluster, chosen
+        # Of each client, rounded up.
+        self.operations = -(-operations // clients)
+        self.total = len(chosen) * clients * self.operations
         self.running = {}
-        for place, language in enumerate(chosen):
-            words = [str(-(-operations // clients)), PLAN, *self.clients_of(cluster, place)]
+        self.read = dict.fromkeys(self.logs, (0, 0))
+
+    def start(self):
+        for place, language in enumerate(self.chosen):
+            words = [str(self.operations), PLAN, *self.clients_of(self.cluster, place)]
             with open(self.logs[language.name], "wb") as log:
                 self.running[language.name] = subprocess.Popen(
                     [*language.driver, *words], cwd=language.folder, stdin=subprocess.DEVNULL, stdout=log
                 )
-        self.read = dict.fromkeys(self.logs, (0, 0))
 
     @staticmethod
     def clients_of(cluster, place):
@@ -160,6 +165,7 @@ def run(cluster, chosen, operations, kills):
     clock = time.time() - time.monotonic()
     faults, views, drivers = [], [], Drivers(cluster, chosen, operations)
     try:
+        drivers.start()
         views.extend(kill_and_start(cluster, drivers, kills))
     except Standstill as why:
         faults.append(str(why))
