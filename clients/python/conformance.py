@@ -20,6 +20,8 @@ import ccnode  # noqa: E402
 NAME = "python"
 # Seconds. Each fiftieth operation gets no time to speak of.
 PATIENCE, HASTE = 120.0, 0.001
+# Held by the thread that prints.
+LINES = threading.Lock()
 
 
 def operation_of(letter: str, place: int, operations: int, session: int) -> Tuple[str, Any]:
@@ -60,8 +62,8 @@ def drive(operations: int, plan: str, node: int, address: str, session: int) -> 
         answer = ask(client, operation, argument, HASTE if place % 50 == 25 else PATIENCE)
         end = time.time_ns() // 1000 + 1
         line.update(argument=argument, start=start, end=end, answer=answer)
-        # One write, so that no other thread's comes between.
-        sys.stdout.write(json.dumps(line) + "\n")
+        with LINES:
+            print(json.dumps(line))
         if place % 400 == 399:
             client.close()
             client = ccnode.connect(address, session, PATIENCE)
