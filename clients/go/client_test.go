@@ -272,8 +272,8 @@ func TestGoroutinesTakeTurns(t *testing.T) {
 }
 
 func TestAWatchTellsWhatChanged(t *testing.T) {
-	one, other := rowBytes(1, 1, "a"), rowBytes(2, 1, "b")
-	node := newNode(t, reply(6, "020001"+one), reply(7, "020002"+one+other), reply(8, "020002"+rowBytes(1, 2, "c")+other), silence)
+	one, other, changed := rowBytes(1, 1, "a"), rowBytes(2, 1, "b"), rowBytes(1, 2, "c")
+	node := newNode(t, reply(6, "020001"+one), reply(7, "020002"+one+other), reply(8, "020002"+changed+other), silence)
 	watch := newClient(t, node).Watch(time.Millisecond)
 	ctx := within(t, 200*time.Millisecond)
 	for _, want := range []struct {

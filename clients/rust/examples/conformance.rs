@@ -125,13 +125,17 @@ impl Driver {
         let start = microseconds();
         let answer = told(operation.ask(client));
         let end = microseconds() + 1;
-        println!(
-            r#"{{"client":"{NAME}","session":{},"node":{},"operation":"{}","argument":{},"start":{start},"end":{end},"answer":{answer}}}"#,
-            self.session,
-            self.node,
-            operation.name(),
-            operation.argument(),
-        );
+        let fields = [
+            format!(r#""client":"{NAME}""#),
+            format!(r#""session":{}"#, self.session),
+            format!(r#""node":{}"#, self.node),
+            format!(r#""operation":"{}""#, operation.name()),
+            format!(r#""argument":{}"#, operation.argument()),
+            format!(r#""start":{start}"#),
+            format!(r#""end":{end}"#),
+            format!(r#""answer":{answer}"#),
+        ];
+        println!("{{{}}}", fields.join(","));
     }
 
     fn drive(&self) -> Result<(), Error> {
