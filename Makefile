@@ -1,7 +1,7 @@
 # The commands of the README. The toolchain is Rattle's kit, with its command rt on the PATH.
 .PHONY: try run install test check bench edits must-not-compile refused-growths failing-calls kill-files cluster load \
     kill-cluster soak soak-absent hostile closed-streams dead-member refused-flood stray-frames many-sessions \
-    stale-collects costs worked-rows trusted links beside look look-picture hostile-status deb tls-cluster
+    stale-collects costs worked-rows trusted links beside look look-picture hostile-status deb tls-cluster clients
 
 # Plays the script that ships with the program before any proof.
 try:
@@ -135,6 +135,16 @@ kill-cluster: AWAY = 0.1
 kill-cluster:
 	@$(BUILD) ccnode
 	@python3 tools/kill_cluster.py crates/ccnode/out/ccnode $(KILLS) $(AWAY) $(SHARE)
+
+# Runs the unit tests of the client libraries, and all of them at three nodes that are killed meanwhile: three minutes. A
+# language whose tool isn't installed is named as left out. OPERATIONS=2000 does fewer of each language, KILLS=10 kills less
+# often.
+clients: OPERATIONS = 20000
+clients: KILLS = 60
+clients:
+	@$(BUILD) ccnode
+	@python3 clients/languages.py
+	@python3 clients/conformance.py crates/ccnode/out/ccnode --operations $(OPERATIONS) --kills $(KILLS) --share $(SHARE)
 
 # Runs five nodes under load through a slow disk, a stopped node, two halves and a dead node: about three minutes. It
 # needs a C compiler.

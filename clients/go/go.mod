@@ -1,0 +1,3 @@
+module ccnode
+
+go 1.19

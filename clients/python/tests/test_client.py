@@ -1,0 +1,191 @@
+"""What a client asks, and what it makes of what it is told, against a node that answers by a script."""
+
+from __future__ import annotations
+
+import threading
+import time
+import unittest
+from typing import List
+
+import ccnode
+from ccnode import DeadlineExceeded, Fault, InvalidArgument, Malformed, Refusal, Refused, SessionInUse
+
+from .scripted_node import FLAG_0, SEEN_NOTHING, SESSION, STORED, ScriptedNode, Step, learned, refused, reply
+
+READ_FLAG, COLLECT, STORE_A, STORE_B = "06", "02", "010161", "010162"
+# What a client asks first where the session's last request is 4.
+LEARNING = [(0, READ_FLAG), (5, READ_FLAG)]
+
+
+def row(node: int, number: int, text: str) -> str:
+    return f"{node:08x}{number:016x}{len(text):02x}{text.encode().hex()}{0:016x}0000"
+
+
+class ClientTest(unittest.TestCase):
+    def node(self, *steps: Step) -> ScriptedNode:
+        """A node of whose session the last request is 4, and what it says from request 6 on."""
+        return self.kept(ScriptedNode([*learned(4), *steps]))
+
+    def kept(self, node: ScriptedNode) -> ScriptedNode:
+        self.addCleanup(node.close)
+        return node
+
+    def client(self, node: ScriptedNode, timeout: float = 5.0) -> ccnode.Client:
+        client = ccnode.connect(node.address, SESSION, timeout)
+        self.addCleanup(client.close)
+        return client
+
+    def test_requests_are_numbered_from_the_last_one(self) -> None:
+        node = self.node(reply(6, STORED), reply(7, SEEN_NOTHING))
+        client = self.client(node)
+        client.store("a")
+        self.assertEqual(client.collect(), [])
+        self.assertEqual(node.asks, [*LEARNING, (6, STORE_A), (7, COLLECT)])
+
+    def test_a_request_of_an_earlier_client_takes_no_write_with_it(self) -> None:
+        steps = [refused(0, 11, 4), reply(5, STORED), refused(0, 11, 5), reply(6, FLAG_0), reply(7, STORED)]
+        node = self.kept(ScriptedNode(steps))
+        self.client(node).store("b")
+        self.assertEqual(node.asks, [*LEARNING, (0, READ_FLAG), (6, READ_FLAG), (7, STORE_B)])
+
+    def test_a_broken_connection_leaves_the_number(self) -> None:
+        node = self.node(None, reply(6, STORED))
+        self.client(node).store("a")
+        self.assertEqual(node.asks, [*LEARNING, (6, STORE_A), (6, STORE_A)])
+
+    def test_what_passes_is_asked_again(self) -> None:
+        passing = [2, 4, 13, 15, 17, 18]
+        node = self.node(*(refused(6, number) for number in passing), reply(6, STORED))
+        self.client(node).store("a")
+        self.assertEqual(node.asks, [*LEARNING, *[(6, STORE_A)] * 7])
+
+    def test_what_passes_until_the_deadline_is_its_cause(self) -> None:
+        node = self.node(*[refused(6, 4)] * 100)
+        with self.assertRaises(DeadlineExceeded) as raised:
+            self.client(node).store("a", timeout=0.1)
+        cause = raised.exception.__cause__
+        assert isinstance(cause, Refused)
+        self.assertEqual(cause.refusal, Refusal.NOT_JOINED)
+
+    def test_a_late_request_is_settled_before_the_next_one(self) -> None:
+        node = self.node(b"", b"", reply(6, STORED), reply(7, STORED))
+        client = self.client(node)
+        for is_pending, text in ((True, "a"), (False, "b")):
+            with self.assertRaises(DeadlineExceeded) as raised:
+                client.store(text, timeout=0.05)
+            self.assertEqual(raised.exception.is_pending, is_pending)
+        client.store("b")
+        self.assertEqual(node.asks, [*LEARNING, (6, STORE_A), (6, STORE_A), (6, STORE_A), (7, STORE_B)])
+
+    def test_a_late_request_that_is_refused_leaves_its_number(self) -> None:
+        node = self.node(b"", refused(6, 14), reply(6, STORED))
+        client = self.client(node)
+        self.assertRaises(DeadlineExceeded, client.add, 9, timeout=0.05)
+        client.store("b")
+        self.assertEqual(node.asks[3:], [(6, "0700000009"), (6, STORE_B)])
+
+    def test_a_request_that_was_never_sent_is_not_pending(self) -> None:
+        node = self.node()
+        client = self.client(node)
+        node.close()
+        client._disconnect()
+        with self.assertRaises(DeadlineExceeded) as raised:
+            client.store("a", timeout=0.05)
+        self.assertFalse(raised.exception.is_pending)
+        self.assertIsInstance(raised.exception.__cause__, OSError)
+
+    def test_refused_for_good(self) -> None:
+        node = self.node(refused(6, 14), reply(6, STORED))
+        client = self.client(node)
+        with self.assertRaises(Refused) as raised:
+            client.add(9)
+        self.assertEqual((raised.exception.refusal, raised.exception.carried), (Refusal.SET_FULL, 0))
+        client.store("b")
+        self.assertEqual(node.asks[2:], [(6, "0700000009"), (6, STORE_B)])
+
+    def test_another_client_in_the_session(self) -> None:
+        for told in (refused(6, 11, 9), refused(6, 12, 2), reply(6, SEEN_NOTHING)):
+            node = self.node(told, *learned(9), reply(11, STORED))
+            client = self.client(node)
+            self.assertRaises(SessionInUse, client.store, "a")
+            client.store("b")
+            self.assertEqual(node.asks[2:], [(6, STORE_A), (0, READ_FLAG), (10, READ_FLAG), (11, STORE_B)])
+
+    def test_what_is_told_of_others_is_passed_over(self) -> None:
+        others = reply(5, STORED) + reply(6, STORED, session=8) + refused(7, 13) + refused(6, 10)
+        node = self.node(others + reply(6, "03000000000000002a"))
+        self.assertEqual(self.client(node).read_max(), 42)
+
+    def test_malformed_frames_end_the_connection(self) -> None:
+        node = self.node(bytes.fromhex("00010001ff"), reply(6, STORED), reply(7, STORED))
+        client = self.client(node)
+        with self.assertRaises(Malformed) as raised:
+            client.store("a")
+        self.assertEqual(raised.exception.fault, Fault.TOO_LARGE)
+        client.store("b")
+        self.assertEqual(node.asks[2:], [(6, STORE_A), (6, STORE_A), (7, STORE_B)])
+
+    def test_a_last_request_that_no_node_has(self) -> None:
+        node = self.kept(ScriptedNode([refused(0, 11, 2**64 - 1)]))
+        self.assertRaises(Malformed, ccnode.connect, node.address, SESSION)
+
+    def test_addresses_are_tried_in_turn(self) -> None:
+        gone = ScriptedNode([])
+        gone.close()
+        node = self.node(reply(6, STORED))
+        with ccnode.connect([gone.address, node.address], SESSION) as client:
+            client.store("a")
+        self.assertEqual(node.asks, [*LEARNING, (6, STORE_A)])
+
+    def test_arguments_are_looked_at_before_anything_is_sent(self) -> None:
+        node = self.node()
+        client = self.client(node)
+        self.assertRaises(InvalidArgument, client.store, bytes(65))
+        self.assertRaises(InvalidArgument, client.max, 2**64)
+        self.assertRaises(InvalidArgument, client.add, 2**32)
+        self.assertRaises(InvalidArgument, client.flag, timeout=0)
+        self.assertRaises(InvalidArgument, ccnode.connect, node.address, 2**64)
+        for addresses in ([], "7001", "127.0.0.1:0", "127.0.0.1:65536"):
+            self.assertRaises(InvalidArgument, ccnode.connect, addresses, SESSION)
+        self.assertEqual(node.asks, LEARNING)
+
+    def test_a_closed_client(self) -> None:
+        node = self.node(b"")
+        client = self.client(node)
+        raised: List[BaseException] = []
+
+        def collect() -> None:
+            try:
+                client.collect()
+            except ccnode.ClientClosed as error:
+                raised.append(error)
+
+        thread = threading.Thread(target=collect)
+        thread.start()
+        time.sleep(0.05)
+        client.close()
+        thread.join(5)
+        self.assertEqual(len(raised), 1)
+        self.assertRaises(ccnode.ClientClosed, client.collect)
+
+    def test_threads_take_turns(self) -> None:
+        node = self.node(*(reply(number, STORED) for number in range(6, 16)))
+        client = self.client(node)
+        threads = [threading.Thread(target=client.store, args=("a",)) for _ in range(10)]
+        for thread in threads:
+            thread.start()
+        for thread in threads:
+            thread.join(5)
+        self.assertEqual(node.asks[2:], [(number, STORE_A) for number in range(6, 16)])
+
+    def test_a_watch_tells_what_changed(self) -> None:
+        views = ["020001" + row(1, 1, "a"), "020002" + row(1, 1, "a") + row(2, 1, "b"), "020002" + row(1, 2, "c") + row(2, 1, "b")]
+        node = self.node(*(reply(number, view) for number, view in enumerate(views, 6)), b"", reply(9, views[2]))
+        watch = self.client(node, timeout=0.2).watch(0.001)
+        seen = [(change.node, change.old and change.old.text, change.new.text) for change in (next(watch) for _ in range(3))]
+        self.assertEqual(seen, [(1, None, b"a"), (2, None, b"b"), (1, b"a", b"c")])
+        self.assertRaises(DeadlineExceeded, next, watch)
+
+
+if __name__ == "__main__":
+    unittest.main()
