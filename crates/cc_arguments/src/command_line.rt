@@ -26,8 +26,9 @@ for its life: 32 is for one that many clients ask at once.
 Prints `formatted ID`, or why the folder isn't formatted: BadOpening (no node begins
 so: a list that doesn't ascend, a fraction above 1, a --share of 0 or above 32, a
 member that isn't in its list), NoMemory, AlreadyFormatted, or Device with the side
-and the disk call that failed. Statuses: 0 formatted, 1 not formatted, 2 after a
-command line that it doesn't take, and then no file was touched.";
+and the disk call that failed. Standard error says which rule is broken, or what is
+wrong with which file. Statuses: 0 formatted, 1 not formatted, 2 after a command line
+that it doesn't take, and then no file was touched.";
 
 const DUMP_HELP: &str = "\
 Example: ccnode dump node-1
@@ -61,7 +62,8 @@ It notes its start on standard error, and its end where a disk call fails. It pr
 why it doesn't run, or has ended. Statuses: 1 where the folder can't be opened
 (NotFormatted, Damaged, Version, Device, NoMemory), a disk call fails (Failed) or ADDR
 can't be listened at (Listen), 2 after a command line that it doesn't take, the node
-among its own peers included.";
+among its own peers and a FILE that can't be read included. Beside Device standard
+error says what is wrong with which file.";
 
 const ASK_HELP: &str = "\
 Examples: ccnode ask 127.0.0.1:7001 7 store a
@@ -76,11 +78,12 @@ Commands, and what they print:
 
 It asks again where the node is busy or the connection breaks, under the same number,
 so that nothing is done twice. Else it prints `refused` and why, as `refused 4
-NotJoined`, or `no answer`: then it may still be done, and asking again does it once
-more. With --request the command is asked under that number and no other: it is done
-once, however often that line is run, and a number that isn't the session's last or
-the next is refused, 11 Stale or 12 Skip. With --wait a node that isn't in the cluster
-yet is asked again until the time is over.
+NotJoined`, or `no answer`, and on standard error whether nothing listens there: then
+it may still be done, and asking again does it once more. With --request the command
+is asked under that number and no other: it is done once, however often that line is
+run, and a number that isn't the session's last or the next is refused, 11 Stale or
+12 Skip. With --wait a node that isn't in the cluster yet is asked again until the
+time is over. With `store --text TEXT` any text of 1 to 64 bytes is stored.
 
 With --json it prints {\"answer\":\"Max\",\"max\":120} and the like, {\"refused\":\"Busy\",
 \"number\":13,\"carries\":0} or {\"no_answer\":true}. Statuses: 0 after an answer, 1 after
@@ -104,12 +107,13 @@ retired, 1 not, 2 after a command line that it doesn't take.";
 const STATUS_HELP: &str = "\
 Example: ccnode status 127.0.0.1:8001
 
-Prints what the node tells of itself at the ADDR of `run --status`, a line for each part:
-whether it is ready or why not, how many members answer an operation, the round that is
-under way and the asks that wait, its sessions and posts, its disk and the times of its
-syncs, and for each peer whether it is there and how far it is behind. With --json it
-prints the JSON as it came. Else it prints `no answer`. Statuses: 0 where the node is
-ready, 1 where it isn't or doesn't answer, 2 after a command line that it doesn't take.";
+Prints what the node tells of itself at the ADDR of `run --status`, a line for each
+part: whether it is ready or why not, how many members answer an operation, the round
+that is under way and the asks that wait, its sessions and posts, its disk and the
+times of its syncs, and for each peer whether it is there and how far it is behind.
+With --json it prints the JSON as it came. Where nothing comes it prints `no answer`.
+Statuses: 0 where the node is ready, 1 where it isn't or doesn't answer, 2 after a
+command line that it doesn't take.";
 
 // A subcommand: its name, what it does, its words in their order, and what its help ends with.
 struct Subcommand {

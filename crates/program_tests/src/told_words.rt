@@ -1,7 +1,8 @@
 //! What is told of words that are no command, and of beginnings that no node has.
 
+use crate::words::are_no_command;
 use cc_commands::{BadOpening, FormatOrder};
-use cc_orders::{AnswerForm, AskOrder, AskWords, CommandFault, FormatWords, WordFault};
+use cc_orders::{AnswerForm, AskWords, CommandFault, FormatWords};
 use std::alloc::Global;
 use std::test::*;
 
@@ -112,8 +113,7 @@ fn words_of(
 fn is_told(alloc: Global, words: &AskWords<'_>, wanted: &str) -> Result<bool, Fail> {
     let fault = CommandFault::of(alloc, words)?;
     let told = format!(in alloc; "{fault}")?;
-    let refused = AskOrder::parse(words).err();
-    Ok(refused == Some(WordFault::Command) && told.as_str() == wanted)
+    Ok(are_no_command(words) && told.as_str() == wanted)
 }
 
 #[test]

@@ -282,23 +282,25 @@ fn ask_waits_ten_seconds_by_itself(rt: HostRuntime) {
     }
 }
 
-// Numbers of requests.
-const REQUESTS: [(Option<&str>, Result<Option<u64>, WordFault>); 4] = [
-    (None, Ok(None)),
-    (Some("12"), Ok(Some(12))),
-    (Some("0"), Err(WordFault::Request)),
-    (Some("012"), Err(WordFault::Request)),
-];
-
 #[test]
-fn a_request_has_a_number(rt: HostRuntime) {
-    for &(request, wanted) in &REQUESTS {
-        let order = AskOrder::parse(&AskWords { request, ..COLLECT });
-        assert!(rt; order.map(|order| order.request) == wanted);
-    }
+fn a_request_may_have_a_number(rt: HostRuntime) {
+    let order = AskOrder::parse(&AskWords {
+        request: Some("12"),
+        ..COLLECT
+    });
+    let wanted = AskOrder {
+        request: Some(12),
+        ..AskOrder::new(local(7001), 7, Command::Collect, 10)
+    };
+    assert!(rt; order == Ok(wanted));
 }
 
-const NO_ASKS: [(AskWords<'_>, WordFault); 4] = [
+/// Whether the words are none of a command.
+pub fn are_no_command(words: &AskWords<'_>) -> bool {
+    AskOrder::parse(words) == Err(WordFault::Command)
+}
+
+const NO_ASKS: [(AskWords<'_>, WordFault); 6] = [
     (
         AskWords {
             address: "7001",
@@ -319,6 +321,20 @@ const NO_ASKS: [(AskWords<'_>, WordFault); 4] = [
             ..COLLECT
         },
         WordFault::Command,
+    ),
+    (
+        AskWords {
+            request: Some("0"),
+            ..COLLECT
+        },
+        WordFault::Request,
+    ),
+    (
+        AskWords {
+            request: Some("012"),
+            ..COLLECT
+        },
+        WordFault::Request,
     ),
     (
         AskWords {
