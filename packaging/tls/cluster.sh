@@ -142,10 +142,9 @@ ask() {
 
 # What openssl heard: why it was refused, or that it wasn't in the second after both ends had shown what they had to.
 told_by_server() {
-    if grep -oE 'alert [a-z ]+' "$work/handshake"; then
-        return
-    fi
-    if grep -q '^Verify return code: 0 (ok)' "$work/handshake"; then
+    if grep -q 'alert [a-z]' "$work/handshake"; then
+        grep -oE 'alert [a-z ]+:' "$work/handshake" | tr -d :
+    elif grep -q '^Verify return code: 0 (ok)' "$work/handshake"; then
         echo 'let in'
     fi
 }
