@@ -136,7 +136,7 @@ kill-cluster:
 	@$(BUILD) ccnode
 	@python3 tools/kill_cluster.py crates/ccnode/out/ccnode $(KILLS) $(AWAY) $(SHARE)
 
-# Runs the unit tests of the client libraries, and all of them at three nodes that are killed meanwhile: three minutes. A
+# Runs the unit tests of the client libraries, and all of them at three nodes that are killed meanwhile: some minutes. A
 # language whose tool isn't installed is named as left out. OPERATIONS=2000 does fewer of each language, KILLS=10 kills less
 # often.
 clients: OPERATIONS = 20000
