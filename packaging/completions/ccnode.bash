@@ -11,9 +11,11 @@ _ccnode_places() {
 _ccnode_options() {
     case $1 in
         format) echo '--initial --contacts --beta --gamma --share --help' ;;
-        run) echo '--listen --peers --help' ;;
-        ask) echo '--timeout --help' ;;
-        leave | retire | dump | play) echo '--help' ;;
+        run) echo '--listen --peers --peers-file --status --log --help' ;;
+        ask) echo '--text --request --timeout --wait --json --help' ;;
+        status) echo '--json --watch --help' ;;
+        dump) echo '--node --help' ;;
+        leave | retire | play) echo '--help' ;;
         '') echo '--help --version' ;;
     esac
 }
@@ -26,19 +28,23 @@ _ccnode() {
     word=${words[-1]} before=${words[-2]}
     for ((at = 1; at < ${#words[@]} - 1; at++)); do
         case ${words[at]} in
-            --initial | --contacts | --beta | --gamma | --share | --listen | --peers | --timeout) ((at++)) ;;
+            --initial | --contacts | --beta | --gamma | --share | --listen | --peers | --peers-file) ((at++)) ;;
+            --status | --log | --text | --request | --timeout) ((at++)) ;;
             -*) ;;
             *) if [[ -z $subcommand ]]; then subcommand=${words[at]}; else ((places++)); fi ;;
         esac
     done
     COMPREPLY=()
     case $before in
-        --initial | --contacts | --beta | --gamma | --share | --listen | --peers | --timeout) return ;;
+        --initial | --contacts | --beta | --gamma | --share | --listen | --peers) return ;;
+        --status | --text | --request | --timeout) return ;;
+        --log) mapfile -t COMPREPLY < <(compgen -W 'error warn info debug' -- "$word"); return ;;
+        --peers-file) mapfile -t COMPREPLY < <(compgen -f -- "$word"); return ;;
     esac
     if [[ $word == -* ]]; then
         mapfile -t COMPREPLY < <(compgen -W "$(_ccnode_options "$subcommand")" -- "$word")
     elif [[ -z $subcommand ]]; then
-        mapfile -t COMPREPLY < <(compgen -W 'play format run ask leave retire dump' -- "$word")
+        mapfile -t COMPREPLY < <(compgen -W 'play format run ask status leave retire dump' -- "$word")
     else
         mapfile -t COMPREPLY < <(_ccnode_places "$subcommand" "$places" "$word")
     fi
