@@ -9,10 +9,11 @@ mod running;
 mod streams;
 
 use cc_arguments::{Order, parse};
-use cc_orders::WordFault;
+use cc_orders::{LogLevel, RunWords, WordFault};
 use cc_play::{PlayFault, play};
 use folder::{dump, format};
 use network::{ask, leave, retire, status};
+use noting::NotingRuntime;
 use running::run;
 use std::io::BufWriter;
 use std::process::ExitCode;
@@ -28,12 +29,23 @@ fn main(rt: HostRuntime) -> anyhow::Result<ExitCode> {
     let stand_ins = StandIns::open(&rt)?;
     let words: Vec<String> = std::env::args(&rt)?.collect(rt.alloc())?;
     let status = match parse(rt.alloc(), &words) {
-        Ok(Order::Run { folder, words }) => run(&rt, folder, &words),
+        Ok(Order::Run { folder, words }) => {
+            let machine = NotingRuntime::new(&rt, level_of(&words));
+            run(&rt, &machine, folder, &words)
+        }
         Ok(order) => obey(&rt, order),
         Err(error) => print_error(&rt, &error),
     };
     drop(stand_ins);
     status
+}
+
+// How much is noted. A word that names no level is told later, as the other words are.
+fn level_of(words: &RunWords<'_>) -> LogLevel {
+    match words.log {
+        Some(word) => LogLevel::named(word).unwrap_or(LogLevel::Info),
+        None => LogLevel::Info,
+    }
 }
 
 // Does what needs no threads.

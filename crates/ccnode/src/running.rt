@@ -1,7 +1,6 @@
 //! A node that runs.
 
 use crate::folder::{print_lost, print_trouble};
-use crate::noting::NotingRuntime;
 use crate::{BAD_COMMAND_LINE, FAULT, print_word_fault};
 use cc_arguments::VERSION;
 use cc_channels::Stop;
@@ -10,6 +9,7 @@ use cc_intake::NoHooks;
 use cc_orders::{RunOrder, RunWords, WordFault};
 use cc_server::{Config, RunFault, run_node};
 use cc_views::NodeId;
+use log::Log;
 use std::fs;
 use std::fs::{File, Files};
 use std::net::{Net, TcpListener, TcpStream};
@@ -18,49 +18,51 @@ use std::sync::Wait;
 use std::thread::Threads;
 use std::time::Clock;
 
-/// Runs the node of a folder: the status of that.
-pub fn run<R>(rt: &R, folder: &str, words: &RunWords<'_>) -> anyhow::Result<ExitCode>
+/// Runs the node of a folder, on a machine with a log of its own: the status of that.
+pub fn run<R, N>(
+    rt: &R,
+    machine: &N,
+    folder: &str,
+    words: &RunWords<'_>,
+) -> anyhow::Result<ExitCode>
 where
-    R: Files<File = File>
+    R: Files<File = File> + AllocGlobal + Print + Eprint,
+    N: Files<File = File>
         + Net<Listener = TcpListener, Stream = TcpStream>
-        + AllocGlobal
-        + Print
-        + Eprint
         + Threads
         + Wait
         + Clock
-        + Drop
+        + Log
         + Sync,
 {
     match words.peers_file {
         Some(file) => match fs::read_to_string(rt, file) {
-            Ok(lines) => run_with(rt, folder, words, Some((file, lines.as_str()))),
+            Ok(lines) => run_with(rt, machine, folder, words, Some((file, lines.as_str()))),
             Err(error) => {
                 eprintln!(rt; "ccnode: {file}: {error}")?;
                 Ok(ExitCode::from(BAD_COMMAND_LINE))
             }
         },
-        None => run_with(rt, folder, words, None),
+        None => run_with(rt, machine, folder, words, None),
     }
 }
 
 // The same with the path and the text of a file of peers, if there is one.
-fn run_with<R>(
+fn run_with<R, N>(
     rt: &R,
+    machine: &N,
     folder: &str,
     words: &RunWords<'_>,
     file: Option<(&str, &str)>,
 ) -> anyhow::Result<ExitCode>
 where
-    R: Files<File = File>
+    R: Files<File = File> + AllocGlobal + Print + Eprint,
+    N: Files<File = File>
         + Net<Listener = TcpListener, Stream = TcpStream>
-        + AllocGlobal
-        + Print
-        + Eprint
         + Threads
         + Wait
         + Clock
-        + Drop
+        + Log
         + Sync,
 {
     let lines = match file {
@@ -68,7 +70,7 @@ where
         None => None,
     };
     match RunOrder::parse(rt.alloc(), words, lines) {
-        Ok(order) => run_as(rt, folder, order, file.is_some()),
+        Ok(order) => run_as(rt, machine, folder, order, file.is_some()),
         Err(fault) => print_order_fault(rt, fault, file),
     }
 }
@@ -89,17 +91,21 @@ fn print_order_fault<R: Eprint>(
 }
 
 // Runs the node. Its own line is passed over where the peers are from a file, which serves all nodes.
-fn run_as<R>(rt: &R, folder: &str, order: RunOrder, is_from_file: bool) -> anyhow::Result<ExitCode>
+fn run_as<R, N>(
+    rt: &R,
+    machine: &N,
+    folder: &str,
+    order: RunOrder,
+    is_from_file: bool,
+) -> anyhow::Result<ExitCode>
 where
-    R: Files<File = File>
+    R: Files<File = File> + AllocGlobal + Print + Eprint,
+    N: Files<File = File>
         + Net<Listener = TcpListener, Stream = TcpStream>
-        + AllocGlobal
-        + Print
-        + Eprint
         + Threads
         + Wait
         + Clock
-        + Drop
+        + Log
         + Sync,
 {
     print_lost(rt, folder)?;
@@ -107,9 +113,8 @@ where
         true => node_in_folder(rt, rt.alloc(), folder),
         false => None,
     };
-    let noting = NotingRuntime::new(rt, order.log);
     let config = config_of(folder, order, own);
-    match run_node(&noting, rt.alloc(), &config, &Stop::new(), &NoHooks) {
+    match run_node(machine, rt.alloc(), &config, &Stop::new(), &NoHooks) {
         Ok(_) => Ok(ExitCode::SUCCESS),
         Err(fault) => print_run_fault(rt, folder, fault),
     }
