@@ -130,7 +130,7 @@ ask() {
     local wanted=$1 answer
     shift
     say "ccnode $*    (client)"
-    answer=$(at client "$program" "$@" 2>&1) || true
+    answer=$(at client "$program" "$@" 2> /dev/null) || true
     echo "$answer"
     # What is wanted is a pattern.
     # shellcheck disable=SC2254

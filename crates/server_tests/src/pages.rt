@@ -3,16 +3,20 @@
 use crate::nodes::{check, check_end, end_at, format_member_of};
 use cc_channels::Stop;
 use cc_client::ask_node;
-use cc_intake::NoHooks;
+use cc_intake::{Finished, NoHooks};
 use cc_orders::AskOrder;
-use cc_server::{Config, run_on};
+use cc_server::{Config, RunFault, run_on};
 use cc_words::command;
+use log::Log;
 use serde_json::Value;
 use std::alloc::Global;
+use std::fs::{File, Files};
 use std::io::{Read, Write};
 use std::net::{Net, SocketAddr, TcpListener, TcpStream};
+use std::sync::Wait;
 use std::test::*;
 use std::thread;
+use std::thread::Threads;
 use std::time::{Clock, Duration};
 
 // What is answered to whom, in the first line and in the last one. The head of the 404 has no text behind it.
@@ -119,6 +123,35 @@ fn look<R: Net<Stream = TcpStream> + Clock>(
     Ok(())
 }
 
+// Runs the node of a folder by itself, which shows itself at that place, until the flag is set.
+fn run_shown<R>(
+    rt: &R,
+    alloc: Global,
+    folder: &str,
+    listener: TcpListener,
+    place: SocketAddr,
+    stop: &Stop,
+) -> Result<Finished<()>, RunFault>
+where
+    R: Files<File = File>
+        + Net<Listener = TcpListener, Stream = TcpStream>
+        + Threads
+        + Wait
+        + Clock
+        + Log
+        + Sync,
+{
+    let listen = listener.local_addr().or(Err(RunFault::Listen))?;
+    let config = Config {
+        dir: folder,
+        listen,
+        peers: Vec::new(alloc),
+        status: Some(place),
+        version: "1",
+    };
+    run_on(rt, alloc, &config, Some(listener), stop, &NoHooks)
+}
+
 #[test]
 fn a_node_is_looked_at(rt: HostRuntime) -> Result<(), Fail> {
     format_member_of(&rt, "shown-1", "1", "1", None)?;
@@ -126,17 +159,10 @@ fn a_node_is_looked_at(rt: HostRuntime) -> Result<(), Fail> {
     let node = listener.local_addr()?;
     let place = TcpListener::bind(&rt, "127.0.0.1:0")?.local_addr()?;
     let alloc = rt.alloc();
-    let config = Config {
-        dir: "shown-1",
-        listen: node,
-        peers: Vec::new(alloc),
-        status: Some(place),
-        version: "1",
-    };
     let stop = Stop::new();
     let (ended, looked) = thread::join(
         &rt,
-        || run_on(&rt, alloc, &config, Some(listener), &stop, &NoHooks),
+        || run_shown(&rt, alloc, "shown-1", listener, place, &stop),
         || {
             let looked = look(&rt, alloc, node, place);
             end_at(&rt, &stop, node);
