@@ -38,7 +38,7 @@ install:
 	install -D -m 644 packaging/completions/_ccnode $(DESTDIR)$(ZSH_COMPLETIONS)/_ccnode
 	install -d $(SHARE_FOLDER)/doc/ccnode/examples/tls
 	install -m 644 $(PAGES) $(SHARE_FOLDER)/doc/ccnode/
-	install -m 644 packaging/deb/examples/* examples/client.py $(SHARE_FOLDER)/doc/ccnode/examples/
+	install -m 644 packaging/deb/examples/* packaging/prometheus/* examples/client.py $(SHARE_FOLDER)/doc/ccnode/examples/
 	install -m 755 packaging/tls/certificates.sh packaging/tls/configuration.sh $(SHARE_FOLDER)/doc/ccnode/examples/tls/
 
 # Makes a Debian package, packaging/out/ccnode_VERSION_ARCHITECTURE.deb, out of the program that `make run` or `make test`
