@@ -24,7 +24,7 @@ PREFIX = /usr/local
 PROGRAM = crates/ccnode/out/ccnode
 SHARE_FOLDER = $(DESTDIR)$(PREFIX)/share
 ZSH_COMPLETIONS = $(PREFIX)/share/zsh/site-functions
-PAGES = docs/RUN.md docs/SECURITY.md docs/FORMATS.md docs/SERVER.md docs/DURABILITY.md CHANGELOG.md
+PAGES = docs/RUN.md docs/status-page.png docs/SECURITY.md docs/FORMATS.md docs/SERVER.md docs/DURABILITY.md CHANGELOG.md
 install:
 	install -D $(PROGRAM) $(DESTDIR)$(PREFIX)/bin/ccnode
 	install -D -m 644 docs/ccnode.1 $(SHARE_FOLDER)/man/man1/ccnode.1
