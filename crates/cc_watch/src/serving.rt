@@ -24,6 +24,9 @@ const MOST_WATCHERS: u64 = 8;
 // How long somebody has for a request, and for taking an answer, in seconds.
 const PATIENCE_S: u64 = 5;
 
+// For how many seconds what comes behind a request is taken.
+const DRAIN_S: u64 = 1;
+
 // How long the acceptor pauses after a connection that can't be accepted, in milliseconds.
 const PAUSE_MS: u64 = 50;
 
@@ -100,22 +103,36 @@ fn visit<R: Wait + Clock>(rt: &R, alloc: Global, visitors: &Visitors<'_>, stream
         serve(rt, alloc, visitors, stream, asked);
     }
     let _ = stream.shutdown(Shutdown::Write);
-    drain(stream);
+    let _ = drain(rt, stream);
     let _ = stream.shutdown(Shutdown::Both);
     visitors.all.leave();
 }
 
 // Takes what still comes behind a request, for a second and up to 64 KiB: a connection that is closed over bytes that nobody
-// read takes its answer with it.
-fn drain(stream: &TcpStream) {
-    let mut from: &TcpStream = stream;
+// read takes its answer with it. None where no more comes, or in time.
+fn drain<R: Clock>(rt: &R, stream: &TcpStream) -> Option<()> {
+    let start = Instant::now(rt).ok()?;
     let mut piece = [0; 1024];
-    let _ = stream.set_read_timeout(Some(Duration::from_secs(1)));
     for _ in 0..64 {
-        if !matches!(from.read(&mut piece), Ok(count) if count > 0) {
-            return;
+        if read_within(rt, stream, &start, DRAIN_S, &mut piece)? == 0 {
+            return None;
         }
     }
+    Some(())
+}
+
+// How many bytes came, before so many seconds have passed since the start. None where none came in time, or a read fails.
+fn read_within<R: Clock>(
+    rt: &R,
+    stream: &TcpStream,
+    start: &Instant,
+    seconds: u64,
+    piece: &mut [u8],
+) -> Option<usize> {
+    let mut from: &TcpStream = stream;
+    let left = Duration::from_secs(seconds).checked_sub(start.elapsed(rt).ok()?)?;
+    stream.set_read_timeout(Some(left)).ok()?;
+    from.read(piece).ok()
 }
 
 fn serve<R: Wait + Clock>(
@@ -162,13 +179,10 @@ fn put_answer<R: Wait>(
 // What is asked for. None where the connection ends before that, or takes too long.
 fn request<R: Clock>(rt: &R, alloc: Global, stream: &TcpStream) -> Option<Asked> {
     let start = Instant::now(rt).ok()?;
-    let mut from: &TcpStream = stream;
     let mut head = Vec::new(alloc);
     let mut piece = [0; 1024];
     for _ in 0..=MOST_HEAD {
-        let left = Duration::from_secs(PATIENCE_S).checked_sub(start.elapsed(rt).ok()?)?;
-        stream.set_read_timeout(Some(left)).ok()?;
-        let count = from.read(&mut piece).ok()?;
+        let count = read_within(rt, stream, &start, PATIENCE_S, &mut piece)?;
         head.extend_from_slice(piece.get(..count)?).ok()?;
         match read_request(&head) {
             Asked::More if count > 0 => {}
