@@ -61,6 +61,14 @@ fn asked<R: Net<Stream = TcpStream>>(
     Ok(String::from_utf8(answer)?)
 }
 
+// Whether the node says that it is ready. It may not listen yet.
+fn is_ready<R: Net<Stream = TcpStream>>(rt: &R, alloc: Global, place: SocketAddr) -> bool {
+    match asked(rt, alloc, place, "GET /readyz HTTP/1.1\r\n\r\n") {
+        Ok(answer) => answer.ends_with("\r\n\r\nready\n"),
+        Err(_) => false,
+    }
+}
+
 // Waits until the node says that it is ready, for ten seconds at most.
 fn wait_until_ready<R: Net<Stream = TcpStream> + Clock>(
     rt: &R,
@@ -68,7 +76,7 @@ fn wait_until_ready<R: Net<Stream = TcpStream> + Clock>(
     place: SocketAddr,
 ) -> Result<(), Fail> {
     for _ in 0..100 {
-        if asked(rt, alloc, place, "GET /readyz HTTP/1.1\r\n\r\n")?.ends_with("ready\n") {
+        if is_ready(rt, alloc, place) {
             return Ok(());
         }
         thread::sleep(rt, Duration::from_millis(100));
