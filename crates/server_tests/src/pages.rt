@@ -62,11 +62,16 @@ fn asked<R: Net<Stream = TcpStream>>(
 }
 
 // Whether the node says that it is ready. It may not listen yet.
-fn is_ready<R: Net<Stream = TcpStream>>(rt: &R, alloc: Global, place: SocketAddr) -> bool {
-    match asked(rt, alloc, place, "GET /readyz HTTP/1.1\r\n\r\n") {
-        Ok(answer) => answer.ends_with("\r\n\r\nready\n"),
-        Err(_) => false,
+fn is_ready<R: Net<Stream = TcpStream>>(
+    rt: &R,
+    alloc: Global,
+    place: SocketAddr,
+) -> Result<bool, Fail> {
+    if TcpStream::connect(rt, place).is_err() {
+        return Ok(false);
     }
+    let answer = asked(rt, alloc, place, "GET /readyz HTTP/1.1\r\n\r\n")?;
+    Ok(answer.ends_with("\r\n\r\nready\n"))
 }
 
 // Waits until the node says that it is ready, for ten seconds at most.
@@ -76,7 +81,7 @@ fn wait_until_ready<R: Net<Stream = TcpStream> + Clock>(
     place: SocketAddr,
 ) -> Result<(), Fail> {
     for _ in 0..100 {
-        if is_ready(rt, alloc, place) {
+        if is_ready(rt, alloc, place)? {
             return Ok(());
         }
         thread::sleep(rt, Duration::from_millis(100));
