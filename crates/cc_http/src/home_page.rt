@@ -411,12 +411,12 @@ function ceiling(value) {
   const power = 10 ** Math.floor(Math.log10(Math.max(value, .1)));
   return [1, 2, 3, 5, 7, 10].map(it => it * power).find(it => it >= value);
 }
-const X0 = 0, X1 = 340, Y0 = 18, Y1 = 104;
+const CHART_LEFT = 0, CHART_RIGHT = 340, CHART_TOP = 18, CHART_BOTTOM = 104;
 function runs(name, top, now, span) {
   const found = [[]];
   for (const it of samples) {
     if (it[name] === null) found.push([]);
-    else found[found.length - 1].push([X1 - (now - it.now) / span * (X1 - X0), Y1 - it[name] / top * (Y1 - Y0)]);
+    else found[found.length - 1].push([CHART_RIGHT - (now - it.now) / span * (CHART_RIGHT - CHART_LEFT), CHART_BOTTOM - it[name] / top * (CHART_BOTTOM - CHART_TOP)]);
   }
   return found.filter(run => run.length > 1);
 }
@@ -425,11 +425,11 @@ function showChart(svg, names, unit, label) {
   const minutes = SPANS.find(it => 60000 * it >= age) || SPANS[SPANS.length - 1], values = names.flatMap(name => samples.map(it => it[name]));
   const top = ceiling(Math.max(...values.filter(value => value !== null), 0)), parts = [];
   const path = points => points.map(([x, y]) => x.toFixed(1) + "," + y.toFixed(1)).join(" ");
-  for (const y of [Y0, Y1]) parts.push(draw("line", { class: "axis", x1: X0, x2: X1, y1: y, y2: y }));
-  parts.push(draw("text", { x: X0, y: Y0 - 5 }, top.toLocaleString("en") + unit));
-  parts.push(draw("text", { x: X0, y: Y1 + 15 }, minutes + " min ago"), draw("text", { x: X1, y: Y1 + 15, "text-anchor": "end" }, "now"));
+  for (const y of [CHART_TOP, CHART_BOTTOM]) parts.push(draw("line", { class: "axis", x1: CHART_LEFT, x2: CHART_RIGHT, y1: y, y2: y }));
+  parts.push(draw("text", { x: CHART_LEFT, y: CHART_TOP - 5 }, top.toLocaleString("en") + unit));
+  parts.push(draw("text", { x: CHART_LEFT, y: CHART_BOTTOM + 15 }, minutes + " min ago"), draw("text", { x: CHART_RIGHT, y: CHART_BOTTOM + 15, "text-anchor": "end" }, "now"));
   names.forEach((name, i) => runs(name, top, now, 60000 * minutes).forEach(run => {
-    if (!i) parts.push(draw("polygon", { points: path([[run[0][0], Y1], ...run, [run[run.length - 1][0], Y1]]) }));
+    if (!i) parts.push(draw("polygon", { points: path([[run[0][0], CHART_BOTTOM], ...run, [run[run.length - 1][0], CHART_BOTTOM]]) }));
     parts.push(draw("polyline", { class: i ? "second" : "", points: path(run) }));
   }));
   svg.setAttribute("aria-label", label);
