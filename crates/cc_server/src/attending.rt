@@ -4,7 +4,6 @@ use crate::caller::{Done, serve};
 use crate::context::Context;
 use crate::shared::Shared;
 use cc_channels::{Connection, write_frames};
-use cc_frames::Peer;
 use cc_intake::{Hooks, Lane, Life};
 use cc_protocol::{Admitted, Ending, Origin};
 use crossbeam_channel::{Receiver, bounded};
@@ -91,15 +90,15 @@ fn admitted<R: Wait, H: Hooks, L: Life, Q: Lane>(
     from: SocketAddr,
 ) -> Option<Admitted> {
     let known = Arc::try_clone(connection).ok()?;
-    let origin = origin_of(context.peers, from);
+    let origin = origin_of(context.rt, context.shared, from);
     context.shared.connections.enter(context.rt, known, origin)
 }
 
-fn origin_of(peers: &[Peer], from: SocketAddr) -> Origin {
+fn origin_of<R: Wait>(rt: &R, shared: &Shared, from: SocketAddr) -> Origin {
     let address = from.ip();
     if address.is_loopback() {
         Origin::Loopback
-    } else if peers.iter().any(|peer| peer.address.ip() == address) {
+    } else if shared.channels.has_host(rt, address) {
         Origin::Peer
     } else {
         Origin::Stranger

@@ -12,6 +12,8 @@ pub struct Config<'a> {
     pub listen: SocketAddr,
     /// Where other nodes listen. What is for one that isn't among them is lost.
     pub peers: Vec<Peer>,
+    /// The file that says so, one peer a line, if there is one: it is read again while the node runs.
+    pub peers_file: Option<&'a str>,
     /// Where those who look at the node are served, if they are.
     pub status: Option<SocketAddr>,
     /// The program's version, which they are shown.

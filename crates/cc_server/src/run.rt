@@ -115,12 +115,12 @@ fn open_and_run<R, H: Hooks + Sync>(
 where
     R: Files<File = File> + Machine,
 {
-    let channels = ServerOutlet {
+    let outlet = ServerOutlet {
         rt: run.rt,
         alloc: run.alloc,
         shared: run.shared,
     };
-    let site = FileSite::open(run.rt, run.alloc, run.config.dir, channels)?;
+    let site = FileSite::open(run.rt, run.alloc, run.config.dir, outlet)?;
     let measured = Measured::new(run.rt, run.hooks, &run.shared.gauges);
     let hooked = Hooked {
         site,
@@ -312,8 +312,10 @@ where
         rt: run.rt,
         alloc: run.alloc,
         me,
+        dir: run.config.dir,
+        listen: run.config.listen,
+        peers_file: run.config.peers_file,
         hooks: run.hooks,
-        peers: &run.config.peers,
         shared: run.shared,
         admission,
         lock: &lock,

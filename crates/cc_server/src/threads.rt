@@ -5,6 +5,7 @@ ghost use Rattle.std.specs.Thread.{IsSend};
 use crate::attending::attend;
 use crate::context::Context;
 use crate::flushing::{Watch, flush_all};
+use crate::following::follow_peers;
 use crate::machine::Machine;
 use crate::notes::{Note, write_notes};
 use crate::of_life::OfLife;
@@ -235,7 +236,7 @@ where
                     Err(_) => is_whole = false,
                 }
             }
-            is_whole &= start_inner(scope, context, own, notes);
+            is_whole &= start_inner(scope, context, own, notes, over);
             if is_whole {
                 accept_all(scope, context, listener, stop);
             }
@@ -251,21 +252,27 @@ where
     )
 }
 
-// Starts the worker of the own messages and the writer of notes. Whether both threads could be made.
+// Starts the worker of the own messages, the writer of notes, and what follows the file of the peers until the flag is set.
+// Whether all threads could be made.
 fn start_inner<'s, 'e: 's, L: Life + Send + Sync, Q: Lane + Send + Sync, R, H: Hooks + Sync>(
     scope: &'s Scope<'s, &'e ()>,
     context: &'e Context<'e, R, H, L, Q>,
     own: Receiver<Option<Event>>,
     notes: Receiver<Option<Note>>,
+    over: &'e Flag,
 ) -> bool
 where
     R: Machine,
 {
     let rt = context.rt;
     let me = context.me;
+    let dir = context.dir;
     let is_served = scope.spawn(move || serve_own(context, own)).is_ok();
-    let is_noted = scope.spawn(move || write_notes(rt, me, &notes)).is_ok();
-    is_served && is_noted
+    let is_noted = scope
+        .spawn(move || write_notes(rt, me, dir, &notes))
+        .is_ok();
+    let is_followed = scope.spawn(move || follow_peers(context, over)).is_ok();
+    is_served && is_noted && is_followed
 }
 
 fn accept_all<'s, 'e: 's, L: Life + Send + Sync, Q: Lane + Send + Sync, R, H: Hooks + Sync>(

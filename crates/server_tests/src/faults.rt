@@ -76,6 +76,7 @@ where
         dir,
         listen,
         peers,
+        peers_file: None,
         status: None,
         version: "",
     };

@@ -10,6 +10,8 @@ mod clients;
 #[cfg(test)]
 mod faults;
 #[cfg(test)]
+mod following;
+#[cfg(test)]
 mod held;
 #[cfg(test)]
 mod holding;

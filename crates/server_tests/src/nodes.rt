@@ -161,6 +161,7 @@ where
         dir: folder,
         listen,
         peers: peers_of(alloc, peers)?,
+        peers_file: None,
         status: None,
         version: "",
     };

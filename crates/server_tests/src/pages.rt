@@ -159,6 +159,7 @@ where
         dir: folder,
         listen,
         peers: Vec::new(alloc),
+        peers_file: None,
         status: Some(place),
         version: "1",
     };

@@ -1,15 +1,14 @@
-//! The channels on which a node's outputs wait for their writers.
+//! The channel on which what is for a peer waits for its writer.
 
 use crate::flags::Flag;
 use cc_frames::Peer;
-use cc_messages::Event;
 use cc_protocol::Parcel;
 use cc_views::NodeId;
 use crossbeam_channel::{Receiver, Sender, bounded};
 use std::alloc::{AllocError, Global};
 use std::net::SocketAddr;
 use std::sync::atomic::{AtomicU64, Ordering};
-use std::sync::{Arc, Wait};
+use std::sync::{Arc, Mutex, Wait};
 
 // How many parcels wait for a peer's writer at most.
 const CHANNEL_ROOM: usize = 256;
@@ -17,14 +16,10 @@ const CHANNEL_ROOM: usize = 256;
 // After so many seconds in which a peer was late, it is connected to anew.
 const MOST_SILENCE: u64 = 5;
 
-// How many events wait for the worker of the node's own messages at most.
-const OWN_ROOM: usize = 4096;
-
 /// The channel to a peer.
 #[derive(Drop)]
 pub struct PeerChannel {
     pub peer: NodeId,
-    pub address: SocketAddr,
     to: Sender<Parcel>,
     // Nothing is put on it.
     is_muted: Flag,
@@ -37,9 +32,10 @@ pub struct PeerChannel {
     absent_since: AtomicU64,
 }
 
-/// How the connection to a peer stands.
+/// How the connection to a peer stands, and where the peer listens.
 #[derive(Drop)]
 pub struct Way {
+    address: Mutex<SocketAddr>,
     // The peer is to be connected to anew.
     is_stale: Flag,
     // Since when it is connected to, in milliseconds since 1970. 0 where it isn't.
@@ -47,6 +43,33 @@ pub struct Way {
 }
 
 impl Way {
+    // To a peer that listens there, which isn't connected to yet.
+    fn new(address: SocketAddr) -> Self {
+        Way {
+            address: Mutex::new(address),
+            is_stale: Flag::new(),
+            connected_since: AtomicU64::new(0),
+        }
+    }
+
+    /// Where the peer listens.
+    pub fn address<R: Wait>(&self, rt: &R) -> SocketAddr {
+        let address = self.address.lock(rt);
+        *address
+    }
+
+    // The peer listens there from now on: it is connected to anew. Whether it listened elsewhere.
+    fn put_address<R: Wait>(&self, rt: &R, address: SocketAddr) -> bool {
+        let mut known = self.address.lock(rt);
+        let is_new = *known != address;
+        *known = address;
+        drop(known);
+        if is_new {
+            self.is_stale.set();
+        }
+        is_new
+    }
+
     /// Whether the peer is to be connected to anew. It is told once.
     pub fn take_stale(&self) -> bool {
         self.is_stale.take()
@@ -94,6 +117,16 @@ impl PeerChannel {
         }
     }
 
+    /// Where the peer listens.
+    pub fn address<R: Wait>(&self, rt: &R) -> SocketAddr {
+        self.way.address(rt)
+    }
+
+    /// The peer listens there from now on, and is connected to there. Whether it listened elsewhere.
+    pub fn put_address<R: Wait>(&self, rt: &R, address: SocketAddr) -> bool {
+        self.way.put_address(rt, address)
+    }
+
     /// Since when the peer is connected to, in milliseconds since 1970.
     pub fn connected_since(&self) -> Option<u64> {
         moment(self.way.connected_since.load(Ordering::SeqCst))
@@ -125,71 +158,21 @@ impl PeerChannel {
     }
 }
 
-/// The channel to the node itself. None ends its worker.
-#[derive(Drop)]
-pub struct OwnChannel {
-    to: Sender<Option<Event>>,
-    is_muted: Flag,
-}
-
-impl OwnChannel {
-    /// Puts an event on the channel. What finds no room is lost: links resend.
-    pub fn put<R: Wait>(&self, rt: &R, event: Event) {
-        if !self.is_muted.is_set() {
-            let _ = self.to.try_send(rt, Some(event));
-        }
-    }
-
-    /// Ends the worker, once it has taken what waits.
-    pub fn end<R: Wait>(&self, rt: &R) {
-        let _ = self.to.send(rt, None);
-    }
-
-    pub fn mute(&self) {
-        self.is_muted.put(!self.to.is_empty());
-    }
-
-    pub fn unmute(&self) {
-        self.is_muted.put(false);
-    }
-}
-
-/// The far end of a channel: a peer and its address, and what its writer is to write.
+/// The far end of a channel: a peer, and what its writer is to write, and where to.
 #[derive(Drop)]
 pub struct FarEnd {
     pub peer: NodeId,
-    pub address: SocketAddr,
     pub from: Receiver<Parcel>,
     pub way: Arc<Way>,
 }
 
-/// The channels to these peers, and their far ends.
-pub fn channels_to(
-    alloc: Global,
-    peers: &[Peer],
-) -> Result<(Vec<PeerChannel>, Vec<FarEnd>), AllocError> {
-    let mut channels = Vec::new(alloc);
-    let mut ends = Vec::new(alloc);
-    for peer in peers {
-        let (channel, end) = channel_to(alloc, peer)?;
-        channels.push(channel)?;
-        ends.push(end)?;
-    }
-    Ok((channels, ends))
-}
-
-// The channel to a peer, and its far end.
-fn channel_to(alloc: Global, peer: &Peer) -> Result<(PeerChannel, FarEnd), AllocError> {
-    let way = Way {
-        is_stale: Flag::new(),
-        connected_since: AtomicU64::new(0),
-    };
-    let way = Arc::new(alloc, way).or(Err(AllocError))?;
+/// The channel to a peer, and its far end.
+pub(crate) fn channel_to(alloc: Global, peer: &Peer) -> Result<(PeerChannel, FarEnd), AllocError> {
+    let way = Arc::new(alloc, Way::new(peer.address)).or(Err(AllocError))?;
     let seen = Arc::try_clone(&way).or(Err(AllocError))?;
     let (to, from) = bounded(alloc, CHANNEL_ROOM)?;
     let channel = PeerChannel {
         peer: peer.id,
-        address: peer.address,
         to,
         is_muted: Flag::new(),
         way,
@@ -199,21 +182,8 @@ fn channel_to(alloc: Global, peer: &Peer) -> Result<(PeerChannel, FarEnd), Alloc
     };
     let end = FarEnd {
         peer: peer.id,
-        address: peer.address,
         from,
         way: seen,
     };
     Ok((channel, end))
-}
-
-/// The channel of a node to itself, and what its worker takes.
-pub fn own_channel(alloc: Global) -> Result<(OwnChannel, Receiver<Option<Event>>), AllocError> {
-    let (to, from) = bounded(alloc, OWN_ROOM)?;
-    Ok((
-        OwnChannel {
-            to,
-            is_muted: Flag::new(),
-        },
-        from,
-    ))
 }
