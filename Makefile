@@ -1,7 +1,8 @@
 # The commands of the README. The toolchain is Rattle's kit, with its command rt on the PATH.
 .PHONY: try run install test check bench edits must-not-compile refused-growths failing-calls kill-files cluster load \
     kill-cluster soak soak-absent hostile closed-streams dead-member refused-flood stray-frames many-sessions \
-    stale-collects costs worked-rows trusted links beside look look-picture hostile-status deb tls-cluster clients
+    stale-collects costs worked-rows trusted links beside look look-picture hostile-status mistakes deb tls-cluster \
+    clients
 
 # Plays the script that ships with the program before any proof.
 try:
@@ -182,6 +183,11 @@ look-picture:
 hostile-status:
 	@$(BUILD) ccnode
 	@python3 tools/hostile_status.py crates/ccnode/out/ccnode
+
+# Makes the mistakes that a new user makes, and compares what is printed with what docs/RUN.md says of each: seconds.
+mistakes:
+	@$(BUILD) ccnode
+	@python3 tools/mistakes.py crates/ccnode/out/ccnode
 
 # Runs a node with its standard streams closed in all seven ways, kills it KILLS times in each while a client stores, and
 # checks that what was answered is there, and that no command writes into a file of its folder: three minutes.
