@@ -21,6 +21,8 @@ pub struct Context<'x, R: Wait, H: Hooks, L: Life, Q: Lane> {
     pub me: NodeId,
     pub hooks: &'x H,
     pub peers: &'x [Peer],
+    /// Whether the operator's requests are taken that come from other machines.
+    pub remote_operators: bool,
     pub shared: &'x Shared,
     pub admission: &'x Admission<OfLife<L>>,
     pub lock: &'x Mutex<Intake<L, Q>>,

@@ -128,6 +128,8 @@ fn config_of<'a>(folder: &'a str, order: RunOrder, own: Option<NodeId>) -> Confi
     }
     let RunOrder {
         listen,
+        listen_clients,
+        remote_operators,
         peers,
         status,
         log: _,
@@ -135,6 +137,8 @@ fn config_of<'a>(folder: &'a str, order: RunOrder, own: Option<NodeId>) -> Confi
     Config {
         dir: folder,
         listen,
+        listen_clients,
+        remote_operators,
         peers,
         status,
         version: VERSION,
