@@ -57,6 +57,9 @@ def of_words(address):
         ([*run, "--peers-file", "faulty-peers"], "faulty-peers line 3 isn't ID=ADDR, such as 2=127.0.0.1:7002"),
         ([*run, "--peers-file", "double-peers"], "double-peers names a node twice"),
         ([*run, "--status", "here"], "--status isn't an address and a port, such as 127.0.0.1:8001"),
+        ([*run, "--listen-clients", "7501"],
+         "--listen-clients isn't an address and a port, such as 127.0.0.1:7501"),
+        ([*run, "--operators", "nobody"], "--operators isn't one of: on, off"),
         ([*run, "--log", "loud"], "--log isn't one of: error, warn, info, debug"),
     ]
 

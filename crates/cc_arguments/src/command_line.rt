@@ -54,16 +54,19 @@ Runs the node of a folder that was formatted, until the program is ended, by SIG
 or else: what was answered is on the disk, and the next run goes on from there.
 A peer that isn't named gets nothing from this node. Whoever can reach ADDR may ask,
 tell the node to leave, or send it messages: keep it in a network that you trust.
+What comes to the ADDR of --listen-clients may ask, and nothing else; whoever brings
+anything else there is hung up on. With --operators off the node leaves, and retires
+others, for whoever asks on its own machine alone.
 
 A FILE of peers has a line ID=ADDR for each node. Blank lines and those that begin
 with # say nothing, and the node's own line is passed over: one file serves all.
 
 It notes its start on standard error, and its end where a disk call fails. It prints
 why it doesn't run, or has ended. Statuses: 1 where the folder can't be opened
-(NotFormatted, Damaged, Version, Device, NoMemory), a disk call fails (Failed) or ADDR
-can't be listened at (Listen), 2 after a command line that it doesn't take, the node
-among its own peers and a FILE that can't be read included. Beside Device standard
-error says what is wrong with which file.";
+(NotFormatted, Damaged, Version, Device, NoMemory), a disk call fails (Failed) or an
+ADDR can't be listened at (Listen), 2 after a command line that it doesn't take, the
+node among its own peers and a FILE that can't be read included. Beside Device
+standard error says what is wrong with which file.";
 
 const ASK_HELP: &str = "\
 Examples: ccnode ask 127.0.0.1:7001 7 store a
@@ -195,6 +198,16 @@ const RUN: Subcommand = Subcommand {
             "listen",
             "ADDR",
             "Where it listens: an IPv4 address and a port",
+        ),
+        Word::Option(
+            "listen-clients",
+            "ADDR",
+            "Where it listens for clients alone, beside --listen [default: nowhere]",
+        ),
+        Word::Option(
+            "operators",
+            "on|off",
+            "Whether `leave` and `retire` are taken from other machines [default: on]",
         ),
         Word::Option(
             "peers",

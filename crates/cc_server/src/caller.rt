@@ -92,8 +92,11 @@ impl<R: Wait + Log, I: Input, S: Admitting, D: Replies, F: Flushed> Caller<'_, R
         Ok(event)
     }
 
-    // Whatever becomes of it, what a node sends tells that it is there.
+    // Whatever becomes of it, what a node sends tells that it is there: over a connection that may bring it.
     fn hear_voice(&self, event: &Event) {
+        if !self.admitting.may_bring(event) {
+            return;
+        }
         if let Some(peer) = speaker_of(event) {
             self.shared.hear_voice(self.rt, peer);
         }

@@ -21,11 +21,14 @@ pub struct Context<'x, R: Wait, H: Hooks, L: Life, Q: Lane> {
     pub me: NodeId,
     /// The node's folder.
     pub dir: &'x str,
-    /// Where the node listens.
+    /// Where the node listens, and where for clients alone, if it does.
     pub listen: SocketAddr,
+    pub listen_clients: Option<SocketAddr>,
     /// The file of the peers, if there is one.
     pub peers_file: Option<&'x str>,
     pub hooks: &'x H,
+    /// Whether the operator's requests are taken that come from other machines.
+    pub remote_operators: bool,
     pub shared: &'x Shared,
     pub admission: &'x Admission<OfLife<L>>,
     pub lock: &'x Mutex<Intake<L, Q>>,

@@ -29,9 +29,16 @@ const PAUSES: u64 = 10;
 struct Follower<'x> {
     me: NodeId,
     listen: SocketAddr,
+    listen_clients: Option<SocketAddr>,
     path: &'x str,
     shared: &'x Shared,
     over: &'x Flag,
+}
+
+impl Follower<'_> {
+    fn listens_at(&self, address: SocketAddr) -> bool {
+        address == self.listen || Some(address) == self.listen_clients
+    }
 }
 
 /// Reads the file of the peers once a second until the flag is set, if there is one. A text is taken once it stood there at two
@@ -52,6 +59,7 @@ where
     let follower = Follower {
         me: context.me,
         listen: context.listen,
+        listen_clients: context.listen_clients,
         path,
         shared: context.shared,
         over,
@@ -200,7 +208,7 @@ where
         if peer.id == follower.me {
             continue;
         }
-        if peer.address == follower.listen {
+        if follower.listens_at(peer.address) {
             note_not_taken(
                 rt,
                 follower.me,

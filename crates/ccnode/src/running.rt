@@ -134,6 +134,8 @@ fn config_of<'a>(
     }
     let RunOrder {
         listen,
+        listen_clients,
+        remote_operators,
         peers,
         status,
         log: _,
@@ -141,6 +143,8 @@ fn config_of<'a>(
     Config {
         dir: folder,
         listen,
+        listen_clients,
+        remote_operators,
         peers,
         peers_file,
         status,

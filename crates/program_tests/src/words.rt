@@ -99,6 +99,8 @@ fn local(port: u16) -> SocketAddr {
 
 const ALONE: RunWords<'_> = RunWords {
     listen: "127.0.0.1:7001",
+    listen_clients: None,
+    operators: None,
     peers: None,
     peers_file: None,
     status: None,
@@ -184,8 +186,32 @@ fn run_notes_by_levels(rt: HostRuntime) {
     assert!(rt; told == Ok((Some(local(8001)), LogLevel::Info)));
 }
 
+// Where clients alone are served, and whether the operator of another machine is heard.
+type Guard = (Option<SocketAddr>, bool);
+
+fn guard(alloc: Global, words: &RunWords<'_>) -> Result<Guard, WordFault> {
+    let order = RunOrder::parse(alloc, words, None)?;
+    Ok((order.listen_clients, order.remote_operators))
+}
+
+#[test]
+fn run_takes_all_from_all_by_itself(rt: HostRuntime) {
+    assert!(rt; guard(rt.alloc(), &ALONE) == Ok((None, true)));
+    let open = RunWords {
+        operators: Some("on"),
+        ..ALONE
+    };
+    assert!(rt; guard(rt.alloc(), &open) == Ok((None, true)));
+    let guarded = RunWords {
+        listen_clients: Some("127.0.0.1:7501"),
+        operators: Some("off"),
+        ..ALONE
+    };
+    assert!(rt; guard(rt.alloc(), &guarded) == Ok((Some(local(7501)), false)));
+}
+
 // What a node can't run by, the lines of its file, and why.
-const NO_RUNS: [(RunWords<'_>, Option<&str>, WordFault); 8] = [
+const NO_RUNS: [(RunWords<'_>, Option<&str>, WordFault); 10] = [
     (
         RunWords {
             listen: "7001",
@@ -193,6 +219,22 @@ const NO_RUNS: [(RunWords<'_>, Option<&str>, WordFault); 8] = [
         },
         None,
         WordFault::Listen,
+    ),
+    (
+        RunWords {
+            listen_clients: Some("7501"),
+            ..ALONE
+        },
+        None,
+        WordFault::ListenClients,
+    ),
+    (
+        RunWords {
+            operators: Some("On"),
+            ..ALONE
+        },
+        None,
+        WordFault::Operators,
     ),
     (
         RunWords {

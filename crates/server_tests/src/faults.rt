@@ -75,6 +75,8 @@ where
     let config = Config {
         dir,
         listen,
+        listen_clients: None,
+        remote_operators: true,
         peers,
         peers_file: None,
         status: None,

@@ -37,6 +37,8 @@ where
     let config = Config {
         dir: folder,
         listen,
+        listen_clients: None,
+        remote_operators: true,
         peers: Vec::new(alloc),
         peers_file: Some(FILE),
         status: None,

@@ -22,6 +22,8 @@ mod nodes;
 #[cfg(test)]
 mod pages;
 #[cfg(test)]
+mod ports;
+#[cfg(test)]
 mod retiring;
 #[cfg(test)]
 mod routing;

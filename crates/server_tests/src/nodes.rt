@@ -160,6 +160,8 @@ where
     let config = Config {
         dir: folder,
         listen,
+        listen_clients: None,
+        remote_operators: true,
         peers: peers_of(alloc, peers)?,
         peers_file: None,
         status: None,
