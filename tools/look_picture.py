@@ -2,9 +2,9 @@
 """Takes a picture of the status page of a cluster, one of whose three members was killed while a fourth node enters:
 look_picture.py PROGRAM PICTURE [WIDTH,HEIGHT]
 
-Node 3 is killed and taken for absent before the picture is taken, and the others store meanwhile. Node 4 enters then, and
-goes on entering, since all four would have to answer it. It needs Chromium, takes two and a half minutes, and ends all that
-it started.
+Node 3 is killed and taken for absent before the picture is taken, and the others store meanwhile. Node 4 enters then,
+and goes on entering, since all four would have to answer it. It needs Chromium, takes two and a half minutes, and ends
+all that it started.
 """
 import http.server
 import os
