@@ -3,7 +3,7 @@
 use crate::word_fault::WordFault;
 use cc_frames::Peer;
 use cc_views::NodeId;
-use cc_words::{address, names_one_twice, peers, peers_in_lines};
+use cc_words::{address, peers, peers_in_lines};
 use std::alloc::Global;
 use std::net::SocketAddr;
 
@@ -144,4 +144,12 @@ fn named_peers(alloc: Global, word: Option<&str>) -> Result<Vec<Peer>, WordFault
         Some(word) => peers(alloc, word)?.ok_or(WordFault::Peers),
         None => Ok(Vec::new(alloc)),
     }
+}
+
+fn names_one_twice(peers: &[Peer]) -> bool {
+    peers.iter().any(|peer| count_of(peers, peer.id) > 1)
+}
+
+fn count_of(peers: &[Peer], id: NodeId) -> usize {
+    peers.iter().filter(|peer| peer.id == id).count()
 }

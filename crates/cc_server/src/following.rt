@@ -8,7 +8,7 @@ use cc_channels::{Flag, write_peer};
 use cc_frames::Peer;
 use cc_intake::{Hooks, Lane, Life};
 use cc_views::NodeId;
-use cc_words::{LineFault, names_one_twice, peers_in_lines};
+use cc_words::{LineFault, peers_in_lines};
 use log::Log;
 use std::alloc::Global;
 use std::fs::{File, Files};
@@ -173,7 +173,7 @@ where
 {
     match peers_in_lines(alloc, text) {
         Ok(peers) => {
-            if names_one_twice(&peers) {
+            if name_one_again(&peers) {
                 note_not_taken(rt, follower.me, follower.path, "names a node twice");
             } else {
                 take_all(scope, rt, alloc, follower, &peers);
@@ -191,6 +191,16 @@ where
             note_not_taken(rt, follower.me, follower.path, "is too long for the memory");
         }
     }
+}
+
+// Whether one of the peers is a node that another one before it is.
+fn name_one_again(peers: &[Peer]) -> bool {
+    for (place, peer) in peers.iter().enumerate() {
+        if peers[..place].iter().any(|earlier| earlier.id == peer.id) {
+            return true;
+        }
+    }
+    false
 }
 
 // Takes each of these peers but the node itself, and notes which peers aren't among them.

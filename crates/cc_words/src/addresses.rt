@@ -44,15 +44,6 @@ fn peers_in(alloc: Global, words: &[&str]) -> Result<Option<Vec<Peer>>, AllocErr
     Ok(Some(peers))
 }
 
-/// Whether two of these peers are one node.
-pub fn names_one_twice(peers: &[Peer]) -> bool {
-    peers.iter().any(|peer| count_of(peers, peer.id) > 1)
-}
-
-fn count_of(peers: &[Peer], id: NodeId) -> usize {
-    peers.iter().filter(|peer| peer.id == id).count()
-}
-
 /// The peer that a word is, as `2=127.0.0.1:7002`.
 pub(crate) fn peer_in(word: &str) -> Option<Peer>
     ensures { MatchOption result (NoPeer word.now) (SpellsPeer word.now) }

@@ -9,7 +9,7 @@ mod lists;
 mod numbers;
 mod peer_lines;
 
-pub use addresses::{address, names_one_twice, peers};
+pub use addresses::{address, peers};
 pub use cc_frames::Peer;
 pub use commands::{command, store_of};
 pub use fractions::fraction;
