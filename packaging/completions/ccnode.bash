@@ -14,6 +14,7 @@ _ccnode_options() {
         run) echo '--listen --peers --peers-file --status --log --help' ;;
         ask) echo '--text --request --timeout --wait --json --help' ;;
         status) echo '--json --watch --help' ;;
+        load) echo '--clients --seconds --collects --sessions-from --json --help' ;;
         dump) echo '--node --help' ;;
         leave | retire | play) echo '--help' ;;
         '') echo '--help --version' ;;
@@ -30,6 +31,7 @@ _ccnode() {
         case ${words[at]} in
             --initial | --contacts | --beta | --gamma | --share | --listen | --peers | --peers-file) ((at++)) ;;
             --status | --log | --text | --request | --timeout) ((at++)) ;;
+            --clients | --seconds | --sessions-from) ((at++)) ;;
             -*) ;;
             *) if [[ -z $subcommand ]]; then subcommand=${words[at]}; else ((places++)); fi ;;
         esac
@@ -38,13 +40,14 @@ _ccnode() {
     case $before in
         --initial | --contacts | --beta | --gamma | --share | --listen | --peers) return ;;
         --status | --text | --request | --timeout) return ;;
+        --clients | --seconds | --sessions-from) return ;;
         --log) mapfile -t COMPREPLY < <(compgen -W 'error warn info debug' -- "$word"); return ;;
         --peers-file) mapfile -t COMPREPLY < <(compgen -f -- "$word"); return ;;
     esac
     if [[ $word == -* ]]; then
         mapfile -t COMPREPLY < <(compgen -W "$(_ccnode_options "$subcommand")" -- "$word")
     elif [[ -z $subcommand ]]; then
-        mapfile -t COMPREPLY < <(compgen -W 'play format run ask status leave retire dump' -- "$word")
+        mapfile -t COMPREPLY < <(compgen -W 'play format run ask status load leave retire dump' -- "$word")
     else
         mapfile -t COMPREPLY < <(_ccnode_places "$subcommand" "$places" "$word")
     fi

@@ -1,5 +1,5 @@
 # Completion of ccnode for fish: subcommands, their options, the commands of `ask`, and folders.
-set -l subcommands play format run ask status leave retire dump
+set -l subcommands play format run ask status load leave retire dump
 set -l commands store collect max readmax flag readflag add readset
 
 complete -c ccnode -f
@@ -10,6 +10,7 @@ complete -c ccnode -n "not __fish_seen_subcommand_from $subcommands" -a format -
 complete -c ccnode -n "not __fish_seen_subcommand_from $subcommands" -a run -d 'Run a node over TCP'
 complete -c ccnode -n "not __fish_seen_subcommand_from $subcommands" -a ask -d 'Have a node do something'
 complete -c ccnode -n "not __fish_seen_subcommand_from $subcommands" -a status -d 'Print what a node shows of itself'
+complete -c ccnode -n "not __fish_seen_subcommand_from $subcommands" -a load -d 'Measure how quickly nodes answer'
 complete -c ccnode -n "not __fish_seen_subcommand_from $subcommands" -a leave -d 'Have a node leave for good'
 complete -c ccnode -n "not __fish_seen_subcommand_from $subcommands" -a retire -d 'Tell that another node is dead'
 complete -c ccnode -n "not __fish_seen_subcommand_from $subcommands" -a dump -d 'Tell what stands in a folder'
@@ -28,6 +29,11 @@ complete -c ccnode -n '__fish_seen_subcommand_from run' -l log -x -a 'error warn
 complete -c ccnode -n '__fish_seen_subcommand_from dump' -l node -d 'Tell of the node too'
 complete -c ccnode -n '__fish_seen_subcommand_from status' -l json -d 'Print it as JSON'
 complete -c ccnode -n '__fish_seen_subcommand_from status' -l watch -d 'Ask once a second'
+complete -c ccnode -n '__fish_seen_subcommand_from load' -l clients -x -d 'How many clients ask at once'
+complete -c ccnode -n '__fish_seen_subcommand_from load' -l seconds -x -d 'For how many seconds'
+complete -c ccnode -n '__fish_seen_subcommand_from load' -l collects -d 'Collect in place of storing'
+complete -c ccnode -n '__fish_seen_subcommand_from load' -l sessions-from -x -d 'Their first session at each node'
+complete -c ccnode -n '__fish_seen_subcommand_from load' -l json -d 'Print what was measured as JSON'
 complete -c ccnode -n '__fish_seen_subcommand_from ask' -l text -x -d 'A text of any bytes'
 complete -c ccnode -n '__fish_seen_subcommand_from ask' -l request -x -d 'The number of the request'
 complete -c ccnode -n '__fish_seen_subcommand_from ask' -l wait -d 'Ask again while the node has not joined'

@@ -118,6 +118,25 @@ With --json it prints the JSON as it came. Where nothing comes it prints `no ans
 Statuses: 0 where the node is ready, 1 where it isn't or doesn't answer, 2 after a
 command line that it doesn't take.";
 
+const LOAD_HELP: &str = "\
+Example: ccnode load 127.0.0.1:7001,127.0.0.1:7002,127.0.0.1:7003 --clients 64
+
+Each client has a connection and a session at one of the nodes, and asks again as soon
+as it was answered. Prints how many operations were answered, and how many a second;
+the time within which half of them were (p50), 99 of a hundred (p99) and all (worst);
+and how many took up to each power of two of microseconds, and more than the one before.
+Behind that stands how many requests came again since a node was too busy, how many
+connections were lost, and how many clients ended early and why, where any did.
+
+Not for a cluster in use: each store replaces the text of its node, and a node serves
+256 sessions in its life, of which a load takes one for each client there. These are
+those from --sessions-from on, so that a later load takes the same ones again. No other
+client may use them meanwhile, nor may a second load.
+
+With --json it prints the same as JSON in a line, times in microseconds. Statuses: 0
+where an operation was answered, 1 where none was, 2 after a command line that it
+doesn't take.";
+
 // A subcommand: its name, what it does, its words in their order, and what its help ends with.
 struct Subcommand {
     name: &'static str,
@@ -302,7 +321,36 @@ const STATUS: Subcommand = Subcommand {
     help: STATUS_HELP,
 };
 
-const SUBCOMMANDS: [Subcommand; 8] = [PLAY, FORMAT, RUN, ASK, LEAVE, RETIRE, STATUS, DUMP];
+const LOAD: Subcommand = Subcommand {
+    name: "load",
+    about: "Measures how quickly nodes answer many clients",
+    words: &[
+        Word::Needed(
+            "ADDRS",
+            "Where the nodes listen, such as 127.0.0.1:7001,127.0.0.1:7002",
+        ),
+        Word::Option(
+            "clients",
+            "N",
+            "How many clients ask at once, 1 to 256 [default: 8]",
+        ),
+        Word::Option(
+            "seconds",
+            "S",
+            "For how many seconds they ask, 1 to 3600 [default: 10]",
+        ),
+        Word::Flag("collects", "They collect, in place of storing a text"),
+        Word::Option(
+            "sessions-from",
+            "K",
+            "The first session that they use at each node [default: 9000]",
+        ),
+        Word::Flag("json", "Prints what was measured as JSON, in a line"),
+    ],
+    help: LOAD_HELP,
+};
+
+const SUBCOMMANDS: [Subcommand; 9] = [PLAY, FORMAT, RUN, ASK, LEAVE, RETIRE, STATUS, LOAD, DUMP];
 
 /// The program's subcommands and their words. The help has the program's own name, whatever its file is called.
 pub fn command_line<'a>(alloc: Global) -> Result<Command<'a>, AllocError> {

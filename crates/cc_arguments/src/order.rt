@@ -1,7 +1,7 @@
 //! What a command line asks for.
 
 use crate::command_line::command_line;
-use cc_orders::{AnswerForm, AskWords, FormatWords, RunWords};
+use cc_orders::{AnswerForm, AskWords, FormatWords, LoadWords, RunWords};
 use clap::ArgMatches;
 use std::alloc::Global;
 
@@ -37,6 +37,8 @@ pub enum Order<'a> {
         form: AnswerForm,
         watches: bool,
     },
+    /// Have many clients ask nodes that run.
+    Load(LoadWords<'a>),
     /// Tell what stands in a folder, and of its node where that is asked for.
     Dump {
         folder: &'a str,
@@ -97,6 +99,7 @@ fn order_at_node<'a>(name: &str, words: &ArgMatches<'a>) -> Option<Order<'a>> {
             form: answer_form(words),
             watches: words.get_flag("watch"),
         }),
+        "load" => Some(Order::Load(load_words(words))),
         _ => None,
     }
 }
@@ -135,6 +138,17 @@ fn ask_words<'a>(words: &ArgMatches<'a>) -> AskWords<'a> {
         timeout: words.get_str("timeout"),
         form: answer_form(words),
         waits: words.get_flag("wait"),
+    }
+}
+
+fn load_words<'a>(words: &ArgMatches<'a>) -> LoadWords<'a> {
+    LoadWords {
+        addresses: required(words, "ADDRS"),
+        clients: words.get_str("clients"),
+        seconds: words.get_str("seconds"),
+        sessions_from: words.get_str("sessions-from"),
+        collects: words.get_flag("collects"),
+        form: answer_form(words),
     }
 }
 

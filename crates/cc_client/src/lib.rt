@@ -1,4 +1,5 @@
-//! A client of a node over TCP: it has one command done, or brings the operator's request.
+//! A client of a node over TCP: it has one command done, or brings the operator's request. What it sends and waits by serves
+//! the clients of a load too.
 #![tactic(auto)]
 
 mod asking;
@@ -10,5 +11,7 @@ mod sending;
 mod silence;
 
 pub use asking::ask_node;
+pub use deadline::Deadline;
 pub use operating::{leave_node, retire_node};
+pub use sending::{connect, pause, receive, send};
 pub use silence::{Silence, Told};

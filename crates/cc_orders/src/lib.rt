@@ -5,6 +5,7 @@
 mod asking;
 mod command_fault;
 mod format_words;
+mod loading;
 mod operating;
 mod running;
 mod word_fault;
@@ -12,6 +13,7 @@ mod word_fault;
 pub use asking::{AnswerForm, AskOrder, AskWords};
 pub use command_fault::CommandFault;
 pub use format_words::FormatWords;
+pub use loading::{LoadOrder, LoadWords};
 pub use operating::{LeaveOrder, RetireOrder, StatusOrder};
 pub use running::{LogLevel, RunOrder, RunWords};
 pub use word_fault::WordFault;

@@ -53,6 +53,16 @@ pub enum WordFault {
     Request,
     #[error("--timeout isn't a number of seconds, such as 10")]
     Timeout,
+    #[error("ADDRS isn't a list of addresses and ports, such as 127.0.0.1:7001,127.0.0.1:7002")]
+    Addresses,
+    #[error("ADDRS names an address twice")]
+    AddressTwice,
+    #[error("--clients isn't a number from 1 to 256, such as 8")]
+    Clients,
+    #[error("--seconds isn't a number from 1 to 3600, such as 10")]
+    Seconds,
+    #[error("--sessions-from isn't a number, such as 9000")]
+    SessionsFrom,
     #[error("ID isn't the id of a node, such as 3")]
     Node,
     /// A growth was refused.

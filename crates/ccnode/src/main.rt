@@ -1,8 +1,9 @@
 //! The command line of a node of a store-collect cluster: it plays scripts over clusters in memory, formats the folder of
-//! a node, runs it over TCP, asks one that runs, and tells what stands in a folder.
+//! a node, runs it over TCP, asks one that runs, measures how quickly nodes answer, and tells what stands in a folder.
 #![tactic(auto)]
 
 mod folder;
+mod loading;
 mod network;
 mod noting;
 mod running;
@@ -12,6 +13,7 @@ use cc_arguments::{Order, parse};
 use cc_orders::{LogLevel, RunWords, WordFault};
 use cc_play::{PlayFault, play};
 use folder::{dump, format};
+use loading::load;
 use network::{ask, leave, retire, status};
 use noting::NotingRuntime;
 use running::run;
@@ -33,6 +35,7 @@ fn main(rt: HostRuntime) -> anyhow::Result<ExitCode> {
             let machine = NotingRuntime::new(&rt, level_of(&words));
             run(&rt, &machine, folder, &words)
         }
+        Ok(Order::Load(words)) => load(&rt, &words),
         Ok(order) => obey(&rt, order),
         Err(error) => print_error(&rt, &error),
     };
@@ -61,7 +64,7 @@ fn obey(rt: &HostRuntime, order: Order<'_>) -> anyhow::Result<ExitCode> {
             watches,
         } => status(rt, address, form, watches),
         Order::Dump { folder, tells_node } => dump(rt, folder, tells_node),
-        Order::Play | Order::Run { .. } => play_input(rt),
+        Order::Play | Order::Run { .. } | Order::Load(_) => play_input(rt),
     }
 }
 

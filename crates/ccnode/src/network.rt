@@ -84,8 +84,8 @@ fn look(rt: &HostRuntime, order: &StatusOrder) -> anyhow::Result<u8> {
     Ok(look.status)
 }
 
-// The status that a client ends with. Where no answer came, why is told on standard error.
-fn end<R: Eprint>(rt: &R, told: Told) -> anyhow::Result<ExitCode> {
+/// The status that a client ends with. Where no answer came, why is told on standard error.
+pub fn end<R: Eprint>(rt: &R, told: Told) -> anyhow::Result<ExitCode> {
     if let Some(silence) = told.silence {
         eprintln!(rt; "ccnode: {silence}")?;
     }

@@ -34,6 +34,8 @@ mod limits;
 #[cfg(test)]
 mod lines;
 #[cfg(test)]
+mod loads;
+#[cfg(test)]
 mod long_rounds;
 #[cfg(test)]
 mod looks;

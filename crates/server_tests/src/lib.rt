@@ -18,6 +18,8 @@ mod holding;
 #[cfg(test)]
 mod hostile;
 #[cfg(test)]
+mod loading;
+#[cfg(test)]
 mod nodes;
 #[cfg(test)]
 mod pages;

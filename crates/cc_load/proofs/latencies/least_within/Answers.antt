@@ -1,0 +1,35 @@
+use Rattle.std.proofs.Common.{arith}
+use Rattle.cc_load.proofs.Counts.{short_below, enough}
+use Rattle.cc_load.proofs.latencies.least_within.Goals as goal
+use Rattle.cc_load.proofs.latencies.least_within.Goals.{then-is_within, else-is_within}
+
+pub loop-low-init : goal.loop-low-init
+loop-low-init c = record {
+  between = omega arith;
+  within = enough c.args.percent c.args.all.now c.greatest-high.result c.requires c.greatest-high.ensures;
+  short = λ fewer less. absurd (omega (arith, less));
+}
+
+pub loop-low-preserved : goal.loop-low-preserved
+loop-low-preserved c =
+    let before = c.loop-low.invariant in
+    elim c.if-is_within.branch [
+      | then-is_within w ↦ rw (w.high-is, w.low-is) (record {
+        between = omega arith;
+        within = c.is_within.ensures.within w.if-is_within.true;
+        short = before.short;
+      })
+      | else-is_within w ↦ rw (w.high-is, w.low-is) (record {
+        between = omega arith;
+        within = before.within;
+        short = λ fewer less. short_below c.args.percent c.args.all.now _ fewer (c.is_within.ensures.short w.if-is_within.false) (omega (arith, less));
+      })
+    ]
+
+pub returns : goal.returns
+returns c =
+    let before = c.loop-low.invariant in
+    record {
+      within = before.within;
+      least = λ fewer less. before.short fewer (omega (arith, less, c.loop-low-test.false));
+    }

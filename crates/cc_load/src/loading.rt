@@ -1,0 +1,103 @@
+//! Many clients at once.
+
+use crate::asking::{Task, ask_for_long, micros};
+use crate::report::Report;
+use crate::tally::Tally;
+use cc_client::{Deadline, Told};
+use cc_orders::{AnswerForm, LoadOrder};
+use std::alloc::Global;
+use std::io::Write;
+use std::net::{Net, TcpStream};
+use std::sync::{Mutex, Wait};
+use std::thread::Threads;
+use std::time::Clock;
+use std::{io, thread};
+
+// For how many seconds a client waits for its last answer once the time is over.
+const PATIENCE: u64 = 10;
+
+/// Has clients ask running nodes for as long as an order says, and prints how quickly they were answered, in the form of the
+/// order.
+pub fn load_nodes<R, W: Write>(
+    rt: &R,
+    alloc: Global,
+    order: &LoadOrder,
+    output: &mut W,
+) -> io::Result<Told>
+where
+    R: Net<Stream = TcpStream> + Threads + Wait + Clock + Sync,
+{
+    let start = micros(rt);
+    let tally = ask_at_once(rt, alloc, order);
+    let elapsed_us = micros(rt).saturating_sub(start);
+    print_tally(alloc, order, elapsed_us, &tally, output)
+}
+
+// Runs each client in a thread of its own: what all of them counted.
+fn ask_at_once<R>(rt: &R, alloc: Global, order: &LoadOrder) -> Tally
+where
+    R: Net<Stream = TcpStream> + Threads + Wait + Clock + Sync,
+{
+    let time = Deadline::new(rt, order.seconds);
+    let patience = Deadline::new(rt, order.seconds.saturating_add(PATIENCE));
+    let total = Mutex::new(Tally::new(alloc));
+    let shared = &total;
+    thread::scope(thread::scope_env(), rt, |scope| {
+        for number in 0..order.clients {
+            if let Some((address, session)) = order.seat(number) {
+                let task = Task {
+                    address,
+                    session,
+                    command: order.command,
+                    time,
+                    patience,
+                };
+                if scope
+                    .spawn(move || ask_and_add(rt, alloc, task, shared))
+                    .is_err()
+                {
+                    shared.lock(rt).end(None);
+                }
+            }
+        }
+    });
+    total.into_inner()
+}
+
+fn ask_and_add<R: Net<Stream = TcpStream> + Wait + Clock>(
+    rt: &R,
+    alloc: Global,
+    task: Task,
+    total: &Mutex<Tally>,
+) {
+    let tally = ask_for_long(rt, alloc, task);
+    total.lock(rt).add(&tally);
+}
+
+fn print_tally<W: Write>(
+    alloc: Global,
+    order: &LoadOrder,
+    elapsed_us: u64,
+    tally: &Tally,
+    output: &mut W,
+) -> io::Result<Told> {
+    let report = Report::of(alloc, order, elapsed_us, tally)?;
+    print_report(alloc, order.form, &report, output)?;
+    Ok(Told {
+        status: u8::from(report.answered == 0),
+        silence: tally.silence,
+    })
+}
+
+fn print_report<W: Write>(
+    alloc: Global,
+    form: AnswerForm,
+    report: &Report,
+    output: &mut W,
+) -> io::Result<()> {
+    match form {
+        AnswerForm::Plain => write!(output, "{report}")?,
+        AnswerForm::Json => writeln!(output, "{}", report.json(alloc)?)?,
+    }
+    output.flush()
+}

@@ -1,0 +1,36 @@
+//! A load on nodes that run.
+
+use crate::network::end;
+use crate::print_word_fault;
+use cc_load::load_nodes;
+use cc_orders::{LoadOrder, LoadWords};
+use std::net::{Net, TcpStream};
+use std::process::ExitCode;
+use std::sync::Wait;
+use std::thread::Threads;
+use std::time::Clock;
+
+/// Has many clients ask nodes: the status of that. That a store replaces what its node stored is told first, on standard error.
+pub fn load<R>(rt: &R, words: &LoadWords<'_>) -> anyhow::Result<ExitCode>
+where
+    R: Net<Stream = TcpStream> + Threads + Wait + Clock + AllocGlobal + Print + Eprint + Sync,
+{
+    match LoadOrder::parse(rt.alloc(), words) {
+        Ok(order) => load_as(rt, words.collects, &order),
+        Err(fault) => print_word_fault(rt, fault),
+    }
+}
+
+fn load_as<R>(rt: &R, collects: bool, order: &LoadOrder) -> anyhow::Result<ExitCode>
+where
+    R: Net<Stream = TcpStream> + Threads + Wait + Clock + AllocGlobal + Print + Eprint + Sync,
+{
+    if !collects {
+        eprintln!(rt;
+            "ccnode: each store replaces the text of its node: not for a cluster in use"
+        )?;
+    }
+    let mut output = std::io::writer(rt);
+    let told = load_nodes(rt, rt.alloc(), order, &mut output)?;
+    end(rt, told)
+}

@@ -1,0 +1,205 @@
+//! Loads: their words, what they measure, and what is printed of that.
+
+use cc_load::{Latencies, Report, Tally};
+use cc_messages::Refusal;
+use cc_orders::{AnswerForm, LoadOrder, LoadWords, WordFault};
+use std::alloc::Global;
+use std::test::*;
+
+const TEN: &[u64] = &[50, 10, 40, 20, 30, 100, 90, 80, 70, 60];
+
+// Times, and the least one within which so many of a hundred lie.
+const QUANTILES: [(&[u64], u64, u64); 8] = [
+    (&[], 99, 0),
+    (&[7], 1, 7),
+    (TEN, 50, 50),
+    (TEN, 51, 60),
+    (TEN, 90, 90),
+    (TEN, 99, 100),
+    (&[3, 9, 3, 3], 75, 3),
+    (&[u64::MAX, 0], 51, u64::MAX),
+];
+
+fn add_all(latencies: &mut Latencies, times: &[u64]) -> Result<(), Fail> {
+    for micros in times {
+        latencies.add(*micros)?;
+    }
+    Ok(())
+}
+
+fn quantile_of(alloc: Global, times: &[u64], percent: u64) -> Result<u64, Fail> {
+    let mut latencies = Latencies::new(alloc);
+    add_all(&mut latencies, times)?;
+    Ok(latencies.quantile(percent.min(100)))
+}
+
+#[test]
+fn a_quantile_is_a_time_of_the_list(rt: HostRuntime) -> Result<(), Fail> {
+    for &(times, percent, wanted) in &QUANTILES {
+        assert!(rt; quantile_of(rt.alloc(), times, percent)? == wanted);
+    }
+    Ok(())
+}
+
+const WORDS: LoadWords<'_> = LoadWords {
+    addresses: "127.0.0.1:7001,127.0.0.1:7002",
+    clients: Some("4"),
+    seconds: None,
+    sessions_from: None,
+    collects: false,
+    form: AnswerForm::Plain,
+};
+
+const COLLECTS: LoadWords<'_> = LoadWords {
+    collects: true,
+    ..WORDS
+};
+
+const PRINTED: &str = "\
+answered  6 stores in 2.000 s, 3 a second, 4 clients
+times     p50 0.900 ms, p99 5.250 ms, worst 5.250 ms
+up to       1.024 ms         4  ########################################
+up to       2.048 ms         1  ##########
+up to       4.096 ms         0
+up to       8.192 ms         1  ##########
+again     17 requests, for which the nodes were too busy
+lost      2 connections
+ended     1 clients early, refused 9 TooManySessions
+";
+
+const AS_JSON: &str =
+    r#"{"operation":"store","clients":4,"answered":6,"elapsed_us":2000000,"per_second":3,"p50_us":900,"p99_us":5250,"worst_us":5250,"buckets":[{"up_to_us":1024,"count":4},{"up_to_us":2048,"count":1},{"up_to_us":4096,"count":0},{"up_to_us":8192,"count":1}],"again":17,"lost":2,"ended":1,"refused":"9 TooManySessions"}"#;
+
+const NOTHING_ANSWERED: &str = "answered  0 collects in 2.000 s, 0 a second, 4 clients\n";
+
+const NOTHING_AS_JSON: &str =
+    r#"{"operation":"collect","clients":4,"answered":0,"elapsed_us":2000000,"per_second":0,"p50_us":0,"p99_us":0,"worst_us":0,"buckets":[],"again":0,"lost":0,"ended":0,"refused":null}"#;
+
+// What two clients counted.
+fn add_both(alloc: Global, tally: &mut Tally) -> Result<(), Fail> {
+    add_all(&mut tally.latencies, &[900, 520])?;
+    tally.again = 12;
+    let mut other = Tally::new(alloc);
+    other.again = 5;
+    other.lost = 2;
+    other.end(Some(Refusal::TooManySessions));
+    let added = add_all(&mut other.latencies, &[1500, 1000, 5250, 800]);
+    tally.add(&other);
+    drop(other);
+    added
+}
+
+// Whether just this is printed of a load of two seconds.
+fn is_printed(
+    alloc: Global,
+    words: &LoadWords<'_>,
+    tally: &Tally,
+    wanted: &str,
+    as_json: &str,
+) -> Result<bool, Fail> {
+    let order = LoadOrder::parse(alloc, words)?;
+    let report = Report::of(alloc, &order, 2_000_000, tally);
+    drop(order);
+    let report = report?;
+    let printed = format!(in alloc; "{report}");
+    let json = report.json(alloc);
+    drop(report);
+    Ok(printed?.as_str() == wanted && json?.as_str() == as_json)
+}
+
+#[test]
+fn a_load_is_printed(rt: HostRuntime) -> Result<(), Fail> {
+    let alloc = rt.alloc();
+    let mut tally = Tally::new(alloc);
+    let nothing = is_printed(alloc, &COLLECTS, &tally, NOTHING_ANSWERED, NOTHING_AS_JSON);
+    let added = add_both(alloc, &mut tally);
+    let six = is_printed(alloc, &WORDS, &tally, PRINTED, AS_JSON);
+    drop(tally);
+    added?;
+    assert!(rt; nothing?);
+    assert!(rt; six?);
+    Ok(())
+}
+
+// Words of another form.
+const BAD_WORDS: [(LoadWords<'_>, WordFault); 7] = [
+    (
+        LoadWords {
+            addresses: "127.0.0.1:7001,",
+            ..WORDS
+        },
+        WordFault::Addresses,
+    ),
+    (
+        LoadWords {
+            addresses: "127.0.0.1:7001,127.0.0.1:7001",
+            ..WORDS
+        },
+        WordFault::AddressTwice,
+    ),
+    (
+        LoadWords {
+            clients: Some("0"),
+            ..WORDS
+        },
+        WordFault::Clients,
+    ),
+    (
+        LoadWords {
+            clients: Some("257"),
+            ..WORDS
+        },
+        WordFault::Clients,
+    ),
+    (
+        LoadWords {
+            seconds: Some("0"),
+            ..WORDS
+        },
+        WordFault::Seconds,
+    ),
+    (
+        LoadWords {
+            seconds: Some("1.5"),
+            ..WORDS
+        },
+        WordFault::Seconds,
+    ),
+    (
+        LoadWords {
+            sessions_from: Some("18446744073709551615"),
+            ..WORDS
+        },
+        WordFault::SessionsFrom,
+    ),
+];
+
+// The port and the session of a client of four at two nodes.
+fn seat_of(alloc: Global, client: u64) -> Result<Option<(u16, u64)>, Fail> {
+    let order = LoadOrder::parse(alloc, &WORDS)?;
+    let seat = order.seat(client);
+    drop(order);
+    Ok(match seat {
+        Some((address, session)) => Some((address.port(), session)),
+        None => None,
+    })
+}
+
+// Clients, and the port and the session of each.
+const SEATS: [(u64, u16, u64); 3] = [(0, 7001, 9000), (1, 7002, 9000), (2, 7001, 9001)];
+
+#[test]
+fn clients_go_round_the_nodes(rt: HostRuntime) -> Result<(), Fail> {
+    for &(client, port, session) in &SEATS {
+        assert!(rt; seat_of(rt.alloc(), client)? == Some((port, session)));
+    }
+    Ok(())
+}
+
+#[test]
+fn each_word_of_load_is_checked(rt: HostRuntime) {
+    for &(words, fault) in &BAD_WORDS {
+        let refused = LoadOrder::parse(rt.alloc(), &words).err();
+        assert!(rt; refused == Some(fault), "{fault}");
+    }
+}
