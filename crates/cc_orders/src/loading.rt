@@ -113,7 +113,7 @@ fn addresses_in(alloc: Global, list: &str) -> Result<Vec<SocketAddr>, WordFault>
         if addresses.contains(&address) {
             return Err(WordFault::AddressTwice);
         }
-        addresses.push(address)?;
+        addresses.push(address).or(Err(WordFault::NoMemory))?;
     }
     Ok(addresses)
 }
