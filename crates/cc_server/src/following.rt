@@ -196,7 +196,11 @@ where
 // Whether one of the peers is a node that another one before it is.
 fn name_one_again(peers: &[Peer]) -> bool {
     for (place, peer) in peers.iter().enumerate() {
-        if peers[..place].iter().any(|earlier| earlier.id == peer.id) {
+        if peers
+            .iter()
+            .take(place)
+            .any(|earlier| earlier.id == peer.id)
+        {
             return true;
         }
     }
