@@ -1,7 +1,8 @@
 # The commands of the README. The toolchain is Rattle's kit, with its command rt on the PATH.
 .PHONY: try run install test check bench edits must-not-compile refused-growths failing-calls kill-files cluster load \
     kill-cluster soak soak-absent hostile closed-streams dead-member refused-flood stray-frames many-sessions \
-    stale-collects costs worked-rows trusted links beside look look-picture hostile-status deb test-systemd tls-cluster clients
+    stale-collects costs worked-rows trusted links beside look look-picture hostile-status deb test-systemd tls-cluster \
+    clients
 
 # Plays the script that ships with the program before any proof.
 try:
