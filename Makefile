@@ -1,8 +1,8 @@
 # The commands of the README. The toolchain is Rattle's kit, with its command rt on the PATH.
 .PHONY: try run install test check bench edits must-not-compile refused-growths failing-calls kill-files cluster load \
     kill-cluster soak soak-absent hostile closed-streams dead-member refused-flood stray-frames many-sessions \
-    stale-collects costs worked-rows trusted links beside look look-picture hostile-status mistakes deb tls-cluster \
-    clients
+    stale-collects costs worked-rows trusted links beside look look-picture hostile-status mistakes deb test-systemd \
+    tls-cluster clients
 
 # Plays the script that ships with the program before any proof.
 try:
@@ -46,6 +46,13 @@ install:
 # has built. It proves nothing. It needs Debian's dpkg-dev and binutils.
 deb:
 	@bash packaging/deb/build.sh $(PROGRAM) packaging/out
+
+# Boots a clean Debian whose process 1 is systemd, and tries the unit of the package that `make deb` made, an upgrade, a
+# removal and a purge there: two minutes. DEBIAN=FOLDER takes one that debootstrap made before. It needs root and debootstrap.
+PACKAGE = $(lastword $(sort $(wildcard packaging/out/*.deb)))
+DEBIAN =
+test-systemd:
+	@bash packaging/test_systemd.sh $(PACKAGE) $(DEBIAN)
 
 # Runs three nodes in network namespaces of their own behind mutual TLS, has clients refused that have no certificate or a
 # revoked one, kills a node, and measures what TLS costs: two minutes. It needs root, and Debian's stunnel4, openssl and
