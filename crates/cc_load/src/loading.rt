@@ -9,7 +9,7 @@ use std::alloc::Global;
 use std::io::Write;
 use std::net::{Net, TcpStream};
 use std::sync::{Mutex, Wait};
-use std::thread::Threads;
+use std::thread::{Scope, Threads};
 use std::time::Clock;
 use std::{io, thread};
 
@@ -38,30 +38,59 @@ fn ask_at_once<R>(rt: &R, alloc: Global, order: &LoadOrder) -> Tally
 where
     R: Net<Stream = TcpStream> + Threads + Wait + Clock + Sync,
 {
-    let time = Deadline::new(rt, order.seconds);
-    let patience = Deadline::new(rt, order.seconds.saturating_add(PATIENCE));
     let total = Mutex::new(Tally::new(alloc));
     let shared = &total;
-    thread::scope(thread::scope_env(), rt, |scope| {
-        for number in 0..order.clients {
-            if let Some((address, session)) = order.seat(number) {
-                let task = Task {
-                    address,
-                    session,
-                    command: order.command,
-                    time,
-                    patience,
-                };
-                if scope
-                    .spawn(move || ask_and_add(rt, alloc, task, shared))
-                    .is_err()
-                {
-                    shared.lock(rt).end(None);
-                }
-            }
-        }
-    });
+    thread::scope(
+        thread::scope_env(),
+        rt,
+        |scope| start_all(scope, rt, alloc, order, shared),
+    );
     total.into_inner()
+}
+
+// Starts a thread for each client. One that can't be made has ended before the time is over.
+fn start_all<'s, 'e: 's, R>(
+    scope: &'s Scope<'s, &'e ()>,
+    rt: &'e R,
+    alloc: Global,
+    order: &LoadOrder,
+    total: &'e Mutex<Tally>,
+)
+where
+    R: Net<Stream = TcpStream> + Threads + Wait + Clock + Sync,
+{
+    let time = Deadline::new(rt, order.seconds);
+    let patience = Deadline::new(rt, order.seconds.saturating_add(PATIENCE));
+    for number in 0..order.clients {
+        if let Some((address, session)) = order.seat(number) {
+            let task = Task {
+                address,
+                session,
+                command: order.command,
+                time,
+                patience,
+            };
+            start(scope, rt, alloc, task, total);
+        }
+    }
+}
+
+fn start<'s, 'e: 's, R>(
+    scope: &'s Scope<'s, &'e ()>,
+    rt: &'e R,
+    alloc: Global,
+    task: Task,
+    total: &'e Mutex<Tally>,
+)
+where
+    R: Net<Stream = TcpStream> + Threads + Wait + Clock + Sync,
+{
+    if scope
+        .spawn(move || ask_and_add(rt, alloc, task, total))
+        .is_err()
+    {
+        total.lock(rt).end(None);
+    }
 }
 
 fn ask_and_add<R: Net<Stream = TcpStream> + Wait + Clock>(
