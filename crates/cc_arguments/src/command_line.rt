@@ -350,20 +350,48 @@ const LOAD: Subcommand = Subcommand {
     help: LOAD_HELP,
 };
 
-const SUBCOMMANDS: [Subcommand; 9] = [PLAY, FORMAT, RUN, ASK, LEAVE, RETIRE, STATUS, LOAD, DUMP];
+// All subcommands, in the order of the help. The prover takes a table as one term, so they stand in three.
+const FIRST: [Subcommand; 3] = [PLAY, FORMAT, RUN];
+
+const AT_NODES: [Subcommand; 3] = [ASK, LEAVE, RETIRE];
+
+const LAST: [Subcommand; 3] = [STATUS, LOAD, DUMP];
 
 /// The program's subcommands and their words. The help has the program's own name, whatever its file is called.
 pub fn command_line<'a>(alloc: Global) -> Result<Command<'a>, AllocError> {
     let mut subcommands = Vec::new(alloc);
-    for subcommand in &SUBCOMMANDS {
-        subcommands.push(command_of(alloc, subcommand)?)?;
-    }
+    push_first(alloc, &mut subcommands)?;
+    push_at_nodes(alloc, &mut subcommands)?;
+    push_last(alloc, &mut subcommands)?;
     Command::new(alloc, "ccnode")
         .about("A durable node of a store-collect cluster")
         .version(VERSION)
         .subcommand_required(true)
         .bin_name("ccnode")?
         .subcommands(subcommands)
+}
+
+fn push_first<'a>(alloc: Global, to: &mut Vec<Command<'a>>) -> Result<(), AllocError> {
+    push_all(alloc, to, &FIRST)
+}
+
+fn push_at_nodes<'a>(alloc: Global, to: &mut Vec<Command<'a>>) -> Result<(), AllocError> {
+    push_all(alloc, to, &AT_NODES)
+}
+
+fn push_last<'a>(alloc: Global, to: &mut Vec<Command<'a>>) -> Result<(), AllocError> {
+    push_all(alloc, to, &LAST)
+}
+
+fn push_all<'a>(
+    alloc: Global,
+    to: &mut Vec<Command<'a>>,
+    subcommands: &[Subcommand],
+) -> Result<(), AllocError> {
+    for subcommand in subcommands {
+        to.push(command_of(alloc, subcommand)?)?;
+    }
+    Ok(())
 }
 
 fn command_of<'a>(alloc: Global, subcommand: &Subcommand) -> Result<Command<'a>, AllocError> {
