@@ -1,6 +1,6 @@
 # The commands of the README. The toolchain is Rattle's kit, with its command rt on the PATH.
-.PHONY: try run install test check bench edits must-not-compile refused-growths failing-calls kill-files cluster load \
-    kill-cluster soak soak-absent hostile closed-streams dead-member refused-flood stray-frames many-sessions \
+.PHONY: try run install test check bench edits standing-edits must-not-compile refused-growths failing-calls kill-files \
+    cluster load kill-cluster soak soak-absent hostile closed-streams dead-member refused-flood stray-frames many-sessions \
     stale-collects costs worked-rows trusted links beside look look-picture hostile-status mistakes deb test-systemd \
     tls-cluster clients
 
@@ -86,6 +86,10 @@ bench:
 # cc_wire", or CRATES=all.
 edits:
 	@python3 tools/edits.py $(CRATES)
+
+# Looks whether each edit can still be made: whether the text that it changes stands once in its file. It takes a second.
+standing-edits:
+	@python3 tools/edits.py --standing all
 
 # Tries programs that drop, copy or take apart what must be put out first, or make up a refusal: the compiler refuses
 # each, at its own line and for its own reason. It takes a minute, and proves nothing.
