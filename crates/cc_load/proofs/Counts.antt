@@ -13,8 +13,8 @@ use Rattle.cc_load.specs.Latencies.{count_within, IsWithin, IsShort, IsQuantile}
 one_within : (x v w : ℕ) → v ≤ w → cond (leb x v) 1 0 ≤ cond (leb x w) 1 0
 one_within x v w le =
     elim (leb_tells x v) [
-      | inl yes ↦ rw (yes.0, le-leb x w (omega (arith, yes.1, le))) (omega arith)
-      | inr no ↦ rw no.0 (omega arith)
+      | inl held ↦ rw (held.0, le-leb x w (omega (arith, held.1, le))) (omega arith)
+      | inr missed ↦ rw missed.0 (omega arith)
     ]
 
 pub within_more : (v w : ℕ) (xs : List ℕ) → v ≤ w → count_within v xs ≤ count_within w xs
@@ -34,8 +34,8 @@ pub few_within : (xs : List ℕ) (i g : ℕ) → i < length xs → ((v : ℕ) �
 few_within xs i g lt few v less =
     let x = get_or xs i 0 in
     elim (leb_tells x v) [
-      | inl yes ↦ omega (arith, count_by_more_yes (λ y. leb y v) xs i 0 lt yes.0, few v (omega (arith, less, yes.1)))
-      | inr no ↦ omega (arith, count_by_more_no (λ y. leb y v) xs i 0 lt no.0, within_first v i xs)
+      | inl held ↦ omega (arith, count_by_more_yes (λ y. leb y v) xs i 0 lt held.0, few v (omega (arith, less, held.1)))
+      | inr missed ↦ omega (arith, count_by_more_no (λ y. leb y v) xs i 0 lt missed.0, within_first v i xs)
     ]
 
 pub at_the_end : (xs : List ℕ) (i g : ℕ) → length xs ≤ i → count_within g (take i xs) ≡ i → ((v : ℕ) → v < g → count_within v (take i xs) < i) → IsQuantile 100 xs g

@@ -66,7 +66,7 @@ where
             let task = Task {
                 address,
                 session,
-                command: order.command,
+                operation: order.operation,
                 time,
                 patience,
             };

@@ -3,7 +3,7 @@
 use crate::network::end;
 use crate::print_word_fault;
 use cc_load::load_nodes;
-use cc_orders::{LoadOrder, LoadWords};
+use cc_orders::{LoadOrder, LoadWords, Operation};
 use std::net::{Net, TcpStream};
 use std::process::ExitCode;
 use std::sync::Wait;
@@ -16,16 +16,16 @@ where
     R: Net<Stream = TcpStream> + Threads + Wait + Clock + AllocGlobal + Print + Eprint + Sync,
 {
     match LoadOrder::parse(rt.alloc(), words) {
-        Ok(order) => load_as(rt, words.collects, &order),
+        Ok(order) => load_as(rt, &order),
         Err(fault) => print_word_fault(rt, fault),
     }
 }
 
-fn load_as<R>(rt: &R, collects: bool, order: &LoadOrder) -> anyhow::Result<ExitCode>
+fn load_as<R>(rt: &R, order: &LoadOrder) -> anyhow::Result<ExitCode>
 where
     R: Net<Stream = TcpStream> + Threads + Wait + Clock + AllocGlobal + Print + Eprint + Sync,
 {
-    if !collects {
+    if order.operation == Operation::Store {
         eprintln!(rt;
             "ccnode: each store replaces the text of its node: not for a cluster in use"
         )?;
