@@ -3,8 +3,8 @@
 --     all_within, few_within   with a further number:  all are at most the greatest;  not all are at most less than that
 --     at_the_end               what holds of all of them once the list is at its end
 --     short_below, enough      where too few are, too few are at most less;  enough are at most the greatest
-use Rattle.std.proofs.Common.{◌≡◌, ℕ, ◌+◌, ◌*◌, ◌<◌, ◌≤◌, max, Bool, true, false, cond, leb, List, length, take, get_or, subst, sym, arith, length-take, take_all, ◌⊎◌, inl, inr}
-use Rattle.std.proofs.lemmas.Bool.{le-leb, lt-leb}
+use Rattle.std.proofs.Common.{◌≡◌, ℕ, ◌+◌, ◌<◌, ◌≤◌, max, cond, leb, List, length, take, get_or, subst, arith, length-take, take_all, inl, inr}
+use Rattle.std.proofs.lemmas.Bool.{le-leb}
 use Rattle.std.proofs.lemmas.Bool.Decides.{leb_tells}
 use Rattle.std.proofs.lemmas.List.Sums.{sum_by-le-sum_by, count_by-le-length, count_by_more_yes, count_by_more_no}
 use Rattle.std.proofs.lemmas.Nat.{mul-le}

@@ -4,7 +4,7 @@ use crate::network::end;
 use crate::print_word_fault;
 use cc_load::load_nodes;
 use cc_orders::{LoadOrder, LoadWords, Operation};
-use std::net::{Net, TcpStream};
+use std::net::{Net, TcpListener, TcpStream};
 use std::process::ExitCode;
 use std::sync::Wait;
 use std::thread::Threads;
@@ -13,7 +13,14 @@ use std::time::Clock;
 /// Has many clients ask nodes: the status of that. That a store replaces what its node stored is told first, on standard error.
 pub fn load<R>(rt: &R, words: &LoadWords<'_>) -> anyhow::Result<ExitCode>
 where
-    R: Net<Stream = TcpStream> + Threads + Wait + Clock + AllocGlobal + Print + Eprint + Sync,
+    R: Net<Listener = TcpListener, Stream = TcpStream>
+        + Threads
+        + Wait
+        + Clock
+        + AllocGlobal
+        + Print
+        + Eprint
+        + Sync,
 {
     match LoadOrder::parse(rt.alloc(), words) {
         Ok(order) => load_as(rt, &order),
@@ -23,7 +30,14 @@ where
 
 fn load_as<R>(rt: &R, order: &LoadOrder) -> anyhow::Result<ExitCode>
 where
-    R: Net<Stream = TcpStream> + Threads + Wait + Clock + AllocGlobal + Print + Eprint + Sync,
+    R: Net<Listener = TcpListener, Stream = TcpStream>
+        + Threads
+        + Wait
+        + Clock
+        + AllocGlobal
+        + Print
+        + Eprint
+        + Sync,
 {
     if order.operation == Operation::Store {
         eprintln!(rt;
