@@ -7,7 +7,7 @@ use cc_client::{Deadline, Told};
 use cc_orders::{AnswerForm, LoadOrder};
 use std::alloc::Global;
 use std::io::Write;
-use std::net::{Net, TcpStream};
+use std::net::{Net, TcpListener, TcpStream};
 use std::sync::{Mutex, Wait};
 use std::thread::{Scope, Threads};
 use std::time::Clock;
@@ -25,7 +25,7 @@ pub fn load_nodes<R, W: Write>(
     output: &mut W,
 ) -> io::Result<Told>
 where
-    R: Net<Stream = TcpStream> + Threads + Wait + Clock + Sync,
+    R: Net<Listener = TcpListener, Stream = TcpStream> + Threads + Wait + Clock + Sync,
 {
     let start = micros(rt);
     let tally = ask_at_once(rt, alloc, order);
@@ -36,7 +36,7 @@ where
 // Runs each client in a thread of its own: what all of them counted.
 fn ask_at_once<R>(rt: &R, alloc: Global, order: &LoadOrder) -> Tally
 where
-    R: Net<Stream = TcpStream> + Threads + Wait + Clock + Sync,
+    R: Net<Listener = TcpListener, Stream = TcpStream> + Threads + Wait + Clock + Sync,
 {
     let total = Mutex::new(Tally::new(alloc));
     let shared = &total;
@@ -57,7 +57,7 @@ fn start_all<'s, 'e: 's, R>(
     total: &'e Mutex<Tally>,
 )
 where
-    R: Net<Stream = TcpStream> + Threads + Wait + Clock + Sync,
+    R: Net<Listener = TcpListener, Stream = TcpStream> + Threads + Wait + Clock + Sync,
 {
     let time = Deadline::new(rt, order.seconds);
     let patience = Deadline::new(rt, order.seconds.saturating_add(PATIENCE));
@@ -66,7 +66,7 @@ where
             let task = Task {
                 address,
                 session,
-                command: order.command,
+                operation: order.operation,
                 time,
                 patience,
             };
@@ -83,7 +83,7 @@ fn start<'s, 'e: 's, R>(
     total: &'e Mutex<Tally>,
 )
 where
-    R: Net<Stream = TcpStream> + Threads + Wait + Clock + Sync,
+    R: Net<Listener = TcpListener, Stream = TcpStream> + Threads + Wait + Clock + Sync,
 {
     if scope
         .spawn(move || ask_and_add(rt, alloc, task, total))
@@ -93,7 +93,7 @@ where
     }
 }
 
-fn ask_and_add<R: Net<Stream = TcpStream> + Wait + Clock>(
+fn ask_and_add<R: Net<Listener = TcpListener, Stream = TcpStream> + Wait + Clock>(
     rt: &R,
     alloc: Global,
     task: Task,
