@@ -1,7 +1,7 @@
 //! The file of the peers, which is read again while a node runs.
 
 use crate::context::Context;
-use crate::machine::Machine;
+use crate::machine::{Machine, ReadText};
 use crate::notes::{note_added, note_moved_peer, note_not_taken, note_unlisted};
 use crate::shared::Shared;
 use cc_channels::{Flag, write_peer};
@@ -11,12 +11,11 @@ use cc_views::NodeId;
 use cc_words::{LineFault, peers_in_lines};
 use log::Log;
 use std::alloc::Global;
-use std::fs::{File, Files};
 use std::net::SocketAddr;
 use std::sync::Wait;
+use std::thread;
 use std::thread::Scope;
 use std::time::Duration;
-use std::{io, thread};
 
 // How long it waits before it looks at its flag, in milliseconds.
 const PAUSE_MS: u64 = 100;
@@ -121,13 +120,8 @@ impl Reading {
 
     // Reads the file again. Whether its text is to be taken, which is the same as the last time. That it can't be read is noted
     // once.
-    fn read<R: Files<File = File> + Log>(
-        &mut self,
-        rt: &R,
-        alloc: Global,
-        follower: &Follower<'_>,
-    ) -> bool {
-        match read_text(rt, alloc, follower.path) {
+    fn read<R: ReadText + Log>(&mut self, rt: &R, alloc: Global, follower: &Follower<'_>) -> bool {
+        match rt.read_text(alloc, follower.path) {
             Ok(text) => {
                 self.is_lost = false;
                 self.see(text)
@@ -154,10 +148,6 @@ impl Reading {
         self.is_taken = true;
         is_due
     }
-}
-
-fn read_text<R: Files<File = File>>(rt: &R, alloc: Global, path: &str) -> io::Result<String> {
-    io::read_to_string(alloc, File::open(rt, path)?)
 }
 
 // Takes the peers on the lines of a text, if it has no fault.

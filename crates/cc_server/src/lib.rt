@@ -26,6 +26,6 @@ mod showing;
 mod threads;
 
 pub use config::Config;
-pub use machine::Machine;
+pub use machine::{Machine, ReadText};
 pub use run::{run_node, run_on};
 pub use run_fault::RunFault;

@@ -241,7 +241,7 @@ where
                 }
             }
             is_whole &= start_inner(scope, context, own, notes, over);
-            is_whole = is_whole && start_clients(scope, context, listeners, stop);
+            is_whole = start_clients(scope, context, listeners, stop, is_whole);
             if is_whole {
                 accept_all(scope, context, &listeners.node, Port::Nodes, stop);
             }
@@ -280,17 +280,21 @@ where
     is_served && is_noted && is_followed
 }
 
-// Starts what accepts connections to the port for clients, if there is one. Only a flag ends it, so it is started last.
-// Whether its thread could be made.
+// Starts what accepts connections to the port for clients, if there is one and all others were started: only a flag ends it.
+// Whether all threads could be made.
 fn start_clients<'s, 'e: 's, L: Life + Send + Sync, Q: Lane + Send + Sync, R, H: Hooks + Sync>(
     scope: &'s Scope<'s, &'e ()>,
     context: &'e Context<'e, R, H, L, Q>,
     listeners: &'e Listeners,
     stop: &'e Stop,
+    is_whole: bool,
 ) -> bool
 where
     R: Machine,
 {
+    if !is_whole {
+        return false;
+    }
     let Some(clients) = &listeners.clients else {
         return true;
     };

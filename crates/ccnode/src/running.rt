@@ -7,7 +7,7 @@ use cc_channels::Stop;
 use cc_commands::node_in_folder;
 use cc_intake::NoHooks;
 use cc_orders::{RunOrder, RunWords, WordFault};
-use cc_server::{Config, RunFault, run_node};
+use cc_server::{Config, ReadText, RunFault, run_node};
 use cc_views::NodeId;
 use log::Log;
 use std::fs;
@@ -32,6 +32,7 @@ where
         + Threads
         + Wait
         + Clock
+        + ReadText
         + Log
         + Sync,
 {
@@ -62,6 +63,7 @@ where
         + Threads
         + Wait
         + Clock
+        + ReadText
         + Log
         + Sync,
 {
@@ -106,6 +108,7 @@ where
         + Threads
         + Wait
         + Clock
+        + ReadText
         + Log
         + Sync,
 {

@@ -5,7 +5,7 @@ use cc_channels::Stop;
 use cc_checkpoint::OpenFault;
 use cc_flush::Failed;
 use cc_intake::NoHooks;
-use cc_server::{Config, RunFault, run_node};
+use cc_server::{Config, ReadText, RunFault, run_node};
 use cc_site::{Call, DeviceFault, Side};
 use cc_views::NodeId;
 use cc_words::Peer;
@@ -69,6 +69,7 @@ where
         + Threads
         + Wait
         + Clock
+        + ReadText
         + Log
         + Sync,
 {

@@ -3,7 +3,7 @@
 use crate::nodes::{check_end, end_at, format_member};
 use cc_channels::Stop;
 use cc_intake::{Finished, NoHooks};
-use cc_server::{Config, RunFault, run_on};
+use cc_server::{Config, ReadText, RunFault, run_on};
 use log::Log;
 use std::alloc::Global;
 use std::fs::{File, Files};
@@ -30,6 +30,7 @@ where
         + Threads
         + Wait
         + Clock
+        + ReadText
         + Log
         + Sync,
 {

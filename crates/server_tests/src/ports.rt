@@ -4,7 +4,7 @@ use crate::clients::{FIRST_ASK, FIRST_REPLY, OTHER_ASK, OTHER_REPLY, exchange, i
 use crate::nodes::{check, check_end, end_at, format_member_of};
 use cc_channels::Stop;
 use cc_intake::{Finished, NoHooks};
-use cc_server::{Config, RunFault, run_on};
+use cc_server::{Config, ReadText, RunFault, run_on};
 use log::Log;
 use std::alloc::Global;
 use std::fs::{File, Files};
@@ -86,6 +86,7 @@ where
         + Threads
         + Wait
         + Clock
+        + ReadText
         + Log
         + Sync,
 {
