@@ -94,7 +94,7 @@ def bring_to_page(cluster, talk):
 
 
 def say_page(verdicts, cluster, talk):
-    """What the page has a client say, and each Reply and Refused behind it: Stored, where that of a write isn't there."""
+    """What the page has a client say, and the Reply or Refused behind it: Stored, where that of a write isn't there."""
     frames = frames_of_page()
     for (name, sent), (answer, wanted) in zip(frames, [*frames[1:], ("", b"")]):
         if name != "Ask":
