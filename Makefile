@@ -2,7 +2,7 @@
 .PHONY: try run install test check bench edits standing-edits must-not-compile refused-growths failing-calls kill-files \
     cluster load kill-cluster soak soak-absent hostile closed-streams dead-member refused-flood stray-frames many-sessions \
     stale-collects costs worked-rows trusted links beside look look-picture hostile-status mistakes deb test-systemd \
-    tls-cluster clients
+    tls-cluster clients page-bytes
 
 # Plays the script that ships with the program before any proof.
 try:
@@ -159,6 +159,11 @@ clients:
 	@$(BUILD) ccnode
 	@python3 clients/languages.py
 	@python3 clients/conformance.py crates/ccnode/out/ccnode --operations $(OPERATIONS) --kills $(KILLS) --share $(SHARE)
+
+# Sends the frames of docs/FORMATS.md to nodes on loopback, and compares what comes back: seconds.
+page-bytes:
+	@$(BUILD) ccnode
+	@python3 tools/page_bytes.py crates/ccnode/out/ccnode
 
 # Runs five nodes under load through a slow disk, a stopped node, two halves and a dead node: about three minutes. It
 # needs a C compiler.
