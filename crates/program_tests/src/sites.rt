@@ -174,13 +174,13 @@ fn full(alloc: Global) -> Written {
 // Whether an output that fails ends the formatting of a site.
 fn ends_formatting(alloc: Global, order: &FormatOrder) -> Result<bool, Fail> {
     let site = MemorySite::new(alloc, 0)?;
-    Ok(formatted(alloc, site, order, full(alloc)).is_err())
+    Ok(format_site(alloc, site, order, &mut full(alloc)).is_err())
 }
 
 // Whether it ends what is told of a site.
 fn ends_dump(alloc: Global) -> Result<bool, Fail> {
     let site = member(alloc)?;
-    Ok(dumped(alloc, site, full(alloc)).is_err())
+    Ok(dump_site(alloc, site, DumpScope::Sides, &mut full(alloc)).is_err())
 }
 
 #[test]

@@ -1,5 +1,6 @@
 //! What a script prints, beside what is written.
 
+use crate::among::first_missing;
 use cc_words::number;
 use std::alloc::{AllocError, Global};
 use std::collections::BTreeMap;
@@ -12,6 +13,8 @@ pub enum Wrong {
     Status(u8),
     /// That line of what it prints, counted from 1, isn't what is written.
     Line(u64),
+    /// That line among others, counted from 1, isn't printed, or doesn't say what is so.
+    Other(u64),
     /// It prints two values under one number.
     Values,
     /// It prints something else where its nodes crash or make checkpoints.
@@ -23,14 +26,49 @@ impl fmt::Display for Wrong {
         match self {
             Wrong::Status(status) => write!(f, "it ends with status {status}"),
             Wrong::Line(line) => write!(f, "line {line} isn't as written"),
+            Wrong::Other(line) => write!(f, "line {line} among others isn't so"),
             Wrong::Values => write!(f, "a row has two values under one number"),
             Wrong::Moves => write!(f, "it prints something else with crashes or checkpoints"),
         }
     }
 }
 
-/// The first line, counted from 1, in which what is printed isn't what is written. There a line `(N lines)` stands for N lines.
-pub fn first_difference(printed: &str, written: &str) -> Option<u64> {
+/// The lines that are replies.
+pub fn replies_in(alloc: Global, printed: &str) -> Result<String, AllocError> {
+    let mut replies = String::new(alloc);
+    push_replies(&mut replies, printed)?;
+    Ok(replies)
+}
+
+fn push_replies(replies: &mut String, printed: &str) -> Result<(), AllocError> {
+    for line in printed.lines() {
+        if line.contains(" reply ") {
+            replies.push_str(line)?;
+            replies.push('\n')?;
+        }
+    }
+    Ok(())
+}
+
+/// What is wrong with what is printed, beside what is written.
+pub fn wrong_lines(printed: &str, written: &str) -> Option<Wrong> {
+    match written.split_once("among others:\n") {
+        Some((first, others)) => wrong_among(printed, first, others),
+        None => first_difference(printed, written).map(Wrong::Line),
+    }
+}
+
+// The same of lines that are printed first, and others behind them.
+fn wrong_among(printed: &str, first: &str, others: &str) -> Option<Wrong> {
+    let Some(rest) = printed.strip_prefix(first) else {
+        let line = first_difference(printed, first).unwrap_or(1);
+        return Some(Wrong::Line(line));
+    };
+    first_missing(rest, others).map(Wrong::Other)
+}
+
+// The first line, counted from 1, in which what is printed isn't what is written. There a line `(N lines)` stands for N lines.
+fn first_difference(printed: &str, written: &str) -> Option<u64> {
     let mut lines = printed.split('\n');
     let mut place: u64 = 0;
     for line in written.split('\n') {
@@ -87,7 +125,7 @@ fn note_view<'a>(
     Ok(found)
 }
 
-// The rows of a word that is a view.
-fn rows_in(word: &str) -> Option<&str> {
+/// The rows of a word that is a view.
+pub fn rows_in(word: &str) -> Option<&str> {
     word.strip_prefix('[')?.strip_suffix(']')
 }

@@ -2,6 +2,7 @@
 //! case of it: without them it plays all.
 #![tactic(auto)]
 
+mod among;
 mod cases;
 mod comparing;
 mod moving;

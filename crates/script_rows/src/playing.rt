@@ -1,7 +1,7 @@
 //! How a case is played.
 
-use crate::cases::Case;
-use crate::comparing::{Wrong, first_difference, two_values};
+use crate::cases::{Case, Compared, End};
+use crate::comparing::{Wrong, replies_in, two_values, wrong_lines};
 use crate::moving::{CHECKPOINTS, CRASHES, Way, is_beside_moves, with_moves};
 use crate::spelling::{spelled, unescaped};
 use cc_play::play;
@@ -38,7 +38,7 @@ fn check_parts(
     let (first, second) = parts;
     let script = format!(in alloc; "{first}{second}")?;
     let (status, output) = played(alloc, &script)?;
-    match wrong_in(alloc, case, status, &output)? {
+    match wrong_in(alloc, &case.end, status, &output)? {
         Some(wrong) => Ok(Err(wrong)),
         None => check_ways(alloc, parts, ways, &output),
     }
@@ -60,18 +60,29 @@ fn played_bytes(alloc: Global, script: &[u8]) -> anyhow::Result<(u8, String)> {
 // What is wrong with a script that ended so.
 fn wrong_in(
     alloc: Global,
-    case: &Case<'_>,
+    end: &End<'_>,
     status: u8,
     output: &str,
 ) -> Result<Option<Wrong>, AllocError> {
-    if status != case.status {
+    if status != end.status {
         return Ok(Some(Wrong::Status(status)));
     }
-    let written = spelled(alloc, case.prints, "")?;
-    if let Some(line) = first_difference(output, &written) {
-        return Ok(Some(Wrong::Line(line)));
+    if let Some(wrong) = wrong_in_lines(alloc, end, output)? {
+        return Ok(Some(wrong));
     }
     Ok(two_values(alloc, output)?.map(|_| Wrong::Values))
+}
+
+// What is wrong with the lines that are compared.
+fn wrong_in_lines(alloc: Global, end: &End<'_>, output: &str) -> Result<Option<Wrong>, AllocError> {
+    let written = spelled(alloc, end.prints, "")?;
+    match end.compared {
+        Compared::All => Ok(wrong_lines(output, &written)),
+        Compared::Replies => {
+            let replies = replies_in(alloc, output)?;
+            Ok(wrong_lines(&replies, &written))
+        }
+    }
 }
 
 // In each way the script prints that output, beside a line for each move.
