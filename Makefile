@@ -1,7 +1,8 @@
 # The commands of the README. The toolchain is Rattle's kit, with its command rt on the PATH.
-.PHONY: try run install test check bench edits must-not-compile refused-growths failing-calls kill-files cluster load \
-    kill-cluster soak soak-absent hostile closed-streams dead-member refused-flood stray-frames many-sessions \
-    stale-collects costs worked-rows trusted links beside look look-picture hostile-status deb tls-cluster clients
+.PHONY: try run install test check bench edits standing-edits must-not-compile refused-growths failing-calls kill-files \
+    cluster load kill-cluster soak soak-absent hostile closed-streams dead-member refused-flood stray-frames many-sessions \
+    stale-collects costs worked-rows trusted links beside look look-picture hostile-status mistakes deb test-systemd \
+    tls-cluster clients page-bytes
 
 # Plays the script that ships with the program before any proof.
 try:
@@ -46,6 +47,13 @@ install:
 deb:
 	@bash packaging/deb/build.sh $(PROGRAM) packaging/out
 
+# Boots a clean Debian whose process 1 is systemd, and tries the unit of the package that `make deb` made, an upgrade, a
+# removal and a purge there: two minutes. DEBIAN=FOLDER takes one that debootstrap made before. It needs root and debootstrap.
+PACKAGE = $(lastword $(sort $(wildcard packaging/out/*.deb)))
+DEBIAN =
+test-systemd:
+	@bash packaging/test_systemd.sh $(PACKAGE) $(DEBIAN)
+
 # Runs three nodes in network namespaces of their own behind mutual TLS, has clients refused that have no certificate or a
 # revoked one, kills a node, and measures what TLS costs: two minutes. It needs root, and Debian's stunnel4, openssl and
 # iproute2.
@@ -79,6 +87,10 @@ bench:
 edits:
 	@python3 tools/edits.py $(CRATES)
 
+# Looks whether each edit can still be made: whether the text that it changes stands once in its file. It takes a second.
+standing-edits:
+	@python3 tools/edits.py --standing all
+
 # Tries programs that drop, copy or take apart what must be put out first, or make up a refusal: the compiler refuses
 # each, at its own line and for its own reason. It takes a minute, and proves nothing.
 must-not-compile:
@@ -87,10 +99,12 @@ must-not-compile:
 # Builds the tests, and refuses each growth of each test once: a test may then end with want of memory, never with a fault.
 # CRATES=node_tests does one crate. The tests over sockets are left out, since a node that is refused memory waits there for
 # seconds. It needs a C compiler.
-TESTS = $(filter-out server_tests, $(shell grep -rl '\[test\]' crates/*/src | cut -d/ -f2 | sort -u))
+TESTS = $(filter-out server_tests, $(shell grep -rl '\[test\]' crates/*/src | cut -d/ -f2 | sort -u)) script_rows
 refused-growths: CRATES = $(TESTS)
 refused-growths:
-	@for crate in $(CRATES); do (cd crates/$$crate && rt test) > growths.log 2>&1 || { cat growths.log; exit 1; }; done
+	@for crate in $(CRATES); do \
+	    case $$crate in script_rows) $(BUILD) $$crate;; *) (cd crates/$$crate && rt test);; esac > growths.log 2>&1 || \
+	    { cat growths.log; exit 1; }; done
 	@rm -f growths.log
 	@python3 tools/refused_growths.py $(CRATES)
 
@@ -146,6 +160,11 @@ clients:
 	@python3 clients/languages.py
 	@python3 clients/conformance.py crates/ccnode/out/ccnode --operations $(OPERATIONS) --kills $(KILLS) --share $(SHARE)
 
+# Sends the frames of docs/FORMATS.md to nodes on loopback, and compares what comes back: seconds.
+page-bytes:
+	@$(BUILD) ccnode
+	@python3 tools/page_bytes.py crates/ccnode/out/ccnode
+
 # Runs five nodes under load through a slow disk, a stopped node, two halves and a dead node: about three minutes. It
 # needs a C compiler.
 soak:
@@ -182,6 +201,11 @@ look-picture:
 hostile-status:
 	@$(BUILD) ccnode
 	@python3 tools/hostile_status.py crates/ccnode/out/ccnode
+
+# Makes the mistakes that a new user makes, and compares what is printed with what docs/RUN.md says of each: seconds.
+mistakes:
+	@$(BUILD) ccnode
+	@python3 tools/mistakes.py crates/ccnode/out/ccnode
 
 # Runs a node with its standard streams closed in all seven ways, kills it KILLS times in each while a client stores, and
 # checks that what was answered is there, and that no command writes into a file of its folder: three minutes.

@@ -1,6 +1,8 @@
 #!/usr/bin/env python3
 """Tries every edit of these crates, those of the gate and those beside it: edits.py CRATE..; `all` stands for every crate.
 
+`--standing` before them tries none, and tells of those that can't be made, since the text they change isn't there once.
+
 It works in a copy of the repository. The prover judges each function apart, by the contracts of those it calls, so edits of
 different functions are tried in one check: an edit is refused where an error stands in each function that it changes, or in
 its proof. What isn't refused so is tried alone by `rt must-fail`. A line is printed for each edit that isn't refused, and
@@ -144,11 +146,37 @@ def try_alone(copy, crate, edits):
     return bad if len(lines) == len(edits) else [*bad, ran.stdout[-900:]]
 
 
+def paths_of(crate):
+    """All edits of a crate, those of the gate and those beside it."""
+    return sorted(glob.glob(f"crates/{crate}/must-fail/*.edit") + glob.glob(f"crates/{crate}/more-edits/*.edit"))
+
+
+def is_standing(crate, path):
+    """Whether each text that an edit changes stands once in its file, after the changes before it."""
+    changes, texts = changes_of(path), {}
+    for file, old, new in changes:
+        place = f"crates/{crate}/{file}"
+        if file not in texts and os.path.isfile(place):
+            texts[file] = text_of(place)
+        if texts.get(file, "").count(old) != 1:
+            return False
+        texts[file] = texts[file].replace(old, new)
+    return bool(changes)
+
+
+def look(crates):
+    """Tells of the edits that can't be made. The status."""
+    paths = [(crate, path) for crate in crates for path in paths_of(crate)]
+    stale = [path for crate, path in paths if not is_standing(crate, path)]
+    said = [f"{it}: what it changes doesn't stand once in its file" for it in stale]
+    print(*said, f"{len(paths) - len(stale)} of {len(paths)} edits stand", sep="\n")
+    return 1 if stale else 0
+
+
 def try_crate(copy, crate):
     """Tries all edits of a crate. How many there are, and what is said of those that aren't refused."""
     folder, begun = f"{copy}/crates/{crate}", time.time()
-    paths = sorted(glob.glob(f"crates/{crate}/must-fail/*.edit") + glob.glob(f"crates/{crate}/more-edits/*.edit"))
-    edits = [read_edit(folder, it) for it in paths]
+    edits = [read_edit(folder, it) for it in paths_of(crate)]
     status, said = check(folder)
     if status:
         return [f"{crate} isn't proved as it stands: {said[-900:]}"]
@@ -167,10 +195,14 @@ def try_crate(copy, crate):
 
 def main(crates):
     os.chdir(os.path.dirname(os.path.dirname(os.path.abspath(__file__))))
+    looks = crates[:1] == ["--standing"]
+    crates = crates[1:] if looks else crates
     if not crates:
         sys.exit('say which: make edits CRATES="cc_views cc_wire", or CRATES=all')
     if crates == ["all"]:
-        crates = sorted(it.split("/")[1] for it in glob.glob("crates/*/more-edits"))
+        crates = sorted({it.split("/")[1] for it in glob.glob("crates/*/m*-*/*.edit")})
+    if looks:
+        return look(crates)
     with tempfile.TemporaryDirectory() as copy:
         for it in ("crates.txt", "HANDLES"):
             shutil.copy(it, copy)

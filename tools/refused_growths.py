@@ -4,11 +4,15 @@
 A test may then pass, or answer an error: want of memory, or the failed call of a disk in memory, which can't grow. Where it
 compares an answer that is an error with another one, it stops at that line, which is counted. Where it compares what the call
 was to leave as it was with how that was before (`unless_failed` of the tests), that is counted too. A test that ends in any
-other way, finds something changed, or doesn't end within a minute (status 142, or 124), is printed, and the status is 1. A test that runs threads is run anew for
-each growth; which growth has a number then depends on how they fall together. The tests are those that `rt test` built; as
-many are run side by side as there are processors."""
+other way, finds something changed, or doesn't end within a minute (status 142, or 124), is printed, and the status is 1. A
+test that runs threads is run anew for each growth; which growth has a number then depends on how they fall together. The
+tests are those that `rt test` built; as many are run side by side as there are processors.
+
+Of a crate that is a program over files of cases (`script_rows`) each case is a test, as the program plays it when it is
+named. It passes if it prints what it prints without a refusal, and answers an error by its status, 1."""
 import collections
 import concurrent.futures
+import glob
 import os
 import re
 import subprocess
@@ -22,14 +26,17 @@ KEPT, CHANGED = "failed, and all is as it was", "failed, and something has chang
 
 
 def run(tests, name, preloaded, **words):
-    """How a test ended, what it wrote, and what the preloaded code told."""
+    """How a test ended, what it wrote, and what the preloaded code told. The name is words of the command line, which runs
+    where the crate's files of cases are, if it has any."""
     with tempfile.TemporaryDirectory() as room:
         told = f"{room}/told"
         env = {**os.environ, "LD_PRELOAD": preloaded, "GROWTHS_TOLD": told, "GROWTHS_SAID": f"{room}/said", **words}
         limit = SECONDS if words else COPIES
-        how = {"cwd": os.path.dirname(os.path.dirname(tests)), "env": env, "timeout": limit, "errors": "replace"}
+        crate = os.path.dirname(os.path.dirname(tests))
+        cases = f"{crate}/data"
+        how = {"cwd": cases if os.path.isdir(cases) else crate, "env": env, "timeout": limit, "errors": "replace"}
         try:
-            ran = subprocess.run([tests, name], stdout=subprocess.PIPE, stderr=subprocess.STDOUT, **how)
+            ran = subprocess.run([tests, *name.split()], stdout=subprocess.PIPE, stderr=subprocess.STDOUT, **how)
             ended, said = ran.returncode, ran.stdout
         except subprocess.TimeoutExpired:
             ended, said = 124, "it didn't end in time"
@@ -39,9 +46,13 @@ def run(tests, name, preloaded, **words):
             return ended, said, it.read().rstrip("\n").split("\n")
 
 
-def kind_of(ended, said):
+def kind_of(ended, said, plain):
     """What a refused growth came to: the test passed, answered an error, after a look at what was kept or without one, or
-    stopped at a comparison, else None."""
+    stopped at a comparison, else None. `plain` is what a program writes without a refusal, and None of tests."""
+    if plain is not None:
+        # (a copy writes what stands behind the growth alone)
+        is_same = plain.endswith(said.strip())
+        return {0: "passed" if is_same else None, 1: "error" if "Error: " in said else None}.get(ended)
     if ended == 0:
         return "passed"
     if ended == 101 and "its result gives status 1" in said and CHANGED not in said:
@@ -71,21 +82,36 @@ def ends_of(tests, name, preloaded):
 
 
 def names_of(tests):
-    """The names of the tests of a program."""
+    """The names of the tests of a program: of one over files of cases `CHAPTER CASE`."""
+    names = []
+    for path in sorted(glob.glob(f"{os.path.dirname(os.path.dirname(tests))}/data/*.txt")):
+        with open(path, encoding="utf-8") as it:
+            names += [f"{os.path.basename(path)[:-4]} {case}" for case in re.findall(r"^== (\w+)$", it.read(), re.M)]
+    if names:
+        return names
     said = subprocess.run([tests, "--list"], stdout=subprocess.PIPE, stderr=subprocess.DEVNULL, text=True).stdout
     return re.findall(r"^(.*): test$", said, re.M)
 
 
+def run_plain(tests, name):
+    """What a program over files of cases writes of one of them, with blanks for newlines."""
+    cases = f"{os.path.dirname(os.path.dirname(tests))}/data"
+    ran = subprocess.run([tests, *name.split()], cwd=cases, stdout=subprocess.PIPE, text=True, check=True)
+    return ran.stdout.replace("\n", " ").strip()
+
+
 def try_crate(crate, preloaded, pool):
     """Refuses the growths of a crate's tests. Whether each ended as it may."""
-    tests = os.path.abspath(f"crates/{crate}/out/{crate}_tests")
+    is_program = os.path.isfile(f"crates/{crate}/src/main.rt")
+    tests = os.path.abspath(f"crates/{crate}/out/{crate}{'' if is_program else '_tests'}")
     names = names_of(tests)
     if not names:
         sys.exit(f"{crate}: {tests} lists no test")
     kinds, is_well = collections.Counter(), True
     for name, ends in zip(names, pool.map(lambda it: ends_of(tests, it, preloaded), names)):
+        plain = run_plain(tests, name) if is_program else None
         for growth, ended, said in ends:
-            kind = kind_of(ended, said)
+            kind = kind_of(ended, said, plain)
             kinds[kind] += 1
             if kind is None:
                 is_well = False

@@ -22,6 +22,8 @@ complete -c ccnode -n '__fish_seen_subcommand_from format' -l beta -x -d 'The fr
 complete -c ccnode -n '__fish_seen_subcommand_from format' -l gamma -x -d 'The fraction of those present that echo'
 complete -c ccnode -n '__fish_seen_subcommand_from format' -l share -x -d 'How many asks begin together'
 complete -c ccnode -n '__fish_seen_subcommand_from run' -l listen -x -d 'Where it listens'
+complete -c ccnode -n '__fish_seen_subcommand_from run' -l listen-clients -x -d 'Where it listens for clients alone'
+complete -c ccnode -n '__fish_seen_subcommand_from run' -l operators -x -a 'on off' -d 'Whether other machines operate it'
 complete -c ccnode -n '__fish_seen_subcommand_from run' -l peers -x -d 'Where the others listen'
 complete -c ccnode -n '__fish_seen_subcommand_from run' -l peers-file -r -d 'A file of peers, one a line'
 complete -c ccnode -n '__fish_seen_subcommand_from run' -l status -x -d 'Where it shows itself over HTTP'

@@ -8,13 +8,16 @@
 #     configuration.sh client NAME < machines    for the machine of client NAME
 #
 # On each machine port 7000 + ID of loopback leads to node ID: there the node listens itself, and elsewhere a tunnel
-# does; so an ID is at most 58535. Over the network machines talk to each other at port 7443, and clients come in at 7444. Certificates are looked
-# for in FOLDER (/etc/stunnel/ccnode), and stunnel runs as TUNNEL_USER (stunnel4).
+# does; so an ID is at most 58535. Over the network machines talk to each other at port 7443, and clients come in at
+# 7444. These come out at port CLIENT_PORTS (7000) + ID: with 7500 that is one at which the node listens for clients
+# alone, `--listen-clients`. Certificates are looked for in FOLDER (/etc/stunnel/ccnode), and stunnel runs as
+# TUNNEL_USER (stunnel4).
 set -eu
 folder=${FOLDER:-/etc/stunnel/ccnode}
 user=${TUNNEL_USER:-stunnel4}
 machine_port=7443
 client_port=7444
+client_ports=${CLIENT_PORTS:-7000}
 machines=$(sed -e 's/#.*//' -e '/^[[:space:]]*$/d')
 
 address_of() {
@@ -68,13 +71,13 @@ tunnels_to() {
     done
 }
 
-# From the network at an address and a port to this machine's node.
+# From the network at an address and a port to this machine's node, at a port of loopback.
 tunnel_from() {
     cat << PART
 
-[$2]
-accept = $3:$4
-connect = 127.0.0.1:$((7000 + $1))
+[$1]
+accept = $2:$3
+connect = 127.0.0.1:$4
 PART
 }
 
@@ -86,13 +89,13 @@ machine() {
     common_part "machine-$1"
     if [ "$2" != clients ] && [ -n "$others" ]; then
         tunnels_to "$others" "$machine_port"
-        tunnel_from "$1" machines "$address" "$machine_port"
+        tunnel_from machines "$address" "$machine_port" "$((7000 + $1))"
         # One name a word.
         # shellcheck disable=SC2086
         printf 'checkHost = machine-%s\n' $others
     fi
     if [ "$2" != machines ]; then
-        tunnel_from "$1" clients "$address" "$client_port"
+        tunnel_from clients "$address" "$client_port" "$((client_ports + $1))"
     fi
 }
 

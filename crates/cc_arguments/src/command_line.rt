@@ -54,16 +54,19 @@ Runs the node of a folder that was formatted, until the program is ended, by SIG
 or else: what was answered is on the disk, and the next run goes on from there.
 A peer that isn't named gets nothing from this node. Whoever can reach ADDR may ask,
 tell the node to leave, or send it messages: keep it in a network that you trust.
+What comes to the ADDR of --listen-clients may ask, and nothing else; whoever brings
+anything else there is hung up on. With --operators off the node leaves, and retires
+others, for whoever asks on its own machine alone.
 
 A FILE of peers has a line ID=ADDR for each node. Blank lines and those that begin
 with # say nothing, and the node's own line is passed over: one file serves all.
 
 It notes its start on standard error, and its end where a disk call fails. It prints
 why it doesn't run, or has ended. Statuses: 1 where the folder can't be opened
-(NotFormatted, Damaged, Version, Device, NoMemory), a disk call fails (Failed) or ADDR
-can't be listened at (Listen), 2 after a command line that it doesn't take, the node
-among its own peers and a FILE that can't be read included. Beside Device standard
-error says what is wrong with which file.";
+(NotFormatted, Damaged, Version, Device, NoMemory), a disk call fails (Failed) or an
+ADDR can't be listened at (Listen), 2 after a command line that it doesn't take, the
+node among its own peers and a FILE that can't be read included. Beside Device
+standard error says what is wrong with which file.";
 
 const ASK_HELP: &str = "\
 Examples: ccnode ask 127.0.0.1:7001 7 store a
@@ -216,6 +219,16 @@ const RUN: Subcommand = Subcommand {
             "Where it listens: an IPv4 address and a port",
         ),
         Word::Option(
+            "listen-clients",
+            "ADDR",
+            "Where it listens for clients alone, beside --listen [default: nowhere]",
+        ),
+        Word::Option(
+            "operators",
+            "on|off",
+            "Whether `leave` and `retire` are taken from other machines [default: on]",
+        ),
+        Word::Option(
             "peers",
             "ID=ADDR,..",
             "Where the other nodes listen [default: none]",
@@ -337,20 +350,48 @@ const LOAD: Subcommand = Subcommand {
     help: LOAD_HELP,
 };
 
-const SUBCOMMANDS: [Subcommand; 9] = [PLAY, FORMAT, RUN, ASK, LEAVE, RETIRE, STATUS, LOAD, DUMP];
+// All subcommands, in the order of the help. The prover takes a table as one term, so they stand in three.
+const FIRST: [Subcommand; 3] = [PLAY, FORMAT, RUN];
+
+const AT_NODES: [Subcommand; 3] = [ASK, LEAVE, RETIRE];
+
+const LAST: [Subcommand; 3] = [STATUS, LOAD, DUMP];
 
 /// The program's subcommands and their words. The help has the program's own name, whatever its file is called.
 pub fn command_line<'a>(alloc: Global) -> Result<Command<'a>, AllocError> {
     let mut subcommands = Vec::new(alloc);
-    for subcommand in &SUBCOMMANDS {
-        subcommands.push(command_of(alloc, subcommand)?)?;
-    }
+    push_first(alloc, &mut subcommands)?;
+    push_at_nodes(alloc, &mut subcommands)?;
+    push_last(alloc, &mut subcommands)?;
     Command::new(alloc, "ccnode")
         .about("A durable node of a store-collect cluster")
         .version(VERSION)
         .subcommand_required(true)
         .bin_name("ccnode")?
         .subcommands(subcommands)
+}
+
+fn push_first<'a>(alloc: Global, to: &mut Vec<Command<'a>>) -> Result<(), AllocError> {
+    push_all(alloc, to, &FIRST)
+}
+
+fn push_at_nodes<'a>(alloc: Global, to: &mut Vec<Command<'a>>) -> Result<(), AllocError> {
+    push_all(alloc, to, &AT_NODES)
+}
+
+fn push_last<'a>(alloc: Global, to: &mut Vec<Command<'a>>) -> Result<(), AllocError> {
+    push_all(alloc, to, &LAST)
+}
+
+fn push_all<'a>(
+    alloc: Global,
+    to: &mut Vec<Command<'a>>,
+    subcommands: &[Subcommand],
+) -> Result<(), AllocError> {
+    for subcommand in subcommands {
+        to.push(command_of(alloc, subcommand)?)?;
+    }
+    Ok(())
 }
 
 fn command_of<'a>(alloc: Global, subcommand: &Subcommand) -> Result<Command<'a>, AllocError> {

@@ -118,6 +118,8 @@ fn format_words<'a>(words: &ArgMatches<'a>) -> FormatWords<'a> {
 fn run_words<'a>(words: &ArgMatches<'a>) -> RunWords<'a> {
     RunWords {
         listen: required(words, "listen"),
+        listen_clients: words.get_str("listen-clients"),
+        operators: words.get_str("operators"),
         peers: words.get_str("peers"),
         peers_file: words.get_str("peers-file"),
         status: words.get_str("status"),

@@ -36,8 +36,8 @@ pub enum NotAdmitted {
     Replaced,
     /// It is a message that was held back for so long that its link sends it again.
     Waited,
-    /// Its connection is kept for the operator's requests.
-    Spare,
+    /// No such event may come over its connection.
+    Barred,
 }
 
 /// One permit for each entry of the queue. An event takes one before it is handed over, and gives it back when it is refused

@@ -17,6 +17,9 @@ pub trait Admitting {
     /// That an event that waits can be turned away.
     ghost may_turn_away: { Type 0 };
 
+    /// Whether such an event may come over the connection at all.
+    fn may_bring(&self, event: &Event) -> bool;
+
     /// Waits until the event may be handed over, and takes a permit for it, or says why it got none.
     fn admit<R: Wait>(&self, rt: &R, event: &Event) -> Result<(), NotAdmitted>
         ensures { OnErr result may_turn_away };
@@ -70,9 +73,13 @@ impl<F: Flushed> Admitting for ConnectionAdmission<'_, F> {
 
     ghost may_turn_away = { ⊤ };
 
+    fn may_bring(&self, event: &Event) -> bool {
+        self.admitted.access.allows(event)
+    }
+
     fn admit<R: Wait>(&self, rt: &R, event: &Event) -> Result<(), NotAdmitted> {
-        if self.admitted.is_spare && !is_of_operator(event) {
-            return Err(NotAdmitted::Spare);
+        if !self.may_bring(event) {
+            return Err(NotAdmitted::Barred);
         }
         if let Some(node) = speaker_of(event) {
             if self.is_replaced(rt, node) {
@@ -91,8 +98,4 @@ pub fn speaker_of(event: &Event) -> Option<NodeId> {
         Event::Acked { peer, .. } => Some(*peer),
         _ => None,
     }
-}
-
-fn is_of_operator(event: &Event) -> bool {
-    matches!(event, Event::Leave | Event::Retire { .. })
 }

@@ -2,7 +2,7 @@
 
 use crate::flags::Flag;
 use cc_ops::Asked;
-use cc_protocol::{Admitted, Origin, Routes, Speakers, Spoken};
+use cc_protocol::{Access, Admitted, Origin, Routes, Speakers, Spoken};
 use cc_views::{NoMemory, NodeId};
 use crossbeam_channel::Sender;
 use std::alloc::Global;
@@ -79,11 +79,16 @@ struct Table {
 
 impl Table {
     // None where there are so many connections, or no memory.
-    fn enter(&mut self, connection: Arc<Connection>, from: Origin) -> Option<Admitted> {
+    fn enter(
+        &mut self,
+        connection: Arc<Connection>,
+        from: Origin,
+        access: Access,
+    ) -> Option<Admitted> {
         if self.is_closed {
             return None;
         }
-        let admitted = self.routes.enter(from)?;
+        let admitted = self.routes.enter(from, access)?;
         if self
             .connections
             .insert(admitted.ticket, connection)
@@ -138,14 +143,15 @@ impl Connections {
         })
     }
 
-    /// Lets a connection from there in. None where there are too many.
+    /// Lets a connection from there in, which may bring so much. None where there are too many.
     pub fn enter<R: Wait>(
         &self,
         rt: &R,
         connection: Arc<Connection>,
         from: Origin,
+        access: Access,
     ) -> Option<Admitted> {
-        self.table.lock(rt).enter(connection, from)
+        self.table.lock(rt).enter(connection, from, access)
     }
 
     /// The connection with that ticket has ended, and so have its routes.

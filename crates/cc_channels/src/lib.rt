@@ -4,20 +4,24 @@
 
 mod admission;
 mod admitting;
-mod channels;
 mod connections;
 mod durable;
 mod flags;
+mod own;
+mod peer_channel;
+mod peer_channels;
 mod spelling;
 mod waker;
 mod writing;
 
 pub use admission::{Admission, NotAdmitted};
 pub use admitting::{Admitting, ConnectionAdmission, speaker_of};
-pub use channels::{FarEnd, OwnChannel, PeerChannel, Way, channels_to, own_channel};
 pub use connections::{Connection, Connections};
 pub use durable::{Durable, Flushed};
 pub use flags::{Flag, Stop};
+pub use own::{OwnChannel, own_channel};
+pub use peer_channel::{FarEnd, PeerChannel, Way};
+pub use peer_channels::{PeerChannels, channels_to};
 pub use spelling::bytes_of;
 pub use waker::Waker;
 pub use writing::{millis, write_frames, write_peer};

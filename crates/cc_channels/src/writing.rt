@@ -1,14 +1,14 @@
 //! Writers: each writes to a stream what comes out of a channel.
 
-use crate::channels::FarEnd;
 use crate::flags::Flag;
+use crate::peer_channel::FarEnd;
 use cc_protocol::{Bundle, Parcel};
 use cc_views::{NoMemory, NodeId};
 use crossbeam_channel::Receiver;
 use log::{Log, info};
 use std::alloc::{AllocError, Global};
 use std::io::Write;
-use std::net::{Net, TcpStream};
+use std::net::{Net, SocketAddr, TcpStream};
 use std::sync::Wait;
 use std::sync::atomic::{AtomicU64, Ordering};
 use std::thread;
@@ -82,15 +82,23 @@ pub fn write_peer<R: Wait + Clock + Log + Net<Stream = TcpStream>>(
         if over.is_set() {
             return;
         }
-        if let Ok(stream) = TcpStream::connect_timeout(rt, &end.address, Duration::from_secs(1)) {
+        let _ = end.way.take_stale();
+        let address = end.way.address(rt);
+        if let Ok(stream) = TcpStream::connect_timeout(rt, &address, Duration::from_secs(1)) {
             let now = millis(rt);
             let is_noted = now >= noted;
             end.way.put_connected(now);
-            note_way(rt, me, &end, is_noted, "is connected to");
-            let _ = end.way.take_stale();
+            note_way(rt, me, &end, is_noted, "is connected to", address);
             write_while(rt, alloc, me, &end, &stream, over);
             end.way.put_connected(0);
-            note_way(rt, me, &end, is_noted, "has lost its connection to");
+            note_way(
+                rt,
+                me,
+                &end,
+                is_noted,
+                "has lost its connection to",
+                address,
+            );
             noted = if is_noted {
                 millis(rt).saturating_add(QUIET_MS)
             } else {
@@ -111,9 +119,16 @@ pub fn millis<R: Clock>(rt: &R) -> u64 {
 }
 
 // Notes what became of the connection to a peer.
-fn note_way<R: Log>(rt: &R, me: NodeId, end: &FarEnd, is_noted: bool, what: &str) {
+fn note_way<R: Log>(
+    rt: &R,
+    me: NodeId,
+    end: &FarEnd,
+    is_noted: bool,
+    what: &str,
+    address: SocketAddr,
+) {
     if is_noted {
-        info!(rt; "node {} {} node {} at {}", me.number(), what, end.peer.number(), end.address);
+        info!(rt; "node {} {} node {} at {}", me.number(), what, end.peer.number(), address);
     }
 }
 

@@ -11,6 +11,7 @@ use cc_site::{Call, DeviceFault, Side, Site};
 use cc_views::NodeId;
 use std::alloc::Global;
 use std::fs::{File, Files};
+use std::io;
 
 /// The two files of a folder, and an outlet. While it is open no other one opens the same folder. It is never honest and
 /// tells nothing, since no contract says what a real file does.
@@ -55,6 +56,25 @@ impl<O: Outlet> FileSite<O> {
             Side::B => &self.b,
         }
     }
+
+    // Tells the outlet why a disk call failed, counts it, and names it.
+    fn counted<T>(
+        &mut self,
+        outcome: io::Result<T>,
+        side: Side,
+        call: Call,
+    ) -> Result<T, DeviceFault>
+        ensures { CountsFault self.old.failures self.new.failures side call result }
+    {
+        match outcome {
+            Ok(value) => Ok(value),
+            Err(why) => {
+                self.outlet.fail(side, why);
+                self.failures = self.failures.wrapping_add(1);
+                Err(DeviceFault { side, call })
+            }
+        }
+    }
 }
 
 // What is told of a file, or of the folder, that can't be opened.
@@ -86,11 +106,15 @@ fn open_side<R: Files<File = File>>(
     folder: &str,
     side: Side,
 ) -> Result<File, SiteFault> {
-    let name = match side {
+    open_file(rt, alloc, folder, file_name(side), side)
+}
+
+/// The name of the file of a side, in the folder.
+pub fn file_name(side: Side) -> &'static str {
+    match side {
         Side::A => "side-a",
         Side::B => "side-b",
-    };
-    open_file(rt, alloc, folder, name, side)
+    }
 }
 
 // The file that is locked while the folder is open.
@@ -112,24 +136,6 @@ fn sync_folder<R: Files<File = File>>(rt: &R, folder: &str) -> Result<(), SiteFa
         return Err(closed(Side::A));
     };
     folder.sync_all().or(Err(closed(Side::A)))
-}
-
-// Counts a disk call that failed, and names it.
-fn counted<T>(
-    outcome: Option<T>,
-    failures: &mut u64,
-    side: Side,
-    call: Call,
-) -> Result<T, DeviceFault>
-    ensures { CountsFault failures.old failures.new side call result }
-{
-    match outcome {
-        Some(value) => Ok(value),
-        None => {
-            *failures = failures.wrapping_add(1);
-            Err(DeviceFault { side, call })
-        }
-    }
 }
 
 impl<O: Outlet> Site for FileSite<O> {
@@ -156,29 +162,28 @@ impl<O: Outlet> Site for FileSite<O> {
     ghost only_now = { λ _ honest _ _ _. absurd honest };
 
     fn length(&mut self, side: Side) -> Result<u64, DeviceFault> {
-        let metadata = self.file(side).metadata();
-        let length = metadata.ok().map(|metadata| metadata.len());
-        counted(length, &mut self.failures, side, Call::Length)
+        let length = self.file(side).metadata().map(|metadata| metadata.len());
+        self.counted(length, side, Call::Length)
     }
 
     fn read(&mut self, side: Side, place: u64, into: &mut [u8]) -> Result<(), DeviceFault> {
-        let done = read_whole(self.file(side), place, into).then_some(());
-        counted(done, &mut self.failures, side, Call::Read)
+        let done = read_whole(self.file(side), place, into);
+        self.counted(done, side, Call::Read)
     }
 
     fn write_at(&mut self, side: Side, place: u64, bytes: &[u8]) -> Result<(), DeviceFault> {
-        let done = write_whole(self.file(side), place, bytes).then_some(());
-        counted(done, &mut self.failures, side, Call::Write)
+        let done = write_whole(self.file(side), place, bytes);
+        self.counted(done, side, Call::Write)
     }
 
     fn cut(&mut self, side: Side, len: u64) -> Result<(), DeviceFault> {
-        let done = self.file(side).set_len(len).ok();
-        counted(done, &mut self.failures, side, Call::Cut)
+        let done = self.file(side).set_len(len);
+        self.counted(done, side, Call::Cut)
     }
 
     fn sync(&mut self, side: Side) -> Result<(), DeviceFault> {
-        let done = self.file(side).sync_data().ok();
-        counted(done, &mut self.failures, side, Call::Sync)
+        let done = self.file(side).sync_data();
+        self.counted(done, side, Call::Sync)
     }
 
     fn send(&mut self, to: NodeId, number: u64, message: &Message) {

@@ -3,8 +3,8 @@
 --     all_within, few_within   with a further number:  all are at most the greatest;  not all are at most less than that
 --     at_the_end               what holds of all of them once the list is at its end
 --     short_below, enough      where too few are, too few are at most less;  enough are at most the greatest
-use Rattle.std.proofs.Common.{◌≡◌, ℕ, ◌+◌, ◌*◌, ◌<◌, ◌≤◌, max, Bool, true, false, cond, leb, List, length, take, get_or, subst, sym, arith, length-take, take_all, ◌⊎◌, inl, inr}
-use Rattle.std.proofs.lemmas.Bool.{le-leb, lt-leb}
+use Rattle.std.proofs.Common.{◌≡◌, ℕ, ◌+◌, ◌<◌, ◌≤◌, max, cond, leb, List, length, take, get_or, subst, arith, length-take, take_all, inl, inr}
+use Rattle.std.proofs.lemmas.Bool.{le-leb}
 use Rattle.std.proofs.lemmas.Bool.Decides.{leb_tells}
 use Rattle.std.proofs.lemmas.List.Sums.{sum_by-le-sum_by, count_by-le-length, count_by_more_yes, count_by_more_no}
 use Rattle.std.proofs.lemmas.Nat.{mul-le}
@@ -13,8 +13,8 @@ use Rattle.cc_load.specs.Latencies.{count_within, IsWithin, IsShort, IsQuantile}
 one_within : (x v w : ℕ) → v ≤ w → cond (leb x v) 1 0 ≤ cond (leb x w) 1 0
 one_within x v w le =
     elim (leb_tells x v) [
-      | inl yes ↦ rw (yes.0, le-leb x w (omega (arith, yes.1, le))) (omega arith)
-      | inr no ↦ rw no.0 (omega arith)
+      | inl held ↦ rw (held.0, le-leb x w (omega (arith, held.1, le))) (omega arith)
+      | inr missed ↦ rw missed.0 (omega arith)
     ]
 
 pub within_more : (v w : ℕ) (xs : List ℕ) → v ≤ w → count_within v xs ≤ count_within w xs
@@ -34,8 +34,8 @@ pub few_within : (xs : List ℕ) (i g : ℕ) → i < length xs → ((v : ℕ) �
 few_within xs i g lt few v less =
     let x = get_or xs i 0 in
     elim (leb_tells x v) [
-      | inl yes ↦ omega (arith, count_by_more_yes (λ y. leb y v) xs i 0 lt yes.0, few v (omega (arith, less, yes.1)))
-      | inr no ↦ omega (arith, count_by_more_no (λ y. leb y v) xs i 0 lt no.0, within_first v i xs)
+      | inl held ↦ omega (arith, count_by_more_yes (λ y. leb y v) xs i 0 lt held.0, few v (omega (arith, less, held.1)))
+      | inr missed ↦ omega (arith, count_by_more_no (λ y. leb y v) xs i 0 lt missed.0, within_first v i xs)
     ]
 
 pub at_the_end : (xs : List ℕ) (i g : ℕ) → length xs ≤ i → count_within g (take i xs) ≡ i → ((v : ℕ) → v < g → count_within v (take i xs) < i) → IsQuantile 100 xs g

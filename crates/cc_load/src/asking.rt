@@ -3,7 +3,8 @@
 use crate::tally::Tally;
 use cc_client::{Deadline, Silence, connect, pause, receive, send};
 use cc_frames::Frame;
-use cc_messages::{Command, Refusal};
+use cc_messages::Refusal;
+use cc_orders::Operation;
 use cc_protocol::{Client, Heard, Incoming, Step};
 use std::alloc::Global;
 use std::net::{Net, SocketAddr, TcpStream};
@@ -18,7 +19,7 @@ const AGAIN_MS: u64 = 1;
 pub struct Task {
     pub address: SocketAddr,
     pub session: u64,
-    pub command: Command,
+    pub operation: Operation,
     /// Until when it asks.
     pub time: Deadline,
     /// Until when it waits for its last answer.
@@ -52,7 +53,7 @@ pub fn ask_for_long<R: Net<Stream = TcpStream> + Clock>(
 ) -> Tally {
     let mut worker = Worker {
         task,
-        client: Client::new(task.session, task.command),
+        client: Client::new(task.session, task.operation.command()),
         since: 0,
         tally: Tally::new(alloc),
     };

@@ -7,9 +7,9 @@ use cc_client::{Deadline, Told};
 use cc_orders::{AnswerForm, LoadOrder};
 use std::alloc::Global;
 use std::io::Write;
-use std::net::{Net, TcpStream};
+use std::net::{Net, TcpListener, TcpStream};
 use std::sync::{Mutex, Wait};
-use std::thread::Threads;
+use std::thread::{Scope, Threads};
 use std::time::Clock;
 use std::{io, thread};
 
@@ -25,7 +25,7 @@ pub fn load_nodes<R, W: Write>(
     output: &mut W,
 ) -> io::Result<Told>
 where
-    R: Net<Stream = TcpStream> + Threads + Wait + Clock + Sync,
+    R: Net<Listener = TcpListener, Stream = TcpStream> + Threads + Wait + Clock + Sync,
 {
     let start = micros(rt);
     let tally = ask_at_once(rt, alloc, order);
@@ -36,35 +36,64 @@ where
 // Runs each client in a thread of its own: what all of them counted.
 fn ask_at_once<R>(rt: &R, alloc: Global, order: &LoadOrder) -> Tally
 where
-    R: Net<Stream = TcpStream> + Threads + Wait + Clock + Sync,
+    R: Net<Listener = TcpListener, Stream = TcpStream> + Threads + Wait + Clock + Sync,
 {
-    let time = Deadline::new(rt, order.seconds);
-    let patience = Deadline::new(rt, order.seconds.saturating_add(PATIENCE));
     let total = Mutex::new(Tally::new(alloc));
     let shared = &total;
-    thread::scope(thread::scope_env(), rt, |scope| {
-        for number in 0..order.clients {
-            if let Some((address, session)) = order.seat(number) {
-                let task = Task {
-                    address,
-                    session,
-                    command: order.command,
-                    time,
-                    patience,
-                };
-                if scope
-                    .spawn(move || ask_and_add(rt, alloc, task, shared))
-                    .is_err()
-                {
-                    shared.lock(rt).end(None);
-                }
-            }
-        }
-    });
+    thread::scope(
+        thread::scope_env(),
+        rt,
+        |scope| start_all(scope, rt, alloc, order, shared),
+    );
     total.into_inner()
 }
 
-fn ask_and_add<R: Net<Stream = TcpStream> + Wait + Clock>(
+// Starts a thread for each client. One that can't be made has ended before the time is over.
+fn start_all<'s, 'e: 's, R>(
+    scope: &'s Scope<'s, &'e ()>,
+    rt: &'e R,
+    alloc: Global,
+    order: &LoadOrder,
+    total: &'e Mutex<Tally>,
+)
+where
+    R: Net<Listener = TcpListener, Stream = TcpStream> + Threads + Wait + Clock + Sync,
+{
+    let time = Deadline::new(rt, order.seconds);
+    let patience = Deadline::new(rt, order.seconds.saturating_add(PATIENCE));
+    for number in 0..order.clients {
+        if let Some((address, session)) = order.seat(number) {
+            let task = Task {
+                address,
+                session,
+                operation: order.operation,
+                time,
+                patience,
+            };
+            start(scope, rt, alloc, task, total);
+        }
+    }
+}
+
+fn start<'s, 'e: 's, R>(
+    scope: &'s Scope<'s, &'e ()>,
+    rt: &'e R,
+    alloc: Global,
+    task: Task,
+    total: &'e Mutex<Tally>,
+)
+where
+    R: Net<Listener = TcpListener, Stream = TcpStream> + Threads + Wait + Clock + Sync,
+{
+    if scope
+        .spawn(move || ask_and_add(rt, alloc, task, total))
+        .is_err()
+    {
+        total.lock(rt).end(None);
+    }
+}
+
+fn ask_and_add<R: Net<Listener = TcpListener, Stream = TcpStream> + Wait + Clock>(
     rt: &R,
     alloc: Global,
     task: Task,

@@ -52,7 +52,7 @@ impl Report {
     ) -> Result<Self, AllocError> {
         let latencies = &tally.latencies;
         let answered = latencies.count();
-        let operation = String::from_str(alloc, order.operation())?;
+        let operation = String::from_str(alloc, order.operation.name())?;
         let refused = told(alloc, tally.refusal)?;
         let buckets = buckets_of(alloc, latencies)?;
         Ok(Report {

@@ -13,7 +13,7 @@ mod word_fault;
 pub use asking::{AnswerForm, AskOrder, AskWords};
 pub use command_fault::CommandFault;
 pub use format_words::FormatWords;
-pub use loading::{LoadOrder, LoadWords};
+pub use loading::{LoadOrder, LoadWords, Operation};
 pub use operating::{LeaveOrder, RetireOrder, StatusOrder};
 pub use running::{LogLevel, RunOrder, RunWords};
 pub use word_fault::WordFault;

@@ -34,6 +34,34 @@ pub struct LoadWords<'a> {
     pub form: AnswerForm,
 }
 
+/// What the clients of a load ask for.
+#[derive(Clone, Copy, Debug, PartialEq, Eq)]
+pub enum Operation {
+    Store,
+    Collect,
+}
+
+impl Operation {
+    /// The command of each request: a store has the same text each time.
+    pub fn command(self) -> Command {
+        match self {
+            Operation::Store => match store_of(TEXT) {
+                Some(command) => command,
+                None => unreachable!(),
+            },
+            Operation::Collect => Command::Collect,
+        }
+    }
+
+    /// `store` or `collect`.
+    pub fn name(self) -> &'static str {
+        match self {
+            Operation::Store => "store",
+            Operation::Collect => "collect",
+        }
+    }
+}
+
 /// Clients that ask nodes which run, each as soon as it was answered.
 #[derive(Debug, Drop, PartialEq, Eq)]
 pub struct LoadOrder {
@@ -45,8 +73,7 @@ pub struct LoadOrder {
     pub seconds: u64,
     /// The first of their sessions at each node.
     pub sessions_from: u64,
-    /// What they ask for: to store a text, or to collect.
-    pub command: Command,
+    pub operation: Operation,
     pub form: AnswerForm,
 }
 
@@ -61,7 +88,7 @@ impl LoadOrder {
             clients: clients.ok_or(WordFault::Clients)?,
             seconds: seconds.ok_or(WordFault::Seconds)?,
             sessions_from: sessions_from.ok_or(WordFault::SessionsFrom)?,
-            command: command_of(words.collects).ok_or(WordFault::Command)?,
+            operation: operation_of(words.collects),
             form: words.form,
             addresses: addresses_in(alloc, words.addresses)?,
         })
@@ -78,20 +105,12 @@ impl LoadOrder {
         let session = self.sessions_from.checked_add(client / nodes)?;
         Some((*address, session))
     }
-
-    /// `store` or `collect`.
-    pub fn operation(&self) -> &'static str {
-        match self.command {
-            Command::Collect => "collect",
-            _ => "store",
-        }
-    }
 }
 
-fn command_of(collects: bool) -> Option<Command> {
+fn operation_of(collects: bool) -> Operation {
     match collects {
-        true => Some(Command::Collect),
-        false => store_of(TEXT),
+        true => Operation::Collect,
+        false => Operation::Store,
     }
 }
 
@@ -113,7 +132,7 @@ fn addresses_in(alloc: Global, list: &str) -> Result<Vec<SocketAddr>, WordFault>
         if addresses.contains(&address) {
             return Err(WordFault::AddressTwice);
         }
-        addresses.push(address)?;
+        addresses.push(address).or(Err(WordFault::NoMemory))?;
     }
     Ok(addresses)
 }

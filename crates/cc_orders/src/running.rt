@@ -11,6 +11,8 @@ use std::net::SocketAddr;
 #[derive(Clone, Copy, Debug)]
 pub struct RunWords<'a> {
     pub listen: &'a str,
+    pub listen_clients: Option<&'a str>,
+    pub operators: Option<&'a str>,
     pub peers: Option<&'a str>,
     /// The path of a file whose lines are the peers.
     pub peers_file: Option<&'a str>,
@@ -44,6 +46,10 @@ impl LogLevel {
 #[derive(Debug, Drop, PartialEq, Eq)]
 pub struct RunOrder {
     pub listen: SocketAddr,
+    /// Where it listens for clients alone. None where it doesn't.
+    pub listen_clients: Option<SocketAddr>,
+    /// Whether it takes the operator's requests that come from other machines.
+    pub remote_operators: bool,
     pub peers: Vec<Peer>,
     /// Where it tells its status. None where it doesn't.
     pub status: Option<SocketAddr>,
@@ -51,16 +57,19 @@ pub struct RunOrder {
 }
 
 impl RunOrder {
-    /// What these words ask for: the address behind `--listen`, the peers behind `--peers` or those on the lines of the file
-    /// behind `--peers-file`, none where neither is given, the address behind `--status` if it is, and the level behind
-    /// `--log`, else info. `lines` is the text of that file. A peer that is named twice is a fault.
+    /// What these words ask for: the address behind `--listen`, those behind `--listen-clients` and `--status` where they are
+    /// given, whether `--operators` is on, as it is where it isn't given, the peers behind `--peers` or those on the lines of
+    /// the file behind `--peers-file`, none where neither is given, and the level behind `--log`, else info. `lines` is the
+    /// text of that file. A peer that is named twice is a fault.
     pub fn parse(
         alloc: Global,
         words: &RunWords<'_>,
         lines: Option<&str>,
     ) -> Result<Self, WordFault> {
         let listen = address(words.listen).ok_or(WordFault::Listen)?;
-        let status = status_in(words.status)?;
+        let listen_clients = address_in(words.listen_clients, WordFault::ListenClients)?;
+        let remote_operators = switch_in(words.operators)?;
+        let status = address_in(words.status, WordFault::Status)?;
         let log = level_in(words.log)?;
         if words.peers.is_some() && words.peers_file.is_some() {
             return Err(WordFault::PeersTwice);
@@ -68,6 +77,8 @@ impl RunOrder {
         let peers = peers_of(alloc, words.peers, lines)?;
         Ok(RunOrder {
             listen,
+            listen_clients,
+            remote_operators,
             peers,
             status,
             log,
@@ -85,13 +96,23 @@ impl RunOrder {
     }
 }
 
-fn status_in(word: Option<&str>) -> Result<Option<SocketAddr>, WordFault> {
+// The address that a word is, if one is given, or this fault.
+fn address_in(word: Option<&str>, fault: WordFault) -> Result<Option<SocketAddr>, WordFault> {
     match word {
         Some(word) => match address(word) {
             Some(address) => Ok(Some(address)),
-            None => Err(WordFault::Status),
+            None => Err(fault),
         },
         None => Ok(None),
+    }
+}
+
+// Whether the operator's requests are taken from everywhere: on, unless it is off.
+fn switch_in(word: Option<&str>) -> Result<bool, WordFault> {
+    match word.unwrap_or("on") {
+        "on" => Ok(true),
+        "off" => Ok(false),
+        _ => Err(WordFault::Operators),
     }
 }
 

@@ -23,6 +23,10 @@ pub enum WordFault {
     Address,
     #[error("--listen isn't an address and a port, such as 127.0.0.1:7001")]
     Listen,
+    #[error("--listen-clients isn't an address and a port, such as 127.0.0.1:7501")]
+    ListenClients,
+    #[error("--operators isn't one of: on, off")]
+    Operators,
     #[error("--peers isn't a list of peers, such as 2=127.0.0.1:7002,3=127.0.0.1:7003")]
     Peers,
     #[error("--peers names a node twice")]

@@ -1,4 +1,5 @@
 pub mod Absence
+pub mod Access
 pub mod Frames
 pub mod Heeding
 pub mod Admission

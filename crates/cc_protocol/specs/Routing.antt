@@ -9,6 +9,8 @@
 --     IsRouting                    how many there are, that routes lead to open connections, and that tickets and places were given
 use Rattle.std.specs.Prelude.{◌≤◌, ℕ, ◌+◌, ◌^◌, ◌==◌, ◌&&◌, ◌||◌, nat_lt, not, Bool, List, [], ◌∷◌, ◌++◌, length, filter, find, Option, Some, None, if◌then◌else◌, option_map, IsTrue}
 use Rattle.std.specs.List.{list_any, AllByRecursion}
+use Rattle.cc_protocol.specs.Access.{operator_alone}
+use Rattle.cc_protocol.specs.declared.origin.Access.{Access}
 use Rattle.cc_protocol.specs.declared.origin.Origin.{Origin}
 use Rattle.cc_protocol.specs.declared.origin.Origin.TheVariants as origin
 use Rattle.cc_protocol.specs.declared.origin.Admitted.{Admitted}
@@ -29,8 +31,10 @@ no_routing = record { connections = []; spare = []; routes = []; issued = 0; ask
 abbrev pub connection_limit : ℕ
 connection_limit = 1024
 
--- a part of the connections is kept for the addresses of peers, and a part of these for the machine itself
+-- a part of the connections is kept for the addresses of peers, and a part of these for the machine itself; none of that is
+-- for what comes over the port for clients
 abbrev pub connection_limit_for : Origin → ℕ
+connection_limit_for origin.Client = 768
 connection_limit_for origin.Stranger = 768
 connection_limit_for origin.Peer = 1016
 connection_limit_for origin.Loopback = 1024
@@ -51,19 +55,20 @@ has_ticket g = nat_lt (g.issued + 1) (2 ^ 64)
 abbrev pub has_room : Origin → Routing → Bool
 has_room from g = nat_lt (length g.connections) (connection_limit_for from)
 
-abbrev pub has_spare : Routing → Bool
-has_spare g = nat_lt (length g.spare) spare_limit
+-- one beyond the bounds is for the operator alone
+abbrev pub has_spare : Access → Routing → Bool
+has_spare access g = access.operators && nat_lt (length g.spare) spare_limit
 
-abbrev pub admitted : Origin → Routing → Option Admitted
-admitted from g =
-    if has_ticket g && (has_room from g || has_spare g)
-    then Some (record { ticket = g.issued + 1; is_spare = not (has_room from g) })
+abbrev pub admitted : Origin → Access → Routing → Option Admitted
+admitted from access g =
+    if has_ticket g && (has_room from g || has_spare access g)
+    then Some (record { ticket = g.issued + 1; access = if has_room from g then access else operator_alone })
     else None
 
-abbrev pub entered : Origin → Routing → Routing
-entered from g =
+abbrev pub entered : Origin → Access → Routing → Routing
+entered from access g =
     if has_ticket g && has_room from g then record g { connections = g.connections ++ (g.issued + 1) ∷ []; issued = g.issued + 1 } else (
-    if has_ticket g && has_spare g then record g { spare = g.spare ++ (g.issued + 1) ∷ []; issued = g.issued + 1 } else g
+    if has_ticket g && has_spare access g then record g { spare = g.spare ++ (g.issued + 1) ∷ []; issued = g.issued + 1 } else g
     )
 
 abbrev pub is_ask : ℕ → ℕ → Route → Bool

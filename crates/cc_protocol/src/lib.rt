@@ -33,7 +33,7 @@ pub use heeding::{Duty, heed};
 pub use incoming::{Ending, Incoming, Input};
 pub use lasting::{AskName, Lasting};
 pub use operating::{Outcome, outcome_of, second_request_is_left};
-pub use origin::{Admitted, Origin};
+pub use origin::{Access, Admitted, Origin};
 pub use route::Route;
 pub use routes::{Routes, answers_follow_asks};
 pub use speakers::{Speaker, Speakers, Spoken};

@@ -1,4 +1,9 @@
-//! Where connections come from, and what they may do.
+//! Where connections come from, and what they may bring.
+
+ghost use Rattle.std.specs.Prelude.{◌≡◌};
+ghost use Rattle.cc_protocol.specs.Access.{access_of, allows};
+
+use cc_messages::Event;
 
 /// Where a connection comes from.
 #[derive(Clone, Copy, Debug, PartialEq, Eq)]
@@ -9,6 +14,57 @@ pub enum Origin {
     Peer,
     /// Any other address.
     Stranger,
+    /// Any address at all, over the port that is for clients alone.
+    Client,
+}
+
+/// What a connection may bring.
+#[derive(Clone, Copy, Debug, PartialEq, Eq)]
+pub struct Access {
+    /// What clients ask.
+    pub asks: bool,
+    /// Messages and acknowledgements of nodes.
+    pub nodes: bool,
+    /// The operator's requests: Leave and Retire.
+    pub operators: bool,
+}
+
+impl Access {
+    /// What may come over a connection from there. `remote_operators` tells whether the operator's requests are taken that
+    /// come from other machines; those of this machine always are, and over the port for clients there are none.
+    pub fn of(from: Origin, remote_operators: bool) -> Self
+        ensures { result ≡ access_of from remote_operators }
+    {
+        match from {
+            Origin::Loopback => Access {
+                asks: true,
+                nodes: true,
+                operators: true,
+            },
+            Origin::Peer | Origin::Stranger => Access {
+                asks: true,
+                nodes: true,
+                operators: remote_operators,
+            },
+            Origin::Client => Access {
+                asks: true,
+                nodes: false,
+                operators: false,
+            },
+        }
+    }
+
+    /// Whether such an event may come over the connection.
+    pub fn allows(self, event: &Event) -> bool
+        ensures { result ≡ allows self event.now }
+    {
+        match event {
+            Event::Ask { .. } => self.asks,
+            Event::Deliver { .. } | Event::Acked { .. } => self.nodes,
+            Event::Leave | Event::Retire { .. } => self.operators,
+            Event::Enter | Event::Lapse { .. } | Event::Snapshot => false,
+        }
+    }
 }
 
 /// A connection that was let in.
@@ -16,6 +72,6 @@ pub enum Origin {
 pub struct Admitted {
     /// Its ticket, which no other ever has.
     pub ticket: u64,
-    /// It is one beyond the bounds: it may bring the operator's requests alone.
-    pub is_spare: bool,
+    /// What it may bring: where it is one beyond the bounds, the operator's requests alone.
+    pub access: Access,
 }

@@ -6,7 +6,7 @@ ghost use Rattle.std.specs.Bool.{then_some};
 ghost use Rattle.std.specs.Vec.{vec_capacity};
 ghost use Rattle.cc_protocol.specs.Routing.{Routing, no_routing, is_open, is_ask, connection_in, connection_of, admitted, entered, may_route, routed, is_passed, taken, taken_back, ticket_of, closed, connection_limit, connection_limit_for};
 
-use crate::origin::{Admitted, Origin};
+use crate::origin::{Access, Admitted, Origin};
 use crate::route::Route;
 use cc_views::NoMemory;
 use std::alloc::Global;
@@ -42,7 +42,7 @@ impl Routes {
     /// How many of them come from other machines.
     pub const MAX_REMOTE: usize = 1016;
 
-    /// How many of them come from addresses that aren't those of peers.
+    /// How many of them come from addresses that aren't those of peers, or over the port for clients.
     pub const MAX_STRANGERS: usize = 768;
 
     /// How many connections there are beside them at most, for the operator's requests.
@@ -64,30 +64,32 @@ impl Routes {
         })
     }
 
-    /// One more connection from there, with a ticket from 1 on. 1,024 may be open, of which 256 are kept for the addresses
-    /// of peers, and 8 of these for this machine. Beside them 8 more may be, for the operator's requests alone. None where
-    /// there are so many.
-    pub fn enter(&mut self, from: Origin) -> Option<Admitted>
-        ensures admitted { result ≡ admitted from self.old }
-        ensures routes { self.new ≡ entered from self.old }
+    /// One more connection from there that may bring so much, with a ticket from 1 on. 1,024 may be open, of which 256 are
+    /// kept for the addresses of peers, and 8 of these for this machine; what comes over the port for clients has none of
+    /// these. Beside them 8 more may be that could bring the operator's requests, and these alone. None where there are so
+    /// many.
+    pub fn enter(&mut self, from: Origin, access: Access) -> Option<Admitted>
+        ensures admitted { result ≡ admitted from access self.old }
+        ensures routes { self.new ≡ entered from access self.old }
     {
         let ticket = self.issued.checked_add(1)?;
         if self.connections.len() < Self::connection_limit(from) {
             self.connections.push(ticket).unwrap();
             self.issued = ticket;
-            return Some(Admitted {
-                ticket,
-                is_spare: false,
-            });
+            return Some(Admitted { ticket, access });
         }
-        if self.spare.len() >= Self::MAX_SPARE {
+        if !access.operators || self.spare.len() >= Self::MAX_SPARE {
             return None;
         }
         self.spare.push(ticket).unwrap();
         self.issued = ticket;
         Some(Admitted {
             ticket,
-            is_spare: true,
+            access: Access {
+                asks: false,
+                nodes: false,
+                operators: true,
+            },
         })
     }
 
@@ -99,7 +101,7 @@ impl Routes {
         match from {
             Origin::Loopback => Self::MAX_CONNECTIONS,
             Origin::Peer => Self::MAX_REMOTE,
-            Origin::Stranger => Self::MAX_STRANGERS,
+            Origin::Stranger | Origin::Client => Self::MAX_STRANGERS,
         }
     }
 

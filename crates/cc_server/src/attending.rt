@@ -3,10 +3,10 @@
 use crate::caller::{Done, serve};
 use crate::context::Context;
 use crate::shared::Shared;
-use cc_channels::{Connection, write_frames};
-use cc_frames::Peer;
+use cc_channels::{Connection, NotAdmitted, write_frames};
 use cc_intake::{Hooks, Lane, Life};
-use cc_protocol::{Admitted, Ending, Origin};
+use cc_protocol::{Access, Admitted, Ending, Origin};
+use cc_views::NodeId;
 use crossbeam_channel::{Receiver, bounded};
 use log::{Log, debug};
 use std::alloc::Global;
@@ -29,11 +29,21 @@ const SILENCE_S: u64 = 3600;
 // How long one may that is kept for the operator.
 const OPERATOR_SILENCE_S: u64 = 5;
 
-/// Serves a connection from that address, with a writer of its own.
+/// Which port of a node somebody connects to.
+#[derive(Clone, Copy, Debug, PartialEq, Eq)]
+pub enum Port {
+    /// The one that nodes, clients and the operator connect to.
+    Nodes,
+    /// The one for clients alone.
+    Clients,
+}
+
+/// Serves a connection from that address to that port, with a writer of its own.
 pub fn attend<L: Life + Send + Sync, Q: Lane + Send + Sync, R, H: Hooks + Sync>(
     context: &Context<'_, R, H, L, Q>,
     stream: TcpStream,
     from: SocketAddr,
+    port: Port,
 )
 where
     R: Threads + Wait + Clock + Log + Sync,
@@ -44,7 +54,7 @@ where
     let Some((pen, connection)) = opened(context.alloc, stream) else {
         return;
     };
-    let Some(admitted) = admitted(context, &connection, from) else {
+    let Some(admitted) = admitted(context, &connection, from, port) else {
         debug!(rt; "node {} takes no connection from {}: too many are open", context.me.number(), from);
         return;
     };
@@ -89,17 +99,24 @@ fn admitted<R: Wait, H: Hooks, L: Life, Q: Lane>(
     context: &Context<'_, R, H, L, Q>,
     connection: &Arc<Connection>,
     from: SocketAddr,
+    port: Port,
 ) -> Option<Admitted> {
     let known = Arc::try_clone(connection).ok()?;
-    let origin = origin_of(context.peers, from);
-    context.shared.connections.enter(context.rt, known, origin)
+    let origin = origin_of(context.rt, context.shared, from, port);
+    let access = Access::of(origin, context.remote_operators);
+    context
+        .shared
+        .connections
+        .enter(context.rt, known, origin, access)
 }
 
-fn origin_of(peers: &[Peer], from: SocketAddr) -> Origin {
+fn origin_of<R: Wait>(rt: &R, shared: &Shared, from: SocketAddr, port: Port) -> Origin {
     let address = from.ip();
-    if address.is_loopback() {
+    if port == Port::Clients {
+        Origin::Client
+    } else if address.is_loopback() {
         Origin::Loopback
-    } else if peers.iter().any(|peer| peer.address.ip() == address) {
+    } else if shared.channels.has_host(rt, address) {
         Origin::Peer
     } else {
         Origin::Stranger
@@ -108,10 +125,10 @@ fn origin_of(peers: &[Peer], from: SocketAddr) -> Origin {
 
 // How long a connection may say nothing.
 fn silence_of(admitted: Admitted) -> Duration {
-    let seconds = if admitted.is_spare {
-        OPERATOR_SILENCE_S
-    } else {
+    let seconds = if admitted.access.asks {
         SILENCE_S
+    } else {
+        OPERATOR_SILENCE_S
     };
     Duration::from_secs(seconds)
 }
@@ -168,5 +185,24 @@ fn serve_out<R: Wait + Log, H: Hooks, L: Life, Q: Lane>(
         &mut share,
     );
     context.give_back(share);
+    if done == Done::TurnedAway(NotAdmitted::Barred) {
+        note_barred(context.rt, context.me, from, admitted.access);
+    }
     Some(done)
+}
+
+// Notes why a connection is closed over which something came that it may not bring.
+fn note_barred<R: Log>(rt: &R, me: NodeId, from: SocketAddr, access: Access) {
+    debug!(rt; "node {} closes the connection from {}, {}", me.number(), from, bound_of(access));
+}
+
+// What binds a connection that may not bring all.
+fn bound_of(access: Access) -> &'static str {
+    if access.nodes {
+        "since the operator's requests aren't taken over the network"
+    } else if access.asks {
+        "since its port is for what clients ask alone"
+    } else {
+        "which is kept for the operator's requests"
+    }
 }

@@ -12,7 +12,7 @@ use crate::of_life::OfLife;
 use crate::replies::Replies;
 use crate::shared::Shared;
 use cc_channels::{Admission, Admitting, Flushed, NotAdmitted, bytes_of, speaker_of};
-use cc_frames::{Frame, Peer};
+use cc_frames::Frame;
 use cc_intake::{Accepted, Hooks, Lane, Life, Refused, Share, Source};
 use cc_messages::{Event, Refusal};
 use cc_protocol::{Duty, Ending, Incoming, Input, event_of};
@@ -43,7 +43,6 @@ pub struct Caller<'a, R: Wait, I: Input, S: Admitting, D: Replies, F: Flushed> {
     shared: &'a Shared,
     admission: &'a Admission<F>,
     me: NodeId,
-    peers: &'a [Peer],
     // Where the connection comes from.
     address: SocketAddr,
     admitting: &'a S,
@@ -93,8 +92,11 @@ impl<R: Wait + Log, I: Input, S: Admitting, D: Replies, F: Flushed> Caller<'_, R
         Ok(event)
     }
 
-    // Whatever becomes of it, what a node sends tells that it is there.
+    // Whatever becomes of it, what a node sends tells that it is there: over a connection that may bring it.
     fn hear_voice(&self, event: &Event) {
+        if !self.admitting.may_bring(event) {
+            return;
+        }
         if let Some(peer) = speaker_of(event) {
             self.shared.hear_voice(self.rt, peer);
         }
@@ -160,7 +162,7 @@ impl<R: Wait + Log, I: Input, S: Admitting, D: Replies, F: Flushed> Caller<'_, R
     fn meeting(&self) -> Meeting<'_> {
         Meeting {
             me: self.me,
-            peers: self.peers,
+            channels: &self.shared.channels,
             known: &self.shared.known,
             address: self.address,
         }
@@ -256,7 +258,6 @@ pub fn serve<R: Wait + Log, H: Hooks, L: Life, Q: Lane, I: Input + Drop, S: Admi
         shared: context.shared,
         admission: context.admission,
         me: context.me,
-        peers: context.peers,
         address: from,
         admitting,
         connection,

@@ -10,8 +10,14 @@ pub struct Config<'a> {
     pub dir: &'a str,
     /// Where the node listens.
     pub listen: SocketAddr,
+    /// Where it listens for clients alone, if it does: nothing is taken there but what they ask.
+    pub listen_clients: Option<SocketAddr>,
+    /// Whether it takes the operator's requests that come from other machines.
+    pub remote_operators: bool,
     /// Where other nodes listen. What is for one that isn't among them is lost.
     pub peers: Vec<Peer>,
+    /// The file that says so, one peer a line, if there is one: it is read again while the node runs.
+    pub peers_file: Option<&'a str>,
     /// Where those who look at the node are served, if they are.
     pub status: Option<SocketAddr>,
     /// The program's version, which they are shown.

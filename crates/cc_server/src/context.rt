@@ -6,11 +6,11 @@ ghost use Rattle.cc_intake.specs.Talks.{Answer, IsAnswer, Talks, places_of, Plac
 use crate::of_life::OfLife;
 use crate::shared::Shared;
 use cc_channels::{Admission, Connection, ConnectionAdmission};
-use cc_frames::Peer;
 use cc_intake::{Hooks, Intake, Lane, Life, Queue, Share, Source, work};
 use cc_protocol::Admitted;
 use cc_views::NodeId;
 use std::alloc::Global;
+use std::net::SocketAddr;
 use std::sync::{Mutex, Wait};
 
 /// What all workers share.
@@ -19,8 +19,16 @@ pub struct Context<'x, R: Wait, H: Hooks, L: Life, Q: Lane> {
     pub rt: &'x R,
     pub alloc: Global,
     pub me: NodeId,
+    /// The node's folder.
+    pub dir: &'x str,
+    /// Where the node listens, and where for clients alone, if it does.
+    pub listen: SocketAddr,
+    pub listen_clients: Option<SocketAddr>,
+    /// The file of the peers, if there is one.
+    pub peers_file: Option<&'x str>,
     pub hooks: &'x H,
-    pub peers: &'x [Peer],
+    /// Whether the operator's requests are taken that come from other machines.
+    pub remote_operators: bool,
     pub shared: &'x Shared,
     pub admission: &'x Admission<OfLife<L>>,
     pub lock: &'x Mutex<Intake<L, Q>>,

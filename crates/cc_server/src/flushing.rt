@@ -137,15 +137,11 @@ fn resend<S: Site, L: Life, Q: Lane>(
     turner: &mut Turner<S, L, Q>,
     shared: &Shared,
 ) -> Result<(), Failed> {
-    for channel in &shared.channels {
-        channel.mute();
-    }
+    shared.channels.mute();
     shared.own.mute();
     let resent = turner.resend();
     shared.own.unmute();
-    for channel in &shared.channels {
-        channel.unmute();
-    }
+    shared.channels.unmute();
     resent?;
     Ok(())
 }

@@ -1,5 +1,5 @@
 //! A node over TCP: a worker and a writer for each connection, a writer for each peer, a worker for what the node sends to
-//! itself, one flusher, one ticker and a writer of notes.
+//! itself, one flusher, one ticker, a writer of notes, and one that follows the file of the peers.
 #![tactic(auto)]
 
 mod attending;
@@ -8,6 +8,7 @@ mod config;
 mod context;
 mod duties;
 mod flushing;
+mod following;
 mod known;
 mod looking;
 mod machine;
@@ -25,6 +26,6 @@ mod showing;
 mod threads;
 
 pub use config::Config;
-pub use machine::Machine;
+pub use machine::{Machine, ReadText};
 pub use run::{run_node, run_on};
 pub use run_fault::RunFault;

@@ -2,7 +2,7 @@
 
 use crate::known::Known;
 use cc_changes::Changes;
-use cc_frames::Peer;
+use cc_channels::PeerChannels;
 use cc_messages::Message;
 use cc_views::NodeId;
 use log::{Log, warn};
@@ -13,7 +13,7 @@ use std::sync::Wait;
 #[derive(Drop)]
 pub struct Meeting<'a> {
     pub me: NodeId,
-    pub peers: &'a [Peer],
+    pub channels: &'a PeerChannels,
     pub known: &'a Known,
     /// Where the connection comes from.
     pub address: SocketAddr,
@@ -55,7 +55,7 @@ impl Meeting<'_> {
     }
 
     fn is_peer(&self, node: NodeId) -> bool {
-        self.peers.iter().any(|peer| peer.id == node)
+        self.channels.to(node).is_some()
     }
 }
 

@@ -1,10 +1,14 @@
 //! What a running node notes of its peers on standard error.
 
+use cc_files::file_name;
 use cc_protocol::{AskName, Lasting};
+use cc_site::Side;
 use cc_views::NodeId;
 use crossbeam_channel::{Receiver, Sender, bounded};
-use log::{Log, info, warn};
+use log::{Log, error, info, warn};
 use std::alloc::{AllocError, Global};
+use std::io;
+use std::net::SocketAddr;
 use std::sync::Wait;
 
 // How many notes of the flusher wait at most.
@@ -19,7 +23,7 @@ pub struct Waiting {
 }
 
 /// A note of the flusher.
-#[derive(Clone, Copy, Debug, PartialEq, Eq)]
+#[derive(Clone, Copy, Debug)]
 pub enum Note {
     /// A peer is taken for absent.
     Absent(NodeId),
@@ -35,6 +39,8 @@ pub enum Note {
     Left,
     /// So many sessions are served, of 256 in its life.
     Sessions(usize),
+    /// A call on the file of a side failed, for that reason.
+    DiskFault(Side, io::Error),
 }
 
 /// The channel on which notes of the flusher wait for their writer, since it waits for nobody who reads standard error. None
@@ -62,18 +68,18 @@ pub fn note_channel(alloc: Global) -> Result<(NoteChannel, Receiver<Option<Note>
     Ok((NoteChannel { to }, from))
 }
 
-/// Writes the notes of the node `me`, until None comes.
-pub fn write_notes<R: Wait + Log>(rt: &R, me: NodeId, from: &Receiver<Option<Note>>) {
+/// Writes the notes of the node `me` of a folder, until None comes.
+pub fn write_notes<R: Wait + Log>(rt: &R, me: NodeId, dir: &str, from: &Receiver<Option<Note>>) {
     for _ in rt.forever() {
         let Some(note) = from.recv(rt).unwrap_or(None) else {
             return;
         };
-        write_note(rt, me, note);
+        write_note(rt, me, dir, note);
     }
     unreachable!()
 }
 
-fn write_note<R: Log>(rt: &R, me: NodeId, note: Note) {
+fn write_note<R: Log>(rt: &R, me: NodeId, dir: &str, note: Note) {
     match note {
         Note::Absent(peer) => note_absent(rt, me, peer),
         Note::Pending(waiting) => note_pending(rt, me, waiting),
@@ -82,6 +88,7 @@ fn write_note<R: Log>(rt: &R, me: NodeId, note: Note) {
         Note::Joined => info!(rt; "node {} has joined", me.number()),
         Note::Left => info!(rt; "node {} has left", me.number()),
         Note::Sessions(count) => note_sessions(rt, me, count),
+        Note::DiskFault(side, why) => note_disk_fault(rt, me, dir, side, why),
     }
 }
 
@@ -106,6 +113,10 @@ fn note_sessions<R: Log>(rt: &R, me: NodeId, count: usize) {
     warn!(rt; "node {} serves {} sessions, of 256 in its life", me.number(), count);
 }
 
+fn note_disk_fault<R: Log>(rt: &R, me: NodeId, dir: &str, side: Side, why: io::Error) {
+    error!(rt; "node {} can't go on: {}/{}: {}", me.number(), dir, file_name(side), why);
+}
+
 /// A peer that was taken for absent acknowledges again.
 pub fn note_back<R: Log>(rt: &R, me: NodeId, peer: NodeId) {
     info!(rt; "node {} hears node {} again", me.number(), peer.number());
@@ -124,4 +135,24 @@ pub fn note_unreachable<R: Log>(rt: &R, me: NodeId, node: NodeId) {
 /// A peer is unknown to the folder.
 pub fn note_unknown<R: Log>(rt: &R, me: NodeId, peer: NodeId) {
     warn!(rt; "node {} doesn't know its peer {}", me.number(), peer.number());
+}
+
+/// The file of the peers has a peer that wasn't there before.
+pub fn note_added<R: Log>(rt: &R, me: NodeId, peer: NodeId, address: SocketAddr) {
+    info!(rt; "node {} has a new peer: node {} at {}", me.number(), peer.number(), address);
+}
+
+/// The file of the peers has another address for a peer.
+pub fn note_moved_peer<R: Log>(rt: &R, me: NodeId, peer: NodeId, address: SocketAddr) {
+    info!(rt; "node {} finds node {} at {} from now on", me.number(), peer.number(), address);
+}
+
+/// A peer has no line in the file of the peers any more.
+pub fn note_unlisted<R: Log>(rt: &R, me: NodeId, peer: NodeId) {
+    warn!(rt; "node {} keeps node {} among its peers until it is started again: its line is gone", me.number(), peer.number());
+}
+
+/// The file of the peers isn't taken, since one line isn't as it should be, or two are of one node, or it can't be read.
+pub fn note_not_taken<R: Log>(rt: &R, me: NodeId, file: &str, why: &str) {
+    warn!(rt; "node {} keeps its peers as they are: {} {}", me.number(), file, why);
 }

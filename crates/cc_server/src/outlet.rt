@@ -1,12 +1,15 @@
 //! The outlet of a node: the channels to its peers and to itself, and its connections.
 
+use crate::notes::Note;
 use crate::shared::Shared;
 use cc_channels::PeerChannel;
 use cc_files::Outlet;
 use cc_messages::{Answer, Event, Message};
 use cc_protocol::{Parcel, post_bytes, reply_bytes};
+use cc_site::Side;
 use cc_views::NodeId;
 use std::alloc::Global;
+use std::io;
 use std::sync::Wait;
 
 /// Passes outputs on. What finds no room is lost.
@@ -87,5 +90,9 @@ impl<R: Wait> Outlet for ServerOutlet<'_, R> {
                 .pass(self.rt, session, request, bytes),
             None => self.shared.connections.give_up(self.rt, session, request),
         }
+    }
+
+    fn fail(&mut self, side: Side, why: io::Error) {
+        self.shared.notes.put(self.rt, Note::DiskFault(side, why));
     }
 }

@@ -115,12 +115,12 @@ fn open_and_run<R, H: Hooks + Sync>(
 where
     R: Files<File = File> + Machine,
 {
-    let channels = ServerOutlet {
+    let outlet = ServerOutlet {
         rt: run.rt,
         alloc: run.alloc,
         shared: run.shared,
     };
-    let site = FileSite::open(run.rt, run.alloc, run.config.dir, channels)?;
+    let site = FileSite::open(run.rt, run.alloc, run.config.dir, outlet)?;
     let measured = Measured::new(run.rt, run.hooks, &run.shared.gauges);
     let hooked = Hooked {
         site,
@@ -151,6 +151,7 @@ where
             let address = listeners.node.local_addr().unwrap_or(run.config.listen);
             run.shared.known.learn_links(run.rt, &core);
             note(run, me, "runs", address);
+            note_clients(run, me, &listeners);
             note_opened(run.rt, &core, &run.config.peers);
             let ready = Ready {
                 engine,
@@ -181,10 +182,11 @@ where
 {
     let me = core.me();
     let listen = run.config.listen;
+    let listen_clients = run.config.listen_clients;
     let peers = &run.config.peers;
-    if peers
-        .iter()
-        .any(|peer| peer.id == me || peer.address == listen)
+    if peers.iter().any(|peer| peer.id == me
+        || peer.address == listen
+        || Some(peer.address) == listen_clients)
     {
         return Err(RunFault::OwnPeer);
     }
@@ -196,11 +198,24 @@ where
         Some(listener) => listener,
         None => listening(run.rt, run.config.listen)?,
     };
-    let pages = match run.config.status {
-        Some(status) => Some(listening(run.rt, status)?),
-        None => None,
-    };
-    Ok(Listeners { node, pages })
+    let clients = listening_if(run.rt, listen_clients)?;
+    let pages = listening_if(run.rt, run.config.status)?;
+    Ok(Listeners {
+        node,
+        clients,
+        pages,
+    })
+}
+
+// Listens at an address, if there is one.
+fn listening_if<R>(rt: &R, address: Option<SocketAddr>) -> Result<Option<TcpListener>, RunFault>
+where
+    R: Net<Listener = TcpListener, Stream = TcpStream> + Log,
+{
+    match address {
+        Some(address) => Ok(Some(listening(rt, address)?)),
+        None => Ok(None),
+    }
 }
 
 // Listens at an address. Why it can't is noted.
@@ -219,6 +234,16 @@ where
 
 fn note<R: Log, H>(run: &Run<'_, R, H>, me: NodeId, what: &str, address: SocketAddr) {
     info!(run.rt; "node {} {} at {}", me.number(), what, address);
+}
+
+// Notes where clients alone are served, if they are.
+fn note_clients<R: Log, H>(run: &Run<'_, R, H>, me: NodeId, listeners: &Listeners) {
+    let Some(clients) = &listeners.clients else {
+        return;
+    };
+    if let Ok(address) = clients.local_addr() {
+        note(run, me, "takes asks alone", address);
+    }
 }
 
 // Notes the share of the node that was found, where it isn't 1, and how its folder and its peers agree.
@@ -312,8 +337,12 @@ where
         rt: run.rt,
         alloc: run.alloc,
         me,
+        dir: run.config.dir,
+        listen: run.config.listen,
+        listen_clients: run.config.listen_clients,
+        peers_file: run.config.peers_file,
         hooks: run.hooks,
-        peers: &run.config.peers,
+        remote_operators: run.config.remote_operators,
         shared: run.shared,
         admission,
         lock: &lock,

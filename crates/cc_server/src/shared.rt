@@ -4,7 +4,8 @@ use crate::known::Known;
 use crate::notes::{Note, NoteChannel, note_channel};
 use crate::run_fault::RunFault;
 use cc_channels::{
-    Connections, FarEnd, Flag, OwnChannel, PeerChannel, Waker, channels_to, own_channel,
+    Connections, FarEnd, Flag, OwnChannel, PeerChannel, PeerChannels, Waker, channels_to,
+    own_channel,
 };
 use cc_frames::Peer;
 use cc_messages::Event;
@@ -23,7 +24,7 @@ pub struct Shared {
     /// The node, once its folder was read.
     pub me: OnceLock<NodeId>,
     pub connections: Connections,
-    pub channels: Vec<PeerChannel>,
+    pub channels: PeerChannels,
     pub own: OwnChannel,
     pub waker: Waker,
     /// The nodes that were heard of.
@@ -110,7 +111,7 @@ impl Shared {
 
     /// The channel to a peer.
     pub fn channel_to(&self, peer: NodeId) -> Option<&PeerChannel> {
-        self.channels.iter().find(|channel| channel.peer == peer)
+        self.channels.to(peer)
     }
 
     /// Has the flusher tell a peer again what was heard from it.

@@ -168,7 +168,7 @@ fn peer_note<R: Wait>(rt: &R, shared: &Shared, link: &LinkRow) -> PeerNote {
     let since = channel.and_then(PeerChannel::absent_since);
     PeerNote {
         peer: link.peer,
-        address: channel.map(|channel| channel.address),
+        address: channel.map(|channel| channel.address(rt)),
         connected_since: channel.and_then(PeerChannel::connected_since),
         absent_since: if is_absent {
             Some(since.unwrap_or(0))

@@ -2,9 +2,10 @@
 
 ghost use Rattle.std.specs.Thread.{IsSend};
 
-use crate::attending::attend;
+use crate::attending::{Port, attend};
 use crate::context::Context;
 use crate::flushing::{Watch, flush_all};
+use crate::following::follow_peers;
 use crate::machine::Machine;
 use crate::notes::{Note, write_notes};
 use crate::of_life::OfLife;
@@ -31,10 +32,11 @@ const TICK_MS: u64 = 1000;
 // How long the acceptor pauses after a connection that can't be accepted, in milliseconds.
 const PAUSE_MS: u64 = 50;
 
-/// Where a node listens: for nodes and clients, and for those who look at it, if they may.
+/// Where a node listens: for all, for clients alone, and for those who look at it, if they may.
 #[derive(Drop)]
 pub struct Listeners {
     pub node: TcpListener,
+    pub clients: Option<TcpListener>,
     pub pages: Option<TcpListener>,
 }
 
@@ -101,8 +103,7 @@ where
             if let Some(pages) = &listeners.pages {
                 let _ = scope.spawn(move || show_until(context, pages));
             }
-            let Ok(server) = scope.spawn(move || serve_until(context, ends, &listeners.node, stop))
-            else {
+            let Ok(server) = scope.spawn(move || serve_until(context, ends, listeners, stop)) else {
                 shared.done.set();
                 return None;
             };
@@ -134,19 +135,19 @@ fn flush_until<S: Site, L: Life, Q: Lane, R: Wait + Clock>(
 fn serve_until<L: Life + Send + Sync, Q: Lane + Send + Sync, R, H: Hooks + Sync>(
     context: &Context<'_, R, H, L, Q>,
     ends: FarEnds,
-    listener: &TcpListener,
+    listeners: &Listeners,
     stop: &Stop,
 ) -> bool
 where
     R: Machine,
 {
-    let is_served = serve_all(context, ends, listener, stop);
+    let is_served = serve_all(context, ends, listeners, stop);
     context.shared.done.set();
     context.shared.waker.wake();
     is_served
 }
 
-// Ticks until all is done. Once it is to end, each tick wakes the acceptor too.
+// Ticks until all is done. Once it is to end, each tick wakes the acceptors too.
 fn tick_until<R: Wait + Clock + Net<Stream = TcpStream>>(
     rt: &R,
     shared: &Shared,
@@ -164,6 +165,9 @@ fn tick_until<R: Wait + Clock + Net<Stream = TcpStream>>(
         }
         if stop.is_set() || shared.ended.is_set() {
             knock(rt, &listeners.node);
+            if let Some(clients) = &listeners.clients {
+                knock(rt, clients);
+            }
         }
     }
     unreachable!()
@@ -198,12 +202,13 @@ where
     );
 }
 
-// Starts the writers and the worker of the own messages, accepts connections until a flag is set, and then ends the writers
-// to peers first and the workers next. False, and nothing is accepted, where a thread of these can't be made.
+// Starts the writers, the worker of the own messages and the acceptor for clients, accepts connections until a flag is set,
+// and then ends the writers to peers first and the workers next. False, and nothing is accepted, where a thread of these can't
+// be made.
 fn serve_all<L: Life + Send + Sync, Q: Lane + Send + Sync, R, H: Hooks + Sync>(
     context: &Context<'_, R, H, L, Q>,
     ends: FarEnds,
-    listener: &TcpListener,
+    listeners: &Listeners,
     stop: &Stop,
 ) -> bool
 where
@@ -235,9 +240,10 @@ where
                     Err(_) => is_whole = false,
                 }
             }
-            is_whole &= start_inner(scope, context, own, notes);
+            is_whole &= start_inner(scope, context, own, notes, over);
+            is_whole = start_clients(scope, context, listeners, stop, is_whole);
             if is_whole {
-                accept_all(scope, context, listener, stop);
+                accept_all(scope, context, &listeners.node, Port::Nodes, stop);
             }
             over.set();
             for writer in writers {
@@ -251,27 +257,78 @@ where
     )
 }
 
-// Starts the worker of the own messages and the writer of notes. Whether both threads could be made.
+// Starts the worker of the own messages, the writer of notes, and what follows the file of the peers until the flag is set.
+// Whether all threads could be made.
 fn start_inner<'s, 'e: 's, L: Life + Send + Sync, Q: Lane + Send + Sync, R, H: Hooks + Sync>(
     scope: &'s Scope<'s, &'e ()>,
     context: &'e Context<'e, R, H, L, Q>,
     own: Receiver<Option<Event>>,
     notes: Receiver<Option<Note>>,
+    over: &'e Flag,
 ) -> bool
 where
     R: Machine,
 {
     let rt = context.rt;
     let me = context.me;
+    let dir = context.dir;
     let is_served = scope.spawn(move || serve_own(context, own)).is_ok();
-    let is_noted = scope.spawn(move || write_notes(rt, me, &notes)).is_ok();
-    is_served && is_noted
+    let is_noted = scope
+        .spawn(move || write_notes(rt, me, dir, &notes))
+        .is_ok();
+    let is_followed = scope.spawn(move || follow_peers(context, over)).is_ok();
+    is_served && is_noted && is_followed
+}
+
+// Starts what accepts connections to the port for clients, if there is one and all others were started: only a flag ends it.
+// Whether all threads could be made.
+fn start_clients<'s, 'e: 's, L: Life + Send + Sync, Q: Lane + Send + Sync, R, H: Hooks + Sync>(
+    scope: &'s Scope<'s, &'e ()>,
+    context: &'e Context<'e, R, H, L, Q>,
+    listeners: &'e Listeners,
+    stop: &'e Stop,
+    is_whole: bool,
+) -> bool
+where
+    R: Machine,
+{
+    if !is_whole {
+        return false;
+    }
+    let Some(clients) = &listeners.clients else {
+        return true;
+    };
+    scope
+        .spawn(move || serve_clients(context, clients, stop))
+        .is_ok()
+}
+
+// Accepts connections to the port for clients until a flag is set, and waits for their workers.
+fn serve_clients<L: Life + Send + Sync, Q: Lane + Send + Sync, R, H: Hooks + Sync>(
+    context: &Context<'_, R, H, L, Q>,
+    listener: &TcpListener,
+    stop: &Stop,
+)
+where
+    R: Machine,
+{
+    let rt = context.rt;
+    thread::scope(
+        thread::scope_env(),
+        rt,
+        |scope| -> ()
+            requires { IsSend L.row × IsSend Q.row }
+        {
+            accept_all(scope, context, listener, Port::Clients, stop);
+        },
+    );
 }
 
 fn accept_all<'s, 'e: 's, L: Life + Send + Sync, Q: Lane + Send + Sync, R, H: Hooks + Sync>(
     scope: &'s Scope<'s, &'e ()>,
     context: &'e Context<'e, R, H, L, Q>,
     listener: &TcpListener,
+    port: Port,
     stop: &Stop,
 )
 where
@@ -284,7 +341,7 @@ where
         }
         match accepted {
             Ok((stream, from)) => {
-                let _ = scope.spawn(move || attend(context, stream, from));
+                let _ = scope.spawn(move || attend(context, stream, from, port));
             }
             Err(_) => thread::sleep(context.rt, Duration::from_millis(PAUSE_MS)),
         }

@@ -3,8 +3,8 @@
 use crate::network::end;
 use crate::print_word_fault;
 use cc_load::load_nodes;
-use cc_orders::{LoadOrder, LoadWords};
-use std::net::{Net, TcpStream};
+use cc_orders::{LoadOrder, LoadWords, Operation};
+use std::net::{Net, TcpListener, TcpStream};
 use std::process::ExitCode;
 use std::sync::Wait;
 use std::thread::Threads;
@@ -13,19 +13,33 @@ use std::time::Clock;
 /// Has many clients ask nodes: the status of that. That a store replaces what its node stored is told first, on standard error.
 pub fn load<R>(rt: &R, words: &LoadWords<'_>) -> anyhow::Result<ExitCode>
 where
-    R: Net<Stream = TcpStream> + Threads + Wait + Clock + AllocGlobal + Print + Eprint + Sync,
+    R: Net<Listener = TcpListener, Stream = TcpStream>
+        + Threads
+        + Wait
+        + Clock
+        + AllocGlobal
+        + Print
+        + Eprint
+        + Sync,
 {
     match LoadOrder::parse(rt.alloc(), words) {
-        Ok(order) => load_as(rt, words.collects, &order),
+        Ok(order) => load_as(rt, &order),
         Err(fault) => print_word_fault(rt, fault),
     }
 }
 
-fn load_as<R>(rt: &R, collects: bool, order: &LoadOrder) -> anyhow::Result<ExitCode>
+fn load_as<R>(rt: &R, order: &LoadOrder) -> anyhow::Result<ExitCode>
 where
-    R: Net<Stream = TcpStream> + Threads + Wait + Clock + AllocGlobal + Print + Eprint + Sync,
+    R: Net<Listener = TcpListener, Stream = TcpStream>
+        + Threads
+        + Wait
+        + Clock
+        + AllocGlobal
+        + Print
+        + Eprint
+        + Sync,
 {
-    if !collects {
+    if order.operation == Operation::Store {
         eprintln!(rt;
             "ccnode: each store replaces the text of its node: not for a cluster in use"
         )?;

@@ -1,6 +1,7 @@
 //! The runtime of a node, whose log is of a level of its own.
 
 use cc_orders::LogLevel;
+use cc_server::ReadText;
 use log::kv::Source;
 use log::sink::Console;
 use log::span::Spans;
@@ -61,6 +62,12 @@ impl<R: AllocGlobal> Alloc for NotingRuntime<'_, R> {
 
     fn alloc(&self) -> Global {
         self.rt.alloc()
+    }
+}
+
+impl<R: ReadText> ReadText for NotingRuntime<'_, R> {
+    fn read_text(&self, alloc: Global, path: &str) -> io::Result<String> {
+        self.rt.read_text(alloc, path)
     }
 }
 

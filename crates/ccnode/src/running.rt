@@ -7,7 +7,7 @@ use cc_channels::Stop;
 use cc_commands::node_in_folder;
 use cc_intake::NoHooks;
 use cc_orders::{RunOrder, RunWords, WordFault};
-use cc_server::{Config, RunFault, run_node};
+use cc_server::{Config, ReadText, RunFault, run_node};
 use cc_views::NodeId;
 use log::Log;
 use std::fs;
@@ -32,6 +32,7 @@ where
         + Threads
         + Wait
         + Clock
+        + ReadText
         + Log
         + Sync,
 {
@@ -62,6 +63,7 @@ where
         + Threads
         + Wait
         + Clock
+        + ReadText
         + Log
         + Sync,
 {
@@ -70,7 +72,7 @@ where
         None => None,
     };
     match RunOrder::parse(rt.alloc(), words, lines) {
-        Ok(order) => run_as(rt, machine, folder, order, file.is_some()),
+        Ok(order) => run_as(rt, machine, folder, order, words.peers_file),
         Err(fault) => print_order_fault(rt, fault, file),
     }
 }
@@ -90,13 +92,14 @@ fn print_order_fault<R: Eprint>(
     }
 }
 
-// Runs the node. Its own line is passed over where the peers are from a file, which serves all nodes.
+// Runs the node, with its peers from that file, if there is one: its own line is passed over there, so that one file serves
+// all nodes.
 fn run_as<R, N>(
     rt: &R,
     machine: &N,
     folder: &str,
     order: RunOrder,
-    is_from_file: bool,
+    peers_file: Option<&str>,
 ) -> anyhow::Result<ExitCode>
 where
     R: Files<File = File> + AllocGlobal + Print + Eprint,
@@ -105,15 +108,16 @@ where
         + Threads
         + Wait
         + Clock
+        + ReadText
         + Log
         + Sync,
 {
     print_lost(rt, folder)?;
-    let own = match is_from_file {
-        true => node_in_folder(rt, rt.alloc(), folder),
-        false => None,
+    let own = match peers_file {
+        Some(_) => node_in_folder(rt, rt.alloc(), folder),
+        None => None,
     };
-    let config = config_of(folder, order, own);
+    let config = config_of(folder, order, own, peers_file);
     match run_node(machine, rt.alloc(), &config, &Stop::new(), &NoHooks) {
         Ok(_) => Ok(ExitCode::SUCCESS),
         Err(fault) => print_run_fault(rt, folder, fault),
@@ -121,13 +125,20 @@ where
 }
 
 // What a node is run with: what an order has of it, without that node among its peers.
-fn config_of<'a>(folder: &'a str, order: RunOrder, own: Option<NodeId>) -> Config<'a> {
+fn config_of<'a>(
+    folder: &'a str,
+    order: RunOrder,
+    own: Option<NodeId>,
+    peers_file: Option<&'a str>,
+) -> Config<'a> {
     let mut order = order;
     if let Some(node) = own {
         order.pass_over(node);
     }
     let RunOrder {
         listen,
+        listen_clients,
+        remote_operators,
         peers,
         status,
         log: _,
@@ -135,7 +146,10 @@ fn config_of<'a>(folder: &'a str, order: RunOrder, own: Option<NodeId>) -> Confi
     Config {
         dir: folder,
         listen,
+        listen_clients,
+        remote_operators,
         peers,
+        peers_file,
         status,
         version: VERSION,
     }

@@ -2,9 +2,12 @@
 
 ghost use Rattle.std.specs.Prelude.{◌≤◌, IfOk};
 
-use cc_files::{FileSite, NoOutlet, SiteFault, read_whole, write_whole};
+use cc_files::{FileSite, NoOutlet, Outlet, SiteFault, read_whole, write_whole};
+use cc_messages::{Answer, Message};
 use cc_site::{Call, DeviceFault, Side, Site};
+use cc_views::NodeId;
 use std::cell::Cell;
+use std::io::ErrorKind;
 use std::os::unix::fs::FileExt;
 use std::test::*;
 use std::{fs, io};
@@ -53,11 +56,11 @@ impl FileExt for Scant {
 #[test]
 fn what_a_call_leaves_is_asked_for_next(rt: HostRuntime) -> Result<(), Fail> {
     let file = Scant::new(3, 9);
-    assert!(rt; write_whole(&file, 0, b"abcdefgh"));
+    assert!(rt; write_whole(&file, 0, b"abcdefgh").is_ok());
     assert!(rt; file.calls.get() == 3);
     let mut into = [0; 8];
     let file = Scant::new(3, 9);
-    assert!(rt; read_whole(&file, 0, &mut into));
+    assert!(rt; read_whole(&file, 0, &mut into).is_ok());
     assert!(rt; file.calls.get() == 3);
     assert!(rt; into == [7; 8]);
     Ok(())
@@ -68,10 +71,10 @@ fn nothing_is_tried_twice(rt: HostRuntime) -> Result<(), Fail> {
     let mut into = [0; 8];
     for fails_at in 0..3 {
         let file = Scant::new(3, fails_at);
-        assert!(rt; !write_whole(&file, 0, b"abcdefgh"));
+        assert!(rt; write_whole(&file, 0, b"abcdefgh").is_err());
         assert!(rt; file.calls.get() == fails_at + 1);
         let file = Scant::new(3, fails_at);
-        assert!(rt; !read_whole(&file, 0, &mut into));
+        assert!(rt; read_whole(&file, 0, &mut into).is_err());
         assert!(rt; file.calls.get() == fails_at + 1);
     }
     Ok(())
@@ -81,10 +84,45 @@ fn nothing_is_tried_twice(rt: HostRuntime) -> Result<(), Fail> {
 fn a_call_that_moves_nothing_ends_it(rt: HostRuntime) -> Result<(), Fail> {
     let mut into = [0; 8];
     let file = Scant::new(0, 9);
-    assert!(rt; !read_whole(&file, 0, &mut into));
-    assert!(rt; !write_whole(&file, 0, b"abcdefgh"));
+    let read = read_whole(&file, 0, &mut into);
+    let written = write_whole(&file, 0, b"abcdefgh");
+    assert!(rt; kind_of(read) == Some(ErrorKind::UnexpectedEof));
+    assert!(rt; kind_of(written) == Some(ErrorKind::WriteZero));
     assert!(rt; file.calls.get() == 2);
     Ok(())
+}
+
+// Keeps the last failure that it is told of.
+#[derive(Drop)]
+struct Told<'a>(&'a Cell<Option<(Side, ErrorKind)>>);
+
+impl Outlet for Told<'_> {
+    fn send(&mut self, _to: NodeId, _number: u64, _message: &Message) {}
+
+    fn ack(&mut self, _to: NodeId, _number: u64) {}
+
+    fn reply(&mut self, _session: u64, _request: u64, _answer: &Answer) {}
+
+    fn fail(&mut self, side: Side, why: io::Error) {
+        self.0.set(Some((side, why.kind())));
+    }
+}
+
+#[test]
+fn an_outlet_is_told_why_a_call_failed(rt: HostRuntime) -> Result<(), Fail> {
+    made(&rt, "told-folder")?;
+    let told = Cell::new(None);
+    let mut site = FileSite::open(&rt, rt.alloc(), "told-folder", Told(&told))?;
+    let mut into = [0; 8];
+    let outcome = site.read(Side::B, 0, &mut into);
+    drop(site);
+    assert!(rt; outcome.is_err());
+    assert!(rt; told.get() == Some((Side::B, ErrorKind::UnexpectedEof)));
+    Ok(())
+}
+
+fn kind_of(outcome: io::Result<()>) -> Option<ErrorKind> {
+    outcome.err().map(|error| error.kind())
 }
 
 // Why the folder can't be opened, if it can't.

@@ -1,64 +1,53 @@
 //! Readers and writers that fail.
 
-use crate::played::{STORE, STORED};
-use cc_play::{PlayFault, play};
+use crate::played::play_between;
+use crate::streams::{Script, Written};
+use cc_play::PlayFault;
 use std::alloc::Global;
-use std::io;
-use std::io::{Read, Write};
 use std::test::*;
 
-/// Gives so many bytes of a script, and then an error.
-#[derive(Drop)]
-struct Broken<'a> {
-    script: &'a [u8],
-}
+// A member by itself stores.
+const STORE: &str = "\
+member 1 of 1
+ask 1 7 1 store a
+carry 1 1 1
+carry 1 1 2
+";
 
-impl Read for Broken<'_> {
-    fn read(&mut self, buf: &mut [u8]) -> io::Result<usize> {
-        if self.script.is_empty() {
-            return Err(io::Error::from(io::ErrorKind::BrokenPipe));
-        }
-        let mut rest = self.script;
-        let count = rest.read(buf)?;
-        self.script = rest;
-        Ok(count)
-    }
-}
-
-/// Takes so many writes, and then gives an error.
-#[derive(Drop)]
-pub struct Full {
-    pub writes: u32,
-}
-
-impl Write for Full {
-    fn write(&mut self, bytes: &[u8]) -> io::Result<usize> {
-        if self.writes == 0 {
-            return Err(io::Error::from(io::ErrorKind::StorageFull));
-        }
-        self.writes -= 1;
-        Ok(bytes.len())
-    }
-
-    fn flush(&mut self) -> io::Result<()> {
-        Ok(())
-    }
-}
+// What it prints.
+const STORED: &str = "\
+1 accepted
+1 send 1 1 Store [1:1=a/0/0/] 1 1
+1 accepted
+1 ack 1 1
+1 send 1 2 StoreAck 1 1
+1 accepted
+1 ack 1 2
+1 reply 7 1 Stored
+";
 
 // Whether the reader's fault ends the script STORE, once all that it does is printed.
 fn ends_by_reader(alloc: Global) -> bool {
-    let mut output = Vec::new(alloc);
-    let mut broken = Broken {
-        script: STORE.as_bytes(),
+    let mut script = Script {
+        bytes: STORE.as_bytes(),
+        breaks: true,
     };
-    let ended = matches!(play(alloc, &mut broken, &mut output), Err(PlayFault::Read));
-    ended && output.as_slice() == STORED.as_bytes()
+    let mut output = Written::new(alloc);
+    let outcome = play_between(alloc, &mut script, &mut output);
+    matches!(outcome, Err(PlayFault::Read)) && output.bytes.as_slice() == STORED.as_bytes()
 }
 
 // Whether the writer's fault ends it.
 fn ends_by_writer(alloc: Global) -> bool {
-    let mut input = STORE.as_bytes();
-    let outcome = play(alloc, &mut input, &mut Full { writes: 1 });
+    let mut script = Script {
+        bytes: STORE.as_bytes(),
+        breaks: false,
+    };
+    let mut output = Written {
+        bytes: Vec::new(alloc),
+        writes: 1,
+    };
+    let outcome = play_between(alloc, &mut script, &mut output);
     matches!(outcome, Err(PlayFault::Write))
 }
 

@@ -1,58 +1,14 @@
 //! Folders that are formatted, and what stands in them.
 
+use crate::folder_calls::{ENTRANT, dumped, formatted, hold, made, put_behind};
 use crate::words::with;
-use cc_commands::{DumpScope, FormatOrder, dump_folder, format_folder};
-use cc_files::{FileSite, NoOutlet};
+use cc_commands::DumpScope;
 use cc_orders::{FormatWords, WordFault};
 use std::fs;
 use std::fs::{File, Files, Permissions};
 use std::os::unix::fs::PermissionsExt;
 use std::process::Abort;
 use std::test::*;
-
-// A new folder of that name.
-fn made<R: AllocGlobal + Files>(rt: &R, folder: &str) -> Result<(), Fail> {
-    let _ = fs::remove_dir_all(rt, folder);
-    fs::create_dir(rt, folder)?;
-    Ok(())
-}
-
-// Entrant 4, whose one contact is node 1.
-const ENTRANT: FormatWords<'_> = FormatWords {
-    id: "4",
-    initial: None,
-    contacts: Some("1"),
-    beta: None,
-    gamma: None,
-    share: None,
-};
-
-// Formats a folder for a node: the status, and what is printed.
-fn formatted<R: AllocGlobal + Files<File = File>>(
-    rt: &R,
-    folder: &str,
-    words: &FormatWords<'_>,
-) -> Result<(u8, String), Fail> {
-    let order = FormatOrder::parse(rt.alloc(), words)?;
-    told_of_format(rt, folder, &order)
-}
-
-fn told_of_format<R: AllocGlobal + Files<File = File>>(
-    rt: &R,
-    folder: &str,
-    order: &FormatOrder,
-) -> Result<(u8, String), Fail> {
-    let mut output = Vec::new(rt.alloc());
-    let status = format_folder(rt, rt.alloc(), folder, order, &mut output)?;
-    Ok((status, String::from_utf8(output)?))
-}
-
-// Tells what stands in a folder: the status, and what is printed.
-fn dumped<R: AllocGlobal + Files<File = File>>(rt: &R, folder: &str) -> Result<(u8, String), Fail> {
-    let mut output = Vec::new(rt.alloc());
-    let status = dump_folder(rt, rt.alloc(), folder, DumpScope::Sides, &mut output)?;
-    Ok((status, String::from_utf8(output)?))
-}
 
 fn check_format<R: Abort + AllocGlobal + Files<File = File>>(
     rt: &R,
@@ -75,34 +31,11 @@ fn check_dump<R: Abort + AllocGlobal + Files<File = File>>(
     status: u8,
     wanted: &str,
 ) -> Result<(), Fail> {
-    let (ended, output) = dumped(rt, folder)?;
+    let (ended, output) = dumped(rt, folder, DumpScope::Sides)?;
     assert!(rt;
         ended == status && output.as_str() == wanted,
         "{ended} {output}"
     );
-    Ok(())
-}
-
-// Puts these bytes behind the state of entrant 4, which ends a side.
-fn put_behind<R: Abort + AllocGlobal + Files>(
-    rt: &R,
-    path: &str,
-    bytes: &[u8],
-) -> Result<(), Fail> {
-    let mut side = fs::read(rt, path)?;
-    assert!(rt; side.len() == 154);
-    side.truncate(153);
-    push_and_write(rt, path, &mut side, bytes)
-}
-
-fn push_and_write<R: AllocGlobal + Files>(
-    rt: &R,
-    path: &str,
-    side: &mut Vec<u8>,
-    bytes: &[u8],
-) -> Result<(), Fail> {
-    side.extend_from_slice(bytes)?;
-    fs::write(rt, path, &*side)?;
     Ok(())
 }
 
@@ -186,7 +119,7 @@ fn check_held<R: Abort + AllocGlobal + Files<File = File>>(
     rt: &R,
     folder: &str,
 ) -> Result<(), Fail> {
-    let holder = FileSite::open(rt, rt.alloc(), folder, NoOutlet)?;
+    let holder = hold(rt, folder)?;
     let outcome = check_closed(rt, folder);
     drop(holder);
     outcome

@@ -1,79 +1,29 @@
-//! A script that is played, and one that many tests begin with.
+//! Scripts that are played, and lines on a cluster.
 
-use cc_play::{Cluster, Played, parse, play};
+use crate::streams::{Script, Written};
+use cc_play::{Cluster, PlayFault, Played, parse, play};
 use std::alloc::Global;
-use std::process::Abort;
 use std::test::*;
 
-/// A member by itself stores.
-pub const STORE: &str = "\
-member 1 of 1
-ask 1 7 1 store a
-carry 1 1 1
-carry 1 1 2
-";
-
-/// What it prints.
-pub const STORED: &str = "\
-1 accepted
-1 send 1 1 Store [1:1=a/0/0/] 1 1
-1 accepted
-1 ack 1 1
-1 send 1 2 StoreAck 1 1
-1 accepted
-1 ack 1 2
-1 reply 7 1 Stored
-";
+/// Plays what one stream gives, and prints into the other: the status that it ends with.
+pub fn play_between(
+    alloc: Global,
+    script: &mut Script<'_>,
+    output: &mut Written,
+) -> Result<u8, PlayFault> {
+    play(alloc, script, output)
+}
 
 /// Plays a script: the status that it ends with, and what it prints.
 pub fn played(alloc: Global, script: &str) -> Result<(u8, String), Fail> {
-    played_bytes(alloc, script.as_bytes())
-}
-
-/// The same of a script that may be no text.
-pub fn played_bytes(alloc: Global, script: &[u8]) -> Result<(u8, String), Fail> {
-    let mut input = script;
-    let mut output = Vec::new(alloc);
-    let status = play(alloc, &mut input, &mut output)?;
-    Ok((status, String::from_utf8(output)?))
-}
-
-/// Plays a script, which has to end with that status and to print that text.
-pub fn check<R: Abort + AllocGlobal>(
-    rt: &R,
-    script: &str,
-    status: u8,
-    wanted: &str,
-) -> Result<(), Fail> {
-    let (ended, output) = played(rt.alloc(), script)?;
-    assert!(rt;
-        ended == status && output.as_str() == wanted,
-        "{script}{output}"
-    );
-    Ok(())
-}
-
-/// Plays a script, which has to end with that status, and with that text in the end of what it prints. How many lines that has.
-pub fn check_end<R: Abort + AllocGlobal>(
-    rt: &R,
-    script: &str,
-    status: u8,
-    wanted: &str,
-) -> Result<usize, Fail> {
-    let (ended, output) = played(rt.alloc(), script)?;
-    assert!(rt; ended == status && output.ends_with(wanted), "{wanted}");
-    Ok(output.lines().count())
-}
-
-/// Plays the script STORE and these lines, which have to print that text.
-pub fn check_after_store<R: Abort + AllocGlobal>(
-    rt: &R,
-    lines: &str,
-    wanted: &str,
-) -> Result<(), Fail> {
-    let script = format!(in rt.alloc(); "{STORE}{lines}\n")?;
-    let wanted = format!(in rt.alloc(); "{STORED}{wanted}")?;
-    check(rt, &script, 0, &wanted)
+    let mut script = Script {
+        bytes: script.as_bytes(),
+        breaks: false,
+    };
+    let mut output = Written::new(alloc);
+    let status = play_between(alloc, &mut script, &mut output)?;
+    let Written { bytes, .. } = output;
+    Ok((status, String::from_utf8(bytes)?))
 }
 
 /// Plays lines on a cluster, each of which has to be good, and adds what they print.

@@ -1,6 +1,6 @@
 //! What is printed of a site in memory, also where its disk calls or the output fail.
 
-use crate::faults::Full;
+use crate::streams::Written;
 use cc_commands::{DumpScope, FormatOrder, dump_site, format_site};
 use cc_flush::{Back, Flusher, format};
 use cc_orders::FormatWords;
@@ -19,9 +19,13 @@ const MEMBER: FormatWords<'_> = FormatWords {
     share: None,
 };
 
+fn order(alloc: Global) -> Result<FormatOrder, Fail> {
+    Ok(FormatOrder::parse(alloc, &MEMBER)?)
+}
+
 // A site that keeps it.
 fn member(alloc: Global) -> Result<MemorySite, Fail> {
-    let order = FormatOrder::parse(alloc, &MEMBER)?;
+    let order = order(alloc)?;
     keep(alloc, &order)
 }
 
@@ -43,10 +47,11 @@ fn failing(alloc: Global, at: u64) -> Result<MemorySite, Fail> {
 }
 
 // Tells what stands on a site: the status, and what is printed.
-fn dumped(alloc: Global, site: MemorySite) -> Result<(u8, String), Fail> {
-    let mut output = Vec::new(alloc);
+fn dumped(alloc: Global, site: MemorySite, output: Written) -> Result<(u8, String), Fail> {
+    let mut output = output;
     let status = dump_site(alloc, site, DumpScope::Sides, &mut output)?;
-    Ok((status, String::from_utf8(output)?))
+    let Written { bytes, .. } = output;
+    Ok((status, String::from_utf8(bytes)?))
 }
 
 fn check_dump<R: Abort + AllocGlobal>(
@@ -55,7 +60,7 @@ fn check_dump<R: Abort + AllocGlobal>(
     status: u8,
     wanted: &str,
 ) -> Result<(), Fail> {
-    let (ended, output) = dumped(rt.alloc(), site)?;
+    let (ended, output) = dumped(rt.alloc(), site, Written::new(rt.alloc()))?;
     assert!(rt;
         ended == status && output.as_str() == wanted,
         "{ended} {output}"
@@ -125,23 +130,32 @@ fn a_site_is_dumped_behind_a_checkpoint(rt: HostRuntime) -> Result<(), Fail> {
     check_dump(&rt, moved(rt.alloc())?, 0, wanted)
 }
 
-// Formats a site whose first disk call fails: the status, and what is printed.
-fn formatted_failing(alloc: Global) -> Result<(u8, String), Fail> {
-    let order = FormatOrder::parse(alloc, &MEMBER)?;
-    let mut output = Vec::new(alloc);
-    let status = format_failing(alloc, &order, &mut output)?;
-    Ok((status, String::from_utf8(output)?))
+// Formats a site: the status, and what is printed.
+fn formatted(
+    alloc: Global,
+    site: MemorySite,
+    order: &FormatOrder,
+    output: Written,
+) -> Result<(u8, String), Fail> {
+    let mut output = output;
+    let status = format_site(alloc, site, order, &mut output)?;
+    let Written { bytes, .. } = output;
+    Ok((status, String::from_utf8(bytes)?))
 }
 
-fn format_failing(alloc: Global, order: &FormatOrder, output: &mut Vec<u8>) -> Result<u8, Fail> {
+// The same of a site whose first disk call fails.
+fn formatted_failing(alloc: Global, order: &FormatOrder) -> Result<(u8, String), Fail> {
     let mut site = MemorySite::new(alloc, 0)?;
     site.fuse(0, Failing::Once);
-    Ok(format_site(alloc, site, order, output)?)
+    formatted(alloc, site, order, Written::new(alloc))
 }
 
 #[test]
 fn a_fault_of_formatting_is_printed(rt: HostRuntime) -> Result<(), Fail> {
-    let (status, output) = formatted_failing(rt.alloc())?;
+    let order = order(rt.alloc())?;
+    let told = formatted_failing(rt.alloc(), &order);
+    drop(order);
+    let (status, output) = told?;
     assert!(rt;
         status == 1 && output.as_str() == "Device A Length\n",
         "{status} {output}"
@@ -149,21 +163,29 @@ fn a_fault_of_formatting_is_printed(rt: HostRuntime) -> Result<(), Fail> {
     Ok(())
 }
 
+// An output that takes nothing.
+fn full(alloc: Global) -> Written {
+    Written {
+        bytes: Vec::new(alloc),
+        writes: 0,
+    }
+}
+
 // Whether an output that fails ends the formatting of a site.
 fn ends_formatting(alloc: Global, order: &FormatOrder) -> Result<bool, Fail> {
     let site = MemorySite::new(alloc, 0)?;
-    Ok(format_site(alloc, site, order, &mut Full { writes: 0 }).is_err())
+    Ok(format_site(alloc, site, order, &mut full(alloc)).is_err())
 }
 
 // Whether it ends what is told of a site.
 fn ends_dump(alloc: Global) -> Result<bool, Fail> {
     let site = member(alloc)?;
-    Ok(dump_site(alloc, site, DumpScope::Sides, &mut Full { writes: 0 }).is_err())
+    Ok(dump_site(alloc, site, DumpScope::Sides, &mut full(alloc)).is_err())
 }
 
 #[test]
 fn an_output_that_fails_ends_a_command(rt: HostRuntime) -> Result<(), Fail> {
-    let order = FormatOrder::parse(rt.alloc(), &MEMBER)?;
+    let order = order(rt.alloc())?;
     let is_formatting_ended = ends_formatting(rt.alloc(), &order)?;
     drop(order);
     assert!(rt; is_formatting_ended);

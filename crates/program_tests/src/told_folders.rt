@@ -1,22 +1,13 @@
 //! What is told of a folder beside what is printed: of its node, why it can't be opened, and of files that were lost.
 
-use cc_commands::{
-    DumpScope, FormatOrder, Lost, Trouble, Wrong, dump_folder, format_folder, node_in_folder,
-};
-use cc_files::{FileSite, NoOutlet};
+use crate::folder_calls::{ENTRANT, dumped, formatted, hold, made, put_behind};
+use cc_commands::{DumpScope, Lost, Trouble, Wrong, node_in_folder};
 use cc_orders::FormatWords;
 use cc_views::NodeId;
 use std::fs;
 use std::fs::{File, Files};
 use std::process::Abort;
 use std::test::*;
-
-// A new folder of that name.
-fn made<R: AllocGlobal + Files>(rt: &R, folder: &str) -> Result<(), Fail> {
-    let _ = fs::remove_dir_all(rt, folder);
-    fs::create_dir(rt, folder)?;
-    Ok(())
-}
 
 const MEMBER: FormatWords<'_> = FormatWords {
     id: "1",
@@ -27,15 +18,6 @@ const MEMBER: FormatWords<'_> = FormatWords {
     share: Some("32"),
 };
 
-const ENTRANT: FormatWords<'_> = FormatWords {
-    id: "4",
-    initial: None,
-    contacts: Some("1"),
-    beta: None,
-    gamma: None,
-    share: None,
-};
-
 // A new folder that keeps the node of these words.
 fn format<R: AllocGlobal + Files<File = File>>(
     rt: &R,
@@ -43,17 +25,8 @@ fn format<R: AllocGlobal + Files<File = File>>(
     words: &FormatWords<'_>,
 ) -> Result<(), Fail> {
     made(rt, folder)?;
-    let order = FormatOrder::parse(rt.alloc(), words)?;
-    let mut output = Vec::new(rt.alloc());
-    format_folder(rt, rt.alloc(), folder, &order, &mut output)?;
+    formatted(rt, folder, words)?;
     Ok(())
-}
-
-// What is told of a folder and of its node.
-fn told<R: AllocGlobal + Files<File = File>>(rt: &R, folder: &str) -> Result<String, Fail> {
-    let mut output = Vec::new(rt.alloc());
-    dump_folder(rt, rt.alloc(), folder, DumpScope::Node, &mut output)?;
-    Ok(String::from_utf8(output)?)
 }
 
 const MEMBER_LINES: &str =
@@ -71,7 +44,7 @@ fn check_told<R: Abort + AllocGlobal + Files<File = File>>(
     folder: &str,
     wanted: &str,
 ) -> Result<(), Fail> {
-    let told = told(rt, folder)?;
+    let (_, told) = dumped(rt, folder, DumpScope::Node)?;
     assert!(rt; told.as_str() == wanted, "{told}");
     Ok(())
 }
@@ -88,20 +61,14 @@ fn a_folder_tells_of_its_node(rt: HostRuntime) -> Result<(), Fail> {
     Ok(())
 }
 
-// Behind the state, which is followed by one byte, stands the record of one Enter.
-fn enter<R: AllocGlobal + Files>(rt: &R, path: &str) -> Result<(), Fail> {
-    let mut side = fs::read(rt, path)?;
-    side.pop();
-    side.extend_from_slice(&[0xA5, 0, 0, 0, 6, 1, 0, 0, 0, 1, 1, 0])?;
-    fs::write(rt, path, &*side)?;
-    Ok(())
-}
+// The record of one Enter.
+const ENTER_RECORD: [u8; 12] = [0xA5, 0, 0, 0, 6, 1, 0, 0, 0, 1, 1, 0];
 
 #[test]
 fn an_entrant_waits_for_echoes(rt: HostRuntime) -> Result<(), Fail> {
     const FOLDER: &str = "told_entrant";
     format(&rt, FOLDER, &ENTRANT)?;
-    enter(&rt, "told_entrant/side-a")?;
+    put_behind(&rt, "told_entrant/side-a", &ENTER_RECORD)?;
     check_told(&rt, FOLDER, ENTERED_LINES)?;
     fs::remove_dir_all(&rt, FOLDER)?;
     Ok(())
@@ -127,7 +94,7 @@ fn check_held<R: Abort + AllocGlobal + Files<File = File>>(
     folder: &str,
     lock: &str,
 ) -> Result<(), Fail> {
-    let holder = FileSite::open(rt, rt.alloc(), folder, NoOutlet)?;
+    let holder = hold(rt, folder)?;
     let checked = check_trouble(rt, folder, lock, Wrong::Held);
     drop(holder);
     checked

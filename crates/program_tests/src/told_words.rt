@@ -1,96 +1,15 @@
 //! What is told of words that are no command, and of beginnings that no node has.
 
-use crate::words::are_no_command;
+use crate::words::{are_no_command, with};
 use cc_commands::{BadOpening, FormatOrder};
-use cc_orders::{AnswerForm, AskWords, CommandFault, FormatWords};
+use cc_orders::{AnswerForm, AskWords, CommandFault, FormatWords, WordFault};
 use std::alloc::Global;
+use std::process::Abort;
 use std::test::*;
 
 const LONGER_TEXT: &str = "0123456789abcdef0123456789abcdef0123456789abcdef0123456789abcdef.";
 
-// The words of a command, its value and its text, and what is told of them.
-type Told = (
-    &'static str,
-    Option<&'static str>,
-    Option<&'static str>,
-    &'static str,
-);
-
-const TOLD: [Told; 17] = [
-    ("store", None, None, "store takes a value"),
-    (
-        "store",
-        Some(LONGER_TEXT),
-        None,
-        "store takes 1 to 64 bytes; this has 65",
-    ),
-    (
-        "store",
-        None,
-        Some(LONGER_TEXT),
-        "store takes 1 to 64 bytes; this has 65",
-    ),
-    (
-        "store",
-        None,
-        Some(""),
-        "store takes 1 to 64 bytes; this has 0",
-    ),
-    (
-        "store",
-        Some("two words"),
-        None,
-        "store takes a word of visible ASCII characters; others go behind --text",
-    ),
-    (
-        "store",
-        Some("a"),
-        Some("b"),
-        "store takes a word or --text, not both",
-    ),
-    ("max", None, None, "max takes a value"),
-    (
-        "max",
-        Some("-1"),
-        None,
-        "max takes a number from 0 to 18446744073709551615",
-    ),
-    (
-        "add",
-        Some("4294967296"),
-        None,
-        "add takes a number from 0 to 4294967295",
-    ),
-    ("add", None, Some("5"), "add takes no --text, as store does"),
-    ("collect", Some("a"), None, "collect takes no value"),
-    ("readmax", Some("9"), None, "readmax takes no value"),
-    (
-        "stor",
-        Some("a"),
-        None,
-        "stor is no command; did you mean store?",
-    ),
-    (
-        "red-max",
-        None,
-        None,
-        "red-max is no command; did you mean readmax?",
-    ),
-    (
-        "sett",
-        None,
-        None,
-        "sett is no command: store WORD, collect, max N, readmax, flag, readflag, add N, readset",
-    ),
-    ("Flag", None, None, "Flag is no command; did you mean flag?"),
-    (
-        "",
-        None,
-        None,
-        " is no command: store WORD, collect, max N, readmax, flag, readflag, add N, readset",
-    ),
-];
-
+// The words of a command with its value or its text.
 fn words_of(
     command: &'static str,
     value: Option<&'static str>,
@@ -116,15 +35,83 @@ fn is_told(alloc: Global, words: &AskWords<'_>, wanted: &str) -> Result<bool, Fa
     Ok(are_no_command(words) && told.as_str() == wanted)
 }
 
+fn check_told<R: Abort + AllocGlobal>(
+    rt: &R,
+    words: &AskWords<'_>,
+    wanted: &str,
+) -> Result<(), Fail> {
+    assert!(rt; is_told(rt.alloc(), words, wanted)?, "{wanted}");
+    Ok(())
+}
+
+fn check_value<R: Abort + AllocGlobal>(
+    rt: &R,
+    command: &'static str,
+    value: &'static str,
+    wanted: &str,
+) -> Result<(), Fail> {
+    check_told(rt, &words_of(command, Some(value), None), wanted)
+}
+
+fn check_text<R: Abort + AllocGlobal>(
+    rt: &R,
+    command: &'static str,
+    text: &'static str,
+    wanted: &str,
+) -> Result<(), Fail> {
+    check_told(rt, &words_of(command, None, Some(text)), wanted)
+}
+
+fn check_alone<R: Abort + AllocGlobal>(
+    rt: &R,
+    command: &'static str,
+    wanted: &str,
+) -> Result<(), Fail> {
+    check_told(rt, &words_of(command, None, None), wanted)
+}
+
+#[test]
+fn a_bad_text_is_told_as_what_it_is(rt: HostRuntime) -> Result<(), Fail> {
+    let longer = "store takes 1 to 64 bytes; this has 65";
+    let empty = "store takes 1 to 64 bytes; this has 0";
+    let unseen = "store takes a word of visible ASCII characters; others go behind --text";
+    let both = "store takes a word or --text, not both";
+    check_alone(&rt, "store", "store takes a value")?;
+    check_value(&rt, "store", LONGER_TEXT, longer)?;
+    check_text(&rt, "store", LONGER_TEXT, longer)?;
+    check_text(&rt, "store", "", empty)?;
+    check_value(&rt, "store", "two words", unseen)?;
+    check_told(&rt, &words_of("store", Some("a"), Some("b")), both)
+}
+
+#[test]
+fn a_bad_value_is_told_as_what_it_is(rt: HostRuntime) -> Result<(), Fail> {
+    let u64s = "max takes a number from 0 to 18446744073709551615";
+    let u32s = "add takes a number from 0 to 4294967295";
+    let no_text = "add takes no --text, as store does";
+    check_alone(&rt, "max", "max takes a value")?;
+    check_value(&rt, "max", "-1", u64s)?;
+    check_value(&rt, "add", "4294967296", u32s)?;
+    check_text(&rt, "add", "5", no_text)?;
+    check_value(&rt, "collect", "a", "collect takes no value")?;
+    check_value(&rt, "readmax", "9", "readmax takes no value")
+}
+
 #[test]
 fn a_bad_command_is_told_as_what_it_is(rt: HostRuntime) -> Result<(), Fail> {
-    for &(command, value, text, wanted) in &TOLD {
-        assert!(rt;
-            is_told(rt.alloc(), &words_of(command, value, text), wanted)?,
-            "{wanted}"
-        );
-    }
-    Ok(())
+    let sett =
+        "sett is no command: store WORD, collect, max N, readmax, flag, readflag, add N, readset";
+    let empty =
+        " is no command: store WORD, collect, max N, readmax, flag, readflag, add N, readset";
+    check_value(&rt, "stor", "a", "stor is no command; did you mean store?")?;
+    check_alone(
+        &rt,
+        "red-max",
+        "red-max is no command; did you mean readmax?",
+    )?;
+    check_alone(&rt, "sett", sett)?;
+    check_alone(&rt, "Flag", "Flag is no command; did you mean flag?")?;
+    check_alone(&rt, "", empty)
 }
 
 const MEMBER: FormatWords<'_> = FormatWords {
@@ -136,64 +123,6 @@ const MEMBER: FormatWords<'_> = FormatWords {
     share: None,
 };
 
-// Beginnings, and the first rule that each of them breaks.
-const BEGINNINGS: [(FormatWords<'_>, Option<BadOpening>); 9] = [
-    (MEMBER, None),
-    (
-        FormatWords {
-            beta: Some("5/4"),
-            ..MEMBER
-        },
-        Some(BadOpening::Beta),
-    ),
-    (
-        FormatWords {
-            gamma: Some("0/4"),
-            ..MEMBER
-        },
-        Some(BadOpening::Gamma),
-    ),
-    (
-        FormatWords {
-            initial: Some("1,3,2"),
-            ..MEMBER
-        },
-        Some(BadOpening::Initial),
-    ),
-    (
-        FormatWords {
-            contacts: Some("4,4"),
-            ..MEMBER
-        },
-        Some(BadOpening::Contacts),
-    ),
-    (
-        FormatWords { id: "4", ..MEMBER },
-        Some(BadOpening::NoMember),
-    ),
-    (
-        FormatWords {
-            contacts: Some("1"),
-            ..MEMBER
-        },
-        Some(BadOpening::OwnContact),
-    ),
-    (
-        FormatWords {
-            contacts: Some("0"),
-            ..MEMBER
-        },
-        Some(BadOpening::Zero),
-    ),
-    (
-        FormatWords {
-            share: Some("33"),
-            ..MEMBER
-        },
-        Some(BadOpening::Share),
-    ),
-];
-
 fn rule_of(alloc: Global, words: &FormatWords<'_>) -> Result<Option<BadOpening>, Fail> {
     let order = FormatOrder::parse(alloc, words)?;
     let rule = BadOpening::of(&order.opening());
@@ -201,10 +130,27 @@ fn rule_of(alloc: Global, words: &FormatWords<'_>) -> Result<Option<BadOpening>,
     Ok(rule)
 }
 
+// A beginning with that text in the place of one word breaks that rule first.
+fn check_rule<R: Abort + AllocGlobal>(
+    rt: &R,
+    place: WordFault,
+    text: &str,
+    rule: BadOpening,
+) -> Result<(), Fail> {
+    let told = rule_of(rt.alloc(), &with(&MEMBER, place, text))?;
+    assert!(rt; told == Some(rule), "{text}");
+    Ok(())
+}
+
 #[test]
 fn a_bad_beginning_is_told_by_its_rule(rt: HostRuntime) -> Result<(), Fail> {
-    for &(words, wanted) in &BEGINNINGS {
-        assert!(rt; rule_of(rt.alloc(), &words)? == wanted);
-    }
-    Ok(())
+    assert!(rt; rule_of(rt.alloc(), &MEMBER)?.is_none());
+    check_rule(&rt, WordFault::Beta, "5/4", BadOpening::Beta)?;
+    check_rule(&rt, WordFault::Gamma, "0/4", BadOpening::Gamma)?;
+    check_rule(&rt, WordFault::Initial, "1,3,2", BadOpening::Initial)?;
+    check_rule(&rt, WordFault::Contacts, "4,4", BadOpening::Contacts)?;
+    check_rule(&rt, WordFault::Id, "4", BadOpening::NoMember)?;
+    check_rule(&rt, WordFault::Contacts, "1", BadOpening::OwnContact)?;
+    check_rule(&rt, WordFault::Contacts, "0", BadOpening::Zero)?;
+    check_rule(&rt, WordFault::Share, "33", BadOpening::Share)
 }

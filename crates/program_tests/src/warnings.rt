@@ -3,32 +3,10 @@
 use cc_commands::{FormatOrder, Warning};
 use cc_orders::FormatWords;
 use std::alloc::Global;
+use std::process::Abort;
 use std::test::*;
 
-// The members at the start, the contacts and β of a node, and what is told of it.
-type Case = (
-    Option<&'static str>,
-    Option<&'static str>,
-    Option<&'static str>,
-    [Option<Warning>; 3],
-);
-
 const NOTHING: [Option<Warning>; 3] = [None, None, None];
-
-const CASES: [Case; 7] = [
-    (Some("1,2,3"), None, None, [None, Some(Warning::All), None]),
-    (Some("1,2,3"), None, Some("2/3"), NOTHING),
-    (Some("1,2,3,4,5"), None, None, NOTHING),
-    (
-        Some("1,2,3"),
-        None,
-        Some("1/2"),
-        [Some(Warning::Half), None, None],
-    ),
-    (Some("1"), None, None, NOTHING),
-    (None, Some("1"), None, NOTHING),
-    (None, None, None, [None, None, Some(Warning::Alone)]),
-];
 
 fn warned(
     alloc: Global,
@@ -50,11 +28,28 @@ fn warned(
     Ok(warnings)
 }
 
+// Of the members at the start, the contacts and β of a node just this is told.
+fn check_warned<R: Abort + AllocGlobal>(
+    rt: &R,
+    initial: Option<&'static str>,
+    contacts: Option<&'static str>,
+    beta: Option<&'static str>,
+    wanted: [Option<Warning>; 3],
+) -> Result<(), Fail> {
+    assert!(rt; warned(rt.alloc(), initial, contacts, beta)? == wanted);
+    Ok(())
+}
+
 #[test]
 fn an_operator_is_warned(rt: HostRuntime) -> Result<(), Fail> {
-    for &(initial, contacts, beta, wanted) in &CASES {
-        let warnings = warned(rt.alloc(), initial, contacts, beta)?;
-        assert!(rt; warnings == wanted);
-    }
-    Ok(())
+    let all = [None, Some(Warning::All), None];
+    let half = [Some(Warning::Half), None, None];
+    let alone = [None, None, Some(Warning::Alone)];
+    check_warned(&rt, Some("1,2,3"), None, None, all)?;
+    check_warned(&rt, Some("1,2,3"), None, Some("2/3"), NOTHING)?;
+    check_warned(&rt, Some("1,2,3,4,5"), None, None, NOTHING)?;
+    check_warned(&rt, Some("1,2,3"), None, Some("1/2"), half)?;
+    check_warned(&rt, Some("1"), None, None, NOTHING)?;
+    check_warned(&rt, None, Some("1"), None, NOTHING)?;
+    check_warned(&rt, None, None, None, alone)
 }

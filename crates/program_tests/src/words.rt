@@ -11,86 +11,78 @@ use cc_views::NodeId;
 use cc_words::{Peer, fraction, list, number, small_number};
 use std::alloc::Global;
 use std::net::{Ipv4Addr, SocketAddr, SocketAddrV4};
+use std::process::Abort;
 use std::test::*;
 
-// Words, and the number that each of them is.
-const NUMBERS: [(&str, Option<u64>); 13] = [
-    ("0", Some(0)),
-    ("18446744073709551615", Some(u64::MAX)),
-    ("18446744073709551616", None),
-    ("", None),
-    ("01", None),
-    ("00", None),
-    ("+1", None),
-    ("-1", None),
-    ("1x", None),
-    (" 1", None),
-    ("1 ", None),
-    ("0x1", None),
-    ("1.0", None),
+// Words that are no number.
+const NO_NUMBERS: [&str; 11] = [
+    "18446744073709551616",
+    "",
+    "01",
+    "00",
+    "+1",
+    "-1",
+    "1x",
+    " 1",
+    "1 ",
+    "0x1",
+    "1.0",
 ];
 
 #[test]
 fn numbers_are_plain_digits(rt: HostRuntime) {
-    for &(word, wanted) in &NUMBERS {
-        assert!(rt; number(word) == wanted, "{word}");
+    for &word in &NO_NUMBERS {
+        assert!(rt; number(word).is_none(), "{word}");
     }
-    assert!(rt; small_number("4294967295") == Some(u32::MAX));
-    assert!(rt; small_number("4294967296").is_none());
+    let ends = (number("0"), number("18446744073709551615"));
+    assert!(rt; ends == (Some(0), Some(u64::MAX)));
+    let ends = (small_number("4294967295"), small_number("4294967296"));
+    assert!(rt; ends == (Some(u32::MAX), None));
 }
 
-// Words, and the list that each of them is.
-const LISTS: [(&str, Option<&[u32]>); 11] = [
-    ("3,1,4294967295,1", Some(&[3, 1, u32::MAX, 1])),
-    ("0", Some(&[0])),
-    ("", None),
-    (",", None),
-    ("1,", None),
-    (",1", None),
-    ("1,,2", None),
-    ("1, 2", None),
-    ("1;2", None),
-    ("1,02", None),
-    ("4294967296", None),
+// Words that are no list.
+const NO_LISTS: [&str; 9] = [
+    "",
+    ",",
+    "1,",
+    ",1",
+    "1,,2",
+    "1, 2",
+    "1;2",
+    "1,02",
+    "4294967296",
 ];
 
-fn is_list(alloc: Global, word: &str, wanted: Option<&[u32]>) -> Result<bool, Fail> {
-    Ok(match (list(alloc, word)?, wanted) {
-        (Some(ids), Some(wanted)) => ids.as_slice() == wanted,
-        (None, None) => true,
-        _ => false,
+// Whether a word is that list. None is empty, which stands for no list.
+fn is_list(alloc: Global, word: &str, wanted: &[u32]) -> Result<bool, Fail> {
+    Ok(match list(alloc, word)? {
+        Some(ids) => ids.as_slice() == wanted && !wanted.is_empty(),
+        None => wanted.is_empty(),
     })
 }
 
 #[test]
 fn lists_are_numbers_and_commas(rt: HostRuntime) -> Result<(), Fail> {
-    for &(word, wanted) in &LISTS {
-        assert!(rt; is_list(rt.alloc(), word, wanted)?, "{word}");
+    for &word in &NO_LISTS {
+        assert!(rt; is_list(rt.alloc(), word, &[])?, "{word}");
     }
+    assert!(rt; is_list(rt.alloc(), "3,1,4294967295,1", &[3, 1, u32::MAX, 1])?);
+    assert!(rt; is_list(rt.alloc(), "0", &[0])?);
     Ok(())
 }
 
-// Words, and the fraction that each of them is.
-const FRACTIONS: [(&str, Option<Fraction>); 12] = [
-    ("4/5", Some(Fraction { num: 4, den: 5 })),
-    ("5/0", Some(Fraction { num: 5, den: 0 })),
-    ("", None),
-    ("4", None),
-    ("/", None),
-    ("4/", None),
-    ("/5", None),
-    ("4/5/6", None),
-    ("04/5", None),
-    ("4/05", None),
-    ("4 /5", None),
-    ("4:5", None),
+// Words that are no fraction.
+const NO_FRACTIONS: [&str; 10] = [
+    "", "4", "/", "4/", "/5", "4/5/6", "04/5", "4/05", "4 /5", "4:5",
 ];
 
 #[test]
 fn fractions_are_numbers_and_a_slash(rt: HostRuntime) {
-    for &(word, wanted) in &FRACTIONS {
-        assert!(rt; fraction(word) == wanted, "{word}");
+    for &word in &NO_FRACTIONS {
+        assert!(rt; fraction(word).is_none(), "{word}");
     }
+    assert!(rt; fraction("4/5") == Some(Fraction { num: 4, den: 5 }));
+    assert!(rt; fraction("5/0") == Some(Fraction { num: 5, den: 0 }));
 }
 
 fn local(port: u16) -> SocketAddr {
@@ -99,6 +91,8 @@ fn local(port: u16) -> SocketAddr {
 
 const ALONE: RunWords<'_> = RunWords {
     listen: "127.0.0.1:7001",
+    listen_clients: None,
+    operators: None,
     peers: None,
     peers_file: None,
     status: None,
@@ -184,8 +178,32 @@ fn run_notes_by_levels(rt: HostRuntime) {
     assert!(rt; told == Ok((Some(local(8001)), LogLevel::Info)));
 }
 
+// Where clients alone are served, and whether the operator of another machine is heard.
+type Guard = (Option<SocketAddr>, bool);
+
+fn guard(alloc: Global, words: &RunWords<'_>) -> Result<Guard, WordFault> {
+    let order = RunOrder::parse(alloc, words, None)?;
+    Ok((order.listen_clients, order.remote_operators))
+}
+
+#[test]
+fn run_takes_all_from_all_by_itself(rt: HostRuntime) {
+    assert!(rt; guard(rt.alloc(), &ALONE) == Ok((None, true)));
+    let open = RunWords {
+        operators: Some("on"),
+        ..ALONE
+    };
+    assert!(rt; guard(rt.alloc(), &open) == Ok((None, true)));
+    let guarded = RunWords {
+        listen_clients: Some("127.0.0.1:7501"),
+        operators: Some("off"),
+        ..ALONE
+    };
+    assert!(rt; guard(rt.alloc(), &guarded) == Ok((Some(local(7501)), false)));
+}
+
 // What a node can't run by, the lines of its file, and why.
-const NO_RUNS: [(RunWords<'_>, Option<&str>, WordFault); 8] = [
+const NO_RUNS: [(RunWords<'_>, Option<&str>, WordFault); 10] = [
     (
         RunWords {
             listen: "7001",
@@ -193,6 +211,22 @@ const NO_RUNS: [(RunWords<'_>, Option<&str>, WordFault); 8] = [
         },
         None,
         WordFault::Listen,
+    ),
+    (
+        RunWords {
+            listen_clients: Some("7501"),
+            ..ALONE
+        },
+        None,
+        WordFault::ListenClients,
+    ),
+    (
+        RunWords {
+            operators: Some("On"),
+            ..ALONE
+        },
+        None,
+        WordFault::Operators,
     ),
     (
         RunWords {
@@ -300,56 +334,29 @@ pub fn are_no_command(words: &AskWords<'_>) -> bool {
     AskOrder::parse(words) == Err(WordFault::Command)
 }
 
-const NO_ASKS: [(AskWords<'_>, WordFault); 6] = [
-    (
-        AskWords {
-            address: "7001",
-            ..COLLECT
-        },
-        WordFault::Address,
-    ),
-    (
-        AskWords {
-            session: "07",
-            ..COLLECT
-        },
-        WordFault::Session,
-    ),
-    (
-        AskWords {
-            command: "collects",
-            ..COLLECT
-        },
-        WordFault::Command,
-    ),
-    (
-        AskWords {
-            request: Some("0"),
-            ..COLLECT
-        },
-        WordFault::Request,
-    ),
-    (
-        AskWords {
-            request: Some("012"),
-            ..COLLECT
-        },
-        WordFault::Request,
-    ),
-    (
-        AskWords {
-            timeout: Some("1.5"),
-            ..COLLECT
-        },
-        WordFault::Timeout,
-    ),
-];
+fn check_no_ask<R: Abort>(rt: &R, words: &AskWords<'_>, fault: WordFault) {
+    assert!(rt; AskOrder::parse(words) == Err(fault), "{fault}");
+}
 
 #[test]
 fn each_word_of_ask_is_checked(rt: HostRuntime) {
-    for (words, fault) in &NO_ASKS {
-        assert!(rt; AskOrder::parse(words) == Err(*fault), "{fault}");
-    }
+    let mut words = COLLECT;
+    words.address = "7001";
+    check_no_ask(&rt, &words, WordFault::Address);
+    words = COLLECT;
+    words.session = "07";
+    check_no_ask(&rt, &words, WordFault::Session);
+    words = COLLECT;
+    words.command = "collects";
+    check_no_ask(&rt, &words, WordFault::Command);
+    words = COLLECT;
+    words.request = Some("0");
+    check_no_ask(&rt, &words, WordFault::Request);
+    words.request = Some("012");
+    check_no_ask(&rt, &words, WordFault::Request);
+    words = COLLECT;
+    words.timeout = Some("1.5");
+    check_no_ask(&rt, &words, WordFault::Timeout);
 }
 
 #[test]

@@ -1,6 +1,7 @@
 //! Connections, and where answers go.
 
-use cc_protocol::{Admitted, Origin, Routes};
+use crate::access::{ALL, REQUESTS};
+use cc_protocol::{Access, Admitted, Origin, Routes};
 use std::process::Abort;
 use std::test::*;
 
@@ -17,7 +18,7 @@ fn connections(routes: &Routes) -> [Option<u64>; 3] {
 fn whole(ticket: u64) -> Option<Admitted> {
     Some(Admitted {
         ticket,
-        is_spare: false,
+        access: ALL,
     })
 }
 
@@ -25,13 +26,16 @@ fn whole(ticket: u64) -> Option<Admitted> {
 fn spare(ticket: u64) -> Option<Admitted> {
     Some(Admitted {
         ticket,
-        is_spare: true,
+        access: REQUESTS,
     })
 }
 
 // Connections 1 and 2 enter, and session 7 asks over the first and then over the second.
 fn check_asks<R: Abort>(rt: &R, routes: &mut Routes) {
-    let entered = [routes.enter(Origin::Stranger), routes.enter(Origin::Peer)];
+    let entered = [
+        routes.enter(Origin::Stranger, ALL),
+        routes.enter(Origin::Peer, ALL),
+    ];
     let places = [
         routes.route(7, 1, 1),
         routes.route(8, 1, 1),
@@ -56,7 +60,7 @@ fn check_leaves<R: Abort>(rt: &R, routes: &mut Routes) {
     let left = connections(routes);
     let places = [routes.route(7, 1, 2), routes.route(7, 1, 3)];
     assert_eq!(rt; (left, places), ([Some(1), Some(1), None], [None; 2]));
-    assert_eq!(rt; routes.enter(Origin::Stranger), whole(3));
+    assert_eq!(rt; routes.enter(Origin::Stranger, ALL), whole(3));
 }
 
 #[test]
@@ -81,8 +85,8 @@ fn sevens(routes: &Routes) -> [Option<u64>; 3] {
 // the second, the answer to 5 goes to the first.
 fn check_judged<R: Abort>(rt: &R, routes: &mut Routes) {
     let entered = [
-        routes.enter(Origin::Loopback),
-        routes.enter(Origin::Loopback),
+        routes.enter(Origin::Loopback, ALL),
+        routes.enter(Origin::Loopback, ALL),
     ];
     let first = routes.route(7, 5, 1);
     routes.take(7, 1);
@@ -125,32 +129,44 @@ fn a_refused_ask_leaves_the_routes_as_they_were(rt: HostRuntime) -> Result<(), F
 // So many connections enter, and one more is one for the operator.
 fn check_full<R: Abort>(rt: &R, routes: &mut Routes, from: Origin, count: u64) {
     for _ in 0..count {
-        let entered = routes.enter(from);
-        assert!(rt; entered.is_some_and(|admitted| !admitted.is_spare));
+        let entered = routes.enter(from, ALL);
+        assert!(rt; entered.is_some_and(|admitted| admitted.access.asks));
+    }
+}
+
+// Who may not bring the operator's requests gets none of the connections that are kept for them.
+fn check_kept<R: Abort>(rt: &R, routes: &mut Routes) {
+    for (from, remote_operators) in [(Origin::Client, true), (Origin::Stranger, false)] {
+        let entered = routes.enter(from, Access::of(from, remote_operators));
+        assert!(rt; entered.is_none());
     }
 }
 
 fn check_connections<R: Abort>(rt: &R, routes: &mut Routes) {
     check_full(rt, routes, Origin::Stranger, 768);
-    assert_eq!(rt; routes.enter(Origin::Stranger), spare(769));
+    check_kept(rt, routes);
+    assert_eq!(rt; routes.enter(Origin::Stranger, ALL), spare(769));
     check_full(rt, routes, Origin::Peer, 248);
-    assert_eq!(rt; routes.enter(Origin::Peer), spare(1018));
+    assert_eq!(rt; routes.enter(Origin::Peer, ALL), spare(1018));
     check_full(rt, routes, Origin::Loopback, 8);
     for ticket in 1027..1033 {
-        assert_eq!(rt; routes.enter(Origin::Loopback), spare(ticket));
+        assert_eq!(rt; routes.enter(Origin::Loopback, ALL), spare(ticket));
     }
-    assert_eq!(rt; routes.enter(Origin::Loopback), None);
+    assert_eq!(rt; routes.enter(Origin::Loopback, ALL), None);
 }
 
 // One of the strangers leaves, and then one of those for the operator.
 fn check_left<R: Abort>(rt: &R, routes: &mut Routes) {
     routes.leave(5);
     let first = [
-        routes.enter(Origin::Stranger),
-        routes.enter(Origin::Loopback),
+        routes.enter(Origin::Stranger, ALL),
+        routes.enter(Origin::Loopback, ALL),
     ];
     routes.leave(769);
-    let second = [routes.enter(Origin::Peer), routes.enter(Origin::Peer)];
+    let second = [
+        routes.enter(Origin::Peer, ALL),
+        routes.enter(Origin::Peer, ALL),
+    ];
     assert_eq!(rt; (first, second), ([None, whole(1033)], [spare(1034), None]));
 }
 
@@ -165,7 +181,7 @@ fn parts_of_the_connections_are_kept(rt: HostRuntime) -> Result<(), Fail> {
 
 // A session more than there are routes has none, and one that is refused makes room.
 fn check_sessions<R: Abort>(rt: &R, routes: &mut Routes) -> Result<(), Fail> {
-    let one = routes.enter(Origin::Stranger).ok_or("there is room")?;
+    let one = routes.enter(Origin::Stranger, ALL).ok_or("there is room")?;
     for session in 0..1280u64 {
         let place = routes.route(session, 1, one.ticket);
         assert_eq!(rt; place, session.checked_add(1));

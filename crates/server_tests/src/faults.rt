@@ -5,7 +5,7 @@ use cc_channels::Stop;
 use cc_checkpoint::OpenFault;
 use cc_flush::Failed;
 use cc_intake::NoHooks;
-use cc_server::{Config, RunFault, run_node};
+use cc_server::{Config, ReadText, RunFault, run_node};
 use cc_site::{Call, DeviceFault, Side};
 use cc_views::NodeId;
 use cc_words::Peer;
@@ -69,13 +69,17 @@ where
         + Threads
         + Wait
         + Clock
+        + ReadText
         + Log
         + Sync,
 {
     let config = Config {
         dir,
         listen,
+        listen_clients: None,
+        remote_operators: true,
         peers,
+        peers_file: None,
         status: None,
         version: "",
     };

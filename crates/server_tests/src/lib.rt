@@ -10,6 +10,8 @@ mod clients;
 #[cfg(test)]
 mod faults;
 #[cfg(test)]
+mod following;
+#[cfg(test)]
 mod held;
 #[cfg(test)]
 mod holding;
@@ -21,6 +23,8 @@ mod loading;
 mod nodes;
 #[cfg(test)]
 mod pages;
+#[cfg(test)]
+mod ports;
 #[cfg(test)]
 mod retiring;
 #[cfg(test)]

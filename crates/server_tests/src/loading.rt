@@ -7,7 +7,7 @@ use cc_intake::NoHooks;
 use cc_load::load_nodes;
 use cc_orders::{AnswerForm, LoadOrder, LoadWords};
 use std::alloc::Global;
-use std::net::{Net, SocketAddr, TcpStream};
+use std::net::{Net, SocketAddr, TcpListener, TcpStream};
 use std::sync::Wait;
 use std::test::*;
 use std::thread;
@@ -28,7 +28,7 @@ fn check_load<R>(
     collects: bool,
 ) -> Result<(), Fail>
 where
-    R: Net<Stream = TcpStream> + Threads + Wait + Clock + Sync,
+    R: Net<Listener = TcpListener, Stream = TcpStream> + Threads + Wait + Clock + Sync,
 {
     let addresses = format!(in alloc; "{one},{two}")?;
     let words = LoadWords {
@@ -52,7 +52,7 @@ where
 // Two loads in the same sessions: the second one learns where the first one ended.
 fn load_twice<R>(rt: &R, alloc: Global, one: SocketAddr, two: SocketAddr) -> Result<(), Fail>
 where
-    R: Net<Stream = TcpStream> + Threads + Wait + Clock + Sync,
+    R: Net<Listener = TcpListener, Stream = TcpStream> + Threads + Wait + Clock + Sync,
 {
     check_load(rt, alloc, one, two, false)?;
     check_load(rt, alloc, one, two, true)

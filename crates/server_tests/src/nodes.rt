@@ -4,7 +4,7 @@ use cc_channels::Stop;
 use cc_commands::{FormatOrder, format_folder};
 use cc_intake::{Finished, Hooks};
 use cc_orders::FormatWords;
-use cc_server::{Config, RunFault, run_on};
+use cc_server::{Config, ReadText, RunFault, run_on};
 use cc_views::NodeId;
 use cc_words::Peer;
 use log::Log;
@@ -131,6 +131,7 @@ where
         + Threads
         + Wait
         + Clock
+        + ReadText
         + Log
         + Sync,
 {
@@ -153,6 +154,7 @@ where
         + Threads
         + Wait
         + Clock
+        + ReadText
         + Log
         + Sync,
 {
@@ -160,7 +162,10 @@ where
     let config = Config {
         dir: folder,
         listen,
+        listen_clients: None,
+        remote_operators: true,
         peers: peers_of(alloc, peers)?,
+        peers_file: None,
         status: None,
         version: "",
     };

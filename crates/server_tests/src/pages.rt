@@ -5,7 +5,7 @@ use cc_channels::Stop;
 use cc_client::ask_node;
 use cc_intake::{Finished, NoHooks};
 use cc_orders::AskOrder;
-use cc_server::{Config, RunFault, run_on};
+use cc_server::{Config, ReadText, RunFault, run_on};
 use cc_words::command;
 use log::Log;
 use serde_json::Value;
@@ -151,6 +151,7 @@ where
         + Threads
         + Wait
         + Clock
+        + ReadText
         + Log
         + Sync,
 {
@@ -158,7 +159,10 @@ where
     let config = Config {
         dir: folder,
         listen,
+        listen_clients: None,
+        remote_operators: true,
         peers: Vec::new(alloc),
+        peers_file: None,
         status: Some(place),
         version: "1",
     };

@@ -7,7 +7,7 @@ loop-micros-preserved c =
     let greatest = c.loop-micros.greatest in
     let i = c.loop-micros.micros-index in
     let xs = c.args.all.now in
-    rw c.max.ensures (record {
+    rw c.max-greatest.ensures (record {
       all = all_within xs i greatest c.loop-micros-test.true before.all;
       few = few_within xs i greatest c.loop-micros-test.true before.few;
     })

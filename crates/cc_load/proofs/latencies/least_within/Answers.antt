@@ -1,7 +1,6 @@
 use Rattle.std.proofs.Common.{arith}
 use Rattle.cc_load.proofs.Counts.{short_below, enough}
 use Rattle.cc_load.proofs.latencies.least_within.Goals as goal
-use Rattle.cc_load.proofs.latencies.least_within.Goals.{then-is_within, else-is_within}
 
 pub loop-low-init : goal.loop-low-init
 loop-low-init c = record {
@@ -13,18 +12,18 @@ loop-low-init c = record {
 pub loop-low-preserved : goal.loop-low-preserved
 loop-low-preserved c =
     let before = c.loop-low.invariant in
-    elim c.if-is_within.branch [
-      | then-is_within w ↦ rw (w.high-is, w.low-is) (record {
-        between = omega arith;
-        within = c.is_within.ensures.within w.if-is_within.true;
-        short = before.short;
-      })
-      | else-is_within w ↦ rw (w.high-is, w.low-is) (record {
-        between = omega arith;
-        within = before.within;
-        short = λ fewer less. short_below c.args.percent c.args.all.now _ fewer (c.is_within.ensures.short w.if-is_within.false) (omega (arith, less));
-      })
-    ]
+    record {
+      between = omega (arith, c.loop-low-test.true);
+      within = before.within;
+      short = λ fewer less. short_below c.args.percent c.args.all.now _ fewer (c.is_within.ensures.short c.if-is_within.false) (omega (arith, less));
+    }
+
+pub loop-low-preserved-then-is_within : goal.loop-low-preserved-then-is_within
+loop-low-preserved-then-is_within c = record {
+  between = omega arith;
+  within = c.is_within.ensures.within c.if-is_within.true;
+  short = c.loop-low.invariant.short;
+}
 
 pub returns : goal.returns
 returns c =

@@ -1,0 +1,51 @@
+//! The channel on which what a node sends to itself waits for its worker.
+
+use crate::flags::Flag;
+use cc_messages::Event;
+use crossbeam_channel::{Receiver, Sender, bounded};
+use std::alloc::{AllocError, Global};
+use std::sync::Wait;
+
+// How many events wait for the worker of the node's own messages at most.
+const OWN_ROOM: usize = 4096;
+
+/// The channel to the node itself. None ends its worker.
+#[derive(Drop)]
+pub struct OwnChannel {
+    to: Sender<Option<Event>>,
+    is_muted: Flag,
+}
+
+impl OwnChannel {
+    /// Puts an event on the channel. What finds no room is lost: links resend.
+    pub fn put<R: Wait>(&self, rt: &R, event: Event) {
+        if !self.is_muted.is_set() {
+            let _ = self.to.try_send(rt, Some(event));
+        }
+    }
+
+    /// Ends the worker, once it has taken what waits.
+    pub fn end<R: Wait>(&self, rt: &R) {
+        let _ = self.to.send(rt, None);
+    }
+
+    pub fn mute(&self) {
+        self.is_muted.put(!self.to.is_empty());
+    }
+
+    pub fn unmute(&self) {
+        self.is_muted.put(false);
+    }
+}
+
+/// The channel of a node to itself, and what its worker takes.
+pub fn own_channel(alloc: Global) -> Result<(OwnChannel, Receiver<Option<Event>>), AllocError> {
+    let (to, from) = bounded(alloc, OWN_ROOM)?;
+    Ok((
+        OwnChannel {
+            to,
+            is_muted: Flag::new(),
+        },
+        from,
+    ))
+}

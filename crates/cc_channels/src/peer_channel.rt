@@ -1,0 +1,189 @@
+//! The channel on which what is for a peer waits for its writer.
+
+use crate::flags::Flag;
+use cc_frames::Peer;
+use cc_protocol::Parcel;
+use cc_views::NodeId;
+use crossbeam_channel::{Receiver, Sender, bounded};
+use std::alloc::{AllocError, Global};
+use std::net::SocketAddr;
+use std::sync::atomic::{AtomicU64, Ordering};
+use std::sync::{Arc, Mutex, Wait};
+
+// How many parcels wait for a peer's writer at most.
+const CHANNEL_ROOM: usize = 256;
+
+// After so many seconds in which a peer was late, it is connected to anew.
+const MOST_SILENCE: u64 = 5;
+
+/// The channel to a peer.
+#[derive(Drop)]
+pub struct PeerChannel {
+    pub peer: NodeId,
+    to: Sender<Parcel>,
+    // Nothing is put on it.
+    is_muted: Flag,
+    // What its writer is told, and what it tells.
+    way: Arc<Way>,
+    // For how many seconds the peer has been late.
+    silence: AtomicU64,
+    // When a frame of the peer came last, and since when it is taken for absent, in milliseconds since 1970. 0 for never.
+    last_heard: AtomicU64,
+    absent_since: AtomicU64,
+}
+
+/// How the connection to a peer stands, and where the peer listens.
+#[derive(Drop)]
+pub struct Way {
+    address: Mutex<SocketAddr>,
+    // The peer is to be connected to anew.
+    is_stale: Flag,
+    // Since when it is connected to, in milliseconds since 1970. 0 where it isn't.
+    connected_since: AtomicU64,
+}
+
+impl Way {
+    // To a peer that listens there, which isn't connected to yet.
+    fn new(address: SocketAddr) -> Self {
+        Way {
+            address: Mutex::new(address),
+            is_stale: Flag::new(),
+            connected_since: AtomicU64::new(0),
+        }
+    }
+
+    /// Where the peer listens.
+    pub fn address<R: Wait>(&self, rt: &R) -> SocketAddr {
+        let address = self.address.lock(rt);
+        *address
+    }
+
+    // The peer listens there from now on: it is connected to anew. Whether it listened elsewhere.
+    fn put_address<R: Wait>(&self, rt: &R, address: SocketAddr) -> bool {
+        let mut known = self.address.lock(rt);
+        let is_new = *known != address;
+        *known = address;
+        drop(known);
+        if is_new {
+            self.is_stale.set();
+        }
+        is_new
+    }
+
+    /// Whether the peer is to be connected to anew. It is told once.
+    pub fn take_stale(&self) -> bool {
+        self.is_stale.take()
+    }
+
+    /// The peer is connected to since then, in milliseconds since 1970; at 0 it isn't.
+    pub fn put_connected(&self, since: u64) {
+        self.connected_since.store(since, Ordering::SeqCst);
+    }
+}
+
+// A moment, which is none where it is 0.
+fn moment(millis: u64) -> Option<u64> {
+    if millis == 0 { None } else { Some(millis) }
+}
+
+impl PeerChannel {
+    /// Puts a parcel on the channel. What finds no room is lost: links resend.
+    pub fn put<R: Wait>(&self, rt: &R, parcel: Parcel) {
+        if !self.is_muted.is_set() {
+            let _ = self.to.try_send(rt, parcel);
+        }
+    }
+
+    /// Mutes the channel where something waits on it.
+    pub fn mute(&self) {
+        self.is_muted.put(!self.to.is_empty());
+    }
+
+    pub fn unmute(&self) {
+        self.is_muted.put(false);
+    }
+
+    /// A second has passed, at whose end the peer is late, or isn't: where it stays so, its connection may lead to a machine
+    /// that vanished.
+    pub fn note_progress(&self, is_late: bool) {
+        if !is_late {
+            self.silence.store(0, Ordering::SeqCst);
+            return;
+        }
+        let silence = self.silence.fetch_add(1, Ordering::SeqCst);
+        if silence.saturating_add(1) >= MOST_SILENCE {
+            self.silence.store(0, Ordering::SeqCst);
+            self.way.is_stale.set();
+        }
+    }
+
+    /// Where the peer listens.
+    pub fn address<R: Wait>(&self, rt: &R) -> SocketAddr {
+        self.way.address(rt)
+    }
+
+    /// The peer listens there from now on, and is connected to there. Whether it listened elsewhere.
+    pub fn put_address<R: Wait>(&self, rt: &R, address: SocketAddr) -> bool {
+        self.way.put_address(rt, address)
+    }
+
+    /// Since when the peer is connected to, in milliseconds since 1970.
+    pub fn connected_since(&self) -> Option<u64> {
+        moment(self.way.connected_since.load(Ordering::SeqCst))
+    }
+
+    /// A frame of the peer came at that moment, in milliseconds since 1970.
+    pub fn hear(&self, now: u64) {
+        self.last_heard.store(now, Ordering::SeqCst);
+    }
+
+    /// When a frame of the peer came last.
+    pub fn last_heard(&self) -> Option<u64> {
+        moment(self.last_heard.load(Ordering::SeqCst))
+    }
+
+    /// The peer is taken for absent since that moment, in milliseconds since 1970; at 0 it isn't.
+    pub fn put_absent(&self, since: u64) {
+        self.absent_since.store(since, Ordering::SeqCst);
+    }
+
+    /// Since when the peer is taken for absent.
+    pub fn absent_since(&self) -> Option<u64> {
+        moment(self.absent_since.load(Ordering::SeqCst))
+    }
+
+    /// Whether it takes nothing now.
+    pub fn is_muted(&self) -> bool {
+        self.is_muted.is_set()
+    }
+}
+
+/// The far end of a channel: a peer, and what its writer is to write, and where to.
+#[derive(Drop)]
+pub struct FarEnd {
+    pub peer: NodeId,
+    pub from: Receiver<Parcel>,
+    pub way: Arc<Way>,
+}
+
+/// The channel to a peer, and its far end.
+pub(crate) fn channel_to(alloc: Global, peer: &Peer) -> Result<(PeerChannel, FarEnd), AllocError> {
+    let way = Arc::new(alloc, Way::new(peer.address)).or(Err(AllocError))?;
+    let seen = Arc::try_clone(&way).or(Err(AllocError))?;
+    let (to, from) = bounded(alloc, CHANNEL_ROOM)?;
+    let channel = PeerChannel {
+        peer: peer.id,
+        to,
+        is_muted: Flag::new(),
+        way,
+        silence: AtomicU64::new(0),
+        last_heard: AtomicU64::new(0),
+        absent_since: AtomicU64::new(0),
+    };
+    let end = FarEnd {
+        peer: peer.id,
+        from,
+        way: seen,
+    };
+    Ok((channel, end))
+}

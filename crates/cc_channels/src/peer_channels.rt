@@ -1,0 +1,105 @@
+//! The channels to all peers, of which more come while others are in use.
+
+use crate::peer_channel::{FarEnd, PeerChannel, channel_to};
+use cc_frames::Peer;
+use cc_views::NodeId;
+use std::alloc::{AllocError, Global};
+use std::net::IpAddr;
+use std::sync::{OnceLock, Wait};
+
+// How many peers may be added to those of the start.
+const MORE_PEERS: usize = 256;
+
+/// The channels to peers. None ever goes.
+#[derive(Drop)]
+pub struct PeerChannels {
+    // Those that were added stand in front of the free ones.
+    slots: Vec<OnceLock<PeerChannel>>,
+}
+
+impl PeerChannels {
+    // No channel, and room for so many.
+    fn with_room(alloc: Global, room: usize) -> Result<Self, AllocError> {
+        let mut slots = Vec::with_capacity(alloc, room)?;
+        for _ in 0..room {
+            slots.push(OnceLock::new())?;
+        }
+        Ok(PeerChannels { slots })
+    }
+
+    /// Adds the channel to a peer, to which there is none yet: its far end, or None where there is no room. One thread at a
+    /// time may add.
+    pub fn add(&self, alloc: Global, peer: &Peer) -> Result<Option<FarEnd>, AllocError> {
+        let (channel, end) = channel_to(alloc, peer)?;
+        match self.slots.iter().find(|slot| slot.get().is_none()) {
+            Some(slot) => match slot.try_set(channel) {
+                Ok(_) => Ok(Some(end)),
+                Err(_) => Ok(None),
+            },
+            None => Ok(None),
+        }
+    }
+
+    /// The channel to a peer.
+    pub fn to(&self, peer: NodeId) -> Option<&PeerChannel> {
+        for slot in &self.slots {
+            let channel = slot.get()?;
+            if channel.peer == peer {
+                return Some(channel);
+            }
+        }
+        None
+    }
+
+    /// The channel that was added with that number, from 0 on.
+    pub fn get(&self, number: usize) -> Option<&PeerChannel> {
+        self.slots.get(number)?.get()
+    }
+
+    /// Whether a peer listens at an address of that host.
+    pub fn has_host<R: Wait>(&self, rt: &R, host: IpAddr) -> bool {
+        for slot in &self.slots {
+            let Some(channel) = slot.get() else {
+                return false;
+            };
+            if channel.address(rt).ip() == host {
+                return true;
+            }
+        }
+        false
+    }
+
+    /// Mutes each channel on which something waits.
+    pub fn mute(&self) {
+        for slot in &self.slots {
+            if let Some(channel) = slot.get() {
+                channel.mute();
+            }
+        }
+    }
+
+    /// Unmutes all channels.
+    pub fn unmute(&self) {
+        for slot in &self.slots {
+            if let Some(channel) = slot.get() {
+                channel.unmute();
+            }
+        }
+    }
+}
+
+/// The channels to these peers, and their far ends, with room for as many more as a cluster can have.
+pub fn channels_to(
+    alloc: Global,
+    peers: &[Peer],
+) -> Result<(PeerChannels, Vec<FarEnd>), AllocError> {
+    let room = peers.len().saturating_add(MORE_PEERS);
+    let channels = PeerChannels::with_room(alloc, room)?;
+    let mut ends = Vec::new(alloc);
+    for peer in peers {
+        if let Some(end) = channels.add(alloc, peer)? {
+            ends.push(end)?;
+        }
+    }
+    Ok((channels, ends))
+}

@@ -1,0 +1,85 @@
+//! Folders that are made anew, formatted and told of.
+
+use cc_commands::{DumpScope, FormatOrder, dump_folder, format_folder};
+use cc_files::{FileSite, NoOutlet};
+use cc_orders::FormatWords;
+use std::fs;
+use std::fs::{File, Files};
+use std::test::*;
+
+/// Entrant 4, whose one contact is node 1.
+pub const ENTRANT: FormatWords<'_> = FormatWords {
+    id: "4",
+    initial: None,
+    contacts: Some("1"),
+    beta: None,
+    gamma: None,
+    share: None,
+};
+
+/// A new folder of that name.
+pub fn made<R: AllocGlobal + Files>(rt: &R, folder: &str) -> Result<(), Fail> {
+    let _ = fs::remove_dir_all(rt, folder);
+    fs::create_dir(rt, folder)?;
+    Ok(())
+}
+
+/// Holds a folder, as a running node does.
+pub fn hold<R: AllocGlobal + Files<File = File>>(
+    rt: &R,
+    folder: &str,
+) -> Result<FileSite<NoOutlet>, Fail> {
+    Ok(FileSite::open(rt, rt.alloc(), folder, NoOutlet)?)
+}
+
+/// Formats a folder for a node: the status, and what is printed.
+pub fn formatted<R: AllocGlobal + Files<File = File>>(
+    rt: &R,
+    folder: &str,
+    words: &FormatWords<'_>,
+) -> Result<(u8, String), Fail> {
+    let order = FormatOrder::parse(rt.alloc(), words)?;
+    told_of_format(rt, folder, &order)
+}
+
+fn told_of_format<R: AllocGlobal + Files<File = File>>(
+    rt: &R,
+    folder: &str,
+    order: &FormatOrder,
+) -> Result<(u8, String), Fail> {
+    let mut output = Vec::new(rt.alloc());
+    let status = format_folder(rt, rt.alloc(), folder, order, &mut output)?;
+    Ok((status, String::from_utf8(output)?))
+}
+
+/// Tells what stands in a folder: the status, and what is printed.
+pub fn dumped<R: AllocGlobal + Files<File = File>>(
+    rt: &R,
+    folder: &str,
+    scope: DumpScope,
+) -> Result<(u8, String), Fail> {
+    let mut output = Vec::new(rt.alloc());
+    let status = dump_folder(rt, rt.alloc(), folder, scope, &mut output)?;
+    Ok((status, String::from_utf8(output)?))
+}
+
+/// Puts these bytes in the place of the one byte that ends the state of entrant 4, and with it its side A.
+pub fn put_behind<R: AllocGlobal + Files>(rt: &R, path: &str, bytes: &[u8]) -> Result<(), Fail> {
+    let mut side = fs::read(rt, path)?;
+    if side.len() != 154 {
+        return Err("the side has another length")?;
+    }
+    side.truncate(153);
+    push_and_write(rt, path, &mut side, bytes)
+}
+
+fn push_and_write<R: AllocGlobal + Files>(
+    rt: &R,
+    path: &str,
+    side: &mut Vec<u8>,
+    bytes: &[u8],
+) -> Result<(), Fail> {
+    side.extend_from_slice(bytes)?;
+    fs::write(rt, path, &*side)?;
+    Ok(())
+}

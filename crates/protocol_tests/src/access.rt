@@ -1,0 +1,94 @@
+//! What connections may bring.
+
+use cc_messages::{Command, Event, Message};
+use cc_protocol::{Access, Origin};
+use cc_views::NodeId;
+use std::test::*;
+
+/// What may bring everything.
+pub const ALL: Access = Access {
+    asks: true,
+    nodes: true,
+    operators: true,
+};
+
+const ASKS: Access = Access {
+    asks: true,
+    nodes: false,
+    operators: false,
+};
+
+const NO_REQUESTS: Access = Access {
+    asks: true,
+    nodes: true,
+    operators: false,
+};
+
+// Where a connection comes from, whether the operator of another machine is heard, and what it may bring.
+const ROWS: [(Origin, bool, Access); 8] = [
+    (Origin::Loopback, true, ALL),
+    (Origin::Loopback, false, ALL),
+    (Origin::Peer, true, ALL),
+    (Origin::Peer, false, NO_REQUESTS),
+    (Origin::Stranger, true, ALL),
+    (Origin::Stranger, false, NO_REQUESTS),
+    (Origin::Client, true, ASKS),
+    (Origin::Client, false, ASKS),
+];
+
+#[test]
+fn a_port_for_clients_takes_asks_alone(rt: HostRuntime) {
+    for &(from, remote_operators, access) in &ROWS {
+        assert!(rt; Access::of(from, remote_operators) == access);
+    }
+}
+
+const NODES: Access = Access {
+    asks: false,
+    nodes: true,
+    operators: false,
+};
+
+/// What may bring the operator's requests alone.
+pub const REQUESTS: Access = Access {
+    asks: false,
+    nodes: false,
+    operators: true,
+};
+
+// Whether the event, which is let go, may come where clients, nodes and the operator alone are heard.
+fn heard(event: Event) -> [bool; 3] {
+    let heard = [
+        ASKS.allows(&event),
+        NODES.allows(&event),
+        REQUESTS.allows(&event),
+    ];
+    drop(event);
+    heard
+}
+
+#[test]
+fn a_frame_is_of_a_client_a_node_or_the_operator(rt: HostRuntime) -> Result<(), Fail> {
+    let node = NodeId::new(2).ok_or("ids begin at 1")?;
+    let asked = Event::Ask {
+        session: 7,
+        request: 1,
+        command: Command::SetFlag,
+    };
+    assert!(rt; heard(asked) == [true, false, false]);
+    let delivered = Event::Deliver {
+        from: node,
+        number: 1,
+        message: Message::Join { node },
+    };
+    assert!(rt; heard(delivered) == [false, true, false]);
+    let acked = Event::Acked {
+        peer: node,
+        number: 1,
+    };
+    assert!(rt; heard(acked) == [false, true, false]);
+    assert!(rt; heard(Event::Leave) == [false, false, true]);
+    assert!(rt; heard(Event::Retire { node }) == [false, false, true]);
+    assert!(rt; heard(Event::Snapshot) == [false, false, false]);
+    Ok(())
+}

@@ -1,0 +1,126 @@
+//! A port for clients alone, and a node that hears the operator on its own machine alone.
+
+use crate::clients::{FIRST_ASK, FIRST_REPLY, OTHER_ASK, OTHER_REPLY, exchange, is_closed_after};
+use crate::nodes::{check, check_end, end_at, format_member_of};
+use cc_channels::Stop;
+use cc_intake::{Finished, NoHooks};
+use cc_server::{Config, ReadText, RunFault, run_on};
+use log::Log;
+use std::alloc::Global;
+use std::fs::{File, Files};
+use std::net::{Net, SocketAddr, TcpListener, TcpStream};
+use std::sync::Wait;
+use std::test::*;
+use std::thread;
+use std::thread::Threads;
+use std::time::Clock;
+
+// Node 9, which nobody knows, says that it joined. A store would wait for it from then on.
+const JOIN_OF_9: [u8; 22] = [
+    0, 0, 0, 18, 1, 0, 0, 0, 9, 0, 0, 0, 0, 0, 0, 0, 1, 3, 0, 0, 0, 9,
+];
+
+// It acknowledges a post.
+const ACK_OF_9: [u8; 17] = [0, 0, 0, 13, 2, 0, 0, 0, 9, 0, 0, 0, 0, 0, 0, 0, 1];
+
+// Node 1, which is asked, is to be retired.
+const RETIRE_1: [u8; 9] = [0, 0, 0, 5, 7, 0, 0, 0, 1];
+
+const LEAVE: [u8; 5] = [0, 0, 0, 1, 6];
+
+const LEAVE_TWICE: [u8; 10] = [0, 0, 0, 1, 6, 0, 0, 0, 1, 6];
+
+// The second one is refused: Left, with 0 for the session and the request.
+const REFUSED: [u8; 30] = [
+    0, 0, 0, 26, 5, 0, 0, 0, 0, 0, 0, 0, 0, 0, 0, 0, 0, 0, 0, 0, 0, 1, 0, 0, 0, 0, 0, 0, 0, 0,
+];
+
+// Session 7 asks under number 2: store `a`.
+const SECOND_ASK: [u8; 24] = [
+    0, 0, 0, 20, 3, 0, 0, 0, 0, 0, 0, 0, 7, 0, 0, 0, 0, 0, 0, 0, 2, 1, 1, 97,
+];
+
+// Its answer.
+const SECOND_REPLY: [u8; 22] = [
+    0, 0, 0, 18, 4, 0, 0, 0, 0, 0, 0, 0, 7, 0, 0, 0, 0, 0, 0, 0, 2, 1,
+];
+
+// Over the port for clients asks are answered. Whatever else comes there closes the connection, and changes nothing.
+fn misuse<R: Net<Stream = TcpStream>>(
+    rt: &R,
+    alloc: Global,
+    clients: SocketAddr,
+) -> Result<(), Fail> {
+    exchange(rt, alloc, clients, &FIRST_ASK, &FIRST_REPLY)?;
+    check(is_closed_after(rt, clients, &JOIN_OF_9)?, "a message")?;
+    check(is_closed_after(rt, clients, &ACK_OF_9)?, "an ack")?;
+    check(is_closed_after(rt, clients, &RETIRE_1)?, "a retirement")?;
+    check(is_closed_after(rt, clients, &LEAVE)?, "a leave")?;
+    exchange(rt, alloc, clients, &SECOND_ASK, &SECOND_REPLY)
+}
+
+// Once the node is answered it listens at both ports. On its own machine it hears the operator.
+fn talk<R: Net<Stream = TcpStream>>(
+    rt: &R,
+    alloc: Global,
+    node: SocketAddr,
+    clients: SocketAddr,
+) -> Result<(), Fail> {
+    exchange(rt, alloc, node, &OTHER_ASK, &OTHER_REPLY)?;
+    misuse(rt, alloc, clients)?;
+    exchange(rt, alloc, node, &LEAVE_TWICE, &REFUSED)
+}
+
+// Runs the node of a folder by itself, with a port for clients, until the flag is set.
+fn run_guarded<R>(
+    rt: &R,
+    alloc: Global,
+    folder: &str,
+    listener: TcpListener,
+    clients: SocketAddr,
+    stop: &Stop,
+) -> Result<Finished<()>, RunFault>
+where
+    R: Files<File = File>
+        + Net<Listener = TcpListener, Stream = TcpStream>
+        + Threads
+        + Wait
+        + Clock
+        + ReadText
+        + Log
+        + Sync,
+{
+    let listen = listener.local_addr().or(Err(RunFault::Listen))?;
+    let config = Config {
+        dir: folder,
+        listen,
+        listen_clients: Some(clients),
+        remote_operators: false,
+        peers: Vec::new(alloc),
+        peers_file: None,
+        status: None,
+        version: "",
+    };
+    run_on(rt, alloc, &config, Some(listener), stop, &NoHooks)
+}
+
+#[test]
+fn a_port_for_clients_takes_asks_alone(rt: HostRuntime) -> Result<(), Fail> {
+    format_member_of(&rt, "guarded-1", "1", "1", None)?;
+    let listener = TcpListener::bind(&rt, "127.0.0.1:0")?;
+    let node = listener.local_addr()?;
+    let clients = TcpListener::bind(&rt, "127.0.0.1:0")?.local_addr()?;
+    let alloc = rt.alloc();
+    let stop = Stop::new();
+    let (ended, talked) = thread::join(
+        &rt,
+        || run_guarded(&rt, alloc, "guarded-1", listener, clients, &stop),
+        || {
+            let talked = talk(&rt, alloc, node, clients);
+            end_at(&rt, &stop, node);
+            talked
+        },
+    );
+    talked?;
+    check_end(ended)
+}
