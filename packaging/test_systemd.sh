@@ -35,7 +35,7 @@ inside() {
 }
 
 quietly() {
-    nsenter --target "$init" --mount --uts --ipc --net --pid --cgroup --wd=/ -- \
+    nsenter --target "$init" --mount --uts --ipc --net --pid --cgroup -- \
         env -i PATH=/usr/sbin:/usr/bin:/sbin:/bin LC_ALL=C.UTF-8 DEBIAN_FRONTEND=noninteractive "$@"
 }
 
@@ -43,7 +43,8 @@ quietly() {
 expect() {
     local wanted=$1 status=0
     shift
-    inside "$@" > "$work/expected" 2>&1 || status=$?
+    say "$@"
+    quietly "$@" > "$work/expected" 2>&1 || status=$?
     cat "$work/expected"
     [ "$status" = "$wanted" ] || fail "status $status of: $*; wanted: $wanted"
 }
@@ -170,7 +171,7 @@ run_nodes() {
 
 # Killed, restarted by hand, stopped.
 disturb() {
-    inside kill -9 "$(property MainPID 2)"
+    expect 0 systemctl kill --signal=SIGKILL ccnode@2
     expect_property NRestarts 2 1
     expect_stored 2 2
     expect 0 systemctl restart ccnode@1
