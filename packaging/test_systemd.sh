@@ -35,7 +35,7 @@ inside() {
 }
 
 quietly() {
-    nsenter --target "$init" --mount --uts --ipc --net --pid --cgroup --wd=/ -- \
+    nsenter --target "$init" --mount --uts --ipc --net --pid --cgroup -- \
         env -i PATH=/usr/sbin:/usr/bin:/sbin:/bin LC_ALL=C.UTF-8 DEBIAN_FRONTEND=noninteractive "$@"
 }
 
@@ -43,7 +43,8 @@ quietly() {
 expect() {
     local wanted=$1 status=0
     shift
-    inside "$@" > "$work/expected" 2>&1 || status=$?
+    say "$@"
+    quietly "$@" > "$work/expected" 2>&1 || status=$?
     cat "$work/expected"
     [ "$status" = "$wanted" ] || fail "status $status of: $*; wanted: $wanted"
 }
@@ -170,7 +171,7 @@ run_nodes() {
 
 # Killed, restarted by hand, stopped.
 disturb() {
-    inside kill -9 "$(property MainPID 2)"
+    expect 0 systemctl kill --signal=SIGKILL ccnode@2
     expect_property NRestarts 2 1
     expect_stored 2 2
     expect 0 systemctl restart ccnode@1
@@ -183,8 +184,7 @@ disturb() {
 }
 
 look_at_journal() {
-    expect 0 journalctl --no-pager -o cat -u ccnode@2
-    expect_words 'node 2 runs at'
+    expect_in_journal 2 'node 2 runs at'
     expect_words 'code=killed, status=9/KILL'
     expect_words 'Scheduled restart job'
 }
@@ -195,7 +195,12 @@ expect_none() {
     expect 1 sh -c 'cat /proc/[0-9]*/comm 2> /dev/null | grep -x ccnode'
 }
 
-# What a unit does whose files aren't as they have to be.
+expect_in_journal() {
+    expect 0 journalctl --no-pager -o cat -u "ccnode@$1"
+    expect_words "$2"
+}
+
+# What a unit does whose files aren't as they have to be: node 4 has no address.
 refuse_bad_words() {
     printf 'LISTEN=\n' > "$root/etc/ccnode/4.env"
     inside runuser -u ccnode -- mkdir -m 700 /var/lib/ccnode/4
@@ -203,16 +208,27 @@ refuse_bad_words() {
     expect_property Result 4 exit-code
     expect_property ExecMainStatus 4 2
     expect_property NRestarts 4 0
-    expect 0 journalctl --no-pager -o cat -u ccnode@4
+    expect_in_journal 4 'LISTEN: is to be set in /etc/ccnode/4.env'
+    rm "$root/etc/ccnode/4.env"
+    rmdir "$root/var/lib/ccnode/4"
+}
+
+# Node 5 gets its variables, its folder and what stands in it one after the other, while the unit tries each second.
+bring_one_by_one() {
     expect 1 systemctl start ccnode@5
-    expect 0 journalctl --no-pager -o cat -u ccnode@5
+    expect_in_journal 5 'Failed to load environment files'
+    printf 'LISTEN=%s\n' "$(address 5)" > "$root/etc/ccnode/5.env"
+    sleep 2
+    expect_in_journal 5 'status=226/NAMESPACE'
+    inside runuser -u ccnode -- mkdir -m 700 /var/lib/ccnode/5
+    sleep 2
+    expect_in_journal 5 'NotFormatted'
+    inside systemctl stop ccnode@5
+    expect 0 runuser -u ccnode -- ccnode format /var/lib/ccnode/5 5 --initial 5
+    expect 0 systemctl start ccnode@5
+    expect 0 ccnode ask "$(address 5)" 1 store alone --timeout 30
     expect 0 systemctl stop ccnode@5
-    printf 'LISTEN=%s\n' "$(address 6)" > "$root/etc/ccnode/6.env"
-    inside systemctl start ccnode@6 || true
-    sleep 1
-    expect 0 journalctl --no-pager -o cat -n 6 -u ccnode@6
-    expect 0 systemctl stop ccnode@6
-    rm "$root/etc/ccnode/4.env" "$root/etc/ccnode/6.env"
+    rm -r "$root/etc/ccnode/5.env" "$root/var/lib/ccnode/5"
 }
 
 # What node 1 may do: its files are looked at and written from within its own mounts, as root.
@@ -281,6 +297,7 @@ run_nodes
 disturb
 look_at_journal
 refuse_bad_words
+bring_one_by_one
 confine
 pull_the_plug
 upgrade
