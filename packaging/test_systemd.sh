@@ -231,6 +231,25 @@ bring_one_by_one() {
     rm -r "$root/etc/ccnode/5.env" "$root/var/lib/ccnode/5"
 }
 
+# A machine comes: its line in the list is all that the nodes which run need. Then it leaves.
+enter_and_leave() {
+    local before
+    before=$(property MainPID 1)
+    echo "6=$(address 6)" >> "$root/etc/ccnode/peers"
+    printf 'LISTEN=%s\nPEERS_FILE=/etc/ccnode/peers\n' "$(address 6)" > "$root/etc/ccnode/6.env"
+    inside runuser -u ccnode -- mkdir -m 700 /var/lib/ccnode/6
+    expect 0 runuser -u ccnode -- ccnode format /var/lib/ccnode/6 6 --contacts 1,2,3 --beta 2/3
+    expect 0 systemctl start ccnode@6
+    expect 0 ccnode ask "$(address 6)" 1 collect --wait --timeout 30
+    expect_words '1:1=packaged'
+    expect_property MainPID 1 "$before"
+    expect 0 ccnode leave "$(address 6)"
+    sleep 2
+    expect 0 systemctl stop ccnode@6
+    sed -i '/^6=/d' "$root/etc/ccnode/peers"
+    rm -r "$root/etc/ccnode/6.env" "$root/var/lib/ccnode/6"
+}
+
 # What node 1 may do: its files are looked at and written from within its own mounts, as root.
 confine() {
     local main
@@ -298,6 +317,7 @@ disturb
 look_at_journal
 refuse_bad_words
 bring_one_by_one
+enter_and_leave
 confine
 pull_the_plug
 upgrade
