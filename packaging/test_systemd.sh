@@ -236,13 +236,19 @@ enter_and_leave() {
     local before
     before=$(property MainPID 1)
     echo "6=$(address 6)" >> "$root/etc/ccnode/peers"
-    printf 'LISTEN=%s\nPEERS_FILE=/etc/ccnode/peers\n' "$(address 6)" > "$root/etc/ccnode/6.env"
+    printf 'LISTEN=%s\nPEERS_FILE=/etc/ccnode/peers\nOPTIONS="%s"\n' "$(address 6)" \
+        "--listen-clients $(address 7) --operators off --status $(address 8)" > "$root/etc/ccnode/6.env"
     inside runuser -u ccnode -- mkdir -m 700 /var/lib/ccnode/6
     expect 0 runuser -u ccnode -- ccnode format /var/lib/ccnode/6 6 --contacts 1,2,3 --beta 2/3
     expect 0 systemctl start ccnode@6
     expect 0 ccnode ask "$(address 6)" 1 collect --wait --timeout 30
     expect_words '1:1=packaged'
     expect_property MainPID 1 "$before"
+    expect 0 ccnode ask "$(address 7)" 2 store entered
+    expect 1 ccnode leave "$(address 7)"
+    # The page is of a second before at most.
+    sleep 2
+    expect 0 ccnode status "$(address 8)"
     expect 0 ccnode leave "$(address 6)"
     sleep 2
     expect 0 systemctl stop ccnode@6
