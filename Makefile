@@ -189,7 +189,7 @@ look:
 	@$(BUILD) ccnode
 	@python3 tools/look.py crates/ccnode/out/ccnode
 
-# Takes docs/status-page.png: the status page of such a cluster, of which one node was killed. It needs Chromium, and takes
+# Takes docs/status-page.png: the page of a cluster of which one node was killed and another enters. It needs Chromium, and takes
 # two and a half minutes.
 look-picture:
 	@$(BUILD) ccnode
