@@ -189,8 +189,8 @@ look:
 	@$(BUILD) ccnode
 	@python3 tools/look.py crates/ccnode/out/ccnode
 
-# Takes docs/status-page.png: the page of a cluster of which one node was killed and another enters. It needs Chromium, and takes
-# two and a half minutes.
+# Takes docs/status-page.png: the page of a cluster of which one node was killed and another enters. It needs Chromium, and
+# takes two and a half minutes.
 look-picture:
 	@$(BUILD) ccnode
 	@python3 tools/look_picture.py crates/ccnode/out/ccnode docs/status-page.png
