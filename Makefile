@@ -246,10 +246,10 @@ stale-collects:
 	@$(BUILD) ccnode
 	@python3 tools/stale_collects.py crates/ccnode/out/ccnode $(SCRIPTS)
 
-# Prints what each crate costs: its proof, its tests and its edits, in processor seconds with one job.
-# CRATES=cc_ops does one.
+# Runs the gate from nothing, and prints what each crate cost it, in seconds of the processors: as long as the gate.
+# CRATES="cc_views cc_wire" does these crates and those that they stand on.
 costs:
-	@bash tools/costs.sh $(CRATES)
+	@python3 tools/costs.py $(CRATES)
 
 # Tries the definitions on worked examples, by computation: a wrong value is refused. It takes a minute, and proves no
 # crate.

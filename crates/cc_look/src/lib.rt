@@ -11,7 +11,5 @@ mod table;
 pub use fault::LookFault;
 pub use head::body_of;
 pub use looking::{Look, look_at};
-pub use status::{
-    DiskPart, PeerPart, PostPart, QuorumPart, RoundPart, SessionPart, Status, SyncPart,
-};
+pub use status::{DiskPart, PeerPart, PostPart, QuorumPart, RoundPart, Status, SyncPart};
 pub use table::Table;

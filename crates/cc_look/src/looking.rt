@@ -6,6 +6,7 @@ use crate::head::body_of;
 use crate::status::Status;
 use crate::table::Table;
 use cc_orders::{AnswerForm, StatusOrder};
+use serde_json::Value;
 use std::alloc::Global;
 use std::io;
 use std::io::Write;
@@ -61,9 +62,21 @@ fn print_answer<W: Write>(
     let Some(text) = text_of(answer) else {
         return Ok(Err(LookFault::Other(order.address)));
     };
-    match serde_json::from_str::<Status>(alloc, text) {
-        Ok(status) => print_status(order.form, text, &status, output),
+    match Value::from_str(alloc, text) {
+        Ok(value) => print_value(order, text, &value, output),
         Err(_) => Ok(Err(LookFault::Other(order.address))),
+    }
+}
+
+fn print_value<W: Write>(
+    order: &StatusOrder,
+    text: &str,
+    value: &Value,
+    output: &mut W,
+) -> io::Result<Result<bool, LookFault>> {
+    match Status::of(value) {
+        Some(status) => print_status(order.form, text, &status, output),
+        None => Ok(Err(LookFault::Other(order.address))),
     }
 }
 
@@ -74,7 +87,7 @@ fn text_of(answer: &[u8]) -> Option<&str> {
 fn print_status<W: Write>(
     form: AnswerForm,
     text: &str,
-    status: &Status,
+    status: &Status<'_>,
     output: &mut W,
 ) -> io::Result<Result<bool, LookFault>> {
     match form {

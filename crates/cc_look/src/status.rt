@@ -1,45 +1,46 @@
 //! What is read of a node's status. It may have more members, and they are passed over. Moments are milliseconds since 1970 by
 //! the node's clock.
 
-use serde::Deserialize;
+use serde_json::Value;
 
-/// What is read of a node's status.
-#[derive(Drop, Deserialize)]
-pub struct Status {
-    pub id: u32,
-    pub version: String,
+/// What is read of a node's status. Its texts and lists are those of the JSON that it is read from.
+#[derive(Clone, Copy)]
+pub struct Status<'a> {
+    pub id: u64,
+    pub version: &'a str,
     pub now: u64,
-    pub standing: String,
+    pub standing: &'a str,
     pub is_ready: bool,
     /// Why it isn't ready.
-    pub reason: String,
-    pub quorum: QuorumPart,
-    pub members: Vec<u32>,
-    pub round: Option<RoundPart>,
+    pub reason: &'a str,
+    pub quorum: QuorumPart<'a>,
+    pub members: &'a [Value],
+    pub round: Option<RoundPart<'a>>,
     /// How many asks wait behind the round.
     pub waiting: u64,
-    pub sessions: Vec<SessionPart>,
+    pub sessions: &'a [Value],
     pub session_limit: u64,
     pub posts: PostPart,
-    pub peers: Vec<PeerPart>,
-    pub disk: DiskPart,
+    /// Each of them is read by `PeerPart::of`.
+    pub peers: &'a [Value],
+    pub disk: DiskPart<'a>,
     pub syncs: SyncPart,
 }
 
 /// How many members answer an operation.
-#[derive(Drop, Deserialize)]
-pub struct QuorumPart {
-    pub beta: String,
-    pub gamma: String,
+#[derive(Clone, Copy)]
+pub struct QuorumPart<'a> {
+    pub beta: &'a str,
+    pub gamma: &'a str,
     pub members: u64,
     pub need: u64,
     pub may_be_away: u64,
 }
 
 /// The pending round.
-#[derive(Drop, Deserialize)]
-pub struct RoundPart {
-    pub phase: String,
+#[derive(Clone, Copy)]
+pub struct RoundPart<'a> {
+    pub phase: &'a str,
     pub session: u64,
     pub request: u64,
     pub others: u64,
@@ -48,15 +49,8 @@ pub struct RoundPart {
     pub since: u64,
 }
 
-/// A session, and its last request.
-#[derive(Drop, Deserialize)]
-pub struct SessionPart {
-    pub session: u64,
-    pub request: u64,
-}
-
 /// The posts that were made, and those that are kept.
-#[derive(Drop, Deserialize)]
+#[derive(Clone, Copy)]
 pub struct PostPart {
     pub made: u64,
     pub kept: u64,
@@ -64,10 +58,10 @@ pub struct PostPart {
 }
 
 /// Another node.
-#[derive(Drop, Deserialize)]
-pub struct PeerPart {
-    pub id: u32,
-    pub address: Option<String>,
+#[derive(Clone, Copy)]
+pub struct PeerPart<'a> {
+    pub id: u64,
+    pub address: Option<&'a str>,
     pub connected_since: Option<u64>,
     pub absent_since: Option<u64>,
     /// How many posts it hasn't acknowledged.
@@ -77,9 +71,9 @@ pub struct PeerPart {
 }
 
 /// The side in use.
-#[derive(Drop, Deserialize)]
-pub struct DiskPart {
-    pub side: String,
+#[derive(Clone, Copy)]
+pub struct DiskPart<'a> {
+    pub side: &'a str,
     pub generation: u64,
     pub bytes: u64,
     pub records: u64,
@@ -87,11 +81,148 @@ pub struct DiskPart {
 }
 
 /// How long syncs took, in microseconds.
-#[derive(Drop, Deserialize)]
+#[derive(Clone, Copy)]
 pub struct SyncPart {
     pub count: u64,
     pub mean_us: u64,
     pub p50_us: u64,
     pub p99_us: u64,
     pub worst_us: u64,
+}
+
+fn text<'a>(value: &'a Value, name: &str) -> Option<&'a str> {
+    value.get(name)?.as_str()
+}
+
+fn number(value: &Value, name: &str) -> Option<u64> {
+    value.get(name)?.as_u64()
+}
+
+fn list<'a>(value: &'a Value, name: &str) -> Option<&'a [Value]> {
+    let items = value.get(name)?.as_array()?;
+    Some(items.as_slice())
+}
+
+impl<'a> Status<'a> {
+    /// What the JSON of a status says. None where a member is missing, or is no such value.
+    pub fn of(value: &'a Value) -> Option<Self> {
+        Some(Status {
+            id: number(value, "id")?,
+            version: text(value, "version")?,
+            now: number(value, "now")?,
+            standing: text(value, "standing")?,
+            is_ready: value.get("is_ready")?.as_bool()?,
+            reason: text(value, "reason")?,
+            quorum: QuorumPart::of(value.get("quorum")?)?,
+            members: numbers(value, "members")?,
+            round: round_in(value.get("round")?)?,
+            waiting: number(value, "waiting")?,
+            sessions: list(value, "sessions")?,
+            session_limit: number(value, "session_limit")?,
+            posts: PostPart::of(value.get("posts")?)?,
+            peers: peers_in(value)?,
+            disk: DiskPart::of(value.get("disk")?)?,
+            syncs: SyncPart::of(value.get("syncs")?)?,
+        })
+    }
+}
+
+// A list of numbers.
+fn numbers<'a>(value: &'a Value, name: &str) -> Option<&'a [Value]> {
+    let items = list(value, name)?;
+    for item in items {
+        item.as_u64()?;
+    }
+    Some(items)
+}
+
+fn peers_in(value: &Value) -> Option<&[Value]> {
+    let peers = list(value, "peers")?;
+    for peer in peers {
+        PeerPart::of(peer)?;
+    }
+    Some(peers)
+}
+
+// The round, which may be none.
+fn round_in(value: &Value) -> Option<Option<RoundPart<'_>>> {
+    if value.is_null() {
+        return Some(None);
+    }
+    Some(Some(RoundPart::of(value)?))
+}
+
+impl<'a> QuorumPart<'a> {
+    fn of(value: &'a Value) -> Option<Self> {
+        Some(QuorumPart {
+            beta: text(value, "beta")?,
+            gamma: text(value, "gamma")?,
+            members: number(value, "members")?,
+            need: number(value, "need")?,
+            may_be_away: number(value, "may_be_away")?,
+        })
+    }
+}
+
+impl<'a> RoundPart<'a> {
+    fn of(value: &'a Value) -> Option<Self> {
+        Some(RoundPart {
+            phase: text(value, "phase")?,
+            session: number(value, "session")?,
+            request: number(value, "request")?,
+            others: number(value, "others")?,
+            answers: number(value, "answers")?,
+            need: number(value, "need")?,
+            since: number(value, "since")?,
+        })
+    }
+}
+
+impl PostPart {
+    fn of(value: &Value) -> Option<Self> {
+        Some(PostPart {
+            made: number(value, "made")?,
+            kept: number(value, "kept")?,
+            limit: number(value, "limit")?,
+        })
+    }
+}
+
+impl<'a> PeerPart<'a> {
+    /// What the JSON of a peer says. A peer without an address, or a moment, has none.
+    pub fn of(value: &'a Value) -> Option<Self> {
+        Some(PeerPart {
+            id: number(value, "id")?,
+            address: text(value, "address"),
+            connected_since: number(value, "connected_since"),
+            absent_since: number(value, "absent_since"),
+            behind: number(value, "behind")?,
+            acknowledged: number(value, "acknowledged")?,
+            heard: number(value, "heard")?,
+        })
+    }
+}
+
+impl<'a> DiskPart<'a> {
+    fn of(value: &'a Value) -> Option<Self> {
+        Some(DiskPart {
+            side: text(value, "side")?,
+            generation: number(value, "generation")?,
+            bytes: number(value, "bytes")?,
+            records: number(value, "records")?,
+            events: number(value, "events")?,
+        })
+    }
+}
+
+impl SyncPart {
+    fn of(value: &Value) -> Option<Self> {
+        Some(SyncPart {
+            count: number(value, "count")?,
+            mean_us: number(value, "mean_us")?,
+            p50_us: number(value, "p50_us")?,
+            p99_us: number(value, "p99_us")?,
+            worst_us: number(value, "worst_us")?,
+        })
+    }
 }

@@ -1,18 +1,19 @@
 //! A node's status as a table.
 
 use crate::status::{PeerPart, QuorumPart, RoundPart, Status};
+use serde_json::Value;
 use std::fmt;
 
 /// A line for each part of the status, which begins with its word, and then a line for each peer.
 #[derive(Clone, Copy)]
-pub struct Table<'a>(pub &'a Status);
+pub struct Table<'a>(pub &'a Status<'a>);
 
 impl fmt::Display for Table<'_> {
     fn fmt<W: fmt::Write>(&self, f: &mut fmt::Formatter<W>) -> fmt::Result {
         let status = self.0;
         print_node(f, status)?;
         print_quorum(f, &status.quorum)?;
-        print_members(f, &status.members)?;
+        print_members(f, status.members)?;
         print_round(f, status)?;
         print_counts(f, status)?;
         print_disk(f, status)?;
@@ -20,9 +21,9 @@ impl fmt::Display for Table<'_> {
     }
 }
 
-fn print_node<W: fmt::Write>(f: &mut fmt::Formatter<W>, status: &Status) -> fmt::Result {
-    let (id, version) = (status.id, status.version.as_str());
-    let (standing, reason) = (status.standing.as_str(), status.reason.as_str());
+fn print_node<W: fmt::Write>(f: &mut fmt::Formatter<W>, status: &Status<'_>) -> fmt::Result {
+    let (id, version) = (status.id, status.version);
+    let (standing, reason) = (status.standing, status.reason);
     writeln!(f, "node      {id}, version {version}")?;
     writeln!(f, "standing  {standing}")?;
     if status.is_ready {
@@ -32,27 +33,34 @@ fn print_node<W: fmt::Write>(f: &mut fmt::Formatter<W>, status: &Status) -> fmt:
     }
 }
 
-fn print_quorum<W: fmt::Write>(f: &mut fmt::Formatter<W>, quorum: &QuorumPart) -> fmt::Result {
+fn print_quorum<W: fmt::Write>(f: &mut fmt::Formatter<W>, quorum: &QuorumPart<'_>) -> fmt::Result {
     let (need, members, away) = (quorum.need, quorum.members, quorum.may_be_away);
-    let (beta, gamma) = (quorum.beta.as_str(), quorum.gamma.as_str());
+    let (beta, gamma) = (quorum.beta, quorum.gamma);
     writeln!(
         f,
         "quorum    {need} of {members} members, {away} may be away, beta {beta}, gamma {gamma}"
     )
 }
 
-fn print_members<W: fmt::Write>(f: &mut fmt::Formatter<W>, members: &[u32]) -> fmt::Result {
+fn print_members<W: fmt::Write>(f: &mut fmt::Formatter<W>, members: &[Value]) -> fmt::Result {
     write!(f, "members   ")?;
     for (i, member) in members.iter().enumerate() {
         if i > 0 {
             write!(f, ",")?;
         }
-        write!(f, "{member}")?;
+        print_number(f, member)?;
     }
     writeln!(f, "{}", if members.is_empty() { "none" } else { "" })
 }
 
-fn print_round<W: fmt::Write>(f: &mut fmt::Formatter<W>, status: &Status) -> fmt::Result {
+fn print_number<W: fmt::Write>(f: &mut fmt::Formatter<W>, value: &Value) -> fmt::Result {
+    match value.as_u64() {
+        Some(number) => write!(f, "{number}"),
+        None => Ok(()),
+    }
+}
+
+fn print_round<W: fmt::Write>(f: &mut fmt::Formatter<W>, status: &Status<'_>) -> fmt::Result {
     match &status.round {
         Some(round) => print_pending(f, round, status.now)?,
         None => writeln!(f, "round     none")?,
@@ -63,10 +71,10 @@ fn print_round<W: fmt::Write>(f: &mut fmt::Formatter<W>, status: &Status) -> fmt
 
 fn print_pending<W: fmt::Write>(
     f: &mut fmt::Formatter<W>,
-    round: &RoundPart,
+    round: &RoundPart<'_>,
     now: u64,
 ) -> fmt::Result {
-    let phase = round.phase.as_str();
+    let phase = round.phase;
     let (session, request, others) = (round.session, round.request, round.others);
     let (answers, need) = (round.answers, round.need);
     let seconds = seconds_since(round.since, now);
@@ -76,16 +84,16 @@ fn print_pending<W: fmt::Write>(
     )
 }
 
-fn print_counts<W: fmt::Write>(f: &mut fmt::Formatter<W>, status: &Status) -> fmt::Result {
+fn print_counts<W: fmt::Write>(f: &mut fmt::Formatter<W>, status: &Status<'_>) -> fmt::Result {
     let (used, limit) = (status.sessions.len(), status.session_limit);
     let (kept, most, made) = (status.posts.kept, status.posts.limit, status.posts.made);
     writeln!(f, "sessions  {used} of {limit}")?;
     writeln!(f, "posts     {kept} of {most} kept, {made} made")
 }
 
-fn print_disk<W: fmt::Write>(f: &mut fmt::Formatter<W>, status: &Status) -> fmt::Result {
+fn print_disk<W: fmt::Write>(f: &mut fmt::Formatter<W>, status: &Status<'_>) -> fmt::Result {
     let (disk, syncs) = (&status.disk, &status.syncs);
-    let side = disk.side.as_str();
+    let side = disk.side;
     let (generation, bytes) = (disk.generation, disk.bytes);
     let (records, events) = (disk.records, disk.events);
     let (count, mean, half) = (syncs.count, syncs.mean_us, syncs.p50_us);
@@ -100,18 +108,24 @@ fn print_disk<W: fmt::Write>(f: &mut fmt::Formatter<W>, status: &Status) -> fmt:
     )
 }
 
-fn print_peers<W: fmt::Write>(f: &mut fmt::Formatter<W>, status: &Status) -> fmt::Result {
-    for peer in &status.peers {
-        print_peer(f, peer, status.now)?;
+fn print_peers<W: fmt::Write>(f: &mut fmt::Formatter<W>, status: &Status<'_>) -> fmt::Result {
+    for peer in status.peers {
+        if let Some(peer) = PeerPart::of(peer) {
+            print_peer(f, &peer, status.now)?;
+        }
     }
     Ok(())
 }
 
-fn print_peer<W: fmt::Write>(f: &mut fmt::Formatter<W>, peer: &PeerPart, now: u64) -> fmt::Result {
+fn print_peer<W: fmt::Write>(
+    f: &mut fmt::Formatter<W>,
+    peer: &PeerPart<'_>,
+    now: u64,
+) -> fmt::Result {
     let id = peer.id;
     write!(f, "peer      {id}")?;
-    match &peer.address {
-        Some(address) => write!(f, " at {}", address.as_str())?,
+    match peer.address {
+        Some(address) => write!(f, " at {address}")?,
         None => write!(f, " without an address")?,
     }
     print_contact(f, peer, now)?;
@@ -125,7 +139,7 @@ fn print_peer<W: fmt::Write>(f: &mut fmt::Formatter<W>, peer: &PeerPart, now: u6
 // Whether a peer is there. One that is connected may be absent all the same: it acknowledges nothing.
 fn print_contact<W: fmt::Write>(
     f: &mut fmt::Formatter<W>,
-    peer: &PeerPart,
+    peer: &PeerPart<'_>,
     now: u64,
 ) -> fmt::Result {
     match (peer.absent_since, peer.connected_since) {

@@ -214,8 +214,7 @@ fn serve_all<L: Life + Send + Sync, Q: Lane + Send + Sync, R, H: Hooks + Sync>(
 where
     R: Machine,
 {
-    let rt = context.rt;
-    let alloc = context.alloc;
+    let (rt, alloc) = (context.rt, context.alloc);
     let over = Flag::new();
     let over = &over;
     let FarEnds {

@@ -52,173 +52,111 @@ fn print_head<W: fmt::Write>(
 }
 
 // A metric that has one value.
-fn print_value<W: fmt::Write>(
-    f: &mut fmt::Formatter<W>,
-    name: &str,
+#[derive(Clone, Copy)]
+struct Metric {
+    name: &'static str,
     kind: Kind,
-    help: &str,
+    help: &'static str,
     value: u64,
-) -> fmt::Result {
-    print_head(f, name, kind, help)?;
-    write!(f, "ccnode_{name} {value}\n")
+}
+
+fn counter(name: &'static str, help: &'static str, value: u64) -> Metric {
+    Metric {
+        name,
+        kind: Kind::Counter,
+        help,
+        value,
+    }
+}
+
+fn gauge(name: &'static str, help: &'static str, value: u64) -> Metric {
+    Metric {
+        name,
+        kind: Kind::Gauge,
+        help,
+        value,
+    }
+}
+
+fn print_values<W: fmt::Write>(f: &mut fmt::Formatter<W>, metrics: &[Metric]) -> fmt::Result {
+    for metric in metrics {
+        print_head(f, metric.name, metric.kind, metric.help)?;
+        let (name, value) = (metric.name, metric.value);
+        write!(f, "ccnode_{name} {value}\n")?;
+    }
+    Ok(())
 }
 
 fn print_node<W: fmt::Write>(f: &mut fmt::Formatter<W>, status: &Status) -> fmt::Result {
-    print_head(
+    print_info(f, status)?;
+    print_start(f, status)?;
+    let (ready, present) = (u64::from(status.is_ready), status.present.len() as u64);
+    let quorum = &status.quorum;
+    print_values(
         f,
-        "info",
-        Kind::Gauge,
-        "The node, its version, and where it stands.",
-    )?;
+        &[
+            gauge("ready", "Whether it has joined and enough members aren't absent.", ready),
+            gauge("members", "Nodes that joined and haven't left.", quorum.members),
+            gauge("members_needed", "Members that answer an operation.", quorum.need),
+            gauge("present", "Nodes that entered and haven't left.", present),
+        ],
+    )
+}
+
+fn print_info<W: fmt::Write>(f: &mut fmt::Formatter<W>, status: &Status) -> fmt::Result {
+    let help = "The node, its version, and where it stands.";
+    print_head(f, "info", Kind::Gauge, help)?;
     let id = status.id;
     let version = status.version.as_str();
     let standing = status.standing.as_str();
     write!(
         f,
         "ccnode_info{{id=\"{id}\",version=\"{version}\",standing=\"{standing}\"}} 1\n"
-    )?;
-    print_head(
-        f,
-        "start_time_seconds",
-        Kind::Gauge,
-        "When the node was started, since 1970.",
-    )?;
-    let (seconds, rest) = (status.started / 1000, status.started % 1000);
-    write!(f, "ccnode_start_time_seconds {seconds}.{rest:03}\n")?;
-    print_value(
-        f,
-        "ready",
-        Kind::Gauge,
-        "Whether it has joined and enough members aren't absent.",
-        u64::from(status.is_ready),
-    )?;
-    print_quorum(f, status)
-}
-
-fn print_quorum<W: fmt::Write>(f: &mut fmt::Formatter<W>, status: &Status) -> fmt::Result {
-    let quorum = &status.quorum;
-    print_value(
-        f,
-        "members",
-        Kind::Gauge,
-        "Nodes that joined and haven't left.",
-        quorum.members,
-    )?;
-    print_value(
-        f,
-        "members_needed",
-        Kind::Gauge,
-        "Members that answer an operation.",
-        quorum.need,
-    )?;
-    print_value(
-        f,
-        "present",
-        Kind::Gauge,
-        "Nodes that entered and haven't left.",
-        status.present.len() as u64,
     )
 }
 
+fn print_start<W: fmt::Write>(f: &mut fmt::Formatter<W>, status: &Status) -> fmt::Result {
+    let help = "When the node was started, since 1970.";
+    print_head(f, "start_time_seconds", Kind::Gauge, help)?;
+    let (seconds, rest) = (status.started / 1000, status.started % 1000);
+    write!(f, "ccnode_start_time_seconds {seconds}.{rest:03}\n")
+}
+
 fn print_clients<W: fmt::Write>(f: &mut fmt::Formatter<W>, status: &Status) -> fmt::Result {
-    print_value(
+    let (rows, used) = (status.view.len() as u64, status.sessions.len() as u64);
+    let (waiting, limit) = (status.waiting, status.session_limit);
+    let is_active = u64::from(status.round.is_some());
+    print_values(
         f,
-        "view_rows",
-        Kind::Gauge,
-        "Nodes whose writes were seen.",
-        status.view.len() as u64,
-    )?;
-    print_value(
-        f,
-        "round_active",
-        Kind::Gauge,
-        "Whether a round is under way.",
-        u64::from(status.round.is_some()),
-    )?;
-    print_value(
-        f,
-        "waiting_asks",
-        Kind::Gauge,
-        "Asks behind the round.",
-        status.waiting,
-    )?;
-    print_value(
-        f,
-        "sessions_used",
-        Kind::Gauge,
-        "Sessions served.",
-        status.sessions.len() as u64,
-    )?;
-    print_value(
-        f,
-        "sessions_limit",
-        Kind::Gauge,
-        "Sessions that a node serves in its life.",
-        status.session_limit,
-    )?;
-    print_value(
-        f,
-        "connections",
-        Kind::Gauge,
-        "Connections that are open.",
-        status.counts.connections,
+        &[
+            gauge("view_rows", "Nodes whose writes were seen.", rows),
+            gauge("round_active", "Whether a round is under way.", is_active),
+            gauge("waiting_asks", "Asks behind the round.", waiting),
+            gauge("sessions_used", "Sessions served.", used),
+            gauge("sessions_limit", "Sessions that a node serves in its life.", limit),
+            gauge("connections", "Connections that are open.", status.counts.connections),
+        ],
     )
 }
 
 fn print_counts<W: fmt::Write>(f: &mut fmt::Formatter<W>, status: &Status) -> fmt::Result {
-    let counts = &status.counts;
-    print_value(
+    let (counts, posts) = (&status.counts, status.posts);
+    print_values(
         f,
-        "events_total",
-        Kind::Counter,
-        "Events made durable since the start.",
-        counts.events,
-    )?;
-    print_value(
-        f,
-        "commits_total",
-        Kind::Counter,
-        "Batches made durable since the start.",
-        counts.commits,
-    )?;
-    print_value(
-        f,
-        "checkpoints_total",
-        Kind::Counter,
-        "Checkpoints since the start.",
-        counts.checkpoints,
-    )?;
-    let posts = status.posts;
-    print_value(
-        f,
-        "posts_total",
-        Kind::Counter,
-        "Posts made in the node's life.",
-        posts.made,
-    )?;
-    print_value(
-        f,
-        "posts_kept",
-        Kind::Gauge,
-        "Posts kept for peers.",
-        posts.kept,
-    )?;
-    print_value(
-        f,
-        "posts_limit",
-        Kind::Gauge,
-        "Posts that a node keeps at most.",
-        posts.limit,
+        &[
+            counter("events_total", "Events made durable since the start.", counts.events),
+            counter("commits_total", "Batches made durable since the start.", counts.commits),
+            counter("checkpoints_total", "Checkpoints since the start.", counts.checkpoints),
+            counter("posts_total", "Posts made in the node's life.", posts.made),
+            gauge("posts_kept", "Posts kept for peers.", posts.kept),
+            gauge("posts_limit", "Posts that a node keeps at most.", posts.limit),
+        ],
     )
 }
 
 fn print_refusals<W: fmt::Write>(f: &mut fmt::Formatter<W>, status: &Status) -> fmt::Result {
-    print_head(
-        f,
-        "refusals_total",
-        Kind::Counter,
-        "Events refused since the start.",
-    )?;
+    let help = "Events refused since the start.";
+    print_head(f, "refusals_total", Kind::Counter, help)?;
     for (name, count) in status.counts.refusals.iter() {
         let name = name.as_str();
         write!(f, "ccnode_refusals_total{{refusal=\"{name}\"}} {count}\n")?;
@@ -227,42 +165,22 @@ fn print_refusals<W: fmt::Write>(f: &mut fmt::Formatter<W>, status: &Status) -> 
 }
 
 fn print_peers<W: fmt::Write>(f: &mut fmt::Formatter<W>, peers: &[PeerStatus]) -> fmt::Result {
-    print_head(
-        f,
-        "peer_behind_posts",
-        Kind::Gauge,
-        "Posts that a peer hasn't acknowledged.",
-    )?;
+    let help = "Posts that a peer hasn't acknowledged.";
+    print_head(f, "peer_behind_posts", Kind::Gauge, help)?;
     for peer in peers {
         print_of_peer(f, "peer_behind_posts", peer.id, peer.behind)?;
     }
-    print_head(
-        f,
-        "peer_absent",
-        Kind::Gauge,
-        "Whether a peer is taken for absent.",
-    )?;
+    let help = "Whether a peer is taken for absent.";
+    print_head(f, "peer_absent", Kind::Gauge, help)?;
     for peer in peers {
-        print_of_peer(
-            f,
-            "peer_absent",
-            peer.id,
-            u64::from(peer.absent_since.is_some()),
-        )?;
+        let is_absent = u64::from(peer.absent_since.is_some());
+        print_of_peer(f, "peer_absent", peer.id, is_absent)?;
     }
-    print_head(
-        f,
-        "peer_connected",
-        Kind::Gauge,
-        "Whether the node is connected to a peer.",
-    )?;
+    let help = "Whether the node is connected to a peer.";
+    print_head(f, "peer_connected", Kind::Gauge, help)?;
     for peer in peers {
-        print_of_peer(
-            f,
-            "peer_connected",
-            peer.id,
-            u64::from(peer.connected_since.is_some()),
-        )?;
+        let is_connected = u64::from(peer.connected_since.is_some());
+        print_of_peer(f, "peer_connected", peer.id, is_connected)?;
     }
     Ok(())
 }
@@ -278,26 +196,13 @@ fn print_of_peer<W: fmt::Write>(
 
 fn print_disk<W: fmt::Write>(f: &mut fmt::Formatter<W>, status: &Status) -> fmt::Result {
     let disk = &status.disk;
-    print_value(
+    print_values(
         f,
-        "side_bytes",
-        Kind::Gauge,
-        "How long the side in use is.",
-        disk.bytes,
-    )?;
-    print_value(
-        f,
-        "side_generation",
-        Kind::Gauge,
-        "The generation in use.",
-        disk.generation,
-    )?;
-    print_value(
-        f,
-        "side_records",
-        Kind::Gauge,
-        "Records behind the state.",
-        disk.records,
+        &[
+            gauge("side_bytes", "How long the side in use is.", disk.bytes),
+            gauge("side_generation", "The generation in use.", disk.generation),
+            gauge("side_records", "Records behind the state.", disk.records),
+        ],
     )
 }
 

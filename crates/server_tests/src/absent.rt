@@ -84,11 +84,9 @@ fn two_members_go_on_and_the_third_comes_late(rt: HostRuntime) -> Result<(), Fai
     let three = third.local_addr()?;
     let alloc = rt.alloc();
     let (stop, late) = (Stop::new(), Stop::new());
-    let [of_1, of_2, of_3] = [
-        [(2, two), (3, three)],
-        [(1, one), (3, three)],
-        [(1, one), (2, two)],
-    ];
+    let of_1 = [(2, two), (3, three)];
+    let of_2 = [(1, one), (3, three)];
+    let of_3 = [(1, one), (2, two)];
     let ((ended_1, ended_2), (stored, (ended_3, told))) = thread::join(
         &rt,
         || {
