@@ -91,7 +91,7 @@ fn print_status<W: Write>(
     output: &mut W,
 ) -> io::Result<Result<bool, LookFault>> {
     match form {
-        AnswerForm::Plain => write!(output, "{}", Table(status))?,
+        AnswerForm::Plain => write!(output, "{}", Table(*status))?,
         AnswerForm::Json => writeln!(output, "{}", text.trim_ascii())?,
     }
     output.flush()?;

@@ -6,11 +6,11 @@ use std::fmt;
 
 /// A line for each part of the status, which begins with its word, and then a line for each peer.
 #[derive(Clone, Copy)]
-pub struct Table<'a>(pub &'a Status<'a>);
+pub struct Table<'a>(pub Status<'a>);
 
 impl fmt::Display for Table<'_> {
     fn fmt<W: fmt::Write>(&self, f: &mut fmt::Formatter<W>) -> fmt::Result {
-        let status = self.0;
+        let status = &self.0;
         print_node(f, status)?;
         print_quorum(f, &status.quorum)?;
         print_members(f, status.members)?;

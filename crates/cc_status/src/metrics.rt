@@ -95,9 +95,21 @@ fn print_node<W: fmt::Write>(f: &mut fmt::Formatter<W>, status: &Status) -> fmt:
     print_values(
         f,
         &[
-            gauge("ready", "Whether it has joined and enough members aren't absent.", ready),
-            gauge("members", "Nodes that joined and haven't left.", quorum.members),
-            gauge("members_needed", "Members that answer an operation.", quorum.need),
+            gauge(
+                "ready",
+                "Whether it has joined and enough members aren't absent.",
+                ready,
+            ),
+            gauge(
+                "members",
+                "Nodes that joined and haven't left.",
+                quorum.members,
+            ),
+            gauge(
+                "members_needed",
+                "Members that answer an operation.",
+                quorum.need,
+            ),
             gauge("present", "Nodes that entered and haven't left.", present),
         ],
     )
@@ -133,8 +145,16 @@ fn print_clients<W: fmt::Write>(f: &mut fmt::Formatter<W>, status: &Status) -> f
             gauge("round_active", "Whether a round is under way.", is_active),
             gauge("waiting_asks", "Asks behind the round.", waiting),
             gauge("sessions_used", "Sessions served.", used),
-            gauge("sessions_limit", "Sessions that a node serves in its life.", limit),
-            gauge("connections", "Connections that are open.", status.counts.connections),
+            gauge(
+                "sessions_limit",
+                "Sessions that a node serves in its life.",
+                limit,
+            ),
+            gauge(
+                "connections",
+                "Connections that are open.",
+                status.counts.connections,
+            ),
         ],
     )
 }
@@ -144,12 +164,28 @@ fn print_counts<W: fmt::Write>(f: &mut fmt::Formatter<W>, status: &Status) -> fm
     print_values(
         f,
         &[
-            counter("events_total", "Events made durable since the start.", counts.events),
-            counter("commits_total", "Batches made durable since the start.", counts.commits),
-            counter("checkpoints_total", "Checkpoints since the start.", counts.checkpoints),
+            counter(
+                "events_total",
+                "Events made durable since the start.",
+                counts.events,
+            ),
+            counter(
+                "commits_total",
+                "Batches made durable since the start.",
+                counts.commits,
+            ),
+            counter(
+                "checkpoints_total",
+                "Checkpoints since the start.",
+                counts.checkpoints,
+            ),
             counter("posts_total", "Posts made in the node's life.", posts.made),
             gauge("posts_kept", "Posts kept for peers.", posts.kept),
-            gauge("posts_limit", "Posts that a node keeps at most.", posts.limit),
+            gauge(
+                "posts_limit",
+                "Posts that a node keeps at most.",
+                posts.limit,
+            ),
         ],
     )
 }

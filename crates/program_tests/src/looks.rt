@@ -51,7 +51,7 @@ fn is_table(alloc: Global, json: &str, wanted: &str) -> Result<bool, Fail> {
     let Some(status) = Status::of(&value) else {
         return Ok(false);
     };
-    let table = format!(in alloc; "{}", Table(&status))?;
+    let table = format!(in alloc; "{}", Table(status))?;
     drop(value);
     Ok(table.as_str() == wanted)
 }
