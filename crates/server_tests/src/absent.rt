@@ -1,7 +1,8 @@
 //! Two of three members go on without the third, which is started late or never.
 
 use crate::nodes::{
-    Places, check, check_end, end, end_at, format_member_of, run, run_among, set_up_of_three,
+    Places, Setting, check, check_end, end, end_at, format_member_of, run, run_with,
+    set_up_of_three,
 };
 use cc_channels::Stop;
 use cc_client::{ask_node, retire_node};
@@ -92,15 +93,36 @@ fn two_members_go_on_and_the_third_comes_late(rt: HostRuntime) -> Result<(), Fai
         || {
             thread::join(
                 &rt,
-                || run_among(&rt, alloc, "absent-1", first, &of_1, &stop, &NoHooks),
-                || run_among(&rt, alloc, "absent-2", second, &of_2, &stop, &NoHooks),
+                || run_with(
+                    &rt,
+                    alloc,
+                    &Setting::of("absent-1", &of_1),
+                    first,
+                    &stop,
+                    &NoHooks,
+                ),
+                || run_with(
+                    &rt,
+                    alloc,
+                    &Setting::of("absent-2", &of_2),
+                    second,
+                    &stop,
+                    &NoHooks,
+                ),
             )
         },
         || {
             let stored = store_all(&rt, alloc, one);
             let back = thread::join(
                 &rt,
-                || run_among(&rt, alloc, "absent-3", third, &of_3, &late, &NoHooks),
+                || run_with(
+                    &rt,
+                    alloc,
+                    &Setting::of("absent-3", &of_3),
+                    third,
+                    &late,
+                    &NoHooks,
+                ),
                 || collect_late(&rt, alloc, &late, three),
             );
             end(&rt, &stop, one, two);

@@ -1,52 +1,15 @@
 //! The file of the peers, which changes while a node runs.
 
-use crate::nodes::{check_end, end_at, format_member};
+use crate::nodes::{Setting, check_end, end_at, format_member, run_with};
 use cc_channels::Stop;
-use cc_intake::{Finished, NoHooks};
-use cc_server::{Config, ReadText, RunFault, run_on};
-use log::Log;
+use cc_intake::NoHooks;
 use std::alloc::Global;
 use std::fs::{File, Files};
 use std::net::{Net, SocketAddr, TcpListener, TcpStream};
-use std::sync::Wait;
 use std::test::*;
-use std::thread::Threads;
-use std::time::Clock;
 use std::{fs, thread};
 
 const FILE: &str = "followed-peers";
-
-// Runs the node of a folder, which has no peers at first but those of the file, until the flag is set.
-fn run_following<R>(
-    rt: &R,
-    alloc: Global,
-    folder: &str,
-    listener: TcpListener,
-    stop: &Stop,
-) -> Result<Finished<()>, RunFault>
-where
-    R: Files<File = File>
-        + Net<Listener = TcpListener, Stream = TcpStream>
-        + Threads
-        + Wait
-        + Clock
-        + ReadText
-        + Log
-        + Sync,
-{
-    let listen = listener.local_addr().or(Err(RunFault::Listen))?;
-    let config = Config {
-        dir: folder,
-        listen,
-        listen_clients: None,
-        remote_operators: true,
-        peers: Vec::new(alloc),
-        peers_file: Some(FILE),
-        status: None,
-        version: "",
-    };
-    run_on(rt, alloc, &config, Some(listener), stop, &NoHooks)
-}
 
 // Puts lines in the file: of the node itself at an address of its own, and of node 2 at that address.
 fn put_lines<R: Files<File = File>>(
@@ -85,7 +48,13 @@ fn a_peer_is_added_and_moved_while_a_node_runs(rt: HostRuntime) -> Result<(), Fa
     let stop = Stop::new();
     let (ended, moved) = thread::join(
         &rt,
-        || run_following(&rt, alloc, "following-1", listener, &stop),
+        || {
+            let setting = Setting {
+                peers_file: Some(FILE),
+                ..Setting::of("following-1", &[])
+            };
+            run_with(&rt, alloc, &setting, listener, &stop, &NoHooks)
+        },
         || {
             let moved = move_peer(&rt, alloc, node);
             end_at(&rt, &stop, node);

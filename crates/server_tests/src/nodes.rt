@@ -115,6 +115,32 @@ pub(crate) fn format_with_share<'w, R: AllocGlobal + Files<File = File>>(
     check(status == 0, "the folder is formatted")
 }
 
+/// What a node of a test is run with, beside its listener.
+#[derive(Clone, Copy)]
+pub(crate) struct Setting<'a> {
+    pub folder: &'a str,
+    /// The peers, each with where it listens.
+    pub peers: &'a [(u32, SocketAddr)],
+    pub peers_file: Option<&'a str>,
+    pub listen_clients: Option<SocketAddr>,
+    pub remote_operators: bool,
+    pub status: Option<SocketAddr>,
+}
+
+impl<'a> Setting<'a> {
+    /// A folder and peers, and no more.
+    pub(crate) fn of(folder: &'a str, peers: &'a [(u32, SocketAddr)]) -> Self {
+        Setting {
+            folder,
+            peers,
+            peers_file: None,
+            listen_clients: None,
+            remote_operators: true,
+            status: None,
+        }
+    }
+}
+
 /// Runs the node of a folder, with a peer that listens there, until the flag is set.
 pub(crate) fn run<R, H: Hooks + Sync>(
     rt: &R,
@@ -135,16 +161,22 @@ where
         + Log
         + Sync,
 {
-    run_among(rt, alloc, folder, listener, &[peer], stop, hooks)
+    run_with(
+        rt,
+        alloc,
+        &Setting::of(folder, &[peer]),
+        listener,
+        stop,
+        hooks,
+    )
 }
 
-/// The same, with several peers.
-pub(crate) fn run_among<R, H: Hooks + Sync>(
+/// Runs a node with such a setting until the flag is set.
+pub(crate) fn run_with<R, H: Hooks + Sync>(
     rt: &R,
     alloc: Global,
-    folder: &str,
+    setting: &Setting<'_>,
     listener: TcpListener,
-    peers: &[(u32, SocketAddr)],
     stop: &Stop,
     hooks: &H,
 ) -> Result<Finished<()>, RunFault>
@@ -160,14 +192,14 @@ where
 {
     let listen = listener.local_addr().or(Err(RunFault::Listen))?;
     let config = Config {
-        dir: folder,
+        dir: setting.folder,
         listen,
-        listen_clients: None,
-        remote_operators: true,
-        peers: peers_of(alloc, peers)?,
-        peers_file: None,
-        status: None,
-        version: "",
+        listen_clients: setting.listen_clients,
+        remote_operators: setting.remote_operators,
+        peers: peers_of(alloc, setting.peers)?,
+        peers_file: setting.peers_file,
+        status: setting.status,
+        version: "1",
     };
     run_on(rt, alloc, &config, Some(listener), stop, hooks)
 }

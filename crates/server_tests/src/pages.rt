@@ -1,22 +1,17 @@
 //! Those who look at a node over HTTP.
 
-use crate::nodes::{check, check_end, end_at, format_member_of};
+use crate::nodes::{Setting, check, check_end, end_at, format_member_of, run_with};
 use cc_channels::Stop;
 use cc_client::ask_node;
-use cc_intake::{Finished, NoHooks};
+use cc_intake::NoHooks;
 use cc_orders::AskOrder;
-use cc_server::{Config, ReadText, RunFault, run_on};
 use cc_words::command;
-use log::Log;
 use serde_json::Value;
 use std::alloc::Global;
-use std::fs::{File, Files};
 use std::io::{Read, Write};
 use std::net::{Net, SocketAddr, TcpListener, TcpStream};
-use std::sync::Wait;
 use std::test::*;
 use std::thread;
-use std::thread::Threads;
 use std::time::{Clock, Duration};
 
 // What is answered to whom, in the first line and in the last one. The head of the 404 has no text behind it.
@@ -136,39 +131,6 @@ fn look<R: Net<Stream = TcpStream> + Clock>(
     Ok(())
 }
 
-// Runs the node of a folder by itself, which shows itself at that place, until the flag is set.
-fn run_shown<R>(
-    rt: &R,
-    alloc: Global,
-    folder: &str,
-    listener: TcpListener,
-    place: SocketAddr,
-    stop: &Stop,
-) -> Result<Finished<()>, RunFault>
-where
-    R: Files<File = File>
-        + Net<Listener = TcpListener, Stream = TcpStream>
-        + Threads
-        + Wait
-        + Clock
-        + ReadText
-        + Log
-        + Sync,
-{
-    let listen = listener.local_addr().or(Err(RunFault::Listen))?;
-    let config = Config {
-        dir: folder,
-        listen,
-        listen_clients: None,
-        remote_operators: true,
-        peers: Vec::new(alloc),
-        peers_file: None,
-        status: Some(place),
-        version: "1",
-    };
-    run_on(rt, alloc, &config, Some(listener), stop, &NoHooks)
-}
-
 #[test]
 fn a_node_is_looked_at(rt: HostRuntime) -> Result<(), Fail> {
     format_member_of(&rt, "shown-1", "1", "1", None)?;
@@ -179,7 +141,13 @@ fn a_node_is_looked_at(rt: HostRuntime) -> Result<(), Fail> {
     let stop = Stop::new();
     let (ended, looked) = thread::join(
         &rt,
-        || run_shown(&rt, alloc, "shown-1", listener, place, &stop),
+        || {
+            let setting = Setting {
+                status: Some(place),
+                ..Setting::of("shown-1", &[])
+            };
+            run_with(&rt, alloc, &setting, listener, &stop, &NoHooks)
+        },
         || {
             let looked = look(&rt, alloc, node, place);
             end_at(&rt, &stop, node);

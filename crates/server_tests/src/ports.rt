@@ -1,19 +1,13 @@
 //! A port for clients alone, and a node that hears the operator on its own machine alone.
 
 use crate::clients::{FIRST_ASK, FIRST_REPLY, OTHER_ASK, OTHER_REPLY, exchange, is_closed_after};
-use crate::nodes::{check, check_end, end_at, format_member_of};
+use crate::nodes::{Setting, check, check_end, end_at, format_member_of, run_with};
 use cc_channels::Stop;
-use cc_intake::{Finished, NoHooks};
-use cc_server::{Config, ReadText, RunFault, run_on};
-use log::Log;
+use cc_intake::NoHooks;
 use std::alloc::Global;
-use std::fs::{File, Files};
 use std::net::{Net, SocketAddr, TcpListener, TcpStream};
-use std::sync::Wait;
 use std::test::*;
 use std::thread;
-use std::thread::Threads;
-use std::time::Clock;
 
 // Node 9, which nobody knows, says that it joined. A store would wait for it from then on.
 const JOIN_OF_9: [u8; 22] = [
@@ -71,39 +65,6 @@ fn talk<R: Net<Stream = TcpStream>>(
     exchange(rt, alloc, node, &LEAVE_TWICE, &REFUSED)
 }
 
-// Runs the node of a folder by itself, with a port for clients, until the flag is set.
-fn run_guarded<R>(
-    rt: &R,
-    alloc: Global,
-    folder: &str,
-    listener: TcpListener,
-    clients: SocketAddr,
-    stop: &Stop,
-) -> Result<Finished<()>, RunFault>
-where
-    R: Files<File = File>
-        + Net<Listener = TcpListener, Stream = TcpStream>
-        + Threads
-        + Wait
-        + Clock
-        + ReadText
-        + Log
-        + Sync,
-{
-    let listen = listener.local_addr().or(Err(RunFault::Listen))?;
-    let config = Config {
-        dir: folder,
-        listen,
-        listen_clients: Some(clients),
-        remote_operators: false,
-        peers: Vec::new(alloc),
-        peers_file: None,
-        status: None,
-        version: "",
-    };
-    run_on(rt, alloc, &config, Some(listener), stop, &NoHooks)
-}
-
 #[test]
 fn a_port_for_clients_takes_asks_alone(rt: HostRuntime) -> Result<(), Fail> {
     format_member_of(&rt, "guarded-1", "1", "1", None)?;
@@ -114,7 +75,14 @@ fn a_port_for_clients_takes_asks_alone(rt: HostRuntime) -> Result<(), Fail> {
     let stop = Stop::new();
     let (ended, talked) = thread::join(
         &rt,
-        || run_guarded(&rt, alloc, "guarded-1", listener, clients, &stop),
+        || {
+            let setting = Setting {
+                listen_clients: Some(clients),
+                remote_operators: false,
+                ..Setting::of("guarded-1", &[])
+            };
+            run_with(&rt, alloc, &setting, listener, &stop, &NoHooks)
+        },
         || {
             let talked = talk(&rt, alloc, node, clients);
             end_at(&rt, &stop, node);

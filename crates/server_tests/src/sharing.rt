@@ -1,7 +1,7 @@
 //! Asks over one connection that begin together.
 
 use crate::clients::{FIRST_ASK, FIRST_REPLY, connected, reads};
-use crate::nodes::{check, check_end, end_at, format_with_share, run_among};
+use crate::nodes::{Setting, check, check_end, end_at, format_with_share, run_with};
 use crate::routing::ends;
 use cc_channels::Stop;
 use cc_intake::NoHooks;
@@ -47,7 +47,14 @@ fn asks_of_one_connection_begin_together(rt: HostRuntime) -> Result<(), Fail> {
     let alloc = rt.alloc();
     let (ended, talked) = thread::join(
         &rt,
-        || run_among(&rt, alloc, "sharing-1", listener, &[], &stop, &NoHooks),
+        || run_with(
+            &rt,
+            alloc,
+            &Setting::of("sharing-1", &[]),
+            listener,
+            &stop,
+            &NoHooks,
+        ),
         || {
             let talked = ask_all(&rt, alloc, one);
             end_at(&rt, &stop, one);
