@@ -6,7 +6,8 @@
 --     StoredRound            a round in which a view was stored, of which something holds
 --     ReadRound              a round in which a view was queried, with what was seen in it
 --     number_reached         a writing ask that was answered was counted
-use Rattle.std.proofs.Common.{◌≡◌, ◌⊎◌, ℕ, ◌+◌, ◌<◌, ◌≤◌, Bool, true, false, cond, nat_eq, List, [], ◌∷◌, ◌++◌, refl, sym, ap, subst, ◌∙◌, inl, inr, arith, append_assoc}
+use Rattle.std.proofs.Common.{◌≡◌, ◌⊎◌, ℕ, ◌+◌, ◌<◌, ◌≤◌, Bool, true, false, cond, nat_eq, List, [], ◌∷◌, ◌++◌, refl, sym, ap, subst, ◌∙◌, inl, inr, arith}
+use Rattle.std.proofs.Common.{append_assoc}
 use Rattle.std.specs.Prelude.{Option, Some, None, IfSome, ◌&&◌, ◌==◌, is_some, if◌then◌else◌}
 use Rattle.std.specs.Option.{unwrap_or}
 use Rattle.std.specs.List.{Contains, AllByRecursion}
@@ -31,7 +32,7 @@ use Rattle.cc_ops.specs.declared.pending.Asked.{Asked}
 use Rattle.cc_ops.specs.declared.pending.Pending.{Pending}
 use Rattle.cc_ops.specs.declared.pending.Reply.{Reply}
 use Rattle.cc_ops.specs.Commands.{is_writing, answer_of}
-use Rattle.cc_ops.specs.Ops.{Phase, Idle, Storing, Querying, StoringBack, asked_in, pending, unanswered}
+use Rattle.cc_ops.specs.Ops.{Phase, Storing, Querying, StoringBack, asked_in, pending, unanswered}
 use Rattle.cc_ops.specs.Rounds.{is_of, of_kind}
 use Rattle.cc_ops.specs.RoundLaws.{has_both, kind_both, writers_count}
 use Rattle.cc_ops.specs.Waiting.{has_session, AreApart, writes_by}
@@ -102,14 +103,8 @@ last_inserted ss x r s up =
 
 last_next : (c : Core) (e : Event) (s : ℕ) → decides c e ≡ None → last_request c.sessions s ≤ last_request (next c e).sessions s
 unfolding next
-last_next c event.Enter s d = omega arith
-last_next c event.Leave s d = omega arith
-last_next c (event.Deliver from n m) s d = omega arith
-last_next c (event.Acked peer n) s d = omega arith
 last_next c (event.Ask x r k) s d = last_inserted c.sessions x r s (λ is. subst (λ (y : ℕ). last_request c.sessions y < r) is (request_new c x r k d))
-last_next c (event.Retire q) s d = omega arith
-last_next c (event.Lapse q) s d = omega arith
-last_next c event.Snapshot s d = omega arith
+last_next c _ s d = omega arith
 
 pub last_after : (s : ℕ) (n : Node) (es : List Event) → IsLawful n es → last_request n.core.sessions s ≤ last_request (after n es).core.sessions s
 unfolding step
@@ -133,7 +128,8 @@ ended m s r a has =
     let t : Reply = record { session = s; request = r; answer = a } in
     let is : Contains (replies c made.event) t = All-contains (OutputSays c made.event) (outputs c made.event) (output.Reply s r a)
     (All-from_recursion (OutputSays c made.event) (outputs c made.event) (outputs_say c made.event)) made.makes in
-    let says = All-contains (ReplySays c made.event) (replies c made.event) t (All-from_recursion (ReplySays c made.event) (replies c made.event) (each_says c made.event)) is in
+    let says = All-contains (ReplySays c made.event) (replies c made.event) t
+    (All-from_recursion (ReplySays c made.event) (replies c made.event) (each_says c made.event)) is in
     record { front = made.before; last = made.event; later = made.later; parts = made.parts; ends = says.0; tells = says.1 }
 
 abbrev pub IsWriteOp : Core → ℕ → ℕ → Answer → Type 0
@@ -143,18 +139,18 @@ IsWriteOp c s r a =
 
 abbrev pub IsReadOp : Core → ℕ → ℕ → Answer → Type 0
 IsReadOp c s r a =
-    (p : Pending) × (x : Asked) × (seen : ViewMap) × (c.ops.phase ≡ StoringBack p seen) × Contains (p.asked ∷ c.ops.others) x × (x.session ≡ s) × (x.request ≡ r)
+    (p : Pending) × (x : Asked) × (seen : ViewMap) × (c.ops.phase ≡ StoringBack p seen) × Contains
+    (p.asked ∷ c.ops.others) x × (x.session ≡ s) × (x.request ≡ r)
     × (a ≡ answer_of x.command seen)
 
 pub either_op : (c : Core) (s r : ℕ) (a : Answer) (phase : Phase) → c.ops.phase ≡ phase
     → Told c.ops.view c.ops.others phase (record { session = s; request = r; answer = a })
     → IsWriteOp c s r a ⊎ IsReadOp c s r a
-either_op c s r a Idle is t = absurd t
 either_op c s r a (Storing p) is t =
     inl (p, t.0, is, t.1, ap (λ (k : Reply). k.session) (sym t.2), ap (λ (k : Reply). k.request) (sym t.2), ap (λ (k : Reply). k.answer) t.2)
-either_op c s r a (Querying p) is t = absurd t
 either_op c s r a (StoringBack p seen) is t =
     inr (p, t.0, seen, is, t.1, ap (λ (k : Reply). k.session) (sym t.2), ap (λ (k : Reply). k.request) (sym t.2), ap (λ (k : Reply). k.answer) t.2)
+either_op c s r a _ is t = absurd t
 
 -- what pends where the phase is known
 pub pending_as : (c : Core) (p : Pending) (phase : Phase) → c.ops.phase ≡ phase → asked_in phase ≡ p.asked ∷ [] → pending c.ops ≡ p.asked ∷ c.ops.others
@@ -168,9 +164,11 @@ op_pends c p phase x is first has = subst (λ (l : List Asked). Contains l x) (s
 each_alike : (k : Bool) (first x : Asked) (others : List Asked) → is_writing first.command ≡ k → AllByRecursion (λ a. is_writing a.command ≡ k) others
     → Contains (first ∷ others) x → is_writing x.command ≡ k
 each_alike k first x others is all has =
-    All-contains (λ (a : Asked). is_writing a.command ≡ k) (first ∷ others) x (All-from_recursion (λ (a : Asked). is_writing a.command ≡ k) (first ∷ others) (is, all)) has
+    All-contains (λ (a : Asked). is_writing a.command ≡ k) (first ∷ others) x
+    (All-from_recursion (λ (a : Asked). is_writing a.command ≡ k) (first ∷ others) (is, all)) has
 
-pub op_writes : (c : Core) → IsLawfulCore c → (p : Pending) (x : Asked) → c.ops.phase ≡ Storing p → Contains (p.asked ∷ c.ops.others) x → is_writing x.command ≡ true
+pub op_writes : (c : Core) → IsLawfulCore c → (p : Pending) (x : Asked) → c.ops.phase ≡ Storing p → Contains (p.asked ∷ c.ops.others) x
+    → is_writing x.command ≡ true
 op_writes c lawful p x is has =
     each_alike true p.asked x c.ops.others (subst (IsPhaseOf c.links c.sessions) is lawful.phase).1
     (subst (λ (f : Phase). IsBeside f c.ops.others) is lawful.line.round.alike) has
@@ -193,23 +191,14 @@ asked_last c lawful s r has =
 -- which answers a reading command has, and a writing one
 pub reads_view : (k : Command) (v : ViewMap) → is_writing k ≡ false → answer.Stored ≡ answer_of k v → ⊥
 reads_view (command.Store text) v reads is = cc
-reads_view command.Collect v reads is = cc
-reads_view (command.WriteMax x) v reads is = cc
-reads_view command.ReadMax v reads is = cc
-reads_view command.SetFlag v reads is = cc
-reads_view command.ReadFlag v reads is = cc
-reads_view (command.AddMember x) v reads is = cc
-reads_view command.ReadSet v reads is = cc
+reads_view _ v reads is = cc
 
 pub writes_stored : (k : Command) (v : ViewMap) → is_writing k ≡ true → answer_of k v ≡ answer.Stored
-writes_stored (command.Store text) v writes = refl
 writes_stored command.Collect v writes = cc
-writes_stored (command.WriteMax x) v writes = refl
 writes_stored command.ReadMax v writes = cc
-writes_stored command.SetFlag v writes = refl
 writes_stored command.ReadFlag v writes = cc
-writes_stored (command.AddMember x) v writes = refl
 writes_stored command.ReadSet v writes = cc
+writes_stored _ v writes = refl
 
 -- ---- rounds of one member
 
@@ -286,9 +275,11 @@ module _ (q : ℕ) (m : Member) (sound : IsSound q m) where
       raised = raised_all c.ops.tag Q R f raised;
       acks = with_all (HasAck m.events q c.ops.tag) (counts c last) (peers_along start [] front)
           (some_changed (IsAckFrom c last) (HasAck m.events q c.ops.tag)
-          (λ r k. (k.0, last_there _ (k.1 ∙ ap (λ (me : ℕ). event.Deliver r k.0 (message.StoreAck c.ops.tag me)) is_me))) (counts c last) (counted_ack c last is))
+          (λ r k. (k.0, last_there _ (k.1 ∙ ap (λ (me : ℕ). event.Deliver r k.0 (message.StoreAck c.ops.tag me)) is_me)))
+          (counts c last) (counted_ack c last is))
           (all_changed (HasAck front c.me c.ops.tag) (HasAck m.events q c.ops.tag)
-          (λ r k. (k.0, subst (λ (me : ℕ). Contains m.events (event.Deliver r k.0 (message.StoreAck c.ops.tag me))) is_me (there _ k.1))) (peers_along start [] front) acks);
+          (λ r k. (k.0, subst (λ (me : ℕ). Contains m.events (event.Deliver r k.0 (message.StoreAck c.ops.tag me))) is_me (there _ k.1)))
+          (peers_along start [] front) acks);
     }
 
     read_round : (s r : ℕ) (seen : ViewMap) (p : Pending) → c.ops.phase ≡ Querying p → (is_end : ends_round c last ≡ true)
@@ -412,7 +403,8 @@ module _ (q : ℕ) (m : Member) (sound : IsSound q m) where
           → last_request (after start xs).core.sessions s ≤ last_request (after start zs).core.sessions s
       later_last xs ys zs parts h =
           let more = (lawful_parts start xs ys (subst (IsLawful start) parts h)).1 in
-          subst (λ (n : Node). last_request (after start xs).core.sessions s ≤ last_request n.core.sessions s) (sym (after_parts start zs xs ys parts)) (last_after s (after start xs) ys more)
+          subst (λ (n : Node). last_request (after start xs).core.sessions s ≤ last_request n.core.sessions s) (sym (after_parts start zs xs ys parts))
+          (last_after s (after start xs) ys more)
 
       reached : (more : List Event) → op.front ≡ w.before ++ event.Ask s r w.command ∷ more → IsLawfulNode (after start op.front)
           → k ≤ (after start op.front).core.ops.number
@@ -427,7 +419,8 @@ module _ (q : ℕ) (m : Member) (sound : IsSound q m) where
           let later = of_kind true (asked_along more) in
           let begins : of_kind true (asked_along front) ≡ writers ++ waiting =
           ap (λ (l : List Asked). of_kind true (l ++ asked_along front)) (sym (fresh_line m.opening))
-          ∙ begin_in_order true start front (fresh_lawful m.opening sound.opening) (lawful_before front op.later op.last op.parts) ∙ kind_both true begun ops.line in
+          ∙ begin_in_order true start front (fresh_lawful m.opening sound.opening) (lawful_before front op.later op.last op.parts)
+          ∙ kind_both true begun ops.line in
           let asks : of_kind true (asked_along front) ≡ of_kind true first ++ x ∷ later =
           ap (of_kind true) (ap asked_along inside ∙ asked_both w.before (event.Ask s r w.command ∷ more)) ∙ kind_both true first (x ∷ asked_along more)
           ∙ ap (λ (b : Bool). of_kind true first ++ (if b then x ∷ later else later)) w.writes in

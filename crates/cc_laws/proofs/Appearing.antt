@@ -31,7 +31,8 @@ unfolding fresh
 fresh_view o = refl
 
 module _ (o : Opening) (es : List Event) where
-  fresh_points : (k : ℕ) → ShowsOnly (IsViewOf (fresh o) es) (after (fresh o) (take k es)) × AllByRecursion (OfOutput (IsViewOf (fresh o) es)) (line (fresh o) (take k es))
+  fresh_points : (k : ℕ)
+      → ShowsOnly (IsViewOf (fresh o) es) (after (fresh o) (take k es)) × AllByRecursion (OfOutput (IsViewOf (fresh o) es)) (line (fresh o) (take k es))
   fresh_points k =
       all_shown (IsViewOf (fresh o) es) (fresh o) (take k es) (fresh_shows (IsViewOf (fresh o) es) o (0, sym (fresh_view o)))
       (λ j. view_of_front (fresh o) es k (view_at (fresh o) (take k es) j) (j, refl))
@@ -44,4 +45,5 @@ module _ (o : Opening) (es : List Event) where
   views_appear v (shown k is) = of_shown (IsViewOf (fresh o) es) (after (fresh o) (take k es)) v (fresh_points k).0 is
   views_appear v (put output has is) =
       at_some (IsViewOf (fresh o) es) (in_output output) v is
-      (All-contains (OfOutput (IsViewOf (fresh o) es)) (line (fresh o) es) output (All-from_recursion (OfOutput (IsViewOf (fresh o) es)) (line (fresh o) es) fresh_puts) has)
+      (All-contains (OfOutput (IsViewOf (fresh o) es)) (line (fresh o) es) output
+      (All-from_recursion (OfOutput (IsViewOf (fresh o) es)) (line (fresh o) es) fresh_puts) has)

@@ -44,7 +44,8 @@ pub at_id : (c : Cluster) (q : ℕ) (n : Member) (p : ℕ)
     → ((p ≡ q) × (table.get (with_member q n c).members p ≡ Some n)) ⊎ (table.get (with_member q n c).members p ≡ table.get c.members p)
 at_id c q n p =
     let is = get-insert_key c.members q n p in
-    elim (eqb_tells p q) as (λ _. ((p ≡ q) × (table.get (with_member q n c).members p ≡ Some n)) ⊎ (table.get (with_member q n c).members p ≡ table.get c.members p)) [
+    elim (eqb_tells p q)
+    as (λ _. ((p ≡ q) × (table.get (with_member q n c).members p ≡ Some n)) ⊎ (table.get (with_member q n c).members p ≡ table.get c.members p)) [
       | inl e ↦ inl (e.1, is ∙ ap (λ t. cond t (Some n) (table.get c.members p)) e.0)
       | inr e ↦ inr (is ∙ ap (λ t. cond t (Some n) (table.get c.members p)) e.0)
     ]

@@ -30,7 +30,7 @@ use Rattle.cc_flush.specs.Engine.{Engine}
 use Rattle.cc_flush.specs.Flushing.{LeadsTo, LeadsToOwed}
 use Rattle.cc_flush.specs.declared.formatting.FormatFault.{FormatFault}
 use Rattle.cc_laws.specs.declared.living.Stopped.{Stopped}
-use Rattle.cc_laws.specs.declared.living.Stopped.TheVariants.{Format, Open, NoRoom, Commit}
+use Rattle.cc_laws.specs.declared.living.Stopped.TheVariants.{Format}
 use Rattle.cc_flush.specs.Formatting.{IsNoneOrWhole}
 use Rattle.cc_laws.specs.Living.{IsOfFirstLife, LeavesLife, LeavesAll, LifeStops}
 use Rattle.cc_laws.proofs.Joining.{OneNode}
@@ -40,14 +40,17 @@ batch_lawful n [] lawful = tt
 batch_lawful n (entry ∷ entries) lawful = (lawful.0, batch_lawful (step n entry.event) entries lawful.2)
 
 -- where all events are durable, the sides stand for the node after all of them
-pub all_stand : (start : Node) (events : List Event) (opening : ℕ) (a b : List ℕ) (told : List Output) → IsGoodAt start events (length events) opening a b told → Stands a b (after start events)
+pub all_stand : (start : Node) (events : List Event) (opening : ℕ) (a b : List ℕ) (told : List Output) → IsGoodAt start events (length events) opening a b told
+    → Stands a b (after start events)
 all_stand start events opening a b told good = subst (λ (l : List Event). Stands a b (after start l)) (take_all good.prefix events good.has_durable) good.stands
 
 -- the moment is as good for more events, and for fewer durable ones
-good_first : (start : Node) (events : List Event) (opening : ℕ) (left : Contents) (told : List Output) → IsGood start [] 0 opening left told → IsGood start events 0 opening left told
+good_first : (start : Node) (events : List Event) (opening : ℕ) (left : Contents) (told : List Output) → IsGood start [] 0 opening left told
+    → IsGood start events 0 opening left told
 good_first start events opening left told good = good_for_more start [] events 0 0 opening (left A) (left B) told (omega arith) good
 
-none_durable : (start : Node) (events : List Event) (durable opening : ℕ) (left : Contents) (told : List Output) → IsGood start events durable opening left told → IsGood start events 0 opening left told
+none_durable : (start : Node) (events : List Event) (durable opening : ℕ) (left : Contents) (told : List Output) → IsGood start events durable opening left told
+    → IsGood start events 0 opening left told
 none_durable start events durable opening left told good = record {
   a_there = good.a_there;
   b_there = good.b_there;
@@ -68,7 +71,8 @@ side_good B generation place start events opening left told rests =
     (whole_good generation place start events opening (left B) (left A) told rests (length events) (omega arith))
 
 -- where the side in use is said, and the other one
-pub stands_whole : (left : Contents) (side : Side) (generation place : ℕ) (node : Node) → StandsAt (left side) (left (other side)) generation place node → Stands (left A) (left B) node
+pub stands_whole : (left : Contents) (side : Side) (generation place : ℕ) (node : Node) → StandsAt (left side) (left (other side)) generation place node
+    → Stands (left A) (left B) node
 stands_whole left A generation place node at = inl (record { generation = generation; place = place; at = at })
 stands_whole left B generation place node at = inr (record { generation = generation; place = place; at = at })
 
@@ -76,7 +80,8 @@ pub if_err_more : {T E : Type 0} (P Q : E → Type 0) (r : Result T E) → ((e :
 if_err_more P Q (Ok x) more h = tt
 if_err_more P Q (Err e) more h = more e h
 
-pub match_more : {T E : Type 0} (P Q : T → Type 0) (R W : E → Type 0) (r : Result T E) → ((x : T) → P x → Q x) → ((e : E) → R e → W e) → MatchResult r P R → MatchResult r Q W
+pub match_more : {T E : Type 0} (P Q : T → Type 0) (R W : E → Type 0) (r : Result T E) → ((x : T) → P x → Q x) → ((e : E) → R e → W e) → MatchResult r P R
+    → MatchResult r Q W
 match_more P Q R W (Ok x) f k h = f x h
 match_more P Q R W (Err e) f k h = k e h
 
@@ -85,12 +90,11 @@ ok_of P Q R (Ok x) f h = f x h
 ok_of P Q R (Err e) f h = tt
 
 -- where more is said of formatting that stops
-pub stops_more : (U V : FormatFault → Type 0) (state : Side → SideState) (sent : List Output) (start : Node) (events : List Event) (opening : ℕ) → ((fault : FormatFault) → U fault → V fault)
-    → (stopped : Stopped) → LifeStops U state sent start events opening stopped → LifeStops V state sent start events opening stopped
+pub stops_more : (U V : FormatFault → Type 0) (state : Side → SideState) (sent : List Output) (start : Node) (events : List Event) (opening : ℕ)
+    → ((fault : FormatFault) → U fault → V fault) → (stopped : Stopped) → LifeStops U state sent start events opening stopped
+    → LifeStops V state sent start events opening stopped
 stops_more U V state sent start events opening more (Format fault) h = more fault h
-stops_more U V state sent start events opening more (Open fault) h = h
-stops_more U V state sent start events opening more NoRoom h = h
-stops_more U V state sent start events opening more (Commit failed) h = h
+stops_more U V state sent start events opening more _ h = h
 
 module _ {D : Type 0} (s : Ghosts D) where
   pub good_leaves : (site : D) (start : Node) (events : List Event) (opening : ℕ) → IsLawful start events → IsGoodNow s site start events opening
@@ -103,36 +107,40 @@ module _ {D : Type 0} (s : Ghosts D) where
       let now = good left told possible in
       (record { lawful = lawful; good = now }, after start events, all_stand start events opening (left A) (left B) told now, refl)
 
-  pub rests_good_now : (site : D) (at : Position) (generation : ℕ) (start : Node) (events : List Event) (opening : ℕ) → RestsNow s site at generation start events opening
-      → IsGoodNow s site start events opening
+  pub rests_good_now : (site : D) (at : Position) (generation : ℕ) (start : Node) (events : List Event) (opening : ℕ)
+      → RestsNow s site at generation start events opening → IsGoodNow s site start events opening
   rests_good_now site at generation start events opening rests left told possible =
       side_good at.side generation at.place start events opening left told (rests left told possible)
 
   -- what a read gives is one of the contents that a crash may leave
-  pub reads_stand : (site : D) (start : Node) (opening : ℕ) → ((side : Side) → MayLeave (s.state site side) (s.state site side).bytes) → IsGoodNow s site start [] opening
-      → Stands (s.state site A).bytes (s.state site B).bytes start
+  pub reads_stand : (site : D) (start : Node) (opening : ℕ) → ((side : Side) → MayLeave (s.state site side) (s.state site side).bytes)
+      → IsGoodNow s site start [] opening → Stands (s.state site A).bytes (s.state site B).bytes start
   reads_stand site start opening may_read good =
-      all_stand start [] opening (s.state site A).bytes (s.state site B).bytes (s.sent site) (good (bytes_of s site) (s.sent site) (record { each = may_read; outlet = refl }))
+      all_stand start [] opening (s.state site A).bytes (s.state site B).bytes (s.sent site)
+      (good (bytes_of s site) (s.sent site) (record { each = may_read; outlet = refl }))
 
   -- the node that is found where a life rests without an event is the one that began there
-  pub found_is : OneNode → (site : D) (start twin : Node) (opening : ℕ) → ((side : Side) → MayLeave (s.state site side) (s.state site side).bytes) → IsGoodNow s site start [] opening
-      → Stands (s.state site A).bytes (s.state site B).bytes twin → twin ≡ start
+  pub found_is : OneNode → (site : D) (start twin : Node) (opening : ℕ) → ((side : Side) → MayLeave (s.state site side) (s.state site side).bytes)
+      → IsGoodNow s site start [] opening → Stands (s.state site A).bytes (s.state site B).bytes twin → twin ≡ start
   found_is one_node site start twin opening may_read good stands =
       one_node (s.state site A).bytes (s.state site B).bytes twin start stands (reads_stand site start opening may_read good)
 
-  pub still_good : (old new : D) (start : Node) (events : List Event) (opening : ℕ) → CountsNow s new → EachMoment s old new (Possible (s.state old) (s.sent old))
-      → IsGoodNow s old start events opening → IsGoodNow s new start events opening
+  pub still_good : (old new : D) (start : Node) (events : List Event) (opening : ℕ) → CountsNow s new
+      → EachMoment s old new (Possible (s.state old) (s.sent old)) → IsGoodNow s old start events opening → IsGoodNow s new start events opening
   still_good old new start events opening counts run good left told possible =
       good left told (now_has s old new (Possible (s.state old) (s.sent old)) run counts left told possible)
 
-  pub failed_leaves : (old : Engine D) (new : D) (events : List Event) (opening : ℕ) → IsLawful old.twin events → CountsNow s new → IsGoodNow s old.site old.twin [] opening
-      → KeepsGood s (LeadsTo s old) events old.site new → LeavesLife (s.state new) (s.sent new) old.twin events 0 opening
+  pub failed_leaves : (old : Engine D) (new : D) (events : List Event) (opening : ℕ) → IsLawful old.twin events → CountsNow s new
+      → IsGoodNow s old.site old.twin [] opening → KeepsGood s (LeadsTo s old) events old.site new
+      → LeavesLife (s.state new) (s.sent new) old.twin events 0 opening
   failed_leaves old new events opening lawful counts good keeps left told possible =
       let run = keeps old.twin [] opening (record { twin = refl; good = good }) in
       record { lawful = lawful; good = now_has s old.site new (IsGood old.twin events 0 opening) run counts left told possible }
 
-  pub turned : (old mid new : Engine D) (entries : List Entry) (opening : ℕ) → AreLawful old.twin entries → IsGoodNow s old.site old.twin [] opening → mid.twin ≡ old.twin
-      → ((start : Node) (events : List Event) (opening : ℕ) → LeadsTo s old start events opening → IsGoodNow s mid.site start (events ++ events_in entries) opening)
+  pub turned : (old mid new : Engine D) (entries : List Entry) (opening : ℕ) → AreLawful old.twin entries → IsGoodNow s old.site old.twin [] opening
+      → mid.twin ≡ old.twin
+      → ((start : Node) (events : List Event) (opening : ℕ) → LeadsTo s old start events opening
+      → IsGoodNow s mid.site start (events ++ events_in entries) opening)
       → StaysGood s (LeadsToOwed s entries mid) mid.site new.site → LeavesAll (s.state new.site) (s.sent new.site) old.twin (events_in entries) opening
   turned old mid new entries opening lawful good same kept stays =
       let now = kept old.twin [] opening (record { twin = refl; good = good }) in
@@ -145,28 +153,32 @@ module _ {D : Type 0} (s : Ghosts D) where
   rest_moments site start events opening only good =
       started s site (IsGood start events 0 opening) (λ left told since. good_first start events opening left told (good left told (only left told since)))
 
-  pub open_moments : (old new : D) (start : Node) (events : List Event) (opening : ℕ) → IsGoodNow s old start [] opening → EachMoment s old new (Possible (s.state old) (s.sent old))
-      → EachMoment s old new (IsGood start events 0 opening)
+  pub open_moments : (old new : D) (start : Node) (events : List Event) (opening : ℕ) → IsGoodNow s old start [] opening
+      → EachMoment s old new (Possible (s.state old) (s.sent old)) → EachMoment s old new (IsGood start events 0 opening)
   open_moments old new start events opening good run =
-      weaker s old new (Possible (s.state old) (s.sent old)) (IsGood start events 0 opening) run (λ left told possible. good_first start events opening left told (good left told possible))
+      weaker s old new (Possible (s.state old) (s.sent old)) (IsGood start events 0 opening) run
+      (λ left told possible. good_first start events opening left told (good left told possible))
 
-  pub failed_moments : (old : Engine D) (new : D) (events : List Event) (opening : ℕ) → IsGoodNow s old.site old.twin [] opening → KeepsGood s (LeadsTo s old) events old.site new
-      → EachMoment s old.site new (IsGood old.twin events 0 opening)
+  pub failed_moments : (old : Engine D) (new : D) (events : List Event) (opening : ℕ) → IsGoodNow s old.site old.twin [] opening
+      → KeepsGood s (LeadsTo s old) events old.site new → EachMoment s old.site new (IsGood old.twin events 0 opening)
   failed_moments old new events opening good keeps = keeps old.twin [] opening (record { twin = refl; good = good })
 
   pub turned_moments : (old mid new : Engine D) (entries : List Entry) (opening : ℕ) → IsGoodNow s old.site old.twin [] opening → mid.twin ≡ old.twin
       → KeepsGood s (LeadsTo s old) (events_in entries) old.site mid.site
-      → ((start : Node) (events : List Event) (opening : ℕ) → LeadsTo s old start events opening → IsGoodNow s mid.site start (events ++ events_in entries) opening)
+      → ((start : Node) (events : List Event) (opening : ℕ) → LeadsTo s old start events opening
+      → IsGoodNow s mid.site start (events ++ events_in entries) opening)
       → StaysGood s (LeadsToOwed s entries mid) mid.site new.site → EachMoment s old.site new.site (IsGood old.twin (events_in entries) 0 opening)
   turned_moments old mid new entries opening good same keeps kept stays =
       let events = events_in entries in
       let now = kept old.twin [] opening (record { twin = refl; good = good }) in
       let owed = stays.moments old.twin events opening (record { before = []; parts = refl; twin = same; good = now }) in
       joined s old.site mid.site new.site (IsGood old.twin events 0 opening) (failed_moments old mid.site events opening good keeps)
-      (weaker s mid.site new.site (IsGood old.twin events (length events) opening) (IsGood old.twin events 0 opening) owed (none_durable old.twin events (length events) opening))
+      (weaker s mid.site new.site (IsGood old.twin events (length events) opening) (IsGood old.twin events 0 opening) owed
+      (none_durable old.twin events (length events) opening))
 
   -- while it is formatted, and from then on
-  pub format_moments : (old new : D) (start : Node) (events : List Event) → EachMoment s old new (IsNoneOrWhole start (s.sent old)) → EachMoment s old new (IsOfFirstLife start events (s.sent old))
+  pub format_moments : (old new : D) (start : Node) (events : List Event) → EachMoment s old new (IsNoneOrWhole start (s.sent old))
+      → EachMoment s old new (IsOfFirstLife start events (s.sent old))
   format_moments old new start events formatting =
       weaker s old new (IsNoneOrWhole start (s.sent old)) (IsOfFirstLife start events (s.sent old)) formatting (λ left told is. inl is)
 
@@ -174,4 +186,5 @@ module _ {D : Type 0} (s : Ghosts D) where
       → EachMoment s mid new (IsGood start events 0 (length (s.sent old))) → EachMoment s old new (IsOfFirstLife start events (s.sent old))
   first_moments old mid new start events lawful formatting living =
       joined s old mid new (IsOfFirstLife start events (s.sent old)) (format_moments old mid start events formatting)
-      (weaker s mid new (IsGood start events 0 (length (s.sent old))) (IsOfFirstLife start events (s.sent old)) living (λ left told good. inr (record { lawful = lawful; good = good })))
+      (weaker s mid new (IsGood start events 0 (length (s.sent old))) (IsOfFirstLife start events (s.sent old)) living
+      (λ left told good. inr (record { lawful = lawful; good = good })))

@@ -59,7 +59,8 @@ row_follows me s asks =
       | false ↦ follows_itself s.view
     ]
 
-either_follows : (me : ℕ) (s : Ops) (brought : Option ViewMap) (asks : List Asked) (after : ViewMap) → ViewStep me s brought asks after → IsFollowedBy s.view after
+either_follows : (me : ℕ) (s : Ops) (brought : Option ViewMap) (asks : List Asked) (after : ViewMap) → ViewStep me s brought asks after
+    → IsFollowedBy s.view after
 either_follows me s brought asks after (inl is) = subst (IsFollowedBy s.view) (sym is) (row_follows me s asks)
 either_follows me s brought asks after (inr b) = subst (IsFollowedBy s.view) (sym b.merges) (merge_follows s.view b.view)
 
@@ -73,7 +74,8 @@ step_follows n e = next_follows n.core e
 from_start : (n : Node) (es : List Event) (k : ℕ) → IsFollowedBy n.core.ops.view (view_at n es k)
 from_start n es zero = follows_itself n.core.ops.view
 from_start n [] (suc k) = follows_itself n.core.ops.view
-from_start n (e ∷ es) (suc k) = follows_further n.core.ops.view (step n e).core.ops.view (view_at (step n e) es k) (step_follows n e) (from_start (step n e) es k)
+from_start n (e ∷ es) (suc k) =
+    follows_further n.core.ops.view (step n e).core.ops.view (view_at (step n e) es k) (step_follows n e) (from_start (step n e) es k)
 
 pub views_follow : (n : Node) (es : List Event) (i j : ℕ) → i ≤ j → IsFollowedBy (view_at n es i) (view_at n es j)
 views_follow n es zero j h = from_start n es j

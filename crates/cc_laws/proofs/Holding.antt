@@ -30,7 +30,8 @@ stands_views o ls m es history v shows =
     let is : m ≡ after (fresh o) (take (length es) es) = history.leads_to ∙ ap (after (fresh o)) (sym all) in
     views_appear o es v (shown (length es) (subst (λ (x : Node). Shows x v) is shows))
 
-pub seen_views : (o : Opening) (ls : List Life) (m : Node) (es : List Event) → IsHistoryOf (fresh o) ls m es → (v : ViewMap) → IsSeen ls m v → IsViewOf (fresh o) es v
+pub seen_views : (o : Opening) (ls : List Life) (m : Node) (es : List Event) → IsHistoryOf (fresh o) ls m es → (v : ViewMap) → IsSeen ls m v
+    → IsViewOf (fresh o) es v
 seen_views o ls m es history v (inl puts) = put_views o ls m es history v puts
 seen_views o ls m es history v (inr shows) = stands_views o ls m es history v shows
 
@@ -44,6 +45,7 @@ at_most_last n es v of =
     take_further : (k : ℕ) (es : List Event) → take (k + length es) es ≡ es
     take_further k es = take_all (k + length es) es (omega arith)
 
-pub seen_grows : (o : Opening) (ls : List Life) (m : Node) (es : List Event) → IsHistoryOf (fresh o) ls m es → (v : ViewMap) → IsSeen ls m v → IsAtMost v m.core.ops.view
+pub seen_grows : (o : Opening) (ls : List Life) (m : Node) (es : List Event) → IsHistoryOf (fresh o) ls m es → (v : ViewMap) → IsSeen ls m v
+    → IsAtMost v m.core.ops.view
 seen_grows o ls m es history v seen =
     subst (λ (x : Node). IsAtMost v x.core.ops.view) (sym history.leads_to) (at_most_last (fresh o) es v (seen_views o ls m es history v seen))

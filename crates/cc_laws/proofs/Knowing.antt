@@ -140,7 +140,8 @@ module _ (c : Cluster) (h : Holds c) (t : Traces c) where
       let f = ack.says.1.0 in
       let a = ack.says.1.1 in
       let got : Contains x.events (event.Deliver f a (message.Store v tag q)) =
-      contains_front x.released x.events _ (subst (Contains (released_events x)) ack.says.1.2 (contains_at (released_events x) ack.before ack.later ack.poster ack.parts)) in
+      contains_front x.released x.events _
+      (subst (Contains (released_events x)) ack.says.1.2 (contains_at (released_events x) ack.before ack.later ack.poster ack.parts)) in
       let store_made = came_at r x ack_made.1 f a (message.Store v tag q) got in
       let first = posted store_made.0 r a (message.Store v tag q) store_made.2 in
       let is_q : q ≡ f = poster_is f q store_made.0 (h.sound f store_made.0 store_made.1) first.before first.says.0 in
@@ -149,7 +150,8 @@ module _ (c : Cluster) (h : Holds c) (t : Traces c) where
       let start = fresh m.opening in
       let lawful = lawful_front start m.events m.released (h.sound q m at).lawful in
       let high : tag ≡ (after start (store.before ++ store.poster ∷ [])).core.ops.tag = raised_at start store.before store.poster tag store.says.2 in
-      let one = at_once (λ n. n.core.ops.tag) tag_after start (released_events m) lawful store.before store.later raised.before raised.later store.poster raised.raiser store.parts raised.parts
+      let one = at_once (λ n. n.core.ops.tag) tag_after start
+      (released_events m) lawful store.before store.later raised.before raised.later store.poster raised.raiser store.parts raised.parts
       tag store.says.1 (omega (arith, high)) raised.under (omega (arith, raised.raised)) in
       let d = (after start (raised.before ++ raised.raiser ∷ [])).core in
       let there : v ≡ stored_of d.ops = stored_at start store.before raised.before store.poster raised.raiser v one.0 one.1 store.says.3 in
@@ -179,18 +181,22 @@ module _ (mid d : Cluster) (h : Holds mid) (t : Traces mid) (h' : Holds d) (t' :
       let start = fresh y.opening in
       let same : fresh x.opening ≡ start = ap fresh grows.opening in
       let told : HasAtLeast (next (after start reply.before).core reply.poster).ops.view q k → HasAtLeast v q k = λ there.
-      subst (λ (w : ViewMap). HasAtLeast w q k) (ap (λ (s : Node). (next (after s reply.before).core reply.poster).ops.view) (sym same) ∙ sym reply.says.1) there in
-      elim (either_front (released_events y) grows.longer.0 reply.before reply.later reply.poster (sym grows.longer.1 ∙ reply.parts)) as (λ _. HasAtLeast v q k) [
+      subst (λ (w : ViewMap). HasAtLeast w q k)
+      (ap (λ (s : Node). (next (after s reply.before).core reply.poster).ops.view) (sym same) ∙ sym reply.says.1) there in
+      elim (either_front (released_events y) grows.longer.0 reply.before reply.later reply.poster (sym grows.longer.1 ∙ reply.parts)) as
+      (λ _. HasAtLeast v q k) [
         | inl e ↦
             let at_reply : after start reply.before ≡ after (node_at y y.released) e.0 = after_parts start reply.before (released_events y) e.0 e.1 in
             let wider : IsAtMost (node_at y y.released).core.ops.view (after start reply.before).core.ops.view =
             subst (λ (s : Node). IsAtMost (node_at y y.released).core.ops.view s.core.ops.view) (sym at_reply) (view_grows_along (node_at y y.released) e.0) in
-            told (least_more _ _ q k (at_most_trans (node_at y y.released).core.ops.view _ _ wider (view_grows (after start reply.before).core reply.poster)) knows.2)
+            told (least_more _ _ q k (at_most_trans (node_at y y.released).core.ops.view _ _ wider
+            (view_grows (after start reply.before).core reply.poster)) knows.2)
         | inr e ↦
             let f = reply.says.0.0 in
             let a = reply.says.0.1 in
             let got : Contains y.events (event.Deliver f a (message.Query tag p)) =
-            contains_front y.released y.events _ (subst (Contains (released_events y)) reply.says.0.2 (contains_at (released_events y) reply.before e.0 reply.poster e.1)) in
+            contains_front y.released y.events _
+            (subst (Contains (released_events y)) reply.says.0.2 (contains_at (released_events y) reply.before e.0 reply.poster e.1)) in
             let query_made = came_at mid h t r y knows.1 f a (message.Query tag p) got in
             let query = posted query_made.0 r a (message.Query tag p) query_made.2 in
             let is_p : p ≡ f = poster_is f p query_made.0 (h.sound f query_made.0 query_made.1) query.before query.says.0 in

@@ -55,7 +55,8 @@ module _ (P : Value → Type 0) (stable : IsStable P) where
   value_stays (a ∷ asks) mine x y h i j here there le =
       let w = written a.command mine in
       elim (is_writing a.command)
-      as (λ b. slice_get (if b then w ∷ values_of w asks else values_of mine asks) i ≡ Some x → slice_get (if b then w ∷ values_of w asks else values_of mine asks) j ≡ Some y → P y) [
+      as (λ b. slice_get (if b then w ∷ values_of w asks else values_of mine asks) i ≡ Some x → slice_get
+      (if b then w ∷ values_of w asks else values_of mine asks) j ≡ Some y → P y) [
         | true ↦ both_stay asks w x y h (value_stays asks w x y h) i j le
         | false ↦ λ first second. value_stays asks mine x y h i j first second le
       ] here there
@@ -73,34 +74,16 @@ value_there mine xs ys a writes =
 -- ---- what lasts
 
 pub max_lasts : (n : ℕ) → IsStable (λ v. n ≤ v.max)
-max_lasts n (command.Store text) v h = h
-max_lasts n command.Collect v h = h
 max_lasts n (command.WriteMax x) v h = omega (arith, h)
-max_lasts n command.ReadMax v h = h
-max_lasts n command.SetFlag v h = h
-max_lasts n command.ReadFlag v h = h
-max_lasts n (command.AddMember x) v h = h
-max_lasts n command.ReadSet v h = h
+max_lasts n _ v h = h
 
 pub flag_lasts : IsStable (λ v. v.flag ≡ true)
-flag_lasts (command.Store text) v h = h
-flag_lasts command.Collect v h = h
-flag_lasts (command.WriteMax x) v h = h
-flag_lasts command.ReadMax v h = h
 flag_lasts command.SetFlag v h = refl
-flag_lasts command.ReadFlag v h = h
-flag_lasts (command.AddMember x) v h = h
-flag_lasts command.ReadSet v h = h
+flag_lasts _ v h = h
 
 pub set_lasts : (n : ℕ) → IsStable (λ v. set.contains v.set n ≡ true)
-set_lasts n (command.Store text) v h = h
-set_lasts n command.Collect v h = h
-set_lasts n (command.WriteMax x) v h = h
-set_lasts n command.ReadMax v h = h
-set_lasts n command.SetFlag v h = h
-set_lasts n command.ReadFlag v h = h
 set_lasts n (command.AddMember x) v h = contains-insert v.set x n ∙ or_right _ _ h
-set_lasts n command.ReadSet v h = h
+set_lasts n _ v h = h
 
 -- ---- readings
 
@@ -173,7 +156,8 @@ set_any (e ∷ es) n P h is =
 
 pub set_there : (v : ViewMap) (n : ℕ) → at_each v (λ q e. set.contains e.1.set n ≡ true → set.contains (set_of v) n ≡ true)
 set_there v n =
-    from_entries_all v (λ q e. set.contains e.1.set n ≡ true → set.contains (set_of v) n ≡ true) (set_each (table.entries v) n (set.contains (set_of v) n ≡ true) (λ is. is))
+    from_entries_all v (λ q e. set.contains e.1.set n ≡ true → set.contains (set_of v) n ≡ true)
+    (set_each (table.entries v) n (set.contains (set_of v) n ≡ true) (λ is. is))
 
 pub set_from : (v : ViewMap) (n : ℕ) (P : Type 0) → at_each v (λ q e. set.contains e.1.set n ≡ true → P) → set.contains (set_of v) n ≡ true → P
 set_from v n P h is = set_any (table.entries v) n P (to_entries v (λ q e. set.contains e.1.set n ≡ true → P) h) is

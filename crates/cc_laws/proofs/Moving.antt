@@ -17,7 +17,8 @@ use Rattle.cc_node.specs.Opening.{fresh}
 use Rattle.cc_node.specs.Histories.{IsLawful-append}
 use Rattle.cc_node.specs.Refusals.{decides}
 use Rattle.cc_laws.specs.Shown.{in_output}
-use Rattle.cc_laws.specs.Clusters.{Member, Cluster, node_at, live_node, with_member, with_sent, accepting, put_out, IsOwn, Move, Accept, Receive, Sync, Release, Resend, Crash, MovesBy}
+use Rattle.cc_laws.specs.Clusters.{Member, Cluster, node_at, live_node, with_member, with_sent, accepting, put_out, IsOwn, Move, Accept, Receive, Sync, Release}
+use Rattle.cc_laws.specs.Clusters.{Resend, Crash, MovesBy}
 use Rattle.cc_laws.specs.Runs.{Run, IsFreshMember, IsFreshCluster}
 use Rattle.cc_laws.proofs.Lists.{all_both, all_take, of_some}
 use Rattle.cc_laws.proofs.Showing.{of_shown}
@@ -68,7 +69,8 @@ release_holds c q m k h at le fits =
     sent_holds d q (put_out k m) holds (rest_rows (Released d) q n m.released k le now (holds.brought q n here) (λ j x is. (n, here, is)))
 
 -- what is put out again was shown by then
-resend_holds : (c : Cluster) (q : ℕ) (m : Member) (o : Output) → Holds c → table.get c.members q ≡ Some m → HasOutput (node_at m m.released) o → Holds (with_sent q (o ∷ []) c)
+resend_holds : (c : Cluster) (q : ℕ) (m : Member) (o : Output) → Holds c → table.get c.members q ≡ Some m → HasOutput (node_at m m.released) o
+    → Holds (with_sent q (o ∷ []) c)
 resend_holds c q m o h at has =
     let P = Released c in
     let n = node_at m m.released in
@@ -93,14 +95,8 @@ crash_holds c q m k h at le fits =
 
 -- an event of the node's own brings no rows
 own_rows : (P : ℕ → ℕ → Value → Type 0) (e : Event) → IsOwn e → EventRows P e
-own_rows P event.Enter h = tt
-own_rows P event.Leave h = tt
 own_rows P (event.Deliver from n m) h = absurd h
-own_rows P (event.Acked peer n) h = tt
-own_rows P (event.Ask s r command) h = tt
-own_rows P (event.Retire q) h = tt
-own_rows P (event.Lapse q) h = tt
-own_rows P event.Snapshot h = tt
+own_rows P _ h = tt
 
 pub move_holds : (c : Cluster) (q : ℕ) (m : Member) (move : Move) (d : Cluster) → Holds c → table.get c.members q ≡ Some m → MovesBy c q m move d → Holds d
 move_holds c q m (Accept e) d h at s = subst Holds (sym s.2) (accept_holds c q m e h at s.1 (own_rows (Released c) e s.0))

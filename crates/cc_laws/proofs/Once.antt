@@ -3,7 +3,8 @@
 --     one_answer                  two answers of a node to one round that were delivered had one number
 --     new_peer                    so a node whose answer is counted isn't among those that were counted before
 --     peers_apart                 and those that a round counted are different nodes, each of them a member
-use Rattle.std.proofs.Common.{◌≡◌, ◌⊎◌, inl, inr, ℕ, zero, suc, ◌-◌, ◌<◌, ◌≤◌, Bool, true, false, nat_eq, ◌||◌, List, [], ◌∷◌, ◌++◌, refl, sym, ap, subst, ◌∙◌, arith, append_assoc}
+use Rattle.std.proofs.Common.{◌≡◌, ◌⊎◌, inl, inr, ℕ, zero, suc, ◌-◌, ◌<◌, ◌≤◌, Bool, true, false, nat_eq, ◌||◌, List, [], ◌∷◌, ◌++◌, refl, sym, ap, subst, ◌∙◌}
+use Rattle.std.proofs.Common.{arith, append_assoc}
 use Rattle.std.specs.Prelude.{Option, Some, None, IfSome, ⊤, if◌then◌else◌}
 use Rattle.std.specs.Option.{option_map_or}
 use Rattle.std.specs.List.{Contains, AllByRecursion, list_any}
@@ -20,7 +21,7 @@ use Rattle.cc_messages.specs.declared.message.Message.TheVariants as message
 use Rattle.cc_links.specs.Links.{Link, heard_from}
 use Rattle.cc_links.specs.LinkLaws.{LinkGoesOn}
 use Rattle.cc_ops.specs.declared.pending.Asked.{Asked}
-use Rattle.cc_ops.specs.Ops.{Phase, Idle, Storing, Querying, StoringBack, is_own}
+use Rattle.cc_ops.specs.Ops.{Phase, Idle, Querying, is_own}
 use Rattle.cc_node.specs.Core.{Core, next}
 use Rattle.cc_node.specs.Node.{Node, step, after, IsLawful}
 use Rattle.cc_node.specs.Opening.{fresh}
@@ -44,57 +45,25 @@ use Rattle.cc_laws.proofs.Traces.{one_at, Traces}
 -- ---- answers and rounds
 
 abbrev pub IsAnswerTo : ℕ → ℕ → Message → Type 0
-IsAnswerTo tag q (message.Enter p) = ⊥
-IsAnswerTo tag q (message.EnterEcho c v from_joined p) = ⊥
-IsAnswerTo tag q (message.Join p) = ⊥
-IsAnswerTo tag q (message.JoinEcho p) = ⊥
-IsAnswerTo tag q (message.Leave p) = ⊥
-IsAnswerTo tag q (message.LeaveEcho p) = ⊥
-IsAnswerTo tag q (message.Query t p) = ⊥
 IsAnswerTo tag q (message.QueryReply v t p) = (t ≡ tag) × (p ≡ q)
-IsAnswerTo tag q (message.Store v t p) = ⊥
 IsAnswerTo tag q (message.StoreAck t p) = (t ≡ tag) × (p ≡ q)
-IsAnswerTo tag q (message.Snapshot c v) = ⊥
+IsAnswerTo tag q _ = ⊥
 
 abbrev pub IsRoundOf : ℕ → ℕ → Message → Type 0
-IsRoundOf tag q (message.Enter p) = ⊥
-IsRoundOf tag q (message.EnterEcho c v from_joined p) = ⊥
-IsRoundOf tag q (message.Join p) = ⊥
-IsRoundOf tag q (message.JoinEcho p) = ⊥
-IsRoundOf tag q (message.Leave p) = ⊥
-IsRoundOf tag q (message.LeaveEcho p) = ⊥
 IsRoundOf tag q (message.Query t p) = (t ≡ tag) × (p ≡ q)
-IsRoundOf tag q (message.QueryReply v t p) = ⊥
 IsRoundOf tag q (message.Store v t p) = (t ≡ tag) × (p ≡ q)
-IsRoundOf tag q (message.StoreAck t p) = ⊥
-IsRoundOf tag q (message.Snapshot c v) = ⊥
+IsRoundOf tag q _ = ⊥
 
 answer_says : (c : Core) (e : Event) (tag q : ℕ) (k : Message) → IsAnswerTo tag q k → PostSays c e k → (m : Message) × IsRoundOf tag q m × BringsIn e m
-answer_says c e tag q (message.Enter p) is says = absurd is
-answer_says c e tag q (message.EnterEcho d v j p) is says = absurd is
-answer_says c e tag q (message.Join p) is says = absurd is
-answer_says c e tag q (message.JoinEcho p) is says = absurd is
-answer_says c e tag q (message.Leave p) is says = absurd is
-answer_says c e tag q (message.LeaveEcho p) is says = absurd is
-answer_says c e tag q (message.Query t p) is says = absurd is
 answer_says c e tag q (message.QueryReply v t p) is says = (message.Query t p, is, says.0)
-answer_says c e tag q (message.Store v t p) is says = absurd is
 answer_says c e tag q (message.StoreAck t p) is says = (message.Store says.0 t p, is, says.1)
-answer_says c e tag q (message.Snapshot d v) is says = absurd is
+answer_says c e tag q _ is says = absurd is
 
 round_says : (c : Core) (e : Event) (tag q : ℕ) (m : Message) → IsRoundOf tag q m → PostSays c e m
     → (q ≡ c.me) × (c.ops.tag < tag) × (tag ≡ (next c e).ops.tag)
-round_says c e tag q (message.Enter p) is says = absurd is
-round_says c e tag q (message.EnterEcho d v j p) is says = absurd is
-round_says c e tag q (message.Join p) is says = absurd is
-round_says c e tag q (message.JoinEcho p) is says = absurd is
-round_says c e tag q (message.Leave p) is says = absurd is
-round_says c e tag q (message.LeaveEcho p) is says = absurd is
 round_says c e tag q (message.Query t p) is says = (sym is.1 ∙ says.0, subst (λ (x : ℕ). c.ops.tag < x) is.0 says.1, sym is.0 ∙ says.2)
-round_says c e tag q (message.QueryReply v t p) is says = absurd is
 round_says c e tag q (message.Store v t p) is says = (sym is.1 ∙ says.0, subst (λ (x : ℕ). c.ops.tag < x) is.0 says.1, sym is.0 ∙ says.2)
-round_says c e tag q (message.StoreAck t p) is says = absurd is
-round_says c e tag q (message.Snapshot d v) is says = absurd is
+round_says c e tag q _ is says = absurd is
 
 -- a post goes to a peer under one number
 one_number : (c : Core) (to n k : ℕ) → GoesTo c to n → GoesTo c to k → n ≡ k
@@ -197,7 +166,8 @@ module _ (c : Cluster) (h : Holds c) (t : Traces c) where
       let lawful = lawful_front start x.events x.released (h.sound r x there).lawful in
       let asks = answer_says (after start p.before).core p.poster tag q k of_k p.says in
       let got : Contains x.events (event.Deliver asks.2.0 asks.2.1 asks.0) =
-      contains_front x.released x.events _ (subst (Contains (released_events x)) asks.2.2 (contains_at (released_events x) p.before p.later p.poster p.parts)) in
+      contains_front x.released x.events _
+      (subst (Contains (released_events x)) asks.2.2 (contains_at (released_events x) p.before p.later p.poster p.parts)) in
       let begun = begun_of q m at r x there asks.2.0 asks.2.1 tag asks.0 asks.1 got in
       record {
         wire = asks.2.1;
@@ -220,7 +190,8 @@ module _ (c : Cluster) (h : Holds c) (t : Traces c) where
       let of_a = answer_made q m at r x made_k.1 tag n k of_k a in
       let of_b = answer_made q m at r x made_k.1 tag i j of_j b in
       let wires : of_a.wire ≡ of_b.wire = begun_once q m at r of_a.wire of_b.wire tag of_a.begun of_b.begun in
-      let one = at_once (λ s. heard_from q s.core.links) (heard_after q) start (released_events x) lawful a.before a.later b.before b.later a.poster b.poster a.parts b.parts of_b.wire
+      let one = at_once (λ s. heard_from q s.core.links) (heard_after q) start
+      (released_events x) lawful a.before a.later b.before b.later a.poster b.poster a.parts b.parts of_b.wire
       (omega (arith, of_a.heard.under, wires)) (omega (arith, of_a.heard.now, wires)) of_b.heard.under (omega (arith, of_b.heard.now)) in
       one_number (next (after start b.before).core b.poster) q n i (goes_there start a.before b.before a.poster b.poster one.0 one.1 q n a.goes) b.goes
 
@@ -241,39 +212,24 @@ phase_answers : (start : Node) (past : List Event) (peers : List ℕ) (me number
     → Pends start past peers me number view tag others phase
     → AllByRecursion (HasAnswer past me tag) peers
 phase_answers start past peers me number view tag others Idle h = subst (AllByRecursion (HasAnswer past me tag)) (sym h) tt
-phase_answers start past peers me number view tag others (Storing p) h = ack_answers past me tag peers h.1
 phase_answers start past peers me number view tag others (Querying p) h = reply_answers past me tag view peers h.1
-phase_answers start past peers me number view tag others (StoringBack p seen) h = ack_answers past me tag peers h.1
+phase_answers start past peers me number view tag others _ h = ack_answers past me tag peers h.1
 
 abbrev pub IsAnswerFrom : Core → Event → ℕ → Type 0
 IsAnswerFrom c e r = (n : ℕ) × (k : Message) × (e ≡ event.Deliver r n k) × IsAnswerTo c.ops.tag c.me k
 
 message_answer : (c : Core) (from n : ℕ) (m : Message) → IfSome (counts c (event.Deliver from n m)) (IsAnswerFrom c (event.Deliver from n m))
-message_answer c from n (message.Enter q) = tt
-message_answer c from n (message.EnterEcho d v j q) = tt
-message_answer c from n (message.Join q) = tt
-message_answer c from n (message.JoinEcho q) = tt
-message_answer c from n (message.Leave q) = tt
-message_answer c from n (message.LeaveEcho q) = tt
-message_answer c from n (message.Query tag q) = tt
 message_answer c from n (message.QueryReply v tag q) =
     one_there (is_own c.me tag q c.ops) (awaits_views c.ops.phase) from (IsAnswerFrom c (event.Deliver from n (message.QueryReply v tag q)))
     (λ own. let is = own_parts c.me tag q c.ops own in (n, message.QueryReply v tag q, refl, (is.1, is.0)))
-message_answer c from n (message.Store v tag q) = tt
 message_answer c from n (message.StoreAck tag q) =
     one_there (is_own c.me tag q c.ops) (awaits_acks c.ops.phase) from (IsAnswerFrom c (event.Deliver from n (message.StoreAck tag q)))
     (λ own. let is = own_parts c.me tag q c.ops own in (n, message.StoreAck tag q, refl, (is.1, is.0)))
-message_answer c from n (message.Snapshot d v) = tt
+message_answer c from n _ = tt
 
 pub counted_answer : (c : Core) (e : Event) → IfSome (counts c e) (IsAnswerFrom c e)
-counted_answer c event.Enter = tt
-counted_answer c event.Leave = tt
 counted_answer c (event.Deliver from n m) = message_answer c from n m
-counted_answer c (event.Acked peer n) = tt
-counted_answer c (event.Ask s r command) = tt
-counted_answer c (event.Retire q) = tt
-counted_answer c (event.Lapse q) = tt
-counted_answer c event.Snapshot = tt
+counted_answer c _ = tt
 
 one_of_one : (x y : Event) (k : ℕ) → k < 1 → slice_index_or (x ∷ []) k y ≡ y → x ≡ y
 one_of_one x y zero le is = is
@@ -338,10 +294,12 @@ module _ (c : Cluster) (h : Holds c) (t : Traces c) (q : ℕ) (m : Member) (at :
       let old = any_holds (HasAnswer front d.me d.ops.tag) r (peers_along begin [] front) there
       (phase_answers begin front (peers_along begin [] front) d.me d.ops.number d.ops.view d.ops.tag d.ops.others d.ops.phase (pends m.opening front)) in
       let old_there : Contains m.events (event.Deliver r old.0 old.1) =
-      contains_front m.released m.events _ (subst (λ (l : List Event). Contains l (event.Deliver r old.0 old.1)) (sym parts) (Contains-append_left front (last ∷ later) _ old.2)) in
+      contains_front m.released m.events _
+      (subst (λ (l : List Event). Contains l (event.Deliver r old.0 old.1)) (sym parts) (Contains-append_left front (last ∷ later) _ old.2)) in
       let new_there : Contains m.events (event.Deliver r now.0 now.1) =
       contains_front m.released m.events _ (subst (Contains (released_events m)) now.2 (contains_at (released_events m) front later last parts)) in
-      let same = one_answer c h t q m at d.ops.tag r old.0 now.0 old.1 now.1 (subst (λ (x : ℕ). IsAnswerTo d.ops.tag x old.1) me old.3) (subst (λ (x : ℕ). IsAnswerTo d.ops.tag x now.1) me now.3) old_there new_there in
+      let same = one_answer c h t q m at d.ops.tag r old.0 now.0 old.1 now.1 (subst (λ (x : ℕ). IsAnswerTo d.ops.tag x old.1) me old.3)
+      (subst (λ (x : ℕ). IsAnswerTo d.ops.tag x now.1) me now.3) old_there new_there in
       let low = heard_past begin front all_then.0 r old.0 old.1 old.2 in
       let high = heard_new d r now.0 now.1 (subst (λ (x : Event). decides d x ≡ None) now.2 all_then.1.0) in
       omega (arith, same, low, high))
@@ -363,7 +321,8 @@ module _ (c : Cluster) (h : Holds c) (t : Traces c) (q : ℕ) (m : Member) (at :
       let here : released_events m ≡ past ++ e ∷ (rest ++ later) = parts ∙ append_assoc past (e ∷ rest) later in
       let d = (after begin past).core in
       let ps = peers_along begin [] past in
-      let next_apart : Apart (peers_next d e ps) = either (begins_anew d e || ends_round d e) (with_peer (counts d e) ps) (with_apart past (rest ++ later) e here apart) in
+      let next_apart : Apart (peers_next d e ps) =
+      either (begins_anew d e || ends_round d e) (with_peer (counts d e) ps) (with_apart past (rest ++ later) e here apart) in
       let apart_then : Apart (peers_along begin [] (past ++ e ∷ [])) = subst Apart (sym (peers_push begin [] past (e ∷ []))) next_apart in
       subst (λ (l : List Event). Apart (peers_along begin [] l)) (sym one)
       (apart_from (past ++ e ∷ []) rest later (parts ∙ ap (λ (l : List Event). l ++ later) one) apart_then)
@@ -382,13 +341,17 @@ module _ (c : Cluster) (h : Holds c) (t : Traces c) (q : ℕ) (m : Member) (at :
       → AllByRecursion P (with_peer (counts (after begin front).core last) (peers_along begin [] front))
   peers_there P f front later last parts =
       let d = (after begin front).core in
-      let of_sent : (r n : ℕ) (k : Message) → Contains m.events (event.Deliver r n k) → P r = λ r n k has. let made = came_at c h t q m at r n k has in f r made.0 made.1 in
+      let of_sent : (r n : ℕ) (k : Message) → Contains m.events (event.Deliver r n k) → P r =
+      λ r n k has. let made = came_at c h t q m at r n k has in f r made.0 made.1 in
       let old : AllByRecursion P (peers_along begin [] front) =
       all_changed (HasAnswer front d.me d.ops.tag) P (λ r a. of_sent r a.0 a.1
-      (contains_front m.released m.events _ (subst (λ (l : List Event). Contains l (event.Deliver r a.0 a.1)) (sym parts) (Contains-append_left front (last ∷ later) _ a.2))))
-      (peers_along begin [] front) (phase_answers begin front (peers_along begin [] front) d.me d.ops.number d.ops.view d.ops.tag d.ops.others d.ops.phase (pends m.opening front)) in
+      (contains_front m.released m.events _
+      (subst (λ (l : List Event). Contains l (event.Deliver r a.0 a.1)) (sym parts) (Contains-append_left front (last ∷ later) _ a.2))))
+      (peers_along begin [] front) (phase_answers begin front
+      (peers_along begin [] front) d.me d.ops.number d.ops.view d.ops.tag d.ops.others d.ops.phase (pends m.opening front)) in
       with_each (counts d last) (peers_along begin [] front) (some_changed (IsAnswerFrom d last) P (λ r a. of_sent r a.0 a.1
-      (contains_front m.released m.events _ (subst (Contains (released_events m)) a.2 (contains_at (released_events m) front later last parts)))) (counts d last) (counted_answer d last)) old
+      (contains_front m.released m.events _ (subst (Contains (released_events m)) a.2 (contains_at (released_events m) front later last parts)))) (counts d
+      last) (counted_answer d last)) old
     where
       with_each : (o : Option ℕ) (peers : List ℕ) → IfSome o P → AllByRecursion P peers → AllByRecursion P (with_peer o peers)
       with_each None peers g k = k

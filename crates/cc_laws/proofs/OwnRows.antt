@@ -54,7 +54,8 @@ get_own_row : (me : ℕ) (s : Ops) (asks : List Asked) → table.get (row_of me 
 get_own_row me s asks =
     get-single _ me ∙ ap (λ b. cond b (Some (s.number + writes_by asks, written_by asks s.mine)) None) (eq-eqb me me refl)
 
-begun_own : (me : ℕ) (s : Ops) (asks : List Asked) → HasOwnRow me s → table.get (with_row me s asks) me ≡ own_pair (s.number + writes_by asks) (written_by asks s.mine)
+begun_own : (me : ℕ) (s : Ops) (asks : List Asked) → HasOwnRow me s
+    → table.get (with_row me s asks) me ≡ own_pair (s.number + writes_by asks) (written_by asks s.mine)
 begun_own me s asks own =
     let later = s.number + writes_by asks in
     let w = written_by asks s.mine in

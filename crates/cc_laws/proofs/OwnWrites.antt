@@ -62,7 +62,8 @@ own_last o es old k x here =
     let n = after (fresh o) es in
     let all : take (length es) es ≡ es = take_all (length es) es (omega arith) in
     let own : table.get n.core.ops.view o.me ≡ own_pair n.core.ops.number n.core.ops.mine =
-    subst (λ (l : List Event). table.get (after (fresh o) l).core.ops.view o.me ≡ own_pair (after (fresh o) l).core.ops.number (after (fresh o) l).core.ops.mine) all
+    subst (λ (l : List Event). table.get (after (fresh o) l).core.ops.view o.me ≡ own_pair (after (fresh o) l).core.ops.number
+    (after (fresh o) l).core.ops.mine) all
     (own_row o es old (length es)) in
     let write = at_own n.core.ops.number n.core.ops.mine x k (sym own ∙ here) in
     (omega (arith, write.1, write.2), write.3)

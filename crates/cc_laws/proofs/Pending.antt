@@ -23,7 +23,8 @@ use Rattle.cc_ops.specs.declared.pending.Pending.{Pending}
 use Rattle.cc_ops.specs.Commands.{is_writing}
 use Rattle.cc_ops.specs.Rounds.{first_round, line_behind}
 use Rattle.cc_ops.specs.Waiting.{writes_by, written_by}
-use Rattle.cc_ops.specs.Ops.{Ops, Phase, Idle, Storing, Querying, StoringBack, is_idle, is_last, is_own, round_of, counted, merged, next_round, with_written, with_own_row, begin_round, with_begun, after_reply, after_last, after_ack, ends_query, ends_store, again, asked_in, pending}
+use Rattle.cc_ops.specs.Ops.{Ops, Phase, Idle, Storing, Querying, StoringBack, is_idle, is_last, is_own, round_of, counted, merged, next_round, with_written}
+use Rattle.cc_ops.specs.Ops.{with_own_row, begin_round, with_begun, after_reply, after_last, after_ack, ends_query, ends_store, again, asked_in, pending}
 use Rattle.cc_churn.specs.Churn as churn
 use Rattle.cc_node.specs.Core.{Core, quorum, asked_of, skips, churn_told, anew_if, next}
 use Rattle.cc_node.specs.Node.{Node, step, after}
@@ -174,7 +175,8 @@ module _ (start : Node) (past : List Event) (e : Event) where
   same_pends : (peers : List ℕ) (me : ℕ) (s : Ops) (phase : Phase) → s.phase ≡ phase → Pends start past peers me s.number s.view s.tag s.others phase
       → Pends start now peers me s.number s.view s.tag s.others s.phase
   same_pends peers me s phase is h =
-      subst (Pends start now peers me s.number s.view s.tag s.others) (sym is) (pends_more peers me s.number s.view s.view s.tag s.others phase (at_most_same s.view) h)
+      subst (Pends start now peers me s.number s.view s.tag s.others) (sym is)
+      (pends_more peers me s.number s.view s.view s.tag s.others phase (at_most_same s.view) h)
 
   module _ (c : Core) (at : c ≡ (after start past).core) where
     raise_now : (tag : ℕ) (Q : Core → Type 0) → c.ops.tag < tag → (next c e).ops.tag ≡ tag → Q (next c e) → Raised start now tag Q
@@ -208,7 +210,12 @@ module _ (start : Node) (past : List Event) (e : Event) where
             tt,
             own_least me s asks,
           )
-          | false ↦ λ is. (raise_now (s.tag + 1) (IsQueryOf asks) under (ap (λ (t : Ops). t.tag) is) (round_of quorum a, ap (λ (t : Ops). t.phase) is, ap pending is), tt)
+          | false ↦
+              λ is. (
+                raise_now (s.tag + 1) (IsQueryOf asks) under (ap (λ (t : Ops). t.tag) is)
+                    (round_of quorum a, ap (λ (t : Ops). t.phase) is, ap pending is),
+                tt,
+              )
         ] next_is
 
     ends : (me quorum : ℕ) (s : Ops) → s.tag ≡ c.ops.tag → (next c e).ops ≡ after_last me quorum s → PendsIn start now [] me (after_last me quorum s)
@@ -219,7 +226,8 @@ module _ (start : Node) (past : List Event) (e : Event) where
           → is_own me tag q s ≡ b
           → (phase : Phase) → s.phase ≡ phase → (next c e).ops ≡ (if b then after_ack me quorum phase s else s)
           → Pends start past peers me s.number s.view s.tag s.others phase
-          → PendsIn start now (if b && ends_store phase then [] else with_peer (then_some (b && awaits_acks phase) from) peers) me (if b then after_ack me quorum phase s else s)
+          → PendsIn start now (if b && ends_store phase then [] else with_peer (then_some (b && awaits_acks phase) from) peers) me
+          (if b then after_ack me quorum phase s else s)
       ack_pends me quorum tag q peers s old it false own phase is next_is h = same_pends peers me s phase is h
       ack_pends me quorum tag q peers s old it true own Idle is next_is h = same_pends peers me s Idle is h
       ack_pends me quorum tag q peers s old it true own (Storing p) is next_is h =
@@ -251,7 +259,8 @@ module _ (start : Node) (past : List Event) (e : Event) where
           → (ends_round c e ≡ (is_own me tag q s && ends_query s.phase))
           → (phase : Phase) → s.phase ≡ phase → (next c e).ops ≡ (if b then after_reply quorum v phase s else s)
           → Pends start past peers me s.number s.view s.tag s.others phase
-          → PendsIn start now (if b && ends_query phase then [] else with_peer (then_some (b && awaits_views phase) from) peers) me (if b then after_reply quorum v phase s else s)
+          → PendsIn start now (if b && ends_query phase then [] else with_peer (then_some (b && awaits_views phase) from) peers) me
+          (if b then after_reply quorum v phase s else s)
       reply_pends me quorum tag q v peers s old it false own test phase is next_is h = same_pends peers me s phase is h
       reply_pends me quorum tag q v peers s old it true own test Idle is next_is h = same_pends peers me s Idle is h
       reply_pends me quorum tag q v peers s old it true own test (Storing p) is next_is h = same_pends peers me s (Storing p) is h
@@ -259,7 +268,8 @@ module _ (start : Node) (past : List Event) (e : Event) where
           let L = next_round (StoringBack (round_of quorum p.asked) (merge s.view v)) (merged v s) in
           let M = record (merged v s) { phase = Querying (counted p) } in
           let under : c.ops.tag < s.tag + 1 = omega (arith, ap (λ (t : Ops). t.tag) old) in
-          elim (is_last p) as (λ b. is_last p ≡ b → (next c e).ops ≡ (if b then L else M) → PendsIn start now (if b then [] else from ∷ peers) me (if b then L else M)) [
+          elim (is_last p)
+          as (λ b. is_last p ≡ b → (next c e).ops ≡ (if b then L else M) → PendsIn start now (if b then [] else from ∷ peers) me (if b then L else M)) [
             | true ↦ λ last now_is. (
               raise_now (s.tag + 1) (λ d. stored_of d.ops ≡ merge s.view v) under (ap (λ (t : Ops). t.tag) now_is) (ap stored_of now_is),
               tt,
@@ -309,10 +319,17 @@ module _ (start : Node) (past : List Event) (e : Event) where
           tt,
           own,
         )
-    anew_pends me quorum v s peers old (Querying p) is busy next_is h =
-        (raise_now (s.tag + 1) (IsQueryOf (p.asked ∷ s.others)) (omega (arith, old)) (ap (λ (t : Ops). t.tag) next_is) (round_of quorum p.asked, ap (λ (t : Ops). t.phase) next_is, ap pending next_is), tt)
-    anew_pends me quorum v s peers old (StoringBack p seen) is busy next_is h =
-        (raise_now (s.tag + 1) (λ d. stored_of d.ops ≡ seen) (omega (arith, old)) (ap (λ (t : Ops). t.tag) next_is) (ap stored_of next_is), tt, read_more (p.asked ∷ s.others) seen h.2)
+    anew_pends me quorum v s peers old (Querying p) is busy next_is h = (
+      raise_now (s.tag + 1) (IsQueryOf (p.asked ∷ s.others)) (omega (arith, old)) (ap (λ (t : Ops). t.tag) next_is)
+          (round_of quorum p.asked, ap (λ (t : Ops). t.phase) next_is, ap pending next_is),
+      tt,
+    )
+    anew_pends me quorum v s peers old (StoringBack p seen) is busy next_is h = (
+      raise_now (s.tag + 1) (λ d. stored_of d.ops ≡ seen) (omega (arith, old)) (ap (λ (t : Ops). t.tag) next_is) (ap stored_of next_is),
+      tt,
+      read_more
+          (p.asked ∷ s.others) seen h.2,
+    )
 
     snapshot_pends : (me quorum : ℕ) (v : ViewMap) (s : Ops) (peers : List ℕ) → s.tag ≡ c.ops.tag → (b may : Bool) → b ≡ (not (is_idle s.phase) && may)
         → (next c e).ops ≡ anew_if b quorum (merged v s)
@@ -333,37 +350,30 @@ message_pends : (start : Node) (past : List Event) (peers : List ℕ) (from n : 
     → PendsIn start past peers c.me c.ops
     → PendsIn start (past ++ event.Deliver from n m ∷ []) (peers_next c (event.Deliver from n m) peers) c.me (next c (event.Deliver from n m)).ops
 unfolding next
-message_pends start past peers from n (message.Enter q) c at h = same_pends start past _ peers c.me c.ops c.ops.phase refl h
 message_pends start past peers from n (message.EnterEcho d v j q) c at h =
     pends_more start past _ peers c.me c.ops.number c.ops.view (merge c.ops.view v) c.ops.tag c.ops.others c.ops.phase (at_most_merge c.ops.view v) h
-message_pends start past peers from n (message.Join q) c at h = same_pends start past _ peers c.me c.ops c.ops.phase refl h
-message_pends start past peers from n (message.JoinEcho q) c at h = same_pends start past _ peers c.me c.ops c.ops.phase refl h
-message_pends start past peers from n (message.Leave q) c at h = same_pends start past _ peers c.me c.ops c.ops.phase refl h
-message_pends start past peers from n (message.LeaveEcho q) c at h = same_pends start past _ peers c.me c.ops c.ops.phase refl h
-message_pends start past peers from n (message.Query tag q) c at h = same_pends start past _ peers c.me c.ops c.ops.phase refl h
 message_pends start past peers from n (message.QueryReply v tag q) c at h =
-    reply_pends start past (event.Deliver from n (message.QueryReply v tag q)) c at from n c.me (quorum c) tag q v peers c.ops refl refl (is_own c.me tag q c.ops) refl refl c.ops.phase refl refl h
+    reply_pends start past (event.Deliver from n (message.QueryReply v tag q)) c at from n c.me (quorum c) tag q v peers c.ops refl refl
+    (is_own c.me tag q c.ops) refl refl c.ops.phase refl refl h
 message_pends start past peers from n (message.Store v tag q) c at h =
     pends_more start past _ peers c.me c.ops.number c.ops.view (merge c.ops.view v) c.ops.tag c.ops.others c.ops.phase (at_most_merge c.ops.view v) h
 message_pends start past peers from n (message.StoreAck tag q) c at h =
-    ack_pends start past (event.Deliver from n (message.StoreAck tag q)) c at from n c.me (quorum c) tag q peers c.ops refl refl (is_own c.me tag q c.ops) refl c.ops.phase refl refl h
+    ack_pends start past (event.Deliver from n (message.StoreAck tag q)) c at from n c.me (quorum c) tag q peers c.ops refl refl
+    (is_own c.me tag q c.ops) refl c.ops.phase refl refl h
 message_pends start past peers from n (message.Snapshot d v) c at h =
     let e = event.Deliver from n (message.Snapshot d v) in
     snapshot_pends start past e c at c.me (churn.quorum c.beta (churn_told c from n (message.Snapshot d v))) v c.ops peers refl
     (begins_anew c e) ((from == c.me) || skips c from n) refl refl h
+message_pends start past peers from n _ c at h = same_pends start past _ peers c.me c.ops c.ops.phase refl h
 
 event_pends : (start : Node) (past : List Event) (peers : List ℕ) (e : Event) (c : Core) → c ≡ (after start past).core → PendsIn start past peers c.me c.ops
     → PendsIn start (past ++ e ∷ []) (peers_next c e peers) c.me (next c e).ops
 unfolding next
-event_pends start past peers event.Enter c at h = same_pends start past _ peers c.me c.ops c.ops.phase refl h
-event_pends start past peers event.Leave c at h = same_pends start past _ peers c.me c.ops c.ops.phase refl h
 event_pends start past peers (event.Deliver from n m) c at h = message_pends start past peers from n m c at h
-event_pends start past peers (event.Acked peer n) c at h = same_pends start past _ peers c.me c.ops c.ops.phase refl h
 event_pends start past peers (event.Ask s r command) c at h =
-    ask_pends start past (event.Ask s r command) c at c.me (quorum c) (asked_of s r command) (c.ops.line ++ asked_of s r command ∷ []) peers c.ops refl c.ops.phase refl refl h
-event_pends start past peers (event.Retire q) c at h = same_pends start past _ peers c.me c.ops c.ops.phase refl h
-event_pends start past peers (event.Lapse q) c at h = same_pends start past _ peers c.me c.ops c.ops.phase refl h
-event_pends start past peers event.Snapshot c at h = same_pends start past _ peers c.me c.ops c.ops.phase refl h
+    ask_pends start past (event.Ask s r command) c at c.me (quorum c) (asked_of s r command)
+    (c.ops.line ++ asked_of s r command ∷ []) peers c.ops refl c.ops.phase refl refl h
+event_pends start past peers _ c at h = same_pends start past _ peers c.me c.ops c.ops.phase refl h
 
 step_pends : (start : Node) (past : List Event) (peers : List ℕ) (e : Event) → PendsAt start past peers
     → PendsAt start (past ++ e ∷ []) (peers_next (after start past).core e peers)

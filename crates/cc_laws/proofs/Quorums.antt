@@ -1,7 +1,8 @@
 -- Two sets of nodes that are each more than half of all share a node; so rounds meet where members stay the same.
 --     shares          of two lists of different nodes among some, that are more than these together, one node is in both
 --     rounds_meet
-use Rattle.std.proofs.Common.{◌≡◌, ◌⊎◌, inl, inr, ℕ, ◌+◌, ◌*◌, ◌<◌, ◌≤◌, true, false, cond, nat_eq, List, [], ◌∷◌, ◌++◌, length, refl, sym, ap, subst, ◌∙◌, arith, length-append}
+use Rattle.std.proofs.Common.{◌≡◌, ◌⊎◌, inl, inr, ℕ, ◌+◌, ◌*◌, ◌<◌, ◌≤◌, true, false, cond, nat_eq, List, [], ◌∷◌, ◌++◌, length, refl, sym, ap, subst, ◌∙◌}
+use Rattle.std.proofs.Common.{arith, length-append}
 use Rattle.std.specs.Prelude.{IsTrue, Some}
 use Rattle.std.specs.List.{Contains, AllByRecursion, list_any}
 use Rattle.std.specs.FinMap as table
@@ -40,12 +41,14 @@ any_there x (y ∷ xs) is =
 search_shared : (xs ys : List ℕ) → ((r : ℕ) × Contains xs r × Contains ys r) ⊎ AllByRecursion (λ x. list_any (nat_eq x) ys ≡ false) xs
 search_shared [] ys = inr tt
 search_shared (x ∷ xs) ys =
-    elim (cases_Bool (list_any (nat_eq x) ys)) as (λ _. ((r : ℕ) × Contains (x ∷ xs) r × Contains ys r) ⊎ AllByRecursion (λ y. list_any (nat_eq y) ys ≡ false) (x ∷ xs)) [
+    elim (cases_Bool (list_any (nat_eq x) ys))
+    as (λ _. ((r : ℕ) × Contains (x ∷ xs) r × Contains ys r) ⊎ AllByRecursion (λ y. list_any (nat_eq y) ys ≡ false) (x ∷ xs)) [
       | inl e ↦ inl (x, head_there x xs, any_there x ys e)
-      | inr e ↦ elim (search_shared xs ys) as (λ _. ((r : ℕ) × Contains (x ∷ xs) r × Contains ys r) ⊎ AllByRecursion (λ y. list_any (nat_eq y) ys ≡ false) (x ∷ xs)) [
-        | inl h ↦ inl (h.0, Contains-append_right (x ∷ []) xs h.0 h.1, h.2)
-        | inr h ↦ inr (e, h)
-      ]
+      | inr e ↦
+          elim (search_shared xs ys) as (λ _. ((r : ℕ) × Contains (x ∷ xs) r × Contains ys r) ⊎ AllByRecursion (λ y. list_any (nat_eq y) ys ≡ false) (x ∷ xs)) [
+            | inl h ↦ inl (h.0, Contains-append_right (x ∷ []) xs h.0 h.1, h.2)
+            | inr h ↦ inr (e, h)
+          ]
     ]
 
 both_apart : (xs ys : List ℕ) → Apart xs → Apart ys → AllByRecursion (λ x. list_any (nat_eq x) ys ≡ false) xs → Apart (xs ++ ys)
@@ -101,7 +104,8 @@ module _ (all : List ℕ) (d : Cluster) (h : Holds d) (t : Traces d) (quiet : Ar
       let among : (r : ℕ) (x : Member) → table.get d.members r ≡ Some x → P r = λ r x is. (fixed r x is).among in
       shares all_set (peers_of (fresh m.opening) (released_events m) first) (peers_of (fresh n.opening) (released_events n) second)
       (peers_apart d h t p m at first.before first.later first.last first.parts) (peers_apart d h t q n at' second.before second.later second.last second.parts)
-      (peers_there d h t p m at P among first.before first.later first.last first.parts) (peers_there d h t q n at' P among second.before second.later second.last second.parts)
+      (peers_there d h t p m at P among first.before first.later first.last first.parts)
+      (peers_there d h t q n at' P among second.before second.later second.last second.parts)
       (omega (arith, size p m at first, size q n at' second))
 
 pub rounds_meet : (all : List ℕ) (c d : Cluster) (moves : List (ℕ × Move)) → IsFreshCluster c → IsFixedCluster all c

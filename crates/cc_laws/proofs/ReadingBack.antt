@@ -34,7 +34,8 @@ use Rattle.cc_laws.specs.Runs.{Run, IsFreshCluster, at_member, IsWrittenBy}
 use Rattle.cc_laws.specs.Written.{values_of, IsWriteOf}
 use Rattle.cc_laws.specs.Regular.{released_events, IsAnswered, IsWriteAsk, IsAhead, ShareNode}
 use Rattle.cc_laws.specs.ReadBack.{IsDone}
-use Rattle.cc_laws.proofs.Lasting.{IsStable, value_stays, value_there, max_lasts, flag_lasts, set_lasts, max_bounds, max_least, flag_there, flag_from, set_there, set_from}
+use Rattle.cc_laws.proofs.Lasting.{IsStable, value_stays, value_there, max_lasts, flag_lasts, set_lasts, max_bounds, max_least, flag_there, flag_from}
+use Rattle.cc_laws.proofs.Lasting.{set_there, set_from}
 use Rattle.cc_laws.proofs.Agreeing.{occurring_rows}
 use Rattle.cc_laws.proofs.Clustering.{Holds}
 use Rattle.cc_laws.proofs.Once.{contains_cases}
@@ -47,7 +48,8 @@ use Rattle.cc_laws.proofs.Writing.{asked_both}
 -- a front of what was released is a front of all
 front_at : (es front rest : List Event) (k : ℕ) → take k es ≡ front ++ rest → take (length front) es ≡ front
 front_at es front rest k parts =
-    let all : es ≡ front ++ (rest ++ drop k es) = sym (take-append-drop k es) ∙ ap (λ (l : List Event). l ++ drop k es) parts ∙ append_assoc front rest (drop k es) in
+    let all : es ≡ front ++ (rest ++ drop k es) =
+    sym (take-append-drop k es) ∙ ap (λ (l : List Event). l ++ drop k es) parts ∙ append_assoc front rest (drop k es) in
     ap (take (length front)) all ∙ take_at front (rest ++ drop k es) (length front) refl
 
 -- each row of a view that was read by then was written
@@ -86,24 +88,28 @@ later_has P stable d q n at before later s r command parts writes makes k y le o
     let write : IsWriteOf n.events k y = subst (λ (w : Member). IsWriteOf w.events k y) is_n of.2 in
     let rest = later ++ drop n.released n.events in
     let all : n.events ≡ before ++ event.Ask s r command ∷ rest =
-    sym (take-append-drop n.released n.events) ∙ ap (λ (l : List Event). l ++ drop n.released n.events) parts ∙ append_assoc before (event.Ask s r command ∷ later) (drop n.released n.events) in
+    sym (take-append-drop n.released n.events) ∙ ap (λ (l : List Event). l ++ drop n.released n.events) parts
+    ∙ append_assoc before (event.Ask s r command ∷ later) (drop n.released n.events) in
     let xs = asked_along before in
     let a = asked_of s r command in
     let asks : asked_along n.events ≡ xs ++ a ∷ asked_along rest = ap asked_along all ∙ asked_both before (event.Ask s r command ∷ rest) in
-    let there : slice_get (values_of nothing_stored (xs ++ a ∷ asked_along rest)) write.0 ≡ Some y = ap (λ (l : List Asked). slice_get (values_of nothing_stored l) write.0) (sym asks) ∙ write.2 in
-    value_stays P stable (xs ++ a ∷ asked_along rest) nothing_stored (written command (written_by xs nothing_stored)) y (makes (written_by xs nothing_stored)) (writes_by xs) write.0
+    let there : slice_get (values_of nothing_stored (xs ++ a ∷ asked_along rest)) write.0 ≡ Some y =
+    ap (λ (l : List Asked). slice_get (values_of nothing_stored l) write.0) (sym asks) ∙ write.2 in
+    value_stays P stable (xs ++ a ∷ asked_along rest) nothing_stored (written command (written_by xs nothing_stored)) y
+    (makes (written_by xs nothing_stored)) (writes_by xs) write.0
     (value_there nothing_stored xs (asked_along rest) a writes) there (omega (arith, le, write.1))
 
 module _ (c mid d : Cluster) (first second : List (ℕ × Move)) (begins : IsFreshCluster c) (to_mid : Run c first mid) (to_d : Run mid second d)
     (P : Value → Type 0) (stable : IsStable P) where
   -- a value that was written and answered is in what is read later, or one that came after it
-  pub done_seen : (command : Command) → is_writing command ≡ true → ((v : Value) → P (written command v)) → (q s r : ℕ) → IsDone mid q s r command
-      → (p x y : ℕ) → IsAhead mid p x y → ShareNode mid d q s r p x y → (a : Answer) → (read : Reading d p x y a) → (e : Pair) × (table.get read.seen q ≡ Some e) × P e.1
+  pub done_seen : (command : Command) → is_writing command ≡ true → ((v : Value) → P (written command v)) → (q s r : ℕ) → IsDone mid q s r command → (p x y : ℕ)
+      → IsAhead mid p x y → ShareNode mid d q s r p x y → (a : Answer) → (read : Reading d p x y a) → (e : Pair) × (table.get read.seen q ≡ Some e) × P e.1
   done_seen command writes makes q s r done p x y ahead share a read =
       let m = done.0 in
       let split = split_of (released_events m) (event.Ask s r command) done.2 in
       let k = writes_by (asked_along split.0) + 1 in
-      let ask : IsWriteAsk (released_events m) k s r = record { before = split.0; command = command; later = split.1; parts = split.2; writes = writes; number = refl } in
+      let ask : IsWriteAsk (released_events m) k s r =
+      record { before = split.0; command = command; later = split.1; parts = split.2; writes = writes; number = refl } in
       let seen = stores_seen c mid d first second begins to_mid to_d q k s r (m, done.1, ask, done.3) p x y ahead share a read in
       let row = some_and (table.get read.seen q) (λ e. k ≤ e.0) seen in
       let h_d = h_end c mid d first second begins to_mid to_d in
@@ -115,16 +121,19 @@ module _ (c mid d : Cluster) (first second : List (ℕ × Move)) (begins : IsFre
       (row.0, row.1, later_has P stable d q grown.0 grown.1 split.0 (split.1 ++ grown.2.longer.0) s r command parts writes makes row.0.0 row.0.1 row.2 of)
 
   -- what lasts of a row that was read is read later
-  pub rows_last : (q s r : ℕ) (a : Answer) → (early : Reading mid q s r a) → (p x y : ℕ) → IsAhead mid p x y → ShareNode mid d q s r p x y → (b : Answer) → (late : Reading d p x y b)
-      → (node : ℕ) (e : Pair) → table.get early.seen node ≡ Some e → P e.1 → (f : Pair) × (table.get late.seen node ≡ Some f) × P f.1
+  pub rows_last : (q s r : ℕ) (a : Answer) → (early : Reading mid q s r a) → (p x y : ℕ) → IsAhead mid p x y → ShareNode mid d q s r p x y → (b : Answer)
+      → (late : Reading d p x y b) → (node : ℕ) (e : Pair) → table.get early.seen node ≡ Some e → P e.1
+      → (f : Pair) × (table.get late.seen node ≡ Some f) × P f.1
   rows_last q s r a early p x y ahead share b late node e there has =
       let most = reads_in_turn c mid d first second begins to_mid to_d q s r a early p x y ahead share b late node in
       let row = some_and (table.get late.seen node) (λ f. e.0 ≤ f.0) (subst (λ (o : Option Pair). IsKept o (table.get late.seen node)) there most) in
       let h_d = h_end c mid d first second begins to_mid to_d in
-      let early_rows = seen_written mid d h_d q s r a early (run_grows mid second d (h_mid c mid d first second begins to_mid to_d) to_d q early.member early.there) in
+      let early_rows = seen_written mid d h_d q s r a early
+      (run_grows mid second d (h_mid c mid d first second begins to_mid to_d) to_d q early.member early.there) in
       let late_rows = seen_written d d h_d p x y b late (late.member, late.there, grown_same late.member) in
       let of_e : IsWrittenBy d node e.0 e.1 = at_some (λ (g : Pair). IsWrittenBy d node g.0 g.1) (table.get early.seen node) e there (early_rows node) in
-      let of_f : IsWrittenBy d node row.0.0 row.0.1 = at_some (λ (g : Pair). IsWrittenBy d node g.0 g.1) (table.get late.seen node) row.0 row.1 (late_rows node) in
+      let of_f : IsWrittenBy d node row.0.0 row.0.1 =
+      at_some (λ (g : Pair). IsWrittenBy d node g.0 g.1) (table.get late.seen node) row.0 row.1 (late_rows node) in
       let is_m : of_f.0 ≡ of_e.0 = one_at d node node of_f.0 of_e.0 refl of_f.1 of_e.1 in
       let first_write = of_e.2 in
       let second_write : IsWriteOf of_e.0.events row.0.0 row.0.1 = subst (λ (w : Member). IsWriteOf w.events row.0.0 row.0.1) is_m of_f.2 in (
@@ -138,33 +147,15 @@ module _ (c mid d : Cluster) (first second : List (ℕ × Move)) (begins : IsFre
 
 max_read : (k : Command) (v : ViewMap) (n : ℕ) → answer.Max n ≡ answer_of k v → n ≡ max_of v
 max_read (command.Store text) v n is = cc
-max_read command.Collect v n is = cc
-max_read (command.WriteMax x) v n is = cc
-max_read command.ReadMax v n is = cc
-max_read command.SetFlag v n is = cc
-max_read command.ReadFlag v n is = cc
-max_read (command.AddMember x) v n is = cc
-max_read command.ReadSet v n is = cc
+max_read _ v n is = cc
 
 flag_read : (k : Command) (v : ViewMap) (b : Bool) → answer.Flag b ≡ answer_of k v → b ≡ flag_of v
 flag_read (command.Store text) v b is = cc
-flag_read command.Collect v b is = cc
-flag_read (command.WriteMax x) v b is = cc
-flag_read command.ReadMax v b is = cc
-flag_read command.SetFlag v b is = cc
-flag_read command.ReadFlag v b is = cc
-flag_read (command.AddMember x) v b is = cc
-flag_read command.ReadSet v b is = cc
+flag_read _ v b is = cc
 
 set_read : (k : Command) (v : ViewMap) (s : NatSet) → answer.Set s ≡ answer_of k v → s ≡ set_of v
 set_read (command.Store text) v s is = cc
-set_read command.Collect v s is = cc
-set_read (command.WriteMax x) v s is = cc
-set_read command.ReadMax v s is = cc
-set_read command.SetFlag v s is = cc
-set_read command.ReadFlag v s is = cc
-set_read (command.AddMember x) v s is = cc
-set_read command.ReadSet v s is = cc
+set_read _ v s is = cc
 
 no_max : (n : ℕ) → answer.Max n ≡ answer.Stored → ⊥
 no_max n is = cc
@@ -176,41 +167,47 @@ no_set : (s : NatSet) → answer.Set s ≡ answer.Stored → ⊥
 no_set s is = cc
 
 module _ (c mid d : Cluster) (first second : List (ℕ × Move)) (begins : IsFreshCluster c) (to_mid : Run c first mid) (to_d : Run mid second d) where
-  pub max_seen : (q s r k : ℕ) → IsDone mid q s r (command.WriteMax k) → (p x y : ℕ) → IsAhead mid p x y → ShareNode mid d q s r p x y → (n : ℕ) → IsAnswered d p x y (answer.Max n) → k ≤ n
+  pub max_seen : (q s r k : ℕ) → IsDone mid q s r (command.WriteMax k) → (p x y : ℕ) → IsAhead mid p x y → ShareNode mid d q s r p x y → (n : ℕ)
+      → IsAnswered d p x y (answer.Max n) → k ≤ n
   max_seen q s r k done p x y ahead share n has =
       let read = reading_end c mid d first second begins to_mid to_d p x y (answer.Max n) has (no_max n) in
-      let row = done_seen c mid d first second begins to_mid to_d (λ v. k ≤ v.max) (max_lasts k) (command.WriteMax k) refl (λ v. omega arith) q s r done p x y ahead share (answer.Max n) read in
+      let row = done_seen c mid d first second begins to_mid to_d (λ v. k ≤ v.max) (max_lasts k) (command.WriteMax k) refl
+      (λ v. omega arith) q s r done p x y ahead share (answer.Max n) read in
       let most = at_some (λ (e : Pair). e.1.max ≤ max_of read.seen) (table.get read.seen q) row.0 row.1 (max_bounds read.seen q) in
       omega (arith, row.2, most, max_read read.asked.0.command read.seen n read.tells)
 
-  pub max_in_turn : (q s r k : ℕ) → IsAnswered mid q s r (answer.Max k) → (p x y : ℕ) → IsAhead mid p x y → ShareNode mid d q s r p x y → (n : ℕ) → IsAnswered d p x y (answer.Max n)
-      → k ≤ n
+  pub max_in_turn : (q s r k : ℕ) → IsAnswered mid q s r (answer.Max k) → (p x y : ℕ) → IsAhead mid p x y → ShareNode mid d q s r p x y → (n : ℕ)
+      → IsAnswered d p x y (answer.Max n) → k ≤ n
   max_in_turn q s r k early_has p x y ahead share n late_has =
       let early = reading_mid c mid d first second begins to_mid to_d q s r (answer.Max k) early_has (no_max k) in
       let late = reading_end c mid d first second begins to_mid to_d p x y (answer.Max n) late_has (no_max n) in
       let low : max_of early.seen ≤ max_of late.seen = max_least early.seen (max_of late.seen) (λ node.
       of_some (λ (e : Pair). e.1.max ≤ max_of late.seen) (table.get early.seen node) (λ e there.
-      let row = rows_last c mid d first second begins to_mid to_d (λ v. e.1.max ≤ v.max) (max_lasts e.1.max) q s r (answer.Max k) early p x y ahead share (answer.Max n) late node e there (omega arith) in
+      let row = rows_last c mid d first second begins to_mid to_d (λ v. e.1.max ≤ v.max) (max_lasts e.1.max) q s r (answer.Max k) early p x y ahead share
+      (answer.Max n) late node e there (omega arith) in
       let most = at_some (λ (f : Pair). f.1.max ≤ max_of late.seen) (table.get late.seen node) row.0 row.1 (max_bounds late.seen node) in
       omega (arith, row.2, most))) in
       omega (arith, low, max_read early.asked.0.command early.seen k early.tells, max_read late.asked.0.command late.seen n late.tells)
 
-  pub flag_seen : (q s r : ℕ) → IsDone mid q s r command.SetFlag → (p x y : ℕ) → IsAhead mid p x y → ShareNode mid d q s r p x y → (b : Bool) → IsAnswered d p x y (answer.Flag b)
-      → b ≡ true
+  pub flag_seen : (q s r : ℕ) → IsDone mid q s r command.SetFlag → (p x y : ℕ) → IsAhead mid p x y → ShareNode mid d q s r p x y → (b : Bool)
+      → IsAnswered d p x y (answer.Flag b) → b ≡ true
   flag_seen q s r done p x y ahead share b has =
       let read = reading_end c mid d first second begins to_mid to_d p x y (answer.Flag b) has (no_flag b) in
-      let row = done_seen c mid d first second begins to_mid to_d (λ v. v.flag ≡ true) flag_lasts command.SetFlag refl (λ v. refl) q s r done p x y ahead share (answer.Flag b) read in
+      let row = done_seen c mid d first second begins to_mid to_d (λ v. v.flag ≡ true) flag_lasts command.SetFlag refl
+      (λ v. refl) q s r done p x y ahead share (answer.Flag b) read in
       flag_read read.asked.0.command read.seen b read.tells
       ∙ at_some (λ (e : Pair). e.1.flag ≡ true → flag_of read.seen ≡ true) (table.get read.seen q) row.0 row.1 (flag_there read.seen q) row.2
 
-  pub flag_in_turn : (q s r : ℕ) → IsAnswered mid q s r (answer.Flag true) → (p x y : ℕ) → IsAhead mid p x y → ShareNode mid d q s r p x y → (b : Bool) → IsAnswered d p x y (answer.Flag b)
-      → b ≡ true
+  pub flag_in_turn : (q s r : ℕ) → IsAnswered mid q s r (answer.Flag true) → (p x y : ℕ) → IsAhead mid p x y → ShareNode mid d q s r p x y → (b : Bool)
+      → IsAnswered d p x y (answer.Flag b) → b ≡ true
   flag_in_turn q s r early_has p x y ahead share b late_has =
       let early = reading_mid c mid d first second begins to_mid to_d q s r (answer.Flag true) early_has (no_flag true) in
       let late = reading_end c mid d first second begins to_mid to_d p x y (answer.Flag b) late_has (no_flag b) in
       flag_read late.asked.0.command late.seen b late.tells
-      ∙ flag_from early.seen (flag_of late.seen ≡ true) (λ node. of_some (λ (e : Pair). e.1.flag ≡ true → flag_of late.seen ≡ true) (table.get early.seen node) (λ e there set.
-      let row = rows_last c mid d first second begins to_mid to_d (λ v. v.flag ≡ true) flag_lasts q s r (answer.Flag true) early p x y ahead share (answer.Flag b) late node e there set in
+      ∙ flag_from early.seen (flag_of late.seen ≡ true)
+      (λ node. of_some (λ (e : Pair). e.1.flag ≡ true → flag_of late.seen ≡ true) (table.get early.seen node) (λ e there set.
+      let row = rows_last c mid d first second begins to_mid to_d (λ v. v.flag ≡ true) flag_lasts q s r (answer.Flag true) early p x y ahead share
+      (answer.Flag b) late node e there set in
       at_some (λ (f : Pair). f.1.flag ≡ true → flag_of late.seen ≡ true) (table.get late.seen node) row.0 row.1 (flag_there late.seen node) row.2))
       (sym (flag_read early.asked.0.command early.seen true early.tells))
 
@@ -221,16 +218,19 @@ module _ (c mid d : Cluster) (first second : List (ℕ × Move)) (begins : IsFre
       let row = done_seen c mid d first second begins to_mid to_d (λ v. set.contains v.set k ≡ true) (set_lasts k) (command.AddMember k) refl
       (λ v. contains-insert v.set k k ∙ or_left _ _ (eq-eqb k k refl)) q s r done p x y ahead share (answer.Set zs) read in
       ap (λ (z : NatSet). set.contains z k) (set_read read.asked.0.command read.seen zs read.tells)
-      ∙ at_some (λ (e : Pair). set.contains e.1.set k ≡ true → set.contains (set_of read.seen) k ≡ true) (table.get read.seen q) row.0 row.1 (set_there read.seen k q) row.2
+      ∙ at_some (λ (e : Pair). set.contains e.1.set k ≡ true → set.contains (set_of read.seen) k ≡ true) (table.get read.seen q) row.0 row.1
+      (set_there read.seen k q) row.2
 
-  pub members_in_turn : (q s r : ℕ) (ys : NatSet) → IsAnswered mid q s r (answer.Set ys) → (p x y : ℕ) → IsAhead mid p x y → ShareNode mid d q s r p x y → (zs : NatSet)
-      → IsAnswered d p x y (answer.Set zs)
-      → (k : ℕ) → set.contains ys k ≡ true → set.contains zs k ≡ true
+  pub members_in_turn : (q s r : ℕ) (ys : NatSet) → IsAnswered mid q s r (answer.Set ys) → (p x y : ℕ) → IsAhead mid p x y → ShareNode mid d q s r p x y
+      → (zs : NatSet) → IsAnswered d p x y (answer.Set zs) → (k : ℕ) → set.contains ys k ≡ true → set.contains zs k ≡ true
   members_in_turn q s r ys early_has p x y ahead share zs late_has k there_first =
       let early = reading_mid c mid d first second begins to_mid to_d q s r (answer.Set ys) early_has (no_set ys) in
       let late = reading_end c mid d first second begins to_mid to_d p x y (answer.Set zs) late_has (no_set zs) in
       ap (λ (z : NatSet). set.contains z k) (set_read late.asked.0.command late.seen zs late.tells)
-      ∙ set_from early.seen k (set.contains (set_of late.seen) k ≡ true) (λ node. of_some (λ (e : Pair). set.contains e.1.set k ≡ true → set.contains (set_of late.seen) k ≡ true) (table.get early.seen node) (λ e there has.
-      let row = rows_last c mid d first second begins to_mid to_d (λ v. set.contains v.set k ≡ true) (set_lasts k) q s r (answer.Set ys) early p x y ahead share (answer.Set zs) late node e there has in
-      at_some (λ (f : Pair). set.contains f.1.set k ≡ true → set.contains (set_of late.seen) k ≡ true) (table.get late.seen node) row.0 row.1 (set_there late.seen k node) row.2))
+      ∙ set_from early.seen k (set.contains (set_of late.seen) k ≡ true)
+      (λ node. of_some (λ (e : Pair). set.contains e.1.set k ≡ true → set.contains (set_of late.seen) k ≡ true) (table.get early.seen node) (λ e there has.
+      let row = rows_last c mid d first second begins to_mid to_d (λ v. set.contains v.set k ≡ true) (set_lasts k) q s r
+      (answer.Set ys) early p x y ahead share (answer.Set zs) late node e there has in
+      at_some (λ (f : Pair). set.contains f.1.set k ≡ true → set.contains (set_of late.seen) k ≡ true) (table.get late.seen node) row.0 row.1
+      (set_there late.seen k node) row.2))
       (ap (λ (z : NatSet). set.contains z k) (sym (set_read early.asked.0.command early.seen ys early.tells)) ∙ there_first)

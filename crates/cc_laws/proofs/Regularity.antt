@@ -29,7 +29,8 @@ use Rattle.cc_laws.specs.Clusters.{Member, Cluster, node_at, Move}
 use Rattle.cc_laws.specs.Runs.{Run, IsFreshCluster, Occurs, among_sent}
 use Rattle.cc_laws.specs.Orders.{GoesOn, IsFollowedBy}
 use Rattle.cc_laws.specs.Rounds.{Round, peers_of}
-use Rattle.cc_laws.specs.Regular.{released_events, IsAnswered, IsWriteAsk, IsStored, IsAhead, HasAtLeast, SeesWrite, RoundOf, Counted, HasAsked, RoundsMeet, ShareNode}
+use Rattle.cc_laws.specs.Regular.{released_events, IsAnswered, IsWriteAsk, IsStored, IsAhead, HasAtLeast, SeesWrite, RoundOf, Counted, HasAsked, RoundsMeet}
+use Rattle.cc_laws.specs.Regular.{ShareNode}
 use Rattle.cc_laws.specs.Fixed.{IsFixedCluster, Stays}
 use Rattle.cc_laws.proofs.Agreeing.{all_written, one_value}
 use Rattle.cc_laws.proofs.Lists.{all_both}
@@ -42,7 +43,8 @@ use Rattle.cc_laws.proofs.Places.{parts_more, after_parts}
 use Rattle.cc_laws.proofs.Says.{tag_after, stored_of}
 use Rattle.cc_laws.proofs.Pending.{HasAck, HasReply, Raised, least_more}
 use Rattle.cc_laws.proofs.Knowing.{either_front, Knows, store_known, reply_known}
-use Rattle.cc_laws.proofs.Answering.{last_after, Ended, ended, either_op, op_pends, op_writes, op_reads, asked_last, reads_view, writes_stored, StoredRound, IsQueryFor, ReadRound, node_lawful, write_round, back_round, answered_read, number_reached}
+use Rattle.cc_laws.proofs.Answering.{last_after, Ended, ended, either_op, op_pends, op_writes, op_reads, asked_last, reads_view, writes_stored, StoredRound}
+use Rattle.cc_laws.proofs.Answering.{IsQueryFor, ReadRound, node_lawful, write_round, back_round, answered_read, number_reached}
 
 -- a query of a request began where the node had released none such
 asked_later : (p : ℕ) (m n : Member) → IsSound p n → Grows m n → (s r tag : ℕ) → last_request (node_at m m.released).core.sessions s < r
@@ -52,7 +54,8 @@ asked_later p m n sound grows s r tag ahead raised =
     let lawful = lawful_front start n.events n.released sound.lawful in
     let at_m : after start (released_events m) ≡ node_at m m.released = ap (λ (o : Opening). after (fresh o) (released_events m)) grows.opening in
     let front = raised.before ++ raised.raiser ∷ [] in
-    elim (either_front (released_events m) grows.longer.0 raised.before raised.later raised.raiser (sym grows.longer.1 ∙ raised.parts)) as (λ _. (node_at m m.released).core.ops.tag < tag) [
+    elim (either_front (released_events m) grows.longer.0 raised.before raised.later raised.raiser (sym grows.longer.1 ∙ raised.parts))
+    as (λ _. (node_at m m.released).core.ops.tag < tag) [
       | inl e ↦
           let to_raiser = (lawful_parts start raised.before (raised.raiser ∷ raised.later) (subst (IsLawful start) raised.parts lawful)).0 in
           let more = (lawful_parts start (released_events m) e.0 (subst (IsLawful start) e.1 to_raiser)).1 in
@@ -88,7 +91,8 @@ module _ (mid d : Cluster) (h : Holds mid) (t : Traces mid) (h' : Holds d) (t' :
         parts = grows.longer.1 ∙ ap (λ (l : List Event). l ++ grows.longer.0) first.parts ∙ append_assoc first.before (first.last ∷ first.later) grows.longer.0;
         ends = first.ends;
       } in
-      subst (λ (o : Opening). (round : Round (fresh o) (released_events w)) → (r : ℕ) × Contains (peers_of (fresh o) (released_events w) round) r × Counted n second r) grows.opening
+      subst (λ (o : Opening). (round : Round (fresh o) (released_events w)) → (r : ℕ) × Contains
+      (peers_of (fresh o) (released_events w) round) r × Counted n second r) grows.opening
       (λ round. meet q p w n grew.1 at' round second) later
 
   pub all_share : RoundsMeet d → (q s r p x y : ℕ) → ShareNode mid d q s r p x y
@@ -103,7 +107,8 @@ module _ (mid d : Cluster) (h : Holds mid) (t : Traces mid) (h' : Holds d) (t' :
       let both = share m n at at' first.round first.storing first.asked second.round second.querying second.asked in
       let peer = both.0 in
       let ack = All-contains (HasAck m.events q first.tag) _ peer (All-from_recursion (HasAck m.events q first.tag) _ first.acks) both.1 in
-      let reply = All-contains (HasReply n.events p second.tag seen) _ peer (All-from_recursion (HasReply n.events p second.tag seen) _ second.replies) both.2 in
+      let reply = All-contains (HasReply n.events p second.tag seen) _ peer
+      (All-from_recursion (HasReply n.events p second.tag seen) _ second.replies) both.2 in
       let known = store_known mid h t q m at first.tag Q first.raised peer ack.0 ack.1 in
       let knows : Knows mid peer x k = (known.0, known.1, least_more (stored_of known.2.ops) _ x k known.4 (has known.2 known.3)) in
       let grew = grown p ahead.0 ahead.1 in
@@ -158,13 +163,7 @@ some_and (Some e) Q h = (e, refl, h)
 
 collect_is : (k : Command) (w v : ViewMap) → answer.Seen v ≡ answer_of k w → w ≡ v
 collect_is (command.Store text) w v is = cc
-collect_is command.Collect w v is = cc
-collect_is (command.WriteMax x) w v is = cc
-collect_is command.ReadMax w v is = cc
-collect_is command.SetFlag w v is = cc
-collect_is command.ReadFlag w v is = cc
-collect_is (command.AddMember x) w v is = cc
-collect_is command.ReadSet w v is = cc
+collect_is _ w v is = cc
 
 not_stored : (v : ViewMap) → answer.Seen v ≡ answer.Stored → ⊥
 not_stored v is = cc
@@ -223,8 +222,10 @@ module _ (c mid d : Cluster) (first second : List (ℕ × Move)) (fresh_c : IsFr
         | inl w ↦
             let asked : HasAsked (pending_asks b.ops) s r = (w.1, op_pends b w.0 (Storing w.0) w.1 w.2 refl w.3, w.4, w.5) in
             let reached = number_reached q m sound s r k answer.Stored op asked ask in
-            seen_later mid d h_mid t_mid h_end t_end (run_grows mid second d h_mid to_d) q p s r x y m read.member made.1 read.there (λ e. HasAtLeast (stored_of e.ops) q b.ops.number) q k
-            (λ e has. at_least (table.get (stored_of e.ops) q) k b.ops.number reached has) (write_round q m sound op.front op.later op.last op.parts s r w.0 asked w.2 op.ends) read.seen ahead
+            seen_later mid d h_mid t_mid h_end t_end (run_grows mid second d h_mid to_d) q p s r x y m read.member made.1 read.there
+            (λ e. HasAtLeast (stored_of e.ops) q b.ops.number) q k
+            (λ e has. at_least (table.get (stored_of e.ops) q) k b.ops.number reached has)
+            (write_round q m sound op.front op.later op.last op.parts s r w.0 asked w.2 op.ends) read.seen ahead
             (read_round_of p x y a read) share
         | inr o ↦
             absurd (reads_view o.1.command o.2 (op_reads b lawful o.0 o.2 o.1 o.3 o.4) o.7)
@@ -240,9 +241,11 @@ module _ (c mid d : Cluster) (first second : List (ℕ × Move)) (fresh_c : IsFr
       → IsAtMost early.seen late.seen
   reads_in_turn q s r a early p x y ahead share b late =
       let m = early.member in
-      let back = back_round q m (h_mid.sound q m early.there) early.op.front early.op.later early.op.last early.op.parts s r early.pending early.seen early.asked early.phase early.op.ends in
+      let back = back_round q m (h_mid.sound q m early.there) early.op.front early.op.later early.op.last early.op.parts s r early.pending early.seen
+      early.asked early.phase early.op.ends in
       λ node. each (table.get early.seen node) (table.get late.seen node) (λ k has.
-      seen_later mid d h_mid t_mid h_end t_end (run_grows mid second d h_mid to_d) q p s r x y m late.member early.there late.there (λ e. stored_of e.ops ≡ early.seen) node k
+      seen_later mid d h_mid t_mid h_end t_end (run_grows mid second d h_mid to_d) q p s r x y m late.member early.there late.there
+      (λ e. stored_of e.ops ≡ early.seen) node k
       (λ e is. subst (λ (v : ViewMap). HasAtLeast v node k) (sym is) has) back late.seen ahead (read_round_of p x y b late) share)
     where
       each : (u w : Option Pair) → ((k : ℕ) → IsSomeAnd u (λ e. k ≤ e.0) → IsSomeAnd w (λ e. k ≤ e.0)) → IsKept u w
@@ -262,7 +265,8 @@ module _ (c mid d : Cluster) (first second : List (ℕ × Move)) (fresh_c : IsFr
   collect_sees q k s r stored p x y ahead share v has =
       let read = reading_end p x y (answer.Seen v) has (not_stored v) in
       let seen : HasAtLeast v q k =
-      subst (λ (w : ViewMap). HasAtLeast w q k) (collect_is read.asked.0.command read.seen v read.tells) (stores_seen q k s r stored p x y ahead share (answer.Seen v) read) in
+      subst (λ (w : ViewMap). HasAtLeast w q k) (collect_is read.asked.0.command read.seen v read.tells)
+      (stores_seen q k s r stored p x y ahead share (answer.Seen v) read) in
       let row = some_and (table.get v q) (λ e. k ≤ e.0) seen in
       (row.0.0, row.0.1, row.2, row.1, all_written c d (first ++ second) fresh_c to_end v (seen_occurs p x y v has) q row.0.0 row.0.1 row.1)
 
@@ -273,7 +277,8 @@ module _ (c mid d : Cluster) (first second : List (ℕ × Move)) (fresh_c : IsFr
       let late = reading_end p x y (answer.Seen w) second_has (not_stored w) in
       let is_v = collect_is early.asked.0.command early.seen v early.tells in
       let is_w = collect_is late.asked.0.command late.seen w late.tells in
-      let most : IsAtMost v w = subst (λ (u : ViewMap). IsAtMost u w) is_v (subst (IsAtMost early.seen) is_w (reads_in_turn q s r (answer.Seen v) early p x y ahead share (answer.Seen w) late)) in
+      let most : IsAtMost v w = subst (λ (u : ViewMap). IsAtMost u w) is_v
+      (subst (IsAtMost early.seen) is_w (reads_in_turn q s r (answer.Seen v) early p x y ahead share (answer.Seen w) late)) in
       let occurs_v = seen_occurs q s r v (run_sent mid second d to_d _ first_has) in
       λ node. goes_on (table.get v node) (table.get w node) (most node)
       (λ k a b here there. one_value c d (first ++ second) fresh_c to_end v w occurs_v (seen_occurs p x y w second_has) node k a b here there)

@@ -54,7 +54,9 @@ module _ (P : ℕ → ℕ → Value → Type 0) where
   rows_single : (row : Row) → P row.node row.number row.value → AllRows (single row)
   rows_single row h q = subst (λ o. IfSome o (λ e. P q e.0 e.1)) (sym (get-single row q))
       (elim (eqb_tells q row.node) as (λ _. IfSome {T = Pair} (cond (nat_eq q row.node) (Some (row.number, row.value)) None) (λ e. P q e.0 e.1)) [
-        | inl e ↦ subst (λ b. IfSome {T = Pair} (cond b (Some (row.number, row.value)) None) (λ r. P q r.0 r.1)) (sym e.0) (subst (λ k. P k row.number row.value) (sym e.1) h)
+        | inl e ↦
+            subst (λ b. IfSome {T = Pair} (cond b (Some (row.number, row.value)) None) (λ r. P q r.0 r.1)) (sym e.0)
+            (subst (λ k. P k row.number row.value) (sym e.1) h)
         | inr e ↦ subst (λ b. IfSome {T = Pair} (cond b (Some (row.number, row.value)) None) (λ r. P q r.0 r.1)) (sym e.0) tt
       ])
 

@@ -23,7 +23,8 @@ use Rattle.cc_ops.specs.declared.pending.Asked.{Asked}
 use Rattle.cc_ops.specs.Commands.{is_writing}
 use Rattle.cc_churn.specs.Churn as churn
 use Rattle.cc_ops.specs.Rounds.{first_round, line_behind}
-use Rattle.cc_ops.specs.Ops.{Ops, Phase, Idle, Storing, Querying, StoringBack, is_idle, is_last, is_own, round_of, counted, merged, next_round, with_written, with_own_row, begin_round, with_begun, after_reply, after_last, after_ack, again}
+use Rattle.cc_ops.specs.Ops.{Ops, Phase, Idle, Storing, Querying, StoringBack, is_idle, is_last, is_own, round_of, counted, merged, next_round, with_written}
+use Rattle.cc_ops.specs.Ops.{with_own_row, begin_round, with_begun, after_reply, after_last, after_ack, again}
 use Rattle.cc_node.specs.Core.{Core, quorum, asked_of, churn_told, asks_anew, anew_if, next, post}
 use Rattle.cc_node.specs.Node.{Node, step, after}
 use Rattle.cc_node.specs.Opening.{Opening, fresh}
@@ -92,14 +93,11 @@ own_quiet : (all : List ℕ) (e : Event) → IsOwn e → StaysBy e → IsQuiet a
 own_quiet all event.Enter h k = absurd k
 own_quiet all event.Leave h k = absurd k
 own_quiet all (event.Deliver from n m) h k = absurd h
-own_quiet all (event.Acked peer n) h k = tt
-own_quiet all (event.Ask s r command) h k = tt
 own_quiet all (event.Retire q) h k = absurd k
-own_quiet all (event.Lapse q) h k = tt
-own_quiet all event.Snapshot h k = tt
+own_quiet all _ h k = tt
 
-move_quiet : (all : List ℕ) (c : Cluster) (q : ℕ) (m : Member) (move : Move) (d : Cluster) → Holds c → Traces c → IsFixedCluster all c → AreQuiet all c → Stays move
-    → table.get c.members q ≡ Some m → MovesBy c q m move d → AreQuiet all d
+move_quiet : (all : List ℕ) (c : Cluster) (q : ℕ) (m : Member) (move : Move) (d : Cluster) → Holds c → Traces c → IsFixedCluster all c → AreQuiet all c
+    → Stays move → table.get c.members q ≡ Some m → MovesBy c q m move d → AreQuiet all d
 move_quiet all c q m (Accept e) d holds t fixed h k at s =
     subst (AreQuiet all) (sym s.2)
     (member_quiet all c q (accepting e m) h (all_both (IsQuiet all) m.events (e ∷ []) (h q m at) (own_quiet all e s.0 k, tt)))
@@ -118,7 +116,8 @@ move_quiet all c q m (Crash j) d holds t fixed h k at s =
 move_fixed : (all : List ℕ) (c : Cluster) (q : ℕ) (m : Member) (move : Move) (d : Cluster) → IsFixedCluster all c → table.get c.members q ≡ Some m
     → MovesBy c q m move d → IsFixedCluster all d
 move_fixed all c q m (Accept e) d h at s = subst (IsFixedCluster all) (sym s.2) (member_fixed all c q m (accepting e m) h at refl)
-move_fixed all c q m (Receive from n x) d h at s = subst (IsFixedCluster all) (sym s.2) (member_fixed all c q m (accepting (event.Deliver from n x) m) h at refl)
+move_fixed all c q m (Receive from n x) d h at s =
+    subst (IsFixedCluster all) (sym s.2) (member_fixed all c q m (accepting (event.Deliver from n x) m) h at refl)
 move_fixed all c q m (Sync j) d h at s = subst (IsFixedCluster all) (sym s.2) (member_fixed all c q m (record m { durable = j }) h at refl)
 move_fixed all c q m (Release j) d h at s = subst (IsFixedCluster all) (sym s.2) (member_fixed all c q m (record m { released = j }) h at refl)
 move_fixed all c q m (Resend o) d h at s = subst (IsFixedCluster all) (sym s.1) h
@@ -139,7 +138,9 @@ fresh_quiet all c h q m at = subst (AllByRecursion (IsQuiet all)) (sym (h.member
 -- ---- how many answers a round needs
 
 without_none : (s : set.NatSet) → set.difference s set.empty ≡ s
-without_none s = same_ids (set.difference s set.empty) s (λ q. contains-difference s set.empty q ∙ ap (λ b. set.contains s q && not b) (contains-empty q) ∙ and_true (set.contains s q))
+without_none s =
+    same_ids (set.difference s set.empty) s
+    (λ q. contains-difference s set.empty q ∙ ap (λ b. set.contains s q && not b) (contains-empty q) ∙ and_true (set.contains s q))
   where
     and_true : (b : Bool) → (b && true) ≡ b
     and_true true = refl
@@ -159,7 +160,8 @@ module _ (need : ℕ) where
   round_needs : (me quorum : ℕ) (asks : List Asked) (s : Ops) → quorum ≡ need → Needs need (begin_round me quorum asks s).phase
   round_needs me quorum [] s is = tt
   round_needs me quorum (a ∷ others) s is =
-      cond_both (is_writing a.command) (next_round (Storing (round_of quorum a)) (with_own_row me (with_written (a ∷ others) s))) (next_round (Querying (round_of quorum a)) s)
+      cond_both (is_writing a.command) (next_round (Storing (round_of quorum a)) (with_own_row me (with_written (a ∷ others) s)))
+      (next_round (Querying (round_of quorum a)) s)
       (λ (t : Ops). Needs need t.phase) (λ _. is) (λ _. is)
 
   last_needs : (me quorum : ℕ) (s : Ops) → quorum ≡ need → Needs need (after_last me quorum s).phase
@@ -171,26 +173,22 @@ module _ (need : ℕ) where
 
   ack_needs : (me quorum : ℕ) (s : Ops) → quorum ≡ need → (phase : Phase) → Needs need phase → Needs need s.phase
       → Needs need (after_ack me quorum phase s).phase
-  ack_needs me quorum s same Idle k h = h
   ack_needs me quorum s same (Storing p) k h =
       either_needs (is_last p) (after_last me quorum s) (record s { phase = Storing (counted p) }) (last_needs me quorum s same) k
-  ack_needs me quorum s same (Querying p) k h = h
   ack_needs me quorum s same (StoringBack p seen) k h =
       either_needs (is_last p) (after_last me quorum s) (record s { phase = StoringBack (counted p) seen }) (last_needs me quorum s same) k
+  ack_needs me quorum s same _ k h = h
 
   reply_needs : (quorum : ℕ) (v : ViewMap) (s : Ops) → quorum ≡ need → (phase : Phase) → Needs need phase → Needs need s.phase
       → Needs need (after_reply quorum v phase s).phase
-  reply_needs quorum v s same Idle k h = h
-  reply_needs quorum v s same (Storing p) k h = h
   reply_needs quorum v s same (Querying p) k h =
-      either_needs (is_last p) (next_round (StoringBack (round_of quorum p.asked) (merge s.view v)) (merged v s)) (record (merged v s) { phase = Querying (counted p) }) same k
-  reply_needs quorum v s same (StoringBack p seen) k h = h
+      either_needs (is_last p) (next_round (StoringBack (round_of quorum p.asked) (merge s.view v)) (merged v s))
+      (record (merged v s) { phase = Querying (counted p) }) same k
+  reply_needs quorum v s same _ k h = h
 
   again_needs : (quorum : ℕ) (phase : Phase) → quorum ≡ need → Needs need (again quorum phase)
   again_needs quorum Idle is = tt
-  again_needs quorum (Storing p) is = is
-  again_needs quorum (Querying p) is = is
-  again_needs quorum (StoringBack p seen) is = is
+  again_needs quorum _ is = is
 
   -- a phase that begins anew needs as many as one that begins then
   anew_needs : (b : Bool) (quorum : ℕ) (s : Ops) → quorum ≡ need → Needs need s.phase → Needs need (anew_if b quorum s).phase
@@ -200,37 +198,26 @@ module _ (need : ℕ) where
   message_needs : (c : Core) (from n : ℕ) (m : Message) → quorum c ≡ need → quorum (next c (event.Deliver from n m)) ≡ need → Needs need c.ops.phase
       → Needs need (next c (event.Deliver from n m)).ops.phase
   unfolding next
-  message_needs c from n (message.Enter q) same next_same h = h
-  message_needs c from n (message.EnterEcho d v j q) same next_same h = h
-  message_needs c from n (message.Join q) same next_same h = h
-  message_needs c from n (message.JoinEcho q) same next_same h = h
-  message_needs c from n (message.Leave q) same next_same h = h
-  message_needs c from n (message.LeaveEcho q) same next_same h = h
-  message_needs c from n (message.Query tag q) same next_same h = h
   message_needs c from n (message.QueryReply v tag q) same next_same h =
       either_needs (is_own c.me tag q c.ops) (after_reply (quorum c) v c.ops.phase c.ops) c.ops (reply_needs (quorum c) v c.ops same c.ops.phase h h) h
-  message_needs c from n (message.Store v tag q) same next_same h = h
   message_needs c from n (message.StoreAck tag q) same next_same h =
       either_needs (is_own c.me tag q c.ops) (after_ack c.me (quorum c) c.ops.phase c.ops) c.ops (ack_needs c.me (quorum c) c.ops same c.ops.phase h h) h
   message_needs c from n (message.Snapshot d v) same next_same h =
       let m = message.Snapshot d v in
       anew_needs (asks_anew c from n m) (churn.quorum c.beta (churn_told c from n m)) (merged v c.ops) next_same h
+  message_needs c from n _ same next_same h = h
 
   event_needs : (c : Core) (e : Event) → quorum c ≡ need → quorum (next c e) ≡ need → Needs need c.ops.phase → Needs need (next c e).ops.phase
   unfolding next
-  event_needs c event.Enter same next_same h = h
-  event_needs c event.Leave same next_same h = h
   event_needs c (event.Deliver from n m) same next_same h = message_needs c from n m same next_same h
-  event_needs c (event.Acked peer n) same next_same h = h
   event_needs c (event.Ask s r command) same next_same h =
       let a = asked_of s r command in
-      either_needs (is_idle c.ops.phase) (with_begun c.me (quorum c) a c.ops) (record c.ops { line = c.ops.line ++ a ∷ [] }) (round_needs c.me (quorum c) (a ∷ []) c.ops same) h
-  event_needs c (event.Retire q) same next_same h = h
-  event_needs c (event.Lapse q) same next_same h = h
-  event_needs c event.Snapshot same next_same h = h
+      either_needs (is_idle c.ops.phase) (with_begun c.me (quorum c) a c.ops) (record c.ops { line = c.ops.line ++ a ∷ [] })
+      (round_needs c.me (quorum c) (a ∷ []) c.ops same) h
+  event_needs c _ same next_same h = h
 
-  needs_along : (all : List ℕ) (n : Node) (es : List Event) → KnowsFixed all n.core → quorum n.core ≡ need → AllByRecursion (IsQuiet all) es → Needs need n.core.ops.phase
-      → Needs need (after n es).core.ops.phase
+  needs_along : (all : List ℕ) (n : Node) (es : List Event) → KnowsFixed all n.core → quorum n.core ≡ need → AllByRecursion (IsQuiet all) es
+      → Needs need n.core.ops.phase → Needs need (after n es).core.ops.phase
   unfolding step
   needs_along all n [] knows same quiet h = h
   needs_along all n (e ∷ es) knows same quiet h =
@@ -239,9 +226,7 @@ module _ (need : ℕ) where
 
   needs_is : (tag : ℕ) (phase : Phase) → is_some (round_under tag phase) ≡ true → Needs need phase → need_in phase ≡ need
   needs_is tag Idle some h = cc
-  needs_is tag (Storing p) some h = h
-  needs_is tag (Querying p) some h = h
-  needs_is tag (StoringBack p seen) some h = h
+  needs_is tag _ some h = h
 
 fresh_needs : (need : ℕ) (o : Opening) → Needs need (fresh o).core.ops.phase
 unfolding fresh
@@ -256,4 +241,5 @@ round_size all o es knows quiet round =
     all_front (IsQuiet all) round.before (round.last ∷ round.later) (subst (AllByRecursion (IsQuiet all)) round.parts quiet) in
     let c = (after (fresh o) round.before).core in
     round_enough o es round
-    ∙ needs_is need c.ops.tag c.ops.phase ((ended_is c round.last).0 round.ends).pended (needs_along need all (fresh o) round.before knows refl front (fresh_needs need o))
+    ∙ needs_is need c.ops.tag c.ops.phase ((ended_is c round.last).0 round.ends).pended
+    (needs_along need all (fresh o) round.before knows refl front (fresh_needs need o))

@@ -11,7 +11,8 @@ use Rattle.std.specs.List.{Contains, AllByRecursion}
 use Rattle.std.specs.FinMap as table
 use Rattle.std.proofs.lemmas.Bool.{eq-eqb}
 use Rattle.std.proofs.lemmas.List.{take-append-le, take-take, append_assoc}
-use Rattle.std.proofs.lemmas.List.Elements.{All-contains, All-from_recursion, recursion_from_All, All-weaker, All-contains_itself, Contains-append_left, Contains-append_right}
+use Rattle.std.proofs.lemmas.List.Elements.{All-contains, All-from_recursion, recursion_from_All, All-weaker, All-contains_itself, Contains-append_left}
+use Rattle.std.proofs.lemmas.List.Elements.{Contains-append_right}
 use Rattle.cc_views.specs.NatSets.{get-insert_key}
 use Rattle.cc_messages.specs.declared.event.Event.{Event}
 use Rattle.cc_messages.specs.declared.event.Event.TheVariants as event
@@ -24,7 +25,8 @@ use Rattle.cc_node.specs.Histories.{line-append}
 use Rattle.cc_node.proofs.FreshLaws.{fresh_lawful}
 use Rattle.cc_node.proofs.LawfulLaws.{add_all_heard}
 use Rattle.cc_node.proofs.StandingLaws.{standing_made}
-use Rattle.cc_laws.specs.Clusters.{Member, Cluster, Sent, node_at, with_member, with_sent, accepting, put_out, IsOwn, Move, Accept, Receive, Sync, Release, Resend, Crash, MovesBy}
+use Rattle.cc_laws.specs.Clusters.{Member, Cluster, Sent, node_at, with_member, with_sent, accepting, put_out, IsOwn, Move, Accept, Receive, Sync, Release}
+use Rattle.cc_laws.specs.Clusters.{Resend, Crash, MovesBy}
 use Rattle.cc_laws.specs.Runs.{Run, IsFreshCluster}
 use Rattle.cc_laws.specs.Regular.{released_events}
 use Rattle.cc_laws.proofs.Lists.{all_both, all_take, all_changed}
@@ -37,14 +39,8 @@ MadeBy c q o = (m : Member) × (table.get c.members q ≡ Some m) × Contains (l
 
 -- an event of node q
 abbrev pub CameFrom : Cluster → ℕ → Event → Type 0
-CameFrom c q event.Enter = ⊤
-CameFrom c q event.Leave = ⊤
 CameFrom c q (event.Deliver from n k) = MadeBy c from (output.Send q n k)
-CameFrom c q (event.Acked peer n) = ⊤
-CameFrom c q (event.Ask s r command) = ⊤
-CameFrom c q (event.Retire p) = ⊤
-CameFrom c q (event.Lapse p) = ⊤
-CameFrom c q event.Snapshot = ⊤
+CameFrom c q _ = ⊤
 
 abbrev pub WasMade : Cluster → Sent → Type 0
 WasMade c s = MadeBy c s.from s.output
@@ -66,7 +62,8 @@ longer_line m n o same longer has =
     let both : line start (released_events n) ≡ line start (released_events m) ++ line (after start (released_events m)) longer.0 =
     ap (line start) longer.1 ∙ line-append start (released_events m) longer.0 in
     subst (λ (a : Opening). Contains (line (fresh a) (released_events n)) o) (sym same)
-    (subst (λ (l : List Output). Contains l o) (sym both) (Contains-append_left (line start (released_events m)) (line (after start (released_events m)) longer.0) o has))
+    (subst (λ (l : List Output). Contains l o) (sym both)
+    (Contains-append_left (line start (released_events m)) (line (after start (released_events m)) longer.0) o has))
 
 made_kept : (c : Cluster) (q : ℕ) (m n : Member) → table.get c.members q ≡ Some m → n.opening ≡ m.opening → IsLonger m n
     → (p : ℕ) (o : Output) → MadeBy c p o → MadeBy (with_member q n c) p o
@@ -79,14 +76,8 @@ made_kept c q m n at same longer p o r =
     ]
 
 came_kept : (c d : Cluster) → ((p : ℕ) (o : Output) → MadeBy c p o → MadeBy d p o) → (q : ℕ) (e : Event) → CameFrom c q e → CameFrom d q e
-came_kept c d f q event.Enter h = tt
-came_kept c d f q event.Leave h = tt
 came_kept c d f q (event.Deliver from n k) h = f from (output.Send q n k) h
-came_kept c d f q (event.Acked peer n) h = tt
-came_kept c d f q (event.Ask s r command) h = tt
-came_kept c d f q (event.Retire p) h = tt
-came_kept c d f q (event.Lapse p) h = tt
-came_kept c d f q event.Snapshot h = tt
+came_kept c d f q _ h = tt
 
 member_traces : (c : Cluster) (q : ℕ) (m n : Member) → Traces c → table.get c.members q ≡ Some m → n.opening ≡ m.opening → IsLonger m n
     → AllByRecursion (CameFrom c q) n.events → Traces (with_member q n c)
@@ -138,7 +129,8 @@ release_traces c q m k t at le =
     let both : line start (take k m.events) ≡ line start (released_events m) ++ put_out k m =
     ap (line start) (sym (front_parts m.released k m.events le)) ∙ line-append start (released_events m) (drop m.released (take k m.events)) in
     sent_traces d q (put_out k m) (member_traces c q m n t at refl (longer_by m n k le refl) (t.came q m at))
-    (all_there (put_out k m) (MadeBy d q) (λ o has. (n, here, subst (λ (l : List Output). Contains l o) (sym both) (Contains-append_right (line start (released_events m)) (put_out k m) o has))))
+    (all_there (put_out k m) (MadeBy d q)
+    (λ o has. (n, here, subst (λ (l : List Output). Contains l o) (sym both) (Contains-append_right (line start (released_events m)) (put_out k m) o has))))
 
 -- a fresh node has nothing to put out again
 none_stands : (o : Opening) (out : Output) → HasOutput (fresh o) out → ⊥
@@ -146,7 +138,8 @@ unfolding fresh
 none_stands o (output.Send to wire m) h = let none = sym (table.get-empty nat_cmp h.0) ∙ h.2 in absurd cc
 none_stands o (output.Ack to heard) h =
     let none : heard_from to (add_all 0 (ids_of o) table.empty) ≡ heard = ap (λ l. option_map_or (λ (k : Link). k.heard) l 0) h.1 ∙ h.2 in
-    let zero_heard : heard_from to (add_all 0 (ids_of o) table.empty) ≡ 0 = add_all_heard 0 (ids_of o) table.empty to ∙ ap (λ l. option_map_or (λ (k : Link). k.heard) l 0) (table.get-empty nat_cmp to) in
+    let zero_heard : heard_from to (add_all 0 (ids_of o) table.empty) ≡ 0 =
+    add_all_heard 0 (ids_of o) table.empty to ∙ ap (λ l. option_map_or (λ (k : Link). k.heard) l 0) (table.get-empty nat_cmp to) in
     omega (arith, none, zero_heard, h.3)
 none_stands o (output.Reply s r a) h = let none = sym (table.get-empty nat_cmp s) ∙ h.0 in absurd cc
 
@@ -170,21 +163,17 @@ resend_traces c q m o h t at has =
     )
 
 own_came : (c : Cluster) (q : ℕ) (e : Event) → IsOwn e → CameFrom c q e
-own_came c q event.Enter h = tt
-own_came c q event.Leave h = tt
 own_came c q (event.Deliver from n m) h = absurd h
-own_came c q (event.Acked peer n) h = tt
-own_came c q (event.Ask s r command) h = tt
-own_came c q (event.Retire p) h = tt
-own_came c q (event.Lapse p) h = tt
-own_came c q event.Snapshot h = tt
+own_came c q _ h = tt
 
 pub move_traces : (c : Cluster) (q : ℕ) (m : Member) (move : Move) (d : Cluster) → Holds c → Traces c → table.get c.members q ≡ Some m → MovesBy c q m move d
     → Traces d
 move_traces c q m (Accept e) d h t at s = subst Traces (sym s.2) (accept_traces c q m e h t at (own_came c q e s.0))
 move_traces c q m (Receive from n k) d h t at s =
-    subst Traces (sym s.2) (accept_traces c q m (event.Deliver from n k) h t at (All-contains (WasMade c) c.sent _ (All-from_recursion (WasMade c) c.sent t.sent) s.0))
-move_traces c q m (Sync k) d h t at s = subst Traces (sym s.2) (member_traces c q m (record m { durable = k }) t at refl (same_length m (record m { durable = k }) refl) (t.came q m at))
+    subst Traces (sym s.2) (accept_traces c q m (event.Deliver from n k) h t at
+    (All-contains (WasMade c) c.sent _ (All-from_recursion (WasMade c) c.sent t.sent) s.0))
+move_traces c q m (Sync k) d h t at s =
+    subst Traces (sym s.2) (member_traces c q m (record m { durable = k }) t at refl (same_length m (record m { durable = k }) refl) (t.came q m at))
 move_traces c q m (Release k) d h t at s = subst Traces (sym s.2) (release_traces c q m k t at s.0)
 move_traces c q m (Resend o) d h t at s = subst Traces (sym s.1) (resend_traces c q m o h t at s.0)
 move_traces c q m (Crash k) d h t at s =
@@ -238,20 +227,31 @@ move_grows : (c : Cluster) (q : ℕ) (m : Member) (move : Move) (d : Cluster) �
 move_grows c q m (Accept e) d h at s p o is =
     let sound = h.sound q m at in
     subst (λ (x : Cluster). GrownAt x p o) (sym s.2) (member_grows c q m (accepting e m) at
-    (record { opening = refl; longer = same_length m (accepting e m) (take-append-le m.released m.events (e ∷ []) (omega (arith, sound.released, sound.durable))) }) p o is)
+    (record {
+      opening = refl;
+      longer = same_length m (accepting e m)
+          (take-append-le m.released m.events (e ∷ []) (omega (arith, sound.released, sound.durable)));
+    }) p o is)
 move_grows c q m (Receive from n k) d h at s p o is =
     let sound = h.sound q m at in
     let e = event.Deliver from n k in
     subst (λ (x : Cluster). GrownAt x p o) (sym s.2) (member_grows c q m (accepting e m) at
-    (record { opening = refl; longer = same_length m (accepting e m) (take-append-le m.released m.events (e ∷ []) (omega (arith, sound.released, sound.durable))) }) p o is)
+    (record {
+      opening = refl;
+      longer = same_length m (accepting e m)
+          (take-append-le m.released m.events (e ∷ []) (omega (arith, sound.released, sound.durable)));
+    }) p o is)
 move_grows c q m (Sync k) d h at s p o is =
-    subst (λ (x : Cluster). GrownAt x p o) (sym s.2) (member_grows c q m (record m { durable = k }) at (record { opening = refl; longer = same_length m (record m { durable = k }) refl }) p o is)
+    subst (λ (x : Cluster). GrownAt x p o) (sym s.2)
+    (member_grows c q m (record m { durable = k }) at (record { opening = refl; longer = same_length m (record m { durable = k }) refl }) p o is)
 move_grows c q m (Release k) d h at s p o is =
-    subst (λ (x : Cluster). GrownAt x p o) (sym s.2) (member_grows c q m (record m { released = k }) at (record { opening = refl; longer = longer_by m (record m { released = k }) k s.0 refl }) p o is)
+    subst (λ (x : Cluster). GrownAt x p o) (sym s.2)
+    (member_grows c q m (record m { released = k }) at (record { opening = refl; longer = longer_by m (record m { released = k }) k s.0 refl }) p o is)
 move_grows c q m (Resend x) d h at s p o is = subst (λ (y : Cluster). GrownAt y p o) (sym s.1) (o, is, grown_same o)
 move_grows c q m (Crash k) d h at s p o is =
     let n : Member = record m { events = take k m.events; released = k; durable = k } in
-    subst (λ (x : Cluster). GrownAt x p o) (sym s.2) (member_grows c q m n at (record { opening = refl; longer = longer_by m n k s.0 (take-take k k m.events (omega arith)) }) p o is)
+    subst (λ (x : Cluster). GrownAt x p o) (sym s.2)
+    (member_grows c q m n at (record { opening = refl; longer = longer_by m n k s.0 (take-take k k m.events (omega arith)) }) p o is)
 
 pub run_grows : (c : Cluster) (moves : List (ℕ × Move)) (d : Cluster) → Holds c → Run c moves d → (p : ℕ) (o : Member) → table.get c.members p ≡ Some o
     → GrownAt d p o
@@ -264,12 +264,9 @@ run_grows c (move ∷ moves) d h r p o is =
 -- ---- what was sent stays so
 
 move_sent : (c : Cluster) (q : ℕ) (m : Member) (move : Move) (d : Cluster) → MovesBy c q m move d → (s : Sent) → Contains c.sent s → Contains d.sent s
-move_sent c q m (Accept e) d is s has = subst (λ (x : Cluster). Contains x.sent s) (sym is.2) has
-move_sent c q m (Receive from n k) d is s has = subst (λ (x : Cluster). Contains x.sent s) (sym is.2) has
-move_sent c q m (Sync k) d is s has = subst (λ (x : Cluster). Contains x.sent s) (sym is.2) has
 move_sent c q m (Release k) d is s has = subst (λ (x : Cluster). Contains x.sent s) (sym is.2) (Contains-append_left c.sent _ s has)
 move_sent c q m (Resend o) d is s has = subst (λ (x : Cluster). Contains x.sent s) (sym is.1) (Contains-append_left c.sent _ s has)
-move_sent c q m (Crash k) d is s has = subst (λ (x : Cluster). Contains x.sent s) (sym is.2) has
+move_sent c q m _ d is s has = subst (λ (x : Cluster). Contains x.sent s) (sym is.2) has
 
 pub run_sent : (c : Cluster) (moves : List (ℕ × Move)) (d : Cluster) → Run c moves d → (s : Sent) → Contains c.sent s → Contains d.sent s
 run_sent c [] d r s has = subst (λ (x : Cluster). Contains x.sent s) (sym r) has

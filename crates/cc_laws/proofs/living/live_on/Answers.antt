@@ -24,7 +24,8 @@ returns-in-Err-clause-stops g c start opening good =
     let stands = reads_stand s old start opening (g.met.S.Site.may_read old h) good in (
       λ reading. c.node_or_fault.ensures.apart (bytes_of s old) start fault stands reading (c.in-Err.ensures.faults h reading),
       good_leaves s new start [] opening tt
-          (still_good s old new start [] opening (g.met.S.Site.counts_now new (c.in-Err.ensures.outlet.keeps_honesty.0 h)) (c.in-Err.ensures.every_moment h) good),
+          (still_good s old new start [] opening (g.met.S.Site.counts_now new (c.in-Err.ensures.outlet.keeps_honesty.0 h))
+          (c.in-Err.ensures.every_moment h) good),
     )
 
 pub returns-in-Ok-outcome-clause-lived : goal.returns-in-Ok-outcome-clause-lived
@@ -37,7 +38,8 @@ returns-in-Ok-outcome-clause-lived g c start opening good =
     let events = events_in c.args.batch in
     let stands = stands_whole (bytes_of s old) e.at.side e.generation e.at.place e.twin (c.in-Ok.ensures.stands h) in
     let same = found_is s c.one_node.ensures.node old start e.twin opening (g.met.S.Site.may_read old h) good stands in
-    let now = still_good s old e.site start [] opening (g.met.S.Site.counts_now e.site (c.in-Ok.ensures.outlet.keeps_honesty.0 h)) (c.in-Ok.ensures.every_moment h) good in
+    let now = still_good s old e.site start [] opening (g.met.S.Site.counts_now e.site (c.in-Ok.ensures.outlet.keeps_honesty.0 h))
+    (c.in-Ok.ensures.every_moment h) good in
     subst (λ r. s.tells r → LeavesAll (s.state r) (s.sent r) start events opening) (sym c.close-site.ensures)
     (λ tells. subst (λ n. LeavesAll (s.state new) (s.sent new) n events opening) same
     (c.in-Ok-outcome.ensures.lived tells opening (subst (λ n. IsGoodNow s e.site n [] opening) (sym same) now)))
@@ -65,7 +67,8 @@ returns-in-Err-outcome-clause-stops g c start opening good =
     let fault = c.in-Err-outcome.fault in
     let stands = stands_whole (bytes_of s old) e.at.side e.generation e.at.place e.twin (c.in-Ok.ensures.stands h) in
     let same = found_is s c.one_node.ensures.node old start e.twin opening (g.met.S.Site.may_read old h) good stands in
-    let now = still_good s old e.site start [] opening (g.met.S.Site.counts_now e.site (c.in-Ok.ensures.outlet.keeps_honesty.0 h)) (c.in-Ok.ensures.every_moment h) good in
+    let now = still_good s old e.site start [] opening (g.met.S.Site.counts_now e.site (c.in-Ok.ensures.outlet.keeps_honesty.0 h))
+    (c.in-Ok.ensures.every_moment h) good in
     subst (λ r. LifeStops (λ _. ⊥) (s.state r) (s.sent r) start events opening fault) (sym c.close-site.ensures)
     (subst (λ n. LifeStops (λ _. ⊥) (s.state new) (s.sent new) n events opening fault) same
     (c.in-Err-outcome.ensures.stops opening (subst (λ n. IsGoodNow s e.site n [] opening) (sym same) now)))
@@ -84,7 +87,8 @@ returns-in-Ok-outcome-clause-moments g c start opening good =
     let events = events_in c.args.batch in
     let stands = stands_whole (bytes_of s old) e.at.side e.generation e.at.place e.twin (c.in-Ok.ensures.stands h) in
     let same = found_is s c.one_node.ensures.node old start e.twin opening (g.met.S.Site.may_read old h) good stands in
-    let now = still_good s old e.site start [] opening (g.met.S.Site.counts_now e.site (c.in-Ok.ensures.outlet.keeps_honesty.0 h)) (c.in-Ok.ensures.every_moment h) good in
+    let now = still_good s old e.site start [] opening (g.met.S.Site.counts_now e.site (c.in-Ok.ensures.outlet.keeps_honesty.0 h))
+    (c.in-Ok.ensures.every_moment h) good in
     let first = open_moments s old e.site start events opening good (c.in-Ok.ensures.every_moment h) in
     subst (λ r. s.tells r → EachMoment s old r (IsGood start events 0 opening)) (sym c.close-site.ensures)
     (λ tells. joined s old e.site new (IsGood start events 0 opening) first
@@ -101,7 +105,8 @@ returns-in-Err-outcome-clause-moments g c start opening good =
     let events = events_in c.args.batch in
     let stands = stands_whole (bytes_of s old) e.at.side e.generation e.at.place e.twin (c.in-Ok.ensures.stands h) in
     let same = found_is s c.one_node.ensures.node old start e.twin opening (g.met.S.Site.may_read old h) good stands in
-    let now = still_good s old e.site start [] opening (g.met.S.Site.counts_now e.site (c.in-Ok.ensures.outlet.keeps_honesty.0 h)) (c.in-Ok.ensures.every_moment h) good in
+    let now = still_good s old e.site start [] opening (g.met.S.Site.counts_now e.site (c.in-Ok.ensures.outlet.keeps_honesty.0 h))
+    (c.in-Ok.ensures.every_moment h) good in
     let first = open_moments s old e.site start events opening good (c.in-Ok.ensures.every_moment h) in
     subst (λ r. EachMoment s old r (IsGood start events 0 opening)) (sym c.close-site.ensures)
     (joined s old e.site new (IsGood start events 0 opening) first

@@ -59,7 +59,8 @@ returns-in-Ok-clause-stops g c =
     let opening = length (s.sent site) in
     let good = rests_good_now s site (record { side = A; place = rests.0 }) 1 node [] opening rests.1 in
     if_err_more _ _ c.live_on.result
-    (λ b. stops_more (λ _. ⊥) (FormatFails s (IsOpening (told c.args.opening.now)) c.args.site b.site) (s.state b.site) (s.sent b.site) node events (length (s.sent c.args.site))
+    (λ b. stops_more (λ _. ⊥) (FormatFails s (IsOpening (told c.args.opening.now)) c.args.site b.site) (s.state b.site)
+    (s.sent b.site) node events (length (s.sent c.args.site))
     (λ fault none. absurd none) b.fault)
     (subst (λ l. IfErr c.live_on.result (λ b. LifeStops (λ _. ⊥) (s.state b.site) (s.sent b.site) node events (length l) b.fault)) c.in-Ok.ensures.outlet.same
     (c.live_on.ensures.stops node opening good))
@@ -75,7 +76,8 @@ returns-in-Ok-clause-every_moment g c shut =
     let rests = c.in-Ok.ensures.at_rest h in
     let opening = length (s.sent mid) in
     let good = rests_good_now s mid (record { side = A; place = rests.0 }) 1 node [] opening rests.1 in
-    let living = subst (λ l. MatchResult c.live_on.result (λ r. s.tells r → EachMoment s mid r (IsGood node events 0 (length l))) (λ b. EachMoment s mid b.site (IsGood node events 0 (length l))))
+    let living = subst (λ l. MatchResult c.live_on.result (λ r. s.tells r → EachMoment s mid r (IsGood node events 0 (length l)))
+    (λ b. EachMoment s mid b.site (IsGood node events 0 (length l))))
     c.in-Ok.ensures.outlet.same (c.live_on.ensures.moments node opening good) in
     let formatting = c.in-Ok.ensures.every_moment h shut in
     let lawful = batch_lawful node c.args.batch c.requires.lawful in
@@ -85,4 +87,5 @@ returns-in-Ok-clause-every_moment g c shut =
 
 pub returns-in-Err-clause-every_moment : goal.returns-in-Err-clause-every_moment
 returns-in-Err-clause-every_moment g c shut =
-    format_moments g.S.Site c.args.site c.in-Err.field-0.site (fresh (told c.args.opening.now)) (events_in c.args.batch) (c.in-Err.ensures.every_moment c.requires.honest shut)
+    format_moments g.S.Site c.args.site c.in-Err.field-0.site (fresh (told c.args.opening.now)) (events_in c.args.batch)
+    (c.in-Err.ensures.every_moment c.requires.honest shut)
