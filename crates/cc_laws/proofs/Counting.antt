@@ -7,7 +7,8 @@
 use Rattle.std.proofs.Common.{◌≡◌, ◌≢◌, ◌⊎◌, inl, inr, ℕ, ◌+◌, Bool, true, false, List, ◌∷◌, ◌++◌, length, refl, sym, ap, subst, ◌∙◌, arith, []}
 use Rattle.std.specs.Prelude.{◌↔◌, ◌&&◌, ◌||◌, not, ◌==◌, Option, Some, None, is_some, if◌then◌else◌}
 use Rattle.std.specs.Bool.{then_some}
-use Rattle.std.proofs.lemmas.Bool.{cond_both, eqb-true}
+use Rattle.std.proofs.lemmas.Bool.{eqb-true, false≢true, both_ways}
+use Rattle.std.proofs.lemmas.Option.{none-some}
 use Rattle.cc_views.specs.Rows.{ViewMap}
 use Rattle.cc_views.specs.Merge.{merge}
 use Rattle.cc_messages.specs.declared.event.Event.{Event}
@@ -16,9 +17,8 @@ use Rattle.cc_messages.specs.declared.message.Message.{Message}
 use Rattle.cc_messages.specs.declared.message.Message.TheVariants as message
 use Rattle.cc_ops.specs.declared.pending.Asked.{Asked}
 use Rattle.cc_ops.specs.declared.pending.Pending.{Pending}
-use Rattle.cc_ops.specs.Commands.{is_writing}
-use Rattle.cc_ops.specs.Ops.{Ops, Phase, Idle, Storing, Querying, StoringBack, is_idle, is_last, is_own, round_of, counted, merged, next_round, with_written}
-use Rattle.cc_ops.specs.Ops.{with_own_row, begin_round, with_begun, after_reply, after_last, after_ack, ends_query, ends_store, again, asked_in}
+use Rattle.cc_ops.specs.Ops.{Ops, Phase, Idle, Storing, Querying, StoringBack, is_idle, is_last, is_own, round_of, counted, merged, next_round, begin_round}
+use Rattle.cc_ops.specs.Ops.{with_begun, after_reply, after_last, after_ack, ends_query, ends_store, again, asked_in}
 use Rattle.cc_ops.specs.OwnLaws.{anew_keeps}
 use Rattle.cc_ops.specs.Rounds.{first_round, line_behind}
 use Rattle.cc_ops.specs.Waiting.{writes_by}
@@ -28,6 +28,8 @@ use Rattle.cc_node.specs.Node.{Node, step, after}
 use Rattle.cc_node.specs.Opening.{Opening, fresh}
 use Rattle.cc_laws.specs.Progress.{round_under, round_in, answers_in, need_in, GainsAnswer, BeginsAnew, EndsRound, IsFrom}
 use Rattle.cc_laws.specs.Rounds.{awaits_views, awaits_acks, counts, ends_round, begins_anew, with_peer, peers_next, peers_along, Round, peers_of}
+use Rattle.cc_laws.proofs.Becoming.{of_round}
+use Rattle.cc_laws.proofs.CountedAnswers.{no_views}
 
 -- from one state to the next, with what is counted, whether the round ends, and whether its phase begins anew
 pub data Outcome (e : Event) (s t : Ops) (peer : Option ℕ) (over restarts : Bool) : Type 0 where
@@ -38,23 +40,14 @@ pub data Outcome (e : Event) (s t : Ops) (peer : Option ℕ) (over restarts : Bo
       → answers_in t.phase ≡ 0 → Outcome e s t peer over restarts
   starts_over : peer ≡ None → over ≡ false → restarts ≡ true → BeginsAnew s t → Outcome e s t peer over restarts
 
-false_true : false ≡ true → ⊥
-false_true e = cc
-
 -- ---- an operation that begins
 
 round_answers : (me quorum : ℕ) (asks : List Asked) (s : Ops) → answers_in (begin_round me quorum asks s).phase ≡ 0
 round_answers me quorum [] s = refl
-round_answers me quorum (a ∷ others) s =
-    cond_both (is_writing a.command) (next_round (Storing (round_of quorum a)) (with_own_row me (with_written (a ∷ others) s)))
-    (next_round (Querying (round_of quorum a)) s)
-    (λ (t : Ops). answers_in t.phase ≡ 0) (λ _. refl) (λ _. refl)
+round_answers me quorum (a ∷ others) s = of_round (λ t. answers_in t.phase ≡ 0) me quorum a others s (λ _. refl) (λ _. refl)
 
 begun_round : (me quorum : ℕ) (a : Asked) (others : List Asked) (s : Ops) → round_in (begin_round me quorum (a ∷ others) s) ≡ Some (s.tag + 1)
-begun_round me quorum a others s =
-    cond_both (is_writing a.command) (next_round (Storing (round_of quorum a)) (with_own_row me (with_written (a ∷ others) s)))
-    (next_round (Querying (round_of quorum a)) s)
-    (λ (t : Ops). round_in t ≡ Some (s.tag + 1)) (λ _. refl) (λ _. refl)
+begun_round me quorum a others s = of_round (λ t. round_in t ≡ Some (s.tag + 1)) me quorum a others s (λ _. refl) (λ _. refl)
 
 abbrev left_behind : Ops → Ops
 left_behind s = record s { line = line_behind s.share s.line }
@@ -78,22 +71,15 @@ one_asked : (phase : Phase) (others : List Asked) → asked_in phase ++ others �
 one_asked Idle others none is = cc
 one_asked _ others none is = cc
 
-no_view_awaited : (phase : Phase) → awaits_acks phase ≡ true → awaits_views phase ≡ true → ⊥
-no_view_awaited Idle is views = cc
-no_view_awaited _ is views = cc
-
 round_for_good : (me quorum : ℕ) (asks : List Asked) (s t : Ops) → s.phase ≡ t.phase → s.number ≡ t.number → awaits_acks s.phase ≡ true
     → BeginsAnew s (begin_round me quorum asks t) → ⊥
 round_for_good me quorum [] s t phase number is h = one_asked s.phase s.others (sym h.asked) is
 round_for_good me quorum (a ∷ others) s t phase number is h =
-    let W = next_round (Storing (round_of quorum a)) (with_own_row me (with_written (a ∷ others) t)) in
-    let R = next_round (Querying (round_of quorum a)) t in
-    elim (is_writing a.command) as (λ b. is_writing a.command ≡ b → BeginsAnew s (record (if b then W else R) { others = others }) → ⊥) [
-      | true ↦ λ writes k.
-          let count : writes_by (a ∷ others) ≡ 1 + writes_by others = ap (λ (b : Bool). (if b then 1 else 0) + writes_by others) writes in
-          omega (arith, k.number, number, count)
-      | false ↦ λ _ k. no_view_awaited s.phase is (sym k.awaited)
-    ] refl h
+    of_round (λ u. BeginsAnew s u → ⊥) me quorum a others t
+    (λ writes k.
+    let count : writes_by (a ∷ others) ≡ 1 + writes_by others = ap (λ (b : Bool). (if b then 1 else 0) + writes_by others) writes in
+    omega (arith, k.number, number, count))
+    (λ _ k. both_ways _ (no_views s.phase is) (sym k.awaited)) h
 
 last_for_good : (me quorum : ℕ) (s : Ops) → awaits_acks s.phase ≡ true → BeginsAnew s (after_last me quorum s) → ⊥
 last_for_good me quorum s = round_for_good me quorum (first_round s.share s.line) s (left_behind s) refl refl
@@ -159,13 +145,13 @@ module _ (e : Event) (from : ℕ) (is_from : IsFrom from e) where
   reply_outcome quorum v s true (Querying p) is =
       either s p (Querying p) is refl refl refl (record (merged v s) { phase = Querying (counted p) })
       (next_round (StoringBack (round_of quorum p.asked) (merge s.view v)) (merged v s)) refl refl (another s.tag) refl
-      (λ h. false_true (h.awaited ∙ ap awaits_views is))
+      (λ h. false≢true (h.awaited ∙ ap awaits_views is))
   reply_outcome quorum v s true (StoringBack p seen) is = still s
 
 ask_outcome : (e : Event) (me quorum : ℕ) (a : Asked) (line : List Asked) (s : Ops) (phase : Phase) → s.phase ≡ phase
     → Outcome e s (if is_idle phase then with_begun me quorum a s else record s { line = line }) None false false
 ask_outcome e me quorum a line s Idle is =
-    goes_on refl refl refl (λ some. absurd (false_true (sym (ap (λ x. is_some (round_under s.tag x)) is) ∙ some)))
+    goes_on refl refl refl (λ some. absurd (false≢true (sym (ap (λ x. is_some (round_under s.tag x)) is) ∙ some)))
     (round_answers me quorum (a ∷ []) s ∙ ap answers_in (sym is))
 ask_outcome e me quorum a line s _ is = goes_on refl refl refl (λ _. refl) refl
 
@@ -226,9 +212,6 @@ same_sender : (p q : ℕ) (e : Event) → IsFrom p e → IsFrom q e → p ≡ q
 same_sender p q (event.Deliver from n m) h k = sym h ∙ k
 same_sender p q _ h k = absurd h
 
-none_some : (q : ℕ) → None ≡ Some q → ⊥
-none_some q e = cc
-
 module _ (e : Event) (s t : Ops) where
   -- an answer more, and the end of a round, are changes that an event of no matter doesn't make
   no_gain : answers_in t.phase ≡ answers_in s.phase → GainsAnswer s t → ⊥
@@ -244,7 +227,7 @@ module _ (e : Event) (s t : Ops) where
   counted_by : (peer : Option ℕ) (over restarts : Bool) (q : ℕ) → Outcome e s t peer over restarts
       → (peer ≡ Some q) ↔ (IsFrom q e × (GainsAnswer s t ⊎ EndsRound s t))
   counted_by peer over restarts q (goes_on none _ _ same count) = (
-    λ is. absurd (none_some q (sym none ∙ is)),
+    λ is. absurd (none-some q (sym none ∙ is)),
     λ h. elim h.1 as (λ _. peer ≡ Some q) [
       | inl g ↦ absurd (no_gain count g)
       | inr g ↦ absurd (no_end same g)
@@ -259,7 +242,7 @@ module _ (e : Event) (s t : Ops) where
     λ h. is ∙ ap Some (same_sender from q e sent h.0),
   )
   counted_by peer over restarts q (starts_over none _ _ begins) = (
-    λ is. absurd (none_some q (sym none ∙ is)),
+    λ is. absurd (none-some q (sym none ∙ is)),
     λ h. elim h.1 as (λ _. peer ≡ Some q) [
       | inl g ↦ absurd (no_gain_anew begins g)
       | inr g ↦ absurd (g.for_good begins)
@@ -267,16 +250,16 @@ module _ (e : Event) (s t : Ops) where
   )
 
   ended_by : (peer : Option ℕ) (over restarts : Bool) → Outcome e s t peer over restarts → (over ≡ true) ↔ EndsRound s t
-  ended_by peer over restarts (goes_on none lasts _ same count) = (λ is. absurd (false_true (sym lasts ∙ is)), λ h. absurd (no_end same h))
-  ended_by peer over restarts (gains from is lasts _ sent gain) = (λ at. absurd (false_true (sym lasts ∙ at)), λ h. absurd (h.over gain.same))
+  ended_by peer over restarts (goes_on none lasts _ same count) = (λ is. absurd (false≢true (sym lasts ∙ is)), λ h. absurd (no_end same h))
+  ended_by peer over restarts (gains from is lasts _ sent gain) = (λ at. absurd (false≢true (sym lasts ∙ at)), λ h. absurd (h.over gain.same))
   ended_by peer over restarts (ends from is at _ sent end enough none) = (λ _. end, λ _. at)
-  ended_by peer over restarts (starts_over none lasts _ begins) = (λ at. absurd (false_true (sym lasts ∙ at)), λ h. absurd (h.for_good begins))
+  ended_by peer over restarts (starts_over none lasts _ begins) = (λ at. absurd (false≢true (sym lasts ∙ at)), λ h. absurd (h.for_good begins))
 
   anew_by : (peer : Option ℕ) (over restarts : Bool) → Outcome e s t peer over restarts → (restarts ≡ true) ↔ BeginsAnew s t
   anew_by peer over restarts (goes_on none _ lasts same count) =
-      (λ is. absurd (false_true (sym lasts ∙ is)), λ h. absurd (other_round s t h (same h.pended)))
-  anew_by peer over restarts (gains from is _ lasts sent gain) = (λ at. absurd (false_true (sym lasts ∙ at)), λ h. absurd (other_round s t h gain.same))
-  anew_by peer over restarts (ends from is _ lasts sent end enough none) = (λ at. absurd (false_true (sym lasts ∙ at)), λ h. absurd (end.for_good h))
+      (λ is. absurd (false≢true (sym lasts ∙ is)), λ h. absurd (other_round s t h (same h.pended)))
+  anew_by peer over restarts (gains from is _ lasts sent gain) = (λ at. absurd (false≢true (sym lasts ∙ at)), λ h. absurd (other_round s t h gain.same))
+  anew_by peer over restarts (ends from is _ lasts sent end enough none) = (λ at. absurd (false≢true (sym lasts ∙ at)), λ h. absurd (end.for_good h))
   anew_by peer over restarts (starts_over none _ at begins) = (λ _. begins, λ _. at)
 
   -- as many are counted afterwards as the round has then
@@ -294,12 +277,12 @@ module _ (e : Event) (s t : Ops) where
 
   counted_last : (peer : Option ℕ) (over restarts : Bool) (peers : List ℕ) → Outcome e s t peer over restarts → over ≡ true → length peers ≡ answers_in s.phase
       → length (with_peer peer peers) ≡ need_in s.phase
-  counted_last peer over restarts peers (goes_on none lasts _ same count) at h = absurd (false_true (sym lasts ∙ at))
-  counted_last peer over restarts peers (gains from is lasts _ sent gain) at h = absurd (false_true (sym lasts ∙ at))
+  counted_last peer over restarts peers (goes_on none lasts _ same count) at h = absurd (false≢true (sym lasts ∙ at))
+  counted_last peer over restarts peers (gains from is lasts _ sent gain) at h = absurd (false≢true (sym lasts ∙ at))
   counted_last peer over restarts peers (ends from is _ _ sent end enough none) at h =
       let all : length (with_peer peer peers) ≡ length (from ∷ peers) = ap (λ o. length (with_peer o peers)) is in
       omega (arith, all, h, enough)
-  counted_last peer over restarts peers (starts_over none lasts _ begins) at h = absurd (false_true (sym lasts ∙ at))
+  counted_last peer over restarts peers (starts_over none lasts _ begins) at h = absurd (false≢true (sym lasts ∙ at))
 
 pub counted_is : (c : Core) (e : Event) (q : ℕ) → (counts c e ≡ Some q) ↔ (IsFrom q e × (GainsAnswer c.ops (next c e).ops ⊎ EndsRound c.ops (next c e).ops))
 counted_is c e q = counted_by e c.ops (next c e).ops (counts c e) (ends_round c e) (begins_anew c e) q (outcome c e)

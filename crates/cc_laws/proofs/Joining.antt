@@ -42,7 +42,15 @@ module _ (one_node : OneNode) where
           leads_to = rest.1.leads_to ∙ sym (after-append n front rest.0);
           made = λ o has. either_made n front rest.0 o start lawful (put_by l) (put_along ls) (good.made o) (rest.1.made o)
               (Contains-append_cases (put_by l) (put_along ls) o has);
-          parts = record { kept = good.prefix; has_durable = good.has_durable; within = good.within; opened = good.stands; rest = rest.0; parts = refl; follows = rest.1.parts };
+          parts = record {
+            kept = good.prefix;
+            has_durable = good.has_durable;
+            within = good.within;
+            opened = good.stands;
+            rest = rest.0;
+            parts = refl;
+            follows = rest.1.parts;
+          };
         },
       )
     where

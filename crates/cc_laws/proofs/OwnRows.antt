@@ -50,7 +50,7 @@ merged_old (suc n) mine (Some p) old =
     let own : Pair = (suc n, mine) in
     ap (λ (b : Bool). Some (cond b p own)) (le-ltb (suc n) p.0 old.1)
 
-get_own_row : (me : ℕ) (s : Ops) (asks : List Asked) → table.get (row_of me s asks) me ≡ Some (s.number + writes_by asks, written_by asks s.mine)
+pub get_own_row : (me : ℕ) (s : Ops) (asks : List Asked) → table.get (row_of me s asks) me ≡ Some (s.number + writes_by asks, written_by asks s.mine)
 get_own_row me s asks =
     get-single _ me ∙ ap (λ b. cond b (Some (s.number + writes_by asks, written_by asks s.mine)) None) (eq-eqb me me refl)
 

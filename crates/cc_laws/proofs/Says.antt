@@ -9,7 +9,6 @@ use Rattle.std.proofs.Common.{◌≡◌, ℕ, ◌+◌, ◌-◌, ◌<◌, ◌≤�
 use Rattle.std.specs.Prelude.{◌&&◌, Option, Some, None, IfSome, if◌then◌else◌, map, ⊤}
 use Rattle.std.specs.Bool.{then_some}
 use Rattle.std.specs.List.{AllByRecursion, Contains}
-use Rattle.std.proofs.lemmas.List.Elements.{Contains-append_left, Contains-append_right}
 use Rattle.std.specs.FinMap as table
 use Rattle.std.proofs.lemmas.Bool.{cond_both}
 use Rattle.cc_views.specs.Rows.{ViewMap}
@@ -29,9 +28,8 @@ use Rattle.cc_ops.specs.declared.pending.Pending.{Pending}
 use Rattle.cc_ops.specs.declared.pending.Reply.{Reply}
 use Rattle.cc_ops.specs.Commands.{is_writing}
 use Rattle.cc_ops.specs.Ops as ops
-use Rattle.cc_ops.specs.Ops.{Ops, Phase, Idle, Storing, Querying, StoringBack, is_idle, is_last, is_own, round_of, counted, merged, next_round, with_written}
-use Rattle.cc_ops.specs.Ops.{with_own_row, begin_round, with_begun, after_ask, after_reply, after_last, after_ack, after_message, begun_in, ends_query}
-use Rattle.cc_ops.specs.Ops.{ends_store, told, replies_in}
+use Rattle.cc_ops.specs.Ops.{Ops, Phase, Idle, Storing, Querying, StoringBack, is_idle, is_last, is_own, round_of, counted, merged, next_round, begin_round}
+use Rattle.cc_ops.specs.Ops.{with_begun, after_ask, after_reply, after_last, after_ack, after_message, begun_in, ends_query, ends_store, told, replies_in}
 use Rattle.cc_ops.specs.Rounds.{first_round, line_behind}
 use Rattle.cc_node.specs.declared.made.LinkAck.{LinkAck}
 use Rattle.cc_node.specs.Core as core
@@ -40,19 +38,13 @@ use Rattle.cc_node.specs.Core.{handled, next, post, replies, outputs, sends, sen
 use Rattle.cc_node.specs.Node.{Node, step, after, IsLawful}
 use Rattle.cc_node.proofs.ToldLaws.{anew_more}
 use Rattle.cc_laws.specs.Rounds.{ends_round}
-use Rattle.cc_laws.proofs.Lists.{all_both, of_some, some_if, some_of, some_or}
+use Rattle.cc_laws.proofs.Lists.{all_both, of_some, some_if, some_of, some_or, all_there, either}
+use Rattle.cc_laws.proofs.Becoming.{of_round, of_ack, of_reply}
 
 -- ---- tags
 
-either_tag : (b : Bool) (k : ℕ) (s t : Ops) → k ≤ s.tag → k ≤ t.tag → k ≤ (if b then s else t).tag
-either_tag true k s t h l = h
-either_tag false k s t h l = l
-
 pub round_tag : (me quorum : ℕ) (a : Asked) (others : List Asked) (s : Ops) → (begin_round me quorum (a ∷ others) s).tag ≡ s.tag + 1
-round_tag me quorum a others s =
-    cond_both (is_writing a.command) (next_round (Storing (round_of quorum a)) (with_own_row me (with_written (a ∷ others) s)))
-    (next_round (Querying (round_of quorum a)) s)
-    (λ (t : Ops). t.tag ≡ s.tag + 1) (λ _. refl) (λ _. refl)
+round_tag me quorum a others s = of_round (λ t. t.tag ≡ s.tag + 1) me quorum a others s (λ _. refl) (λ _. refl)
 
 round_up : (me quorum : ℕ) (asks : List Asked) (s : Ops) → s.tag ≤ (begin_round me quorum asks s).tag
 round_up me quorum [] s = omega arith
@@ -62,28 +54,26 @@ last_up : (me quorum : ℕ) (s : Ops) → s.tag ≤ (after_last me quorum s).tag
 last_up me quorum s = round_up me quorum (first_round s.share s.line) (record s { line = line_behind s.share s.line })
 
 ack_up : (me quorum : ℕ) (phase : Phase) (s : Ops) → s.tag ≤ (after_ack me quorum phase s).tag
-ack_up me quorum (Storing p) s =
-    either_tag (is_last p) s.tag (after_last me quorum s) (record s { phase = Storing (counted p) }) (last_up me quorum s) (omega arith)
+ack_up me quorum (Storing p) s = of_ack (λ t. s.tag ≤ t.tag) me quorum p (Storing (counted p)) s (last_up me quorum s) (omega arith)
 ack_up me quorum (StoringBack p seen) s =
-    either_tag (is_last p) s.tag (after_last me quorum s) (record s { phase = StoringBack (counted p) seen }) (last_up me quorum s) (omega arith)
+    of_ack (λ t. s.tag ≤ t.tag) me quorum p (StoringBack (counted p) seen) s (last_up me quorum s) (omega arith)
 ack_up me quorum _ s = omega arith
 
 reply_up : (quorum : ℕ) (v : ViewMap) (phase : Phase) (s : Ops) → s.tag ≤ (after_reply quorum v phase s).tag
-reply_up quorum v (Querying p) s =
-    either_tag (is_last p) s.tag (next_round (StoringBack (round_of quorum p.asked) (merge s.view v)) (merged v s))
-    (record (merged v s) { phase = Querying (counted p) }) (omega arith) (omega arith)
+reply_up quorum v (Querying p) s = of_reply (λ t. s.tag ≤ t.tag) quorum v p s (omega arith) (omega arith)
 reply_up quorum v _ s = omega arith
 
 message_up : (me quorum : ℕ) (m : Message) (s : Ops) → s.tag ≤ (after_message me quorum m s).tag
 message_up me quorum (message.QueryReply v tag q) s =
-    either_tag (is_own me tag q s) s.tag (after_reply quorum v s.phase s) s (reply_up quorum v s.phase s) (omega arith)
+    either (λ (t : Ops). s.tag ≤ t.tag) (is_own me tag q s) (after_reply quorum v s.phase s) s (reply_up quorum v s.phase s) (omega arith)
 message_up me quorum (message.StoreAck tag q) s =
-    either_tag (is_own me tag q s) s.tag (after_ack me quorum s.phase s) s (ack_up me quorum s.phase s) (omega arith)
+    either (λ (t : Ops). s.tag ≤ t.tag) (is_own me tag q s) (after_ack me quorum s.phase s) s (ack_up me quorum s.phase s) (omega arith)
 message_up me quorum _ s = omega arith
 
 ask_up : (me quorum : ℕ) (a : Asked) (s : Ops) → s.tag ≤ (after_ask me quorum a s).tag
 ask_up me quorum a s =
-    either_tag (is_idle s.phase) s.tag (with_begun me quorum a s) (record s { line = s.line ++ a ∷ [] }) (round_up me quorum (a ∷ []) s) (omega arith)
+    either (λ (t : Ops). s.tag ≤ t.tag) (is_idle s.phase) (with_begun me quorum a s) (record s { line = s.line ++ a ∷ [] })
+    (round_up me quorum (a ∷ []) s) (omega arith)
 
 pub tag_next : (c : Core) (e : Event) → c.ops.tag ≤ (next c e).ops.tag
 unfolding next
@@ -129,44 +119,39 @@ first_says P me a t store query =
 
 round_stores : (me quorum : ℕ) (a : Asked) (others : List Asked) (s : Ops)
     → (begin_round me quorum (a ∷ others) s).view ≡ stored_of (begin_round me quorum (a ∷ others) s)
-round_stores me quorum a others s =
-    cond_both (is_writing a.command) (next_round (Storing (round_of quorum a)) (with_own_row me (with_written (a ∷ others) s)))
-    (next_round (Querying (round_of quorum a)) s)
-    (λ (t : Ops). t.view ≡ stored_of t) (λ _. refl) (λ _. refl)
+round_stores me quorum a others s = of_round (λ t. t.view ≡ stored_of t) me quorum a others s (λ _. refl) (λ _. refl)
 
-round_says : (me quorum : ℕ) (asks : List Asked) (s : Ops) (e : Event)
-    → IfSome (ops.post_of_round me asks (begin_round me quorum asks s)) (Says me s.tag e (begin_round me quorum asks s))
+-- what asks that begin are posted with, where they leave t
+abbrev Posts : ℕ → Ops → Event → List Asked → Ops → Type 0
+Posts me s e asks t = IfSome (ops.post_of_round me asks t) (Says me s.tag e t)
+
+round_says : (me quorum : ℕ) (asks : List Asked) (s : Ops) (e : Event) → Posts me s e asks (begin_round me quorum asks s)
 round_says me quorum [] s e = tt
 round_says me quorum (a ∷ others) s e =
     let t = begin_round me quorum (a ∷ others) s in
     let new : s.tag < t.tag = omega (arith, round_tag me quorum a others s) in
     first_says (Says me s.tag e t) me a t (refl, new, refl, round_stores me quorum a others s) (refl, new, refl)
 
-last_says : (me quorum : ℕ) (s : Ops) (e : Event)
-    → IfSome (ops.post_of_round me (first_round s.share s.line) (after_last me quorum s)) (Says me s.tag e (after_last me quorum s))
+last_says : (me quorum : ℕ) (s : Ops) (e : Event) → Posts me s e (first_round s.share s.line) (after_last me quorum s)
 last_says me quorum s e = round_says me quorum (first_round s.share s.line) (record s { line = line_behind s.share s.line }) e
 
 either_last : (me quorum : ℕ) (b : Bool) (phase : Phase) (s : Ops) (e : Event)
-    → IfSome (ops.post_of_round me (if b then first_round s.share s.line else []) (if b then after_last me quorum s else record s { phase = phase }))
-    (Says me s.tag e (if b then after_last me quorum s else record s { phase = phase }))
+    → Posts me s e (if b then first_round s.share s.line else []) (if b then after_last me quorum s else record s { phase = phase })
 either_last me quorum true phase s e = last_says me quorum s e
 either_last me quorum false phase s e = tt
 
-ack_says : (me quorum : ℕ) (phase : Phase) (s : Ops) (e : Event)
-    → IfSome (ops.post_of_round me (begun_in phase s) (after_ack me quorum phase s)) (Says me s.tag e (after_ack me quorum phase s))
+ack_says : (me quorum : ℕ) (phase : Phase) (s : Ops) (e : Event) → Posts me s e (begun_in phase s) (after_ack me quorum phase s)
 ack_says me quorum (Storing p) s e = either_last me quorum (is_last p) (Storing (counted p)) s e
 ack_says me quorum (StoringBack p seen) s e = either_last me quorum (is_last p) (StoringBack (counted p) seen) s e
 ack_says me quorum _ s e = tt
 
 own_ack_says : (me quorum : ℕ) (b : Bool) (s : Ops) (e : Event)
-    → IfSome (ops.post_of_round me (if b then begun_in s.phase s else []) (if b then after_ack me quorum s.phase s else s))
-    (Says me s.tag e (if b then after_ack me quorum s.phase s else s))
+    → Posts me s e (if b then begun_in s.phase s else []) (if b then after_ack me quorum s.phase s else s)
 own_ack_says me quorum true s e = ack_says me quorum s.phase s e
 own_ack_says me quorum false s e = tt
 
 ask_says : (me quorum : ℕ) (b : Bool) (a : Asked) (s : Ops) (line : List Asked) (e : Event)
-    → IfSome (ops.post_of_round me (if b then a ∷ [] else []) (if b then with_begun me quorum a s else record s { line = line }))
-    (Says me s.tag e (if b then with_begun me quorum a s else record s { line = line }))
+    → Posts me s e (if b then a ∷ [] else []) (if b then with_begun me quorum a s else record s { line = line })
 ask_says me quorum true a s line e = round_says me quorum (a ∷ []) s e
 ask_says me quorum false a s line e = tt
 
@@ -185,8 +170,8 @@ back_says me quorum v (Querying p) s e =
 back_says me quorum v _ s e = tt
 
 own_back_says : (me quorum : ℕ) (b : Bool) (v : ViewMap) (s : Ops) (e : Event)
-    → IfSome (then_some (b && ends_query s.phase) (message.Store (if b then after_reply quorum v s.phase s else s).view (if b then after_reply quorum v s.phase s else s).tag me))
-    (Says me s.tag e (if b then after_reply quorum v s.phase s else s))
+    → (let t = if b then after_reply quorum v s.phase s else s in
+    IfSome (then_some (b && ends_query s.phase) (message.Store t.view t.tag me)) (Says me s.tag e t))
 own_back_says me quorum true v s e = back_says me quorum v s.phase s e
 own_back_says me quorum false v s e = tt
 
@@ -266,15 +251,6 @@ TellsOf s r = Told s.view s.others s.phase r
 abbrev pub ReplySays : Core → Event → Reply → Type 0
 ReplySays c e r = (ends_round c e ≡ true) × TellsOf c.ops r
 
--- each element is in its list
-each_in : {X : Type 0} (xs : List X) → AllByRecursion (Contains xs) xs
-each_in [] = tt
-each_in {X} (x ∷ xs) = (Contains-append_left (x ∷ []) xs x (0, omega arith, refl), behind xs (each_in xs))
-  where
-    behind : (ys : List X) → AllByRecursion (Contains xs) ys → AllByRecursion (Contains (x ∷ xs)) ys
-    behind [] h = tt
-    behind (y ∷ ys) h = (Contains-append_right (x ∷ []) xs y h.0, behind ys h.1)
-
 each_told : (seen : ViewMap) (all asks : List Asked) → AllByRecursion (Contains all) asks
     → AllByRecursion (λ r. (true ≡ true) × TellsOne seen all r) (map (told seen) asks)
 each_told seen all [] h = tt
@@ -282,7 +258,7 @@ each_told seen all (a ∷ asks) h = ((refl, (a, h.0, refl)), each_told seen all 
 
 last_replies : (b : Bool) (seen : ViewMap) (asks : List Asked)
     → AllByRecursion (λ r. (b ≡ true) × TellsOne seen asks r) (if b then map (told seen) asks else [])
-last_replies true seen asks = each_told seen asks asks (each_in asks)
+last_replies true seen asks = each_told seen asks asks (all_there (Contains asks) asks (λ _ has. has))
 last_replies false seen asks = tt
 
 ack_replies : (b : Bool) (view : ViewMap) (others : List Asked) (phase : Phase)
@@ -339,4 +315,4 @@ pub outputs_say : (c : Core) (e : Event) → AllByRecursion (OutputSays c e) (ou
 outputs_say c e =
     all_both (OutputSays c e) (send_ack (core.ack e) ++ send_post (next c e) (post c e)) (send_replies (replies c e))
     (all_both (OutputSays c e) (send_ack (core.ack e)) (send_post (next c e) (post c e)) (acks_say c e (core.ack e)) (posts_say c e (post c e) refl))
-    (replies_say c e (replies c e) (each_in (replies c e)))
+    (replies_say c e (replies c e) (all_there (Contains (replies c e)) (replies c e) (λ _ has. has)))

@@ -42,18 +42,12 @@ module _ (Q : ViewMap → Type 0) where
   -- ---- what is kept
 
   forgets : (e : Event) (o : Outbox) → KeepsOnly o → KeepsOnly (forget_asked e o)
-  forgets event.Enter o h = h
-  forgets event.Leave o h = h
-  forgets (event.Deliver from n m) o h = h
-  forgets (event.Acked peer n) o h = h
   forgets (event.Ask s r command) o h = record {
     posts = h.posts;
     answers = λ q. subst (λ x. IfSome x (OfAnswer Q)) (sym (table.get-remove nat_cmp_total o.answers s q))
         (some_of (OfAnswer Q) (eq_by_cmp nat_cmp q s) None (table.get o.answers q) tt (h.answers q));
   }
-  forgets (event.Retire q) o h = h
-  forgets (event.Lapse q) o h = h
-  forgets event.Snapshot o h = h
+  forgets _ o h = h
 
   adds : (m : Option Message) (o : Outbox) → KeepsOnly o → IfSome m (OfMessage Q) → KeepsOnly (add m o)
   adds None o h i = h

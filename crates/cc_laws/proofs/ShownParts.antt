@@ -5,7 +5,6 @@ use Rattle.std.proofs.Common.{ℕ, Bool, true, false, List, [], ◌∷◌, ◌+�
 use Rattle.std.specs.Prelude.{Option, None, IfSome, if◌then◌else◌, map}
 use Rattle.std.specs.List.{AllByRecursion}
 use Rattle.cc_views.specs.Rows.{ViewMap}
-use Rattle.cc_views.specs.Merge.{merge}
 use Rattle.cc_messages.specs.declared.answer.Answer.{Answer}
 use Rattle.cc_messages.specs.declared.command.Command.{Command}
 use Rattle.cc_messages.specs.declared.command.Command.TheVariants as command
@@ -28,7 +27,8 @@ use Rattle.cc_node.specs.Core.{begun, handled, post, replies}
 use Rattle.cc_node.proofs.ToldLaws.{anew_view}
 use Rattle.cc_node.specs.Node.{line}
 use Rattle.cc_laws.specs.Shown.{in_message, in_answer, in_output}
-use Rattle.cc_laws.proofs.Lists.{some_if, some_of, some_or, some_mapped, all_of}
+use Rattle.cc_laws.proofs.Lists.{some_if, some_of, some_or, some_mapped, either}
+use Rattle.cc_laws.proofs.Becoming.{of_round, of_ack, of_reply}
 
 module _ (Q : ViewMap → Type 0) where
   abbrev pub OfPhase : Phase → Type 0
@@ -45,49 +45,31 @@ module _ (Q : ViewMap → Type 0) where
 
   -- ---- the phase
 
-  taken_phase : (b : Bool) (s t : Ops) → (Q s.view → OfPhase s.phase) → (Q t.view → OfPhase t.phase) → Q (if b then s else t).view
-      → OfPhase (if b then s else t).phase
-  taken_phase true s t h k q = h q
-  taken_phase false s t h k q = k q
-
   round_phase : (me quorum : ℕ) (asks : List Asked) (s : Ops) → OfPhase (ops.begin_round me quorum asks s).phase
   round_phase me quorum [] s = tt
-  round_phase me quorum (a ∷ others) s =
-      elim (is_writing a.command)
-      as (λ b. OfPhase (if b then ops.next_round (Storing (ops.round_of quorum a)) (ops.with_own_row me (ops.with_written (a ∷ others) s)) else ops.next_round
-      (Querying (ops.round_of quorum a)) s).phase) [
-        | true ↦ tt
-        | false ↦ tt
-      ]
+  round_phase me quorum (a ∷ others) s = of_round (λ t. OfPhase t.phase) me quorum a others s (λ _. tt) (λ _. tt)
 
   last_phase : (me quorum : ℕ) (s : Ops) → OfPhase (ops.after_last me quorum s).phase
   last_phase me quorum s = round_phase me quorum (first_round s.share s.line) (record s { line = line_behind s.share s.line })
 
   reply_phase : (quorum : ℕ) (v : ViewMap) (phase : Phase) (s : Ops) → OfPhase s.phase → Q (ops.after_reply quorum v phase s).view
       → OfPhase (ops.after_reply quorum v phase s).phase
-  reply_phase quorum v (Querying p) s h q =
-      taken_phase (ops.is_last p)
-      (ops.next_round (StoringBack (ops.round_of quorum p.asked) (merge s.view v)) (ops.merged v s))
-      (record (ops.merged v s) { phase = Querying (ops.counted p) })
-      (λ seen. seen) (λ _. tt) q
+  reply_phase quorum v (Querying p) s h q = of_reply (λ t. Q t.view → OfPhase t.phase) quorum v p s (λ seen. seen) (λ _. tt) q
   reply_phase quorum v _ s h q = h
 
-  either_last : (me quorum : ℕ) (b : Bool) (phase : Phase) (s : Ops) → OfPhase phase
-      → OfPhase (if b then ops.after_last me quorum s else record s { phase = phase }).phase
-  either_last me quorum true phase s h = last_phase me quorum s
-  either_last me quorum false phase s h = h
-
   ack_phase : (me quorum : ℕ) (phase : Phase) (s : Ops) → OfPhase s.phase → OfPhase phase → OfPhase (ops.after_ack me quorum phase s).phase
-  ack_phase me quorum (Storing p) s h k = either_last me quorum (ops.is_last p) (Storing (ops.counted p)) s tt
-  ack_phase me quorum (StoringBack p seen) s h k = either_last me quorum (ops.is_last p) (StoringBack (ops.counted p) seen) s k
+  ack_phase me quorum (Storing p) s h k = of_ack (λ t. OfPhase t.phase) me quorum p (Storing (ops.counted p)) s (last_phase me quorum s) tt
+  ack_phase me quorum (StoringBack p seen) s h k = of_ack (λ t. OfPhase t.phase) me quorum p (StoringBack (ops.counted p) seen) s (last_phase me quorum s) k
   ack_phase me quorum _ s h k = h
 
   message_phase : (me quorum : ℕ) (m : Message) (s : Ops) → OfPhase s.phase → Q (ops.after_message me quorum m s).view
       → OfPhase (ops.after_message me quorum m s).phase
   message_phase me quorum (message.QueryReply v tag q) s h k =
-      taken_phase (ops.is_own me tag q s) (ops.after_reply quorum v s.phase s) s (reply_phase quorum v s.phase s h) (λ _. h) k
+      either (λ (t : Ops). Q t.view → OfPhase t.phase) (ops.is_own me tag q s) (ops.after_reply quorum v s.phase s) s
+      (reply_phase quorum v s.phase s h) (λ _. h) k
   message_phase me quorum (message.StoreAck tag q) s h k =
-      taken_phase (ops.is_own me tag q s) (ops.after_ack me quorum s.phase s) s (λ _. ack_phase me quorum s.phase s h h) (λ _. h) k
+      either (λ (t : Ops). Q t.view → OfPhase t.phase) (ops.is_own me tag q s) (ops.after_ack me quorum s.phase s) s
+      (λ _. ack_phase me quorum s.phase s h h) (λ _. h) k
   message_phase me quorum _ s h k = h
 
   -- a phase that begins anew stores back what it did
@@ -178,14 +160,15 @@ module _ (Q : ViewMap → Type 0) where
   all_told seen (a ∷ asks) h = (answer_shows a.command seen h, all_told seen asks h)
 
   replies_in : (v : ViewMap) (others : List Asked) (phase : Phase) → Q v → OfPhase phase → AllByRecursion OfReply (ops.replies_in v others phase)
-  replies_in v others (Storing p) h k = all_of OfReply (ops.is_last p) (map (ops.told v) (p.asked ∷ others)) [] (all_told v (p.asked ∷ others) h) tt
+  replies_in v others (Storing p) h k =
+      either (AllByRecursion OfReply) (ops.is_last p) (map (ops.told v) (p.asked ∷ others)) [] (all_told v (p.asked ∷ others) h) tt
   replies_in v others (StoringBack p seen) h k =
-      all_of OfReply (ops.is_last p) (map (ops.told seen) (p.asked ∷ others)) [] (all_told seen (p.asked ∷ others) k) tt
+      either (AllByRecursion OfReply) (ops.is_last p) (map (ops.told seen) (p.asked ∷ others)) [] (all_told seen (p.asked ∷ others) k) tt
   replies_in v others _ h k = tt
 
   replies_of : (me : ℕ) (m : Message) (s : Ops) → Q s.view → OfPhase s.phase → AllByRecursion OfReply (ops.replies_of me m s)
   replies_of me (message.StoreAck tag q) s h k =
-      all_of OfReply (ops.is_own me tag q s) (ops.replies_in s.view s.others s.phase) [] (replies_in s.view s.others s.phase h k) tt
+      either (AllByRecursion OfReply) (ops.is_own me tag q s) (ops.replies_in s.view s.others s.phase) [] (replies_in s.view s.others s.phase h k) tt
   replies_of me _ s h k = tt
 
   pub replies_show : (c : Core) (e : Event) → Q c.ops.view → OfPhase c.ops.phase → AllByRecursion OfReply (replies c e)

@@ -8,6 +8,7 @@ use Rattle.std.specs.Prelude.{Some, None, slice_index, slice_index_or}
 use Rattle.std.specs.List.{Contains, AllByRecursion}
 use Rattle.std.specs.FinMap as table
 use Rattle.std.proofs.lemmas.Bool.{eqb-true}
+use Rattle.std.proofs.lemmas.Option.{same_Some}
 use Rattle.cc_views.specs.NatSets as set
 use Rattle.cc_messages.specs.declared.answer.Answer.TheVariants as answer
 use Rattle.cc_messages.specs.declared.command.Command.TheVariants as command
@@ -24,13 +25,13 @@ use Rattle.cc_laws.specs.Clusters.{Member, Cluster, Sent, IsOwn, Move, Accept, R
 use Rattle.cc_laws.specs.Runs.{Run, IsFreshMember, IsFreshCluster}
 use Rattle.cc_laws.specs.Regular.{IsAnswered, IsStored, IsAhead}
 use Rattle.cc_laws.specs.Fixed.{IsFixedMember, IsFixedCluster, Stays}
-use Rattle.cc_laws.proofs.Clustering.{same_some}
 use Rattle.cc_laws.proofs.Lists.{all_both}
 use Rattle.cc_laws.proofs.Inserting.{tables}
 use Rattle.cc_laws.proofs.Regularity.{run_both}
 use Rattle.cc_laws.proofs.TwoNodes as nodes
 use Rattle.cc_laws.proofs.TwoNodes.{Takes, opening_of, stored, acked, queried, replied, stored_back, acked_back, stores, collects, both, view}
 use Rattle.cc_laws.proofs.Turns.{lived, sent_by, Seat, turn, reached, turned}
+use Rattle.cc_laws.proofs.Clustering.{IsAt}
 
 abbrev pub two : List Event → List Event → List Sent → Cluster
 two es fs sent = record {
@@ -187,15 +188,15 @@ to_end =
 
 either_member : (x y m : Member) (q : ℕ) (a b : Bool) → nat_eq q 1 ≡ a → nat_eq q 2 ≡ b → cond a (Some y) (cond b (Some x) None) ≡ Some m
     → ((q ≡ 1) × (y ≡ m)) ⊎ ((q ≡ 2) × (x ≡ m))
-either_member x y m q true b at other is = inl (eqb-true q 1 at, same_some y m is)
-either_member x y m q false true at other is = inr (eqb-true q 2 other, same_some x m is)
+either_member x y m q true b at other is = inl (eqb-true q 1 at, same_Some y m is)
+either_member x y m q false true at other is = inr (eqb-true q 2 other, same_Some x m is)
 either_member x y m q false false at other is = absurd (no_some is)
   where
     no_some : None ≡ Some m → ⊥
     no_some e = cc
 
 -- one of the two
-which : (q : ℕ) (m : Member) → table.get start.members q ≡ Some m → ((q ≡ 1) × (lived (opening_of 1) [] ≡ m)) ⊎ ((q ≡ 2) × (lived (opening_of 2) [] ≡ m))
+which : (q : ℕ) (m : Member) → IsAt start q m → ((q ≡ 1) × (lived (opening_of 1) [] ≡ m)) ⊎ ((q ≡ 2) × (lived (opening_of 2) [] ≡ m))
 which q m is =
     either_member (lived (opening_of 2) []) (lived (opening_of 1) []) m q (nat_eq q 1) (nat_eq q 2) refl refl (simp tables at is)
 
@@ -236,8 +237,7 @@ begins_2 : IsFreshMember 2 (lived (opening_of 2) [])
 begins_2 = begins 2 (opens 2 (omega arith) (1, omega arith, refl) (simp tables (omega arith)))
 
 -- what holds of both, each under its id
-both_hold : (P : ℕ → Member → Type 0) → P 1 (lived (opening_of 1) []) → P 2 (lived (opening_of 2) []) → (q : ℕ) (m : Member)
-    → table.get start.members q ≡ Some m → P q m
+both_hold : (P : ℕ → Member → Type 0) → P 1 (lived (opening_of 1) []) → P 2 (lived (opening_of 2) []) → (q : ℕ) (m : Member) → IsAt start q m → P q m
 both_hold P first second q m is =
     elim (which q m is) as (λ _. P q m) [
       | inl h ↦ subst (λ (k : ℕ). P k m) (sym h.0) (subst (P 1) h.1 first)
