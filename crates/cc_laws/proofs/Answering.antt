@@ -56,7 +56,7 @@ use Rattle.cc_laws.specs.Rounds.{awaits_views, awaits_acks, counts, ends_round, 
 use Rattle.cc_laws.proofs.Lists.{all_changed, all_at}
 use Rattle.cc_laws.proofs.Lines.{made_in}
 use Rattle.cc_laws.proofs.Members.{IsSound, lawful_front}
-use Rattle.cc_laws.proofs.Places.{after_parts, at_same, at_before, at_behind, split_order}
+use Rattle.cc_laws.proofs.Places.{at_same, at_before, at_behind, split_order, front_low}
 use Rattle.cc_laws.proofs.Says.{stored_of, Told, TellsOf, ReplySays, each_says, OutputSays, outputs_say}
 use Rattle.cc_laws.proofs.Pending.{HasAck, HasReply, Raised, ReadBefore, IsQueryOf, Pends, core_push, pends}
 use Rattle.cc_laws.proofs.CountedAnswers.{IsAckFrom, IsReplyFrom, counted_ack, counted_reply, with_all}
@@ -360,17 +360,10 @@ module _ (q : ℕ) (m : Member) (sound : IsSound q m) where
         | at_behind more outside ↦
             let lawful_w = (lawful_parts start w.before (e ∷ w.later) (subst (IsLawful start) w.parts lawful)) in
             let new : last_request (after start w.before).core.sessions s < r = request_new (after start w.before).core s r w.command lawful_w.1.0 in
-            let old = later_last op.front (op.last ∷ more) w.before outside lawful_w.0 in
+            let old = front_low (λ n. last_request n.core.sessions s) (last_after s) start w.before op.front (op.last ∷ more) lawful_w.0 outside in
             absurd (omega (arith, new, old, last_is))
       ]
     where
-      later_last : (xs ys zs : List Event) → zs ≡ xs ++ ys → IsLawful start zs
-          → last_request (after start xs).core.sessions s ≤ last_request (after start zs).core.sessions s
-      later_last xs ys zs parts h =
-          let more = (lawful_parts start xs ys (subst (IsLawful start) parts h)).1 in
-          subst (λ (n : Node). last_request (after start xs).core.sessions s ≤ last_request n.core.sessions s) (sym (after_parts start zs xs ys parts))
-          (last_after s (after start xs) ys more)
-
       reached : (more : List Event) → op.front ≡ w.before ++ event.Ask s r w.command ∷ more → IsLawfulNode (after start op.front)
           → k ≤ (after start op.front).core.ops.number
       reached more inside node =

@@ -5,7 +5,7 @@
 --     posted_by                  a message that tells the id of who posts it was posted by the node of that id
 --     store_known                who acknowledged a store knows what was stored
 --     reply_known                who is asked by a query that began later tells what it knew
-use Rattle.std.proofs.Common.{◌≡◌, ◌⊎◌, ℕ, ◌<◌, ◌≤◌, List, [], ◌∷◌, ◌++◌, refl, sym, ap, subst, ◌∙◌, inl, inr, arith}
+use Rattle.std.proofs.Common.{◌≡◌, ◌⊎◌, ℕ, ◌<◌, List, [], ◌∷◌, ◌++◌, refl, sym, ap, subst, ◌∙◌, inl, inr, arith}
 use Rattle.std.specs.Prelude.{Some}
 use Rattle.std.specs.List.{Contains}
 use Rattle.std.proofs.lemmas.List.Elements.{Contains-append_left}
@@ -18,20 +18,20 @@ use Rattle.cc_messages.specs.declared.message.Message.{Message}
 use Rattle.cc_messages.specs.declared.message.Message.TheVariants as message
 use Rattle.cc_messages.specs.declared.output.Output.TheVariants as output
 use Rattle.cc_node.specs.Core.{Core, next, post, outputs}
-use Rattle.cc_node.specs.Node.{Node, after, line, IsLawful}
+use Rattle.cc_node.specs.Node.{Node, after, line}
 use Rattle.cc_node.specs.Opening.{fresh}
-use Rattle.cc_node.specs.Histories.{after-append, lawful_parts}
+use Rattle.cc_node.specs.Histories.{after-append}
 use Rattle.cc_node.proofs.CoreLaws.{view_grows, view_grows_along}
 use Rattle.cc_laws.specs.Clusters.{Member, Cluster, node_at}
 use Rattle.cc_laws.specs.Regular.{released_events, HasAtLeast}
 use Rattle.cc_laws.proofs.Lists.{at_some, contains_at, contains_front, all_at}
 use Rattle.cc_laws.proofs.Lines.{made_in}
 use Rattle.cc_laws.proofs.Members.{IsSound, lawful_front}
-use Rattle.cc_laws.proofs.Clustering.{Holds, IsAt}
-use Rattle.cc_laws.proofs.Places.{parts_more, after_parts, same_head, same_tail, front_more, at_once}
+use Rattle.cc_laws.proofs.Clustering.{Holds, IsAt, one_at, Grows, GrownAt}
+use Rattle.cc_laws.proofs.Places.{parts_more, after_parts, same_head, same_tail, front_more, at_once, front_low}
 use Rattle.cc_laws.proofs.Says.{tag_after, stored_of, PostSays, post_says, GoesTo, OutputSays, outputs_say}
 use Rattle.cc_laws.proofs.Pending.{Raised, core_push, least_more}
-use Rattle.cc_laws.proofs.Traces.{one_at, MadeBy, CameFrom, Traces, Grows, GrownAt}
+use Rattle.cc_laws.proofs.Traces.{MadeBy, CameFrom, Traces}
 use Rattle.cc_laws.proofs.Writing.{fresh_me}
 use Rattle.cc_laws.proofs.OwnWrites.{me_along}
 
@@ -195,10 +195,5 @@ module _ (mid d : Cluster) (h : Holds mid) (t : Traces mid) (h' : Holds d) (t' :
             let lawful = lawful_front s m.events m.released (h.sound p m at).lawful in
             let high : tag ≡ (after s front).core.ops.tag = raised_at s asked.before asked.poster tag asked.says.2 in
             let all : released_events m ≡ front ++ asked.later = parts_more (released_events m) asked.before asked.later asked.poster asked.parts in
-            absurd (omega (arith, under, high, tag_up s (released_events m) front asked.later lawful all))
+            absurd (omega (arith, under, high, front_low (λ n. n.core.ops.tag) tag_after s (released_events m) front asked.later lawful all))
       ]
-    where
-      tag_up : (s : Node) (es xs ys : List Event) → IsLawful s es → es ≡ xs ++ ys → (after s xs).core.ops.tag ≤ (after s es).core.ops.tag
-      tag_up s es xs ys lawful parts =
-          subst (λ (w : Node). (after s xs).core.ops.tag ≤ w.core.ops.tag) (sym (after_parts s es xs ys parts))
-          (tag_after (after s xs) ys (lawful_parts s xs ys (subst (IsLawful s) parts lawful)).1)

@@ -1,11 +1,11 @@
 -- Whatever happens in a cluster, each row in it is one that its node released.
 --     run_holds, fresh_holds     each move keeps that, and it holds at first
-use Rattle.std.proofs.Common.{◌≡◌, ℕ, ◌+◌, ◌≤◌, cond, List, [], ◌∷◌, ◌++◌, take, drop, length, refl, sym, ap, subst, ◌∙◌, arith, length-append}
+use Rattle.std.proofs.Common.{◌≡◌, ℕ, ◌+◌, ◌≤◌, cond, List, [], ◌∷◌, ◌++◌, take, length, refl, sym, ap, subst, ◌∙◌, arith, length-append}
 use Rattle.std.specs.Prelude.{Some, None}
 use Rattle.std.specs.List.{AllByRecursion}
 use Rattle.std.specs.FinMap as table
 use Rattle.std.proofs.lemmas.Bool.{eq-eqb}
-use Rattle.std.proofs.lemmas.List.{take-append-le, take-take, append-nil, length-take-le}
+use Rattle.std.proofs.lemmas.List.{take-append-le, take-take, length-take-le}
 use Rattle.cc_views.specs.NatSets.{get-insert_key}
 use Rattle.cc_views.specs.declared.value.Value.{Value}
 use Rattle.cc_messages.specs.declared.event.Event.{Event}
@@ -23,25 +23,31 @@ use Rattle.cc_laws.proofs.Lists.{all_both, all_take, of_some, all_at}
 use Rattle.cc_laws.proofs.Showing.{of_shown}
 use Rattle.cc_laws.proofs.Rows.{AllRows, EventRows}
 use Rattle.cc_laws.proofs.Standing.{has_shown}
-use Rattle.cc_laws.proofs.Members.{IsSound, lawful_front, front_parts, front_rows, rest_rows}
-use Rattle.cc_laws.proofs.Clustering.{Released, SentRows, Holds, IsLonger, member_holds, sent_holds, IsAt}
+use Rattle.cc_laws.proofs.Members.{IsSound, lawful_front, front_rows, rest_rows}
+use Rattle.cc_laws.proofs.Clustering.{Released, SentRows, Holds, member_holds, sent_holds, IsAt, Grows, grows_same, grows_by}
 
-pub same_length : (m n : Member) → take n.released n.events ≡ take m.released m.events → IsLonger m n
-same_length m n is = ([], is ∙ sym (append-nil (take m.released m.events)))
+-- how a member grows as it accepts, has synced, releases and crashes
+pub accept_grows : (q : ℕ) (m : Member) (e : Event) → IsSound q m → Grows m (accepting e m)
+accept_grows q m e sound =
+    grows_same m (accepting e m) refl (take-append-le m.released m.events (e ∷ []) (omega (arith, sound.released, sound.durable)))
 
-pub longer_by : (m n : Member) (k : ℕ) → m.released ≤ k → take n.released n.events ≡ take k m.events → IsLonger m n
-longer_by m n k le is = (drop m.released (take k m.events), is ∙ sym (front_parts m.released k m.events le))
+abbrev pub synced : ℕ → Member → Member
+synced k m = record m { durable = k }
 
--- more is released where an event is accepted, and where the last ones are lost
-pub accepted_longer : (q : ℕ) (m : Member) (e : Event) → IsSound q m → IsLonger m (accepting e m)
-accepted_longer q m e sound =
-    same_length m (accepting e m) (take-append-le m.released m.events (e ∷ []) (omega (arith, sound.released, sound.durable)))
+pub sync_grows : (m : Member) (k : ℕ) → Grows m (synced k m)
+sync_grows m k = grows_same m (synced k m) refl refl
+
+abbrev pub releasing : ℕ → Member → Member
+releasing k m = record m { released = k }
+
+pub release_grows : (m : Member) (k : ℕ) → m.released ≤ k → Grows m (releasing k m)
+release_grows m k le = grows_by m (releasing k m) k refl le refl
 
 abbrev pub crashed : ℕ → Member → Member
 crashed k m = record m { events = take k m.events; released = k; durable = k }
 
-pub crashed_longer : (m : Member) (k : ℕ) → m.released ≤ k → IsLonger m (crashed k m)
-crashed_longer m k le = longer_by m (crashed k m) k le (take-take k k m.events (omega arith))
+pub crash_grows : (m : Member) (k : ℕ) → m.released ≤ k → Grows m (crashed k m)
+crash_grows m k le = grows_by m (crashed k m) k refl le (take-take k k m.events (omega arith))
 
 pub put_there : (c : Cluster) (q : ℕ) (n : Member) → IsAt (with_member q n c) q n
 put_there c q n = get-insert_key c.members q n q ∙ ap (λ t. cond t (Some n) (table.get c.members q)) (eq-eqb q q refl)
@@ -61,7 +67,7 @@ module _ (c : Cluster) (q : ℕ) (m : Member) (h : Holds c) (at : IsAt c q m) wh
   accept_holds : (e : Event) → decides (live_node m).core e ≡ None → EventRows (Released c) e → Holds (with_member q (accepting e m) c)
   accept_holds e taken rows =
       let more : length (m.events ++ e ∷ []) ≡ length m.events + 1 = length-append m.events (e ∷ []) in
-      member_holds c q m (accepting e m) h at (accepted_longer q m e sound)
+      member_holds c q m (accepting e m) h at (accept_grows q m e sound)
       (record {
         opening = sound.opening;
         me = sound.me;
@@ -71,19 +77,19 @@ module _ (c : Cluster) (q : ℕ) (m : Member) (h : Holds c) (at : IsAt c q m) wh
       })
       (all_both (EventRows (Released c)) m.events (e ∷ []) brought (rows, tt))
 
-  sync_holds : (k : ℕ) → m.durable ≤ k → k ≤ length m.events → Holds (with_member q (record m { durable = k }) c)
+  sync_holds : (k : ℕ) → m.durable ≤ k → k ≤ length m.events → Holds (with_member q (synced k m) c)
   sync_holds k le fits =
-      member_holds c q m (record m { durable = k }) h at (same_length m (record m { durable = k }) refl)
+      member_holds c q m (synced k m) h at (sync_grows m k)
       (record { opening = sound.opening; me = sound.me; lawful = sound.lawful; released = omega (arith, sound.released, le); durable = fits })
       brought
 
-  release_holds : (k : ℕ) → m.released ≤ k → k ≤ m.durable → Holds (with_sent q (put_out k m) (with_member q (record m { released = k }) c))
+  release_holds : (k : ℕ) → m.released ≤ k → k ≤ m.durable → Holds (with_sent q (put_out k m) (with_member q (releasing k m) c))
   release_holds k le fits =
-      let n : Member = record m { released = k } in
+      let n = releasing k m in
       let d = with_member q n c in
       let here : IsAt d q n = put_there c q n in
       let now : IsSound q n = record { opening = sound.opening; me = sound.me; lawful = sound.lawful; released = fits; durable = sound.durable } in
-      let holds : Holds d = member_holds c q m n h at (longer_by m n k le refl) now brought in
+      let holds : Holds d = member_holds c q m n h at (release_grows m k le) now brought in
       sent_holds d q (put_out k m) holds (rest_rows (Released d) q n m.released k le now (holds.brought q n here) (λ j x is. (n, here, is)))
 
   -- what is put out again was shown by then
@@ -97,7 +103,7 @@ module _ (c : Cluster) (q : ℕ) (m : Member) (h : Holds c) (at : IsAt c q m) wh
   crash_holds : (k : ℕ) → m.released ≤ k → k ≤ length m.events → Holds (with_member q (crashed k m) c)
   crash_holds k le fits =
       let long : length (take k m.events) ≡ k = length-take-le k m.events fits in
-      member_holds c q m (crashed k m) h at (crashed_longer m k le)
+      member_holds c q m (crashed k m) h at (crash_grows m k le)
       (record {
         opening = sound.opening;
         me = sound.me;

@@ -34,14 +34,14 @@ use Rattle.cc_laws.specs.Clusters.{Member, Cluster}
 use Rattle.cc_laws.specs.Regular.{released_events, RoundOf}
 use Rattle.cc_laws.specs.Rounds.{awaits_views, awaits_acks, counts, ends_round, begins_anew, with_peer, peers_next, peers_along, peers_of}
 use Rattle.cc_laws.proofs.Members.{lawful_front}
-use Rattle.cc_laws.proofs.Clustering.{Holds, IsAt}
+use Rattle.cc_laws.proofs.Clustering.{Holds, IsAt, one_at}
 use Rattle.cc_laws.proofs.Places.{front_more, at_once}
 use Rattle.cc_laws.proofs.Says.{tag_after, BringsIn, PostSays, GoesTo}
 use Rattle.cc_laws.proofs.Pending.{HasAck, HasReply, Pends, own_parts, core_push, pends}
 use Rattle.cc_laws.proofs.CountedAnswers.{one_there, with_all}
 use Rattle.cc_laws.proofs.Knowing.{me_of, raised_at, Posted, posted, came_at, posted_by, came_before, came_last}
 use Rattle.cc_laws.proofs.Lists.{all_changed, at_some, either}
-use Rattle.cc_laws.proofs.Traces.{one_at, Traces}
+use Rattle.cc_laws.proofs.Traces.{Traces}
 
 -- ---- answers and rounds
 

@@ -37,11 +37,11 @@ use Rattle.cc_laws.specs.ReadBack.{IsDone}
 use Rattle.cc_laws.proofs.Lasting.{IsStable, value_stays, value_there, max_lasts, flag_lasts, set_lasts, max_bounds, max_least, flag_there, flag_from}
 use Rattle.cc_laws.proofs.Lasting.{set_there, set_from}
 use Rattle.cc_laws.proofs.Agreeing.{occurring_rows}
-use Rattle.cc_laws.proofs.Clustering.{Holds, IsAt}
+use Rattle.cc_laws.proofs.Clustering.{Holds, IsAt, one_at, GrownAt, grows_same}
 use Rattle.cc_laws.proofs.Once.{contains_cases}
 use Rattle.cc_laws.proofs.Lists.{at_some}
 use Rattle.cc_laws.proofs.Regularity.{Reading, some_and, h_end, reading_mid, reading_end, stores_seen, reads_in_turn, Course, grown}
-use Rattle.cc_laws.proofs.Traces.{one_at, GrownAt, grown_same, place_later}
+use Rattle.cc_laws.proofs.Traces.{place_later}
 use Rattle.cc_laws.proofs.Writing.{asked_both}
 
 -- a front of what was released is a front of all
@@ -124,7 +124,7 @@ module _ (run : Course) (q s r p x y : ℕ) (ahead : IsAhead run.mid p x y) (sha
         let ask : IsWriteAsk (released_events m) k s r =
         record { before = split.0; command = command; later = split.1; parts = split.2; writes = writes; number = refl } in
         let row = some_and (table.get read.seen q) (λ e. k ≤ e.0) (stores_seen run q s r p x y ahead share k (m, done.1, ask, done.3) a read) in
-        let of = seen_written d d (h_end run) p x y a read (read.member, read.there, grown_same read.member) q row.0 row.1 in
+        let of = seen_written d d (h_end run) p x y a read (read.member, read.there, grows_same read.member read.member refl refl) q row.0 row.1 in
         let grew = grown run q m done.1 in
         let parts = place_later m grew.0 grew.2 split.0 split.1 (event.Ask s r command) split.2 in
         (row.0, row.1, later_has P stable d q grew.0 grew.1 split.0 (split.1 ++ grew.2.longer.0) s r command parts writes makes row.0.0 row.0.1 row.2 of)
@@ -136,7 +136,7 @@ module _ (run : Course) (q s r p x y : ℕ) (ahead : IsAhead run.mid p x y) (sha
         let most = reads_in_turn run q s r p x y ahead share a early b late node in
         let row = some_and (table.get late.seen node) (λ f. e.0 ≤ f.0) (subst (λ (o : Option Pair). IsKept o (table.get late.seen node)) there most) in
         let of_e = seen_written mid d (h_end run) q s r a early (grown run q early.member early.there) node e there in
-        let of_f = seen_written d d (h_end run) p x y b late (late.member, late.there, grown_same late.member) node row.0 row.1 in
+        let of_f = seen_written d d (h_end run) p x y b late (late.member, late.there, grows_same late.member late.member refl refl) node row.0 row.1 in
         let is_m : of_f.0 ≡ of_e.0 = one_at d node node of_f.0 of_e.0 refl of_f.1 of_e.1 in
         let first_write = of_e.2 in
         let second_write : IsWriteOf of_e.0.events row.0.0 row.0.1 = subst (λ (m : Member). IsWriteOf m.events row.0.0 row.0.1) is_m of_f.2 in (

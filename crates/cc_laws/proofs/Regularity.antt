@@ -34,10 +34,10 @@ use Rattle.cc_laws.proofs.Agreeing.{all_written, one_value}
 use Rattle.cc_laws.proofs.Lists.{all_both, all_at}
 use Rattle.cc_laws.proofs.Quorums.{rounds_meet}
 use Rattle.cc_laws.proofs.Members.{IsSound, lawful_front}
-use Rattle.cc_laws.proofs.Clustering.{Holds, IsAt}
+use Rattle.cc_laws.proofs.Clustering.{Holds, IsAt, one_at, Grows, GrownAt}
 use Rattle.cc_laws.proofs.Moving.{run_holds, fresh_holds}
-use Rattle.cc_laws.proofs.Traces.{one_at, MadeBy, WasMade, Traces, Grows, GrownAt, run_traces, fresh_traces, run_grows, run_sent, place_later}
-use Rattle.cc_laws.proofs.Places.{parts_more, after_parts}
+use Rattle.cc_laws.proofs.Traces.{MadeBy, WasMade, Traces, run_traces, fresh_traces, run_grows, run_sent, place_later}
+use Rattle.cc_laws.proofs.Places.{parts_more, front_low}
 use Rattle.cc_laws.proofs.Says.{tag_after, stored_of}
 use Rattle.cc_laws.proofs.Pending.{HasAck, HasReply, Raised, least_more}
 use Rattle.cc_laws.proofs.Knowing.{either_front, Knows, store_known, reply_known}
@@ -57,20 +57,17 @@ asked_later p m n sound grows s r tag ahead raised =
     elim order as (λ _. (node_at m m.released).core.ops.tag < tag) [
       | inl e ↦
           let to_raiser = (lawful_parts start raised.before (raised.raiser ∷ raised.later) (subst (IsLawful start) raised.parts lawful)).0 in
-          let more = (lawful_parts start (released_events m) e.0 (subst (IsLawful start) e.1 to_raiser)).1 in
-          let up = tag_after (after start (released_events m)) e.0 more in
-          let at : after start raised.before ≡ after (after start (released_events m)) e.0 = after_parts start raised.before (released_events m) e.0 e.1 in
-          omega (arith, up, ap (λ (x : Node). x.core.ops.tag) at, ap (λ (x : Node). x.core.ops.tag) at_m, raised.under)
+          let up = front_low (λ x. x.core.ops.tag) tag_after start raised.before (released_events m) e.0 to_raiser e.1 in
+          omega (arith, up, ap (λ (x : Node). x.core.ops.tag) at_m, raised.under)
       | inr e ↦
           let parts : released_events m ≡ front ++ e.0 = parts_more (released_events m) raised.before e.0 raised.raiser e.1 in
           let to_m = (lawful_parts start (released_events m) grows.longer.0 (subst (IsLawful start) grows.longer.1 lawful)).0 in
-          let both = lawful_parts start front e.0 (subst (IsLawful start) parts to_m) in
+          let to_front = (lawful_parts start front e.0 (subst (IsLawful start) parts to_m)).0 in
           let c = (after start front).core in
           let asked : last_request c.sessions s ≡ r =
-          asked_last c (after_lawful start front both.0 (fresh_lawful n.opening sound.opening)).core s r raised.holds.2 in
-          let up = last_after s (after start front) e.0 both.1 in
-          let at : after start (released_events m) ≡ after (after start front) e.0 = after_parts start (released_events m) front e.0 parts in
-          absurd (omega (arith, asked, up, ap (λ (x : Node). last_request x.core.sessions s) at, ap (λ (x : Node). last_request x.core.sessions s) at_m, ahead))
+          asked_last c (after_lawful start front to_front (fresh_lawful n.opening sound.opening)).core s r raised.holds.2 in
+          let up = front_low (λ x. last_request x.core.sessions s) (last_after s) start (released_events m) front e.0 to_m parts in
+          absurd (omega (arith, asked, up, ap (λ (x : Node). last_request x.core.sessions s) at_m, ahead))
     ]
 
 -- the answer left its node

@@ -3,10 +3,9 @@
 --     member_knows              what a member knows of the others at its start
 --     AreQuiet, run_steady      each event is so
 --     Needs, round_size         a round that ended counted as many answers as the first one needs
-use Rattle.std.proofs.Common.{◌≡◌, inl, inr, ℕ, ◌*◌, ◌<◌, Bool, true, false, List, [], ◌∷◌, ◌++◌, length, refl, sym, ap, subst, ◌∙◌}
+use Rattle.std.proofs.Common.{◌≡◌, ℕ, ◌*◌, ◌<◌, Bool, true, false, List, [], ◌∷◌, ◌++◌, length, refl, sym, ap, subst, ◌∙◌}
 use Rattle.std.specs.Prelude.{is_some, IsTrue, ⊤, ◌&&◌, not}
 use Rattle.std.specs.List.{AllByRecursion}
-use Rattle.std.proofs.lemmas.Option.{same_Some}
 use Rattle.cc_views.specs.NatSets as set
 use Rattle.cc_views.specs.NatSets.{same_ids, contains-difference, contains-empty}
 use Rattle.cc_views.specs.Rows.{ViewMap}
@@ -32,8 +31,8 @@ use Rattle.cc_laws.specs.Rounds.{Round, peers_of}
 use Rattle.cc_laws.specs.Progress.{round_under, need_in}
 use Rattle.cc_laws.proofs.Counting.{ended_is, round_enough}
 use Rattle.cc_laws.proofs.Lists.{all_both, all_front, all_rest, all_take, at_some, all_at, either}
-use Rattle.cc_laws.proofs.Clustering.{Holds, at_id, IsAt}
-use Rattle.cc_laws.proofs.Moving.{move_holds, crashed}
+use Rattle.cc_laws.proofs.Clustering.{Holds, IsAt, each_member}
+use Rattle.cc_laws.proofs.Moving.{move_holds, crashed, synced, releasing}
 use Rattle.cc_laws.proofs.Knowing.{posted}
 use Rattle.cc_laws.proofs.Staying.{KnowsFixed, IsOfRound, IsQuiet, quiet_post, fixed_next, fixed_along, fresh_fixed, quorum_next}
 use Rattle.cc_laws.proofs.Traces.{MadeBy, WasMade, Traces, move_traces}
@@ -51,11 +50,7 @@ abbrev pub AreQuiet : List ℕ → Cluster → Type 0
 AreQuiet all c = (q : ℕ) (m : Member) → IsAt c q m → AllByRecursion (IsQuiet all) m.events
 
 member_quiet : (all : List ℕ) (c : Cluster) (q : ℕ) (n : Member) → AreQuiet all c → AllByRecursion (IsQuiet all) n.events → AreQuiet all (with_member q n c)
-member_quiet all c q n h k p o is =
-    elim (at_id c q n p) as (λ _. AllByRecursion (IsQuiet all) o.events) [
-      | inl e ↦ subst (λ (w : Member). AllByRecursion (IsQuiet all) w.events) (same_Some n o (sym e.1 ∙ is)) k
-      | inr e ↦ h p o (sym e ∙ is)
-    ]
+member_quiet all c q n h k = each_member (λ _ o. AllByRecursion (IsQuiet all) o.events) c q n k h
 
 -- what is sent in a quiet cluster is of a round, or tells its members
 sent_quiet : (all : List ℕ) (c : Cluster) → Holds c → IsFixedCluster all c → AreQuiet all c → (f to n : ℕ) (k : Message) → MadeBy c f (output.Send to n k)
@@ -88,31 +83,26 @@ module _ (all : List ℕ) (c : Cluster) (q : ℕ) (m : Member) (fixed : IsFixedC
       let e = event.Deliver from n x in
       subst (AreQuiet all) (sym s.2)
       (member_quiet all c q (accepting e m) h (all_both (IsQuiet all) m.events (e ∷ []) (h q m at) (sent_quiet all c holds fixed h from q n x made, tt)))
-  move_quiet (Sync j) d holds t h k s = subst (AreQuiet all) (sym s.2) (member_quiet all c q (record m { durable = j }) h (h q m at))
-  move_quiet (Release j) d holds t h k s = subst (AreQuiet all) (sym s.2) (member_quiet all c q (record m { released = j }) h (h q m at))
+  move_quiet (Sync j) d holds t h k s = subst (AreQuiet all) (sym s.2) (member_quiet all c q (synced j m) h (h q m at))
+  move_quiet (Release j) d holds t h k s = subst (AreQuiet all) (sym s.2) (member_quiet all c q (releasing j m) h (h q m at))
   move_quiet (Resend o) d holds t h k s = subst (AreQuiet all) (sym s.1) h
   move_quiet (Crash j) d holds t h k s =
       subst (AreQuiet all) (sym s.2) (member_quiet all c q (crashed j m) h (all_take (IsQuiet all) j m.events (h q m at)))
 
   in_place : (n : Member) → n.opening ≡ m.opening → IsFixedCluster all (with_member q n c)
-  in_place n opening p o is =
-      elim (at_id c q n p) as (λ _. IsFixedMember all p o) [
-        | inl e ↦
-            let old = fixed q m at in
-            let now : IsFixedMember all q n = record {
-              initial = ap (λ (x : Opening). x.initial) opening ∙ old.initial;
-              among = old.among;
-              majority = subst (λ (x : Opening). count_of all < 2 * needed x.beta (count_of all)) (sym opening) old.majority;
-            } in
-            subst (IsFixedMember all p) (same_Some n o (sym e.1 ∙ is)) (subst (λ (k : ℕ). IsFixedMember all k n) (sym e.0) now)
-        | inr e ↦ fixed p o (sym e ∙ is)
-      ]
+  in_place n opening =
+      let old = fixed q m at in
+      each_member (IsFixedMember all) c q n (record {
+        initial = ap (λ (x : Opening). x.initial) opening ∙ old.initial;
+        among = old.among;
+        majority = subst (λ (x : Opening). count_of all < 2 * needed x.beta (count_of all)) (sym opening) old.majority;
+      }) fixed
 
   move_fixed : (move : Move) (d : Cluster) → MovesBy c q m move d → IsFixedCluster all d
   move_fixed (Accept e) d s = subst (IsFixedCluster all) (sym s.2) (in_place (accepting e m) refl)
   move_fixed (Receive from n x) d s = subst (IsFixedCluster all) (sym s.2) (in_place (accepting (event.Deliver from n x) m) refl)
-  move_fixed (Sync j) d s = subst (IsFixedCluster all) (sym s.2) (in_place (record m { durable = j }) refl)
-  move_fixed (Release j) d s = subst (IsFixedCluster all) (sym s.2) (in_place (record m { released = j }) refl)
+  move_fixed (Sync j) d s = subst (IsFixedCluster all) (sym s.2) (in_place (synced j m) refl)
+  move_fixed (Release j) d s = subst (IsFixedCluster all) (sym s.2) (in_place (releasing j m) refl)
   move_fixed (Resend o) d s = subst (IsFixedCluster all) (sym s.1) fixed
   move_fixed (Crash j) d s = subst (IsFixedCluster all) (sym s.2) (in_place (crashed j m) refl)
 

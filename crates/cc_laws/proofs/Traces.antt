@@ -1,8 +1,7 @@
 -- What was sent or delivered in a cluster was made by its sender along what it has released; and that only grows.
---     one_at                    there is one member at an id
 --     MadeBy c q o              node q made the output along its released events
 --     Traces, run_traces        all that was sent was so made, and all that was delivered was so sent
---     Grows, run_grows          what a node released stays the front of what it has released later
+--     run_grows                 what a node released stays the front of what it has released later
 use Rattle.std.proofs.Common.{◌≡◌, ℕ, ◌≤◌, List, [], ◌∷◌, ◌++◌, take, drop, refl, sym, ap, subst, ◌∙◌, inl, inr, arith}
 use Rattle.std.specs.Prelude.{map, ⊤, Option}
 use Rattle.std.specs.Option.{option_map_or}
@@ -11,7 +10,6 @@ use Rattle.std.specs.List.{Contains, AllByRecursion}
 use Rattle.std.specs.FinMap as table
 use Rattle.std.proofs.lemmas.List.{append_assoc}
 use Rattle.std.proofs.lemmas.List.Elements.{Contains-append_left, Contains-append_right}
-use Rattle.std.proofs.lemmas.Option.{same_Some}
 use Rattle.cc_messages.specs.declared.event.Event.{Event}
 use Rattle.cc_messages.specs.declared.event.Event.TheVariants as event
 use Rattle.cc_messages.specs.declared.output.Output.{Output}
@@ -29,8 +27,8 @@ use Rattle.cc_laws.specs.Runs.{Run, IsFreshCluster}
 use Rattle.cc_laws.specs.Regular.{released_events}
 use Rattle.cc_laws.proofs.Lists.{all_both, all_take, all_changed, all_there, all_at}
 use Rattle.cc_laws.proofs.Members.{lawful_front, front_parts}
-use Rattle.cc_laws.proofs.Clustering.{Holds, IsLonger, at_id, IsAt, all_from}
-use Rattle.cc_laws.proofs.Moving.{same_length, longer_by, move_holds, accepted_longer, crashed, crashed_longer, put_there}
+use Rattle.cc_laws.proofs.Clustering.{Holds, IsAt, all_from, Grows, GrownAt, grows_same, member_grows, each_member}
+use Rattle.cc_laws.proofs.Moving.{move_holds, crashed, put_there, accept_grows, sync_grows, release_grows, crash_grows, synced, releasing}
 
 abbrev pub MadeBy : Cluster → ℕ → Output → Type 0
 MadeBy c q o = (m : Member) × IsAt c q m × Contains (line (fresh m.opening) (released_events m)) o
@@ -46,23 +44,6 @@ WasMade c s = MadeBy c s.from s.output
 pub record Traces (c : Cluster) : Type 0 where
   pub sent : AllByRecursion (WasMade c) c.sent
   pub came : (q : ℕ) (m : Member) → IsAt c q m → AllByRecursion (CameFrom c q) m.events
-
--- there is one member at an id
-pub one_at : (c : Cluster) (p q : ℕ) (m n : Member) → p ≡ q → IsAt c p m → IsAt c q n → m ≡ n
-one_at c p q m n is here there = same_Some m n (sym here ∙ ap (table.get c.members) is ∙ there)
-
--- ---- what is released only grows
-
-pub record Grows (m n : Member) : Type 0 where
-  pub opening : n.opening ≡ m.opening
-  pub longer : IsLonger m n
-
--- a later state of the member
-abbrev pub GrownAt : Cluster → ℕ → Member → Type 0
-GrownAt d q m = (n : Member) × IsAt d q n × Grows m n
-
-pub grown_same : (m : Member) → Grows m m
-grown_same m = record { opening = refl; longer = same_length m m refl }
 
 grown_on : (m n o : Member) → Grows m n → Grows n o → Grows m o
 grown_on m n o h k = record {
@@ -81,14 +62,6 @@ place_later m n grows before later e parts =
 
 -- ---- a member that released more in the place of another
 
-member_grows : (c : Cluster) (q : ℕ) (m n : Member) → IsAt c q m → Grows m n
-    → (p : ℕ) (o : Member) → IsAt c p o → GrownAt (with_member q n c) p o
-member_grows c q m n at grows p o is =
-    elim (at_id c q n p) as (λ _. GrownAt (with_member q n c) p o) [
-      | inl e ↦ (n, e.1, subst (λ (w : Member). Grows w n) (one_at c q p m o (sym e.0) at is) grows)
-      | inr e ↦ (o, e ∙ is, grown_same o)
-    ]
-
 longer_line : (m n : Member) (o : Output) → Grows m n → Contains (line (fresh m.opening) (released_events m)) o
     → Contains (line (fresh n.opening) (released_events n)) o
 longer_line m n o grows has =
@@ -101,12 +74,8 @@ longer_line m n o grows has =
 
 made_kept : (c : Cluster) (q : ℕ) (m n : Member) → IsAt c q m → Grows m n → (p : ℕ) (o : Output) → MadeBy c p o → MadeBy (with_member q n c) p o
 made_kept c q m n at grows p o r =
-    elim (at_id c q n p) as (λ _. MadeBy (with_member q n c) p o) [
-      | inl e ↦
-          let is : r.0 ≡ m = one_at c p q r.0 m e.0 r.1 at in
-          (n, e.1, longer_line m n o grows (subst (λ (k : Member). Contains (line (fresh k.opening) (released_events k)) o) is r.2))
-      | inr e ↦ (r.0, e ∙ r.1, r.2)
-    ]
+    let g = member_grows c q m n at grows p r.0 r.1 in
+    (g.0, g.1, longer_line r.0 g.0 o g.2 r.2)
 
 came_kept : (c d : Cluster) → ((p : ℕ) (o : Output) → MadeBy c p o → MadeBy d p o) → (q : ℕ) (e : Event) → CameFrom c q e → CameFrom d q e
 came_kept c d f q (event.Deliver from n k) h = f from (output.Send q n k) h
@@ -119,13 +88,9 @@ member_traces c q m n h at grows came =
     let kept = made_kept c q m n at grows in
     record {
       sent = all_changed (WasMade c) (WasMade d) (λ s. kept s.from s.output) c.sent h.sent;
-      came = λ p o is. elim (at_id c q n p) as (λ _. AllByRecursion (CameFrom d p) o.events) [
-        | inl e ↦
-            subst (λ (k : ℕ). AllByRecursion (CameFrom d k) o.events) (sym e.0)
-            (subst (λ (w : Member). AllByRecursion (CameFrom d q) w.events) (same_Some n o (sym e.1 ∙ is))
-            (all_changed (CameFrom c q) (CameFrom d q) (came_kept c d kept q) n.events came))
-        | inr e ↦ all_changed (CameFrom c p) (CameFrom d p) (came_kept c d kept p) o.events (h.came p o (sym e ∙ is))
-      ];
+      came = each_member (λ p o. AllByRecursion (CameFrom d p) o.events) c q n
+          (all_changed (CameFrom c q) (CameFrom d q) (came_kept c d kept q) n.events came)
+          (λ p o is. all_changed (CameFrom c p) (CameFrom d p) (came_kept c d kept p) o.events (h.came p o is));
     }
 
 sent_traces : (c : Cluster) (q : ℕ) (os : List Output) → Traces c → AllByRecursion (MadeBy c q) os → Traces (with_sent q os c)
@@ -157,31 +122,19 @@ own_came c q (event.Deliver from n m) h = absurd h
 own_came c q _ h = tt
 
 module _ (c : Cluster) (q : ℕ) (m : Member) (h : Holds c) (at : IsAt c q m) where
-  accept_grows : (e : Event) → Grows m (accepting e m)
-  accept_grows e = record { opening = refl; longer = accepted_longer q m e (h.sound q m at) }
-
-  sync_grows : (k : ℕ) → Grows m (record m { durable = k })
-  sync_grows k = record { opening = refl; longer = same_length m (record m { durable = k }) refl }
-
-  release_grows : (k : ℕ) → m.released ≤ k → Grows m (record m { released = k })
-  release_grows k le = record { opening = refl; longer = longer_by m (record m { released = k }) k le refl }
-
-  crash_grows : (k : ℕ) → m.released ≤ k → Grows m (crashed k m)
-  crash_grows k le = record { opening = refl; longer = crashed_longer m k le }
-
   module _ (t : Traces c) where
     accept_traces : (e : Event) → CameFrom c q e → Traces (with_member q (accepting e m) c)
     accept_traces e came =
-        member_traces c q m (accepting e m) t at (accept_grows e) (all_both (CameFrom c q) m.events (e ∷ []) (t.came q m at) (came, tt))
+        member_traces c q m (accepting e m) t at (accept_grows q m e (h.sound q m at)) (all_both (CameFrom c q) m.events (e ∷ []) (t.came q m at) (came, tt))
 
-    release_traces : (k : ℕ) → m.released ≤ k → Traces (with_sent q (put_out k m) (with_member q (record m { released = k }) c))
+    release_traces : (k : ℕ) → m.released ≤ k → Traces (with_sent q (put_out k m) (with_member q (releasing k m) c))
     release_traces k le =
-        let n : Member = record m { released = k } in
+        let n = releasing k m in
         let d = with_member q n c in
         let start = fresh m.opening in
         let both : line start (take k m.events) ≡ line start (released_events m) ++ put_out k m =
         ap (line start) (sym (front_parts m.released k m.events le)) ∙ line-append start (released_events m) (drop m.released (take k m.events)) in
-        sent_traces d q (put_out k m) (member_traces c q m n t at (release_grows k le) (t.came q m at))
+        sent_traces d q (put_out k m) (member_traces c q m n t at (release_grows m k le) (t.came q m at))
         (all_there (MadeBy d q) (put_out k m) (λ o has. (
           n,
           put_there c q n,
@@ -199,25 +152,24 @@ module _ (c : Cluster) (q : ℕ) (m : Member) (h : Holds c) (at : IsAt c q m) wh
     pub move_traces : (move : Move) (d : Cluster) → MovesBy c q m move d → Traces d
     move_traces (Accept e) d s = subst Traces (sym s.2) (accept_traces e (own_came c q e s.0))
     move_traces (Receive from n k) d s = subst Traces (sym s.2) (accept_traces (event.Deliver from n k) (all_at (WasMade c) c.sent _ t.sent s.0))
-    move_traces (Sync k) d s = subst Traces (sym s.2) (member_traces c q m (record m { durable = k }) t at (sync_grows k) (t.came q m at))
+    move_traces (Sync k) d s = subst Traces (sym s.2) (member_traces c q m (synced k m) t at (sync_grows m k) (t.came q m at))
     move_traces (Release k) d s = subst Traces (sym s.2) (release_traces k s.0)
     move_traces (Resend o) d s = subst Traces (sym s.1) (resend_traces o s.0)
     move_traces (Crash k) d s =
-        subst Traces (sym s.2) (member_traces c q m (crashed k m) t at (crash_grows k s.0) (all_take (CameFrom c q) k m.events (t.came q m at)))
+        subst Traces (sym s.2) (member_traces c q m (crashed k m) t at (crash_grows m k s.0) (all_take (CameFrom c q) k m.events (t.came q m at)))
 
-  move_grows : (move : Move) (d : Cluster) → MovesBy c q m move d → (p : ℕ) (o : Member) → IsAt c p o → GrownAt d p o
-  move_grows (Accept e) d s p o is =
-      subst (λ (x : Cluster). GrownAt x p o) (sym s.2) (member_grows c q m (accepting e m) at (accept_grows e) p o is)
-  move_grows (Receive from n k) d s p o is =
-      let e = event.Deliver from n k in
-      subst (λ (x : Cluster). GrownAt x p o) (sym s.2) (member_grows c q m (accepting e m) at (accept_grows e) p o is)
-  move_grows (Sync k) d s p o is =
-      subst (λ (x : Cluster). GrownAt x p o) (sym s.2) (member_grows c q m (record m { durable = k }) at (sync_grows k) p o is)
-  move_grows (Release k) d s p o is =
-      subst (λ (x : Cluster). GrownAt x p o) (sym s.2) (member_grows c q m (record m { released = k }) at (release_grows k s.0) p o is)
-  move_grows (Resend x) d s p o is = subst (λ (y : Cluster). GrownAt y p o) (sym s.1) (o, is, grown_same o)
-  move_grows (Crash k) d s p o is =
-      subst (λ (x : Cluster). GrownAt x p o) (sym s.2) (member_grows c q m (crashed k m) at (crash_grows k s.0) p o is)
+  module _ (p : ℕ) (o : Member) (is : IsAt c p o) where
+    grown_as : (n : Member) (x y : Cluster) → Grows m n → x ≡ y → (GrownAt (with_member q n c) p o → GrownAt y p o) → GrownAt x p o
+    grown_as n x y grows is_y on = subst (λ (z : Cluster). GrownAt z p o) (sym is_y) (on (member_grows c q m n at grows p o is))
+
+    move_grows : (move : Move) (d : Cluster) → MovesBy c q m move d → GrownAt d p o
+    move_grows (Accept e) d s = grown_as (accepting e m) d _ (accept_grows q m e (h.sound q m at)) s.2 (λ g. g)
+    move_grows (Receive from n k) d s =
+        let e = event.Deliver from n k in grown_as (accepting e m) d _ (accept_grows q m e (h.sound q m at)) s.2 (λ g. g)
+    move_grows (Sync k) d s = grown_as (synced k m) d _ (sync_grows m k) s.2 (λ g. g)
+    move_grows (Release k) d s = grown_as (releasing k m) d _ (release_grows m k s.0) s.2 (λ g. g)
+    move_grows (Resend x) d s = subst (λ (y : Cluster). GrownAt y p o) (sym s.1) (o, is, grows_same o o refl refl)
+    move_grows (Crash k) d s = grown_as (crashed k m) d _ (crash_grows m k s.0) s.2 (λ g. g)
 
 pub run_traces : (c : Cluster) (moves : List (ℕ × Move)) (d : Cluster) → Holds c → Traces c → Run c moves d → Traces d
 run_traces c [] d h t r = subst Traces (sym r) t
@@ -232,9 +184,9 @@ fresh_traces c h = record {
 
 pub run_grows : (c : Cluster) (moves : List (ℕ × Move)) (d : Cluster) → Holds c → Run c moves d → (p : ℕ) (o : Member) → IsAt c p o
     → GrownAt d p o
-run_grows c [] d h r p o is = subst (λ (x : Cluster). GrownAt x p o) (sym r) (o, is, grown_same o)
+run_grows c [] d h r p o is = subst (λ (x : Cluster). GrownAt x p o) (sym r) (o, is, grows_same o o refl refl)
 run_grows c (move ∷ moves) d h r p o is =
-    let first = move_grows c move.0 r.1.0 h r.1.1 move.1 r.0 r.1.2 p o is in
+    let first = move_grows c move.0 r.1.0 h r.1.1 p o is move.1 r.0 r.1.2 in
     let rest = run_grows r.0 moves d (move_holds c move.0 r.1.0 h r.1.1 move.1 r.0 r.1.2) r.2 p first.0 first.1 in
     (rest.0, rest.1, grown_on o first.0 rest.0 first.2 rest.2)
 
