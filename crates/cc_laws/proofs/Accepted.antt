@@ -2,23 +2,24 @@
 --     each_accepted      each of its events is one that a life accepted
 --     parts_accepted     they stand in the order in which they were accepted
 --     parts_durable      and all that was durable is among them, in order
-use Rattle.std.proofs.Common.{inl, inr, ℕ, zero, suc, ◌≤◌, List, [], ◌∷◌, ◌++◌, take, drop, refl, sym, ap, subst, arith, take-append-drop}
+use Rattle.std.proofs.Common.{inl, inr, ℕ, zero, suc, ◌≤◌, List, [], ◌∷◌, ◌++◌, take, refl, sym, ap, subst, arith}
 use Rattle.std.specs.List.{Contains}
-use Rattle.std.proofs.lemmas.List.Elements.{Contains-append_left, Contains-append_right, Contains-append_cases, Contains-push}
+use Rattle.std.proofs.lemmas.List.Elements.{Contains-append_right, Contains-append_cases}
 use Rattle.cc_messages.specs.declared.event.Event.{Event}
 use Rattle.cc_node.specs.Node.{Node, after}
 use Rattle.cc_laws.specs.Lives.{Life, AreParts, accepted_along, durable_along, IsSubsequence}
+use Rattle.cc_laws.proofs.Lists.{contains_head, contains_front}
 
-in_front : (k : ℕ) (xs : List Event) (e : Event) → Contains (take k xs) e → Contains xs e
-in_front k xs e has = subst (λ (l : List Event). Contains l e) (take-append-drop k xs) (Contains-append_left (take k xs) (drop k xs) e has)
-
-pub each_accepted : (n : Node) (ls : List Life) (es : List Event) → AreParts n ls es → (e : Event) → Contains es e → (l : Life) × Contains ls l × Contains l.events e
+pub each_accepted : (n : Node) (ls : List Life) (es : List Event) → AreParts n ls es → (e : Event) → Contains es e
+    → (l : Life) × Contains ls l × Contains l.events e
 each_accepted n [] es none e has = let there : Contains [] e = subst (λ (l : List Event). Contains l e) none has in absurd (omega (arith, there.1))
 each_accepted n (l ∷ ls) es h e has =
     elim (Contains-append_cases (take h.kept l.events) h.rest e (subst (λ (l : List Event). Contains l e) h.parts has))
     as (λ _. (k : Life) × Contains (l ∷ ls) k × Contains k.events e) [
-      | inl front ↦ (l, Contains-append_left (l ∷ []) ls l (Contains-push [] l), in_front h.kept l.events e front)
-      | inr later ↦ let found = each_accepted (after n (take h.kept l.events)) ls h.rest h.follows e later in (found.0, Contains-append_right (l ∷ []) ls found.0 found.1, found.2)
+      | inl front ↦ (l, contains_head l ls, contains_front h.kept l.events e front)
+      | inr later ↦
+          let found = each_accepted (after n (take h.kept l.events)) ls h.rest h.follows e later in
+          (found.0, Contains-append_right (l ∷ []) ls found.0 found.1, found.2)
     ]
 
 -- ---- subsequences
@@ -47,10 +48,12 @@ pub parts_accepted : (n : Node) (ls : List Life) (es : List Event) → AreParts 
 parts_accepted n [] es none = none
 parts_accepted n (l ∷ ls) es h =
     subst (λ (x : List Event). IsSubsequence x (l.events ++ accepted_along ls)) (sym h.parts)
-    (both_of (take h.kept l.events) l.events h.rest (accepted_along ls) (front_of h.kept l.events) (parts_accepted (after n (take h.kept l.events)) ls h.rest h.follows))
+    (both_of (take h.kept l.events) l.events h.rest (accepted_along ls) (front_of h.kept l.events)
+    (parts_accepted (after n (take h.kept l.events)) ls h.rest h.follows))
 
 pub parts_durable : (n : Node) (ls : List Life) (es : List Event) → AreParts n ls es → IsSubsequence (durable_along ls) es
 parts_durable n [] es none = subst (λ (x : List Event). IsSubsequence [] x) (sym none) refl
 parts_durable n (l ∷ ls) es h =
     subst (λ (x : List Event). IsSubsequence (take l.durable l.events ++ durable_along ls) x) (sym h.parts)
-    (both_of (take l.durable l.events) (take h.kept l.events) (durable_along ls) h.rest (fronts_of l.durable h.kept l.events h.has_durable) (parts_durable (after n (take h.kept l.events)) ls h.rest h.follows))
+    (both_of (take l.durable l.events) (take h.kept l.events) (durable_along ls) h.rest (fronts_of l.durable h.kept l.events h.has_durable)
+    (parts_durable (after n (take h.kept l.events)) ls h.rest h.follows))

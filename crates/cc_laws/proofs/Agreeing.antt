@@ -5,7 +5,7 @@ use Rattle.std.proofs.Common.{◌≡◌, ℕ, List, take, drop, refl, sym, ap, s
 use Rattle.std.specs.Prelude.{Option, Some, None, slice_get}
 use Rattle.std.specs.FinMap as table
 use Rattle.std.proofs.lemmas.List.{take-append-drop}
-use Rattle.std.proofs.lemmas.List.Elements.{All-contains, All-from_recursion}
+use Rattle.std.proofs.lemmas.Option.{same_Some}
 use Rattle.cc_views.specs.Rows.{Pair, ViewMap}
 use Rattle.cc_views.specs.Merge.{merge, AgreeAt}
 use Rattle.cc_views.specs.MergeLaws.{merge_comm}
@@ -17,12 +17,12 @@ use Rattle.cc_laws.specs.Shown.{in_output, Has}
 use Rattle.cc_laws.specs.Written.{values_of, IsWrite, IsWriteOf}
 use Rattle.cc_laws.specs.Clusters.{Member, Cluster, node_at, Move}
 use Rattle.cc_laws.specs.Runs.{Run, IsFreshCluster, Occurs, at_member, among_sent, IsWrittenBy}
-use Rattle.cc_laws.proofs.Lists.{at_some}
+use Rattle.cc_laws.proofs.Lists.{at_some, all_at}
 use Rattle.cc_laws.proofs.Showing.{of_shown}
 use Rattle.cc_laws.proofs.Rows.{AllRows}
 use Rattle.cc_laws.proofs.Writing.{write_front}
 use Rattle.cc_laws.proofs.Members.{rows_changed, events_changed, front_rows}
-use Rattle.cc_laws.proofs.Clustering.{Released, SentRows, Holds, same_some}
+use Rattle.cc_laws.proofs.Clustering.{Released, SentRows, Holds}
 use Rattle.cc_laws.proofs.Moving.{run_holds, fresh_holds}
 
 -- a write of a front of a member's events is one of all of them
@@ -40,17 +40,17 @@ occurring_rows c v h (at_member q m k at shows) =
     of_shown (AllRows P) (node_at m k) v (front_rows P q m k (h.sound q m at) brought (λ j x is. (m, at, write_within m.events k j x is))).0 shows
 occurring_rows c v h (among_sent s at is) =
     let P = Released c in
-    let rows : SentRows P s = All-contains (SentRows P) c.sent s (All-from_recursion (SentRows P) c.sent h.sent) at in
+    let rows : SentRows P s = all_at (SentRows P) c.sent s h.sent at in
     rows_changed P (IsWrittenBy c) (released_written c) v (at_some (AllRows P) (in_output s.output) v is rows)
 
 one_write : (values : List Value) (k : ℕ) (x y : Value) → IsWrite values k x → IsWrite values k y → x ≡ y
 one_write values k x y h g =
     let same : h.0 ≡ g.0 = omega (arith, h.1, g.1) in
-    same_some x y (sym h.2 ∙ ap (slice_get values) same ∙ g.2)
+    same_Some x y (sym h.2 ∙ ap (slice_get values) same ∙ g.2)
 
 written_once : (c : Cluster) (p k : ℕ) (x y : Value) → IsWrittenBy c p k x → IsWrittenBy c p k y → x ≡ y
 written_once c p k x y h g =
-    let same : h.0 ≡ g.0 = same_some h.0 g.0 (sym h.1 ∙ g.1) in
+    let same : h.0 ≡ g.0 = same_Some h.0 g.0 (sym h.1 ∙ g.1) in
     one_write (values_of nothing_stored (asked_along g.0.events)) k x y (subst (λ (m : Member). IsWriteOf m.events k x) same h.2) g.2
 
 agree_by : (a b : Option Pair) → ((k : ℕ) (x y : Value) → a ≡ Some (k, x) → b ≡ Some (k, y) → x ≡ y) → AgreeAt a b

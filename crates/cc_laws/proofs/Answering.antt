@@ -6,15 +6,17 @@
 --     StoredRound            a round in which a view was stored, of which something holds
 --     ReadRound              a round in which a view was queried, with what was seen in it
 --     number_reached         a writing ask that was answered was counted
-use Rattle.std.proofs.Common.{◌≡◌, ◌⊎◌, ℕ, ◌+◌, ◌<◌, ◌≤◌, Bool, true, false, cond, nat_eq, List, [], ◌∷◌, ◌++◌, refl, sym, ap, subst, ◌∙◌, inl, inr, arith, append_assoc}
-use Rattle.std.specs.Prelude.{Option, Some, None, IfSome, ◌&&◌, ◌==◌, is_some, if◌then◌else◌}
+use Rattle.std.proofs.Common.{◌≡◌, ◌⊎◌, ℕ, ◌+◌, ◌<◌, ◌≤◌, Bool, true, false, cond, nat_eq, List, [], ◌∷◌, ◌++◌, refl, sym, ap, subst, ◌∙◌, inl, inr, arith}
+use Rattle.std.proofs.Common.{append_assoc}
+use Rattle.std.specs.Prelude.{Option, Some, None, ◌&&◌, ◌==◌, is_some, if◌then◌else◌}
 use Rattle.std.specs.Option.{unwrap_or}
 use Rattle.std.specs.List.{Contains, AllByRecursion}
 use Rattle.std.specs.FinMap as table
 use Rattle.std.proofs.lemmas.Bool.{ltb-false, eqb-false, or_cases, or_parts, or_left, or_right, eq-eqb, both_ways}
 use Rattle.std.proofs.lemmas.Bool.Decides.{eqb_tells}
 use Rattle.std.proofs.lemmas.List.{append_cancel_left}
-use Rattle.std.proofs.lemmas.List.Elements.{All-contains, All-from_recursion, Contains-append_left}
+use Rattle.std.proofs.lemmas.List.Elements.{Contains-append_left}
+use Rattle.std.proofs.lemmas.Option.{IfSome_then}
 use Rattle.cc_views.specs.NatSets.{get-insert_key}
 use Rattle.cc_views.specs.Rows.{ViewMap}
 use Rattle.cc_views.specs.Merge.{IsAtMost}
@@ -25,13 +27,12 @@ use Rattle.cc_messages.specs.declared.command.Command.{Command}
 use Rattle.cc_messages.specs.declared.command.Command.TheVariants as command
 use Rattle.cc_messages.specs.declared.event.Event.{Event}
 use Rattle.cc_messages.specs.declared.event.Event.TheVariants as event
-use Rattle.cc_messages.specs.declared.message.Message.TheVariants as message
 use Rattle.cc_messages.specs.declared.output.Output.TheVariants as output
 use Rattle.cc_ops.specs.declared.pending.Asked.{Asked}
 use Rattle.cc_ops.specs.declared.pending.Pending.{Pending}
 use Rattle.cc_ops.specs.declared.pending.Reply.{Reply}
 use Rattle.cc_ops.specs.Commands.{is_writing, answer_of}
-use Rattle.cc_ops.specs.Ops.{Phase, Idle, Storing, Querying, StoringBack, asked_in, pending, unanswered}
+use Rattle.cc_ops.specs.Ops.{Phase, Storing, Querying, StoringBack, asked_in, pending, unanswered}
 use Rattle.cc_ops.specs.Rounds.{is_of, of_kind}
 use Rattle.cc_ops.specs.RoundLaws.{has_both, kind_both, writers_count}
 use Rattle.cc_ops.specs.Waiting.{has_session, AreApart, writes_by}
@@ -52,21 +53,15 @@ use Rattle.cc_node.proofs.RefusalLaws.{takes_ask}
 use Rattle.cc_laws.specs.Clusters.{Member}
 use Rattle.cc_laws.specs.Regular.{released_events, IsWriteAsk, HasAtLeast, RoundOf, phase_in, HasAsked, IsRoundFor}
 use Rattle.cc_laws.specs.Rounds.{awaits_views, awaits_acks, counts, ends_round, with_peer, peers_along, peers_of}
-use Rattle.cc_laws.proofs.Lists.{some_changed, all_changed}
+use Rattle.cc_laws.proofs.Lists.{all_changed, all_at}
 use Rattle.cc_laws.proofs.Lines.{made_in}
 use Rattle.cc_laws.proofs.Members.{IsSound, lawful_front}
-use Rattle.cc_laws.proofs.Places.{after_parts, at_same, at_before, at_behind, split_order}
+use Rattle.cc_laws.proofs.Places.{at_same, at_before, at_behind, split_order, front_low}
 use Rattle.cc_laws.proofs.Says.{stored_of, Told, TellsOf, ReplySays, each_says, OutputSays, outputs_say}
 use Rattle.cc_laws.proofs.Pending.{HasAck, HasReply, Raised, ReadBefore, IsQueryOf, Pends, core_push, pends}
-use Rattle.cc_laws.proofs.CountedAnswers.{IsAckFrom, IsReplyFrom, counted_ack, counted_reply}
-use Rattle.cc_laws.proofs.Knowing.{me_of, contains_at, contains_front, either_front}
+use Rattle.cc_laws.proofs.CountedAnswers.{IsAckFrom, IsReplyFrom, counted_ack, counted_reply, with_all}
+use Rattle.cc_laws.proofs.Knowing.{me_of, either_front, came_before, came_last}
 use Rattle.cc_laws.proofs.Writing.{asked_both, fresh_line, fresh_number}
-
--- ---- lists
-
-with_all : (P : ℕ → Type 0) (o : Option ℕ) (peers : List ℕ) → IfSome o P → AllByRecursion P peers → AllByRecursion P (with_peer o peers)
-with_all P None peers h k = k
-with_all P (Some x) peers h k = (h, k)
 
 -- two places, one inside the front of the other
 inner_parts : {X : Type 0} (es before later in_before in_later : List X) (last in_last : X) → es ≡ before ++ last ∷ later
@@ -102,14 +97,8 @@ last_inserted ss x r s up =
 
 last_next : (c : Core) (e : Event) (s : ℕ) → decides c e ≡ None → last_request c.sessions s ≤ last_request (next c e).sessions s
 unfolding next
-last_next c event.Enter s d = omega arith
-last_next c event.Leave s d = omega arith
-last_next c (event.Deliver from n m) s d = omega arith
-last_next c (event.Acked peer n) s d = omega arith
 last_next c (event.Ask x r k) s d = last_inserted c.sessions x r s (λ is. subst (λ (y : ℕ). last_request c.sessions y < r) is (request_new c x r k d))
-last_next c (event.Retire q) s d = omega arith
-last_next c (event.Lapse q) s d = omega arith
-last_next c event.Snapshot s d = omega arith
+last_next c _ s d = omega arith
 
 pub last_after : (s : ℕ) (n : Node) (es : List Event) → IsLawful n es → last_request n.core.sessions s ≤ last_request (after n es).core.sessions s
 unfolding step
@@ -131,9 +120,9 @@ ended m s r a has =
     let made = made_in (fresh m.opening) (released_events m) (output.Reply s r a) has in
     let c = (after (fresh m.opening) made.before).core in
     let t : Reply = record { session = s; request = r; answer = a } in
-    let is : Contains (replies c made.event) t = All-contains (OutputSays c made.event) (outputs c made.event) (output.Reply s r a)
-    (All-from_recursion (OutputSays c made.event) (outputs c made.event) (outputs_say c made.event)) made.makes in
-    let says = All-contains (ReplySays c made.event) (replies c made.event) t (All-from_recursion (ReplySays c made.event) (replies c made.event) (each_says c made.event)) is in
+    let is : Contains (replies c made.event) t =
+    all_at (OutputSays c made.event) (outputs c made.event) (output.Reply s r a) (outputs_say c made.event) made.makes in
+    let says = all_at (ReplySays c made.event) (replies c made.event) t (each_says c made.event) is in
     record { front = made.before; last = made.event; later = made.later; parts = made.parts; ends = says.0; tells = says.1 }
 
 abbrev pub IsWriteOp : Core → ℕ → ℕ → Answer → Type 0
@@ -143,18 +132,17 @@ IsWriteOp c s r a =
 
 abbrev pub IsReadOp : Core → ℕ → ℕ → Answer → Type 0
 IsReadOp c s r a =
-    (p : Pending) × (x : Asked) × (seen : ViewMap) × (c.ops.phase ≡ StoringBack p seen) × Contains (p.asked ∷ c.ops.others) x × (x.session ≡ s) × (x.request ≡ r)
-    × (a ≡ answer_of x.command seen)
+    (p : Pending) × (x : Asked) × (seen : ViewMap) × (c.ops.phase ≡ StoringBack p seen)
+    × Contains (p.asked ∷ c.ops.others) x × (x.session ≡ s) × (x.request ≡ r) × (a ≡ answer_of x.command seen)
 
 pub either_op : (c : Core) (s r : ℕ) (a : Answer) (phase : Phase) → c.ops.phase ≡ phase
     → Told c.ops.view c.ops.others phase (record { session = s; request = r; answer = a })
     → IsWriteOp c s r a ⊎ IsReadOp c s r a
-either_op c s r a Idle is t = absurd t
 either_op c s r a (Storing p) is t =
     inl (p, t.0, is, t.1, ap (λ (k : Reply). k.session) (sym t.2), ap (λ (k : Reply). k.request) (sym t.2), ap (λ (k : Reply). k.answer) t.2)
-either_op c s r a (Querying p) is t = absurd t
 either_op c s r a (StoringBack p seen) is t =
     inr (p, t.0, seen, is, t.1, ap (λ (k : Reply). k.session) (sym t.2), ap (λ (k : Reply). k.request) (sym t.2), ap (λ (k : Reply). k.answer) t.2)
+either_op c s r a _ is t = absurd t
 
 -- what pends where the phase is known
 pub pending_as : (c : Core) (p : Pending) (phase : Phase) → c.ops.phase ≡ phase → asked_in phase ≡ p.asked ∷ [] → pending c.ops ≡ p.asked ∷ c.ops.others
@@ -168,9 +156,10 @@ op_pends c p phase x is first has = subst (λ (l : List Asked). Contains l x) (s
 each_alike : (k : Bool) (first x : Asked) (others : List Asked) → is_writing first.command ≡ k → AllByRecursion (λ a. is_writing a.command ≡ k) others
     → Contains (first ∷ others) x → is_writing x.command ≡ k
 each_alike k first x others is all has =
-    All-contains (λ (a : Asked). is_writing a.command ≡ k) (first ∷ others) x (All-from_recursion (λ (a : Asked). is_writing a.command ≡ k) (first ∷ others) (is, all)) has
+    all_at (λ (a : Asked). is_writing a.command ≡ k) (first ∷ others) x (is, all) has
 
-pub op_writes : (c : Core) → IsLawfulCore c → (p : Pending) (x : Asked) → c.ops.phase ≡ Storing p → Contains (p.asked ∷ c.ops.others) x → is_writing x.command ≡ true
+pub op_writes : (c : Core) → IsLawfulCore c → (p : Pending) (x : Asked) → c.ops.phase ≡ Storing p → Contains (p.asked ∷ c.ops.others) x
+    → is_writing x.command ≡ true
 op_writes c lawful p x is has =
     each_alike true p.asked x c.ops.others (subst (IsPhaseOf c.links c.sessions) is lawful.phase).1
     (subst (λ (f : Phase). IsBeside f c.ops.others) is lawful.line.round.alike) has
@@ -185,31 +174,19 @@ op_reads c lawful p seen x is has =
 pub asked_last : (c : Core) → IsLawfulCore c → (s r : ℕ) → HasAsked (pending c.ops) s r → last_request c.sessions s ≡ r
 asked_last c lawful s r has =
     let x = has.0 in
-    let each = All-from_recursion (IsLastOf c.sessions) (unanswered c.ops) (all_last c.links c.sessions c.ops lawful.phase lawful.line) in
+    let each = all_last c.links c.sessions c.ops lawful.phase lawful.line in
     let last : table.get c.sessions x.session ≡ Some x.request =
-    All-contains (IsLastOf c.sessions) (unanswered c.ops) x each (Contains-append_left (pending c.ops) c.ops.line x has.1) in
+    all_at (IsLastOf c.sessions) (unanswered c.ops) x each (Contains-append_left (pending c.ops) c.ops.line x has.1) in
     ap (λ (y : ℕ). last_request c.sessions y) (sym has.2) ∙ ap (λ o. unwrap_or o 0) last ∙ has.3
 
 -- which answers a reading command has, and a writing one
 pub reads_view : (k : Command) (v : ViewMap) → is_writing k ≡ false → answer.Stored ≡ answer_of k v → ⊥
 reads_view (command.Store text) v reads is = cc
-reads_view command.Collect v reads is = cc
-reads_view (command.WriteMax x) v reads is = cc
-reads_view command.ReadMax v reads is = cc
-reads_view command.SetFlag v reads is = cc
-reads_view command.ReadFlag v reads is = cc
-reads_view (command.AddMember x) v reads is = cc
-reads_view command.ReadSet v reads is = cc
+reads_view _ v reads is = cc
 
 pub writes_stored : (k : Command) (v : ViewMap) → is_writing k ≡ true → answer_of k v ≡ answer.Stored
-writes_stored (command.Store text) v writes = refl
-writes_stored command.Collect v writes = cc
-writes_stored (command.WriteMax x) v writes = refl
-writes_stored command.ReadMax v writes = cc
-writes_stored command.SetFlag v writes = refl
-writes_stored command.ReadFlag v writes = cc
-writes_stored (command.AddMember x) v writes = refl
-writes_stored command.ReadSet v writes = cc
+writes_stored (command.Store text) v writes = cc
+writes_stored _ v writes = cc
 
 -- ---- rounds of one member
 
@@ -261,13 +238,8 @@ module _ (q : ℕ) (m : Member) (sound : IsSound q m) where
       holds = f _ r.holds;
     }
 
-    -- what happened before the last event, and it, is among all
-    there : (e : Event) → Contains front e → Contains m.events e
-    there e has =
-        contains_front m.released m.events e (subst (λ (l : List Event). Contains l e) (sym parts) (Contains-append_left front (last ∷ later) e has))
-
-    last_there : (e : Event) → last ≡ e → Contains m.events e
-    last_there e is = contains_front m.released m.events e (subst (Contains (released_events m)) is (contains_at (released_events m) front later last parts))
+    abbrev peers : List ℕ
+    peers = peers_along start [] front
 
     is_me : c.me ≡ q
     is_me = me_of q m sound front
@@ -275,28 +247,45 @@ module _ (q : ℕ) (m : Member) (sound : IsSound q m) where
     abbrev round : ends_round c last ≡ true → RoundOf m
     round is_end = record { before = front; last = last; later = later; parts = parts; ends = is_end }
 
-    stored_round : (s r : ℕ) (Q R : Core → Type 0) → ((d : Core) → Q d → R d) → awaits_acks c.ops.phase ≡ true → (is_end : ends_round c last ≡ true)
-        → IsRoundFor m (round is_end) s r
-        → Raised start front c.ops.tag Q → AllByRecursion (HasAck front c.me c.ops.tag) (peers_along start [] front) → StoredRound q m s r R
-    stored_round s r Q R f is is_end asked raised acks = record {
+    -- what pends, where the phase is known
+    pends_as : (phase : Phase) → c.ops.phase ≡ phase → Pends start front peers c.me c.ops.number c.ops.view c.ops.tag c.ops.others phase
+    pends_as phase is = subst (Pends start front peers c.me c.ops.number c.ops.view c.ops.tag c.ops.others) is (pends m.opening front)
+
+    stored_round : (s r : ℕ) (Q : Core → Type 0) → awaits_acks c.ops.phase ≡ true → (is_end : ends_round c last ≡ true) → IsRoundFor m (round is_end) s r
+        → Raised start front c.ops.tag Q → AllByRecursion (HasAck front c.me c.ops.tag) peers → StoredRound q m s r Q
+    stored_round s r Q is is_end asked raised acks = record {
       round = round is_end;
       storing = is;
       asked = asked;
       tag = c.ops.tag;
-      raised = raised_all c.ops.tag Q R f raised;
-      acks = with_all (HasAck m.events q c.ops.tag) (counts c last) (peers_along start [] front)
-          (some_changed (IsAckFrom c last) (HasAck m.events q c.ops.tag)
-          (λ r k. (k.0, last_there _ (k.1 ∙ ap (λ (me : ℕ). event.Deliver r k.0 (message.StoreAck c.ops.tag me)) is_me))) (counts c last) (counted_ack c last is))
-          (all_changed (HasAck front c.me c.ops.tag) (HasAck m.events q c.ops.tag)
-          (λ r k. (k.0, subst (λ (me : ℕ). Contains m.events (event.Deliver r k.0 (message.StoreAck c.ops.tag me))) is_me (there _ k.1))) (peers_along start [] front) acks);
+      raised = raised_all c.ops.tag Q Q (λ d k. k) raised;
+      acks = subst (λ (me : ℕ). AllByRecursion (HasAck m.events me c.ops.tag) (with_peer (counts c last) peers)) is_me
+          (with_all (HasAck m.events c.me c.ops.tag) (counts c last) peers
+          (IfSome_then (counts c last) {P = IsAckFrom c last} {Q = HasAck m.events c.me c.ops.tag} (counted_ack c last is)
+          (λ r k. (k.0, came_last m front later last _ parts k.1)))
+          (all_changed (HasAck front c.me c.ops.tag) (HasAck m.events c.me c.ops.tag)
+          (λ r k. (k.0, came_before m front later last _ parts k.1)) peers acks));
     }
 
-    read_round : (s r : ℕ) (seen : ViewMap) (p : Pending) → c.ops.phase ≡ Querying p → (is_end : ends_round c last ≡ true)
-        → HasAsked (pending c.ops) s r → (next c last).ops.view ≡ seen → Raised start front c.ops.tag (IsQueryOf (p.asked ∷ c.ops.others))
-        → AllByRecursion (HasReply front c.me c.ops.tag c.ops.view) (peers_along start [] front) → ReadRound q m s r seen
-    read_round s r seen p phase is_end asked saw raised replies =
+    pub write_round : (s r : ℕ) (p : Pending) → HasAsked (pending c.ops) s r → c.ops.phase ≡ Storing p → ends_round c last ≡ true
+        → StoredRound q m s r (λ d. HasAtLeast (stored_of d.ops) q c.ops.number)
+    write_round s r p asked is is_end =
+        let h = pends_as (Storing p) is in
+        subst (λ (me : ℕ). StoredRound q m s r (λ d. HasAtLeast (stored_of d.ops) me c.ops.number)) is_me
+        (stored_round s r (λ d. HasAtLeast (stored_of d.ops) c.me c.ops.number) (ap awaits_acks is) is_end asked h.0 h.1)
+
+    pub back_round : (s r : ℕ) (p : Pending) (seen : ViewMap) → HasAsked (pending c.ops) s r → c.ops.phase ≡ StoringBack p seen → ends_round c last ≡ true
+        → StoredRound q m s r (λ d. stored_of d.ops ≡ seen)
+    back_round s r p seen asked is is_end =
+        let h = pends_as (StoringBack p seen) is in
+        stored_round s r (λ d. stored_of d.ops ≡ seen) (ap awaits_acks is) is_end asked h.0 h.1
+
+    pub query_round : (s r : ℕ) (seen : ViewMap) (p : Pending) → HasAsked (pending c.ops) s r → c.ops.phase ≡ Querying p → ends_round c last ≡ true
+        → (next c last).ops.view ≡ seen → ReadRound q m s r seen
+    query_round s r seen p asked phase is_end saw =
+        let h = pends_as (Querying p) phase in
         let is : awaits_views c.ops.phase ≡ true = ap awaits_views phase in
-        let pends : pending c.ops ≡ p.asked ∷ c.ops.others = pending_as c p (Querying p) phase refl in
+        let as_pending : pending c.ops ≡ p.asked ∷ c.ops.others = pending_as c p (Querying p) phase refl in
         let widest : IsAtMost c.ops.view seen = subst (IsAtMost c.ops.view) saw (view_grows c last) in
         record {
           round = round is_end;
@@ -304,47 +293,14 @@ module _ (q : ℕ) (m : Member) (sound : IsSound q m) where
           asked = asked;
           tag = c.ops.tag;
           raised = raised_all c.ops.tag (IsQueryOf (p.asked ∷ c.ops.others)) (IsQueryFor s r)
-              (λ d k. (k.0, k.1, subst (λ (l : List Asked). HasAsked l s r) (pends ∙ sym k.2) asked)) raised;
-          replies = with_all (HasReply m.events q c.ops.tag seen) (counts c last) (peers_along start [] front)
-              (some_changed (IsReplyFrom c last) (HasReply m.events q c.ops.tag seen)
-              (λ x k. (
-                k.0,
-                k.1,
-                last_there _ (k.2 ∙ ap (λ (me : ℕ). event.Deliver x k.0 (message.QueryReply k.1 c.ops.tag me)) is_me),
-                subst (IsAtMost k.1) saw k.3,
-              )) (counts c last) (counted_reply c last is))
-              (all_changed (HasReply front c.me c.ops.tag c.ops.view) (HasReply m.events q c.ops.tag seen)
-              (λ x k. (
-                k.0,
-                k.1,
-                subst (λ (me : ℕ). Contains m.events (event.Deliver x k.0 (message.QueryReply k.1 c.ops.tag me))) is_me (there _ k.2),
-                at_most_trans k.1 c.ops.view seen k.3 widest,
-              )) (peers_along start [] front) replies);
+              (λ d k. (k.0, k.1, subst (λ (l : List Asked). HasAsked l s r) (as_pending ∙ sym k.2) asked)) h.0;
+          replies = subst (λ (me : ℕ). AllByRecursion (HasReply m.events me c.ops.tag seen) (with_peer (counts c last) peers)) is_me
+              (with_all (HasReply m.events c.me c.ops.tag seen) (counts c last) peers
+              (IfSome_then (counts c last) {P = IsReplyFrom c last} {Q = HasReply m.events c.me c.ops.tag seen} (counted_reply c last is)
+              (λ x k. (k.0, k.1, came_last m front later last _ parts k.2, subst (IsAtMost k.1) saw k.3)))
+              (all_changed (HasReply front c.me c.ops.tag c.ops.view) (HasReply m.events c.me c.ops.tag seen)
+              (λ x k. (k.0, k.1, came_before m front later last _ parts k.2, at_most_trans k.1 c.ops.view seen k.3 widest)) peers h.1));
         }
-
-    -- what pends, where the phase is known
-    pends_as : (phase : Phase) → c.ops.phase ≡ phase
-        → Pends start front (peers_along start [] front) c.me c.ops.number c.ops.view c.ops.tag c.ops.others phase
-    pends_as phase is = subst (Pends start front (peers_along start [] front) c.me c.ops.number c.ops.view c.ops.tag c.ops.others) is (pends m.opening front)
-
-    pub write_round : (s r : ℕ) (p : Pending) → HasAsked (pending c.ops) s r → c.ops.phase ≡ Storing p → ends_round c last ≡ true
-        → StoredRound q m s r (λ d. HasAtLeast (stored_of d.ops) q c.ops.number)
-    write_round s r p asked is is_end =
-        let h = pends_as (Storing p) is in
-        stored_round s r (λ d. HasAtLeast (stored_of d.ops) c.me c.ops.number) (λ d. HasAtLeast (stored_of d.ops) q c.ops.number)
-        (λ d k. subst (λ (me : ℕ). HasAtLeast (stored_of d.ops) me c.ops.number) is_me k) (ap awaits_acks is) is_end asked h.0 h.1
-
-    pub back_round : (s r : ℕ) (p : Pending) (seen : ViewMap) → HasAsked (pending c.ops) s r → c.ops.phase ≡ StoringBack p seen → ends_round c last ≡ true
-        → StoredRound q m s r (λ d. stored_of d.ops ≡ seen)
-    back_round s r p seen asked is is_end =
-        let h = pends_as (StoringBack p seen) is in
-        stored_round s r (λ d. stored_of d.ops ≡ seen) (λ d. stored_of d.ops ≡ seen) (λ d k. k) (ap awaits_acks is) is_end asked h.0 h.1
-
-    pub query_round : (s r : ℕ) (seen : ViewMap) (p : Pending) → HasAsked (pending c.ops) s r → c.ops.phase ≡ Querying p → ends_round c last ≡ true
-        → (next c last).ops.view ≡ seen → ReadRound q m s r seen
-    query_round s r seen p asked is is_end saw =
-        let h = pends_as (Querying p) is in
-        read_round s r seen p is is_end asked saw h.0 h.1
 
     read_before : (p : Pending) (seen : ViewMap) → c.ops.phase ≡ StoringBack p seen → ReadBefore start front (p.asked ∷ c.ops.others) seen
     read_before p seen is = (pends_as (StoringBack p seen) is).2
@@ -387,8 +343,8 @@ module _ (q : ℕ) (m : Member) (sound : IsSound q m) where
 
   asked_none : (s r : ℕ) (xs ys : List Asked) → AreApart (xs ++ ys) → HasAsked xs s r → has_session s ys ≡ false
   asked_none s r xs ys apart has =
-      let each = All-from_recursion (λ (x : Asked). has_session x.session ys ≡ false) xs (none_behind xs ys apart) in
-      subst (λ (y : ℕ). has_session y ys ≡ false) has.2 (All-contains (λ (x : Asked). has_session x.session ys ≡ false) xs has.0 each has.1)
+      subst (λ (y : ℕ). has_session y ys ≡ false) has.2
+      (all_at (λ (x : Asked). has_session x.session ys ≡ false) xs has.0 (none_behind xs ys apart) has.1)
 
   pub number_reached : (s r k : ℕ) (a : Answer) (op : Ended m s r a) → HasAsked (pending (after start op.front).core.ops) s r
       → IsWriteAsk (released_events m) k s r → k ≤ (after start op.front).core.ops.number
@@ -404,16 +360,10 @@ module _ (q : ℕ) (m : Member) (sound : IsSound q m) where
         | at_behind more outside ↦
             let lawful_w = (lawful_parts start w.before (e ∷ w.later) (subst (IsLawful start) w.parts lawful)) in
             let new : last_request (after start w.before).core.sessions s < r = request_new (after start w.before).core s r w.command lawful_w.1.0 in
-            let old = later_last op.front (op.last ∷ more) w.before outside lawful_w.0 in
+            let old = front_low (λ n. last_request n.core.sessions s) (last_after s) start w.before op.front (op.last ∷ more) lawful_w.0 outside in
             absurd (omega (arith, new, old, last_is))
       ]
     where
-      later_last : (xs ys zs : List Event) → zs ≡ xs ++ ys → IsLawful start zs
-          → last_request (after start xs).core.sessions s ≤ last_request (after start zs).core.sessions s
-      later_last xs ys zs parts h =
-          let more = (lawful_parts start xs ys (subst (IsLawful start) parts h)).1 in
-          subst (λ (n : Node). last_request (after start xs).core.sessions s ≤ last_request n.core.sessions s) (sym (after_parts start zs xs ys parts)) (last_after s (after start xs) ys more)
-
       reached : (more : List Event) → op.front ≡ w.before ++ event.Ask s r w.command ∷ more → IsLawfulNode (after start op.front)
           → k ≤ (after start op.front).core.ops.number
       reached more inside node =
@@ -427,7 +377,8 @@ module _ (q : ℕ) (m : Member) (sound : IsSound q m) where
           let later = of_kind true (asked_along more) in
           let begins : of_kind true (asked_along front) ≡ writers ++ waiting =
           ap (λ (l : List Asked). of_kind true (l ++ asked_along front)) (sym (fresh_line m.opening))
-          ∙ begin_in_order true start front (fresh_lawful m.opening sound.opening) (lawful_before front op.later op.last op.parts) ∙ kind_both true begun ops.line in
+          ∙ begin_in_order true start front (fresh_lawful m.opening sound.opening) (lawful_before front op.later op.last op.parts)
+          ∙ kind_both true begun ops.line in
           let asks : of_kind true (asked_along front) ≡ of_kind true first ++ x ∷ later =
           ap (of_kind true) (ap asked_along inside ∙ asked_both w.before (event.Ask s r w.command ∷ more)) ∙ kind_both true first (x ∷ asked_along more)
           ∙ ap (λ (b : Bool). of_kind true first ++ (if b then x ∷ later else later)) w.writes in

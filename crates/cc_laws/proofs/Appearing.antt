@@ -4,14 +4,13 @@
 use Rattle.std.proofs.Common.{◌≡◌, ℕ, zero, suc, List, [], ◌∷◌, take, refl, sym, ap, ◌∙◌}
 use Rattle.std.specs.List.{AllByRecursion}
 use Rattle.std.specs.FinMap as table
-use Rattle.std.proofs.lemmas.List.Elements.{All-contains, All-from_recursion}
 use Rattle.cc_views.specs.Rows.{ViewMap}
 use Rattle.cc_messages.specs.declared.event.Event.{Event}
 use Rattle.cc_node.specs.Node.{Node, after, line}
 use Rattle.cc_node.specs.Opening.{Opening, fresh}
 use Rattle.cc_laws.specs.Shown.{in_output}
 use Rattle.cc_laws.specs.Histories.{view_at, IsViewOf, Appears, shown, put}
-use Rattle.cc_laws.proofs.Lists.{at_some}
+use Rattle.cc_laws.proofs.Lists.{at_some, all_at}
 use Rattle.cc_laws.proofs.ShownParts.{OfOutput}
 use Rattle.cc_laws.proofs.Showing.{ShowsOnly, all_shown, fresh_shows, of_shown}
 
@@ -31,7 +30,8 @@ unfolding fresh
 fresh_view o = refl
 
 module _ (o : Opening) (es : List Event) where
-  fresh_points : (k : ℕ) → ShowsOnly (IsViewOf (fresh o) es) (after (fresh o) (take k es)) × AllByRecursion (OfOutput (IsViewOf (fresh o) es)) (line (fresh o) (take k es))
+  fresh_points : (k : ℕ)
+      → ShowsOnly (IsViewOf (fresh o) es) (after (fresh o) (take k es)) × AllByRecursion (OfOutput (IsViewOf (fresh o) es)) (line (fresh o) (take k es))
   fresh_points k =
       all_shown (IsViewOf (fresh o) es) (fresh o) (take k es) (fresh_shows (IsViewOf (fresh o) es) o (0, sym (fresh_view o)))
       (λ j. view_of_front (fresh o) es k (view_at (fresh o) (take k es) j) (j, refl))
@@ -44,4 +44,4 @@ module _ (o : Opening) (es : List Event) where
   views_appear v (shown k is) = of_shown (IsViewOf (fresh o) es) (after (fresh o) (take k es)) v (fresh_points k).0 is
   views_appear v (put output has is) =
       at_some (IsViewOf (fresh o) es) (in_output output) v is
-      (All-contains (OfOutput (IsViewOf (fresh o) es)) (line (fresh o) es) output (All-from_recursion (OfOutput (IsViewOf (fresh o) es)) (line (fresh o) es) fresh_puts) has)
+      (all_at (OfOutput (IsViewOf (fresh o) es)) (line (fresh o) es) output fresh_puts has)

@@ -1,26 +1,32 @@
 -- The answer that is counted with an event: an acknowledgement or a reply of its sender, to the round that pends.
 --     IsAckFrom, counted_ack        while acknowledgements are awaited
 --     IsReplyFrom, counted_reply    while views are;  its view is merged
-use Rattle.std.proofs.Common.{◌≡◌, ℕ, Bool, true, false, refl}
-use Rattle.std.specs.Prelude.{◌&&◌, IfSome, if◌then◌else◌}
+use Rattle.std.proofs.Common.{◌≡◌, ℕ, Bool, true, false, refl, List}
+use Rattle.std.specs.Prelude.{◌&&◌, IfSome, if◌then◌else◌, Option, Some, None}
 use Rattle.std.specs.Bool.{then_some}
+use Rattle.std.specs.List.{AllByRecursion}
 use Rattle.cc_views.specs.Rows.{ViewMap}
-use Rattle.cc_views.specs.Merge.{merge, IsAtMost}
+use Rattle.cc_views.specs.Merge.{IsAtMost}
 use Rattle.cc_views.specs.MergeLaws.{merged_at_most}
 use Rattle.cc_messages.specs.declared.event.Event.{Event}
 use Rattle.cc_messages.specs.declared.event.Event.TheVariants as event
 use Rattle.cc_messages.specs.declared.message.Message.{Message}
 use Rattle.cc_messages.specs.declared.message.Message.TheVariants as message
-use Rattle.cc_ops.specs.Ops.{Ops, Phase, Idle, Storing, Querying, StoringBack, is_last, is_own, round_of, counted, merged, next_round, after_reply}
+use Rattle.cc_ops.specs.Ops.{Ops, Phase, Storing, Querying, StoringBack, is_own, after_reply}
 use Rattle.cc_node.specs.Core.{Core, quorum, next}
-use Rattle.cc_laws.specs.Rounds.{awaits_views, awaits_acks, counts}
+use Rattle.cc_laws.specs.Rounds.{awaits_views, awaits_acks, counts, with_peer}
 use Rattle.cc_laws.proofs.Pending.{ack_is, reply_is}
+use Rattle.cc_laws.proofs.Becoming.{of_reply}
 
 abbrev pub IsAckFrom : Core → Event → ℕ → Type 0
 IsAckFrom c e r = (n : ℕ) × (e ≡ event.Deliver r n (message.StoreAck c.ops.tag c.me))
 
 abbrev pub IsReplyFrom : Core → Event → ℕ → Type 0
 IsReplyFrom c e r = (n : ℕ) × (v : ViewMap) × (e ≡ event.Deliver r n (message.QueryReply v c.ops.tag c.me)) × IsAtMost v (next c e).ops.view
+
+pub with_all : (P : ℕ → Type 0) (o : Option ℕ) (peers : List ℕ) → IfSome o P → AllByRecursion P peers → AllByRecursion P (with_peer o peers)
+with_all P None peers h k = k
+with_all P (Some x) peers h k = (h, k)
 
 none_there : (b : Bool) (from : ℕ) (P : ℕ → Type 0) (a : Bool) → a ≡ false → IfSome (then_some (b && a) from) P
 none_there true from P true is = cc
@@ -32,52 +38,30 @@ one_there true true from P f = f refl
 one_there true false from P f = tt
 one_there false a from P f = tt
 
-no_views : (phase : Phase) → awaits_acks phase ≡ true → awaits_views phase ≡ false
-no_views Idle is = cc
+pub no_views : (phase : Phase) → awaits_acks phase ≡ true → awaits_views phase ≡ false
 no_views (Storing p) is = refl
-no_views (Querying p) is = cc
 no_views (StoringBack p seen) is = refl
+no_views _ is = cc
 
 no_acks : (phase : Phase) → awaits_views phase ≡ true → awaits_acks phase ≡ false
-no_acks Idle is = cc
-no_acks (Storing p) is = cc
 no_acks (Querying p) is = refl
-no_acks (StoringBack p seen) is = cc
+no_acks _ is = cc
 
 message_ack : (c : Core) (from n : ℕ) (m : Message) → awaits_acks c.ops.phase ≡ true
     → IfSome (counts c (event.Deliver from n m)) (IsAckFrom c (event.Deliver from n m))
-message_ack c from n (message.Enter q) is = tt
-message_ack c from n (message.EnterEcho d v j q) is = tt
-message_ack c from n (message.Join q) is = tt
-message_ack c from n (message.JoinEcho q) is = tt
-message_ack c from n (message.Leave q) is = tt
-message_ack c from n (message.LeaveEcho q) is = tt
-message_ack c from n (message.Query tag q) is = tt
 message_ack c from n (message.QueryReply v tag q) is = none_there (is_own c.me tag q c.ops) from _ (awaits_views c.ops.phase) (no_views c.ops.phase is)
-message_ack c from n (message.Store v tag q) is = tt
-message_ack c from n (message.StoreAck tag q) is = one_there (is_own c.me tag q c.ops) (awaits_acks c.ops.phase) from _ (λ own. (n, ack_is from n c.me tag q c.ops own))
-message_ack c from n (message.Snapshot d v) is = tt
+message_ack c from n (message.StoreAck tag q) is =
+    one_there (is_own c.me tag q c.ops) (awaits_acks c.ops.phase) from _ (λ own. (n, ack_is from n c.me tag q c.ops own))
+message_ack c from n _ is = tt
 
 pub counted_ack : (c : Core) (e : Event) → awaits_acks c.ops.phase ≡ true → IfSome (counts c e) (IsAckFrom c e)
-counted_ack c event.Enter is = tt
-counted_ack c event.Leave is = tt
 counted_ack c (event.Deliver from n m) is = message_ack c from n m is
-counted_ack c (event.Acked peer n) is = tt
-counted_ack c (event.Ask s r command) is = tt
-counted_ack c (event.Retire q) is = tt
-counted_ack c (event.Lapse q) is = tt
-counted_ack c event.Snapshot is = tt
+counted_ack c _ is = tt
 
 -- a reply that is counted is merged
 reply_merged : (quorum : ℕ) (v : ViewMap) (phase : Phase) (s : Ops) → awaits_views phase ≡ true → IsAtMost v (after_reply quorum v phase s).view
-reply_merged quorum v Idle s is = cc
-reply_merged quorum v (Storing p) s is = cc
-reply_merged quorum v (Querying p) s is =
-    elim (is_last p) as (λ b. IsAtMost v (if b then next_round (StoringBack (round_of quorum p.asked) (merge s.view v)) (merged v s) else record (merged v s) { phase = Querying (counted p) }).view) [
-      | true ↦ merged_at_most s.view v
-      | false ↦ merged_at_most s.view v
-    ]
-reply_merged quorum v (StoringBack p seen) s is = cc
+reply_merged quorum v (Querying p) s is = of_reply (λ t. IsAtMost v t.view) quorum v p s (merged_at_most s.view v) (merged_at_most s.view v)
+reply_merged quorum v _ s is = cc
 
 own_merged : (b : Bool) (quorum : ℕ) (v : ViewMap) (s : Ops) → b ≡ true → awaits_views s.phase ≡ true
     → IsAtMost v (if b then after_reply quorum v s.phase s else s).view
@@ -87,26 +71,12 @@ own_merged false quorum v s own is = cc
 message_reply : (c : Core) (from n : ℕ) (m : Message) → awaits_views c.ops.phase ≡ true
     → IfSome (counts c (event.Deliver from n m)) (IsReplyFrom c (event.Deliver from n m))
 unfolding next
-message_reply c from n (message.Enter q) is = tt
-message_reply c from n (message.EnterEcho d v j q) is = tt
-message_reply c from n (message.Join q) is = tt
-message_reply c from n (message.JoinEcho q) is = tt
-message_reply c from n (message.Leave q) is = tt
-message_reply c from n (message.LeaveEcho q) is = tt
-message_reply c from n (message.Query tag q) is = tt
 message_reply c from n (message.QueryReply v tag q) is =
     one_there (is_own c.me tag q c.ops) (awaits_views c.ops.phase) from _
     (λ own. (n, v, reply_is from n c.me tag q v c.ops own, own_merged (is_own c.me tag q c.ops) (quorum c) v c.ops own is))
-message_reply c from n (message.Store v tag q) is = tt
 message_reply c from n (message.StoreAck tag q) is = none_there (is_own c.me tag q c.ops) from _ (awaits_acks c.ops.phase) (no_acks c.ops.phase is)
-message_reply c from n (message.Snapshot d v) is = tt
+message_reply c from n _ is = tt
 
 pub counted_reply : (c : Core) (e : Event) → awaits_views c.ops.phase ≡ true → IfSome (counts c e) (IsReplyFrom c e)
-counted_reply c event.Enter is = tt
-counted_reply c event.Leave is = tt
 counted_reply c (event.Deliver from n m) is = message_reply c from n m is
-counted_reply c (event.Acked peer n) is = tt
-counted_reply c (event.Ask s r command) is = tt
-counted_reply c (event.Retire q) is = tt
-counted_reply c (event.Lapse q) is = tt
-counted_reply c event.Snapshot is = tt
+counted_reply c _ is = tt

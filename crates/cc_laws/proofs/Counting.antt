@@ -7,7 +7,8 @@
 use Rattle.std.proofs.Common.{◌≡◌, ◌≢◌, ◌⊎◌, inl, inr, ℕ, ◌+◌, Bool, true, false, List, ◌∷◌, ◌++◌, length, refl, sym, ap, subst, ◌∙◌, arith, []}
 use Rattle.std.specs.Prelude.{◌↔◌, ◌&&◌, ◌||◌, not, ◌==◌, Option, Some, None, is_some, if◌then◌else◌}
 use Rattle.std.specs.Bool.{then_some}
-use Rattle.std.proofs.lemmas.Bool.{cond_both, eqb-true}
+use Rattle.std.proofs.lemmas.Bool.{eqb-true, false≢true, both_ways}
+use Rattle.std.proofs.lemmas.Option.{none-some}
 use Rattle.cc_views.specs.Rows.{ViewMap}
 use Rattle.cc_views.specs.Merge.{merge}
 use Rattle.cc_messages.specs.declared.event.Event.{Event}
@@ -16,8 +17,8 @@ use Rattle.cc_messages.specs.declared.message.Message.{Message}
 use Rattle.cc_messages.specs.declared.message.Message.TheVariants as message
 use Rattle.cc_ops.specs.declared.pending.Asked.{Asked}
 use Rattle.cc_ops.specs.declared.pending.Pending.{Pending}
-use Rattle.cc_ops.specs.Commands.{is_writing}
-use Rattle.cc_ops.specs.Ops.{Ops, Phase, Idle, Storing, Querying, StoringBack, is_idle, is_last, is_own, round_of, counted, merged, next_round, with_written, with_own_row, begin_round, with_begun, after_reply, after_last, after_ack, ends_query, ends_store, again, asked_in}
+use Rattle.cc_ops.specs.Ops.{Ops, Phase, Idle, Storing, Querying, StoringBack, is_idle, is_last, is_own, round_of, counted, merged, next_round, begin_round}
+use Rattle.cc_ops.specs.Ops.{with_begun, after_reply, after_last, after_ack, ends_query, ends_store, again, asked_in}
 use Rattle.cc_ops.specs.OwnLaws.{anew_keeps}
 use Rattle.cc_ops.specs.Rounds.{first_round, line_behind}
 use Rattle.cc_ops.specs.Waiting.{writes_by}
@@ -27,6 +28,8 @@ use Rattle.cc_node.specs.Node.{Node, step, after}
 use Rattle.cc_node.specs.Opening.{Opening, fresh}
 use Rattle.cc_laws.specs.Progress.{round_under, round_in, answers_in, need_in, GainsAnswer, BeginsAnew, EndsRound, IsFrom}
 use Rattle.cc_laws.specs.Rounds.{awaits_views, awaits_acks, counts, ends_round, begins_anew, with_peer, peers_next, peers_along, Round, peers_of}
+use Rattle.cc_laws.proofs.Becoming.{of_round}
+use Rattle.cc_laws.proofs.CountedAnswers.{no_views}
 
 -- from one state to the next, with what is counted, whether the round ends, and whether its phase begins anew
 pub data Outcome (e : Event) (s t : Ops) (peer : Option ℕ) (over restarts : Bool) : Type 0 where
@@ -37,21 +40,14 @@ pub data Outcome (e : Event) (s t : Ops) (peer : Option ℕ) (over restarts : Bo
       → answers_in t.phase ≡ 0 → Outcome e s t peer over restarts
   starts_over : peer ≡ None → over ≡ false → restarts ≡ true → BeginsAnew s t → Outcome e s t peer over restarts
 
-false_true : false ≡ true → ⊥
-false_true e = cc
-
 -- ---- an operation that begins
 
 round_answers : (me quorum : ℕ) (asks : List Asked) (s : Ops) → answers_in (begin_round me quorum asks s).phase ≡ 0
 round_answers me quorum [] s = refl
-round_answers me quorum (a ∷ others) s =
-    cond_both (is_writing a.command) (next_round (Storing (round_of quorum a)) (with_own_row me (with_written (a ∷ others) s))) (next_round (Querying (round_of quorum a)) s)
-    (λ (t : Ops). answers_in t.phase ≡ 0) (λ _. refl) (λ _. refl)
+round_answers me quorum (a ∷ others) s = of_round (λ t. answers_in t.phase ≡ 0) me quorum a others s (λ _. refl) (λ _. refl)
 
 begun_round : (me quorum : ℕ) (a : Asked) (others : List Asked) (s : Ops) → round_in (begin_round me quorum (a ∷ others) s) ≡ Some (s.tag + 1)
-begun_round me quorum a others s =
-    cond_both (is_writing a.command) (next_round (Storing (round_of quorum a)) (with_own_row me (with_written (a ∷ others) s))) (next_round (Querying (round_of quorum a)) s)
-    (λ (t : Ops). round_in t ≡ Some (s.tag + 1)) (λ _. refl) (λ _. refl)
+begun_round me quorum a others s = of_round (λ t. round_in t ≡ Some (s.tag + 1)) me quorum a others s (λ _. refl) (λ _. refl)
 
 abbrev left_behind : Ops → Ops
 left_behind s = record s { line = line_behind s.share s.line }
@@ -73,28 +69,17 @@ last_over me quorum s = round_over me quorum (first_round s.share s.line) (left_
 
 one_asked : (phase : Phase) (others : List Asked) → asked_in phase ++ others ≡ [] → awaits_acks phase ≡ true → ⊥
 one_asked Idle others none is = cc
-one_asked (Storing p) others none is = cc
-one_asked (Querying p) others none is = cc
-one_asked (StoringBack p seen) others none is = cc
-
-no_view_awaited : (phase : Phase) → awaits_acks phase ≡ true → awaits_views phase ≡ true → ⊥
-no_view_awaited Idle is views = cc
-no_view_awaited (Storing p) is views = cc
-no_view_awaited (Querying p) is views = cc
-no_view_awaited (StoringBack p seen) is views = cc
+one_asked _ others none is = cc
 
 round_for_good : (me quorum : ℕ) (asks : List Asked) (s t : Ops) → s.phase ≡ t.phase → s.number ≡ t.number → awaits_acks s.phase ≡ true
     → BeginsAnew s (begin_round me quorum asks t) → ⊥
 round_for_good me quorum [] s t phase number is h = one_asked s.phase s.others (sym h.asked) is
 round_for_good me quorum (a ∷ others) s t phase number is h =
-    let W = next_round (Storing (round_of quorum a)) (with_own_row me (with_written (a ∷ others) t)) in
-    let R = next_round (Querying (round_of quorum a)) t in
-    elim (is_writing a.command) as (λ b. is_writing a.command ≡ b → BeginsAnew s (record (if b then W else R) { others = others }) → ⊥) [
-      | true ↦ λ writes k.
-          let count : writes_by (a ∷ others) ≡ 1 + writes_by others = ap (λ (b : Bool). (if b then 1 else 0) + writes_by others) writes in
-          omega (arith, k.number, number, count)
-      | false ↦ λ _ k. no_view_awaited s.phase is (sym k.awaited)
-    ] refl h
+    of_round (λ u. BeginsAnew s u → ⊥) me quorum a others t
+    (λ writes k.
+    let count : writes_by (a ∷ others) ≡ 1 + writes_by others = ap (λ (b : Bool). (if b then 1 else 0) + writes_by others) writes in
+    omega (arith, k.number, number, count))
+    (λ _ k. both_ways _ (no_views s.phase is) (sym k.awaited)) h
 
 last_for_good : (me quorum : ℕ) (s : Ops) → awaits_acks s.phase ≡ true → BeginsAnew s (after_last me quorum s) → ⊥
 last_for_good me quorum s = round_for_good me quorum (first_round s.share s.line) s (left_behind s) refl refl
@@ -102,15 +87,11 @@ last_for_good me quorum s = round_for_good me quorum (first_round s.share s.line
 -- the round of a phase that pends has the tag of then
 tag_of : (tag k : ℕ) (phase : Phase) → round_under tag phase ≡ Some k → tag ≡ k
 tag_of tag k Idle is = cc
-tag_of tag k (Storing p) is = cc
-tag_of tag k (Querying p) is = cc
-tag_of tag k (StoringBack p seen) is = cc
+tag_of tag k _ is = cc
 
 round_tag : (tag : ℕ) (phase : Phase) → is_some (round_under tag phase) ≡ true → round_under tag phase ≡ Some tag
 round_tag tag Idle some = cc
-round_tag tag (Storing p) some = refl
-round_tag tag (Querying p) some = refl
-round_tag tag (StoringBack p seen) some = refl
+round_tag tag _ some = refl
 
 other_round : (s t : Ops) → BeginsAnew s t → round_in t ≢ round_in s
 other_round s t h same = let is : t.tag ≡ s.tag = tag_of t.tag s.tag t.phase (same ∙ round_tag s.tag s.phase h.pended) in omega (arith, is, h.tag)
@@ -121,7 +102,8 @@ module _ (e : Event) (from : ℕ) (is_from : IsFrom from e) where
   still : (s : Ops) → Outcome e s s None false false
   still s = goes_on refl refl refl (λ _. refl) refl
 
-  module _ (s : Ops) (p : Pending) (phase : Phase) (is : s.phase ≡ phase) (pends : round_under s.tag phase ≡ Some s.tag) (count : answers_in phase ≡ p.count) (need : need_in phase ≡ p.need) where
+  module _ (s : Ops) (p : Pending) (phase : Phase) (is : s.phase ≡ phase) (pends : round_under s.tag phase ≡ Some s.tag) (count : answers_in phase ≡ p.count)
+      (need : need_in phase ≡ p.need) where
     at : round_in s ≡ Some s.tag
     at = ap (round_under s.tag) is ∙ pends
 
@@ -163,34 +145,27 @@ module _ (e : Event) (from : ℕ) (is_from : IsFrom from e) where
   reply_outcome quorum v s true (Querying p) is =
       either s p (Querying p) is refl refl refl (record (merged v s) { phase = Querying (counted p) })
       (next_round (StoringBack (round_of quorum p.asked) (merge s.view v)) (merged v s)) refl refl (another s.tag) refl
-      (λ h. false_true (h.awaited ∙ ap awaits_views is))
+      (λ h. false≢true (h.awaited ∙ ap awaits_views is))
   reply_outcome quorum v s true (StoringBack p seen) is = still s
 
 ask_outcome : (e : Event) (me quorum : ℕ) (a : Asked) (line : List Asked) (s : Ops) (phase : Phase) → s.phase ≡ phase
     → Outcome e s (if is_idle phase then with_begun me quorum a s else record s { line = line }) None false false
 ask_outcome e me quorum a line s Idle is =
-    goes_on refl refl refl (λ some. absurd (false_true (sym (ap (λ x. is_some (round_under s.tag x)) is) ∙ some))) (round_answers me quorum (a ∷ []) s ∙ ap answers_in (sym is))
-ask_outcome e me quorum a line s (Storing p) is = goes_on refl refl refl (λ _. refl) refl
-ask_outcome e me quorum a line s (Querying p) is = goes_on refl refl refl (λ _. refl) refl
-ask_outcome e me quorum a line s (StoringBack p seen) is = goes_on refl refl refl (λ _. refl) refl
+    goes_on refl refl refl (λ some. absurd (false≢true (sym (ap (λ x. is_some (round_under s.tag x)) is) ∙ some)))
+    (round_answers me quorum (a ∷ []) s ∙ ap answers_in (sym is))
+ask_outcome e me quorum a line s _ is = goes_on refl refl refl (λ _. refl) refl
 
 again_answers : (quorum : ℕ) (phase : Phase) → answers_in (again quorum phase) ≡ 0
 again_answers quorum Idle = refl
-again_answers quorum (Storing p) = refl
-again_answers quorum (Querying p) = refl
-again_answers quorum (StoringBack p seen) = refl
+again_answers quorum _ = refl
 
 again_awaits : (quorum : ℕ) (phase : Phase) → awaits_views (again quorum phase) ≡ awaits_views phase
 again_awaits quorum Idle = refl
-again_awaits quorum (Storing p) = refl
-again_awaits quorum (Querying p) = refl
-again_awaits quorum (StoringBack p seen) = refl
+again_awaits quorum _ = refl
 
 busy_pends : (tag : ℕ) (phase : Phase) → is_idle phase ≡ false → is_some (round_under tag phase) ≡ true
 busy_pends tag Idle busy = cc
-busy_pends tag (Storing p) busy = refl
-busy_pends tag (Querying p) busy = refl
-busy_pends tag (StoringBack p seen) busy = refl
+busy_pends tag _ busy = refl
 
 -- a snapshot leaves the round as it is, or lets its phase begin anew
 snapshot_outcome : (e : Event) (b may : Bool) (quorum : ℕ) (v : ViewMap) (s : Ops) → b ≡ (not (is_idle s.phase) && may)
@@ -215,48 +190,27 @@ snapshot_outcome e false may quorum v s is = goes_on refl refl refl (λ _. refl)
 message_outcome : (c : Core) (from n : ℕ) (m : Message)
     → (let e = event.Deliver from n m in Outcome e c.ops (next c e).ops (counts c e) (ends_round c e) (begins_anew c e))
 unfolding next
-message_outcome c from n (message.Enter q) = goes_on refl refl refl (λ _. refl) refl
-message_outcome c from n (message.EnterEcho d v j q) = goes_on refl refl refl (λ _. refl) refl
-message_outcome c from n (message.Join q) = goes_on refl refl refl (λ _. refl) refl
-message_outcome c from n (message.JoinEcho q) = goes_on refl refl refl (λ _. refl) refl
-message_outcome c from n (message.Leave q) = goes_on refl refl refl (λ _. refl) refl
-message_outcome c from n (message.LeaveEcho q) = goes_on refl refl refl (λ _. refl) refl
-message_outcome c from n (message.Query tag q) = goes_on refl refl refl (λ _. refl) refl
 message_outcome c from n (message.QueryReply v tag q) =
     reply_outcome (event.Deliver from n (message.QueryReply v tag q)) from refl (quorum c) v c.ops (is_own c.me tag q c.ops) c.ops.phase refl
-message_outcome c from n (message.Store v tag q) = goes_on refl refl refl (λ _. refl) refl
 message_outcome c from n (message.StoreAck tag q) =
     ack_outcome (event.Deliver from n (message.StoreAck tag q)) from refl c.me (quorum c) c.ops (is_own c.me tag q c.ops) c.ops.phase refl
 message_outcome c from n (message.Snapshot d v) =
     let e = event.Deliver from n (message.Snapshot d v) in
     snapshot_outcome e (begins_anew c e) ((from == c.me) || skips c from n) (churn.quorum c.beta (churn_told c from n (message.Snapshot d v))) v c.ops refl
+message_outcome c from n _ = goes_on refl refl refl (λ _. refl) refl
 
 pub outcome : (c : Core) (e : Event) → Outcome e c.ops (next c e).ops (counts c e) (ends_round c e) (begins_anew c e)
 unfolding next
-outcome c event.Enter = goes_on refl refl refl (λ _. refl) refl
-outcome c event.Leave = goes_on refl refl refl (λ _. refl) refl
 outcome c (event.Deliver from n m) = message_outcome c from n m
-outcome c (event.Acked peer n) = goes_on refl refl refl (λ _. refl) refl
 outcome c (event.Ask s r command) =
     ask_outcome (event.Ask s r command) c.me (quorum c) (asked_of s r command) (c.ops.line ++ asked_of s r command ∷ []) c.ops c.ops.phase refl
-outcome c (event.Retire q) = goes_on refl refl refl (λ _. refl) refl
-outcome c (event.Lapse q) = goes_on refl refl refl (λ _. refl) refl
-outcome c event.Snapshot = goes_on refl refl refl (λ _. refl) refl
+outcome c _ = goes_on refl refl refl (λ _. refl) refl
 
 -- ---- what is counted is what the state shows
 
 same_sender : (p q : ℕ) (e : Event) → IsFrom p e → IsFrom q e → p ≡ q
-same_sender p q event.Enter h k = absurd h
-same_sender p q event.Leave h k = absurd h
 same_sender p q (event.Deliver from n m) h k = sym h ∙ k
-same_sender p q (event.Acked peer n) h k = absurd h
-same_sender p q (event.Ask s r command) h k = absurd h
-same_sender p q (event.Retire other) h k = absurd h
-same_sender p q (event.Lapse other) h k = absurd h
-same_sender p q event.Snapshot h k = absurd h
-
-none_some : (q : ℕ) → None ≡ Some q → ⊥
-none_some q e = cc
+same_sender p q _ h k = absurd h
 
 module _ (e : Event) (s t : Ops) where
   -- an answer more, and the end of a round, are changes that an event of no matter doesn't make
@@ -270,9 +224,10 @@ module _ (e : Event) (s t : Ops) where
   no_gain_anew : BeginsAnew s t → GainsAnswer s t → ⊥
   no_gain_anew h g = omega (arith, h.none, g.more)
 
-  counted_by : (peer : Option ℕ) (over restarts : Bool) (q : ℕ) → Outcome e s t peer over restarts → (peer ≡ Some q) ↔ (IsFrom q e × (GainsAnswer s t ⊎ EndsRound s t))
+  counted_by : (peer : Option ℕ) (over restarts : Bool) (q : ℕ) → Outcome e s t peer over restarts
+      → (peer ≡ Some q) ↔ (IsFrom q e × (GainsAnswer s t ⊎ EndsRound s t))
   counted_by peer over restarts q (goes_on none _ _ same count) = (
-    λ is. absurd (none_some q (sym none ∙ is)),
+    λ is. absurd (none-some q (sym none ∙ is)),
     λ h. elim h.1 as (λ _. peer ≡ Some q) [
       | inl g ↦ absurd (no_gain count g)
       | inr g ↦ absurd (no_end same g)
@@ -287,7 +242,7 @@ module _ (e : Event) (s t : Ops) where
     λ h. is ∙ ap Some (same_sender from q e sent h.0),
   )
   counted_by peer over restarts q (starts_over none _ _ begins) = (
-    λ is. absurd (none_some q (sym none ∙ is)),
+    λ is. absurd (none-some q (sym none ∙ is)),
     λ h. elim h.1 as (λ _. peer ≡ Some q) [
       | inl g ↦ absurd (no_gain_anew begins g)
       | inr g ↦ absurd (g.for_good begins)
@@ -295,16 +250,16 @@ module _ (e : Event) (s t : Ops) where
   )
 
   ended_by : (peer : Option ℕ) (over restarts : Bool) → Outcome e s t peer over restarts → (over ≡ true) ↔ EndsRound s t
-  ended_by peer over restarts (goes_on none lasts _ same count) = (λ is. absurd (false_true (sym lasts ∙ is)), λ h. absurd (no_end same h))
-  ended_by peer over restarts (gains from is lasts _ sent gain) = (λ at. absurd (false_true (sym lasts ∙ at)), λ h. absurd (h.over gain.same))
+  ended_by peer over restarts (goes_on none lasts _ same count) = (λ is. absurd (false≢true (sym lasts ∙ is)), λ h. absurd (no_end same h))
+  ended_by peer over restarts (gains from is lasts _ sent gain) = (λ at. absurd (false≢true (sym lasts ∙ at)), λ h. absurd (h.over gain.same))
   ended_by peer over restarts (ends from is at _ sent end enough none) = (λ _. end, λ _. at)
-  ended_by peer over restarts (starts_over none lasts _ begins) = (λ at. absurd (false_true (sym lasts ∙ at)), λ h. absurd (h.for_good begins))
+  ended_by peer over restarts (starts_over none lasts _ begins) = (λ at. absurd (false≢true (sym lasts ∙ at)), λ h. absurd (h.for_good begins))
 
   anew_by : (peer : Option ℕ) (over restarts : Bool) → Outcome e s t peer over restarts → (restarts ≡ true) ↔ BeginsAnew s t
   anew_by peer over restarts (goes_on none _ lasts same count) =
-      (λ is. absurd (false_true (sym lasts ∙ is)), λ h. absurd (other_round s t h (same h.pended)))
-  anew_by peer over restarts (gains from is _ lasts sent gain) = (λ at. absurd (false_true (sym lasts ∙ at)), λ h. absurd (other_round s t h gain.same))
-  anew_by peer over restarts (ends from is _ lasts sent end enough none) = (λ at. absurd (false_true (sym lasts ∙ at)), λ h. absurd (end.for_good h))
+      (λ is. absurd (false≢true (sym lasts ∙ is)), λ h. absurd (other_round s t h (same h.pended)))
+  anew_by peer over restarts (gains from is _ lasts sent gain) = (λ at. absurd (false≢true (sym lasts ∙ at)), λ h. absurd (other_round s t h gain.same))
+  anew_by peer over restarts (ends from is _ lasts sent end enough none) = (λ at. absurd (false≢true (sym lasts ∙ at)), λ h. absurd (end.for_good h))
   anew_by peer over restarts (starts_over none _ at begins) = (λ _. begins, λ _. at)
 
   -- as many are counted afterwards as the round has then
@@ -313,19 +268,21 @@ module _ (e : Event) (s t : Ops) where
   counted_next peer over restarts peers (goes_on none lasts stays same count) h =
       (λ i. length (if stays i || lasts i then [] else with_peer (none i) peers)) ∙ h ∙ sym count
   counted_next peer over restarts peers (gains from is lasts stays sent gain) h =
-      let all : length (if restarts || over then [] else with_peer peer peers) ≡ length (from ∷ peers) = λ i. length (if stays i || lasts i then [] else with_peer (is i) peers) in
+      let all : length (if restarts || over then [] else with_peer peer peers) ≡ length (from ∷ peers) =
+      λ i. length (if stays i || lasts i then [] else with_peer (is i) peers) in
       omega (arith, all, h, gain.more)
-  counted_next peer over restarts peers (ends from is at stays sent end enough none) h = (λ i. length (if stays i || at i then [] else with_peer peer peers)) ∙ sym none
+  counted_next peer over restarts peers (ends from is at stays sent end enough none) h =
+      (λ i. length (if stays i || at i then [] else with_peer peer peers)) ∙ sym none
   counted_next peer over restarts peers (starts_over none _ at begins) h = (λ i. length (if at i || over then [] else with_peer peer peers)) ∙ sym begins.none
 
   counted_last : (peer : Option ℕ) (over restarts : Bool) (peers : List ℕ) → Outcome e s t peer over restarts → over ≡ true → length peers ≡ answers_in s.phase
       → length (with_peer peer peers) ≡ need_in s.phase
-  counted_last peer over restarts peers (goes_on none lasts _ same count) at h = absurd (false_true (sym lasts ∙ at))
-  counted_last peer over restarts peers (gains from is lasts _ sent gain) at h = absurd (false_true (sym lasts ∙ at))
+  counted_last peer over restarts peers (goes_on none lasts _ same count) at h = absurd (false≢true (sym lasts ∙ at))
+  counted_last peer over restarts peers (gains from is lasts _ sent gain) at h = absurd (false≢true (sym lasts ∙ at))
   counted_last peer over restarts peers (ends from is _ _ sent end enough none) at h =
       let all : length (with_peer peer peers) ≡ length (from ∷ peers) = ap (λ o. length (with_peer o peers)) is in
       omega (arith, all, h, enough)
-  counted_last peer over restarts peers (starts_over none lasts _ begins) at h = absurd (false_true (sym lasts ∙ at))
+  counted_last peer over restarts peers (starts_over none lasts _ begins) at h = absurd (false≢true (sym lasts ∙ at))
 
 pub counted_is : (c : Core) (e : Event) (q : ℕ) → (counts c e ≡ Some q) ↔ (IsFrom q e × (GainsAnswer c.ops (next c e).ops ⊎ EndsRound c.ops (next c e).ops))
 counted_is c e q = counted_by e c.ops (next c e).ops (counts c e) (ends_round c e) (begins_anew c e) q (outcome c e)
@@ -357,5 +314,6 @@ pub round_enough : (o : Opening) (es : List Event) (round : Round (fresh o) es)
     → length (peers_of (fresh o) es round) ≡ need_in (after (fresh o) round.before).core.ops.phase
 round_enough o es round =
     let c = (after (fresh o) round.before).core in
-    counted_last round.last c.ops (next c round.last).ops (counts c round.last) (ends_round c round.last) (begins_anew c round.last) (peers_along (fresh o) [] round.before) (outcome c round.last) round.ends
+    counted_last round.last c.ops (next c round.last).ops (counts c round.last) (ends_round c round.last) (begins_anew c round.last)
+    (peers_along (fresh o) [] round.before) (outcome c round.last) round.ends
     (counted_along o round.before)

@@ -3,9 +3,10 @@
 --     views_grow                       so it grows
 --     one_value_along                  and no number stands for two values
 use Rattle.std.proofs.Common.{◌≡◌, ℕ, ◌<◌, ◌≤◌, zero, suc, true, false, cond, nat_lt, List, [], ◌∷◌, refl, sym, ap, subst, ◌∙◌, inl, inr, arith}
-use Rattle.std.specs.Prelude.{Option, Some, None, if◌then◌else◌, ◌⊎◌}
+use Rattle.std.specs.Prelude.{Option, Some, None, if◌then◌else◌}
 use Rattle.std.specs.FinMap as table
-use Rattle.std.proofs.lemmas.Bool.{ltb-true}
+use Rattle.std.proofs.lemmas.Bool.{ltb-true, cases_lt}
+use Rattle.std.proofs.lemmas.Option.{same_Some}
 use Rattle.cc_views.specs.Rows.{Pair, ViewMap}
 use Rattle.cc_views.specs.Merge.{merged, merge, IsKept, IsAtMost}
 use Rattle.cc_views.specs.MergeLaws.{get-merge}
@@ -59,7 +60,8 @@ row_follows me s asks =
       | false ↦ follows_itself s.view
     ]
 
-either_follows : (me : ℕ) (s : Ops) (brought : Option ViewMap) (asks : List Asked) (after : ViewMap) → ViewStep me s brought asks after → IsFollowedBy s.view after
+either_follows : (me : ℕ) (s : Ops) (brought : Option ViewMap) (asks : List Asked) (after : ViewMap) → ViewStep me s brought asks after
+    → IsFollowedBy s.view after
 either_follows me s brought asks after (inl is) = subst (IsFollowedBy s.view) (sym is) (row_follows me s asks)
 either_follows me s brought asks after (inr b) = subst (IsFollowedBy s.view) (sym b.merges) (merge_follows s.view b.view)
 
@@ -73,7 +75,8 @@ step_follows n e = next_follows n.core e
 from_start : (n : Node) (es : List Event) (k : ℕ) → IsFollowedBy n.core.ops.view (view_at n es k)
 from_start n es zero = follows_itself n.core.ops.view
 from_start n [] (suc k) = follows_itself n.core.ops.view
-from_start n (e ∷ es) (suc k) = follows_further n.core.ops.view (step n e).core.ops.view (view_at (step n e) es k) (step_follows n e) (from_start (step n e) es k)
+from_start n (e ∷ es) (suc k) =
+    follows_further n.core.ops.view (step n e).core.ops.view (view_at (step n e) es k) (step_follows n e) (from_start (step n e) es k)
 
 pub views_follow : (n : Node) (es : List Event) (i j : ℕ) → i ≤ j → IsFollowedBy (view_at n es i) (view_at n es j)
 views_follow n es zero j h = from_start n es j
@@ -94,44 +97,35 @@ at_most_by v w h q = kept_by (table.get v q) (table.get w q) (h q)
 pub views_grow : (n : Node) (es : List Event) (i j : ℕ) → i ≤ j → IsAtMost (view_at n es i) (view_at n es j)
 views_grow n es i j le = at_most_by (view_at n es i) (view_at n es j) (views_follow n es i j le)
 
-pub same_pair : (p q : Pair) → Some p ≡ Some q → p ≡ q
-same_pair p q e = cc
-
 one_pair : (a b : Option Pair) (p q : Pair) → GoesOn a b → a ≡ Some p → b ≡ Some q → p.0 ≡ q.0 → p ≡ q
 one_pair None b p q h is there same = cc
 one_pair (Some r) None p q h is there same = absurd h
 one_pair (Some r) (Some s) p q (inl h) is there same =
-    let first : r ≡ p = same_pair r p is in
-    let second : s ≡ q = same_pair s q there in
+    let first : r ≡ p = same_Some r p is in
+    let second : s ≡ q = same_Some s q there in
     let below : p.0 < q.0 = subst (λ (x : Pair). x.0 < q.0) first (subst (λ (x : Pair). r.0 < x.0) second h) in
     absurd (omega (arith, below, same))
-one_pair (Some r) (Some s) p q (inr h) is there same = sym (same_pair r p is) ∙ h ∙ same_pair s q there
+one_pair (Some r) (Some s) p q (inr h) is there same = sym (same_Some r p is) ∙ h ∙ same_Some s q there
 
 later_value : (n : Node) (es : List Event) (i j : ℕ) → i ≤ j → (p k : ℕ) (x y : Value) → Has (view_at n es i) p k x → Has (view_at n es j) p k y → x ≡ y
 later_value n es i j le p k x y here there =
     ap (λ (e : Pair). e.1) (one_pair (table.get (view_at n es i) p) (table.get (view_at n es j) p) (k, x) (k, y) (views_follow n es i j le p) here there refl)
 
-either_order : (i j : ℕ) → (i ≤ j) ⊎ (j ≤ i)
-either_order zero j = inl (omega arith)
-either_order (suc i) zero = inr (omega arith)
-either_order (suc i) (suc j) = elim (either_order i j) [
-  | inl h ↦ inl (omega (arith, h))
-  | inr h ↦ inr (omega (arith, h))
-]
-
 -- any two views of one history, whichever came first
 module _ (n : Node) (es : List Event) (v w : ViewMap) (of_v : IsViewOf n es v) (of_w : IsViewOf n es w) where
   pub comparable : AreComparable v w
-  comparable = elim (either_order of_v.0 of_w.0) as (λ _. AreComparable v w) [
-    | inl le ↦ inl (subst (λ (u : ViewMap). IsAtMost u w) (sym of_v.1) (subst (IsAtMost (view_at n es of_v.0)) (sym of_w.1) (views_grow n es of_v.0 of_w.0 le)))
-    | inr le ↦ inr (subst (λ (u : ViewMap). IsAtMost u v) (sym of_w.1) (subst (IsAtMost (view_at n es of_w.0)) (sym of_v.1) (views_grow n es of_w.0 of_v.0 le)))
+  comparable = elim (cases_lt of_v.0 of_w.0) as (λ _. AreComparable v w) [
+    | inl less ↦ inl (subst (λ (u : ViewMap). IsAtMost u w) (sym of_v.1)
+        (subst (IsAtMost (view_at n es of_v.0)) (sym of_w.1) (views_grow n es of_v.0 of_w.0 (omega (arith, less)))))
+    | inr le ↦ inr (subst (λ (u : ViewMap). IsAtMost u v) (sym of_w.1)
+        (subst (IsAtMost (view_at n es of_w.0)) (sym of_v.1) (views_grow n es of_w.0 of_v.0 le)))
   ]
 
   pub one_value : (p k : ℕ) (x y : Value) → Has v p k x → Has w p k y → x ≡ y
   one_value p k x y here there =
       let first : Has (view_at n es of_v.0) p k x = subst (λ (u : ViewMap). Has u p k x) of_v.1 here in
       let second : Has (view_at n es of_w.0) p k y = subst (λ (u : ViewMap). Has u p k y) of_w.1 there in
-      elim (either_order of_v.0 of_w.0) as (λ _. x ≡ y) [
-        | inl le ↦ later_value n es of_v.0 of_w.0 le p k x y first second
+      elim (cases_lt of_v.0 of_w.0) as (λ _. x ≡ y) [
+        | inl less ↦ later_value n es of_v.0 of_w.0 (omega (arith, less)) p k x y first second
         | inr le ↦ sym (later_value n es of_w.0 of_v.0 le p k y x second first)
       ]

@@ -77,7 +77,8 @@ twice false v w o = refl
 
 pub over_same : {X : Type 0} (m : FinMap nat_cmp X) (k : ℕ) (v w : X) → table.insert (table.insert m k v) k w ≡ table.insert m k w
 over_same m k v w = same _ _ (λ q.
-    get_insert (table.insert m k v) k w q ∙ ap (cond (nat_eq q k) (Some w)) (get_insert m k v q) ∙ twice (nat_eq q k) v w (table.get m q) ∙ sym (get_insert m k w q))
+    get_insert (table.insert m k v) k w q ∙ ap (cond (nat_eq q k) (Some w)) (get_insert m k v q) ∙ twice (nat_eq q k) v w (table.get m q)
+    ∙ sym (get_insert m k w q))
 
 three : {X : Type 0} (q : ℕ) (a b : Bool) → nat_eq q 2 ≡ a → nat_eq q 1 ≡ b → (v u w : X) (o : Option X)
     → cond a (Some w) (cond b (Some u) (cond a (Some v) o)) ≡ cond b (Some u) (cond a (Some w) o)
@@ -86,7 +87,8 @@ three q true false is at v u w o = refl
 three q false b is at v u w o = refl
 
 -- of two keys the one that was inserted first
-pub over_first : {X : Type 0} (m : FinMap nat_cmp X) (v u w : X) → table.insert (table.insert (table.insert m 2 v) 1 u) 2 w ≡ table.insert (table.insert m 2 w) 1 u
+pub over_first : {X : Type 0} (m : FinMap nat_cmp X) (v u w : X)
+    → table.insert (table.insert (table.insert m 2 v) 1 u) 2 w ≡ table.insert (table.insert m 2 w) 1 u
 over_first m v u w = same _ _ (λ q.
     get_insert (table.insert (table.insert m 2 v) 1 u) 2 w q
     ∙ ap (cond (nat_eq q 2) (Some w)) (get_insert (table.insert m 2 v) 1 u q ∙ ap (cond (nat_eq q 1) (Some u)) (get_insert m 2 v q))

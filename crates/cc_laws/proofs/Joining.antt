@@ -40,12 +40,22 @@ module _ (one_node : OneNode) where
         record {
           lawful = IsLawful-append n front rest.0 lawful rest.1.lawful;
           leads_to = rest.1.leads_to ∙ sym (after-append n front rest.0);
-          made = λ o has. either_made n front rest.0 o start lawful (put_by l) (put_along ls) (good.made o) (rest.1.made o) (Contains-append_cases (put_by l) (put_along ls) o has);
-          parts = record { kept = good.prefix; has_durable = good.has_durable; within = good.within; opened = good.stands; rest = rest.0; parts = refl; follows = rest.1.parts };
+          made = λ o has. either_made n front rest.0 o start lawful (put_by l) (put_along ls) (good.made o) (rest.1.made o)
+              (Contains-append_cases (put_by l) (put_along ls) o has);
+          parts = record {
+            kept = good.prefix;
+            has_durable = good.has_durable;
+            within = good.within;
+            opened = good.stands;
+            rest = rest.0;
+            parts = refl;
+            follows = rest.1.parts;
+          };
         },
       )
     where
       either_made : (n : Node) (xs ys : List Event) (o : Output) → IsLawfulNode n → IsLawful n xs → (first second : List Output)
-          → (Contains first o → MayBeOut n xs o) → (Contains second o → MayBeOut (after n xs) ys o) → Contains first o ⊎ Contains second o → MayBeOut n (xs ++ ys) o
+          → (Contains first o → MayBeOut n xs o) → (Contains second o → MayBeOut (after n xs) ys o) → Contains first o ⊎ Contains second o
+          → MayBeOut n (xs ++ ys) o
       either_made n xs ys o start lawful first second now later (inl here) = made_more n xs ys o (now here)
       either_made n xs ys o start lawful first second now later (inr there) = later_made n xs ys o start lawful (later there)

@@ -1,15 +1,14 @@
 -- What nodes know: who acknowledged a store has all of it by then, and who is asked later tells all that it has by then.
---     me_of, contains_at, contains_front, view_within     of one member
+--     me_of, view_within, came_before, came_last     of one member
 --     Posted, posted             a message was posted by an event of what a member released
 --     Knows                      the released view of a node has a row of another that is numbered so or higher
+--     posted_by                  a message that tells the id of who posts it was posted by the node of that id
 --     store_known                who acknowledged a store knows what was stored
 --     reply_known                who is asked by a query that began later tells what it knew
-use Rattle.std.proofs.Common.{◌≡◌, ◌⊎◌, ℕ, ◌<◌, ◌≤◌, List, [], ◌∷◌, ◌++◌, take, drop, refl, sym, ap, subst, ◌∙◌, inl, inr, arith}
+use Rattle.std.proofs.Common.{◌≡◌, ◌⊎◌, ℕ, ◌<◌, List, [], ◌∷◌, ◌++◌, refl, sym, ap, subst, ◌∙◌, inl, inr, arith}
 use Rattle.std.specs.Prelude.{Some}
 use Rattle.std.specs.List.{Contains}
-use Rattle.std.specs.FinMap as table
-use Rattle.std.proofs.lemmas.List.{take-append-drop}
-use Rattle.std.proofs.lemmas.List.Elements.{All-contains, All-from_recursion, Contains-append_left, Contains-append_right}
+use Rattle.std.proofs.lemmas.List.Elements.{Contains-append_left}
 use Rattle.cc_views.specs.Rows.{ViewMap}
 use Rattle.cc_views.specs.Merge.{IsAtMost}
 use Rattle.cc_views.specs.MergeLaws.{at_most_trans}
@@ -19,41 +18,27 @@ use Rattle.cc_messages.specs.declared.message.Message.{Message}
 use Rattle.cc_messages.specs.declared.message.Message.TheVariants as message
 use Rattle.cc_messages.specs.declared.output.Output.TheVariants as output
 use Rattle.cc_node.specs.Core.{Core, next, post, outputs}
-use Rattle.cc_node.specs.Node.{Node, step, after, line, IsLawful}
+use Rattle.cc_node.specs.Node.{Node, after, line}
 use Rattle.cc_node.specs.Opening.{fresh}
-use Rattle.cc_node.specs.Histories.{after-append, lawful_parts}
+use Rattle.cc_node.specs.Histories.{after-append}
 use Rattle.cc_node.proofs.CoreLaws.{view_grows, view_grows_along}
 use Rattle.cc_laws.specs.Clusters.{Member, Cluster, node_at}
 use Rattle.cc_laws.specs.Regular.{released_events, HasAtLeast}
-use Rattle.cc_laws.proofs.Lists.{at_some}
+use Rattle.cc_laws.proofs.Lists.{at_some, contains_at, contains_front, all_at}
 use Rattle.cc_laws.proofs.Lines.{made_in}
 use Rattle.cc_laws.proofs.Members.{IsSound, lawful_front}
-use Rattle.cc_laws.proofs.Clustering.{Holds}
-use Rattle.cc_laws.proofs.Places.{parts_more, after_parts, same_head, same_tail, front_more, at_once}
+use Rattle.cc_laws.proofs.Clustering.{Holds, IsAt, one_at, Grows, GrownAt}
+use Rattle.cc_laws.proofs.Places.{parts_more, after_parts, same_head, same_tail, front_more, at_once, front_low}
 use Rattle.cc_laws.proofs.Says.{tag_after, stored_of, PostSays, post_says, GoesTo, OutputSays, outputs_say}
 use Rattle.cc_laws.proofs.Pending.{Raised, core_push, least_more}
-use Rattle.cc_laws.proofs.Steps.{me_next}
-use Rattle.cc_laws.proofs.Traces.{one_at, MadeBy, CameFrom, Traces, Grows, GrownAt}
+use Rattle.cc_laws.proofs.Traces.{MadeBy, CameFrom, Traces}
 use Rattle.cc_laws.proofs.Writing.{fresh_me}
+use Rattle.cc_laws.proofs.OwnWrites.{me_along}
 
 -- ---- one member
 
-me_after : (n : Node) (es : List Event) → (after n es).core.me ≡ n.core.me
-unfolding step
-me_after n [] = refl
-me_after n (e ∷ es) = me_after (step n e) es ∙ me_next n.core e
-
 pub me_of : (q : ℕ) (m : Member) → IsSound q m → (es : List Event) → (after (fresh m.opening) es).core.me ≡ q
-me_of q m sound es = me_after (fresh m.opening) es ∙ fresh_me m.opening ∙ sound.me
-
-contains_head : {X : Type 0} (x : X) (xs : List X) → Contains (x ∷ xs) x
-contains_head x xs = Contains-append_left (x ∷ []) xs x (0, omega arith, refl)
-
-pub contains_at : {X : Type 0} (xs before later : List X) (x : X) → xs ≡ before ++ x ∷ later → Contains xs x
-contains_at xs before later x parts = subst (λ l. Contains l x) (sym parts) (Contains-append_right before (x ∷ later) x (contains_head x later))
-
-pub contains_front : (k : ℕ) (es : List Event) (e : Event) → Contains (take k es) e → Contains es e
-contains_front k es e has = subst (λ (l : List Event). Contains l e) (take-append-drop k es) (Contains-append_left (take k es) (drop k es) e has)
+me_of q m sound es = me_along (fresh m.opening) es ∙ fresh_me m.opening ∙ sound.me
 
 -- the view after an event is at most the one after all
 pub view_within : (n : Node) (es before later : List Event) (e : Event) → es ≡ before ++ e ∷ later
@@ -77,8 +62,8 @@ pub posted : (m : Member) (to n : ℕ) (k : Message) → Contains (line (fresh m
 posted m to n k has =
     let made = made_in (fresh m.opening) (released_events m) (output.Send to n k) has in
     let c = (after (fresh m.opening) made.before).core in
-    let is : OutputSays c made.event (output.Send to n k) = All-contains (OutputSays c made.event) (outputs c made.event) (output.Send to n k)
-    (All-from_recursion (OutputSays c made.event) (outputs c made.event) (outputs_say c made.event)) made.makes in
+    let is : OutputSays c made.event (output.Send to n k) =
+    all_at (OutputSays c made.event) (outputs c made.event) (output.Send to n k) (outputs_say c made.event) made.makes in
     record {
       before = made.before;
       poster = made.event;
@@ -89,9 +74,15 @@ posted m to n k has =
       goes = is.1;
     }
 
--- who posted a message that tells its poster's id
-pub poster_is : (f q : ℕ) (m : Member) → IsSound f m → (before : List Event) → q ≡ (after (fresh m.opening) before).core.me → q ≡ f
-poster_is f q m sound before is = is ∙ me_of f m sound before
+-- what a member released before an event, and that event, are among its events
+module _ (m : Member) (front later : List Event) (last e : Event) (parts : released_events m ≡ front ++ last ∷ later) where
+  pub came_before : Contains front e → Contains m.events e
+  came_before has =
+      contains_front m.released m.events e (subst (λ l. Contains l e) (sym parts) (Contains-append_left front (last ∷ later) e has))
+
+  pub came_last : last ≡ e → Contains m.events e
+  came_last is =
+      contains_front m.released m.events e (subst (Contains (released_events m)) is (contains_at (released_events m) front later last parts))
 
 -- the tag after the event that raised it, and what its round stores
 pub raised_at : (n : Node) (before : List Event) (e : Event) (tag : ℕ) → tag ≡ (next (after n before).core e).ops.tag
@@ -119,19 +110,28 @@ either_front {X} (y ∷ xs) more (b ∷ before) later x e =
 -- ---- a cluster
 
 abbrev pub Knows : Cluster → ℕ → ℕ → ℕ → Type 0
-Knows c r q k = (m : Member) × (table.get c.members r ≡ Some m) × HasAtLeast (node_at m m.released).core.ops.view q k
+Knows c r q k = (m : Member) × IsAt c r m × HasAtLeast (node_at m m.released).core.ops.view q k
 
 module _ (c : Cluster) (h : Holds c) (t : Traces c) where
   -- what was delivered was sent
-  pub came_at : (q : ℕ) (m : Member) → table.get c.members q ≡ Some m → (f n : ℕ) (k : Message) → Contains m.events (event.Deliver f n k)
+  pub came_at : (q : ℕ) (m : Member) → IsAt c q m → (f n : ℕ) (k : Message) → Contains m.events (event.Deliver f n k)
       → MadeBy c f (output.Send q n k)
   came_at q m at f n k has =
-      All-contains (CameFrom c q) m.events (event.Deliver f n k) (All-from_recursion (CameFrom c q) m.events (t.came q m at)) has
+      all_at (CameFrom c q) m.events (event.Deliver f n k) (t.came q m at) has
+
+  -- a message that tells the id of who posts it was posted by the node of that id
+  pub posted_by : (q : ℕ) (m : Member) → IsAt c q m → (r : ℕ) (x : Member) → IsAt c r x → (f n : ℕ) (k : Message)
+      → ((d : Core) (e : Event) → PostSays d e k → q ≡ d.me) → Contains x.events (event.Deliver f n k) → (f ≡ q) × Posted m r n k
+  posted_by q m at r x there f n k tells has =
+      let made = came_at r x there f n k has in
+      let p = posted made.0 r n k made.2 in
+      let is_q : q ≡ f = tells (after (fresh (made.0).opening) p.before).core p.poster p.says ∙ me_of f made.0 (h.sound f made.0 made.1) p.before in
+      (sym is_q, subst (λ (w : Member). Posted w r n k) (one_at c f q made.0 m (sym is_q) made.1 at) p)
 
   -- who acknowledged a store has at least the view that was stored
-  pub store_known : (q : ℕ) (m : Member) → table.get c.members q ≡ Some m → (tag : ℕ) (Q : Core → Type 0) → Raised (fresh m.opening) (released_events m) tag Q
+  pub store_known : (q : ℕ) (m : Member) → IsAt c q m → (tag : ℕ) (Q : Core → Type 0) → Raised (fresh m.opening) (released_events m) tag Q
       → (r n : ℕ) → Contains m.events (event.Deliver r n (message.StoreAck tag q))
-      → (x : Member) × (table.get c.members r ≡ Some x) × (d : Core) × Q d × IsAtMost (stored_of d.ops) (node_at x x.released).core.ops.view
+      → (x : Member) × IsAt c r x × (d : Core) × Q d × IsAtMost (stored_of d.ops) (node_at x x.released).core.ops.view
   store_known q m at tag Q raised r n has =
       let ack_made = came_at q m at r n (message.StoreAck tag q) has in
       let x = ack_made.0 in
@@ -139,17 +139,13 @@ module _ (c : Cluster) (h : Holds c) (t : Traces c) where
       let v = ack.says.0 in
       let f = ack.says.1.0 in
       let a = ack.says.1.1 in
-      let got : Contains x.events (event.Deliver f a (message.Store v tag q)) =
-      contains_front x.released x.events _ (subst (Contains (released_events x)) ack.says.1.2 (contains_at (released_events x) ack.before ack.later ack.poster ack.parts)) in
-      let store_made = came_at r x ack_made.1 f a (message.Store v tag q) got in
-      let first = posted store_made.0 r a (message.Store v tag q) store_made.2 in
-      let is_q : q ≡ f = poster_is f q store_made.0 (h.sound f store_made.0 store_made.1) first.before first.says.0 in
-      let is_m : store_made.0 ≡ m = one_at c f q store_made.0 m (sym is_q) store_made.1 at in
-      let store : Posted m r a (message.Store v tag q) = subst (λ (w : Member). Posted w r a (message.Store v tag q)) is_m first in
+      let got = came_last x ack.before ack.later ack.poster _ ack.parts ack.says.1.2 in
+      let store = (posted_by q m at r x ack_made.1 f a (message.Store v tag q) (λ d e says. says.0) got).1 in
       let start = fresh m.opening in
       let lawful = lawful_front start m.events m.released (h.sound q m at).lawful in
       let high : tag ≡ (after start (store.before ++ store.poster ∷ [])).core.ops.tag = raised_at start store.before store.poster tag store.says.2 in
-      let one = at_once (λ n. n.core.ops.tag) tag_after start (released_events m) lawful store.before store.later raised.before raised.later store.poster raised.raiser store.parts raised.parts
+      let one = at_once (λ n. n.core.ops.tag) tag_after start (released_events m) lawful
+      store.before store.later raised.before raised.later store.poster raised.raiser store.parts raised.parts
       tag store.says.1 (omega (arith, high)) raised.under (omega (arith, raised.raised)) in
       let d = (after start (raised.before ++ raised.raiser ∷ [])).core in
       let there : v ≡ stored_of d.ops = stored_at start store.before raised.before store.poster raised.raiser v one.0 one.1 store.says.3 in
@@ -163,9 +159,9 @@ module _ (c : Cluster) (h : Holds c) (t : Traces c) where
       )
 
 module _ (mid d : Cluster) (h : Holds mid) (t : Traces mid) (h' : Holds d) (t' : Traces d)
-    (grown : (p : ℕ) (o : Member) → table.get mid.members p ≡ Some o → GrownAt d p o) where
+    (grown : (p : ℕ) (o : Member) → IsAt mid p o → GrownAt d p o) where
   -- who replied to a query of a tag that its node hadn't released by then tells what it knew
-  pub reply_known : (p : ℕ) (m n : Member) → table.get mid.members p ≡ Some m → table.get d.members p ≡ Some n → (tag : ℕ)
+  pub reply_known : (p : ℕ) (m n : Member) → IsAt mid p m → IsAt d p n → (tag : ℕ)
       → (node_at m m.released).core.ops.tag < tag
       → (r i : ℕ) (v : ViewMap) → Contains n.events (event.Deliver r i (message.QueryReply v tag p)) → (q k : ℕ) → Knows mid r q k → HasAtLeast v q k
   reply_known p m n at at' tag under r i v has q k knows =
@@ -179,32 +175,25 @@ module _ (mid d : Cluster) (h : Holds mid) (t : Traces mid) (h' : Holds d) (t' :
       let start = fresh y.opening in
       let same : fresh x.opening ≡ start = ap fresh grows.opening in
       let told : HasAtLeast (next (after start reply.before).core reply.poster).ops.view q k → HasAtLeast v q k = λ there.
-      subst (λ (w : ViewMap). HasAtLeast w q k) (ap (λ (s : Node). (next (after s reply.before).core reply.poster).ops.view) (sym same) ∙ sym reply.says.1) there in
-      elim (either_front (released_events y) grows.longer.0 reply.before reply.later reply.poster (sym grows.longer.1 ∙ reply.parts)) as (λ _. HasAtLeast v q k) [
+      subst (λ (w : ViewMap). HasAtLeast w q k)
+      (ap (λ (s : Node). (next (after s reply.before).core reply.poster).ops.view) (sym same) ∙ sym reply.says.1) there in
+      let order = either_front (released_events y) grows.longer.0 reply.before reply.later reply.poster (sym grows.longer.1 ∙ reply.parts) in
+      elim order as (λ _. HasAtLeast v q k) [
         | inl e ↦
             let at_reply : after start reply.before ≡ after (node_at y y.released) e.0 = after_parts start reply.before (released_events y) e.0 e.1 in
             let wider : IsAtMost (node_at y y.released).core.ops.view (after start reply.before).core.ops.view =
             subst (λ (s : Node). IsAtMost (node_at y y.released).core.ops.view s.core.ops.view) (sym at_reply) (view_grows_along (node_at y y.released) e.0) in
-            told (least_more _ _ q k (at_most_trans (node_at y y.released).core.ops.view _ _ wider (view_grows (after start reply.before).core reply.poster)) knows.2)
+            told (least_more _ _ q k (at_most_trans (node_at y y.released).core.ops.view _ _ wider
+            (view_grows (after start reply.before).core reply.poster)) knows.2)
         | inr e ↦
             let f = reply.says.0.0 in
             let a = reply.says.0.1 in
-            let got : Contains y.events (event.Deliver f a (message.Query tag p)) =
-            contains_front y.released y.events _ (subst (Contains (released_events y)) reply.says.0.2 (contains_at (released_events y) reply.before e.0 reply.poster e.1)) in
-            let query_made = came_at mid h t r y knows.1 f a (message.Query tag p) got in
-            let query = posted query_made.0 r a (message.Query tag p) query_made.2 in
-            let is_p : p ≡ f = poster_is f p query_made.0 (h.sound f query_made.0 query_made.1) query.before query.says.0 in
-            let is_m : query_made.0 ≡ m = one_at mid f p query_made.0 m (sym is_p) query_made.1 at in
-            let asked : Posted m r a (message.Query tag p) = subst (λ (w : Member). Posted w r a (message.Query tag p)) is_m query in
+            let got = came_last y reply.before e.0 reply.poster _ e.1 reply.says.0.2 in
+            let asked = (posted_by mid h t p m at r y knows.1 f a (message.Query tag p) (λ d e says. says.0) got).1 in
             let s = fresh m.opening in
             let front = asked.before ++ asked.poster ∷ [] in
             let lawful = lawful_front s m.events m.released (h.sound p m at).lawful in
             let high : tag ≡ (after s front).core.ops.tag = raised_at s asked.before asked.poster tag asked.says.2 in
             let all : released_events m ≡ front ++ asked.later = parts_more (released_events m) asked.before asked.later asked.poster asked.parts in
-            absurd (omega (arith, under, high, tag_up s (released_events m) front asked.later lawful all))
+            absurd (omega (arith, under, high, front_low (λ n. n.core.ops.tag) tag_after s (released_events m) front asked.later lawful all))
       ]
-    where
-      tag_up : (s : Node) (es xs ys : List Event) → IsLawful s es → es ≡ xs ++ ys → (after s xs).core.ops.tag ≤ (after s es).core.ops.tag
-      tag_up s es xs ys lawful parts =
-          subst (λ (w : Node). (after s xs).core.ops.tag ≤ w.core.ops.tag) (sym (after_parts s es xs ys parts))
-          (tag_after (after s xs) ys (lawful_parts s xs ys (subst (IsLawful s) parts lawful)).1)

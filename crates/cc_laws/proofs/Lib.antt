@@ -1,4 +1,5 @@
 mod Lists
+mod Becoming
 mod Steps
 mod ShownParts
 mod Showing

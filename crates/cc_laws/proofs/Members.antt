@@ -7,7 +7,8 @@ use Rattle.std.proofs.Common.{◌≡◌, ℕ, ◌≤◌, List, ◌++◌, take, d
 use Rattle.std.specs.FinMap as table
 use Rattle.std.specs.List.{AllByRecursion}
 use Rattle.std.proofs.lemmas.List.{take-append-drop, take-take}
-use Rattle.cc_views.specs.Rows.{Pair, ViewMap}
+use Rattle.std.proofs.lemmas.Option.{IfSome_then}
+use Rattle.cc_views.specs.Rows.{ViewMap}
 use Rattle.cc_views.specs.declared.value.Value.{Value}
 use Rattle.cc_messages.specs.declared.event.Event.{Event}
 use Rattle.cc_messages.specs.declared.output.Output.{Output}
@@ -17,7 +18,7 @@ use Rattle.cc_node.specs.Histories.{line-append, lawful_parts}
 use Rattle.cc_laws.specs.Shown.{in_output, in_event}
 use Rattle.cc_laws.specs.Written.{IsWriteOf}
 use Rattle.cc_laws.specs.Clusters.{Member, node_at}
-use Rattle.cc_laws.proofs.Lists.{all_rest, all_take, all_changed, some_changed}
+use Rattle.cc_laws.proofs.Lists.{all_rest, all_take, all_changed}
 use Rattle.cc_laws.proofs.ShownParts.{OfOutput}
 use Rattle.cc_laws.proofs.Showing.{ShowsOnly, all_shown, fresh_shows}
 use Rattle.cc_laws.proofs.Rows.{AllRows, EventRows, rows_empty, rows_along}
@@ -42,13 +43,13 @@ OutputRows P o = OfOutput (AllRows P) o
 
 module _ (P R : ℕ → ℕ → Value → Type 0) (f : (p k : ℕ) (x : Value) → P p k x → R p k x) where
   pub rows_changed : (v : ViewMap) → AllRows P v → AllRows R v
-  rows_changed v h q = some_changed (λ (e : Pair). P q e.0 e.1) (λ (e : Pair). R q e.0 e.1) (λ e. f q e.0 e.1) (table.get v q) (h q)
+  rows_changed v h q = IfSome_then (table.get v q) (h q) (λ e. f q e.0 e.1)
 
   pub output_changed : (o : Output) → OutputRows P o → OutputRows R o
-  output_changed o h = some_changed (AllRows P) (AllRows R) rows_changed (in_output o) h
+  output_changed o h = IfSome_then (in_output o) h rows_changed
 
   event_changed : (e : Event) → EventRows P e → EventRows R e
-  event_changed e h = some_changed (AllRows P) (AllRows R) rows_changed (in_event e) h
+  event_changed e h = IfSome_then (in_event e) h rows_changed
 
   pub events_changed : (es : List Event) → AllByRecursion (EventRows P) es → AllByRecursion (EventRows R) es
   events_changed es h = all_changed (EventRows P) (EventRows R) event_changed es h

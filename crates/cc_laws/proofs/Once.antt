@@ -3,15 +3,17 @@
 --     one_answer                  two answers of a node to one round that were delivered had one number
 --     new_peer                    so a node whose answer is counted isn't among those that were counted before
 --     peers_apart                 and those that a round counted are different nodes, each of them a member
-use Rattle.std.proofs.Common.{◌≡◌, ◌⊎◌, inl, inr, ℕ, zero, suc, ◌-◌, ◌<◌, ◌≤◌, Bool, true, false, nat_eq, ◌||◌, List, [], ◌∷◌, ◌++◌, refl, sym, ap, subst, ◌∙◌, arith, append_assoc}
-use Rattle.std.specs.Prelude.{Option, Some, None, IfSome, ⊤, if◌then◌else◌}
+use Rattle.std.proofs.Common.{◌≡◌, ◌⊎◌, inl, inr, ℕ, zero, suc, ◌-◌, ◌<◌, ◌≤◌, true, false, nat_eq, ◌||◌, List, [], ◌∷◌, ◌++◌, refl, sym, ap, subst, ◌∙◌, arith}
+use Rattle.std.proofs.Common.{append_assoc}
+use Rattle.std.specs.Prelude.{Option, Some, None, IfSome, ⊤}
 use Rattle.std.specs.Option.{option_map_or}
 use Rattle.std.specs.List.{Contains, AllByRecursion, list_any}
 use Rattle.std.specs.Prelude.{slice_index_or}
 use Rattle.std.specs.FinMap as table
-use Rattle.std.proofs.lemmas.Bool.{leb-false, eqb-true, or_cases}
+use Rattle.std.proofs.lemmas.Bool.{leb-false, eqb-true, or_cases, false_from_ne_true}
 use Rattle.std.proofs.lemmas.List.{append-nil}
-use Rattle.std.proofs.lemmas.List.Elements.{Contains-append_left, Contains-append_cases}
+use Rattle.std.proofs.lemmas.List.Elements.{Contains-append_cases}
+use Rattle.std.proofs.lemmas.Option.{same_Some, IfSome_then}
 use Rattle.cc_views.specs.Rows.{ViewMap}
 use Rattle.cc_messages.specs.declared.event.Event.{Event}
 use Rattle.cc_messages.specs.declared.event.Event.TheVariants as event
@@ -20,7 +22,7 @@ use Rattle.cc_messages.specs.declared.message.Message.TheVariants as message
 use Rattle.cc_links.specs.Links.{Link, heard_from}
 use Rattle.cc_links.specs.LinkLaws.{LinkGoesOn}
 use Rattle.cc_ops.specs.declared.pending.Asked.{Asked}
-use Rattle.cc_ops.specs.Ops.{Phase, Idle, Storing, Querying, StoringBack, is_own}
+use Rattle.cc_ops.specs.Ops.{Phase, Idle, Querying, is_own}
 use Rattle.cc_node.specs.Core.{Core, next}
 use Rattle.cc_node.specs.Node.{Node, step, after, IsLawful}
 use Rattle.cc_node.specs.Opening.{fresh}
@@ -29,77 +31,45 @@ use Rattle.cc_node.specs.Refusals.{decides}
 use Rattle.cc_node.proofs.LawfulLaws.{links_go_on, hears_now}
 use Rattle.cc_node.proofs.RefusalLaws.{takes_delivery}
 use Rattle.cc_laws.specs.Clusters.{Member, Cluster}
-use Rattle.cc_laws.specs.Regular.{released_events}
-use Rattle.cc_laws.specs.Rounds.{awaits_views, awaits_acks, counts, ends_round, begins_anew, with_peer, peers_next, peers_along}
+use Rattle.cc_laws.specs.Regular.{released_events, RoundOf}
+use Rattle.cc_laws.specs.Rounds.{awaits_views, awaits_acks, counts, ends_round, begins_anew, with_peer, peers_next, peers_along, peers_of}
 use Rattle.cc_laws.proofs.Members.{lawful_front}
-use Rattle.cc_laws.proofs.Clustering.{Holds, same_some}
+use Rattle.cc_laws.proofs.Clustering.{Holds, IsAt, one_at}
 use Rattle.cc_laws.proofs.Places.{front_more, at_once}
 use Rattle.cc_laws.proofs.Says.{tag_after, BringsIn, PostSays, GoesTo}
 use Rattle.cc_laws.proofs.Pending.{HasAck, HasReply, Pends, own_parts, core_push, pends}
-use Rattle.cc_laws.proofs.CountedAnswers.{one_there}
-use Rattle.cc_laws.proofs.Knowing.{me_of, poster_is, raised_at, contains_at, contains_front, Posted, posted, came_at}
-use Rattle.cc_laws.proofs.Lists.{all_changed, some_changed, at_some}
-use Rattle.cc_laws.proofs.Traces.{one_at, Traces}
+use Rattle.cc_laws.proofs.CountedAnswers.{one_there, with_all}
+use Rattle.cc_laws.proofs.Knowing.{me_of, raised_at, Posted, posted, came_at, posted_by, came_before, came_last}
+use Rattle.cc_laws.proofs.Lists.{all_changed, at_some, either}
+use Rattle.cc_laws.proofs.Traces.{Traces}
 
 -- ---- answers and rounds
 
 abbrev pub IsAnswerTo : ℕ → ℕ → Message → Type 0
-IsAnswerTo tag q (message.Enter p) = ⊥
-IsAnswerTo tag q (message.EnterEcho c v from_joined p) = ⊥
-IsAnswerTo tag q (message.Join p) = ⊥
-IsAnswerTo tag q (message.JoinEcho p) = ⊥
-IsAnswerTo tag q (message.Leave p) = ⊥
-IsAnswerTo tag q (message.LeaveEcho p) = ⊥
-IsAnswerTo tag q (message.Query t p) = ⊥
 IsAnswerTo tag q (message.QueryReply v t p) = (t ≡ tag) × (p ≡ q)
-IsAnswerTo tag q (message.Store v t p) = ⊥
 IsAnswerTo tag q (message.StoreAck t p) = (t ≡ tag) × (p ≡ q)
-IsAnswerTo tag q (message.Snapshot c v) = ⊥
+IsAnswerTo tag q _ = ⊥
 
 abbrev pub IsRoundOf : ℕ → ℕ → Message → Type 0
-IsRoundOf tag q (message.Enter p) = ⊥
-IsRoundOf tag q (message.EnterEcho c v from_joined p) = ⊥
-IsRoundOf tag q (message.Join p) = ⊥
-IsRoundOf tag q (message.JoinEcho p) = ⊥
-IsRoundOf tag q (message.Leave p) = ⊥
-IsRoundOf tag q (message.LeaveEcho p) = ⊥
 IsRoundOf tag q (message.Query t p) = (t ≡ tag) × (p ≡ q)
-IsRoundOf tag q (message.QueryReply v t p) = ⊥
 IsRoundOf tag q (message.Store v t p) = (t ≡ tag) × (p ≡ q)
-IsRoundOf tag q (message.StoreAck t p) = ⊥
-IsRoundOf tag q (message.Snapshot c v) = ⊥
+IsRoundOf tag q _ = ⊥
 
 answer_says : (c : Core) (e : Event) (tag q : ℕ) (k : Message) → IsAnswerTo tag q k → PostSays c e k → (m : Message) × IsRoundOf tag q m × BringsIn e m
-answer_says c e tag q (message.Enter p) is says = absurd is
-answer_says c e tag q (message.EnterEcho d v j p) is says = absurd is
-answer_says c e tag q (message.Join p) is says = absurd is
-answer_says c e tag q (message.JoinEcho p) is says = absurd is
-answer_says c e tag q (message.Leave p) is says = absurd is
-answer_says c e tag q (message.LeaveEcho p) is says = absurd is
-answer_says c e tag q (message.Query t p) is says = absurd is
 answer_says c e tag q (message.QueryReply v t p) is says = (message.Query t p, is, says.0)
-answer_says c e tag q (message.Store v t p) is says = absurd is
 answer_says c e tag q (message.StoreAck t p) is says = (message.Store says.0 t p, is, says.1)
-answer_says c e tag q (message.Snapshot d v) is says = absurd is
+answer_says c e tag q _ is says = absurd is
 
 round_says : (c : Core) (e : Event) (tag q : ℕ) (m : Message) → IsRoundOf tag q m → PostSays c e m
     → (q ≡ c.me) × (c.ops.tag < tag) × (tag ≡ (next c e).ops.tag)
-round_says c e tag q (message.Enter p) is says = absurd is
-round_says c e tag q (message.EnterEcho d v j p) is says = absurd is
-round_says c e tag q (message.Join p) is says = absurd is
-round_says c e tag q (message.JoinEcho p) is says = absurd is
-round_says c e tag q (message.Leave p) is says = absurd is
-round_says c e tag q (message.LeaveEcho p) is says = absurd is
 round_says c e tag q (message.Query t p) is says = (sym is.1 ∙ says.0, subst (λ (x : ℕ). c.ops.tag < x) is.0 says.1, sym is.0 ∙ says.2)
-round_says c e tag q (message.QueryReply v t p) is says = absurd is
 round_says c e tag q (message.Store v t p) is says = (sym is.1 ∙ says.0, subst (λ (x : ℕ). c.ops.tag < x) is.0 says.1, sym is.0 ∙ says.2)
-round_says c e tag q (message.StoreAck t p) is says = absurd is
-round_says c e tag q (message.Snapshot d v) is says = absurd is
+round_says c e tag q _ is says = absurd is
 
 -- a post goes to a peer under one number
 one_number : (c : Core) (to n k : ℕ) → GoesTo c to n → GoesTo c to k → n ≡ k
 one_number c to n k h g =
-    let link : h.0 ≡ g.0 = same_some h.0 g.0 (sym h.1 ∙ g.1) in
+    let link : h.0 ≡ g.0 = same_Some h.0 g.0 (sym h.1 ∙ g.1) in
     h.2 ∙ ap (λ (l : Link). c.posts - l.start) link ∙ sym g.2
 
 -- ---- what was heard
@@ -145,68 +115,45 @@ goes_there : (start : Node) (before other : List Event) (e f : Event) → before
 goes_there start before other e f same at to n goes = subst (λ (c : Core). GoesTo c to n) (λ i. next (after start (same i)).core (at i)) goes
 
 module _ (c : Cluster) (h : Holds c) (t : Traces c) where
-  -- a message of a round that was delivered was posted by the round's node, as its tag rose
-  record Begun (m : Member) (r w tag : ℕ) : Type 0 where
-    before : List Event
-    raiser : Event
-    later : List Event
-    parts : released_events m ≡ before ++ raiser ∷ later
-    under : (after (fresh m.opening) before).core.ops.tag < tag
-    raised : tag ≡ (after (fresh m.opening) (before ++ raiser ∷ [])).core.ops.tag
-    goes : GoesTo (next (after (fresh m.opening) before).core raiser) r w
-
-  begun_of : (q : ℕ) (m : Member) → table.get c.members q ≡ Some m → (r : ℕ) (x : Member) → table.get c.members r ≡ Some x → (f w tag : ℕ) (k : Message)
-      → IsRoundOf tag q k
-      → Contains x.events (event.Deliver f w k) → (f ≡ q) × Begun m r w tag
-  begun_of q m at r x at_r f w tag k round has =
-      let made = came_at c h t r x at_r f w k has in
-      let p = posted made.0 r w k made.2 in
-      let core = (after (fresh (made.0).opening) p.before).core in
-      let says = round_says core p.poster tag q k round p.says in
-      let is_q : q ≡ f = poster_is f q made.0 (h.sound f made.0 made.1) p.before says.0 in
-      let is_m : made.0 ≡ m = one_at c f q made.0 m (sym is_q) made.1 at in
-      let begun : Begun made.0 r w tag = record {
-        before = p.before;
-        raiser = p.poster;
-        later = p.later;
-        parts = p.parts;
-        under = says.1;
-        raised = raised_at (fresh (made.0).opening) p.before p.poster tag says.2;
-        goes = p.goes;
-      } in
-      (sym is_q, subst (λ (y : Member). Begun y r w tag) is_m begun)
-
-  begun_once : (q : ℕ) (m : Member) → table.get c.members q ≡ Some m → (r w z tag : ℕ) → Begun m r w tag → Begun m r z tag → w ≡ z
-  begun_once q m at r w z tag a b =
+  -- a node posted one message of a round to a peer, as its tag rose
+  posted_once : (q : ℕ) (m : Member) → IsAt c q m → (r w z tag : ℕ) (k j : Message) → IsRoundOf tag q k → IsRoundOf tag q j
+      → Posted m r w k → Posted m r z j → w ≡ z
+  posted_once q m at r w z tag k j of_k of_j a b =
       let start = fresh m.opening in
       let lawful = lawful_front start m.events m.released (h.sound q m at).lawful in
-      let one = at_once (λ n. n.core.ops.tag) tag_after start (released_events m) lawful a.before a.later b.before b.later a.raiser b.raiser a.parts b.parts tag
-      a.under (omega (arith, a.raised)) b.under (omega (arith, b.raised)) in
-      one_number (next (after start b.before).core b.raiser) r w z (goes_there start a.before b.before a.raiser b.raiser one.0 one.1 r w a.goes) b.goes
+      let first = round_says (after start a.before).core a.poster tag q k of_k a.says in
+      let second = round_says (after start b.before).core b.poster tag q j of_j b.says in
+      let one = at_once (λ n. n.core.ops.tag) tag_after start (released_events m) lawful
+      a.before a.later b.before b.later a.poster b.poster a.parts b.parts tag
+      first.1 (omega (arith, raised_at start a.before a.poster tag first.2)) second.1 (omega (arith, raised_at start b.before b.poster tag second.2)) in
+      one_number (next (after start b.before).core b.poster) r w z (goes_there start a.before b.before a.poster b.poster one.0 one.1 r w a.goes) b.goes
 
   -- of an answer that was posted: which message of its round it answers, and that this was heard with it
   record Made (q r : ℕ) (m x : Member) (tag n : ℕ) (k : Message) (p : Posted x q n k) : Type 0 where
     wire : ℕ
-    begun : Begun m r wire tag
+    round : Message
+    of_round : IsRoundOf tag q round
+    begun : Posted m r wire round
     heard : HeardAt (fresh x.opening) p.before p.poster q wire
 
-  answer_made : (q : ℕ) (m : Member) → table.get c.members q ≡ Some m → (r : ℕ) (x : Member) → table.get c.members r ≡ Some x → (tag n : ℕ) (k : Message)
+  answer_made : (q : ℕ) (m : Member) → IsAt c q m → (r : ℕ) (x : Member) → IsAt c r x → (tag n : ℕ) (k : Message)
       → IsAnswerTo tag q k → (p : Posted x q n k) → Made q r m x tag n k p
   answer_made q m at r x there tag n k of_k p =
       let start = fresh x.opening in
       let lawful = lawful_front start x.events x.released (h.sound r x there).lawful in
       let asks = answer_says (after start p.before).core p.poster tag q k of_k p.says in
-      let got : Contains x.events (event.Deliver asks.2.0 asks.2.1 asks.0) =
-      contains_front x.released x.events _ (subst (Contains (released_events x)) asks.2.2 (contains_at (released_events x) p.before p.later p.poster p.parts)) in
-      let begun = begun_of q m at r x there asks.2.0 asks.2.1 tag asks.0 asks.1 got in
+      let got = came_last x p.before p.later p.poster (event.Deliver asks.2.0 asks.2.1 asks.0) p.parts asks.2.2 in
+      let begun = posted_by c h t q m at r x there asks.2.0 asks.2.1 asks.0 (λ d e says. (round_says d e tag q asks.0 asks.1 says).0) got in
       record {
         wire = asks.2.1;
+        round = asks.0;
+        of_round = asks.1;
         begun = begun.1;
         heard = subst (λ (f : ℕ). HeardAt start p.before p.poster f asks.2.1) begun.0
             (heard_at start (released_events x) p.before p.later p.poster lawful p.parts asks.2.0 asks.2.1 asks.0 asks.2.2);
       }
 
-  pub one_answer : (q : ℕ) (m : Member) → table.get c.members q ≡ Some m → (tag r n i : ℕ) (k j : Message) → IsAnswerTo tag q k → IsAnswerTo tag q j
+  pub one_answer : (q : ℕ) (m : Member) → IsAt c q m → (tag r n i : ℕ) (k j : Message) → IsAnswerTo tag q k → IsAnswerTo tag q j
       → Contains m.events (event.Deliver r n k) → Contains m.events (event.Deliver r i j) → n ≡ i
   one_answer q m at tag r n i k j of_k of_j first second =
       let made_k = came_at c h t q m at r n k first in
@@ -219,8 +166,10 @@ module _ (c : Cluster) (h : Holds c) (t : Traces c) where
       let lawful = lawful_front start x.events x.released (h.sound r x made_k.1).lawful in
       let of_a = answer_made q m at r x made_k.1 tag n k of_k a in
       let of_b = answer_made q m at r x made_k.1 tag i j of_j b in
-      let wires : of_a.wire ≡ of_b.wire = begun_once q m at r of_a.wire of_b.wire tag of_a.begun of_b.begun in
-      let one = at_once (λ s. heard_from q s.core.links) (heard_after q) start (released_events x) lawful a.before a.later b.before b.later a.poster b.poster a.parts b.parts of_b.wire
+      let wires : of_a.wire ≡ of_b.wire =
+      posted_once q m at r of_a.wire of_b.wire tag of_a.round of_b.round of_a.of_round of_b.of_round of_a.begun of_b.begun in
+      let one = at_once (λ s. heard_from q s.core.links) (heard_after q) start (released_events x) lawful
+      a.before a.later b.before b.later a.poster b.poster a.parts b.parts of_b.wire
       (omega (arith, of_a.heard.under, wires)) (omega (arith, of_a.heard.now, wires)) of_b.heard.under (omega (arith, of_b.heard.now)) in
       one_number (next (after start b.before).core b.poster) q n i (goes_there start a.before b.before a.poster b.poster one.0 one.1 q n a.goes) b.goes
 
@@ -229,51 +178,30 @@ module _ (c : Cluster) (h : Holds c) (t : Traces c) where
 abbrev pub HasAnswer : List Event → ℕ → ℕ → ℕ → Type 0
 HasAnswer past me tag r = (n : ℕ) × (k : Message) × Contains past (event.Deliver r n k) × IsAnswerTo tag me k
 
-ack_answers : (past : List Event) (me tag : ℕ) (peers : List ℕ) → AllByRecursion (HasAck past me tag) peers → AllByRecursion (HasAnswer past me tag) peers
-ack_answers past me tag peers h = all_changed (HasAck past me tag) (HasAnswer past me tag) (λ r a. (a.0, message.StoreAck tag me, a.1, (refl, refl))) peers h
-
-reply_answers : (past : List Event) (me tag : ℕ) (view : ViewMap) (peers : List ℕ) → AllByRecursion (HasReply past me tag view) peers
-    → AllByRecursion (HasAnswer past me tag) peers
-reply_answers past me tag view peers h =
-    all_changed (HasReply past me tag view) (HasAnswer past me tag) (λ r a. (a.0, message.QueryReply a.1 tag me, a.2, (refl, refl))) peers h
-
 phase_answers : (start : Node) (past : List Event) (peers : List ℕ) (me number : ℕ) (view : ViewMap) (tag : ℕ) (others : List Asked) (phase : Phase)
     → Pends start past peers me number view tag others phase
     → AllByRecursion (HasAnswer past me tag) peers
 phase_answers start past peers me number view tag others Idle h = subst (AllByRecursion (HasAnswer past me tag)) (sym h) tt
-phase_answers start past peers me number view tag others (Storing p) h = ack_answers past me tag peers h.1
-phase_answers start past peers me number view tag others (Querying p) h = reply_answers past me tag view peers h.1
-phase_answers start past peers me number view tag others (StoringBack p seen) h = ack_answers past me tag peers h.1
+phase_answers start past peers me number view tag others (Querying p) h =
+    all_changed (HasReply past me tag view) (HasAnswer past me tag) (λ r a. (a.0, message.QueryReply a.1 tag me, a.2, (refl, refl))) peers h.1
+phase_answers start past peers me number view tag others _ h =
+    all_changed (HasAck past me tag) (HasAnswer past me tag) (λ r a. (a.0, message.StoreAck tag me, a.1, (refl, refl))) peers h.1
 
 abbrev pub IsAnswerFrom : Core → Event → ℕ → Type 0
 IsAnswerFrom c e r = (n : ℕ) × (k : Message) × (e ≡ event.Deliver r n k) × IsAnswerTo c.ops.tag c.me k
 
 message_answer : (c : Core) (from n : ℕ) (m : Message) → IfSome (counts c (event.Deliver from n m)) (IsAnswerFrom c (event.Deliver from n m))
-message_answer c from n (message.Enter q) = tt
-message_answer c from n (message.EnterEcho d v j q) = tt
-message_answer c from n (message.Join q) = tt
-message_answer c from n (message.JoinEcho q) = tt
-message_answer c from n (message.Leave q) = tt
-message_answer c from n (message.LeaveEcho q) = tt
-message_answer c from n (message.Query tag q) = tt
 message_answer c from n (message.QueryReply v tag q) =
     one_there (is_own c.me tag q c.ops) (awaits_views c.ops.phase) from (IsAnswerFrom c (event.Deliver from n (message.QueryReply v tag q)))
     (λ own. let is = own_parts c.me tag q c.ops own in (n, message.QueryReply v tag q, refl, (is.1, is.0)))
-message_answer c from n (message.Store v tag q) = tt
 message_answer c from n (message.StoreAck tag q) =
     one_there (is_own c.me tag q c.ops) (awaits_acks c.ops.phase) from (IsAnswerFrom c (event.Deliver from n (message.StoreAck tag q)))
     (λ own. let is = own_parts c.me tag q c.ops own in (n, message.StoreAck tag q, refl, (is.1, is.0)))
-message_answer c from n (message.Snapshot d v) = tt
+message_answer c from n _ = tt
 
 pub counted_answer : (c : Core) (e : Event) → IfSome (counts c e) (IsAnswerFrom c e)
-counted_answer c event.Enter = tt
-counted_answer c event.Leave = tt
 counted_answer c (event.Deliver from n m) = message_answer c from n m
-counted_answer c (event.Acked peer n) = tt
-counted_answer c (event.Ask s r command) = tt
-counted_answer c (event.Retire q) = tt
-counted_answer c (event.Lapse q) = tt
-counted_answer c event.Snapshot = tt
+counted_answer c _ = tt
 
 one_of_one : (x y : Event) (k : ℕ) → k < 1 → slice_index_or (x ∷ []) k y ≡ y → x ≡ y
 one_of_one x y zero le is = is
@@ -311,49 +239,48 @@ any_holds P x (y ∷ xs) is h =
       | inr e ↦ any_holds P x xs e h.1
     ]
 
-none_if : (b : Bool) → (b ≡ true → ⊥) → b ≡ false
-none_if true f = absurd (f refl)
-none_if false f = refl
-
 peers_push : (n : Node) (peers : List ℕ) (xs ys : List Event) → peers_along n peers (xs ++ ys) ≡ peers_along (after n xs) (peers_along n peers xs) ys
 peers_push n peers [] ys = refl
 peers_push n peers (x ∷ xs) ys = peers_push (step n x) (peers_next n.core x peers) xs ys
 
-module _ (c : Cluster) (h : Holds c) (t : Traces c) (q : ℕ) (m : Member) (at : table.get c.members q ≡ Some m) where
+module _ (c : Cluster) (h : Holds c) (t : Traces c) (q : ℕ) (m : Member) (at : IsAt c q m) where
   abbrev begin : Node
   begin = fresh m.opening
 
   lawful_all : IsLawful begin (released_events m)
   lawful_all = lawful_front begin m.events m.released (h.sound q m at).lawful
 
-  pub new_peer : (front later : List Event) (last : Event) → released_events m ≡ front ++ last ∷ later → (r : ℕ)
-      → counts (after begin front).core last ≡ Some r
-      → list_any (nat_eq r) (peers_along begin [] front) ≡ false
-  new_peer front later last parts r is =
-      let d = (after begin front).core in
-      let all_then = lawful_parts begin front (last ∷ later) (subst (IsLawful begin) parts lawful_all) in
-      let now = at_some (IsAnswerFrom d last) (counts d last) r is (counted_answer d last) in
-      let me : d.me ≡ q = me_of q m (h.sound q m at) front in
-      none_if (list_any (nat_eq r) (peers_along begin [] front)) (λ there.
-      let old = any_holds (HasAnswer front d.me d.ops.tag) r (peers_along begin [] front) there
-      (phase_answers begin front (peers_along begin [] front) d.me d.ops.number d.ops.view d.ops.tag d.ops.others d.ops.phase (pends m.opening front)) in
-      let old_there : Contains m.events (event.Deliver r old.0 old.1) =
-      contains_front m.released m.events _ (subst (λ (l : List Event). Contains l (event.Deliver r old.0 old.1)) (sym parts) (Contains-append_left front (last ∷ later) _ old.2)) in
-      let new_there : Contains m.events (event.Deliver r now.0 now.1) =
-      contains_front m.released m.events _ (subst (Contains (released_events m)) now.2 (contains_at (released_events m) front later last parts)) in
-      let same = one_answer c h t q m at d.ops.tag r old.0 now.0 old.1 now.1 (subst (λ (x : ℕ). IsAnswerTo d.ops.tag x old.1) me old.3) (subst (λ (x : ℕ). IsAnswerTo d.ops.tag x now.1) me now.3) old_there new_there in
-      let low = heard_past begin front all_then.0 r old.0 old.1 old.2 in
-      let high = heard_new d r now.0 now.1 (subst (λ (x : Event). decides d x ≡ None) now.2 all_then.1.0) in
-      omega (arith, same, low, high))
+  module _ (front later : List Event) (last : Event) (parts : released_events m ≡ front ++ last ∷ later) where
+    abbrev d : Core
+    d = (after begin front).core
 
-  with_apart : (front later : List Event) (last : Event) → released_events m ≡ front ++ last ∷ later → Apart (peers_along begin [] front)
-      → Apart (with_peer (counts (after begin front).core last) (peers_along begin [] front))
-  with_apart front later last parts apart = one_more (counts (after begin front).core last) (new_peer front later last parts)
-    where
-      one_more : (o : Option ℕ) → ((r : ℕ) → o ≡ Some r → list_any (nat_eq r) (peers_along begin [] front) ≡ false)
-          → Apart (with_peer o (peers_along begin [] front))
-      one_more None new = apart
-      one_more (Some r) new = (new r refl, apart)
+    abbrev peers : List ℕ
+    peers = peers_along begin [] front
+
+    -- those that a round counted before its last one
+    old_answers : AllByRecursion (HasAnswer front d.me d.ops.tag) peers
+    old_answers = phase_answers begin front peers d.me d.ops.number d.ops.view d.ops.tag d.ops.others d.ops.phase (pends m.opening front)
+
+    new_peer : (r : ℕ) → counts d last ≡ Some r → list_any (nat_eq r) peers ≡ false
+    new_peer r is =
+        let all_then = lawful_parts begin front (last ∷ later) (subst (IsLawful begin) parts lawful_all) in
+        let now = at_some (IsAnswerFrom d last) (counts d last) r is (counted_answer d last) in
+        let me : d.me ≡ q = me_of q m (h.sound q m at) front in
+        false_from_ne_true (list_any (nat_eq r) peers) (λ there.
+        let old = any_holds (HasAnswer front d.me d.ops.tag) r peers there old_answers in
+        let same = one_answer c h t q m at d.ops.tag r old.0 now.0 old.1 now.1
+        (subst (λ (x : ℕ). IsAnswerTo d.ops.tag x old.1) me old.3) (subst (λ (x : ℕ). IsAnswerTo d.ops.tag x now.1) me now.3)
+        (came_before m front later last _ parts old.2) (came_last m front later last _ parts now.2) in
+        let low = heard_past begin front all_then.0 r old.0 old.1 old.2 in
+        let high = heard_new d r now.0 now.1 (subst (λ (x : Event). decides d x ≡ None) now.2 all_then.1.0) in
+        omega (arith, same, low, high))
+
+    with_apart : Apart peers → Apart (with_peer (counts d last) peers)
+    with_apart apart = one_more (counts d last) new_peer
+      where
+        one_more : (o : Option ℕ) → ((r : ℕ) → o ≡ Some r → list_any (nat_eq r) peers ≡ false) → Apart (with_peer o peers)
+        one_more None new = apart
+        one_more (Some r) new = (new r refl, apart)
 
   apart_from : (past rest later : List Event) → released_events m ≡ (past ++ rest) ++ later → Apart (peers_along begin [] past)
       → Apart (peers_along begin [] (past ++ rest))
@@ -361,35 +288,28 @@ module _ (c : Cluster) (h : Holds c) (t : Traces c) (q : ℕ) (m : Member) (at :
   apart_from past (e ∷ rest) later parts apart =
       let one : past ++ e ∷ rest ≡ (past ++ e ∷ []) ++ rest = front_more past rest e in
       let here : released_events m ≡ past ++ e ∷ (rest ++ later) = parts ∙ append_assoc past (e ∷ rest) later in
-      let d = (after begin past).core in
-      let ps = peers_along begin [] past in
-      let next_apart : Apart (peers_next d e ps) = either (begins_anew d e || ends_round d e) (with_peer (counts d e) ps) (with_apart past (rest ++ later) e here apart) in
+      let core = (after begin past).core in
+      let ps = with_peer (counts core e) (peers_along begin [] past) in
+      let next_apart : Apart (peers_next core e (peers_along begin [] past)) =
+      either Apart (begins_anew core e || ends_round core e) [] ps tt (with_apart past (rest ++ later) e here apart) in
       let apart_then : Apart (peers_along begin [] (past ++ e ∷ [])) = subst Apart (sym (peers_push begin [] past (e ∷ []))) next_apart in
       subst (λ (l : List Event). Apart (peers_along begin [] l)) (sym one)
       (apart_from (past ++ e ∷ []) rest later (parts ∙ ap (λ (l : List Event). l ++ later) one) apart_then)
-    where
-      either : (b : Bool) (peers : List ℕ) → Apart peers → Apart (if b then [] else peers)
-      either true peers apart = tt
-      either false peers apart = apart
 
-  pub peers_apart : (front later : List Event) (last : Event) → released_events m ≡ front ++ last ∷ later
-      → Apart (with_peer (counts (after begin front).core last) (peers_along begin [] front))
-  peers_apart front later last parts = with_apart front later last parts (apart_from [] front (last ∷ later) parts tt)
+  module _ (round : RoundOf m) where
+    pub peers_apart : Apart (peers_of begin (released_events m) round)
+    peers_apart =
+        with_apart round.before round.later round.last round.parts (apart_from [] round.before (round.last ∷ round.later) round.parts tt)
 
-  -- each of them is a member
-  pub peers_there : (P : ℕ → Type 0) → ((r : ℕ) (x : Member) → table.get c.members r ≡ Some x → P r) → (front later : List Event) (last : Event)
-      → released_events m ≡ front ++ last ∷ later
-      → AllByRecursion P (with_peer (counts (after begin front).core last) (peers_along begin [] front))
-  peers_there P f front later last parts =
-      let d = (after begin front).core in
-      let of_sent : (r n : ℕ) (k : Message) → Contains m.events (event.Deliver r n k) → P r = λ r n k has. let made = came_at c h t q m at r n k has in f r made.0 made.1 in
-      let old : AllByRecursion P (peers_along begin [] front) =
-      all_changed (HasAnswer front d.me d.ops.tag) P (λ r a. of_sent r a.0 a.1
-      (contains_front m.released m.events _ (subst (λ (l : List Event). Contains l (event.Deliver r a.0 a.1)) (sym parts) (Contains-append_left front (last ∷ later) _ a.2))))
-      (peers_along begin [] front) (phase_answers begin front (peers_along begin [] front) d.me d.ops.number d.ops.view d.ops.tag d.ops.others d.ops.phase (pends m.opening front)) in
-      with_each (counts d last) (peers_along begin [] front) (some_changed (IsAnswerFrom d last) P (λ r a. of_sent r a.0 a.1
-      (contains_front m.released m.events _ (subst (Contains (released_events m)) a.2 (contains_at (released_events m) front later last parts)))) (counts d last) (counted_answer d last)) old
-    where
-      with_each : (o : Option ℕ) (peers : List ℕ) → IfSome o P → AllByRecursion P peers → AllByRecursion P (with_peer o peers)
-      with_each None peers g k = k
-      with_each (Some x) peers g k = (g, k)
+    -- each of them is a member
+    pub peers_there : (P : ℕ → Type 0) → ((r : ℕ) (x : Member) → IsAt c r x → P r) → AllByRecursion P (peers_of begin (released_events m) round)
+    peers_there P f =
+        let front = round.before in
+        let core = (after begin front).core in
+        let of_sent : (r n : ℕ) (k : Message) → Contains m.events (event.Deliver r n k) → P r =
+        λ r n k has. let made = came_at c h t q m at r n k has in f r made.0 made.1 in
+        with_all P (counts core round.last) (peers_along begin [] front)
+        (IfSome_then (counts core round.last) {P = IsAnswerFrom core round.last} {Q = P} (counted_answer core round.last)
+        (λ r a. of_sent r a.0 a.1 (came_last m front round.later round.last _ round.parts a.2)))
+        (all_changed (HasAnswer front core.me core.ops.tag) P (λ r a. of_sent r a.0 a.1 (came_before m front round.later round.last _ round.parts a.2))
+        (peers_along begin [] front) (old_answers front round.later round.last round.parts))

@@ -50,11 +50,12 @@ merged_old (suc n) mine (Some p) old =
     let own : Pair = (suc n, mine) in
     ap (λ (b : Bool). Some (cond b p own)) (le-ltb (suc n) p.0 old.1)
 
-get_own_row : (me : ℕ) (s : Ops) (asks : List Asked) → table.get (row_of me s asks) me ≡ Some (s.number + writes_by asks, written_by asks s.mine)
+pub get_own_row : (me : ℕ) (s : Ops) (asks : List Asked) → table.get (row_of me s asks) me ≡ Some (s.number + writes_by asks, written_by asks s.mine)
 get_own_row me s asks =
     get-single _ me ∙ ap (λ b. cond b (Some (s.number + writes_by asks, written_by asks s.mine)) None) (eq-eqb me me refl)
 
-begun_own : (me : ℕ) (s : Ops) (asks : List Asked) → HasOwnRow me s → table.get (with_row me s asks) me ≡ own_pair (s.number + writes_by asks) (written_by asks s.mine)
+begun_own : (me : ℕ) (s : Ops) (asks : List Asked) → HasOwnRow me s
+    → table.get (with_row me s asks) me ≡ own_pair (s.number + writes_by asks) (written_by asks s.mine)
 begun_own me s asks own =
     let later = s.number + writes_by asks in
     let w = written_by asks s.mine in

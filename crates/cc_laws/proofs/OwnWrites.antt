@@ -6,6 +6,7 @@ use Rattle.std.specs.Prelude.{Some}
 use Rattle.std.specs.FinMap as table
 use Rattle.std.specs.Ordering.{nat_cmp}
 use Rattle.std.proofs.lemmas.List.{take_all}
+use Rattle.std.proofs.lemmas.Option.{same_Some}
 use Rattle.cc_views.specs.Rows.{Pair}
 use Rattle.cc_views.specs.declared.value.Value.{Value}
 use Rattle.cc_messages.specs.declared.event.Event.{Event}
@@ -20,7 +21,6 @@ use Rattle.cc_laws.specs.Shown.{Has}
 use Rattle.cc_laws.specs.Histories.{view_at, BringsOldRows}
 use Rattle.cc_laws.specs.Written.{IsWriteOf}
 use Rattle.cc_laws.proofs.OwnRows.{own_pair, HasOwnRow, own_step}
-use Rattle.cc_laws.proofs.Following.{same_pair}
 use Rattle.cc_laws.proofs.Steps.{me_next}
 use Rattle.cc_laws.proofs.Written.{last_write}
 use Rattle.cc_laws.proofs.Writing.{begun_write, write_front, fresh_me, fresh_number, fresh_mine}
@@ -32,7 +32,7 @@ own_along n es own old zero = own
 own_along n [] own old (suc j) = own
 own_along n (e ∷ es) own old (suc j) = own_along (step n e) es (own_step n.core e own old.0) old.1 j
 
-me_along : (n : Node) (es : List Event) → (after n es).core.me ≡ n.core.me
+pub me_along : (n : Node) (es : List Event) → (after n es).core.me ≡ n.core.me
 unfolding step
 me_along n [] = refl
 me_along n (e ∷ es) = me_along (step n e) es ∙ me_next n.core e
@@ -45,25 +45,26 @@ fresh_own o = table.get-empty nat_cmp o.me
 at_own : (number : ℕ) (mine x : Value) (k : ℕ) → own_pair number mine ≡ Some (k, x) → (before : ℕ) × (number ≡ suc before) × (k ≡ before + 1) × (mine ≡ x)
 at_own zero mine x k is = cc
 at_own (suc n) mine x k is =
-    let same = same_pair (suc n, mine) (k, x) is in
+    let same = same_Some {A = Pair} (suc n, mine) (k, x) is in
     let number : suc n ≡ k = ap (λ (p : Pair). p.0) same in
     (n, refl, omega (arith, number), ap (λ (p : Pair). p.1) same)
 
-own_row : (o : Opening) (es : List Event) → BringsOldRows (fresh o) es → (j : ℕ)
-    → table.get (view_at (fresh o) es j) o.me ≡ own_pair (after (fresh o) (take j es)).core.ops.number (after (fresh o) (take j es)).core.ops.mine
+-- the own pair in a node's view is that of its last write
+abbrev HasOwn : ℕ → Node → Type 0
+HasOwn me n = table.get n.core.ops.view me ≡ own_pair n.core.ops.number n.core.ops.mine
+
+own_row : (o : Opening) (es : List Event) → BringsOldRows (fresh o) es → (j : ℕ) → HasOwn o.me (after (fresh o) (take j es))
 own_row o es old j =
     let n = after (fresh o) (take j es) in
     let me : n.core.me ≡ o.me = me_along (fresh o) (take j es) ∙ fresh_me o in
-    subst (λ (q : ℕ). table.get n.core.ops.view q ≡ own_pair n.core.ops.number n.core.ops.mine) me (own_along (fresh o) es (fresh_own o) old j)
+    subst (λ (q : ℕ). HasOwn q n) me (own_along (fresh o) es (fresh_own o) old j)
 
 pub own_last : (o : Opening) (es : List Event) → BringsOldRows (fresh o) es → (k : ℕ) (x : Value) → Has (after (fresh o) es).core.ops.view o.me k x
     → ((after (fresh o) es).core.ops.number ≡ k) × ((after (fresh o) es).core.ops.mine ≡ x)
 own_last o es old k x here =
     let n = after (fresh o) es in
     let all : take (length es) es ≡ es = take_all (length es) es (omega arith) in
-    let own : table.get n.core.ops.view o.me ≡ own_pair n.core.ops.number n.core.ops.mine =
-    subst (λ (l : List Event). table.get (after (fresh o) l).core.ops.view o.me ≡ own_pair (after (fresh o) l).core.ops.number (after (fresh o) l).core.ops.mine) all
-    (own_row o es old (length es)) in
+    let own : HasOwn o.me n = subst (λ (l : List Event). HasOwn o.me (after (fresh o) l)) all (own_row o es old (length es)) in
     let write = at_own n.core.ops.number n.core.ops.mine x k (sym own ∙ here) in
     (omega (arith, write.1, write.2), write.3)
 

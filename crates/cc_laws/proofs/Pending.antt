@@ -3,15 +3,15 @@
 --     Raised                an event raised the tag, and of the core after it something holds
 --     ReadBefore            a query ended, and this was seen with it
 --     Pends, pends          each of these holds of the round that pends after a list of events
-use Rattle.std.proofs.Common.{◌≡◌, ℕ, ◌+◌, ◌<◌, ◌≤◌, Bool, true, false, cond, List, ◌∷◌, ◌++◌, refl, sym, ap, subst, ◌∙◌, arith, append_assoc, []}
+use Rattle.std.proofs.Common.{◌≡◌, ℕ, ◌+◌, ◌<◌, ◌≤◌, Bool, true, false, List, ◌∷◌, ◌++◌, refl, sym, ap, subst, ◌∙◌, arith, append_assoc, []}
 use Rattle.std.specs.Prelude.{◌&&◌, ◌||◌, ◌==◌, not, Option, Some, None, IsSomeAnd, if◌then◌else◌}
 use Rattle.std.specs.Bool.{then_some}
 use Rattle.std.specs.List.{Contains, AllByRecursion}
 use Rattle.std.specs.FinMap as table
-use Rattle.std.proofs.lemmas.Bool.{and_parts, and_from, eqb-true, eq-eqb}
+use Rattle.std.proofs.lemmas.Bool.{and_parts, and_from, eqb-true}
 use Rattle.std.proofs.lemmas.List.{append-nil}
 use Rattle.std.proofs.lemmas.List.Elements.{Contains-append_left, Contains-push}
-use Rattle.cc_views.specs.Rows.{Pair, ViewMap, single}
+use Rattle.cc_views.specs.Rows.{Pair, ViewMap}
 use Rattle.cc_views.specs.Merge.{merge, IsKept, IsAtMost}
 use Rattle.cc_views.specs.MergeLaws.{at_most_same, at_most_merge, at_most_trans, merged_at_most}
 use Rattle.cc_messages.specs.declared.event.Event.{Event}
@@ -20,10 +20,10 @@ use Rattle.cc_messages.specs.declared.message.Message.{Message}
 use Rattle.cc_messages.specs.declared.message.Message.TheVariants as message
 use Rattle.cc_ops.specs.declared.pending.Asked.{Asked}
 use Rattle.cc_ops.specs.declared.pending.Pending.{Pending}
-use Rattle.cc_ops.specs.Commands.{is_writing}
 use Rattle.cc_ops.specs.Rounds.{first_round, line_behind}
-use Rattle.cc_ops.specs.Waiting.{writes_by, written_by}
-use Rattle.cc_ops.specs.Ops.{Ops, Phase, Idle, Storing, Querying, StoringBack, is_idle, is_last, is_own, round_of, counted, merged, next_round, with_written, with_own_row, begin_round, with_begun, after_reply, after_last, after_ack, ends_query, ends_store, again, asked_in, pending}
+use Rattle.cc_ops.specs.Waiting.{writes_by}
+use Rattle.cc_ops.specs.Ops.{Ops, Phase, Idle, Storing, Querying, StoringBack, is_idle, is_last, is_own, round_of, counted, merged, next_round, begin_round}
+use Rattle.cc_ops.specs.Ops.{with_begun, after_reply, after_last, after_ack, ends_query, ends_store, again, asked_in, pending}
 use Rattle.cc_churn.specs.Churn as churn
 use Rattle.cc_node.specs.Core.{Core, quorum, asked_of, skips, churn_told, anew_if, next}
 use Rattle.cc_node.specs.Node.{Node, step, after}
@@ -32,9 +32,10 @@ use Rattle.cc_laws.specs.Regular.{HasAtLeast}
 use Rattle.cc_laws.specs.Rounds.{awaits_views, awaits_acks, ends_round, begins_anew, with_peer, peers_next, peers_along}
 use Rattle.cc_laws.proofs.Lists.{all_changed}
 use Rattle.cc_laws.proofs.Places.{after_push}
-use Rattle.cc_laws.proofs.Rows.{get-single}
 use Rattle.cc_laws.proofs.Says.{stored_of}
-use Rattle.cc_laws.proofs.Steps.{me_next}
+use Rattle.cc_laws.proofs.Steps.{me_next, row_of}
+use Rattle.cc_laws.proofs.Becoming.{of_round}
+use Rattle.cc_laws.proofs.OwnRows.{get_own_row}
 
 abbrev pub HasAck : List Event → ℕ → ℕ → ℕ → Type 0
 HasAck past me tag r = (n : ℕ) × Contains past (event.Deliver r n (message.StoreAck tag me))
@@ -90,17 +91,10 @@ least_kept (Some p) (Some q) k h l = omega (arith, h, l)
 pub least_more : (v w : ViewMap) (q k : ℕ) → IsAtMost v w → HasAtLeast v q k → HasAtLeast w q k
 least_more v w q k h l = least_kept (table.get v q) (table.get w q) k (h q) l
 
--- the row of a round that writes
-abbrev written_row : ℕ → Ops → List Asked → ViewMap
-written_row me s asks = single (record { node = me; number = s.number + writes_by asks; value = written_by asks s.mine })
-
-own_least : (me : ℕ) (s : Ops) (asks : List Asked) → HasAtLeast (merge s.view (written_row me s asks)) me (s.number + writes_by asks)
+own_least : (me : ℕ) (s : Ops) (asks : List Asked) → HasAtLeast (merge s.view (row_of me s asks)) me (s.number + writes_by asks)
 own_least me s asks =
-    let number = s.number + writes_by asks in
-    let w = written_by asks s.mine in
-    let own : table.get (written_row me s asks) me ≡ Some (number, w) =
-    get-single _ me ∙ ap (λ b. cond b (Some (number, w)) None) (eq-eqb me me refl) in
-    subst (λ (o : Option Pair). IsKept o (table.get (merge s.view (written_row me s asks)) me)) own (merged_at_most s.view (written_row me s asks) me)
+    let row = row_of me s asks in
+    subst (λ (o : Option Pair). IsKept o (table.get (merge s.view row) me)) (get_own_row me s asks) (merged_at_most s.view row me)
 
 -- ---- own answers
 
@@ -174,7 +168,8 @@ module _ (start : Node) (past : List Event) (e : Event) where
   same_pends : (peers : List ℕ) (me : ℕ) (s : Ops) (phase : Phase) → s.phase ≡ phase → Pends start past peers me s.number s.view s.tag s.others phase
       → Pends start now peers me s.number s.view s.tag s.others s.phase
   same_pends peers me s phase is h =
-      subst (Pends start now peers me s.number s.view s.tag s.others) (sym is) (pends_more peers me s.number s.view s.view s.tag s.others phase (at_most_same s.view) h)
+      subst (Pends start now peers me s.number s.view s.tag s.others) (sym is)
+      (pends_more peers me s.number s.view s.view s.tag s.others phase (at_most_same s.view) h)
 
   module _ (c : Core) (at : c ≡ (after start past).core) where
     raise_now : (tag : ℕ) (Q : Core → Type 0) → c.ops.tag < tag → (next c e).ops.tag ≡ tag → Q (next c e) → Raised start now tag Q
@@ -196,20 +191,19 @@ module _ (start : Node) (past : List Event) (e : Event) where
     begins me quorum [] s old is = refl
     begins me quorum (a ∷ others) s old next_is =
         let asks = a ∷ others in
-        let W = next_round (Storing (round_of quorum a)) (with_own_row me (with_written asks s)) in
-        let R = next_round (Querying (round_of quorum a)) s in
-        let number = s.number + writes_by asks in
         let under : c.ops.tag < s.tag + 1 = omega (arith, old) in
-        elim (is_writing a.command)
-        as (λ b. (next c e).ops ≡ record (if b then W else R) { others = others } → PendsIn start now [] me (record (if b then W else R) { others = others })) [
-          | true ↦ λ is. (
-            raise_now (s.tag + 1) (λ d. HasAtLeast (stored_of d.ops) me number) under (ap (λ (t : Ops). t.tag) is)
-                (subst (λ (t : Ops). HasAtLeast (stored_of t) me number) (sym is) (own_least me s asks)),
-            tt,
-            own_least me s asks,
-          )
-          | false ↦ λ is. (raise_now (s.tag + 1) (IsQueryOf asks) under (ap (λ (t : Ops). t.tag) is) (round_of quorum a, ap (λ (t : Ops). t.phase) is, ap pending is), tt)
-        ] next_is
+        of_round (λ t. (next c e).ops ≡ t → PendsIn start now [] me t) me quorum a others s
+        (λ _ is. (
+          raise_now (s.tag + 1) (λ d. HasAtLeast (stored_of d.ops) me (s.number + writes_by asks)) under (ap (λ (t : Ops). t.tag) is)
+              (subst (λ (t : Ops). HasAtLeast (stored_of t) me (s.number + writes_by asks)) (sym is) (own_least me s asks)),
+          tt,
+          own_least me s asks,
+        ))
+        (λ _ is. (
+          raise_now (s.tag + 1) (IsQueryOf asks) under (ap (λ (t : Ops). t.tag) is)
+              (round_of quorum a, ap (λ (t : Ops). t.phase) is, ap pending is),
+          tt,
+        )) next_is
 
     ends : (me quorum : ℕ) (s : Ops) → s.tag ≡ c.ops.tag → (next c e).ops ≡ after_last me quorum s → PendsIn start now [] me (after_last me quorum s)
     ends me quorum s old is = begins me quorum (first_round s.share s.line) (record s { line = line_behind s.share s.line }) old is
@@ -219,7 +213,8 @@ module _ (start : Node) (past : List Event) (e : Event) where
           → is_own me tag q s ≡ b
           → (phase : Phase) → s.phase ≡ phase → (next c e).ops ≡ (if b then after_ack me quorum phase s else s)
           → Pends start past peers me s.number s.view s.tag s.others phase
-          → PendsIn start now (if b && ends_store phase then [] else with_peer (then_some (b && awaits_acks phase) from) peers) me (if b then after_ack me quorum phase s else s)
+          → PendsIn start now (if b && ends_store phase then [] else with_peer (then_some (b && awaits_acks phase) from) peers) me
+          (if b then after_ack me quorum phase s else s)
       ack_pends me quorum tag q peers s old it false own phase is next_is h = same_pends peers me s phase is h
       ack_pends me quorum tag q peers s old it true own Idle is next_is h = same_pends peers me s Idle is h
       ack_pends me quorum tag q peers s old it true own (Storing p) is next_is h =
@@ -251,7 +246,8 @@ module _ (start : Node) (past : List Event) (e : Event) where
           → (ends_round c e ≡ (is_own me tag q s && ends_query s.phase))
           → (phase : Phase) → s.phase ≡ phase → (next c e).ops ≡ (if b then after_reply quorum v phase s else s)
           → Pends start past peers me s.number s.view s.tag s.others phase
-          → PendsIn start now (if b && ends_query phase then [] else with_peer (then_some (b && awaits_views phase) from) peers) me (if b then after_reply quorum v phase s else s)
+          → PendsIn start now (if b && ends_query phase then [] else with_peer (then_some (b && awaits_views phase) from) peers) me
+          (if b then after_reply quorum v phase s else s)
       reply_pends me quorum tag q v peers s old it false own test phase is next_is h = same_pends peers me s phase is h
       reply_pends me quorum tag q v peers s old it true own test Idle is next_is h = same_pends peers me s Idle is h
       reply_pends me quorum tag q v peers s old it true own test (Storing p) is next_is h = same_pends peers me s (Storing p) is h
@@ -259,7 +255,8 @@ module _ (start : Node) (past : List Event) (e : Event) where
           let L = next_round (StoringBack (round_of quorum p.asked) (merge s.view v)) (merged v s) in
           let M = record (merged v s) { phase = Querying (counted p) } in
           let under : c.ops.tag < s.tag + 1 = omega (arith, ap (λ (t : Ops). t.tag) old) in
-          elim (is_last p) as (λ b. is_last p ≡ b → (next c e).ops ≡ (if b then L else M) → PendsIn start now (if b then [] else from ∷ peers) me (if b then L else M)) [
+          elim (is_last p)
+          as (λ b. is_last p ≡ b → (next c e).ops ≡ (if b then L else M) → PendsIn start now (if b then [] else from ∷ peers) me (if b then L else M)) [
             | true ↦ λ last now_is. (
               raise_now (s.tag + 1) (λ d. stored_of d.ops ≡ merge s.view v) under (ap (λ (t : Ops). t.tag) now_is) (ap stored_of now_is),
               tt,
@@ -310,9 +307,12 @@ module _ (start : Node) (past : List Event) (e : Event) where
           own,
         )
     anew_pends me quorum v s peers old (Querying p) is busy next_is h =
-        (raise_now (s.tag + 1) (IsQueryOf (p.asked ∷ s.others)) (omega (arith, old)) (ap (λ (t : Ops). t.tag) next_is) (round_of quorum p.asked, ap (λ (t : Ops). t.phase) next_is, ap pending next_is), tt)
+        let raised = raise_now (s.tag + 1) (IsQueryOf (p.asked ∷ s.others)) (omega (arith, old)) (ap (λ (t : Ops). t.tag) next_is)
+        (round_of quorum p.asked, ap (λ (t : Ops). t.phase) next_is, ap pending next_is) in
+        (raised, tt)
     anew_pends me quorum v s peers old (StoringBack p seen) is busy next_is h =
-        (raise_now (s.tag + 1) (λ d. stored_of d.ops ≡ seen) (omega (arith, old)) (ap (λ (t : Ops). t.tag) next_is) (ap stored_of next_is), tt, read_more (p.asked ∷ s.others) seen h.2)
+        let raised = raise_now (s.tag + 1) (λ d. stored_of d.ops ≡ seen) (omega (arith, old)) (ap (λ (t : Ops). t.tag) next_is) (ap stored_of next_is) in
+        (raised, tt, read_more (p.asked ∷ s.others) seen h.2)
 
     snapshot_pends : (me quorum : ℕ) (v : ViewMap) (s : Ops) (peers : List ℕ) → s.tag ≡ c.ops.tag → (b may : Bool) → b ≡ (not (is_idle s.phase) && may)
         → (next c e).ops ≡ anew_if b quorum (merged v s)
@@ -333,37 +333,30 @@ message_pends : (start : Node) (past : List Event) (peers : List ℕ) (from n : 
     → PendsIn start past peers c.me c.ops
     → PendsIn start (past ++ event.Deliver from n m ∷ []) (peers_next c (event.Deliver from n m) peers) c.me (next c (event.Deliver from n m)).ops
 unfolding next
-message_pends start past peers from n (message.Enter q) c at h = same_pends start past _ peers c.me c.ops c.ops.phase refl h
 message_pends start past peers from n (message.EnterEcho d v j q) c at h =
     pends_more start past _ peers c.me c.ops.number c.ops.view (merge c.ops.view v) c.ops.tag c.ops.others c.ops.phase (at_most_merge c.ops.view v) h
-message_pends start past peers from n (message.Join q) c at h = same_pends start past _ peers c.me c.ops c.ops.phase refl h
-message_pends start past peers from n (message.JoinEcho q) c at h = same_pends start past _ peers c.me c.ops c.ops.phase refl h
-message_pends start past peers from n (message.Leave q) c at h = same_pends start past _ peers c.me c.ops c.ops.phase refl h
-message_pends start past peers from n (message.LeaveEcho q) c at h = same_pends start past _ peers c.me c.ops c.ops.phase refl h
-message_pends start past peers from n (message.Query tag q) c at h = same_pends start past _ peers c.me c.ops c.ops.phase refl h
 message_pends start past peers from n (message.QueryReply v tag q) c at h =
-    reply_pends start past (event.Deliver from n (message.QueryReply v tag q)) c at from n c.me (quorum c) tag q v peers c.ops refl refl (is_own c.me tag q c.ops) refl refl c.ops.phase refl refl h
+    reply_pends start past (event.Deliver from n (message.QueryReply v tag q)) c at from n c.me (quorum c) tag q v peers c.ops refl refl
+    (is_own c.me tag q c.ops) refl refl c.ops.phase refl refl h
 message_pends start past peers from n (message.Store v tag q) c at h =
     pends_more start past _ peers c.me c.ops.number c.ops.view (merge c.ops.view v) c.ops.tag c.ops.others c.ops.phase (at_most_merge c.ops.view v) h
 message_pends start past peers from n (message.StoreAck tag q) c at h =
-    ack_pends start past (event.Deliver from n (message.StoreAck tag q)) c at from n c.me (quorum c) tag q peers c.ops refl refl (is_own c.me tag q c.ops) refl c.ops.phase refl refl h
+    ack_pends start past (event.Deliver from n (message.StoreAck tag q)) c at from n c.me (quorum c) tag q peers c.ops refl refl
+    (is_own c.me tag q c.ops) refl c.ops.phase refl refl h
 message_pends start past peers from n (message.Snapshot d v) c at h =
     let e = event.Deliver from n (message.Snapshot d v) in
     snapshot_pends start past e c at c.me (churn.quorum c.beta (churn_told c from n (message.Snapshot d v))) v c.ops peers refl
     (begins_anew c e) ((from == c.me) || skips c from n) refl refl h
+message_pends start past peers from n _ c at h = same_pends start past _ peers c.me c.ops c.ops.phase refl h
 
 event_pends : (start : Node) (past : List Event) (peers : List ℕ) (e : Event) (c : Core) → c ≡ (after start past).core → PendsIn start past peers c.me c.ops
     → PendsIn start (past ++ e ∷ []) (peers_next c e peers) c.me (next c e).ops
 unfolding next
-event_pends start past peers event.Enter c at h = same_pends start past _ peers c.me c.ops c.ops.phase refl h
-event_pends start past peers event.Leave c at h = same_pends start past _ peers c.me c.ops c.ops.phase refl h
 event_pends start past peers (event.Deliver from n m) c at h = message_pends start past peers from n m c at h
-event_pends start past peers (event.Acked peer n) c at h = same_pends start past _ peers c.me c.ops c.ops.phase refl h
 event_pends start past peers (event.Ask s r command) c at h =
-    ask_pends start past (event.Ask s r command) c at c.me (quorum c) (asked_of s r command) (c.ops.line ++ asked_of s r command ∷ []) peers c.ops refl c.ops.phase refl refl h
-event_pends start past peers (event.Retire q) c at h = same_pends start past _ peers c.me c.ops c.ops.phase refl h
-event_pends start past peers (event.Lapse q) c at h = same_pends start past _ peers c.me c.ops c.ops.phase refl h
-event_pends start past peers event.Snapshot c at h = same_pends start past _ peers c.me c.ops c.ops.phase refl h
+    ask_pends start past (event.Ask s r command) c at c.me (quorum c) (asked_of s r command)
+    (c.ops.line ++ asked_of s r command ∷ []) peers c.ops refl c.ops.phase refl refl h
+event_pends start past peers _ c at h = same_pends start past _ peers c.me c.ops c.ops.phase refl h
 
 step_pends : (start : Node) (past : List Event) (peers : List ℕ) (e : Event) → PendsAt start past peers
     → PendsAt start (past ++ e ∷ []) (peers_next (after start past).core e peers)

@@ -44,16 +44,16 @@ pub after_parts : (n : Node) (es xs ys : List Event) → es ≡ xs ++ ys → aft
 after_parts n es xs ys is = ap (after n) is ∙ after-append n xs ys
 
 module _ (mark : Node → ℕ) (rises : (n : Node) (es : List Event) → IsLawful n es → mark n ≤ mark (after n es)) where
-  -- as high at a later place
+  -- at a front no higher
+  pub front_low : (n : Node) (es xs ys : List Event) → IsLawful n es → es ≡ xs ++ ys → mark (after n xs) ≤ mark (after n es)
+  front_low n es xs ys lawful parts =
+      let more = (lawful_parts n xs ys (subst (IsLawful n) parts lawful)).1 in
+      subst (λ (m : Node). mark (after n xs) ≤ mark m) (sym (after_parts n es xs ys parts)) (rises (after n xs) ys more)
+
   later : (n : Node) (es xs vs : List Event) (e f : Event) (us more : List Event) → IsLawful n es → es ≡ us ++ f ∷ vs → us ≡ xs ++ e ∷ more
       → mark (after n (xs ++ e ∷ [])) ≤ mark (after n us)
   later n es xs vs e f us more lawful there is =
-      let front = xs ++ e ∷ [] in
-      let parts : us ≡ front ++ more = is ∙ front_more xs more e in
-      let to_us = (lawful_parts n us (f ∷ vs) (subst (IsLawful n) there lawful)).0 in
-      let to_more = (lawful_parts n front more (subst (IsLawful n) parts to_us)).1 in
-      let at : after n us ≡ after (after n front) more = ap (after n) parts ∙ after-append n front more in
-      subst (λ (m : Node). mark (after n front) ≤ mark m) (sym at) (rises (after n front) more to_more)
+      front_low n us (xs ++ e ∷ []) more (lawful_parts n us (f ∷ vs) (subst (IsLawful n) there lawful)).0 (parts_more us xs more e is)
 
   pub at_once : (n : Node) (es : List Event) → IsLawful n es → (xs ys us vs : List Event) (e f : Event) → es ≡ xs ++ e ∷ ys → es ≡ us ++ f ∷ vs
       → (t : ℕ) → mark (after n xs) < t → t ≤ mark (after n (xs ++ e ∷ [])) → mark (after n us) < t → t ≤ mark (after n (us ++ f ∷ []))

@@ -1,12 +1,12 @@
 -- Two sets of nodes that are each more than half of all share a node; so rounds meet where members stay the same.
 --     shares          of two lists of different nodes among some, that are more than these together, one node is in both
 --     rounds_meet
-use Rattle.std.proofs.Common.{◌≡◌, ◌⊎◌, inl, inr, ℕ, ◌+◌, ◌*◌, ◌<◌, ◌≤◌, true, false, cond, nat_eq, List, [], ◌∷◌, ◌++◌, length, refl, sym, ap, subst, ◌∙◌, arith, length-append}
-use Rattle.std.specs.Prelude.{IsTrue, Some}
+use Rattle.std.proofs.Common.{◌≡◌, ◌⊎◌, inl, inr, ℕ, ◌+◌, ◌*◌, ◌<◌, ◌≤◌, true, false, cond, nat_eq, List, [], ◌∷◌, ◌++◌, length, sym, ap, subst, ◌∙◌, arith}
+use Rattle.std.proofs.Common.{length-append}
+use Rattle.std.specs.Prelude.{IsTrue}
 use Rattle.std.specs.List.{Contains, AllByRecursion, list_any}
-use Rattle.std.specs.FinMap as table
 use Rattle.std.proofs.lemmas.Bool.{or_cases, or_from, eqb-true, cases_Bool}
-use Rattle.std.proofs.lemmas.List.Elements.{Contains-append_left, Contains-append_right}
+use Rattle.std.proofs.lemmas.List.Elements.{Contains-append_right}
 use Rattle.std.proofs.lemmas.List.Folds.{list_any-append}
 use Rattle.cc_views.specs.NatSets as set
 use Rattle.cc_views.specs.NatSets.{NatSet, contains-from_list, len-empty, len-insert, len_within}
@@ -17,38 +17,41 @@ use Rattle.cc_laws.specs.Runs.{Run, IsFreshCluster}
 use Rattle.cc_laws.specs.Regular.{released_events, RoundOf, RoundsMeet}
 use Rattle.cc_laws.specs.Rounds.{peers_of}
 use Rattle.cc_laws.specs.Fixed.{count_of, IsFixedCluster, Stays}
-use Rattle.cc_laws.proofs.Lists.{all_both, all_take}
-use Rattle.cc_laws.proofs.Clustering.{Holds}
+use Rattle.cc_laws.proofs.Lists.{all_both, all_take, contains_head}
+use Rattle.cc_laws.proofs.Clustering.{Holds, IsAt}
 use Rattle.cc_laws.proofs.Moving.{run_holds, fresh_holds}
 use Rattle.cc_laws.proofs.Traces.{Traces, run_traces, fresh_traces}
 use Rattle.cc_laws.proofs.Once.{Apart, peers_apart, peers_there}
 use Rattle.cc_laws.proofs.Staying.{IsQuiet}
 use Rattle.cc_laws.proofs.Steady.{member_knows, AreQuiet, run_steady, fresh_quiet, fresh_quorum, round_size}
 
-head_there : (x : ℕ) (xs : List ℕ) → Contains (x ∷ xs) x
-head_there x xs = Contains-append_left (x ∷ []) xs x (0, omega arith, refl)
-
 any_there : (x : ℕ) (xs : List ℕ) → list_any (nat_eq x) xs ≡ true → Contains xs x
 any_there x [] is = cc
 any_there x (y ∷ xs) is =
     elim (or_cases (nat_eq x y) (list_any (nat_eq x) xs) is) as (λ _. Contains (y ∷ xs) x) [
-      | inl e ↦ subst (λ (z : ℕ). Contains (z ∷ xs) x) (eqb-true x y e) (head_there x xs)
+      | inl e ↦ subst (λ (z : ℕ). Contains (z ∷ xs) x) (eqb-true x y e) (contains_head x xs)
       | inr e ↦ Contains-append_right (y ∷ []) xs x (any_there x xs e)
     ]
 
+abbrev pub ShareOne : List ℕ → List ℕ → Type 0
+ShareOne xs ys = (r : ℕ) × Contains xs r × Contains ys r
+
+abbrev NoneIn : List ℕ → List ℕ → Type 0
+NoneIn ys xs = AllByRecursion (λ x. list_any (nat_eq x) ys ≡ false) xs
+
 -- some node of the first list is in the second, or none is
-search_shared : (xs ys : List ℕ) → ((r : ℕ) × Contains xs r × Contains ys r) ⊎ AllByRecursion (λ x. list_any (nat_eq x) ys ≡ false) xs
+search_shared : (xs ys : List ℕ) → ShareOne xs ys ⊎ NoneIn ys xs
 search_shared [] ys = inr tt
 search_shared (x ∷ xs) ys =
-    elim (cases_Bool (list_any (nat_eq x) ys)) as (λ _. ((r : ℕ) × Contains (x ∷ xs) r × Contains ys r) ⊎ AllByRecursion (λ y. list_any (nat_eq y) ys ≡ false) (x ∷ xs)) [
-      | inl e ↦ inl (x, head_there x xs, any_there x ys e)
-      | inr e ↦ elim (search_shared xs ys) as (λ _. ((r : ℕ) × Contains (x ∷ xs) r × Contains ys r) ⊎ AllByRecursion (λ y. list_any (nat_eq y) ys ≡ false) (x ∷ xs)) [
+    elim (cases_Bool (list_any (nat_eq x) ys)) as (λ _. ShareOne (x ∷ xs) ys ⊎ NoneIn ys (x ∷ xs)) [
+      | inl e ↦ inl (x, contains_head x xs, any_there x ys e)
+      | inr e ↦ elim (search_shared xs ys) as (λ _. ShareOne (x ∷ xs) ys ⊎ NoneIn ys (x ∷ xs)) [
         | inl h ↦ inl (h.0, Contains-append_right (x ∷ []) xs h.0 h.1, h.2)
         | inr h ↦ inr (e, h)
       ]
     ]
 
-both_apart : (xs ys : List ℕ) → Apart xs → Apart ys → AllByRecursion (λ x. list_any (nat_eq x) ys ≡ false) xs → Apart (xs ++ ys)
+both_apart : (xs ys : List ℕ) → Apart xs → Apart ys → NoneIn ys xs → Apart (xs ++ ys)
 both_apart [] ys h k none = k
 both_apart (x ∷ xs) ys h k none = (list_any-append (nat_eq x) xs ys ∙ or_from _ _ h.0 none.0, both_apart xs ys h.1 k none.1)
 
@@ -75,9 +78,9 @@ apart_fits all xs h k =
 
 pub shares : (all : NatSet) (xs ys : List ℕ) → Apart xs → Apart ys → AllByRecursion (λ x. IsTrue (set.contains all x)) xs
     → AllByRecursion (λ x. IsTrue (set.contains all x)) ys
-    → set.len all < length xs + length ys → (r : ℕ) × Contains xs r × Contains ys r
+    → set.len all < length xs + length ys → ShareOne xs ys
 shares all xs ys h k in_xs in_ys more =
-    elim (search_shared xs ys) as (λ _. (r : ℕ) × Contains xs r × Contains ys r) [
+    elim (search_shared xs ys) as (λ _. ShareOne xs ys) [
       | inl r ↦ r
       | inr none ↦
           let fits = apart_fits all (xs ++ ys) (both_apart xs ys h k none) (all_both (λ x. IsTrue (set.contains all x)) xs ys in_xs in_ys) in
@@ -85,7 +88,7 @@ shares all xs ys h k in_xs in_ys more =
     ]
 
 module _ (all : List ℕ) (d : Cluster) (h : Holds d) (t : Traces d) (quiet : AreQuiet all d) (fixed : IsFixedCluster all d) where
-  size : (q : ℕ) (m : Member) → table.get d.members q ≡ Some m → (round : RoundOf m)
+  size : (q : ℕ) (m : Member) → IsAt d q m → (round : RoundOf m)
       → count_of all < 2 * length (peers_of (fresh m.opening) (released_events m) round)
   size q m at round =
       let f = fixed q m at in
@@ -98,10 +101,9 @@ module _ (all : List ℕ) (d : Cluster) (h : Holds d) (t : Traces d) (quiet : Ar
   meeting p q m n at at' first second =
       let all_set = set.from_list all in
       let P = λ (x : ℕ). IsTrue (set.contains all_set x) in
-      let among : (r : ℕ) (x : Member) → table.get d.members r ≡ Some x → P r = λ r x is. (fixed r x is).among in
+      let among : (r : ℕ) (x : Member) → IsAt d r x → P r = λ r x is. (fixed r x is).among in
       shares all_set (peers_of (fresh m.opening) (released_events m) first) (peers_of (fresh n.opening) (released_events n) second)
-      (peers_apart d h t p m at first.before first.later first.last first.parts) (peers_apart d h t q n at' second.before second.later second.last second.parts)
-      (peers_there d h t p m at P among first.before first.later first.last first.parts) (peers_there d h t q n at' P among second.before second.later second.last second.parts)
+      (peers_apart d h t p m at first) (peers_apart d h t q n at' second) (peers_there d h t p m at first P among) (peers_there d h t q n at' second P among)
       (omega (arith, size p m at first, size q n at' second))
 
 pub rounds_meet : (all : List ℕ) (c d : Cluster) (moves : List (ℕ × Move)) → IsFreshCluster c → IsFixedCluster all c

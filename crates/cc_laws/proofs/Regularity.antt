@@ -1,17 +1,16 @@
 -- Each collect sees the stores that ended before it began, and none goes back.
+--     Course                  what goes on from fresh nodes up to a middle, and from there to an end
 --     seen_later              what a round stored that ended by then, a read that began later has seen
 --     stores_seen, in_turn    so of stores, and of two collects
-use Rattle.std.proofs.Common.{◌≡◌, ◌⊎◌, ℕ, ◌<◌, ◌≤◌, List, [], ◌∷◌, ◌++◌, refl, sym, ap, subst, ◌∙◌, inl, inr, arith, append_assoc}
-use Rattle.std.specs.Prelude.{Option, Some, None, IsSomeAnd}
+use Rattle.std.proofs.Common.{◌≡◌, ◌⊎◌, ℕ, ◌<◌, ◌≤◌, List, [], ◌∷◌, ◌++◌, refl, sym, ap, subst, ◌∙◌, inl, inr, arith}
+use Rattle.std.specs.Prelude.{Option, Some, None, IsSomeAnd, ⊤}
 use Rattle.std.specs.List.{Contains, AllByRecursion}
 use Rattle.std.specs.FinMap as table
 use Rattle.std.proofs.lemmas.Bool.{cases_lt}
-use Rattle.std.proofs.lemmas.List.Elements.{All-contains, All-from_recursion}
 use Rattle.cc_views.specs.Rows.{Pair, ViewMap}
 use Rattle.cc_views.specs.Merge.{IsKept, IsAtMost}
 use Rattle.cc_messages.specs.declared.answer.Answer.{Answer}
 use Rattle.cc_messages.specs.declared.answer.Answer.TheVariants as answer
-use Rattle.cc_messages.specs.declared.event.Event.{Event}
 use Rattle.cc_messages.specs.declared.output.Output.TheVariants as output
 use Rattle.cc_views.specs.declared.value.Value.{Value}
 use Rattle.cc_messages.specs.declared.command.Command.{Command}
@@ -29,20 +28,22 @@ use Rattle.cc_laws.specs.Clusters.{Member, Cluster, node_at, Move}
 use Rattle.cc_laws.specs.Runs.{Run, IsFreshCluster, Occurs, among_sent}
 use Rattle.cc_laws.specs.Orders.{GoesOn, IsFollowedBy}
 use Rattle.cc_laws.specs.Rounds.{Round, peers_of}
-use Rattle.cc_laws.specs.Regular.{released_events, IsAnswered, IsWriteAsk, IsStored, IsAhead, HasAtLeast, SeesWrite, RoundOf, Counted, HasAsked, RoundsMeet, ShareNode}
+use Rattle.cc_laws.specs.Regular.{released_events, IsAnswered, IsWriteAsk, IsStored, IsAhead, HasAtLeast, SeesWrite, Counted, HasAsked, RoundsMeet, ShareNode}
 use Rattle.cc_laws.specs.Fixed.{IsFixedCluster, Stays}
 use Rattle.cc_laws.proofs.Agreeing.{all_written, one_value}
-use Rattle.cc_laws.proofs.Lists.{all_both}
+use Rattle.cc_laws.proofs.Lists.{all_both, all_at}
 use Rattle.cc_laws.proofs.Quorums.{rounds_meet}
 use Rattle.cc_laws.proofs.Members.{IsSound, lawful_front}
-use Rattle.cc_laws.proofs.Clustering.{Holds}
+use Rattle.cc_laws.proofs.Clustering.{Holds, IsAt, one_at, Grows, GrownAt}
 use Rattle.cc_laws.proofs.Moving.{run_holds, fresh_holds}
-use Rattle.cc_laws.proofs.Traces.{one_at, MadeBy, WasMade, Traces, Grows, GrownAt, run_traces, fresh_traces, run_grows, run_sent}
-use Rattle.cc_laws.proofs.Places.{parts_more, after_parts}
+use Rattle.cc_laws.proofs.Traces.{MadeBy, WasMade, Traces, run_traces, fresh_traces, run_grows, run_sent, place_later}
+use Rattle.cc_laws.proofs.Places.{parts_more, front_low}
 use Rattle.cc_laws.proofs.Says.{tag_after, stored_of}
 use Rattle.cc_laws.proofs.Pending.{HasAck, HasReply, Raised, least_more}
 use Rattle.cc_laws.proofs.Knowing.{either_front, Knows, store_known, reply_known}
-use Rattle.cc_laws.proofs.Answering.{last_after, Ended, ended, either_op, op_pends, op_writes, op_reads, asked_last, reads_view, writes_stored, StoredRound, IsQueryFor, ReadRound, node_lawful, write_round, back_round, answered_read, number_reached}
+use Rattle.cc_laws.proofs.Answering.{last_after, Ended, ended, either_op, op_pends, op_writes, op_reads, asked_last, reads_view, writes_stored, StoredRound}
+use Rattle.cc_laws.proofs.Answering.{IsQueryFor, ReadRound, node_lawful, write_round, back_round, answered_read, number_reached}
+use Rattle.cc_objects.specs.Objects.{max_of, flag_of, set_of}
 
 -- a query of a request began where the node had released none such
 asked_later : (p : ℕ) (m n : Member) → IsSound p n → Grows m n → (s r tag : ℕ) → last_request (node_at m m.released).core.sessions s < r
@@ -52,80 +53,52 @@ asked_later p m n sound grows s r tag ahead raised =
     let lawful = lawful_front start n.events n.released sound.lawful in
     let at_m : after start (released_events m) ≡ node_at m m.released = ap (λ (o : Opening). after (fresh o) (released_events m)) grows.opening in
     let front = raised.before ++ raised.raiser ∷ [] in
-    elim (either_front (released_events m) grows.longer.0 raised.before raised.later raised.raiser (sym grows.longer.1 ∙ raised.parts)) as (λ _. (node_at m m.released).core.ops.tag < tag) [
+    let order = either_front (released_events m) grows.longer.0 raised.before raised.later raised.raiser (sym grows.longer.1 ∙ raised.parts) in
+    elim order as (λ _. (node_at m m.released).core.ops.tag < tag) [
       | inl e ↦
           let to_raiser = (lawful_parts start raised.before (raised.raiser ∷ raised.later) (subst (IsLawful start) raised.parts lawful)).0 in
-          let more = (lawful_parts start (released_events m) e.0 (subst (IsLawful start) e.1 to_raiser)).1 in
-          let up = tag_after (after start (released_events m)) e.0 more in
-          let at : after start raised.before ≡ after (after start (released_events m)) e.0 = after_parts start raised.before (released_events m) e.0 e.1 in
-          omega (arith, up, ap (λ (x : Node). x.core.ops.tag) at, ap (λ (x : Node). x.core.ops.tag) at_m, raised.under)
+          let up = front_low (λ x. x.core.ops.tag) tag_after start raised.before (released_events m) e.0 to_raiser e.1 in
+          omega (arith, up, ap (λ (x : Node). x.core.ops.tag) at_m, raised.under)
       | inr e ↦
           let parts : released_events m ≡ front ++ e.0 = parts_more (released_events m) raised.before e.0 raised.raiser e.1 in
           let to_m = (lawful_parts start (released_events m) grows.longer.0 (subst (IsLawful start) grows.longer.1 lawful)).0 in
-          let both = lawful_parts start front e.0 (subst (IsLawful start) parts to_m) in
+          let to_front = (lawful_parts start front e.0 (subst (IsLawful start) parts to_m)).0 in
           let c = (after start front).core in
           let asked : last_request c.sessions s ≡ r =
-          asked_last c (after_lawful start front both.0 (fresh_lawful n.opening sound.opening)).core s r raised.holds.2 in
-          let up = last_after s (after start front) e.0 both.1 in
-          let at : after start (released_events m) ≡ after (after start front) e.0 = after_parts start (released_events m) front e.0 parts in
-          absurd (omega (arith, asked, up, ap (λ (x : Node). last_request x.core.sessions s) at, ap (λ (x : Node). last_request x.core.sessions s) at_m, ahead))
+          asked_last c (after_lawful start front to_front (fresh_lawful n.opening sound.opening)).core s r raised.holds.2 in
+          let up = front_low (λ x. last_request x.core.sessions s) (last_after s) start (released_events m) front e.0 to_m parts in
+          absurd (omega (arith, asked, up, ap (λ (x : Node). last_request x.core.sessions s) at_m, ahead))
     ]
-
-module _ (mid d : Cluster) (h : Holds mid) (t : Traces mid) (h' : Holds d) (t' : Traces d)
-    (grown : (p : ℕ) (o : Member) → table.get mid.members p ≡ Some o → GrownAt d p o) where
-  -- where all rounds meet, whom both counted
-  shared : RoundsMeet d → (q p : ℕ) (m n : Member) → table.get mid.members q ≡ Some m → table.get d.members p ≡ Some n
-      → (first : RoundOf m) (second : RoundOf n)
-      → (r : ℕ) × Counted m first r × Counted n second r
-  shared meet q p m n at at' first second =
-      let grew = grown q m at in
-      let w = grew.0 in
-      let grows = grew.2 in
-      let later : Round (fresh m.opening) (released_events w) = record {
-        before = first.before;
-        last = first.last;
-        later = first.later ++ grows.longer.0;
-        parts = grows.longer.1 ∙ ap (λ (l : List Event). l ++ grows.longer.0) first.parts ∙ append_assoc first.before (first.last ∷ first.later) grows.longer.0;
-        ends = first.ends;
-      } in
-      subst (λ (o : Opening). (round : Round (fresh o) (released_events w)) → (r : ℕ) × Contains (peers_of (fresh o) (released_events w) round) r × Counted n second r) grows.opening
-      (λ round. meet q p w n grew.1 at' round second) later
-
-  pub all_share : RoundsMeet d → (q s r p x y : ℕ) → ShareNode mid d q s r p x y
-  all_share meet q s r p x y m n at at' first storing of_first second querying of_second = shared meet q p m n at at' first second
-
-  -- what one request had stored by then, a later one has seen
-  pub seen_later : (q p i j s r : ℕ) (m n : Member) → table.get mid.members q ≡ Some m → table.get d.members p ≡ Some n → (Q : Core → Type 0) (x k : ℕ)
-      → ((e : Core) → Q e → HasAtLeast (stored_of e.ops) x k) → StoredRound q m i j Q → (seen : ViewMap) → IsAhead mid p s r → ReadRound p n s r seen
-      → ShareNode mid d q i j p s r
-      → HasAtLeast seen x k
-  seen_later q p i j s r m n at at' Q x k has first seen ahead second share =
-      let both = share m n at at' first.round first.storing first.asked second.round second.querying second.asked in
-      let peer = both.0 in
-      let ack = All-contains (HasAck m.events q first.tag) _ peer (All-from_recursion (HasAck m.events q first.tag) _ first.acks) both.1 in
-      let reply = All-contains (HasReply n.events p second.tag seen) _ peer (All-from_recursion (HasReply n.events p second.tag seen) _ second.replies) both.2 in
-      let known = store_known mid h t q m at first.tag Q first.raised peer ack.0 ack.1 in
-      let knows : Knows mid peer x k = (known.0, known.1, least_more (stored_of known.2.ops) _ x k known.4 (has known.2 known.3)) in
-      let grew = grown p ahead.0 ahead.1 in
-      let is_n : grew.0 ≡ n = one_at d p p grew.0 n refl grew.1 at' in
-      let under = asked_later p ahead.0 n (h'.sound p n at') (subst (Grows ahead.0) is_n grew.2) s r second.tag ahead.2 second.raised in
-      least_more reply.1 seen x k reply.3
-      (reply_known mid d h t h' t' grown p ahead.0 n ahead.1 at' second.tag under peer reply.0 reply.1 reply.2 x k knows)
 
 -- the answer left its node
 answered_by : (c : Cluster) → Traces c → (p s r : ℕ) (a : Answer) → IsAnswered c p s r a → MadeBy c p (output.Reply s r a)
-answered_by c t p s r a has = All-contains (WasMade c) c.sent _ (All-from_recursion (WasMade c) c.sent t.sent) has
+answered_by c t p s r a has = all_at (WasMade c) c.sent _ t.sent has
+
+-- what a reading is answered, of what it saw
+abbrev pub ReadsAs : ViewMap → Answer → Type 0
+ReadsAs seen answer.Stored = ⊤
+ReadsAs seen (answer.Seen v) = seen ≡ v
+ReadsAs seen (answer.Max n) = n ≡ max_of seen
+ReadsAs seen (answer.Flag b) = b ≡ flag_of seen
+ReadsAs seen (answer.Set s) = s ≡ set_of seen
+
+reads_as : (k : Command) (seen : ViewMap) → ReadsAs seen (answer_of k seen)
+reads_as command.Collect seen = refl
+reads_as command.ReadMax seen = refl
+reads_as command.ReadFlag seen = refl
+reads_as command.ReadSet seen = refl
+reads_as _ seen = tt
 
 -- an answer that isn't Stored was read
 pub record Reading (c : Cluster) (p s r : ℕ) (a : Answer) : Type 0 where
   pub member : Member
-  pub there : table.get c.members p ≡ Some member
+  pub there : IsAt c p member
   pub op : Ended member s r a
   pub pending : Pending
   pub seen : ViewMap
   pub phase : (after (fresh member.opening) op.front).core.ops.phase ≡ StoringBack pending seen
   pub asked : HasAsked (pending_asks (after (fresh member.opening) op.front).core.ops) s r
-  pub tells : a ≡ answer_of asked.0.command seen
+  pub tells : ReadsAs seen a
 
 pub reading : (c : Cluster) → Holds c → Traces c → (p s r : ℕ) (a : Answer) → IsAnswered c p s r a → (a ≡ answer.Stored → ⊥) → Reading c p s r a
 reading c h t p s r a has read =
@@ -144,7 +117,7 @@ reading c h t p s r a has read =
         seen = o.2;
         phase = o.3;
         asked = (o.1, op_pends b o.0 (StoringBack o.0 o.2) o.1 o.3 refl o.4, o.5, o.6);
-        tells = o.7;
+        tells = subst (ReadsAs o.2) (sym o.7) (reads_as o.1.command o.2);
       }
     ]
 
@@ -155,16 +128,6 @@ run_both a (move ∷ xs) b ys e h k = (h.0, h.1, run_both h.0 xs b ys e h.2 k)
 pub some_and : (o : Option Pair) (Q : Pair → Type 0) → IsSomeAnd o Q → (e : Pair) × (o ≡ Some e) × Q e
 some_and None Q h = absurd h
 some_and (Some e) Q h = (e, refl, h)
-
-collect_is : (k : Command) (w v : ViewMap) → answer.Seen v ≡ answer_of k w → w ≡ v
-collect_is (command.Store text) w v is = cc
-collect_is command.Collect w v is = cc
-collect_is (command.WriteMax x) w v is = cc
-collect_is command.ReadMax w v is = cc
-collect_is command.SetFlag w v is = cc
-collect_is command.ReadFlag w v is = cc
-collect_is (command.AddMember x) w v is = cc
-collect_is command.ReadSet w v is = cc
 
 not_stored : (v : ViewMap) → answer.Seen v ≡ answer.Stored → ⊥
 not_stored v is = cc
@@ -181,12 +144,37 @@ goes_on (Some e) (Some f) h same =
           inr (λ i. (number i, value i))
     ]
 
-module _ (c mid d : Cluster) (first second : List (ℕ × Move)) (fresh_c : IsFreshCluster c) (to_mid : Run c first mid) (to_d : Run mid second d) where
-  pub h_mid : Holds mid
-  h_mid = run_holds c first mid (fresh_holds c fresh_c) to_mid
+at_least : (o : Option Pair) (low high : ℕ) → low ≤ high → IsSomeAnd o (λ e. high ≤ e.0) → IsSomeAnd o (λ e. low ≤ e.0)
+at_least None low high le has = has
+at_least (Some e) low high le has = omega (arith, le, has)
+
+kept_if : (u w : Option Pair) → ((k : ℕ) → IsSomeAnd u (λ e. k ≤ e.0) → IsSomeAnd w (λ e. k ≤ e.0)) → IsKept u w
+kept_if None w f = tt
+kept_if (Some e) w f = f e.0 (omega arith)
+
+-- what goes on in a cluster from fresh nodes on: up to the middle, and from there to the end
+pub record Course : Type 0 where
+  pub c : Cluster
+  pub mid : Cluster
+  pub d : Cluster
+  pub first : List (ℕ × Move)
+  pub second : List (ℕ × Move)
+  pub begins : IsFreshCluster c
+  pub to_mid : Run c first mid
+  pub to_d : Run mid second d
+
+abbrev pub course : (c mid d : Cluster) (first second : List (ℕ × Move)) → IsFreshCluster c → Run c first mid → Run mid second d → Course
+course c mid d first second begins to_mid to_d =
+    record { c = c; mid = mid; d = d; first = first; second = second; begins = begins; to_mid = to_mid; to_d = to_d }
+
+module _ (run : Course) where
+  open run use {c, mid, d, first, second, begins, to_mid, to_d}
+
+  h_mid : Holds mid
+  h_mid = run_holds c first mid (fresh_holds c begins) to_mid
 
   t_mid : Traces mid
-  t_mid = run_traces c first mid (fresh_holds c fresh_c) (fresh_traces c fresh_c) to_mid
+  t_mid = run_traces c first mid (fresh_holds c begins) (fresh_traces c begins) to_mid
 
   pub h_end : Holds d
   h_end = run_holds mid second d h_mid to_d
@@ -194,92 +182,113 @@ module _ (c mid d : Cluster) (first second : List (ℕ × Move)) (fresh_c : IsFr
   t_end : Traces d
   t_end = run_traces mid second d h_mid t_mid to_d
 
+  pub grown : (p : ℕ) (o : Member) → IsAt mid p o → GrownAt d p o
+  grown = run_grows mid second d h_mid to_d
+
   pub reading_mid : (p s r : ℕ) (a : Answer) → IsAnswered mid p s r a → (a ≡ answer.Stored → ⊥) → Reading mid p s r a
   reading_mid = reading mid h_mid t_mid
 
   pub reading_end : (p s r : ℕ) (a : Answer) → IsAnswered d p s r a → (a ≡ answer.Stored → ⊥) → Reading d p s r a
   reading_end = reading d h_end t_end
 
-  pub each_shares : RoundsMeet d → (q s r p x y : ℕ) → ShareNode mid d q s r p x y
-  each_shares = all_share mid d h_mid t_mid h_end t_end (run_grows mid second d h_mid to_d)
-
   read_round_of : (p x y : ℕ) (a : Answer) (read : Reading d p x y a) → ReadRound p read.member x y read.seen
   read_round_of p x y a read =
       answered_read p read.member (h_end.sound p read.member read.there) x y a read.op read.pending read.seen read.phase read.asked
 
-  -- a read that began after a store had ended
-  pub stores_seen : (q k s r : ℕ) → IsStored mid q k s r → (p x y : ℕ) → IsAhead mid p x y → ShareNode mid d q s r p x y → (a : Answer)
-      → (read : Reading d p x y a) → HasAtLeast read.seen q k
-  stores_seen q k s r stored p x y ahead share a read =
-      let made = answered_by mid t_mid q s r answer.Stored stored.3 in
-      let is_m : made.0 ≡ stored.0 = one_at mid q q made.0 stored.0 refl made.1 stored.1 in
-      let m = made.0 in
-      let ask : IsWriteAsk (released_events m) k s r = subst (λ (w : Member). IsWriteAsk (released_events w) k s r) (sym is_m) stored.2 in
-      let sound = h_mid.sound q m made.1 in
-      let op = ended m s r answer.Stored made.2 in
-      let b = (after (fresh m.opening) op.front).core in
-      let lawful = (node_lawful q m sound op.front op.later op.last op.parts).core in
-      elim (either_op b s r answer.Stored b.ops.phase refl op.tells) as (λ _. HasAtLeast read.seen q k) [
-        | inl w ↦
-            let asked : HasAsked (pending_asks b.ops) s r = (w.1, op_pends b w.0 (Storing w.0) w.1 w.2 refl w.3, w.4, w.5) in
-            let reached = number_reached q m sound s r k answer.Stored op asked ask in
-            seen_later mid d h_mid t_mid h_end t_end (run_grows mid second d h_mid to_d) q p s r x y m read.member made.1 read.there (λ e. HasAtLeast (stored_of e.ops) q b.ops.number) q k
-            (λ e has. at_least (table.get (stored_of e.ops) q) k b.ops.number reached has) (write_round q m sound op.front op.later op.last op.parts s r w.0 asked w.2 op.ends) read.seen ahead
-            (read_round_of p x y a read) share
-        | inr o ↦
-            absurd (reads_view o.1.command o.2 (op_reads b lawful o.0 o.2 o.1 o.3 o.4) o.7)
-      ]
-    where
-      at_least : (o : Option Pair) (low high : ℕ) → low ≤ high → IsSomeAnd o (λ e. high ≤ e.0) → IsSomeAnd o (λ e. low ≤ e.0)
-      at_least None low high le has = has
-      at_least (Some e) low high le has = omega (arith, le, has)
+  -- where all rounds meet, both counted one node
+  pub each_shares : RoundsMeet d → (q s r p x y : ℕ) → ShareNode mid d q s r p x y
+  each_shares meet q s r p x y m n at at' stored storing of_stored read querying of_read =
+      let grew = grown q m at in
+      let w = grew.0 in
+      let grows = grew.2 in
+      let later : Round (fresh m.opening) (released_events w) = record {
+        before = stored.before;
+        last = stored.last;
+        later = stored.later ++ grows.longer.0;
+        parts = place_later m w grows stored.before stored.later stored.last stored.parts;
+        ends = stored.ends;
+      } in
+      subst (λ (o : Opening). (round : Round (fresh o) (released_events w))
+      → (k : ℕ) × Contains (peers_of (fresh o) (released_events w) round) k × Counted n read k) grows.opening
+      (λ round. meet q p w n grew.1 at' round read) later
 
-  -- a read that began after another had ended
-  pub reads_in_turn : (q s r : ℕ) (a : Answer) → (early : Reading mid q s r a) → (p x y : ℕ) → IsAhead mid p x y → ShareNode mid d q s r p x y → (b : Answer)
-      → (late : Reading d p x y b)
-      → IsAtMost early.seen late.seen
-  reads_in_turn q s r a early p x y ahead share b late =
-      let m = early.member in
-      let back = back_round q m (h_mid.sound q m early.there) early.op.front early.op.later early.op.last early.op.parts s r early.pending early.seen early.asked early.phase early.op.ends in
-      λ node. each (table.get early.seen node) (table.get late.seen node) (λ k has.
-      seen_later mid d h_mid t_mid h_end t_end (run_grows mid second d h_mid to_d) q p s r x y m late.member early.there late.there (λ e. stored_of e.ops ≡ early.seen) node k
-      (λ e is. subst (λ (v : ViewMap). HasAtLeast v node k) (sym is) has) back late.seen ahead (read_round_of p x y b late) share)
-    where
-      each : (u w : Option Pair) → ((k : ℕ) → IsSomeAnd u (λ e. k ≤ e.0) → IsSomeAnd w (λ e. k ≤ e.0)) → IsKept u w
-      each None w f = tt
-      each (Some e) w f = f e.0 (omega arith)
-
-  -- ---- as clients see it
-
+  -- where members stay the same, they meet
   to_end : Run c (first ++ second) d
   to_end = run_both c first mid second d to_mid to_d
+
+  pub meets : (all : List ℕ) → IsFixedCluster all c → AllByRecursion (λ move. Stays move.1) first → AllByRecursion (λ move. Stays move.1) second
+      → RoundsMeet d
+  meets all fixed stays stays_on =
+      rounds_meet all c d (first ++ second) begins fixed (all_both (λ (move : ℕ × Move). Stays move.1) first second stays stays_on) to_end
 
   seen_occurs : (p x y : ℕ) (v : ViewMap) → IsAnswered d p x y (answer.Seen v) → Occurs d v
   seen_occurs p x y v has = among_sent (record { from = p; output = output.Reply x y (answer.Seen v) }) has refl
 
-  pub collect_sees : (q k s r : ℕ) → IsStored mid q k s r → (p x y : ℕ) → IsAhead mid p x y → ShareNode mid d q s r p x y → (v : ViewMap)
-      → IsAnswered d p x y (answer.Seen v) → SeesWrite d v q k
-  collect_sees q k s r stored p x y ahead share v has =
-      let read = reading_end p x y (answer.Seen v) has (not_stored v) in
-      let seen : HasAtLeast v q k =
-      subst (λ (w : ViewMap). HasAtLeast w q k) (collect_is read.asked.0.command read.seen v read.tells) (stores_seen q k s r stored p x y ahead share (answer.Seen v) read) in
-      let row = some_and (table.get v q) (λ e. k ≤ e.0) seen in
-      (row.0.0, row.0.1, row.2, row.1, all_written c d (first ++ second) fresh_c to_end v (seen_occurs p x y v has) q row.0.0 row.0.1 row.1)
+  module _ (q s r p x y : ℕ) (ahead : IsAhead mid p x y) (share : ShareNode mid d q s r p x y) where
+    -- what the one request had stored by then, the later one has seen
+    seen_later : (m n : Member) → IsAt mid q m → IsAt d p n → (Q : Core → Type 0) (node k : ℕ) → ((e : Core) → Q e → HasAtLeast (stored_of e.ops) node k)
+        → StoredRound q m s r Q → (seen : ViewMap) → ReadRound p n x y seen → HasAtLeast seen node k
+    seen_later m n at at' Q node k has stored seen read =
+        let both = share m n at at' stored.round stored.storing stored.asked read.round read.querying read.asked in
+        let peer = both.0 in
+        let ack = all_at (HasAck m.events q stored.tag) _ peer stored.acks both.1 in
+        let reply = all_at (HasReply n.events p read.tag seen) _ peer read.replies both.2 in
+        let known = store_known mid h_mid t_mid q m at stored.tag Q stored.raised peer ack.0 ack.1 in
+        let knows : Knows mid peer node k = (known.0, known.1, least_more (stored_of known.2.ops) _ node k known.4 (has known.2 known.3)) in
+        let grew = grown p ahead.0 ahead.1 in
+        let is_n : grew.0 ≡ n = one_at d p p grew.0 n refl grew.1 at' in
+        let under = asked_later p ahead.0 n (h_end.sound p n at') (subst (Grows ahead.0) is_n grew.2) x y read.tag ahead.2 read.raised in
+        least_more reply.1 seen node k reply.3
+        (reply_known mid d h_mid t_mid h_end t_end grown p ahead.0 n ahead.1 at' read.tag under peer reply.0 reply.1 reply.2 node k knows)
 
-  pub collects_in_turn : (q s r : ℕ) (v : ViewMap) → IsAnswered mid q s r (answer.Seen v) → (p x y : ℕ) → IsAhead mid p x y → ShareNode mid d q s r p x y
-      → (w : ViewMap) → IsAnswered d p x y (answer.Seen w) → IsFollowedBy v w
-  collects_in_turn q s r v first_has p x y ahead share w second_has =
-      let early = reading_mid q s r (answer.Seen v) first_has (not_stored v) in
-      let late = reading_end p x y (answer.Seen w) second_has (not_stored w) in
-      let is_v = collect_is early.asked.0.command early.seen v early.tells in
-      let is_w = collect_is late.asked.0.command late.seen w late.tells in
-      let most : IsAtMost v w = subst (λ (u : ViewMap). IsAtMost u w) is_v (subst (IsAtMost early.seen) is_w (reads_in_turn q s r (answer.Seen v) early p x y ahead share (answer.Seen w) late)) in
-      let occurs_v = seen_occurs q s r v (run_sent mid second d to_d _ first_has) in
-      λ node. goes_on (table.get v node) (table.get w node) (most node)
-      (λ k a b here there. one_value c d (first ++ second) fresh_c to_end v w occurs_v (seen_occurs p x y w second_has) node k a b here there)
+    -- a read that began after a store had ended
+    pub stores_seen : (k : ℕ) → IsStored mid q k s r → (a : Answer) (read : Reading d p x y a) → HasAtLeast read.seen q k
+    stores_seen k stored a read =
+        let made = answered_by mid t_mid q s r answer.Stored stored.3 in
+        let m = made.0 in
+        let is_m : m ≡ stored.0 = one_at mid q q m stored.0 refl made.1 stored.1 in
+        let ask : IsWriteAsk (released_events m) k s r = subst (λ (n : Member). IsWriteAsk (released_events n) k s r) (sym is_m) stored.2 in
+        let sound = h_mid.sound q m made.1 in
+        let op = ended m s r answer.Stored made.2 in
+        let b = (after (fresh m.opening) op.front).core in
+        let lawful = (node_lawful q m sound op.front op.later op.last op.parts).core in
+        elim (either_op b s r answer.Stored b.ops.phase refl op.tells) as (λ _. HasAtLeast read.seen q k) [
+          | inl w ↦
+              let asked : HasAsked (pending_asks b.ops) s r = (w.1, op_pends b w.0 (Storing w.0) w.1 w.2 refl w.3, w.4, w.5) in
+              let reached = number_reached q m sound s r k answer.Stored op asked ask in
+              seen_later m read.member made.1 read.there (λ e. HasAtLeast (stored_of e.ops) q b.ops.number) q k
+              (λ e has. at_least (table.get (stored_of e.ops) q) k b.ops.number reached has)
+              (write_round q m sound op.front op.later op.last op.parts s r w.0 asked w.2 op.ends) read.seen (read_round_of p x y a read)
+          | inr o ↦ absurd (reads_view o.1.command o.2 (op_reads b lawful o.0 o.2 o.1 o.3 o.4) o.7)
+        ]
 
-  -- where members stay the same
-  pub meets : (all : List ℕ) → IsFixedCluster all c → AllByRecursion (λ move. Stays move.1) first → AllByRecursion (λ move. Stays move.1) second
-      → RoundsMeet d
-  meets all fixed stays stays_on =
-      rounds_meet all c d (first ++ second) fresh_c fixed (all_both (λ (move : ℕ × Move). Stays move.1) first second stays stays_on) to_end
+    -- a read that began after another had ended
+    pub reads_in_turn : (a : Answer) (early : Reading mid q s r a) (b : Answer) (late : Reading d p x y b) → IsAtMost early.seen late.seen
+    reads_in_turn a early b late =
+        let m = early.member in
+        let op = early.op in
+        let back = back_round q m (h_mid.sound q m early.there) op.front op.later op.last op.parts
+        s r early.pending early.seen early.asked early.phase op.ends in
+        λ node. kept_if (table.get early.seen node) (table.get late.seen node) (λ k has.
+        seen_later m late.member early.there late.there (λ e. stored_of e.ops ≡ early.seen) node k
+        (λ e is. subst (λ (v : ViewMap). HasAtLeast v node k) (sym is) has) back late.seen (read_round_of p x y b late))
+
+    -- ---- as clients see it
+
+    pub collect_sees : (k : ℕ) → IsStored mid q k s r → (v : ViewMap) → IsAnswered d p x y (answer.Seen v) → SeesWrite d v q k
+    collect_sees k stored v has =
+        let read = reading_end p x y (answer.Seen v) has (not_stored v) in
+        let seen : HasAtLeast v q k =
+        subst (λ (u : ViewMap). HasAtLeast u q k) read.tells (stores_seen k stored (answer.Seen v) read) in
+        let row = some_and (table.get v q) (λ e. k ≤ e.0) seen in
+        (row.0.0, row.0.1, row.2, row.1, all_written c d (first ++ second) begins to_end v (seen_occurs p x y v has) q row.0.0 row.0.1 row.1)
+
+    pub collects_in_turn : (v : ViewMap) → IsAnswered mid q s r (answer.Seen v) → (w : ViewMap) → IsAnswered d p x y (answer.Seen w) → IsFollowedBy v w
+    collects_in_turn v first_has w second_has =
+        let early = reading_mid q s r (answer.Seen v) first_has (not_stored v) in
+        let late = reading_end p x y (answer.Seen w) second_has (not_stored w) in
+        let most : IsAtMost v w =
+        subst (λ (u : ViewMap). IsAtMost u w) early.tells (subst (IsAtMost early.seen) late.tells (reads_in_turn (answer.Seen v) early (answer.Seen w) late)) in
+        let occurs_v = seen_occurs q s r v (run_sent mid second d to_d _ first_has) in
+        λ node. goes_on (table.get v node) (table.get w node) (most node)
+        (λ k a b here there. one_value c d (first ++ second) begins to_end v w occurs_v (seen_occurs p x y w second_has) node k a b here there)

@@ -2,7 +2,7 @@
 --     AllRows P v            P holds of each row of a view
 --     WritesAlong P n es     and of each row that is written along a list
 --     rows_along             then it holds of each view along it
-use Rattle.std.proofs.Common.{◌≡◌, ℕ, ◌+◌, ◌<◌, zero, suc, Bool, true, false, cond, nat_eq, nat_lt, List, [], ◌∷◌, ◌++◌, refl, sym, ap, subst, ◌∙◌, inl, inr}
+use Rattle.std.proofs.Common.{◌≡◌, ℕ, ◌+◌, ◌<◌, zero, suc, true, false, cond, nat_eq, nat_lt, List, [], ◌∷◌, refl, sym, ap, subst, ◌∙◌, inl, inr}
 use Rattle.std.specs.Prelude.{Option, Some, None, IfSome, if◌then◌else◌}
 use Rattle.std.specs.List.{AllByRecursion}
 use Rattle.std.specs.Ordering.{nat_cmp}
@@ -23,7 +23,7 @@ use Rattle.cc_node.specs.Core.{Core, begun, next}
 use Rattle.cc_node.specs.Node.{Node, step, after}
 use Rattle.cc_laws.specs.Shown.{in_event}
 use Rattle.cc_laws.specs.Histories.{view_at}
-use Rattle.cc_laws.proofs.Lists.{at_some}
+use Rattle.cc_laws.proofs.Lists.{at_some, either}
 use Rattle.cc_laws.proofs.Steps.{row_of, with_row, ViewStep, view_step}
 
 -- what the view of one row has
@@ -32,30 +32,30 @@ get-single row q =
     get-insert_key table.empty row.node (row.number, row.value) q ∙ ap (cond (nat_eq q row.node) (Some (row.number, row.value))) (table.get-empty nat_cmp q)
 
 module _ (P : ℕ → ℕ → Value → Type 0) where
+  abbrev OfPair : ℕ → Option Pair → Type 0
+  OfPair q o = IfSome o (λ e. P q e.0 e.1)
+
   abbrev pub AllRows : ViewMap → Type 0
-  AllRows v = (q : ℕ) → IfSome (table.get v q) (λ e. P q e.0 e.1)
+  AllRows v = (q : ℕ) → OfPair q (table.get v q)
 
-  either_pair : (q : ℕ) (b : Bool) (x y : Pair) → P q x.0 x.1 → P q y.0 y.1 → P q (cond b x y).0 (cond b x y).1
-  either_pair q true x y h k = h
-  either_pair q false x y h k = k
-
-  some_merged : (q : ℕ) (a b : Option Pair) → IfSome a (λ e. P q e.0 e.1) → IfSome b (λ e. P q e.0 e.1) → IfSome (merged a b) (λ e. P q e.0 e.1)
+  some_merged : (q : ℕ) (a b : Option Pair) → OfPair q a → OfPair q b → OfPair q (merged a b)
   some_merged q None None h k = tt
   some_merged q None (Some y) h k = k
   some_merged q (Some x) None h k = h
-  some_merged q (Some x) (Some y) h k = either_pair q (nat_lt x.0 y.0) y x k h
+  some_merged q (Some x) (Some y) h k = either (λ (e : Pair). P q e.0 e.1) (nat_lt x.0 y.0) y x k h
 
   rows_merge : (v w : ViewMap) → AllRows v → AllRows w → AllRows (merge v w)
-  rows_merge v w h k q = subst (λ o. IfSome o (λ e. P q e.0 e.1)) (sym (get-merge v w q)) (some_merged q (table.get v q) (table.get w q) (h q) (k q))
+  rows_merge v w h k q = subst (OfPair q) (sym (get-merge v w q)) (some_merged q (table.get v q) (table.get w q) (h q) (k q))
 
   pub rows_empty : AllRows table.empty
-  rows_empty q = subst (λ o. IfSome o (λ e. P q e.0 e.1)) (sym (table.get-empty nat_cmp q)) tt
+  rows_empty q = subst (OfPair q) (sym (table.get-empty nat_cmp q)) tt
 
   rows_single : (row : Row) → P row.node row.number row.value → AllRows (single row)
-  rows_single row h q = subst (λ o. IfSome o (λ e. P q e.0 e.1)) (sym (get-single row q))
-      (elim (eqb_tells q row.node) as (λ _. IfSome {T = Pair} (cond (nat_eq q row.node) (Some (row.number, row.value)) None) (λ e. P q e.0 e.1)) [
-        | inl e ↦ subst (λ b. IfSome {T = Pair} (cond b (Some (row.number, row.value)) None) (λ r. P q r.0 r.1)) (sym e.0) (subst (λ k. P k row.number row.value) (sym e.1) h)
-        | inr e ↦ subst (λ b. IfSome {T = Pair} (cond b (Some (row.number, row.value)) None) (λ r. P q r.0 r.1)) (sym e.0) tt
+  rows_single row h q = subst (OfPair q) (sym (get-single row q))
+      (elim (eqb_tells q row.node) as (λ _. OfPair q (cond (nat_eq q row.node) (Some (row.number, row.value)) None)) [
+        | inl e ↦
+            subst (λ b. OfPair q (cond b (Some (row.number, row.value)) None)) (sym e.0) (subst (λ k. P k row.number row.value) (sym e.1) h)
+        | inr e ↦ subst (λ b. OfPair q (cond b (Some (row.number, row.value)) None)) (sym e.0) tt
       ])
 
   -- the row of the last write that begins with these asks, if one does
@@ -92,7 +92,3 @@ module _ (P : ℕ → ℕ → Value → Type 0) where
   rows_along n es h b w zero = h
   rows_along n [] h b w (suc k) = h
   rows_along n (e ∷ es) h b w (suc k) = rows_along (step n e) es (step_rows n e h b.0 w.0) b.1 w.1 k
-
-  pub along_front : (n : Node) (xs ys : List Event) → WritesAlong n (xs ++ ys) → WritesAlong n xs
-  along_front n [] ys h = tt
-  along_front n (x ∷ xs) ys h = (h.0, along_front (step n x) xs ys h.1)

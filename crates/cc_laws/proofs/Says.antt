@@ -9,7 +9,6 @@ use Rattle.std.proofs.Common.{◌≡◌, ℕ, ◌+◌, ◌-◌, ◌<◌, ◌≤�
 use Rattle.std.specs.Prelude.{◌&&◌, Option, Some, None, IfSome, if◌then◌else◌, map, ⊤}
 use Rattle.std.specs.Bool.{then_some}
 use Rattle.std.specs.List.{AllByRecursion, Contains}
-use Rattle.std.proofs.lemmas.List.Elements.{Contains-append_left, Contains-append_right}
 use Rattle.std.specs.FinMap as table
 use Rattle.std.proofs.lemmas.Bool.{cond_both}
 use Rattle.cc_views.specs.Rows.{ViewMap}
@@ -29,27 +28,23 @@ use Rattle.cc_ops.specs.declared.pending.Pending.{Pending}
 use Rattle.cc_ops.specs.declared.pending.Reply.{Reply}
 use Rattle.cc_ops.specs.Commands.{is_writing}
 use Rattle.cc_ops.specs.Ops as ops
-use Rattle.cc_ops.specs.Ops.{Ops, Phase, Idle, Storing, Querying, StoringBack, is_idle, is_last, is_own, round_of, counted, merged, next_round, with_written, with_own_row, begin_round, with_begun, after_ask, after_reply, after_last, after_ack, after_message, begun_in, ends_query, ends_store, told, replies_in}
+use Rattle.cc_ops.specs.Ops.{Ops, Phase, Idle, Storing, Querying, StoringBack, is_idle, is_last, is_own, round_of, counted, merged, next_round, begin_round}
+use Rattle.cc_ops.specs.Ops.{with_begun, after_ask, after_reply, after_last, after_ack, after_message, begun_in, ends_query, ends_store, told, replies_in}
 use Rattle.cc_ops.specs.Rounds.{first_round, line_behind}
 use Rattle.cc_node.specs.declared.made.LinkAck.{LinkAck}
 use Rattle.cc_node.specs.Core as core
 use Rattle.cc_node.specs.Core.{Core, quorum, asked_of, churned, churn_told, tells, asks_anew, anew_if, join_told, question_if, post_of_snapshot, post_to}
-use Rattle.cc_node.specs.Core.{begun, handled, next, post, replies, outputs, sends, send_post, send_ack, send_replies, live_links}
+use Rattle.cc_node.specs.Core.{handled, next, post, replies, outputs, sends, send_post, send_ack, send_replies, live_links}
 use Rattle.cc_node.specs.Node.{Node, step, after, IsLawful}
 use Rattle.cc_node.proofs.ToldLaws.{anew_more}
 use Rattle.cc_laws.specs.Rounds.{ends_round}
-use Rattle.cc_laws.proofs.Lists.{all_both, of_some, some_if, some_of, some_or}
+use Rattle.cc_laws.proofs.Lists.{all_both, of_some, some_if, some_of, some_or, all_there, either}
+use Rattle.cc_laws.proofs.Becoming.{of_round, of_ack, of_reply}
 
 -- ---- tags
 
-either_tag : (b : Bool) (k : ℕ) (s t : Ops) → k ≤ s.tag → k ≤ t.tag → k ≤ (if b then s else t).tag
-either_tag true k s t h l = h
-either_tag false k s t h l = l
-
 pub round_tag : (me quorum : ℕ) (a : Asked) (others : List Asked) (s : Ops) → (begin_round me quorum (a ∷ others) s).tag ≡ s.tag + 1
-round_tag me quorum a others s =
-    cond_both (is_writing a.command) (next_round (Storing (round_of quorum a)) (with_own_row me (with_written (a ∷ others) s))) (next_round (Querying (round_of quorum a)) s)
-    (λ (t : Ops). t.tag ≡ s.tag + 1) (λ _. refl) (λ _. refl)
+round_tag me quorum a others s = of_round (λ t. t.tag ≡ s.tag + 1) me quorum a others s (λ _. refl) (λ _. refl)
 
 round_up : (me quorum : ℕ) (asks : List Asked) (s : Ops) → s.tag ≤ (begin_round me quorum asks s).tag
 round_up me quorum [] s = omega arith
@@ -59,51 +54,34 @@ last_up : (me quorum : ℕ) (s : Ops) → s.tag ≤ (after_last me quorum s).tag
 last_up me quorum s = round_up me quorum (first_round s.share s.line) (record s { line = line_behind s.share s.line })
 
 ack_up : (me quorum : ℕ) (phase : Phase) (s : Ops) → s.tag ≤ (after_ack me quorum phase s).tag
-ack_up me quorum Idle s = omega arith
-ack_up me quorum (Storing p) s =
-    either_tag (is_last p) s.tag (after_last me quorum s) (record s { phase = Storing (counted p) }) (last_up me quorum s) (omega arith)
-ack_up me quorum (Querying p) s = omega arith
+ack_up me quorum (Storing p) s = of_ack (λ t. s.tag ≤ t.tag) me quorum p (Storing (counted p)) s (last_up me quorum s) (omega arith)
 ack_up me quorum (StoringBack p seen) s =
-    either_tag (is_last p) s.tag (after_last me quorum s) (record s { phase = StoringBack (counted p) seen }) (last_up me quorum s) (omega arith)
+    of_ack (λ t. s.tag ≤ t.tag) me quorum p (StoringBack (counted p) seen) s (last_up me quorum s) (omega arith)
+ack_up me quorum _ s = omega arith
 
 reply_up : (quorum : ℕ) (v : ViewMap) (phase : Phase) (s : Ops) → s.tag ≤ (after_reply quorum v phase s).tag
-reply_up quorum v Idle s = omega arith
-reply_up quorum v (Storing p) s = omega arith
-reply_up quorum v (Querying p) s =
-    either_tag (is_last p) s.tag (next_round (StoringBack (round_of quorum p.asked) (merge s.view v)) (merged v s)) (record (merged v s) { phase = Querying (counted p) }) (omega arith) (omega arith)
-reply_up quorum v (StoringBack p seen) s = omega arith
+reply_up quorum v (Querying p) s = of_reply (λ t. s.tag ≤ t.tag) quorum v p s (omega arith) (omega arith)
+reply_up quorum v _ s = omega arith
 
 message_up : (me quorum : ℕ) (m : Message) (s : Ops) → s.tag ≤ (after_message me quorum m s).tag
-message_up me quorum (message.Enter q) s = omega arith
-message_up me quorum (message.EnterEcho c v j q) s = omega arith
-message_up me quorum (message.Join q) s = omega arith
-message_up me quorum (message.JoinEcho q) s = omega arith
-message_up me quorum (message.Leave q) s = omega arith
-message_up me quorum (message.LeaveEcho q) s = omega arith
-message_up me quorum (message.Query tag q) s = omega arith
 message_up me quorum (message.QueryReply v tag q) s =
-    either_tag (is_own me tag q s) s.tag (after_reply quorum v s.phase s) s (reply_up quorum v s.phase s) (omega arith)
-message_up me quorum (message.Store v tag q) s = omega arith
+    either (λ (t : Ops). s.tag ≤ t.tag) (is_own me tag q s) (after_reply quorum v s.phase s) s (reply_up quorum v s.phase s) (omega arith)
 message_up me quorum (message.StoreAck tag q) s =
-    either_tag (is_own me tag q s) s.tag (after_ack me quorum s.phase s) s (ack_up me quorum s.phase s) (omega arith)
-message_up me quorum (message.Snapshot c v) s = omega arith
+    either (λ (t : Ops). s.tag ≤ t.tag) (is_own me tag q s) (after_ack me quorum s.phase s) s (ack_up me quorum s.phase s) (omega arith)
+message_up me quorum _ s = omega arith
 
 ask_up : (me quorum : ℕ) (a : Asked) (s : Ops) → s.tag ≤ (after_ask me quorum a s).tag
 ask_up me quorum a s =
-    either_tag (is_idle s.phase) s.tag (with_begun me quorum a s) (record s { line = s.line ++ a ∷ [] }) (round_up me quorum (a ∷ []) s) (omega arith)
+    either (λ (t : Ops). s.tag ≤ t.tag) (is_idle s.phase) (with_begun me quorum a s) (record s { line = s.line ++ a ∷ [] })
+    (round_up me quorum (a ∷ []) s) (omega arith)
 
 pub tag_next : (c : Core) (e : Event) → c.ops.tag ≤ (next c e).ops.tag
 unfolding next
-tag_next c event.Enter = omega arith
-tag_next c event.Leave = omega arith
 tag_next c (event.Deliver from n m) =
     let t = after_message c.me (quorum c) m c.ops in
     omega (arith, message_up c.me (quorum c) m c.ops, anew_more (asks_anew c from n m) (churn.quorum c.beta (churn_told c from n m)) t)
-tag_next c (event.Acked peer n) = omega arith
 tag_next c (event.Ask s r command) = ask_up c.me (quorum c) (asked_of s r command) c.ops
-tag_next c (event.Retire q) = omega arith
-tag_next c (event.Lapse q) = omega arith
-tag_next c event.Snapshot = omega arith
+tag_next c _ = omega arith
 
 pub tag_after : (n : Node) (es : List Event) → IsLawful n es → n.core.ops.tag ≤ (after n es).core.ops.tag
 unfolding step
@@ -113,10 +91,8 @@ tag_after n (e ∷ es) d = omega (arith, tag_next n.core e, tag_after (step n e)
 -- ---- posts
 
 abbrev pub stored_in : ViewMap → Phase → ViewMap
-stored_in view Idle = view
-stored_in view (Storing p) = view
-stored_in view (Querying p) = view
 stored_in view (StoringBack p seen) = seen
+stored_in view _ = view
 
 abbrev pub stored_of : Ops → ViewMap
 stored_of s = stored_in s.view s.phase
@@ -127,17 +103,11 @@ BringsIn e m = (from n : ℕ) × (e ≡ event.Deliver from n m)
 
 -- of a post that an event makes: the node, its tag before, and the rest after it
 abbrev pub Says : ℕ → ℕ → Event → Ops → Message → Type 0
-Says me under e t (message.Enter q) = ⊤
-Says me under e t (message.EnterEcho c v from_joined q) = ⊤
-Says me under e t (message.Join q) = ⊤
-Says me under e t (message.JoinEcho q) = ⊤
-Says me under e t (message.Leave q) = ⊤
-Says me under e t (message.LeaveEcho q) = ⊤
 Says me under e t (message.Query tag q) = (q ≡ me) × (under < tag) × (tag ≡ t.tag)
 Says me under e t (message.QueryReply v tag q) = BringsIn e (message.Query tag q) × (v ≡ t.view)
 Says me under e t (message.Store v tag q) = (q ≡ me) × (under < tag) × (tag ≡ t.tag) × (v ≡ stored_of t)
 Says me under e t (message.StoreAck tag q) = (v : ViewMap) × BringsIn e (message.Store v tag q) × IsAtMost v t.view
-Says me under e t (message.Snapshot c v) = ⊤
+Says me under e t _ = ⊤
 
 abbrev pub PostSays : Core → Event → Message → Type 0
 PostSays c e m = Says c.me c.ops.tag e (next c e).ops m
@@ -147,45 +117,41 @@ first_says : (P : Message → Type 0) (me : ℕ) (a : Asked) (t : Ops) → P (me
 first_says P me a t store query =
     cond_both (is_writing a.command) (message.Store t.view t.tag me) (message.Query t.tag me) P (λ _. store) (λ _. query)
 
-round_stores : (me quorum : ℕ) (a : Asked) (others : List Asked) (s : Ops) → (begin_round me quorum (a ∷ others) s).view ≡ stored_of (begin_round me quorum (a ∷ others) s)
-round_stores me quorum a others s =
-    cond_both (is_writing a.command) (next_round (Storing (round_of quorum a)) (with_own_row me (with_written (a ∷ others) s))) (next_round (Querying (round_of quorum a)) s)
-    (λ (t : Ops). t.view ≡ stored_of t) (λ _. refl) (λ _. refl)
+round_stores : (me quorum : ℕ) (a : Asked) (others : List Asked) (s : Ops)
+    → (begin_round me quorum (a ∷ others) s).view ≡ stored_of (begin_round me quorum (a ∷ others) s)
+round_stores me quorum a others s = of_round (λ t. t.view ≡ stored_of t) me quorum a others s (λ _. refl) (λ _. refl)
 
-round_says : (me quorum : ℕ) (asks : List Asked) (s : Ops) (e : Event)
-    → IfSome (ops.post_of_round me asks (begin_round me quorum asks s)) (Says me s.tag e (begin_round me quorum asks s))
+-- what asks that begin are posted with, where they leave t
+abbrev Posts : ℕ → Ops → Event → List Asked → Ops → Type 0
+Posts me s e asks t = IfSome (ops.post_of_round me asks t) (Says me s.tag e t)
+
+round_says : (me quorum : ℕ) (asks : List Asked) (s : Ops) (e : Event) → Posts me s e asks (begin_round me quorum asks s)
 round_says me quorum [] s e = tt
 round_says me quorum (a ∷ others) s e =
     let t = begin_round me quorum (a ∷ others) s in
     let new : s.tag < t.tag = omega (arith, round_tag me quorum a others s) in
     first_says (Says me s.tag e t) me a t (refl, new, refl, round_stores me quorum a others s) (refl, new, refl)
 
-last_says : (me quorum : ℕ) (s : Ops) (e : Event)
-    → IfSome (ops.post_of_round me (first_round s.share s.line) (after_last me quorum s)) (Says me s.tag e (after_last me quorum s))
+last_says : (me quorum : ℕ) (s : Ops) (e : Event) → Posts me s e (first_round s.share s.line) (after_last me quorum s)
 last_says me quorum s e = round_says me quorum (first_round s.share s.line) (record s { line = line_behind s.share s.line }) e
 
 either_last : (me quorum : ℕ) (b : Bool) (phase : Phase) (s : Ops) (e : Event)
-    → IfSome (ops.post_of_round me (if b then first_round s.share s.line else []) (if b then after_last me quorum s else record s { phase = phase }))
-    (Says me s.tag e (if b then after_last me quorum s else record s { phase = phase }))
+    → Posts me s e (if b then first_round s.share s.line else []) (if b then after_last me quorum s else record s { phase = phase })
 either_last me quorum true phase s e = last_says me quorum s e
 either_last me quorum false phase s e = tt
 
-ack_says : (me quorum : ℕ) (phase : Phase) (s : Ops) (e : Event)
-    → IfSome (ops.post_of_round me (begun_in phase s) (after_ack me quorum phase s)) (Says me s.tag e (after_ack me quorum phase s))
-ack_says me quorum Idle s e = tt
+ack_says : (me quorum : ℕ) (phase : Phase) (s : Ops) (e : Event) → Posts me s e (begun_in phase s) (after_ack me quorum phase s)
 ack_says me quorum (Storing p) s e = either_last me quorum (is_last p) (Storing (counted p)) s e
-ack_says me quorum (Querying p) s e = tt
 ack_says me quorum (StoringBack p seen) s e = either_last me quorum (is_last p) (StoringBack (counted p) seen) s e
+ack_says me quorum _ s e = tt
 
 own_ack_says : (me quorum : ℕ) (b : Bool) (s : Ops) (e : Event)
-    → IfSome (ops.post_of_round me (if b then begun_in s.phase s else []) (if b then after_ack me quorum s.phase s else s))
-    (Says me s.tag e (if b then after_ack me quorum s.phase s else s))
+    → Posts me s e (if b then begun_in s.phase s else []) (if b then after_ack me quorum s.phase s else s)
 own_ack_says me quorum true s e = ack_says me quorum s.phase s e
 own_ack_says me quorum false s e = tt
 
 ask_says : (me quorum : ℕ) (b : Bool) (a : Asked) (s : Ops) (line : List Asked) (e : Event)
-    → IfSome (ops.post_of_round me (if b then a ∷ [] else []) (if b then with_begun me quorum a s else record s { line = line }))
-    (Says me s.tag e (if b then with_begun me quorum a s else record s { line = line }))
+    → Posts me s e (if b then a ∷ [] else []) (if b then with_begun me quorum a s else record s { line = line })
 ask_says me quorum true a s line e = round_says me quorum (a ∷ []) s e
 ask_says me quorum false a s line e = tt
 
@@ -197,48 +163,34 @@ either_reply me true v p other s e = (refl, omega arith, refl, refl)
 either_reply me false v p other s e = tt
 
 back_says : (me quorum : ℕ) (v : ViewMap) (phase : Phase) (s : Ops) (e : Event)
-    → IfSome (then_some (ends_query phase) (message.Store (after_reply quorum v phase s).view (after_reply quorum v phase s).tag me)) (Says me s.tag e (after_reply quorum v phase s))
-back_says me quorum v Idle s e = tt
-back_says me quorum v (Storing p) s e = tt
+    → IfSome (then_some (ends_query phase) (message.Store (after_reply quorum v phase s).view (after_reply quorum v phase s).tag me))
+    (Says me s.tag e (after_reply quorum v phase s))
 back_says me quorum v (Querying p) s e =
     either_reply me (is_last p) v (round_of quorum p.asked) (Querying (counted p)) s e
-back_says me quorum v (StoringBack p seen) s e = tt
+back_says me quorum v _ s e = tt
 
 own_back_says : (me quorum : ℕ) (b : Bool) (v : ViewMap) (s : Ops) (e : Event)
-    → IfSome (then_some (b && ends_query s.phase) (message.Store (if b then after_reply quorum v s.phase s else s).view (if b then after_reply quorum v s.phase s else s).tag me))
-    (Says me s.tag e (if b then after_reply quorum v s.phase s else s))
+    → (let t = if b then after_reply quorum v s.phase s else s in
+    IfSome (then_some (b && ends_query s.phase) (message.Store t.view t.tag me)) (Says me s.tag e t))
 own_back_says me quorum true v s e = back_says me quorum v s.phase s e
 own_back_says me quorum false v s e = tt
 
 ops_say : (me quorum : ℕ) (joined : Bool) (from n : ℕ) (m : Message) (s : Ops)
     → IfSome (ops.post_of me joined m s (after_message me quorum m s)) (Says me s.tag (event.Deliver from n m) (after_message me quorum m s))
-ops_say me quorum joined from n (message.Enter q) s = tt
-ops_say me quorum joined from n (message.EnterEcho c v j q) s = tt
-ops_say me quorum joined from n (message.Join q) s = tt
-ops_say me quorum joined from n (message.JoinEcho q) s = tt
-ops_say me quorum joined from n (message.Leave q) s = tt
-ops_say me quorum joined from n (message.LeaveEcho q) s = tt
 ops_say me quorum joined from n (message.Query tag q) s =
     some_if (Says me s.tag (event.Deliver from n (message.Query tag q)) s) joined (message.QueryReply s.view tag q) ((from, n, refl), refl)
-ops_say me quorum joined from n (message.QueryReply v tag q) s = own_back_says me quorum (is_own me tag q s) v s (event.Deliver from n (message.QueryReply v tag q))
+ops_say me quorum joined from n (message.QueryReply v tag q) s =
+    own_back_says me quorum (is_own me tag q s) v s (event.Deliver from n (message.QueryReply v tag q))
 ops_say me quorum joined from n (message.Store v tag q) s =
-    some_if (Says me s.tag (event.Deliver from n (message.Store v tag q)) (merged v s)) joined (message.StoreAck tag q) (v, (from, n, refl), merged_at_most s.view v)
+    some_if (Says me s.tag (event.Deliver from n (message.Store v tag q)) (merged v s)) joined (message.StoreAck tag q)
+    (v, (from, n, refl), merged_at_most s.view v)
 ops_say me quorum joined from n (message.StoreAck tag q) s = own_ack_says me quorum (is_own me tag q s) s (event.Deliver from n (message.StoreAck tag q))
-ops_say me quorum joined from n (message.Snapshot c v) s = tt
+ops_say me quorum joined from n _ s = tt
 
 churn_says : (me under : ℕ) (view : ViewMap) (e : Event) (m : Message) (s t : churn.Churn) (after : Ops)
     → IfSome (churn.post_of me view m s t) (Says me under e after)
-churn_says me under view e (message.Enter q) s t after = tt
 churn_says me under view e (message.EnterEcho c w j q) s t after = some_if (Says me under e after) _ (message.Join me) tt
-churn_says me under view e (message.Join q) s t after = tt
-churn_says me under view e (message.JoinEcho q) s t after = tt
-churn_says me under view e (message.Leave q) s t after = tt
-churn_says me under view e (message.LeaveEcho q) s t after = tt
-churn_says me under view e (message.Query tag q) s t after = tt
-churn_says me under view e (message.QueryReply w tag q) s t after = tt
-churn_says me under view e (message.Store w tag q) s t after = tt
-churn_says me under view e (message.StoreAck tag q) s t after = tt
-churn_says me under view e (message.Snapshot c w) s t after = tt
+churn_says me under view e _ s t after = tt
 
 -- what a message is answered with, but for a snapshot
 answer_says : (c : Core) (from n : ℕ) (m : Message) → IfSome (post_to m c (handled c (event.Deliver from n m))) (PostSays c (event.Deliver from n m))
@@ -254,9 +206,8 @@ answer_says c from n m =
 anew_says : (e : Event) (me under quorum : ℕ) (s : Ops) (phase : Phase) → under ≤ s.tag
     → IfSome (ops.question_in me s.view (s.tag + 1) (ops.again quorum phase)) (Says me under e (next_round (ops.again quorum phase) s))
 anew_says e me under quorum s Idle le = tt
-anew_says e me under quorum s (Storing p) le = (refl, omega (arith, le), refl, refl)
 anew_says e me under quorum s (Querying p) le = (refl, omega (arith, le), refl)
-anew_says e me under quorum s (StoringBack p seen) le = (refl, omega (arith, le), refl, refl)
+anew_says e me under quorum s _ le = (refl, omega (arith, le), refl, refl)
 
 question_says : (e : Event) (me under quorum : ℕ) (b : Bool) (s : Ops) → under ≤ s.tag
     → IfSome (question_if b me quorum s) (Says me under e (anew_if b quorum s))
@@ -277,16 +228,11 @@ snapshot_says c from n m =
 
 pub post_says : (c : Core) (e : Event) → IfSome (post c e) (PostSays c e)
 unfolding next
-post_says c event.Enter = tt
-post_says c event.Leave = tt
 post_says c (event.Deliver from n m) =
     some_or (PostSays c (event.Deliver from n m)) (post_of_snapshot c from n m) (post_to m c (handled c (event.Deliver from n m)))
     (snapshot_says c from n m) (answer_says c from n m)
-post_says c (event.Acked peer n) = tt
 post_says c (event.Ask s r command) = ask_says c.me (quorum c) (is_idle c.ops.phase) (asked_of s r command) c.ops _ (event.Ask s r command)
-post_says c (event.Retire q) = tt
-post_says c (event.Lapse q) = tt
-post_says c event.Snapshot = tt
+post_says c _ = tt
 
 -- ---- replies
 
@@ -295,10 +241,9 @@ abbrev pub TellsOne : ViewMap → List Asked → Reply → Type 0
 TellsOne seen asks r = (a : Asked) × Contains asks a × (r ≡ told seen a)
 
 abbrev pub Told : ViewMap → List Asked → Phase → Reply → Type 0
-Told view others Idle r = ⊥
 Told view others (Storing p) r = TellsOne view (p.asked ∷ others) r
-Told view others (Querying p) r = ⊥
 Told view others (StoringBack p seen) r = TellsOne seen (p.asked ∷ others) r
+Told view others _ r = ⊥
 
 abbrev pub TellsOf : Ops → Reply → Type 0
 TellsOf s r = Told s.view s.others s.phase r
@@ -306,22 +251,14 @@ TellsOf s r = Told s.view s.others s.phase r
 abbrev pub ReplySays : Core → Event → Reply → Type 0
 ReplySays c e r = (ends_round c e ≡ true) × TellsOf c.ops r
 
--- each element is in its list
-each_in : {X : Type 0} (xs : List X) → AllByRecursion (Contains xs) xs
-each_in [] = tt
-each_in {X} (x ∷ xs) = (Contains-append_left (x ∷ []) xs x (0, omega arith, refl), behind xs (each_in xs))
-  where
-    behind : (ys : List X) → AllByRecursion (Contains xs) ys → AllByRecursion (Contains (x ∷ xs)) ys
-    behind [] h = tt
-    behind (y ∷ ys) h = (Contains-append_right (x ∷ []) xs y h.0, behind ys h.1)
-
 each_told : (seen : ViewMap) (all asks : List Asked) → AllByRecursion (Contains all) asks
     → AllByRecursion (λ r. (true ≡ true) × TellsOne seen all r) (map (told seen) asks)
 each_told seen all [] h = tt
 each_told seen all (a ∷ asks) h = ((refl, (a, h.0, refl)), each_told seen all asks h.1)
 
-last_replies : (b : Bool) (seen : ViewMap) (asks : List Asked) → AllByRecursion (λ r. (b ≡ true) × TellsOne seen asks r) (if b then map (told seen) asks else [])
-last_replies true seen asks = each_told seen asks asks (each_in asks)
+last_replies : (b : Bool) (seen : ViewMap) (asks : List Asked)
+    → AllByRecursion (λ r. (b ≡ true) × TellsOne seen asks r) (if b then map (told seen) asks else [])
+last_replies true seen asks = each_told seen asks asks (all_there (Contains asks) asks (λ _ has. has))
 last_replies false seen asks = tt
 
 ack_replies : (b : Bool) (view : ViewMap) (others : List Asked) (phase : Phase)
@@ -333,27 +270,12 @@ ack_replies true view others (StoringBack p seen) = last_replies (is_last p) see
 ack_replies false view others phase = tt
 
 message_replies : (c : Core) (from n : ℕ) (m : Message) → AllByRecursion (ReplySays c (event.Deliver from n m)) (ops.replies_of c.me m c.ops)
-message_replies c from n (message.Enter q) = tt
-message_replies c from n (message.EnterEcho d v j q) = tt
-message_replies c from n (message.Join q) = tt
-message_replies c from n (message.JoinEcho q) = tt
-message_replies c from n (message.Leave q) = tt
-message_replies c from n (message.LeaveEcho q) = tt
-message_replies c from n (message.Query tag q) = tt
-message_replies c from n (message.QueryReply v tag q) = tt
-message_replies c from n (message.Store v tag q) = tt
 message_replies c from n (message.StoreAck tag q) = ack_replies (is_own c.me tag q c.ops) c.ops.view c.ops.others c.ops.phase
-message_replies c from n (message.Snapshot d v) = tt
+message_replies c from n _ = tt
 
 pub each_says : (c : Core) (e : Event) → AllByRecursion (ReplySays c e) (replies c e)
-each_says c event.Enter = tt
-each_says c event.Leave = tt
 each_says c (event.Deliver from n m) = message_replies c from n m
-each_says c (event.Acked peer n) = tt
-each_says c (event.Ask s r command) = tt
-each_says c (event.Retire q) = tt
-each_says c (event.Lapse q) = tt
-each_says c event.Snapshot = tt
+each_says c _ = tt
 
 -- ---- outputs
 
@@ -393,4 +315,4 @@ pub outputs_say : (c : Core) (e : Event) → AllByRecursion (OutputSays c e) (ou
 outputs_say c e =
     all_both (OutputSays c e) (send_ack (core.ack e) ++ send_post (next c e) (post c e)) (send_replies (replies c e))
     (all_both (OutputSays c e) (send_ack (core.ack e)) (send_post (next c e) (post c e)) (acks_say c e (core.ack e)) (posts_say c e (post c e) refl))
-    (replies_say c e (replies c e) (each_in (replies c e)))
+    (replies_say c e (replies c e) (all_there (Contains (replies c e)) (replies c e) (λ _ has. has)))

@@ -42,18 +42,12 @@ module _ (Q : ViewMap → Type 0) where
   -- ---- what is kept
 
   forgets : (e : Event) (o : Outbox) → KeepsOnly o → KeepsOnly (forget_asked e o)
-  forgets event.Enter o h = h
-  forgets event.Leave o h = h
-  forgets (event.Deliver from n m) o h = h
-  forgets (event.Acked peer n) o h = h
   forgets (event.Ask s r command) o h = record {
     posts = h.posts;
     answers = λ q. subst (λ x. IfSome x (OfAnswer Q)) (sym (table.get-remove nat_cmp_total o.answers s q))
         (some_of (OfAnswer Q) (eq_by_cmp nat_cmp q s) None (table.get o.answers q) tt (h.answers q));
   }
-  forgets (event.Retire q) o h = h
-  forgets (event.Lapse q) o h = h
-  forgets event.Snapshot o h = h
+  forgets _ o h = h
 
   adds : (m : Option Message) (o : Outbox) → KeepsOnly o → IfSome m (OfMessage Q) → KeepsOnly (add m o)
   adds None o h i = h
@@ -76,7 +70,8 @@ module _ (Q : ViewMap → Type 0) where
 
   trims : (low : ℕ) (o : Outbox) → KeepsOnly o → KeepsOnly (trim low o)
   trims low o h = record {
-    posts = λ q. subst (λ x. IfSome x (OfMessage Q)) (sym (get-above low o.posts q)) (some_of (OfMessage Q) (nat_lt low q) (table.get o.posts q) None (h.posts q) tt);
+    posts = λ q. subst (λ x. IfSome x (OfMessage Q)) (sym (get-above low o.posts q))
+        (some_of (OfMessage Q) (nat_lt low q) (table.get o.posts q) None (h.posts q) tt);
     answers = h.answers;
   }
 
@@ -87,7 +82,9 @@ module _ (Q : ViewMap → Type 0) where
   step_shows n e h there = record {
     view = there;
     phase = handled_phase Q n.core e h.phase there;
-    kept = trims (lowest (next n.core e)) _ (keeps (replies n.core e) _ (adds (post n.core e) _ (forgets e n.outbox h.kept) (post_shows Q n.core e h.phase there)) (replies_show Q n.core e h.view h.phase));
+    kept = trims (lowest (next n.core e)) _
+        (keeps (replies n.core e) _ (adds (post n.core e) _ (forgets e n.outbox h.kept) (post_shows Q n.core e h.phase there))
+        (replies_show Q n.core e h.view h.phase));
   }
 
   sends_show : (k : ℕ) (m : Message) (rows : List (ℕ × Link)) → OfMessage Q m → AllByRecursion (OfOutput Q) (sends k m rows)
@@ -111,7 +108,8 @@ module _ (Q : ViewMap → Type 0) where
   outputs_show n e h there =
       let c = n.core in
       all_both (OfOutput Q) (send_ack (ack e) ++ send_post (next c e) (post c e)) (send_replies (replies c e))
-      (all_both (OfOutput Q) (send_ack (ack e)) (send_post (next c e) (post c e)) (sent_ack (ack e)) (sent_post (next c e) (post c e) (post_shows Q c e h.phase there)))
+      (all_both (OfOutput Q) (send_ack (ack e)) (send_post (next c e) (post c e)) (sent_ack (ack e))
+      (sent_post (next c e) (post c e) (post_shows Q c e h.phase there)))
       (sent_replies (replies c e) (replies_show Q c e h.view h.phase))
 
   pub all_shown : (n : Node) (es : List Event) → ShowsOnly n → ((k : ℕ) → Q (view_at n es k)) → ShowsOnly (after n es) × AllByRecursion (OfOutput Q) (line n es)

@@ -5,7 +5,6 @@ use Rattle.std.proofs.Common.{ℕ, Bool, true, false, List, [], ◌∷◌, ◌+�
 use Rattle.std.specs.Prelude.{Option, None, IfSome, if◌then◌else◌, map}
 use Rattle.std.specs.List.{AllByRecursion}
 use Rattle.cc_views.specs.Rows.{ViewMap}
-use Rattle.cc_views.specs.Merge.{merge}
 use Rattle.cc_messages.specs.declared.answer.Answer.{Answer}
 use Rattle.cc_messages.specs.declared.command.Command.{Command}
 use Rattle.cc_messages.specs.declared.command.Command.TheVariants as command
@@ -19,7 +18,7 @@ use Rattle.cc_ops.specs.declared.pending.Asked.{Asked}
 use Rattle.cc_ops.specs.declared.pending.Reply.{Reply}
 use Rattle.cc_ops.specs.Commands.{is_writing, answer_of}
 use Rattle.cc_ops.specs.Ops as ops
-use Rattle.cc_ops.specs.Ops.{Ops, Phase, Idle, Storing, Querying, StoringBack, seen_in}
+use Rattle.cc_ops.specs.Ops.{Ops, Phase, Storing, Querying, StoringBack, seen_in}
 use Rattle.cc_ops.specs.OwnLaws.{anew_keeps}
 use Rattle.cc_ops.specs.Rounds.{first_round, line_behind}
 use Rattle.cc_ops.specs.Waiting.{first_in}
@@ -28,7 +27,8 @@ use Rattle.cc_node.specs.Core.{begun, handled, post, replies}
 use Rattle.cc_node.proofs.ToldLaws.{anew_view}
 use Rattle.cc_node.specs.Node.{line}
 use Rattle.cc_laws.specs.Shown.{in_message, in_answer, in_output}
-use Rattle.cc_laws.proofs.Lists.{some_if, some_of, some_or, some_mapped, all_of}
+use Rattle.cc_laws.proofs.Lists.{some_if, some_of, some_or, some_mapped, either}
+use Rattle.cc_laws.proofs.Becoming.{of_round, of_ack, of_reply}
 
 module _ (Q : ViewMap → Type 0) where
   abbrev pub OfPhase : Phase → Type 0
@@ -45,94 +45,58 @@ module _ (Q : ViewMap → Type 0) where
 
   -- ---- the phase
 
-  taken_phase : (b : Bool) (s t : Ops) → (Q s.view → OfPhase s.phase) → (Q t.view → OfPhase t.phase) → Q (if b then s else t).view → OfPhase (if b then s else t).phase
-  taken_phase true s t h k q = h q
-  taken_phase false s t h k q = k q
-
   round_phase : (me quorum : ℕ) (asks : List Asked) (s : Ops) → OfPhase (ops.begin_round me quorum asks s).phase
   round_phase me quorum [] s = tt
-  round_phase me quorum (a ∷ others) s =
-      elim (is_writing a.command)
-      as (λ b. OfPhase (if b then ops.next_round (Storing (ops.round_of quorum a)) (ops.with_own_row me (ops.with_written (a ∷ others) s)) else ops.next_round (Querying (ops.round_of quorum a)) s).phase) [
-        | true ↦ tt
-        | false ↦ tt
-      ]
+  round_phase me quorum (a ∷ others) s = of_round (λ t. OfPhase t.phase) me quorum a others s (λ _. tt) (λ _. tt)
 
   last_phase : (me quorum : ℕ) (s : Ops) → OfPhase (ops.after_last me quorum s).phase
   last_phase me quorum s = round_phase me quorum (first_round s.share s.line) (record s { line = line_behind s.share s.line })
 
-  reply_phase : (quorum : ℕ) (v : ViewMap) (phase : Phase) (s : Ops) → OfPhase s.phase → Q (ops.after_reply quorum v phase s).view → OfPhase (ops.after_reply quorum v phase s).phase
-  reply_phase quorum v Idle s h q = h
-  reply_phase quorum v (Storing p) s h q = h
-  reply_phase quorum v (Querying p) s h q =
-      taken_phase (ops.is_last p)
-      (ops.next_round (StoringBack (ops.round_of quorum p.asked) (merge s.view v)) (ops.merged v s))
-      (record (ops.merged v s) { phase = Querying (ops.counted p) })
-      (λ seen. seen) (λ _. tt) q
-  reply_phase quorum v (StoringBack p seen) s h q = h
-
-  either_last : (me quorum : ℕ) (b : Bool) (phase : Phase) (s : Ops) → OfPhase phase → OfPhase (if b then ops.after_last me quorum s else record s { phase = phase }).phase
-  either_last me quorum true phase s h = last_phase me quorum s
-  either_last me quorum false phase s h = h
+  reply_phase : (quorum : ℕ) (v : ViewMap) (phase : Phase) (s : Ops) → OfPhase s.phase → Q (ops.after_reply quorum v phase s).view
+      → OfPhase (ops.after_reply quorum v phase s).phase
+  reply_phase quorum v (Querying p) s h q = of_reply (λ t. Q t.view → OfPhase t.phase) quorum v p s (λ seen. seen) (λ _. tt) q
+  reply_phase quorum v _ s h q = h
 
   ack_phase : (me quorum : ℕ) (phase : Phase) (s : Ops) → OfPhase s.phase → OfPhase phase → OfPhase (ops.after_ack me quorum phase s).phase
-  ack_phase me quorum Idle s h k = h
-  ack_phase me quorum (Storing p) s h k = either_last me quorum (ops.is_last p) (Storing (ops.counted p)) s tt
-  ack_phase me quorum (Querying p) s h k = h
-  ack_phase me quorum (StoringBack p seen) s h k = either_last me quorum (ops.is_last p) (StoringBack (ops.counted p) seen) s k
+  ack_phase me quorum (Storing p) s h k = of_ack (λ t. OfPhase t.phase) me quorum p (Storing (ops.counted p)) s (last_phase me quorum s) tt
+  ack_phase me quorum (StoringBack p seen) s h k = of_ack (λ t. OfPhase t.phase) me quorum p (StoringBack (ops.counted p) seen) s (last_phase me quorum s) k
+  ack_phase me quorum _ s h k = h
 
-  message_phase : (me quorum : ℕ) (m : Message) (s : Ops) → OfPhase s.phase → Q (ops.after_message me quorum m s).view → OfPhase (ops.after_message me quorum m s).phase
-  message_phase me quorum (message.Enter q) s h k = h
-  message_phase me quorum (message.EnterEcho c v j q) s h k = h
-  message_phase me quorum (message.Join q) s h k = h
-  message_phase me quorum (message.JoinEcho q) s h k = h
-  message_phase me quorum (message.Leave q) s h k = h
-  message_phase me quorum (message.LeaveEcho q) s h k = h
-  message_phase me quorum (message.Query tag q) s h k = h
+  message_phase : (me quorum : ℕ) (m : Message) (s : Ops) → OfPhase s.phase → Q (ops.after_message me quorum m s).view
+      → OfPhase (ops.after_message me quorum m s).phase
   message_phase me quorum (message.QueryReply v tag q) s h k =
-      taken_phase (ops.is_own me tag q s) (ops.after_reply quorum v s.phase s) s (reply_phase quorum v s.phase s h) (λ _. h) k
-  message_phase me quorum (message.Store v tag q) s h k = h
+      either (λ (t : Ops). Q t.view → OfPhase t.phase) (ops.is_own me tag q s) (ops.after_reply quorum v s.phase s) s
+      (reply_phase quorum v s.phase s h) (λ _. h) k
   message_phase me quorum (message.StoreAck tag q) s h k =
-      taken_phase (ops.is_own me tag q s) (ops.after_ack me quorum s.phase s) s (λ _. ack_phase me quorum s.phase s h h) (λ _. h) k
-  message_phase me quorum (message.Snapshot c v) s h k = h
+      either (λ (t : Ops). Q t.view → OfPhase t.phase) (ops.is_own me tag q s) (ops.after_ack me quorum s.phase s) s
+      (λ _. ack_phase me quorum s.phase s h h) (λ _. h) k
+  message_phase me quorum _ s h k = h
 
   -- a phase that begins anew stores back what it did
   anew_phase : (b : Bool) (quorum : ℕ) (s : Ops) → OfPhase s.phase → OfPhase (anew_if b quorum s).phase
   anew_phase true quorum s h = subst (λ (o : Option ViewMap). IfSome o Q) (sym (anew_keeps quorum s).seen) h
   anew_phase false quorum s h = h
 
-  ask_phase : (me quorum : ℕ) (b : Bool) (a : Asked) (s : Ops) (line : List Asked) → OfPhase s.phase → OfPhase (if b then ops.with_begun me quorum a s else record s { line = line }).phase
+  ask_phase : (me quorum : ℕ) (b : Bool) (a : Asked) (s : Ops) (line : List Asked) → OfPhase s.phase
+      → OfPhase (if b then ops.with_begun me quorum a s else record s { line = line }).phase
   ask_phase me quorum true a s line h = round_phase me quorum (a ∷ []) s
   ask_phase me quorum false a s line h = h
 
   pub handled_phase : (c : Core) (e : Event) → OfPhase c.ops.phase → Q (handled c e).ops.view → OfPhase (handled c e).ops.phase
-  handled_phase c event.Enter h k = h
-  handled_phase c event.Leave h k = h
   handled_phase c (event.Deliver from n m) h k =
       let b = asks_anew c from n m in
       let need = churn.quorum c.beta (churn_told c from n m) in
       let t = ops.after_message c.me (quorum c) m c.ops in
       anew_phase b need t (message_phase c.me (quorum c) m c.ops h (subst Q (anew_view b need t) k))
-  handled_phase c (event.Acked peer n) h k = h
   handled_phase c (event.Ask s r command) h k = ask_phase c.me (quorum c) (ops.is_idle c.ops.phase) (asked_of s r command) c.ops _ h
-  handled_phase c (event.Retire q) h k = h
-  handled_phase c (event.Lapse q) h k = h
-  handled_phase c event.Snapshot h k = h
+  handled_phase c _ h k = h
 
   -- ---- the post
 
   churn_post : (me : ℕ) (v : ViewMap) (m : Message) (s t : churn.Churn) → Q v → IfSome (churn.post_of me v m s t) OfMessage
   churn_post me v (message.Enter q) s t h = h
   churn_post me v (message.EnterEcho c w j q) s t h = some_if OfMessage _ (message.Join me) tt
-  churn_post me v (message.Join q) s t h = tt
-  churn_post me v (message.JoinEcho q) s t h = tt
-  churn_post me v (message.Leave q) s t h = tt
-  churn_post me v (message.LeaveEcho q) s t h = tt
-  churn_post me v (message.Query tag q) s t h = tt
-  churn_post me v (message.QueryReply w tag q) s t h = tt
-  churn_post me v (message.Store w tag q) s t h = tt
-  churn_post me v (message.StoreAck tag q) s t h = tt
-  churn_post me v (message.Snapshot c w) s t h = tt
+  churn_post me v _ s t h = tt
 
   first_post : (me : ℕ) (a : Asked) (s : Ops) → Q s.view → OfMessage (ops.first_post me a s)
   first_post me a s h =
@@ -142,23 +106,17 @@ module _ (Q : ViewMap → Type 0) where
       ]
 
   ops_post : (me : ℕ) (joined : Bool) (m : Message) (s t : Ops) → Q t.view → IfSome (ops.post_of me joined m s t) OfMessage
-  ops_post me joined (message.Enter q) s t h = tt
-  ops_post me joined (message.EnterEcho c w j q) s t h = tt
-  ops_post me joined (message.Join q) s t h = tt
-  ops_post me joined (message.JoinEcho q) s t h = tt
-  ops_post me joined (message.Leave q) s t h = tt
-  ops_post me joined (message.LeaveEcho q) s t h = tt
   ops_post me joined (message.Query tag q) s t h = some_if OfMessage joined (message.QueryReply t.view tag q) h
   ops_post me joined (message.QueryReply w tag q) s t h = some_if OfMessage _ (message.Store t.view t.tag me) h
   ops_post me joined (message.Store w tag q) s t h = some_if OfMessage joined (message.StoreAck tag q) tt
-  ops_post me joined (message.StoreAck tag q) s t h = some_mapped OfMessage (λ a. ops.first_post me a t) (first_in (ops.begun_by me (message.StoreAck tag q) s)) (λ a. first_post me a t h)
-  ops_post me joined (message.Snapshot c w) s t h = tt
+  ops_post me joined (message.StoreAck tag q) s t h =
+      some_mapped OfMessage (λ a. ops.first_post me a t) (first_in (ops.begun_by me (message.StoreAck tag q) s)) (λ a. first_post me a t h)
+  ops_post me joined _ s t h = tt
 
   question_in : (me quorum tag : ℕ) (v : ViewMap) (phase : Phase) → Q v → OfPhase phase → IfSome (ops.question_in me v tag (ops.again quorum phase)) OfMessage
-  question_in me quorum tag v Idle h k = tt
   question_in me quorum tag v (Storing p) h k = h
-  question_in me quorum tag v (Querying p) h k = tt
   question_in me quorum tag v (StoringBack p seen) h k = k
+  question_in me quorum tag v _ h k = tt
 
   -- what a phase asks that begins anew
   question_shows : (b : Bool) (me quorum : ℕ) (s : Ops) → Q s.view → OfPhase s.phase → IfSome (question_if b me quorum s) OfMessage
@@ -178,31 +136,21 @@ module _ (Q : ViewMap → Type 0) where
       (question_shows b c.me need t seen (message_phase c.me (quorum c) m c.ops h seen))
 
   pub post_shows : (c : Core) (e : Event) → OfPhase c.ops.phase → Q (handled c e).ops.view → IfSome (post c e) OfMessage
-  post_shows c event.Enter k h = tt
-  post_shows c event.Leave k h = tt
   post_shows c (event.Deliver from n m) k h =
       let d = handled c (event.Deliver from n m) in
       some_or OfMessage (post_of_snapshot c from n m) (post_to m c d) (snapshot_post c from n m k h)
       (some_or OfMessage _ _ (churn_post d.me d.ops.view m c.churn d.churn h) (ops_post d.me _ m c.ops d.ops h))
-  post_shows c (event.Acked peer n) k h = tt
   post_shows c (event.Ask s r command) k h =
       let d = handled c (event.Ask s r command) in
       some_mapped OfMessage (λ a. ops.first_post c.me a d.ops) (first_in (begun c (event.Ask s r command))) (λ a. first_post c.me a d.ops h)
-  post_shows c (event.Retire q) k h = tt
-  post_shows c (event.Lapse q) k h = tt
   post_shows c event.Snapshot k h = h
+  post_shows c _ k h = tt
 
   -- ---- the answer
 
   answer_shows : (k : Command) (v : ViewMap) → Q v → OfAnswer (answer_of k v)
-  answer_shows (command.Store text) v h = tt
   answer_shows command.Collect v h = h
-  answer_shows (command.WriteMax x) v h = tt
-  answer_shows command.ReadMax v h = tt
-  answer_shows command.SetFlag v h = tt
-  answer_shows command.ReadFlag v h = tt
-  answer_shows (command.AddMember x) v h = tt
-  answer_shows command.ReadSet v h = tt
+  answer_shows _ v h = tt
 
   abbrev pub OfReply : Reply → Type 0
   OfReply r = OfAnswer r.answer
@@ -212,30 +160,17 @@ module _ (Q : ViewMap → Type 0) where
   all_told seen (a ∷ asks) h = (answer_shows a.command seen h, all_told seen asks h)
 
   replies_in : (v : ViewMap) (others : List Asked) (phase : Phase) → Q v → OfPhase phase → AllByRecursion OfReply (ops.replies_in v others phase)
-  replies_in v others Idle h k = tt
-  replies_in v others (Storing p) h k = all_of OfReply (ops.is_last p) (map (ops.told v) (p.asked ∷ others)) [] (all_told v (p.asked ∷ others) h) tt
-  replies_in v others (Querying p) h k = tt
-  replies_in v others (StoringBack p seen) h k = all_of OfReply (ops.is_last p) (map (ops.told seen) (p.asked ∷ others)) [] (all_told seen (p.asked ∷ others) k) tt
+  replies_in v others (Storing p) h k =
+      either (AllByRecursion OfReply) (ops.is_last p) (map (ops.told v) (p.asked ∷ others)) [] (all_told v (p.asked ∷ others) h) tt
+  replies_in v others (StoringBack p seen) h k =
+      either (AllByRecursion OfReply) (ops.is_last p) (map (ops.told seen) (p.asked ∷ others)) [] (all_told seen (p.asked ∷ others) k) tt
+  replies_in v others _ h k = tt
 
   replies_of : (me : ℕ) (m : Message) (s : Ops) → Q s.view → OfPhase s.phase → AllByRecursion OfReply (ops.replies_of me m s)
-  replies_of me (message.Enter q) s h k = tt
-  replies_of me (message.EnterEcho c v j q) s h k = tt
-  replies_of me (message.Join q) s h k = tt
-  replies_of me (message.JoinEcho q) s h k = tt
-  replies_of me (message.Leave q) s h k = tt
-  replies_of me (message.LeaveEcho q) s h k = tt
-  replies_of me (message.Query tag q) s h k = tt
-  replies_of me (message.QueryReply v tag q) s h k = tt
-  replies_of me (message.Store v tag q) s h k = tt
-  replies_of me (message.StoreAck tag q) s h k = all_of OfReply (ops.is_own me tag q s) (ops.replies_in s.view s.others s.phase) [] (replies_in s.view s.others s.phase h k) tt
-  replies_of me (message.Snapshot c v) s h k = tt
+  replies_of me (message.StoreAck tag q) s h k =
+      either (AllByRecursion OfReply) (ops.is_own me tag q s) (ops.replies_in s.view s.others s.phase) [] (replies_in s.view s.others s.phase h k) tt
+  replies_of me _ s h k = tt
 
   pub replies_show : (c : Core) (e : Event) → Q c.ops.view → OfPhase c.ops.phase → AllByRecursion OfReply (replies c e)
-  replies_show c event.Enter h k = tt
-  replies_show c event.Leave h k = tt
   replies_show c (event.Deliver from n m) h k = replies_of c.me m c.ops h k
-  replies_show c (event.Acked peer n) h k = tt
-  replies_show c (event.Ask s r command) h k = tt
-  replies_show c (event.Retire q) h k = tt
-  replies_show c (event.Lapse q) h k = tt
-  replies_show c event.Snapshot h k = tt
+  replies_show c _ h k = tt

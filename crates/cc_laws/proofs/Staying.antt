@@ -25,7 +25,7 @@ use Rattle.cc_churn.specs.Churn as churn
 use Rattle.cc_links.specs.Links as links
 use Rattle.cc_ops.specs.Ops as ops
 use Rattle.cc_ops.specs.Waiting.{first_in}
-use Rattle.cc_ops.specs.Ops.{Ops, Phase, Idle, Storing, Querying, StoringBack}
+use Rattle.cc_ops.specs.Ops.{Ops, Phase, Idle}
 use Rattle.cc_node.specs.Core.{Core, quorum, churned, churn_told, told_if, is_told_of, skips, links_heard, tells, asks_anew, join_told, question_if}
 use Rattle.cc_node.specs.Core.{post_of_snapshot, begun, handled, next, post}
 use Rattle.cc_node.specs.Node.{Node, step, after}
@@ -41,27 +41,19 @@ pub record KnowsFixed (all : List ℕ) (c : Core) : Type 0 where
   pub me : IsTrue (set.contains (set.from_list all) c.me)
 
 abbrev pub IsOfRound : List ℕ → Message → Type 0
-IsOfRound all (message.Enter q) = ⊥
-IsOfRound all (message.EnterEcho c v from_joined q) = ⊥
-IsOfRound all (message.Join q) = ⊥
-IsOfRound all (message.JoinEcho q) = ⊥
-IsOfRound all (message.Leave q) = ⊥
-IsOfRound all (message.LeaveEcho q) = ⊥
 IsOfRound all (message.Query tag q) = ⊤
 IsOfRound all (message.QueryReply v tag q) = ⊤
 IsOfRound all (message.Store v tag q) = ⊤
 IsOfRound all (message.StoreAck tag q) = ⊤
 IsOfRound all (message.Snapshot c v) = c ≡ fixed_changes all
+IsOfRound all _ = ⊥
 
 abbrev pub IsQuiet : List ℕ → Event → Type 0
 IsQuiet all event.Enter = ⊥
 IsQuiet all event.Leave = ⊥
 IsQuiet all (event.Deliver from n m) = IsOfRound all m
-IsQuiet all (event.Acked peer n) = ⊤
-IsQuiet all (event.Ask s r command) = ⊤
 IsQuiet all (event.Retire q) = ⊥
-IsQuiet all (event.Lapse q) = ⊤
-IsQuiet all event.Snapshot = ⊤
+IsQuiet all _ = ⊤
 
 -- ---- sets
 
@@ -89,36 +81,18 @@ none_lacks true false joined less h = refl
 none_lacks true true true less h = refl
 none_lacks true true false less h = cc
 
-still_joined : (all : List ℕ) (c : Core) → KnowsFixed all c → (d : ChangeSets) → set.contains (known.union c.churn.changes d).joined c.me ≡ true
-still_joined all c h d =
-    contains-union c.churn.changes.joined d.joined c.me
-    ∙ ap (λ (s : ChangeSets). set.contains s.joined c.me || set.contains d.joined c.me) h.changes
-    ∙ ap (λ b. b || set.contains d.joined c.me) h.me
-
-not_told : (all : List ℕ) (c : Core) → KnowsFixed all c → (from n : ℕ) (d : ChangeSets) (v : ViewMap) → tells c from n (message.Snapshot d v) ≡ false
-not_told all c h from n d v =
-    let m = message.Snapshot d v in
-    none_lacks (is_told_of c.me m) (skips c from n) (set.contains (known.union c.churn.changes d).joined c.me)
-    (nat_lt (churned c m).echoes (links.heard_of (links_heard c from n m))) (still_joined all c h d)
-
 -- ---- posts
 
 first_of_round : (all : List ℕ) (me : ℕ) (a : Asked) (s : Ops) → IsOfRound all (ops.first_post me a s)
 first_of_round all me a s = cond_both (is_writing a.command) (message.Store s.view s.tag me) (message.Query s.tag me) (IsOfRound all) (λ _. tt) (λ _. tt)
 
 ops_quiet : (all : List ℕ) (me : ℕ) (joined : Bool) (m : Message) (s t : Ops) → IfSome (ops.post_of me joined m s t) (IsOfRound all)
-ops_quiet all me joined (message.Enter q) s t = tt
-ops_quiet all me joined (message.EnterEcho c v j q) s t = tt
-ops_quiet all me joined (message.Join q) s t = tt
-ops_quiet all me joined (message.JoinEcho q) s t = tt
-ops_quiet all me joined (message.Leave q) s t = tt
-ops_quiet all me joined (message.LeaveEcho q) s t = tt
 ops_quiet all me joined (message.Query tag q) s t = some_if (IsOfRound all) joined (message.QueryReply t.view tag q) tt
 ops_quiet all me joined (message.QueryReply v tag q) s t = some_if (IsOfRound all) _ (message.Store t.view t.tag me) tt
 ops_quiet all me joined (message.Store v tag q) s t = some_if (IsOfRound all) joined (message.StoreAck tag q) tt
 ops_quiet all me joined (message.StoreAck tag q) s t =
     some_mapped (IsOfRound all) (λ a. ops.first_post me a t) (first_in (ops.begun_by me (message.StoreAck tag q) s)) (λ a. first_of_round all me a t)
-ops_quiet all me joined (message.Snapshot c v) s t = tt
+ops_quiet all me joined _ s t = tt
 
 -- the Join of a node that joins with a snapshot, where none does
 none_joins : (P : Message → Type 0) (b : Bool) (o : Option Message) → b ≡ false → IfSome (if b then o else None) P
@@ -127,84 +101,90 @@ none_joins P false o h = tt
 
 asked_again : (all : List ℕ) (me quorum tag : ℕ) (v : ViewMap) (phase : Phase) → IfSome (ops.question_in me v tag (ops.again quorum phase)) (IsOfRound all)
 asked_again all me quorum tag v Idle = tt
-asked_again all me quorum tag v (Storing p) = tt
-asked_again all me quorum tag v (Querying p) = tt
-asked_again all me quorum tag v (StoringBack p seen) = tt
+asked_again all me quorum tag v _ = tt
 
 question_quiet : (all : List ℕ) (b : Bool) (me quorum : ℕ) (s : Ops) → IfSome (question_if b me quorum s) (IsOfRound all)
 question_quiet all true me quorum s = asked_again all me quorum (s.tag + 1) s.view s.phase
 question_quiet all false me quorum s = tt
 
-snapshot_quiet : (all : List ℕ) (c : Core) → KnowsFixed all c → (from n : ℕ) (d : ChangeSets) (v : ViewMap)
-    → IfSome (post_of_snapshot c from n (message.Snapshot d v)) (IsOfRound all)
-snapshot_quiet all c h from n d v =
-    let m = message.Snapshot d v in
-    let b = asks_anew c from n m in
-    let need = churn.quorum c.beta (churn_told c from n m) in
-    some_or (IsOfRound all) (join_told c from n m) (question_if b c.me need (ops.merged v c.ops))
-    (none_joins (IsOfRound all) (tells c from n m) (churn.join_told c.me c.gamma (churned c m)) (not_told all c h from n d v))
-    (question_quiet all b c.me need (ops.merged v c.ops))
-
-message_quiet : (all : List ℕ) (c : Core) → KnowsFixed all c → (from n : ℕ) (m : Message) → IsOfRound all m → IfSome (post c (event.Deliver from n m)) (IsOfRound all)
-message_quiet all c k from n (message.Enter q) h = absurd h
-message_quiet all c k from n (message.EnterEcho d v j q) h = absurd h
-message_quiet all c k from n (message.Join q) h = absurd h
-message_quiet all c k from n (message.JoinEcho q) h = absurd h
-message_quiet all c k from n (message.Leave q) h = absurd h
-message_quiet all c k from n (message.LeaveEcho q) h = absurd h
-message_quiet all c k from n (message.Query tag q) h = some_if (IsOfRound all) _ (message.QueryReply c.ops.view tag q) tt
-message_quiet all c k from n (message.QueryReply v tag q) h =
-    let d = handled c (event.Deliver from n (message.QueryReply v tag q)) in ops_quiet all c.me true (message.QueryReply v tag q) c.ops d.ops
-message_quiet all c k from n (message.Store v tag q) h = some_if (IsOfRound all) _ (message.StoreAck tag q) tt
-message_quiet all c k from n (message.StoreAck tag q) h =
-    let d = handled c (event.Deliver from n (message.StoreAck tag q)) in ops_quiet all c.me true (message.StoreAck tag q) c.ops d.ops
-message_quiet all c k from n (message.Snapshot d v) h =
-    some_or (IsOfRound all) (post_of_snapshot c from n (message.Snapshot d v)) None (snapshot_quiet all c k from n d v) tt
-
-pub quiet_post : (all : List ℕ) (c : Core) → KnowsFixed all c → (e : Event) → IsQuiet all e → IfSome (post c e) (IsOfRound all)
-quiet_post all c k event.Enter h = absurd h
-quiet_post all c k event.Leave h = absurd h
-quiet_post all c k (event.Deliver from n m) h = message_quiet all c k from n m h
-quiet_post all c k (event.Acked peer n) h = tt
-quiet_post all c k (event.Ask s r command) h =
-    some_mapped (IsOfRound all) (λ a. ops.first_post c.me a (handled c (event.Ask s r command)).ops) (first_in (begun c (event.Ask s r command)))
-    (λ a. first_of_round all c.me a (handled c (event.Ask s r command)).ops)
-quiet_post all c k (event.Retire q) h = absurd h
-quiet_post all c k (event.Lapse q) h = tt
-quiet_post all c k event.Snapshot h = k.changes
-
--- ---- who is known
-
-message_known : (all : List ℕ) (c : Core) → KnowsFixed all c → (from n : ℕ) (m : Message) → IsOfRound all m → (churn_told c from n m).changes ≡ fixed_changes all
-message_known all c k from n (message.Enter q) h = absurd h
-message_known all c k from n (message.EnterEcho d v j q) h = absurd h
-message_known all c k from n (message.Join q) h = absurd h
-message_known all c k from n (message.JoinEcho q) h = absurd h
-message_known all c k from n (message.Leave q) h = absurd h
-message_known all c k from n (message.LeaveEcho q) h = absurd h
-message_known all c k from n (message.Query tag q) h = k.changes
-message_known all c k from n (message.QueryReply v tag q) h = k.changes
-message_known all c k from n (message.Store v tag q) h = k.changes
-message_known all c k from n (message.StoreAck tag q) h = k.changes
-message_known all c k from n (message.Snapshot d v) h =
-    ap (λ b. (told_if b c.me c.gamma (churned c (message.Snapshot d v))).changes) (not_told all c k from n d v) ∙ union_fixed all c.churn.changes d k.changes h
-
-changes_next : (all : List ℕ) (c : Core) → KnowsFixed all c → (e : Event) → IsQuiet all e → (next c e).churn.changes ≡ fixed_changes all
+beta_next : (c : Core) (e : Event) → (next c e).beta ≡ c.beta
 unfolding next
-changes_next all c k event.Enter h = absurd h
-changes_next all c k event.Leave h = absurd h
-changes_next all c k (event.Deliver from n m) h = message_known all c k from n m h
-changes_next all c k (event.Acked peer n) h = k.changes
-changes_next all c k (event.Ask s r command) h = k.changes
-changes_next all c k (event.Retire q) h = absurd h
-changes_next all c k (event.Lapse q) h = k.changes
-changes_next all c k event.Snapshot h = k.changes
+beta_next c event.Enter = refl
+beta_next c _ = refl
 
-pub fixed_next : (all : List ℕ) (c : Core) → KnowsFixed all c → (e : Event) → IsQuiet all e → KnowsFixed all (next c e)
-fixed_next all c k e h = record {
-  changes = changes_next all c k e h;
-  me = subst (λ (x : ℕ). IsTrue (set.contains (set.from_list all) x)) (sym (me_next c e)) k.me;
-}
+-- ---- a node that knows just these members
+
+module _ (all : List ℕ) (c : Core) (k : KnowsFixed all c) where
+  still_joined : (d : ChangeSets) → set.contains (known.union c.churn.changes d).joined c.me ≡ true
+  still_joined d =
+      contains-union c.churn.changes.joined d.joined c.me
+      ∙ ap (λ (s : ChangeSets). set.contains s.joined c.me || set.contains d.joined c.me) k.changes
+      ∙ ap (λ b. b || set.contains d.joined c.me) k.me
+
+  not_told : (from n : ℕ) (d : ChangeSets) (v : ViewMap) → tells c from n (message.Snapshot d v) ≡ false
+  not_told from n d v =
+      let m = message.Snapshot d v in
+      none_lacks (is_told_of c.me m) (skips c from n) (set.contains (known.union c.churn.changes d).joined c.me)
+      (nat_lt (churned c m).echoes (links.heard_of (links_heard c from n m))) (still_joined d)
+
+  snapshot_quiet : (from n : ℕ) (d : ChangeSets) (v : ViewMap)
+      → IfSome (post_of_snapshot c from n (message.Snapshot d v)) (IsOfRound all)
+  snapshot_quiet from n d v =
+      let m = message.Snapshot d v in
+      let b = asks_anew c from n m in
+      let need = churn.quorum c.beta (churn_told c from n m) in
+      some_or (IsOfRound all) (join_told c from n m) (question_if b c.me need (ops.merged v c.ops))
+      (none_joins (IsOfRound all) (tells c from n m) (churn.join_told c.me c.gamma (churned c m)) (not_told from n d v))
+      (question_quiet all b c.me need (ops.merged v c.ops))
+
+  message_quiet : (from n : ℕ) (m : Message) → IsOfRound all m → IfSome (post c (event.Deliver from n m)) (IsOfRound all)
+  message_quiet from n (message.Query tag q) h = some_if (IsOfRound all) _ (message.QueryReply c.ops.view tag q) tt
+  message_quiet from n (message.QueryReply v tag q) h =
+      let d = handled c (event.Deliver from n (message.QueryReply v tag q)) in ops_quiet all c.me true (message.QueryReply v tag q) c.ops d.ops
+  message_quiet from n (message.Store v tag q) h = some_if (IsOfRound all) _ (message.StoreAck tag q) tt
+  message_quiet from n (message.StoreAck tag q) h =
+      let d = handled c (event.Deliver from n (message.StoreAck tag q)) in ops_quiet all c.me true (message.StoreAck tag q) c.ops d.ops
+  message_quiet from n (message.Snapshot d v) h =
+      some_or (IsOfRound all) (post_of_snapshot c from n (message.Snapshot d v)) None (snapshot_quiet from n d v) tt
+  message_quiet from n _ h = absurd h
+
+  pub quiet_post : (e : Event) → IsQuiet all e → IfSome (post c e) (IsOfRound all)
+  quiet_post (event.Deliver from n m) h = message_quiet from n m h
+  quiet_post (event.Acked peer n) h = tt
+  quiet_post (event.Ask s r command) h =
+      some_mapped (IsOfRound all) (λ a. ops.first_post c.me a (handled c (event.Ask s r command)).ops) (first_in (begun c (event.Ask s r command)))
+      (λ a. first_of_round all c.me a (handled c (event.Ask s r command)).ops)
+  quiet_post (event.Lapse q) h = tt
+  quiet_post event.Snapshot h = k.changes
+  quiet_post _ h = absurd h
+
+  message_known : (from n : ℕ) (m : Message) → IsOfRound all m → (churn_told c from n m).changes ≡ fixed_changes all
+  message_known from n (message.Query tag q) h = k.changes
+  message_known from n (message.QueryReply v tag q) h = k.changes
+  message_known from n (message.Store v tag q) h = k.changes
+  message_known from n (message.StoreAck tag q) h = k.changes
+  message_known from n (message.Snapshot d v) h =
+      ap (λ b. (told_if b c.me c.gamma (churned c (message.Snapshot d v))).changes) (not_told from n d v) ∙ union_fixed all c.churn.changes d k.changes h
+  message_known from n _ h = absurd h
+
+  changes_next : (e : Event) → IsQuiet all e → (next c e).churn.changes ≡ fixed_changes all
+  unfolding next
+  changes_next event.Enter h = absurd h
+  changes_next event.Leave h = absurd h
+  changes_next (event.Deliver from n m) h = message_known from n m h
+  changes_next (event.Retire q) h = absurd h
+  changes_next _ h = k.changes
+
+  pub fixed_next : (e : Event) → IsQuiet all e → KnowsFixed all (next c e)
+  fixed_next e h = record {
+    changes = changes_next e h;
+    me = subst (λ (x : ℕ). IsTrue (set.contains (set.from_list all) x)) (sym (me_next c e)) k.me;
+  }
+
+  pub quorum_next : (e : Event) → IsQuiet all e → quorum (next c e) ≡ quorum c
+  quorum_next e h =
+      let same : (next c e).churn.changes ≡ c.churn.changes = changes_next e h ∙ sym k.changes in
+      λ i. needed (beta_next c e i) (set.len (known.members (same i)))
 
 pub fixed_along : (all : List ℕ) (n : Node) → KnowsFixed all n.core → (es : List Event) → AllByRecursion (IsQuiet all) es → KnowsFixed all (after n es).core
 unfolding step
@@ -214,19 +194,3 @@ fixed_along all n k (e ∷ es) h = fixed_along all (step n e) (fixed_next all n.
 pub fresh_fixed : (all : List ℕ) (o : Opening) → o.initial ≡ all → IsTrue (set.contains (set.from_list all) o.me) → KnowsFixed all (fresh o).core
 unfolding fresh
 fresh_fixed all o is me = record { changes = ap fixed_changes is; me = me }
-
-beta_next : (c : Core) (e : Event) → (next c e).beta ≡ c.beta
-unfolding next
-beta_next c event.Enter = refl
-beta_next c event.Leave = refl
-beta_next c (event.Deliver from n m) = refl
-beta_next c (event.Acked peer n) = refl
-beta_next c (event.Ask s r command) = refl
-beta_next c (event.Retire q) = refl
-beta_next c (event.Lapse q) = refl
-beta_next c event.Snapshot = refl
-
-pub quorum_next : (all : List ℕ) (c : Core) → KnowsFixed all c → (e : Event) → IsQuiet all e → quorum (next c e) ≡ quorum c
-quorum_next all c k e h =
-    let same : (next c e).churn.changes ≡ c.churn.changes = changes_next all c k e h ∙ sym k.changes in
-    λ i. needed (beta_next c e i) (set.len (known.members (same i)))

@@ -3,16 +3,12 @@
 --     member_knows              what a member knows of the others at its start
 --     AreQuiet, run_steady      each event is so
 --     Needs, round_size         a round that ended counted as many answers as the first one needs
-use Rattle.std.proofs.Common.{◌≡◌, inl, inr, ℕ, ◌*◌, ◌<◌, Bool, true, false, List, [], ◌∷◌, ◌++◌, take, length, refl, sym, ap, subst, ◌∙◌}
-use Rattle.std.specs.Prelude.{Some, is_some, IsTrue, ⊤, ◌&&◌, not, if◌then◌else◌}
+use Rattle.std.proofs.Common.{◌≡◌, ℕ, ◌*◌, ◌<◌, Bool, true, false, List, [], ◌∷◌, ◌++◌, length, refl, sym, ap, subst, ◌∙◌}
+use Rattle.std.specs.Prelude.{is_some, IsTrue, ⊤, ◌&&◌, not}
 use Rattle.std.specs.List.{AllByRecursion}
-use Rattle.std.specs.FinMap as table
-use Rattle.std.proofs.lemmas.Bool.{cond_both}
-use Rattle.std.proofs.lemmas.List.Elements.{All-contains, All-from_recursion}
 use Rattle.cc_views.specs.NatSets as set
 use Rattle.cc_views.specs.NatSets.{same_ids, contains-difference, contains-empty}
 use Rattle.cc_views.specs.Rows.{ViewMap}
-use Rattle.cc_views.specs.Merge.{merge}
 use Rattle.cc_changes.specs.Need.{needed}
 use Rattle.cc_messages.specs.declared.event.Event.{Event}
 use Rattle.cc_messages.specs.declared.event.Event.TheVariants as event
@@ -20,10 +16,10 @@ use Rattle.cc_messages.specs.declared.message.Message.{Message}
 use Rattle.cc_messages.specs.declared.message.Message.TheVariants as message
 use Rattle.cc_messages.specs.declared.output.Output.TheVariants as output
 use Rattle.cc_ops.specs.declared.pending.Asked.{Asked}
-use Rattle.cc_ops.specs.Commands.{is_writing}
 use Rattle.cc_churn.specs.Churn as churn
 use Rattle.cc_ops.specs.Rounds.{first_round, line_behind}
-use Rattle.cc_ops.specs.Ops.{Ops, Phase, Idle, Storing, Querying, StoringBack, is_idle, is_last, is_own, round_of, counted, merged, next_round, with_written, with_own_row, begin_round, with_begun, after_reply, after_last, after_ack, again}
+use Rattle.cc_ops.specs.Ops.{Ops, Phase, Idle, Storing, Querying, StoringBack, is_idle, is_own, counted, merged, begin_round, with_begun, after_reply}
+use Rattle.cc_ops.specs.Ops.{after_last, after_ack, again}
 use Rattle.cc_node.specs.Core.{Core, quorum, asked_of, churn_told, asks_anew, anew_if, next, post}
 use Rattle.cc_node.specs.Node.{Node, step, after}
 use Rattle.cc_node.specs.Opening.{Opening, fresh}
@@ -34,45 +30,27 @@ use Rattle.cc_laws.specs.Regular.{released_events}
 use Rattle.cc_laws.specs.Rounds.{Round, peers_of}
 use Rattle.cc_laws.specs.Progress.{round_under, need_in}
 use Rattle.cc_laws.proofs.Counting.{ended_is, round_enough}
-use Rattle.cc_laws.proofs.Lists.{all_both, all_front, all_rest, all_take, at_some}
-use Rattle.cc_laws.proofs.Clustering.{Holds, at_id, same_some}
-use Rattle.cc_laws.proofs.Moving.{move_holds}
+use Rattle.cc_laws.proofs.Lists.{all_both, all_front, all_rest, all_take, at_some, all_at, either}
+use Rattle.cc_laws.proofs.Clustering.{Holds, IsAt, each_member}
+use Rattle.cc_laws.proofs.Moving.{move_holds, crashed, synced, releasing}
 use Rattle.cc_laws.proofs.Knowing.{posted}
 use Rattle.cc_laws.proofs.Staying.{KnowsFixed, IsOfRound, IsQuiet, quiet_post, fixed_next, fixed_along, fresh_fixed, quorum_next}
 use Rattle.cc_laws.proofs.Traces.{MadeBy, WasMade, Traces, move_traces}
+use Rattle.cc_laws.proofs.Becoming.{of_round, of_ack, of_reply}
 
 -- ---- a cluster
 
-pub member_knows : (all : List ℕ) (c : Cluster) → Holds c → IsFixedCluster all c → (q : ℕ) (m : Member) → table.get c.members q ≡ Some m
+pub member_knows : (all : List ℕ) (c : Cluster) → Holds c → IsFixedCluster all c → (q : ℕ) (m : Member) → IsAt c q m
     → KnowsFixed all (fresh m.opening).core
 member_knows all c h fixed q m at =
     let f = fixed q m at in
     fresh_fixed all m.opening f.initial (subst (λ (x : ℕ). IsTrue (set.contains (set.from_list all) x)) (sym (h.sound q m at).me) f.among)
 
 abbrev pub AreQuiet : List ℕ → Cluster → Type 0
-AreQuiet all c = (q : ℕ) (m : Member) → table.get c.members q ≡ Some m → AllByRecursion (IsQuiet all) m.events
+AreQuiet all c = (q : ℕ) (m : Member) → IsAt c q m → AllByRecursion (IsQuiet all) m.events
 
 member_quiet : (all : List ℕ) (c : Cluster) (q : ℕ) (n : Member) → AreQuiet all c → AllByRecursion (IsQuiet all) n.events → AreQuiet all (with_member q n c)
-member_quiet all c q n h k p o is =
-    elim (at_id c q n p) as (λ _. AllByRecursion (IsQuiet all) o.events) [
-      | inl e ↦ subst (λ (w : Member). AllByRecursion (IsQuiet all) w.events) (same_some n o (sym e.1 ∙ is)) k
-      | inr e ↦ h p o (sym e ∙ is)
-    ]
-
-member_fixed : (all : List ℕ) (c : Cluster) (q : ℕ) (m n : Member) → IsFixedCluster all c → table.get c.members q ≡ Some m → n.opening ≡ m.opening
-    → IsFixedCluster all (with_member q n c)
-member_fixed all c q m n h at opening p o is =
-    elim (at_id c q n p) as (λ _. IsFixedMember all p o) [
-      | inl e ↦
-          let old = h q m at in
-          let now : IsFixedMember all q n = record {
-            initial = ap (λ (x : Opening). x.initial) opening ∙ old.initial;
-            among = old.among;
-            majority = subst (λ (x : Opening). count_of all < 2 * needed x.beta (count_of all)) (sym opening) old.majority;
-          } in
-          subst (IsFixedMember all p) (same_some n o (sym e.1 ∙ is)) (subst (λ (k : ℕ). IsFixedMember all k n) (sym e.0) now)
-      | inr e ↦ h p o (sym e ∙ is)
-    ]
+member_quiet all c q n h k = each_member (λ _ o. AllByRecursion (IsQuiet all) o.events) c q n k h
 
 -- what is sent in a quiet cluster is of a round, or tells its members
 sent_quiet : (all : List ℕ) (c : Cluster) → Holds c → IsFixedCluster all c → AreQuiet all c → (f to n : ℕ) (k : Message) → MadeBy c f (output.Send to n k)
@@ -92,46 +70,52 @@ own_quiet : (all : List ℕ) (e : Event) → IsOwn e → StaysBy e → IsQuiet a
 own_quiet all event.Enter h k = absurd k
 own_quiet all event.Leave h k = absurd k
 own_quiet all (event.Deliver from n m) h k = absurd h
-own_quiet all (event.Acked peer n) h k = tt
-own_quiet all (event.Ask s r command) h k = tt
 own_quiet all (event.Retire q) h k = absurd k
-own_quiet all (event.Lapse q) h k = tt
-own_quiet all event.Snapshot h k = tt
+own_quiet all _ h k = tt
 
-move_quiet : (all : List ℕ) (c : Cluster) (q : ℕ) (m : Member) (move : Move) (d : Cluster) → Holds c → Traces c → IsFixedCluster all c → AreQuiet all c → Stays move
-    → table.get c.members q ≡ Some m → MovesBy c q m move d → AreQuiet all d
-move_quiet all c q m (Accept e) d holds t fixed h k at s =
-    subst (AreQuiet all) (sym s.2)
-    (member_quiet all c q (accepting e m) h (all_both (IsQuiet all) m.events (e ∷ []) (h q m at) (own_quiet all e s.0 k, tt)))
-move_quiet all c q m (Receive from n x) d holds t fixed h k at s =
-    let made : MadeBy c from (output.Send q n x) = All-contains (WasMade c) c.sent _ (All-from_recursion (WasMade c) c.sent t.sent) s.0 in
-    let e = event.Deliver from n x in
-    subst (AreQuiet all) (sym s.2)
-    (member_quiet all c q (accepting e m) h (all_both (IsQuiet all) m.events (e ∷ []) (h q m at) (sent_quiet all c holds fixed h from q n x made, tt)))
-move_quiet all c q m (Sync j) d holds t fixed h k at s = subst (AreQuiet all) (sym s.2) (member_quiet all c q (record m { durable = j }) h (h q m at))
-move_quiet all c q m (Release j) d holds t fixed h k at s = subst (AreQuiet all) (sym s.2) (member_quiet all c q (record m { released = j }) h (h q m at))
-move_quiet all c q m (Resend o) d holds t fixed h k at s = subst (AreQuiet all) (sym s.1) h
-move_quiet all c q m (Crash j) d holds t fixed h k at s =
-    subst (AreQuiet all) (sym s.2)
-    (member_quiet all c q (record m { events = take j m.events; released = j; durable = j }) h (all_take (IsQuiet all) j m.events (h q m at)))
+module _ (all : List ℕ) (c : Cluster) (q : ℕ) (m : Member) (fixed : IsFixedCluster all c) (at : IsAt c q m) where
+  move_quiet : (move : Move) (d : Cluster) → Holds c → Traces c → AreQuiet all c → Stays move → MovesBy c q m move d → AreQuiet all d
+  move_quiet (Accept e) d holds t h k s =
+      subst (AreQuiet all) (sym s.2)
+      (member_quiet all c q (accepting e m) h (all_both (IsQuiet all) m.events (e ∷ []) (h q m at) (own_quiet all e s.0 k, tt)))
+  move_quiet (Receive from n x) d holds t h k s =
+      let made : MadeBy c from (output.Send q n x) = all_at (WasMade c) c.sent _ t.sent s.0 in
+      let e = event.Deliver from n x in
+      subst (AreQuiet all) (sym s.2)
+      (member_quiet all c q (accepting e m) h (all_both (IsQuiet all) m.events (e ∷ []) (h q m at) (sent_quiet all c holds fixed h from q n x made, tt)))
+  move_quiet (Sync j) d holds t h k s = subst (AreQuiet all) (sym s.2) (member_quiet all c q (synced j m) h (h q m at))
+  move_quiet (Release j) d holds t h k s = subst (AreQuiet all) (sym s.2) (member_quiet all c q (releasing j m) h (h q m at))
+  move_quiet (Resend o) d holds t h k s = subst (AreQuiet all) (sym s.1) h
+  move_quiet (Crash j) d holds t h k s =
+      subst (AreQuiet all) (sym s.2) (member_quiet all c q (crashed j m) h (all_take (IsQuiet all) j m.events (h q m at)))
 
-move_fixed : (all : List ℕ) (c : Cluster) (q : ℕ) (m : Member) (move : Move) (d : Cluster) → IsFixedCluster all c → table.get c.members q ≡ Some m
-    → MovesBy c q m move d → IsFixedCluster all d
-move_fixed all c q m (Accept e) d h at s = subst (IsFixedCluster all) (sym s.2) (member_fixed all c q m (accepting e m) h at refl)
-move_fixed all c q m (Receive from n x) d h at s = subst (IsFixedCluster all) (sym s.2) (member_fixed all c q m (accepting (event.Deliver from n x) m) h at refl)
-move_fixed all c q m (Sync j) d h at s = subst (IsFixedCluster all) (sym s.2) (member_fixed all c q m (record m { durable = j }) h at refl)
-move_fixed all c q m (Release j) d h at s = subst (IsFixedCluster all) (sym s.2) (member_fixed all c q m (record m { released = j }) h at refl)
-move_fixed all c q m (Resend o) d h at s = subst (IsFixedCluster all) (sym s.1) h
-move_fixed all c q m (Crash j) d h at s =
-    subst (IsFixedCluster all) (sym s.2) (member_fixed all c q m (record m { events = take j m.events; released = j; durable = j }) h at refl)
+  in_place : (n : Member) → n.opening ≡ m.opening → IsFixedCluster all (with_member q n c)
+  in_place n opening =
+      let old = fixed q m at in
+      each_member (IsFixedMember all) c q n (record {
+        initial = ap (λ (x : Opening). x.initial) opening ∙ old.initial;
+        among = old.among;
+        majority = subst (λ (x : Opening). count_of all < 2 * needed x.beta (count_of all)) (sym opening) old.majority;
+      }) fixed
+
+  move_fixed : (move : Move) (d : Cluster) → MovesBy c q m move d → IsFixedCluster all d
+  move_fixed (Accept e) d s = subst (IsFixedCluster all) (sym s.2) (in_place (accepting e m) refl)
+  move_fixed (Receive from n x) d s = subst (IsFixedCluster all) (sym s.2) (in_place (accepting (event.Deliver from n x) m) refl)
+  move_fixed (Sync j) d s = subst (IsFixedCluster all) (sym s.2) (in_place (synced j m) refl)
+  move_fixed (Release j) d s = subst (IsFixedCluster all) (sym s.2) (in_place (releasing j m) refl)
+  move_fixed (Resend o) d s = subst (IsFixedCluster all) (sym s.1) fixed
+  move_fixed (Crash j) d s = subst (IsFixedCluster all) (sym s.2) (in_place (crashed j m) refl)
 
 pub run_steady : (all : List ℕ) (c : Cluster) (moves : List (ℕ × Move)) (d : Cluster) → Holds c → Traces c → AreQuiet all c → IsFixedCluster all c
     → AllByRecursion (λ move. Stays move.1) moves → Run c moves d
     → AreQuiet all d × IsFixedCluster all d
 run_steady all c [] d h t quiet fixed k r = (subst (AreQuiet all) (sym r) quiet, subst (IsFixedCluster all) (sym r) fixed)
 run_steady all c (move ∷ moves) d h t quiet fixed k r =
-    run_steady all r.0 moves d (move_holds c move.0 r.1.0 move.1 r.0 h r.1.1 r.1.2) (move_traces c move.0 r.1.0 move.1 r.0 h t r.1.1 r.1.2)
-    (move_quiet all c move.0 r.1.0 move.1 r.0 h t fixed quiet k.0 r.1.1 r.1.2) (move_fixed all c move.0 r.1.0 move.1 r.0 fixed r.1.1 r.1.2) k.1 r.2
+    let q = move.0 in
+    let m = r.1.0 in
+    let at = r.1.1 in
+    run_steady all r.0 moves d (move_holds c q m h at move.1 r.0 r.1.2) (move_traces c q m h at t move.1 r.0 r.1.2)
+    (move_quiet all c q m fixed at move.1 r.0 h t quiet k.0 r.1.2) (move_fixed all c q m fixed at move.1 r.0 r.1.2) k.1 r.2
 
 pub fresh_quiet : (all : List ℕ) (c : Cluster) → IsFreshCluster c → AreQuiet all c
 fresh_quiet all c h q m at = subst (AllByRecursion (IsQuiet all)) (sym (h.members q m at).events) tt
@@ -139,7 +123,9 @@ fresh_quiet all c h q m at = subst (AllByRecursion (IsQuiet all)) (sym (h.member
 -- ---- how many answers a round needs
 
 without_none : (s : set.NatSet) → set.difference s set.empty ≡ s
-without_none s = same_ids (set.difference s set.empty) s (λ q. contains-difference s set.empty q ∙ ap (λ b. set.contains s q && not b) (contains-empty q) ∙ and_true (set.contains s q))
+without_none s =
+    same_ids (set.difference s set.empty) s
+    (λ q. contains-difference s set.empty q ∙ ap (λ b. set.contains s q && not b) (contains-empty q) ∙ and_true (set.contains s q))
   where
     and_true : (b : Bool) → (b && true) ≡ b
     and_true true = refl
@@ -158,39 +144,27 @@ Needs need (StoringBack p seen) = p.need ≡ need
 module _ (need : ℕ) where
   round_needs : (me quorum : ℕ) (asks : List Asked) (s : Ops) → quorum ≡ need → Needs need (begin_round me quorum asks s).phase
   round_needs me quorum [] s is = tt
-  round_needs me quorum (a ∷ others) s is =
-      cond_both (is_writing a.command) (next_round (Storing (round_of quorum a)) (with_own_row me (with_written (a ∷ others) s))) (next_round (Querying (round_of quorum a)) s)
-      (λ (t : Ops). Needs need t.phase) (λ _. is) (λ _. is)
+  round_needs me quorum (a ∷ others) s is = of_round (λ t. Needs need t.phase) me quorum a others s (λ _. is) (λ _. is)
 
   last_needs : (me quorum : ℕ) (s : Ops) → quorum ≡ need → Needs need (after_last me quorum s).phase
   last_needs me quorum s = round_needs me quorum (first_round s.share s.line) (record s { line = line_behind s.share s.line })
 
-  either_needs : (b : Bool) (s t : Ops) → Needs need s.phase → Needs need t.phase → Needs need (if b then s else t).phase
-  either_needs true s t h k = h
-  either_needs false s t h k = k
-
   ack_needs : (me quorum : ℕ) (s : Ops) → quorum ≡ need → (phase : Phase) → Needs need phase → Needs need s.phase
       → Needs need (after_ack me quorum phase s).phase
-  ack_needs me quorum s same Idle k h = h
   ack_needs me quorum s same (Storing p) k h =
-      either_needs (is_last p) (after_last me quorum s) (record s { phase = Storing (counted p) }) (last_needs me quorum s same) k
-  ack_needs me quorum s same (Querying p) k h = h
+      of_ack (λ t. Needs need t.phase) me quorum p (Storing (counted p)) s (last_needs me quorum s same) k
   ack_needs me quorum s same (StoringBack p seen) k h =
-      either_needs (is_last p) (after_last me quorum s) (record s { phase = StoringBack (counted p) seen }) (last_needs me quorum s same) k
+      of_ack (λ t. Needs need t.phase) me quorum p (StoringBack (counted p) seen) s (last_needs me quorum s same) k
+  ack_needs me quorum s same _ k h = h
 
   reply_needs : (quorum : ℕ) (v : ViewMap) (s : Ops) → quorum ≡ need → (phase : Phase) → Needs need phase → Needs need s.phase
       → Needs need (after_reply quorum v phase s).phase
-  reply_needs quorum v s same Idle k h = h
-  reply_needs quorum v s same (Storing p) k h = h
-  reply_needs quorum v s same (Querying p) k h =
-      either_needs (is_last p) (next_round (StoringBack (round_of quorum p.asked) (merge s.view v)) (merged v s)) (record (merged v s) { phase = Querying (counted p) }) same k
-  reply_needs quorum v s same (StoringBack p seen) k h = h
+  reply_needs quorum v s same (Querying p) k h = of_reply (λ t. Needs need t.phase) quorum v p s same k
+  reply_needs quorum v s same _ k h = h
 
   again_needs : (quorum : ℕ) (phase : Phase) → quorum ≡ need → Needs need (again quorum phase)
   again_needs quorum Idle is = tt
-  again_needs quorum (Storing p) is = is
-  again_needs quorum (Querying p) is = is
-  again_needs quorum (StoringBack p seen) is = is
+  again_needs quorum _ is = is
 
   -- a phase that begins anew needs as many as one that begins then
   anew_needs : (b : Bool) (quorum : ℕ) (s : Ops) → quorum ≡ need → Needs need s.phase → Needs need (anew_if b quorum s).phase
@@ -200,37 +174,28 @@ module _ (need : ℕ) where
   message_needs : (c : Core) (from n : ℕ) (m : Message) → quorum c ≡ need → quorum (next c (event.Deliver from n m)) ≡ need → Needs need c.ops.phase
       → Needs need (next c (event.Deliver from n m)).ops.phase
   unfolding next
-  message_needs c from n (message.Enter q) same next_same h = h
-  message_needs c from n (message.EnterEcho d v j q) same next_same h = h
-  message_needs c from n (message.Join q) same next_same h = h
-  message_needs c from n (message.JoinEcho q) same next_same h = h
-  message_needs c from n (message.Leave q) same next_same h = h
-  message_needs c from n (message.LeaveEcho q) same next_same h = h
-  message_needs c from n (message.Query tag q) same next_same h = h
   message_needs c from n (message.QueryReply v tag q) same next_same h =
-      either_needs (is_own c.me tag q c.ops) (after_reply (quorum c) v c.ops.phase c.ops) c.ops (reply_needs (quorum c) v c.ops same c.ops.phase h h) h
-  message_needs c from n (message.Store v tag q) same next_same h = h
+      either (λ (t : Ops). Needs need t.phase) (is_own c.me tag q c.ops) (after_reply (quorum c) v c.ops.phase c.ops) c.ops
+      (reply_needs (quorum c) v c.ops same c.ops.phase h h) h
   message_needs c from n (message.StoreAck tag q) same next_same h =
-      either_needs (is_own c.me tag q c.ops) (after_ack c.me (quorum c) c.ops.phase c.ops) c.ops (ack_needs c.me (quorum c) c.ops same c.ops.phase h h) h
+      either (λ (t : Ops). Needs need t.phase) (is_own c.me tag q c.ops) (after_ack c.me (quorum c) c.ops.phase c.ops) c.ops
+      (ack_needs c.me (quorum c) c.ops same c.ops.phase h h) h
   message_needs c from n (message.Snapshot d v) same next_same h =
       let m = message.Snapshot d v in
       anew_needs (asks_anew c from n m) (churn.quorum c.beta (churn_told c from n m)) (merged v c.ops) next_same h
+  message_needs c from n _ same next_same h = h
 
   event_needs : (c : Core) (e : Event) → quorum c ≡ need → quorum (next c e) ≡ need → Needs need c.ops.phase → Needs need (next c e).ops.phase
   unfolding next
-  event_needs c event.Enter same next_same h = h
-  event_needs c event.Leave same next_same h = h
   event_needs c (event.Deliver from n m) same next_same h = message_needs c from n m same next_same h
-  event_needs c (event.Acked peer n) same next_same h = h
   event_needs c (event.Ask s r command) same next_same h =
       let a = asked_of s r command in
-      either_needs (is_idle c.ops.phase) (with_begun c.me (quorum c) a c.ops) (record c.ops { line = c.ops.line ++ a ∷ [] }) (round_needs c.me (quorum c) (a ∷ []) c.ops same) h
-  event_needs c (event.Retire q) same next_same h = h
-  event_needs c (event.Lapse q) same next_same h = h
-  event_needs c event.Snapshot same next_same h = h
+      either (λ (t : Ops). Needs need t.phase) (is_idle c.ops.phase) (with_begun c.me (quorum c) a c.ops) (record c.ops { line = c.ops.line ++ a ∷ [] })
+      (round_needs c.me (quorum c) (a ∷ []) c.ops same) h
+  event_needs c _ same next_same h = h
 
-  needs_along : (all : List ℕ) (n : Node) (es : List Event) → KnowsFixed all n.core → quorum n.core ≡ need → AllByRecursion (IsQuiet all) es → Needs need n.core.ops.phase
-      → Needs need (after n es).core.ops.phase
+  needs_along : (all : List ℕ) (n : Node) (es : List Event) → KnowsFixed all n.core → quorum n.core ≡ need → AllByRecursion (IsQuiet all) es
+      → Needs need n.core.ops.phase → Needs need (after n es).core.ops.phase
   unfolding step
   needs_along all n [] knows same quiet h = h
   needs_along all n (e ∷ es) knows same quiet h =
@@ -239,9 +204,7 @@ module _ (need : ℕ) where
 
   needs_is : (tag : ℕ) (phase : Phase) → is_some (round_under tag phase) ≡ true → Needs need phase → need_in phase ≡ need
   needs_is tag Idle some h = cc
-  needs_is tag (Storing p) some h = h
-  needs_is tag (Querying p) some h = h
-  needs_is tag (StoringBack p seen) some h = h
+  needs_is tag _ some h = h
 
 fresh_needs : (need : ℕ) (o : Opening) → Needs need (fresh o).core.ops.phase
 unfolding fresh
@@ -256,4 +219,5 @@ round_size all o es knows quiet round =
     all_front (IsQuiet all) round.before (round.last ∷ round.later) (subst (AllByRecursion (IsQuiet all)) round.parts quiet) in
     let c = (after (fresh o) round.before).core in
     round_enough o es round
-    ∙ needs_is need c.ops.tag c.ops.phase ((ended_is c round.last).0 round.ends).pended (needs_along need all (fresh o) round.before knows refl front (fresh_needs need o))
+    ∙ needs_is need c.ops.tag c.ops.phase ((ended_is c round.last).0 round.ends).pended
+    (needs_along need all (fresh o) round.before knows refl front (fresh_needs need o))

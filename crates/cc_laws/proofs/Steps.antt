@@ -11,8 +11,8 @@ use Rattle.cc_messages.specs.declared.event.Event.TheVariants as event
 use Rattle.cc_messages.specs.declared.message.Message.{Message}
 use Rattle.cc_messages.specs.declared.message.Message.TheVariants as message
 use Rattle.cc_ops.specs.declared.pending.Asked.{Asked}
-use Rattle.cc_ops.specs.Commands.{is_writing}
-use Rattle.cc_ops.specs.Ops.{Ops, Phase, Idle, Storing, Querying, StoringBack, is_idle, is_last, is_own, round_of, counted, merged, next_round, with_written, with_own_row, begin_round, with_begun, after_reply, after_last, after_ack, after_message, begun_in, begun_by}
+use Rattle.cc_ops.specs.Ops.{Ops, Phase, Storing, Querying, StoringBack, is_idle, is_last, is_own, counted, begin_round, with_begun, after_reply, after_last}
+use Rattle.cc_ops.specs.Ops.{after_ack, after_message, begun_in, begun_by}
 use Rattle.cc_ops.specs.OwnLaws.{IsRound, first_is_round, none_reads}
 use Rattle.cc_ops.specs.Rounds.{first_round, line_behind}
 use Rattle.cc_ops.specs.Waiting.{writes_by, written_by}
@@ -20,6 +20,8 @@ use Rattle.cc_churn.specs.Churn as churn
 use Rattle.cc_node.specs.Core.{Core, quorum, asked_of, churn_told, asks_anew, begun, next}
 use Rattle.cc_node.proofs.ToldLaws.{anew_view}
 use Rattle.cc_laws.specs.Shown.{in_message, in_event}
+use Rattle.cc_laws.proofs.Lists.{either}
+use Rattle.cc_laws.proofs.Becoming.{of_round, of_reply}
 
 -- the own row once asks have begun, under the number of the last write among them
 abbrev pub row_of : ℕ → Ops → List Asked → ViewMap
@@ -32,17 +34,12 @@ round_view : (me quorum : ℕ) (asks : List Asked) (s : Ops) → IsRound asks �
 round_view me quorum [] s alike = refl
 round_view me quorum (a ∷ others) s alike =
     let asks = a ∷ others in
-    elim (is_writing a.command)
-    as (λ b. is_writing a.command ≡ b
-    → (if b then next_round (Storing (round_of quorum a)) (with_own_row me (with_written asks s)) else next_round (Querying (round_of quorum a)) s).view ≡ with_row me s asks) [
-      | true ↦ λ writes.
-          let count : writes_by asks ≡ 1 + writes_by others = ap (λ (b : Bool). (if b then 1 else 0) + writes_by others) writes in
-          let some : nat_lt 0 (writes_by asks) ≡ true = lt-ltb 0 (writes_by asks) (omega (arith, count)) in
-          sym (ap (λ (b : Bool). if b then merge s.view (row_of me s asks) else s.view) some)
-      | false ↦ λ reads.
-          let none : nat_lt 0 (writes_by asks) ≡ false = ap (nat_lt 0) (none_reads a others reads (alike reads)) in
-          sym (ap (λ (b : Bool). if b then merge s.view (row_of me s asks) else s.view) none)
-    ] refl
+    let row = λ (b : Bool). if b then merge s.view (row_of me s asks) else s.view in
+    of_round (λ t. t.view ≡ with_row me s asks) me quorum a others s
+    (λ writes.
+    let count : writes_by asks ≡ 1 + writes_by others = ap (λ (b : Bool). (if b then 1 else 0) + writes_by others) writes in
+    sym (ap row (lt-ltb 0 (writes_by asks) (omega (arith, count)))))
+    (λ reads. sym (ap row (ap (nat_lt 0) (none_reads a others reads (alike reads)))))
 
 last_view : (me quorum : ℕ) (s : Ops) → (after_last me quorum s).view ≡ with_row me s (first_round s.share s.line)
 last_view me quorum s =
@@ -54,12 +51,12 @@ either_last me quorum true phase s = last_view me quorum s
 either_last me quorum false phase s = refl
 
 ack_view : (me quorum : ℕ) (phase : Phase) (s : Ops) → (after_ack me quorum phase s).view ≡ with_row me s (begun_in phase s)
-ack_view me quorum Idle s = refl
 ack_view me quorum (Storing p) s = either_last me quorum (is_last p) (Storing (counted p)) s
-ack_view me quorum (Querying p) s = refl
 ack_view me quorum (StoringBack p seen) s = either_last me quorum (is_last p) (StoringBack (counted p) seen) s
+ack_view me quorum _ s = refl
 
-own_ack_view : (me quorum : ℕ) (b : Bool) (s : Ops) → (if b then after_ack me quorum s.phase s else s).view ≡ with_row me s (if b then begun_in s.phase s else [])
+own_ack_view : (me quorum : ℕ) (b : Bool) (s : Ops)
+    → (if b then after_ack me quorum s.phase s else s).view ≡ with_row me s (if b then begun_in s.phase s else [])
 own_ack_view me quorum true s = ack_view me quorum s.phase s
 own_ack_view me quorum false s = refl
 
@@ -72,16 +69,9 @@ ask_view me quorum false a s line = refl
 abbrev IsAsBefore : ViewMap → ViewMap → ViewMap → Type 0
 IsAsBefore before v after = (after ≡ before) ⊎ (after ≡ merge before v)
 
-either_view : (b : Bool) (before v : ViewMap) (t u : Ops) → IsAsBefore before v t.view → IsAsBefore before v u.view → IsAsBefore before v (if b then t else u).view
-either_view true before v t u h k = h
-either_view false before v t u h k = k
-
 reply_view : (quorum : ℕ) (v : ViewMap) (phase : Phase) (s : Ops) → IsAsBefore s.view v (after_reply quorum v phase s).view
-reply_view quorum v Idle s = inl refl
-reply_view quorum v (Storing p) s = inl refl
-reply_view quorum v (Querying p) s =
-    either_view (is_last p) s.view v (next_round (StoringBack (round_of quorum p.asked) (merge s.view v)) (merged v s)) (record (merged v s) { phase = Querying (counted p) }) (inr refl) (inr refl)
-reply_view quorum v (StoringBack p seen) s = inl refl
+reply_view quorum v (Querying p) s = of_reply (λ t. IsAsBefore s.view v t.view) quorum v p s (inr refl) (inr refl)
+reply_view quorum v _ s = inl refl
 
 -- what an event may bring, whether it lets asks begin, the view that this leaves, and the view after it
 pub record Brings (brought : Option ViewMap) (asks : List Asked) (before after : ViewMap) : Type 0 where
@@ -102,40 +92,25 @@ as_before me s v after (inl same) = inl same
 as_before me s v after (inr more) = inr (brings s v after more)
 
 message_step : (me quorum : ℕ) (m : Message) (s : Ops) → ViewStep me s (in_message m) (begun_by me m s) (after_message me quorum m s).view
-message_step me quorum (message.Enter q) s = inl refl
 message_step me quorum (message.EnterEcho c v j q) s = inr (brings s v _ refl)
-message_step me quorum (message.Join q) s = inl refl
-message_step me quorum (message.JoinEcho q) s = inl refl
-message_step me quorum (message.Leave q) s = inl refl
-message_step me quorum (message.LeaveEcho q) s = inl refl
-message_step me quorum (message.Query tag q) s = inl refl
 message_step me quorum (message.QueryReply v tag q) s =
-    as_before me s v _ (either_view (is_own me tag q s) s.view v (after_reply quorum v s.phase s) s (reply_view quorum v s.phase s) (inl refl))
+    as_before me s v _ (either (λ (t : Ops). IsAsBefore s.view v t.view) (is_own me tag q s) (after_reply quorum v s.phase s) s
+    (reply_view quorum v s.phase s) (inl refl))
 message_step me quorum (message.Store v tag q) s = inr (brings s v _ refl)
 message_step me quorum (message.StoreAck tag q) s = inl (own_ack_view me quorum (is_own me tag q s) s)
 message_step me quorum (message.Snapshot c v) s = inr (brings s v _ refl)
+message_step me quorum _ s = inl refl
 
 pub view_step : (c : Core) (e : Event) → ViewStep c.me c.ops (in_event e) (begun c e) (next c e).ops.view
 unfolding next
-view_step c event.Enter = inl refl
-view_step c event.Leave = inl refl
 view_step c (event.Deliver from n m) =
     let t = after_message c.me (quorum c) m c.ops in
     subst (ViewStep c.me c.ops (in_message m) (begun_by c.me m c.ops))
     (sym (anew_view (asks_anew c from n m) (churn.quorum c.beta (churn_told c from n m)) t)) (message_step c.me (quorum c) m c.ops)
-view_step c (event.Acked peer n) = inl refl
 view_step c (event.Ask s r command) = inl (ask_view c.me (quorum c) (is_idle c.ops.phase) (asked_of s r command) c.ops _)
-view_step c (event.Retire q) = inl refl
-view_step c (event.Lapse q) = inl refl
-view_step c event.Snapshot = inl refl
+view_step c _ = inl refl
 
 pub me_next : (c : Core) (e : Event) → (next c e).me ≡ c.me
 unfolding next
 me_next c event.Enter = refl
-me_next c event.Leave = refl
-me_next c (event.Deliver from n m) = refl
-me_next c (event.Acked peer n) = refl
-me_next c (event.Ask s r command) = refl
-me_next c (event.Retire q) = refl
-me_next c (event.Lapse q) = refl
-me_next c event.Snapshot = refl
+me_next c _ = refl

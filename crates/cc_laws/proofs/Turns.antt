@@ -68,7 +68,8 @@ module _ (q : ℕ) (put : Member → List Sent → Cluster) (seat : Seat q put) 
       ∙ seat.more (record synced { released = now }) s (put_out now synced)
       ∙ (λ i. put (released i) (s ++ sent_by q (puts i)))
 
-  pub turned : ((decides (after (fresh o) es).core e ≡ None) → put taken s ≡ with_member q taken (put (lived o es) s) → MovesBy (put (lived o es) s) q (lived o es) move (put taken s))
+  pub turned : ((decides (after (fresh o) es).core e ≡ None) → put taken s ≡ with_member q taken (put (lived o es) s)
+      → MovesBy (put (lived o es) s) q (lived o es) move (put taken s))
       → Run (put (lived o es) s) (turn q move (length es)) (put (lived o all) (s ++ sent_by q os))
   turned may = (
     put taken s,

@@ -2,11 +2,13 @@
 --     two, start            such clusters, and the one that begins
 --     Stage                 how far the moves have come
 --     stored, collected     up to the answer of the store, and from there to the answer of the collect
-use Rattle.std.proofs.Common.{◌≡◌, ◌⊎◌, inl, inr, ℕ, zero, suc, ◌+◌, ◌<◌, ◌≤◌, Bool, true, false, cond, nat_eq, List, [], ◌∷◌, ◌++◌, length, refl, subst, sym, arith}
+use Rattle.std.proofs.Common.{◌≡◌, ◌⊎◌, inl, inr, ℕ, zero, suc, ◌+◌, ◌<◌, ◌≤◌, Bool, true, false, cond, nat_eq, List, [], ◌∷◌, ◌++◌, length, refl, subst, sym}
+use Rattle.std.proofs.Common.{arith}
 use Rattle.std.specs.Prelude.{Some, None, slice_index, slice_index_or}
 use Rattle.std.specs.List.{Contains, AllByRecursion}
 use Rattle.std.specs.FinMap as table
 use Rattle.std.proofs.lemmas.Bool.{eqb-true}
+use Rattle.std.proofs.lemmas.Option.{same_Some}
 use Rattle.cc_views.specs.NatSets as set
 use Rattle.cc_messages.specs.declared.answer.Answer.TheVariants as answer
 use Rattle.cc_messages.specs.declared.command.Command.TheVariants as command
@@ -23,13 +25,13 @@ use Rattle.cc_laws.specs.Clusters.{Member, Cluster, Sent, IsOwn, Move, Accept, R
 use Rattle.cc_laws.specs.Runs.{Run, IsFreshMember, IsFreshCluster}
 use Rattle.cc_laws.specs.Regular.{IsAnswered, IsStored, IsAhead}
 use Rattle.cc_laws.specs.Fixed.{IsFixedMember, IsFixedCluster, Stays}
-use Rattle.cc_laws.proofs.Clustering.{same_some}
 use Rattle.cc_laws.proofs.Lists.{all_both}
 use Rattle.cc_laws.proofs.Inserting.{tables}
 use Rattle.cc_laws.proofs.Regularity.{run_both}
 use Rattle.cc_laws.proofs.TwoNodes as nodes
 use Rattle.cc_laws.proofs.TwoNodes.{Takes, opening_of, stored, acked, queried, replied, stored_back, acked_back, stores, collects, both, view}
 use Rattle.cc_laws.proofs.Turns.{lived, sent_by, Seat, turn, reached, turned}
+use Rattle.cc_laws.proofs.Clustering.{IsAt}
 
 abbrev pub two : List Event → List Event → List Sent → Cluster
 two es fs sent = record {
@@ -63,11 +65,12 @@ MayTake c q m e move = (d : Cluster) → decides (after (fresh m.opening) m.even
 own : (c : Cluster) (q : ℕ) (m : Member) (e : Event) → IsOwn e → MayTake c q m e (Accept e)
 own c q m e is d taken made = (is, taken, made)
 
-heard : (c : Cluster) (q : ℕ) (m : Member) (from n : ℕ) (k : Message) → Contains c.sent (record { from = from; output = output.Send q n k }) → MayTake c q m (event.Deliver from n k) (Receive from n k)
+heard : (c : Cluster) (q : ℕ) (m : Member) (from n : ℕ) (k : Message) → Contains c.sent (record { from = from; output = output.Send q n k })
+    → MayTake c q m (event.Deliver from n k) (Receive from n k)
 heard c q m from n k has d taken made = (has, taken, made)
 
-turn_1 : {from : Cluster} {es fs : List Event} {n m : Node} {s : List Sent} → Stage from es fs n m s → (e : Event) (move : Move) (k : Node) (os : List Output) → Takes n e k os → Stays move
-    → MayTake (two es fs s) 1 (lived (opening_of 1) es) e move → Stage from (es ++ e ∷ []) fs k m (s ++ sent_by 1 os)
+turn_1 : {from : Cluster} {es fs : List Event} {n m : Node} {s : List Sent} → Stage from es fs n m s → (e : Event) (move : Move) (k : Node) (os : List Output)
+    → Takes n e k os → Stays move → MayTake (two es fs s) 1 (lived (opening_of 1) es) e move → Stage from (es ++ e ∷ []) fs k m (s ++ sent_by 1 os)
 turn_1 {from = c} {es = es} {fs = fs} {n = n} {s = s} stage e move k os takes stays may = record {
   moves = stage.moves ++ turn 1 move (length es);
   stays = all_both (λ (x : ℕ × Move). Stays x.1) stage.moves (turn 1 move (length es)) stage.stays (stays, (tt, (tt, tt)));
@@ -77,8 +80,8 @@ turn_1 {from = c} {es = es} {fs = fs} {n = n} {s = s} stage e move k os takes st
   second = stage.second;
 }
 
-turn_2 : {from : Cluster} {es fs : List Event} {n m : Node} {s : List Sent} → Stage from es fs n m s → (e : Event) (move : Move) (k : Node) (os : List Output) → Takes m e k os → Stays move
-    → MayTake (two es fs s) 2 (lived (opening_of 2) fs) e move → Stage from es (fs ++ e ∷ []) n k (s ++ sent_by 2 os)
+turn_2 : {from : Cluster} {es fs : List Event} {n m : Node} {s : List Sent} → Stage from es fs n m s → (e : Event) (move : Move) (k : Node) (os : List Output)
+    → Takes m e k os → Stays move → MayTake (two es fs s) 2 (lived (opening_of 2) fs) e move → Stage from es (fs ++ e ∷ []) n k (s ++ sent_by 2 os)
 turn_2 {from = c} {es = es} {fs = fs} {m = m} {s = s} stage e move k os takes stays may = record {
   moves = stage.moves ++ turn 2 move (length fs);
   stays = all_both (λ (x : ℕ × Move). Stays x.1) stage.moves (turn 2 move (length fs)) stage.stays (stays, (tt, (tt, tt)));
@@ -89,12 +92,14 @@ turn_2 {from = c} {es = es} {fs = fs} {m = m} {s = s} stage e move k os takes st
 }
 
 hear_1 : {from : Cluster} {es fs : List Event} {n m : Node} {s : List Sent} → Stage from es fs n m s → (q i : ℕ) (x : Message) (k : Node) (os : List Output)
-    → Takes n (event.Deliver q i x) k os → Contains s (record { from = q; output = output.Send 1 i x }) → Stage from (es ++ event.Deliver q i x ∷ []) fs k m (s ++ sent_by 1 os)
+    → Takes n (event.Deliver q i x) k os → Contains s (record { from = q; output = output.Send 1 i x })
+    → Stage from (es ++ event.Deliver q i x ∷ []) fs k m (s ++ sent_by 1 os)
 hear_1 {es = es} {fs = fs} {s = s} stage q i x k os takes has =
     turn_1 stage (event.Deliver q i x) (Receive q i x) k os takes tt (heard (two es fs s) 1 (lived (opening_of 1) es) q i x has)
 
 hear_2 : {from : Cluster} {es fs : List Event} {n m : Node} {s : List Sent} → Stage from es fs n m s → (q i : ℕ) (x : Message) (k : Node) (os : List Output)
-    → Takes m (event.Deliver q i x) k os → Contains s (record { from = q; output = output.Send 2 i x }) → Stage from es (fs ++ event.Deliver q i x ∷ []) n k (s ++ sent_by 2 os)
+    → Takes m (event.Deliver q i x) k os → Contains s (record { from = q; output = output.Send 2 i x })
+    → Stage from es (fs ++ event.Deliver q i x ∷ []) n k (s ++ sent_by 2 os)
 hear_2 {es = es} {fs = fs} {s = s} stage q i x k os takes has =
     turn_2 stage (event.Deliver q i x) (Receive q i x) k os takes tt (heard (two es fs s) 2 (lived (opening_of 2) fs) q i x has)
 
@@ -140,7 +145,9 @@ abbrev es_end : List Event
 es_end = es_mid ++ event.Deliver 2 2 queried ∷ event.Deliver 2 3 replied ∷ event.Deliver 2 4 stored_back ∷ []
 
 abbrev fs_end : List Event
-fs_end = fs_mid ++ collects ∷ event.Deliver 2 1 acked ∷ event.Deliver 2 2 queried ∷ event.Deliver 1 2 acked ∷ event.Deliver 1 3 replied ∷ event.Deliver 2 3 replied ∷ event.Deliver 2 4 stored_back ∷ event.Deliver 2 5 acked_back ∷ event.Deliver 1 4 acked_back ∷ []
+fs_end =
+    fs_mid ++ collects ∷ event.Deliver 2 1 acked ∷ event.Deliver 2 2 queried ∷ event.Deliver 1 2 acked ∷ event.Deliver 1 3 replied ∷ event.Deliver 2 3 replied
+    ∷ event.Deliver 2 4 stored_back ∷ event.Deliver 2 5 acked_back ∷ event.Deliver 1 4 acked_back ∷ []
 
 abbrev sent_end : List Sent
 sent_end =
@@ -163,7 +170,8 @@ end = two es_end fs_end sent_end
 
 pub to_end : Stage mid es_end fs_end nodes.a7 nodes.b10 sent_end
 to_end =
-    let x1 = turn_2 waiting collects (Accept collects) nodes.b2 (both 2 queried) nodes.to_b2 tt (own (two es_mid fs_mid sent_mid) 2 (lived (opening_of 2) fs_mid) collects tt) in
+    let x1 = turn_2 waiting collects (Accept collects) nodes.b2 (both 2 queried) nodes.to_b2 tt
+    (own (two es_mid fs_mid sent_mid) 2 (lived (opening_of 2) fs_mid) collects tt) in
     let x2 = hear_2 x1 2 1 acked nodes.b3 (output.Ack 2 1 ∷ []) nodes.to_b3 (4, omega arith, refl) in
     let x3 = hear_2 x2 2 2 queried nodes.b4 (output.Ack 2 2 ∷ both 3 replied) nodes.to_b4 (12, omega arith, refl) in
     let x4 = hear_1 x3 2 2 queried nodes.a5 (output.Ack 2 2 ∷ both 3 replied) nodes.to_a5 (11, omega arith, refl) in
@@ -178,16 +186,17 @@ to_end =
 
 -- ---- the premises
 
-either_member : (x y m : Member) (q : ℕ) (a b : Bool) → nat_eq q 1 ≡ a → nat_eq q 2 ≡ b → cond a (Some y) (cond b (Some x) None) ≡ Some m → ((q ≡ 1) × (y ≡ m)) ⊎ ((q ≡ 2) × (x ≡ m))
-either_member x y m q true b at other is = inl (eqb-true q 1 at, same_some y m is)
-either_member x y m q false true at other is = inr (eqb-true q 2 other, same_some x m is)
+either_member : (x y m : Member) (q : ℕ) (a b : Bool) → nat_eq q 1 ≡ a → nat_eq q 2 ≡ b → cond a (Some y) (cond b (Some x) None) ≡ Some m
+    → ((q ≡ 1) × (y ≡ m)) ⊎ ((q ≡ 2) × (x ≡ m))
+either_member x y m q true b at other is = inl (eqb-true q 1 at, same_Some y m is)
+either_member x y m q false true at other is = inr (eqb-true q 2 other, same_Some x m is)
 either_member x y m q false false at other is = absurd (no_some is)
   where
     no_some : None ≡ Some m → ⊥
     no_some e = cc
 
 -- one of the two
-which : (q : ℕ) (m : Member) → table.get start.members q ≡ Some m → ((q ≡ 1) × (lived (opening_of 1) [] ≡ m)) ⊎ ((q ≡ 2) × (lived (opening_of 2) [] ≡ m))
+which : (q : ℕ) (m : Member) → IsAt start q m → ((q ≡ 1) × (lived (opening_of 1) [] ≡ m)) ⊎ ((q ≡ 2) × (lived (opening_of 2) [] ≡ m))
 which q m is =
     either_member (lived (opening_of 2) []) (lived (opening_of 1) []) m q (nat_eq q 1) (nat_eq q 2) refl refl (simp tables at is)
 
@@ -228,7 +237,7 @@ begins_2 : IsFreshMember 2 (lived (opening_of 2) [])
 begins_2 = begins 2 (opens 2 (omega arith) (1, omega arith, refl) (simp tables (omega arith)))
 
 -- what holds of both, each under its id
-both_hold : (P : ℕ → Member → Type 0) → P 1 (lived (opening_of 1) []) → P 2 (lived (opening_of 2) []) → (q : ℕ) (m : Member) → table.get start.members q ≡ Some m → P q m
+both_hold : (P : ℕ → Member → Type 0) → P 1 (lived (opening_of 1) []) → P 2 (lived (opening_of 2) []) → (q : ℕ) (m : Member) → IsAt start q m → P q m
 both_hold P first second q m is =
     elim (which q m is) as (λ _. P q m) [
       | inl h ↦ subst (λ (k : ℕ). P k m) (sym h.0) (subst (P 1) h.1 first)

@@ -32,7 +32,9 @@ asked_both (e ∷ xs) ys = ap (λ (l : List Asked). asked_by e ++ l) (asked_both
 
 -- a write of a front of the events is one of all
 pub write_front : (xs ys : List Event) (k : ℕ) (x : Value) → IsWriteOf xs k x → IsWriteOf (xs ++ ys) k x
-write_front xs ys k x h = subst (λ (l : List Asked). IsWrite (values_of nothing_stored l) k x) (sym (asked_both xs ys)) (write_in_front nothing_stored (asked_along xs) (asked_along ys) k x h)
+write_front xs ys k x h =
+    subst (λ (l : List Asked). IsWrite (values_of nothing_stored l) k x) (sym (asked_both xs ys))
+    (write_in_front nothing_stored (asked_along xs) (asked_along ys) k x h)
 
 pub fresh_mine : (o : Opening) → (fresh o).core.ops.mine ≡ nothing_stored
 unfolding fresh
@@ -99,7 +101,8 @@ module _ (P : ℕ → ℕ → Value → Type 0) where
           let number : length earlier + n + 1 ≡ s.number + writes_by asks = omega (arith, h.count, is) in
           subst (λ k. P me k w) number (h.each (length earlier + n) w there)
 
-  writes_along : (n : Node) (es : List Event) (earlier : List Value) → Covers n.core.me n.core.ops.number n.core.ops.mine earlier (begun_along n es) → WritesAlong P n es
+  writes_along : (n : Node) (es : List Event) (earlier : List Value) → Covers n.core.me n.core.ops.number n.core.ops.mine earlier (begun_along n es)
+      → WritesAlong P n es
   unfolding step
   writes_along n [] earlier h = tt
   writes_along n (e ∷ es) earlier h =
@@ -108,11 +111,13 @@ module _ (P : ℕ → ℕ → Value → Type 0) where
       let more = begun_along (step n e) es in (
         now_written c.me c.ops earlier asks more h,
         writes_along (step n e) es (earlier ++ values_of c.ops.mine asks)
-            (moved c.me (next c e).me (c.ops.number + writes_by asks) (next c e).ops.number (written_by asks c.ops.mine) (next c e).ops.mine (earlier ++ values_of c.ops.mine asks) more
+            (moved c.me (next c e).me (c.ops.number + writes_by asks) (next c e).ops.number (written_by asks c.ops.mine) (next c e).ops.mine
+            (earlier ++ values_of c.ops.mine asks) more
             (me_next c e) (own_number c e) (own_value c e) (begun_covers c.me c.ops.number c.ops.mine earlier asks more h)),
       )
 
-  pub fresh_writes : (o : Opening) (es : List Event) → IsOpening o → IsLawful (fresh o) es → ((k : ℕ) (x : Value) → IsWriteOf es k x → P o.me k x) → WritesAlong P (fresh o) es
+  pub fresh_writes : (o : Opening) (es : List Event) → IsOpening o → IsLawful (fresh o) es → ((k : ℕ) (x : Value) → IsWriteOf es k x → P o.me k x)
+      → WritesAlong P (fresh o) es
   fresh_writes o es opens lawful h =
       writes_along (fresh o) es [] (record {
         count = sym (fresh_number o);

@@ -56,7 +56,8 @@ values_both mine (a ∷ xs) ys =
     let w = written a.command mine in
     let rest = values_of (written_by xs w) ys in
     elim (is_writing a.command)
-    as (λ b. is_writing a.command ≡ b → (if b then w ∷ values_of w (xs ++ ys) else values_of mine (xs ++ ys)) ≡ (if b then w ∷ values_of w xs else values_of mine xs) ++ rest) [
+    as (λ b. is_writing a.command ≡ b
+    → (if b then w ∷ values_of w (xs ++ ys) else values_of mine (xs ++ ys)) ≡ (if b then w ∷ values_of w xs else values_of mine xs) ++ rest) [
       | true ↦ λ _. ap (λ (l : List Value). w ∷ l) (values_both w xs ys)
       | false ↦ λ reads. values_both mine xs ys ∙ ap (λ v. values_of mine xs ++ values_of (written_by xs v) ys) (reading_leaves a.command mine reads)
     ] refl
@@ -68,7 +69,9 @@ values_kind mine (a ∷ asks) =
     let rest = of_kind true asks in
     elim (is_writing a.command)
     as (λ b. is_writing a.command ≡ b → (if b then w ∷ values_of w asks else values_of mine asks) ≡ values_of mine (if b then a ∷ rest else rest)) [
-      | true ↦ λ writes. ap (λ (l : List Value). w ∷ l) (values_kind w asks) ∙ sym (ap (λ (b : Bool). if b then w ∷ values_of w rest else values_of mine rest) writes)
+      | true ↦
+          λ writes. ap (λ (l : List Value). w ∷ l) (values_kind w asks)
+          ∙ sym (ap (λ (b : Bool). if b then w ∷ values_of w rest else values_of mine rest) writes)
       | false ↦ λ _. values_kind mine asks
     ] refl
 

@@ -1,7 +1,6 @@
-use Rattle.std.proofs.Common.{◌<◌, ◌≤◌, [], length, subst, arith}
+use Rattle.std.proofs.Common.{◌<◌, ◌≤◌, [], length, arith}
 use Rattle.cc_journal.specs.Batches.{events_in}
-use Rattle.cc_journal.specs.Journals.{room_limit, StaysGood}
-use Rattle.cc_flush.specs.Flushing.{LeadsToOwed}
+use Rattle.cc_journal.specs.Journals.{room_limit}
 use Rattle.cc_laws.proofs.FirstLives.{batch_lawful, good_leaves, failed_leaves, failed_moments, rest_moments, turned, turned_moments}
 use Rattle.cc_laws.proofs.living.turn.Goals as goal
 
@@ -16,21 +15,18 @@ returns-then-not-room-clause-stops g c opening good =
 
 pub returns-in-Ok-clause-lived : goal.returns-in-Ok-clause-lived
 returns-in-Ok-clause-lived g c tells opening good =
-    let s = g.S.Site in
-    let mid = c.commit.new.self in
-    let new = c.release.new.self in
     let e = c.in-Ok.ensures in
-    let stays = c.release.ensures.good (e.honest.0 c.requires.honest) tells in
-    turned s c.args.engine.now mid new c.args.batch.now opening c.requires.lawful good e.same_twin (e.at_rest c.requires.honest c.requires.goes_on)
-    (subst (λ entries. StaysGood s (LeadsToOwed s entries mid) mid.site new.site) e.landed stays)
+    let put = c.release.ensures.good (e.honest.0 c.requires.honest) tells in
+    turned g.S.Site c.args.engine.now opening good c.commit.new.self c.release.new.self _ c.args.batch.now e.landed e.same_twin
+    (e.at_rest c.requires.honest c.requires.goes_on) put c.requires.lawful
 
 pub returns-in-Err-clause-stops : goal.returns-in-Err-clause-stops
 returns-in-Err-clause-stops g c opening good =
     let new = c.commit.new.self.site in
     let e = c.in-Err.ensures in
     let old = c.args.engine.now in
-    failed_leaves g.S.Site old new (events_in c.args.batch.now) opening (batch_lawful old.twin c.args.batch.now c.requires.lawful)
-    (g.met.S.Site.counts_now new (e.honest.0 c.requires.honest)) good (e.every_moment c.requires.honest c.requires.goes_on)
+    failed_leaves g.S.Site old opening good new (events_in c.args.batch.now) (batch_lawful old.twin c.args.batch.now c.requires.lawful)
+    (g.met.S.Site.counts_now new (e.honest.0 c.requires.honest)) (e.every_moment c.requires.honest c.requires.goes_on)
 
 pub returns-then-not-room-clause-moments : goal.returns-then-not-room-clause-moments
 returns-then-not-room-clause-moments g c opening good =
@@ -39,15 +35,12 @@ returns-then-not-room-clause-moments g c opening good =
 
 pub returns-in-Ok-clause-moments : goal.returns-in-Ok-clause-moments
 returns-in-Ok-clause-moments g c opening good tells =
-    let s = g.S.Site in
-    let mid = c.commit.new.self in
-    let new = c.release.new.self in
     let e = c.in-Ok.ensures in
-    let stays = c.release.ensures.good (e.honest.0 c.requires.honest) tells in
-    turned_moments s c.args.engine.now mid new c.args.batch.now opening good e.same_twin (e.every_moment c.requires.honest c.requires.goes_on)
-    (e.at_rest c.requires.honest c.requires.goes_on) (subst (λ entries. StaysGood s (LeadsToOwed s entries mid) mid.site new.site) e.landed stays)
+    let put = c.release.ensures.good (e.honest.0 c.requires.honest) tells in
+    turned_moments g.S.Site c.args.engine.now opening good c.commit.new.self c.release.new.self _ c.args.batch.now e.landed e.same_twin
+    (e.at_rest c.requires.honest c.requires.goes_on) put (e.every_moment c.requires.honest c.requires.goes_on)
 
 pub returns-in-Err-clause-moments : goal.returns-in-Err-clause-moments
 returns-in-Err-clause-moments g c opening good =
-    failed_moments g.S.Site c.args.engine.now c.commit.new.self.site (events_in c.args.batch.now) opening good
+    failed_moments g.S.Site c.args.engine.now opening good c.commit.new.self.site (events_in c.args.batch.now)
     (c.in-Err.ensures.every_moment c.requires.honest c.requires.goes_on)

@@ -1,12 +1,12 @@
-use Rattle.cc_laws.proofs.Regularity.{each_shares, meets, collect_sees, collects_in_turn}
+use Rattle.cc_laws.proofs.Regularity.{each_shares, meets, collect_sees, collects_in_turn, course}
 use Rattle.cc_laws.proofs.regular.members_collect_regularly.Goals as goal
 
 pub returns : goal.returns
 returns g = record {
   stored = λ all c mid d first second begins to_mid to_d fixed stays stays_on q k s r stored p x y ahead.
-      collect_sees c mid d first second begins to_mid to_d q k s r stored p x y ahead
-      (each_shares c mid d first second begins to_mid to_d (meets c mid d first second begins to_mid to_d all fixed stays stays_on) q s r p x y);
+      let run = course c mid d first second begins to_mid to_d in
+      collect_sees run q s r p x y ahead (each_shares run (meets run all fixed stays stays_on) q s r p x y) k stored;
   in_turn = λ all c mid d first second begins to_mid to_d fixed stays stays_on q s r v has p x y ahead.
-      collects_in_turn c mid d first second begins to_mid to_d q s r v has p x y ahead
-      (each_shares c mid d first second begins to_mid to_d (meets c mid d first second begins to_mid to_d all fixed stays stays_on) q s r p x y);
+      let run = course c mid d first second begins to_mid to_d in
+      collects_in_turn run q s r p x y ahead (each_shares run (meets run all fixed stays stays_on) q s r p x y) v has;
 }

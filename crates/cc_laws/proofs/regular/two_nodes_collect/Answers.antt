@@ -4,4 +4,5 @@ use Rattle.cc_laws.proofs.regular.two_nodes_collect.Goals as goal
 
 pub returns : goal.returns
 returns g =
-    (start, mid, end, to_mid.moves, to_end.moves, view, is_fresh, to_mid.run, to_end.run, is_fixed, to_mid.stays, to_end.stays, is_stored, is_ahead, is_answered)
+    let a = to_mid in let b = to_end in
+    (start, mid, end, a.moves, b.moves, view, is_fresh, a.run, b.run, is_fixed, a.stays, b.stays, is_stored, is_ahead, is_answered)
