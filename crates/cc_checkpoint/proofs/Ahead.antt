@@ -1,4 +1,5 @@
 -- What is read in a window is what is read of all that is ahead, element by element.
+--     err_is                            what the exit of a `?` returns
 --     bytes_of_both, ahead_bytes        all that is ahead are bytes
 --     read_further                      reading on leaves what is ahead
 --     used, taken                       what is read is so many bytes of the front, and leaves the others
@@ -6,15 +7,17 @@
 --     runs_as, runs_stop, runs_quietly  what they answer in the end
 --     no_memory, no_refill              nothing is told of what is ahead
 --     element, no_element               an element is read in the window as it is read of all that is ahead
---     in_turn, first_stops, made           one thing behind another, and what they make
---     seen_twice                        what is seen of what is seen
+--     in_turn, first_stops, then_stops  one thing behind another, and where the first or the second of them is missing
+--     made, not_made                    what they make
 --     all_of, not_all, none_of          reading all that is ahead
 --     few, too_many, uncounted          a count within its limit, and so many
 --     misses_along                      rows up to one that is missing
-use Rattle.std.proofs.Common.{◌≡◌, ℕ, suc, ◌+◌, ◌-◌, ◌<◌, ◌≤◌, ◌⊎◌, inl, inr, true, false, ltb, eqb, List, [], ◌++◌, length, take, drop, Result, Ok, Err, refl, sym, ap, subst, ◌∙◌, append_assoc, take-add, arith}
-use Rattle.std.specs.Prelude.{slice_index}
+use Rattle.std.proofs.Common.{◌≡◌, ℕ, suc, ◌+◌, ◌-◌, ◌<◌, ◌≤◌, ◌⊎◌, inl, inr, true, false, ltb, eqb, List, [], ◌++◌, length, take, drop}
+use Rattle.std.proofs.Common.{Result, Ok, Err, refl, sym, ap, subst, ◌∙◌, append_assoc, take-add, arith}
+use Rattle.std.specs.Prelude.{slice_index, IsErrAnd}
 use Rattle.std.proofs.lemmas.Bool.{cases_lt, le-ltb, lt-ltb, ne_eqb}
-use Rattle.std.proofs.lemmas.List.{take_at, drop_at, take-append-le, take-append-drop, drop-drop, append-nil, nil_from_length, length-append, length-take, length-drop, get_or_append_left, get_or-append_right}
+use Rattle.std.proofs.lemmas.List.{take_at, drop_at, take-append-le, take-append-drop, drop-drop, append-nil, nil_from_length}
+use Rattle.std.proofs.lemmas.List.{length-append, length-take, length-drop, get_or_append_left, get_or-append_right}
 use Rattle.cc_wire.specs.declared.fault.WireFault.{WireFault}
 use Rattle.cc_wire.specs.declared.fault.WireFault.TheVariants.{Short, BadKind, NotAscending, TooLarge, Trailing, NoMemory, Broken}
 use Rattle.cc_wire.specs.Reading.{◌>>=◌, Fails, Reading, ◌⊗◌, via, limited, items_at, ended, whole}
@@ -26,6 +29,10 @@ use Rattle.cc_site.specs.Reads.{reads_none, reads_then}
 use Rattle.cc_checkpoint.specs.declared.read_fault.ReadFault.{ReadFault}
 use Rattle.cc_checkpoint.specs.declared.read_fault.ReadFault.TheVariants as faults
 use Rattle.cc_checkpoint.specs.Windows.{of_wire, IsMissing, Misses, seen_by, IsOfDevice, AreBytes, CountsRead, FaultRead, At, ahead, LiesOn, Runs, ReadsOff}
+
+pub err_is : {T E : Type 0} {e : E} (r : Result T E) → IsErrAnd r (λ y. y ≡ e) → r ≡ Err e
+err_is (Ok x) is = absurd is
+err_is (Err y) is = cc
 
 -- ---- bytes
 
@@ -40,7 +47,8 @@ front_bytes : (a b : List ℕ) → IsBytes (a ++ b) → IsBytes a
 front_bytes a b fits = subst IsBytes (take_at a b (length a) refl) (IsBytes-take (length a) (a ++ b) fits)
 
 -- some of the bytes that are to be read, put behind those that are held
-pub read_further : (held new bytes now : List ℕ) (place n end : ℕ) → now ≡ bytes → new ≡ held ++ take n (drop place bytes) → place + n ≤ end
+pub read_further : (held new bytes now : List ℕ) (place n end : ℕ)
+    → now ≡ bytes → new ≡ held ++ take n (drop place bytes) → place + n ≤ end
     → new ++ take (end - (place + n)) (drop (place + n) now) ≡ held ++ take (end - place) (drop place bytes)
 read_further held new bytes now place n end same put within =
     let more = end - (place + n) in
@@ -65,7 +73,8 @@ misses_of_device faults.NoMemory r is = absurd is
 misses_of_device faults.NoState r is = absurd is
 
 -- what isn't read under one fault is missing
-misses_of_wire : {A B : Type 0} (e : WireFault) (r : Result A WireFault) (t : Result B WireFault) → ((f : WireFault) → r ≡ Err f → IsMissing t) → Fails e r → Misses (of_wire e) t
+misses_of_wire : {A B : Type 0} (e : WireFault) (r : Result A WireFault) (t : Result B WireFault)
+    → ((f : WireFault) → r ≡ Err f → IsMissing t) → Fails e r → Misses (of_wire e) t
 misses_of_wire Short r t along h = along Short h
 misses_of_wire (BadKind k) r t along h = along (BadKind k) h
 misses_of_wire NotAscending r t along h = along NotAscending h
@@ -84,7 +93,8 @@ quiet side before now NoMemory same = same
 quiet side before now Broken same = same
 
 -- rows up to one that is missing
-pub misses_along : {X : Type 0} (item : ℕ → Reading X) (key : X → ℕ) (fault : ReadFault) (front : List X) (count i least : ℕ) (bytes : List ℕ) (total : Result (List X × List ℕ) WireFault)
+pub misses_along : {X : Type 0} (item : ℕ → Reading X) (key : X → ℕ) (fault : ReadFault) (front : List X) (count i least : ℕ) (bytes : List ℕ)
+    (total : Result (List X × List ℕ) WireFault)
     → i < count → Misses fault (item least bytes) → with_front front (items_at item key (count - i) least bytes) ≡ total → Misses fault total
 unfolding items_at
 misses_along item key fault front count i least bytes total lt missing so_far =
@@ -95,14 +105,16 @@ misses_along item key fault front count i least bytes total lt missing so_far =
 
 module _ {X : Type 0} {read : Reading X} {Is : X → Type 0} {spelling : X → List ℕ} (spelled : Spelled read Is spelling) where
   -- what is read is so many bytes of the front
-  pub used : (piece bytes : List ℕ) (x : X) (left : List ℕ) (n : ℕ) → bytes ≡ piece → IsBytes piece → read bytes ≡ Ok (x, left) → n ≡ length (spelling x) → n ≤ length piece
-  used piece bytes x left n same fits e is =
+  pub used : {piece bytes : List ℕ} {x : X} {left : List ℕ} {n : ℕ}
+      → bytes ≡ piece → IsBytes piece → read bytes ≡ Ok (x, left) → n ≡ length (spelling x) → n ≤ length piece
+  used {piece} {x} {left} same fits e is =
       let t = spelled.takes piece x left fits (ap read (sym same) ∙ e) in
       omega (arith, is, ap length t.0.parts, length-append (spelling x) left)
 
   -- and leaves the others
-  pub taken : (piece bytes : List ℕ) (x : X) (left new : List ℕ) (n : ℕ) → bytes ≡ piece → IsBytes piece → read bytes ≡ Ok (x, left) → n ≡ length (spelling x) → new ≡ drop n piece → read piece ≡ Ok (x, new)
-  taken piece bytes x left new n same fits e is rest =
+  pub taken : {piece bytes : List ℕ} {x : X} {left new : List ℕ} {n : ℕ}
+      → bytes ≡ piece → IsBytes piece → read bytes ≡ Ok (x, left) → n ≡ length (spelling x) → new ≡ drop n piece → read piece ≡ Ok (x, new)
+  taken {piece} {x} {left} {new} {n} same fits e is rest =
       let t = spelled.takes piece x left fits (ap read (sym same) ∙ e) in
       let behind : left ≡ new = sym (rest ∙ ap (drop n) t.0.parts ∙ drop_at (spelling x) left n (sym is)) in
       ap read (sym same) ∙ e ∙ ap (λ (l : List ℕ). Ok (x, l)) behind
@@ -114,19 +126,22 @@ module _ {X : Type 0} {read : Reading X} {Is : X → Type 0} {spelling : X → L
 
   module _ (most : ℕ) (small : (x : X) → Is x → length (spelling x) ≤ most) where
     -- what is read of all that is ahead lies within the window
-    found_held : (held rest : List ℕ) (x : X) (left : List ℕ) → IsBytes (held ++ rest) → (most ≤ length held) ⊎ (rest ≡ []) → read (held ++ rest) ≡ Ok (x, left) → (y : X × List ℕ) × (read held ≡ Ok y)
+    found_held : (held rest : List ℕ) (x : X) (left : List ℕ)
+        → IsBytes (held ++ rest) → (most ≤ length held) ⊎ (rest ≡ []) → read (held ++ rest) ≡ Ok (x, left) → (y : X × List ℕ) × (read held ≡ Ok y)
     found_held held rest x left fits reach e =
         let t = spelled.takes (held ++ rest) x left fits e in
         let n = length (spelling x) in
         elim reach [
           | inl le ↦ (
-              let front : spelling x ≡ take n held = sym (take_at (spelling x) left n refl) ∙ ap (take n) (sym t.0.parts) ∙ take-append-le n held rest (omega (arith, small x t.1, le)) in
+              let front : spelling x ≡ take n held =
+              sym (take_at (spelling x) left n refl) ∙ ap (take n) (sym t.0.parts) ∙ take-append-le n held rest (omega (arith, small x t.1, le)) in
               let parts : held ≡ spelling x ++ drop n held = sym (take-append-drop n held) ∙ ap (λ (l : List ℕ). l ++ drop n held) (sym front) in
               ((x, drop n held), ap read parts ∙ spelled.again x (drop n held) t.1))
           | inr none ↦ ((x, left), ap read (sym (append-nil held) ∙ ap (λ (l : List ℕ). held ++ l) (sym none)) ∙ e)
         ]
 
-    none_ahead : (held rest : List ℕ) (e : WireFault) → IsBytes (held ++ rest) → (most ≤ length held) ⊎ (rest ≡ []) → read held ≡ Err e → IsMissing (read (held ++ rest))
+    none_ahead : (held rest : List ℕ) (e : WireFault)
+        → IsBytes (held ++ rest) → (most ≤ length held) ⊎ (rest ≡ []) → read held ≡ Err e → IsMissing (read (held ++ rest))
     none_ahead held rest e fits reach h = by (read (held ++ rest)) refl
       where
         by : (r : Result (X × List ℕ) WireFault) → read (held ++ rest) ≡ r → IsMissing r
@@ -136,8 +151,8 @@ module _ {X : Type 0} {read : Reading X} {Is : X → Type 0} {spelling : X → L
 -- ---- calls that only read
 
 module _ {D : Type 0} (s : Ghosts D) where
-  pub runs_on : {T U : Type 0} (a m c : At D) (t : T) (outcome : Result U ReadFault) → Runs s a m (Ok t) → Runs s m c outcome → Runs s a c outcome
-  runs_on a m c t outcome first second = record {
+  pub runs_on : {T U : Type 0} {a m c : At D} {t : T} {outcome : Result U ReadFault} → Runs s a m (Ok t) → Runs s m c outcome → Runs s a c outcome
+  runs_on {a} {m} {c} {outcome} first second = record {
     side = second.side ∙ first.side;
     lies = second.lies;
     reads = reads_then s a.site m.site c.site first.reads second.reads;
@@ -151,69 +166,84 @@ module _ {D : Type 0} (s : Ghosts D) where
   pub runs_none : (a : At D) → LiesOn s a.site a.unread → Runs s {T = Unit {0}} a a (Ok tt)
   runs_none a lies = record { side = refl; lies = lies; reads = reads_none s a.site; fault = refl }
 
-  pub runs_as : {T U : Type 0} (a m : At D) (held : List ℕ) (t : T) (u : U) → Runs s a m (Ok t) → Runs s a (record m { held = held }) (Ok u)
-  runs_as a m held t u run = record { side = run.side; lies = run.lies; reads = run.reads; fault = run.fault }
+  pub runs_as : {T U : Type 0} {a m : At D} {held : List ℕ} {t : T} {u : U} → Runs s a m (Ok t) → Runs s a (record m { held = held }) (Ok u)
+  runs_as run = record { side = run.side; lies = run.lies; reads = run.reads; fault = run.fault }
 
-  pub runs_stop : {T U : Type 0} (a m : At D) (fault : ReadFault) → Runs s {T = T} a m (Err fault) → Runs s {T = U} a m (Err fault)
-  runs_stop a m fault run = record { side = run.side; lies = run.lies; reads = run.reads; fault = run.fault }
+  pub runs_stop : {T U : Type 0} {a m : At D} {fault : ReadFault} → Runs s {T = T} a m (Err fault) → Runs s {T = U} a m (Err fault)
+  runs_stop run = record { side = run.side; lies = run.lies; reads = run.reads; fault = run.fault }
 
-  pub runs_quietly : {T U : Type 0} (a m : At D) (held : List ℕ) (t : T) (e : WireFault) → Runs s a m (Ok t) → Runs s {T = U} a (record m { held = held }) (Err (of_wire e))
-  runs_quietly a m held t e run = record { side = run.side; lies = run.lies; reads = run.reads; fault = quiet a.unread.side (s.failures a.site) (s.failures m.site) e run.fault }
+  pub runs_quietly : {T U : Type 0} {a m : At D} {held : List ℕ} {t : T} (e : WireFault)
+      → Runs s a m (Ok t) → Runs s {T = U} a (record m { held = held }) (Err (of_wire e))
+  runs_quietly {a} {m} e run = record {
+    side = run.side;
+    lies = run.lies;
+    reads = run.reads;
+    fault = quiet a.unread.side (s.failures a.site) (s.failures m.site) e run.fault;
+  }
 
-  pub no_memory : {T X : Type 0} (read : Reading X) (a m : At D) (t : T) → Runs s a m (Ok t) → ReadsOff s read a m (Err faults.NoMemory)
-  no_memory read a m t run = record { run = runs_quietly a m m.held t NoMemory run; exact = λ honest. tt }
+  pub no_memory : {T X : Type 0} {read : Reading X} {a m : At D} {t : T} → Runs s a m (Ok t) → ReadsOff s read a m (Err faults.NoMemory)
+  no_memory {m} run = record { run = runs_quietly {m = m} NoMemory run; exact = λ honest. tt }
 
   -- ---- elements
 
-  pub no_refill : {X : Type 0} (read : Reading X) (a m : At D) (fault : ReadFault) → Runs s {T = Unit {0}} a m (Err fault) → IsOfDevice fault → ReadsOff s read a m (Err fault)
-  no_refill read a m fault run device = record { run = runs_stop a m fault run; exact = λ honest. misses_of_device fault (read (ahead s a)) device }
+  pub no_refill : {X : Type 0} {read : Reading X} {a m : At D} {fault : ReadFault}
+      → Runs s {T = Unit {0}} a m (Err fault) → IsOfDevice fault → ReadsOff s read a m (Err fault)
+  no_refill {read} {a} {fault} run device = record { run = runs_stop run; exact = λ honest. misses_of_device fault (read (ahead s a)) device }
 
-  module _ {X : Type 0} {read : Reading X} {Is : X → Type 0} {spelling : X → List ℕ} (spelled : Spelled read Is spelling) (most : ℕ) (small : (x : X) → Is x → length (spelling x) ≤ most)
-      (a m : At D) (held : List ℕ) (run : Runs s {T = Unit {0}} a m (Ok tt)) (same : s.honest a.site → ahead s m ≡ ahead s a) (fits : s.honest a.site → AreBytes (ahead s m))
-      (reach : (most ≤ length m.held) ⊎ (m.unread.place ≡ m.unread.end)) where
-    abbrev behind : List ℕ
-    behind = take (m.unread.end - m.unread.place) (drop m.unread.place (s.state m.site m.unread.side).bytes)
+  abbrev behind : At D → List ℕ
+  behind m = take (m.unread.end - m.unread.place) (drop m.unread.place (s.state m.site m.unread.side).bytes)
 
-    reaches : (most ≤ length m.held) ⊎ (behind ≡ [])
-    reaches = elim reach [ inl le ↦ inl le | inr all ↦ inr (let none : m.unread.end - m.unread.place ≡ 0 = omega (arith, all) in rw none refl) ]
+  reaches : (most : ℕ) (m : At D) → (most ≤ length m.held) ⊎ (m.unread.place ≡ m.unread.end) → (most ≤ length m.held) ⊎ (behind m ≡ [])
+  reaches most m (inl le) = inl le
+  reaches most m (inr all) = inr (let none : m.unread.end - m.unread.place ≡ 0 = omega (arith, all) in rw none refl)
 
-    pub element : (x : X) → read m.held ≡ Ok (x, held) → ReadsOff s read a (record m { held = held }) (Ok x)
-    element x e = record {
-      run = runs_as a m held tt x run;
-      exact = λ honest. ap read (sym (same honest)) ∙ found_ahead spelled m.held behind x held (front_bytes m.held behind (fits honest)) e;
+  module _ {X : Type 0} {read : Reading X} {Is : X → Type 0} {spelling : X → List ℕ} (spelled : Spelled read Is spelling) where
+    pub element : {a m : At D} {held : List ℕ} {x : X}
+        → Runs s {T = Unit {0}} a m (Ok tt) → (s.honest a.site → ahead s m ≡ ahead s a) → (s.honest a.site → AreBytes (ahead s m))
+        → read m.held ≡ Ok (x, held) → ReadsOff s read a (record m { held = held }) (Ok x)
+    element {m} {held} {x} run same fits e = record {
+      run = runs_as {m = m} run;
+      exact = λ honest. ap read (sym (same honest)) ∙ found_ahead spelled m.held (behind m) x held (front_bytes m.held (behind m) (fits honest)) e;
     }
 
-    pub no_element : (e : WireFault) → Fails e (read m.held) → ReadsOff s read a (record m { held = held }) (Err (of_wire e))
-    no_element e h = record {
-      run = runs_quietly a m held tt e run;
+    pub no_element : (most : ℕ) → ((x : X) → Is x → length (spelling x) ≤ most) → {a m : At D} {held : List ℕ}
+        → Runs s {T = Unit {0}} a m (Ok tt) → (s.honest a.site → ahead s m ≡ ahead s a) → (s.honest a.site → AreBytes (ahead s m))
+        → (most ≤ length m.held) ⊎ (m.unread.place ≡ m.unread.end)
+        → (e : WireFault) → Fails e (read m.held) → ReadsOff s read a (record m { held = held }) (Err (of_wire e))
+    no_element most small {a} {m} run same fits reach e h = record {
+      run = runs_quietly {m = m} e run;
       exact = λ honest. subst (λ l. Misses (of_wire e) (read l)) (same honest)
-          (misses_of_wire e (read m.held) (read (ahead s m)) (λ f is. none_ahead spelled most small m.held behind f (fits honest) reaches is) h);
+          (misses_of_wire e (read m.held) (read (ahead s m))
+          (λ f is. none_ahead spelled most small m.held (behind m) f (fits honest) (reaches most m reach) is) h);
     }
 
   -- ---- one thing behind another
 
-  pub in_turn : {X Y : Type 0} {p : Reading X} {q : Reading Y} (a m c : At D) (x : X) (outcome : Result Y ReadFault)
-      → ReadsOff s p a m (Ok x) → ReadsOff s q m c outcome → ReadsOff s (p ⊗ q) a c (seen_by (λ y. (x, y)) outcome)
-  in_turn a m c x (Ok y) first second = record {
-    run = runs_as a c c.held y (x, y) (runs_on a m c x (Ok y) first.run second.run);
+  pub in_turn : {X Y : Type 0} {p : Reading X} {q : Reading Y} {a m c : At D} {x : X} {y : Y}
+      → ReadsOff s p a m (Ok x) → ReadsOff s q m c (Ok y) → ReadsOff s (p ⊗ q) a c (Ok (x, y))
+  in_turn {c} first second = record {
+    run = runs_as {m = c} (runs_on first.run second.run);
     exact = λ honest. rw (first.exact honest, second.exact (first.run.reads.keeps_honesty.0 honest)) refl;
   }
-  in_turn a m c x (Err fault) first second = record {
-    run = runs_stop a c fault (runs_on a m c x (Err fault) first.run second.run);
+
+  pub first_stops : {X Y : Type 0} {p : Reading X} (q : Reading Y) {a m : At D} {fault : ReadFault}
+      → ReadsOff s p a m (Err fault) → ReadsOff s (p ⊗ q) a m (Err fault)
+  first_stops q {fault} first = record { run = runs_stop first.run; exact = λ honest. misses_then fault _ _ (first.exact honest) }
+
+  pub then_stops : {X Y : Type 0} {p : Reading X} {q : Reading Y} {a m c : At D} {x : X} {fault : ReadFault}
+      → ReadsOff s p a m (Ok x) → ReadsOff s q m c (Err fault) → ReadsOff s (p ⊗ q) a c (Err fault)
+  then_stops {fault} first second = record {
+    run = runs_stop (runs_on first.run second.run);
     exact = λ honest. rw (first.exact honest) (misses_then fault _ _ (second.exact (first.run.reads.keeps_honesty.0 honest)));
   }
 
-  pub first_stops : {X Y : Type 0} {p : Reading X} (q : Reading Y) (a m : At D) (fault : ReadFault) → ReadsOff s p a m (Err fault) → ReadsOff s (p ⊗ q) a m (Err fault)
-  first_stops q a m fault first = record { run = runs_stop a m fault first.run; exact = λ honest. misses_then fault _ _ (first.exact honest) }
-
   -- what they make
-  pub made : {X Y : Type 0} {p : Reading X} (make : X → Y) (a m : At D) (outcome : Result X ReadFault) → ReadsOff s p a m outcome → ReadsOff s (via make p) a m (seen_by make outcome)
-  made make a m (Ok x) reads = record { run = runs_as a m m.held x (make x) reads.run; exact = λ honest. rw (reads.exact honest) refl }
-  made make a m (Err fault) reads = record { run = runs_stop a m fault reads.run; exact = λ honest. misses_then fault _ _ (reads.exact honest) }
+  pub made : {X Y : Type 0} {p : Reading X} (make : X → Y) {a m : At D} {x : X} → ReadsOff s p a m (Ok x) → ReadsOff s (via make p) a m (Ok (make x))
+  made make {m} reads = record { run = runs_as {m = m} reads.run; exact = λ honest. rw (reads.exact honest) refl }
 
-  pub seen_twice : {X Y Z : Type 0} {p : Reading Z} (a c : At D) (f : Y → Z) (g : X → Y) (outcome : Result X ReadFault) → ReadsOff s p a c (seen_by f (seen_by g outcome)) → ReadsOff s p a c (seen_by (λ x. f (g x)) outcome)
-  seen_twice a c f g (Ok x) reads = reads
-  seen_twice a c f g (Err fault) reads = reads
+  pub not_made : {X Y : Type 0} {p : Reading X} (make : X → Y) {a m : At D} {fault : ReadFault}
+      → ReadsOff s p a m (Err fault) → ReadsOff s (via make p) a m (Err fault)
+  not_made make {fault} reads = record { run = runs_stop reads.run; exact = λ honest. misses_then fault _ _ (reads.exact honest) }
 
   -- ---- all that is ahead
 
@@ -223,7 +253,8 @@ module _ {D : Type 0} (s : Ghosts D) where
       let tail = drop c.unread.place (s.state c.site c.unread.side).bytes in
       ap (λ (l : List ℕ). l ++ take (c.unread.end - c.unread.place) tail) (nil_from_length c.held empty) ∙ ap (λ (n : ℕ). take n tail) none
 
-  pub some_ahead_of : (c : At D) → s.honest c.site → LiesOn s c.site c.unread → (0 < length c.held) ⊎ (c.unread.place < c.unread.end) → 0 < length (ahead s c)
+  pub some_ahead_of : (c : At D) → s.honest c.site → LiesOn s c.site c.unread
+      → (0 < length c.held) ⊎ (c.unread.place < c.unread.end) → 0 < length (ahead s c)
   some_ahead_of c honest lies some =
       let bytes = (s.state c.site c.unread.side).bytes in
       let tail = drop c.unread.place bytes in
@@ -233,21 +264,23 @@ module _ {D : Type 0} (s : Ghosts D) where
       let behind = length-drop c.unread.place bytes in
       elim some [ inl held ↦ omega (arith, held, all) | inr left ↦ omega (arith, left, all, more, behind, within) ]
 
-  module _ {X : Type 0} (read : Reading X) (a c : At D) where
-    pub all_of : (x : X) → ReadsOff s read a c (Ok x) → length c.held ≡ 0 → c.unread.end ≤ c.unread.place → s.honest a.site → whole read (ahead s a) ≡ Ok x
-    unfolding whole ended
-    all_of x reads empty past honest = rw (reads.exact honest, none_ahead_of c empty past) refl
+  pub all_of : {X : Type 0} {read : Reading X} {a c : At D} {x : X}
+      → ReadsOff s read a c (Ok x) → length c.held ≡ 0 → c.unread.end ≤ c.unread.place → s.honest a.site → whole read (ahead s a) ≡ Ok x
+  unfolding whole ended
+  all_of {c} reads empty past honest = rw (reads.exact honest, none_ahead_of c empty past) refl
 
-    pub not_all : (x : X) → ReadsOff s read a c (Ok x) → (0 < length c.held) ⊎ (c.unread.place < c.unread.end) → s.honest a.site → IsMissing (whole read (ahead s a))
-    unfolding whole ended
-    not_all x reads some honest =
-        let long = some_ahead_of c (reads.run.reads.keeps_honesty.0 honest) reads.run.lies some in
-        let left : eqb (length (ahead s c)) 0 ≡ false = ne_eqb (length (ahead s c)) 0 (λ e. omega (arith, long, e)) in
-        rw (reads.exact honest, left) tt
+  pub not_all : {X : Type 0} {read : Reading X} {a c : At D} {x : X}
+      → ReadsOff s read a c (Ok x) → (0 < length c.held) ⊎ (c.unread.place < c.unread.end) → s.honest a.site → IsMissing (whole read (ahead s a))
+  unfolding whole ended
+  not_all {c} reads some honest =
+      let long = some_ahead_of c (reads.run.reads.keeps_honesty.0 honest) reads.run.lies some in
+      let left : eqb (length (ahead s c)) 0 ≡ false = ne_eqb (length (ahead s c)) 0 (λ e. omega (arith, long, e)) in
+      rw (reads.exact honest, left) tt
 
-    pub none_of : (fault : ReadFault) → ReadsOff s read a c (Err fault) → s.honest a.site → Misses fault (whole read (ahead s a))
-    unfolding whole
-    none_of fault reads honest = misses_then fault (read (ahead s a)) _ (reads.exact honest)
+  pub none_of : {X : Type 0} {read : Reading X} {a c : At D} {fault : ReadFault}
+      → ReadsOff s read a c (Err fault) → s.honest a.site → Misses fault (whole read (ahead s a))
+  unfolding whole
+  none_of {read} {a} {fault} reads honest = misses_then fault (read (ahead s a)) _ (reads.exact honest)
 
   -- ---- a count, and so many
 
@@ -255,21 +288,22 @@ module _ {D : Type 0} (s : Ghosts D) where
   counted_at limit count items bytes = limited limit count bytes >>= λ n. items n.0 n.1
 
   module _ {Y : Type 0} (limit : ℕ) {count : Reading ℕ} (items : ℕ → Reading Y) where
-    pub few : (a m c : At D) (n : ℕ) (outcome : Result Y ReadFault) → ReadsOff s count a m (Ok n) → n ≤ limit → ReadsOff s (items n) m c outcome → ReadsOff s (counted_at limit count items) a c outcome
-    few a m c n outcome first le second = record {
-      run = runs_on a m c n outcome first.run second.run;
+    pub few : {a m c : At D} {n : ℕ} {outcome : Result Y ReadFault}
+        → ReadsOff s count a m (Ok n) → n ≤ limit → ReadsOff s (items n) m c outcome → ReadsOff s (counted_at limit count items) a c outcome
+    few {n} first le second = record {
+      run = runs_on first.run second.run;
       exact = λ honest.
           let within : ltb limit n ≡ false = le-ltb _ _ le in
           rw (first.exact honest, within) (second.exact (first.run.reads.keeps_honesty.0 honest));
     }
 
-    pub too_many : (a m : At D) (n : ℕ) → ReadsOff s count a m (Ok n) → limit < n → ReadsOff s (counted_at limit count items) a m (Err faults.NoState)
-    too_many a m n first lt = record {
-      run = runs_quietly a m m.held n TooLarge first.run;
+    pub too_many : {a m : At D} {n : ℕ} → ReadsOff s count a m (Ok n) → limit < n → ReadsOff s (counted_at limit count items) a m (Err faults.NoState)
+    too_many {m} {n} first lt = record {
+      run = runs_quietly {m = m} TooLarge first.run;
       exact = λ honest.
           let above : ltb limit n ≡ true = lt-ltb _ _ lt in
           rw (first.exact honest, above) tt;
     }
 
-    pub uncounted : (a m : At D) (fault : ReadFault) → ReadsOff s count a m (Err fault) → ReadsOff s (counted_at limit count items) a m (Err fault)
-    uncounted a m fault first = record { run = runs_stop a m fault first.run; exact = λ honest. misses_then fault _ _ (misses_then fault _ _ (first.exact honest)) }
+    pub uncounted : {a m : At D} {fault : ReadFault} → ReadsOff s count a m (Err fault) → ReadsOff s (counted_at limit count items) a m (Err fault)
+    uncounted {fault} first = record { run = runs_stop first.run; exact = λ honest. misses_then fault _ _ (misses_then fault _ _ (first.exact honest)) }

@@ -1,8 +1,8 @@
 -- Runs of calls that change a side behind its gate.
 --     started_behind, then_behind     no call yet, and two runs
---     cut_behind, written_behind, run_behind     a cut, a write, and a run within a write, behind the gate
+--     cut_behind, then_written        a cut behind the gate, and a write behind a run
+--     cut_run_behind, image_behind    a run within a cut, and two runs and one within a write at the end
 --     behind_rests                    meanwhile the other side goes on holding what it held, where this one is shut
---     shut_behind                     and this one is shut then
 --     cut_there, grown, written_front     what a cut to one byte leaves, a write at the end, and one after the other
 use Rattle.std.proofs.Common.{◌≡◌, ℕ, ◌+◌, ◌≤◌, ◌<◌, List, [], ◌∷◌, ◌++◌, length, take, drop, get_or, refl, sym, ◌∙◌, ap, subst, inl, arith, length-take}
 use Rattle.std.specs.Prelude.{Result, Ok, Err, OnOk}
@@ -29,48 +29,82 @@ within_behind side bound state sent keeps left told within =
     record { was = was.0; possible = was.1; gate = was.2; rest = within.rest; outlet = within.outlet }
 
 module _ {D : Type 0} (s : Ghosts D) (side : Side) where
+  -- what changed since this site lies behind the gate
+  abbrev IsBehind : D → Contents → List Output → Type 0
+  IsBehind old = SeenFrom side (Behind (s.state old side) (s.state old (other side)) (s.sent old))
+
+  -- what changed since this site lies within a bound
+  abbrev IsWithin : D → SideState → Contents → List Output → Type 0
+  IsWithin old bound = Within side bound (s.state old) (s.sent old)
+
   pub started_behind : (site : D) → OnlyNow s site → StaysBehind s side site site
-  started_behind site only = started s site (SeenFrom side (Behind (s.state site side) (s.state site (other side)) (s.sent site)))
-      (λ left told since. let is = only left told since in record { was = left side; possible = is.each side; gate = refl; rest = is.each (other side); outlet = is.outlet })
+  started_behind site only = started s site (IsBehind site) (λ left told since.
+      let is = only left told since in
+      record { was = left side; possible = is.each side; gate = refl; rest = is.each (other side); outlet = is.outlet })
 
   -- what is possible behind a run
-  now_behind : (old new : D) → StaysBehind s side old new → CountsNow s new → (x y : List ℕ) → MayLeave (s.state new side) x → MayLeave (s.state new (other side)) y
+  now_behind : (old new : D) → StaysBehind s side old new → CountsNow s new → (x y : List ℕ)
+      → MayLeave (s.state new side) x → MayLeave (s.state new (other side)) y
       → Behind (s.state old side) (s.state old (other side)) (s.sent old) x y (s.sent new)
   now_behind old new run counts =
       after_crash_of (s.state new) (s.sent new) side (Behind (s.state old side) (s.state old (other side)) (s.sent old))
-      (now_has s old new (SeenFrom side (Behind (s.state old side) (s.state old (other side)) (s.sent old))) run counts)
+      (now_has s old new (IsBehind old) run counts)
 
   pub then_behind : (old mid new : D) → StaysBehind s side old mid → CountsNow s mid → StaysBehind s side mid new → StaysBehind s side old new
-  then_behind old mid new first counts second =
-      joined s old mid new (SeenFrom side (Behind (s.state old side) (s.state old (other side)) (s.sent old))) first
-      (weaker s mid new (SeenFrom side (Behind (s.state mid side) (s.state mid (other side)) (s.sent mid))) (SeenFrom side (Behind (s.state old side) (s.state old (other side)) (s.sent old))) second earlier)
+  then_behind old mid new first counts second = joined s old mid new (IsBehind old) first (weaker s mid new (IsBehind mid) (IsBehind old) second earlier)
     where
-      earlier : (left : Contents) (told : List Output) → SeenFrom side (Behind (s.state mid side) (s.state mid (other side)) (s.sent mid)) left told → SeenFrom side (Behind (s.state old side) (s.state old (other side)) (s.sent old)) left told
+      earlier : (left : Contents) (told : List Output) → IsBehind mid left told → IsBehind old left told
       earlier left told is =
           let before = now_behind old mid first counts is.was (left (other side)) is.possible is.rest in
-          record { was = before.was; possible = before.possible; gate = is.gate ∙ before.gate; rest = before.rest; outlet = is.outlet ∙ before.outlet }
+          record {
+            was = before.was;
+            possible = before.possible;
+            gate = is.gate ∙ before.gate;
+            rest = before.rest;
+            outlet = is.outlet ∙ before.outlet;
+          }
 
   -- one call, from a site on
-  call_behind : (old new : D) (bound : SideState) → OnlyNow s old → KeepsFront 1 bound (s.state old side) → Passes s old new (Within side bound (s.state old) (s.sent old)) → StaysBehind s side old new
+  call_behind : (old new : D) (bound : SideState) → OnlyNow s old → KeepsFront 1 bound (s.state old side) → Passes s old new (IsWithin old bound)
+      → StaysBehind s side old new
   call_behind old new bound only keeps time =
-      goes_on s old old new (SeenFrom side (Behind (s.state old side) (s.state old (other side)) (s.sent old))) (Within side bound (s.state old) (s.sent old))
-      (started_behind old only) time (within_behind side bound (s.state old) (s.sent old) keeps)
+      goes_on s old old new (IsBehind old) (IsWithin old bound) (started_behind old only) time (within_behind side bound (s.state old) (s.sent old) keeps)
 
-  pub cut_behind : (old new : D) → OnlyNow s old → 1 ≤ length (s.state old side).bytes → Passes s old new (Within side (shift (s.state old side) 1) (s.state old) (s.sent old)) → StaysBehind s side old new
+  pub cut_behind : (old new : D) → OnlyNow s old → 1 ≤ length (s.state old side).bytes → Passes s old new (IsWithin old (shift (s.state old side) 1))
+      → StaysBehind s side old new
   cut_behind old new only there time = call_behind old new (shift (s.state old side) 1) only (shift_keeps (s.state old side) 1 there) time
 
-  pub written_behind : (old new : D) (place size : ℕ) → OnlyNow s old → 1 ≤ place → place ≤ length (s.state old side).bytes → Passes s old new (Within side (touch (s.state old side) place size) (s.state old) (s.sent old)) → StaysBehind s side old new
-  written_behind old new place size only from within time = call_behind old new (touch (s.state old side) place size) only (touch_keeps (s.state old side) 1 place size from within) time
+  written_behind : (old new : D) (place size : ℕ) → OnlyNow s old → 1 ≤ place → place ≤ length (s.state old side).bytes
+      → Passes s old new (IsWithin old (touch (s.state old side) place size)) → StaysBehind s side old new
+  written_behind old new place size only from within time =
+      call_behind old new (touch (s.state old side) place size) only (touch_keeps (s.state old side) 1 place size from within) time
+
+  -- a write behind a run
+  pub then_written : (old mid new : D) (place size : ℕ) → StaysBehind s side old mid → CountsNow s mid → OnlyNow s mid
+      → 1 ≤ place → place ≤ length (s.state mid side).bytes → Passes s mid new (IsWithin mid (touch (s.state mid side) place size))
+      → StaysBehind s side old new
+  then_written old mid new place size run counts only from within time =
+      then_behind old mid new run counts (written_behind mid new place size only from within time)
 
   -- a run within a write
-  pub run_behind : (old new : D) (place size : ℕ) → 1 ≤ place → place ≤ length (s.state old side).bytes → EachMoment s old new (Within side (touch (s.state old side) place size) (s.state old) (s.sent old)) → StaysBehind s side old new
+  run_behind : (old new : D) (place size : ℕ) → 1 ≤ place → place ≤ length (s.state old side).bytes
+      → EachMoment s old new (IsWithin old (touch (s.state old side) place size)) → StaysBehind s side old new
   run_behind old new place size from within run =
-      weaker s old new (Within side (touch (s.state old side) place size) (s.state old) (s.sent old)) (SeenFrom side (Behind (s.state old side) (s.state old (other side)) (s.sent old))) run
+      weaker s old new (IsWithin old (touch (s.state old side) place size)) (IsBehind old) run
       (within_behind side (touch (s.state old side) place size) (s.state old) (s.sent old) (touch_keeps (s.state old side) 1 place size from within))
 
-  pub cut_run_behind : (old new : D) → 1 ≤ length (s.state old side).bytes → EachMoment s old new (Within side (shift (s.state old side) 1) (s.state old) (s.sent old)) → StaysBehind s side old new
+  -- two runs, and one within a write at the end
+  pub image_behind : (old first second new : D) (place : ℕ) → StaysBehind s side old first → CountsNow s first
+      → StaysBehind s side first second → CountsNow s second → 1 ≤ place → place ≡ length (s.state second side).bytes
+      → EachMoment s second new (IsWithin second (touch (s.state second side) place 1)) → StaysBehind s side old new
+  image_behind old first second new place begun counts written counts_still from end closed =
+      then_behind old second new (then_behind old first second begun counts written) counts_still
+      (run_behind second new place 1 from (omega (arith, end)) closed)
+
+  pub cut_run_behind : (old new : D) → 1 ≤ length (s.state old side).bytes → EachMoment s old new (IsWithin old (shift (s.state old side) 1))
+      → StaysBehind s side old new
   cut_run_behind old new there run =
-      weaker s old new (Within side (shift (s.state old side) 1) (s.state old) (s.sent old)) (SeenFrom side (Behind (s.state old side) (s.state old (other side)) (s.sent old))) run
+      weaker s old new (IsWithin old (shift (s.state old side) 1)) (IsBehind old) run
       (within_behind side (shift (s.state old side) 1) (s.state old) (s.sent old) (shift_keeps (s.state old side) 1 there))
 
   -- ---- while the other side holds the node
@@ -80,9 +114,9 @@ module _ {D : Type 0} (s : Ghosts D) (side : Side) where
 
   pub behind_rests : (old new : D) → IsShutNow (s.state old side) → StaysBehind s side old new → KeepsOff s side old new
   behind_rests old new shut run generation place start events opening rest =
-      weaker s old new (SeenFrom side (Behind (s.state old side) (s.state old (other side)) (s.sent old))) (RestsOff side generation place start events opening) run holds
+      weaker s old new (IsBehind old) (RestsOff side generation place start events opening) run holds
     where
-      holds : (left : Contents) (told : List Output) → SeenFrom side (Behind (s.state old side) (s.state old (other side)) (s.sent old)) left told → RestsOff side generation place start events opening left told
+      holds : (left : Contents) (told : List Output) → IsBehind old left told → RestsOff side generation place start events opening left told
       holds left told is =
           let before : RestsAt generation place start events opening (left (other side)) is.was (s.sent old) =
           after_crash_of (s.state old) (s.sent old) (other side) (RestsAt generation place start events opening) rest (left (other side)) is.was is.rest
@@ -93,11 +127,6 @@ module _ {D : Type 0} (s : Ghosts D) (side : Side) where
             stands = record { holds = before.stands.holds; yields = inl (shut_like (left side) is.was is.gate (shut is.was is.possible)) };
             made = subst (AllMade start events opening) (sym is.outlet) before.made;
           })
-
-  pub shut_behind : (old new : D) → IsShutNow (s.state old side) → StaysBehind s side old new → CountsNow s new → MayLeave (s.state new (other side)) (s.state new (other side)).bytes → IsShutNow (s.state new side)
-  shut_behind old new shut run counts read bytes may =
-      let is = now_behind old new run counts bytes (s.state new (other side)).bytes may read in
-      shut_like bytes is.was is.gate (shut is.was is.possible)
 
 -- ---- a gate that was closed and made sure of
 
@@ -124,7 +153,8 @@ at_end old bytes at is =
 pub grown : (old new : SideState) (at : ℕ) (bytes : List ℕ) → at ≡ length old.bytes → new ≡ written old at bytes → new.bytes ≡ old.bytes ++ bytes
 grown old new at bytes is wrote = ap (λ (s : SideState). s.bytes) wrote ∙ at_end old.bytes bytes at (sym is)
 
-pub written_front : (old mid new : SideState) (front : List ℕ) (r : Result (Unit {0}) DeviceFault) → 1 ≤ length old.bytes → mid ≡ cut_to old 1 → OnOk r (new ≡ written mid 1 front) → OnOk r (new.bytes ≡ take 1 old.bytes ++ front)
+pub written_front : (old mid new : SideState) (front : List ℕ) (r : Result (Unit {0}) DeviceFault)
+    → 1 ≤ length old.bytes → mid ≡ cut_to old 1 → OnOk r (new ≡ written mid 1 front) → OnOk r (new.bytes ≡ take 1 old.bytes ++ front)
 written_front old mid new front (Err e) there cut wrote = tt
 written_front old mid new front (Ok u) there cut wrote =
     let bytes : mid.bytes ≡ take 1 old.bytes = ap (λ (s : SideState). s.bytes) cut in

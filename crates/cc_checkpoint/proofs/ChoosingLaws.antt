@@ -1,8 +1,10 @@
 -- Which side is found to be in use.
 --     IsInUse                          it is armed with this generation, and the other one yields to it
 --     chosen_takes, chosen_again       such a side is chosen, and no other
-use Rattle.std.proofs.Common.{◌≡◌, ◌⊎◌, inl, inr, ℕ, zero, suc, ◌<◌, ◌≤◌, Bool, true, false, cond, eqb, ltb, List, length, get_or, Option, Some, None, Result, Ok, Err, refl, sym, ◌∙◌, ap, subst, arith}
-use Rattle.std.proofs.lemmas.Bool.{cases_Bool, eqb-true, eqb-false, eq-eqb, ne_eqb, ltb-true, ltb-false, lt-ltb, le-ltb, or_parts, or_from, cond-true, cond-false}
+use Rattle.std.proofs.Common.{◌≡◌, ◌⊎◌, inl, inr, ℕ, zero, suc, ◌<◌, ◌≤◌, Bool, true, false, cond, eqb, ltb, List, length, get_or}
+use Rattle.std.proofs.Common.{Option, Some, None, Result, Ok, Err, refl, sym, ◌∙◌, ap, subst, arith}
+use Rattle.std.proofs.lemmas.Bool.{cases_Bool, eqb-true, eqb-false, eq-eqb, ne_eqb, ltb-true, ltb-false, lt-ltb, le-ltb}
+use Rattle.std.proofs.lemmas.Bool.{or_parts, or_from, cond-true, cond-false}
 use Rattle.cc_site.specs.declared.site.Side.{Side}
 use Rattle.cc_site.specs.declared.site.Side.TheVariants.{A, B}
 use Rattle.cc_site.specs.Sides.{other}
@@ -54,7 +56,8 @@ generation_unarmed : (side : Side) (bytes : List ℕ) → ¬ IsArmed bytes → g
 unfolding generation_in
 generation_unarmed side bytes unarmed = cond-false _ _ _ (ne_eqb _ _ unarmed)
 
-generation_armed : (side : Side) (bytes : List ℕ) → IsArmed bytes → 9 ≤ length bytes → 1 ≤ generation_of bytes → generation_in side bytes ≡ Ok (Some (generation_of bytes))
+generation_armed : (side : Side) (bytes : List ℕ)
+    → IsArmed bytes → 9 ≤ length bytes → 1 ≤ generation_of bytes → generation_in side bytes ≡ Ok (Some (generation_of bytes))
 unfolding generation_in
 generation_armed side bytes armed long from_one =
     cond-true _ _ _ (eq-eqb _ _ armed) ∙ cond-false _ _ _ (or_from _ _ (le-ltb _ _ long) (ne_eqb _ _ (λ is. absurd (omega (arith, is, from_one)))))
@@ -67,7 +70,8 @@ pub record IsInUse (left : Contents) (used : InUse) : Type 0 where
   pub is : generation_of (left used.side) ≡ used.generation
   pub yields : Yields (left (other used.side)) used.generation
 
-greater_takes : (left : Contents) (a b : Option ℕ) (used : InUse) → GenerationIs (left A) a → GenerationIs (left B) b → greater a b ≡ Ok used → IsInUse left used
+greater_takes : (left : Contents) (a b : Option ℕ) (used : InUse)
+    → GenerationIs (left A) a → GenerationIs (left B) b → greater a b ≡ Ok used → IsInUse left used
 unfolding greater
 greater_takes left None None used at_a at_b read = absurd cc
 greater_takes left (Some a) None used at_a at_b read =
@@ -79,10 +83,17 @@ greater_takes left (Some a) (Some b) used at_a at_b read =
     elim (cases_Bool (ltb a b)) [
       | inl below ↦
           subst (IsInUse left) (ok_is (in_use B b) used (sym (cond-true (ltb a b) (Ok (in_use B b)) (Ok (in_use A a)) below) ∙ inner.1))
-          (record { armed = at_b.0; long = at_b.1; from_one = at_b.2; is = at_b.3; yields = inr (at_a.1, omega (arith, at_a.2, at_a.3), omega (arith, at_a.3, ltb-true a b below)) })
+          (record {
+            armed = at_b.0;
+            long = at_b.1;
+            from_one = at_b.2;
+            is = at_b.3;
+            yields = inr (at_a.1, omega (arith, at_a.2, at_a.3), omega (arith, at_a.3, ltb-true a b below));
+          })
       | inr above ↦
+          let yields = strictly (generation_of (left B)) a b at_b.3 (ltb-false a b above) (eqb-false a b inner.0) in
           subst (IsInUse left) (ok_is (in_use A a) used (sym (cond-false (ltb a b) (Ok (in_use B b)) (Ok (in_use A a)) above) ∙ inner.1))
-          (record { armed = at_a.0; long = at_a.1; from_one = at_a.2; is = at_a.3; yields = inr (at_b.1, omega (arith, at_b.2, at_b.3), strictly (generation_of (left B)) a b at_b.3 (ltb-false a b above) (eqb-false a b inner.0)) })
+          (record { armed = at_a.0; long = at_a.1; from_one = at_a.2; is = at_a.3; yields = inr (at_b.1, omega (arith, at_b.2, at_b.3), yields) })
     ]
   where
     strictly : (n a b : ℕ) → n ≡ b → b ≤ a → (a ≡ b → ⊥) → n < a
@@ -112,7 +123,8 @@ unfolding greater
 greater_only_second b = refl
 
 -- the armed side's generation, whatever the other's
-either_way : (side : Side) (bytes : List ℕ) (above : ℕ) → Yields bytes above → (o : Option ℕ) × (generation_in side bytes ≡ Ok o) × ((o ≡ None) ⊎ ((g : ℕ) × (o ≡ Some g) × (g < above)))
+either_way : (side : Side) (bytes : List ℕ) (above : ℕ) → Yields bytes above
+    → (o : Option ℕ) × (generation_in side bytes ≡ Ok o) × ((o ≡ None) ⊎ ((g : ℕ) × (o ≡ Some g) × (g < above)))
 either_way side bytes above yields = elim yields [
   | inl unarmed ↦ (None, generation_unarmed side bytes unarmed, inl refl)
   | inr below ↦ elim (cases_Bool (eqb (get_or bytes 0 0) OPEN)) [
@@ -127,7 +139,8 @@ chosen_again left used is = at used.side used.generation is
   where
     at : (side : Side) (generation : ℕ) → IsInUse left (in_use side generation) → chosen (left A) (left B) ≡ Ok (in_use side generation)
     at A generation is =
-        let here : generation_in A (left A) ≡ Ok (Some generation) = generation_armed A (left A) is.armed is.long (omega (arith, is.is, is.from_one)) ∙ ap (λ (g : ℕ). done (Some g)) is.is in
+        let here : generation_in A (left A) ≡ Ok (Some generation) =
+        generation_armed A (left A) is.armed is.long (omega (arith, is.is, is.from_one)) ∙ ap (λ (g : ℕ). done (Some g)) is.is in
         let there = either_way B (left B) generation is.yields in
         ap (λ (r : Result (Option ℕ) OpenFault). r >>= λ first. generation_in B (left B) >>= λ second. greater first second) here
         ∙ ap (λ (r : Result (Option ℕ) OpenFault). r >>= λ second. greater (Some generation) second) there.1
@@ -136,7 +149,8 @@ chosen_again left used is = at used.side used.generation is
           | inr some ↦ ap (λ (o : Option ℕ). greater (Some generation) o) some.1 ∙ greater_first generation some.0 some.2
         ]
     at B generation is =
-        let here : generation_in B (left B) ≡ Ok (Some generation) = generation_armed B (left B) is.armed is.long (omega (arith, is.is, is.from_one)) ∙ ap (λ (g : ℕ). done (Some g)) is.is in
+        let here : generation_in B (left B) ≡ Ok (Some generation) =
+        generation_armed B (left B) is.armed is.long (omega (arith, is.is, is.from_one)) ∙ ap (λ (g : ℕ). done (Some g)) is.is in
         let there = either_way A (left A) generation is.yields in
         ap (λ (r : Result (Option ℕ) OpenFault). r >>= λ first. generation_in B (left B) >>= λ second. greater first second) there.1
         ∙ ap (λ (r : Result (Option ℕ) OpenFault). r >>= λ second. greater there.0 second) here

@@ -1,7 +1,7 @@
 -- An image: how it is spelled, how long it is, and of what parts.
-use Rattle.std.proofs.Common.{◌≡◌, ◌+◌, ◌<◌, ◌≤◌, ◌^◌, List, ℕ, [], ◌∷◌, ◌++◌, length, take, get_or, refl, sym, ap, subst, ◌∙◌, append_assoc, length-append, arith}
+use Rattle.std.proofs.Common.{◌≡◌, ◌+◌, ◌<◌, ◌≤◌, ◌^◌, List, ℕ, [], ◌∷◌, ◌++◌, length, take, get_or, refl, sym, ap, subst, ◌∙◌}
+use Rattle.std.proofs.Common.{append_assoc, length-append, arith}
 use Rattle.std.specs.Int.{w32, w64, to_be_bytes}
-use Rattle.std.proofs.lemmas.List.{length-take}
 use Rattle.cc_site.specs.Sides.{SideState, overwritten, written, settled, durable}
 use Rattle.cc_site.specs.Gates.{IsShut}
 use Rattle.cc_node.specs.Node.{Node}
@@ -14,7 +14,9 @@ use Rattle.cc_checkpoint.specs.Checkpoints.{image_of, IsFilled}
 use Rattle.cc_states.proofs.StateLengths.{length-node}
 use Rattle.cc_checkpoint.proofs.BehindRuns.{at_end}
 
-pub image_spelled : (version generation : ℕ) (state : List ℕ) (node : Node) → version ≡ version_of (layout_of_node node) → 1 ≤ generation → generation < 2 ^ 64 → SpellsNode (layout_of_node node) state node → length state < 2 ^ 32
+pub image_spelled : (version generation : ℕ) (state : List ℕ) (node : Node)
+    → version ≡ version_of (layout_of_node node) → 1 ≤ generation → generation < 2 ^ 64
+    → SpellsNode (layout_of_node node) state node → length state < 2 ^ 32
     → SpellsImage (image_spelling version generation state) generation node
 unfolding head_spelling
 image_spelled version generation state node is from_one fits spelled short = record {
@@ -35,7 +37,8 @@ image_spelled version generation state node is from_one fits spelled short = rec
 -- how long an image is
 pub length-image : (version generation : ℕ) (state : List ℕ) → length (image_spelling version generation state) ≡ 14 + length state
 unfolding head_spelling
-length-image version generation state = omega (arith, length-append (head_spelling version generation state) (0 ∷ []), length-append (to_be_bytes w32 (length state)) state)
+length-image version generation state =
+    omega (arith, length-append (head_spelling version generation state) (0 ∷ []), length-append (to_be_bytes w32 (length state)) state)
 
 -- written piece by piece: what stands before it, its head, the state, and the closed gate
 pub image_parts : (first : List ℕ) (version generation size : ℕ) (state : List ℕ) → size ≡ length state
@@ -53,24 +56,10 @@ image_parts first version generation size state is =
 
 -- ---- the steps that lay an image out
 
-module _ (old first second : SideState) (front : List ℕ) (version generation size end : ℕ) (node : Node) where
-  pub laid_end : 1 ≤ length old.bytes → front ≡ to_be_bytes w64 generation ++ version ∷ to_be_bytes w32 size → first.bytes ≡ take 1 old.bytes ++ front
-      → second.bytes ≡ first.bytes ++ node_spelling node → end ≡ 14 + length (node_spelling node) → end ≡ length second.bytes
-  laid_end there front_is begun written is =
-      omega (
-        arith,
-        is,
-        there,
-        ap length written,
-        length-append first.bytes (node_spelling node),
-        ap length begun,
-        length-append (take 1 old.bytes) front,
-        length-take 1 old.bytes,
-        ap length front_is,
-      )
-
-pub image_laid : (old first second new : SideState) (front : List ℕ) (version generation size end : ℕ) (node : Node) → size ≡ length (node_spelling node) → version ≡ version_of (layout_of_node node)
-    → front ≡ to_be_bytes w64 generation ++ version ∷ to_be_bytes w32 size → first.bytes ≡ take 1 old.bytes ++ front → second.bytes ≡ first.bytes ++ node_spelling node → end ≡ length second.bytes
+pub image_laid : (old first second new : SideState) (front : List ℕ) (version generation size end : ℕ) (node : Node)
+    → size ≡ length (node_spelling node) → version ≡ version_of (layout_of_node node)
+    → front ≡ to_be_bytes w64 generation ++ version ∷ to_be_bytes w32 size → first.bytes ≡ take 1 old.bytes ++ front
+    → second.bytes ≡ first.bytes ++ node_spelling node → end ≡ length second.bytes
     → new ≡ settled (written second end (0 ∷ [])) → new ≡ durable (take 1 old.bytes ++ image_of generation node)
 image_laid old first second new front version generation size end node size_is is front_is begun written_all end_is wrote =
     let state = node_spelling node in
@@ -86,11 +75,13 @@ pub first_byte : (bytes : List ℕ) → 1 ≤ length bytes → take 1 bytes ≡ 
 first_byte [] there = absurd (omega (arith, there))
 first_byte (b ∷ bytes) there = refl
 
-pub filled_by : (old new : SideState) (generation : ℕ) (node : Node) → 1 ≤ length old.bytes → IsShut old.bytes → 1 ≤ generation → generation < 2 ^ 64 → SpellsNode (layout_of_node node) (node_spelling node) node
+pub filled_by : (old new : SideState) (generation : ℕ) (node : Node)
+    → 1 ≤ length old.bytes → IsShut old.bytes → 1 ≤ generation → generation < 2 ^ 64 → SpellsNode (layout_of_node node) (node_spelling node) node
     → new ≡ durable (take 1 old.bytes ++ image_of generation node) → IsFilled new generation node
 filled_by old new generation node there shut from_one fits spelled is = record {
   gate = get_or old.bytes 0 0;
   closed = shut;
   is = is ∙ ap (λ (l : List ℕ). durable (l ++ image_of generation node)) (first_byte old.bytes there);
-  spelled = image_spelled (version_of (layout_of_node node)) generation (node_spelling node) node refl from_one fits spelled (omega (arith, length-node (layout_of_node node) (node_spelling node) node spelled));
+  spelled = image_spelled (version_of (layout_of_node node)) generation (node_spelling node) node refl from_one fits spelled
+      (omega (arith, length-node (layout_of_node node) (node_spelling node) node spelled));
 }

@@ -1,7 +1,7 @@
 -- Runs of calls on a side that isn't in use, while the other one holds the node.
 --     rest_after, then_off     it holds it still behind such a run, and through two of them
 --     reads_off                through calls that only read
---     closing_off              while the open gate of this side is closed
+--     closing_off, closed_off  while the open gate of this side is closed, and behind reading it
 --     arming_good, armed_rest  while this side's gate is opened both stand for the node, and then this side holds it
 use Rattle.std.proofs.Common.{◌≡◌, ℕ, ◌≤◌, List, [], ◌∷◌, length, take, set, get_or, get_or-take, refl, sym, ◌∙◌, ap, subst, inl, inr, arith}
 use Rattle.std.proofs.lemmas.Bool.{cases_eq}
@@ -40,12 +40,17 @@ yields_changed (b ∷ bytes) generation some yields = elim (cases_eq b OPEN) [
 ]
 
 -- a gate that was read open
-pub gate_opened : (gate bytes : List ℕ) (new old : SideState) → gate ≡ take 1 bytes → get_or gate 0 0 ≡ OPEN → new ≡ record old { bytes = bytes } → IsArmed new.bytes
+gate_opened : (gate bytes : List ℕ) (new old : SideState)
+    → gate ≡ take 1 bytes → get_or gate 0 0 ≡ OPEN → new ≡ record old { bytes = bytes } → IsArmed new.bytes
 gate_opened gate bytes new old read opened is =
-    ap (λ (s : SideState). get_or s.bytes 0 0) is ∙ sym (get_or-take 1 bytes 0 0 (omega arith)) ∙ ap (λ (l : List ℕ). get_or l 0 0) (sym read) ∙ opened
+    ap (λ (s : SideState). get_or s.bytes 0 0) is
+    ∙ sym (get_or-take 1 bytes 0 0 (omega arith))
+    ∙ ap (λ (l : List ℕ). get_or l 0 0) (sym read)
+    ∙ opened
 
 module _ {D : Type 0} (s : Ghosts D) (side : Side) where
-  pub rest_after : (old new : D) → KeepsOff s side old new → CountsNow s new → (generation place : ℕ) (start : Node) (events : List Event) (opening : ℕ)
+  pub rest_after : (old new : D) → KeepsOff s side old new → CountsNow s new
+      → (generation place : ℕ) (start : Node) (events : List Event) (opening : ℕ)
       → RestsOn s old (other side) generation place start events opening → RestsOn s new (other side) generation place start events opening
   rest_after old new keeps counts generation place start events opening rest =
       now_has s old new (RestsOff side generation place start events opening) (keeps generation place start events opening rest) counts
@@ -59,11 +64,14 @@ module _ {D : Type 0} (s : Ghosts D) (side : Side) where
   reads_off old new honest only reads generation place start events opening rest =
       read_each s old new (RestsOff side generation place start events opening) reads honest (λ left told since. rest left told (only left told since))
 
-  pub closing_off : (old new : D) → IsArmed (s.state old side).bytes → EachMoment s old new (Within side (touch (s.state old side) 0 1) (s.state old) (s.sent old)) → KeepsOff s side old new
+  pub closing_off : (old new : D) → IsArmed (s.state old side).bytes
+      → EachMoment s old new (Within side (touch (s.state old side) 0 1) (s.state old) (s.sent old)) → KeepsOff s side old new
   closing_off old new opened run generation place start events opening rest =
-      weaker s old new (Within side (touch (s.state old side) 0 1) (s.state old) (s.sent old)) (RestsOff side generation place start events opening) run holds
+      weaker s old new (Within side (touch (s.state old side) 0 1) (s.state old) (s.sent old)) (RestsOff side generation place start events opening) run
+      holds
     where
-      holds : (left : Contents) (told : List Output) → Within side (touch (s.state old side) 0 1) (s.state old) (s.sent old) left told → RestsOff side generation place start events opening left told
+      holds : (left : Contents) (told : List Output) → Within side (touch (s.state old side) 0 1) (s.state old) (s.sent old) left told
+          → RestsOff side generation place start events opening left told
       holds left told within =
           let there = armed_there (s.state old side).bytes opened in
           let was = set (left side) 0 OPEN in
@@ -80,41 +88,65 @@ module _ {D : Type 0} (s : Ghosts D) (side : Side) where
             made = subst (AllMade start events opening) (sym within.outlet) before.made;
           })
 
+  -- through calls that read its open gate, and then close it
+  pub closed_off : (old mid new : D) (gate : List ℕ) → s.honest old → OnlyNow s old → CountsNow s mid → OnlyReads s old mid
+      → gate ≡ take 1 (s.state old side).bytes → get_or gate 0 0 ≡ OPEN
+      → EachMoment s mid new (Within side (touch (s.state mid side) 0 1) (s.state mid) (s.sent mid)) → KeepsOff s side old new
+  closed_off old mid new gate honest only counts reads read opened run =
+      then_off old mid new (reads_off old mid honest only reads) counts
+      (closing_off mid new
+      (gate_opened gate (s.state old side).bytes (s.state mid side) (s.state old side) read opened
+      (ap (λ (state : Side → SideState). state side) (reads.keeps_state honest))) run)
+
 -- ---- a side that was filled is armed
 
 -- the moment is good, from whichever side it is seen
 good_from : (side : Side) (start : Node) (events : List Event) (opening : ℕ) (left : Contents) (told : List Output)
-    → IsGoodAt start events (length events) opening (left side) (left (other side)) told → IsGoodAt start events (length events) opening (left A) (left B) told
+    → IsGoodAt start events (length events) opening (left side) (left (other side)) told
+    → IsGoodAt start events (length events) opening (left A) (left B) told
 good_from A start events opening left told good = good
 good_from B start events opening left told good = good_other_way start events (length events) opening (left B) (left A) told good
 
-module _ {D : Type 0} (s : Ghosts D) (side : Side) (old : D) (next : ℕ) (start : Node) (events : List Event) (opening : ℕ) (arms : ArmsFor s side old next start events opening) where
+module _ {D : Type 0} (s : Ghosts D) (side : Side) (old : D) (next : ℕ) (start : Node) (events : List Event) (opening : ℕ)
+    (arms : ArmsFor s side old next start events opening) where
+  -- what stands behind its gate
+  abbrev image : List ℕ
+  image = image_of next (after start events)
+
+  -- this side is in use beside the other one, with these bytes
+  abbrev IsArmedBeside : List ℕ → List ℕ → List Output → Type 0
+  IsArmedBeside = RestsAt next (length image) start events opening
+
   -- what is possible on the other side, beside what is possible on this one
-  rest_of : (others : List ℕ) → MayLeave (s.state old (other side)) others → RestsAt arms.generation arms.place start events opening others (arms.filled.gate ∷ image_of next (after start events)) (s.sent old)
+  rest_of : (others : List ℕ) → MayLeave (s.state old (other side)) others
+      → RestsAt arms.generation arms.place start events opening others (arms.filled.gate ∷ image) (s.sent old)
   rest_of others may =
-      after_crash_of (s.state old) (s.sent old) (other side) (RestsAt arms.generation arms.place start events opening) arms.rests others (arms.filled.gate ∷ image_of next (after start events)) may
-      (subst (λ (at : Side). MayLeave (s.state old at) (arms.filled.gate ∷ image_of next (after start events))) (sym (other_other side))
-      (subst (λ (state : SideState). MayLeave state (arms.filled.gate ∷ image_of next (after start events))) (sym arms.filled.is)
+      after_crash_of (s.state old) (s.sent old) (other side) (RestsAt arms.generation arms.place start events opening) arms.rests
+      others (arms.filled.gate ∷ image) may
+      (subst (λ (at : Side). MayLeave (s.state old at) (arms.filled.gate ∷ image)) (sym (other_other side))
+      (subst (λ (state : SideState). MayLeave state (arms.filled.gate ∷ image)) (sym arms.filled.is)
       (record { no_shorter = omega arith; no_longer = λ _. refl; same = λ p below clean. refl })))
 
   -- this side holds the node, and the other one yields
   rests_armed : (others : List ℕ) → MayLeave (s.state old (other side)) others → (told : List Output) → told ≡ s.sent old
-      → RestsAt next (length (image_of next (after start events))) start events opening (OPEN ∷ image_of next (after start events)) others told
+      → IsArmedBeside (OPEN ∷ image) others told
   rests_armed others may told outlet =
       let before = rest_of others may in
       let held = generation_held others arms.generation (after start events) arms.place before.stands.holds in
       record {
         other_there = omega (arith, held.0);
         stands = record {
-          holds = image_holds (image_of next (after start events)) next (after start events) arms.filled.spelled;
+          holds = image_holds image next (after start events) arms.filled.spelled;
           yields = inr (held.0, omega (arith, held.1, held.2), omega (arith, held.2, arms.above));
         };
         made = subst (AllMade start events opening) (sym outlet) before.made;
       }
 
-  pub arming_good : (left : Contents) (told : List Output) → Within side (touch (s.state old side) 0 1) (s.state old) (s.sent old) left told → IsGoodForAll start events opening left told
+  pub arming_good : (left : Contents) (told : List Output) → Within side (touch (s.state old side) 0 1) (s.state old) (s.sent old) left told
+      → IsGoodForAll start events opening left told
   arming_good left told within =
-      elim (gate_written arms.filled.gate (image_of next (after start events)) (left side) (subst (λ (state : SideState). MayLeave (touch state 0 1) (left side)) arms.filled.is within.this)) [
+      elim (gate_written arms.filled.gate image (left side)
+      (subst (λ (state : SideState). MayLeave (touch state 0 1) (left side)) arms.filled.is within.this)) [
         | inl shut ↦
             let before = rest_of (left (other side)) within.rest in
             good_from side start events opening left told
@@ -127,20 +159,25 @@ module _ {D : Type 0} (s : Ghosts D) (side : Side) (old : D) (next : ℕ) (start
             }) (length events) (omega arith)))
         | inr opened ↦
             good_from side start events opening left told
-            (whole_good next (length (image_of next (after start events))) start events opening (left side) (left (other side)) told
-            (subst (λ (l : List ℕ). RestsAt next (length (image_of next (after start events))) start events opening l (left (other side)) told) (sym opened)
+            (whole_good next (length image) start events opening (left side) (left (other side)) told
+            (subst (λ (l : List ℕ). IsArmedBeside l (left (other side)) told) (sym opened)
             (rests_armed (left (other side)) within.rest told within.outlet)) (length events) (omega arith))
       ]
     where
       touched_there : (bytes : List ℕ) → MayLeave (touch (s.state old side) 0 1) bytes → 1 ≤ length bytes
       touched_there bytes may =
-          let is : MayLeave (touch (durable (arms.filled.gate ∷ image_of next (after start events))) 0 1) bytes = subst (λ (state : SideState). MayLeave (touch state 0 1) bytes) arms.filled.is may in
-          omega (arith, is.no_shorter, firm-touch (durable (arms.filled.gate ∷ image_of next (after start events))) 0 1)
+          let all = durable (arms.filled.gate ∷ image) in
+          let is : MayLeave (touch all 0 1) bytes = subst (λ (state : SideState). MayLeave (touch state 0 1) bytes) arms.filled.is may in
+          omega (arith, is.no_shorter, firm-touch all 0 1)
 
-  pub armed_rest : (new : D) → s.state new side ≡ settled (written (s.state old side) 0 (OPEN ∷ [])) → s.state new (other side) ≡ s.state old (other side) → s.sent new ≡ s.sent old
-      → RestsOn s new side next (length (image_of next (after start events))) start events opening
+  pub armed_rest : (new : D) → s.state new side ≡ settled (written (s.state old side) 0 (OPEN ∷ []))
+      → s.state new (other side) ≡ s.state old (other side) → s.sent new ≡ s.sent old
+      → RestsOn s new side next (length image) start events opening
   armed_rest new opened same outlet left told possible =
-      let whole : s.state new side ≡ durable (OPEN ∷ image_of next (after start events)) = opened ∙ ap (λ (state : SideState). settled (written state 0 (OPEN ∷ []))) arms.filled.is in
-      let now : left side ≡ OPEN ∷ image_of next (after start events) = durable_only (OPEN ∷ image_of next (after start events)) (left side) (subst (λ (state : SideState). MayLeave state (left side)) whole (possible.each side)) in
-      subst (λ (l : List ℕ). RestsAt next (length (image_of next (after start events))) start events opening l (left (other side)) told) (sym now)
-      (rests_armed (left (other side)) (subst (λ (state : SideState). MayLeave state (left (other side))) same (possible.each (other side))) told (possible.outlet ∙ outlet))
+      let whole : s.state new side ≡ durable (OPEN ∷ image) =
+      opened ∙ ap (λ (state : SideState). settled (written state 0 (OPEN ∷ []))) arms.filled.is in
+      let now : left side ≡ OPEN ∷ image =
+      durable_only (OPEN ∷ image) (left side) (subst (λ (state : SideState). MayLeave state (left side)) whole (possible.each side)) in
+      let others = subst (λ (state : SideState). MayLeave state (left (other side))) same (possible.each (other side)) in
+      subst (λ (l : List ℕ). IsArmedBeside l (left (other side)) told) (sym now)
+      (rests_armed (left (other side)) others told (possible.outlet ∙ outlet))

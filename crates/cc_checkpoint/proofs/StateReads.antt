@@ -32,7 +32,9 @@ missing_node layout bytes (Device fault) missing = tt
 missing_node layout bytes NoMemory missing = tt
 missing_node layout bytes NoState missing = λ node spelled. subst IsMissing (state_is_read layout bytes (state_of_node node) spelled.state) missing
 
-pub restored : (layout : Layout) (bytes : List ℕ) (s : State) (node : Option Node) → IsBytes bytes → whole (state_at layout) bytes ≡ Ok s → (IsTrue (is_some node) ↔ IsLawfulNode (node_of s)) → IfSome node (λ n. n ≡ node_of s)
+pub restored : (layout : Layout) (bytes : List ℕ) (s : State) (node : Option Node)
+    → IsBytes bytes → whole (state_at layout) bytes ≡ Ok s
+    → (IsTrue (is_some node) ↔ IsLawfulNode (node_of s)) → IfSome node (λ n. n ≡ node_of s)
     → NodeFound layout bytes (ok_or node NoState)
 restored layout bytes s (Some n) fits read there is = decodes layout bytes s (Some n) fits read there is
 restored layout bytes s None fits read there is = λ n spelled. not_unlawful layout bytes n spelled (decodes layout bytes s None fits read there is)
@@ -46,7 +48,8 @@ rose side before now (Device fault) told = told
 rose side before now NoMemory told = told
 rose side before now NoState told = told
 
-pub head_fails : (side : Side) (bytes : List ℕ) (fault : ReadFault) → HasState bytes → NodeFound (layout_of (slice_index bytes 9)) (state_of bytes) (Err fault) → HeadFails side bytes (fault_of side fault)
+pub head_fails : (side : Side) (bytes : List ℕ) (fault : ReadFault)
+    → HasState bytes → NodeFound (layout_of (slice_index bytes 9)) (state_of bytes) (Err fault) → HeadFails side bytes (fault_of side fault)
 head_fails side bytes (Device fault) there found = tt
 head_fails side bytes NoMemory there found = tt
 head_fails side bytes NoState there found = (refl, inr (inr (refl, there, found)))

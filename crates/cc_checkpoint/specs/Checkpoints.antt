@@ -62,7 +62,8 @@ module _ {D : Type 0} (s : Ghosts D) where
   StaysBehind side old new = EachMoment s old new (SeenFrom side (Behind (s.state old side) (s.state old (other side)) (s.sent old)))
 
   abbrev pub RestsOn : D → Side → ℕ → ℕ → Node → List Event → ℕ → Type 0
-  RestsOn site side generation place start events opening = AfterCrash (s.state site) (s.sent site) (SeenFrom side (RestsAt generation place start events opening))
+  RestsOn site side generation place start events opening =
+      AfterCrash (s.state site) (s.sent site) (SeenFrom side (RestsAt generation place start events opening))
 
   abbrev pub KeepsOff : Side → D → D → Type 0
   KeepsOff side old new =

@@ -5,3 +5,4 @@ pub mod Images
 pub mod Windows
 pub mod Checkpoints
 pub mod Stops
+pub mod Formats

@@ -81,6 +81,7 @@ fn write_pieces<S: Site>(
     ensures other_side { S.honest site.old → S.state site.new (other side) ≡ S.state site.old (other side) }
     ensures value { S.honest site.old → OnOk result ((S.state site.new side).bytes ≡ (S.state site.old side).bytes ++ node_spelling node.now) }
     ensures end { IfOk result (λ end. end ≡ from + length (node_spelling node.now)) }
+    ensures at_end { S.honest site.old → IfOk result (λ end. end ≡ length (S.state site.new side).bytes) }
     ensures every_moment { S.honest site.old → StaysBehind S.Site side site.old site.new }
     ensures failed { S.honest site.old → IfErr result (λ f. IsPastGate (S.state site.old side) f.call (S.state site.new side)) }
     ensures fault { CountsCalls (Fills side) (S.failures site.old) (S.failures site.new) result }

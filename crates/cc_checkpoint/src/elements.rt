@@ -1,18 +1,22 @@
 //! The elements of a state that are taken whole from the front of a piece.
 
-ghost use Rattle.std.specs.Prelude.{◌≡◌, ◌≤◌, length, IfOk};
-ghost use Rattle.std.specs.Int.{w16, w64};
+ghost use Rattle.std.specs.Prelude.{◌≡◌, ◌≤◌, ⊤, length, IfOk};
 ghost use Rattle.cc_views.specs.Limits.{session_limit};
 ghost use Rattle.cc_views.specs.Tables.{IsRising, table_of};
-ghost use Rattle.cc_wire.specs.Messages.{message_at};
-ghost use Rattle.cc_wire.specs.Reading.{Gives, number_at, view_at};
+ghost use Rattle.cc_wire.specs.Reading.{Gives};
+ghost use Rattle.cc_wire.proofs.Formats.{u16_spelled, u64_spelled, view_spelled};
+ghost use Rattle.cc_wire.proofs.Lengths.{length-view, length-message};
+ghost use Rattle.cc_wire.proofs.MessageFormat.{message_spelled};
 ghost use Rattle.cc_links.specs.Rows as links;
 ghost use Rattle.cc_sessions.specs.Rows as sessions;
 ghost use Rattle.cc_outbox.specs.Rows as answers;
-ghost use Rattle.cc_sides.specs.States.{membership_at, entering_at, round_at, phase_spelling, round_spelling, table_at, link_at, session_at, kept_answer_at};
-ghost use Rattle.cc_states.specs.Fields.{membership_in, own_at, own_in, entering_in, round_in};
+ghost use Rattle.cc_sides.specs.States.{phase_spelling, round_spelling};
+ghost use Rattle.cc_states.specs.Fields.{membership_in, own_in, entering_in, round_in};
+ghost use Rattle.cc_states.specs.Parts.{piece_limit};
+ghost use Rattle.cc_states.proofs.StateFormat.{membership_spelled, own_spelled, entering_spelled, round_spelled, link_spelled, sessions_spelled, kept_answer_spelled};
+ghost use Rattle.cc_states.proofs.StateLengths.{length-membership, length-own, length-round, length-sessions, length-kept_answer};
+ghost use Rattle.cc_checkpoint.specs.Formats.{Format, spelled_as, entering_small, number_small, count_small, link_small};
 
-use crate::piece::Piece;
 use cc_links::LinkRow;
 use cc_messages::Message;
 use cc_ops::Stage;
@@ -25,43 +29,118 @@ use cc_states::{
     read_membership, read_own, read_round, read_session_table,
 };
 use cc_views::View;
-use cc_wire::{WireFault, answer_len, changes_len, message_len, value_len, view_len};
+use cc_wire::{Reader, WireFault, answer_len, changes_len, message_len, value_len, view_len};
 use std::alloc::Global;
 
-pub(crate) fn take_membership(alloc: Global, piece: &mut Piece) -> Result<Membership, WireFault>
-    ensures { Gives (λ x. (membership_in x, piece.new)) result (membership_at piece.old) }
-{
-    let mut reader = piece.reader();
-    let membership = read_membership(alloc, &mut reader)?;
-    piece.advance(ID_LEN + 2 * FRACTION_LEN + changes_len(&membership.changes));
-    Ok(membership)
+/// What is read off the front of a state as one.
+pub(crate) trait Element {
+    /// The value that is read.
+    type Of;
+
+    // How it is spelled.
+    ghost format: { Self → Format Self.Of };
+
+    // What holds of each that is read.
+    ghost has: { Self → Self.Of → Type 0 } = { λ _ _. ⊤ };
+
+    /// How many bytes it has at most.
+    fn most(&self) -> usize
+        ensures exact { result ≡ (format self.now).most }
+        ensures fits { result ≤ piece_limit };
+
+    /// Reads it.
+    fn decode(&self, alloc: Global, reader: &mut Reader<'_>) -> Result<Self::Of, WireFault>
+        ensures exact { Gives (λ x. ((format self.now).see x, reader.new)) result ((format self.now).read reader.old) }
+        ensures holds { IfOk result (has self.now) };
+
+    /// How many bytes one has that was read.
+    fn len(&self, found: &Self::Of) -> usize
+        requires { has self.now found.now }
+        ensures { result ≡ length ((format self.now).spelling ((format self.now).see found.now)) };
 }
 
-pub(crate) fn take_view(alloc: Global, piece: &mut Piece) -> Result<View, WireFault>
-    ensures { Gives (λ x. (x, piece.new)) result (view_at piece.old) }
-{
-    let mut reader = piece.reader();
-    let view = reader.view(alloc)?;
-    piece.advance(view_len(&view));
-    Ok(view)
+#[derive(Drop)]
+pub(crate) struct MembershipAt;
+
+impl Element for MembershipAt {
+    type Of = Membership;
+
+    ghost format = { λ _. spelled_as membership_in 3098 membership_spelled length-membership };
+
+    fn most(&self) -> usize {
+        3_098
+    }
+
+    fn decode(&self, alloc: Global, reader: &mut Reader<'_>) -> Result<Membership, WireFault> {
+        read_membership(alloc, reader)
+    }
+
+    fn len(&self, found: &Membership) -> usize {
+        ID_LEN + 2 * FRACTION_LEN + changes_len(&found.changes)
+    }
 }
 
-pub(crate) fn take_own(piece: &mut Piece) -> Result<Own, WireFault>
-    ensures { Gives (λ x. (own_in x, piece.new)) result (own_at piece.old) }
-{
-    let mut reader = piece.reader();
-    let own = read_own(&mut reader)?;
-    piece.advance(NUMBER_LEN + value_len(&own.mine) + NUMBER_LEN);
-    Ok(own)
+#[derive(Drop)]
+pub(crate) struct ViewAt;
+
+impl Element for ViewAt {
+    type Of = View;
+
+    ghost format = { λ _. spelled_as (λ v. v) 55042 view_spelled length-view };
+
+    fn most(&self) -> usize {
+        55_042
+    }
+
+    fn decode(&self, alloc: Global, reader: &mut Reader<'_>) -> Result<View, WireFault> {
+        reader.view(alloc)
+    }
+
+    fn len(&self, found: &View) -> usize {
+        view_len(found)
+    }
 }
 
-pub(crate) fn take_entering(piece: &mut Piece) -> Result<Entering, WireFault>
-    ensures { Gives (λ x. (entering_in x, piece.new)) result (entering_at piece.old) }
-{
-    let mut reader = piece.reader();
-    let entering = read_entering(&mut reader)?;
-    piece.advance(NUMBER_LEN + COUNT_LEN);
-    Ok(entering)
+#[derive(Drop)]
+pub(crate) struct OwnAt;
+
+impl Element for OwnAt {
+    type Of = Own;
+
+    ghost format = { λ _. spelled_as own_in 219 own_spelled length-own };
+
+    fn most(&self) -> usize {
+        219
+    }
+
+    fn decode(&self, _alloc: Global, reader: &mut Reader<'_>) -> Result<Own, WireFault> {
+        read_own(reader)
+    }
+
+    fn len(&self, found: &Own) -> usize {
+        NUMBER_LEN + value_len(&found.mine) + NUMBER_LEN
+    }
+}
+
+#[derive(Drop)]
+pub(crate) struct EnteringAt;
+
+impl Element for EnteringAt {
+    type Of = Entering;
+
+    ghost format = { λ _. spelled_as entering_in 10 entering_spelled (λ e is. entering_small e) };
+
+    fn most(&self) -> usize {
+        NUMBER_LEN + COUNT_LEN
+    }
+
+    fn decode(&self, _alloc: Global, reader: &mut Reader<'_>) -> Result<Entering, WireFault> {
+        read_entering(reader)
+    }
+
+    fn len(&self, _found: &Entering) -> usize {
+        NUMBER_LEN + COUNT_LEN
+    }
 }
 
 fn phase_len(round: &Round) -> usize
@@ -81,81 +160,168 @@ fn round_len(round: &Round, layout: Layout) -> usize
     phase_len(round) + others_len(&round.others, layout) + line_len(&round.line, layout)
 }
 
-pub(crate) fn take_round(
-    alloc: Global,
-    piece: &mut Piece,
-    layout: Layout,
-) -> Result<Round, WireFault>
-    ensures { Gives (λ x. (round_in x, piece.new)) result (round_at layout piece.old) }
-{
-    let mut reader = piece.reader();
-    let round = read_round(alloc, &mut reader, layout)?;
-    piece.advance(round_len(&round, layout));
-    Ok(round)
+#[derive(Drop)]
+pub(crate) struct RoundAt {
+    pub layout: Layout,
 }
 
-pub(crate) fn take_number(piece: &mut Piece) -> Result<u64, WireFault>
-    ensures { Gives (λ x. (x, piece.new)) result (number_at w64 piece.old) }
-{
-    let mut reader = piece.reader();
-    let number = reader.u64()?;
-    piece.advance(NUMBER_LEN);
-    Ok(number)
+impl Element for RoundAt {
+    type Of = Round;
+
+    ghost format = { λ e. spelled_as round_in 60380 (round_spelled e.layout) (length-round e.layout) };
+
+    fn most(&self) -> usize {
+        60_380
+    }
+
+    fn decode(&self, alloc: Global, reader: &mut Reader<'_>) -> Result<Round, WireFault> {
+        read_round(alloc, reader, self.layout)
+    }
+
+    fn len(&self, found: &Round) -> usize {
+        round_len(found, self.layout)
+    }
 }
 
-pub(crate) fn take_count(piece: &mut Piece) -> Result<u16, WireFault>
-    ensures { Gives (λ x. (x, piece.new)) result (number_at w16 piece.old) }
-{
-    let mut reader = piece.reader();
-    let count = reader.u16()?;
-    piece.advance(COUNT_LEN);
-    Ok(count)
+#[derive(Drop)]
+pub(crate) struct NumberAt;
+
+impl Element for NumberAt {
+    type Of = u64;
+
+    ghost format = { λ _. spelled_as (λ n. n) 8 u64_spelled (λ n is. number_small n) };
+
+    fn most(&self) -> usize {
+        NUMBER_LEN
+    }
+
+    fn decode(&self, _alloc: Global, reader: &mut Reader<'_>) -> Result<u64, WireFault> {
+        reader.u64()
+    }
+
+    fn len(&self, _found: &u64) -> usize {
+        NUMBER_LEN
+    }
 }
 
-pub(crate) fn take_link(piece: &mut Piece, least: u64) -> Result<LinkRow, WireFault>
-    requires { 1 ≤ least }
-    ensures exact { Gives (λ x. (links.entry_of x, piece.new)) result (link_at least piece.old) }
-    ensures least { IfOk result (λ row. least ≤ row.peer) }
-{
-    let mut reader = piece.reader();
-    let row = read_link(&mut reader, least)?;
-    piece.advance(LINK_LEN);
-    Ok(row)
+#[derive(Drop)]
+pub(crate) struct CountAt;
+
+impl Element for CountAt {
+    type Of = u16;
+
+    ghost format = { λ _. spelled_as (λ n. n) 2 u16_spelled (λ n is. count_small n) };
+
+    fn most(&self) -> usize {
+        COUNT_LEN
+    }
+
+    fn decode(&self, _alloc: Global, reader: &mut Reader<'_>) -> Result<u16, WireFault> {
+        reader.u16()
+    }
+
+    fn len(&self, _found: &u16) -> usize {
+        COUNT_LEN
+    }
 }
 
-pub(crate) fn take_session_table(
-    alloc: Global,
-    piece: &mut Piece,
-) -> Result<Vec<SessionRow>, WireFault>
-    ensures exact { Gives (λ rows. (table_of sessions.entry_of rows.items, piece.new)) result (table_at session_at session_limit 0 piece.old) }
-    ensures rising { IfOk result (λ rows. IsRising sessions.entry_of rows.items) }
-    ensures few { IfOk result (λ rows. length rows.items ≤ session_limit) }
-{
-    let mut reader = piece.reader();
-    let rows = read_session_table(alloc, &mut reader)?;
-    piece.advance(COUNT_LEN + SESSION_LEN * rows.len());
-    Ok(rows)
+// Of a peer from this one on.
+#[derive(Drop)]
+pub(crate) struct LinkAt {
+    pub least: u64,
+    ghost from_one: { 1 ≤ least },
 }
 
-pub(crate) fn take_message(alloc: Global, piece: &mut Piece) -> Result<Message, WireFault>
-    ensures { Gives (λ x. (x, piece.new)) result (message_at piece.old) }
-{
-    let mut reader = piece.reader();
-    let message = reader.message(alloc)?;
-    piece.advance(message_len(&message));
-    Ok(message)
+impl Element for LinkAt {
+    type Of = LinkRow;
+
+    ghost format = { λ e. spelled_as links.entry_of 28 (link_spelled e.least) (λ x is. link_small x) };
+
+    ghost has = { λ e row. e.least ≤ row.peer };
+
+    fn most(&self) -> usize {
+        LINK_LEN
+    }
+
+    fn decode(&self, _alloc: Global, reader: &mut Reader<'_>) -> Result<LinkRow, WireFault> {
+        read_link(reader, self.least)
+    }
+
+    fn len(&self, _found: &LinkRow) -> usize {
+        LINK_LEN
+    }
 }
 
-pub(crate) fn take_kept_answer(
-    alloc: Global,
-    piece: &mut Piece,
-    least: u128,
-) -> Result<KeptAnswer, WireFault>
-    ensures exact { Gives (λ x. (answers.entry_of x, piece.new)) result (kept_answer_at least piece.old) }
-    ensures least { IfOk result (λ kept. least ≤ kept.session) }
-{
-    let mut reader = piece.reader();
-    let kept = read_kept_answer(alloc, &mut reader, least)?;
-    piece.advance(NUMBER_LEN + answer_len(&kept.answer));
-    Ok(kept)
+#[derive(Drop)]
+pub(crate) struct SessionsAt;
+
+impl Element for SessionsAt {
+    type Of = Vec<SessionRow>;
+
+    ghost format = { λ _. spelled_as (λ rows. table_of sessions.entry_of rows.items) 4098 sessions_spelled length-sessions };
+
+    ghost has = { λ _ rows. IsRising sessions.entry_of rows.items × (length rows.items ≤ session_limit) };
+
+    fn most(&self) -> usize {
+        4_098
+    }
+
+    fn decode(
+        &self,
+        alloc: Global,
+        reader: &mut Reader<'_>,
+    ) -> Result<Vec<SessionRow>, WireFault> {
+        read_session_table(alloc, reader)
+    }
+
+    fn len(&self, found: &Vec<SessionRow>) -> usize {
+        COUNT_LEN + SESSION_LEN * found.len()
+    }
+}
+
+#[derive(Drop)]
+pub(crate) struct MessageAt;
+
+impl Element for MessageAt {
+    type Of = Message;
+
+    ghost format = { λ _. spelled_as (λ m. m) 58126 message_spelled length-message };
+
+    fn most(&self) -> usize {
+        58_126
+    }
+
+    fn decode(&self, alloc: Global, reader: &mut Reader<'_>) -> Result<Message, WireFault> {
+        reader.message(alloc)
+    }
+
+    fn len(&self, found: &Message) -> usize {
+        message_len(found)
+    }
+}
+
+// Of a session from this one on.
+#[derive(Drop)]
+pub(crate) struct KeptAnswerAt {
+    pub least: u128,
+}
+
+impl Element for KeptAnswerAt {
+    type Of = KeptAnswer;
+
+    ghost format = { λ e. spelled_as answers.entry_of 55051 (kept_answer_spelled e.least) (λ x is. length-kept_answer x is.0) };
+
+    ghost has = { λ e kept. e.least ≤ kept.session };
+
+    fn most(&self) -> usize {
+        55_051
+    }
+
+    fn decode(&self, alloc: Global, reader: &mut Reader<'_>) -> Result<KeptAnswer, WireFault> {
+        read_kept_answer(alloc, reader, self.least)
+    }
+
+    fn len(&self, found: &KeptAnswer) -> usize {
+        NUMBER_LEN + answer_len(&found.answer)
+    }
 }

@@ -1,197 +1,30 @@
 //! Reading a node's state off a side, element by element, through one buffer.
 
 ghost use Rattle.std.specs.Prelude.{◌≡◌, ◌⊎◌, ◌<◌, ◌≤◌, length, map, IfOk, MatchBool};
-ghost use Rattle.std.specs.Int.{w16, w64};
-ghost use Rattle.cc_views.specs.Limits.{session_limit};
 ghost use Rattle.cc_views.specs.Tables.{IsRising, table_of};
-ghost use Rattle.cc_wire.specs.Messages.{message_at};
-ghost use Rattle.cc_wire.specs.Reading.{number_at, view_at, whole};
+ghost use Rattle.cc_wire.specs.Reading.{whole};
 ghost use Rattle.cc_links.specs.Rows as links;
-ghost use Rattle.cc_sessions.specs.Rows as sessions;
 ghost use Rattle.cc_outbox.specs.Outbox.{post_limit};
 ghost use Rattle.cc_outbox.specs.Rows as answers;
-ghost use Rattle.cc_sides.specs.States.{membership_at, entering_at, round_at, work_at, rows_at, table_at, link_at, session_at, kept_answer_at, posts_at, kept_at, most_rows, tables_at, state_at};
-ghost use Rattle.cc_states.specs.Fields.{membership_in, own_at, own_in, entering_in, round_in, work_in, tables_in, state_in, AreRead};
+ghost use Rattle.cc_sides.specs.States.{work_at, rows_at, table_at, link_at, kept_answer_at, posts_at, kept_at, most_rows, tables_at, state_at};
+ghost use Rattle.cc_states.specs.Fields.{work_in, tables_in, state_in, AreRead};
 ghost use Rattle.cc_checkpoint.specs.Windows.{Finds, LiesOn, ReadsOff, Runs, ahead, at, seen_by};
 
 use crate::elements::{
-    take_count, take_entering, take_kept_answer, take_link, take_membership, take_message,
-    take_number, take_own, take_round, take_session_table, take_view,
+    CountAt, EnteringAt, KeptAnswerAt, LinkAt, MembershipAt, MessageAt, NumberAt, OwnAt, RoundAt,
+    SessionsAt, ViewAt,
 };
 use crate::piece::Piece;
 use crate::read_fault::ReadFault;
 use crate::unread::Unread;
-use crate::window::refill;
+use crate::window::read_element;
 use cc_links::LinkRow;
 use cc_messages::Message;
 use cc_outbox::{KeptAnswer, Outbox};
-use cc_sessions::SessionRow;
 use cc_sides::Layout;
 use cc_site::Site;
-use cc_states::{
-    COUNT_LEN, Entering, Fields, LINK_LEN, Membership, NUMBER_LEN, Own, Round, Tables, Work,
-};
-use cc_views::View;
+use cc_states::{Entering, Fields, Own, Tables, Work};
 use std::alloc::Global;
-
-// How many bytes each element has at most.
-const MEMBERSHIP: usize = 3_098;
-
-const VIEW: usize = 55_042;
-
-const OWN: usize = 219;
-
-const ENTERING: usize = NUMBER_LEN + COUNT_LEN;
-
-const ROUND: usize = 60_380;
-
-const SESSION_TABLE: usize = 4_098;
-
-const MESSAGE: usize = 58_126;
-
-const KEPT_ANSWER: usize = 55_051;
-
-fn read_membership<S: Site>(
-    alloc: Global,
-    site: &mut S,
-    piece: &mut Piece,
-    unread: &mut Unread,
-) -> Result<Membership, ReadFault>
-    requires { LiesOn S.Site site.old unread.old }
-    ensures { ReadsOff S.Site membership_at (at site.old piece.old unread.old) (at site.new piece.new unread.new) (seen_by membership_in result) }
-{
-    refill(site, piece, unread, MEMBERSHIP)?;
-    Ok(take_membership(alloc, piece)?)
-}
-
-fn read_view<S: Site>(
-    alloc: Global,
-    site: &mut S,
-    piece: &mut Piece,
-    unread: &mut Unread,
-) -> Result<View, ReadFault>
-    requires { LiesOn S.Site site.old unread.old }
-    ensures { ReadsOff S.Site view_at (at site.old piece.old unread.old) (at site.new piece.new unread.new) result }
-{
-    refill(site, piece, unread, VIEW)?;
-    Ok(take_view(alloc, piece)?)
-}
-
-fn read_own<S: Site>(site: &mut S, piece: &mut Piece, unread: &mut Unread) -> Result<Own, ReadFault>
-    requires { LiesOn S.Site site.old unread.old }
-    ensures { ReadsOff S.Site own_at (at site.old piece.old unread.old) (at site.new piece.new unread.new) (seen_by own_in result) }
-{
-    refill(site, piece, unread, OWN)?;
-    Ok(take_own(piece)?)
-}
-
-fn read_entering<S: Site>(
-    site: &mut S,
-    piece: &mut Piece,
-    unread: &mut Unread,
-) -> Result<Entering, ReadFault>
-    requires { LiesOn S.Site site.old unread.old }
-    ensures { ReadsOff S.Site entering_at (at site.old piece.old unread.old) (at site.new piece.new unread.new) (seen_by entering_in result) }
-{
-    refill(site, piece, unread, ENTERING)?;
-    Ok(take_entering(piece)?)
-}
-
-fn read_round<S: Site>(
-    alloc: Global,
-    site: &mut S,
-    piece: &mut Piece,
-    unread: &mut Unread,
-    layout: Layout,
-) -> Result<Round, ReadFault>
-    requires { LiesOn S.Site site.old unread.old }
-    ensures { ReadsOff S.Site (round_at layout) (at site.old piece.old unread.old) (at site.new piece.new unread.new) (seen_by round_in result) }
-{
-    refill(site, piece, unread, ROUND)?;
-    Ok(take_round(alloc, piece, layout)?)
-}
-
-fn read_number<S: Site>(
-    site: &mut S,
-    piece: &mut Piece,
-    unread: &mut Unread,
-) -> Result<u64, ReadFault>
-    requires { LiesOn S.Site site.old unread.old }
-    ensures { ReadsOff S.Site (number_at w64) (at site.old piece.old unread.old) (at site.new piece.new unread.new) result }
-{
-    refill(site, piece, unread, NUMBER_LEN)?;
-    Ok(take_number(piece)?)
-}
-
-fn read_count<S: Site>(
-    site: &mut S,
-    piece: &mut Piece,
-    unread: &mut Unread,
-) -> Result<u16, ReadFault>
-    requires { LiesOn S.Site site.old unread.old }
-    ensures { ReadsOff S.Site (number_at w16) (at site.old piece.old unread.old) (at site.new piece.new unread.new) result }
-{
-    refill(site, piece, unread, COUNT_LEN)?;
-    Ok(take_count(piece)?)
-}
-
-fn read_link<S: Site>(
-    site: &mut S,
-    piece: &mut Piece,
-    unread: &mut Unread,
-    least: u64,
-) -> Result<LinkRow, ReadFault>
-    requires lies { LiesOn S.Site site.old unread.old }
-    requires least { 1 ≤ least }
-    ensures exact { ReadsOff S.Site (link_at least) (at site.old piece.old unread.old) (at site.new piece.new unread.new) (seen_by links.entry_of result) }
-    ensures least { IfOk result (λ row. least ≤ row.peer) }
-{
-    refill(site, piece, unread, LINK_LEN)?;
-    Ok(take_link(piece, least)?)
-}
-
-fn read_session_table<S: Site>(
-    alloc: Global,
-    site: &mut S,
-    piece: &mut Piece,
-    unread: &mut Unread,
-) -> Result<Vec<SessionRow>, ReadFault>
-    requires { LiesOn S.Site site.old unread.old }
-    ensures exact { ReadsOff S.Site (table_at session_at session_limit 0) (at site.old piece.old unread.old) (at site.new piece.new unread.new) (seen_by (λ rows. table_of sessions.entry_of rows.items) result) }
-    ensures rising { IfOk result (λ rows. IsRising sessions.entry_of rows.items) }
-    ensures few { IfOk result (λ rows. length rows.items ≤ session_limit) }
-{
-    refill(site, piece, unread, SESSION_TABLE)?;
-    Ok(take_session_table(alloc, piece)?)
-}
-
-fn read_message<S: Site>(
-    alloc: Global,
-    site: &mut S,
-    piece: &mut Piece,
-    unread: &mut Unread,
-) -> Result<Message, ReadFault>
-    requires { LiesOn S.Site site.old unread.old }
-    ensures { ReadsOff S.Site message_at (at site.old piece.old unread.old) (at site.new piece.new unread.new) result }
-{
-    refill(site, piece, unread, MESSAGE)?;
-    Ok(take_message(alloc, piece)?)
-}
-
-fn read_kept_answer<S: Site>(
-    alloc: Global,
-    site: &mut S,
-    piece: &mut Piece,
-    unread: &mut Unread,
-    least: u128,
-) -> Result<KeptAnswer, ReadFault>
-    requires { LiesOn S.Site site.old unread.old }
-    ensures exact { ReadsOff S.Site (kept_answer_at least) (at site.old piece.old unread.old) (at site.new piece.new unread.new) (seen_by answers.entry_of result) }
-    ensures least { IfOk result (λ kept. least ≤ kept.session) }
-{
-    refill(site, piece, unread, KEPT_ANSWER)?;
-    Ok(take_kept_answer(alloc, piece, least)?)
-}
 
 fn read_links<S: Site>(
     alloc: Global,
@@ -207,7 +40,7 @@ fn read_links<S: Site>(
     let mut rows = Vec::new(alloc);
     let mut least = 1;
     for _ in 0..count {
-        let row = read_link(site, piece, unread, least)?;
+        let row = read_element(alloc, site, piece, unread, &LinkAt { least })?;
         least = u64::from(row.peer.number()) + 1;
         rows.push(row)?;
     }
@@ -227,7 +60,7 @@ fn read_posts<S: Site>(
 {
     let mut posts = Vec::new(alloc);
     for _ in 0..count {
-        let post = read_message(alloc, site, piece, unread)?;
+        let post = read_element(alloc, site, piece, unread, &MessageAt)?;
         posts.push(post)?;
     }
     Ok(posts)
@@ -247,7 +80,7 @@ fn read_kept_answers<S: Site>(
     let mut rows = Vec::new(alloc);
     let mut least = 0;
     for _ in 0..count {
-        let kept = read_kept_answer(alloc, site, piece, unread, least)?;
+        let kept = read_element(alloc, site, piece, unread, &KeptAnswerAt { least })?;
         least = u128::from(kept.session) + 1;
         rows.push(kept)?;
     }
@@ -264,7 +97,7 @@ fn read_link_table<S: Site>(
     ensures exact { ReadsOff S.Site (table_at link_at most_rows 1) (at site.old piece.old unread.old) (at site.new piece.new unread.new) (seen_by (λ rows. table_of links.entry_of rows.items) result) }
     ensures rising { IfOk result (λ rows. IsRising links.entry_of rows.items) }
 {
-    let count = read_count(site, piece, unread)?;
+    let count = read_element(alloc, site, piece, unread, &CountAt)?;
     read_links(alloc, site, piece, unread, count)
 }
 
@@ -278,7 +111,7 @@ fn read_kept<S: Site>(
     ensures exact { ReadsOff S.Site kept_at (at site.old piece.old unread.old) (at site.new piece.new unread.new) (seen_by (λ posts. posts.items) result) }
     ensures few { IfOk result (λ posts. length posts.items ≤ post_limit) }
 {
-    let count = read_count(site, piece, unread)?;
+    let count = read_element(alloc, site, piece, unread, &CountAt)?;
     if usize::from(count) > Outbox::MAX_POSTS {
         return Err(ReadFault::NoState);
     }
@@ -295,7 +128,7 @@ fn read_answer_table<S: Site>(
     ensures exact { ReadsOff S.Site (table_at kept_answer_at most_rows 0) (at site.old piece.old unread.old) (at site.new piece.new unread.new) (seen_by (λ rows. table_of answers.entry_of rows.items) result) }
     ensures rising { IfOk result (λ rows. IsRising answers.entry_of rows.items) }
 {
-    let count = read_count(site, piece, unread)?;
+    let count = read_element(alloc, site, piece, unread, &CountAt)?;
     read_kept_answers(alloc, site, piece, unread, count)
 }
 
@@ -309,10 +142,10 @@ fn read_work<S: Site>(
     requires { LiesOn S.Site site.old unread.old }
     ensures { ReadsOff S.Site (work_at layout) (at site.old piece.old unread.old) (at site.new piece.new unread.new) (seen_by work_in result) }
 {
-    let view = read_view(alloc, site, piece, unread)?;
-    let Own { number, mine, tag } = read_own(site, piece, unread)?;
-    let Entering { echoes, need } = read_entering(site, piece, unread)?;
-    let round = read_round(alloc, site, piece, unread, layout)?;
+    let view = read_element(alloc, site, piece, unread, &ViewAt)?;
+    let Own { number, mine, tag } = read_element(alloc, site, piece, unread, &OwnAt)?;
+    let Entering { echoes, need } = read_element(alloc, site, piece, unread, &EnteringAt)?;
+    let round = read_element(alloc, site, piece, unread, &RoundAt { layout })?;
     Ok(Work {
         view,
         number,
@@ -334,9 +167,9 @@ fn read_tables<S: Site>(
     ensures exact { ReadsOff S.Site tables_at (at site.old piece.old unread.old) (at site.new piece.new unread.new) (seen_by tables_in result) }
     ensures read { IfOk result AreRead }
 {
-    let posts = read_number(site, piece, unread)?;
+    let posts = read_element(alloc, site, piece, unread, &NumberAt)?;
     let links = read_link_table(alloc, site, piece, unread)?;
-    let sessions = read_session_table(alloc, site, piece, unread)?;
+    let sessions = read_element(alloc, site, piece, unread, &SessionsAt)?;
     let kept = read_kept(alloc, site, piece, unread)?;
     let answers = read_answer_table(alloc, site, piece, unread)?;
     Ok(Tables {
@@ -359,7 +192,7 @@ fn read_fields<S: Site>(
     ensures exact { ReadsOff S.Site (state_at layout) (at site.old piece.old unread.old) (at site.new piece.new unread.new) (seen_by state_in result) }
     ensures read { IfOk result (λ x. AreRead x.tables) }
 {
-    let membership = read_membership(alloc, site, piece, unread)?;
+    let membership = read_element(alloc, site, piece, unread, &MembershipAt)?;
     let work = read_work(alloc, site, piece, unread, layout)?;
     let tables = read_tables(alloc, site, piece, unread)?;
     Ok(Fields {

@@ -1,14 +1,17 @@
 use Rattle.std.proofs.Common.{length, arith}
-use Rattle.cc_checkpoint.proofs.BehindRuns.{cut_behind, written_behind, then_behind, cut_there, written_front}
+use Rattle.cc_checkpoint.proofs.BehindRuns.{cut_behind, then_written, cut_there, written_front}
 use Rattle.cc_checkpoint.proofs.checkpoint.begin_image.Goals as goal
 
 pub write_at-requires : goal.write_at-requires
-write_at-requires g c honest =
-    cut_there (g.S.Site.state c.args.site.now c.args.side) (g.S.Site.state c.cut.new.self c.args.side) (c.requires.there (c.cut.ensures.honest.1 honest)) (c.in_ok-cut.ensures.value (c.cut.ensures.honest.1 honest))
+write_at-requires g c still =
+    let s = g.S.Site in
+    let honest = c.cut.ensures.honest.1 still in
+    cut_there (s.state c.args.site.now c.args.side) (s.state c.cut.new.self c.args.side) (c.requires.there honest) (c.in_ok-cut.ensures.value honest)
 
 pub returns-in_err-cut-clause-every_moment : goal.returns-in_err-cut-clause-every_moment
 returns-in_err-cut-clause-every_moment g c honest =
-    cut_behind g.S.Site c.args.side c.args.site.now c.cut.new.self (g.met.S.Site.only_now c.args.site.now honest) (c.requires.there honest) (c.cut.ensures.time honest)
+    let old = c.args.site.now in
+    cut_behind g.S.Site c.args.side old c.cut.new.self (g.met.S.Site.only_now old honest) (c.requires.there honest) (c.cut.ensures.time honest)
 
 pub returns-clause-every_moment : goal.returns-clause-every_moment
 returns-clause-every_moment g c honest =
@@ -16,17 +19,15 @@ returns-clause-every_moment g c honest =
     let side = c.args.side in
     let old = c.args.site.now in
     let mid = c.cut.new.self in
-    let new = c.write_at.new.self in
-    let honest_mid = c.cut.ensures.honest.0 honest in
-    then_behind s side old mid new
+    let still = c.cut.ensures.honest.0 honest in
+    then_written s side old mid c.write_at.new.self 1 (length c.args.front.now)
     (cut_behind s side old mid (g.met.S.Site.only_now old honest) (c.requires.there honest) (c.cut.ensures.time honest))
-    (g.met.S.Site.counts_now mid honest_mid)
-    (written_behind s side mid new 1 (length c.args.front.now) (g.met.S.Site.only_now mid honest_mid) (omega arith)
-    (cut_there (s.state old side) (s.state mid side) (c.requires.there honest) (c.in_ok-cut.ensures.value honest)) (c.write_at.ensures.time honest_mid))
+    (g.met.S.Site.counts_now mid still) (g.met.S.Site.only_now mid still) (omega arith)
+    (cut_there (s.state old side) (s.state mid side) (c.requires.there honest) (c.in_ok-cut.ensures.value honest)) (c.write_at.ensures.time still)
 
 pub returns-clause-value : goal.returns-clause-value
 returns-clause-value g c honest =
-    let honest_mid = c.cut.ensures.honest.0 honest in
     let s = g.S.Site in
     let side = c.args.side in
-    written_front (s.state c.args.site.now side) (s.state c.cut.new.self side) (s.state c.write_at.new.self side) c.args.front.now c.write_at.result (c.requires.there honest) (c.in_ok-cut.ensures.value honest) (c.write_at.ensures.value honest_mid)
+    written_front (s.state c.args.site.now side) (s.state c.cut.new.self side) (s.state c.write_at.new.self side) c.args.front.now c.write_at.result
+    (c.requires.there honest) (c.in_ok-cut.ensures.value honest) (c.write_at.ensures.value (c.cut.ensures.honest.0 honest))

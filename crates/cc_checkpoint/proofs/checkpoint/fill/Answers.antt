@@ -13,15 +13,15 @@ returns-clause-every_moment g c honest sure =
     let s = g.S.Site in
     let side = c.args.side in
     let mid = c.close_gate.new.site in
-    let honest_mid = c.close_gate.ensures.honest.0 honest in
-    then_off s side c.args.site.now mid c.write_image.new.site (c.close_gate.ensures.every_moment honest) (g.met.S.Site.counts_now mid honest_mid)
-    (behind_rests s side mid c.write_image.new.site (c.in_ok-close_gate.ensures.shut honest sure) (c.write_image.ensures.every_moment honest_mid))
+    let still = c.close_gate.ensures.honest.0 honest in
+    then_off s side c.args.site.now mid c.write_image.new.site (c.close_gate.ensures.every_moment honest) (g.met.S.Site.counts_now mid still)
+    (behind_rests s side mid c.write_image.new.site (c.in_ok-close_gate.ensures.shut honest sure) (c.write_image.ensures.every_moment still))
 
 pub returns-clause-filled : goal.returns-clause-filled
 returns-clause-filled g c honest =
     let s = g.S.Site in
-    let mid = c.close_gate.new.site in
+    let closed = c.in_ok-close_gate.ensures in
     on_ok c.write_image.result
-    (filled_by (s.state mid c.args.side) (s.state c.write_image.new.site c.args.side) c.args.generation c.args.node.now (c.in_ok-close_gate.ensures.there honest) (c.in_ok-close_gate.ensures.closed honest)
-    c.requires.generation (omega (arith, c.ranges.generation)) c.node_is_spellable.ensures)
+    (filled_by (s.state c.close_gate.new.site c.args.side) (s.state c.write_image.new.site c.args.side) c.args.generation c.args.node.now
+    (closed.there honest) (closed.closed honest) c.requires.generation (omega (arith, c.ranges.generation)) c.node_is_spellable.ensures)
     (c.write_image.ensures.value (c.close_gate.ensures.honest.0 honest))

@@ -11,11 +11,11 @@ pub returns-clause-every_moment : goal.returns-clause-every_moment
 returns-clause-every_moment g c honest armed =
     let s = g.S.Site in
     let side = c.args.side in
+    let old = c.args.site.now in
     let mid = c.write_durably.new.site in
     let new = c.cut_durably.new.site in
-    let honest_mid = c.write_durably.ensures.honest.0 honest in
+    let still = c.write_durably.ensures.honest.0 honest in
     let wrote = c.in_ok-write_durably.ensures.value honest in
-    then_off s side c.args.site.now mid new
-    (closing_off s side c.args.site.now mid armed (c.write_durably.ensures.every_moment honest))
-    (g.met.S.Site.counts_now mid honest_mid)
-    (behind_rests s side mid new (closed_shut (s.state c.args.site.now side) (s.state mid side) 0 (omega arith) wrote) (cut_run_behind s side mid new (written_there (s.state c.args.site.now side) (s.state mid side) 0 wrote) (c.cut_durably.ensures.every_moment honest_mid)))
+    then_off s side old mid new (closing_off s side old mid armed (c.write_durably.ensures.every_moment honest)) (g.met.S.Site.counts_now mid still)
+    (behind_rests s side mid new (closed_shut (s.state old side) (s.state mid side) 0 (omega arith) wrote)
+    (cut_run_behind s side mid new (written_there (s.state old side) (s.state mid side) 0 wrote) (c.cut_durably.ensures.every_moment still)))

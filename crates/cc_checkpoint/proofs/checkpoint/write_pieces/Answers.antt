@@ -6,19 +6,17 @@ use Rattle.cc_states.specs.Parts.{joined}
 use Rattle.cc_states.proofs.PartLaws.{joined_rest}
 use Rattle.cc_checkpoint.proofs.PastGate.{half_past, front_kept}
 use Rattle.cc_states.proofs.StateLengths.{length-node}
-use Rattle.cc_checkpoint.proofs.BehindRuns.{written_behind, then_behind, grown}
+use Rattle.cc_checkpoint.proofs.BehindRuns.{then_written, grown}
 use Rattle.cc_checkpoint.proofs.checkpoint.write_pieces.Goals as goal
 
 pub returns-in_err-write_at-clause-every_moment : goal.returns-in_err-write_at-clause-every_moment
 returns-in_err-write_at-clause-every_moment g c honest =
-    let s = g.S.Site in
-    let side = c.args.side in
     let mid = c.loop-pieces.site in
-    let honest_mid = c.loop-pieces.invariant.honest.0 honest in
-    let within = c.loop-pieces.invariant.within honest in
-    then_behind s side c.args.site.now mid c.write_at.new.self (c.loop-pieces.invariant.moments honest) (g.met.S.Site.counts_now mid honest_mid)
-    (written_behind s side mid c.write_at.new.self c.loop-pieces.place (length c.as_slice-bytes.result.now) (g.met.S.Site.only_now mid honest_mid)
-    (omega (arith, c.requires.there, c.loop-pieces.invariant.from)) (omega (arith, within)) (c.write_at.ensures.time honest_mid))
+    let so_far = c.loop-pieces.invariant in
+    let still = so_far.honest.0 honest in
+    then_written g.S.Site c.args.side c.args.site.now mid c.write_at.new.self c.loop-pieces.place (length c.as_slice-bytes.result.now)
+    (so_far.moments honest) (g.met.S.Site.counts_now mid still) (g.met.S.Site.only_now mid still)
+    (omega (arith, c.requires.there, so_far.from)) (omega (arith, so_far.within honest)) (c.write_at.ensures.time still)
 
 pub overflow_add-place : goal.overflow_add-place
 overflow_add-place g c =
@@ -44,7 +42,8 @@ loop-pieces-preserved g c =
     let split : joined c.loop-pieces.pieces ≡ piece ++ rest = joined_rest c.loop-pieces.pieces c.next.new.self piece c.next.ensures.piece in
     let is : c.as_slice-bytes.result.now ≡ piece = c.as_slice-bytes.ensures in
     let wrote : s.honest c.args.site.now → (s.state new side).bytes ≡ (s.state mid side).bytes ++ c.as_slice-bytes.result.now =
-    λ honest. grown (s.state mid side) (s.state new side) c.loop-pieces.place c.as_slice-bytes.result.now (so_far.within honest) (c.in_ok-write_at.ensures.value (so_far.honest.0 honest)) in
+    λ honest. grown (s.state mid side) (s.state new side) c.loop-pieces.place c.as_slice-bytes.result.now (so_far.within honest)
+    (c.in_ok-write_at.ensures.value (so_far.honest.0 honest)) in
     let longer = length-append piece rest in
     record {
       honest = (λ h. c.write_at.ensures.honest.0 (so_far.honest.0 h), λ h. so_far.honest.1 (c.write_at.ensures.honest.1 h));
@@ -56,13 +55,15 @@ loop-pieces-preserved g c =
           ∙ ap (λ (l : List ℕ). (s.state mid side).bytes ++ l) (sym split)
           ∙ so_far.value honest;
       place = omega (arith, so_far.place, ap length is, ap length split, longer);
-      within = λ honest. omega (arith, so_far.within honest, ap length (wrote honest), length-append (s.state mid side).bytes c.as_slice-bytes.result.now, ap length is);
+      within = λ honest.
+          let grown = length-append (s.state mid side).bytes c.as_slice-bytes.result.now in
+          omega (arith, so_far.within honest, ap length (wrote honest), grown, ap length is);
       from = omega (arith, so_far.from);
       moments = λ honest.
-          let honest_mid = so_far.honest.0 honest in
-          then_behind s side c.args.site.now mid new (so_far.moments honest) (g.met.S.Site.counts_now mid honest_mid)
-          (written_behind s side mid new c.loop-pieces.place (length c.as_slice-bytes.result.now) (g.met.S.Site.only_now mid honest_mid)
-          (omega (arith, c.requires.there, so_far.from)) (omega (arith, so_far.within honest)) (c.write_at.ensures.time honest_mid));
+          let still = so_far.honest.0 honest in
+          then_written s side c.args.site.now mid new c.loop-pieces.place (length c.as_slice-bytes.result.now)
+          (so_far.moments honest) (g.met.S.Site.counts_now mid still) (g.met.S.Site.only_now mid still)
+          (omega (arith, c.requires.there, so_far.from)) (omega (arith, so_far.within honest)) (c.write_at.ensures.time still);
       failures = c.in_ok-write_at.ensures.fault ∙ so_far.failures;
     }
 
@@ -73,13 +74,13 @@ returns-in_err-write_at-clause-failed g c honest =
     let old = c.args.site.now in
     let mid = c.loop-pieces.site in
     let so_far = c.loop-pieces.invariant in
-    let honest_mid = so_far.honest.0 honest in
     let there : 1 ≤ length (s.state old side).bytes = omega (arith, c.requires.from honest, c.requires.there) in
     let some : 1 ≤ length (s.state mid side).bytes = omega (arith, so_far.within honest, so_far.from, c.requires.there) in
     let p = err_from_is_err_and c.from_residual.result c.from_residual.ensures.1 in
     rw (p.1, p.2) (
       inl (ap (λ f. f.call) c.in_err-write_at.ensures.fault.0),
       half_past (s.state mid side) (s.state c.write_at.new.self side) c.loop-pieces.place (length c.as_slice-bytes.result.now)
-          (omega (arith, c.requires.there, so_far.from)) (omega (arith, so_far.within honest)) (c.in_err-write_at.ensures.failed honest_mid)
-          ∙ front_kept (s.state mid side).bytes (joined c.loop-pieces.pieces) (s.state old side).bytes (node_spelling c.args.node.now) some there (so_far.value honest),
+          (omega (arith, c.requires.there, so_far.from)) (omega (arith, so_far.within honest)) (c.in_err-write_at.ensures.failed (so_far.honest.0 honest))
+          ∙ front_kept (s.state mid side).bytes (joined c.loop-pieces.pieces) (s.state old side).bytes (node_spelling c.args.node.now)
+          some there (so_far.value honest),
     )

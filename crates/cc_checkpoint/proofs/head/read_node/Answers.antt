@@ -16,14 +16,16 @@ returns-in_err-fields-clause-found g c =
     let p = err_from_is_err_and c.from_residual.result c.from_residual.ensures.1 in
     rw (p.1, p.2) (λ honest.
     missing_node c.args.layout (take c.args.size (drop 14 bytes)) fault
-    (subst (λ (l : List ℕ). Misses fault (whole (state_at c.args.layout) l)) (ahead_all c.clear.new.self bytes _ c.args.size c.clear.ensures (omega (arith, c.from.ensures))) (c.in_err-fields.ensures.exact honest)))
+    (subst (λ (l : List ℕ). Misses fault (whole (state_at c.args.layout) l))
+    (ahead_all c.clear.new.self bytes _ c.args.size c.clear.ensures (omega (arith, c.from.ensures))) (c.in_err-fields.ensures.exact honest)))
 
 pub returns-clause-found : goal.returns-clause-found
 returns-clause-found g c honest =
     let bytes = (g.S.Site.state c.args.site.now c.args.side).bytes in
     let state = take c.args.size (drop 14 bytes) in
     let fits = IsBytes-take c.args.size (drop 14 bytes) (IsBytes-drop 14 bytes (g.met.S.Site.are_bytes c.args.site.now honest c.args.side)) in
-    let read = subst (λ (l : List ℕ). whole (state_at c.args.layout) l ≡ Ok (state_in c.in_ok-fields.fields)) (ahead_all c.clear.new.self bytes _ c.args.size c.clear.ensures (omega (arith, c.from.ensures))) (c.in_ok-fields.ensures.exact honest) in
+    let read = subst (λ (l : List ℕ). whole (state_at c.args.layout) l ≡ Ok (state_in c.in_ok-fields.fields))
+    (ahead_all c.clear.new.self bytes _ c.args.size c.clear.ensures (omega (arith, c.from.ensures))) (c.in_ok-fields.ensures.exact honest) in
     subst (NodeFound c.args.layout state) (sym c.ok_or.ensures.value)
     (restored c.args.layout state (state_in c.in_ok-fields.fields) c.in_ok-node.node fits read c.in_ok-node.ensures.lawful c.in_ok-node.ensures.node)
 

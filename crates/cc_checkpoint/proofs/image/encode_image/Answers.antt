@@ -9,7 +9,8 @@ short : (n : Node) (bytes : List ℕ) → SpellsNode (layout_of_node n) bytes n 
 short n bytes spelled = omega (arith, length-node (layout_of_node n) bytes n spelled)
 
 pub put_image-requires-clause-short : goal.put_image-requires-clause-short
-put_image-requires-clause-short c = rw (c.deref.ensures.value, c.in_ok-encode_state.ensures.ok, c.new-state.ensures.items) (short _ _ c.in_ok-encode_state.ensures.spelled)
+put_image-requires-clause-short c =
+    rw (c.deref.ensures.value, c.in_ok-encode_state.ensures.ok, c.new-state.ensures.items) (short _ _ c.in_ok-encode_state.ensures.spelled)
 
 pub returns : goal.returns
 returns c =
