@@ -28,7 +28,7 @@ use Rattle.cc_site.specs.declared.site.Site.{Ghosts}
 use Rattle.cc_site.specs.Reads.{reads_none, reads_then}
 use Rattle.cc_checkpoint.specs.declared.read_fault.ReadFault.{ReadFault}
 use Rattle.cc_checkpoint.specs.declared.read_fault.ReadFault.TheVariants as faults
-use Rattle.cc_checkpoint.specs.Windows.{of_wire, IsMissing, Misses, seen_by, IsOfDevice, AreBytes, CountsRead, FaultRead, At, ahead, LiesOn, Runs, ReadsOff}
+use Rattle.cc_checkpoint.specs.Windows.{of_wire, IsMissing, Misses, IsOfDevice, AreBytes, CountsRead, FaultRead, At, ahead, LiesOn, Runs, ReadsOff}
 
 pub err_is : {T E : Type 0} {e : E} (r : Result T E) → IsErrAnd r (λ y. y ≡ e) → r ≡ Err e
 err_is (Ok x) is = absurd is

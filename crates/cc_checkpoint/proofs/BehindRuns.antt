@@ -37,7 +37,7 @@ module _ {D : Type 0} (s : Ghosts D) (side : Side) where
   abbrev IsWithin : D → SideState → Contents → List Output → Type 0
   IsWithin old bound = Within side bound (s.state old) (s.sent old)
 
-  pub started_behind : (site : D) → OnlyNow s site → StaysBehind s side site site
+  started_behind : (site : D) → OnlyNow s site → StaysBehind s side site site
   started_behind site only = started s site (IsBehind site) (λ left told since.
       let is = only left told since in
       record { was = left side; possible = is.each side; gate = refl; rest = is.each (other side); outlet = is.outlet })
@@ -74,24 +74,19 @@ module _ {D : Type 0} (s : Ghosts D) (side : Side) where
       → StaysBehind s side old new
   cut_behind old new only there time = call_behind old new (shift (s.state old side) 1) only (shift_keeps (s.state old side) 1 there) time
 
-  written_behind : (old new : D) (place size : ℕ) → OnlyNow s old → 1 ≤ place → place ≤ length (s.state old side).bytes
-      → Passes s old new (IsWithin old (touch (s.state old side) place size)) → StaysBehind s side old new
-  written_behind old new place size only from within time =
-      call_behind old new (touch (s.state old side) place size) only (touch_keeps (s.state old side) 1 place size from within) time
-
   -- a write behind a run
   pub then_written : (old mid new : D) (place size : ℕ) → StaysBehind s side old mid → CountsNow s mid → OnlyNow s mid
       → 1 ≤ place → place ≤ length (s.state mid side).bytes → Passes s mid new (IsWithin mid (touch (s.state mid side) place size))
       → StaysBehind s side old new
   then_written old mid new place size run counts only from within time =
-      then_behind old mid new run counts (written_behind mid new place size only from within time)
+      then_behind old mid new run counts
+      (call_behind mid new (touch (s.state mid side) place size) only (touch_keeps (s.state mid side) 1 place size from within) time)
 
-  -- a run within a write
-  run_behind : (old new : D) (place size : ℕ) → 1 ≤ place → place ≤ length (s.state old side).bytes
-      → EachMoment s old new (IsWithin old (touch (s.state old side) place size)) → StaysBehind s side old new
-  run_behind old new place size from within run =
-      weaker s old new (IsWithin old (touch (s.state old side) place size)) (IsBehind old) run
-      (within_behind side (touch (s.state old side) place size) (s.state old) (s.sent old) (touch_keeps (s.state old side) 1 place size from within))
+  -- a run within a bound
+  bound_behind : (old new : D) (bound : SideState) → KeepsFront 1 bound (s.state old side) → EachMoment s old new (IsWithin old bound)
+      → StaysBehind s side old new
+  bound_behind old new bound keeps run =
+      weaker s old new (IsWithin old bound) (IsBehind old) run (within_behind side bound (s.state old) (s.sent old) keeps)
 
   -- two runs, and one within a write at the end
   pub image_behind : (old first second new : D) (place : ℕ) → StaysBehind s side old first → CountsNow s first
@@ -99,13 +94,11 @@ module _ {D : Type 0} (s : Ghosts D) (side : Side) where
       → EachMoment s second new (IsWithin second (touch (s.state second side) place 1)) → StaysBehind s side old new
   image_behind old first second new place begun counts written counts_still from end closed =
       then_behind old second new (then_behind old first second begun counts written) counts_still
-      (run_behind second new place 1 from (omega (arith, end)) closed)
+      (bound_behind second new (touch (s.state second side) place 1) (touch_keeps (s.state second side) 1 place 1 from (omega (arith, end))) closed)
 
   pub cut_run_behind : (old new : D) → 1 ≤ length (s.state old side).bytes → EachMoment s old new (IsWithin old (shift (s.state old side) 1))
       → StaysBehind s side old new
-  cut_run_behind old new there run =
-      weaker s old new (IsWithin old (shift (s.state old side) 1)) (IsBehind old) run
-      (within_behind side (shift (s.state old side) 1) (s.state old) (s.sent old) (shift_keeps (s.state old side) 1 there))
+  cut_run_behind old new there run = bound_behind old new (shift (s.state old side) 1) (shift_keeps (s.state old side) 1 there) run
 
   -- ---- while the other side holds the node
 

@@ -6,7 +6,7 @@
 --     RestsOff, RestsOn, KeepsOff     the other side holds the node, and this one yields;  from every history for which it does so, at each moment
 --     IsGoodForAll                    the moment is good, with all events durable
 --     ArmsFor                   a history after which a side that was filled may be armed
-use Rattle.std.specs.Prelude.{true, ◌≡◌, ◌≢◌, ◌<◌, ℕ, List, ◌∷◌, length, take}
+use Rattle.std.specs.Prelude.{◌≡◌, ◌≢◌, ◌<◌, ℕ, List, ◌∷◌, length, take}
 use Rattle.cc_messages.specs.declared.event.Event.{Event}
 use Rattle.cc_messages.specs.declared.output.Output.{Output}
 use Rattle.cc_site.specs.declared.site.Side.{Side}

@@ -1,6 +1,6 @@
 -- How the elements of a state are read and spelled.
---     Format, spelled_as      what stands for a value, how that is read and spelled, and in how many bytes at most
---     .._small                that these have no more bytes
+--     Format, spelled_as      what is seen of a value, how that is read and spelled, and in how many bytes at most
+--     .._small                these have no more bytes
 use Rattle.std.specs.Prelude.{ℕ, ◌≤◌, List, length}
 use Rattle.std.specs.Int.{w16, w64, to_be_bytes}
 use Rattle.std.proofs.Common.{arith}
@@ -10,19 +10,19 @@ use Rattle.cc_links.specs.Links.{Link}
 use Rattle.cc_sides.specs.States.{entering_spelling, link_spelling}
 
 pub record Format (T : Type 0) : Type 1 where
-  pub X : Type 0
-  pub see : T → X
-  pub read : Reading X
-  pub Is : X → Type 0
-  pub spelling : X → List ℕ
+  pub Seen : Type 0
+  pub see : T → Seen
+  pub read : Reading Seen
+  pub Is : Seen → Type 0
+  pub spelling : Seen → List ℕ
   pub most : ℕ
   pub spelled : Spelled read Is spelling
-  pub small : (x : X) → Is x → length (spelling x) ≤ most
+  pub small : (x : Seen) → Is x → length (spelling x) ≤ most
 
 abbrev pub spelled_as : {T X : Type 0} {read : Reading X} {Is : X → Type 0} {spelling : X → List ℕ}
     → (T → X) → (most : ℕ) → Spelled read Is spelling → ((x : X) → Is x → length (spelling x) ≤ most) → Format T
 spelled_as {X} {read} {Is} {spelling} see most spelled small = record {
-  X = X;
+  Seen = X;
   see = see;
   read = read;
   Is = Is;

@@ -1,4 +1,4 @@
-//! The elements of a state that are taken whole from the front of a piece.
+//! The elements of a state, each of which is read whole from the front of a piece.
 
 ghost use Rattle.std.specs.Prelude.{◌≡◌, ◌≤◌, ⊤, length, IfOk};
 ghost use Rattle.cc_views.specs.Limits.{session_limit};
@@ -225,7 +225,7 @@ impl Element for CountAt {
     }
 }
 
-// Of a peer from this one on.
+// A link to a peer from this one on.
 #[derive(Drop)]
 pub(crate) struct LinkAt {
     pub least: u64,
@@ -266,11 +266,7 @@ impl Element for SessionsAt {
         4_098
     }
 
-    fn decode(
-        &self,
-        alloc: Global,
-        reader: &mut Reader<'_>,
-    ) -> Result<Vec<SessionRow>, WireFault> {
+    fn decode(&self, alloc: Global, reader: &mut Reader<'_>) -> Result<Vec<SessionRow>, WireFault> {
         read_session_table(alloc, reader)
     }
 
@@ -300,7 +296,7 @@ impl Element for MessageAt {
     }
 }
 
-// Of a session from this one on.
+// An answer that is kept for a session from this one on.
 #[derive(Drop)]
 pub(crate) struct KeptAnswerAt {
     pub least: u128,
