@@ -4,7 +4,6 @@ mod FormatMoments
 mod FoundSides
 mod Resends
 mod Putting
-mod Releasing
 mod Committed
 mod Flushing
 mod OneNode
