@@ -1,4 +1,3 @@
-mod Formatted
 mod Keeping
 mod FormatMoments
 mod FoundSides
