@@ -3,7 +3,6 @@ mod FormatMoments
 mod FoundSides
 mod Resends
 mod Putting
-mod Committed
 mod Flushing
 mod OneNode
 mod NodeOrFault
