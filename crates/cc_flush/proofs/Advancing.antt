@@ -1,5 +1,5 @@
 -- How a life goes on.
---     joined_on, sides_on            two parts of a life
+--     both_parts, joined_on, sides_on     two parts of a life
 --     stays, advances_both           an engine that was asked for nothing;  one action after another
 --     done_more                      the actions that are done, and one more
 --     put_advances                   outputs are put again
@@ -7,7 +7,8 @@
 --     one_more                       one action more, each one after the other
 --     turn_advances, turn_given_up   a batch becomes durable, and its outputs are put;  a disk call fails
 --     run_ended, run_failed          a life that ends well;  one in which a disk call fails
-use Rattle.std.proofs.Common.{◌≡◌, ℕ, ◌+◌, ◌<◌, ◌≤◌, List, [], ◌∷◌, ◌++◌, length, inl, inr, refl, sym, ◌∙◌, ap, subst, arith, append_assoc, append-nil, length-append}
+use Rattle.std.proofs.Common.{◌≡◌, ℕ, ◌+◌, ◌<◌, ◌≤◌, List, [], ◌∷◌, ◌++◌, length, inl, inr, refl, sym, ◌∙◌, ap, subst, arith}
+use Rattle.std.proofs.Common.{append_assoc, append-nil, length-append}
 use Rattle.std.specs.Prelude.{◌⊎◌, ◌↔◌, false, None, Ok, Err}
 use Rattle.std.proofs.lemmas.Bool.{cases_lt, le-ltb, lt-ltb}
 use Rattle.std.proofs.lemmas.List.Concat.{flat_map-append}
@@ -17,7 +18,8 @@ use Rattle.cc_site.specs.declared.site.Site.{Ghosts}
 use Rattle.cc_site.specs.declared.site.DeviceFault.{DeviceFault}
 use Rattle.cc_site.specs.declared.site.Side.{Side}
 use Rattle.cc_site.specs.declared.site.Side.TheVariants.{A, B}
-use Rattle.cc_site.specs.Sides.{SideState, MayLeave, other}
+use Rattle.cc_site.specs.Sides.{SideState, other}
+use Rattle.cc_site.specs.Moments.{Contents}
 use Rattle.cc_site.specs.Runs.{EachMoment, OnlyNow, started, joined, weaker}
 use Rattle.cc_node.specs.Node.{Node, after, line}
 use Rattle.cc_node.specs.Histories.{after-append, IsLawful-append}
@@ -33,18 +35,21 @@ use Rattle.cc_flush.specs.declared.flusher.Failed.{Failed}
 use Rattle.cc_flush.specs.declared.actions.Action.{Action}
 use Rattle.cc_flush.specs.declared.actions.Action.TheVariants.{Turn, Checkpoint}
 use Rattle.cc_flush.specs.Engine.{Engine, in_use_of}
-use Rattle.cc_flush.specs.Flushing.{LeadsTo, LeadsToSides, HasLived, Advances, Flushes, GivesUp, FlushFails, PutsAgain}
+use Rattle.cc_flush.specs.Flushing.{LeadsTo, LeadsToSides, HasLived, Advances, Flushes, FlushFails, PutsAgain}
 use Rattle.cc_flush.specs.Moving.{Moves, MoveFails}
-use Rattle.cc_flush.specs.Lives.{events_by, events_of, outputs_by, outputs_of, in_use_by, in_use_after, BeginsWithTurn, MayFailIn, HasDone, FailsIn, HaveDone, HasRun}
-use Rattle.cc_flush.proofs.Committed.{lawful_after}
+use Rattle.cc_flush.specs.Lives.{events_by, events_of, outputs_by, outputs_of, in_use_by, in_use_after, BeginsWithTurn, MayFailIn}
+use Rattle.cc_flush.specs.Lives.{HasDone, FailsIn, HaveDone, HasRun}
+use Rattle.cc_flush.proofs.Keeping.{lawful_after}
 use Rattle.cc_flush.proofs.Flushing.{both_ways, good_less, in_use_is, leads_good, call_keeps_sides}
 
 -- ---- lists of actions
 
 pub events_more : (done : List Action) (action : Action) → events_of (done ++ action ∷ []) ≡ events_of done ++ events_by action
-events_more done action = flat_map-append events_by done (action ∷ []) ∙ ap (λ (l : List Event). events_of done ++ l) (append-nil (events_by action))
+events_more done action =
+    flat_map-append events_by done (action ∷ []) ∙ ap (λ (l : List Event). events_of done ++ l) (append-nil (events_by action))
 
-pub outputs_more : (n : Node) (done : List Action) (action : Action) → outputs_of n (done ++ action ∷ []) ≡ outputs_of n done ++ outputs_by (after n (events_of done)) action
+pub outputs_more : (n : Node) (done : List Action) (action : Action)
+    → outputs_of n (done ++ action ∷ []) ≡ outputs_of n done ++ outputs_by (after n (events_of done)) action
 outputs_more n [] action = append-nil (outputs_by n action)
 outputs_more n (first ∷ done) action =
     let next = after n (events_by first) in
@@ -71,29 +76,36 @@ module _ {D : Type 0} (s : Ghosts D) where
   Goes = Advances s Lived
 
   -- two parts of a life, the second after the events of the first
-  joined_on : (old mid new : D) (start : Node) (events first then : List Event) (opening : ℕ) → EachMoment s old mid (IsGood start (events ++ first) (length events) opening)
-      → EachMoment s mid new (IsGood start ((events ++ first) ++ then) (length (events ++ first)) opening) → EachMoment s old new (IsGood start (events ++ (first ++ then)) (length events) opening)
-  joined_on old mid new start events first then opening one two =
-      let all = (events ++ first) ++ then in
-      subst (λ (l : List Event). EachMoment s old new (IsGood start l (length events) opening)) (append_assoc events first then)
-      (joined s old mid new (IsGood start all (length events) opening)
-      (weaker s old mid (IsGood start (events ++ first) (length events) opening) (IsGood start all (length events) opening) one
-      (λ left told good. good_for_more start (events ++ first) then (length events) (length events) opening (left A) (left B) told (omega arith) good))
-      (weaker s mid new (IsGood start all (length (events ++ first)) opening) (IsGood start all (length events) opening) two
-      (λ left told good. good_less start all (length (events ++ first)) (length events) opening left told (omega (arith, length-append events first)) good)))
+  abbrev Parts : (List Event → ℕ → Contents → List Output → Type 0) → Type 0
+  Parts P =
+      (old mid new : D) (events first then : List Event) → EachMoment s old mid (P (events ++ first) (length events))
+      → EachMoment s mid new (P ((events ++ first) ++ then) (length (events ++ first))) → EachMoment s old new (P (events ++ (first ++ then)) (length events))
 
-  sides_on : (old mid new : D) (start : Node) (events first then : List Event) → EachLeaves s (HasGoodSides start (events ++ first) (length events)) old mid
-      → EachLeaves s (HasGoodSides start ((events ++ first) ++ then) (length (events ++ first))) mid new → EachLeaves s (HasGoodSides start (events ++ (first ++ then)) (length events)) old new
-  sides_on old mid new start events first then one two =
+  both_parts : (P : List Event → ℕ → Contents → List Output → Type 0)
+      → ((events more : List Event) (n : ℕ) (left : Contents) (told : List Output) → P events n left told → P (events ++ more) n left told)
+      → ((events : List Event) (n less : ℕ) (left : Contents) (told : List Output) → less ≤ n → P events n left told → P events less left told) → Parts P
+  both_parts P more fewer old mid new events first then one two =
       let all = (events ++ first) ++ then in
-      subst (λ (l : List Event). EachLeaves s (HasGoodSides start l (length events)) old new) (append_assoc events first then)
-      (joined s old mid new (λ left told. HasGoodSides start all (length events) left)
-      (weaker s old mid (λ left told. HasGoodSides start (events ++ first) (length events) left) (λ left told. HasGoodSides start all (length events) left) one
-      (λ left told sides. more_sides start (events ++ first) then (length events) (length events) left (omega arith) sides))
-      (weaker s mid new (λ left told. HasGoodSides start all (length (events ++ first)) left) (λ left told. HasGoodSides start all (length events) left) two
-      (λ left told sides. fewer_sides start all (length (events ++ first)) (length events) left (omega (arith, length-append events first)) sides)))
+      let few = length events in
+      subst (λ (l : List Event). EachMoment s old new (P l few)) (append_assoc events first then)
+      (joined s old mid new (P all few) (weaker s old mid (P (events ++ first) few) (P all few) one (more (events ++ first) then few))
+      (weaker s mid new (P all (length (events ++ first))) (P all few) two
+      (λ left told. fewer all (length (events ++ first)) few left told (omega (arith, length-append events first)))))
 
-  pub stays : (led : Engine D → Node → List Event → ℕ → Type 0) (e : Engine D) → ((start : Node) (events : List Event) (opening : ℕ) → led e start events opening → IsGoodNow s e.site start events opening)
+  joined_on : (start : Node) (opening : ℕ) → Parts (λ events n. IsGood start events n opening)
+  joined_on start opening =
+      both_parts (λ events n. IsGood start events n opening)
+      (λ events more n left told. good_for_more start events more n n opening (left A) (left B) told (omega arith))
+      (λ events n less left told. good_less start events n less opening left told)
+
+  sides_on : (start : Node) → Parts (λ events n left told. HasGoodSides start events n left)
+  sides_on start =
+      both_parts (λ events n left told. HasGoodSides start events n left)
+      (λ events more n left told. more_sides start events more n n left (omega arith))
+      (λ events n less left told. fewer_sides start events n less left)
+
+  pub stays : (led : Engine D → Node → List Event → ℕ → Type 0) (e : Engine D)
+      → ((start : Node) (events : List Event) (opening : ℕ) → led e start events opening → IsGoodNow s e.site start events opening)
       → e.owes ≡ false → e.failed ≡ None → (s.honest e.site → OnlyNow s e.site) → Advances s led [] [] (in_use_of e) e e
   stays led e good owes none only = record {
     twin = refl;
@@ -102,16 +114,17 @@ module _ {D : Type 0} (s : Ghosts D) where
     in_use = refl;
     same_honest = (λ h. h, λ h. h);
     told = λ t. (t, sym (append-nil (s.sent e.site)));
-    moments = λ h t start before opening was. started s e.site (IsGood start (before ++ []) (length before) opening)
-        (λ left told since. good_for_more start before [] (length before) (length before) opening (left A) (left B) told (omega arith) (good start before opening was left told (only h left told since)));
-    afterwards = λ h t start before opening was. subst (λ (l : List Event). led e start l opening) (sym (append-nil before)) was;
-    sides = λ h start before was. started s e.site (λ left told. HasGoodSides start (before ++ []) (length before) left)
-        (λ left told since. more_sides start before [] (length before) (length before) left (omega arith) (was.sides left (only h left told since).each));
-    sides_afterwards = λ h start before was. subst (λ (l : List Event). LeadsToSides s e start l) (sym (append-nil before)) was;
+    moments = λ h t start before opening was. rw (append-nil before) (started s e.site (IsGood start before (length before) opening)
+        (λ left told since. good start before opening was left told (only h left told since)));
+    afterwards = λ h t start before opening was. rw (append-nil before) was;
+    sides = λ h start before was. rw (append-nil before) (started s e.site (λ left told. HasGoodSides start before (length before) left)
+        (λ left told since. was.sides left (only h left told since).each));
+    sides_afterwards = λ h start before was. rw (append-nil before) was;
     same_failures = refl;
   }
 
-  pub advances_both : (old mid new : Engine D) (xs ys : List Event) (ps qs : List Output) (g g' : InUse) → Goes xs ps g old mid → Goes ys qs g' mid new → Goes (xs ++ ys) (ps ++ qs) g' old new
+  pub advances_both : (old mid new : Engine D) (xs ys : List Event) (ps qs : List Output) (g g' : InUse)
+      → Goes xs ps g old mid → Goes ys qs g' mid new → Goes (xs ++ ys) (ps ++ qs) g' old new
   advances_both old mid new xs ys ps qs g g' first then = record {
     twin = then.twin ∙ ap (λ (n : Node). after n ys) first.twin ∙ sym (after-append old.twin xs ys);
     owes = then.owes;
@@ -124,33 +137,36 @@ module _ {D : Type 0} (s : Ghosts D) where
         (early.0, late.1 ∙ ap (λ (l : List Output). l ++ qs) early.1 ∙ append_assoc (s.sent old.site) ps qs);
     moments = λ h t start before opening was.
         let mid_told = (then.told t).0 in
-        joined_on old.site mid.site new.site start before xs ys opening (first.moments h mid_told start before opening was)
+        joined_on start opening old.site mid.site new.site before xs ys (first.moments h mid_told start before opening was)
         (then.moments (first.same_honest.0 h) t start (before ++ xs) opening (first.afterwards h mid_told start before opening was));
     afterwards = λ h t start before opening was.
         subst (λ (l : List Event). Lived new start l opening) (append_assoc before xs ys)
         (then.afterwards (first.same_honest.0 h) t start (before ++ xs) opening (first.afterwards h (then.told t).0 start before opening was));
     sides = λ h start before was.
-        sides_on old.site mid.site new.site start before xs ys (first.sides h start before was) (then.sides (first.same_honest.0 h) start (before ++ xs) (first.sides_afterwards h start before was));
+        sides_on start old.site mid.site new.site before xs ys (first.sides h start before was)
+        (then.sides (first.same_honest.0 h) start (before ++ xs) (first.sides_afterwards h start before was));
     sides_afterwards = λ h start before was.
-        subst (λ (l : List Event). LeadsToSides s new start l) (append_assoc before xs ys) (then.sides_afterwards (first.same_honest.0 h) start (before ++ xs) (first.sides_afterwards h start before was));
+        subst (λ (l : List Event). LeadsToSides s new start l) (append_assoc before xs ys)
+        (then.sides_afterwards (first.same_honest.0 h) start (before ++ xs) (first.sides_afterwards h start before was));
     same_failures = then.same_failures ∙ first.same_failures;
   }
 
+  -- these actions are done
+  abbrev pub Done : List Action → Engine D → Engine D → Type 0
+  Done done old new = Goes (events_of done) (outputs_of old.twin done) (in_use_after (in_use_of old) done) old new
+
   -- one action more
-  pub done_more : (old mid new : Engine D) (done : List Action) (action : Action) → Goes (events_of done) (outputs_of old.twin done) (in_use_after (in_use_of old) done) old mid
-      → Goes (events_by action) (outputs_by mid.twin action) (in_use_by (in_use_of mid) action) mid new
-      → Goes (events_of (done ++ action ∷ [])) (outputs_of old.twin (done ++ action ∷ [])) (in_use_after (in_use_of old) (done ++ action ∷ [])) old new
+  pub done_more : (old mid new : Engine D) (done : List Action) (action : Action) → Done done old mid
+      → Goes (events_by action) (outputs_by mid.twin action) (in_use_by (in_use_of mid) action) mid new → Done (done ++ action ∷ []) old new
   done_more old mid new done action first then =
-      let same : outputs_by mid.twin action ≡ outputs_by (after old.twin (events_of done)) action = ap (λ (n : Node). outputs_by n action) first.twin in
-      let g = in_use_after (in_use_of old) (done ++ action ∷ []) in
-      let g_is : in_use_by (in_use_of mid) action ≡ g = ap (λ (used : InUse). in_use_by used action) first.in_use ∙ sym (in_use_more (in_use_of old) done action) in
-      subst (λ (l : List Event). Goes l (outputs_of old.twin (done ++ action ∷ [])) g old new) (sym (events_more done action))
-      (subst (λ (l : List Output). Goes (events_of done ++ events_by action) l g old new) (ap (λ (l : List Output). outputs_of old.twin done ++ l) same ∙ sym (outputs_more old.twin done action))
-      (subst (λ (used : InUse). Goes (events_of done ++ events_by action) (outputs_of old.twin done ++ outputs_by mid.twin action) used old new) g_is
-      (advances_both old mid new (events_of done) (events_by action) (outputs_of old.twin done) (outputs_by mid.twin action) (in_use_after (in_use_of old) done) (in_use_by (in_use_of mid) action) first then)))
+      let more = outputs_more old.twin done action in
+      rw (events_more done action, more, in_use_more (in_use_of old) done action, ← first.twin, ← first.in_use)
+      (advances_both old mid new (events_of done) (events_by action) (outputs_of old.twin done) (outputs_by mid.twin action)
+      (in_use_after (in_use_of old) done) (in_use_by (in_use_of mid) action) first then)
 
   -- outputs are put again
-  pub put_advances : (old new : Engine D) (outputs : List Output) → old.owes ≡ false → old.failed ≡ None → PutsAgain s outputs old new → Goes [] outputs (in_use_of old) old new
+  pub put_advances : (old new : Engine D) (outputs : List Output) → old.owes ≡ false → old.failed ≡ None → PutsAgain s outputs old new
+      → Goes [] outputs (in_use_of old) old new
   put_advances old new outputs owes none again = record {
     twin = again.twin;
     owes = again.owes ∙ owes;
@@ -158,20 +174,18 @@ module _ {D : Type 0} (s : Ghosts D) where
     in_use = in_use_is new old.at.side old.generation (ap (λ (at : Position). at.side) again.at) again.generation;
     same_honest = again.puts.same_honest;
     told = again.puts.told;
-    moments = λ h t start before opening was.
-        subst (λ (l : List Event). EachMoment s old.site new.site (IsGood start l (length before) opening)) (sym (append-nil before)) ((again.good h t).moments start before opening was);
-    afterwards = λ h t start before opening was. subst (λ (l : List Event). Lived new start l opening) (sym (append-nil before)) (record {
+    moments = λ h t start before opening was. rw (append-nil before) ((again.good h t).moments start before opening was);
+    afterwards = λ h t start before opening was. rw (append-nil before) (record {
       sound = was.sound;
       lawful = was.lawful;
       twin = again.twin ∙ was.twin;
       good = (again.good h t).afterwards start before opening was;
     });
-    sides = λ h start before was.
-        weaker s old.site new.site (λ left told. MayBeLeft (s.state old.site) left) (λ left told. HasGoodSides start (before ++ []) (length before) left) (again.puts.contents h)
-        (λ left told may. more_sides start before [] (length before) (length before) left (omega arith) (was.sides left may));
-    sides_afterwards = λ h start before was. subst (λ (l : List Event). LeadsToSides s new start l) (sym (append-nil before)) (record {
+    sides = λ h start before was. rw (append-nil before) (weaker s old.site new.site (λ left told. MayBeLeft (s.state old.site) left)
+        (λ left told. HasGoodSides start before (length before) left) (again.puts.contents h) (λ left told may. was.sides left may));
+    sides_afterwards = λ h start before was. rw (append-nil before) (record {
       twin = again.twin ∙ was.twin;
-      sides = λ left may. was.sides left (λ side. subst (λ (t : Side → SideState). MayLeave (t side) (left side)) (again.puts.same_state h) (may side));
+      sides = λ left may. was.sides left (subst (λ (t : Side → SideState). MayBeLeft t left) (again.puts.same_state h) may);
     });
     same_failures = again.puts.same_failures;
   }
@@ -182,7 +196,8 @@ module _ {D : Type 0} (s : Ghosts D) where
   leads e start events opening was = record { twin = was.twin; good = was.good }
 
   -- a batch becomes durable, and its outputs are put
-  pub turn_advances : (old new : Engine D) (batch : List Entry) → AreLawful old.twin batch → Flushes s batch old new → Goes (events_in batch) (line old.twin (events_in batch)) (in_use_of old) old new
+  pub turn_advances : (old new : Engine D) (batch : List Entry) → AreLawful old.twin batch → Flushes s batch old new
+      → Goes (events_in batch) (line old.twin (events_in batch)) (in_use_of old) old new
   turn_advances old new batch lawful run = record {
     twin = run.twin;
     owes = run.owes;
@@ -204,7 +219,7 @@ module _ {D : Type 0} (s : Ghosts D) where
     same_failures = run.same_failures;
   }
 
-  pub turn_given_up : (old new : Engine D) (batch : List Entry) (fault : DeviceFault) → FlushFails s batch old new fault → GivesUp s Lived (events_in batch) (λ side call. MayFailIn old.at.side (Turn batch) side call) old new fault
+  pub turn_given_up : (old new : Engine D) (batch : List Entry) (fault : DeviceFault) → FlushFails s batch old new fault → FailsIn s (Turn batch) old new fault
   turn_given_up old new batch fault run = record {
     twin = run.twin;
     owes = run.owes;
@@ -231,14 +246,14 @@ module _ {D : Type 0} (s : Ghosts D) where
 
   keeps_good : (old new : Engine D) → KeepsNode old new → s.honest old.site → KeepsGood s (Lived old) [] old.site new.site
   keeps_good old new keeps h start before opening was =
-      subst (λ (l : List Event). EachMoment s old.site new.site (IsGood start l (length before) opening)) (sym (append-nil before)) ((keeps.good h).moments start before opening (leads old start before opening was))
+      rw (append-nil before) ((keeps.good h).moments start before opening (leads old start before opening was))
 
   keeps_sides : (old new : Engine D) → KeepsNode old new → s.honest old.site → KeepsSides s (LeadsToSides s old) [] old.site new.site
   keeps_sides old new keeps h =
-      call_keeps_sides s old [] new.site (λ start before opening was.
-      subst (λ (l : List Event). EachMoment s old.site new.site (IsGood start l (length before) opening)) (sym (append-nil before)) ((keeps.good h).moments start before opening was))
+      call_keeps_sides s old [] new.site (λ start before opening was. rw (append-nil before) ((keeps.good h).moments start before opening was))
 
-  move_goes : (old new : Engine D) (g : InUse) → KeepsNode old new → new.failed ≡ None → in_use_of new ≡ g → s.failures new.site ≡ s.failures old.site → Goes [] [] g old new
+  move_goes : (old new : Engine D) (g : InUse) → KeepsNode old new → new.failed ≡ None → in_use_of new ≡ g → s.failures new.site ≡ s.failures old.site
+      → Goes [] [] g old new
   move_goes old new g keeps none used count = record {
     twin = keeps.twin;
     owes = keeps.owes;
@@ -247,43 +262,44 @@ module _ {D : Type 0} (s : Ghosts D) where
     same_honest = keeps.same_honest;
     told = λ t. (keeps.told.0.1 t, keeps.told.1 ∙ sym (append-nil (s.sent old.site)));
     moments = λ h t. keeps_good old new keeps h;
-    afterwards = λ h t start before opening was. subst (λ (l : List Event). Lived new start l opening) (sym (append-nil before)) (record {
+    afterwards = λ h t start before opening was. rw (append-nil before) (record {
       sound = was.sound;
       lawful = was.lawful;
       twin = keeps.twin ∙ was.twin;
       good = (keeps.good h).afterwards start before opening (leads old start before opening was);
     });
     sides = keeps_sides old new keeps;
-    sides_afterwards = λ h start before was. subst (λ (l : List Event). LeadsToSides s new start l) (sym (append-nil before)) (record {
+    sides_afterwards = λ h start before was. rw (append-nil before) (record {
       twin = keeps.twin ∙ was.twin;
-      sides = sides_now s new.site start before (length (s.sent old.site)) ((keeps.good h).afterwards start before (length (s.sent old.site)) (leads_good s old start before was));
+      sides = sides_now s new.site start before (length (s.sent old.site))
+          ((keeps.good h).afterwards start before (length (s.sent old.site)) (leads_good s old start before was));
     });
     same_failures = count;
   }
 
-  moved_goes : (old new : Engine D) → KeepsNode old new → old.generation < counter_limit → Moves s old new → Goes [] [] (in_use_by (in_use_of old) Checkpoint) old new
-  moved_goes old new keeps less moves =
-      move_goes old new (in_use_by (in_use_of old) Checkpoint) keeps moves.goes_on
-      (in_use_is new (other old.at.side) (old.generation + 1) moves.side moves.generation ∙ sym (next_raised (in_use_of old) less)) moves.same_failures
-
-  left_goes : (old new : Engine D) → KeepsNode old new → old.failed ≡ None → counter_limit ≤ old.generation → new ≡ old → Goes [] [] (in_use_by (in_use_of old) Checkpoint) old new
-  left_goes old new keeps none spent same =
-      move_goes old new (in_use_by (in_use_of old) Checkpoint) keeps (ap (λ (e : Engine D). e.failed) same ∙ none)
-      (ap (λ (e : Engine D). in_use_of e) same ∙ sym (next_spent (in_use_of old) spent)) (ap (λ (e : Engine D). s.failures e.site) same)
-
-  pub move_done : (old new : Engine D) → KeepsNode old new → (old.generation < counter_limit → Moves s old new) → ¬ (counter_limit ≤ old.generation) → HasDone s Checkpoint old new
+  pub move_done : (old new : Engine D) → KeepsNode old new → (old.generation < counter_limit → Moves s old new) → ¬ (counter_limit ≤ old.generation)
+      → HasDone s Checkpoint old new
   move_done old new keeps moves left = elim (cases_lt old.generation counter_limit) [
-    | inl less ↦ (moved_goes old new keeps less (moves less), inr (moves less))
+    | inl less ↦
+        let did = moves less in
+        let used = in_use_is new (other old.at.side) (old.generation + 1) did.side did.generation ∙ sym (next_raised (in_use_of old) less) in
+        (move_goes old new (in_use_by (in_use_of old) Checkpoint) keeps did.goes_on used did.same_failures, inr did)
     | inr spent ↦ absurd (left spent)
   ]
 
-  pub spent_done : (old new : Engine D) → KeepsNode old new → old.failed ≡ None → ¬ (old.generation < counter_limit) → (counter_limit ≤ old.generation → new ≡ old) → HasDone s Checkpoint old new
+  pub spent_done : (old new : Engine D) → KeepsNode old new → old.failed ≡ None → ¬ (old.generation < counter_limit)
+      → (counter_limit ≤ old.generation → new ≡ old) → HasDone s Checkpoint old new
   spent_done old new keeps none last same = elim (cases_lt old.generation counter_limit) [
     | inl less ↦ absurd (last less)
-    | inr spent ↦ (left_goes old new keeps none spent (same spent), inl (spent, same spent))
+    | inr spent ↦
+        let is = same spent in
+        let used = ap (λ (e : Engine D). in_use_of e) is ∙ sym (next_spent (in_use_of old) spent) in
+        let none_new = ap (λ (e : Engine D). e.failed) is ∙ none in
+        (move_goes old new (in_use_by (in_use_of old) Checkpoint) keeps none_new used (ap (λ (e : Engine D). s.failures e.site) is), inl (spent, is))
   ]
 
-  pub move_given_up : (old new : Engine D) (fault : DeviceFault) → KeepsNode old new → (old.generation < counter_limit → MoveFails s old new fault) → ¬ (counter_limit ≤ old.generation) → FailsIn s Checkpoint old new fault
+  pub move_given_up : (old new : Engine D) (fault : DeviceFault) → KeepsNode old new → (old.generation < counter_limit → MoveFails s old new fault)
+      → ¬ (counter_limit ≤ old.generation) → FailsIn s Checkpoint old new fault
   move_given_up old new fault keeps fails left = elim (cases_lt old.generation counter_limit) [
     | inl less ↦ record {
       twin = keeps.twin;
@@ -303,15 +319,16 @@ module _ {D : Type 0} (s : Ghosts D) where
 
   -- ---- actions one after the other
 
-  pub one_more : (done : List Action) (action : Action) (old mid new : Engine D) → HaveDone s done old mid → HasDone s action mid new → HaveDone s (done ++ action ∷ []) old new
+  pub one_more : (done : List Action) (action : Action) (old mid new : Engine D) → HaveDone s done old mid → HasDone s action mid new
+      → HaveDone s (done ++ action ∷ []) old new
   one_more [] action old mid new none did = (new, subst (λ (e : Engine D). HasDone s action e new) none did, refl)
   one_more (first ∷ done) action old mid new have did = (have.0, have.1, one_more done action have.0 mid new have.2 did)
 
   -- ---- the end of a life
 
   -- actions are done, and the rest, of which there is none or for which there is no room, is given up
-  pub run_ended : (old new : Engine D) (actions done rest : List Action) → actions ≡ done ++ rest → Goes (events_of done) (outputs_of old.twin done) (in_use_after (in_use_of old) done) old new → HaveDone s done old new → (rest ≡ []) ⊎ (BeginsWithTurn rest × (room_limit ≤ new.used))
-      → HasRun s actions old new (Ok tt)
+  pub run_ended : (old new : Engine D) (actions done rest : List Action) → actions ≡ done ++ rest → Done done old new → HaveDone s done old new
+      → (rest ≡ []) ⊎ (BeginsWithTurn rest × (room_limit ≤ new.used)) → HasRun s actions old new (Ok tt)
   run_ended old new actions done rest parts run each why = record {
     done = done;
     rest = rest;
@@ -328,8 +345,9 @@ module _ {D : Type 0} (s : Ghosts D) where
   }
 
   -- actions are done, a disk call failed in the next one, and the rest is given up
-  pub run_failed : (old mid new : Engine D) (actions done : List Action) (action : Action) (more : List Action) (failed : Failed) → actions ≡ done ++ action ∷ more
-      → Goes (events_of done) (outputs_of old.twin done) (in_use_after (in_use_of old) done) old mid → HaveDone s done old mid → FailsIn s action mid new failed.fault → HasRun s actions old new (Err failed)
+  pub run_failed : (old mid new : Engine D) (actions done : List Action) (action : Action) (more : List Action) (failed : Failed)
+      → actions ≡ done ++ action ∷ more → Done done old mid → HaveDone s done old mid → FailsIn s action mid new failed.fault
+      → HasRun s actions old new (Err failed)
   run_failed old mid new actions done action more failed parts run each fails = record {
     done = done;
     rest = action ∷ more;
@@ -342,12 +360,12 @@ module _ {D : Type 0} (s : Ghosts D) where
     moments = λ h t none start events opening was.
         let mid_told = fails.told.0.1 t in
         subst (λ (l : List Event). EachMoment s old.site new.site (IsGood start (events ++ l) (length events) opening)) (sym (events_more done action))
-        (joined_on old.site mid.site new.site start events (events_of done) (events_by action) opening (run.moments h mid_told start events opening was)
+        (joined_on start opening old.site mid.site new.site events (events_of done) (events_by action) (run.moments h mid_told start events opening was)
         (fails.moments (run.same_honest.0 h) start (events ++ events_of done) opening (run.afterwards h mid_told start events opening was)));
     afterwards = λ h t none start events opening was. tt;
     sides = λ h none start events was.
         subst (λ (l : List Event). EachLeaves s (HasGoodSides start (events ++ l) (length events)) old.site new.site) (sym (events_more done action))
-        (sides_on old.site mid.site new.site start events (events_of done) (events_by action) (run.sides h start events was)
+        (sides_on start old.site mid.site new.site events (events_of done) (events_by action) (run.sides h start events was)
         (fails.sides (run.same_honest.0 h) start (events ++ events_of done) (run.sides_afterwards h start events was)));
     sides_afterwards = λ h none start events was. tt;
   }

@@ -34,14 +34,16 @@ pub read : (bytes : List ℕ) (generation : ℕ) (node : Node) (place : ℕ) →
 read bytes generation node place holds =
     let front = holds.is_front in
     let rest = front.records ++ holds.gate ∷ holds.rest in
-    let all : bytes ≡ front.head ++ rest = holds.parts ∙ ap (λ (l : List ℕ). l ++ holds.gate ∷ holds.rest) front.parts ∙ append_assoc front.head front.records (holds.gate ∷ holds.rest) in
+    let all : bytes ≡ front.head ++ rest = holds.parts ∙ ap (λ (l : List ℕ). l ++ holds.gate ∷ holds.rest) front.parts
+    ∙ append_assoc front.head front.records (holds.gate ∷ holds.rest) in
     record {
       start = front.start;
       first = length front.head;
       size = length front.records;
       records = length front.batches;
       events = length (events_of front.batches);
-      head = subst (λ (l : List ℕ). HeadAt l front.start (length front.head)) (sym all) (head_found front.version front.head rest generation front.start front.known front.head_spelled);
+      head = subst (λ (l : List ℕ). HeadAt l front.start (length front.head)) (sym all)
+          (head_found front.version front.head rest generation front.start front.known front.head_spelled);
       scans = record {
         front = front.records;
         gate = holds.gate;
@@ -62,9 +64,11 @@ read bytes generation node place holds =
 module _ (one_state : OneState) (one_scan : OneScan) where
   one_read : (bytes : List ℕ) (n m : Node) (p q : ℕ) → Read bytes n p → Read bytes m q → (p ≡ q) × (n ≡ m)
   one_read bytes n m p q x y =
-      let start : y.start ≡ x.start = (one_state (layout_of (slice_index bytes 9)) (state_of bytes) (state_of bytes) [] [] y.start x.start y.head.state x.head.state refl).0 in
+      let start : y.start ≡ x.start = (one_state (layout_of (slice_index bytes 9)) (state_of bytes)
+      (state_of bytes) [] [] y.start x.start y.head.state x.head.state refl).0 in
       let first : y.first ≡ x.first = y.head.is ∙ sym x.head.is in
-      let scans = subst (λ (k : ℕ). ScansTo (drop k bytes) x.start m y.size y.records y.events) first (subst (λ (s : Node). ScansTo (drop y.first bytes) s m y.size y.records y.events) start y.scans) in
+      let scans = subst (λ (k : ℕ). ScansTo (drop k bytes) x.start m y.size y.records y.events) first
+      (subst (λ (s : Node). ScansTo (drop y.first bytes) s m y.size y.records y.events) start y.scans) in
       let one = one_scan (drop x.first bytes) x.start n m x.size y.size x.records y.records x.events y.events x.scans scans in
       (omega (arith, x.at_place, y.at_place, first, one.1), one.0)
 

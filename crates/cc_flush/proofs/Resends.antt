@@ -1,10 +1,12 @@
 -- What is put out again, piece by piece.
 --     rows_resend                        a post on each row, as on each live link
---     next_piece, after_pieces           the next piece that a loop puts, and the end of it
+--     HasPutPieces                       a loop has put pieces, and counted their outputs
+--     pieces_none, pieces_more, pieces_all     so it is at its begin, behind one more of them, and at its end
 --     next_post                          the next kept post, by its number
 --     resends_stand, reply_stands, ack_stands       all that is put again stands in the node
 --     standing_is_made                   and so it was made
-use Rattle.std.proofs.Common.{◌≡◌, ℕ, zero, suc, ◌+◌, ◌-◌, ◌<◌, ◌≤◌, Bool, true, false, cond, not, List, [], ◌∷◌, ◌++◌, map, length, get_or, drop, add-one, Some, None, refl, sym, ap, subst, ◌∙◌, arith}
+use Rattle.std.proofs.Common.{◌≡◌, ℕ, zero, suc, ◌+◌, ◌-◌, ◌<◌, ◌≤◌, Bool, true, false, cond, not, List, [], ◌∷◌, ◌++◌, map, length, get_or}
+use Rattle.std.proofs.Common.{drop, add-one, Some, None, refl, sym, ap, subst, ◌∙◌, arith, length-append}
 use Rattle.std.specs.Prelude.{Option, IfSome, nat_lt, if◌then◌else◌}
 use Rattle.std.specs.Option.{option_map_or}
 use Rattle.std.specs.List.{flat_map, Contains, AllByRecursion}
@@ -13,7 +15,7 @@ use Rattle.std.specs.FinMap as table
 use Rattle.std.specs.FinMap.{FinMap}
 use Rattle.std.specs.FinMap.Entries.{where_key}
 use Rattle.std.proofs.lemmas.List.{at_drop_all}
-use Rattle.std.proofs.lemmas.List.Elements.{All-contains, All-from_recursion}
+use Rattle.std.proofs.lemmas.List.Elements.{All-append, All-contains, All-from_recursion, recursion_from_All}
 use Rattle.std.proofs.lemmas.Bool.{and_parts, ltb-true}
 use Rattle.cc_views.specs.MapLaws.{all_entries}
 use Rattle.cc_views.specs.NatSets as set
@@ -22,6 +24,9 @@ use Rattle.cc_messages.specs.declared.event.Event.{Event}
 use Rattle.cc_messages.specs.declared.message.Message.{Message}
 use Rattle.cc_messages.specs.declared.output.Output.{Output}
 use Rattle.cc_messages.specs.declared.output.Output.TheVariants as output
+use Rattle.cc_site.specs.declared.site.Site.{Ghosts}
+use Rattle.cc_site.specs.Runs.{OnlyNow}
+use Rattle.cc_links.specs.declared.link_row.LinkRow.{LinkRow}
 use Rattle.cc_links.specs.Links.{Link}
 use Rattle.cc_links.specs.Rows.{row_of, rows_of}
 use Rattle.cc_outbox.specs.OutboxLaws.{KeepsPosts}
@@ -32,11 +37,14 @@ use Rattle.cc_node.specs.Node.{Node, after, IsLawful, HasOutput, MayBeOut}
 use Rattle.cc_node.proofs.StandingLaws.{standing_made}
 use Rattle.cc_states.proofs.NodeStates.{entries_numbered, post_at, length-values}
 use Rattle.cc_flush.specs.Standing.{waits_for, resend_on, resend_row, resend_post, resends, reply_of, reply_again, ack_again}
+use Rattle.cc_journal.specs.Outlet.{Puts}
 use Rattle.cc_journal.proofs.LinkSends.{entries_where}
+use Rattle.cc_journal.proofs.Puts.{HasPut, put_none, put_more, put_all}
 
 -- ---- on the rows of the links
 
-resend_where : (c : Core) (post : ℕ × Message) (es : List (ℕ × Link)) → flat_map (resend_on post) (where_key nat_cmp (λ q. not (set.contains c.churn.changes.left q)) es) ≡ flat_map (resend_row c post) (map row_of es)
+resend_where : (c : Core) (post : ℕ × Message) (es : List (ℕ × Link))
+    → flat_map (resend_on post) (where_key nat_cmp (λ q. not (set.contains c.churn.changes.left q)) es) ≡ flat_map (resend_row c post) (map row_of es)
 resend_where c post [] = refl
 resend_where c post (e ∷ es) =
     let kept = where_key nat_cmp (λ q. not (set.contains c.churn.changes.left q)) es in
@@ -46,21 +54,42 @@ resend_where c post (e ∷ es) =
       | false ↦ ap (λ (l : List Output). resend_on post e ++ l) (resend_where c post es)
     ]
 
-pub rows_resend : (c : Core) (post : ℕ × Message) → flat_map (resend_row c post) (rows_of c.links) ≡ resend_post c post
-rows_resend c post =
-    sym (ap (flat_map (resend_on post)) (entries_where (λ q. not (set.contains c.churn.changes.left q)) c.links) ∙ resend_where c post (table.entries c.links))
+pub rows_resend : (c : Core) (post : ℕ × Message) (rows : List LinkRow) → rows ≡ rows_of c.links → flat_map (resend_row c post) rows ≡ resend_post c post
+rows_resend c post rows is =
+    ap (flat_map (resend_row c post)) is ∙ sym (resend_where c post (table.entries c.links))
+    ∙ sym (ap (flat_map (resend_on post)) (entries_where (λ q. not (set.contains c.churn.changes.left q)) c.links))
 
 -- ---- piece by piece
 
-pub next_piece : {X : Type 0} (f : X → List Output) (xs : List X) (i : ℕ) (x : X) → drop i xs ≡ x ∷ drop (i + 1) xs → flat_map f (drop i xs) ≡ f x ++ flat_map f (drop (i + 1) xs)
-next_piece f xs i x next = ap (flat_map f) next
+module _ {D X : Type 0} (s : Ghosts D) (f : X → List Output) (xs : List X) (old : D) where
+  -- the pieces from the i-th on are left, and so many outputs have been put
+  pub record HasPutPieces (now : D) (i count : ℕ) : Type 0 where
+    pub put : HasPut s old now (flat_map f xs) (flat_map f (drop i xs))
+    pub counted : count + length (flat_map f (drop i xs)) ≡ length (flat_map f xs)
 
-pub after_pieces : {X : Type 0} (f : X → List Output) (xs : List X) (i : ℕ) → length xs ≤ i → flat_map f (drop i xs) ≡ []
-after_pieces f xs i past = at_drop_all (flat_map f) xs i past
+  pub pieces_none : (s.honest old → OnlyNow s old) → HasPutPieces old 0 0
+  pieces_none only = record { put = put_none s old (flat_map f xs) only; counted = omega arith }
+
+  pub pieces_more : (now new : D) (i count n : ℕ) (x : X) → HasPutPieces now i count → drop i xs ≡ x ∷ drop (i + 1) xs → Puts s (f x) now new
+      → n ≡ length (f x) → HasPutPieces new (i + 1) (count + n)
+  pieces_more now new i count n x so_far next puts is =
+      let rest = flat_map f (drop (i + 1) xs) in
+      let split : flat_map f (drop i xs) ≡ f x ++ rest = ap (flat_map f) next in
+      record {
+        put = put_more s old now new (flat_map f xs) (flat_map f (drop i xs)) (f x) rest so_far.put split puts;
+        counted = omega (arith, so_far.counted, is, ap length split, length-append (f x) rest);
+      }
+
+  pub pieces_all : (now : D) (i count : ℕ) (outputs : List Output) → HasPutPieces now i count → length xs ≤ i → flat_map f xs ≡ outputs
+      → Puts s outputs old now × (count ≡ length outputs)
+  pieces_all now i count outputs so_far past is =
+      let none : flat_map f (drop i xs) ≡ [] = at_drop_all (flat_map f) xs i past in
+      (put_all s old now (flat_map f xs) outputs (flat_map f (drop i xs)) so_far.put is none, omega (arith, so_far.counted, ap length none, ap length is))
 
 -- ---- the kept posts
 
-drop_numbered : (n i : ℕ) (ms : List Message) (m : Message) → i < length ms → m ≡ get_or ms i m → drop i (numbered n ms) ≡ (n + i + 1, m) ∷ drop (suc i) (numbered n ms)
+drop_numbered : (n i : ℕ) (ms : List Message) (m : Message) → i < length ms → m ≡ get_or ms i m
+    → drop i (numbered n ms) ≡ (n + i + 1, m) ∷ drop (suc i) (numbered n ms)
 drop_numbered n i [] m lt is = absurd (omega arith)
 drop_numbered n zero (x ∷ ms) m lt is =
     let same : n + 1 ≡ n + 0 + 1 = omega arith in
@@ -79,25 +108,27 @@ next_post last count kept is few i number m at lt found =
     let numbers : table.entries kept ≡ numbered start values = entries_numbered (last - count) last kept is in
     let same : start + i + 1 ≡ number = omega (arith, at, few, length-values kept) in
     ap (drop i) numbers ∙ drop_numbered start i values m place.0 place.1 ∙ ap (λ (k : ℕ). (k, m) ∷ drop (suc i) (numbered start values)) same
-    ∙ ap (λ (k : ℕ). (number, m) ∷ drop k (numbered start values)) (sym (add-one i)) ∙ ap (λ (es : List (ℕ × Message)). (number, m) ∷ drop (i + 1) es) (sym numbers)
+    ∙ ap (λ (k : ℕ). (number, m) ∷ drop k (numbered start values)) (sym (add-one i))
+    ∙ ap (λ (es : List (ℕ × Message)). (number, m) ∷ drop (i + 1) es) (sym numbers)
 
 -- ---- all of it stands
 
-all_both : (P : Output → Type 0) (xs ys : List Output) → AllByRecursion P xs → AllByRecursion P ys → AllByRecursion P (xs ++ ys)
-all_both P [] ys first second = second
-all_both P (x ∷ xs) ys first second = (first.0, all_both P xs ys first.1 second)
-
-all_pieces : {X : Type 0} (P : Output → Type 0) (f : X → List Output) (xs : List X) → AllByRecursion (λ x. AllByRecursion P (f x)) xs → AllByRecursion P (flat_map f xs)
+all_pieces : {X : Type 0} (P : Output → Type 0) (f : X → List Output) (xs : List X) → AllByRecursion (λ x. AllByRecursion P (f x)) xs
+    → AllByRecursion P (flat_map f xs)
 all_pieces P f [] each = tt
-all_pieces P f (x ∷ xs) each = all_both P (f x) (flat_map f xs) each.0 (all_pieces P f xs each.1)
+all_pieces P f (x ∷ xs) each =
+    let rest = flat_map f xs in
+    recursion_from_All P (f x ++ rest) (All-append P (f x) rest (All-from_recursion P (f x) each.0) (All-from_recursion P rest (all_pieces P f xs each.1)))
 
 where_some : {X : Type 0} (P : X → Type 0) (o : Option X) → ((x : X) → o ≡ Some x → P x) → IfSome o P
 where_some P None each = tt
 where_some P (Some x) each = each x refl
 
-each_entry : {X : Type 0} (P : ℕ → X → Type 0) (m : FinMap nat_cmp X) → ((q : ℕ) (x : X) → table.get m q ≡ Some x → P q x) → AllByRecursion (λ e. P e.0 e.1) (table.entries m)
+each_entry : {X : Type 0} (P : ℕ → X → Type 0) (m : FinMap nat_cmp X) → ((q : ℕ) (x : X) → table.get m q ≡ Some x → P q x)
+    → AllByRecursion (λ e. P e.0 e.1) (table.entries m)
 each_entry P m each =
-    all_entries P (table.entries m) (table.entries_sorted m) (λ q. subst (λ o. IfSome o (P q)) (table.get-entries m q) (where_some (P q) (table.get m q) (each q)))
+    all_entries P (table.entries m) (table.entries_sorted m)
+    (λ q. subst (λ o. IfSome o (P q)) (table.get-entries m q) (where_some (P q) (table.get m q) (each q)))
 
 module _ (n : Node) where
   abbrev AllStand : List Output → Type 0
@@ -113,13 +144,16 @@ module _ (n : Node) where
   post_stands : (number : ℕ) (m : Message) → table.get n.outbox.posts number ≡ Some m → AllStand (resend_post n.core (number, m))
   post_stands number m kept =
       all_pieces (HasOutput n) (resend_on (number, m)) (table.entries (live_links n.core))
-      (each_entry (λ to l. AllStand (resend_on (number, m) (to, l))) (live_links n.core) (λ to l live. send_stands number m to l kept live (waits_for number l) refl))
+      (each_entry (λ to l. AllStand (resend_on (number, m) (to, l))) (live_links n.core)
+      (λ to l live. send_stands number m to l kept live (waits_for number l) refl))
 
   pub resends_stand : AllByRecursion (HasOutput n) (resends n)
   resends_stand =
-      all_pieces (HasOutput n) (resend_post n.core) (table.entries n.outbox.posts) (each_entry (λ number m. AllStand (resend_post n.core (number, m))) n.outbox.posts post_stands)
+      all_pieces (HasOutput n) (resend_post n.core) (table.entries n.outbox.posts)
+      (each_entry (λ number m. AllStand (resend_post n.core (number, m))) n.outbox.posts post_stands)
 
-  reply_stands_of : (session : ℕ) (r : Option ℕ) (a : Option Answer) → table.get n.core.sessions session ≡ r → table.get n.outbox.answers session ≡ a → AllStand (reply_of session r a)
+  reply_stands_of : (session : ℕ) (r : Option ℕ) (a : Option Answer) → table.get n.core.sessions session ≡ r → table.get n.outbox.answers session ≡ a
+      → AllStand (reply_of session r a)
   reply_stands_of session None a last kept = tt
   reply_stands_of session (Some r) None last kept = tt
   reply_stands_of session (Some r) (Some a) last kept = ((kept, last), tt)
@@ -127,7 +161,8 @@ module _ (n : Node) where
   pub reply_stands : (session : ℕ) → AllByRecursion (HasOutput n) (reply_again session n)
   reply_stands session = reply_stands_of session (table.get n.core.sessions session) (table.get n.outbox.answers session) refl refl
 
-  heard_stands : (peer : ℕ) (l : Link) → table.get n.core.links peer ≡ Some l → (b : Bool) → nat_lt 0 l.heard ≡ b → AllStand (if b then output.Ack peer l.heard ∷ [] else [])
+  heard_stands : (peer : ℕ) (l : Link) → table.get n.core.links peer ≡ Some l → (b : Bool) → nat_lt 0 l.heard ≡ b
+      → AllStand (if b then output.Ack peer l.heard ∷ [] else [])
   heard_stands peer l row true some = ((l, row, refl, ltb-true 0 l.heard some), tt)
   heard_stands peer l row false some = tt
 
@@ -140,7 +175,9 @@ module _ (n : Node) where
   ack_stands peer = ack_stands_of peer (table.get n.core.links peer) refl
 
 -- what stands after lawful events was made by them
-pub standing_is_made : (start node : Node) (events : List Event) (again : List Output) → IsLawfulNode start → IsLawful start events → node ≡ after start events → AllByRecursion (HasOutput node) again
+pub standing_is_made : (start node : Node) (events : List Event) (again : List Output) → IsLawfulNode start → IsLawful start events
+    → node ≡ after start events → AllByRecursion (HasOutput node) again
     → (output : Output) → Contains again output → MayBeOut start events output
 standing_is_made start node events again sound lawful is stand output has =
-    standing_made start events output sound lawful (subst (λ (n : Node). HasOutput n output) is (All-contains (HasOutput node) again output (All-from_recursion (HasOutput node) again stand) has))
+    standing_made start events output sound lawful
+    (subst (λ (n : Node). HasOutput n output) is (All-contains (HasOutput node) again output (All-from_recursion (HasOutput node) again stand) has))

@@ -42,9 +42,20 @@ pub record Engine (D : Type 0) : Type 0 where
 abbrev pub engine_code : {D : Type 0} → Coded D → Coded (Engine D)
 engine_code {D} site_code =
     code_by (D × (Node × (Position × (ℕ × (ℕ × (Bool × (List Entry × (Option DeviceFault × Opened))))))))
-    (coded× site_code (coded× node_code (coded× position_code (coded× coded_ℕ (coded× coded_ℕ (coded× coded_bool (coded× entries_code (coded× (coded_option (device_fault.the_row).coded) (opened_type.the_row).coded))))))))
+    (coded× site_code (coded× node_code (coded× position_code (coded× coded_ℕ (coded× coded_ℕ (coded× coded_bool
+    (coded× entries_code (coded× (coded_option (device_fault.the_row).coded) (opened_type.the_row).coded))))))))
     (λ e. (e.site, (e.twin, (e.at, (e.generation, (e.used, (e.owes, (e.owed, (e.failed, e.opened)))))))))
-    (λ p. record { site = p.0; twin = p.1.0; at = p.1.1.0; generation = p.1.1.1.0; used = p.1.1.1.1.0; owes = p.1.1.1.1.1.0; owed = p.1.1.1.1.1.1.0; failed = p.1.1.1.1.1.1.1.0; opened = p.1.1.1.1.1.1.1.1 }) (λ _. refl)
+    (λ p. record {
+      site = p.0;
+      twin = p.1.0;
+      at = p.1.1.0;
+      generation = p.1.1.1.0;
+      used = p.1.1.1.1.0;
+      owes = p.1.1.1.1.1.0;
+      owed = p.1.1.1.1.1.1.0;
+      failed = p.1.1.1.1.1.1.1.0;
+      opened = p.1.1.1.1.1.1.1.1;
+    }) (λ _. refl)
 
 abbrev pub in_use_of : {D : Type 0} → Engine D → InUse
 in_use_of e = record { side = e.at.side; generation = e.generation }

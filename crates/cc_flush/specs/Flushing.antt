@@ -57,7 +57,8 @@ module _ {D : Type 0} (s : Ghosts D) where
     pub sides : HasGoodSidesNow s engine.site start events
 
   -- No output came before its event was durable. This side is now in use, under this generation.
-  pub record Advances (led : Engine D → Node → List Event → ℕ → Type 0) (more : List Event) (outputs : List Output) (used : InUse) (old new : Engine D) : Type 0 where
+  pub record Advances (led : Engine D → Node → List Event → ℕ → Type 0) (more : List Event) (outputs : List Output) (used : InUse)
+      (old new : Engine D) : Type 0 where
     pub twin : new.twin ≡ after old.twin more
     pub owes : new.owes ≡ false
     pub goes_on : new.failed ≡ None
@@ -65,7 +66,8 @@ module _ {D : Type 0} (s : Ghosts D) where
     pub same_honest : s.honest old.site ↔ s.honest new.site
     pub told : s.tells new.site → s.tells old.site × (s.sent new.site ≡ s.sent old.site ++ outputs)
     pub moments : s.honest old.site → s.tells new.site → KeepsGood s (led old) more old.site new.site
-    pub afterwards : s.honest old.site → s.tells new.site → (start : Node) (events : List Event) (opening : ℕ) → led old start events opening → led new start (events ++ more) opening
+    pub afterwards : s.honest old.site → s.tells new.site → (start : Node) (events : List Event) (opening : ℕ) → led old start events opening
+        → led new start (events ++ more) opening
     -- so it is with the sides, also where the outlet doesn't tell
     pub sides : s.honest old.site → KeepsSides s (LeadsToSides old) more old.site new.site
     pub sides_afterwards : s.honest old.site → (start : Node) (events : List Event) → LeadsToSides old start events → LeadsToSides new start (events ++ more)
@@ -74,7 +76,8 @@ module _ {D : Type 0} (s : Ghosts D) where
   abbrev pub Flushes : List Entry → Engine D → Engine D → Type 0
   Flushes batch old new = Advances LeadsTo (events_in batch) (line old.twin (events_in batch)) (in_use_of old) old new
 
-  pub record GivesUp (led : Engine D → Node → List Event → ℕ → Type 0) (more : List Event) (calls : Side → Call → Type 0) (old new : Engine D) (fault : DeviceFault) : Type 0 where
+  pub record GivesUp (led : Engine D → Node → List Event → ℕ → Type 0) (more : List Event) (calls : Side → Call → Type 0)
+      (old new : Engine D) (fault : DeviceFault) : Type 0 where
     pub twin : new.twin ≡ old.twin
     pub owes : new.owes ≡ false
     pub at : new.at ≡ old.at

@@ -113,7 +113,8 @@ Leaves s (Reack peer) old new = ⊤
 Leaves s Checkpoint old new = ((counter_limit ≤ old.generation) × (new ≡ old)) ⊎ Moves s old new
 
 abbrev pub HasDone : {D : Type 0} → Ghosts D → Action → Engine D → Engine D → Type 0
-HasDone s action old new = Advances s (HasLived s) (events_by action) (outputs_by old.twin action) (in_use_by (in_use_of old) action) old new × Leaves s action old new
+HasDone s action old new =
+    Advances s (HasLived s) (events_by action) (outputs_by old.twin action) (in_use_by (in_use_of old) action) old new × Leaves s action old new
 
 abbrev pub FailsIn : {D : Type 0} → Ghosts D → Action → Engine D → Engine D → DeviceFault → Type 0
 FailsIn s action old new fault = GivesUp s (HasLived s) (events_by action) (λ side call. MayFailIn old.at.side action side call) old new fault
@@ -145,11 +146,14 @@ pub record HasRun {D : Type 0} (s : Ghosts D) (actions : List Action) (old new :
   pub each : MatchResult result (λ _. HaveDone s done old new) (λ f. old.failed ≡ None → FailsBehind s done rest old new f.fault)
   pub told : s.tells new.site → s.sent new.site ≡ s.sent old.site ++ outputs_of old.twin done
   -- all of them, unless there is no room for the next batch, or a disk call failed in the next one
-  pub stops : MatchResult result (λ _. (rest ≡ []) ⊎ (BeginsWithTurn rest × (room_limit ≤ new.used))) (λ f. old.failed ≡ None → FailsFirst (in_use_after (in_use_of old) done).side rest f.fault)
+  pub stops : MatchResult result (λ _. (rest ≡ []) ⊎ (BeginsWithTurn rest × (room_limit ≤ new.used)))
+      (λ f. old.failed ≡ None → FailsFirst (in_use_after (in_use_of old) done).side rest f.fault)
   -- what was given up unbegun has no part in any moment
   pub moments : s.honest old.site → s.tells new.site → old.failed ≡ None → KeepsGood s (HasLived s old) (events_of (begun result done rest)) old.site new.site
-  pub afterwards : s.honest old.site → s.tells new.site → old.failed ≡ None → (start : Node) (events : List Event) (opening : ℕ) → HasLived s old start events opening
+  pub afterwards : s.honest old.site → s.tells new.site → old.failed ≡ None → (start : Node) (events : List Event) (opening : ℕ)
+      → HasLived s old start events opening
       → OnOk result (HasLived s new start (events ++ events_of done) opening)
   -- so it is with the sides, also where the outlet doesn't tell
   pub sides : s.honest old.site → old.failed ≡ None → KeepsSides s (LeadsToSides s old) (events_of (begun result done rest)) old.site new.site
-  pub sides_afterwards : s.honest old.site → old.failed ≡ None → (start : Node) (events : List Event) → LeadsToSides s old start events → OnOk result (LeadsToSides s new start (events ++ events_of done))
+  pub sides_afterwards : s.honest old.site → old.failed ≡ None → (start : Node) (events : List Event) → LeadsToSides s old start events
+      → OnOk result (LeadsToSides s new start (events ++ events_of done))

@@ -71,7 +71,9 @@ SideFails side bytes fault = HeadFails side bytes fault ⊎ ((node : Node) × (f
 
 -- no side is in use, or the one that is fails; a device fault and want of memory may come in place of any other
 abbrev pub ReadingFails : Contents → OpenFault → Type 0
-ReadingFails left fault = (chosen (left A) (left B) ≡ Err fault) ⊎ ((used : InUse) × (chosen (left A) (left B) ≡ Ok used) × SideFails used.side (left used.side) fault)
+ReadingFails left fault =
+    (chosen (left A) (left B) ≡ Err fault)
+    ⊎ ((used : InUse) × (chosen (left A) (left B) ≡ Ok used) × SideFails used.side (left used.side) fault)
 
 abbrev pub OpenFails : Contents → OpenFault → Type 0
 OpenFails left fault = IsReadingFault fault → ReadingFails left fault

@@ -1,17 +1,19 @@
 //! The node of an engine is moved to the other side.
 
-ghost use Rattle.std.specs.Prelude.{ℕ, ◌≡◌, ◌↔◌, ◌≤◌, ◌<◌, ◌+◌, ◌∷◌, [], length, OnOk, OnErr, IfErr};
+ghost use Rattle.std.specs.Prelude.{ℕ, ◌≡◌, ◌↔◌, ◌⊎◌, ◌≤◌, ◌<◌, ◌+◌, List, ◌∷◌, [], length, OnOk, OnErr, IfErr};
+ghost use Rattle.cc_messages.specs.declared.event.Event.{Event};
 ghost use Rattle.cc_site.specs.Moments.{Possible};
 ghost use Rattle.cc_site.specs.Runs.{EachMoment};
 ghost use Rattle.cc_site.specs.Sides.{durable, other};
 ghost use Rattle.cc_site.specs.Telling.{CountsCalls};
+ghost use Rattle.cc_node.specs.Node.{Node as NodeValue, after};
 ghost use Rattle.cc_sides.specs.Sides.{OPEN};
-ghost use Rattle.cc_checkpoint.specs.Checkpoints.{image_of};
+ghost use Rattle.cc_checkpoint.specs.Checkpoints.{image_of, RestsOn};
 ghost use Rattle.cc_checkpoint.specs.Images.{SpellsImage};
-ghost use Rattle.cc_checkpoint.specs.Stops.{HasClosed};
+ghost use Rattle.cc_checkpoint.specs.Stops.{Fills, HasClosed};
 ghost use Rattle.cc_journal.specs.Journals.{room_limit, StaysGood};
 ghost use Rattle.cc_flush.specs.Engine.{IsSettled};
-ghost use Rattle.cc_flush.specs.Moving.{RestsFrom, Begins, BeginStops, MoveCalls, SidesStop};
+ghost use Rattle.cc_flush.specs.Moving.{RestsFrom, Begins, BeginStops, FilledStops, MoveCalls, SidesStop};
 
 use cc_checkpoint::{Piece, arm, fill, retire, state_length};
 use cc_journal::Journal;
@@ -39,6 +41,34 @@ fn ensure_gate<S: Site>(site: &mut S, side: Side) -> Result<(), DeviceFault>
     Ok(())
 }
 
+// Puts the node on a side, under a generation above that of the other one, which is in use and holds it. At each moment the
+// sides stand for the node.
+fn put_on_side<S: Site>(
+    site: &mut S,
+    side: Side,
+    generation: u64,
+    node: &Node,
+    piece: &mut Piece,
+) -> Result<(), DeviceFault>
+    requires { 1 ≤ generation }
+    ensures honest { S.honest site.old ↔ S.honest site.new }
+    ensures tells { (S.tells site.old ↔ S.tells site.new) × (S.sent site.new ≡ S.sent site.old) }
+    ensures other_side { S.honest site.old → S.state site.new (other side) ≡ S.state site.old (other side) }
+    ensures holds { S.honest site.old → OnOk result (S.state site.new side ≡ durable (OPEN ∷ image_of generation node.now)) }
+    ensures spelled { S.honest site.old → OnOk result (SpellsImage (image_of generation node.now) generation node.now) }
+    ensures good { S.honest site.old → IsSettled (S.state site.old side) → (place lower : ℕ) → lower < generation
+        → StaysGood S.Site (RestsFrom S.Site node.now (record { side = other side; place = place }) lower site.old) site.old site.new }
+    ensures rests { S.honest site.old → IsSettled (S.state site.old side) → (place lower : ℕ) → lower < generation → (start : NodeValue) (events : List Event) (opening : ℕ)
+        → RestsFrom S.Site node.now (record { side = other side; place = place }) lower site.old start events opening
+        → OnOk result (RestsOn S.Site site.new side generation (length (image_of generation (after start events))) start events opening) }
+    ensures failed { S.honest site.old → IfErr result (λ f. FilledStops generation node.now (S.state site.old side) f.call (S.state site.new side)) }
+    ensures fault { CountsCalls (λ on call. Begins side on call ⊎ Fills side on call) (S.failures site.old) (S.failures site.new) result }
+{
+    ensure_gate(site, side)?;
+    fill(site, side, generation, node, piece)?;
+    arm(site, side)
+}
+
 /// Moves the node to the other side, under a generation above that of the side in use, and leaves the old side as one
 /// closed byte. At each moment the sides stand for the node.
 pub(crate) fn move_over<S: Site>(
@@ -64,9 +94,7 @@ pub(crate) fn move_over<S: Site>(
 {
     let old = journal.side();
     let side = old.other();
-    ensure_gate(site, side)?;
-    fill(site, side, generation, node, piece)?;
-    arm(site, side)?;
+    put_on_side(site, side, generation, node, piece)?;
     retire(site, old)?;
     journal.move_to(side, STATE_PLACE + state_length(node));
     Ok(())

@@ -19,4 +19,5 @@ returns-clause-at_rest g c honest generation start events opening led =
     (record { rests = c.write.ensures.at_rest honest generation start events opening led.rests; lawful = led.lawful })
 
 pub returns-in_err-flight-clause-every_moment : goal.returns-in_err-flight-clause-every_moment
-returns-in_err-flight-clause-every_moment g c honest generation start events opening led = c.write.ensures.every_moment honest generation start events opening led.rests
+returns-in_err-flight-clause-every_moment g c honest generation start events opening led =
+    c.write.ensures.every_moment honest generation start events opening led.rests

@@ -4,8 +4,7 @@ use Rattle.cc_flush.proofs.formatting.begins_with.Goals as goal
 
 pub returns-clause-exact : goal.returns-clause-exact
 returns-clause-exact g c honest =
-    let s = g.S.Site in
-    let bytes = (s.state c.args.site.now c.args.side).bytes in
+    let bytes = (g.S.Site.state c.args.site.now c.args.side).bytes in
     let reads = c.length_of.ensures.reads in
     first_read bytes c.read_into.new.into c.args.byte (omega (arith, c.in_ok-len.ensures.value honest, c.if-len-eq0.false))
     (c.in_ok-read_into.ensures.value (reads.keeps_honesty.0 honest) ∙ ap (λ t. take 1 (t c.args.side).bytes) (reads.keeps_state honest))

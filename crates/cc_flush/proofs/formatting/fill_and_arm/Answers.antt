@@ -7,8 +7,7 @@ use Rattle.cc_flush.proofs.formatting.fill_and_arm.Goals as goal
 
 pub returns-in_err-write_durably-clause-every_moment : goal.returns-in_err-write_durably-clause-every_moment
 returns-in_err-write_durably-clause-every_moment g c honest =
-    let s = g.S.Site in
-    fill_run s c.args.site.now c.write_durably.new.site c.args.side c.args.image.now (c.requires honest) (c.write_durably.ensures.every_moment honest)
+    fill_run g.S.Site c.args.site.now c.write_durably.new.site c.args.side c.args.image.now (c.requires honest) (c.write_durably.ensures.every_moment honest)
 
 pub returns-clause-every_moment : goal.returns-clause-every_moment
 returns-clause-every_moment g c honest =

@@ -9,28 +9,22 @@ returns-clause-failed g c honest =
     let s = g.S.Site in
     let old = c.args.site.now in
     let mid = c.settle_sides.new.site in
-    let h = c.settle_sides.ensures.honest.0 honest in
-    let value = c.in_ok-settle_sides.ensures.value honest in
-    same_fails (bytes_of s mid) (bytes_of s old) c.read_sides.result (same_bytes (s.state mid) (s.state old) value.0 value.1) (c.read_sides.ensures.failed h)
+    same_fails (bytes_of s mid) (bytes_of s old) (same_bytes (s.state old) (s.state mid) (c.in_ok-settle_sides.ensures.value honest)) c.read_sides.result
+    (c.read_sides.ensures.failed (c.settle_sides.ensures.honest.0 honest))
 
 pub returns-clause-every_moment : goal.returns-clause-every_moment
 returns-clause-every_moment g c honest =
     let s = g.S.Site in
     let old = c.args.site.now in
     let mid = c.settle_sides.new.site in
-    let new = c.read_sides.new.site in
-    let h = c.settle_sides.ensures.honest.0 honest in
     let P = Possible (s.state old) (s.sent old) in
-    rests s old mid new P
+    rests s old mid c.read_sides.new.site P
     (rests s old old mid P (started s old P (g.met.S.Site.only_now old honest)) (c.settle_sides.ensures.time honest))
-    (c.read_sides.ensures.reads.no_moment h)
+    (c.read_sides.ensures.reads.no_moment (c.settle_sides.ensures.honest.0 honest))
 
 pub returns-clause-stands : goal.returns-clause-stands
 returns-clause-stands g c honest =
     let s = g.S.Site in
-    let old = c.args.site.now in
-    let mid = c.settle_sides.new.site in
-    let new = c.read_sides.new.site in
     let h = c.settle_sides.ensures.honest.0 honest in
-    let value = c.in_ok-settle_sides.ensures.value honest in
-    if_found c.read_sides.result (s.state old) (s.state mid) (s.state new) value.0 value.1 (c.read_sides.ensures.reads.keeps_state h) (c.read_sides.ensures.found h)
+    if_found c.read_sides.result (s.state c.args.site.now) (s.state c.settle_sides.new.site) (s.state c.read_sides.new.site)
+    (c.in_ok-settle_sides.ensures.value honest) (c.read_sides.ensures.reads.keeps_state h) (c.read_sides.ensures.found h)

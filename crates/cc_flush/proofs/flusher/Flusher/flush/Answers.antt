@@ -22,10 +22,9 @@ returns-in-Err-clause-flushed g c none =
 
 pub returns-in-Ok-clause-flushed : goal.returns-in-Ok-clause-flushed
 returns-in-Ok-clause-flushed g c none =
-    let s = g.S.Site in
     let e = c.in-Ok.ensures in
     let r = c.release.ensures in
-    flushed s c.args.self.now c.commit.new.self c.release.new.self c.args.batch.now none
+    flushed g.S.Site c.args.self.now c.commit.new.self c.release.new.self c.args.batch.now none
     (record {
       same_twin = e.same_twin;
       goes_on = e.goes_on;
@@ -37,7 +36,7 @@ returns-in-Ok-clause-flushed g c none =
       every_moment = e.every_moment;
       at_rest = e.at_rest;
     })
-    (subst (λ b. Released s b c.commit.new.self c.release.new.self) e.landed (record {
+    (subst (λ b. Released g.S.Site b c.commit.new.self c.release.new.self) e.landed (record {
       twin = r.twin;
       owes = r.owes;
       goes_on = r.same.3;

@@ -6,7 +6,7 @@ use Rattle.cc_journal.specs.Journals.{StaysGood}
 use Rattle.cc_flush.specs.Engine.{IsOwed}
 use Rattle.cc_flush.specs.Flushing.{LeadsToOwed}
 use Rattle.cc_flush.proofs.Keeping.{sound_released}
-use Rattle.cc_flush.proofs.Releasing.{released}
+use Rattle.cc_flush.proofs.Putting.{released}
 use Rattle.cc_flush.proofs.flusher.Flusher.release.Goals as goal
 
 pub returns-clause-good : goal.returns-clause-good
@@ -15,9 +15,8 @@ returns-clause-good g c honest tells =
     let old = c.self.inside in
     let batch = c.args.landed in
     let new = c.put_outputs.new.site in
-    let puts = c.put_outputs.ensures.puts in
     subst (λ e. IsOwed e batch → s.honest e.site → StaysGood s (LeadsToOwed s batch e) e.site new) c.self.view_is
-    (λ owed h. released s g.met.S.Site.may_read _ new c.self.invariant batch puts owed h tells) c.requires.owed honest
+    (λ owed h. released s g.met.S.Site.may_read _ new c.self.invariant batch c.put_outputs.ensures.puts owed h tells) c.requires.owed honest
 
 pub returns-clause-contents : goal.returns-clause-contents
 returns-clause-contents g c honest =
@@ -31,4 +30,5 @@ invariant_of-self g c =
     let old = c.self.inside in
     let batch = c.args.landed in
     let owed = subst (λ e. IsOwed e batch) (sym c.self.view_is) c.requires.owed in
-    rw c.put_outputs.ensures.node (sound_released s _ c.put_outputs.new.site (line old.node (events_in batch)) c.self.invariant c.put_outputs.ensures.puts batch owed)
+    rw c.put_outputs.ensures.node (sound_released s _ c.put_outputs.new.site
+    (line old.node (events_in batch)) c.self.invariant c.put_outputs.ensures.puts batch owed)
