@@ -129,9 +129,6 @@ pub some_and : (o : Option Pair) (Q : Pair → Type 0) → IsSomeAnd o Q → (e 
 some_and None Q h = absurd h
 some_and (Some e) Q h = (e, refl, h)
 
-not_stored : (v : ViewMap) → answer.Seen v ≡ answer.Stored → ⊥
-not_stored v is = cc
-
 goes_on : (u w : Option Pair) → IsKept u w → ((k : ℕ) (x y : Value) → u ≡ Some (k, x) → w ≡ Some (k, y) → x ≡ y) → GoesOn u w
 goes_on None w h same = tt
 goes_on (Some e) None h same = absurd h
@@ -277,7 +274,7 @@ module _ (run : Course) where
 
     pub collect_sees : (k : ℕ) → IsStored mid q k s r → (v : ViewMap) → IsAnswered d p x y (answer.Seen v) → SeesWrite d v q k
     collect_sees k stored v has =
-        let read = reading_end p x y (answer.Seen v) has (not_stored v) in
+        let read = reading_end p x y (answer.Seen v) has (λ is. cc) in
         let seen : HasAtLeast v q k =
         subst (λ (u : ViewMap). HasAtLeast u q k) read.tells (stores_seen k stored (answer.Seen v) read) in
         let row = some_and (table.get v q) (λ e. k ≤ e.0) seen in
@@ -285,8 +282,8 @@ module _ (run : Course) where
 
     pub collects_in_turn : (v : ViewMap) → IsAnswered mid q s r (answer.Seen v) → (w : ViewMap) → IsAnswered d p x y (answer.Seen w) → IsFollowedBy v w
     collects_in_turn v first_has w second_has =
-        let early = reading_mid q s r (answer.Seen v) first_has (not_stored v) in
-        let late = reading_end p x y (answer.Seen w) second_has (not_stored w) in
+        let early = reading_mid q s r (answer.Seen v) first_has (λ is. cc) in
+        let late = reading_end p x y (answer.Seen w) second_has (λ is. cc) in
         let most : IsAtMost v w =
         subst (λ (u : ViewMap). IsAtMost u w) early.tells (subst (IsAtMost early.seen) late.tells (reads_in_turn (answer.Seen v) early (answer.Seen w) late)) in
         let occurs_v = seen_occurs q s r v (run_sent mid second d to_d _ first_has) in
