@@ -52,15 +52,15 @@ asked_later p m n sound grows s r tag ahead raised =
     let start = fresh n.opening in
     let lawful = lawful_front start n.events n.released sound.lawful in
     let at_m : after start (released_events m) ≡ node_at m m.released = ap (λ (o : Opening). after (fresh o) (released_events m)) grows.opening in
-    let front = raised.before ++ raised.raiser ∷ [] in
-    let order = either_front (released_events m) grows.longer.0 raised.before raised.later raised.raiser (sym grows.longer.1 ∙ raised.parts) in
+    let front = raised.before ++ raised.here ∷ [] in
+    let order = either_front (released_events m) grows.longer.0 raised.before raised.later raised.here (sym grows.longer.1 ∙ raised.parts) in
     elim order as (λ _. (node_at m m.released).core.ops.tag < tag) [
       | inl e ↦
-          let to_raiser = (lawful_parts start raised.before (raised.raiser ∷ raised.later) (subst (IsLawful start) raised.parts lawful)).0 in
+          let to_raiser = (lawful_parts start raised.before (raised.here ∷ raised.later) (subst (IsLawful start) raised.parts lawful)).0 in
           let up = front_low (λ x. x.core.ops.tag) tag_after start raised.before (released_events m) e.0 to_raiser e.1 in
           omega (arith, up, ap (λ (x : Node). x.core.ops.tag) at_m, raised.under)
       | inr e ↦
-          let parts : released_events m ≡ front ++ e.0 = parts_more (released_events m) raised.before e.0 raised.raiser e.1 in
+          let parts : released_events m ≡ front ++ e.0 = parts_more (released_events m) raised.before e.0 raised.here e.1 in
           let to_m = (lawful_parts start (released_events m) grows.longer.0 (subst (IsLawful start) grows.longer.1 lawful)).0 in
           let to_front = (lawful_parts start front e.0 (subst (IsLawful start) parts to_m)).0 in
           let c = (after start front).core in
