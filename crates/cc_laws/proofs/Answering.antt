@@ -56,19 +56,12 @@ use Rattle.cc_laws.specs.Rounds.{awaits_views, awaits_acks, counts, ends_round, 
 use Rattle.cc_laws.proofs.Lists.{all_changed, all_at}
 use Rattle.cc_laws.proofs.Lines.{made_in}
 use Rattle.cc_laws.proofs.Members.{IsSound, lawful_front}
-use Rattle.cc_laws.proofs.Places.{at_same, at_before, at_behind, split_order, front_low}
+use Rattle.cc_laws.proofs.Places.{at_same, at_before, at_behind, split_order, front_low, place_in}
 use Rattle.cc_laws.proofs.Says.{stored_of, Told, TellsOf, ReplySays, each_says, OutputSays, outputs_say}
 use Rattle.cc_laws.proofs.Pending.{HasAck, HasReply, Raised, ReadBefore, IsQueryOf, Pends, core_push, pends}
 use Rattle.cc_laws.proofs.CountedAnswers.{IsAckFrom, IsReplyFrom, counted_ack, counted_reply, with_all}
 use Rattle.cc_laws.proofs.Knowing.{me_of, either_front, came_before, came_last}
 use Rattle.cc_laws.proofs.Writing.{asked_both, fresh_line, fresh_number}
-
--- two places, one inside the front of the other
-inner_parts : {X : Type 0} (es before later in_before in_later : List X) (last in_last : X) → es ≡ before ++ last ∷ later
-    → before ≡ in_before ++ in_last ∷ in_later
-    → es ≡ in_before ++ in_last ∷ (in_later ++ last ∷ later)
-inner_parts es before later in_before in_later last in_last parts inside =
-    parts ∙ ap (λ l. l ++ last ∷ later) inside ∙ append_assoc in_before (in_last ∷ in_later) (last ∷ later)
 
 -- ---- the requests of a session
 
@@ -229,10 +222,7 @@ module _ (q : ℕ) (m : Member) (sound : IsSound q m) where
 
     raised_all : (tag : ℕ) (Q R : Core → Type 0) → ((d : Core) → Q d → R d) → Raised start front tag Q → Raised start (released_events m) tag R
     raised_all tag Q R f r = record {
-      before = r.before;
-      raiser = r.raiser;
-      later = r.later ++ last ∷ later;
-      parts = inner_parts (released_events m) front later r.before r.later last r.raiser parts r.parts;
+      place = place_in (released_events m) front (last ∷ later) parts r.place;
       under = r.under;
       raised = r.raised;
       holds = f _ r.holds;
@@ -311,11 +301,11 @@ module _ (q : ℕ) (m : Member) (sound : IsSound q m) where
   answered_read s r a op p seen is asked =
       let d = (after start op.front).core in
       let b = read_before op.front op.later op.last op.parts p seen is in
-      let parts = inner_parts (released_events m) op.front op.later b.before b.later op.last b.last op.parts b.parts in
+      let place = place_in (released_events m) op.front (op.last ∷ op.later) op.parts b.place in
       let same : pending d.ops ≡ pending (after start b.before).core.ops = pending_as d p (StoringBack p seen) is refl ∙ sym b.same in
-      query_round b.before (b.later ++ op.last ∷ op.later) b.last parts s r seen b.query
+      query_round b.before place.later b.here place.parts s r seen b.query
       (subst (λ (l : List Asked). HasAsked l s r) same asked) b.querying b.ends
-      (ap (λ (e : Core). e.ops.view) (sym (core_push start b.before b.last)) ∙ b.saw)
+      (ap (λ (e : Core). e.ops.view) (sym (core_push start b.before b.here)) ∙ b.saw)
 
   -- ---- the number of a write
 

@@ -1,8 +1,9 @@
 -- What holds of both states that a round may leave holds of the one that it leaves.
+--     of_begun     asks begin with it, or none do
 --     of_round     the round that asks begin writes, or it reads
 --     of_ack       an acknowledgement is the last one that is needed, or not
 --     of_reply     so is a reply
-use Rattle.std.proofs.Common.{◌≡◌, ℕ, true, false, List, ◌∷◌}
+use Rattle.std.proofs.Common.{◌≡◌, ℕ, true, false, List, ◌∷◌, Bool, []}
 use Rattle.std.specs.Prelude.{if◌then◌else◌}
 use Rattle.std.proofs.lemmas.Bool.{cond_both}
 use Rattle.cc_views.specs.Rows.{ViewMap}
@@ -27,6 +28,12 @@ stores_back quorum v p s = next_round (StoringBack (round_of quorum p.asked) (me
 
 abbrev pub awaits_more : ViewMap → Pending → Ops → Ops
 awaits_more v p s = record (merged v s) { phase = Querying (counted p) }
+
+-- of a state, and of what begins with it
+pub of_begun : (P : Ops → List Asked → Type 0) (b : Bool) (t s : Ops) (asks : List Asked) → P t asks → P s []
+    → P (if b then t else s) (if b then asks else [])
+of_begun P true t s asks h k = h
+of_begun P false t s asks h k = k
 
 module _ (P : Ops → Type 0) where
   pub of_round : (me quorum : ℕ) (a : Asked) (others : List Asked) (s : Ops)

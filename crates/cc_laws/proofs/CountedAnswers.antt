@@ -1,7 +1,9 @@
 -- The answer that is counted with an event: an acknowledgement or a reply of its sender, to the round that pends.
 --     IsAckFrom, counted_ack        while acknowledgements are awaited
 --     IsReplyFrom, counted_reply    while views are;  its view is merged
-use Rattle.std.proofs.Common.{◌≡◌, ℕ, Bool, true, false, refl, List}
+use Rattle.std.proofs.Common.{◌≡◌, ℕ, Bool, true, false, refl, List, ◌⊎◌, inl, inr}
+use Rattle.std.proofs.lemmas.Bool.{both_ways}
+use Rattle.std.proofs.lemmas.Option.{IfSome_then}
 use Rattle.std.specs.Prelude.{◌&&◌, IfSome, if◌then◌else◌, Option, Some, None}
 use Rattle.std.specs.Bool.{then_some}
 use Rattle.std.specs.List.{AllByRecursion}
@@ -28,13 +30,8 @@ pub with_all : (P : ℕ → Type 0) (o : Option ℕ) (peers : List ℕ) → IfSo
 with_all P None peers h k = k
 with_all P (Some x) peers h k = (h, k)
 
-none_there : (b : Bool) (from : ℕ) (P : ℕ → Type 0) (a : Bool) → a ≡ false → IfSome (then_some (b && a) from) P
-none_there true from P true is = cc
-none_there true from P false is = tt
-none_there false from P a is = tt
-
-pub one_there : (b a : Bool) (from : ℕ) (P : ℕ → Type 0) → (b ≡ true → P from) → IfSome (then_some (b && a) from) P
-one_there true true from P f = f refl
+one_there : (b a : Bool) (from : ℕ) (P : ℕ → Type 0) → (b ≡ true → a ≡ true → P from) → IfSome (then_some (b && a) from) P
+one_there true true from P f = f refl refl
 one_there true false from P f = tt
 one_there false a from P f = tt
 
@@ -42,21 +39,6 @@ pub no_views : (phase : Phase) → awaits_acks phase ≡ true → awaits_views p
 no_views (Storing p) is = refl
 no_views (StoringBack p seen) is = refl
 no_views _ is = cc
-
-no_acks : (phase : Phase) → awaits_views phase ≡ true → awaits_acks phase ≡ false
-no_acks (Querying p) is = refl
-no_acks _ is = cc
-
-message_ack : (c : Core) (from n : ℕ) (m : Message) → awaits_acks c.ops.phase ≡ true
-    → IfSome (counts c (event.Deliver from n m)) (IsAckFrom c (event.Deliver from n m))
-message_ack c from n (message.QueryReply v tag q) is = none_there (is_own c.me tag q c.ops) from _ (awaits_views c.ops.phase) (no_views c.ops.phase is)
-message_ack c from n (message.StoreAck tag q) is =
-    one_there (is_own c.me tag q c.ops) (awaits_acks c.ops.phase) from _ (λ own. (n, ack_is from n c.me tag q c.ops own))
-message_ack c from n _ is = tt
-
-pub counted_ack : (c : Core) (e : Event) → awaits_acks c.ops.phase ≡ true → IfSome (counts c e) (IsAckFrom c e)
-counted_ack c (event.Deliver from n m) is = message_ack c from n m is
-counted_ack c _ is = tt
 
 -- a reply that is counted is merged
 reply_merged : (quorum : ℕ) (v : ViewMap) (phase : Phase) (s : Ops) → awaits_views phase ≡ true → IsAtMost v (after_reply quorum v phase s).view
@@ -68,15 +50,35 @@ own_merged : (b : Bool) (quorum : ℕ) (v : ViewMap) (s : Ops) → b ≡ true �
 own_merged true quorum v s own is = reply_merged quorum v s.phase s is
 own_merged false quorum v s own is = cc
 
-message_reply : (c : Core) (from n : ℕ) (m : Message) → awaits_views c.ops.phase ≡ true
-    → IfSome (counts c (event.Deliver from n m)) (IsReplyFrom c (event.Deliver from n m))
+-- a reply is counted where views are awaited, an acknowledgement where these are
+abbrev pub IsCountedFrom : Core → Event → ℕ → Type 0
+IsCountedFrom c e r = (IsReplyFrom c e r × (awaits_views c.ops.phase ≡ true)) ⊎ (IsAckFrom c e r × (awaits_acks c.ops.phase ≡ true))
+
+message_counted : (c : Core) (from n : ℕ) (m : Message) → IfSome (counts c (event.Deliver from n m)) (IsCountedFrom c (event.Deliver from n m))
 unfolding next
-message_reply c from n (message.QueryReply v tag q) is =
-    one_there (is_own c.me tag q c.ops) (awaits_views c.ops.phase) from _
-    (λ own. (n, v, reply_is from n c.me tag q v c.ops own, own_merged (is_own c.me tag q c.ops) (quorum c) v c.ops own is))
-message_reply c from n (message.StoreAck tag q) is = none_there (is_own c.me tag q c.ops) from _ (awaits_acks c.ops.phase) (no_acks c.ops.phase is)
-message_reply c from n _ is = tt
+message_counted c from n (message.QueryReply v tag q) =
+    let own = is_own c.me tag q c.ops in
+    one_there own (awaits_views c.ops.phase) from (IsCountedFrom c (event.Deliver from n (message.QueryReply v tag q)))
+    (λ is views. inl ((n, v, reply_is from n c.me tag q v c.ops is, own_merged own (quorum c) v c.ops is views), views))
+message_counted c from n (message.StoreAck tag q) =
+    one_there (is_own c.me tag q c.ops) (awaits_acks c.ops.phase) from (IsCountedFrom c (event.Deliver from n (message.StoreAck tag q)))
+    (λ is acks. inr ((n, ack_is from n c.me tag q c.ops is), acks))
+message_counted c from n _ = tt
+
+pub counted_from : (c : Core) (e : Event) → IfSome (counts c e) (IsCountedFrom c e)
+counted_from c (event.Deliver from n m) = message_counted c from n m
+counted_from c _ = tt
+
+pub counted_ack : (c : Core) (e : Event) → awaits_acks c.ops.phase ≡ true → IfSome (counts c e) (IsAckFrom c e)
+counted_ack c e is = IfSome_then (counts c e) {P = IsCountedFrom c e} {Q = IsAckFrom c e} (counted_from c e) only
+  where
+    only : (r : ℕ) → IsCountedFrom c e r → IsAckFrom c e r
+    only r (inl reply) = absurd (both_ways (awaits_views c.ops.phase) (no_views c.ops.phase is) reply.1)
+    only r (inr ack) = ack.0
 
 pub counted_reply : (c : Core) (e : Event) → awaits_views c.ops.phase ≡ true → IfSome (counts c e) (IsReplyFrom c e)
-counted_reply c (event.Deliver from n m) is = message_reply c from n m is
-counted_reply c _ is = tt
+counted_reply c e is = IfSome_then (counts c e) {P = IsCountedFrom c e} {Q = IsReplyFrom c e} (counted_from c e) only
+  where
+    only : (r : ℕ) → IsCountedFrom c e r → IsReplyFrom c e r
+    only r (inl reply) = reply.0
+    only r (inr ack) = absurd (both_ways (awaits_views c.ops.phase) (no_views c.ops.phase ack.1) is)

@@ -145,10 +145,10 @@ module _ (c : Cluster) (h : Holds c) (t : Traces c) where
       let lawful = lawful_front start m.events m.released (h.sound q m at).lawful in
       let high : tag ≡ (after start (store.before ++ store.poster ∷ [])).core.ops.tag = raised_at start store.before store.poster tag store.says.2 in
       let one = at_once (λ n. n.core.ops.tag) tag_after start (released_events m) lawful
-      store.before store.later raised.before raised.later store.poster raised.raiser store.parts raised.parts
+      store.before store.later raised.before raised.later store.poster raised.here store.parts raised.parts
       tag store.says.1 (omega (arith, high)) raised.under (omega (arith, raised.raised)) in
-      let d = (after start (raised.before ++ raised.raiser ∷ [])).core in
-      let there : v ≡ stored_of d.ops = stored_at start store.before raised.before store.poster raised.raiser v one.0 one.1 store.says.3 in
+      let d = (after start (raised.before ++ raised.here ∷ [])).core in
+      let there : v ≡ stored_of d.ops = stored_at start store.before raised.before store.poster raised.here v one.0 one.1 store.says.3 in
       let ends = view_within (fresh x.opening) (released_events x) ack.before ack.later ack.poster ack.parts in (
         x,
         ack_made.1,

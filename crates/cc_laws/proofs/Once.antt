@@ -22,7 +22,7 @@ use Rattle.cc_messages.specs.declared.message.Message.TheVariants as message
 use Rattle.cc_links.specs.Links.{Link, heard_from}
 use Rattle.cc_links.specs.LinkLaws.{LinkGoesOn}
 use Rattle.cc_ops.specs.declared.pending.Asked.{Asked}
-use Rattle.cc_ops.specs.Ops.{Phase, Idle, Querying, is_own}
+use Rattle.cc_ops.specs.Ops.{Phase, Idle, Querying}
 use Rattle.cc_node.specs.Core.{Core, next}
 use Rattle.cc_node.specs.Node.{Node, step, after, IsLawful}
 use Rattle.cc_node.specs.Opening.{fresh}
@@ -32,13 +32,13 @@ use Rattle.cc_node.proofs.LawfulLaws.{links_go_on, hears_now}
 use Rattle.cc_node.proofs.RefusalLaws.{takes_delivery}
 use Rattle.cc_laws.specs.Clusters.{Member, Cluster}
 use Rattle.cc_laws.specs.Regular.{released_events, RoundOf}
-use Rattle.cc_laws.specs.Rounds.{awaits_views, awaits_acks, counts, ends_round, begins_anew, with_peer, peers_next, peers_along, peers_of}
+use Rattle.cc_laws.specs.Rounds.{counts, ends_round, begins_anew, with_peer, peers_next, peers_along, peers_of}
 use Rattle.cc_laws.proofs.Members.{lawful_front}
 use Rattle.cc_laws.proofs.Clustering.{Holds, IsAt, one_at}
 use Rattle.cc_laws.proofs.Places.{front_more, at_once}
 use Rattle.cc_laws.proofs.Says.{tag_after, BringsIn, PostSays, GoesTo}
-use Rattle.cc_laws.proofs.Pending.{HasAck, HasReply, Pends, own_parts, core_push, pends}
-use Rattle.cc_laws.proofs.CountedAnswers.{one_there, with_all}
+use Rattle.cc_laws.proofs.Pending.{HasAck, HasReply, Pends, core_push, pends}
+use Rattle.cc_laws.proofs.CountedAnswers.{with_all, IsCountedFrom, counted_from}
 use Rattle.cc_laws.proofs.Knowing.{me_of, raised_at, Posted, posted, came_at, posted_by, came_before, came_last}
 use Rattle.cc_laws.proofs.Lists.{all_changed, at_some, either}
 use Rattle.cc_laws.proofs.Traces.{Traces}
@@ -190,18 +190,12 @@ phase_answers start past peers me number view tag others _ h =
 abbrev pub IsAnswerFrom : Core → Event → ℕ → Type 0
 IsAnswerFrom c e r = (n : ℕ) × (k : Message) × (e ≡ event.Deliver r n k) × IsAnswerTo c.ops.tag c.me k
 
-message_answer : (c : Core) (from n : ℕ) (m : Message) → IfSome (counts c (event.Deliver from n m)) (IsAnswerFrom c (event.Deliver from n m))
-message_answer c from n (message.QueryReply v tag q) =
-    one_there (is_own c.me tag q c.ops) (awaits_views c.ops.phase) from (IsAnswerFrom c (event.Deliver from n (message.QueryReply v tag q)))
-    (λ own. let is = own_parts c.me tag q c.ops own in (n, message.QueryReply v tag q, refl, (is.1, is.0)))
-message_answer c from n (message.StoreAck tag q) =
-    one_there (is_own c.me tag q c.ops) (awaits_acks c.ops.phase) from (IsAnswerFrom c (event.Deliver from n (message.StoreAck tag q)))
-    (λ own. let is = own_parts c.me tag q c.ops own in (n, message.StoreAck tag q, refl, (is.1, is.0)))
-message_answer c from n _ = tt
-
 pub counted_answer : (c : Core) (e : Event) → IfSome (counts c e) (IsAnswerFrom c e)
-counted_answer c (event.Deliver from n m) = message_answer c from n m
-counted_answer c _ = tt
+counted_answer c e = IfSome_then (counts c e) {P = IsCountedFrom c e} {Q = IsAnswerFrom c e} (counted_from c e) answer
+  where
+    answer : (r : ℕ) → IsCountedFrom c e r → IsAnswerFrom c e r
+    answer r (inl reply) = (reply.0.0, message.QueryReply reply.0.1 c.ops.tag c.me, reply.0.2, (refl, refl))
+    answer r (inr ack) = (ack.0.0, message.StoreAck c.ops.tag c.me, ack.0.1, (refl, refl))
 
 one_of_one : (x y : Event) (k : ℕ) → k < 1 → slice_index_or (x ∷ []) k y ≡ y → x ≡ y
 one_of_one x y zero le is = is
@@ -231,7 +225,7 @@ abbrev pub Apart : List ℕ → Type 0
 Apart [] = ⊤
 Apart (x ∷ xs) = (list_any (nat_eq x) xs ≡ false) × Apart xs
 
-any_holds : (P : ℕ → Type 0) (x : ℕ) (xs : List ℕ) → list_any (nat_eq x) xs ≡ true → AllByRecursion P xs → P x
+pub any_holds : (P : ℕ → Type 0) (x : ℕ) (xs : List ℕ) → list_any (nat_eq x) xs ≡ true → AllByRecursion P xs → P x
 any_holds P x [] is h = cc
 any_holds P x (y ∷ xs) is h =
     elim (or_cases (nat_eq x y) (list_any (nat_eq x) xs) is) as (λ _. P x) [

@@ -31,7 +31,7 @@ use Rattle.cc_node.specs.Opening.{Opening, fresh}
 use Rattle.cc_laws.specs.Regular.{HasAtLeast}
 use Rattle.cc_laws.specs.Rounds.{awaits_views, awaits_acks, ends_round, begins_anew, with_peer, peers_next, peers_along}
 use Rattle.cc_laws.proofs.Lists.{all_changed}
-use Rattle.cc_laws.proofs.Places.{after_push}
+use Rattle.cc_laws.proofs.Places.{after_push, Place, place_in}
 use Rattle.cc_laws.proofs.Says.{stored_of}
 use Rattle.cc_laws.proofs.Steps.{me_next, row_of}
 use Rattle.cc_laws.proofs.Becoming.{of_round}
@@ -44,24 +44,20 @@ abbrev pub HasReply : List Event → ℕ → ℕ → ViewMap → ℕ → Type 0
 HasReply past me tag view r = (n : ℕ) × (v : ViewMap) × Contains past (event.Deliver r n (message.QueryReply v tag me)) × IsAtMost v view
 
 pub record Raised (start : Node) (past : List Event) (tag : ℕ) (Q : Core → Type 0) : Type 0 where
-  pub before : List Event
-  pub raiser : Event
-  pub later : List Event
-  pub parts : past ≡ before ++ raiser ∷ later
+  pub place : Place past
+  pub open place use *
   pub under : (after start before).core.ops.tag < tag
-  pub raised : (after start (before ++ raiser ∷ [])).core.ops.tag ≡ tag
-  pub holds : Q (after start (before ++ raiser ∷ [])).core
+  pub raised : (after start (before ++ here ∷ [])).core.ops.tag ≡ tag
+  pub holds : Q (after start (before ++ here ∷ [])).core
 
 pub record ReadBefore (start : Node) (past : List Event) (asks : List Asked) (seen : ViewMap) : Type 0 where
-  pub before : List Event
-  pub last : Event
-  pub later : List Event
-  pub parts : past ≡ before ++ last ∷ later
+  pub place : Place past
+  pub open place use *
   pub query : Pending
   pub querying : (after start before).core.ops.phase ≡ Querying query
   pub same : pending (after start before).core.ops ≡ asks
-  pub ends : ends_round (after start before).core last ≡ true
-  pub saw : (after start (before ++ last ∷ [])).core.ops.view ≡ seen
+  pub ends : ends_round (after start before).core here ≡ true
+  pub saw : (after start (before ++ here ∷ [])).core.ops.view ≡ seen
 
 abbrev pub IsQueryOf : List Asked → Core → Type 0
 IsQueryOf asks c = (p : Pending) × (c.ops.phase ≡ Querying p) × (pending c.ops ≡ asks)
@@ -122,28 +118,21 @@ module _ (start : Node) (past : List Event) (e : Event) where
   core_push = ap (λ (n : Node). n.core) (after_push start past e)
 
   raised_more : (tag : ℕ) (Q : Core → Type 0) → Raised start past tag Q → Raised start now tag Q
-  raised_more tag Q r = record {
-    before = r.before;
-    raiser = r.raiser;
-    later = r.later ++ e ∷ [];
-    parts = ap (λ (l : List Event). l ++ e ∷ []) r.parts ∙ append_assoc r.before (r.raiser ∷ r.later) (e ∷ []);
-    under = r.under;
-    raised = r.raised;
-    holds = r.holds;
-  }
+  raised_more tag Q r =
+      record { place = place_in now past (e ∷ []) refl r.place; under = r.under; raised = r.raised; holds = r.holds }
 
   read_more : (asks : List Asked) (seen : ViewMap) → ReadBefore start past asks seen → ReadBefore start now asks seen
   read_more asks seen r = record {
-    before = r.before;
-    last = r.last;
-    later = r.later ++ e ∷ [];
-    parts = ap (λ (l : List Event). l ++ e ∷ []) r.parts ∙ append_assoc r.before (r.last ∷ r.later) (e ∷ []);
+    place = place_in now past (e ∷ []) refl r.place;
     query = r.query;
     querying = r.querying;
     same = r.same;
     ends = r.ends;
     saw = r.saw;
   }
+
+  abbrev last_place : Place now
+  last_place = record { before = past; here = e; later = []; parts = refl }
 
   pub acks_more : (me tag : ℕ) (peers : List ℕ) → AllByRecursion (HasAck past me tag) peers → AllByRecursion (HasAck now me tag) peers
   acks_more me tag peers h = all_changed (HasAck past me tag) (HasAck now me tag) (λ r a. (a.0, Contains-append_left past (e ∷ []) _ a.1)) peers h
@@ -176,10 +165,7 @@ module _ (start : Node) (past : List Event) (e : Event) where
     raise_now tag Q under is holds =
         let pushed : next c e ≡ (after start now).core = ap (λ (d : Core). next d e) at ∙ sym core_push in
         record {
-          before = past;
-          raiser = e;
-          later = [];
-          parts = refl;
+          place = last_place;
           under = subst (λ (d : Core). d.ops.tag < tag) at under;
           raised = ap (λ (d : Core). d.ops.tag) (sym pushed) ∙ is;
           holds = subst Q pushed holds;
@@ -261,10 +247,7 @@ module _ (start : Node) (past : List Event) (e : Event) where
               raise_now (s.tag + 1) (λ d. stored_of d.ops ≡ merge s.view v) under (ap (λ (t : Ops). t.tag) now_is) (ap stored_of now_is),
               tt,
               record {
-                before = past;
-                last = e;
-                later = [];
-                parts = refl;
+                place = last_place;
                 query = p;
                 querying = ap (λ (d : Core). d.ops.phase) (sym at) ∙ ap (λ (t : Ops). t.phase) (sym old) ∙ is;
                 same = ap (λ (d : Core). pending d.ops) (sym at) ∙ ap pending (sym old) ∙ ap (λ (f : Phase). asked_in f ++ s.others) is;

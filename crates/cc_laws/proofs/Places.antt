@@ -1,4 +1,5 @@
 -- Places in a list of events, and what happens at one place alone.
+--     Place, place_in         an event of a list, with those before it and behind it
 --     Order, split_order      of two places of one list one comes first, or they are one
 --     after_push              a node after one event more
 --     at_once                 a count that never falls is raised to a value at one place alone
@@ -6,6 +7,21 @@ use Rattle.std.proofs.Common.{◌≡◌, ℕ, ◌<◌, ◌≤◌, List, [], ◌�
 use Rattle.cc_messages.specs.declared.event.Event.{Event}
 use Rattle.cc_node.specs.Node.{Node, step, after, IsLawful}
 use Rattle.cc_node.specs.Histories.{after-append, lawful_parts}
+
+pub record Place (es : List Event) : Type 0 where
+  pub before : List Event
+  pub here : Event
+  pub later : List Event
+  pub parts : es ≡ before ++ here ∷ later
+
+-- a place in a front is one in the list
+abbrev pub place_in : (es front rest : List Event) → es ≡ front ++ rest → Place front → Place es
+place_in es front rest parts p = record {
+  before = p.before;
+  here = p.here;
+  later = p.later ++ rest;
+  parts = parts ∙ ap (λ (l : List Event). l ++ rest) p.parts ∙ append_assoc p.before (p.here ∷ p.later) rest;
+}
 
 pub data Order {X : Type 0} (xs : List X) (x : X) (us : List X) (u : X) : Type 0 where
   at_same : xs ≡ us → x ≡ u → Order xs x us u

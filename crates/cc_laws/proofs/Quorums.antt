@@ -5,7 +5,7 @@ use Rattle.std.proofs.Common.{◌≡◌, ◌⊎◌, inl, inr, ℕ, ◌+◌, ◌*
 use Rattle.std.proofs.Common.{length-append}
 use Rattle.std.specs.Prelude.{IsTrue}
 use Rattle.std.specs.List.{Contains, AllByRecursion, list_any}
-use Rattle.std.proofs.lemmas.Bool.{or_cases, or_from, eqb-true, cases_Bool}
+use Rattle.std.proofs.lemmas.Bool.{or_from, cases_Bool}
 use Rattle.std.proofs.lemmas.List.Elements.{Contains-append_right}
 use Rattle.std.proofs.lemmas.List.Folds.{list_any-append}
 use Rattle.cc_views.specs.NatSets as set
@@ -17,21 +17,16 @@ use Rattle.cc_laws.specs.Runs.{Run, IsFreshCluster}
 use Rattle.cc_laws.specs.Regular.{released_events, RoundOf, RoundsMeet}
 use Rattle.cc_laws.specs.Rounds.{peers_of}
 use Rattle.cc_laws.specs.Fixed.{count_of, IsFixedCluster, Stays}
-use Rattle.cc_laws.proofs.Lists.{all_both, all_take, contains_head}
+use Rattle.cc_laws.proofs.Lists.{all_both, all_take, contains_head, all_there}
 use Rattle.cc_laws.proofs.Clustering.{Holds, IsAt}
 use Rattle.cc_laws.proofs.Moving.{run_holds, fresh_holds}
 use Rattle.cc_laws.proofs.Traces.{Traces, run_traces, fresh_traces}
-use Rattle.cc_laws.proofs.Once.{Apart, peers_apart, peers_there}
+use Rattle.cc_laws.proofs.Once.{Apart, peers_apart, peers_there, any_holds}
 use Rattle.cc_laws.proofs.Staying.{IsQuiet}
 use Rattle.cc_laws.proofs.Steady.{member_knows, AreQuiet, run_steady, fresh_quiet, fresh_quorum, round_size}
 
 any_there : (x : ℕ) (xs : List ℕ) → list_any (nat_eq x) xs ≡ true → Contains xs x
-any_there x [] is = cc
-any_there x (y ∷ xs) is =
-    elim (or_cases (nat_eq x y) (list_any (nat_eq x) xs) is) as (λ _. Contains (y ∷ xs) x) [
-      | inl e ↦ subst (λ (z : ℕ). Contains (z ∷ xs) x) (eqb-true x y e) (contains_head x xs)
-      | inr e ↦ Contains-append_right (y ∷ []) xs x (any_there x xs e)
-    ]
+any_there x xs is = any_holds (Contains xs) x xs is (all_there (Contains xs) xs (λ _ has. has))
 
 abbrev pub ShareOne : List ℕ → List ℕ → Type 0
 ShareOne xs ys = (r : ℕ) × Contains xs r × Contains ys r
@@ -62,18 +57,10 @@ apart_length (x ∷ xs) h =
     let new : set.len (set.insert s x) ≡ set.len s + 1 = len-insert s x ∙ ap (λ b. cond b (set.len s) (set.len s + 1)) (contains-from_list xs x ∙ h.0) in
     omega (arith, apart_length xs h.1, new)
 
-among_all : (all : NatSet) (xs : List ℕ) → AllByRecursion (λ x. IsTrue (set.contains all x)) xs → (x : ℕ) → list_any (nat_eq x) xs ≡ true
-    → IsTrue (set.contains all x)
-among_all all [] h x is = cc
-among_all all (y ∷ xs) h x is =
-    elim (or_cases (nat_eq x y) (list_any (nat_eq x) xs) is) as (λ _. IsTrue (set.contains all x)) [
-      | inl e ↦ subst (λ (z : ℕ). IsTrue (set.contains all z)) (sym (eqb-true x y e)) h.0
-      | inr e ↦ among_all all xs h.1 x e
-    ]
-
 apart_fits : (all : NatSet) (xs : List ℕ) → Apart xs → AllByRecursion (λ x. IsTrue (set.contains all x)) xs → length xs ≤ set.len all
 apart_fits all xs h k =
-    let within = len_within (set.from_list xs) all (λ x is. among_all all xs k x (sym (contains-from_list xs x) ∙ is)) in
+    let within = len_within (set.from_list xs) all (λ x is.
+    any_holds (λ y. IsTrue (set.contains all y)) x xs (sym (contains-from_list xs x) ∙ is) k) in
     omega (arith, apart_length xs h, within)
 
 pub shares : (all : NatSet) (xs ys : List ℕ) → Apart xs → Apart ys → AllByRecursion (λ x. IsTrue (set.contains all x)) xs

@@ -101,15 +101,6 @@ later_has P stable d q n at before later s r command parts writes makes k y le o
 
 -- ---- what clients are told
 
-no_max : (n : ℕ) → answer.Max n ≡ answer.Stored → ⊥
-no_max n is = cc
-
-no_flag : (b : Bool) → answer.Flag b ≡ answer.Stored → ⊥
-no_flag b is = cc
-
-no_set : (s : NatSet) → answer.Set s ≡ answer.Stored → ⊥
-no_set s is = cc
-
 module _ (run : Course) (q s r p x y : ℕ) (ahead : IsAhead run.mid p x y) (share : ShareNode run.mid run.d q s r p x y) where
   open run use {mid, d}
 
@@ -148,7 +139,7 @@ module _ (run : Course) (q s r p x y : ℕ) (ahead : IsAhead run.mid p x y) (sha
 
   pub max_seen : (k : ℕ) → IsDone mid q s r (command.WriteMax k) → (n : ℕ) → IsAnswered d p x y (answer.Max n) → k ≤ n
   max_seen k done n has =
-      let read = reading_end run p x y (answer.Max n) has (no_max n) in
+      let read = reading_end run p x y (answer.Max n) has (λ is. cc) in
       let row = done_seen (λ v. k ≤ v.max) (max_lasts k) (command.WriteMax k) refl (λ v. omega arith) done (answer.Max n) read in
       let most = max_bounds read.seen q row.0 row.1 in
       let is : n ≡ max_of read.seen = read.tells in
@@ -156,8 +147,8 @@ module _ (run : Course) (q s r p x y : ℕ) (ahead : IsAhead run.mid p x y) (sha
 
   pub max_in_turn : (k : ℕ) → IsAnswered mid q s r (answer.Max k) → (n : ℕ) → IsAnswered d p x y (answer.Max n) → k ≤ n
   max_in_turn k early_has n late_has =
-      let early = reading_mid run q s r (answer.Max k) early_has (no_max k) in
-      let late = reading_end run p x y (answer.Max n) late_has (no_max n) in
+      let early = reading_mid run q s r (answer.Max k) early_has (λ is. cc) in
+      let late = reading_end run p x y (answer.Max n) late_has (λ is. cc) in
       let low : max_of early.seen ≤ max_of late.seen = max_least early.seen (max_of late.seen) (λ node e there.
       let row = rows_last (λ v. e.1.max ≤ v.max) (max_lasts e.1.max) (answer.Max k) early (answer.Max n) late node e there (omega arith) in
       let most = max_bounds late.seen node row.0 row.1 in
@@ -168,14 +159,14 @@ module _ (run : Course) (q s r p x y : ℕ) (ahead : IsAhead run.mid p x y) (sha
 
   pub flag_seen : IsDone mid q s r command.SetFlag → (b : Bool) → IsAnswered d p x y (answer.Flag b) → b ≡ true
   flag_seen done b has =
-      let read = reading_end run p x y (answer.Flag b) has (no_flag b) in
+      let read = reading_end run p x y (answer.Flag b) has (λ is. cc) in
       let row = done_seen (λ v. v.flag ≡ true) flag_lasts command.SetFlag refl (λ v. refl) done (answer.Flag b) read in
       read.tells ∙ flag_there read.seen q row.0 row.1 row.2
 
   pub flag_in_turn : IsAnswered mid q s r (answer.Flag true) → (b : Bool) → IsAnswered d p x y (answer.Flag b) → b ≡ true
   flag_in_turn early_has b late_has =
-      let early = reading_mid run q s r (answer.Flag true) early_has (no_flag true) in
-      let late = reading_end run p x y (answer.Flag b) late_has (no_flag b) in
+      let early = reading_mid run q s r (answer.Flag true) early_has (λ is. cc) in
+      let late = reading_end run p x y (answer.Flag b) late_has (λ is. cc) in
       late.tells ∙ flag_from early.seen (flag_of late.seen ≡ true) (λ node e there is.
       let row = rows_last (λ v. v.flag ≡ true) flag_lasts (answer.Flag true) early (answer.Flag b) late node e there is in
       flag_there late.seen node row.0 row.1 row.2)
@@ -183,7 +174,7 @@ module _ (run : Course) (q s r p x y : ℕ) (ahead : IsAhead run.mid p x y) (sha
 
   pub member_seen : (k : ℕ) → IsDone mid q s r (command.AddMember k) → (zs : NatSet) → IsAnswered d p x y (answer.Set zs) → set.contains zs k ≡ true
   member_seen k done zs has =
-      let read = reading_end run p x y (answer.Set zs) has (no_set zs) in
+      let read = reading_end run p x y (answer.Set zs) has (λ is. cc) in
       let row = done_seen (λ v. set.contains v.set k ≡ true) (set_lasts k) (command.AddMember k) refl
       (λ v. contains-insert v.set k k ∙ or_left _ _ (eq-eqb k k refl)) done (answer.Set zs) read in
       ap (λ (z : NatSet). set.contains z k) read.tells ∙ set_there read.seen k q row.0 row.1 row.2
@@ -191,8 +182,8 @@ module _ (run : Course) (q s r p x y : ℕ) (ahead : IsAhead run.mid p x y) (sha
   pub members_in_turn : (ys : NatSet) → IsAnswered mid q s r (answer.Set ys) → (zs : NatSet) → IsAnswered d p x y (answer.Set zs)
       → (k : ℕ) → set.contains ys k ≡ true → set.contains zs k ≡ true
   members_in_turn ys early_has zs late_has k there_first =
-      let early = reading_mid run q s r (answer.Set ys) early_has (no_set ys) in
-      let late = reading_end run p x y (answer.Set zs) late_has (no_set zs) in
+      let early = reading_mid run q s r (answer.Set ys) early_has (λ is. cc) in
+      let late = reading_end run p x y (answer.Set zs) late_has (λ is. cc) in
       ap (λ (z : NatSet). set.contains z k) late.tells ∙ set_from early.seen k (set.contains (set_of late.seen) k ≡ true) (λ node e there has.
       let row = rows_last (λ v. set.contains v.set k ≡ true) (set_lasts k) (answer.Set ys) early (answer.Set zs) late node e there has in
       set_there late.seen k node row.0 row.1 row.2)

@@ -52,15 +52,15 @@ asked_later p m n sound grows s r tag ahead raised =
     let start = fresh n.opening in
     let lawful = lawful_front start n.events n.released sound.lawful in
     let at_m : after start (released_events m) ≡ node_at m m.released = ap (λ (o : Opening). after (fresh o) (released_events m)) grows.opening in
-    let front = raised.before ++ raised.raiser ∷ [] in
-    let order = either_front (released_events m) grows.longer.0 raised.before raised.later raised.raiser (sym grows.longer.1 ∙ raised.parts) in
+    let front = raised.before ++ raised.here ∷ [] in
+    let order = either_front (released_events m) grows.longer.0 raised.before raised.later raised.here (sym grows.longer.1 ∙ raised.parts) in
     elim order as (λ _. (node_at m m.released).core.ops.tag < tag) [
       | inl e ↦
-          let to_raiser = (lawful_parts start raised.before (raised.raiser ∷ raised.later) (subst (IsLawful start) raised.parts lawful)).0 in
+          let to_raiser = (lawful_parts start raised.before (raised.here ∷ raised.later) (subst (IsLawful start) raised.parts lawful)).0 in
           let up = front_low (λ x. x.core.ops.tag) tag_after start raised.before (released_events m) e.0 to_raiser e.1 in
           omega (arith, up, ap (λ (x : Node). x.core.ops.tag) at_m, raised.under)
       | inr e ↦
-          let parts : released_events m ≡ front ++ e.0 = parts_more (released_events m) raised.before e.0 raised.raiser e.1 in
+          let parts : released_events m ≡ front ++ e.0 = parts_more (released_events m) raised.before e.0 raised.here e.1 in
           let to_m = (lawful_parts start (released_events m) grows.longer.0 (subst (IsLawful start) grows.longer.1 lawful)).0 in
           let to_front = (lawful_parts start front e.0 (subst (IsLawful start) parts to_m)).0 in
           let c = (after start front).core in
@@ -128,9 +128,6 @@ run_both a (move ∷ xs) b ys e h k = (h.0, h.1, run_both h.0 xs b ys e h.2 k)
 pub some_and : (o : Option Pair) (Q : Pair → Type 0) → IsSomeAnd o Q → (e : Pair) × (o ≡ Some e) × Q e
 some_and None Q h = absurd h
 some_and (Some e) Q h = (e, refl, h)
-
-not_stored : (v : ViewMap) → answer.Seen v ≡ answer.Stored → ⊥
-not_stored v is = cc
 
 goes_on : (u w : Option Pair) → IsKept u w → ((k : ℕ) (x y : Value) → u ≡ Some (k, x) → w ≡ Some (k, y) → x ≡ y) → GoesOn u w
 goes_on None w h same = tt
@@ -277,7 +274,7 @@ module _ (run : Course) where
 
     pub collect_sees : (k : ℕ) → IsStored mid q k s r → (v : ViewMap) → IsAnswered d p x y (answer.Seen v) → SeesWrite d v q k
     collect_sees k stored v has =
-        let read = reading_end p x y (answer.Seen v) has (not_stored v) in
+        let read = reading_end p x y (answer.Seen v) has (λ is. cc) in
         let seen : HasAtLeast v q k =
         subst (λ (u : ViewMap). HasAtLeast u q k) read.tells (stores_seen k stored (answer.Seen v) read) in
         let row = some_and (table.get v q) (λ e. k ≤ e.0) seen in
@@ -285,8 +282,8 @@ module _ (run : Course) where
 
     pub collects_in_turn : (v : ViewMap) → IsAnswered mid q s r (answer.Seen v) → (w : ViewMap) → IsAnswered d p x y (answer.Seen w) → IsFollowedBy v w
     collects_in_turn v first_has w second_has =
-        let early = reading_mid q s r (answer.Seen v) first_has (not_stored v) in
-        let late = reading_end p x y (answer.Seen w) second_has (not_stored w) in
+        let early = reading_mid q s r (answer.Seen v) first_has (λ is. cc) in
+        let late = reading_end p x y (answer.Seen w) second_has (λ is. cc) in
         let most : IsAtMost v w =
         subst (λ (u : ViewMap). IsAtMost u w) early.tells (subst (IsAtMost early.seen) late.tells (reads_in_turn (answer.Seen v) early (answer.Seen w) late)) in
         let occurs_v = seen_occurs q s r v (run_sent mid second d to_d _ first_has) in

@@ -39,7 +39,7 @@ use Rattle.cc_node.specs.Node.{Node, step, after, IsLawful}
 use Rattle.cc_node.proofs.ToldLaws.{anew_more}
 use Rattle.cc_laws.specs.Rounds.{ends_round}
 use Rattle.cc_laws.proofs.Lists.{all_both, of_some, some_if, some_of, some_or, all_there, either}
-use Rattle.cc_laws.proofs.Becoming.{of_round, of_ack, of_reply}
+use Rattle.cc_laws.proofs.Becoming.{of_round, of_ack, of_reply, of_begun}
 
 -- ---- tags
 
@@ -122,38 +122,27 @@ round_stores : (me quorum : ℕ) (a : Asked) (others : List Asked) (s : Ops)
 round_stores me quorum a others s = of_round (λ t. t.view ≡ stored_of t) me quorum a others s (λ _. refl) (λ _. refl)
 
 -- what asks that begin are posted with, where they leave t
-abbrev Posts : ℕ → Ops → Event → List Asked → Ops → Type 0
-Posts me s e asks t = IfSome (ops.post_of_round me asks t) (Says me s.tag e t)
+abbrev Posts : ℕ → Ops → Event → Ops → List Asked → Type 0
+Posts me s e t asks = IfSome (ops.post_of_round me asks t) (Says me s.tag e t)
 
-round_says : (me quorum : ℕ) (asks : List Asked) (s : Ops) (e : Event) → Posts me s e asks (begin_round me quorum asks s)
+round_says : (me quorum : ℕ) (asks : List Asked) (s : Ops) (e : Event) → Posts me s e (begin_round me quorum asks s) asks
 round_says me quorum [] s e = tt
 round_says me quorum (a ∷ others) s e =
     let t = begin_round me quorum (a ∷ others) s in
     let new : s.tag < t.tag = omega (arith, round_tag me quorum a others s) in
     first_says (Says me s.tag e t) me a t (refl, new, refl, round_stores me quorum a others s) (refl, new, refl)
 
-last_says : (me quorum : ℕ) (s : Ops) (e : Event) → Posts me s e (first_round s.share s.line) (after_last me quorum s)
+last_says : (me quorum : ℕ) (s : Ops) (e : Event) → Posts me s e (after_last me quorum s) (first_round s.share s.line)
 last_says me quorum s e = round_says me quorum (first_round s.share s.line) (record s { line = line_behind s.share s.line }) e
 
-either_last : (me quorum : ℕ) (b : Bool) (phase : Phase) (s : Ops) (e : Event)
-    → Posts me s e (if b then first_round s.share s.line else []) (if b then after_last me quorum s else record s { phase = phase })
-either_last me quorum true phase s e = last_says me quorum s e
-either_last me quorum false phase s e = tt
-
-ack_says : (me quorum : ℕ) (phase : Phase) (s : Ops) (e : Event) → Posts me s e (begun_in phase s) (after_ack me quorum phase s)
-ack_says me quorum (Storing p) s e = either_last me quorum (is_last p) (Storing (counted p)) s e
-ack_says me quorum (StoringBack p seen) s e = either_last me quorum (is_last p) (StoringBack (counted p) seen) s e
+ack_says : (me quorum : ℕ) (phase : Phase) (s : Ops) (e : Event) → Posts me s e (after_ack me quorum phase s) (begun_in phase s)
+ack_says me quorum (Storing p) s e =
+    of_begun (Posts me s e) (is_last p) (after_last me quorum s) (record s { phase = Storing (counted p) }) (first_round s.share s.line)
+    (last_says me quorum s e) tt
+ack_says me quorum (StoringBack p seen) s e =
+    of_begun (Posts me s e) (is_last p) (after_last me quorum s) (record s { phase = StoringBack (counted p) seen }) (first_round s.share s.line)
+    (last_says me quorum s e) tt
 ack_says me quorum _ s e = tt
-
-own_ack_says : (me quorum : ℕ) (b : Bool) (s : Ops) (e : Event)
-    → Posts me s e (if b then begun_in s.phase s else []) (if b then after_ack me quorum s.phase s else s)
-own_ack_says me quorum true s e = ack_says me quorum s.phase s e
-own_ack_says me quorum false s e = tt
-
-ask_says : (me quorum : ℕ) (b : Bool) (a : Asked) (s : Ops) (line : List Asked) (e : Event)
-    → Posts me s e (if b then a ∷ [] else []) (if b then with_begun me quorum a s else record s { line = line })
-ask_says me quorum true a s line e = round_says me quorum (a ∷ []) s e
-ask_says me quorum false a s line e = tt
 
 -- the last reply to a query begins the round that stores back
 either_reply : (me : ℕ) (b : Bool) (v : ViewMap) (p : Pending) (other : Phase) (s : Ops) (e : Event)
@@ -184,7 +173,9 @@ ops_say me quorum joined from n (message.QueryReply v tag q) s =
 ops_say me quorum joined from n (message.Store v tag q) s =
     some_if (Says me s.tag (event.Deliver from n (message.Store v tag q)) (merged v s)) joined (message.StoreAck tag q)
     (v, (from, n, refl), merged_at_most s.view v)
-ops_say me quorum joined from n (message.StoreAck tag q) s = own_ack_says me quorum (is_own me tag q s) s (event.Deliver from n (message.StoreAck tag q))
+ops_say me quorum joined from n (message.StoreAck tag q) s =
+    let e = event.Deliver from n (message.StoreAck tag q) in
+    of_begun (Posts me s e) (is_own me tag q s) (after_ack me quorum s.phase s) s (begun_in s.phase s) (ack_says me quorum s.phase s e) tt
 ops_say me quorum joined from n _ s = tt
 
 churn_says : (me under : ℕ) (view : ViewMap) (e : Event) (m : Message) (s t : churn.Churn) (after : Ops)
@@ -231,7 +222,11 @@ unfolding next
 post_says c (event.Deliver from n m) =
     some_or (PostSays c (event.Deliver from n m)) (post_of_snapshot c from n m) (post_to m c (handled c (event.Deliver from n m)))
     (snapshot_says c from n m) (answer_says c from n m)
-post_says c (event.Ask s r command) = ask_says c.me (quorum c) (is_idle c.ops.phase) (asked_of s r command) c.ops _ (event.Ask s r command)
+post_says c (event.Ask s r command) =
+    let e = event.Ask s r command in
+    let a = asked_of s r command in
+    of_begun (Posts c.me c.ops e) (is_idle c.ops.phase) (with_begun c.me (quorum c) a c.ops) (record c.ops { line = c.ops.line ++ a ∷ [] }) (a ∷ [])
+    (round_says c.me (quorum c) (a ∷ []) c.ops e) tt
 post_says c _ = tt
 
 -- ---- replies

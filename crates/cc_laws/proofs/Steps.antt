@@ -1,7 +1,7 @@
 -- What one event makes of the view: it is as before, or has one more own row, or is merged with what the event brings.
 --     with_row me s asks   the view with the own row of the last write that begins with these asks, if one does
 --     ViewStep, view_step
-use Rattle.std.proofs.Common.{◌≡◌, ◌⊎◌, inl, inr, ℕ, ◌+◌, nat_lt, Bool, true, false, List, [], ◌∷◌, refl, sym, ap, subst, arith}
+use Rattle.std.proofs.Common.{◌≡◌, ◌⊎◌, inl, inr, ℕ, ◌+◌, nat_lt, Bool, List, [], ◌∷◌, refl, sym, ap, subst, arith, ◌++◌}
 use Rattle.std.specs.Prelude.{Option, Some, if◌then◌else◌}
 use Rattle.std.proofs.lemmas.Bool.{lt-ltb}
 use Rattle.cc_views.specs.Rows.{ViewMap, single}
@@ -21,7 +21,7 @@ use Rattle.cc_node.specs.Core.{Core, quorum, asked_of, churn_told, asks_anew, be
 use Rattle.cc_node.proofs.ToldLaws.{anew_view}
 use Rattle.cc_laws.specs.Shown.{in_message, in_event}
 use Rattle.cc_laws.proofs.Lists.{either}
-use Rattle.cc_laws.proofs.Becoming.{of_round, of_reply}
+use Rattle.cc_laws.proofs.Becoming.{of_round, of_reply, of_begun}
 
 -- the own row once asks have begun, under the number of the last write among them
 abbrev pub row_of : ℕ → Ops → List Asked → ViewMap
@@ -30,40 +30,32 @@ row_of me s asks = single (record { node = me; number = s.number + writes_by ask
 abbrev pub with_row : ℕ → Ops → List Asked → ViewMap
 with_row me s asks = if nat_lt 0 (writes_by asks) then merge s.view (row_of me s asks) else s.view
 
-round_view : (me quorum : ℕ) (asks : List Asked) (s : Ops) → IsRound asks → (begin_round me quorum asks s).view ≡ with_row me s asks
+abbrev HasRow : ℕ → Ops → Ops → List Asked → Type 0
+HasRow me s t asks = t.view ≡ with_row me s asks
+
+round_view : (me quorum : ℕ) (asks : List Asked) (s : Ops) → IsRound asks → HasRow me s (begin_round me quorum asks s) asks
 round_view me quorum [] s alike = refl
 round_view me quorum (a ∷ others) s alike =
     let asks = a ∷ others in
     let row = λ (b : Bool). if b then merge s.view (row_of me s asks) else s.view in
-    of_round (λ t. t.view ≡ with_row me s asks) me quorum a others s
+    of_round (λ t. HasRow me s t asks) me quorum a others s
     (λ writes.
     let count : writes_by asks ≡ 1 + writes_by others = ap (λ (b : Bool). (if b then 1 else 0) + writes_by others) writes in
     sym (ap row (lt-ltb 0 (writes_by asks) (omega (arith, count)))))
     (λ reads. sym (ap row (ap (nat_lt 0) (none_reads a others reads (alike reads)))))
 
-last_view : (me quorum : ℕ) (s : Ops) → (after_last me quorum s).view ≡ with_row me s (first_round s.share s.line)
+last_view : (me quorum : ℕ) (s : Ops) → HasRow me s (after_last me quorum s) (first_round s.share s.line)
 last_view me quorum s =
     round_view me quorum (first_round s.share s.line) (record s { line = line_behind s.share s.line }) (first_is_round s.share s.line)
 
-either_last : (me quorum : ℕ) (b : Bool) (phase : Phase) (s : Ops)
-    → (if b then after_last me quorum s else record s { phase = phase }).view ≡ with_row me s (if b then first_round s.share s.line else [])
-either_last me quorum true phase s = last_view me quorum s
-either_last me quorum false phase s = refl
-
-ack_view : (me quorum : ℕ) (phase : Phase) (s : Ops) → (after_ack me quorum phase s).view ≡ with_row me s (begun_in phase s)
-ack_view me quorum (Storing p) s = either_last me quorum (is_last p) (Storing (counted p)) s
-ack_view me quorum (StoringBack p seen) s = either_last me quorum (is_last p) (StoringBack (counted p) seen) s
+ack_view : (me quorum : ℕ) (phase : Phase) (s : Ops) → HasRow me s (after_ack me quorum phase s) (begun_in phase s)
+ack_view me quorum (Storing p) s =
+    of_begun (HasRow me s) (is_last p) (after_last me quorum s) (record s { phase = Storing (counted p) }) (first_round s.share s.line)
+    (last_view me quorum s) refl
+ack_view me quorum (StoringBack p seen) s =
+    of_begun (HasRow me s) (is_last p) (after_last me quorum s) (record s { phase = StoringBack (counted p) seen }) (first_round s.share s.line)
+    (last_view me quorum s) refl
 ack_view me quorum _ s = refl
-
-own_ack_view : (me quorum : ℕ) (b : Bool) (s : Ops)
-    → (if b then after_ack me quorum s.phase s else s).view ≡ with_row me s (if b then begun_in s.phase s else [])
-own_ack_view me quorum true s = ack_view me quorum s.phase s
-own_ack_view me quorum false s = refl
-
-ask_view : (me quorum : ℕ) (b : Bool) (a : Asked) (s : Ops) (line : List Asked)
-    → (if b then with_begun me quorum a s else record s { line = line }).view ≡ with_row me s (if b then a ∷ [] else [])
-ask_view me quorum true a s line = round_view me quorum (a ∷ []) s (λ _. refl)
-ask_view me quorum false a s line = refl
 
 -- before s, and after
 abbrev IsAsBefore : ViewMap → ViewMap → ViewMap → Type 0
@@ -97,7 +89,8 @@ message_step me quorum (message.QueryReply v tag q) s =
     as_before me s v _ (either (λ (t : Ops). IsAsBefore s.view v t.view) (is_own me tag q s) (after_reply quorum v s.phase s) s
     (reply_view quorum v s.phase s) (inl refl))
 message_step me quorum (message.Store v tag q) s = inr (brings s v _ refl)
-message_step me quorum (message.StoreAck tag q) s = inl (own_ack_view me quorum (is_own me tag q s) s)
+message_step me quorum (message.StoreAck tag q) s =
+    inl (of_begun (HasRow me s) (is_own me tag q s) (after_ack me quorum s.phase s) s (begun_in s.phase s) (ack_view me quorum s.phase s) refl)
 message_step me quorum (message.Snapshot c v) s = inr (brings s v _ refl)
 message_step me quorum _ s = inl refl
 
@@ -107,7 +100,10 @@ view_step c (event.Deliver from n m) =
     let t = after_message c.me (quorum c) m c.ops in
     subst (ViewStep c.me c.ops (in_message m) (begun_by c.me m c.ops))
     (sym (anew_view (asks_anew c from n m) (churn.quorum c.beta (churn_told c from n m)) t)) (message_step c.me (quorum c) m c.ops)
-view_step c (event.Ask s r command) = inl (ask_view c.me (quorum c) (is_idle c.ops.phase) (asked_of s r command) c.ops _)
+view_step c (event.Ask s r command) =
+    let a = asked_of s r command in
+    inl (of_begun (HasRow c.me c.ops) (is_idle c.ops.phase) (with_begun c.me (quorum c) a c.ops) (record c.ops { line = c.ops.line ++ a ∷ [] }) (a ∷ [])
+    (round_view c.me (quorum c) (a ∷ []) c.ops (λ _. refl)) refl)
 view_step c _ = inl refl
 
 pub me_next : (c : Core) (e : Event) → (next c e).me ≡ c.me
