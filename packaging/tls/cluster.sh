@@ -1,9 +1,9 @@
 #!/usr/bin/env bash
 # Runs three nodes behind mutual TLS, each in a network namespace of its own: cluster.sh PROGRAM [SECONDS]. It shows
-# that asks over TLS are answered, that whoever has no certificate, a revoked one or a client's in place of a machine's
-# is refused, and that a node which was killed comes back; then it measures what TLS costs, SECONDS (5) for each row. It
-# needs root, stunnel4, openssl, iproute2 and python3, touches no network but the one that it makes, and ends all that
-# it started.
+# that asks over TLS are answered, and that a client's certificate serves for nothing else; that whoever has no
+# certificate, a revoked one or a client's in place of a machine's is refused, and that a node which was killed comes
+# back; then it measures what TLS costs, SECONDS (5) for each row. It needs root, stunnel4, openssl, iproute2 and
+# python3, touches no network but the one that it makes, and ends all that it started.
 set -eu
 program=$(realpath "$1")
 seconds=${2:-5}
@@ -12,6 +12,8 @@ work=$(mktemp -d)
 prefix=ccnode-$$
 pids=()
 declare -A pid_of
+# What comes in with a client's certificate comes out where a node takes asks alone: at this port and its ID.
+export CLIENT_PORTS=7500
 
 end() {
     local pid place
@@ -111,10 +113,11 @@ peers() {
     echo "$list"
 }
 
-# Node ID of the cluster behind TLS listens at loopback alone.
+# Node ID of the cluster behind TLS listens at loopback alone, for its peers and for clients.
 start_node() {
-    say "ccnode run node-$1 --listen 127.0.0.1:700$1 --peers $(peers "$1") &    (machine $1)"
-    start "node-$1" "$1" "$program" run "$work/node-$1" --listen "127.0.0.1:700$1" --peers "$(peers "$1")"
+    local words=(--listen "127.0.0.1:700$1" --listen-clients "127.0.0.1:$((CLIENT_PORTS + $1))" --peers "$(peers "$1")")
+    say "ccnode run node-$1 ${words[*]} &    (machine $1)"
+    start "node-$1" "$1" "$program" run "$work/node-$1" "${words[@]}"
 }
 
 format_nodes() {
@@ -167,6 +170,9 @@ try_asks() {
     echo '-- asks over TLS'
     ask 'Stored' ask 127.0.0.1:7001 11 store over-tls
     ask '*1:1=over-tls/*' ask 127.0.0.1:7003 13 collect
+    echo "-- a client's certificate serves for asks alone"
+    ask 'no answer' retire 127.0.0.1:7001 2
+    ask 'no answer' leave 127.0.0.1:7001
 }
 
 try_strangers() {
