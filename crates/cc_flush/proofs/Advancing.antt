@@ -345,13 +345,13 @@ module _ {D : Type 0} (s : Ghosts D) where
   }
 
   -- actions are done, a disk call failed in the next one, and the rest is given up
-  pub run_failed : (old mid new : Engine D) (actions done : List Action) (action : Action) (more : List Action) (failed : Failed)
-      → actions ≡ done ++ action ∷ more → Done done old mid → HaveDone s done old mid → FailsIn s action mid new failed.fault
+  pub run_failed : (old mid new : Engine D) (actions done left : List Action) (action : Action) (more : List Action) (failed : Failed)
+      → actions ≡ done ++ left → left ≡ action ∷ more → Done done old mid → HaveDone s done old mid → FailsIn s action mid new failed.fault
       → HasRun s actions old new (Err failed)
-  run_failed old mid new actions done action more failed parts run each fails = record {
+  run_failed old mid new actions done left action more failed parts next run each fails = record {
     done = done;
     rest = action ∷ more;
-    parts = parts;
+    parts = parts ∙ ap (λ (l : List Action). done ++ l) next;
     twin = fails.twin ∙ run.twin;
     in_use = in_use_is new mid.at.side mid.generation (ap (λ (at : Position). at.side) fails.at) fails.same_generation ∙ run.in_use;
     each = λ none. (mid, action, more, each, refl, fails);
