@@ -1,10 +1,10 @@
-use Rattle.std.proofs.Common.{◌≡◌, inl, inr, [], ◌∷◌, ◌++◌, length, refl, sym, ◌∙◌, ap, subst, arith, rules, append_assoc, append-nil}
+use Rattle.std.proofs.Common.{◌≡◌, inl, inr, [], ◌∷◌, length, refl, sym, ◌∙◌, ap, subst, arith, rules, append-nil}
 use Rattle.std.proofs.lemmas.List.{nil_from_length}
 use Rattle.std.proofs.lemmas.Result.{err_from_is_err_and}
 use Rattle.std.specs.Vec.Iter.{into_iter_items}
 use Rattle.cc_flush.specs.Flushing.{HasLived}
 use Rattle.cc_flush.specs.Lives.{AreTurnsLawful}
-use Rattle.cc_flush.proofs.Advancing.{stays, done_more, one_more, run_ended, run_failed}
+use Rattle.cc_flush.proofs.Advancing.{stays, parts_more, done_more, one_more, run_ended, run_failed}
 use Rattle.cc_flush.proofs.flusher.Flusher.run_life.Goals as goal
 
 pub returns-in-Some-clause-run : goal.returns-in-Some-clause-run
@@ -46,7 +46,7 @@ loop-action-preserved g c =
     let lawful = subst (AreTurnsLawful at.self.twin) steps at.invariant.lawful in
     let acted = c.in_ok-act.ensures.acts in
     record {
-      parts = at.invariant.parts ∙ ap (λ l. at.yielded ++ l) steps ∙ sym (append_assoc at.yielded (action ∷ []) rest);
+      parts = parts_more c.args.actions.items at.yielded (into_iter_items at.action-iterator) action rest at.invariant.parts steps;
       count = omega (arith, at.invariant.count, c.in-Some-action.ensures.steps.1, ap length steps);
       lawful = subst (λ n. AreTurnsLawful n rest) (sym acted.0.twin) lawful.1;
       run = done_more g.S.Site c.args.self.now at.self c.act.new.self at.yielded action at.invariant.run acted.0;
