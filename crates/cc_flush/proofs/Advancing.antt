@@ -1,7 +1,7 @@
 -- How a life goes on.
 --     both_parts, joined_on, sides_on     two parts of a life
 --     stays, advances_both           an engine that was asked for nothing;  one action after another
---     done_more                      the actions that are done, and one more
+--     parts_more, done_more          the actions that are done, and one more
 --     put_advances                   outputs are put again
 --     move_done, spent_done, move_given_up    the node is moved;  no generation is left for that;  a disk call of it fails
 --     one_more                       one action more, each one after the other
@@ -56,6 +56,11 @@ outputs_more n (first ∷ done) action =
     ap (λ (l : List Output). outputs_by n first ++ l) (outputs_more next done action)
     ∙ sym (append_assoc (outputs_by n first) (outputs_of next done) (outputs_by (after next (events_of done)) action))
     ∙ ap (λ (m : Node). (outputs_by n first ++ outputs_of next done) ++ outputs_by m action) (sym (after-append n (events_by first) (events_of done)))
+
+pub parts_more : (actions done left : List Action) (action : Action) (more : List Action) → actions ≡ done ++ left → left ≡ action ∷ more
+    → actions ≡ (done ++ action ∷ []) ++ more
+parts_more actions done left action more parts next =
+    parts ∙ ap (λ (l : List Action). done ++ l) next ∙ sym (append_assoc done (action ∷ []) more)
 
 in_use_more : (used : InUse) (done : List Action) (action : Action) → in_use_after used (done ++ action ∷ []) ≡ in_use_by (in_use_after used done) action
 in_use_more used [] action = refl
@@ -345,13 +350,13 @@ module _ {D : Type 0} (s : Ghosts D) where
   }
 
   -- actions are done, a disk call failed in the next one, and the rest is given up
-  pub run_failed : (old mid new : Engine D) (actions done : List Action) (action : Action) (more : List Action) (failed : Failed)
-      → actions ≡ done ++ action ∷ more → Done done old mid → HaveDone s done old mid → FailsIn s action mid new failed.fault
+  pub run_failed : (old mid new : Engine D) (actions done left : List Action) (action : Action) (more : List Action) (failed : Failed)
+      → actions ≡ done ++ left → left ≡ action ∷ more → Done done old mid → HaveDone s done old mid → FailsIn s action mid new failed.fault
       → HasRun s actions old new (Err failed)
-  run_failed old mid new actions done action more failed parts run each fails = record {
+  run_failed old mid new actions done left action more failed parts next run each fails = record {
     done = done;
     rest = action ∷ more;
-    parts = parts;
+    parts = parts ∙ ap (λ (l : List Action). done ++ l) next;
     twin = fails.twin ∙ run.twin;
     in_use = in_use_is new mid.at.side mid.generation (ap (λ (at : Position). at.side) fails.at) fails.same_generation ∙ run.in_use;
     each = λ none. (mid, action, more, each, refl, fails);

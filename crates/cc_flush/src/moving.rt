@@ -8,7 +8,7 @@ ghost use Rattle.cc_site.specs.Sides.{durable, other};
 ghost use Rattle.cc_site.specs.Telling.{CountsCalls};
 ghost use Rattle.cc_node.specs.Node.{Node as NodeValue, after};
 ghost use Rattle.cc_sides.specs.Sides.{OPEN};
-ghost use Rattle.cc_checkpoint.specs.Checkpoints.{image_of, RestsOn};
+ghost use Rattle.cc_checkpoint.specs.Checkpoints.{image_of, IsFilled, RestsOn, KeepsOff};
 ghost use Rattle.cc_checkpoint.specs.Images.{SpellsImage};
 ghost use Rattle.cc_checkpoint.specs.Stops.{Fills, HasClosed};
 ghost use Rattle.cc_journal.specs.Journals.{room_limit, StaysGood};
@@ -41,6 +41,27 @@ fn ensure_gate<S: Site>(site: &mut S, side: Side) -> Result<(), DeviceFault>
     Ok(())
 }
 
+// Sees to it that a side has a gate, and fills it behind that, while the other one is in use.
+fn gate_and_fill<S: Site>(
+    site: &mut S,
+    side: Side,
+    generation: u64,
+    node: &Node,
+    piece: &mut Piece,
+) -> Result<(), DeviceFault>
+    requires { 1 ≤ generation }
+    ensures honest { S.honest site.old ↔ S.honest site.new }
+    ensures tells { (S.tells site.old ↔ S.tells site.new) × (S.sent site.new ≡ S.sent site.old) }
+    ensures other_side { S.honest site.old → S.state site.new (other side) ≡ S.state site.old (other side) }
+    ensures every_moment { S.honest site.old → IsSettled (S.state site.old side) → 1 ≤ length (S.state site.old side).bytes → KeepsOff S.Site side site.old site.new }
+    ensures filled { S.honest site.old → OnOk result (IsFilled (S.state site.new side) generation node.now) }
+    ensures failed { S.honest site.old → IfErr result (λ f. FilledStops generation node.now (S.state site.old side) f.call (S.state site.new side)) }
+    ensures fault { CountsCalls (λ on call. Begins side on call ⊎ Fills side on call) (S.failures site.old) (S.failures site.new) result }
+{
+    ensure_gate(site, side)?;
+    fill(site, side, generation, node, piece)
+}
+
 // Puts the node on a side, under a generation above that of the other one, which is in use and holds it. At each moment the
 // sides stand for the node.
 fn put_on_side<S: Site>(
@@ -64,8 +85,7 @@ fn put_on_side<S: Site>(
     ensures failed { S.honest site.old → IfErr result (λ f. FilledStops generation node.now (S.state site.old side) f.call (S.state site.new side)) }
     ensures fault { CountsCalls (λ on call. Begins side on call ⊎ Fills side on call) (S.failures site.old) (S.failures site.new) result }
 {
-    ensure_gate(site, side)?;
-    fill(site, side, generation, node, piece)?;
+    gate_and_fill(site, side, generation, node, piece)?;
     arm(site, side)
 }
 

@@ -11,11 +11,9 @@ the_err fault = Err fault
 
 pub returns-in-Ok-format_sides-clause-at_rest : goal.returns-in-Ok-format_sides-clause-at_rest
 returns-in-Ok-format_sides-clause-at_rest g c honest =
-    let node = fresh (told c.args.opening.now) in (
-      length c.deref.result.now,
-      c.in-Ok-format_sides.ensures.at_rest honest node
-          (subst (λ l. SpellsImage l 1 node) (sym c.deref.ensures.value) c.in-Ok.ensures.image),
-    )
+    let node = fresh (told c.args.opening.now) in
+    let image = subst (λ l. SpellsImage l 1 node) (sym c.deref.ensures.value) c.in-Ok.ensures.image in
+    (length c.deref.result.now, c.in-Ok-format_sides.ensures.at_rest honest node image)
 
 pub returns-clause-faults : goal.returns-clause-faults
 returns-clause-faults g c =

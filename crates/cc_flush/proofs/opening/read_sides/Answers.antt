@@ -22,17 +22,10 @@ returns-in_err-journal-clause-failed g c honest =
     let read = reads_then g.S.Site c.args.site.now c.choose.new.site c.read_state.new.site chose c.in_ok-start.ensures.reads in
     let head = subst (λ st. HeadAt (st used.side).bytes start first) (chose.keeps_state honest) (c.in_ok-start.ensures.exact (chose.keeps_honesty.0 honest)) in
     let p = err_from_is_err_and c.from_residual-in_err-journal.result c.from_residual-in_err-journal.ensures.1 in
-    rw (p.1, p.2) (λ is. inr (
-      used,
-      c.in_ok-side.ensures.exact honest,
-      inr (
-        start,
-        first,
-        head,
-        subst (λ st. RecordsFail used.side (st used.side).bytes start first c.in_err-journal.field-0.0) (read.keeps_state honest)
-            (c.in_err-journal.ensures.failed (read.keeps_honesty.0 honest) is),
-      ),
-    ))
+    rw (p.1, p.2) (λ is.
+    let fails = subst (λ st. RecordsFail used.side (st used.side).bytes start first c.in_err-journal.field-0.0) (read.keeps_state honest)
+    (c.in_err-journal.ensures.failed (read.keeps_honesty.0 honest) is) in
+    inr (used, c.in_ok-side.ensures.exact honest, inr (start, first, head, fails)))
 
 pub returns-clause-found : goal.returns-clause-found
 returns-clause-found g c honest =

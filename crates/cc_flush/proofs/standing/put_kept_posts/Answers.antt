@@ -1,15 +1,19 @@
 use Rattle.std.proofs.Common.{◌≡◌, ℕ, ◌+◌, ◌-◌, ◌≤◌, ◌∷◌, drop, length, refl, ap, subst, arith}
-use Rattle.std.specs.Ordering.{nat_cmp}
 use Rattle.std.specs.FinMap as table
-use Rattle.std.specs.FinMap.{FinMap}
 use Rattle.cc_messages.specs.declared.message.Message.{Message}
+use Rattle.cc_site.specs.declared.site.Site.{Ghosts}
+use Rattle.cc_outbox.specs.Outbox.{Outbox}
+use Rattle.cc_node.specs.Node.{Node}
 use Rattle.cc_journal.specs.Outlet.{Puts}
 use Rattle.cc_flush.specs.Standing.{resend_post, resends}
 use Rattle.cc_flush.proofs.Resends.{next_post, HasPutPieces, pieces_none, pieces_more, pieces_all}
 use Rattle.cc_flush.proofs.standing.put_kept_posts.Goals as goal
 
-past_all : (posts box : FinMap nat_cmp Message) (i count : ℕ) → box ≡ posts → count ≡ table.len box → count ≤ i → length (table.entries posts) ≤ i
-past_all posts box i count same is past = omega (arith, table.len-entries posts, ap (λ (m : FinMap nat_cmp Message). table.len m) same, is, past)
+posts_all : {D : Type 0} (s : Ghosts D) (old now : D) (n : Node) (box : Outbox) (kept i count : ℕ) → box ≡ n.outbox → kept ≡ table.len box.posts → kept ≤ i
+    → HasPutPieces s (resend_post n.core) (table.entries n.outbox.posts) old now i count → Puts s (resends n) old now × (count ≡ length (resends n))
+posts_all s old now n box kept i count same is past put =
+    pieces_all s (resend_post n.core) (table.entries n.outbox.posts) old now i count (resends n) put
+    (omega (arith, table.len-entries n.outbox.posts, ap (λ (b : Outbox). table.len b.posts) same, is, past)) refl
 
 pub loop-number-init : goal.loop-number-init
 loop-number-init g c =
@@ -52,22 +56,16 @@ loop-number-preserved g c =
 
 pub returns-clause-count : goal.returns-clause-count
 returns-clause-count g c =
-    let node = c.args.node.now in
     let at = c.loop-number in
-    let i = at.number - (c.last-last.result - c.post_count.result) in
-    let count = c.post_count.ensures in
-    let few : c.post_count.result ≤ i = omega (arith, c.loop-number-test.false, c.last-last.ensures, count.count, count.last.count, at.invariant.from) in
-    let past = past_all node.outbox.posts c.outbox-outbox.result.now.posts i c.post_count.result (ap (λ b. b.posts) c.outbox-outbox.ensures) count.count few in
-    (pieces_all g.S.Site (resend_post node.core) (table.entries node.outbox.posts) c.args.site.now at.site i at.count (resends node)
-    at.invariant.put past refl).1
+    let kept = c.post_count.ensures in
+    (posts_all g.S.Site c.args.site.now at.site c.args.node.now c.outbox-outbox.result.now c.post_count.result
+    (at.number - (c.last-last.result - c.post_count.result)) at.count c.outbox-outbox.ensures kept.count
+    (omega (arith, c.loop-number-test.false, c.last-last.ensures, kept.count, kept.last.count, at.invariant.from)) at.invariant.put).1
 
 pub returns-clause-puts : goal.returns-clause-puts
 returns-clause-puts g c =
-    let node = c.args.node.now in
     let at = c.loop-number in
-    let i = at.number - (c.last-last.result - c.post_count.result) in
-    let count = c.post_count.ensures in
-    let few : c.post_count.result ≤ i = omega (arith, c.loop-number-test.false, c.last-last.ensures, count.count, count.last.count, at.invariant.from) in
-    let past = past_all node.outbox.posts c.outbox-outbox.result.now.posts i c.post_count.result (ap (λ b. b.posts) c.outbox-outbox.ensures) count.count few in
-    (pieces_all g.S.Site (resend_post node.core) (table.entries node.outbox.posts) c.args.site.now at.site i at.count (resends node)
-    at.invariant.put past refl).0
+    let kept = c.post_count.ensures in
+    (posts_all g.S.Site c.args.site.now at.site c.args.node.now c.outbox-outbox.result.now c.post_count.result
+    (at.number - (c.last-last.result - c.post_count.result)) at.count c.outbox-outbox.ensures kept.count
+    (omega (arith, c.loop-number-test.false, c.last-last.ensures, kept.count, kept.last.count, at.invariant.from)) at.invariant.put).0
