@@ -56,7 +56,7 @@ use Rattle.cc_laws.specs.Rounds.{awaits_views, awaits_acks, counts, ends_round, 
 use Rattle.cc_laws.proofs.Lists.{all_changed, all_at}
 use Rattle.cc_laws.proofs.Lines.{made_in}
 use Rattle.cc_laws.proofs.Members.{IsSound, lawful_front}
-use Rattle.cc_laws.proofs.Places.{at_same, at_before, at_behind, split_order, front_low, place_in}
+use Rattle.cc_laws.proofs.Places.{at_same, at_before, at_behind, split_order, front_low, place_in, Place}
 use Rattle.cc_laws.proofs.Says.{stored_of, Told, TellsOf, ReplySays, each_says, OutputSays, outputs_say}
 use Rattle.cc_laws.proofs.Pending.{HasAck, HasReply, Raised, ReadBefore, IsQueryOf, Pends, core_push, pends}
 use Rattle.cc_laws.proofs.CountedAnswers.{IsAckFrom, IsReplyFrom, counted_ack, counted_reply, with_all}
@@ -101,12 +101,10 @@ last_after s n (e ∷ es) d = omega (arith, last_next n.core e s d.0, last_after
 -- ---- the event that made an answer
 
 pub record Ended (m : Member) (s r : ℕ) (a : Answer) : Type 0 where
-  pub front : List Event
-  pub last : Event
-  pub later : List Event
-  pub parts : released_events m ≡ front ++ last ∷ later
-  pub ends : ends_round (after (fresh m.opening) front).core last ≡ true
-  pub tells : TellsOf (after (fresh m.opening) front).core.ops (record { session = s; request = r; answer = a })
+  pub place : Place (released_events m)
+  pub open place use *
+  pub ends : ends_round (after (fresh m.opening) before).core here ≡ true
+  pub tells : TellsOf (after (fresh m.opening) before).core.ops (record { session = s; request = r; answer = a })
 
 pub ended : (m : Member) (s r : ℕ) (a : Answer) → Contains (line (fresh m.opening) (released_events m)) (output.Reply s r a) → Ended m s r a
 ended m s r a has =
@@ -116,7 +114,11 @@ ended m s r a has =
     let is : Contains (replies c made.event) t =
     all_at (OutputSays c made.event) (outputs c made.event) (output.Reply s r a) (outputs_say c made.event) made.makes in
     let says = all_at (ReplySays c made.event) (replies c made.event) t (each_says c made.event) is in
-    record { front = made.before; last = made.event; later = made.later; parts = made.parts; ends = says.0; tells = says.1 }
+    record {
+      place = record { before = made.before; here = made.event; later = made.later; parts = made.parts };
+      ends = says.0;
+      tells = says.1;
+    }
 
 abbrev pub IsWriteOp : Core → ℕ → ℕ → Answer → Type 0
 IsWriteOp c s r a =
@@ -210,13 +212,15 @@ module _ (q : ℕ) (m : Member) (sound : IsSound q m) where
   lawful : IsLawful start (released_events m)
   lawful = lawful_front start m.events m.released sound.lawful
 
-  lawful_before : (front later : List Event) (last : Event) → released_events m ≡ front ++ last ∷ later → IsLawful start front
-  lawful_before front later last parts = (lawful_parts start front (last ∷ later) (subst (IsLawful start) parts lawful)).0
+  lawful_before : (p : Place (released_events m)) → IsLawful start p.before
+  lawful_before p = (lawful_parts start p.before (p.here ∷ p.later) (subst (IsLawful start) p.parts lawful)).0
 
-  pub node_lawful : (front later : List Event) (last : Event) → released_events m ≡ front ++ last ∷ later → IsLawfulNode (after start front)
-  node_lawful front later last parts = after_lawful start front (lawful_before front later last parts) (fresh_lawful m.opening sound.opening)
+  pub node_lawful : (p : Place (released_events m)) → IsLawfulNode (after start p.before)
+  node_lawful p = after_lawful start p.before (lawful_before p) (fresh_lawful m.opening sound.opening)
 
-  module _ (front later : List Event) (last : Event) (parts : released_events m ≡ front ++ last ∷ later) where
+  module _ (place : Place (released_events m)) where
+    open place use {before as front, here as last, later, parts}
+
     abbrev c : Core
     c = (after start front).core
 
@@ -252,9 +256,9 @@ module _ (q : ℕ) (m : Member) (sound : IsSound q m) where
       acks = subst (λ (me : ℕ). AllByRecursion (HasAck m.events me c.ops.tag) (with_peer (counts c last) peers)) is_me
           (with_all (HasAck m.events c.me c.ops.tag) (counts c last) peers
           (IfSome_then (counts c last) {P = IsAckFrom c last} {Q = HasAck m.events c.me c.ops.tag} (counted_ack c last is)
-          (λ r k. (k.0, came_last m front later last _ parts k.1)))
+          (λ r k. (k.0, came_last m place _ k.1)))
           (all_changed (HasAck front c.me c.ops.tag) (HasAck m.events c.me c.ops.tag)
-          (λ r k. (k.0, came_before m front later last _ parts k.1)) peers acks));
+          (λ r k. (k.0, came_before m place _ k.1)) peers acks));
     }
 
     pub write_round : (s r : ℕ) (p : Pending) → HasAsked (pending c.ops) s r → c.ops.phase ≡ Storing p → ends_round c last ≡ true
@@ -287,23 +291,23 @@ module _ (q : ℕ) (m : Member) (sound : IsSound q m) where
           replies = subst (λ (me : ℕ). AllByRecursion (HasReply m.events me c.ops.tag seen) (with_peer (counts c last) peers)) is_me
               (with_all (HasReply m.events c.me c.ops.tag seen) (counts c last) peers
               (IfSome_then (counts c last) {P = IsReplyFrom c last} {Q = HasReply m.events c.me c.ops.tag seen} (counted_reply c last is)
-              (λ x k. (k.0, k.1, came_last m front later last _ parts k.2, subst (IsAtMost k.1) saw k.3)))
+              (λ x k. (k.0, k.1, came_last m place _ k.2, subst (IsAtMost k.1) saw k.3)))
               (all_changed (HasReply front c.me c.ops.tag c.ops.view) (HasReply m.events c.me c.ops.tag seen)
-              (λ x k. (k.0, k.1, came_before m front later last _ parts k.2, at_most_trans k.1 c.ops.view seen k.3 widest)) peers h.1));
+              (λ x k. (k.0, k.1, came_before m place _ k.2, at_most_trans k.1 c.ops.view seen k.3 widest)) peers h.1));
         }
 
     read_before : (p : Pending) (seen : ViewMap) → c.ops.phase ≡ StoringBack p seen → ReadBefore start front (p.asked ∷ c.ops.others) seen
     read_before p seen is = (pends_as (StoringBack p seen) is).2
 
   -- what was answered was read in a round before
-  pub answered_read : (s r : ℕ) (a : Answer) (op : Ended m s r a) (p : Pending) (seen : ViewMap) → (after start op.front).core.ops.phase ≡ StoringBack p seen
-      → HasAsked (pending (after start op.front).core.ops) s r → ReadRound q m s r seen
+  pub answered_read : (s r : ℕ) (a : Answer) (op : Ended m s r a) (p : Pending) (seen : ViewMap) → (after start op.before).core.ops.phase ≡ StoringBack p seen
+      → HasAsked (pending (after start op.before).core.ops) s r → ReadRound q m s r seen
   answered_read s r a op p seen is asked =
-      let d = (after start op.front).core in
-      let b = read_before op.front op.later op.last op.parts p seen is in
-      let place = place_in (released_events m) op.front (op.last ∷ op.later) op.parts b.place in
+      let d = (after start op.before).core in
+      let b = read_before op.place p seen is in
+      let place = place_in (released_events m) op.before (op.here ∷ op.later) op.parts b.place in
       let same : pending d.ops ≡ pending (after start b.before).core.ops = pending_as d p (StoringBack p seen) is refl ∙ sym b.same in
-      query_round b.before place.later b.here place.parts s r seen b.query
+      query_round place s r seen b.query
       (subst (λ (l : List Asked). HasAsked l s r) same asked) b.querying b.ends
       (ap (λ (e : Core). e.ops.view) (sym (core_push start b.before b.here)) ∙ b.saw)
 
@@ -336,28 +340,28 @@ module _ (q : ℕ) (m : Member) (sound : IsSound q m) where
       subst (λ (y : ℕ). has_session y ys ≡ false) has.2
       (all_at (λ (x : Asked). has_session x.session ys ≡ false) xs has.0 (none_behind xs ys apart) has.1)
 
-  pub number_reached : (s r k : ℕ) (a : Answer) (op : Ended m s r a) → HasAsked (pending (after start op.front).core.ops) s r
-      → IsWriteAsk (released_events m) k s r → k ≤ (after start op.front).core.ops.number
+  pub number_reached : (s r k : ℕ) (a : Answer) (op : Ended m s r a) → HasAsked (pending (after start op.before).core.ops) s r
+      → IsWriteAsk (released_events m) k s r → k ≤ (after start op.before).core.ops.number
   number_reached s r k a op asked w =
       let es = released_events m in
-      let d = (after start op.front).core in
+      let d = (after start op.before).core in
       let e = event.Ask s r w.command in
-      let node = node_lawful op.front op.later op.last op.parts in
+      let node = node_lawful op.place in
       let last_is : last_request d.sessions s ≡ r = asked_last d node.core s r asked in
-      elim (split_order w.before w.later op.front op.later e op.last (sym w.parts ∙ op.parts)) as (λ _. k ≤ d.ops.number) [
+      elim (split_order w.before w.later op.before op.later e op.here (sym w.parts ∙ op.parts)) as (λ _. k ≤ d.ops.number) [
         | at_same at it ↦ let never : false ≡ true = ap (ends_round d) it ∙ op.ends in absurd cc
         | at_before more inside ↦ reached more inside node
         | at_behind more outside ↦
             let lawful_w = (lawful_parts start w.before (e ∷ w.later) (subst (IsLawful start) w.parts lawful)) in
             let new : last_request (after start w.before).core.sessions s < r = request_new (after start w.before).core s r w.command lawful_w.1.0 in
-            let old = front_low (λ n. last_request n.core.sessions s) (last_after s) start w.before op.front (op.last ∷ more) lawful_w.0 outside in
+            let old = front_low (λ n. last_request n.core.sessions s) (last_after s) start w.before op.before (op.here ∷ more) lawful_w.0 outside in
             absurd (omega (arith, new, old, last_is))
       ]
     where
-      reached : (more : List Event) → op.front ≡ w.before ++ event.Ask s r w.command ∷ more → IsLawfulNode (after start op.front)
-          → k ≤ (after start op.front).core.ops.number
+      reached : (more : List Event) → op.before ≡ w.before ++ event.Ask s r w.command ∷ more → IsLawfulNode (after start op.before)
+          → k ≤ (after start op.before).core.ops.number
       reached more inside node =
-          let front = op.front in
+          let front = op.before in
           let ops = (after start front).core.ops in
           let x = asked_of s r w.command in
           let begun = begun_along start front in
@@ -367,7 +371,7 @@ module _ (q : ℕ) (m : Member) (sound : IsSound q m) where
           let later = of_kind true (asked_along more) in
           let begins : of_kind true (asked_along front) ≡ writers ++ waiting =
           ap (λ (l : List Asked). of_kind true (l ++ asked_along front)) (sym (fresh_line m.opening))
-          ∙ begin_in_order true start front (fresh_lawful m.opening sound.opening) (lawful_before front op.later op.last op.parts)
+          ∙ begin_in_order true start front (fresh_lawful m.opening sound.opening) (lawful_before op.place)
           ∙ kind_both true begun ops.line in
           let asks : of_kind true (asked_along front) ≡ of_kind true first ++ x ∷ later =
           ap (of_kind true) (ap asked_along inside ∙ asked_both w.before (event.Ask s r w.command ∷ more)) ∙ kind_both true first (x ∷ asked_along more)

@@ -20,7 +20,6 @@ use Rattle.cc_messages.specs.declared.output.Output.TheVariants as output
 use Rattle.cc_node.specs.Core.{Core, next, post, outputs}
 use Rattle.cc_node.specs.Node.{Node, after, line}
 use Rattle.cc_node.specs.Opening.{fresh}
-use Rattle.cc_node.specs.Histories.{after-append}
 use Rattle.cc_node.proofs.CoreLaws.{view_grows, view_grows_along}
 use Rattle.cc_laws.specs.Clusters.{Member, Cluster, node_at}
 use Rattle.cc_laws.specs.Regular.{released_events, HasAtLeast}
@@ -28,7 +27,7 @@ use Rattle.cc_laws.proofs.Lists.{at_some, contains_at, contains_front, all_at}
 use Rattle.cc_laws.proofs.Lines.{made_in}
 use Rattle.cc_laws.proofs.Members.{IsSound, lawful_front}
 use Rattle.cc_laws.proofs.Clustering.{Holds, IsAt, one_at, Grows, GrownAt}
-use Rattle.cc_laws.proofs.Places.{parts_more, after_parts, same_head, same_tail, front_more, at_once, front_low}
+use Rattle.cc_laws.proofs.Places.{parts_more, after_parts, same_head, same_tail, at_once, front_low, Place}
 use Rattle.cc_laws.proofs.Says.{tag_after, stored_of, PostSays, post_says, GoesTo, OutputSays, outputs_say}
 use Rattle.cc_laws.proofs.Pending.{Raised, core_push, least_more}
 use Rattle.cc_laws.proofs.Traces.{MadeBy, CameFrom, Traces}
@@ -41,22 +40,19 @@ pub me_of : (q : ℕ) (m : Member) → IsSound q m → (es : List Event) → (af
 me_of q m sound es = me_along (fresh m.opening) es ∙ fresh_me m.opening ∙ sound.me
 
 -- the view after an event is at most the one after all
-pub view_within : (n : Node) (es before later : List Event) (e : Event) → es ≡ before ++ e ∷ later
-    → IsAtMost (next (after n before).core e).ops.view (after n es).core.ops.view
-view_within n es before later e parts =
-    let here : after n es ≡ after (after n (before ++ e ∷ [])) later =
-    ap (after n) (parts ∙ front_more before later e) ∙ after-append n (before ++ e ∷ []) later in
-    subst (λ (c : Core). IsAtMost c.ops.view (after n es).core.ops.view) (core_push n before e)
-    (subst (λ (m : Node). IsAtMost (after n (before ++ e ∷ [])).core.ops.view m.core.ops.view) (sym here) (view_grows_along (after n (before ++ e ∷ [])) later))
+pub view_within : (n : Node) (es : List Event) (p : Place es) → IsAtMost (next (after n p.before).core p.here).ops.view (after n es).core.ops.view
+view_within n es p =
+    let front = p.before ++ p.here ∷ [] in
+    let all : after n es ≡ after (after n front) p.later = after_parts n es front p.later (parts_more es p.before p.later p.here p.parts) in
+    subst (λ (c : Core). IsAtMost c.ops.view (after n es).core.ops.view) (core_push n p.before p.here)
+    (subst (λ (m : Node). IsAtMost (after n front).core.ops.view m.core.ops.view) (sym all) (view_grows_along (after n front) p.later))
 
 pub record Posted (m : Member) (to n : ℕ) (k : Message) : Type 0 where
-  pub before : List Event
-  pub poster : Event
-  pub later : List Event
-  pub parts : released_events m ≡ before ++ poster ∷ later
-  pub posts : post (after (fresh m.opening) before).core poster ≡ Some k
-  pub says : PostSays (after (fresh m.opening) before).core poster k
-  pub goes : GoesTo (next (after (fresh m.opening) before).core poster) to n
+  pub place : Place (released_events m)
+  pub open place use *
+  pub posts : post (after (fresh m.opening) before).core here ≡ Some k
+  pub says : PostSays (after (fresh m.opening) before).core here k
+  pub goes : GoesTo (next (after (fresh m.opening) before).core here) to n
 
 pub posted : (m : Member) (to n : ℕ) (k : Message) → Contains (line (fresh m.opening) (released_events m)) (output.Send to n k) → Posted m to n k
 posted m to n k has =
@@ -65,24 +61,21 @@ posted m to n k has =
     let is : OutputSays c made.event (output.Send to n k) =
     all_at (OutputSays c made.event) (outputs c made.event) (output.Send to n k) (outputs_say c made.event) made.makes in
     record {
-      before = made.before;
-      poster = made.event;
-      later = made.later;
-      parts = made.parts;
+      place = record { before = made.before; here = made.event; later = made.later; parts = made.parts };
       posts = is.0;
       says = at_some (PostSays c made.event) (post c made.event) k is.0 (post_says c made.event);
       goes = is.1;
     }
 
 -- what a member released before an event, and that event, are among its events
-module _ (m : Member) (front later : List Event) (last e : Event) (parts : released_events m ≡ front ++ last ∷ later) where
-  pub came_before : Contains front e → Contains m.events e
+module _ (m : Member) (p : Place (released_events m)) (e : Event) where
+  pub came_before : Contains p.before e → Contains m.events e
   came_before has =
-      contains_front m.released m.events e (subst (λ l. Contains l e) (sym parts) (Contains-append_left front (last ∷ later) e has))
+      contains_front m.released m.events e (subst (λ l. Contains l e) (sym p.parts) (Contains-append_left p.before (p.here ∷ p.later) e has))
 
-  pub came_last : last ≡ e → Contains m.events e
+  pub came_last : p.here ≡ e → Contains m.events e
   came_last is =
-      contains_front m.released m.events e (subst (Contains (released_events m)) is (contains_at (released_events m) front later last parts))
+      contains_front m.released m.events e (subst (Contains (released_events m)) is (contains_at (released_events m) p.before p.later p.here p.parts))
 
 -- the tag after the event that raised it, and what its round stores
 pub raised_at : (n : Node) (before : List Event) (e : Event) (tag : ℕ) → tag ≡ (next (after n before).core e).ops.tag
@@ -125,7 +118,7 @@ module _ (c : Cluster) (h : Holds c) (t : Traces c) where
   posted_by q m at r x there f n k tells has =
       let made = came_at r x there f n k has in
       let p = posted made.0 r n k made.2 in
-      let is_q : q ≡ f = tells (after (fresh (made.0).opening) p.before).core p.poster p.says ∙ me_of f made.0 (h.sound f made.0 made.1) p.before in
+      let is_q : q ≡ f = tells (after (fresh (made.0).opening) p.before).core p.here p.says ∙ me_of f made.0 (h.sound f made.0 made.1) p.before in
       (sym is_q, subst (λ (w : Member). Posted w r n k) (one_at c f q made.0 m (sym is_q) made.1 at) p)
 
   -- who acknowledged a store has at least the view that was stored
@@ -139,17 +132,16 @@ module _ (c : Cluster) (h : Holds c) (t : Traces c) where
       let v = ack.says.0 in
       let f = ack.says.1.0 in
       let a = ack.says.1.1 in
-      let got = came_last x ack.before ack.later ack.poster _ ack.parts ack.says.1.2 in
+      let got = came_last x ack.place _ ack.says.1.2 in
       let store = (posted_by q m at r x ack_made.1 f a (message.Store v tag q) (λ d e says. says.0) got).1 in
       let start = fresh m.opening in
       let lawful = lawful_front start m.events m.released (h.sound q m at).lawful in
-      let high : tag ≡ (after start (store.before ++ store.poster ∷ [])).core.ops.tag = raised_at start store.before store.poster tag store.says.2 in
-      let one = at_once (λ n. n.core.ops.tag) tag_after start (released_events m) lawful
-      store.before store.later raised.before raised.later store.poster raised.here store.parts raised.parts
+      let high : tag ≡ (after start (store.before ++ store.here ∷ [])).core.ops.tag = raised_at start store.before store.here tag store.says.2 in
+      let one = at_once (λ n. n.core.ops.tag) tag_after start (released_events m) lawful store.place raised.place
       tag store.says.1 (omega (arith, high)) raised.under (omega (arith, raised.raised)) in
       let d = (after start (raised.before ++ raised.here ∷ [])).core in
-      let there : v ≡ stored_of d.ops = stored_at start store.before raised.before store.poster raised.here v one.0 one.1 store.says.3 in
-      let ends = view_within (fresh x.opening) (released_events x) ack.before ack.later ack.poster ack.parts in (
+      let there : v ≡ stored_of d.ops = stored_at start store.before raised.before store.here raised.here v one.0 one.1 store.says.3 in
+      let ends = view_within (fresh x.opening) (released_events x) ack.place in (
         x,
         ack_made.1,
         d,
@@ -174,26 +166,26 @@ module _ (mid d : Cluster) (h : Holds mid) (t : Traces mid) (h' : Holds d) (t' :
       let grows : Grows y x = subst (Grows y) is_x grew.2 in
       let start = fresh y.opening in
       let same : fresh x.opening ≡ start = ap fresh grows.opening in
-      let told : HasAtLeast (next (after start reply.before).core reply.poster).ops.view q k → HasAtLeast v q k = λ there.
+      let told : HasAtLeast (next (after start reply.before).core reply.here).ops.view q k → HasAtLeast v q k = λ there.
       subst (λ (w : ViewMap). HasAtLeast w q k)
-      (ap (λ (s : Node). (next (after s reply.before).core reply.poster).ops.view) (sym same) ∙ sym reply.says.1) there in
-      let order = either_front (released_events y) grows.longer.0 reply.before reply.later reply.poster (sym grows.longer.1 ∙ reply.parts) in
+      (ap (λ (s : Node). (next (after s reply.before).core reply.here).ops.view) (sym same) ∙ sym reply.says.1) there in
+      let order = either_front (released_events y) grows.longer.0 reply.before reply.later reply.here (sym grows.longer.1 ∙ reply.parts) in
       elim order as (λ _. HasAtLeast v q k) [
         | inl e ↦
             let at_reply : after start reply.before ≡ after (node_at y y.released) e.0 = after_parts start reply.before (released_events y) e.0 e.1 in
             let wider : IsAtMost (node_at y y.released).core.ops.view (after start reply.before).core.ops.view =
             subst (λ (s : Node). IsAtMost (node_at y y.released).core.ops.view s.core.ops.view) (sym at_reply) (view_grows_along (node_at y y.released) e.0) in
             told (least_more _ _ q k (at_most_trans (node_at y y.released).core.ops.view _ _ wider
-            (view_grows (after start reply.before).core reply.poster)) knows.2)
+            (view_grows (after start reply.before).core reply.here)) knows.2)
         | inr e ↦
             let f = reply.says.0.0 in
             let a = reply.says.0.1 in
-            let got = came_last y reply.before e.0 reply.poster _ e.1 reply.says.0.2 in
+            let got = came_last y (record { before = reply.before; here = reply.here; later = e.0; parts = e.1 }) _ reply.says.0.2 in
             let asked = (posted_by mid h t p m at r y knows.1 f a (message.Query tag p) (λ d e says. says.0) got).1 in
             let s = fresh m.opening in
-            let front = asked.before ++ asked.poster ∷ [] in
+            let front = asked.before ++ asked.here ∷ [] in
             let lawful = lawful_front s m.events m.released (h.sound p m at).lawful in
-            let high : tag ≡ (after s front).core.ops.tag = raised_at s asked.before asked.poster tag asked.says.2 in
-            let all : released_events m ≡ front ++ asked.later = parts_more (released_events m) asked.before asked.later asked.poster asked.parts in
+            let high : tag ≡ (after s front).core.ops.tag = raised_at s asked.before asked.here tag asked.says.2 in
+            let all : released_events m ≡ front ++ asked.later = parts_more (released_events m) asked.before asked.later asked.here asked.parts in
             absurd (omega (arith, under, high, front_low (λ n. n.core.ops.tag) tag_after s (released_events m) front asked.later lawful all))
       ]

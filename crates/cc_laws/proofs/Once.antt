@@ -35,7 +35,7 @@ use Rattle.cc_laws.specs.Regular.{released_events, RoundOf}
 use Rattle.cc_laws.specs.Rounds.{counts, ends_round, begins_anew, with_peer, peers_next, peers_along, peers_of}
 use Rattle.cc_laws.proofs.Members.{lawful_front}
 use Rattle.cc_laws.proofs.Clustering.{Holds, IsAt, one_at}
-use Rattle.cc_laws.proofs.Places.{front_more, at_once}
+use Rattle.cc_laws.proofs.Places.{front_more, at_once, Place}
 use Rattle.cc_laws.proofs.Says.{tag_after, BringsIn, PostSays, GoesTo}
 use Rattle.cc_laws.proofs.Pending.{HasAck, HasReply, Pends, core_push, pends}
 use Rattle.cc_laws.proofs.CountedAnswers.{with_all, IsCountedFrom, counted_from}
@@ -121,12 +121,11 @@ module _ (c : Cluster) (h : Holds c) (t : Traces c) where
   posted_once q m at r w z tag k j of_k of_j a b =
       let start = fresh m.opening in
       let lawful = lawful_front start m.events m.released (h.sound q m at).lawful in
-      let first = round_says (after start a.before).core a.poster tag q k of_k a.says in
-      let second = round_says (after start b.before).core b.poster tag q j of_j b.says in
-      let one = at_once (λ n. n.core.ops.tag) tag_after start (released_events m) lawful
-      a.before a.later b.before b.later a.poster b.poster a.parts b.parts tag
-      first.1 (omega (arith, raised_at start a.before a.poster tag first.2)) second.1 (omega (arith, raised_at start b.before b.poster tag second.2)) in
-      one_number (next (after start b.before).core b.poster) r w z (goes_there start a.before b.before a.poster b.poster one.0 one.1 r w a.goes) b.goes
+      let first = round_says (after start a.before).core a.here tag q k of_k a.says in
+      let second = round_says (after start b.before).core b.here tag q j of_j b.says in
+      let one = at_once (λ n. n.core.ops.tag) tag_after start (released_events m) lawful a.place b.place tag
+      first.1 (omega (arith, raised_at start a.before a.here tag first.2)) second.1 (omega (arith, raised_at start b.before b.here tag second.2)) in
+      one_number (next (after start b.before).core b.here) r w z (goes_there start a.before b.before a.here b.here one.0 one.1 r w a.goes) b.goes
 
   -- of an answer that was posted: which message of its round it answers, and that this was heard with it
   record Made (q r : ℕ) (m x : Member) (tag n : ℕ) (k : Message) (p : Posted x q n k) : Type 0 where
@@ -134,23 +133,23 @@ module _ (c : Cluster) (h : Holds c) (t : Traces c) where
     round : Message
     of_round : IsRoundOf tag q round
     begun : Posted m r wire round
-    heard : HeardAt (fresh x.opening) p.before p.poster q wire
+    heard : HeardAt (fresh x.opening) p.before p.here q wire
 
   answer_made : (q : ℕ) (m : Member) → IsAt c q m → (r : ℕ) (x : Member) → IsAt c r x → (tag n : ℕ) (k : Message)
       → IsAnswerTo tag q k → (p : Posted x q n k) → Made q r m x tag n k p
   answer_made q m at r x there tag n k of_k p =
       let start = fresh x.opening in
       let lawful = lawful_front start x.events x.released (h.sound r x there).lawful in
-      let asks = answer_says (after start p.before).core p.poster tag q k of_k p.says in
-      let got = came_last x p.before p.later p.poster (event.Deliver asks.2.0 asks.2.1 asks.0) p.parts asks.2.2 in
+      let asks = answer_says (after start p.before).core p.here tag q k of_k p.says in
+      let got = came_last x p.place (event.Deliver asks.2.0 asks.2.1 asks.0) asks.2.2 in
       let begun = posted_by c h t q m at r x there asks.2.0 asks.2.1 asks.0 (λ d e says. (round_says d e tag q asks.0 asks.1 says).0) got in
       record {
         wire = asks.2.1;
         round = asks.0;
         of_round = asks.1;
         begun = begun.1;
-        heard = subst (λ (f : ℕ). HeardAt start p.before p.poster f asks.2.1) begun.0
-            (heard_at start (released_events x) p.before p.later p.poster lawful p.parts asks.2.0 asks.2.1 asks.0 asks.2.2);
+        heard = subst (λ (f : ℕ). HeardAt start p.before p.here f asks.2.1) begun.0
+            (heard_at start (released_events x) p.before p.later p.here lawful p.parts asks.2.0 asks.2.1 asks.0 asks.2.2);
       }
 
   pub one_answer : (q : ℕ) (m : Member) → IsAt c q m → (tag r n i : ℕ) (k j : Message) → IsAnswerTo tag q k → IsAnswerTo tag q j
@@ -168,10 +167,9 @@ module _ (c : Cluster) (h : Holds c) (t : Traces c) where
       let of_b = answer_made q m at r x made_k.1 tag i j of_j b in
       let wires : of_a.wire ≡ of_b.wire =
       posted_once q m at r of_a.wire of_b.wire tag of_a.round of_b.round of_a.of_round of_b.of_round of_a.begun of_b.begun in
-      let one = at_once (λ s. heard_from q s.core.links) (heard_after q) start (released_events x) lawful
-      a.before a.later b.before b.later a.poster b.poster a.parts b.parts of_b.wire
+      let one = at_once (λ s. heard_from q s.core.links) (heard_after q) start (released_events x) lawful a.place b.place of_b.wire
       (omega (arith, of_a.heard.under, wires)) (omega (arith, of_a.heard.now, wires)) of_b.heard.under (omega (arith, of_b.heard.now)) in
-      one_number (next (after start b.before).core b.poster) q n i (goes_there start a.before b.before a.poster b.poster one.0 one.1 q n a.goes) b.goes
+      one_number (next (after start b.before).core b.here) q n i (goes_there start a.before b.before a.here b.here one.0 one.1 q n a.goes) b.goes
 
 -- ---- the peers of a round
 
@@ -245,6 +243,9 @@ module _ (c : Cluster) (h : Holds c) (t : Traces c) (q : ℕ) (m : Member) (at :
   lawful_all = lawful_front begin m.events m.released (h.sound q m at).lawful
 
   module _ (front later : List Event) (last : Event) (parts : released_events m ≡ front ++ last ∷ later) where
+    abbrev place : Place (released_events m)
+    place = record { before = front; here = last; later = later; parts = parts }
+
     abbrev d : Core
     d = (after begin front).core
 
@@ -264,7 +265,7 @@ module _ (c : Cluster) (h : Holds c) (t : Traces c) (q : ℕ) (m : Member) (at :
         let old = any_holds (HasAnswer front d.me d.ops.tag) r peers there old_answers in
         let same = one_answer c h t q m at d.ops.tag r old.0 now.0 old.1 now.1
         (subst (λ (x : ℕ). IsAnswerTo d.ops.tag x old.1) me old.3) (subst (λ (x : ℕ). IsAnswerTo d.ops.tag x now.1) me now.3)
-        (came_before m front later last _ parts old.2) (came_last m front later last _ parts now.2) in
+        (came_before m place _ old.2) (came_last m place _ now.2) in
         let low = heard_past begin front all_then.0 r old.0 old.1 old.2 in
         let high = heard_new d r now.0 now.1 (subst (λ (x : Event). decides d x ≡ None) now.2 all_then.1.0) in
         omega (arith, same, low, high))
@@ -304,6 +305,6 @@ module _ (c : Cluster) (h : Holds c) (t : Traces c) (q : ℕ) (m : Member) (at :
         λ r n k has. let made = came_at c h t q m at r n k has in f r made.0 made.1 in
         with_all P (counts core round.last) (peers_along begin [] front)
         (IfSome_then (counts core round.last) {P = IsAnswerFrom core round.last} {Q = P} (counted_answer core round.last)
-        (λ r a. of_sent r a.0 a.1 (came_last m front round.later round.last _ round.parts a.2)))
-        (all_changed (HasAnswer front core.me core.ops.tag) P (λ r a. of_sent r a.0 a.1 (came_before m front round.later round.last _ round.parts a.2))
+        (λ r a. of_sent r a.0 a.1 (came_last m (place front round.later round.last round.parts) _ a.2)))
+        (all_changed (HasAnswer front core.me core.ops.tag) P (λ r a. of_sent r a.0 a.1 (came_before m (place front round.later round.last round.parts) _ a.2))
         (peers_along begin [] front) (old_answers front round.later round.last round.parts))

@@ -66,17 +66,19 @@ module _ (mark : Node → ℕ) (rises : (n : Node) (es : List Event) → IsLawfu
       let more = (lawful_parts n xs ys (subst (IsLawful n) parts lawful)).1 in
       subst (λ (m : Node). mark (after n xs) ≤ mark m) (sym (after_parts n es xs ys parts)) (rises (after n xs) ys more)
 
-  later : (n : Node) (es xs vs : List Event) (e f : Event) (us more : List Event) → IsLawful n es → es ≡ us ++ f ∷ vs → us ≡ xs ++ e ∷ more
-      → mark (after n (xs ++ e ∷ [])) ≤ mark (after n us)
-  later n es xs vs e f us more lawful there is =
-      front_low n us (xs ++ e ∷ []) more (lawful_parts n us (f ∷ vs) (subst (IsLawful n) there lawful)).0 (parts_more us xs more e is)
+  -- before a later place no higher than behind an earlier one
+  between : (n : Node) (es : List Event) → IsLawful n es → (p : Place es) (xs more : List Event) (e : Event) → p.before ≡ xs ++ e ∷ more
+      → mark (after n (xs ++ e ∷ [])) ≤ mark (after n p.before)
+  between n es lawful p xs more e is =
+      let to_p = (lawful_parts n p.before (p.here ∷ p.later) (subst (IsLawful n) p.parts lawful)).0 in
+      front_low n p.before (xs ++ e ∷ []) more to_p (parts_more p.before xs more e is)
 
-  pub at_once : (n : Node) (es : List Event) → IsLawful n es → (xs ys us vs : List Event) (e f : Event) → es ≡ xs ++ e ∷ ys → es ≡ us ++ f ∷ vs
-      → (t : ℕ) → mark (after n xs) < t → t ≤ mark (after n (xs ++ e ∷ [])) → mark (after n us) < t → t ≤ mark (after n (us ++ f ∷ []))
-      → (xs ≡ us) × (e ≡ f)
-  at_once n es lawful xs ys us vs e f here there t under over low high =
-      elim (split_order xs ys us vs e f (sym here ∙ there)) as (λ _. (xs ≡ us) × (e ≡ f)) [
+  pub at_once : (n : Node) (es : List Event) → IsLawful n es → (p q : Place es) (t : ℕ) → mark (after n p.before) < t
+      → t ≤ mark (after n (p.before ++ p.here ∷ [])) → mark (after n q.before) < t → t ≤ mark (after n (q.before ++ q.here ∷ []))
+      → (p.before ≡ q.before) × (p.here ≡ q.here)
+  at_once n es lawful p q t under over low high =
+      elim (split_order p.before p.later q.before q.later p.here q.here (sym p.parts ∙ q.parts)) as (λ _. (p.before ≡ q.before) × (p.here ≡ q.here)) [
         | at_same is at ↦ (is, at)
-        | at_before more is ↦ absurd (omega (arith, later n es xs vs e f us more lawful there is, over, low))
-        | at_behind more is ↦ absurd (omega (arith, later n es us ys f e xs more lawful here is, high, under))
+        | at_before more is ↦ absurd (omega (arith, between n es lawful q p.before more p.here is, over, low))
+        | at_behind more is ↦ absurd (omega (arith, between n es lawful p q.before more q.here is, high, under))
       ]

@@ -58,9 +58,9 @@ seen_written c d h p s r a read grown node e there =
     let m = read.member in
     let n = grown.0 in
     let grows = grown.2 in
-    let front = read.op.front in
-    let rest = read.op.last ∷ read.op.later ++ grows.longer.0 in
-    let parts : released_events n ≡ front ++ rest = place_later m n grows front read.op.later read.op.last read.op.parts in
+    let front = read.op.before in
+    let rest = read.op.here ∷ read.op.later ++ grows.longer.0 in
+    let parts : released_events n ≡ front ++ rest = place_later m n grows front read.op.later read.op.here read.op.parts in
     let at : take (length front) n.events ≡ front = front_at n.events front rest n.released parts in
     let phase : (node_at n (length front)).core.ops.phase ≡ StoringBack read.pending read.seen =
     (λ i. (after (fresh (grows.opening i)) (at i)).core.ops.phase) ∙ read.phase in

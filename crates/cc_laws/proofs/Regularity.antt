@@ -96,8 +96,8 @@ pub record Reading (c : Cluster) (p s r : ℕ) (a : Answer) : Type 0 where
   pub op : Ended member s r a
   pub pending : Pending
   pub seen : ViewMap
-  pub phase : (after (fresh member.opening) op.front).core.ops.phase ≡ StoringBack pending seen
-  pub asked : HasAsked (pending_asks (after (fresh member.opening) op.front).core.ops) s r
+  pub phase : (after (fresh member.opening) op.before).core.ops.phase ≡ StoringBack pending seen
+  pub asked : HasAsked (pending_asks (after (fresh member.opening) op.before).core.ops) s r
   pub tells : ReadsAs seen a
 
 pub reading : (c : Cluster) → Holds c → Traces c → (p s r : ℕ) (a : Answer) → IsAnswered c p s r a → (a ≡ answer.Stored → ⊥) → Reading c p s r a
@@ -105,8 +105,8 @@ reading c h t p s r a has read =
     let made = answered_by c t p s r a has in
     let m = made.0 in
     let op = ended m s r a made.2 in
-    let b = (after (fresh m.opening) op.front).core in
-    let lawful = (node_lawful p m (h.sound p m made.1) op.front op.later op.last op.parts).core in
+    let b = (after (fresh m.opening) op.before).core in
+    let lawful = (node_lawful p m (h.sound p m made.1) op.place).core in
     elim (either_op b s r a b.ops.phase refl op.tells) as (λ _. Reading c p s r a) [
       | inl w ↦ absurd (read (w.6 ∙ writes_stored w.1.command b.ops.view (op_writes b lawful w.0 w.1 w.2 w.3)))
       | inr o ↦ record {
@@ -247,15 +247,15 @@ module _ (run : Course) where
         let ask : IsWriteAsk (released_events m) k s r = subst (λ (n : Member). IsWriteAsk (released_events n) k s r) (sym is_m) stored.2 in
         let sound = h_mid.sound q m made.1 in
         let op = ended m s r answer.Stored made.2 in
-        let b = (after (fresh m.opening) op.front).core in
-        let lawful = (node_lawful q m sound op.front op.later op.last op.parts).core in
+        let b = (after (fresh m.opening) op.before).core in
+        let lawful = (node_lawful q m sound op.place).core in
         elim (either_op b s r answer.Stored b.ops.phase refl op.tells) as (λ _. HasAtLeast read.seen q k) [
           | inl w ↦
               let asked : HasAsked (pending_asks b.ops) s r = (w.1, op_pends b w.0 (Storing w.0) w.1 w.2 refl w.3, w.4, w.5) in
               let reached = number_reached q m sound s r k answer.Stored op asked ask in
               seen_later m read.member made.1 read.there (λ e. HasAtLeast (stored_of e.ops) q b.ops.number) q k
               (λ e has. at_least (table.get (stored_of e.ops) q) k b.ops.number reached has)
-              (write_round q m sound op.front op.later op.last op.parts s r w.0 asked w.2 op.ends) read.seen (read_round_of p x y a read)
+              (write_round q m sound op.place s r w.0 asked w.2 op.ends) read.seen (read_round_of p x y a read)
           | inr o ↦ absurd (reads_view o.1.command o.2 (op_reads b lawful o.0 o.2 o.1 o.3 o.4) o.7)
         ]
 
@@ -264,7 +264,7 @@ module _ (run : Course) where
     reads_in_turn a early b late =
         let m = early.member in
         let op = early.op in
-        let back = back_round q m (h_mid.sound q m early.there) op.front op.later op.last op.parts
+        let back = back_round q m (h_mid.sound q m early.there) op.place
         s r early.pending early.seen early.asked early.phase op.ends in
         λ node. kept_if (table.get early.seen node) (table.get late.seen node) (λ k has.
         seen_later m late.member early.there late.there (λ e. stored_of e.ops ≡ early.seen) node k

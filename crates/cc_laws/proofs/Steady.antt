@@ -59,12 +59,12 @@ sent_quiet all c holds fixed h f to n k made =
     let m = made.0 in
     let p = posted m to n k made.2 in
     let released : AllByRecursion (IsQuiet all) (released_events m) = all_take (IsQuiet all) m.released m.events (h f m made.1) in
-    let parts : AllByRecursion (IsQuiet all) (p.before ++ p.poster ∷ p.later) = subst (AllByRecursion (IsQuiet all)) p.parts released in
-    let before = all_front (IsQuiet all) p.before (p.poster ∷ p.later) parts in
-    let there = (all_rest (IsQuiet all) p.before (p.poster ∷ p.later) parts).0 in
+    let parts : AllByRecursion (IsQuiet all) (p.before ++ p.here ∷ p.later) = subst (AllByRecursion (IsQuiet all)) p.parts released in
+    let before = all_front (IsQuiet all) p.before (p.here ∷ p.later) parts in
+    let there = (all_rest (IsQuiet all) p.before (p.here ∷ p.later) parts).0 in
     let knows = fixed_along all (fresh m.opening) (member_knows all c holds fixed f m made.1) p.before before in
-    at_some (IsOfRound all) (post (after (fresh m.opening) p.before).core p.poster) k p.posts
-    (quiet_post all (after (fresh m.opening) p.before).core knows p.poster there)
+    at_some (IsOfRound all) (post (after (fresh m.opening) p.before).core p.here) k p.posts
+    (quiet_post all (after (fresh m.opening) p.before).core knows p.here there)
 
 own_quiet : (all : List ℕ) (e : Event) → IsOwn e → StaysBy e → IsQuiet all e
 own_quiet all event.Enter h k = absurd k
