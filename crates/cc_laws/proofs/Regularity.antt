@@ -1,7 +1,7 @@
 -- Each collect sees the stores that ended before it began, and none goes back.
 --     Course                  what goes on from fresh nodes up to a middle, and from there to an end
 --     seen_later              what a round stored that ended by then, a read that began later has seen
---     stores_seen, in_turn    so of stores, and of two collects
+--     stores_seen, reads_in_turn    so of stores, and of two collects
 use Rattle.std.proofs.Common.{◌≡◌, ◌⊎◌, ℕ, ◌<◌, ◌≤◌, List, [], ◌∷◌, ◌++◌, refl, sym, ap, subst, ◌∙◌, inl, inr, arith}
 use Rattle.std.specs.Prelude.{Option, Some, None, IsSomeAnd, ⊤}
 use Rattle.std.specs.List.{Contains, AllByRecursion}

@@ -1,7 +1,7 @@
 -- A cluster of two nodes whose members stay the same: node 1 stores and is answered, and then node 2 collects.
 --     two, start            such clusters, and the one that begins
 --     Stage                 how far the moves have come
---     stored, collected     up to the answer of the store, and from there to the answer of the collect
+--     to_mid, to_end        up to the answer of the store, and from there to the answer of the collect
 use Rattle.std.proofs.Common.{◌≡◌, ◌⊎◌, inl, inr, ℕ, zero, suc, ◌+◌, ◌<◌, ◌≤◌, Bool, true, false, cond, nat_eq, List, [], ◌∷◌, ◌++◌, length, refl, subst, sym}
 use Rattle.std.proofs.Common.{arith}
 use Rattle.std.specs.Prelude.{Some, None, slice_index, slice_index_or}
