@@ -2,9 +2,10 @@
 --     each_accepted      each of its events is one that a life accepted
 --     parts_accepted     they stand in the order in which they were accepted
 --     parts_durable      and all that was durable is among them, in order
-use Rattle.std.proofs.Common.{inl, inr, ℕ, zero, suc, ◌≤◌, List, [], ◌∷◌, ◌++◌, take, refl, sym, ap, subst, arith}
+use Rattle.std.proofs.Common.{inl, inr, ℕ, zero, suc, ◌≤◌, List, [], ◌∷◌, ◌++◌, take, refl, sym, ap, subst, arith, ◌+◌, length}
 use Rattle.std.specs.List.{Contains}
 use Rattle.std.proofs.lemmas.List.Elements.{Contains-append_right, Contains-append_cases}
+use Rattle.std.proofs.lemmas.List.{take_all}
 use Rattle.cc_messages.specs.declared.event.Event.{Event}
 use Rattle.cc_node.specs.Node.{Node, after}
 use Rattle.cc_laws.specs.Lives.{Life, AreParts, accepted_along, durable_along, IsSubsequence}
@@ -35,9 +36,8 @@ fronts_of (suc j) (suc k) [] le = refl
 fronts_of (suc j) (suc k) (x ∷ xs) le = inr (take j xs, refl, fronts_of j k xs (omega arith))
 
 front_of : (k : ℕ) (xs : List Event) → IsSubsequence (take k xs) xs
-front_of zero xs = none_of xs
-front_of (suc k) [] = refl
-front_of (suc k) (x ∷ xs) = inr (take k xs, refl, front_of k xs)
+front_of k xs =
+    subst (IsSubsequence (take k xs)) (take_all (k + length xs) xs (omega arith)) (fronts_of k (k + length xs) xs (omega arith))
 
 both_of : (xs ys us vs : List Event) → IsSubsequence xs ys → IsSubsequence us vs → IsSubsequence (xs ++ us) (ys ++ vs)
 both_of xs [] us vs h k = subst (λ (l : List Event). IsSubsequence (l ++ us) vs) (sym h) k

@@ -1,7 +1,7 @@
 -- A node's view only goes on: from each point of a history to each later one.
 --     step_follows, views_follow       after an event;  from point to point
 --     views_grow                       so it grows
---     one_value_along                  and no number stands for two values
+--     comparable, one_value            and no number stands for two values
 use Rattle.std.proofs.Common.{◌≡◌, ℕ, ◌<◌, ◌≤◌, zero, suc, true, false, cond, nat_lt, List, [], ◌∷◌, refl, sym, ap, subst, ◌∙◌, inl, inr, arith}
 use Rattle.std.specs.Prelude.{Option, Some, None, if◌then◌else◌}
 use Rattle.std.specs.FinMap as table

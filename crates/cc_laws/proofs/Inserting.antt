@@ -1,5 +1,5 @@
 -- Finite maps that were made by insertions: what they have, and the same map made in another way.
---     get_insert, get_empty, entries_insert, entries_empty, length_is     what is in a map
+--     get_empty, entries_insert, entries_empty, length_is     what is in a map
 --     retain_insert, retain_empty, remove_empty     what is left of it
 --     over_same, over_first                a key that is there is given another value
 --     tables                               all of these, to rewrite by
@@ -12,9 +12,6 @@ use Rattle.std.specs.FinMap.{FinMap, nat_cmp-IsAntisymmetric}
 use Rattle.std.specs.FinMap.Entries.{put}
 use Rattle.std.proofs.lemmas.Bool.{eqb-true}
 use Rattle.cc_views.specs.NatSets.{get-insert_key}
-
-pub get_insert : {X : Type 0} (m : FinMap nat_cmp X) (k : ℕ) (v : X) (q : ℕ) → table.get (table.insert m k v) q ≡ cond (nat_eq q k) (Some v) (table.get m q)
-get_insert m k v q = get-insert_key m k v q
 
 pub get_empty : {X : Type 0} (q : ℕ) → table.get (table.empty {X = X} {R = nat_cmp}) q ≡ None
 get_empty q = table.get-empty nat_cmp q
@@ -60,11 +57,12 @@ module _ {X : Type 0} (p : ℕ → Bool) where
   retain_by : (m : FinMap nat_cmp X) (k : ℕ) (v : X) (b : Bool) → p k ≡ b
       → table.retain_keys (table.insert m k v) p ≡ cond b (table.insert (table.retain_keys m p) k v) (table.retain_keys m p)
   retain_by m k v b is = same _ _ (λ q.
-      kept (table.insert m k v) q ∙ ap (λ o. cond (p q) o None) (get_insert m k v q) ∙ kept_at k v (table.get m q) q b is (nat_eq q k) refl ∙ sym (back b q))
+      kept (table.insert m k v) q ∙ ap (λ o. cond (p q) o None) (get-insert_key m k v q) ∙ kept_at k v (table.get m q) q b is (nat_eq q k) refl
+      ∙ sym (back b q))
     where
       back : (c : Bool) (q : ℕ) → table.get (cond c (table.insert (table.retain_keys m p) k v) (table.retain_keys m p)) q
           ≡ cond c (cond (nat_eq q k) (Some v) (cond (p q) (table.get m q) None)) (cond (p q) (table.get m q) None)
-      back true q = get_insert (table.retain_keys m p) k v q ∙ ap (cond (nat_eq q k) (Some v)) (kept m q)
+      back true q = get-insert_key (table.retain_keys m p) k v q ∙ ap (cond (nat_eq q k) (Some v)) (kept m q)
       back false q = kept m q
 
   pub retain_insert : (m : FinMap nat_cmp X) (k : ℕ) (v : X)
@@ -77,8 +75,8 @@ twice false v w o = refl
 
 pub over_same : {X : Type 0} (m : FinMap nat_cmp X) (k : ℕ) (v w : X) → table.insert (table.insert m k v) k w ≡ table.insert m k w
 over_same m k v w = same _ _ (λ q.
-    get_insert (table.insert m k v) k w q ∙ ap (cond (nat_eq q k) (Some w)) (get_insert m k v q) ∙ twice (nat_eq q k) v w (table.get m q)
-    ∙ sym (get_insert m k w q))
+    get-insert_key (table.insert m k v) k w q ∙ ap (cond (nat_eq q k) (Some w)) (get-insert_key m k v q) ∙ twice (nat_eq q k) v w (table.get m q)
+    ∙ sym (get-insert_key m k w q))
 
 three : {X : Type 0} (q : ℕ) (a b : Bool) → nat_eq q 2 ≡ a → nat_eq q 1 ≡ b → (v u w : X) (o : Option X)
     → cond a (Some w) (cond b (Some u) (cond a (Some v) o)) ≡ cond b (Some u) (cond a (Some w) o)
@@ -90,10 +88,10 @@ three q false b is at v u w o = refl
 pub over_first : {X : Type 0} (m : FinMap nat_cmp X) (v u w : X)
     → table.insert (table.insert (table.insert m 2 v) 1 u) 2 w ≡ table.insert (table.insert m 2 w) 1 u
 over_first m v u w = same _ _ (λ q.
-    get_insert (table.insert (table.insert m 2 v) 1 u) 2 w q
-    ∙ ap (cond (nat_eq q 2) (Some w)) (get_insert (table.insert m 2 v) 1 u q ∙ ap (cond (nat_eq q 1) (Some u)) (get_insert m 2 v q))
+    get-insert_key (table.insert (table.insert m 2 v) 1 u) 2 w q
+    ∙ ap (cond (nat_eq q 2) (Some w)) (get-insert_key (table.insert m 2 v) 1 u q ∙ ap (cond (nat_eq q 1) (Some u)) (get-insert_key m 2 v q))
     ∙ three q (nat_eq q 2) (nat_eq q 1) refl refl v u w (table.get m q)
-    ∙ sym (get_insert (table.insert m 2 w) 1 u q ∙ ap (cond (nat_eq q 1) (Some u)) (get_insert m 2 w q)))
+    ∙ sym (get-insert_key (table.insert m 2 w) 1 u q ∙ ap (cond (nat_eq q 1) (Some u)) (get-insert_key m 2 w q)))
 
 empty_either : {X : Type 0} (b : Bool) (o : Option X) → o ≡ None → cond b None o ≡ None
 empty_either true o is = refl
@@ -102,4 +100,4 @@ empty_either false o is = is
 pub remove_empty : {X : Type 0} (k : ℕ) → table.remove (table.empty {X = X} {R = nat_cmp}) k ≡ table.empty
 remove_empty k = same _ _ (λ q. table.get-remove nat_cmp_total table.empty k q ∙ empty_either _ _ (get_empty q) ∙ sym (get_empty q))
 
-pub ruleset tables = (get_insert, get_empty, entries_insert, entries_empty, length_is, retain_insert, retain_empty, remove_empty, over_same, over_first)
+pub ruleset tables = (get-insert_key, get_empty, entries_insert, entries_empty, length_is, retain_insert, retain_empty, remove_empty, over_same, over_first)

@@ -1,7 +1,7 @@
 -- Each collect sees the stores that ended before it began, and none goes back.
 --     Course                  what goes on from fresh nodes up to a middle, and from there to an end
 --     seen_later              what a round stored that ended by then, a read that began later has seen
---     stores_seen, in_turn    so of stores, and of two collects
+--     stores_seen, reads_in_turn    so of stores, and of two collects
 use Rattle.std.proofs.Common.{◌≡◌, ◌⊎◌, ℕ, ◌<◌, ◌≤◌, List, [], ◌∷◌, ◌++◌, refl, sym, ap, subst, ◌∙◌, inl, inr, arith}
 use Rattle.std.specs.Prelude.{Option, Some, None, IsSomeAnd, ⊤}
 use Rattle.std.specs.List.{Contains, AllByRecursion}
@@ -70,10 +70,6 @@ asked_later p m n sound grows s r tag ahead raised =
           absurd (omega (arith, asked, up, ap (λ (x : Node). last_request x.core.sessions s) at_m, ahead))
     ]
 
--- the answer left its node
-answered_by : (c : Cluster) → Traces c → (p s r : ℕ) (a : Answer) → IsAnswered c p s r a → MadeBy c p (output.Reply s r a)
-answered_by c t p s r a has = all_at (WasMade c) c.sent _ t.sent has
-
 -- what a reading is answered, of what it saw
 abbrev pub ReadsAs : ViewMap → Answer → Type 0
 ReadsAs seen answer.Stored = ⊤
@@ -102,7 +98,7 @@ pub record Reading (c : Cluster) (p s r : ℕ) (a : Answer) : Type 0 where
 
 pub reading : (c : Cluster) → Holds c → Traces c → (p s r : ℕ) (a : Answer) → IsAnswered c p s r a → (a ≡ answer.Stored → ⊥) → Reading c p s r a
 reading c h t p s r a has read =
-    let made = answered_by c t p s r a has in
+    let made : MadeBy c p (output.Reply s r a) = all_at (WasMade c) c.sent _ t.sent has in
     let m = made.0 in
     let op = ended m s r a made.2 in
     let b = (after (fresh m.opening) op.before).core in
@@ -241,7 +237,7 @@ module _ (run : Course) where
     -- a read that began after a store had ended
     pub stores_seen : (k : ℕ) → IsStored mid q k s r → (a : Answer) (read : Reading d p x y a) → HasAtLeast read.seen q k
     stores_seen k stored a read =
-        let made = answered_by mid t_mid q s r answer.Stored stored.3 in
+        let made : MadeBy mid q (output.Reply s r answer.Stored) = all_at (WasMade mid) mid.sent _ t_mid.sent stored.3 in
         let m = made.0 in
         let is_m : m ≡ stored.0 = one_at mid q q m stored.0 refl made.1 stored.1 in
         let ask : IsWriteAsk (released_events m) k s r = subst (λ (n : Member). IsWriteAsk (released_events n) k s r) (sym is_m) stored.2 in

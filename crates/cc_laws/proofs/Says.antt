@@ -3,7 +3,7 @@
 --     stored_of                    the view that a round stores: what is stored back, else the node's
 --     PostSays, post_says          a query or a store is of a round that begins with the event, under its tag;
 --                                  an answer is to the message that the event brings, and tells the view as it is then
---     ReplySays, reply_says        a reply ends a round, and tells what the pending operation is answered
+--     ReplySays, each_says         a reply ends a round, and tells what the pending operation is answered
 --     OutputSays, outputs_say      what is sent is the event's post, and what is replied its reply
 use Rattle.std.proofs.Common.{◌≡◌, ℕ, ◌+◌, ◌-◌, ◌<◌, ◌≤◌, Bool, true, false, List, [], ◌∷◌, ◌++◌, refl, subst, arith}
 use Rattle.std.specs.Prelude.{◌&&◌, Option, Some, None, IfSome, if◌then◌else◌, map, ⊤}

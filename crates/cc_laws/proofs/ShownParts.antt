@@ -1,6 +1,6 @@
 -- What one event makes shows no view but the node's own after it, or one that it stored back before it.
 --     OfPhase, OfMessage, OfAnswer, OfOutput, OfReply   Q holds of the view that is in one, if one is
---     handled_phase, post_shows, reply_shows            so it does of the phase, the post and the answer of an event
+--     handled_phase, post_shows, replies_show           so it does of the phase, the post and the answer of an event
 use Rattle.std.proofs.Common.{ℕ, Bool, true, false, List, [], ◌∷◌, ◌+◌, sym, subst}
 use Rattle.std.specs.Prelude.{Option, None, IfSome, if◌then◌else◌, map}
 use Rattle.std.specs.List.{AllByRecursion}

@@ -1,14 +1,14 @@
 -- A cluster of two nodes whose members stay the same: node 1 stores and is answered, and then node 2 collects.
 --     two, start            such clusters, and the one that begins
 --     Stage                 how far the moves have come
---     stored, collected     up to the answer of the store, and from there to the answer of the collect
+--     to_mid, to_end        up to the answer of the store, and from there to the answer of the collect
 use Rattle.std.proofs.Common.{◌≡◌, ◌⊎◌, inl, inr, ℕ, zero, suc, ◌+◌, ◌<◌, ◌≤◌, Bool, true, false, cond, nat_eq, List, [], ◌∷◌, ◌++◌, length, refl, subst, sym}
 use Rattle.std.proofs.Common.{arith}
 use Rattle.std.specs.Prelude.{Some, None, slice_index, slice_index_or}
 use Rattle.std.specs.List.{Contains, AllByRecursion}
 use Rattle.std.specs.FinMap as table
 use Rattle.std.proofs.lemmas.Bool.{eqb-true}
-use Rattle.std.proofs.lemmas.Option.{same_Some}
+use Rattle.std.proofs.lemmas.Option.{same_Some, none-some}
 use Rattle.cc_views.specs.NatSets as set
 use Rattle.cc_messages.specs.declared.answer.Answer.TheVariants as answer
 use Rattle.cc_messages.specs.declared.command.Command.TheVariants as command
@@ -190,10 +190,7 @@ either_member : (x y m : Member) (q : ℕ) (a b : Bool) → nat_eq q 1 ≡ a →
     → ((q ≡ 1) × (y ≡ m)) ⊎ ((q ≡ 2) × (x ≡ m))
 either_member x y m q true b at other is = inl (eqb-true q 1 at, same_Some y m is)
 either_member x y m q false true at other is = inr (eqb-true q 2 other, same_Some x m is)
-either_member x y m q false false at other is = absurd (no_some is)
-  where
-    no_some : None ≡ Some m → ⊥
-    no_some e = cc
+either_member x y m q false false at other is = absurd (none-some m is)
 
 -- one of the two
 which : (q : ℕ) (m : Member) → IsAt start q m → ((q ≡ 1) × (lived (opening_of 1) [] ≡ m)) ⊎ ((q ≡ 2) × (lived (opening_of 2) [] ≡ m))
