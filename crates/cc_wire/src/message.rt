@@ -66,27 +66,12 @@ impl<'a> Reader<'a> {
         ensures { Gives (λ x. (x, self.new)) result (fields_of kind self.old) }
     {
         match kind {
-            1 => {
-                let node = self.id(1)?;
-                Ok(Message::Enter { node })
-            }
+            1 => Ok(Message::Enter { node: self.id(1)? }),
             2 => self.echo(alloc),
-            3 => {
-                let node = self.id(1)?;
-                Ok(Message::Join { node })
-            }
-            4 => {
-                let node = self.id(1)?;
-                Ok(Message::JoinEcho { node })
-            }
-            5 => {
-                let node = self.id(1)?;
-                Ok(Message::Leave { node })
-            }
-            6 => {
-                let node = self.id(1)?;
-                Ok(Message::LeaveEcho { node })
-            }
+            3 => Ok(Message::Join { node: self.id(1)? }),
+            4 => Ok(Message::JoinEcho { node: self.id(1)? }),
+            5 => Ok(Message::Leave { node: self.id(1)? }),
+            6 => Ok(Message::LeaveEcho { node: self.id(1)? }),
             7 => {
                 let (tag, node) = self.call()?;
                 Ok(Message::Query { tag, node })
