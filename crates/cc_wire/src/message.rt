@@ -5,7 +5,8 @@ ghost use Rattle.std.specs.Vec.{vec_capacity};
 ghost use Rattle.cc_wire.specs.Writing.{Writes};
 ghost use Rattle.cc_wire.specs.Reading.{◌⊗◌, Gives, via, view_at, whole};
 ghost use Rattle.cc_messages.specs.declared.message.Message.TheVariants as variants;
-ghost use Rattle.cc_wire.specs.Messages.{message_at, fields_of, call_at, echo_at, snapshot_at, message_spelling, IsMessage, SpellsMessage, call_spelling, IsCall, echo_spelling, IsEcho, snapshot_spelling, IsSnapshot};
+ghost use Rattle.cc_wire.specs.Messages.{message_at, fields_of, call_at, echo_at, snapshot_at, message_spelling, IsMessage, SpellsMessage};
+ghost use Rattle.cc_wire.specs.Messages.{call_spelling, IsCall, echo_spelling, IsEcho, snapshot_spelling, IsSnapshot};
 ghost use Rattle.cc_wire.specs.Spelling.{view_spelling, IsView, number_spelling, IsId};
 
 use crate::changes_bytes::{put_changes, put_id};
