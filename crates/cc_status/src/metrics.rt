@@ -1,6 +1,7 @@
 //! What a node shows, in the text format of Prometheus: counters end in `_total`, times are in seconds, lengths in bytes.
 
 use crate::status::{Counts, PeerStatus, Status, SyncStatus};
+use std::collections::BTreeMap;
 use std::fmt;
 
 /// What is shown of a node, as metrics.
@@ -13,7 +14,7 @@ impl fmt::Display for Metrics<'_> {
         print_node(f, status)?;
         print_clients(f, status)?;
         print_counts(f, status)?;
-        print_labelled(f, &status.counts)?;
+        print_named(f, &status.counts)?;
         print_batches(f, &status.counts)?;
         print_peers(f, &status.peers)?;
         print_disk(f, status)?;
@@ -191,63 +192,79 @@ fn print_counts<W: fmt::Write>(f: &mut fmt::Formatter<W>, status: &Status) -> fm
     )
 }
 
-// What is counted by a name.
-fn print_labelled<W: fmt::Write>(f: &mut fmt::Formatter<W>, counts: &Counts) -> fmt::Result {
-    let help = "Events refused since the start.";
-    print_head(f, "refusals_total", Kind::Counter, help)?;
-    for (name, count) in counts.refusals.iter() {
+fn print_named<W: fmt::Write>(f: &mut fmt::Formatter<W>, counts: &Counts) -> fmt::Result {
+    let refusals = ("refusals_total", "refusal", "Events refused since the start.");
+    let asks = ("asks_total", "command", "Asks accepted since the start.");
+    print_by_name(f, refusals, &counts.refusals)?;
+    print_by_name(f, asks, &counts.asks)
+}
+
+// A counter for each name: what it is called, the label that has the name, and its help.
+fn print_by_name<W: fmt::Write>(
+    f: &mut fmt::Formatter<W>,
+    (counter, label, help): (&str, &str, &str),
+    counts: &BTreeMap<String, u64>,
+) -> fmt::Result {
+    print_head(f, counter, Kind::Counter, help)?;
+    for (name, count) in counts.iter() {
         let name = name.as_str();
-        write!(f, "ccnode_refusals_total{{refusal=\"{name}\"}} {count}\n")?;
-    }
-    let help = "Asks accepted since the start.";
-    print_head(f, "asks_total", Kind::Counter, help)?;
-    for (name, count) in counts.asks.iter() {
-        let name = name.as_str();
-        write!(f, "ccnode_asks_total{{command=\"{name}\"}} {count}\n")?;
+        write!(f, "ccnode_{counter}{{{label}=\"{name}\"}} {count}\n")?;
     }
     Ok(())
 }
 
-fn print_batches<W: fmt::Write>(f: &mut fmt::Formatter<W>, counts: &Counts) -> fmt::Result {
-    let help = "Events of a batch.";
-    print_head(f, "batch_events", Kind::Histogram, help)?;
-    for (bound, count) in &counts.batches {
-        write!(f, "ccnode_batch_events_bucket{{le=\"{bound}\"}} {count}\n")?;
+// What is told of each peer.
+#[derive(Clone, Copy)]
+enum PeerGauge {
+    Behind,
+    Absent,
+    Connected,
+}
+
+impl PeerGauge {
+    fn name(self) -> &'static str {
+        match self {
+            PeerGauge::Behind => "peer_behind_posts",
+            PeerGauge::Absent => "peer_absent",
+            PeerGauge::Connected => "peer_connected",
+        }
     }
-    let (events, commits) = (counts.events, counts.commits);
-    write!(f, "ccnode_batch_events_bucket{{le=\"+Inf\"}} {commits}\n")?;
-    write!(f, "ccnode_batch_events_sum {events}\n")?;
-    write!(f, "ccnode_batch_events_count {commits}\n")
+
+    fn help(self) -> &'static str {
+        match self {
+            PeerGauge::Behind => "Posts that a peer hasn't acknowledged.",
+            PeerGauge::Absent => "Whether a peer is taken for absent.",
+            PeerGauge::Connected => "Whether the node is connected to a peer.",
+        }
+    }
+
+    fn of(self, peer: &PeerStatus) -> u64 {
+        match self {
+            PeerGauge::Behind => peer.behind,
+            PeerGauge::Absent => u64::from(peer.absent_since.is_some()),
+            PeerGauge::Connected => u64::from(peer.connected_since.is_some()),
+        }
+    }
 }
 
 fn print_peers<W: fmt::Write>(f: &mut fmt::Formatter<W>, peers: &[PeerStatus]) -> fmt::Result {
-    let help = "Posts that a peer hasn't acknowledged.";
-    print_head(f, "peer_behind_posts", Kind::Gauge, help)?;
-    for peer in peers {
-        print_of_peer(f, "peer_behind_posts", peer.id, peer.behind)?;
-    }
-    let help = "Whether a peer is taken for absent.";
-    print_head(f, "peer_absent", Kind::Gauge, help)?;
-    for peer in peers {
-        let is_absent = u64::from(peer.absent_since.is_some());
-        print_of_peer(f, "peer_absent", peer.id, is_absent)?;
-    }
-    let help = "Whether the node is connected to a peer.";
-    print_head(f, "peer_connected", Kind::Gauge, help)?;
-    for peer in peers {
-        let is_connected = u64::from(peer.connected_since.is_some());
-        print_of_peer(f, "peer_connected", peer.id, is_connected)?;
-    }
-    Ok(())
+    print_of_peers(f, PeerGauge::Behind, peers)?;
+    print_of_peers(f, PeerGauge::Absent, peers)?;
+    print_of_peers(f, PeerGauge::Connected, peers)
 }
 
-fn print_of_peer<W: fmt::Write>(
+fn print_of_peers<W: fmt::Write>(
     f: &mut fmt::Formatter<W>,
-    name: &str,
-    peer: u32,
-    value: u64,
+    gauge: PeerGauge,
+    peers: &[PeerStatus],
 ) -> fmt::Result {
-    write!(f, "ccnode_{name}{{peer=\"{peer}\"}} {value}\n")
+    let name = gauge.name();
+    print_head(f, name, Kind::Gauge, gauge.help())?;
+    for peer in peers {
+        let (id, value) = (peer.id, gauge.of(peer));
+        write!(f, "ccnode_{name}{{peer=\"{id}\"}} {value}\n")?;
+    }
+    Ok(())
 }
 
 fn print_disk<W: fmt::Write>(f: &mut fmt::Formatter<W>, status: &Status) -> fmt::Result {
@@ -262,18 +279,67 @@ fn print_disk<W: fmt::Write>(f: &mut fmt::Formatter<W>, status: &Status) -> fmt:
     )
 }
 
+fn print_batches<W: fmt::Write>(f: &mut fmt::Formatter<W>, counts: &Counts) -> fmt::Result {
+    let name = "batch_events";
+    print_head(f, name, Kind::Histogram, "Events of a batch.")?;
+    print_buckets(f, name, Unit::One, &counts.batches)?;
+    print_sum(f, name, Unit::One, counts.events, counts.commits)
+}
+
 fn print_syncs<W: fmt::Write>(f: &mut fmt::Formatter<W>, syncs: &SyncStatus) -> fmt::Result {
-    print_head(f, "sync_seconds", Kind::Histogram, "How long syncs took.")?;
-    for (bound, count) in &syncs.buckets {
-        let (seconds, rest) = (*bound / 1_000_000, *bound % 1_000_000);
-        write!(
-            f,
-            "ccnode_sync_seconds_bucket{{le=\"{seconds}.{rest:06}\"}} {count}\n"
-        )?;
+    let name = "sync_seconds";
+    print_head(f, name, Kind::Histogram, "How long syncs took.")?;
+    print_buckets(f, name, Unit::Microsecond, &syncs.buckets)?;
+    print_sum(f, name, Unit::Microsecond, syncs.total_us, syncs.count)
+}
+
+// What a histogram counts in.
+#[derive(Clone, Copy)]
+enum Unit {
+    One,
+    Microsecond,
+}
+
+// So many of a unit, as a metric has it: microseconds are told in seconds.
+#[derive(Clone, Copy)]
+struct Amount(u64, Unit);
+
+impl fmt::Display for Amount {
+    fn fmt<W: fmt::Write>(&self, f: &mut fmt::Formatter<W>) -> fmt::Result {
+        let amount = self.0;
+        let (seconds, rest) = (amount / 1_000_000, amount % 1_000_000);
+        match self.1 {
+            Unit::One => write!(f, "{amount}"),
+            Unit::Microsecond => write!(f, "{seconds}.{rest:06}"),
+        }
     }
-    let count = syncs.count;
-    let (seconds, rest) = (syncs.total_us / 1_000_000, syncs.total_us % 1_000_000);
-    write!(f, "ccnode_sync_seconds_bucket{{le=\"+Inf\"}} {count}\n")?;
-    write!(f, "ccnode_sync_seconds_sum {seconds}.{rest:06}\n")?;
-    write!(f, "ccnode_sync_seconds_count {count}\n")
+}
+
+// How many were no more than each bound.
+fn print_buckets<W: fmt::Write>(
+    f: &mut fmt::Formatter<W>,
+    name: &str,
+    unit: Unit,
+    buckets: &[(u64, u64)],
+) -> fmt::Result {
+    for (bound, count) in buckets {
+        let bound = Amount(*bound, unit);
+        write!(f, "ccnode_{name}_bucket{{le=\"{bound}\"}} {count}\n")?;
+    }
+    Ok(())
+}
+
+// All together, and how many there were.
+fn print_sum<W: fmt::Write>(
+    f: &mut fmt::Formatter<W>,
+    name: &str,
+    unit: Unit,
+    sum: u64,
+    count: u64,
+) -> fmt::Result {
+    let sum = Amount(sum, unit);
+    write!(
+        f,
+        "ccnode_{name}_bucket{{le=\"+Inf\"}} {count}\nccnode_{name}_sum {sum}\nccnode_{name}_count {count}\n"
+    )
 }

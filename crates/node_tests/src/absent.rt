@@ -28,6 +28,28 @@ fn delivery(alloc: Global, from: u32, number: u64, bytes: &[u8]) -> Result<Event
     })
 }
 
+// The node takes that message.
+fn deliver(
+    alloc: Global,
+    node: &mut Node,
+    from: u32,
+    number: u64,
+    bytes: &[u8],
+) -> Result<(), Fail> {
+    take(alloc, node, delivery(alloc, from, number, bytes)?)
+}
+
+// Why the node refuses that message, if it does.
+fn refusal_of(
+    alloc: Global,
+    node: &Node,
+    from: u32,
+    number: u64,
+    bytes: &[u8],
+) -> Result<Option<Refusal>, Fail> {
+    Ok(refusal(node, delivery(alloc, from, number, bytes)?))
+}
+
 // The message Snapshot [1,2] [1,2] [] [].
 const OF_TWO: [u8; 25] = [
     0x20, 0, 2, 0, 0, 0, 1, 0, 0, 0, 2, 0, 2, 0, 0, 0, 1, 0, 0, 0, 2, 0, 0, 0, 0,
@@ -84,10 +106,9 @@ fn check_begun_anew<R: Abort>(rt: &R, node: &Node) {
 
 // The own snapshot skips the Store, and lets it begin anew.
 fn check_anew<R: Abort + AllocGlobal>(rt: &R, node: &mut Node) -> Result<(), Fail> {
-    let snapshot = delivery(rt.alloc(), 1, 2, &OF_TWO)?;
     take(rt.alloc(), node, ask(1, Command::SetFlag))?;
     take(rt.alloc(), node, Event::Snapshot)?;
-    take(rt.alloc(), node, snapshot)?;
+    deliver(rt.alloc(), node, 1, 2, &OF_TWO)?;
     check_begun_anew(rt, node);
     Ok(())
 }
@@ -142,8 +163,7 @@ fn check_need<R: Abort + AllocGlobal>(rt: &R, node: &mut Node) -> Result<(), Fai
     take(rt.alloc(), node, Event::Retire { node: third })?;
     let retired = node.core().needs_anew();
     take(rt.alloc(), node, Event::Snapshot)?;
-    let own = delivery(rt.alloc(), 1, 2, &OF_TWO)?;
-    take(rt.alloc(), node, own)?;
+    deliver(rt.alloc(), node, 1, 2, &OF_TWO)?;
     assert!(rt; [before, asked, retired, node.core().needs_anew()] == [false, false, true, false]);
     Ok(())
 }
@@ -158,10 +178,10 @@ fn a_need_is_out_of_date_once_a_member_is_retired(rt: HostRuntime) -> Result<(),
 
 fn check_numbers<R: Abort + AllocGlobal>(rt: &R, node: &Node) -> Result<(), Fail> {
     let refusals = [
-        refusal(node, delivery(rt.alloc(), 2, LIMIT, &OF_TWO)?),
-        refusal(node, delivery(rt.alloc(), 2, LIMIT + 1, &OF_TWO)?),
-        refusal(node, delivery(rt.alloc(), 2, 2, &JOIN)?),
-        refusal(node, delivery(rt.alloc(), 2, 0, &OF_TWO)?),
+        refusal_of(rt.alloc(), node, 2, LIMIT, &OF_TWO)?,
+        refusal_of(rt.alloc(), node, 2, LIMIT + 1, &OF_TWO)?,
+        refusal_of(rt.alloc(), node, 2, 2, &JOIN)?,
+        refusal_of(rt.alloc(), node, 2, 0, &OF_TWO)?,
     ];
     assert!(rt;
         refusals == [
@@ -255,14 +275,11 @@ fn echoes(node: &Node) -> (u64, bool) {
 
 // Of nodes 1 and 4, which are present, both echoes are needed. One snapshot of node 1 counts, and one of node 2.
 fn check_echoes<R: Abort + AllocGlobal>(rt: &R, node: &mut Node) -> Result<(), Fail> {
-    let first = delivery(rt.alloc(), 1, 2, &OF_AN_ENTRANT)?;
-    take(rt.alloc(), node, first)?;
+    deliver(rt.alloc(), node, 1, 2, &OF_AN_ENTRANT)?;
     assert!(rt; echoes(node) == (1, false));
-    let again = delivery(rt.alloc(), 1, 4, &OF_AN_ENTRANT)?;
-    take(rt.alloc(), node, again)?;
+    deliver(rt.alloc(), node, 1, 4, &OF_AN_ENTRANT)?;
     assert!(rt; echoes(node) == (1, false));
-    let second = delivery(rt.alloc(), 2, 2, &OF_AN_ENTRANT)?;
-    take(rt.alloc(), node, second)?;
+    deliver(rt.alloc(), node, 2, 2, &OF_AN_ENTRANT)?;
     assert!(rt; echoes(node) == (2, true));
     Ok(())
 }
