@@ -79,7 +79,7 @@ present_by_counts a b known entering joining ids others known-is ids-is others-i
     let enters : entering ≡ set.len (set.difference b.entered (set.union a.entered gone)) =
     entering-is ∙ ap (λ (is : List ℕ). length (filter p is)) ids-is
     ∙ outside b.entered (set.union a.entered gone) p (λ q. either a.left b.left (set.contains a.entered q) q
-      ∙ ap not (sym (contains-union a.entered gone q))) in
+    ∙ ap not (sym (contains-union a.entered gone q))) in
     let joins : joining ≡ set.len (set.difference b.joined (set.union (set.union a.entered b.entered) gone)) =
     joining-is ∙ ap (λ (is : List ℕ). length (filter r is)) others-is
     ∙ outside b.joined (set.union (set.union a.entered b.entered) gone) r (λ q.

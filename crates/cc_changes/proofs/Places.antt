@@ -32,7 +32,7 @@ pub so_far_fits : (s : NatSet) (others : List ℕ) (i : ℕ) → set.len (set.in
 so_far_fits s others i fits =
     let within : IsWithin (set.insert_all s (take i others)) (set.insert_all s others) = λ q e.
     contains-insert_all s others q ∙ or_part (set.contains s q) (list_any (nat_eq q) (take i others)) (list_any (nat_eq q) others) (any_take q others i)
-      (sym (contains-insert_all s (take i others) q) ∙ e) in
+    (sym (contains-insert_all s (take i others) q) ∙ e) in
     omega (arith, fits, len_within (set.insert_all s (take i others)) (set.insert_all s others) within)
 
 -- ---- counts
@@ -50,7 +50,7 @@ pub outside_both : (ids : List ℕ) (s one other : NatSet) → IsRising marked i
     → length (filter (λ q. not (set.contains one q || set.contains other q)) ids) ≡ set.len (set.difference s (set.union one other))
 outside_both ids s one other h is =
     ap length (filter_alike (λ q. not (set.contains one q || set.contains other q)) (λ q. not (set.contains (set.union one other) q))
-      (λ q. ap not (sym (contains-union one other q))) ids)
+    (λ q. ap not (sym (contains-union one other q))) ids)
     ∙ outside ids s (set.union one other) h is
 
 pub at_most_all : (p : ℕ → Bool) (ids : List ℕ) → length ids ≤ 256 → length (filter p ids) ≤ 256

@@ -19,8 +19,12 @@ entered_parts s e j = ap set.len (union_assoc s e j) ∙ len-union_parts (set.un
     (len-union_parts s e)
 
 pub joins_fit : {a b c d : ChangeSets} → a ≡ c → b ≡ d → FitsRoom (changes.union c d) → set.len (set.union (set.union a.entered b.entered) b.joined) ≤ 256
-joins_fit {a} {b} a-is b-is fits = omega (arith, fits.entered, ap set.len (union_assoc a.entered b.entered b.joined),
-    ap (λ (x : ChangeSets × ChangeSets). set.len (changes.union x.0 x.1).entered) (λ i. (a-is i, b-is i)))
+joins_fit {a} {b} a-is b-is fits = omega (
+  arith,
+  fits.entered,
+  ap set.len (union_assoc a.entered b.entered b.joined),
+  ap (λ (x : ChangeSets × ChangeSets). set.len (changes.union x.0 x.1).entered) (λ i. (a-is i, b-is i)),
+)
 
 pub enters_fit : {a b c d : ChangeSets} → a ≡ c → b ≡ d → FitsRoom (changes.union c d) → set.len (set.union a.entered b.entered) ≤ 256
 enters_fit {a} {b} a-is b-is fits = first_fits a.entered b.entered b.joined (joins_fit a-is b-is fits)

@@ -42,8 +42,11 @@ module _ {X : Type 0} (ids : FinMap nat_cmp X) (c : ChangeSets) (among : IsAmong
   enter_among q known = record { entered = within_inserted ids c.entered q among.entered known; joined = among.joined; left = among.left }
 
   pub join_among : (q : ℕ) → IsTrue (table.contains_key ids q) → IsAmong (changes.add_join c q) ids
-  join_among q known = record { entered = within_inserted ids c.entered q among.entered known; joined = within_inserted ids c.joined q among.joined known;
-    left = among.left }
+  join_among q known = record {
+    entered = within_inserted ids c.entered q among.entered known;
+    joined = within_inserted ids c.joined q among.joined known;
+    left = among.left;
+  }
 
   pub leave_among : (q : ℕ) → IsTrue (table.contains_key ids q) → IsAmong (changes.add_leave c q) ids
   leave_among q known = record { entered = among.entered; joined = among.joined; left = within_inserted ids c.left q among.left known }

@@ -35,7 +35,7 @@ fn read_links<S: Site>(
 ) -> Result<Vec<LinkRow>, ReadFault>
     requires { LiesOn S.Site site.old unread.old }
     ensures exact { ReadsOff S.Site (rows_at link_at count 1) (at site.old piece.old unread.old) (at site.new piece.new unread.new)
-      (seen_by (λ rows. map links.entry_of rows.items) result) }
+        (seen_by (λ rows. map links.entry_of rows.items) result) }
     ensures rising { IfOk result (λ rows. IsRising links.entry_of rows.items) }
 {
     let mut rows = Vec::new(alloc);
@@ -57,7 +57,7 @@ fn read_posts<S: Site>(
 ) -> Result<Vec<Message>, ReadFault>
     requires { LiesOn S.Site site.old unread.old }
     ensures exact { ReadsOff S.Site (posts_at count) (at site.old piece.old unread.old) (at site.new piece.new unread.new)
-      (seen_by (λ posts. posts.items) result) }
+        (seen_by (λ posts. posts.items) result) }
     ensures length { IfOk result (λ posts. length posts.items ≡ count) }
 {
     let mut posts = Vec::new(alloc);
@@ -77,7 +77,7 @@ fn read_kept_answers<S: Site>(
 ) -> Result<Vec<KeptAnswer>, ReadFault>
     requires { LiesOn S.Site site.old unread.old }
     ensures exact { ReadsOff S.Site (rows_at kept_answer_at count 0) (at site.old piece.old unread.old) (at site.new piece.new unread.new)
-      (seen_by (λ rows. map answers.entry_of rows.items) result) }
+        (seen_by (λ rows. map answers.entry_of rows.items) result) }
     ensures rising { IfOk result (λ rows. IsRising answers.entry_of rows.items) }
 {
     let mut rows = Vec::new(alloc);
@@ -98,7 +98,7 @@ fn read_link_table<S: Site>(
 ) -> Result<Vec<LinkRow>, ReadFault>
     requires { LiesOn S.Site site.old unread.old }
     ensures exact { ReadsOff S.Site (table_at link_at most_rows 1) (at site.old piece.old unread.old) (at site.new piece.new unread.new)
-      (seen_by (λ rows. table_of links.entry_of rows.items) result) }
+        (seen_by (λ rows. table_of links.entry_of rows.items) result) }
     ensures rising { IfOk result (λ rows. IsRising links.entry_of rows.items) }
 {
     let count = read_element(alloc, site, piece, unread, &CountAt)?;
@@ -130,7 +130,7 @@ fn read_answer_table<S: Site>(
 ) -> Result<Vec<KeptAnswer>, ReadFault>
     requires { LiesOn S.Site site.old unread.old }
     ensures exact { ReadsOff S.Site (table_at kept_answer_at most_rows 0) (at site.old piece.old unread.old) (at site.new piece.new unread.new)
-      (seen_by (λ rows. table_of answers.entry_of rows.items) result) }
+        (seen_by (λ rows. table_of answers.entry_of rows.items) result) }
     ensures rising { IfOk result (λ rows. IsRising answers.entry_of rows.items) }
 {
     let count = read_element(alloc, site, piece, unread, &CountAt)?;

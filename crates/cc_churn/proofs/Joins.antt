@@ -43,7 +43,7 @@ joins_if : (known : Bool) (me q : ℕ) (gamma : Fraction) (j : Bool) (s : Churn)
 joins_if true me q gamma j s is = and-false (q == me)
 joins_if false me q gamma j s is =
     sym (either_echo ((q == me) && true) me s (echoed me gamma j s) _ is (echo_joins me gamma j s is)
-      ∙ ap (λ (b : Bool). b && is_answered (with_echo (with_need gamma j s))) (and-true (q == me)))
+    ∙ ap (λ (b : Bool). b && is_answered (with_echo (with_need gamma j s))) (and-true (q == me)))
 
 -- the Join that is posted on an echo
 pub join_posted : (me : ℕ) (gamma : Fraction) (c : ChangeSets) (j : Bool) (q : ℕ) (s : Churn)

@@ -42,7 +42,7 @@ impl<S: Site> Flusher<S> {
         ensures run { HasRun S.Site actions.items self.old self.new result }
         ensures same_opened { self.new.opened ≡ self.old.opened }
         ensures count { self.old.failed ≡ None → MatchResult result (λ _. S.failures self.new.site ≡ S.failures self.old.site)
-          (λ _. Rose (S.failures self.old.site) (S.failures self.new.site)) }
+            (λ _. Rose (S.failures self.old.site) (S.failures self.new.site)) }
     {
         if let Some(fault) = self.fault() {
             return Err(Failed { fault });

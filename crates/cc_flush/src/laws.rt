@@ -35,7 +35,7 @@ pub fn one_node()
 pub fn node_or_fault()
     ensures apart { (left : Contents) (node : Node) (fault : OpenFault) → Stands (left A) (left B) node → IsReadingFault fault → ReadingFails left fault → ⊥ }
     ensures one { (left : Contents) (first second : OpenFault) → IsReadingFault first → IsReadingFault second → ReadingFails left first
-      → ReadingFails left second → first ≡ second }
+        → ReadingFails left second → first ≡ second }
     ensures neither { (left : Contents) → ((side : Side) (place : ℕ) → slice_index (left side) place < 256)
         → ((node : Node) → Stands (left A) (left B) node → ⊥) → ((fault : OpenFault) → IsReadingFault fault → ReadingFails left fault → ⊥) → ⊥ }
 {
@@ -46,10 +46,10 @@ pub fn node_or_fault()
 /// What lies behind the closed gate of a side, either side, has no part in what is good.
 pub fn shut_side()
     ensures first { (a b changed : List ℕ) → ¬ (IsArmed a) → ¬ (IsArmed changed) → 1 ≤ length a → 1 ≤ length changed
-      → (start : Node) (events : List Event) (durable opening : ℕ) (told : List Output)
+        → (start : Node) (events : List Event) (durable opening : ℕ) (told : List Output)
         → IsGoodAt start events durable opening a b told ↔ IsGoodAt start events durable opening changed b told }
     ensures second { (a b changed : List ℕ) → ¬ (IsArmed b) → ¬ (IsArmed changed) → 1 ≤ length b → 1 ≤ length changed
-      → (start : Node) (events : List Event) (durable opening : ℕ) (told : List Output)
+        → (start : Node) (events : List Event) (durable opening : ℕ) (told : List Output)
         → IsGoodAt start events durable opening a b told ↔ IsGoodAt start events durable opening a changed told }
 {}
 

@@ -61,7 +61,7 @@ unfolding body_length_at
 body_length_at-rest bytes n rest le e =
     let read = rw (bytes_at-within 4 bytes le) at e in
     sym (ap (λ (p : ℕ × List ℕ). p.1) (judged_is (from_be_bytes w32 (take 4 bytes)) (drop 4 bytes) (n, rest)
-      (ltb 65536 (from_be_bytes w32 (take 4 bytes))) read))
+    (ltb 65536 (from_be_bytes w32 (take 4 bytes))) read))
 
 -- ---- the length of a frame
 
@@ -137,7 +137,7 @@ partial_fits bytes partial =
     elim (cases_lt (length bytes) 4) [
       | inl lt ↦ omega (arith, lt)
       | inr le ↦ below_limit (length bytes) (frame_length bytes) (λ goal e. frame_fits (body_length_at bytes) goal (length_fits bytes)
-        (sym (frame_length-of bytes le) ∙ e)) (sym (is_partial-of bytes (frame_length bytes) refl) ∙ partial)
+          (sym (frame_length-of bytes le) ∙ e)) (sym (is_partial-of bytes (frame_length bytes) refl) ∙ partial)
     ]
 
 -- what isn't partial has its length
@@ -145,7 +145,7 @@ pub whole_has_length : (bytes : List ℕ) → is_partial bytes ≡ false → 4 �
 whole_has_length bytes h =
     elim (cases_lt (length bytes) 4) [
       | inl lt ↦ absurd (let partial : is_partial bytes ≡ true = is_partial-of bytes (Ok 4) (frame_length-short bytes lt)
-        ∙ lt-ltb _ _ lt in let no : ⊥ = cc in no)
+          ∙ lt-ltb _ _ lt in let no : ⊥ = cc in no)
       | inr le ↦ le
     ]
 
@@ -159,7 +159,7 @@ pub is_partial-append : (bytes more : List ℕ) → is_partial bytes ≡ false �
 is_partial-append bytes more h =
     is_partial-of (bytes ++ more) (frame_length bytes) (frame_length-append bytes more (whole_has_length bytes h))
     ∙ still_above (frame_length bytes) (length bytes) (length (bytes ++ more)) (omega (arith, length-append bytes more))
-      (sym (is_partial-of bytes (frame_length bytes) refl) ∙ h)
+    (sym (is_partial-of bytes (frame_length bytes) refl) ∙ h)
 
 -- ---- frames
 
@@ -192,7 +192,7 @@ frame_at-append bytes more h =
     let le = whole_has_length bytes h in
     rw (body_length_at-append bytes more le)
     (by_length bytes more (body_length_at bytes) le refl (sym (is_partial-of bytes
-      (body_length_at bytes >>= λ n. Ok (4 + n.0)) (frame_length-of bytes le)) ∙ h))
+    (body_length_at bytes >>= λ n. Ok (4 + n.0)) (frame_length-of bytes le)) ∙ h))
 
 -- a frame that isn't partial and no longer than its length leaves nothing
 enclosed_rest : (n : ℕ) (bytes : List ℕ) (f : Frame) (rest : List ℕ) → enclosed_at n bytes ≡ Ok (f, rest) → length bytes ≤ n → rest ≡ []
@@ -214,7 +214,7 @@ frame_at-rest bytes goal f rest four known le e =
     let n = bind_ok (body_length_at bytes) (λ n. enclosed_at n.0 n.1) (f, rest) e in
     let behind : n.0.1 ≡ drop 4 bytes = body_length_at-rest bytes n.0.0 n.0.1 four n.1 in
     let same : 4 + n.0.0 ≡ goal = ok_is _ _ (sym (frame_length-of bytes
-      four ∙ ap (λ (r : Result (ℕ × List ℕ) WireFault). r >>= λ n. Ok (4 + n.0)) n.1) ∙ known) in
+    four ∙ ap (λ (r : Result (ℕ × List ℕ) WireFault). r >>= λ n. Ok (4 + n.0)) n.1) ∙ known) in
     enclosed_rest n.0.0 n.0.1 f rest n.2 (omega (arith, same, le, four, ap length behind, length-drop 4 bytes))
 
 -- a bad length is the fault of the frame
@@ -270,8 +270,15 @@ length_kept : (old piece mid : List ℕ) (first goal more : ℕ) → first ≡ m
 length_kept old piece mid first goal more is added known =
     elim (cases_lt (length mid) 4) [
       | inl lt ↦ (
-          let all : length (drop first piece) ≡ 0 = omega (arith, lt, is, ap length added, length-append old (take first piece), length-take first piece,
-            length-drop first piece) in
+          let all : length (drop first piece) ≡ 0 = omega (
+            arith,
+            lt,
+            is,
+            ap length added,
+            length-append old (take first piece),
+            length-take first piece,
+            length-drop first piece,
+          ) in
           ap frame_length (ap (λ (t : List ℕ). mid ++ t) (take_none more (drop first piece) all) ∙ append-nil mid) ∙ known)
       | inr le ↦ frame_length-append mid (take more (drop first piece)) le ∙ known
     ]
@@ -295,13 +302,18 @@ pub topped_up : (old piece mid new : List ℕ) (first goal more : ℕ) → IsTru
     → more ≡ min (goal - length mid) (length (drop first piece)) → new ≡ mid ++ take more (drop first piece) → TopsUp old piece (first + more) new
 topped_up old piece mid new first goal more partial is added known is_more added_more =
     let kept : frame_length new ≡ Ok goal = ap frame_length added_more ∙ length_kept old piece mid first goal more is added known in
-    let size : length new ≡ length mid + more = omega (arith, ap length added_more, length-append mid (take more (drop first piece)),
-      length-take more (drop first piece), is_more) in
+    let size : length new ≡ length mid + more = omega (
+      arith,
+      ap length added_more,
+      length-append mid (take more (drop first piece)),
+      length-take more (drop first piece),
+      is_more,
+    ) in
     let fits : length mid ≤ goal = within_goal old piece mid first goal partial is added known in
     record {
       within = omega (arith, is, is_more, length-drop first piece);
       added = added_more ∙ ap (λ (t : List ℕ). t ++ take more (drop first piece)) added
-        ∙ append_assoc old (take first piece) (take more (drop first piece)) ∙ ap (λ (t : List ℕ). old ++ t) (sym (take-add first more piece));
+          ∙ append_assoc old (take first piece) (take more (drop first piece)) ∙ ap (λ (t : List ℕ). old ++ t) (sym (take-add first more piece));
       all = λ p.
           let below : is_below (length new) (Ok goal) ≡ true = sym (is_partial-of new (Ok goal) kept) ∙ p in
           omega (arith, ltb-true _ _ below, size, fits, is, is_more, length-drop first piece);
@@ -313,5 +325,5 @@ pub topped_refused : (old piece mid : List ℕ) (first : ℕ) (e : WireFault) �
     → Fails e (front_of (old ++ piece))
 topped_refused old piece mid first e added h =
     let all : mid ++ drop first piece ≡ old ++ piece = ap (λ (t : List ℕ). t ++ drop first piece) added ∙ append_assoc old (take first piece)
-      (drop first piece) ∙ ap (λ (t : List ℕ). old ++ t) (take-append-drop first piece) in
+    (drop first piece) ∙ ap (λ (t : List ℕ). old ++ t) (take-append-drop first piece) in
     subst (λ (t : List ℕ). Fails e (front_of t)) all (fails_at_front-append mid (drop first piece) e h)

@@ -32,7 +32,7 @@ pub spelled_whole : (f : Frame) (more : List ℕ) → IsFrame f → is_partial (
 spelled_whole f more is =
     let n = length (body_spelling f) in
     let size : length (frame_spelling f ++ more) ≡ 4 + n + length more =
-      omega (arith, length-append (frame_spelling f) more, length-append (to_be_bytes w32 n) (body_spelling f)) in
+    omega (arith, length-append (frame_spelling f) more, length-append (to_be_bytes w32 n) (body_spelling f)) in
     let read : body_length_at (frame_spelling f ++ more) ≡ Ok (n, body_spelling f ++ more) =
     ap body_length_at (append_assoc (to_be_bytes w32 n) (body_spelling f) more)
     ∙ length_spelled.again n (body_spelling f ++ more) ((omega (arith, length-body f is), omega (arith, length-body f is)), length-body-positive f) in
@@ -86,17 +86,17 @@ streams_read_one_way stream frames others rest other p q =
 pub streams_stay_refused : StreamsStayRefused
 streams_stay_refused stream more frames bad e p =
     let spelled : stream ++ more ≡ flat_map frame_spelling frames ++ (bad ++ more) =
-      ap (λ (t : List ℕ). t ++ more) p.spelled ∙ append_assoc (flat_map frame_spelling frames) bad more in
+    ap (λ (t : List ℕ). t ++ more) p.spelled ∙ append_assoc (flat_map frame_spelling frames) bad more in
     let read : frame_at (bad ++ more) ≡ Err e = frame_at-append bad more p.there ∙ rw p.refused refl in (
       λ others rest q.
           let same = one_list frames others (bad ++ more) rest (stream ++ more) p.lawful q.lawful (bad_stops (bad ++ more) e read)
-            (partial_stops rest q.partial) spelled q.spelled in
+          (partial_stops rest q.partial) spelled q.spelled in
           let whole : is_partial rest ≡ false = ap is_partial (sym same.1) ∙ is_partial-append bad more p.there in
           let part : is_partial rest ≡ true = q.partial in
           cc,
       λ others worse d q.
           let same = one_list frames others (bad ++ more) worse (stream ++ more) p.lawful q.lawful (bad_stops (bad ++ more) e read)
-            (bad_stops worse d q.refused) spelled q.spelled in
+          (bad_stops worse d q.refused) spelled q.spelled in
           let fault : Result (Frame × List ℕ) WireFault = Err e in
           let alike : fault ≡ Err d = sym read ∙ ap frame_at same.1 ∙ q.refused in
           (same.0, cc),
@@ -115,8 +115,8 @@ cut_in_piece rest piece f after is part e =
           let some : length piece - length after ≡ length x - length rest = omega (arith, sizes, lt) in
           let whole : length rest + (length x - length rest) ≡ length x = omega (arith, lt) in
           let front : rest ++ take (length x - length rest) piece ≡ x =
-            sym (take-append-add rest piece (length x - length rest)) ∙ ap (λ (n : ℕ). take n (rest ++ piece)) whole ∙ ap (take (length x)) e
-              ∙ take-append_seam x after in
+          sym (take-append-add rest piece (length x - length rest)) ∙ ap (λ (n : ℕ). take n (rest ++ piece)) whole ∙ ap (take (length x)) e
+          ∙ take-append_seam x after in
           (omega (arith, sizes, lt), ap (λ (n : ℕ). rest ++ take n piece) some ∙ front))
       | inr le ↦ (
           let front : take (length x) rest ≡ x = sym (take-append-le (length x) rest piece le) ∙ ap (take (length x)) e ∙ take-append_seam x after in
@@ -152,18 +152,18 @@ module _ (used : List ℕ) (frames : List Frame) (rest piece : List ℕ) (sound 
 
   -- a piece that makes one whole
   on_whole : (f : Frame) (after : List ℕ) → frame_at (rest ++ piece) ≡ Ok (f, after) → IsSound (used ++ take (length piece - length after) piece)
-    (frames ++ f ∷ []) []
+      (frames ++ f ∷ []) []
   on_whole f after e =
       let t = frame_spelled.takes (rest ++ piece) f after (IsBytes-append rest piece sound.bytes fits) e in
       let cut = cut_in_piece rest piece f after t.1 sound.reads.partial t.0.parts in
       let text : flat_map frame_spelling (frames ++ f ∷ []) ≡ flat_map frame_spelling frames ++ frame_spelling f =
       flat_map-append frame_spelling frames (f ∷ []) ∙ ap (λ (t : List ℕ). flat_map frame_spelling frames ++ t) (flat_map-cons frame_spelling f []
-        ∙ append-nil (frame_spelling f)) in
+      ∙ append-nil (frame_spelling f)) in
       record {
         reads = record {
           lawful = all_push IsFrame frames f sound.reads.lawful t.1;
           spelled = ap (λ (t : List ℕ). t ++ take (length piece - length after) piece) sound.reads.spelled
-            ∙ append_assoc (flat_map frame_spelling frames) rest (take (length piece - length after) piece)
+              ∙ append_assoc (flat_map frame_spelling frames) rest (take (length piece - length after) piece)
               ∙ ap (λ (t : List ℕ). flat_map frame_spelling frames ++ t) cut.1 ∙ sym text ∙ sym (append-nil (flat_map frame_spelling (frames ++ f ∷ [])));
           partial = nothing_partial;
         };
@@ -172,17 +172,17 @@ module _ (used : List ℕ) (frames : List Frame) (rest piece : List ℕ) (sound 
 
   -- either
   on_ok : (given : Fed) → fed (Some rest) piece ≡ Ok given → IsSound (used ++ take given.used piece) (frames ++ frames_of given.frame)
-    (rest_after rest piece given.frame)
+      (rest_after rest piece given.frame)
   on_ok given e =
       elim (is_partial (rest ++ piece)) as (λ b. is_partial (rest ++ piece) ≡ b
       → cond b (Ok (record { used = length piece; frame = None })) (given_of piece (frame_at (rest ++ piece))) ≡ Ok given
       → IsSound (used ++ take given.used piece) (frames ++ frames_of given.frame) (rest_after rest piece given.frame)) [
         | true ↦ λ part h. subst (λ (g : Fed). IsSound (used ++ take g.used piece) (frames ++ frames_of g.frame) (rest_after rest piece g.frame))
-          (ok_is _ _ h) (on_partial part)
+            (ok_is _ _ h) (on_partial part)
         | false ↦ λ whole h. (
             let f = bind_ok (frame_at (rest ++ piece)) (λ f. Ok (record { used = length piece - length f.1; frame = Some f.0 })) given h in
             subst (λ (g : Fed). IsSound (used ++ take g.used piece) (frames ++ frames_of g.frame) (rest_after rest piece g.frame)) (ok_is _ _ f.2)
-              (on_whole f.0.0 f.0.1 f.1))
+            (on_whole f.0.0 f.0.1 f.1))
       ] refl e
 
 -- one more feed

@@ -53,8 +53,11 @@ abbrev pub Feed : Type 0
 Feed = List ℕ × Result Fed WireFault
 
 abbrev pub after_feed : Progress → Feed → Progress
-after_feed p (piece, Ok given) = record { used = p.used ++ take given.used piece; frames = p.frames
-    ++ frames_of given.frame; held = held_after p.held piece (Ok given) }
+after_feed p (piece, Ok given) = record {
+  used = p.used ++ take given.used piece;
+  frames = p.frames ++ frames_of given.frame;
+  held = held_after p.held piece (Ok given);
+}
 after_feed p (piece, Err e) = record { used = p.used; frames = p.frames; held = held_after p.held piece (Err e) }
 
 abbrev pub after_feeds : Progress → List Feed → Progress

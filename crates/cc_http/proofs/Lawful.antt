@@ -100,7 +100,7 @@ lawful digits reason first other is_stream size three numeral passes is more fit
   digits = (three, AllPass-from_list_all is_ascii_digit digits numeral);
   reason = AllPass-from_list_all is_value_byte reason passes;
   fields = All-cons IsField first (common_fields ++ (other ++ length_fields is_stream size)) is
-    (All-append IsField common_fields (other ++ length_fields is_stream size) common
+      (All-append IsField common_fields (other ++ length_fields is_stream size) common
       (All-append IsField other (length_fields is_stream size) more (size_line is_stream size fits)));
 }
 

@@ -71,9 +71,11 @@ pushes opening reached taken n port v x may room accepted its_made reach items v
         sent = sent;
         got = h.got;
         whole = ap (λ l. l ++ x ∷ []) h.whole ∙ append_assoc h.got items (x ∷ []);
-        lawful = lawful_both opening h.sent (x ∷ []) h.lawful
-            (subst (λ (l : List Entry). decides (core_after opening l) x.event ≡ None) is accepted,
-              subst (λ (l : List Entry). x.made ≡ made (core_after opening l) x.event) is its_made, tt);
+        lawful = lawful_both opening h.sent (x ∷ []) h.lawful (
+          subst (λ (l : List Entry). decides (core_after opening l) x.event ≡ None) is accepted,
+          subst (λ (l : List Entry). x.made ≡ made (core_after opening l) x.event) is its_made,
+          tt,
+        );
         here = λ look. subst (λ (l : List Entry). reached look (l ++ x ∷ [])) is (reach look);
         there = h.there;
         limit = subst (λ (l : List Entry). length (l ++ x ∷ []) ≤ life_limit) is (omega (arith, length-append v.sent (x ∷ [])));
@@ -113,7 +115,7 @@ pops opening reached taken port v may take x items views h at =
         refl,
         subst (λ (l : List Entry). AreLawful opening (l ++ x ∷ [])) (sym is) (lawful_front opening got items (subst (AreLawful opening) whole h.lawful)),
         subst (λ (l : List Entry). length (l ++ x ∷ []) ≤ life_limit) (sym is) (let n = ap (λ (l : List Entry). length l) whole in let m = h.limit in
-          omega (arith, length-append got items)),
+            omega (arith, length-append got items)),
       ),
     )
 
@@ -151,11 +153,13 @@ forks opening reached taken port v a b items views h at =
     let vs : List PassView = set views port l in
     let Old : ℕ → PassView → Type 0 = λ j u. (u.pushes ≡ true → (j ≡ h.pusher) × (u.sent ≡ h.sent)) × (u.pops ≢ true) in
     let old : All Old vs = all_set Old views port l ((λ _. mine.0 a), off)
-      (λ j u other e. ((h.knows j u e).0, λ p. other (((h.knows j u e).1 p).0 ∙ sym (mine.1 b).0))) in
+    (λ j u other e. ((h.knows j u e).0, λ p. other (((h.knows j u e).1 p).0 ∙ sym (mine.1 b).0))) in
     known_by h h.pusher (length vs) _
     (λ j u e. ⊎_elim (λ x. ((old j u x).0, λ p. absurd ((old j u x).1 p)))
-    (λ (is : r ≡ u). ((λ p. absurd (off (ap (λ (y : PassView). y.pushes) is ∙ p))),
-      λ p. (at_end vs r u j (λ x. (old j u x).1 p) e, ap (λ (y : PassView). y.got) (sym is) ∙ (mine.1 b).1))) (at_snoc vs r u j e))
+    (λ (is : r ≡ u). (
+      (λ p. absurd (off (ap (λ (y : PassView). y.pushes) is ∙ p))),
+      λ p. (at_end vs r u j (λ x. (old j u x).1 p) e, ap (λ (y : PassView). y.got) (sym is) ∙ (mine.1 b).1),
+    )) (at_snoc vs r u j e))
 
 pub merges : (opening : Node) (reached taken : ℕ → List Entry → Type 0) (port : ℕ) (v : PassView) (other : ℕ) (u : PassView) → v.pushes ≡ true
     → u.pops ≡ true → Merges (IsOneLine opening reached taken) port v other u (both v u) nobody
@@ -167,7 +171,7 @@ merges opening reached taken port v other u a b items views h at two at' =
     let theirs = (h.knows other u was).1 b in
     let Now : ℕ → PassView → Type 0 = λ j y. j ≢ other → Knows h.pusher port h.sent h.got j y in
     let now : All Now vs = all_set Now views port w (λ _. ((λ _. mine.0 a), λ _. (refl, theirs.1)))
-      (λ j y _ e apart. ((h.knows j y e).0, λ p. absurd (apart (((h.knows j y e).1 p).0 ∙ sym theirs.0)))) in
+    (λ j y _ e apart. ((h.knows j y e).0, λ p. absurd (apart (((h.knows j y e).1 p).0 ∙ sym theirs.0)))) in
     known_by h h.pusher port _
     (all_set (Knows h.pusher port h.sent h.got) vs other nobody ((λ p. absurd (off p)), λ p. absurd (off p)) (λ j y apart e. now j y e apart))
 

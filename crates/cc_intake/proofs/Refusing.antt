@@ -28,9 +28,9 @@ IsOwn refusal.NoMemory = ⊥
 IsOwn refusal.QueueFull = ⊥
 IsOwn r = ⊤
 
-own_if : (b : Bool) (r : Refusal) → IsOwn r → IfSome (then_some b r) IsOwn
-own_if true r own = own
-own_if false r own = tt
+own : {b : Bool} {r : Refusal} → IsOwn r → IfSome (then_some b r) IsOwn
+own {true} is = is
+own {false} is = tt
 
 first_own : (rs : List (Option Refusal)) → AllByRecursion (λ r. IfSome r IsOwn) rs → IfSome (first_of rs) IsOwn
 first_own [] all = tt
@@ -38,17 +38,14 @@ first_own (None ∷ rs) all = first_own rs all.1
 first_own (Some r ∷ rs) all = all.0
 
 own_reasons : (c : Core) (e : Event) → AllByRecursion (λ r. IfSome r IsOwn) (reasons line_limit c e)
-own_reasons c event.Enter = (own_if _ _ tt, (own_if _ _ tt, (own_if _ _ tt, (own_if _ _ tt, tt))))
-own_reasons c event.Leave = (own_if _ _ tt, (own_if _ _ tt, (own_if _ _ tt, (own_if _ _ tt, tt))))
-own_reasons c (event.Deliver from n m) = (own_if _ _ tt, (own_if _ _ tt,
-    (own_if _ _ tt, (own_if _ _ tt, (own_if _ _ tt, (own_if _ _ tt, (own_if _ _ tt, tt)))))))
-own_reasons c (event.Acked peer n) = (own_if _ _ tt, (own_if _ _ tt, tt))
-own_reasons c (event.Ask s r command) = (own_if _ _ tt, (own_if _ _ tt,
-    (own_if _ _ tt, (own_if _ _ tt, (own_if _ _ tt, (own_if _ _ tt, (own_if _ _ tt,
-      (own_if _ _ tt, (own_if _ _ tt, (own_if _ _ tt, (own_if _ _ tt, tt)))))))))))
-own_reasons c (event.Retire q) = (own_if _ _ tt, (own_if _ _ tt, (own_if _ _ tt, (own_if _ _ tt, (own_if _ _ tt, tt)))))
-own_reasons c (event.Lapse q) = (own_if _ _ tt, (own_if _ _ tt, (own_if _ _ tt, (own_if _ _ tt, (own_if _ _ tt, tt)))))
-own_reasons c event.Snapshot = (own_if _ _ tt, (own_if _ _ tt, (own_if _ _ tt, (own_if _ _ tt, (own_if _ _ tt, tt)))))
+own_reasons c event.Enter = (own tt, (own tt, (own tt, (own tt, tt))))
+own_reasons c event.Leave = (own tt, (own tt, (own tt, (own tt, tt))))
+own_reasons c (event.Deliver from n m) = (own tt, (own tt, (own tt, (own tt, (own tt, (own tt, (own tt, tt)))))))
+own_reasons c (event.Acked peer n) = (own tt, (own tt, tt))
+own_reasons c (event.Ask s r command) = (own tt, (own tt, (own tt, (own tt, (own tt, (own tt, (own tt, (own tt, (own tt, (own tt, (own tt, tt)))))))))))
+own_reasons c (event.Retire q) = (own tt, (own tt, (own tt, (own tt, (own tt, tt)))))
+own_reasons c (event.Lapse q) = (own tt, (own tt, (own tt, (own tt, (own tt, tt)))))
+own_reasons c event.Snapshot = (own tt, (own tt, (own tt, (own tt, (own tt, tt)))))
 
 own_reason : (c : Core) (e : Event) → IfSome (decides c e) IsOwn
 unfolding decides decides_within

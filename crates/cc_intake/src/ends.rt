@@ -38,7 +38,7 @@ impl<L: Life> Model for Ends<L> {
     ghost view = { λ e. e.ring.table.shared.table_id };
 
     ghost invariant = { λ e. (e.ring.cap ≡ 256) × (IsPassOf e.ring e.pushing × (hand_of e.pushing ≡ producer [] 0))
-      × (IsPassOf e.ring e.popping × (hand_of e.popping ≡ consumer [] 0)) };
+        × (IsPassOf e.ring e.popping × (hand_of e.popping ≡ consumer [] 0)) };
 }
 
 // How many entries the queue holds at most.
@@ -137,7 +137,7 @@ impl<L: Life, Q: Lane> Model for Producer<L, Q> {
     ghost view = { λ p. record { entries = (hand_of p.pass).sent; finds = (hand_of p.pass).finds } };
 
     ghost invariant = { λ p. (p.pass.table_id ≡ Q.table) × (p.pass.me.1 ≡ []) × (hand_of p.pass ≡ producer (hand_of p.pass).sent (hand_of p.pass).finds)
-      × ((look : ℕ) (list : List EntryValue) → L.reached look list) × ((list : List EntryValue) → L.accepted list) };
+        × ((look : ℕ) (list : List EntryValue) → L.reached look list) × ((list : List EntryValue) → L.accepted list) };
 }
 
 impl<L: Life, Q: Lane> Producer<L, Q> {
@@ -153,7 +153,7 @@ impl<L: Life, Q: Lane> Producer<L, Q> {
         requires made { entry.made ≡ made (core_after L.opening self.old.entries) entry.event }
         ensures pushed { OnOk result (self.new ≡ record { entries = self.old.entries ++ entry ∷ []; finds = self.old.finds }) }
         ensures full { OnErr result ((self.new ≡ record { entries = self.old.entries; finds = self.old.finds + 1 })
-          × Held queue_limit (WasRest L.taken self.old.finds self.old.entries)) }
+            × Held queue_limit (WasRest L.taken self.old.finds self.old.entries)) }
         ensures accepted { L.accepted self.new.entries }
     {
         match queue.ring.push_as::<Push<L>, R>(rt, &mut self.pass, entry) {
@@ -191,7 +191,7 @@ impl<L: Life, Q: Lane> Model for Consumer<L, Q> {
     ghost view = { λ p. record { entries = (hand_of p.pass).got; finds = (hand_of p.pass).finds } };
 
     ghost invariant = { λ p. (p.pass.table_id ≡ Q.table) × (p.pass.me.1 ≡ []) × (hand_of p.pass ≡ consumer (hand_of p.pass).got (hand_of p.pass).finds)
-      × AreLawful L.opening (hand_of p.pass).got × (length (hand_of p.pass).got ≤ life_limit) × ((look : ℕ) (list : List EntryValue) → L.taken look list) };
+        × AreLawful L.opening (hand_of p.pass).got × (length (hand_of p.pass).got ≤ life_limit) × ((look : ℕ) (list : List EntryValue) → L.taken look list) };
 }
 
 impl<L: Life, Q: Lane> Consumer<L, Q> {
@@ -206,7 +206,7 @@ impl<L: Life, Q: Lane> Consumer<L, Q> {
     // None only where the queue was empty at one moment of the call.
     pub(crate) fn pop<R: Wait>(&mut self, rt: &R, queue: &Queue<L, Q>) -> Option<Entry>
         ensures popped { MatchOption result ((self.new ≡ record { entries = self.old.entries; finds = self.old.finds + 1 })
-          × L.reached self.old.finds self.old.entries) (λ e. self.new ≡ record { entries = self.old.entries ++ e ∷ []; finds = self.old.finds }) }
+            × L.reached self.old.finds self.old.entries) (λ e. self.new ≡ record { entries = self.old.entries ++ e ∷ []; finds = self.old.finds }) }
         ensures lawful { AreLawful L.opening self.new.entries }
         ensures limit { length self.new.entries ≤ life_limit }
     {

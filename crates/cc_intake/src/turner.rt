@@ -153,17 +153,17 @@ impl<S: Site, L: Life, Q: Lane> Turner<S, L, Q> {
     pub fn checkpoint(&mut self) -> Result<(), CheckpointFault>
         ensures lists { self.new ≡ record self.old { engine = self.new.engine } }
         ensures ended { (fault : DeviceFault) → self.old.engine.failed ≡ Some fault → (result ≡ Err (CheckpointFault.Failed (record { fault = fault })))
-          × (self.new ≡ self.old) }
+            × (self.new ≡ self.old) }
         ensures spent { self.old.engine.failed ≡ None → counter_limit ≤ self.old.engine.generation → (result ≡ Err CheckpointFault.Spent)
-          × (self.new ≡ self.old) }
+            × (self.new ≡ self.old) }
         ensures moves { self.old.engine.failed ≡ None → self.old.engine.generation < counter_limit
-          → MatchResult result (λ _. Moves S.Site self.old.engine self.new.engine) (MoveStops S.Site self.old.engine self.new.engine) }
+            → MatchResult result (λ _. Moves S.Site self.old.engine self.new.engine) (MoveStops S.Site self.old.engine self.new.engine) }
         ensures same_twin { self.new.engine.twin ≡ self.old.engine.twin }
         ensures owes { self.new.engine.owes ≡ false }
         ensures honest { S.honest self.old.engine.site ↔ S.honest self.new.engine.site }
         ensures tells { (S.tells self.old.engine.site ↔ S.tells self.new.engine.site) × (S.sent self.new.engine.site ≡ S.sent self.old.engine.site) }
         ensures good { S.honest self.old.engine.site → self.old.engine.failed ≡ None → StaysGood S.Site (LeadsTo S.Site self.old.engine)
-          self.old.engine.site self.new.engine.site }
+            self.old.engine.site self.new.engine.site }
     {
         self.engine.checkpoint()
     }

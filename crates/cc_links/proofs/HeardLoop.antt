@@ -44,7 +44,7 @@ count_of_rows p (row ∷ rows) h =
     let kept = where_key nat_cmp p (map entry_of rows) in
     subst (λ b. length (cond b (entry_of row ∷ kept) kept) ≡ cond (nat_lt 0 row.heard) (heard_rows rows + 1) (heard_rows rows)) (sym h.0)
     (elim (nat_lt 0 row.heard) as (λ b. length (cond b (entry_of row ∷ kept) kept) ≡ cond b (heard_rows rows + 1) (heard_rows rows))
-      [ true ↦ omega (arith, rest) | false ↦ rest ])
+    [ true ↦ omega (arith, rest) | false ↦ rest ])
 
 pub heard_of_rows : (rows : List LinkRow) → IsRising entry_of rows → heard_rows rows ≡ heard_of (table_of entry_of rows)
 heard_of_rows rows rising =
@@ -57,8 +57,11 @@ pub heard_within : (rows : List LinkRow) → heard_rows rows ≤ length rows
 heard_within [] = omega arith
 heard_within (row ∷ rows) =
     let rest = heard_within rows in
-    elim (nat_lt 0 row.heard) as (λ b. cond b (heard_rows rows + 1) (heard_rows rows) ≤ length (row ∷ rows)) [ true ↦ omega (arith, rest) | false ↦ omega
-      (arith, rest) ]
+    elim (nat_lt 0 row.heard) as (λ b. cond b (heard_rows rows + 1) (heard_rows rows) ≤ length (row ∷ rows)) [
+      | true ↦ omega (arith, rest)
+      | false ↦ omega
+          (arith, rest)
+    ]
 
 -- ---- the next row that a loop takes
 

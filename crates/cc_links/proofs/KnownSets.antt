@@ -42,7 +42,7 @@ pub next_number : (s all : NatSet) (ids : List ℕ) (i id other : ℕ) → i < l
     → set.insert_all (set.insert s id) (drop (i + 1) ids) ≡ all
 next_number s all ids i id other lt is h =
     let front : drop i ids ≡ id ∷ drop (i + 1) ids = drop-cons ids i other lt ∙ ap (λ (q : ℕ). q ∷ drop (suc i) ids)
-      (sym is) ∙ ap (λ (n : ℕ). id ∷ drop n ids) (sym (add-one i)) in
+    (sym is) ∙ ap (λ (n : ℕ). id ∷ drop n ids) (sym (add-one i)) in
     insert_all-insert s id (drop (i + 1) ids) ∙ sym (ap (set.insert_all s) front) ∙ h
 
 pub next_id : (s all : NatSet) (ids : List ℕ) (i id : ℕ) → i < length ids → id ≡ get_or ids i id → set.insert_all s (drop i ids) ≡ all

@@ -32,9 +32,9 @@ pub rows_reach : (posts : ℕ) (rows : List LinkRow) → IsRising entry_of rows 
 rows_reach posts rows rising h =
     let m = table_of entry_of rows in
     entries_of_rows posts rows (subst (λ (es : List (ℕ × Link)). AllByRecursion (λ (e : ℕ × Link). reach e.1 ≤ posts) es)
-      (entries-table_of entry_of rows rising)
+    (entries-table_of entry_of rows rising)
     (all_entries (λ q l. reach l ≤ posts) (table.entries m) (table.entries_sorted m)
-      (λ q. subst (λ o. IfSome o (λ (l : Link). reach l ≤ posts)) (table.get-entries m q) (h q))))
+    (λ q. subst (λ o. IfSome o (λ (l : Link). reach l ≤ posts)) (table.get-entries m q) (h q))))
 
 least_first : (posts x : ℕ) (xs : List ℕ) → x ≤ posts → least posts (x ∷ xs) ≡ min x (least posts xs)
 least_first posts x [] h = omega arith
@@ -47,7 +47,7 @@ least_of_rows p posts (row ∷ rows) h =
     let rest = least_of_rows p posts rows h.1 in
     let kept = where_key nat_cmp p (map entry_of rows) in
     elim (p row.peer) as (λ b. least posts (map reach (map (λ (e : ℕ × Link). e.1) (cond b (entry_of row ∷ kept) kept)))
-      ≡ cond b (min (row.start + row.acked) (lowest_by p posts rows)) (lowest_by p posts rows)) [
+    ≡ cond b (min (row.start + row.acked) (lowest_by p posts rows)) (lowest_by p posts rows)) [
       | true ↦ least_first posts (row.start + row.acked) (map reach (map (λ (e : ℕ × Link). e.1) kept)) h.0 ∙ ap (min (row.start + row.acked)) rest
       | false ↦ rest
     ]
@@ -56,7 +56,7 @@ pub lowest_of_rows : (left : NatSet) (posts : ℕ) (rows : List LinkRow) → IsR
     → lowest_by (λ q. not (set.contains left q)) posts rows ≡ lowest left posts (table_of entry_of rows)
 lowest_of_rows left posts rows rising h =
     sym (ap (λ (es : List (ℕ × Link)). least posts (map reach (map (λ (e : ℕ × Link). e.1) es)))
-      (entries-retain entry_of rows (λ q. not (set.contains left q)) rising)
+    (entries-retain entry_of rows (λ q. not (set.contains left q)) rising)
     ∙ least_of_rows (λ q. not (set.contains left q)) posts rows h)
 
 -- the next row that a loop takes
@@ -65,13 +65,13 @@ pub next_row : (p : ℕ → Bool) (posts : ℕ) (rows : List LinkRow) (i : ℕ) 
     (lowest_by p posts (drop (i + 1) rows))
 next_row p posts rows i row lt is =
     ap (lowest_by p posts) (drop-cons rows i row lt ∙ ap (λ (r : LinkRow). r ∷ drop (suc i) rows) (sym is)
-      ∙ ap (λ (n : ℕ). row ∷ drop n rows) (sym (add-one i)))
+    ∙ ap (λ (n : ℕ). row ∷ drop n rows) (sym (add-one i)))
 
 pub reach_at : (posts : ℕ) (rows : List LinkRow) (i : ℕ) (row : LinkRow) → i < length rows → row ≡ get_or rows i row → AllReach posts (drop i rows)
     → (row.start + row.acked ≤ posts) × AllReach posts (drop (i + 1) rows)
 reach_at posts rows i row lt is h =
     subst (AllReach posts) (drop-cons rows i row lt ∙ ap (λ (r : LinkRow). r ∷ drop (suc i) rows) (sym is)
-      ∙ ap (λ (n : ℕ). row ∷ drop n rows) (sym (add-one i))) h
+    ∙ ap (λ (n : ℕ). row ∷ drop n rows) (sym (add-one i))) h
 
 -- what the lowest number is after that row
 pub lowest_step : (p : ℕ → Bool) (posts : ℕ) (rows : List LinkRow) (i : ℕ) (row : LinkRow) → i < length rows → row ≡ get_or rows i row → (low now total : ℕ)
@@ -80,7 +80,7 @@ pub lowest_step : (p : ℕ → Bool) (posts : ℕ) (rows : List LinkRow) (i : �
 lowest_step p posts rows i row lt is low now total e h =
     let rest = lowest_by p posts (drop (i + 1) rows) in
     elim (p row.peer) as (λ b. now ≡ cond b (min low (row.start + row.acked)) low → lowest_by p posts (drop i rows)
-      ≡ cond b (min (row.start + row.acked) rest) rest → min now rest ≡ total) [
+    ≡ cond b (min (row.start + row.acked) rest) rest → min now rest ≡ total) [
       | true ↦ λ f g. omega (arith, h)
       | false ↦ λ f g. omega (arith, h)
     ] e (next_row p posts rows i row lt is)
@@ -99,7 +99,7 @@ lowest_by_within p posts [] = omega arith
 lowest_by_within p posts (row ∷ rows) =
     let rest = lowest_by_within p posts rows in
     elim (p row.peer) as (λ b. cond b (min (row.start + row.acked) (lowest_by p posts rows)) (lowest_by p posts rows)
-      ≤ posts) [ true ↦ omega (arith, rest) | false ↦ rest ]
+    ≤ posts) [ true ↦ omega (arith, rest) | false ↦ rest ]
 
 -- before the first row
 pub lowest_first : (p : ℕ → Bool) (posts : ℕ) (rows : List LinkRow) → min posts (lowest_by p posts rows) ≡ lowest_by p posts rows

@@ -69,7 +69,7 @@ pub lowest_within : (left : NatSet) (posts : ℕ) (ls : Links) → LinksWithin p
 lowest_within left posts ls h =
     least_within posts posts _ (all_values (λ x. x ≤ posts) reach (live left ls)
     (λ q. subst (λ o. IfSome o (λ l. reach l ≤ posts)) (sym (get-live left ls q)) (in_reach posts (not (set.contains left q)) (table.get ls q) (h q))))
-      (omega arith)
+    (omega arith)
 
 -- a link is there still, with what was acknowledged; a new one starts behind the posts so far
 abbrev pub LinkGoesOn : ℕ → Option Link → Option Link → Type 0
@@ -104,7 +104,7 @@ go_insert posts ls k m h q =
     subst (LinkGoesOn posts (table.get ls q)) (sym (get-insert_key ls k m q))
     (elim (eqb_tells q k) as (λ _. LinkGoesOn posts (table.get ls q) (cond (nat_eq q k) (Some m) (table.get ls q))) [
       | inl e ↦ subst (λ b. LinkGoesOn posts (table.get ls q) (cond b (Some m) (table.get ls q))) (sym e.0)
-        (subst (λ n. LinkGoesOn posts (table.get ls n) (Some m)) (sym e.1) h)
+          (subst (λ n. LinkGoesOn posts (table.get ls n) (Some m)) (sym e.1) h)
       | inr e ↦ subst (λ b. LinkGoesOn posts (table.get ls q) (cond b (Some m) (table.get ls q))) (sym e.0) (goes_same posts (table.get ls q))
     ])
 
@@ -147,7 +147,7 @@ ack_goes posts peer n ls h = row_goes posts peer (λ l. record l { acked = n }) 
 pub lapse_is_ack : (posts peer : ℕ) (ls : Links) (l : Link) → table.get ls peer ≡ Some l → lapse posts peer ls ≡ ack peer (posts - l.start) ls
 lapse_is_ack posts peer ls l e =
     ap (λ o. with_row peer (λ m. record m { acked = posts - m.start }) o ls) e
-      ∙ sym (ap (λ o. with_row peer (λ m. record m { acked = posts - l.start }) o ls) e)
+    ∙ sym (ap (λ o. with_row peer (λ m. record m { acked = posts - l.start }) o ls) e)
 
 -- that acknowledgement is news where any would be
 pub lapse_is_news : (posts : ℕ) (l : Link) → awaits_any posts l ≡ awaits_ack posts (posts - l.start) l
@@ -235,7 +235,7 @@ pub ack_links : (posts peer n : ℕ) (ls : Links) → not (option_map_or (awaits
     → LinksWithin posts (ack peer n ls)
 ack_links posts peer n ls h k =
     row_links posts peer (λ l. record l { acked = n }) (table.get ls peer) ls k
-      (acked_link posts n (table.get ls peer) (awaited posts n (table.get ls peer) h) (k peer))
+    (acked_link posts n (table.get ls peer) (awaited posts n (table.get ls peer) h) (k peer))
 
 lapsed_link : (posts : ℕ) (o : Option Link) → IfSome o (IsLinkWithin posts) → IfSome o (λ l. IsLinkWithin posts (record l { acked = posts - l.start }))
 lapsed_link posts None k = tt

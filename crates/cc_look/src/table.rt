@@ -94,10 +94,7 @@ fn print_use<W: fmt::Write>(f: &mut fmt::Formatter<W>, status: &Status<'_>) -> f
     writeln!(f, "posts     {kept} of {most} kept, {made} made")
 }
 
-fn print_counts<W: fmt::Write>(
-    f: &mut fmt::Formatter<W>,
-    counts: &CountPart<'_>,
-) -> fmt::Result {
+fn print_counts<W: fmt::Write>(f: &mut fmt::Formatter<W>, counts: &CountPart<'_>) -> fmt::Result {
     let (events, commits, connections) = (counts.events, counts.commits, counts.connections);
     writeln!(
         f,

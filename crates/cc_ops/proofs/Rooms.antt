@@ -81,14 +81,22 @@ behind_room share line mine h =
 -- of a round whose first ask writes the row is that of its last one
 pub round_view : (me quorum : ℕ) (a : Asked) (s : Ops) → Some a ≡ first_in s.line → is_writing a.command ≡ true → 1 ≤ s.share
     → (after_last me quorum s).view
-    ≡ merge s.view (single (record { node = me; number = s.number + writes_by (first_round s.share s.line); value =
-      written_by (first_round s.share s.line) s.mine }))
+    ≡ merge s.view (single (record {
+      node = me;
+      number = s.number + writes_by (first_round s.share s.line);
+      value =
+          written_by (first_round s.share s.line) s.mine;
+    }))
 round_view me quorum a s first writes some = of_line s.share s.line first some
   where
     of_line : (share : ℕ) (line : List Asked) → Some a ≡ first_in line → 1 ≤ share
         → (begin_round me quorum (first_round share line) (record s { line = line_behind share line })).view
-        ≡ merge s.view (single (record { node = me; number = s.number + writes_by (first_round share line); value =
-          written_by (first_round share line) s.mine }))
+        ≡ merge s.view (single (record {
+          node = me;
+          number = s.number + writes_by (first_round share line);
+          value =
+              written_by (first_round share line) s.mine;
+        }))
     of_line share [] first some = cc
     of_line zero (b ∷ line) first some = absurd (omega (arith, some))
     of_line (suc n) (b ∷ line) first some =
@@ -97,7 +105,7 @@ round_view me quorum a s first writes some = of_line s.share s.line first some
         let round = b ∷ picked (is_writing b.command) n line in
         let t : Ops = record s { line = spared (is_writing b.command) n line } in
         ap (λ (c : Bool). (if c then next_round (Storing (round_of quorum b)) (with_own_row me (with_written round t)) else
-          next_round (Querying (round_of quorum b)) t).view) is
+        next_round (Querying (round_of quorum b)) t).view) is
 
 -- the counters as one does
 pub round_tag : (me quorum : ℕ) (a : Asked) (s : Ops) → Some a ≡ first_in s.line → 1 ≤ s.share → (after_last me quorum s).tag ≡ s.tag + 1
@@ -110,9 +118,9 @@ round_tag me quorum a s first some = of_line s.share s.line first some
     of_line (suc n) (b ∷ line) first some =
         cond_both (is_writing b.command)
         (next_round (Storing (round_of quorum b)) (with_own_row me (with_written (b ∷ picked (is_writing b.command) n line)
-          (record s { line = spared (is_writing b.command) n line }))))
+        (record s { line = spared (is_writing b.command) n line }))))
         (next_round (Querying (round_of quorum b)) (record s { line = spared (is_writing b.command) n line }))
-          (λ (u : Ops). u.tag ≡ s.tag + 1) (λ _. refl) (λ _. refl)
+        (λ (u : Ops). u.tag ≡ s.tag + 1) (λ _. refl) (λ _. refl)
 
 -- the round that begins has the first ask of the line
 first_same : (share : ℕ) (line : List Asked) → 1 ≤ share → first_in (first_round share line) ≡ first_in line

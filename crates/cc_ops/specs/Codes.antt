@@ -49,5 +49,13 @@ ops_code =
     code_by (ViewMap × (ℕ × (Value × (ℕ × (ℕ × (Phase × (List Asked × List Asked)))))))
     (coded× view_code (coded× coded_ℕ (coded× value_code (coded× coded_ℕ (coded× coded_ℕ (coded× phase_code (coded× line_code line_code)))))))
     (λ s. (s.view, (s.number, (s.mine, (s.tag, (s.share, (s.phase, (s.others, s.line))))))))
-    (λ p. record { view = p.0; number = p.1.0; mine = p.1.1.0; tag = p.1.1.1.0; share = p.1.1.1.1.0; phase = p.1.1.1.1.1.0; others = p.1.1.1.1.1.1.0;
-      line = p.1.1.1.1.1.1.1 }) (λ _. refl)
+    (λ p. record {
+      view = p.0;
+      number = p.1.0;
+      mine = p.1.1.0;
+      tag = p.1.1.1.0;
+      share = p.1.1.1.1.0;
+      phase = p.1.1.1.1.1.0;
+      others = p.1.1.1.1.1.1.0;
+      line = p.1.1.1.1.1.1.1;
+    }) (λ _. refl)

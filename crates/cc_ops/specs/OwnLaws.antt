@@ -70,7 +70,7 @@ pub round_line : (me quorum : ℕ) (asks : List Asked) (s : Ops) → (begin_roun
 round_line me quorum [] s = refl
 round_line me quorum (a ∷ others) s =
     cond_both (is_writing a.command) (next_round (Storing (round_of quorum a)) (with_own_row me (with_written (a ∷ others) s)))
-      (next_round (Querying (round_of quorum a)) s)
+    (next_round (Querying (round_of quorum a)) s)
     (λ (t : Ops). t.line ≡ s.line) (λ _. refl) (λ _. refl)
 
 -- what begins is what is pending then
@@ -78,7 +78,7 @@ pub round_pending : (me quorum : ℕ) (asks : List Asked) (s : Ops) → pending 
 round_pending me quorum [] s = refl
 round_pending me quorum (a ∷ others) s =
     cond_both (is_writing a.command) (next_round (Storing (round_of quorum a)) (with_own_row me (with_written (a ∷ others) s)))
-      (next_round (Querying (round_of quorum a)) s)
+    (next_round (Querying (round_of quorum a)) s)
     (λ (t : Ops). asked_in t.phase ++ others ≡ a ∷ others) (λ _. refl) (λ _. refl)
 
 pub round_unanswered : (me quorum : ℕ) (asks : List Asked) (s : Ops) → unanswered (begin_round me quorum asks s) ≡ asks ++ s.line
@@ -126,7 +126,7 @@ each_ack P me quorum (Storing p) s same last more =
 each_ack P me quorum (Querying p) s same last more = same
 each_ack P me quorum (StoringBack p seen) s same last more =
     either_ack P (is_last p) (after_last me quorum s) (record s { phase = StoringBack (counted p) seen }) (first_round s.share s.line) last
-      (more (StoringBack (counted p) seen))
+    (more (StoringBack (counted p) seen))
 
 -- ---- a message
 
@@ -136,7 +136,7 @@ either_reply P quorum v Idle s same more = same
 either_reply P quorum v (Storing p) s same more = same
 either_reply P quorum v (Querying p) s same more =
     cond_both (is_last p) (next_round (StoringBack (round_of quorum p.asked) (merge s.view v)) (merged v s))
-      (record (merged v s) { phase = Querying (counted p) }) P
+    (record (merged v s) { phase = Querying (counted p) }) P
     (λ _. more (StoringBack (round_of quorum p.asked) (merge s.view v)) (s.tag + 1)) (λ _. more (Querying (counted p)) s.tag)
 either_reply P quorum v (StoringBack p seen) s same more = same
 
@@ -190,7 +190,7 @@ message_share me quorum m s = each_message (λ t o. t.share ≡ s.share) me quor
     round_share me quorum [] t = refl
     round_share me quorum (a ∷ others) t =
         cond_both (is_writing a.command) (next_round (Storing (round_of quorum a)) (with_own_row me (with_written (a ∷ others) t)))
-          (next_round (Querying (round_of quorum a)) t)
+        (next_round (Querying (round_of quorum a)) t)
         (λ (u : Ops). u.share ≡ t.share) (λ _. refl) (λ _. refl)
 
 -- ---- an ask
@@ -223,7 +223,7 @@ pub ask_last : (me quorum : ℕ) (a : Asked) (s : Ops) → (is_idle s.phase ≡ 
     → mine_at_last (after_ask me quorum a s) ≡ written a.command (mine_at_last s)
 ask_last me quorum a s none =
     either_idle (λ t o. mine_at_last t ≡ written a.command (mine_at_last s)) (is_idle s.phase) (begin_round me quorum (a ∷ []) s)
-      (record s { line = s.line ++ a ∷ [] }) a
+    (record s { line = s.line ++ a ∷ [] }) a
     (λ idle. round_last me quorum (a ∷ []) s (alone a) ∙ ap (λ (l : List Asked). written_by l (written a.command s.mine)) (none idle)
     ∙ ap (λ (l : List Asked). written a.command (written_by l s.mine)) (sym (none idle)))
     (written_last s.line a s.mine)
@@ -266,7 +266,7 @@ reply_unanswered quorum v Idle s e = refl
 reply_unanswered quorum v (Storing p) s e = refl
 reply_unanswered quorum v (Querying p) s e =
     cond_both (is_last p) (next_round (StoringBack (round_of quorum p.asked) (merge s.view v)) (merged v s))
-      (record (merged v s) { phase = Querying (counted p) })
+    (record (merged v s) { phase = Querying (counted p) })
     (λ (t : Ops). unanswered t ≡ unanswered s) (λ _. same) (λ _. same)
   where
     same : (p.asked ∷ [] ++ s.others) ++ s.line ≡ unanswered s
@@ -300,8 +300,11 @@ message_answers me quorum (message.Leave q) s = inl (refl, refl)
 message_answers me quorum (message.LeaveEcho q) s = inl (refl, refl)
 message_answers me quorum (message.Query tag q) s = inl (refl, refl)
 message_answers me quorum (message.QueryReply v tag q) s =
-    inl (refl, cond_both (is_own me tag q s) (after_reply quorum v s.phase s) s (λ (t : Ops). unanswered t ≡ unanswered s)
-      (λ _. reply_unanswered quorum v s.phase s refl) (λ _. refl))
+    inl (
+      refl,
+      cond_both (is_own me tag q s) (after_reply quorum v s.phase s) s (λ (t : Ops). unanswered t ≡ unanswered s)
+          (λ _. reply_unanswered quorum v s.phase s refl) (λ _. refl),
+    )
 message_answers me quorum (message.Store v tag q) s = inl (refl, refl)
 message_answers me quorum (message.StoreAck tag q) s =
     elim (is_own me tag q s)
@@ -345,7 +348,7 @@ message_ends me quorum (message.Store v tag q) s = inl (refl, refl)
 message_ends me quorum (message.StoreAck tag q) s =
     elim (is_own me tag q s)
     as (λ b. EndsRound s (if b then replies_in s.view s.others s.phase else []) (if b then begun_in s.phase s else [])
-      (if b then after_ack me quorum s.phase s else s).line) [
+    (if b then after_ack me quorum s.phase s else s).line) [
       | true ↦ ack_ends me quorum s.phase s
       | false ↦ inl (refl, refl)
     ]

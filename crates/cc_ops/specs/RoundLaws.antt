@@ -46,11 +46,11 @@ either_has s kind (suc n) (a ∷ asks) =
     elim (is_of kind a)
     as (λ b. (nat_eq s a.session || has_session s asks)
     ≡ (has_session s (if b then a ∷ picked kind n asks else picked kind (suc n) asks) || has_session s
-      (if b then spared kind n asks else a ∷ spared kind (suc n) asks))) [
+    (if b then spared kind n asks else a ∷ spared kind (suc n) asks))) [
       | true ↦ ap (λ (h : Bool). nat_eq s a.session || h) (either_has s kind n asks) ∙ or_join (nat_eq s a.session) (has_session s (picked kind n asks))
-        (has_session s (spared kind n asks))
+          (has_session s (spared kind n asks))
       | false ↦ ap (λ (h : Bool). nat_eq s a.session || h) (either_has s kind (suc n) asks)
-        ∙ or_swap (nat_eq s a.session) (has_session s (picked kind (suc n) asks)) (has_session s (spared kind (suc n) asks))
+          ∙ or_swap (nat_eq s a.session) (has_session s (picked kind (suc n) asks)) (has_session s (spared kind (suc n) asks))
     ]
 
 pub has_both : (s : ℕ) (xs ys : List Asked) → has_session s (xs ++ ys) ≡ (has_session s xs || has_session s ys)
@@ -75,7 +75,7 @@ apart_between (x ∷ xs) ys a none h =
     let other : nat_eq x.session a.session ≡ false = same_tests a.session x.session parts.0 in
     let here = or_parts _ _ (sym (has_both x.session xs ys) ∙ h.0) in (
       has_both x.session xs (a ∷ ys) ∙ both_false (has_session x.session xs) (nat_eq x.session a.session || has_session x.session ys) here.0
-        (both_false (nat_eq x.session a.session) (has_session x.session ys) other here.1),
+          (both_false (nat_eq x.session a.session) (has_session x.session ys) other here.1),
       apart_between xs ys a parts.1 h.1,
     )
 
@@ -87,7 +87,7 @@ apart_still kind (suc n) (a ∷ asks) h =
     as (λ b. AreApart ((if b then a ∷ picked kind n asks else picked kind (suc n) asks) ++ (if b then spared kind n asks else a ∷ spared kind (suc n) asks))) [
       | true ↦ (has_still a.session kind n asks ∙ h.0, apart_still kind n asks h.1)
       | false ↦ apart_between (picked kind (suc n) asks) (spared kind (suc n) asks) a
-        (has_still a.session kind (suc n) asks ∙ h.0) (apart_still kind (suc n) asks h.1)
+          (has_still a.session kind (suc n) asks ∙ h.0) (apart_still kind (suc n) asks h.1)
     ]
 
 -- ---- order within a kind
@@ -228,7 +228,7 @@ count_still kind (suc n) [] = refl
 count_still kind (suc n) (a ∷ asks) =
     elim (is_of kind a)
     as (λ b. length (if b then a ∷ picked kind n asks else picked kind (suc n) asks) + length (if b then spared kind n asks else a ∷ spared kind (suc n)
-      asks) ≡ length (a ∷ asks)) [
+    asks) ≡ length (a ∷ asks)) [
       | true ↦ omega (arith, count_still kind n asks)
       | false ↦ omega (arith, count_still kind (suc n) asks)
     ]
@@ -278,9 +278,9 @@ spared_within kind (suc n) [] v q h = h
 spared_within kind (suc n) (a ∷ asks) v q h =
     elim (is_of kind a)
     as (λ b. IsTrue (contains (written_by (if b then spared kind n asks else a ∷ spared kind (suc n) asks) v).set q)
-      → IsTrue (contains (written_by asks (written a.command v)).set q)) [
+    → IsTrue (contains (written_by asks (written a.command v)).set q)) [
       | true ↦ λ there. spared_within kind n asks (written a.command v) q
-        (all_within (spared kind n asks) v (written a.command v) (written_within a.command v) q there)
+          (all_within (spared kind n asks) v (written a.command v) (written_within a.command v) q there)
       | false ↦ λ there. spared_within kind (suc n) asks (written a.command v) q there
     ] h
 
@@ -348,7 +348,7 @@ picked_alike kind zero asks = tt
 picked_alike kind (suc n) [] = tt
 picked_alike kind (suc n) (a ∷ asks) =
     elim (is_of kind a) as (λ b. is_of kind a ≡ b → AllByRecursion (λ b. is_writing b.command
-      ≡ kind) (if b then a ∷ picked kind n asks else picked kind (suc n) asks)) [
+    ≡ kind) (if b then a ∷ picked kind n asks else picked kind (suc n) asks)) [
       | true ↦ λ is. (of_its_kind kind a is, picked_alike kind n asks)
       | false ↦ λ _. picked_alike kind (suc n) asks
     ] refl
@@ -383,14 +383,14 @@ place_kept kind (suc m) (a ∷ asks) zero asked h =
     let none : 0 ≤ 0 = omega arith in
     elim (is_of kind a)
     as (λ b. IsKeptAt 0 asked (if b then a ∷ picked kind m asks else picked kind (suc m) asks)
-      (if b then spared kind m asks else a ∷ spared kind (suc m) asks)) [
+    (if b then spared kind m asks else a ∷ spared kind (suc m) asks)) [
       | true ↦ inl (0, h)
       | false ↦ inr (0, none, h)
     ]
 place_kept kind (suc m) (a ∷ asks) (suc n) asked h =
     elim (is_of kind a)
     as (λ b. IsKeptAt (suc n) asked (if b then a ∷ picked kind m asks else picked kind (suc m) asks)
-      (if b then spared kind m asks else a ∷ spared kind (suc m) asks)) [
+    (if b then spared kind m asks else a ∷ spared kind (suc m) asks)) [
       | true ↦ round_more n asked a (picked kind m asks) (spared kind m asks) (place_kept kind m asks n asked h)
       | false ↦ rest_more n asked a (picked kind (suc m) asks) (spared kind (suc m) asks) (place_kept kind (suc m) asks n asked h)
     ]

@@ -84,7 +84,7 @@ more_within command.SetFlag mine more h = h
 more_within command.ReadFlag mine more h = h
 more_within (command.AddMember x) mine more h =
     insert_within mine.set (set.insert more.set x) x tt (λ q there. within_insert more.set x tt q (h q there))
-      (contains-insert more.set x x ∙ or_left _ _ (eq-eqb x x refl))
+    (contains-insert more.set x x ∙ or_left _ _ (eq-eqb x x refl))
 more_within command.ReadSet mine more h = h
 
 pub written_within : (k : Command) (mine : Value) → IsWithin mine.set (written k mine).set

@@ -50,7 +50,7 @@ below_last low high k e a b t = omega arith
 pub len_between : {X : Type 0} (d low high : ℕ) (m : FinMap nat_cmp X) → high - low ≡ d → AllWithin low high m → HasAll low high m → table.len m ≡ d
 len_between zero low high m e within all =
     let none : table.len m ≤ table.len (table.empty {X = Unit {0}} {R = nat_cmp}) =
-      len_within m table.empty (λ q h. absurd (nothing low high q e (within q h))) in
+    len_within m table.empty (λ q h. absurd (nothing low high q e (within q h))) in
     let empty : table.len (table.empty {X = Unit {0}} {R = nat_cmp}) ≡ 0 = table.len-empty nat_cmp (Unit {0}) in
     omega arith
 len_between (suc d) low high m e within all =
@@ -87,7 +87,7 @@ pub keeps_add : (low : ℕ) (m : Message) (o : Outbox) → KeepsPosts low o.last
 keeps_add low m o h start room =
     make_posts low (o.last + 1) (table.insert o.posts (o.last + 1) m)
     (λ q k. elim (or_cases (nat_eq q (o.last + 1)) (table.contains_key o.posts q) (sym (contains-insert_key o.posts (o.last + 1) m q) ∙ k))
-      as (λ _. (low < q) × (q ≤ o.last + 1)) [
+    as (λ _. (low < q) × (q ≤ o.last + 1)) [
       | inl e ↦ let same : q ≡ o.last + 1 = eqb-true q (o.last + 1) e in (omega arith, omega arith)
       | inr e ↦ let old = h.within q e in (old.0, omega (arith, old.1))
     ])

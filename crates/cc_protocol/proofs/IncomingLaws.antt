@@ -37,8 +37,8 @@ first_gives held part = ap (λ b. cond b (Ok (record { used = length held; frame
 -- what is left of a piece behind a front of it
 rest_is_nothing : (held front rest piece : List ℕ) → front ++ rest ≡ piece → held ++ front ≡ held ++ piece → rest ≡ []
 rest_is_nothing held front [] piece whole same = refl
-rest_is_nothing held front (x ∷ rest) piece whole same = absurd (omega (arith, ap length whole, ap length same, length-append held front,
-    length-append held piece, length-append front (x ∷ rest)))
+rest_is_nothing held front (x ∷ rest) piece whole same = absurd (omega
+    (arith, ap length whole, ap length same, length-append held front, length-append held piece, length-append front (x ∷ rest)))
 
 module _ (held piece : List ℕ) (part : is_partial held ≡ true) (old : AllByRecursion (λ b. b < 256) held) (new : AllByRecursion (λ b. b < 256) piece) where
   feeds_are : (r : Result Fed WireFault) → Gives (λ x. x) r (fed (Some held) piece) → AreFeeds at_start (first_feed held ∷ (piece, r) ∷ [])
@@ -71,7 +71,7 @@ module _ (held piece : List ℕ) (part : is_partial held ≡ true) (old : AllByR
       → Next (held ++ (piece ++ rest)) frame (Some (drop used piece ++ rest))
   one_frame used frame rest reads =
       let text : take (length held) held ++ take used piece ≡ frame_spelling frame =
-        reads.spelled ∙ append-nil (flat_map frame_spelling (frame ∷ [])) ∙ flat_map-cons frame_spelling frame [] ∙ append-nil (frame_spelling frame) in
+      reads.spelled ∙ append-nil (flat_map frame_spelling (frame ∷ [])) ∙ flat_map-cons frame_spelling frame [] ∙ append-nil (frame_spelling frame) in
       (reads.lawful.0, drop used piece ++ rest, refl, parts used rest ∙ ap (λ t. t ++ (drop used piece ++ rest)) text)
 
   passes : (given : Fed) (rest : List ℕ) → fed (Some held) piece ≡ Ok given
@@ -90,7 +90,7 @@ module _ (held piece : List ℕ) (part : is_partial held ≡ true) (old : AllByR
   begins_again given gives = by_frame given.frame (on_given given gives)
     where
       by_frame : (frame : Option Frame) → Reads (take (length held) held ++ take given.used piece) (frames_of frame) (rest_after held piece frame)
-        → Begins (Some (rest_after held piece frame))
+          → Begins (Some (rest_after held piece frame))
       by_frame None reads = (reads.partial, together held piece old new)
       by_frame (Some frame) reads = (reads.partial, tt)
 

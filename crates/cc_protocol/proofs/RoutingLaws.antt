@@ -31,7 +31,7 @@ module _ {X : Type 0} where
   each_if P false x ys h each = each
 
   pub each_filter : (P Q : X → Type 0) (p : X → Bool) → ((x : X) → P x → p x ≡ true → Q x) → (xs : List X) → AllByRecursion P xs
-    → AllByRecursion Q (filter p xs)
+      → AllByRecursion Q (filter p xs)
   each_filter P Q p to [] each = tt
   each_filter P Q p to (x ∷ xs) each = each_if Q (p x) x (filter p xs) (λ passes. to x each.0 passes) (each_filter P Q p to xs each.1)
 
@@ -81,7 +81,7 @@ table connections spare routes issued asked = record { connections = connections
 module _ (connections spare : List ℕ) (routes : List Route) (issued asked room spare_room route_room : ℕ)
     (is : IsRouting (table connections spare routes issued asked) room spare_room route_room) where
   pub connection_kept : (ticket more : ℕ) → length connections < connection_limit → room ≤ more
-    → IsRouting (table (connections ++ ticket ∷ []) spare routes ticket asked) more spare_room route_room
+      → IsRouting (table (connections ++ ticket ∷ []) spare routes ticket asked) more spare_room route_room
   connection_kept ticket more below le = record {
     connections_fit = omega (arith, length-append connections (ticket ∷ []), below);
     connection_room = omega (arith, is.connection_room, le);
@@ -94,12 +94,12 @@ module _ (connections spare : List ℕ) (routes : List Route) (issued asked room
   }
     where
       all_open : (rs : List Route) → AllByRecursion (λ (r : Route). IsTrue (is_open r.ticket connections)) rs
-        → AllByRecursion (λ (r : Route). IsTrue (is_open r.ticket (connections ++ ticket ∷ []))) rs
+          → AllByRecursion (λ (r : Route). IsTrue (is_open r.ticket (connections ++ ticket ∷ []))) rs
       all_open [] h = tt
       all_open (r ∷ rs) h = (open_push r.ticket connections (ticket ∷ []) h.0, all_open rs h.1)
 
   pub routed_kept : (session request ticket place more : ℕ) → is_open ticket connections ≡ true → length routes < route_limit → place ≡ asked + 1
-    → route_room ≤ more
+      → route_room ≤ more
       → IsRouting (table connections spare (record { session = session; request = request; ticket = ticket; place = place } ∷ routes) issued place) room
       spare_room more
   routed_kept session request ticket place more open' below next le = record {
@@ -109,8 +109,11 @@ module _ (connections spare : List ℕ) (routes : List Route) (issued asked room
     spare_room = is.spare_room;
     routes_fit = omega (arith, below);
     route_room = omega (arith, is.route_room, le);
-    placed = (omega arith, each_more (λ (r : Route). r.place ≤ asked) (λ (r : Route). r.place ≤ place) (λ (r : Route) h. omega (arith, h, next))
-      routes is.placed);
+    placed = (
+      omega arith,
+      each_more (λ (r : Route). r.place ≤ asked) (λ (r : Route). r.place ≤ place) (λ (r : Route) h. omega (arith, h, next))
+          routes is.placed,
+    );
     lead = (open', is.lead);
   }
 
@@ -225,7 +228,7 @@ pub connection_closed : (session request ticket : ℕ) (g : Routing) → connect
 connection_closed session request ticket g =
     let P : ℕ → Type 0 = λ n. (n == ticket) ≡ false in
     let each = each_filter (λ r. Unit {0}) (λ (r : Route). P r.ticket) (λ (r : Route). not (r.ticket == ticket))
-      (λ (r : Route) h passes. not_true _ passes) g.routes (any g.routes) in
+    (λ (r : Route) h passes. not_true _ passes) g.routes (any g.routes) in
     not_that ticket _ (each_connection P session request _ each)
   where
     any : (rs : List Route) → AllByRecursion (λ r. Unit {0}) rs

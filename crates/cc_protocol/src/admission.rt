@@ -91,5 +91,5 @@ pub fn is_furthest_behind(core: &Core, least: u64, peer: NodeId) -> bool
 /// a node.
 pub fn what_needs_no_room_makes_no_post()
     ensures { (c : Core) (from number : ℕ) (m : Message) → may_stir c.me m ≡ false → machine.made c (event.Deliver from number m)
-      ≡ record { ack = machine.ack (event.Deliver from number m); post = None; answers = [] } }
+        ≡ record { ack = machine.ack (event.Deliver from number m); post = None; answers = [] } }
 {}

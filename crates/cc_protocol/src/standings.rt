@@ -243,5 +243,5 @@ fn lapsed(row: PeerStanding, posts: u64) -> PeerStanding
 /// and no acknowledgement of its own was accepted since.
 pub fn lapses_are_of_absent_peers()
     ensures { (rows : Table) (peer reach posts : ℕ) (is_tick : Bool) → lapses peer reach posts is_tick rows ≡ true → (row_of peer rows).standing
-      ≡ stands.Absent }
+        ≡ stands.Absent }
 {}

@@ -18,7 +18,7 @@ unasked (Some bytes) frame after next none = (frame, after, next, none)
 
 module _ (fails turns : Type 0) (answers : Event → Answer → Type 0) where
   stopped : (due : Option Event) (ahead : Option (List ℕ)) (why : Done) → Stops fails turns due ahead why
-    → IfSome ahead (λ bytes. Stops fails turns due (Some bytes) why)
+      → IfSome ahead (λ bytes. Stops fails turns due (Some bytes) why)
   stopped due None why stops = tt
   stopped due (Some bytes) why stops = stops
 
@@ -55,7 +55,7 @@ module _ (fails turns : Type 0) (answers : Event → Answer → Type 0) where
         let g = spoke.3 in
         let h = spoke.5 in
         let more : More why (worker w).due (worker u).ahead rest = subst (λ (x : Option (List ℕ)). More why (worker w).due x rest) h.0
-          (brings_then w rest t end spoke.6 last) in
+        (brings_then w rest t end spoke.6 last) in
         one_more why (worker s).due (worker s).ahead (worker u).ahead e answer rest g spoke.4
         (subst (λ (d : Option Event). More why d (worker u).ahead rest) h.1 more)
 

@@ -46,9 +46,9 @@ front_more bytes generation node body events front spelled lawful = record {
   head_spelled = front.head_spelled;
   records_spelled = records_push front.records front.batches body events front.records_spelled spelled;
   lawful = subst (λ (l : List Event). IsLawful front.start l) (sym (events_push front.batches events))
-    (IsLawful-append front.start (events_of front.batches) events front.lawful (subst (λ (n : Node). IsLawful n events) front.leads_to lawful));
+      (IsLawful-append front.start (events_of front.batches) events front.lawful (subst (λ (n : Node). IsLawful n events) front.leads_to lawful));
   leads_to = ap (λ (n : Node). after n events) front.leads_to ∙ sym (after-append front.start (events_of front.batches) events)
-    ∙ ap (λ (l : List Event). after front.start l) (sym (events_push front.batches events));
+      ∙ ap (λ (l : List Event). after front.start l) (sym (events_push front.batches events));
 }
 
 module _ (bytes : List ℕ) (generation : ℕ) (node : Node) (place : ℕ) (holds : Holds bytes generation node place) where
@@ -72,7 +72,7 @@ module _ (bytes : List ℕ) (generation : ℕ) (node : Node) (place : ℕ) (hold
     gate = holds.gate;
     rest = drop (place + 1) c;
     parts = sym (take-append-drop (place + 1) c) ∙ ap (λ (l : List ℕ). l ++ drop (place + 1) c) (same ∙ holds_to)
-      ∙ append_assoc holds.front (holds.gate ∷ []) (drop (place + 1) c);
+        ∙ append_assoc holds.front (holds.gate ∷ []) (drop (place + 1) c);
     closed = holds.closed;
     at_place = holds.at_place;
     is_front = holds.is_front;
@@ -105,11 +105,11 @@ module _ (bytes : List ℕ) (generation : ℕ) (node : Node) (place : ℕ) (hold
     rest = standing.rest;
     parts = regated OPEN
         ∙ ap (λ (l : List ℕ). holds.front ++ OPEN ∷ l) (sym behind ∙ standing.parts ∙ ap (λ (l : List ℕ). l ++ standing.rest) batch.parts
-          ∙ append_assoc batch.record_bytes (batch.gate ∷ []) standing.rest)
+        ∙ append_assoc batch.record_bytes (batch.gate ∷ []) standing.rest)
         ∙ sym (append_assoc holds.front (OPEN ∷ batch.record_bytes) (batch.gate ∷ standing.rest));
     closed = batch.closed;
-    at_place = length-append holds.front (OPEN ∷ batch.record_bytes) ∙ omega (arith, holds.at_place, ap length batch.parts,
-      length-append batch.record_bytes (batch.gate ∷ []));
+    at_place = length-append holds.front (OPEN ∷ batch.record_bytes) ∙ omega
+        (arith, holds.at_place, ap length batch.parts, length-append batch.record_bytes (batch.gate ∷ []));
     is_front = front_more holds.front generation node batch.record_bytes events holds.is_front batch.spelled lawful;
   }
 
@@ -117,7 +117,7 @@ module _ (bytes : List ℕ) (generation : ℕ) (node : Node) (place : ℕ) (hold
 pub one_byte : (bytes c : List ℕ) (place : ℕ) → set c place (slice_index bytes place) ≡ bytes → c ≡ set bytes place (slice_index c place)
 one_byte bytes c place same =
     sym (set-get_or c place 0) ∙ sym (set-set c place (slice_index bytes place) (slice_index c place))
-      ∙ ap (λ (l : List ℕ). set l place (slice_index c place)) same
+    ∙ ap (λ (l : List ℕ). set l place (slice_index c place)) same
 
 -- the generation of a side that holds a node
 pub generation_held : (bytes : List ℕ) (generation : ℕ) (node : Node) (place : ℕ) → Holds bytes generation node place
@@ -131,7 +131,7 @@ generation_held bytes generation node place holds =
     holds.parts
     ∙ ap (λ (l : List ℕ). l ++ holds.gate ∷ holds.rest) (front.parts ∙ ap (λ (l : List ℕ). l ++ front.records) head.parts)
     ∙ ap (λ (l : List ℕ). OPEN ∷ l) (append_assoc (number ++ tail) front.records (holds.gate ∷ holds.rest)
-      ∙ append_assoc number tail (front.records ++ holds.gate ∷ holds.rest)) in
+    ∙ append_assoc number tail (front.records ++ holds.gate ∷ holds.rest)) in
     let eight : length number ≡ 8 = refl in (
       omega (arith, ap length all, length-append number (tail ++ (front.records ++ holds.gate ∷ holds.rest)), eight),
       head.from_one,

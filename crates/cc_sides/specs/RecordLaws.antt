@@ -67,7 +67,7 @@ one_front n (x ∷ xs) (y ∷ ys) a b u w p q lawful-x lawful-y ends-u ends-w e 
     let first = one_record p.0 q.0 (p.1 ++ u) (q.1 ++ w) x y p.3 q.3 behind in
     let rest : p.1 ++ u ≡ q.1 ++ w = behind_front p.0 q.0 (p.1 ++ u) (q.1 ++ w) first.1 behind in
     let after-y : (l : List Event) → after n (y ++ l) ≡ after (after n x) l = λ l. after-append n y l ∙ ap (λ (z : List Event). after (after n z) l)
-      (sym first.0) in
+    (sym first.0) in
     let others = one_front (after n x) xs ys p.1 q.1 u w p.4 q.4
     (lawful_parts n x (events_of xs) lawful-x).1
     (subst (λ (z : List Event). IsLawful (after n z) (events_of ys)) (sym first.0) (lawful_parts n y (events_of ys) lawful-y).1)

@@ -193,7 +193,11 @@ fn print_counts<W: fmt::Write>(f: &mut fmt::Formatter<W>, status: &Status) -> fm
 }
 
 fn print_named<W: fmt::Write>(f: &mut fmt::Formatter<W>, counts: &Counts) -> fmt::Result {
-    let refusals = ("refusals_total", "refusal", "Events refused since the start.");
+    let refusals = (
+        "refusals_total",
+        "refusal",
+        "Events refused since the start.",
+    );
     let asks = ("asks_total", "command", "Asks accepted since the start.");
     print_by_name(f, refusals, &counts.refusals)?;
     print_by_name(f, asks, &counts.asks)

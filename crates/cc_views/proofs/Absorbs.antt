@@ -59,7 +59,7 @@ find-absorbed_all (row ∷ rows) es q h =
       | Equal ↦ λ is e.
           let same : q ≡ row.node = ranked q row.node Equal is in
           let none : find nat_cmp q (entries_of rows) ≡ None = subst (λ (k : ℕ). find nat_cmp k (entries_of rows) ≡ None) (sym same)
-            (find_below row.node (entries_of rows) (and_left _ _ h)) in
+          (find_below row.node (entries_of rows) (and_left _ _ h)) in
           rest ∙ ap (λ x. merged x (find nat_cmp q (entries_of rows))) e ∙ ap (merged (Some (newest (find nat_cmp row.node es) y))) none
           ∙ ap (λ (k : ℕ). Some (newest (find nat_cmp k es) y)) (sym same) ∙ sym (merged-newest (find nat_cmp q es) y)
       | Greater ↦ λ _ e. rest ∙ ap (λ x. merged x (find nat_cmp q (entries_of rows))) e
@@ -84,7 +84,7 @@ pub step : (es : List (ℕ × Pair)) (rows : List Row) (i : ℕ) (row : Row) (to
     → absorbed_all es (drop i rows) ≡ total → absorbed_all (absorbed es row) (drop (i + 1) rows) ≡ total
 step es rows i row total lt is so_far =
     let front : drop i rows ≡ row ∷ drop (i + 1) rows = drop-cons rows i row lt ∙ ap (λ (r : Row). r ∷ drop (suc i) rows)
-      (sym is) ∙ ap (λ (n : ℕ). row ∷ drop n rows) (sym (add-one i)) in
+    (sym is) ∙ ap (λ (n : ℕ). row ∷ drop n rows) (sym (add-one i)) in
     sym (ap (absorbed_all es) front) ∙ so_far
 
 pub step_fits : (es : List (ℕ × Pair)) (rows : List Row) (row : Row) (i : ℕ) (total : List (ℕ × Pair)) → is_sorted nat_cmp es ≡ true → i < length rows

@@ -29,7 +29,7 @@ kept_by_rows (row ∷ rows) w e q =
     elim (nat_cmp q row.node) as (λ r. r ≡ nat_cmp q row.node → IsKept (cond (is_eq r) (Some pair) (find nat_cmp q (entries_of rows))) (map.get w q)) [
       | Less ↦ λ _. kept_by_rows rows w (and_right _ _ e) q
       | Equal ↦ λ is. subst (λ (k : ℕ). IsKept (Some pair) (map.get w k)) (sym (ranked q row.node Equal is))
-        (kept_by_test pair (map.get w row.node) (and_left _ _ e))
+          (kept_by_test pair (map.get w row.node) (and_left _ _ e))
       | Greater ↦ λ _. kept_by_rows rows w (and_right _ _ e) q
     ] refl
 
@@ -40,7 +40,7 @@ kept_of_more row rows w rising q =
     let pair : Pair = (row.number, row.value) in
     let es = entries_of rows in
     elim (nat_cmp q row.node) as (λ r. r ≡ nat_cmp q row.node → IsKept (cond (is_eq r) (Some pair) (find nat_cmp q es)) (map.get w q)
-      → IsKept (find nat_cmp q es) (map.get w q)) [
+    → IsKept (find nat_cmp q es) (map.get w q)) [
       | Less ↦ λ _ h. h
       | Equal ↦ λ is _.
           let none : find nat_cmp q es ≡ None = ap (λ (k : ℕ). find nat_cmp k es) (ranked q row.node Equal is) ∙ find_below row.node es (and_left _ _ rising) in

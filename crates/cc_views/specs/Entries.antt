@@ -76,7 +76,7 @@ module _ {X : Type 0} where
 
   -- to write over the entry of a key is to put it
   pub put_at : (es : List (ℕ × X)) (i k : ℕ) (v : X) (d : ℕ × X) → is_sorted nat_cmp es ≡ true → i < length es → (get_or es i d).0 ≡ k
-    → set es i (k, v) ≡ put nat_cmp k v es
+      → set es i (k, v) ≡ put nat_cmp k v es
   put_at [] i k v d h lt is = absurd (omega arith)
   put_at (e ∷ es) zero k v d h lt is =
       let c : nat_cmp k e.0 ≡ Equal = cmp_eq k e.0 (sym is) in
@@ -98,11 +98,11 @@ module _ {X : Type 0} where
   put_gap (e ∷ es) (suc i) k v d le below above =
       let c : nat_cmp k e.0 ≡ Greater = cmp_gt k e.0 (below 0 (omega arith)) in
       rw c (ap (λ (t : List (ℕ × X)). e ∷ t) (put_gap es i k v d (omega arith) (λ j lt. below (suc j) (omega arith))
-        (λ j lo hi. above (suc j) (omega arith) (omega arith))))
+      (λ j lo hi. above (suc j) (omega arith) (omega arith))))
 
   -- the key at a place is found there
   pub find_at : (es : List (ℕ × X)) (i k : ℕ) (d : ℕ × X) → is_sorted nat_cmp es ≡ true → i < length es → (get_or es i d).0 ≡ k
-    → find nat_cmp k es ≡ Some (get_or es i d).1
+      → find nat_cmp k es ≡ Some (get_or es i d).1
   find_at [] i k d h lt is = absurd (omega arith)
   find_at (e ∷ es) zero k d h lt is = rw (cmp_eq k e.0 (sym is)) refl
   find_at (e ∷ es) (suc i) k d h lt is =
@@ -111,7 +111,7 @@ module _ {X : Type 0} where
 
   -- a key that differs from each is not found
   pub find_none : (es : List (ℕ × X)) (k : ℕ) (d : ℕ × X) → ((j : ℕ) → j < length es → ((get_or es j d).0 < k) ⊎ (k < (get_or es j d).0))
-    → find nat_cmp k es ≡ None
+      → find nat_cmp k es ≡ None
   find_none [] k d apart = refl
   find_none (e ∷ es) k d apart =
       let rest = find_none es k d (λ j lt. apart (suc j) (omega arith)) in
@@ -135,4 +135,4 @@ module _ {X : Type 0} where
   entries_back [] h = nil_from_length _ (sym (map.len-entries (map.empty {X = X} {R = nat_cmp})) ∙ map.len-empty nat_cmp X)
   entries_back (e ∷ es) h =
       map.entries-insert nat_cmp_total (map.from_entries es) e.0 e.1 ∙ ap (put nat_cmp e.0 e.1) (entries_back es (and_right _ _ h))
-        ∙ put_below e.0 e.1 es (and_left _ _ h)
+      ∙ put_below e.0 e.1 es (and_left _ _ h)

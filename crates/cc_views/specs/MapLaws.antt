@@ -89,7 +89,7 @@ pub all_values : {X : Type 0} (P : ℕ → Type 0) (f : X → ℕ) (m : FinMap n
     → AllByRecursion P (map f (table.values m))
 all_values P f m h =
     mapped P f (table.entries m) (all_entries (λ q x. P (f x)) (table.entries m) (table.entries_sorted m)
-      (λ q. subst (λ o. IfSome o (λ x. P (f x))) (table.get-entries m q) (h q)))
+    (λ q. subst (λ o. IfSome o (λ x. P (f x))) (table.get-entries m q) (h q)))
 
 pub each_value : {X : Type 0} (P : ℕ → Type 0) (f : X → ℕ) (m : FinMap nat_cmp X) → AllByRecursion P (map f (table.values m)) → (q : ℕ)
     → IfSome (table.get m q) (λ x. P (f x))

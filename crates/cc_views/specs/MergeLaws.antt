@@ -184,8 +184,14 @@ unfolding merge
 merge_is_no_larger v w =
     let pair : ℕ × Pair → ℕ × Pair = λ e. (e.0, newer_or_left e.1 (map.get w e.0)) in
     let left : List (ℕ × Pair) = list_map pair (map.entries v) in
-    omega (arith, len-from_entries (left ++ map.entries w), length-append left (map.entries w), length-map (map.entries v) pair, map.len-entries v,
-      map.len-entries w)
+    omega (
+      arith,
+      len-from_entries (left ++ map.entries w),
+      length-append left (map.entries w),
+      length-map (map.entries v) pair,
+      map.len-entries v,
+      map.len-entries w,
+    )
 
 -- one row adds at most one node
 pub merge_row_is_no_larger : (v : ViewMap) (row : Row) → map.len (merge v (single row)) ≤ map.len v + 1

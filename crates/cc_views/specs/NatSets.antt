@@ -214,7 +214,7 @@ within_list (e ∷ es) n sorted h =
     let first : table.contains_key n e.0 ≡ true = h e.0 (found_first e es) in
     let rest : length es ≤ table.len (table.remove n e.0) = within_list es (table.remove n e.0) (lt_both _ _ sorted).1
     (λ q k. contains-remove n e.0 q ∙ and_true _ _ (h q (found_later (eq_by_cmp nat_cmp q e.0) e.1 (find nat_cmp q es) k))
-      (apart e.0 q es (lt_both _ _ sorted).0 k)) in
+    (apart e.0 q es (lt_both _ _ sorted).0 k)) in
     let more : length es + 1 ≤ table.len n = one_less_room (length es) (table.len n) (table.contains_key n e.0) first (len_positive n e.0 first)
     (subst (λ k. length es ≤ k) (table.len-remove nat_cmp_total n e.0) rest) in
     one_longer (length es) (table.len n) more

@@ -63,7 +63,7 @@ from_entries-put : {X : Type 0} (k : ℕ) (v : X) (es : List (ℕ × X)) → fin
 from_entries-put k v es = finite.same_map nat_cmp_total nat_cmp-IsAntisymmetric _ _ (λ q.
     finite.get-from_entries nat_cmp_total (put nat_cmp k v es) q ∙ find-put nat_cmp nat_cmp_total q k v es
     ∙ sym (finite.get-insert nat_cmp_total (finite.from_entries es) k v q ∙ ap (λ o. cond (eq_by_cmp nat_cmp q k) (Some v) o)
-      (finite.get-from_entries nat_cmp_total es q)))
+    (finite.get-from_entries nat_cmp_total es q)))
 
 module _ {Row X : Type 0} (entry : Row → ℕ × X) (rows : List Row) where
   entry_at : (i : ℕ) (d : Row) → get_or (map entry rows) i (entry d) ≡ entry (get_or rows i d)
@@ -102,7 +102,7 @@ module _ {Row X : Type 0} (entry : Row → ℕ × X) (rows : List Row) where
 
     pub rising-set : (row : Row) → (entry row).0 ≡ key → IsRising entry (set rows i row)
     rising-set row is = ap (is_sorted nat_cmp) (put_set row is) ∙ from_T _
-      (is_sorted-put nat_cmp nat_cmp_total key (entry row).1 (map entry rows) (to_T _ rising))
+        (is_sorted-put nat_cmp nat_cmp_total key (entry row).1 (map entry rows) (to_T _ rising))
 
   -- a row goes into the gap for its key
   module _ (key i : ℕ) (gap : IsGapFor entry rows key i) where
@@ -142,7 +142,7 @@ module _ {Row X : Type 0} (entry : Row → ℕ × X) (rows : List Row) where
 
     pub rising-insert : (row : Row) → (entry row).0 ≡ key → IsRising entry rows → IsRising entry (insert rows i row)
     rising-insert row is rising = ap (is_sorted nat_cmp) (put_insert row is)
-      ∙ from_T _ (is_sorted-put nat_cmp nat_cmp_total key (entry row).1 (map entry rows) (to_T _ rising))
+        ∙ from_T _ (is_sorted-put nat_cmp nat_cmp_total key (entry row).1 (map entry rows) (to_T _ rising))
 
     -- so that there is one more
     pub len-insert_gap : (v : X) → IsRising entry rows → finite.len (finite.insert (table_of entry rows) key v) ≡ length rows + 1
@@ -162,7 +162,7 @@ module _ {Row X : Type 0} (entry : Row → ℕ × X) (rows : List Row) (rising :
       grind (arith, nat_tests)
 
   pub searched : (r : Result ℕ ℕ) → IsSearchInRange r (length rows) → IsBinarySearchResult (λ (row : Row). nat_cmp (entry row).0 key) rows r
-    → IsPlaceOf entry rows key r
+      → IsPlaceOf entry rows key r
   searched (Ok i) in_range equal = record { in_range = in_range; has_key = λ d. ranked _ key _ (sym (equal d)) }
   searched (Err i) in_range parted = record {
     in_range = in_range;
@@ -191,7 +191,7 @@ module _ {X : Type 0} where
   all_others k (e ∷ es) h = rw (cmp_lt k e.0 (lt_from_cmp k e.0 (and_left _ _ h))) (ap (λ (t : List (ℕ × X)). e ∷ t) (all_others k es (and_right _ _ h)))
 
   remove_other : (es : List (ℕ × X)) (i k : ℕ) (d : ℕ × X) → is_sorted nat_cmp es ≡ true → i < length es → (get_or es i d).0 ≡ k
-    → remove es i ≡ where_key nat_cmp (other_than k) es
+      → remove es i ≡ where_key nat_cmp (other_than k) es
   remove_other [] i k d h lt is = absurd (omega arith)
   remove_other (e ∷ es) zero k d h lt is =
       rw (cmp_eq k e.0 (sym is)) (subst (λ (q : ℕ). es ≡ where_key nat_cmp (other_than q) es) is (all_others e.0 es (and_left _ _ h)))
@@ -200,13 +200,13 @@ module _ {X : Type 0} where
       rw (cmp_gt k e.0 (subst (λ (q : ℕ). e.0 < q) is later)) (ap (λ (t : List (ℕ × X)). e ∷ t) (remove_other es i k d (and_right _ _ h) (omega arith) is))
 
   from_entries-other : (k : ℕ) (es : List (ℕ × X)) → finite.from_entries {R = nat_cmp} (where_key nat_cmp (other_than k) es)
-    ≡ finite.remove (finite.from_entries es) k
+      ≡ finite.remove (finite.from_entries es) k
   from_entries-other k es = finite.same_map nat_cmp_total nat_cmp-IsAntisymmetric _ _ (λ q.
       finite.get-from_entries nat_cmp_total (where_key nat_cmp (other_than k) es) q
       ∙ find-where_key nat_cmp (other_than k) q (λ x tied. ap (other_than k) (sym (nat_cmp-IsAntisymmetric q x tied))) es
       ∙ turned (eq_by_cmp nat_cmp k q) _ _ ∙ ap (λ (b : Bool). cond b None (find nat_cmp q es)) ((eq_by_cmp_equiv nat_cmp_total).symm k q)
       ∙ sym (finite.get-remove nat_cmp_total (finite.from_entries es) k q ∙ ap (λ o. cond (eq_by_cmp nat_cmp q k) None o)
-        (finite.get-from_entries nat_cmp_total es q)))
+      (finite.get-from_entries nat_cmp_total es q)))
 
 module _ {Row X : Type 0} (entry : Row → ℕ × X) (rows : List Row) (rising : IsRising entry rows) (key i : ℕ) (at : IsAt entry rows key i) where
   map_remove : (rs : List Row) (j : ℕ) → map entry (remove rs j) ≡ remove (map entry rs) j
@@ -217,7 +217,7 @@ module _ {Row X : Type 0} (entry : Row → ℕ × X) (rows : List Row) (rising :
 
   others : (d : Row) → map entry (remove rows i) ≡ where_key nat_cmp (other_than key) (map entry rows)
   others d = map_remove rows i ∙ remove_other (map entry rows) i key (entry d) rising (in_entries entry rows rising key i at)
-    (key_at entry rows rising key i at d)
+      (key_at entry rows rising key i at d)
 
   pub table_of-remove : (d : Row) → table_of entry (remove rows i) ≡ finite.remove (table_of entry rows) key
   table_of-remove d = ap (λ (es : List (ℕ × X)). finite.from_entries es) (others d) ∙ from_entries-other key (map entry rows)
@@ -232,7 +232,7 @@ module _ {Row X : Type 0} (entry : Row → ℕ × X) where
   IsAboveAll row rows = AllByRecursion (λ r. (entry r).0 < (entry row).0) rows
 
   below_push : (k : ℕ) (rows : List Row) (row : Row) → below_all nat_cmp k (map entry rows) ≡ true → k < (entry row).0
-    → below_all nat_cmp k (map entry (rows ++ row ∷ [])) ≡ true
+      → below_all nat_cmp k (map entry (rows ++ row ∷ [])) ≡ true
   below_push k [] row below lt = and_from _ _ (ap is_lt (cmp_lt k (entry row).0 lt)) refl
   below_push k (r ∷ rows) row below lt = and_from _ _ (and_left _ _ below) (below_push k rows row (and_right _ _ below) lt)
 
@@ -246,13 +246,13 @@ module _ {Row X : Type 0} (entry : Row → ℕ × X) where
   find_above (r ∷ rows) row above = rw (cmp_gt (entry row).0 (entry r).0 above.0) (find_above rows row above.1)
 
   pub table_of-push : (rows : List Row) (row : Row) → IsAboveAll row rows → table_of entry (rows ++ row ∷ []) ≡ finite.insert (table_of entry rows)
-    (entry row).0 (entry row).1
+      (entry row).0 (entry row).1
   table_of-push rows row above =
       ap (λ (es : List (ℕ × X)). finite.from_entries es) (map_push entry rows row)
       ∙ finite.from_entries_push nat_cmp_total nat_cmp-IsAntisymmetric (map entry rows) (entry row).0 (entry row).1 (find_above rows row above)
 
   pub push_table : (limit : ℕ) (rows : List Row) (capacity : ℕ) → IsTable entry limit rows capacity → (row : Row) → IsAboveAll row rows
-    → length rows < limit → (more : ℕ) → capacity ≤ more
+      → length rows < limit → (more : ℕ) → capacity ≤ more
       → IsTable entry limit (rows ++ row ∷ []) more
   push_table limit rows capacity is row above lt more le = record {
     rising = rising-push rows row is.rising above;
@@ -278,12 +278,12 @@ module _ {Row X : Type 0} (entry : Row → ℕ × X) where
 
   -- the map has the rows that it is made of
   pub rows-table_of : (row_of : ℕ × X → Row) → ((row : Row) → row_of (entry row) ≡ row) → (rows : List Row) → IsRising entry rows
-    → map row_of (finite.entries (table_of entry rows)) ≡ rows
+      → map row_of (finite.entries (table_of entry rows)) ≡ rows
   rows-table_of row_of back rows rising = ap (map row_of) (entries-table_of entry rows rising) ∙ rows_again row_of back rows
 
   -- the entries whose keys pass a test
   pub entries-retain : (rows : List Row) (p : ℕ → Bool) → IsRising entry rows → finite.entries (finite.retain_keys (table_of entry rows) p)
-    ≡ where_key nat_cmp p (map entry rows)
+      ≡ where_key nat_cmp p (map entry rows)
   entries-retain rows p rising =
       ap finite.entries (retain-from_entries p (map entry rows))
       ∙ entries_back (where_key nat_cmp p (map entry rows)) (from_T _ (is_sorted-where_key nat_cmp p (map entry rows) (to_T _ rising)))
@@ -310,7 +310,7 @@ module _ {Row X : Type 0} (entry : Row → ℕ × X) (limit : ℕ) (rows : List 
   }
 
   pub insert_table : IsGapFor entry rows key i → (row : Row) → (entry row).0 ≡ key → finite.len (finite.insert (table_of entry rows) key (entry row).1)
-    ≤ limit → (more : ℕ) → capacity ≤ more → IsTable entry limit (insert rows i row) more
+      ≤ limit → (more : ℕ) → capacity ≤ more → IsTable entry limit (insert rows i row) more
   insert_table gap row of fits more le = record {
     rising = rising-insert entry rows key i gap row of is.rising;
     fits = omega (arith, length-insert rows i row gap.in_range, len-insert_gap entry rows key i gap (entry row).1 is.rising, fits);

@@ -59,8 +59,13 @@ wide32 = record {
 pub wide64 : IsWide w64 (2 ^ 64)
 wide64 = record {
   len = λ n. refl;
-  fit = λ n. bytes_of_all (to_be_bytes w64 n) (omega arith, (omega arith,
-    (omega arith, (omega arith, (omega arith, (omega arith, (omega arith, (omega arith, tt))))))));
+  fit = λ n. bytes_of_all (to_be_bytes w64 n) (
+    omega arith,
+    (
+      omega arith,
+      (omega arith, (omega arith, (omega arith, (omega arith, (omega arith, (omega arith, tt)))))),
+    ),
+  );
   back = λ bytes len fits. be_bytes_8 bytes _ len fits refl;
   again = λ n lt. from_be_bytes-to_be_bytes_8 n lt;
   below = λ bytes len fits. omega (arith, fits 0, fits 1, fits 2, fits 3, fits 4, fits 5, fits 6, fits 7);
@@ -247,14 +252,14 @@ pub view_spelled : Spelled view_at IsView view_spelling
 unfolding view_at
 view_spelled = record {
   takes = λ bytes v rest fits e. let t = as_list.takes bytes v rest fits e in
-    (subst (λ (n : ℕ). Takes bytes (to_be_bytes w16 n ++ flat_map row_spelling (rows_of v)) rest) (len-rows_of v) t.0, lawful v t.1);
+      (subst (λ (n : ℕ). Takes bytes (to_be_bytes w16 n ++ flat_map row_spelling (rows_of v)) rest) (len-rows_of v) t.0, lawful v t.1);
   again = λ v rest is. ap (λ (n : ℕ). view_at ((to_be_bytes w16 n ++ flat_map row_spelling (rows_of v)) ++ rest)) (sym (len-rows_of v))
-    ∙ as_list.again v rest (listed v is);
+      ∙ as_list.again v rest (listed v is);
 }
   where
     as_list : Spelled (via view_with row_list_at) (λ v. IsRowList (rows_of v)) (λ v. to_be_bytes w16 (length (rows_of v)) ++ flat_map row_spelling (rows_of v))
     as_list = as_fields view_with rows_of view_of_rows (λ rows is. sym
-      (rows_back rows (rising_of_keys entry_of rows (ascending_of_run node_of HasRowFields 1 rows is.1)))) row_list_spelled
+        (rows_back rows (rising_of_keys entry_of rows (ascending_of_run node_of HasRowFields 1 rows is.1)))) row_list_spelled
 
     lawful : (v : ViewMap) → IsRowList (rows_of v) → IsView v
     lawful v is = record { fits = omega (arith, is.0.1, len-rows_of v); rows = rows_of_run 1 (rows_of v) (omega arith) is.1 }
@@ -263,7 +268,7 @@ view_spelled = record {
     listed v is = (
       (omega (arith, is.fits, len-rows_of v), omega (arith, is.fits, len-rows_of v)),
       run_of_ascending node_of HasRowFields 1 (rows_of v) (ids_above (rows_of v) is.rows) (keys_ascend entry_of (rows_of v) (rising_rows_of v))
-        (fields_of_rows (rows_of v) is.rows),
+          (fields_of_rows (rows_of v) is.rows),
     )
 
 -- ---- sets of ids

@@ -127,30 +127,32 @@ IsRun key Q least (x ∷ xs) = (Q x × (least ≤ key x)) × IsRun key Q (key x 
 module _ {X : Type 0} (item : ℕ → Reading X) (key : X → ℕ) (Q : X → Type 0) (f : X → List ℕ)
     (each : (least : ℕ) → Spelled (item least) (λ x. Q x × (least ≤ key x)) f) where
   items_take : (n least : ℕ) (bytes : List ℕ) (xs : List X) (rest : List ℕ) → IsBytes bytes → items_at item key n least bytes ≡ Ok (xs, rest)
-    → Takes bytes (flat_map f xs) rest × ((length xs ≡ n) × IsRun key Q least xs)
+      → Takes bytes (flat_map f xs) rest × ((length xs ≡ n) × IsRun key Q least xs)
   unfolding items_at
   items_take zero least bytes xs rest fits e =
       subst (λ (y : List X × List ℕ). Takes bytes (flat_map f y.0) y.1 × ((length y.0 ≡ 0) × IsRun key Q least y.0)) (ok_is ([], bytes) (xs, rest) e)
-        (record { parts = refl; left = fits }, (refl, tt))
+      (record { parts = refl; left = fits }, (refl, tt))
   items_take (suc n) least bytes xs rest fits e =
       let a = bind_ok (item least bytes) (λ first. items_at item key n (key first.0 + 1) first.1 >>= λ others. Ok (first.0 ∷ others.0, others.1))
-        (xs, rest) e in
+      (xs, rest) e in
       let b = bind_ok (items_at item key n (key a.0.0 + 1) a.0.1) (λ others. Ok (a.0.0 ∷ others.0, others.1)) (xs, rest) a.2 in
       let t = (each least).takes bytes a.0.0 a.0.1 fits a.1 in
       let u = items_take n (key a.0.0 + 1) a.0.1 b.0.0 b.0.1 t.0.left b.1 in
       let all = Takes-then bytes (f a.0.0) a.0.1 (flat_map f b.0.0) b.0.1 t.0 u.0 in
       let made : List X × List ℕ = (a.0.0 ∷ b.0.0, b.0.1) in
       subst (λ (y : List X × List ℕ). Takes bytes (flat_map f y.0) y.1 × ((length y.0 ≡ suc n) × IsRun key Q least y.0)) (ok_is made (xs, rest) b.2)
-        (rw flat_map-cons all, (ap suc u.1.0, (t.1, u.1.1)))
+      (rw flat_map-cons all, (ap suc u.1.0, (t.1, u.1.1)))
 
   items_again : (xs : List X) (least : ℕ) (rest : List ℕ) → IsRun key Q least xs → items_at item key (length xs) least (flat_map f xs ++ rest) ≡ Ok (xs, rest)
   unfolding items_at
   items_again [] least rest fits = refl
   items_again (x ∷ xs) least rest fits =
       let regrouped : flat_map f (x ∷ xs) ++ rest ≡ f x ++ (flat_map f xs ++ rest) =
-        ap (λ (t : List ℕ). t ++ rest) (flat_map-cons f x xs) ∙ append_assoc (f x) (flat_map f xs) rest in
-      ap (items_at item key (suc (length xs)) least) regrouped ∙ rw ((each least).again x (flat_map f xs ++ rest) fits.0,
-        items_again xs (key x + 1) rest fits.1) refl
+      ap (λ (t : List ℕ). t ++ rest) (flat_map-cons f x xs) ∙ append_assoc (f x) (flat_map f xs) rest in
+      ap (items_at item key (suc (length xs)) least) regrouped ∙ rw (
+        (each least).again x (flat_map f xs ++ rest) fits.0,
+        items_again xs (key x + 1) rest fits.1,
+      ) refl
 
   pub items_spelled : (n least : ℕ) → Spelled (items_at item key n least) (λ xs. (length xs ≡ n) × IsRun key Q least xs) (flat_map f)
   items_spelled n least = record {
@@ -164,7 +166,7 @@ byte_takes : (bytes : List ℕ) (x : ℕ) (rest : List ℕ) → IsBytes bytes �
 byte_takes [] x rest fits e = absurd cc
 byte_takes (b ∷ bytes) x rest fits e =
     subst (λ (y : ℕ × List ℕ). Takes (b ∷ bytes) (y.0 ∷ []) y.1 × (y.0 < 256)) (ok_is (b, bytes) (x, rest) e)
-      (record { parts = refl; left = λ i. fits (suc i) }, fits 0)
+    (record { parts = refl; left = λ i. fits (suc i) }, fits 0)
 
 pub byte_spelled : Spelled byte_at (λ b. b < 256) (λ b. b ∷ [])
 byte_spelled = record { takes = byte_takes; again = λ x rest fits. refl }
@@ -212,7 +214,7 @@ module _ {M : Type 0} (spelling : M → List ℕ) (Is : M → Type 0) (bytes aft
       let t = spelled.takes after a.0.0 a.0.1 fits a.1 in
       let all : Takes bytes (k ∷ f a.0.0) a.0.1 = Takes-then bytes (k ∷ []) after (f a.0.0) a.0.1 front t.0 in
       let spelt : Takes bytes (spelling (make a.0.0)) a.0.1 = subst (λ (x : List ℕ). Takes bytes x a.0.1)
-        (ap (λ (n : ℕ). n ∷ f a.0.0) is ∙ sym (text a.0.0)) all in
+      (ap (λ (n : ℕ). n ∷ f a.0.0) is ∙ sym (text a.0.0)) all in
       let made : M × List ℕ = (make a.0.0, a.0.1) in
       subst (λ (y : M × List ℕ). Takes bytes (spelling y.0) y.1 × Is y.0) (ok_is made (m, rest) a.2) (spelt, lawful a.0.0 t.1)
 
@@ -240,7 +242,13 @@ kinded_takes {fields} fields_take bytes m rest fits e =
 -- nothing stands behind a kind that has no fields
 pub nothing_spelled : Spelled nothing_at (λ _. Unit {0}) (λ _. [])
 nothing_spelled = record {
-  takes = λ bytes x rest fits e. (record { parts = ap (λ (p : Unit {0} × List ℕ). p.1) (ok_is (tt, bytes) (x, rest) e); left =
-    subst IsBytes (ap (λ (p : Unit {0} × List ℕ). p.1) (ok_is (tt, bytes) (x, rest) e)) fits }, tt);
+  takes = λ bytes x rest fits e. (
+    record {
+      parts = ap (λ (p : Unit {0} × List ℕ). p.1) (ok_is (tt, bytes) (x, rest) e);
+      left =
+          subst IsBytes (ap (λ (p : Unit {0} × List ℕ). p.1) (ok_is (tt, bytes) (x, rest) e)) fits;
+    },
+    tt,
+  );
   again = λ x rest fits. refl;
 }

@@ -21,7 +21,7 @@ writes_then old mid new a b (Err e) first second = record {
   ok = tt;
   err =
       let front : take (length old.items) (take (length mid.items) new.items) ≡ take (length old.items) new.items =
-        take-take (length old.items) (length mid.items) new.items (omega (arith, ap length first.ok, length-append old.items a)) in
+      take-take (length old.items) (length mid.items) new.items (omega (arith, ap length first.ok, length-append old.items a)) in
       sym front ∙ ap (take (length old.items)) (second.err ∙ first.ok) ∙ take_at old.items a (length old.items) refl;
   room = λ h. second.room (omega (arith, h, first.grows, old.ok, mid.ok, ap length first.ok, length-append old.items a, length-append a b));
   grows = omega (arith, first.grows, second.grows);
@@ -51,7 +51,7 @@ module _ {X : Type 0} (f : X → List ℕ) where
   each_stops old mid new xs i x e g lt is first second =
       subst (λ (t : List ℕ). Writes old new t (Err g)) (sym (split_at xs i x lt is))
       (writes_then old mid new (flat_map f (take i xs)) (f x ++ flat_map f (drop (suc i) xs)) (Err g) first
-        (writes_stop mid new (f x) (flat_map f (drop (suc i) xs)) e g second))
+      (writes_stop mid new (f x) (flat_map f (drop (suc i) xs)) e g second))
 
   pub each_more : (old mid new : Vec ℕ) (xs : List X) (i : ℕ) (x : X) → i < length xs → x ≡ get_or xs i x
       → Writes old mid (flat_map f (take i xs)) (Ok tt) → Writes mid new (f x) (Ok tt) → Writes old new (flat_map f (take (i + 1) xs)) (Ok tt)
@@ -59,7 +59,7 @@ module _ {X : Type 0} (f : X → List ℕ) where
       let more : take (i + 1) xs ≡ take i xs ++ x ∷ [] = take_more xs i x lt ∙ ap (λ (y : X). take i xs ++ y ∷ []) (sym is) in
       let text : flat_map f (take (i + 1) xs) ≡ flat_map f (take i xs) ++ f x =
       ap (flat_map f) more ∙ flat_map-append f (take i xs) (x ∷ []) ∙ ap (λ (t : List ℕ). flat_map f (take i xs) ++ t) (flat_map-cons f x []
-        ∙ append-nil (f x)) in
+      ∙ append-nil (f x)) in
       subst (λ (t : List ℕ). Writes old new t (Ok tt)) (sym text) (writes_then old mid new (flat_map f (take i xs)) (f x) (Ok tt) first second)
 
 pub all_more : {X : Type 0} (P : X → Type 0) (xs : List X) (i : ℕ) (x : X) → i < length xs → x ≡ get_or xs i x → AllByRecursion P (take i xs) → P x

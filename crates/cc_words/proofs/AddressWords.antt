@@ -52,7 +52,7 @@ dotted : (k a b c d : ℕ) → ¬ (IsInRange 48 57 k) → eqb 46 k ≡ false →
 dotted k a b c d out other p q r s =
     let dot = one k 46 other in
     joined k _ _ (joined k _ _ (joined k _ _ (joined k _ _ (joined k _ _ (joined k _ _ (octet k a out p) dot) (octet k b out q)) dot) (octet k c out r))
-      dot) (octet k d out s)
+    dot) (octet k d out s)
 
 -- an address has digits and dots alone
 pub ip_avoids : (k : ℕ) (text : List ℕ) (ip : Ipv4Addr) → ¬ (IsInRange 48 57 k) → eqb 46 k ≡ false → IsIpv4Text text ip → Avoids k text

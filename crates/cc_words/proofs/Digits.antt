@@ -51,7 +51,7 @@ parsed : {E : Type 0} (bits : ℕ) (word : List ℕ) (r : Result ℕ E) → 2 ^ 
     → MatchOption (result_ok r) (NoNumber bits word) (λ n. word ≡ decimal n)
 parsed bits word (Ok n) most plain is =
     sym (decimal-digits_value own word plain.1 is.0.0 (one_zero word plain is.0.0 (long_or_short (length word))) (omega (arith, is.0.1, most)))
-      ∙ ap decimal (sym is.1)
+    ∙ ap decimal (sym is.1)
 parsed bits word (Err e) most plain never = λ n small is.
     let fits : n < 2 ^ 64 = omega (arith, small, most) in
     never (

@@ -184,12 +184,13 @@ fn check_numbers<R: Abort + AllocGlobal>(rt: &R, node: &Node) -> Result<(), Fail
         refusal_of(rt.alloc(), node, 2, 0, &OF_TWO)?,
     ];
     assert!(rt;
-        refusals == [
-            None,
-            Some(Refusal::Spent),
-            Some(Refusal::Gap(0)),
-            Some(Refusal::Old(0))
-        ]
+        refusals
+            == [
+                None,
+                Some(Refusal::Spent),
+                Some(Refusal::Gap(0)),
+                Some(Refusal::Old(0))
+            ]
     );
     Ok(())
 }

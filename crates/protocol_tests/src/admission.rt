@@ -160,11 +160,12 @@ fn check_behind<R: Abort + AllocGlobal>(rt: &R, member: &mut Node) -> Result<(),
     let after_ack = behind_after(rt.alloc(), member, acked)?;
     let after_retire = behind_after(rt.alloc(), member, Event::Retire { node: two })?;
     assert!(rt;
-        [after_ask, after_ack, after_retire] == [
-            [true, true, false],
-            [false, true, false],
-            [true, false, false]
-        ]
+        [after_ask, after_ack, after_retire]
+            == [
+                [true, true, false],
+                [false, true, false],
+                [true, false, false]
+            ]
     );
     Ok(())
 }

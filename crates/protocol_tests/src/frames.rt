@@ -231,13 +231,14 @@ fn the_operator_is_told_by_a_refusal(rt: HostRuntime) -> Result<(), Fail> {
         outcome_refused(19),
     ];
     assert!(rt;
-        outcomes == [
-            Some(Outcome::Done),
-            None,
-            None,
-            Some(Outcome::Refused(Refusal::OutboxFull)),
-            None
-        ]
+        outcomes
+            == [
+                Some(Outcome::Done),
+                None,
+                None,
+                Some(Outcome::Refused(Refusal::OutboxFull)),
+                None
+            ]
     );
     Ok(())
 }

@@ -17,12 +17,13 @@ fn check_spoken<R: Abort>(rt: &R, speakers: &mut Speakers, two: NodeId, three: N
     speakers.leave(7);
     let third = [speakers.speak(three, 6), speakers.speak(two, 6)];
     assert!(rt;
-        first == [
-            Spoken::Alone,
-            Spoken::Alone,
-            Spoken::Instead(5),
-            Spoken::Replaced
-        ]
+        first
+            == [
+                Spoken::Alone,
+                Spoken::Alone,
+                Spoken::Instead(5),
+                Spoken::Replaced
+            ]
     );
     assert!(rt; second == [Spoken::Alone; 2]);
     assert!(rt; third == [Spoken::Alone, Spoken::Instead(5)]);

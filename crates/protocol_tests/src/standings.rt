@@ -91,13 +91,14 @@ fn check_absent<R: Abort>(rt: &R, peers: &mut Standings, two: NodeId, three: Nod
         peers.pass_second(two, 0, 80, true),
     ];
     assert!(rt;
-        seconds == [
-            passed(owing(80, 0), false, false),
-            passed(Standing::Current, false, false),
-            passed(owing(80, 1), false, false),
-            passed(Standing::Absent, true, false),
-            passed(Standing::Absent, false, false),
-        ]
+        seconds
+            == [
+                passed(owing(80, 0), false, false),
+                passed(Standing::Current, false, false),
+                passed(owing(80, 1), false, false),
+                passed(Standing::Absent, true, false),
+                passed(Standing::Absent, false, false),
+            ]
     );
     assert!(rt; peers.has_absent());
     assert!(rt; peers.standing(three) == Standing::Current);
@@ -132,11 +133,12 @@ fn check_back<R: Abort>(rt: &R, peers: &mut Standings, two: NodeId, three: NodeI
         peers.hear_ack(two),
     ];
     assert!(rt;
-        seconds == [
-            passed(Standing::Current, false, false),
-            passed(Standing::Absent, false, true),
-            passed(Standing::Absent, false, false),
-        ]
+        seconds
+            == [
+                passed(Standing::Current, false, false),
+                passed(Standing::Absent, false, true),
+                passed(Standing::Absent, false, false),
+            ]
     );
     assert!(rt; acked == [false, true, false]);
     assert!(rt; !peers.has_absent());

@@ -6,6 +6,6 @@ pub returns-then-finds_no_room-clause-fits : goal.returns-then-finds_no_room-cla
 returns-then-finds_no_room-clause-fits c = (
   λ h. cc,
   λ h. absurd (no_room c.args.asks.now c.loop-asked.asked-index c.loop-asked.value c.args.mine.now c.asked-item.result c.loop-asked-test.true
-    c.asked-item.is c.loop-asked.invariant
+      c.asked-item.is c.loop-asked.invariant
       (sym c.finds_no_room.ensures ∙ c.if-finds_no_room.true) h),
 )

@@ -15,6 +15,6 @@ pub front-preserved : goal.front-preserved
 front-preserved c = record {
   left = omega (arith, ap length c.pop_front.ensures.rest, length-drop 1 c.front.posts.items, c.front-test.true, c.len.ensures, c.front.posts.ok);
   rest = one_less c.front.posts.items c.pop_front.new.self.items c.args.count c.pop_front.ensures.rest
-    (omega (arith, c.front-test.true, c.len.ensures, c.front.posts.ok)) ∙ c.front.invariant.rest;
+      (omega (arith, c.front-test.true, c.len.ensures, c.front.posts.ok)) ∙ c.front.invariant.rest;
   room = c.pop_front.ensures.capacity ∙ c.front.invariant.room;
 }

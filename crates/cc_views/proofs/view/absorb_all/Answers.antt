@@ -19,5 +19,5 @@ loop-row-preserved c =
       rising = subst (λ (es : List (ℕ × Pair)). is_sorted nat_cmp es ≡ true) back rising;
       room = c.absorb.ensures.room;
       rest = subst (λ (es : List (ℕ × Pair)). absorbed_all es (drop (c.loop-row.row-index + 1) c.args.others.now)
-        ≡ absorbed_all (entries_of c.args.rows.now.items) c.args.others.now) back next;
+          ≡ absorbed_all (entries_of c.args.rows.now.items) c.args.others.now) back next;
     }

@@ -10,4 +10,4 @@ returns-in_default c =
     let words = c.args.words.now in
     let never = c.in_default.ensures in
     no_numbers (map (λ w. w.now) words) i (rw length-map c.loop-word-test.true)
-      (subst (NoNumber 32) (sym (get_or-map (λ w. w.now) words i _ [] c.loop-word-test.true)) never)
+    (subst (NoNumber 32) (sym (get_or-map (λ w. w.now) words i _ [] c.loop-word-test.true)) never)

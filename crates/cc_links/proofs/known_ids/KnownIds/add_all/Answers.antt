@@ -6,9 +6,11 @@ pub loop-id-init : goal.loop-id-init
 loop-id-init c = record { within = len_known c.self.invariant c.self.view_is; rest = refl }
 
 pub returns-then-not-add-clause-fits : goal.returns-then-not-add-clause-fits
-returns-then-not-add-clause-fits c =
-    (λ h. cc, λ fits. sym c.if-not-add.true ∙ c.add.ensures.fits.1 (first_fits _ _ _
-      (next_id _ _ _ _ _ c.loop-id-test.true c.id-item.is c.loop-id.invariant.rest) fits))
+returns-then-not-add-clause-fits c = (
+  λ h. cc,
+  λ fits. sym c.if-not-add.true ∙ c.add.ensures.fits.1 (first_fits _ _ _
+      (next_id _ _ _ _ _ c.loop-id-test.true c.id-item.is c.loop-id.invariant.rest) fits),
+)
 
 pub loop-id-preserved : goal.loop-id-preserved
 loop-id-preserved c = record {

@@ -6,13 +6,15 @@ pub loop-number-init : goal.loop-number-init
 loop-number-init c = record { within = len_known c.self.invariant c.self.view_is; rest = refl }
 
 pub returns-then-not-add-clause-fits : goal.returns-then-not-add-clause-fits
-returns-then-not-add-clause-fits c =
-    (λ h. cc, λ fits. sym c.if-not-add.true ∙ c.add.ensures.fits.1 (first_fits _ _ _
-      (next_number _ _ _ _ _ 0 c.loop-number-test.true (rw c.unwrap.ensures at c.new.ensures.id) c.loop-number.invariant.rest) fits))
+returns-then-not-add-clause-fits c = (
+  λ h. cc,
+  λ fits. sym c.if-not-add.true ∙ c.add.ensures.fits.1 (first_fits _ _ _
+      (next_number _ _ _ _ _ 0 c.loop-number-test.true (rw c.unwrap.ensures at c.new.ensures.id) c.loop-number.invariant.rest) fits),
+)
 
 pub loop-number-preserved : goal.loop-number-preserved
 loop-number-preserved c = record {
   within = c.add.ensures.within;
   rest = rw (c.add.ensures.added c.if-not-add.false) (next_number _ _ _ _ _ 0 c.loop-number-test.true (rw c.unwrap.ensures at c.new.ensures.id)
-    c.loop-number.invariant.rest);
+      c.loop-number.invariant.rest);
 }

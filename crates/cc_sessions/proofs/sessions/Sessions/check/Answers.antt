@@ -34,4 +34,4 @@ returns-in-None-2 c =
     let apart : c.len.result ≡ 256 → ⊥ = c.if-len-eq-MAX_ROWS.false in
     c.check_after.ensures
     ∙ first _ (table.len c.args.self.now) _ (sym c.finish.ensures ∙ c.in-None-2.is) (λ e. apart
-      (omega (arith, count, ap table.len c.self.view_is, c.len.ensures, e)))
+    (omega (arith, count, ap table.len c.self.view_is, c.len.ensures, e)))
