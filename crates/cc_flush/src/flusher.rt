@@ -122,8 +122,7 @@ impl<S: Site> Model for Flusher<S> {
       generation = f.generation;
       used = f.used;
       owes = is_some f.owed;
-      owed =
-          option_map_or (λ s. s.value) f.owed [];
+      owed = option_map_or (λ s. s.value) f.owed [];
       failed = f.failed;
       opened = f.opened;
     } };
@@ -134,8 +133,7 @@ impl<S: Site> Model for Flusher<S> {
       at = f.journal;
       generation = f.generation;
       used = f.used;
-      owes =
-          is_some f.owed;
+      owes = is_some f.owed;
       owed = option_map_or (λ s. s.value) f.owed [];
       failed = f.failed;
       opened = f.opened;

@@ -360,9 +360,8 @@ function showFacts(status) {
     fact("Events of a batch", batches(counts)),
     fact("Slowest sync", milliseconds(syncs.worst_us)),
     fact("Refused", list(counts.refusals)),
-    fact("Disk", `${bytes(disk.bytes)} on side ${disk.side}`),
+    fact("Disk", `${bytes(disk.bytes)} on side ${disk.side}, generation ${disk.generation.toLocaleString("en")}`),
     fact("Records", disk.records.toLocaleString("en")),
-    fact("Generation", disk.generation.toLocaleString("en")),
     fact("Checkpoints", counts.checkpoints.toLocaleString("en")),
   );
 }

@@ -84,8 +84,7 @@ pub round_view : (me quorum : ℕ) (a : Asked) (s : Ops) → Some a ≡ first_in
     ≡ merge s.view (single (record {
       node = me;
       number = s.number + writes_by (first_round s.share s.line);
-      value =
-          written_by (first_round s.share s.line) s.mine;
+      value = written_by (first_round s.share s.line) s.mine;
     }))
 round_view me quorum a s first writes some = of_line s.share s.line first some
   where
@@ -94,8 +93,7 @@ round_view me quorum a s first writes some = of_line s.share s.line first some
         ≡ merge s.view (single (record {
           node = me;
           number = s.number + writes_by (first_round share line);
-          value =
-              written_by (first_round share line) s.mine;
+          value = written_by (first_round share line) s.mine;
         }))
     of_line share [] first some = cc
     of_line zero (b ∷ line) first some = absurd (omega (arith, some))

@@ -48,8 +48,7 @@ impl Model for Ops {
       tag = a.tag;
       share = a.share;
       phase = phase_of a.stage a.seen;
-      others =
-          a.others;
+      others = a.others;
       line = a.line;
     } };
 

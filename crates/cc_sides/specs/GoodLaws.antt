@@ -87,8 +87,7 @@ module _ (a b changed : List ℕ) (unarmed : ¬ IsArmed a) (still : ¬ IsArmed c
   stands_changed n (inr second) = inr (record {
     generation = second.generation;
     place = second.place;
-    at =
-        record { holds = second.at.holds; yields = inl still };
+    at = record { holds = second.at.holds; yields = inl still };
   })
 
   pub shut_side : (start : Node) (events : List Event) (durable opening : ℕ) (told : List Output) → 1 ≤ length changed

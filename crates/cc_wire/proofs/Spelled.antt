@@ -245,8 +245,7 @@ nothing_spelled = record {
   takes = λ bytes x rest fits e. (
     record {
       parts = ap (λ (p : Unit {0} × List ℕ). p.1) (ok_is (tt, bytes) (x, rest) e);
-      left =
-          subst IsBytes (ap (λ (p : Unit {0} × List ℕ). p.1) (ok_is (tt, bytes) (x, rest) e)) fits;
+      left = subst IsBytes (ap (λ (p : Unit {0} × List ℕ). p.1) (ok_is (tt, bytes) (x, rest) e)) fits;
     },
     tt,
   );

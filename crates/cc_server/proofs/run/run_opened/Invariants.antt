@@ -10,7 +10,6 @@ ghosts-run_as-L-Life g a = record {
   opening = a.ready.engine.twin;
   reached = λ look list. Unit {0};
   taken = λ look list. Unit {0};
-  accepted =
-      λ list. Unit {0};
+  accepted = λ list. Unit {0};
   flushed = λ count. Unit {0};
 }

@@ -11,8 +11,7 @@ invariant_of-result c =
       some = c.requires.some;
       few = c.requires.few;
       beside = omega (arith, c.requires.some);
-      waits =
-          tt;
+      waits = tt;
       behind = refl;
       room = omega (arith, set.len-empty);
     })
