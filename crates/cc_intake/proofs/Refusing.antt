@@ -28,9 +28,9 @@ IsOwn refusal.NoMemory = ⊥
 IsOwn refusal.QueueFull = ⊥
 IsOwn r = ⊤
 
-own : {b : Bool} {r : Refusal} → IsOwn r → IfSome (then_some b r) IsOwn
-own {true} is = is
-own {false} is = tt
+own : (b : Bool) (r : Refusal) → IsOwn r → IfSome (then_some b r) IsOwn
+own true r is = is
+own false r is = tt
 
 first_own : (rs : List (Option Refusal)) → AllByRecursion (λ r. IfSome r IsOwn) rs → IfSome (first_of rs) IsOwn
 first_own [] all = tt
@@ -38,14 +38,17 @@ first_own (None ∷ rs) all = first_own rs all.1
 first_own (Some r ∷ rs) all = all.0
 
 own_reasons : (c : Core) (e : Event) → AllByRecursion (λ r. IfSome r IsOwn) (reasons line_limit c e)
-own_reasons c event.Enter = (own tt, (own tt, (own tt, (own tt, tt))))
-own_reasons c event.Leave = (own tt, (own tt, (own tt, (own tt, tt))))
-own_reasons c (event.Deliver from n m) = (own tt, (own tt, (own tt, (own tt, (own tt, (own tt, (own tt, tt)))))))
-own_reasons c (event.Acked peer n) = (own tt, (own tt, tt))
-own_reasons c (event.Ask s r command) = (own tt, (own tt, (own tt, (own tt, (own tt, (own tt, (own tt, (own tt, (own tt, (own tt, (own tt, tt)))))))))))
-own_reasons c (event.Retire q) = (own tt, (own tt, (own tt, (own tt, (own tt, tt)))))
-own_reasons c (event.Lapse q) = (own tt, (own tt, (own tt, (own tt, (own tt, tt)))))
-own_reasons c event.Snapshot = (own tt, (own tt, (own tt, (own tt, (own tt, tt)))))
+own_reasons c event.Enter = (own _ _ tt, (own _ _ tt, (own _ _ tt, (own _ _ tt, tt))))
+own_reasons c event.Leave = (own _ _ tt, (own _ _ tt, (own _ _ tt, (own _ _ tt, tt))))
+own_reasons c (event.Deliver from n m) = (own _ _ tt, (own _ _ tt, (own _ _ tt, (own _ _ tt, (own _ _ tt, (own _ _ tt, (own _ _ tt, tt)))))))
+own_reasons c (event.Acked peer n) = (own _ _ tt, (own _ _ tt, tt))
+own_reasons c (event.Ask s r command) = (
+  own _ _ tt,
+  (own _ _ tt, (own _ _ tt, (own _ _ tt, (own _ _ tt, (own _ _ tt, (own _ _ tt, (own _ _ tt, (own _ _ tt, (own _ _ tt, (own _ _ tt, tt)))))))))),
+)
+own_reasons c (event.Retire q) = (own _ _ tt, (own _ _ tt, (own _ _ tt, (own _ _ tt, (own _ _ tt, tt)))))
+own_reasons c (event.Lapse q) = (own _ _ tt, (own _ _ tt, (own _ _ tt, (own _ _ tt, (own _ _ tt, tt)))))
+own_reasons c event.Snapshot = (own _ _ tt, (own _ _ tt, (own _ _ tt, (own _ _ tt, (own _ _ tt, tt)))))
 
 own_reason : (c : Core) (e : Event) → IfSome (decides c e) IsOwn
 unfolding decides decides_within
