@@ -32,7 +32,7 @@ fn main(rt: HostRuntime) -> anyhow::Result<ExitCode> {
     let words: Vec<String> = std::env::args(&rt)?.collect(rt.alloc())?;
     let status = match parse(rt.alloc(), &words) {
         Ok(Order::Run { folder, words }) => {
-            let machine = NotingRuntime::new(&rt, level_of(&words));
+            let machine = NotingRuntime::new(&rt, level_of(&words), !is_for_journal(&rt));
             run(&rt, &machine, folder, &words)
         }
         Ok(Order::Load(words)) => load(&rt, &words),
@@ -49,6 +49,11 @@ fn level_of(words: &RunWords<'_>) -> LogLevel {
         Some(word) => LogLevel::named(word).unwrap_or(LogLevel::Info),
         None => LogLevel::Info,
     }
+}
+
+// Whether a journal reads standard error, which has the time of each line by itself: systemd sets the variable then.
+fn is_for_journal(rt: &HostRuntime) -> bool {
+    std::env::var(rt, "JOURNAL_STREAM").is_ok()
 }
 
 // Does what needs no threads.

@@ -2,10 +2,10 @@
 
 use cc_orders::LogLevel;
 use cc_server::ReadText;
+use jiff::Timestamp;
 use log::kv::Source;
-use log::sink::Console;
 use log::span::Spans;
-use log::{Level, Log, Logged, Metadata, Record};
+use log::{Level, Line, Log, Logged, Metadata, Record};
 use std::alloc::{Allocator, Global};
 use std::fmt::Display;
 use std::fs::{Files, Metadata as Attributes, OpenOptions};
@@ -20,12 +20,50 @@ use std::time::{Clock, Duration};
 #[derive(Drop)]
 pub struct NotingRuntime<'a, R> {
     rt: &'a R,
-    log: Logged<&'a R, Console<&'a R>>,
+    log: Logged<&'a R, TimedConsole<'a, R>>,
+}
+
+/// Standard error, where each record has a line, behind the time where that is wanted.
+#[derive(Clone, Copy)]
+struct TimedConsole<'a, R> {
+    rt: &'a R,
+    has_times: bool,
+}
+
+impl<R: Clock> TimedConsole<'_, R> {
+    // The time, to the second, by the machine's clock. None where it isn't wanted, or the clock fails.
+    fn time(&self) -> Option<Timestamp> {
+        if !self.has_times {
+            return None;
+        }
+        let since = self.rt.since_1970().ok()?;
+        Timestamp::from_second(i64::try_from(since.as_secs()).ok()?).ok()
+    }
+}
+
+impl<R: Eprint + Clock> Log for TimedConsole<'_, R> {
+    fn enabled(&self, _metadata: &Metadata<'_>) -> bool {
+        true
+    }
+
+    fn log<D: Display, K: Source, S: Spans>(&self, record: &Record<'_, D, K, S>) {
+        let line = Line::new(record);
+        let _ = match self.time() {
+            Some(time) => eprintln!(self.rt; "{time} {line}"),
+            None => eprintln!(self.rt; "{line}"),
+        };
+    }
+
+    fn flush(&self) {}
+
+    fn target(&self) -> &str {
+        ""
+    }
 }
 
 impl<'a, R> NotingRuntime<'a, R> {
-    /// That runtime, which notes what is of this level, and of those before it.
-    pub fn new(rt: &'a R, level: LogLevel) -> Self {
+    /// That runtime, which notes what is of this level, and of those before it, each with its time or without.
+    pub fn new(rt: &'a R, level: LogLevel, has_times: bool) -> Self {
         let level = match level {
             LogLevel::Error => Level::Error,
             LogLevel::Warn => Level::Warn,
@@ -34,12 +72,12 @@ impl<'a, R> NotingRuntime<'a, R> {
         };
         NotingRuntime {
             rt,
-            log: Logged::new(rt, level, Console(rt)),
+            log: Logged::new(rt, level, TimedConsole { rt, has_times }),
         }
     }
 }
 
-impl<R: Eprint> Log for NotingRuntime<'_, R> {
+impl<R: Eprint + Clock> Log for NotingRuntime<'_, R> {
     fn enabled(&self, metadata: &Metadata<'_>) -> bool {
         self.log.enabled(metadata)
     }
