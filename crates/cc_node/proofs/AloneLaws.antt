@@ -53,10 +53,9 @@ either_acked true t u more e = e
 either_acked false t u more e = refl
 
 acked_same : (me quorum : ℕ) (phase : Phase) (s : Ops) → s.line ≡ [] → acked_alone phase s ≡ after_ack me quorum phase s
-acked_same me quorum Idle s none = refl
 acked_same me quorum (Storing p) s none = either_acked (is_last p) _ _ (record s { phase = Storing (counted p) }) (last_same me quorum s none)
-acked_same me quorum (Querying p) s none = refl
 acked_same me quorum (StoringBack p seen) s none = either_acked (is_last p) _ _ (record s { phase = StoringBack (counted p) seen }) (last_same me quorum s none)
+acked_same me quorum _ s none = refl
 
 ack_same : (me quorum tag q : ℕ) (s : Ops) → s.line ≡ [] → ops_alone me quorum (message.StoreAck tag q) s ≡ after_message me quorum (message.StoreAck tag q) s
 ack_same me quorum tag q s none = ap (λ (t : Ops). if is_own me tag q s then t else s) (acked_same me quorum s.phase s none)
@@ -94,17 +93,8 @@ ask_same : (me quorum : ℕ) (a : Asked) (s : Ops) → is_idle s.phase ≡ true 
 ask_same me quorum a s idle = sym (ap (λ (b : Bool). if b then with_begun me quorum a s else record s { line = s.line ++ a ∷ [] }) idle)
 
 delivery_post : (c : Core) (from n : ℕ) (m : Message) → c.ops.line ≡ [] → post_alone c (event.Deliver from n m) ≡ post c (event.Deliver from n m)
-delivery_post c from n (message.Enter q) none = refl
-delivery_post c from n (message.EnterEcho k v from_joined q) none = refl
-delivery_post c from n (message.Join q) none = refl
-delivery_post c from n (message.JoinEcho q) none = refl
-delivery_post c from n (message.Leave q) none = refl
-delivery_post c from n (message.LeaveEcho q) none = refl
-delivery_post c from n (message.Query tag q) none = refl
-delivery_post c from n (message.QueryReply v tag q) none = refl
-delivery_post c from n (message.Store v tag q) none = refl
 delivery_post c from n (message.StoreAck tag q) none = ack_post c from n tag q none
-delivery_post c from n (message.Snapshot k v) none = refl
+delivery_post c from n _ none = refl
 
 ask_post : (c : Core) (s r : ℕ) (k : Command) → is_idle c.ops.phase ≡ true → post_alone c (event.Ask s r k) ≡ post c (event.Ask s r k)
 ask_post c s r k idle =
@@ -113,34 +103,18 @@ ask_post c s r k idle =
     ∙ sym (ap (λ (b : Bool). post_of_round c.me (if b then a ∷ [] else []) (after_ask c.me (quorum c) a c.ops)) idle)
 
 post_same : (c : Core) (e : Event) → c.ops.line ≡ [] → IsFree c e → post_alone c e ≡ post c e
-post_same c event.Enter none free = refl
-post_same c event.Leave none free = refl
 post_same c (event.Deliver from n m) none free = delivery_post c from n m none
-post_same c (event.Acked peer n) none free = refl
 post_same c (event.Ask s r k) none free = ask_post c s r k free
-post_same c (event.Retire q) none free = refl
-post_same c (event.Lapse q) none free = refl
-post_same c event.Snapshot none free = refl
+post_same c _ none free = refl
 
 -- what a message makes of the operations
 told_same : (me quorum : ℕ) (m : Message) (s : Ops) → s.line ≡ [] → ops_alone me quorum m s ≡ after_message me quorum m s
-told_same me quorum (message.Enter q) s none = refl
-told_same me quorum (message.EnterEcho k v from_joined q) s none = refl
-told_same me quorum (message.Join q) s none = refl
-told_same me quorum (message.JoinEcho q) s none = refl
-told_same me quorum (message.Leave q) s none = refl
-told_same me quorum (message.LeaveEcho q) s none = refl
-told_same me quorum (message.Query tag q) s none = refl
-told_same me quorum (message.QueryReply v tag q) s none = refl
-told_same me quorum (message.Store v tag q) s none = refl
 told_same me quorum (message.StoreAck tag q) s none = ack_same me quorum tag q s none
-told_same me quorum (message.Snapshot k v) s none = refl
+told_same me quorum _ s none = refl
 
 -- the core after a message or an ask, by its operations and its post
 next_same : (c : Core) (e : Event) → c.ops.line ≡ [] → IsFree c e → next_alone c e ≡ next c e
 unfolding next next_alone
-next_same c event.Enter none free = refl
-next_same c event.Leave none free = refl
 next_same c (event.Deliver from n m) none free =
     let e = event.Deliver from n m in
     let f = λ (t : Ops) (p : Option Message). record c {
@@ -151,16 +125,13 @@ next_same c (event.Deliver from n m) none free =
     } in
     ap (λ (t : Ops). f t (post_alone c e)) (told_same c.me (quorum c) m c.ops none)
     ∙ ap (λ (p : Option Message). f (after_message c.me (quorum c) m c.ops) p) (delivery_post c from n m none)
-next_same c (event.Acked peer n) none free = refl
 next_same c (event.Ask s r k) none free =
     let e = event.Ask s r k in
     let a = asked_of s r k in
     let f = λ (t : Ops) (p : Option Message). record (record c { ops = t; sessions = table.insert c.sessions s r }) { posts = c.posts + option_len p } in
     ap (λ (t : Ops). f t (post_alone c e)) (ask_same c.me (quorum c) a c.ops free)
     ∙ ap (λ (p : Option Message). f (after_ask c.me (quorum c) a c.ops) p) (ask_post c s r k free)
-next_same c (event.Retire q) none free = refl
-next_same c (event.Lapse q) none free = refl
-next_same c event.Snapshot none free = refl
+next_same c _ none free = refl
 
 -- ---- what is refused
 
@@ -230,18 +201,12 @@ refused_alone c event.Snapshot none =
 
 -- what isn't refused where none may wait is free
 free : (c : Core) (e : Event) → decides_within 0 c e ≡ None → IsFree c e
-free c event.Enter d = tt
-free c event.Leave d = tt
-free c (event.Deliver from n m) d = tt
-free c (event.Acked peer n) d = tt
 free c (event.Ask s r k) d = idle_if (is_idle c.ops.phase) refl (sym (busy_same c s (is_idle c.ops.phase) refl) ∙ free_within 0 c s r k d)
   where
     idle_if : (b : Bool) → is_idle c.ops.phase ≡ b → then_some (not b) refusal.Busy ≡ None → is_idle c.ops.phase ≡ true
     idle_if true e h = e
     idle_if false e h = cc
-free c (event.Retire q) d = tt
-free c (event.Lapse q) d = tt
-free c event.Snapshot d = tt
+free c _ d = tt
 
 pub step_same : (n : Node) (e : Event) → n.core.ops.line ≡ [] → decides_within 0 n.core e ≡ None → step_alone n e ≡ step n e
 unfolding step step_alone
@@ -298,38 +263,22 @@ either_line true s t l h k = h
 either_line false s t l h k = k
 
 reply_line : (quorum : ℕ) (v : ViewMap) (phase : Phase) (s : Ops) → (after_reply quorum v phase s).line ≡ s.line
-reply_line quorum v Idle s = refl
-reply_line quorum v (Storing p) s = refl
 reply_line quorum v (Querying p) s = either_line (is_last p) _ _ s.line refl refl
-reply_line quorum v (StoringBack p seen) s = refl
+reply_line quorum v _ s = refl
 
 acked_line : (phase : Phase) (s : Ops) → (acked_alone phase s).line ≡ s.line
-acked_line Idle s = refl
 acked_line (Storing p) s = either_line (is_last p) _ _ s.line refl refl
-acked_line (Querying p) s = refl
 acked_line (StoringBack p seen) s = either_line (is_last p) _ _ s.line refl refl
+acked_line _ s = refl
 
 told_line : (me quorum : ℕ) (m : Message) (s : Ops) → (ops_alone me quorum m s).line ≡ s.line
-told_line me quorum (message.Enter q) s = refl
-told_line me quorum (message.EnterEcho k v from_joined q) s = refl
-told_line me quorum (message.Join q) s = refl
-told_line me quorum (message.JoinEcho q) s = refl
-told_line me quorum (message.Leave q) s = refl
-told_line me quorum (message.LeaveEcho q) s = refl
-told_line me quorum (message.Query tag q) s = refl
 told_line me quorum (message.QueryReply v tag q) s = either_line (is_own me tag q s) _ _ s.line (reply_line quorum v s.phase s) refl
-told_line me quorum (message.Store v tag q) s = refl
 told_line me quorum (message.StoreAck tag q) s = either_line (is_own me tag q s) _ _ s.line (acked_line s.phase s) refl
-told_line me quorum (message.Snapshot k v) s = refl
+told_line me quorum _ s = refl
 
 pub leaves_line : (c : Core) (e : Event) → (next_alone c e).ops.line ≡ c.ops.line
 unfolding next_alone
-leaves_line c event.Enter = refl
-leaves_line c event.Leave = refl
 leaves_line c (event.Deliver from n m) =
     anew_line (asks_anew c from n m) (quorum_told c from n m) (ops_alone c.me (quorum c) m c.ops) ∙ told_line c.me (quorum c) m c.ops
-leaves_line c (event.Acked peer n) = refl
 leaves_line c (event.Ask s r k) = round_line c.me (quorum c) (asked_of s r k ∷ []) c.ops
-leaves_line c (event.Retire q) = refl
-leaves_line c (event.Lapse q) = refl
-leaves_line c event.Snapshot = refl
+leaves_line c _ = refl

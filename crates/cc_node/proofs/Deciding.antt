@@ -109,17 +109,8 @@ served c m = ops.post_of c.me (churn.has_joined c.me c.churn) m c.ops (ops.after
 
 -- only an Enter is answered with the view, which it leaves; only messages that leave the changes ask whether the node has joined
 pub post_either : (c : Core) (from n : ℕ) (m : Message) → is_snapshot m ≡ false → post c (event.Deliver from n m) ≡ option_or (echoed c m) (served c m)
-post_either c from n (message.Enter q) e = refl
-post_either c from n (message.EnterEcho d v j q) e = refl
-post_either c from n (message.Join q) e = refl
-post_either c from n (message.JoinEcho q) e = refl
-post_either c from n (message.Leave q) e = refl
-post_either c from n (message.LeaveEcho q) e = refl
-post_either c from n (message.Query tag q) e = refl
-post_either c from n (message.QueryReply v tag q) e = refl
-post_either c from n (message.Store v tag q) e = refl
-post_either c from n (message.StoreAck tag q) e = refl
 post_either c from n (message.Snapshot d v) e = cc
+post_either c from n _ e = refl
 
 pub makes_either : (c : Core) (from n : ℕ) (m : Message) → is_snapshot m ≡ false → is_some (post c (event.Deliver from n m)) ≡ (is_some (echoed c m) || is_some (served c m))
 makes_either c from n m e = ap is_some (post_either c from n m e) ∙ is_some_or (echoed c m) (served c m)
@@ -155,9 +146,7 @@ some_join false me gamma s = refl
 
 asks_some : (me : ℕ) (view : ViewMap) (tag quorum : ℕ) (p : ops.Phase) → ops.is_idle p ≡ false → is_some (ops.question_in me view tag (ops.again quorum p)) ≡ true
 asks_some me view tag quorum ops.Idle e = cc
-asks_some me view tag quorum (ops.Storing p) e = refl
-asks_some me view tag quorum (ops.Querying p) e = refl
-asks_some me view tag quorum (ops.StoringBack p seen) e = refl
+asks_some me view tag quorum _ e = refl
 
 some_question : (b : Bool) (me quorum : ℕ) (s : ops.Ops) → (b ≡ true → ops.is_idle s.phase ≡ false) → is_some (question_if b me quorum s) ≡ b
 some_question true me quorum s pends = asks_some me s.view (s.tag + 1) quorum s.phase (pends refl)

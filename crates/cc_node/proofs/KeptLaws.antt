@@ -55,23 +55,11 @@ trimmed low high posts o h up = record {
 -- the answer of a session is no post
 pub posts_forget : (e : Event) (o : Outbox) → (forget_asked e o).posts ≡ o.posts
 posts_forget event.Enter o = refl
-posts_forget event.Leave o = refl
-posts_forget (event.Deliver from n m) o = refl
-posts_forget (event.Acked peer n) o = refl
-posts_forget (event.Ask s r command) o = refl
-posts_forget (event.Retire q) o = refl
-posts_forget (event.Lapse q) o = refl
-posts_forget event.Snapshot o = refl
+posts_forget _ o = refl
 
 forgotten : (low posts : ℕ) (e : Event) (o : Outbox) → KeepsTo low posts o → KeepsTo low posts (forget_asked e o)
-forgotten low posts event.Enter o h = h
-forgotten low posts event.Leave o h = h
-forgotten low posts (event.Deliver from n m) o h = h
-forgotten low posts (event.Acked peer n) o h = h
 forgotten low posts (event.Ask s r command) o h = record { last = h.last; kept = h.kept }
-forgotten low posts (event.Retire q) o h = h
-forgotten low posts (event.Lapse q) o h = h
-forgotten low posts event.Snapshot o h = h
+forgotten low posts _ o h = h
 
 answered : (low posts : ℕ) (rs : List Reply) (o : Outbox) → KeepsTo low posts o → KeepsTo low posts (keep rs o)
 answered low posts [] o h = h

@@ -39,17 +39,14 @@ reaches_row posts peer change (Some l) ls h k = all_insert (λ _ m. reach m ≤ 
 -- but by an acknowledgement or a lapse, which makes no post; nor does a retiring
 reaches_before : (c : Core) (e : Event) (m : Message) → post c e ≡ Some m → LinksWithin c.posts c.links → ReachesWithin c.posts (next c e).links
 unfolding next
-reaches_before c event.Enter m made h = reaches_within c.posts c.links h
-reaches_before c event.Leave m made h = reaches_within c.posts c.links h
 reaches_before c (event.Deliver from n k) m made h =
     let ls = add_all c.posts (from ∷ ids_of k) c.links in
     let known = reaches_within c.posts ls (add_all_links c.posts (from ∷ ids_of k) c.links h) in
     reaches_row c.posts from (λ l. record l { heard = n }) (table.get ls from) ls known (known from)
 reaches_before c (event.Acked peer n) m made h = cc
-reaches_before c (event.Ask s r k) m made h = reaches_within c.posts c.links h
 reaches_before c (event.Retire q) m made h = cc
 reaches_before c (event.Lapse q) m made h = cc
-reaches_before c event.Snapshot m made h = reaches_within c.posts c.links h
+reaches_before c _ m made h = reaches_within c.posts c.links h
 
 only_live : (b : Bool) (posts : ℕ) (o : Option Link) → IfSome o (λ l. reach l ≤ posts) → IfSome (cond b o None) (λ l. reach l ≤ posts)
 only_live true posts o h = h
@@ -137,14 +134,8 @@ round_kept s t rs o (inr h) apart = each_kept (ops.pending s) s.line rs o h.0 ap
 pub answers_kept : (n : Node) (e : Event) → IsLawfulNode n
     → AllByRecursion (λ r. table.get (step n e).outbox.answers r.session ≡ Some r.answer) (replies n.core e)
 unfolding step
-answers_kept n event.Enter h = tt
-answers_kept n event.Leave h = tt
 answers_kept n (event.Deliver from k m) h =
     let c = n.core in
     round_kept c.ops (ops.after_message c.me (quorum c) m c.ops) (ops.replies_of c.me m c.ops)
     (add (post c (event.Deliver from k m)) n.outbox) (message_answers c.me (quorum c) m c.ops) h.core.line.apart
-answers_kept n (event.Acked peer k) h = tt
-answers_kept n (event.Ask s r k) h = tt
-answers_kept n (event.Retire q) h = tt
-answers_kept n (event.Lapse q) h = tt
-answers_kept n event.Snapshot h = tt
+answers_kept n _ h = tt

@@ -194,15 +194,11 @@ message_churn ls me gamma (message.Join q) s share few own k h = record { change
 message_churn ls me gamma (message.JoinEcho q) s share few own k h = record { changes = join_changes ls s.changes q k h.changes; need = h.need }
 message_churn ls me gamma (message.Leave q) s share few own k h = record { changes = leave_changes ls s.changes q k h.changes; need = h.need }
 message_churn ls me gamma (message.LeaveEcho q) s share few own k h = record { changes = leave_changes ls s.changes q k h.changes; need = h.need }
-message_churn ls me gamma (message.Query tag q) s share few own k h = h
-message_churn ls me gamma (message.QueryReply v tag q) s share few own k h = h
-message_churn ls me gamma (message.Store v tag q) s share few own k h = h
-message_churn ls me gamma (message.StoreAck tag q) s share few own k h = h
 message_churn ls me gamma (message.Snapshot c v) s share few own k h = record { changes = union_changes ls s.changes c k.0 h.changes; need = h.need }
+message_churn ls me gamma _ s share few own k h = h
 
 -- who left has left for good
 pub left_stays : (me : ℕ) (gamma : Fraction) (m : Message) (s : Churn) → IsWithin s.changes.left (churn.after_message me gamma m s).changes.left
-left_stays me gamma (message.Enter q) s x h = h
 left_stays me gamma (message.EnterEcho c v j q) s x h =
     let t = churn.united c s in
     let l = set.union s.changes.left c.left in
@@ -212,23 +208,17 @@ left_stays me gamma (message.EnterEcho c v j q) s x h =
     let w = churn.with_echo (churn.with_need gamma j t) in
     cond_both (churn.counts_for me q t) (churn.joined_if_answered me w) t P
     (λ _. cond_both (churn.is_answered w) (record w { changes = add_join w.changes me }) w P (λ _. n) (λ _. n)) (λ _. here)
-left_stays me gamma (message.Join q) s x h = h
-left_stays me gamma (message.JoinEcho q) s x h = h
 left_stays me gamma (message.Leave q) s x h = within_insert s.changes.left q tt x h
 left_stays me gamma (message.LeaveEcho q) s x h = within_insert s.changes.left q tt x h
-left_stays me gamma (message.Query tag q) s x h = h
-left_stays me gamma (message.QueryReply v tag q) s x h = h
-left_stays me gamma (message.Store v tag q) s x h = h
-left_stays me gamma (message.StoreAck tag q) s x h = h
 left_stays me gamma (message.Snapshot c v) s x h = first_in_union s.changes.left c.left x h
+left_stays me gamma _ s x h = h
 
 -- ---- views and phases
 
 phase_more : (ls ms : Links) (ss : Requests) (p : Phase) → IsWithin ls ms → IsPhaseOf ls ss p → IsPhaseOf ms ss p
 phase_more ls ms ss Idle more h = tt
-phase_more ls ms ss (Storing p) more h = h
-phase_more ls ms ss (Querying p) more h = h
 phase_more ls ms ss (StoringBack p seen) more h = (h.0, h.1, λ q k. more q (h.2 q k))
+phase_more ls ms ss _ more h = h
 
 -- ---- asks that wait
 
@@ -241,9 +231,7 @@ both_all P (x ∷ xs) ys h k = (h.0, both_all P xs ys h.1 k)
 
 first_last : (ls : Links) (ss : Requests) (phase : Phase) → IsPhaseOf ls ss phase → AllByRecursion (IsLastOf ss) (ops.asked_in phase)
 first_last ls ss Idle h = tt
-first_last ls ss (Storing p) h = (h.0.session, tt)
-first_last ls ss (Querying p) h = (h.0.session, tt)
-first_last ls ss (StoringBack p seen) h = (h.0.session, tt)
+first_last ls ss _ h = (h.0.session, tt)
 
 -- each ask that isn't answered is its session's last request
 pub all_last : (ls : Links) (ss : Requests) (s : Ops) → IsPhaseOf ls ss s.phase → IsLineOf ss s → AllByRecursion (IsLastOf ss) (ops.unanswered s)
@@ -253,15 +241,11 @@ all_last ls ss s phase line =
 -- nothing waits where nothing is pending; anything may where something is
 pub none_waits : (phase : Phase) (line : List Asked) → ops.is_idle phase ≡ true → WaitsBehind (stage_of phase) line → line ≡ []
 none_waits Idle line idle h = h
-none_waits (Storing p) line idle h = cc
-none_waits (Querying p) line idle h = cc
-none_waits (StoringBack p seen) line idle h = cc
+none_waits _ line idle h = cc
 
 none_beside : (phase : Phase) (others : List Asked) → ops.is_idle phase ≡ true → IsBeside phase others → others ≡ []
 none_beside Idle others idle h = h
-none_beside (Storing p) others idle h = cc
-none_beside (Querying p) others idle h = cc
-none_beside (StoringBack p seen) others idle h = cc
+none_beside _ others idle h = cc
 
 -- where nothing is pending none waits, and none is beside it
 pub none_left : {ss : Requests} (s : Ops) → IsLineOf ss s → ops.is_idle s.phase ≡ true → (s.line ≡ []) × (s.others ≡ [])
@@ -269,9 +253,7 @@ none_left s h idle = (none_waits s.phase s.line idle h.behind, none_beside s.pha
 
 may_wait : (phase : Phase) (line : List Asked) → ops.is_idle phase ≡ false → WaitsBehind (stage_of phase) line
 may_wait Idle line busy = cc
-may_wait (Storing p) line busy = tt
-may_wait (Querying p) line busy = tt
-may_wait (StoringBack p seen) line busy = tt
+may_wait _ line busy = tt
 
 round_behind : (me quorum : ℕ) (a : Asked) (others : List Asked) (s : Ops)
     → WaitsBehind (stage_of (ops.begin_round me quorum (a ∷ others) s).phase) (ops.begin_round me quorum (a ∷ others) s).line
@@ -290,40 +272,29 @@ last_behind me quorum s some = of_line s.share s.line some
 
 ack_behind : (me quorum : ℕ) (phase : Phase) (s : Ops) → 1 ≤ s.share → WaitsBehind (stage_of s.phase) s.line
     → WaitsBehind (stage_of (ops.after_ack me quorum phase s).phase) (ops.after_ack me quorum phase s).line
-ack_behind me quorum Idle s some h = h
 ack_behind me quorum (Storing p) s some h =
     cond_both (ops.is_last p) (ops.after_last me quorum s) (record s { phase = Storing (ops.counted p) }) (λ (t : Ops). WaitsBehind (stage_of t.phase) t.line)
     (λ _. last_behind me quorum s some) (λ _. tt)
-ack_behind me quorum (Querying p) s some h = h
 ack_behind me quorum (StoringBack p seen) s some h =
     cond_both (ops.is_last p) (ops.after_last me quorum s) (record s { phase = StoringBack (ops.counted p) seen }) (λ (t : Ops). WaitsBehind (stage_of t.phase) t.line)
     (λ _. last_behind me quorum s some) (λ _. tt)
+ack_behind me quorum _ s some h = h
 
 reply_behind : (quorum : ℕ) (v : ViewMap) (phase : Phase) (s : Ops) → WaitsBehind (stage_of s.phase) s.line
     → WaitsBehind (stage_of (ops.after_reply quorum v phase s).phase) (ops.after_reply quorum v phase s).line
-reply_behind quorum v Idle s h = h
-reply_behind quorum v (Storing p) s h = h
 reply_behind quorum v (Querying p) s h =
     cond_both (ops.is_last p)
     (ops.next_round (StoringBack (ops.round_of quorum p.asked) (merge s.view v)) (ops.merged v s))
     (record (ops.merged v s) { phase = Querying (ops.counted p) }) (λ (t : Ops). WaitsBehind (stage_of t.phase) t.line) (λ _. tt) (λ _. tt)
-reply_behind quorum v (StoringBack p seen) s h = h
+reply_behind quorum v _ s h = h
 
 message_behind : (me quorum : ℕ) (m : Message) (s : Ops) → 1 ≤ s.share → WaitsBehind (stage_of s.phase) s.line
     → WaitsBehind (stage_of (ops.after_message me quorum m s).phase) (ops.after_message me quorum m s).line
-message_behind me quorum (message.Enter q) s some h = h
-message_behind me quorum (message.EnterEcho c v j q) s some h = h
-message_behind me quorum (message.Join q) s some h = h
-message_behind me quorum (message.JoinEcho q) s some h = h
-message_behind me quorum (message.Leave q) s some h = h
-message_behind me quorum (message.LeaveEcho q) s some h = h
-message_behind me quorum (message.Query tag q) s some h = h
 message_behind me quorum (message.QueryReply v tag q) s some h =
     cond_both (ops.is_own me tag q s) (ops.after_reply quorum v s.phase s) s (λ (t : Ops). WaitsBehind (stage_of t.phase) t.line) (λ _. reply_behind quorum v s.phase s h) (λ _. h)
-message_behind me quorum (message.Store v tag q) s some h = h
 message_behind me quorum (message.StoreAck tag q) s some h =
     cond_both (ops.is_own me tag q s) (ops.after_ack me quorum s.phase s) s (λ (t : Ops). WaitsBehind (stage_of t.phase) t.line) (λ _. ack_behind me quorum s.phase s some h) (λ _. h)
-message_behind me quorum (message.Snapshot c v) s some h = h
+message_behind me quorum _ s some h = h
 
 -- of the asks that wait the first round begins, or none
 parted_few : (s : Ops) (begun line : List Asked) → Parts s begun line → length line ≤ length s.line
@@ -378,8 +349,6 @@ counted_more ss p last h = record {
 
 reply_round : (ls : Links) (ss : Requests) (quorum : ℕ) (v : ViewMap) (phase : Phase) (s : Ops) → 0 < quorum → quorum ≤ known_limit → IsWithin v ls
     → KeepsRound ls ss s → IsPhaseOf ls ss phase → IsBeside phase s.others → KeepsRound ls ss (ops.after_reply quorum v phase s)
-reply_round ls ss quorum v Idle s some few k h i j = h
-reply_round ls ss quorum v (Storing p) s some few k h i j = h
 reply_round ls ss quorum v (Querying p) s some few k h i j =
     let all : IsWithin (merge s.view v) ls = merge_within s.view v ls h.view k in
     cond_both (ops.is_last p)
@@ -388,7 +357,7 @@ reply_round ls ss quorum v (Querying p) s some few k h i j =
     (KeepsRound ls ss)
     (λ _. record { view = all; phase = (record { session = i.0.session; need = few; count = some }, i.1, all); round = record { some = h.round.some; most = h.round.most; few = h.round.few; alike = j; last = h.round.last } })
     (λ last. record { view = all; phase = (counted_more ss p last i.0, i.1); round = record { some = h.round.some; most = h.round.most; few = h.round.few; alike = j; last = h.round.last } })
-reply_round ls ss quorum v (StoringBack p seen) s some few k h i j = h
+reply_round ls ss quorum v _ s some few k h i j = h
 
 round_keeps : (ls : Links) (ss : Requests) (me quorum : ℕ) (a : Asked) (others : List Asked) (s : Ops) → 0 < quorum → quorum ≤ known_limit → IsKnown ls me → IsWithin s.view ls
     → AllByRecursion (IsLastOf ss) (a ∷ others) → AllByRecursion (λ b. is_writing b.command ≡ is_writing a.command) others → length others < s.share → s.share ≤ share_limit
@@ -441,32 +410,26 @@ last_round ls ss me quorum s some few own view last one most = of_line s.share s
 
 ack_round : (ls : Links) (ss : Requests) (me quorum : ℕ) (phase : Phase) (s : Ops) → 0 < quorum → quorum ≤ known_limit → IsKnown ls me → KeepsRound ls ss s
     → AllByRecursion (IsLastOf ss) s.line → IsPhaseOf ls ss phase → IsBeside phase s.others → KeepsRound ls ss (ops.after_ack me quorum phase s)
-ack_round ls ss me quorum Idle s some few own h last i j = h
 ack_round ls ss me quorum (Storing p) s some few own h last i j =
     cond_both (ops.is_last p) (ops.after_last me quorum s) (record s { phase = Storing (ops.counted p) }) (KeepsRound ls ss)
     (λ _. last_round ls ss me quorum s some few own h.view last h.round.some h.round.most)
     (λ more. record { view = h.view; phase = (counted_more ss p more i.0, i.1); round = record { some = h.round.some; most = h.round.most; few = h.round.few; alike = j; last = h.round.last } })
-ack_round ls ss me quorum (Querying p) s some few own h last i j = h
 ack_round ls ss me quorum (StoringBack p seen) s some few own h last i j =
     cond_both (ops.is_last p) (ops.after_last me quorum s) (record s { phase = StoringBack (ops.counted p) seen }) (KeepsRound ls ss)
     (λ _. last_round ls ss me quorum s some few own h.view last h.round.some h.round.most)
     (λ more. record { view = h.view; phase = (counted_more ss p more i.0, i.1, i.2); round = record { some = h.round.some; most = h.round.most; few = h.round.few; alike = j; last = h.round.last } })
+ack_round ls ss me quorum _ s some few own h last i j = h
 
 message_round : (ls : Links) (ss : Requests) (me quorum : ℕ) (m : Message) (s : Ops) → 0 < quorum → quorum ≤ known_limit → IsKnown ls me → MessageKnown ls m
     → AllByRecursion (IsLastOf ss) s.line → KeepsRound ls ss s → KeepsRound ls ss (ops.after_message me quorum m s)
-message_round ls ss me quorum (message.Enter q) s some few own k last h = h
 message_round ls ss me quorum (message.EnterEcho c v j q) s some few own k last h = record { view = merge_within s.view v ls h.view k.1; phase = h.phase; round = h.round }
-message_round ls ss me quorum (message.Join q) s some few own k last h = h
-message_round ls ss me quorum (message.JoinEcho q) s some few own k last h = h
-message_round ls ss me quorum (message.Leave q) s some few own k last h = h
-message_round ls ss me quorum (message.LeaveEcho q) s some few own k last h = h
-message_round ls ss me quorum (message.Query tag q) s some few own k last h = h
 message_round ls ss me quorum (message.QueryReply v tag q) s some few own k last h =
     cond_both (ops.is_own me tag q s) (ops.after_reply quorum v s.phase s) s (KeepsRound ls ss) (λ _. reply_round ls ss quorum v s.phase s some few k h h.phase h.round.alike) (λ _. h)
 message_round ls ss me quorum (message.Store v tag q) s some few own k last h = record { view = merge_within s.view v ls h.view k; phase = h.phase; round = h.round }
 message_round ls ss me quorum (message.StoreAck tag q) s some few own k last h =
     cond_both (ops.is_own me tag q s) (ops.after_ack me quorum s.phase s) s (KeepsRound ls ss) (λ _. ack_round ls ss me quorum s.phase s some few own h last h.phase h.round.alike) (λ _. h)
 message_round ls ss me quorum (message.Snapshot c v) s some few own k last h = record { view = merge_within s.view v ls h.view k.1; phase = h.phase; round = h.round }
+message_round ls ss me quorum _ s some few own k last h = h
 
 pub message_ops : (ls : Links) (ss : Requests) (me quorum : ℕ) (m : Message) (s : Ops) → 0 < quorum → quorum ≤ known_limit → IsKnown ls me → MessageKnown ls m
     → KeepsOps ls ss s → KeepsOps ls ss (ops.after_message me quorum m s)

@@ -63,57 +63,40 @@ last_tag : (me quorum : ℕ) (s : Ops) → (ops.after_last me quorum s).tag ≤ 
 last_tag me quorum s = round_tag me quorum (first_round s.share s.line) (record s { line = line_behind s.share s.line })
 
 ack_tag : (me quorum : ℕ) (phase : Phase) (s : Ops) → (ops.after_ack me quorum phase s).tag ≤ s.tag + 1
-ack_tag me quorum Idle s = omega arith
 ack_tag me quorum (Storing p) s =
     cond_both (ops.is_last p) (ops.after_last me quorum s) (record s { phase = Storing (ops.counted p) }) (λ t. t.tag ≤ s.tag + 1)
     (λ _. last_tag me quorum s) (λ _. omega arith)
-ack_tag me quorum (Querying p) s = omega arith
 ack_tag me quorum (StoringBack p seen) s =
     cond_both (ops.is_last p) (ops.after_last me quorum s) (record s { phase = StoringBack (ops.counted p) seen }) (λ t. t.tag ≤ s.tag + 1)
     (λ _. last_tag me quorum s) (λ _. omega arith)
+ack_tag me quorum _ s = omega arith
 
 reply_tag : (quorum : ℕ) (v : ViewMap) (phase : Phase) (s : Ops) → (ops.after_reply quorum v phase s).tag ≤ s.tag + 1
-reply_tag quorum v Idle s = omega arith
-reply_tag quorum v (Storing p) s = omega arith
 reply_tag quorum v (Querying p) s =
     cond_both (ops.is_last p)
     (ops.next_round (StoringBack (ops.round_of quorum p.asked) (merge s.view v)) (ops.merged v s))
     (record (ops.merged v s) { phase = Querying (ops.counted p) }) (λ t. t.tag ≤ s.tag + 1) (λ _. omega arith) (λ _. omega arith)
-reply_tag quorum v (StoringBack p seen) s = omega arith
+reply_tag quorum v _ s = omega arith
 
 message_tag : (me quorum : ℕ) (m : Message) (s : Ops) → (ops.after_message me quorum m s).tag ≤ s.tag + 1
-message_tag me quorum (message.Enter q) s = omega arith
-message_tag me quorum (message.EnterEcho c v j q) s = omega arith
-message_tag me quorum (message.Join q) s = omega arith
-message_tag me quorum (message.JoinEcho q) s = omega arith
-message_tag me quorum (message.Leave q) s = omega arith
-message_tag me quorum (message.LeaveEcho q) s = omega arith
-message_tag me quorum (message.Query tag q) s = omega arith
 message_tag me quorum (message.QueryReply v tag q) s =
     cond_both (ops.is_own me tag q s) (ops.after_reply quorum v s.phase s) s (λ t. t.tag ≤ s.tag + 1) (λ _. reply_tag quorum v s.phase s) (λ _. omega arith)
-message_tag me quorum (message.Store v tag q) s = omega arith
 message_tag me quorum (message.StoreAck tag q) s =
     cond_both (ops.is_own me tag q s) (ops.after_ack me quorum s.phase s) s (λ t. t.tag ≤ s.tag + 1) (λ _. ack_tag me quorum s.phase s) (λ _. omega arith)
-message_tag me quorum (message.Snapshot c v) s = omega arith
+message_tag me quorum _ s = omega arith
 
 tag_next : (c : Core) (e : Event) → (next c e).ops.tag ≤ c.ops.tag + 1
 unfolding next
-tag_next c event.Enter = omega arith
-tag_next c event.Leave = omega arith
 tag_next c (event.Deliver from n m) =
     anew_tag (asks_anew c from n m) _ (ops.after_message c.me (quorum c) m c.ops) c.ops.tag
     (λ e. snapshot_tag c.me (quorum c) m c.ops (anew_snapshot c from n m e)) (message_tag c.me (quorum c) m c.ops)
-tag_next c (event.Acked peer n) = omega arith
 tag_next c (event.Ask s r k) =
     let a = asked_of s r k in
     cond_both (ops.is_idle c.ops.phase) (ops.with_begun c.me (quorum c) a c.ops) (record c.ops { line = c.ops.line ++ a ∷ [] }) (λ t. t.tag ≤ c.ops.tag + 1)
     (λ _. round_tag c.me (quorum c) (a ∷ []) c.ops) (λ _. omega arith)
-tag_next c (event.Retire q) = omega arith
-tag_next c (event.Lapse q) = omega arith
-tag_next c event.Snapshot = omega arith
+tag_next c _ = omega arith
 
 message_echoes : (me : ℕ) (gamma : Fraction) (m : Message) (s : Churn) → (churn.after_message me gamma m s).echoes ≤ s.echoes + 1
-message_echoes me gamma (message.Enter q) s = omega arith
 message_echoes me gamma (message.EnterEcho c v j q) s =
     let t = churn.united c s in
     let P : Churn → Type 0 = λ u. u.echoes ≤ s.echoes + 1 in
@@ -122,28 +105,14 @@ message_echoes me gamma (message.EnterEcho c v j q) s =
     let w = churn.with_echo u in
     cond_both (churn.counts_for me q t) (churn.joined_if_answered me w) t P
     (λ _. cond_both (churn.is_answered w) (record w { changes = add_join w.changes me }) w P (λ _. omega (arith, n)) (λ _. omega (arith, n))) (λ _. omega arith)
-message_echoes me gamma (message.Join q) s = omega arith
-message_echoes me gamma (message.JoinEcho q) s = omega arith
-message_echoes me gamma (message.Leave q) s = omega arith
-message_echoes me gamma (message.LeaveEcho q) s = omega arith
-message_echoes me gamma (message.Query tag q) s = omega arith
-message_echoes me gamma (message.QueryReply v tag q) s = omega arith
-message_echoes me gamma (message.Store v tag q) s = omega arith
-message_echoes me gamma (message.StoreAck tag q) s = omega arith
-message_echoes me gamma (message.Snapshot c v) s = omega arith
+message_echoes me gamma _ s = omega arith
 
 echoes_next : (c : Core) (e : Event) → (next c e).churn.echoes ≤ c.churn.echoes + 1
 unfolding next
-echoes_next c event.Enter = omega arith
-echoes_next c event.Leave = omega arith
 echoes_next c (event.Deliver from n m) =
     echoes_told (tells c from n m) c.me c.gamma (churned c m) c.churn.echoes
     (λ e. snapshot_echoes c.me c.gamma m c.churn (tells_snapshot c from n m e)) (message_echoes c.me c.gamma m c.churn)
-echoes_next c (event.Acked peer n) = omega arith
-echoes_next c (event.Ask s r command) = omega arith
-echoes_next c (event.Retire q) = omega arith
-echoes_next c (event.Lapse q) = omega arith
-echoes_next c event.Snapshot = omega arith
+echoes_next c _ = omega arith
 
 posts_next : (c : Core) (e : Event) → (next c e).posts ≤ c.posts + 1
 unfolding next
@@ -448,25 +417,18 @@ next_core c event.Snapshot d h = snapshot_core c d h
 
 pub links_go_on : (c : Core) (e : Event) → decides c e ≡ None → LinksGoOn c.posts c.links (next c e).links
 unfolding next
-links_go_on c event.Enter d = go_same c.posts c.links
-links_go_on c event.Leave d = go_same c.posts c.links
 links_go_on c (event.Deliver from n m) d = linked_goes c from n m d
 links_go_on c (event.Acked peer n) d = ack_goes c.posts peer n c.links (takes_ack c peer n d).awaited
-links_go_on c (event.Ask s r k) d = go_same c.posts c.links
 links_go_on c (event.Retire q) d = add_all_goes c.posts (q ∷ []) c.links
 links_go_on c (event.Lapse q) d = lapse_goes c.posts q c.links (or_parts _ _ (takes_lapse c q d).awaited).1
-links_go_on c event.Snapshot d = go_same c.posts c.links
+links_go_on c _ d = go_same c.posts c.links
 
 pub left_grows : (c : Core) (e : Event) → IsWithin c.churn.changes.left (next c e).churn.changes.left
 unfolding next
-left_grows c event.Enter q h = h
 left_grows c event.Leave q h = within_insert c.churn.changes.left c.me tt q h
 left_grows c (event.Deliver from n m) q h = left_told (tells c from n m) c.me c.gamma (churned c m) q (left_stays c.me c.gamma m c.churn q h)
-left_grows c (event.Acked peer n) q h = h
-left_grows c (event.Ask s r k) q h = h
 left_grows c (event.Retire p) q h = within_insert c.churn.changes.left p tt q h
-left_grows c (event.Lapse p) q h = h
-left_grows c event.Snapshot q h = h
+left_grows c _ q h = h
 
 pub lowest_next : (c : Core) (e : Event) → decides c e ≡ None → LinksWithin c.posts c.links → lowest c ≤ lowest (next c e)
 unfolding next
@@ -476,8 +438,6 @@ lowest_next c e d h =
 
 step_answers : (n : Node) (e : Event) → IsLawfulNode n → KeepsAnswers (next n.core e).sessions (unanswered (next n.core e).ops) (step n e).outbox.answers
 unfolding step next
-step_answers n event.Enter h = h.answers
-step_answers n event.Leave h = h.answers
 step_answers n (event.Deliver from k m) h =
     let c = n.core in
     let e = event.Deliver from k m in
@@ -486,7 +446,6 @@ step_answers n (event.Deliver from k m) h =
     (posted c.sessions (unanswered after) (post c e) (ops.replies_of c.me m c.ops) n.outbox
     (round_answers c.sessions c.ops after (ops.replies_of c.me m c.ops) n.outbox (message_answers c.me (quorum c) m c.ops) h.core.line.apart
     (all_last c.links c.sessions c.ops h.core.phase h.core.line) h.answers))
-step_answers n (event.Acked peer k) h = h.answers
 step_answers n (event.Ask s r k) h =
     let c = n.core in
     let e = event.Ask s r k in
@@ -496,9 +455,7 @@ step_answers n (event.Ask s r k) h =
     (subst (λ (l : List Asked). KeepsAnswers asks l (table.remove n.outbox.answers s))
     (sym (ask_unanswered c.me (quorum c) a c.ops (none_left c.ops h.core.line)))
     (last_answers c.sessions (unanswered c.ops) a n.outbox.answers h.answers))
-step_answers n (event.Retire q) h = h.answers
-step_answers n (event.Lapse q) h = h.answers
-step_answers n event.Snapshot h = h.answers
+step_answers n _ h = h.answers
 
 pub step_lawful : (n : Node) (e : Event) → decides n.core e ≡ None → IsLawfulNode n → IsLawfulNode (step n e)
 unfolding step next

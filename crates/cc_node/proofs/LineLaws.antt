@@ -201,29 +201,17 @@ heard_goes posts (Some l) None goes = absurd goes
 heard_goes posts (Some l) (Some k) goes = goes.2
 
 ack_follows : (c : Core) (e : Event) (x : Output) → decides c e ≡ None → IsPast c x → AllByRecursion (Follows x) (send_ack (core.ack e))
-ack_follows c event.Enter x d past = tt
-ack_follows c event.Leave x d past = tt
-ack_follows c (event.Acked peer n) x d past = tt
-ack_follows c (event.Ask s r k) x d past = tt
-ack_follows c (event.Retire q) x d past = tt
-ack_follows c (event.Lapse q) x d past = tt
-ack_follows c event.Snapshot x d past = tt
 ack_follows c (event.Deliver from n m) (output.Send to number k) d past = (tt, tt)
 ack_follows c (event.Deliver from n m) (output.Reply s request a) d past = (tt, tt)
 ack_follows c (event.Deliver from n m) (output.Ack to number) d past =
     let above : heard_from from c.links < n = leb-false _ _ (takes_delivery c from n m d).new in
     (λ same. let old : number ≤ heard_from from c.links = subst (λ (q : ℕ). number ≤ heard_from q c.links) same past in omega arith, tt)
+ack_follows c _ x d past = tt
 
 ack_past : (c : Core) (e : Event) → AllByRecursion (IsPast (next c e)) (send_ack (core.ack e))
 unfolding next
-ack_past c event.Enter = tt
-ack_past c event.Leave = tt
-ack_past c (event.Acked peer n) = tt
-ack_past c (event.Ask s r k) = tt
-ack_past c (event.Retire q) = tt
-ack_past c (event.Lapse q) = tt
-ack_past c event.Snapshot = tt
 ack_past c (event.Deliver from n m) = (subst (λ k. k ≤ heard_from from (next c (event.Deliver from n m)).links) (hears_now c from n m) (omega arith), tt)
+ack_past c _ = tt
 
 -- ---- replies
 
@@ -317,28 +305,15 @@ request_below ss before after s request r past ends same =
     subst (λ n. request < n) last less
 
 reply_follows : (c : Core) (e : Event) (x : Output) → IsLawfulCore c → IsPast c x → AllByRecursion (Follows x) (send_replies (replies c e))
-reply_follows c event.Enter x h past = tt
-reply_follows c event.Leave x h past = tt
-reply_follows c (event.Acked peer n) x h past = tt
-reply_follows c (event.Ask s r k) x h past = tt
-reply_follows c (event.Retire q) x h past = tt
-reply_follows c (event.Lapse q) x h past = tt
-reply_follows c event.Snapshot x h past = tt
 reply_follows c (event.Deliver from n m) (output.Send to number k) h past = each_answer (Follows (output.Send to number k)) c m h (λ r ends. tt)
 reply_follows c (event.Deliver from n m) (output.Ack to number) h past = each_answer (Follows (output.Ack to number)) c m h (λ r ends. tt)
 reply_follows c (event.Deliver from n m) (output.Reply s request a) h past =
     let after = unanswered (ops.after_message c.me (quorum c) m c.ops) in
     each_answer (Follows (output.Reply s request a)) c m h (λ r ends same. request_below c.sessions (unanswered c.ops) after s request r past ends same)
+reply_follows c _ x h past = tt
 
 reply_past : (c : Core) (e : Event) → IsLawfulCore c → AllByRecursion (IsPast (next c e)) (send_replies (replies c e))
 unfolding next
-reply_past c event.Enter h = tt
-reply_past c event.Leave h = tt
-reply_past c (event.Acked peer n) h = tt
-reply_past c (event.Ask s r k) h = tt
-reply_past c (event.Retire q) h = tt
-reply_past c (event.Lapse q) h = tt
-reply_past c event.Snapshot h = tt
 reply_past c (event.Deliver from n m) h =
     let after = unanswered (ops.after_message c.me (quorum c) m c.ops) in
     each_answer (IsPast (next c (event.Deliver from n m))) c m h
@@ -346,6 +321,7 @@ reply_past c (event.Deliver from n m) h =
       begun = subst (λ k. r.request ≤ k) (sym (last_is c.sessions r.session r.request ends.last)) (omega arith);
       ended = λ t. absurd (both_ways (has_session r.session after) ends.done t);
     }))
+reply_past c _ h = tt
 
 still_there : (x : ℕ) (s t : Ops) (rs : List Reply) → AnswersRound s t rs → has_session x (unanswered t) ≡ true → has_session x (unanswered s) ≡ true
 still_there x s t rs (inl h) there = ap (has_session x) (sym h.1) ∙ there
@@ -409,18 +385,13 @@ answered_asked c y r k s request d h past =
 answered_stays : (c : Core) (e : Event) (s request : ℕ) → decides c e ≡ None → IsLawfulCore c → IsAnswered c.sessions (unanswered c.ops) s request
     → IsAnswered (next c e).sessions (unanswered (next c e).ops) s request
 unfolding next
-answered_stays c event.Enter s request d h past = past
-answered_stays c event.Leave s request d h past = past
-answered_stays c (event.Acked peer n) s request d h past = past
 answered_stays c (event.Deliver from n m) s request d h past = record {
   begun = past.begun;
   ended = λ t. past.ended (message_there c.me (quorum c) m c.ops s
       (ap (has_session s) (sym (anew_unanswered (asks_anew c from n m) _ (ops.after_message c.me (quorum c) m c.ops))) ∙ t));
 }
 answered_stays c (event.Ask y r k) s request d h past = answered_asked c y r k s request d h past
-answered_stays c (event.Retire q) s request d h past = past
-answered_stays c (event.Lapse q) s request d h past = past
-answered_stays c event.Snapshot s request d h past = past
+answered_stays c _ s request d h past = past
 
 -- ---- all outputs of an event
 
@@ -452,15 +423,9 @@ ack_rises None = tt
 ack_rises (Some k) = (tt, tt)
 
 replies_rise : (c : Core) (e : Event) → IsLawfulCore c → EachRises (send_replies (replies c e))
-replies_rise c event.Enter h = tt
-replies_rise c event.Leave h = tt
 replies_rise c (event.Deliver from n m) h =
     replies_apart c.ops (ops.after_message c.me (quorum c) m c.ops) (ops.replies_of c.me m c.ops) (message_answers c.me (quorum c) m c.ops) h.line.apart
-replies_rise c (event.Acked peer n) h = tt
-replies_rise c (event.Ask s r k) h = tt
-replies_rise c (event.Retire q) h = tt
-replies_rise c (event.Lapse q) h = tt
-replies_rise c event.Snapshot h = tt
+replies_rise c _ h = tt
 
 ack_then_replies : (to number : ℕ) (rs : List Reply) → AllByRecursion (Follows (output.Ack to number)) (send_replies rs)
 ack_then_replies to number [] = tt

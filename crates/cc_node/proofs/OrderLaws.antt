@@ -38,17 +38,12 @@ parted_kinds k s begun line (inr h) = sym (round_kinds k s.share s.line) ∙ sym
 
 one_in_order : (k : Bool) (c : Core) (e : Event) → IsLawfulCore c → of_kind k (c.ops.line ++ asked_by e) ≡ of_kind k (begun c e ++ (next c e).ops.line)
 unfolding next
-one_in_order k c event.Enter h = ap (of_kind k) (append-nil c.ops.line)
-one_in_order k c event.Leave h = ap (of_kind k) (append-nil c.ops.line)
 one_in_order k c (event.Deliver from n m) h =
     let t = ops.after_message c.me (quorum c) m c.ops in
     ap (of_kind k) (append-nil c.ops.line) ∙ parted_kinds k c.ops (ops.begun_by c.me m c.ops) t.line (message_parts c.me (quorum c) m c.ops)
     ∙ ap (λ (l : List Asked). of_kind k (ops.begun_by c.me m c.ops ++ l)) (sym (anew_line (asks_anew c from n m) _ t))
-one_in_order k c (event.Acked peer n) h = ap (of_kind k) (append-nil c.ops.line)
 one_in_order k c (event.Ask s r command) h = ap (of_kind k) (ask_line c.me (quorum c) (asked_of s r command) c.ops (λ idle. none_waits c.ops.phase c.ops.line idle h.line.behind))
-one_in_order k c (event.Retire q) h = ap (of_kind k) (append-nil c.ops.line)
-one_in_order k c (event.Lapse q) h = ap (of_kind k) (append-nil c.ops.line)
-one_in_order k c event.Snapshot h = ap (of_kind k) (append-nil c.ops.line)
+one_in_order k c _ h = ap (of_kind k) (append-nil c.ops.line)
 
 pub begin_in_order : (k : Bool) (n : Node) (es : List Event) → IsLawfulNode n → IsLawful n es
     → of_kind k (n.core.ops.line ++ asked_along es) ≡ of_kind k (begun_along n es ++ (after n es).core.ops.line)
@@ -98,18 +93,12 @@ passes (Some r) xs ys f h = cc
 
 pub taken_within : (c : Core) (e : Event) → decides_within 0 c e ≡ None → decides c e ≡ None
 unfolding decides decides_within
-taken_within c event.Enter d = d
-taken_within c event.Leave d = d
-taken_within c (event.Deliver from n m) d = d
-taken_within c (event.Acked peer n) d = d
 taken_within c (event.Ask s r k) d =
     let e = event.Ask s r k in
     let rest = set_full c k ∷ outbox_full c e ∷ spent c e ∷ [] in
     passes (left c) _ _ (passes (not_entered c) _ _ (passes (not_joined c) _ _ (passes (too_many_sessions c s) _ _ (passes (repeat c s r) _ _
     (passes (stale c s r) _ _ (passes (skip c s r) _ _ (either_none (busy 0 c s) (busy line_limit c s) rest (free_more c s)))))))) d
-taken_within c (event.Retire q) d = d
-taken_within c (event.Lapse q) d = d
-taken_within c event.Snapshot d = d
+taken_within c _ d = d
 
 pub taken_along : (n : Node) (es : List Event) → IsLawfulWithin 0 n es → IsLawful n es
 taken_along n [] d = tt
@@ -130,12 +119,9 @@ none_asked c s r k none idle =
 
 pub none_waiting : (c : Core) (e : Event) → c.ops.line ≡ [] → decides_within 0 c e ≡ None → (next c e).ops.line ≡ []
 unfolding next
-none_waiting c event.Enter none d = none
-none_waiting c event.Leave none d = none
 none_waiting c (event.Deliver from n m) none d =
     anew_line (asks_anew c from n m) _ (ops.after_message c.me (quorum c) m c.ops)
     ∙ parted_none c.ops (ops.begun_by c.me m c.ops) _ (message_parts c.me (quorum c) m c.ops) none
-none_waiting c (event.Acked peer n) none d = none
 none_waiting c (event.Ask s r k) none d =
     let there = has_session s (ops.unanswered c.ops) in
     let idle = ops.is_idle c.ops.phase in
@@ -145,9 +131,7 @@ none_waiting c (event.Ask s r k) none d =
     must_idle : (idle there : Bool) → then_some (not idle && (true || there)) refusal.Busy ≡ None → idle ≡ true
     must_idle true there e = refl
     must_idle false there e = cc
-none_waiting c (event.Retire q) none d = none
-none_waiting c (event.Lapse q) none d = none
-none_waiting c event.Snapshot none d = none
+none_waiting c _ none d = none
 
 -- where none may wait, none does
 pub none_waiting_along : (n : Node) (es : List Event) → n.core.ops.line ≡ [] → IsLawfulWithin 0 n es → (after n es).core.ops.line ≡ []

@@ -72,13 +72,7 @@ posts_keep (r ∷ rs) o = posts_keep rs (kept.keep r.session r.answer o)
 
 pub last_forget : (e : Event) (o : Outbox) → (forget_asked e o).last ≡ o.last
 last_forget event.Enter o = refl
-last_forget event.Leave o = refl
-last_forget (event.Deliver from n m) o = refl
-last_forget (event.Acked peer n) o = refl
-last_forget (event.Ask s r command) o = refl
-last_forget (event.Retire q) o = refl
-last_forget (event.Lapse q) o = refl
-last_forget event.Snapshot o = refl
+last_forget _ o = refl
 
 kept_or_new : (p : Option Message) (o : Outbox) (number : ℕ) (m : Message) → table.get (add p o).posts number ≡ Some m
     → (table.get o.posts number ≡ Some m) ⊎ ((number ≡ o.last + 1) × (p ≡ Some m))
@@ -183,8 +177,6 @@ acked_heard_of q peer count (Some l) ls e =
 
 step_ack : (n : Node) (e : Event) (to heard : ℕ) → HasOutput (step n e) (output.Ack to heard) → HasOutput n (output.Ack to heard) ⊎ Contains (outputs n.core e) (output.Ack to heard)
 unfolding step next
-step_ack n event.Enter to heard s = inl s
-step_ack n event.Leave to heard s = inl s
 step_ack n (event.Deliver from k m) to heard s =
     let c = n.core in
     let e = event.Deliver from k m in
@@ -203,7 +195,6 @@ step_ack n (event.Acked peer k) to heard s =
     let c = n.core in
     inl (of_heard (table.get c.links to) heard
     (sym (acked_heard_of to peer (λ _. k) (table.get c.links peer) c.links refl) ∙ ap (λ o. option_map_or (λ (l : Link). l.heard) o 0) s.1 ∙ s.2) s.3)
-step_ack n (event.Ask x r k) to heard s = inl s
 step_ack n (event.Retire q) to heard s =
     let c = n.core in
     inl (of_heard (table.get c.links to) heard
@@ -212,7 +203,7 @@ step_ack n (event.Lapse q) to heard s =
     let c = n.core in
     inl (of_heard (table.get c.links to) heard
     (sym (acked_heard_of to q (λ l. c.posts - l.start) (table.get c.links q) c.links refl) ∙ ap (λ o. option_map_or (λ (l : Link). l.heard) o 0) s.1 ∙ s.2) s.3)
-step_ack n event.Snapshot to heard s = inl s
+step_ack n _ to heard s = inl s
 
 -- ---- answers
 
@@ -263,8 +254,6 @@ get-remove_key m k q = table.get-remove nat_cmp_total m k q ∙ ap (λ b. cond b
 step_reply : (n : Node) (e : Event) (x q : ℕ) (a : Answer) → IsLawfulNode n → HasOutput (step n e) (output.Reply x q a)
     → HasOutput n (output.Reply x q a) ⊎ Contains (outputs n.core e) (output.Reply x q a)
 unfolding step next
-step_reply n event.Enter x q a h s = inl s
-step_reply n event.Leave x q a h s = inl s
 step_reply n (event.Deliver from k m) x q a h s =
     let c = n.core in
     let e = event.Deliver from k m in
@@ -274,7 +263,6 @@ step_reply n (event.Deliver from k m) x q a h s =
       | inl old ↦ inl (old, s.1)
       | inr new ↦ inr (Contains-append_right (send_ack (core.ack e) ++ send_post (next c e) (post c e)) (send_replies (replies c e)) _ new)
     ]
-step_reply n (event.Acked peer k) x q a h s = inl s
 step_reply n (event.Ask y r k) x q a h s =
     let c = n.core in
     let e = event.Ask y r k in
@@ -287,9 +275,7 @@ step_reply n (event.Ask y r k) x q a h s =
         ap (λ b. cond b (Some r) (table.get c.sessions x)) (sym t) ∙ sym (get-insert_key c.sessions y r x) ∙ s.1,
       )
     ] refl
-step_reply n (event.Retire y) x q a h s = inl s
-step_reply n (event.Lapse y) x q a h s = inl s
-step_reply n event.Snapshot x q a h s = inl s
+step_reply n _ x q a h s = inl s
 
 -- ---- along a list
 

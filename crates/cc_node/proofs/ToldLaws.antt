@@ -100,21 +100,16 @@ anew_one false q s e = cc
 
 phase_anew : (ls : Links) (ss : Requests) (q : ℕ) (p : Phase) → 0 < q → q ≤ known_limit → IsPhaseOf ls ss p → IsPhaseOf ls ss (ops.again q p)
 phase_anew ls ss q Idle some few h = tt
-phase_anew ls ss q (Storing p) some few h = (record { session = h.0.session; need = few; count = some }, h.1)
-phase_anew ls ss q (Querying p) some few h = (record { session = h.0.session; need = few; count = some }, h.1)
 phase_anew ls ss q (StoringBack p seen) some few h = (record { session = h.0.session; need = few; count = some }, h.1, h.2)
+phase_anew ls ss q _ some few h = (record { session = h.0.session; need = few; count = some }, h.1)
 
 behind_anew : (q : ℕ) (p : Phase) (line : List Asked) → WaitsBehind (stage_of p) line → WaitsBehind (stage_of (ops.again q p)) line
 behind_anew q Idle line h = h
-behind_anew q (Storing p) line h = tt
-behind_anew q (Querying p) line h = tt
-behind_anew q (StoringBack p seen) line h = tt
+behind_anew q _ line h = tt
 
 beside_anew : (q : ℕ) (p : Phase) (others : List Asked) → IsBeside p others → IsBeside (ops.again q p) others
 beside_anew q Idle others h = h
-beside_anew q (Storing p) others h = h
-beside_anew q (Querying p) others h = h
-beside_anew q (StoringBack p seen) others h = h
+beside_anew q _ others h = h
 
 pub anew_ops : (ls : Links) (ss : Requests) (b : Bool) (q : ℕ) (s : Ops) → 0 < q → q ≤ known_limit → KeepsOps ls ss s → KeepsOps ls ss (anew_if b q s)
 anew_ops ls ss b q s some few h =

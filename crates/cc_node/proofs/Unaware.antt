@@ -31,55 +31,33 @@ either_other l true s t = refl
 either_other l false s t = refl
 
 reply_other : (l : List Asked) (quorum : ℕ) (v : ViewMap) (phase : Phase) (s : Ops) → after_reply quorum v phase (other_line l s) ≡ other_line l (after_reply quorum v phase s)
-reply_other l quorum v Idle s = refl
-reply_other l quorum v (Storing p) s = refl
 reply_other l quorum v (Querying p) s = either_other l (is_last p) _ _
-reply_other l quorum v (StoringBack p seen) s = refl
+reply_other l quorum v _ s = refl
 
 acked_other : (l : List Asked) (phase : Phase) (s : Ops) → acked_alone phase (other_line l s) ≡ other_line l (acked_alone phase s)
-acked_other l Idle s = refl
 acked_other l (Storing p) s = either_other l (is_last p) _ _
-acked_other l (Querying p) s = refl
 acked_other l (StoringBack p seen) s = either_other l (is_last p) _ _
+acked_other l _ s = refl
 
 told_other : (l : List Asked) (me quorum : ℕ) (m : Message) (s : Ops) → ops_alone me quorum m (other_line l s) ≡ other_line l (ops_alone me quorum m s)
-told_other l me quorum (message.Enter q) s = refl
-told_other l me quorum (message.EnterEcho k v from_joined q) s = refl
-told_other l me quorum (message.Join q) s = refl
-told_other l me quorum (message.JoinEcho q) s = refl
-told_other l me quorum (message.Leave q) s = refl
-told_other l me quorum (message.LeaveEcho q) s = refl
-told_other l me quorum (message.Query tag q) s = refl
 told_other l me quorum (message.QueryReply v tag q) s =
     ap (λ (t : Ops). if is_own me tag q s then t else other_line l s) (reply_other l quorum v s.phase s)
     ∙ either_other l (is_own me tag q s) (after_reply quorum v s.phase s) s
-told_other l me quorum (message.Store v tag q) s = refl
 told_other l me quorum (message.StoreAck tag q) s =
     ap (λ (t : Ops). if is_own me tag q s then t else other_line l s) (acked_other l s.phase s) ∙ either_other l (is_own me tag q s) (acked_alone s.phase s) s
-told_other l me quorum (message.Snapshot k v) s = refl
+told_other l me quorum _ s = refl
 
 anew_other : (l : List Asked) (b : Bool) (q : ℕ) (s : Ops) → anew_if b q (other_line l s) ≡ other_line l (anew_if b q s)
 anew_other l b q s = either_other l b (anew q s) s
 
 answer_other : (l : List Asked) (me : ℕ) (joined : Bool) (m : Message) (s t : Ops) → answer_alone me joined m (other_line l s) (other_line l t) ≡ answer_alone me joined m s t
 answer_other l me joined (message.Enter q) s t = refl
-answer_other l me joined (message.EnterEcho k v from_joined q) s t = refl
-answer_other l me joined (message.Join q) s t = refl
-answer_other l me joined (message.JoinEcho q) s t = refl
-answer_other l me joined (message.Leave q) s t = refl
-answer_other l me joined (message.LeaveEcho q) s t = refl
-answer_other l me joined (message.Query tag q) s t = refl
-answer_other l me joined (message.QueryReply v tag q) s t = refl
-answer_other l me joined (message.Store v tag q) s t = refl
-answer_other l me joined (message.StoreAck tag q) s t = refl
-answer_other l me joined (message.Snapshot k v) s t = refl
+answer_other l me joined _ s t = refl
 
 begun_other : (l : List Asked) (me quorum : ℕ) (a : Asked) (s : Ops) → with_begun me quorum a (other_line l s) ≡ other_line l (with_begun me quorum a s)
 begun_other l me quorum a s = ap (λ (t : Ops). record t { others = [] }) (either_other l (is_writing a.command) _ _)
 
 pub post_unaware : (c : Core) (l : List Asked) (e : Event) → post_alone (waiting l c) e ≡ post_alone c e
-post_unaware c l event.Enter = refl
-post_unaware c l event.Leave = refl
 post_unaware c l (event.Deliver from n m) =
     let b = asks_anew c from n m in
     let need = quorum_told c from n m in
@@ -93,18 +71,13 @@ post_unaware c l (event.Deliver from n m) =
     ∙ ap (λ (t : Ops). option_or (first before) (f t)) (anew_other l b need before)
     ∙ ap (λ (p : Option Message). option_or (first before) (option_or (churn.post_of c.me after.view m c.churn later) p))
     (answer_other l c.me (churn.has_joined c.me later) m c.ops after)
-post_unaware c l (event.Acked peer n) = refl
 post_unaware c l (event.Ask s r k) =
     let a = asked_of s r k in
     ap (λ (t : Ops). Some (first_post c.me a t)) (begun_other l c.me (quorum c) a c.ops)
-post_unaware c l (event.Retire q) = refl
-post_unaware c l (event.Lapse q) = refl
-post_unaware c l event.Snapshot = refl
+post_unaware c l _ = refl
 
 pub next_unaware : (c : Core) (l : List Asked) (e : Event) → next_alone (waiting l c) e ≡ waiting l (next_alone c e)
 unfolding next_alone
-next_unaware c l event.Enter = refl
-next_unaware c l event.Leave = refl
 next_unaware c l (event.Deliver from n m) =
     let e = event.Deliver from n m in
     let b = asks_anew c from n m in
@@ -119,28 +92,19 @@ next_unaware c l (event.Deliver from n m) =
     ap (λ (t : Ops). f (anew_if b need t) (post_alone (waiting l c) e)) (told_other l c.me (quorum c) m c.ops)
     ∙ ap (λ (t : Ops). f t (post_alone (waiting l c) e)) (anew_other l b need before)
     ∙ ap (λ (p : Option Message). f (other_line l (anew_if b need before)) p) (post_unaware c l e)
-next_unaware c l (event.Acked peer n) = refl
 next_unaware c l (event.Ask s r k) =
     let e = event.Ask s r k in
     let a = asked_of s r k in
     let f = λ (t : Ops) (p : Option Message). record (record c { ops = t; sessions = table.insert c.sessions s r }) { posts = c.posts + option_len p } in
     ap (λ (t : Ops). f t (post_alone (waiting l c) e)) (begun_other l c.me (quorum c) a c.ops)
     ∙ ap (λ (p : Option Message). f (other_line l (with_begun c.me (quorum c) a c.ops)) p) (post_unaware c l e)
-next_unaware c l (event.Retire q) = refl
-next_unaware c l (event.Lapse q) = refl
-next_unaware c l event.Snapshot = refl
+next_unaware c l _ = refl
 
 -- ---- what is refused
 
 rows_unaware : (c d : Core) (l : List Asked) (e : Event) → row_overruns (waiting l c) (waiting l d) e ≡ row_overruns c d e
 rows_unaware c d l event.Enter = refl
-rows_unaware c d l event.Leave = refl
-rows_unaware c d l (event.Deliver from n m) = refl
-rows_unaware c d l (event.Acked peer n) = refl
-rows_unaware c d l (event.Ask s r k) = refl
-rows_unaware c d l (event.Retire q) = refl
-rows_unaware c d l (event.Lapse q) = refl
-rows_unaware c d l event.Snapshot = refl
+rows_unaware c d l _ = refl
 
 spent_unaware : (c : Core) (l : List Asked) (e : Event) → spent_alone (waiting l c) e ≡ spent_alone c e
 spent_unaware c l e =
