@@ -99,9 +99,6 @@ pub posted : (ss : Requests) (asks : List Asked) (p : Option Message) (rs : List
     → KeepsAnswers ss asks (keep rs o).answers → KeepsAnswers ss asks (keep rs (add p o)).answers
 posted ss asks p rs o h = subst (KeepsAnswers ss asks) (sym (answers_add p rs o)) h
 
-pub same_some : {X : Type 0} (x y : X) → Some x ≡ Some y → x ≡ y
-same_some x y e = cc
-
 -- the first of the asks that aren't answered is, and its session has no other
 first_kept : (ss : Requests) (a : Asked) (asks : List Asked) (answer : Answer) (kept : FinMap nat_cmp Answer) → IsLastOf ss a → has_session a.session asks ≡ false
     → KeepsAnswers ss (a ∷ asks) kept → KeepsAnswers ss asks (table.insert kept a.session answer)

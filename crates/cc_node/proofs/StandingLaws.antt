@@ -12,6 +12,7 @@ use Rattle.std.specs.FinMap as table
 use Rattle.std.specs.FinMap.{FinMap, find, nat_cmp-IsAntisymmetric}
 use Rattle.std.proofs.lemmas.Bool.{eqb-true}
 use Rattle.std.proofs.lemmas.Bool.Decides.{eqb_tells}
+use Rattle.std.proofs.lemmas.Option.{same_Some}
 use Rattle.std.proofs.lemmas.List.Elements.{Contains-append_left, Contains-append_right}
 use Rattle.cc_views.specs.NatSets as set
 use Rattle.cc_views.specs.NatSets.{get-insert_key}
@@ -37,7 +38,7 @@ use Rattle.cc_node.specs.Refusals.{decides}
 use Rattle.cc_node.specs.Node.{Node, step, after, line, keep, add, forget_asked, HasOutput, MayBeOut, IsLawful}
 use Rattle.cc_node.specs.Lawful.{IsLastOf, IsLawfulCore, IsLawfulNode}
 use Rattle.cc_node.proofs.KnownLaws.{all_last}
-use Rattle.cc_node.proofs.KeptLaws.{same_some, posts_forget, answers_add}
+use Rattle.cc_node.proofs.KeptLaws.{posts_forget, answers_add}
 use Rattle.cc_node.proofs.LawfulLaws.{links_go_on, left_grows, add_all_heard, hears_now, step_lawful}
 
 contains_head : {X : Type 0} (x : X) (xs : List X) → Contains (x ∷ xs) x
@@ -55,7 +56,7 @@ sends_contain n m (row ∷ rows) q l e =
       | true ↦ λ t.
           let found : Some row.1 ≡ Some l = ap (λ b. cond b (Some row.1) (find nat_cmp q rows)) (sym (unsigned_tied q row.0 ∙ t)) ∙ e in
           let here : output.Send row.0 (n - row.1.start) m ≡ output.Send q (n - l.start) m =
-          ap (λ k. output.Send k (n - row.1.start) m) (sym (eqb-true q row.0 t)) ∙ ap (λ (k : Link). output.Send q (n - k.start) m) (same_some row.1 l found) in
+          ap (λ k. output.Send k (n - row.1.start) m) (sym (eqb-true q row.0 t)) ∙ ap (λ (k : Link). output.Send q (n - k.start) m) (same_Some row.1 l found) in
           subst (Contains (sends n m (row ∷ rows))) here (contains_head (output.Send row.0 (n - row.1.start) m) (sends n m rows))
       | false ↦ λ t.
           contains_tail (output.Send row.0 (n - row.1.start) m) (output.Send q (n - l.start) m) (sends n m rows)
@@ -98,10 +99,10 @@ record WasLive (b : Bool) (o : Option Link) (m : Link) : Type 0 where
 went_on : (posts number : ℕ) (o o' : Option Link) (m : Link) → LinkGoesOn posts o o' → number ≤ posts → o' ≡ Some m → m.start < number → WasLive false o m
 went_on posts number o None m goes old e above = cc
 went_on posts number None (Some k) m goes old e above =
-    let same : k.start ≡ m.start = ap (λ (l : Link). l.start) (same_some k m e) in absurd (omega (arith, goes))
+    let same : k.start ≡ m.start = ap (λ (l : Link). l.start) (same_Some k m e) in absurd (omega (arith, goes))
 went_on posts number (Some l) (Some k) m goes old e above =
-    let same : k.start ≡ m.start = ap (λ (l : Link). l.start) (same_some k m e) in
-    let acks : k.acked ≡ m.acked = ap (λ (l : Link). l.acked) (same_some k m e) in
+    let same : k.start ≡ m.start = ap (λ (l : Link). l.start) (same_Some k m e) in
+    let acks : k.acked ≡ m.acked = ap (λ (l : Link). l.acked) (same_Some k m e) in
     record { link = l; live = refl; start = omega (arith, goes.0); acked = omega (arith, goes.1) }
 
 was_live : (posts number : ℕ) (b b' : Bool) (o o' : Option Link) (m : Link) → (b ≡ true → b' ≡ true) → LinkGoesOn posts o o' → number ≤ posts
@@ -240,8 +241,8 @@ kept_or_told ss (r ∷ rs) o x q a h e f =
     here_or_told here =
         elim (eqb_tells x r.session) as (λ _. (table.get o.answers x ≡ Some a) ⊎ Contains (send_replies (r ∷ rs)) (output.Reply x q a)) [
           | inl t ↦
-              let answer : r.answer ≡ a = same_some r.answer a (ap (λ b. cond b (Some r.answer) (table.get o.answers x)) (sym t.0) ∙ sym (get-insert_key o.answers r.session r.answer x) ∙ here) in
-              let request : r.request ≡ q = same_some r.request q (sym h.0 ∙ ap (table.get ss) (sym t.1) ∙ f) in
+              let answer : r.answer ≡ a = same_Some r.answer a (ap (λ b. cond b (Some r.answer) (table.get o.answers x)) (sym t.0) ∙ sym (get-insert_key o.answers r.session r.answer x) ∙ here) in
+              let request : r.request ≡ q = same_Some r.request q (sym h.0 ∙ ap (table.get ss) (sym t.1) ∙ f) in
               let is : output.Reply r.session r.request r.answer ≡ output.Reply x q a =
               ap (λ k. output.Reply k r.request r.answer) (sym t.1) ∙ ap (λ k. output.Reply x k r.answer) request ∙ ap (λ k. output.Reply x q k) answer in
               inr (subst (Contains (send_replies (r ∷ rs))) is (contains_head (output.Reply r.session r.request r.answer) (send_replies rs)))
