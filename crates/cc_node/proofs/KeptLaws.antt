@@ -9,7 +9,7 @@ use Rattle.std.specs.Ordering.{nat_cmp}
 use Rattle.std.specs.Cmp.{nat_cmp_total}
 use Rattle.std.specs.FinMap as table
 use Rattle.std.specs.FinMap.{FinMap}
-use Rattle.std.proofs.lemmas.Bool.{and_parts, eqb-true, or_cases, or_parts, not-true}
+use Rattle.std.proofs.lemmas.Bool.{cond_both, and_parts, eqb-true, or_cases, or_parts, not-true}
 use Rattle.cc_views.specs.NatSets.{contains-remove, contains-insert_key}
 use Rattle.cc_views.specs.MapLaws.{within_insert}
 use Rattle.cc_messages.specs.declared.answer.Answer.{Answer}
@@ -29,6 +29,7 @@ use Rattle.cc_outbox.specs.Outbox.{Outbox, post_limit, trim}
 use Rattle.cc_outbox.specs.OutboxLaws.{KeepsPosts, keeps_add, keeps_trim, room_for_post}
 use Rattle.cc_node.specs.Node.{add, keep, forget_asked}
 use Rattle.cc_node.specs.Lawful.{IsLastOf, KeepsAnswers}
+use Rattle.cc_node.proofs.Lists.{front_all}
 
 -- ---- posts
 
@@ -75,11 +76,10 @@ step_posts low high posts e p rs o h up start full =
 -- ---- answers
 
 len_grows : (m : FinMap nat_cmp Answer) (k : ℕ) (v : Answer) → table.len m ≤ table.len (table.insert m k v)
-len_grows m k v = either (table.contains_key m k) (table.len-insert nat_cmp_total m k v)
-  where
-    either : (b : Bool) → table.len (table.insert m k v) ≡ cond b (table.len m) (table.len m + 1) → table.len m ≤ table.len (table.insert m k v)
-    either true e = omega (arith, e)
-    either false e = omega (arith, e)
+len_grows m k v =
+    let n = table.len m in
+    subst (λ l. n ≤ l) (sym (table.len-insert nat_cmp_total m k v))
+    (cond_both (table.contains_key m k) n (n + 1) (λ l. n ≤ l) (λ _. omega arith) (λ _. omega arith))
 
 -- keeping answers drops none
 pub keep_grows : (rs : List Reply) (o : Outbox) → table.len o.answers ≤ table.len (keep rs o).answers
@@ -123,16 +123,12 @@ all_kept ss (a ∷ asks) line (r ∷ rs) o e apart last h =
     (first_kept ss a (asks ++ line) r.answer o.answers last.0 apart.0 h) in
     all_kept ss asks line rs (kept.keep r.session r.answer o) e.2 apart.1 last.1 kept_now
 
-front_each : (P : Asked → Type 0) (xs ys : List Asked) → AllByRecursion P (xs ++ ys) → AllByRecursion P xs
-front_each P [] ys h = tt
-front_each P (x ∷ xs) ys h = (h.0, front_each P xs ys h.1)
-
 pub round_answers : (ss : Requests) (s t : Ops) (rs : List Reply) (o : Outbox) → AnswersRound s t rs → AreApart (unanswered s) → AllByRecursion (IsLastOf ss) (unanswered s)
     → KeepsAnswers ss (unanswered s) o.answers → KeepsAnswers ss (unanswered t) (keep rs o).answers
 round_answers ss s t rs o (inl h) apart last k =
     subst (λ (l : List Reply). KeepsAnswers ss (unanswered t) (keep l o).answers) (sym h.0) (subst (λ (l : List Asked). KeepsAnswers ss l o.answers) (sym h.1) k)
 round_answers ss s t rs o (inr h) apart last k =
-    let left = all_kept ss (pending s) s.line rs o h.0 apart (front_each (IsLastOf ss) (pending s) s.line last) k in
+    let left = all_kept ss (pending s) s.line rs o h.0 apart (front_all (IsLastOf ss) (pending s) s.line last) k in
     subst (λ (l : List Asked). KeepsAnswers ss l (keep rs o).answers) (sym h.1) (λ x j. ((left x j).0, round_has x s.share s.line ∙ (left x j).1))
 
 -- one more ask isn't answered yet, and its session's answer is forgotten

@@ -15,7 +15,7 @@ use Rattle.std.proofs.lemmas.List.{append_assoc}
 use Rattle.std.proofs.lemmas.List.Folds.{list_any-append}
 use Rattle.cc_views.specs.Limits.{known_limit}
 use Rattle.cc_views.specs.NatSets as set
-use Rattle.cc_views.specs.NatSets.{NatSet, IsWithin, contains-keys, contains-union, contains-insert, len_within, get-insert_key}
+use Rattle.cc_views.specs.NatSets.{NatSet, IsWithin, contains-keys, contains-union, contains-insert, len_within}
 use Rattle.cc_views.specs.Rows.{Pair, ViewMap, single}
 use Rattle.cc_views.specs.Merge.{merge}
 use Rattle.cc_views.specs.MergeLaws.{merge_within}
@@ -44,6 +44,7 @@ use Rattle.cc_links.specs.Links.{Links}
 use Rattle.cc_sessions.specs.Sessions.{Requests}
 use Rattle.cc_node.specs.Core.{ids_of}
 use Rattle.cc_node.specs.Rounds.{share_limit}
+use Rattle.cc_node.proofs.Lists.{both_all, inserted_here, inserted_beside}
 use Rattle.cc_node.specs.Lawful.{IsKnown, IsPendingIn, IsPhaseOf, IsLastOf, IsLineOf, IsRoundOf, IsBeside}
 
 pub same_number : (n : ℕ) → nat_eq n n ≡ true
@@ -222,10 +223,6 @@ phase_more ls ms ss _ more h = h
 
 pub same_tests : (x y : ℕ) → nat_eq x y ≡ false → nat_eq y x ≡ false
 same_tests x y e = let apart : x ≡ y → ⊥ = eqb-false x y e in ne_eqb y x (λ t. apart (sym t))
-
-pub both_all : {X : Type 0} (P : X → Type 0) (xs ys : List X) → AllByRecursion P xs → AllByRecursion P ys → AllByRecursion P (xs ++ ys)
-both_all P [] ys h k = k
-both_all P (x ∷ xs) ys h k = (h.0, both_all P xs ys h.1 k)
 
 first_last : (ls : Links) (ss : Requests) (phase : Phase) → IsPhaseOf ls ss phase → AllByRecursion (IsLastOf ss) (ops.asked_in phase)
 first_last ls ss Idle h = tt
@@ -431,10 +428,10 @@ module _ (ls : Links) (ss : Requests) (me quorum : ℕ) (some : 0 < quorum) (few
 -- ---- an ask
 
 begun_last : (ss : Requests) (a : Asked) → IsLastOf (table.insert ss a.session a.request) a
-begun_last ss a = get-insert_key ss a.session a.request a.session ∙ ap (λ b. cond b (Some a.request) (table.get ss a.session)) (same_number a.session)
+begun_last ss a = inserted_here ss a.session a.request a.session (same_number a.session)
 
 other_last : (ss : Requests) (s r x : ℕ) (o : Option ℕ) → nat_eq s x ≡ false → table.get ss x ≡ o → table.get (table.insert ss s r) x ≡ o
-other_last ss s r x o apart e = get-insert_key ss s r x ∙ ap (λ b. cond b (Some r) (table.get ss x)) (same_tests s x apart) ∙ e
+other_last ss s r x o apart e = inserted_beside ss s r x (same_tests s x apart) ∙ e
 
 others_last : (ss : Requests) (s r : ℕ) (line : List Asked) → has_session s line ≡ false → AllByRecursion (IsLastOf ss) line
     → AllByRecursion (IsLastOf (table.insert ss s r)) line

@@ -10,7 +10,7 @@ use Rattle.std.specs.FinMap as table
 use Rattle.std.proofs.lemmas.Bool.{cond_both, or_parts, or_left, eqb-false, ltb-false, leb-false}
 use Rattle.std.proofs.lemmas.Bool.Decides.{eqb_tells}
 use Rattle.cc_views.specs.NatSets as set
-use Rattle.cc_views.specs.NatSets.{IsWithin, get-insert_key}
+use Rattle.cc_views.specs.NatSets.{IsWithin}
 use Rattle.cc_views.specs.MapLaws.{all_insert, within_insert}
 use Rattle.cc_views.specs.Rows.{ViewMap}
 use Rattle.cc_views.specs.Merge.{merge}
@@ -45,6 +45,7 @@ use Rattle.cc_ops.specs.Stages.{HasRoom}
 use Rattle.cc_node.specs.Lawful.{CountsWithin, SessionsWithin, KeepsAnswers, IsLawfulCore, IsLawfulNode}
 use Rattle.cc_node.proofs.KnownLaws.{same_number, AllListed, tail_listed, MessageKnown, message_known, among_more, KeepsChanges, enter_changes, leave_changes, KeepsChurn, members_fit, message_churn, left_stays, KeepsOps, ops_more, message_ops, ask_ops, all_last, none_waits, none_left}
 use Rattle.cc_node.proofs.KeptLaws.{step_posts, posted, round_answers, last_answers}
+use Rattle.cc_node.proofs.Lists.{inserted_here, inserted_beside}
 use Rattle.cc_node.proofs.RefusalLaws.{Fits, takes_enter, takes_leave, takes_delivery, takes_ack, takes_ask, takes_retire, takes_lapse, takes_snapshot, takes_any, stays_within, passes_within, none_overruns}
 use Rattle.cc_node.proofs.ToldLaws.{told_churn, left_told, one_echo, echoes_told, anew_last, anew_unanswered, anew_tag, anew_ops, snapshot_tag, snapshot_echoes, tells_snapshot, anew_snapshot}
 
@@ -127,15 +128,20 @@ counts_next c e fits h =
 
 -- ---- a delivery
 
+-- what was heard on a link
+abbrev pub heard_at : Option Link → ℕ
+heard_at o = option_map_or (λ l. l.heard) o 0
+
+-- another link, on which the same was heard
+pub same_heard : (ls : Links) (peer q : ℕ) (l : Link) → heard_from peer ls ≡ l.heard → heard_from q (table.insert ls peer l) ≡ heard_from q ls
+same_heard ls peer q l e = elim (eqb_tells q peer) as (λ _. heard_from q (table.insert ls peer l) ≡ heard_from q ls) [
+  | inl t ↦ ap heard_at (inserted_here ls peer l q t.0) ∙ sym e ∙ ap (λ p. heard_from p ls) (sym t.1)
+  | inr t ↦ ap heard_at (inserted_beside ls peer l q t.0)
+]
+
 add_heard : (posts peer q : ℕ) (o : Option Link) (ls : Links) → table.get ls peer ≡ o → heard_from q (add_absent posts peer o ls) ≡ heard_from q ls
 add_heard posts peer q (Some l) ls e = refl
-add_heard posts peer q None ls e =
-    ap (λ o. option_map_or (λ l. l.heard) o 0) (get-insert_key ls peer (new_link posts) q)
-    ∙ elim (eqb_tells q peer) as (λ _. option_map_or (λ l. l.heard) (cond (nat_eq q peer) (Some (new_link posts)) (table.get ls q)) 0 ≡ heard_from q ls) [
-      | inl t ↦ ap (λ b. option_map_or (λ l. l.heard) (cond b (Some (new_link posts)) (table.get ls q)) 0) t.0
-          ∙ sym (ap (λ o. option_map_or (λ (l : Link). l.heard) o 0) (ap (table.get ls) t.1 ∙ e))
-      | inr t ↦ ap (λ b. option_map_or (λ l. l.heard) (cond b (Some (new_link posts)) (table.get ls q)) 0) t.0
-    ]
+add_heard posts peer q None ls e = same_heard ls peer q (new_link posts) (ap heard_at e)
 
 pub add_all_heard : (posts : ℕ) (peers : List ℕ) (ls : Links) (q : ℕ) → heard_from q (add_all posts peers ls) ≡ heard_from q ls
 add_all_heard posts [] ls q = refl
@@ -144,9 +150,8 @@ add_all_heard posts (p ∷ ps) ls q = add_heard posts p q (table.get (add_all po
 heard_now_of : (from n : ℕ) (ls : Links) (o : Option Link) → table.get ls from ≡ o → is_some o ≡ true → heard_from from (hear from n ls) ≡ n
 heard_now_of from n ls None e h = cc
 heard_now_of from n ls (Some l) e h =
-    ap (λ o. option_map_or (λ (k : Link). k.heard) (table.get (with_row from (λ l. record l { heard = n }) o ls) from) 0) e
-    ∙ ap (λ o. option_map_or (λ (k : Link). k.heard) o 0)
-    (get-insert_key ls from (record l { heard = n }) from ∙ ap (λ b. cond b (Some (record l { heard = n })) (table.get ls from)) (same_number from))
+    ap (λ o. heard_at (table.get (with_row from (λ l. record l { heard = n }) o ls) from)) e
+    ∙ ap heard_at (inserted_here ls from (record l { heard = n }) from (same_number from))
 
 pub hears_now : (c : Core) (from n : ℕ) (m : Message) → heard_from from (hear from n (add_all c.posts (from ∷ ids_of m) c.links)) ≡ n
 hears_now c from n m =
@@ -244,7 +249,8 @@ deliver_core c from n m d h =
     (need_within c.beta _ known_limit h.beta (members_fit ls (churn_told c from n m).changes k.changes.known few) (omega arith))
     (message_ops ls c.sessions c.me (quorum c) (need_positive c.beta _) (quorum_fits c h) own m c.ops named
     (ops_more c.links ls c.sessions c.ops more (ops_of c h))) in
-    let room = subst (λ (v : Value). set.len v.set ≤ set_limit) (sym (anew_last (asks_anew c from n m) again after ∙ message_last c.me (quorum c) m c.ops)) h.set in
+    let room = subst (λ (v : Value). set.len v.set ≤ set_limit)
+    (sym (anew_last (asks_anew c from n m) again after ∙ message_last c.me (quorum c) m c.ops)) h.set in
     core_with c (churn_told c from n m) (ops_anew c from n m) (option_len (post c e)) ls c.sessions h more k o few
     (hear_links c.posts from n (linked c from m) (heard_fits c from n m d) (add_all_links c.posts (from ∷ ids_of m) c.links h.links))
     h.sessions h.session_count room (counts_next c e takes.fits h.counts)
@@ -256,7 +262,7 @@ last_within None h = omega arith
 last_within (Some l) h = h.1
 
 pub request_now : (ss : Requests) (s r : ℕ) → unwrap_or (table.get (table.insert ss s r) s) 0 ≡ r
-request_now ss s r = ap (λ o. unwrap_or o 0) (get-insert_key ss s r s ∙ ap (λ b. cond b (Some r) (table.get ss s)) (same_number s))
+request_now ss s r = ap (λ o. unwrap_or o 0) (inserted_here ss s r s (same_number s))
 
 request_fits : (c : Core) (s r : ℕ) (k : Command) → decides c (event.Ask s r k) ≡ None → IsLawfulCore c → (0 < r) × (r ≤ counter_limit)
 unfolding next

@@ -19,7 +19,7 @@ use Rattle.std.proofs.lemmas.Bool.Decides.{eqb_tells, nat_tests}
 use Rattle.std.proofs.lemmas.List.Elements.{All-from_recursion}
 use Rattle.std.proofs.lemmas.List.Kept.{AllPairs-cons}
 use Rattle.cc_views.specs.NatSets as set
-use Rattle.cc_views.specs.NatSets.{NatSet, get-insert_key, lt_both}
+use Rattle.cc_views.specs.NatSets.{NatSet, lt_both}
 use Rattle.cc_views.specs.MapLaws.{all_entries}
 use Rattle.cc_messages.specs.declared.command.Command.{Command}
 use Rattle.cc_messages.specs.declared.event.Event.{Event}
@@ -45,8 +45,9 @@ use Rattle.cc_node.specs.Refusals.{decides}
 use Rattle.cc_node.specs.Node.{Node, step, line, HasOutput, IsLawful}
 use Rattle.cc_node.specs.Lines.{Follows}
 use Rattle.cc_node.specs.Lawful.{IsLastOf, IsLawfulCore, IsLawfulNode}
-use Rattle.cc_node.proofs.KnownLaws.{both_all, all_last, none_left}
-use Rattle.cc_node.proofs.LawfulLaws.{links_go_on, hears_now, request_now, step_lawful}
+use Rattle.cc_node.proofs.KnownLaws.{all_last, none_left}
+use Rattle.cc_node.proofs.LawfulLaws.{heard_at, links_go_on, hears_now, request_now, step_lawful}
+use Rattle.cc_node.proofs.Lists.{both_all, all_map, all_mapped, if_at, inserted_beside}
 use Rattle.cc_node.proofs.RefusalLaws.{takes_delivery, takes_ask}
 use Rattle.cc_node.proofs.ToldLaws.{anew_unanswered}
 
@@ -62,14 +63,6 @@ AllFollow xs ys = AllByRecursion (λ x. AllByRecursion (Follows x) ys) xs
 rises_both : (xs ys : List Output) → EachRises xs → EachRises ys → AllFollow xs ys → EachRises (xs ++ ys)
 rises_both [] ys h k f = k
 rises_both (x ∷ xs) ys h k f = (both_all (Follows x) xs ys h.0 f.0, rises_both xs ys h.1 k f.1)
-
-all_map : {X : Type 0} (P Q : X → Type 0) → ((x : X) → P x → Q x) → (xs : List X) → AllByRecursion P xs → AllByRecursion Q xs
-all_map P Q f [] h = tt
-all_map P Q f (x ∷ xs) h = (f x h.0, all_map P Q f xs h.1)
-
-all_mapped : {X Y : Type 0} (P : Y → Type 0) (f : X → Y) (xs : List X) → AllByRecursion (λ x. P (f x)) xs → AllByRecursion P (map f xs)
-all_mapped P f [] h = tt
-all_mapped P f (x ∷ xs) h = (h.0, all_mapped P f xs h.1)
 
 pairs_rise : (xs : List Output) → EachRises xs → AllPairs Follows xs
 pairs_rise [] h = λ i j d below inside. absurd (omega arith)
@@ -113,9 +106,6 @@ goes_on posts None o' l goes e = cc
 goes_on posts (Some m) None l goes e = absurd goes
 goes_on posts (Some m) (Some k) l goes e = record { link = k; there = refl; start = goes.0 ∙ ap (λ (x : Link). x.start) (same_Some m l e) }
 
-at_some : {X : Type 0} (P : X → Type 0) (o : Option X) (x : X) → o ≡ Some x → IfSome o P → P x
-at_some P o x e h = subst (λ u. IfSome u P) e h
-
 either_live : (b : Bool) (o : Option Link) → IfSome (cond b o None) (λ l. o ≡ Some l)
 either_live true None = tt
 either_live true (Some l) = refl
@@ -147,7 +137,7 @@ sends_follow c e (output.Send to number k) d h past =
     let on = goes_on c.posts (table.get c.links to) (table.get (next c e).links to) past.link (links_go_on c e d to) past.there in
     let link : on.link ≡ l = same_Some on.link l (sym on.there ∙ ap (table.get (next c e).links) same ∙ there) in
     let start : past.link.start ≡ l.start = sym on.start ∙ ap (λ (x : Link). x.start) link in
-    let within : IsLinkWithin c.posts past.link = at_some (IsLinkWithin c.posts) (table.get c.links to) past.link past.there (h.links to) in
+    let within : IsLinkWithin c.posts past.link = if_at (IsLinkWithin c.posts) (table.get c.links to) past.link past.there (h.links to) in
     let count : (next c e).posts ≡ c.posts + 1 = ap (λ p. c.posts + option_len p) made in
     subst (λ s. number < (next c e).posts - s) start (numbered_above number c.posts (next c e).posts past.link.start past.posted within.0 count))
 sends_follow c e x d h past = each_post (Follows x) (next c e) (post c e) (λ m made q l there. tt)
@@ -189,8 +179,7 @@ post_rises c (Some m) = sends_rise c.posts m (table.entries (live_links c)) (tab
 
 -- ---- acknowledgements
 
-heard_goes : (posts : ℕ) (o o' : Option Link) → LinkGoesOn posts o o'
-    → option_map_or (λ (l : Link). l.heard) o 0 ≤ option_map_or (λ (l : Link). l.heard) o' 0
+heard_goes : (posts : ℕ) (o o' : Option Link) → LinkGoesOn posts o o' → heard_at o ≤ heard_at o'
 heard_goes posts None o' goes = omega arith
 heard_goes posts (Some l) None goes = absurd goes
 heard_goes posts (Some l) (Some k) goes = goes.2
@@ -354,7 +343,7 @@ answered_asked c y r k s request d h past =
           record { begun = omega arith; ended = λ _. omega arith }
       | inr t ↦
           let same : last_request (next c e).sessions s ≡ last_request c.sessions s =
-          ap (λ o. unwrap_or o 0) (get-insert_key c.sessions y r s ∙ ap (λ b. cond b (Some r) (table.get c.sessions s)) t.0) in
+          ap (λ o. unwrap_or o 0) (inserted_beside c.sessions y r s t.0) in
           record {
             begun = omega arith;
             ended = λ now. omega (arith, past.ended (there_before s (unanswered c.ops) a t.0 (sym (ap (has_session s) more) ∙ now)), same);
@@ -451,11 +440,11 @@ standing_past n (output.Send to wire m) h s =
     let old : s.0 ≤ c.posts = (h.posts.within s.0 (ap is_some s.2)).1 in
     record {
       link = s.1;
-      there = at_some (λ l. table.get c.links to ≡ Some l) (table.get (live_links c) to) s.1 s.3 (live_there c.churn.changes.left c.links to);
+      there = if_at (λ l. table.get c.links to ≡ Some l) (table.get (live_links c) to) s.1 s.3 (live_there c.churn.changes.left c.links to);
       posted = omega (arith, old, s.4.is_number);
     }
 standing_past n (output.Ack to heard) h s =
-    let now : heard_from to n.core.links ≡ heard = ap (λ o. option_map_or (λ (l : Link). l.heard) o 0) s.1 ∙ s.2 in omega (arith, now)
+    let now : heard_from to n.core.links ≡ heard = ap heard_at s.1 ∙ s.2 in omega (arith, now)
 standing_past n (output.Reply x r a) h s = record {
   begun = omega (arith, last_is n.core.sessions x r s.1);
   ended = λ t. absurd (both_ways (has_session x (unanswered n.core.ops)) (h.answers x (ap is_some s.0)).1 t);
