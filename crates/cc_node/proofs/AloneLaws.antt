@@ -30,8 +30,9 @@ use Rattle.cc_ops.specs.Ops.{Ops, Phase, Idle, Storing, Querying, StoringBack, i
 use Rattle.cc_outbox.specs.Outbox.{post_limit, trim}
 use Rattle.cc_node.specs.Core.{Core, quorum, asked_of, ids_of, links_heard, churn_told, asks_anew, anew_if, next, post, outputs, ack, replies, send_ack, send_post, send_replies, lowest}
 use Rattle.cc_node.specs.Node.{Node, step, after, line, keep, add, forget_asked, IsLawfulWithin}
-use Rattle.cc_node.specs.Refusals.{decides_within, left, has_gone, not_entered, already_entered, not_joined, old, gap, nothing_to_ack, too_many_nodes, too_many_sessions, repeat, stale, skip, nothing_to_lapse, busy, set_full, outbox_full, spent, any_overruns}
+use Rattle.cc_node.specs.Refusals.{decides_within, nothing_to_ack, too_many_nodes, nothing_to_lapse, busy, set_full, outbox_full, spent, any_overruns}
 use Rattle.cc_node.specs.OneAtATime.{acked_alone, ops_alone, quorum_told, next_alone, post_alone, outputs_alone, busy_alone, set_full_alone, outbox_full_alone, spent_alone, decides_alone, step_alone, after_alone, line_alone, IsLawfulAlone}
+use Rattle.cc_node.proofs.Deciding.{of_enter, of_entered, of_member, of_retire, of_number, of_request}
 use Rattle.cc_node.proofs.OrderLaws.{none_waiting}
 use Rattle.cc_node.proofs.RefusalLaws.{free_within}
 use Rattle.cc_node.proofs.ToldLaws.{anew_line}
@@ -48,13 +49,11 @@ last_same me quorum s none =
     ∙ (λ i. begin_round me quorum (no_round s.share i) (record s { line = none_behind s.share i }))
     ∙ ap (λ (l : List Asked). record s { phase = Idle; others = []; line = l }) (sym none))
 
-either_acked : (b : Bool) (t u more : Ops) → t ≡ u → (if b then t else more) ≡ (if b then u else more)
-either_acked true t u more e = e
-either_acked false t u more e = refl
-
 acked_same : (me quorum : ℕ) (phase : Phase) (s : Ops) → s.line ≡ [] → acked_alone phase s ≡ after_ack me quorum phase s
-acked_same me quorum (Storing p) s none = either_acked (is_last p) _ _ (record s { phase = Storing (counted p) }) (last_same me quorum s none)
-acked_same me quorum (StoringBack p seen) s none = either_acked (is_last p) _ _ (record s { phase = StoringBack (counted p) seen }) (last_same me quorum s none)
+acked_same me quorum (Storing p) s none =
+    ap (λ (t : Ops). if is_last p then t else record s { phase = Storing (counted p) }) (last_same me quorum s none)
+acked_same me quorum (StoringBack p seen) s none =
+    ap (λ (t : Ops). if is_last p then t else record s { phase = StoringBack (counted p) seen }) (last_same me quorum s none)
 acked_same me quorum _ s none = refl
 
 ack_same : (me quorum tag q : ℕ) (s : Ops) → s.line ≡ [] → ops_alone me quorum (message.StoreAck tag q) s ≡ after_message me quorum (message.StoreAck tag q) s
@@ -73,21 +72,16 @@ none_begins me tag q s none =
 -- ---- posts, and cores after an event
 
 -- an acknowledgement with no ask that waits is answered with nothing
-ack_post : (c : Core) (from n tag q : ℕ) → c.ops.line ≡ [] → post_alone c (event.Deliver from n (message.StoreAck tag q)) ≡ post c (event.Deliver from n (message.StoreAck tag q))
+ack_post : (c : Core) (from n tag q : ℕ) → c.ops.line ≡ []
+    → post_alone c (event.Deliver from n (message.StoreAck tag q)) ≡ post c (event.Deliver from n (message.StoreAck tag q))
 ack_post c from n tag q none =
     let after = after_message c.me (quorum c) (message.StoreAck tag q) c.ops in
     sym (ap (λ (asks : List Asked). post_of_round c.me asks after) (none_begins c.me tag q c.ops none))
 
 -- an event of which no ask that waits could be aware: any but an ask where an operation is pending
 abbrev IsFree : Core → Event → Type 0
-IsFree c event.Enter = Unit {0}
-IsFree c event.Leave = Unit {0}
-IsFree c (event.Deliver from n m) = Unit {0}
-IsFree c (event.Acked peer n) = Unit {0}
 IsFree c (event.Ask s r k) = is_idle c.ops.phase ≡ true
-IsFree c (event.Retire q) = Unit {0}
-IsFree c (event.Lapse q) = Unit {0}
-IsFree c event.Snapshot = Unit {0}
+IsFree c _ = Unit {0}
 
 ask_same : (me quorum : ℕ) (a : Asked) (s : Ops) → is_idle s.phase ≡ true → with_begun me quorum a s ≡ after_ask me quorum a s
 ask_same me quorum a s idle = sym (ap (λ (b : Bool). if b then with_begun me quorum a s else record s { line = s.line ++ a ∷ [] }) idle)
@@ -135,21 +129,24 @@ next_same c _ none free = refl
 
 -- ---- what is refused
 
-pub behind : (o : Option Refusal) (xs ys : List (Option Refusal)) → first_of xs ≡ first_of ys → first_of (o ∷ xs) ≡ first_of (o ∷ ys)
-behind None xs ys e = e
-behind (Some r) xs ys e = refl
+-- only what follows the same reasons can differ
+pub behind : (xs ys zs : List (Option Refusal)) → first_of ys ≡ first_of zs → first_of (xs ++ ys) ≡ first_of (xs ++ zs)
+behind [] ys zs e = e
+behind (None ∷ xs) ys zs e = behind xs ys zs e
+behind (Some r ∷ xs) ys zs e = refl
 
 full_same : (c : Core) (e : Event) → c.ops.line ≡ [] → IsFree c e → outbox_full_alone c e ≡ outbox_full c e
-full_same c e none free = ap (λ (p : Option Message). then_some (is_some p && ((c.posts - lowest c) == post_limit)) refusal.OutboxFull) (post_same c e none free)
+full_same c e none free =
+    ap (λ (p : Option Message). then_some (is_some p && ((c.posts - lowest c) == post_limit)) refusal.OutboxFull) (post_same c e none free)
 
-spent_same : (c : Core) (e : Event) → c.ops.line ≡ [] → IsFree c e → spent_alone c e ≡ spent c e
-spent_same c e none free = ap (λ (d : Core). then_some (any_overruns c d e) refusal.Spent) (next_same c e none free)
+last_spent : (c : Core) (e : Event) → c.ops.line ≡ [] → IsFree c e → first_of (spent_alone c e ∷ []) ≡ first_of (spent c e ∷ [])
+last_spent c e none free = ap (λ (d : Core). first_of (then_some (any_overruns c d e) refusal.Spent ∷ [])) (next_same c e none free)
 
 last_two : (c : Core) (e : Event) → c.ops.line ≡ [] → IsFree c e
     → first_of (outbox_full_alone c e ∷ spent_alone c e ∷ []) ≡ first_of (outbox_full c e ∷ spent c e ∷ [])
 last_two c e none free =
     ap (λ (o : Option Refusal). first_of (o ∷ spent_alone c e ∷ [])) (full_same c e none free)
-    ∙ ap (λ (o : Option Refusal). first_of (outbox_full c e ∷ o ∷ [])) (spent_same c e none free)
+    ∙ behind (outbox_full c e ∷ []) _ _ (last_spent c e none free)
 
 -- busy is who has an operation pending
 busy_same : (c : Core) (s : ℕ) (idle : Bool) → is_idle c.ops.phase ≡ idle → busy 0 c s ≡ then_some (not idle) refusal.Busy
@@ -168,7 +165,7 @@ from_busy : (c : Core) (s r : ℕ) (k : Command) (idle : Bool) → is_idle c.ops
 from_busy c s r k true e none =
     let a = event.Ask s r k in
     ap (λ (b : Bool). first_of (then_some (not b) refusal.Busy ∷ set_full_alone c k ∷ outbox_full_alone c a ∷ spent_alone c a ∷ [])) e
-    ∙ behind (set_full_alone c k) _ _ (last_two c a none e)
+    ∙ behind (set_full_alone c k ∷ []) _ _ (last_two c a none e)
     ∙ ap (λ (l : List Asked). first_of (then_some (finds_no_room (written_by l c.ops.mine) k) refusal.SetFull ∷ outbox_full c a ∷ spent c a ∷ [])) (sym none)
     ∙ ap (λ (o : Option Refusal). first_of (o ∷ set_full c k ∷ outbox_full c a ∷ spent c a ∷ [])) (sym (busy_same c s true e))
 from_busy c s r k false e none =
@@ -178,24 +175,15 @@ from_busy c s r k false e none =
 
 pub refused_alone : (c : Core) (e : Event) → c.ops.line ≡ [] → decides_alone c e ≡ decides_within 0 c e
 unfolding decides_alone decides_within
-refused_alone c event.Enter none = behind (left c) _ _ (behind (already_entered c) _ _ (last_two c event.Enter none tt))
-refused_alone c event.Leave none = behind (left c) _ _ (behind (not_entered c) _ _ (last_two c event.Leave none tt))
+refused_alone c event.Enter none = behind (of_enter c) _ _ (last_two c event.Enter none tt)
+refused_alone c event.Leave none = behind (of_entered c) _ _ (last_two c event.Leave none tt)
 refused_alone c (event.Deliver from n m) none =
-    behind (left c) _ _ (behind (not_entered c) _ _ (behind (old c from n) _ _ (behind (gap c from n m) _ _
-    (behind (too_many_nodes c (from ∷ ids_of m)) _ _ (last_two c (event.Deliver from n m) none tt)))))
-refused_alone c (event.Acked peer n) none =
-    ap (λ (o : Option Refusal). first_of (nothing_to_ack c peer n ∷ o ∷ [])) (spent_same c (event.Acked peer n) none tt)
-refused_alone c (event.Ask s r k) none =
-    behind (left c) _ _ (behind (not_entered c) _ _ (behind (not_joined c) _ _ (behind (too_many_sessions c s) _ _ (behind (repeat c s r) _ _
-    (behind (stale c s r) _ _ (behind (skip c s r) _ _ (from_busy c s r k (is_idle c.ops.phase) refl none)))))))
-refused_alone c (event.Retire q) none =
-    ap (λ (o : Option Refusal). first_of (left c ∷ has_gone c q ∷ not_entered c ∷ too_many_nodes c (q ∷ []) ∷ o ∷ []))
-    (spent_same c (event.Retire q) none tt)
-refused_alone c (event.Lapse q) none =
-    ap (λ (o : Option Refusal). first_of (left c ∷ not_entered c ∷ not_joined c ∷ nothing_to_lapse c q ∷ o ∷ []))
-    (spent_same c (event.Lapse q) none tt)
-refused_alone c event.Snapshot none =
-    behind (left c) _ _ (behind (not_entered c) _ _ (behind (not_joined c) _ _ (last_two c event.Snapshot none tt)))
+    behind (of_entered c ++ of_number c from n m ++ too_many_nodes c (from ∷ ids_of m) ∷ []) _ _ (last_two c (event.Deliver from n m) none tt)
+refused_alone c (event.Acked peer n) none = behind (nothing_to_ack c peer n ∷ []) _ _ (last_spent c (event.Acked peer n) none tt)
+refused_alone c (event.Ask s r k) none = behind (of_member c ++ of_request c s r) _ _ (from_busy c s r k (is_idle c.ops.phase) refl none)
+refused_alone c (event.Retire q) none = behind (of_retire q c ++ too_many_nodes c (q ∷ []) ∷ []) _ _ (last_spent c (event.Retire q) none tt)
+refused_alone c (event.Lapse q) none = behind (of_member c ++ nothing_to_lapse c q ∷ []) _ _ (last_spent c (event.Lapse q) none tt)
+refused_alone c event.Snapshot none = behind (of_member c) _ _ (last_two c event.Snapshot none tt)
 
 -- ---- one step
 

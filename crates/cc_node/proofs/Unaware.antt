@@ -1,7 +1,7 @@
 -- The rule of one operation at a time doesn't read the asks that wait: with others that wait it makes the same of all else.
 --     post_unaware, next_unaware     the post of an event, and the core after it
 --     decides_unaware                what is refused, and why
-use Rattle.std.proofs.Common.{◌≡◌, ℕ, ◌+◌, ◌-◌, Bool, true, false, ◌&&◌, ◌||◌, List, [], ◌∷◌, refl, ap, ◌∙◌}
+use Rattle.std.proofs.Common.{◌≡◌, ℕ, ◌+◌, ◌-◌, Bool, true, false, ◌&&◌, ◌||◌, List, [], ◌∷◌, ◌++◌, refl, ap, ◌∙◌}
 use Rattle.std.specs.Prelude.{Option, Some, if◌then◌else◌, is_some, ◌==◌}
 use Rattle.std.specs.Option.{option_len, option_or}
 use Rattle.std.specs.Bool.{then_some}
@@ -22,15 +22,17 @@ use Rattle.cc_ops.specs.Commands.{is_writing}
 use Rattle.cc_ops.specs.Ops.{Ops, Phase, Idle, Storing, Querying, StoringBack, is_last, is_own, with_begun, after_reply, first_post, anew}
 use Rattle.cc_outbox.specs.Outbox.{post_limit}
 use Rattle.cc_node.specs.Core.{Core, quorum, asked_of, ids_of, links_heard, churn_told, join_told, asks_anew, anew_if, question_if, lowest}
-use Rattle.cc_node.specs.Refusals.{left, has_gone, not_entered, already_entered, not_joined, old, gap, nothing_to_ack, too_many_nodes, too_many_sessions, repeat, stale, skip, nothing_to_lapse, any_overruns, row_overruns}
+use Rattle.cc_node.specs.Refusals.{nothing_to_ack, too_many_nodes, nothing_to_lapse, any_overruns, row_overruns}
 use Rattle.cc_node.specs.OneAtATime.{acked_alone, other_line, waiting, ops_alone, quorum_told, answer_alone, next_alone, post_alone, busy_alone, set_full_alone, outbox_full_alone, spent_alone, decides_alone}
 use Rattle.cc_node.proofs.AloneLaws.{behind}
+use Rattle.cc_node.proofs.Deciding.{of_enter, of_entered, of_member, of_retire, of_number, of_request}
 
 either_other : (l : List Asked) (b : Bool) (s t : Ops) → (if b then other_line l s else other_line l t) ≡ other_line l (if b then s else t)
 either_other l true s t = refl
 either_other l false s t = refl
 
-reply_other : (l : List Asked) (quorum : ℕ) (v : ViewMap) (phase : Phase) (s : Ops) → after_reply quorum v phase (other_line l s) ≡ other_line l (after_reply quorum v phase s)
+reply_other : (l : List Asked) (quorum : ℕ) (v : ViewMap) (phase : Phase) (s : Ops)
+    → after_reply quorum v phase (other_line l s) ≡ other_line l (after_reply quorum v phase s)
 reply_other l quorum v (Querying p) s = either_other l (is_last p) _ _
 reply_other l quorum v _ s = refl
 
@@ -50,7 +52,8 @@ told_other l me quorum _ s = refl
 anew_other : (l : List Asked) (b : Bool) (q : ℕ) (s : Ops) → anew_if b q (other_line l s) ≡ other_line l (anew_if b q s)
 anew_other l b q s = either_other l b (anew q s) s
 
-answer_other : (l : List Asked) (me : ℕ) (joined : Bool) (m : Message) (s t : Ops) → answer_alone me joined m (other_line l s) (other_line l t) ≡ answer_alone me joined m s t
+answer_other : (l : List Asked) (me : ℕ) (joined : Bool) (m : Message) (s t : Ops)
+    → answer_alone me joined m (other_line l s) (other_line l t) ≡ answer_alone me joined m s t
 answer_other l me joined (message.Enter q) s t = refl
 answer_other l me joined _ s t = refl
 
@@ -106,12 +109,12 @@ rows_unaware : (c d : Core) (l : List Asked) (e : Event) → row_overruns (waiti
 rows_unaware c d l event.Enter = refl
 rows_unaware c d l _ = refl
 
-spent_unaware : (c : Core) (l : List Asked) (e : Event) → spent_alone (waiting l c) e ≡ spent_alone c e
+spent_unaware : (c : Core) (l : List Asked) (e : Event) → first_of (spent_alone (waiting l c) e ∷ []) ≡ first_of (spent_alone c e ∷ [])
 spent_unaware c l e =
     let d = next_alone c e in
-    ap (λ (k : Core). then_some (any_overruns (waiting l c) k e) refusal.Spent) (next_unaware c l e)
-    ∙ ap (λ (b : Bool). then_some (passes c.ops.number d.ops.number || overruns c.ops.tag d.ops.tag || overruns c.posts d.posts
-    || overruns c.churn.echoes d.churn.echoes || b) refusal.Spent) (rows_unaware c d l e)
+    ap (λ (k : Core). first_of (then_some (any_overruns (waiting l c) k e) refusal.Spent ∷ [])) (next_unaware c l e)
+    ∙ ap (λ (b : Bool). first_of (then_some (passes c.ops.number d.ops.number || overruns c.ops.tag d.ops.tag || overruns c.posts d.posts
+    || overruns c.churn.echoes d.churn.echoes || b) refusal.Spent ∷ [])) (rows_unaware c d l e)
 
 full_unaware : (c : Core) (l : List Asked) (e : Event) → outbox_full_alone (waiting l c) e ≡ outbox_full_alone c e
 full_unaware c l e = ap (λ (p : Option Message). then_some (is_some p && ((c.posts - lowest c) == post_limit)) refusal.OutboxFull) (post_unaware c l e)
@@ -120,26 +123,17 @@ both_unaware : (c : Core) (l : List Asked) (e : Event)
     → first_of (outbox_full_alone (waiting l c) e ∷ spent_alone (waiting l c) e ∷ []) ≡ first_of (outbox_full_alone c e ∷ spent_alone c e ∷ [])
 both_unaware c l e =
     ap (λ (o : Option Refusal). first_of (o ∷ spent_alone (waiting l c) e ∷ [])) (full_unaware c l e)
-    ∙ ap (λ (o : Option Refusal). first_of (outbox_full_alone c e ∷ o ∷ [])) (spent_unaware c l e)
+    ∙ behind (outbox_full_alone c e ∷ []) _ _ (spent_unaware c l e)
 
 pub decides_unaware : (c : Core) (l : List Asked) (e : Event) → decides_alone (waiting l c) e ≡ decides_alone c e
 unfolding decides_alone
-decides_unaware c l event.Enter = behind (left c) _ _ (behind (already_entered c) _ _ (both_unaware c l event.Enter))
-decides_unaware c l event.Leave = behind (left c) _ _ (behind (not_entered c) _ _ (both_unaware c l event.Leave))
+decides_unaware c l event.Enter = behind (of_enter c) _ _ (both_unaware c l event.Enter)
+decides_unaware c l event.Leave = behind (of_entered c) _ _ (both_unaware c l event.Leave)
 decides_unaware c l (event.Deliver from n m) =
-    behind (left c) _ _ (behind (not_entered c) _ _ (behind (old c from n) _ _ (behind (gap c from n m) _ _
-    (behind (too_many_nodes c (from ∷ ids_of m)) _ _ (both_unaware c l (event.Deliver from n m))))))
-decides_unaware c l (event.Acked peer n) =
-    ap (λ (o : Option Refusal). first_of (nothing_to_ack c peer n ∷ o ∷ [])) (spent_unaware c l (event.Acked peer n))
+    behind (of_entered c ++ of_number c from n m ++ too_many_nodes c (from ∷ ids_of m) ∷ []) _ _ (both_unaware c l (event.Deliver from n m))
+decides_unaware c l (event.Acked peer n) = behind (nothing_to_ack c peer n ∷ []) _ _ (spent_unaware c l (event.Acked peer n))
 decides_unaware c l (event.Ask s r k) =
-    behind (left c) _ _ (behind (not_entered c) _ _ (behind (not_joined c) _ _ (behind (too_many_sessions c s) _ _ (behind (repeat c s r) _ _
-    (behind (stale c s r) _ _ (behind (skip c s r) _ _ (behind (busy_alone c) _ _ (behind (set_full_alone c k) _ _
-    (both_unaware c l (event.Ask s r k))))))))))
-decides_unaware c l (event.Retire q) =
-    ap (λ (o : Option Refusal). first_of (left c ∷ has_gone c q ∷ not_entered c ∷ too_many_nodes c (q ∷ []) ∷ o ∷ []))
-    (spent_unaware c l (event.Retire q))
-decides_unaware c l (event.Lapse q) =
-    ap (λ (o : Option Refusal). first_of (left c ∷ not_entered c ∷ not_joined c ∷ nothing_to_lapse c q ∷ o ∷ []))
-    (spent_unaware c l (event.Lapse q))
-decides_unaware c l event.Snapshot =
-    behind (left c) _ _ (behind (not_entered c) _ _ (behind (not_joined c) _ _ (both_unaware c l event.Snapshot)))
+    behind (of_member c ++ of_request c s r ++ busy_alone c ∷ set_full_alone c k ∷ []) _ _ (both_unaware c l (event.Ask s r k))
+decides_unaware c l (event.Retire q) = behind (of_retire q c ++ too_many_nodes c (q ∷ []) ∷ []) _ _ (spent_unaware c l (event.Retire q))
+decides_unaware c l (event.Lapse q) = behind (of_member c ++ nothing_to_lapse c q ∷ []) _ _ (spent_unaware c l (event.Lapse q))
+decides_unaware c l event.Snapshot = behind (of_member c) _ _ (both_unaware c l event.Snapshot)
