@@ -89,7 +89,8 @@ own_number_along n [] = sym (add-zero n.core.ops.number)
 own_number_along n (e ∷ es) =
     let later = writes_by (begun_along (step n e) es) in
     own_number_along (step n e) es ∙ ap (λ k. k + later) (own_number n.core e)
-    ∙ add_assoc n.core.ops.number (writes_by (begun n.core e)) later ∙ sym (ap (λ k. n.core.ops.number + k) (writes_both (begun n.core e) (begun_along (step n e) es)))
+    ∙ add_assoc n.core.ops.number (writes_by (begun n.core e)) later
+    ∙ sym (ap (λ k. n.core.ops.number + k) (writes_both (begun n.core e) (begun_along (step n e) es)))
 
 pub own_value_along : (n : Node) (es : List Event) → (after n es).core.ops.mine ≡ written_by (begun_along n es) n.core.ops.mine
 unfolding step

@@ -51,7 +51,8 @@ module _ (o : Opening) where
 
   pub links_room : set.len (set.from_list (ids_of o)) ≤ 256 → LinksRoom
   links_room few =
-      let most : table.len (add_all 0 (ids_of o) table.empty) ≤ 256 = omega (arith, len_within (add_all 0 (ids_of o) table.empty) (set.from_list (ids_of o)) (known_listed o), few) in
+      let most : table.len (add_all 0 (ids_of o) table.empty) ≤ 256 =
+      omega (arith, len_within (add_all 0 (ids_of o) table.empty) (set.from_list (ids_of o)) (known_listed o), few) in
       let same = ap table.len opening_links in
       let a = len_add_all 0 o.initial (add_all 0 o.contacts table.empty) in
       let b = len_add_all 0 (o.me ∷ []) (add_all 0 o.initial (add_all 0 o.contacts table.empty)) in

@@ -21,7 +21,8 @@ use Rattle.cc_ops.specs.Rounds.{of_kind, line_behind}
 use Rattle.cc_ops.specs.RoundLaws.{kind_both, round_kinds}
 use Rattle.cc_ops.specs.Waiting.{line_limit, has_session}
 use Rattle.cc_node.specs.Core.{Core, quorum, asked_of, asks_anew, begun, next}
-use Rattle.cc_node.specs.Refusals.{decides, decides_within, left, not_entered, not_joined, too_many_sessions, repeat, stale, skip, busy, set_full, outbox_full, spent}
+use Rattle.cc_node.specs.Refusals.{decides, decides_within, busy, set_full, outbox_full, spent}
+use Rattle.cc_node.proofs.Deciding.{of_member, of_request}
 use Rattle.cc_node.specs.Node.{Node, step, after, IsLawful, IsLawfulWithin}
 use Rattle.cc_node.specs.Writes.{asked_by, asked_along, begun_along}
 use Rattle.cc_node.specs.Lawful.{IsLawfulCore, IsLawfulNode}
@@ -42,7 +43,8 @@ one_in_order k c (event.Deliver from n m) h =
     let t = ops.after_message c.me (quorum c) m c.ops in
     ap (of_kind k) (append-nil c.ops.line) ∙ parted_kinds k c.ops (ops.begun_by c.me m c.ops) t.line (message_parts c.me (quorum c) m c.ops)
     ∙ ap (λ (l : List Asked). of_kind k (ops.begun_by c.me m c.ops ++ l)) (sym (anew_line (asks_anew c from n m) _ t))
-one_in_order k c (event.Ask s r command) h = ap (of_kind k) (ask_line c.me (quorum c) (asked_of s r command) c.ops (λ idle. none_waits c.ops.phase c.ops.line idle h.line.behind))
+one_in_order k c (event.Ask s r command) h =
+    ap (of_kind k) (ask_line c.me (quorum c) (asked_of s r command) c.ops (λ idle. none_waits c.ops.phase c.ops.line idle h.line.behind))
 one_in_order k c _ h = ap (of_kind k) (append-nil c.ops.line)
 
 pub begin_in_order : (k : Bool) (n : Node) (es : List Event) → IsLawfulNode n → IsLawful n es
@@ -83,21 +85,18 @@ free_more c s h = ap (λ b. then_some b refusal.Busy)
     none_is false e = refl
 
 -- a reason in the middle of a list may be another that doesn't hold
-either_none : (o p : Option Refusal) (rs : List (Option Refusal)) → (o ≡ None → p ≡ None) → first_of (o ∷ rs) ≡ None → first_of (p ∷ rs) ≡ None
-either_none None p rs f h = ap (λ (q : Option Refusal). first_of (q ∷ rs)) (f refl) ∙ h
-either_none (Some r) p rs f h = cc
-
-passes : (o : Option Refusal) (xs ys : List (Option Refusal)) → (first_of xs ≡ None → first_of ys ≡ None) → first_of (o ∷ xs) ≡ None → first_of (o ∷ ys) ≡ None
-passes None xs ys f h = f h
-passes (Some r) xs ys f h = cc
+other_passes : (xs : List (Option Refusal)) (o p : Option Refusal) (rs : List (Option Refusal)) → (o ≡ None → p ≡ None)
+    → first_of (xs ++ o ∷ rs) ≡ None → first_of (xs ++ p ∷ rs) ≡ None
+other_passes [] None p rs f h = ap (λ (q : Option Refusal). first_of (q ∷ rs)) (f refl) ∙ h
+other_passes [] (Some r) p rs f h = cc
+other_passes (None ∷ xs) o p rs f h = other_passes xs o p rs f h
+other_passes (Some r ∷ xs) o p rs f h = cc
 
 pub taken_within : (c : Core) (e : Event) → decides_within 0 c e ≡ None → decides c e ≡ None
 unfolding decides decides_within
 taken_within c (event.Ask s r k) d =
     let e = event.Ask s r k in
-    let rest = set_full c k ∷ outbox_full c e ∷ spent c e ∷ [] in
-    passes (left c) _ _ (passes (not_entered c) _ _ (passes (not_joined c) _ _ (passes (too_many_sessions c s) _ _ (passes (repeat c s r) _ _
-    (passes (stale c s r) _ _ (passes (skip c s r) _ _ (either_none (busy 0 c s) (busy line_limit c s) rest (free_more c s)))))))) d
+    other_passes (of_member c ++ of_request c s r) (busy 0 c s) (busy line_limit c s) (set_full c k ∷ outbox_full c e ∷ spent c e ∷ []) (free_more c s) d
 taken_within c _ d = d
 
 pub taken_along : (n : Node) (es : List Event) → IsLawfulWithin 0 n es → IsLawful n es
@@ -112,10 +111,12 @@ parted_none s begun line (inr h) none = h.1 ∙ ap (line_behind s.share) none �
     nothing zero = refl
     nothing (suc n) = refl
 
-none_asked : (c : Core) (s r : ℕ) (k : Command) → c.ops.line ≡ [] → ops.is_idle c.ops.phase ≡ true → (ops.after_ask c.me (quorum c) (asked_of s r k) c.ops).line ≡ []
+none_asked : (c : Core) (s r : ℕ) (k : Command) → c.ops.line ≡ [] → ops.is_idle c.ops.phase ≡ true
+    → (ops.after_ask c.me (quorum c) (asked_of s r k) c.ops).line ≡ []
 none_asked c s r k none idle =
     let a = asked_of s r k in
-    ap (λ b. (if b then ops.with_begun c.me (quorum c) a c.ops else record c.ops { line = c.ops.line ++ a ∷ [] }).line) idle ∙ round_line c.me (quorum c) (a ∷ []) c.ops ∙ none
+    ap (λ b. (if b then ops.with_begun c.me (quorum c) a c.ops else record c.ops { line = c.ops.line ++ a ∷ [] }).line) idle
+    ∙ round_line c.me (quorum c) (a ∷ []) c.ops ∙ none
 
 pub none_waiting : (c : Core) (e : Event) → c.ops.line ≡ [] → decides_within 0 c e ≡ None → (next c e).ops.line ≡ []
 unfolding next

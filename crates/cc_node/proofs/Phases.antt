@@ -31,14 +31,17 @@ module _ (ls : Links) (ss : Requests) (p : Pending) (is_known : Bool) (read : Is
 
 -- ---- the others of a round
 
-pub all_write : (asks : List Asked) → IsTrue (list_all (λ (a : Asked). is_writing a.command) asks) ↔ AllByRecursion (λ a. is_writing a.command ≡ true) asks
+abbrev pub IsOfKind : Bool → List Asked → Type 0
+IsOfKind kind asks = AllByRecursion (λ a. is_writing a.command ≡ kind) asks
+
+pub all_write : (asks : List Asked) → IsTrue (list_all (λ (a : Asked). is_writing a.command) asks) ↔ IsOfKind true asks
 all_write [] = (λ h. tt, λ h. refl)
 all_write (a ∷ asks) = (
   λ h. let both = and_parts _ _ h in (both.0, (all_write asks).0 both.1),
   λ h. and_from _ _ h.0 ((all_write asks).1 h.1),
 )
 
-pub all_read : (asks : List Asked) → IsTrue (list_all (λ (a : Asked). not (is_writing a.command)) asks) ↔ AllByRecursion (λ a. is_writing a.command ≡ false) asks
+pub all_read : (asks : List Asked) → IsTrue (list_all (λ (a : Asked). not (is_writing a.command)) asks) ↔ IsOfKind false asks
 all_read [] = (λ h. tt, λ h. refl)
 all_read (a ∷ asks) = (
   λ h. let both = and_parts _ _ h in (not-true _ both.0, (all_read asks).0 both.1),
@@ -50,14 +53,17 @@ module _ (others : List Asked) where
   beside_idle Idle e = (λ h. h, λ h. h)
   beside_idle _ e = absurd cc
 
-  pub beside_writes : (p : Pending) (phase : Phase) → stage.Storing p ≡ stage_of phase → IsTrue (list_all (λ (a : Asked). is_writing a.command) others) ↔ IsBeside phase others
+  pub beside_writes : (p : Pending) (phase : Phase) → stage.Storing p ≡ stage_of phase
+      → IsTrue (list_all (λ (a : Asked). is_writing a.command) others) ↔ IsBeside phase others
   beside_writes p (Storing q) e = all_write others
   beside_writes p _ e = absurd cc
 
-  pub beside_query : (p : Pending) (phase : Phase) → stage.Querying p ≡ stage_of phase → IsTrue (list_all (λ (a : Asked). not (is_writing a.command)) others) ↔ IsBeside phase others
+  pub beside_query : (p : Pending) (phase : Phase) → stage.Querying p ≡ stage_of phase
+      → IsTrue (list_all (λ (a : Asked). not (is_writing a.command)) others) ↔ IsBeside phase others
   beside_query p (Querying q) e = all_read others
   beside_query p _ e = absurd cc
 
-  pub beside_seen : (p : Pending) (phase : Phase) → stage.StoringBack p ≡ stage_of phase → IsTrue (list_all (λ (a : Asked). not (is_writing a.command)) others) ↔ IsBeside phase others
+  pub beside_seen : (p : Pending) (phase : Phase) → stage.StoringBack p ≡ stage_of phase
+      → IsTrue (list_all (λ (a : Asked). not (is_writing a.command)) others) ↔ IsBeside phase others
   beside_seen p (StoringBack q seen) e = all_read others
   beside_seen p _ e = absurd cc

@@ -73,8 +73,8 @@ share_stays c (event.Deliver from n m) =
     anew_share (asks_anew c from n m) _ (ops.after_message c.me (quorum c) m c.ops) ∙ message_share c.me (quorum c) m c.ops
 share_stays c (event.Ask s r k) =
     let a = asked_of s r k in
-    cond_both (ops.is_idle c.ops.phase) (ops.with_begun c.me (quorum c) a c.ops) (record c.ops { line = c.ops.line ++ a ∷ [] }) (λ (t : Ops). t.share ≡ c.ops.share)
-    (λ _. begun_share c.me (quorum c) a c.ops) (λ _. refl)
+    cond_both (ops.is_idle c.ops.phase) (ops.with_begun c.me (quorum c) a c.ops) (record c.ops { line = c.ops.line ++ a ∷ [] })
+    (λ (t : Ops). t.share ≡ c.ops.share) (λ _. begun_share c.me (quorum c) a c.ops) (λ _. refl)
 share_stays c _ = refl
 
 pub share_along : (n : Node) (es : List Event) → (after n es).core.ops.share ≡ n.core.ops.share
@@ -98,7 +98,8 @@ one_in_line c (event.Deliver from n m) one h =
 one_in_line c (event.Ask s r k) one h = ask_line c.me (quorum c) (asked_of s r k) c.ops (λ idle. none_waits c.ops.phase c.ops.line idle h.line.behind)
 one_in_line c _ one h = append-nil c.ops.line
 
-pub one_by_one : (n : Node) (es : List Event) → n.core.ops.share ≡ 1 → IsLawfulNode n → IsLawful n es → n.core.ops.line ++ asked_along es ≡ begun_along n es ++ (after n es).core.ops.line
+pub one_by_one : (n : Node) (es : List Event) → n.core.ops.share ≡ 1 → IsLawfulNode n → IsLawful n es
+    → n.core.ops.line ++ asked_along es ≡ begun_along n es ++ (after n es).core.ops.line
 unfolding step
 one_by_one n [] one h d = append-nil n.core.ops.line
 one_by_one n (e ∷ es) one h d =
@@ -112,13 +113,15 @@ one_by_one n (e ∷ es) one h d =
 
 -- ---- an ask that waits comes on
 
-ended_on : (s : Ops) (rs : List Reply) (begun line : List Asked) (n : ℕ) (a : Asked) → 1 ≤ s.share → IsAt n a s.line → (rs ≡ [] → ⊥) → EndsRound s rs begun line → ComesOn n a begun line
+ended_on : (s : Ops) (rs : List Reply) (begun line : List Asked) (n : ℕ) (a : Asked) → 1 ≤ s.share → IsAt n a s.line → (rs ≡ [] → ⊥)
+    → EndsRound s rs begun line → ComesOn n a begun line
 ended_on s rs begun line n a some there told (inl h) = absurd (told h.0)
 ended_on s rs begun line n a some there told (inr h) =
     subst (λ (l : List Asked). ComesOn n a begun l) (sym h.2)
     (subst (λ (l : List Asked). ComesOn n a l (line_behind s.share s.line)) (sym h.1) (round_fair s.share s.line n a some there))
 
-pub comes_on : (c : Core) (e : Event) (n : ℕ) (a : Asked) → 1 ≤ c.ops.share → IsAt n a c.ops.line → (replies c e ≡ [] → ⊥) → ComesOn n a (begun c e) (next c e).ops.line
+pub comes_on : (c : Core) (e : Event) (n : ℕ) (a : Asked) → 1 ≤ c.ops.share → IsAt n a c.ops.line → (replies c e ≡ [] → ⊥)
+    → ComesOn n a (begun c e) (next c e).ops.line
 unfolding next
 comes_on c (event.Deliver from k m) n a some there told =
     let t = ops.after_message c.me (quorum c) m c.ops in
