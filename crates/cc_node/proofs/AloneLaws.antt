@@ -4,7 +4,8 @@
 --     lawful_alone, lawful_within   lists of events of which none is refused
 --     after_same, line_same    what such a list leaves and puts out
 --     leaves_line              the rule of one operation at a time leaves the asks that wait as they are
-use Rattle.std.proofs.Common.{◌≡◌, ℕ, zero, suc, ◌+◌, ◌-◌, Bool, true, false, not, ◌&&◌, ◌||◌, nat_le, List, [], ◌∷◌, ◌++◌, length, refl, sym, ap, subst, ◌∙◌, arith}
+use Rattle.std.proofs.Common.{◌≡◌, ℕ, zero, suc, ◌+◌, ◌-◌, Bool, true, false, not, ◌&&◌, ◌||◌, nat_le, List, [], ◌∷◌, ◌++◌, length, refl, sym, ap}
+use Rattle.std.proofs.Common.{subst, ◌∙◌, arith}
 use Rattle.std.specs.Prelude.{Option, Some, None, if◌then◌else◌, is_some, ◌==◌}
 use Rattle.std.specs.Option.{option_len}
 use Rattle.std.specs.Bool.{then_some}
@@ -26,12 +27,15 @@ use Rattle.cc_ops.specs.Waiting.{has_session, written_by}
 use Rattle.cc_ops.specs.OwnLaws.{round_line}
 use Rattle.cc_ops.specs.Rounds.{first_round, line_behind}
 use Rattle.cc_ops.specs.RoundLaws.{no_round}
-use Rattle.cc_ops.specs.Ops.{Ops, Phase, Idle, Storing, Querying, StoringBack, is_idle, is_last, is_own, counted, with_begun, begin_round, after_ask, after_reply, after_last, after_ack, after_message, first_post, post_of_round, ends_store, begun_by, unanswered}
+use Rattle.cc_ops.specs.Ops.{Ops, Phase, Idle, Storing, Querying, StoringBack, is_idle, is_last, is_own, counted, with_begun, begin_round, after_ask}
+use Rattle.cc_ops.specs.Ops.{after_reply, after_last, after_ack, after_message, first_post, post_of_round, ends_store, begun_by, unanswered}
 use Rattle.cc_outbox.specs.Outbox.{post_limit, trim}
-use Rattle.cc_node.specs.Core.{Core, quorum, asked_of, ids_of, links_heard, churn_told, asks_anew, anew_if, next, post, outputs, ack, replies, send_ack, send_post, send_replies, lowest}
+use Rattle.cc_node.specs.Core.{Core, quorum, asked_of, ids_of, links_heard, churn_told, asks_anew, anew_if, next, post, outputs, ack, replies}
+use Rattle.cc_node.specs.Core.{send_ack, send_post, send_replies, lowest}
 use Rattle.cc_node.specs.Node.{Node, step, after, line, keep, add, forget_asked, IsLawfulWithin}
 use Rattle.cc_node.specs.Refusals.{decides_within, nothing_to_ack, too_many_nodes, nothing_to_lapse, busy, set_full, outbox_full, spent, any_overruns}
-use Rattle.cc_node.specs.OneAtATime.{acked_alone, ops_alone, quorum_told, next_alone, post_alone, outputs_alone, busy_alone, set_full_alone, outbox_full_alone, spent_alone, decides_alone, step_alone, after_alone, line_alone, IsLawfulAlone}
+use Rattle.cc_node.specs.OneAtATime.{acked_alone, ops_alone, quorum_told, next_alone, post_alone, outputs_alone, busy_alone, set_full_alone}
+use Rattle.cc_node.specs.OneAtATime.{outbox_full_alone, spent_alone, decides_alone, step_alone, after_alone, line_alone, IsLawfulAlone}
 use Rattle.cc_node.proofs.Deciding.{of_enter, of_entered, of_member, of_retire, of_number, of_request}
 use Rattle.cc_node.proofs.OrderLaws.{none_waiting}
 use Rattle.cc_node.proofs.RefusalLaws.{free_within}

@@ -6,8 +6,9 @@
 --     post_either, makes_either, post_told           whether a message is answered with a post
 --     spent_enter, ..                                which counters an event would raise
 --     ack_refused, number_after, next_request        what is known where some reasons don't hold
-use Rattle.std.proofs.Common.{◌≡◌, ℕ, ◌+◌, ◌<◌, ◌≤◌, ◌⊎◌, Bool, true, false, ◌&&◌, ◌||◌, nat_lt, nat_le, List, [], ◌∷◌, ◌++◌, refl, sym, ap, ◌∙◌, inl, inr, arith}
-use Rattle.std.specs.Prelude.{Option, Some, None, Result, Ok, Err, IsErrAnd, is_some, option_map, ◌==◌, not, if◌then◌else◌}
+use Rattle.std.proofs.Common.{◌≡◌, ℕ, ◌+◌, ◌<◌, ◌≤◌, ◌⊎◌, Bool, true, false, ◌&&◌, ◌||◌, nat_lt, nat_le, List, [], ◌∷◌, ◌++◌, refl, sym, ap, ◌∙◌, inl}
+use Rattle.std.proofs.Common.{inr, arith}
+use Rattle.std.specs.Prelude.{Option, Some, None, Result, Ok, Err, IsErrAnd, is_some, option_map, ◌==◌, if◌then◌else◌}
 use Rattle.std.specs.Option.{option_len, option_or}
 use Rattle.std.specs.Bool.{then_some}
 use Rattle.std.proofs.lemmas.Bool.Decides.{eqb_tells}
@@ -16,7 +17,6 @@ use Rattle.std.proofs.lemmas.Bool.{leb-false, ltb-false, lt-ltb, le-ltb, or_part
 use Rattle.cc_views.specs.Limits.{counter_limit, overruns}
 use Rattle.cc_ops.specs.Refusals.{passes}
 use Rattle.cc_views.specs.Rows.{ViewMap}
-use Rattle.cc_changes.specs.ChangeSets.{ChangeSets}
 use Rattle.cc_changes.specs.declared.fraction.Fraction.{Fraction}
 use Rattle.cc_messages.specs.Messages.{is_snapshot}
 use Rattle.cc_messages.specs.declared.event.Event.TheVariants as event
@@ -32,7 +32,8 @@ use Rattle.cc_ops.specs.Waiting.{first_in}
 use Rattle.cc_links.specs.Links.{heard_from}
 use Rattle.cc_sessions.specs.Sessions.{last_request, is_stale, is_skip, is_repeat, finds_no_room}
 use Rattle.cc_messages.specs.declared.command.Command.{Command}
-use Rattle.cc_node.specs.Core.{Core, asked_of, churned, tells, told_if, churn_told, join_told, asks_anew, anew_if, ops_anew, question_if, post_of_snapshot, handled, next, post, quorum}
+use Rattle.cc_node.specs.Core.{Core, asked_of, churned, tells, told_if, churn_told, join_told, asks_anew, anew_if, ops_anew, question_if}
+use Rattle.cc_node.specs.Core.{post_of_snapshot, handled, next, post, quorum}
 use Rattle.cc_node.specs.Refusals.{any_overruns, spent, decides, decides_within, left, has_gone, not_entered, already_entered, not_joined, old, gap}
 use Rattle.cc_node.specs.Refusals.{nothing_to_ack, too_many_sessions, repeat, stale, skip}
 use Rattle.cc_node.proofs.LawfulLaws.{hears_now, request_now}

@@ -31,7 +31,8 @@ use Rattle.cc_messages.specs.declared.message.Message.{Message}
 use Rattle.cc_messages.specs.declared.refusal.Refusal.TheVariants as refusal
 use Rattle.cc_outbox.specs.Outbox.{post_limit}
 use Rattle.cc_outbox.specs.OutboxLaws.{room_for_post}
-use Rattle.cc_node.specs.Core.{Core, asked_of, links_heard, churned, told_if, tells, churn_told, asks_anew, anew_if, ops_anew, handled, next, post, replies, quorum, ids_of, lowest}
+use Rattle.cc_node.specs.Core.{Core, asked_of, links_heard, churned, told_if, tells, churn_told, asks_anew, anew_if, ops_anew, handled, next, post}
+use Rattle.cc_node.specs.Core.{replies, quorum, ids_of, lowest}
 use Rattle.cc_node.specs.Node.{Node, step, add, keep, forget_asked}
 use Rattle.cc_node.specs.Lawful.{IsLawfulCore, IsLawfulNode}
 use Rattle.cc_node.specs.Refusals.{decides}
@@ -90,7 +91,11 @@ begins_one true a f = refl
 begins_one false a f = refl
 
 pub next_ask : (c : Core) (s r : ℕ) (k : Command) → next c (event.Ask s r k)
-    ≡ record c { ops = ops.after_ask c.me (quorum c) (asked_of s r k) c.ops; posts = c.posts + cond (ops.is_idle c.ops.phase) 1 0; sessions = table.insert c.sessions s r }
+    ≡ record c {
+  ops = ops.after_ask c.me (quorum c) (asked_of s r k) c.ops;
+  posts = c.posts + cond (ops.is_idle c.ops.phase) 1 0;
+  sessions = table.insert c.sessions s r;
+}
 unfolding next
 next_ask c s r k =
     let e = event.Ask s r k in

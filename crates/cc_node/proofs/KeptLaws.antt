@@ -1,7 +1,7 @@
 -- What a node keeps after an event: the posts above lowest, and answers of sessions of which each ask is answered.
 --     step_posts                     the posts after a step, and how many were made
 --     first_answers, last_answers    the answers after the first ask is answered, and after one more
-use Rattle.std.proofs.Common.{◌≡◌, ℕ, ◌+◌, ◌-◌, ◌≤◌, Bool, true, false, cond, ◌&&◌, nat_eq, List, [], ◌∷◌, ◌++◌, refl, sym, ap, subst, ◌∙◌, inl, inr, arith, add-zero}
+use Rattle.std.proofs.Common.{◌≡◌, ℕ, ◌+◌, ◌-◌, ◌≤◌, false, ◌&&◌, nat_eq, List, [], ◌∷◌, ◌++◌, refl, sym, ap, subst, ◌∙◌, inl, inr, arith, add-zero}
 use Rattle.std.specs.Prelude.{Option, Some, None, IsTrue, is_some, ◌==◌}
 use Rattle.std.specs.List.{AllByRecursion}
 use Rattle.std.specs.Option.{option_len}
@@ -89,7 +89,9 @@ keep_grows (r ∷ rs) o = omega (arith, len_grows o.answers r.session r.answer, 
 -- a post changes no answer
 same_answers : (rs : List Reply) (o u : Outbox) → o.answers ≡ u.answers → (keep rs o).answers ≡ (keep rs u).answers
 same_answers [] o u e = e
-same_answers (r ∷ rs) o u e = same_answers rs (kept.keep r.session r.answer o) (kept.keep r.session r.answer u) (ap (λ (t : FinMap nat_cmp Answer). table.insert t r.session r.answer) e)
+same_answers (r ∷ rs) o u e =
+    same_answers rs (kept.keep r.session r.answer o) (kept.keep r.session r.answer u)
+    (ap (λ (t : FinMap nat_cmp Answer). table.insert t r.session r.answer) e)
 
 pub answers_add : (p : Option Message) (rs : List Reply) (o : Outbox) → (keep rs (add p o)).answers ≡ (keep rs o).answers
 answers_add None rs o = refl
@@ -100,8 +102,8 @@ pub posted : (ss : Requests) (asks : List Asked) (p : Option Message) (rs : List
 posted ss asks p rs o h = subst (KeepsAnswers ss asks) (sym (answers_add p rs o)) h
 
 -- the first of the asks that aren't answered is, and its session has no other
-first_kept : (ss : Requests) (a : Asked) (asks : List Asked) (answer : Answer) (kept : FinMap nat_cmp Answer) → IsLastOf ss a → has_session a.session asks ≡ false
-    → KeepsAnswers ss (a ∷ asks) kept → KeepsAnswers ss asks (table.insert kept a.session answer)
+first_kept : (ss : Requests) (a : Asked) (asks : List Asked) (answer : Answer) (kept : FinMap nat_cmp Answer) → IsLastOf ss a
+    → has_session a.session asks ≡ false → KeepsAnswers ss (a ∷ asks) kept → KeepsAnswers ss asks (table.insert kept a.session answer)
 first_kept ss a asks answer kept last alone h x j =
     elim (or_cases (nat_eq x a.session) (table.contains_key kept x) (sym (contains-insert_key kept a.session answer x) ∙ j))
     as (λ _. IsTrue (table.contains_key ss x) × (has_session x asks ≡ false)) [
@@ -112,8 +114,8 @@ first_kept ss a asks answer kept last alone h x j =
     ]
 
 -- so it is with each reply that answers one of those in front
-all_kept : (ss : Requests) (asks line : List Asked) (rs : List Reply) (o : Outbox) → AreAnswered asks rs → AreApart (asks ++ line) → AllByRecursion (IsLastOf ss) asks
-    → KeepsAnswers ss (asks ++ line) o.answers → KeepsAnswers ss line (keep rs o).answers
+all_kept : (ss : Requests) (asks line : List Asked) (rs : List Reply) (o : Outbox) → AreAnswered asks rs → AreApart (asks ++ line)
+    → AllByRecursion (IsLastOf ss) asks → KeepsAnswers ss (asks ++ line) o.answers → KeepsAnswers ss line (keep rs o).answers
 all_kept ss [] line [] o e apart last h = h
 all_kept ss [] line (r ∷ rs) o e apart last h = absurd e
 all_kept ss (a ∷ asks) line [] o e apart last h = absurd e
@@ -123,10 +125,11 @@ all_kept ss (a ∷ asks) line (r ∷ rs) o e apart last h =
     (first_kept ss a (asks ++ line) r.answer o.answers last.0 apart.0 h) in
     all_kept ss asks line rs (kept.keep r.session r.answer o) e.2 apart.1 last.1 kept_now
 
-pub round_answers : (ss : Requests) (s t : Ops) (rs : List Reply) (o : Outbox) → AnswersRound s t rs → AreApart (unanswered s) → AllByRecursion (IsLastOf ss) (unanswered s)
-    → KeepsAnswers ss (unanswered s) o.answers → KeepsAnswers ss (unanswered t) (keep rs o).answers
+pub round_answers : (ss : Requests) (s t : Ops) (rs : List Reply) (o : Outbox) → AnswersRound s t rs → AreApart (unanswered s)
+    → AllByRecursion (IsLastOf ss) (unanswered s) → KeepsAnswers ss (unanswered s) o.answers → KeepsAnswers ss (unanswered t) (keep rs o).answers
 round_answers ss s t rs o (inl h) apart last k =
-    subst (λ (l : List Reply). KeepsAnswers ss (unanswered t) (keep l o).answers) (sym h.0) (subst (λ (l : List Asked). KeepsAnswers ss l o.answers) (sym h.1) k)
+    subst (λ (l : List Reply). KeepsAnswers ss (unanswered t) (keep l o).answers) (sym h.0)
+    (subst (λ (l : List Asked). KeepsAnswers ss l o.answers) (sym h.1) k)
 round_answers ss s t rs o (inr h) apart last k =
     let left = all_kept ss (pending s) s.line rs o h.0 apart (front_all (IsLastOf ss) (pending s) s.line last) k in
     subst (λ (l : List Asked). KeepsAnswers ss l (keep rs o).answers) (sym h.1) (λ x j. ((left x j).0, round_has x s.share s.line ∙ (left x j).1))

@@ -2,10 +2,9 @@
 --     next_core, step_lawful        the core, and the node
 --     lowest_next                   lowest doesn't fall
 --     links_go_on, left_grows       no link is lost or falls back, and who left has left for good
-use Rattle.std.proofs.Common.{◌≡◌, ℕ, ◌+◌, ◌<◌, ◌≤◌, true, false, cond, ◌||◌, ◌&&◌, nat_eq, nat_lt, List, [], ◌∷◌, ◌++◌, refl, sym, ap, subst, ◌∙◌, inl, inr, arith}
+use Rattle.std.proofs.Common.{◌≡◌, ℕ, ◌+◌, ◌<◌, ◌≤◌, true, false, ◌&&◌, nat_lt, List, [], ◌∷◌, ◌++◌, refl, sym, ap, subst, ◌∙◌, inl, inr, arith}
 use Rattle.std.specs.Prelude.{Option, Some, None, IfSome, IsTrue, is_some, ◌==◌}
 use Rattle.std.specs.Option.{option_len, option_map_or, unwrap_or}
-use Rattle.std.specs.List.{list_any}
 use Rattle.std.specs.FinMap as table
 use Rattle.std.proofs.lemmas.Bool.{cond_both, or_parts, or_left, eqb-false, ltb-false, leb-false}
 use Rattle.std.proofs.lemmas.Bool.Decides.{eqb_tells}
@@ -17,9 +16,8 @@ use Rattle.cc_views.specs.Merge.{merge}
 use Rattle.cc_views.specs.Limits.{counter_limit, known_limit, session_limit, set_limit}
 use Rattle.cc_views.specs.declared.value.Value.{Value}
 use Rattle.cc_changes.specs.declared.fraction.Fraction.{Fraction}
-use Rattle.cc_changes.specs.ChangeSets.{ChangeSets, add_enter, add_join, add_leave, present}
+use Rattle.cc_changes.specs.ChangeSets.{ChangeSets, add_enter, add_leave}
 use Rattle.cc_changes.specs.ChangeLaws.{need_within, need_positive}
-use Rattle.cc_changes.specs.Need.{needed}
 use Rattle.cc_messages.specs.declared.command.Command.{Command}
 use Rattle.cc_messages.specs.declared.event.Event.{Event}
 use Rattle.cc_messages.specs.declared.event.Event.TheVariants as event
@@ -29,13 +27,15 @@ use Rattle.cc_churn.specs.Churn as churn
 use Rattle.cc_churn.specs.Churn.{Churn}
 use Rattle.cc_ops.specs.Commands.{is_writing}
 use Rattle.cc_ops.specs.Ops as ops
-use Rattle.cc_ops.specs.Ops.{Ops, Phase, Idle, Storing, Querying, StoringBack, unanswered, mine_at_last}
+use Rattle.cc_ops.specs.Ops.{Ops, Phase, Storing, Querying, StoringBack, unanswered, mine_at_last}
 use Rattle.cc_ops.specs.OwnLaws.{message_last, message_answers, ask_last, ask_unanswered}
 use Rattle.cc_ops.specs.Rounds.{first_round, line_behind}
 use Rattle.cc_ops.specs.WaitingLaws.{written_fits}
 use Rattle.cc_ops.specs.declared.pending.Asked.{Asked}
 use Rattle.cc_links.specs.Links.{Link, Links, new_link, with_row, add_absent, add_all, hear, ack, lapse, heard_from, LinksWithin}
-use Rattle.cc_links.specs.LinkLaws.{LinksGoOn, go_same, go_then, add_all_goes, hear_goes, ack_goes, lapse_goes, go_within, lowest_within, lowest_grows, links_more_posts, add_all_links, hear_links, ack_links, lapse_links, contains-add_all, hear_len, ack_len, lapse_len}
+use Rattle.cc_links.specs.LinkLaws.{LinksGoOn, go_same, go_then, add_all_goes, hear_goes, ack_goes, lapse_goes, go_within, lowest_within}
+use Rattle.cc_links.specs.LinkLaws.{lowest_grows, links_more_posts, add_all_links, hear_links, ack_links, lapse_links, contains-add_all, hear_len}
+use Rattle.cc_links.specs.LinkLaws.{ack_len, lapse_len}
 use Rattle.cc_sessions.specs.Sessions.{Requests, last_request, begin_fits}
 use Rattle.cc_outbox.specs.Outbox.{forget}
 use Rattle.cc_node.specs.Core.{Core, quorum, ids_of, asked_of, churned, tells, churn_told, asks_anew, ops_anew, next, post, replies, lowest}
@@ -43,11 +43,15 @@ use Rattle.cc_node.specs.Refusals.{decides}
 use Rattle.cc_node.specs.Node.{Node, step}
 use Rattle.cc_ops.specs.Stages.{HasRoom}
 use Rattle.cc_node.specs.Lawful.{CountsWithin, SessionsWithin, KeepsAnswers, IsLawfulCore, IsLawfulNode}
-use Rattle.cc_node.proofs.KnownLaws.{same_number, AllListed, tail_listed, MessageKnown, message_known, among_more, KeepsChanges, enter_changes, leave_changes, KeepsChurn, members_fit, message_churn, left_stays, KeepsOps, ops_more, message_ops, ask_ops, all_last, none_waits, none_left}
+use Rattle.cc_node.proofs.KnownLaws.{same_number, AllListed, tail_listed, MessageKnown, message_known, among_more, KeepsChanges, enter_changes}
+use Rattle.cc_node.proofs.KnownLaws.{leave_changes, KeepsChurn, members_fit, message_churn, left_stays, KeepsOps, ops_more, message_ops, ask_ops}
+use Rattle.cc_node.proofs.KnownLaws.{all_last, none_waits, none_left}
 use Rattle.cc_node.proofs.KeptLaws.{step_posts, posted, round_answers, last_answers}
 use Rattle.cc_node.proofs.Lists.{inserted_here, inserted_beside}
-use Rattle.cc_node.proofs.RefusalLaws.{Fits, takes_enter, takes_leave, takes_delivery, takes_ack, takes_ask, takes_retire, takes_lapse, takes_snapshot, takes_any, stays_within, passes_within, none_overruns}
-use Rattle.cc_node.proofs.ToldLaws.{told_churn, left_told, one_echo, echoes_told, anew_last, anew_unanswered, anew_tag, anew_ops, snapshot_tag, snapshot_echoes, tells_snapshot, anew_snapshot}
+use Rattle.cc_node.proofs.RefusalLaws.{Fits, takes_enter, takes_leave, takes_delivery, takes_ack, takes_ask, takes_retire, takes_lapse}
+use Rattle.cc_node.proofs.RefusalLaws.{takes_snapshot, takes_any, stays_within, passes_within, none_overruns}
+use Rattle.cc_node.proofs.ToldLaws.{told_churn, left_told, one_echo, echoes_told, anew_last, anew_unanswered, anew_tag, anew_ops, snapshot_tag}
+use Rattle.cc_node.proofs.ToldLaws.{snapshot_echoes, tells_snapshot, anew_snapshot}
 
 -- ---- counters rise by one at most
 

@@ -5,9 +5,10 @@
 --     outputs_rise          they follow one another
 --     outputs_follow_each_other, no_output_twice     so do all outputs along a list
 --     standing_followed     and they follow all that stood before it
-use Rattle.std.proofs.Common.{◌≡◌, ◌≢◌, ℕ, ◌+◌, ◌-◌, ◌<◌, ◌≤◌, Bool, true, false, cond, not, nat_eq, List, [], ◌∷◌, ◌++◌, refl, sym, ap, subst, ◌∙◌, inl, inr, arith}
-use Rattle.std.specs.Prelude.{Option, Some, None, IfSome, T, is_some, map, ⊤, ◌==◌, nat_lt}
-use Rattle.std.specs.Option.{option_len, option_map_or, unwrap_or}
+use Rattle.std.proofs.Common.{◌≡◌, ◌≢◌, ℕ, ◌+◌, ◌-◌, ◌<◌, ◌≤◌, Bool, true, false, cond, not, nat_eq, List, [], ◌∷◌, ◌++◌, refl, sym, ap, subst, ◌∙◌}
+use Rattle.std.proofs.Common.{inl, inr, arith}
+use Rattle.std.specs.Prelude.{Option, Some, None, IfSome, T, is_some, ⊤, ◌==◌, nat_lt}
+use Rattle.std.specs.Option.{option_len, unwrap_or}
 use Rattle.std.specs.List.{All, AllByRecursion, AllPairs}
 use Rattle.std.specs.Ordering.{nat_cmp, is_lt}
 use Rattle.std.specs.FinMap as table
@@ -40,7 +41,7 @@ use Rattle.cc_links.specs.LinkLaws.{LinkGoesOn, get-live}
 use Rattle.cc_sessions.specs.Sessions.{Requests, last_request, is_repeat, is_stale}
 use Rattle.cc_node.specs.declared.made.LinkAck.{LinkAck}
 use Rattle.cc_node.specs.Core as core
-use Rattle.cc_node.specs.Core.{Core, quorum, asked_of, asks_anew, ops_anew, next, post, replies, outputs, sends, send_post, send_ack, send_replies, live_links}
+use Rattle.cc_node.specs.Core.{Core, quorum, asked_of, asks_anew, next, post, replies, outputs, sends, send_post, send_ack, send_replies, live_links}
 use Rattle.cc_node.specs.Refusals.{decides}
 use Rattle.cc_node.specs.Node.{Node, step, line, HasOutput, IsLawful}
 use Rattle.cc_node.specs.Lines.{Follows}
@@ -395,7 +396,8 @@ replies_rise c (event.Deliver from n m) h =
     replies_apart c.ops (ops.after_message c.me (quorum c) m c.ops) (ops.replies_of c.me m c.ops) (message_answers c.me (quorum c) m c.ops) h.line.apart
 replies_rise c _ h = tt
 
-then_each : (x : Output) (rs : List Reply) → ((r : Reply) → Follows x (output.Reply r.session r.request r.answer)) → AllByRecursion (Follows x) (send_replies rs)
+then_each : (x : Output) (rs : List Reply) → ((r : Reply) → Follows x (output.Reply r.session r.request r.answer))
+    → AllByRecursion (Follows x) (send_replies rs)
 then_each x [] f = tt
 then_each x (r ∷ rs) f = (f r, then_each x rs f)
 

@@ -12,7 +12,7 @@ use Rattle.cc_ops.specs.declared.pending.Asked.{Asked}
 use Rattle.cc_ops.specs.declared.pending.Reply.{Reply}
 use Rattle.cc_ops.specs.Commands.{is_writing}
 use Rattle.cc_ops.specs.Ops as ops
-use Rattle.cc_ops.specs.Ops.{Ops, Phase, Idle, Storing, Querying, StoringBack}
+use Rattle.cc_ops.specs.Ops.{Ops, Phase, Idle, Storing, Querying}
 use Rattle.cc_ops.specs.OwnLaws.{Parts, AreAnswered, AnswersRound, EndsRound, round_line, message_parts, message_share, message_answers, message_ends, ask_line}
 use Rattle.cc_ops.specs.Rounds.{first_round, line_behind, IsAt, ComesOn}
 use Rattle.cc_ops.specs.RoundLaws.{one_round, first_few, round_fair, at_more}

@@ -2,9 +2,10 @@
 --     standing_made
 --     posts_keep, last_forget     an answer is no post, and to forget one makes none
 --     get-above                   the posts above a number
-use Rattle.std.proofs.Common.{◌≡◌, ℕ, ◌+◌, ◌-◌, ◌<◌, ◌≤◌, ◌⊎◌, Bool, true, false, cond, not, nat_eq, nat_lt, List, [], ◌∷◌, ◌++◌, refl, sym, ap, subst, ◌∙◌, inl, inr, arith}
+use Rattle.std.proofs.Common.{◌≡◌, ℕ, ◌+◌, ◌-◌, ◌<◌, ◌≤◌, ◌⊎◌, Bool, true, false, cond, not, nat_eq, nat_lt, List, [], ◌∷◌, ◌++◌, refl, sym, ap}
+use Rattle.std.proofs.Common.{subst, ◌∙◌, inl, inr, arith}
 use Rattle.std.specs.Prelude.{Option, Some, None, is_some}
-use Rattle.std.specs.Option.{option_len, option_map_or}
+use Rattle.std.specs.Option.{option_len}
 use Rattle.std.specs.List.{Contains, AllByRecursion}
 use Rattle.std.specs.Ordering.{nat_cmp}
 use Rattle.std.specs.Cmp.{nat_cmp_total, unsigned_tied}
@@ -180,8 +181,8 @@ step_ack n (event.Deliver from k m) to heard s =
       | inl t ↦
           let number : k ≡ heard = sym (hears_now c from k m) ∙ ap (λ q. heard_from q (hear from k ls)) (sym t.1) ∙ ap heard_at s.1 ∙ s.2 in
           let is : output.Ack from k ≡ output.Ack to heard = λ i. output.Ack (sym t.1 i) (number i) in
-          inr (Contains-append_left (send_ack (core.ack e) ++ send_post (next c e) (post c e)) (send_replies (replies c e)) _
-          (subst (Contains (send_ack (core.ack e) ++ send_post (next c e) (post c e))) is (contains_head (output.Ack from k) (send_post (next c e) (post c e)))))
+          let sent = send_ack (core.ack e) ++ send_post (next c e) (post c e) in
+          inr (Contains-append_left sent (send_replies (replies c e)) _ (subst (Contains sent) is (contains_head (output.Ack from k) _)))
       | inr t ↦
           let same = row_heard to from (λ l. record l { heard = k }) (table.get ls from) ls t.0 ∙ add_all_heard c.posts (from ∷ ids_of m) c.links to in
           inl (acked_before n (step n e) to heard same s)

@@ -21,7 +21,7 @@ use Rattle.cc_messages.specs.declared.message.Message.TheVariants as message
 use Rattle.cc_churn.specs.Churn as churn
 use Rattle.cc_churn.specs.Churn.{Churn}
 use Rattle.cc_ops.specs.Ops as ops
-use Rattle.cc_ops.specs.Ops.{Ops, Phase, Idle, Storing, Querying, StoringBack, unanswered, mine_at_last}
+use Rattle.cc_ops.specs.Ops.{Ops, Phase, Idle, StoringBack, unanswered, mine_at_last}
 use Rattle.cc_ops.specs.OwnLaws.{anew_keeps}
 use Rattle.cc_ops.specs.Stages.{stage_of, WaitsBehind}
 use Rattle.cc_ops.specs.Waiting.{AreApart}

@@ -19,11 +19,12 @@ use Rattle.cc_messages.specs.Refusals.{first_of}
 use Rattle.cc_churn.specs.Churn as churn
 use Rattle.cc_ops.specs.declared.pending.Asked.{Asked}
 use Rattle.cc_ops.specs.Commands.{is_writing}
-use Rattle.cc_ops.specs.Ops.{Ops, Phase, Idle, Storing, Querying, StoringBack, is_last, is_own, with_begun, after_reply, first_post, anew}
+use Rattle.cc_ops.specs.Ops.{Ops, Phase, Storing, Querying, StoringBack, is_last, is_own, with_begun, after_reply, first_post, anew}
 use Rattle.cc_outbox.specs.Outbox.{post_limit}
 use Rattle.cc_node.specs.Core.{Core, quorum, asked_of, ids_of, links_heard, churn_told, join_told, asks_anew, anew_if, question_if, lowest}
 use Rattle.cc_node.specs.Refusals.{nothing_to_ack, too_many_nodes, nothing_to_lapse, any_overruns, row_overruns}
-use Rattle.cc_node.specs.OneAtATime.{acked_alone, other_line, waiting, ops_alone, quorum_told, answer_alone, next_alone, post_alone, busy_alone, set_full_alone, outbox_full_alone, spent_alone, decides_alone}
+use Rattle.cc_node.specs.OneAtATime.{acked_alone, other_line, waiting, ops_alone, quorum_told, answer_alone, next_alone, post_alone, busy_alone}
+use Rattle.cc_node.specs.OneAtATime.{set_full_alone, outbox_full_alone, spent_alone, decides_alone}
 use Rattle.cc_node.proofs.AloneLaws.{behind}
 use Rattle.cc_node.proofs.Deciding.{of_enter, of_entered, of_member, of_retire, of_number, of_request}
 

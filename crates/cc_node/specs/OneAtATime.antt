@@ -27,13 +27,15 @@ use Rattle.cc_messages.specs.Refusals.{first_of}
 use Rattle.cc_churn.specs.Churn as churn
 use Rattle.cc_ops.specs.declared.pending.Asked.{Asked}
 use Rattle.cc_ops.specs.Commands.{finds_no_room}
-use Rattle.cc_ops.specs.Ops.{Ops, Phase, Idle, Storing, Querying, StoringBack, is_idle, is_last, counted, merged, is_own, with_begun, after_reply, first_post, ends_query}
+use Rattle.cc_ops.specs.Ops.{Ops, Phase, Idle, Storing, Querying, StoringBack, is_idle, is_last, counted, merged, is_own, with_begun, after_reply}
+use Rattle.cc_ops.specs.Ops.{first_post, ends_query}
 use Rattle.cc_links.specs.Links as links
 use Rattle.cc_outbox.specs.Outbox.{post_limit, trim}
 use Rattle.cc_node.specs.Core.{Core, asked_of, ids_of, with_links, links_heard, churn_told, join_told, asks_anew, anew_if, question_if}
 use Rattle.cc_node.specs.Core.{quorum, ack, replies, send_ack, send_post, send_replies, lowest}
 use Rattle.cc_node.specs.Node.{Node, keep, add, forget_asked}
-use Rattle.cc_node.specs.Refusals.{left, has_gone, not_entered, already_entered, not_joined, old, gap, nothing_to_ack, too_many_nodes, too_many_sessions, repeat, stale, skip, nothing_to_lapse, any_overruns}
+use Rattle.cc_node.specs.Refusals.{left, has_gone, not_entered, already_entered, not_joined, old, gap, nothing_to_ack, too_many_nodes}
+use Rattle.cc_node.specs.Refusals.{too_many_sessions, repeat, stale, skip, nothing_to_lapse, any_overruns}
 
 -- ---- operations
 

@@ -7,7 +7,8 @@ use Rattle.cc_node.proofs.node_core.Core.decide_retire.Goals as goal
 
 pub returns-in_err-decide_retire : goal.returns-in_err-decide_retire
 unfolding decides decides_within
-returns-in_err-decide_retire c = err_then (of_retire c.args.node) _ _ c.self.view_is c.decide_retire.ensures c.in_err-decide_retire.was _ c.from_residual.ensures.1
+returns-in_err-decide_retire c =
+    err_then (of_retire c.args.node) _ _ c.self.view_is c.decide_retire.ensures c.in_err-decide_retire.was _ c.from_residual.ensures.1
 
 pub returns-then-knows_too_many_with : goal.returns-then-knows_too_many_with
 unfolding decides decides_within

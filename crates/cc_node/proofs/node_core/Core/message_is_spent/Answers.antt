@@ -33,7 +33,8 @@ returns-then-is_spent c from = sym (all (goal.at.returns-then-is_spent c).After-
 
 pub returns-then-posts_are_spent : goal.returns-then-posts_are_spent
 returns-then-posts_are_spent c from =
-    sym (all (goal.at.returns-then-posts_are_spent c).After-is_spent from ∙ or_left _ _ (or_left _ _ (or_right _ _ (sym c.posts_are_spent.ensures ∙ c.if-posts_are_spent.true))))
+    sym (all (goal.at.returns-then-posts_are_spent c).After-is_spent from
+    ∙ or_left _ _ (or_left _ _ (or_right _ _ (sym c.posts_are_spent.ensures ∙ c.if-posts_are_spent.true))))
 
 pub returns-then-is_spent-2 : goal.returns-then-is_spent-2
 returns-then-is_spent-2 c from =
@@ -41,5 +42,6 @@ returns-then-is_spent-2 c from =
 
 pub returns : goal.returns
 returns c from =
-    sym (all (goal.at.returns c).After-is_spent from ∙ or_passes _ _ (or_from _ _
-    (or_from _ _ c.if-is_spent.false (sym c.posts_are_spent.ensures ∙ c.if-posts_are_spent.false)) (sym c.is_spent-2.ensures ∙ c.if-is_spent-2.false)))
+    sym (all (goal.at.returns c).After-is_spent from ∙ or_passes _ _
+    (or_from _ _ (or_from _ _ c.if-is_spent.false (sym c.posts_are_spent.ensures ∙ c.if-posts_are_spent.false))
+    (sym c.is_spent-2.ensures ∙ c.if-is_spent-2.false)))

@@ -20,11 +20,13 @@ all c =
     || (tells s c.args.from c.args.number c.args.message.now && (s.churn.echoes == counter_limit)) || nat_lt counter_limit c.args.number)
 
 pub returns-then-anew_is_spent : goal.returns-then-anew_is_spent
-returns-then-anew_is_spent c = sym (all (goal.at.returns-then-anew_is_spent c).After-anew_is_spent ∙ or_left _ _ (or_left _ _ (or_left _ _ c.if-anew_is_spent.true)))
+returns-then-anew_is_spent c =
+    sym (all (goal.at.returns-then-anew_is_spent c).After-anew_is_spent ∙ or_left _ _ (or_left _ _ (or_left _ _ c.if-anew_is_spent.true)))
 
 pub returns-then-posts_are_spent : goal.returns-then-posts_are_spent
 returns-then-posts_are_spent c =
-    sym (all (goal.at.returns-then-posts_are_spent c).After-anew_is_spent ∙ or_left _ _ (or_left _ _ (or_right _ _ (sym c.posts_are_spent.ensures ∙ c.if-posts_are_spent.true))))
+    sym (all (goal.at.returns-then-posts_are_spent c).After-anew_is_spent
+    ∙ or_left _ _ (or_left _ _ (or_right _ _ (sym c.posts_are_spent.ensures ∙ c.if-posts_are_spent.true))))
 
 pub returns-then-echo_is_spent : goal.returns-then-echo_is_spent
 returns-then-echo_is_spent c =
@@ -32,5 +34,6 @@ returns-then-echo_is_spent c =
 
 pub returns : goal.returns
 returns c =
-    sym (all (goal.at.returns c).After-anew_is_spent ∙ or_passes _ _ (or_from _ _
-    (or_from _ _ c.if-anew_is_spent.false (sym c.posts_are_spent.ensures ∙ c.if-posts_are_spent.false)) (sym c.echo_is_spent.ensures ∙ c.if-echo_is_spent.false)))
+    sym (all (goal.at.returns c).After-anew_is_spent ∙ or_passes _ _
+    (or_from _ _ (or_from _ _ c.if-anew_is_spent.false (sym c.posts_are_spent.ensures ∙ c.if-posts_are_spent.false))
+    (sym c.echo_is_spent.ensures ∙ c.if-echo_is_spent.false)))
