@@ -37,15 +37,11 @@ use Rattle.cc_node.specs.Refusals.{decides_within, nothing_to_ack, too_many_node
 use Rattle.cc_node.specs.OneAtATime.{acked_alone, ops_alone, quorum_told, next_alone, post_alone, outputs_alone, busy_alone, set_full_alone}
 use Rattle.cc_node.specs.OneAtATime.{outbox_full_alone, spent_alone, decides_alone, step_alone, after_alone, line_alone, IsLawfulAlone}
 use Rattle.cc_node.proofs.Deciding.{of_enter, of_entered, of_member, of_retire, of_number, of_request}
-use Rattle.cc_node.proofs.OrderLaws.{none_waiting}
+use Rattle.cc_node.proofs.OrderLaws.{none_behind, none_waiting}
 use Rattle.cc_node.proofs.RefusalLaws.{free_within}
 use Rattle.cc_node.proofs.ToldLaws.{anew_line}
 
 -- ---- the last acknowledgement
-
-none_behind : (share : ℕ) → line_behind share [] ≡ []
-none_behind zero = refl
-none_behind (suc n) = refl
 
 last_same : (me quorum : ℕ) (s : Ops) → s.line ≡ [] → record s { phase = Idle; others = [] } ≡ after_last me quorum s
 last_same me quorum s none =

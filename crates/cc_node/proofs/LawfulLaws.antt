@@ -48,8 +48,8 @@ use Rattle.cc_node.proofs.KnownLaws.{leave_changes, KeepsChurn, members_fit, mes
 use Rattle.cc_node.proofs.KnownLaws.{all_last, none_waits, none_left}
 use Rattle.cc_node.proofs.KeptLaws.{step_posts, posted, round_answers, last_answers}
 use Rattle.cc_node.proofs.Lists.{inserted_here, inserted_beside}
-use Rattle.cc_node.proofs.RefusalLaws.{Fits, takes_enter, takes_leave, takes_delivery, takes_ack, takes_ask, takes_retire, takes_lapse}
-use Rattle.cc_node.proofs.RefusalLaws.{takes_snapshot, takes_any, stays_within, passes_within, none_overruns}
+use Rattle.cc_node.proofs.RefusalLaws.{Fits, takes_delivery, takes_ack, takes_ask, takes_retire, takes_lapse, takes_any, stays_within}
+use Rattle.cc_node.proofs.RefusalLaws.{passes_within, none_overruns}
 use Rattle.cc_node.proofs.ToldLaws.{told_churn, left_told, one_echo, echoes_told, anew_last, anew_unanswered, anew_tag, anew_ops, snapshot_tag}
 use Rattle.cc_node.proofs.ToldLaws.{snapshot_echoes, tells_snapshot, anew_snapshot}
 
@@ -302,11 +302,11 @@ unfolding next
 next_core c event.Enter d h =
     linked_core c (add_enter c.churn.changes c.me) 1 c.links h (λ q k. k)
     (enter_changes c.links c.churn.changes c.me h.me (changes_more c c.links (λ q k. k) h)) h.link_count h.links
-    (counts_next c event.Enter (takes_enter c d) h.counts)
+    (counts_next c event.Enter (takes_any c event.Enter d) h.counts)
 next_core c event.Leave d h =
     linked_core c (add_leave c.churn.changes c.me) 1 c.links h (λ q k. k)
     (leave_changes c.links c.churn.changes c.me h.me (changes_more c c.links (λ q k. k) h)) h.link_count h.links
-    (counts_next c event.Leave (takes_leave c d) h.counts)
+    (counts_next c event.Leave (takes_any c event.Leave d) h.counts)
 next_core c (event.Deliver from n m) d h = deliver_core c from n m d h
 next_core c (event.Acked peer n) d h =
     let takes = takes_ack c peer n d in
@@ -332,7 +332,7 @@ next_core c (event.Lapse q) d h =
     (counts_next c (event.Lapse q) takes.fits h.counts)
 next_core c event.Snapshot d h =
     linked_core c c.churn.changes 1 c.links h (λ q k. k) (changes_more c c.links (λ q k. k) h) h.link_count h.links
-    (counts_next c event.Snapshot (takes_snapshot c d) h.counts)
+    (counts_next c event.Snapshot (takes_any c event.Snapshot d) h.counts)
 
 -- ---- the node
 

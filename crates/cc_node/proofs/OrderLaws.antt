@@ -103,13 +103,13 @@ pub taken_along : (n : Node) (es : List Event) → IsLawfulWithin 0 n es → IsL
 taken_along n [] d = tt
 taken_along n (e ∷ es) d = (taken_within n.core e d.0, taken_along (step n e) es d.1)
 
+pub none_behind : (share : ℕ) → line_behind share [] ≡ []
+none_behind zero = refl
+none_behind (suc n) = refl
+
 parted_none : (s : Ops) (begun line : List Asked) → Parts s begun line → s.line ≡ [] → line ≡ []
 parted_none s begun line (inl h) none = h.1 ∙ none
-parted_none s begun line (inr h) none = h.1 ∙ ap (line_behind s.share) none ∙ nothing s.share
-  where
-    nothing : (share : ℕ) → line_behind share [] ≡ []
-    nothing zero = refl
-    nothing (suc n) = refl
+parted_none s begun line (inr h) none = h.1 ∙ ap (line_behind s.share) none ∙ none_behind s.share
 
 none_asked : (c : Core) (s r : ℕ) (k : Command) → c.ops.line ≡ [] → ops.is_idle c.ops.phase ≡ true
     → (ops.after_ask c.me (quorum c) (asked_of s r k) c.ops).line ≡ []
