@@ -1,8 +1,8 @@
 -- The laws of what an absent member misses.
---     lapse_acknowledges     a lapse is the acknowledgement of all that was sent
---     anew_alone             a phase that begins anew is no new operation
---     not_churned, not_asked what isn't a snapshot changes no more than its part says
---     next_overruns          the next number of a link overruns where the last stands at its limit
+--     lapse_taken, lapse_next  a lapse is the acknowledgement of all that was sent
+--     anew_alone               a phase that begins anew is no new operation
+--     not_churned, not_asked   what isn't a snapshot changes no more than its part says
+--     next_overruns            the next number of a link overruns where the last stands at its limit
 use Rattle.std.proofs.Common.{◌≡◌, ℕ, ◌+◌, ◌-◌, Bool, true, false, not, ◌≤◌, nat_lt, sym, ap, ◌∙◌}
 use Rattle.std.specs.Prelude.{Some, None}
 use Rattle.std.specs.Option.{option_map_or}

@@ -1,6 +1,6 @@
 -- What one event does to the view and to the own value.
 --     view_grows               the view only grows
---     own_number, own_value    the own number counts the writes that begin, and the own value is as their commands made it
+--     own_number, own_value    the own number counts the writes that begin; the own value is as their commands made it
 --     .._along                 the same along a list of events
 use Rattle.std.proofs.Common.{◌≡◌, ℕ, ◌+◌, Bool, true, false, List, [], ◌∷◌, refl, sym, ap, subst, ◌∙◌, add-zero, add_assoc}
 use Rattle.std.specs.Prelude.{if◌then◌else◌}

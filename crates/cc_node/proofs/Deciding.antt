@@ -142,7 +142,8 @@ echoed c m = churn.post_of c.me c.ops.view m c.churn (churn.after_message c.me c
 abbrev pub served : Core → Message → Option Message
 served c m = ops.post_of c.me (churn.has_joined c.me c.churn) m c.ops (ops.after_message c.me (quorum c) m c.ops)
 
--- only an Enter is answered with the view, which it leaves; only messages that leave the changes ask whether the node has joined
+-- only an Enter is answered with the view, which it leaves; only messages that leave the changes ask whether the node
+-- has joined
 pub post_either : (c : Core) (from n : ℕ) (m : Message) → is_snapshot m ≡ false
     → post c (event.Deliver from n m) ≡ option_or (echoed c m) (served c m)
 post_either c from n (message.Snapshot d v) e = cc
@@ -214,44 +215,36 @@ makes_told c from n m e =
 pub or_passes : (a b : Bool) → a ≡ false → (a || b) ≡ b
 or_passes a b e = ap (λ x. x || b) e
 
--- where there is a post and nothing else is counted, and where nothing is
-posted_alone : (c : Core)
-    → (passes c.ops.number c.ops.number || overruns c.ops.tag c.ops.tag || overruns c.posts (c.posts + 1) || overruns c.churn.echoes c.churn.echoes || false)
-    ≡ (c.posts == counter_limit)
-posted_alone c =
-    any_of _ _ _ _ _ false false _ false false (passes_none c.ops.number) (stays c.ops.tag) (rises c.posts) (stays c.churn.echoes) refl
-    ∙ or-false _ ∙ or-false _
-
-none_alone : (c : Core)
-    → (passes c.ops.number c.ops.number || overruns c.ops.tag c.ops.tag || overruns c.posts (c.posts + 0) || overruns c.churn.echoes c.churn.echoes || false)
-    ≡ false
-none_alone c =
-    any_of _ _ _ _ _ false false false false false (passes_none c.ops.number) (stays c.ops.tag) (stays_at c.posts (c.posts + 0) (omega arith))
-    (stays c.churn.echoes) refl
+-- where nothing but posts is counted
+posts_alone : (c : Core) (posts : ℕ)
+    → (passes c.ops.number c.ops.number || overruns c.ops.tag c.ops.tag || overruns c.posts posts || overruns c.churn.echoes c.churn.echoes || false)
+    ≡ overruns c.posts posts
+posts_alone c posts =
+    any_of _ _ _ _ _ false false _ false false (passes_none c.ops.number) (stays c.ops.tag) refl (stays c.churn.echoes) refl ∙ or-false _ ∙ or-false _
 
 pub spent_enter : (c : Core) → spent c event.Enter ≡ then_some (c.posts == counter_limit) refusal.Spent
 unfolding next
-spent_enter c = ap (λ b. then_some b refusal.Spent) (posted_alone c)
+spent_enter c = ap (λ b. then_some b refusal.Spent) (posts_alone c (c.posts + 1) ∙ rises c.posts)
 
 pub spent_leave : (c : Core) → spent c event.Leave ≡ then_some (c.posts == counter_limit) refusal.Spent
 unfolding next
-spent_leave c = ap (λ b. then_some b refusal.Spent) (posted_alone c)
+spent_leave c = ap (λ b. then_some b refusal.Spent) (posts_alone c (c.posts + 1) ∙ rises c.posts)
 
 pub spent_ack : (c : Core) (peer n : ℕ) → spent c (event.Acked peer n) ≡ None
 unfolding next
-spent_ack c peer n = ap (λ b. then_some b refusal.Spent) (none_alone c)
+spent_ack c peer n = ap (λ b. then_some b refusal.Spent) (posts_alone c (c.posts + 0) ∙ stays_at c.posts (c.posts + 0) (omega arith))
 
 pub spent_retire : (c : Core) (q : ℕ) → spent c (event.Retire q) ≡ None
 unfolding next
-spent_retire c q = ap (λ b. then_some b refusal.Spent) (none_alone c)
+spent_retire c q = ap (λ b. then_some b refusal.Spent) (posts_alone c (c.posts + 0) ∙ stays_at c.posts (c.posts + 0) (omega arith))
 
 pub spent_snapshot : (c : Core) → spent c event.Snapshot ≡ then_some (c.posts == counter_limit) refusal.Spent
 unfolding next
-spent_snapshot c = ap (λ b. then_some b refusal.Spent) (posted_alone c)
+spent_snapshot c = ap (λ b. then_some b refusal.Spent) (posts_alone c (c.posts + 1) ∙ rises c.posts)
 
 pub spent_lapse : (c : Core) (q : ℕ) → spent c (event.Lapse q) ≡ None
 unfolding next
-spent_lapse c q = ap (λ b. then_some b refusal.Spent) (none_alone c)
+spent_lapse c q = ap (λ b. then_some b refusal.Spent) (posts_alone c (c.posts + 0) ∙ stays_at c.posts (c.posts + 0) (omega arith))
 
 -- whether these operations have a number or a tag past its limit
 abbrev pub counts : Core → ops.Ops → Bool

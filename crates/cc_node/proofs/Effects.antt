@@ -1,8 +1,10 @@
 -- What each event makes of a core, part by part, and that the parts have room for it.
---     next_enter, .._leave, .._delivery, .._ack, .._ask, .._retire    the core after an event, by its parts
---     .._room                                              that each part's call has what it asks for
+--     next_enter, ..        the core after an event, by its parts
+--     told_as, anew_as      what counting a snapshot makes of it, and a phase that begins anew
+--     next_keeps            what is the next core is lawful
+--     .._room               that each part's call has what it asks for
 use Rattle.std.proofs.Common.{◌≡◌, ℕ, ◌+◌, ◌-◌, ◌<◌, ◌≤◌, Bool, true, false, cond, ◌&&◌, List, [], ◌∷◌, ◌++◌, refl, sym, ap, subst, ◌∙◌, arith, add-zero}
-use Rattle.std.specs.Prelude.{Option, Some, None, is_some, IsTrue, IsFalse, ◌==◌, option_map, if◌then◌else◌}
+use Rattle.std.specs.Prelude.{Option, Some, None, is_some, IsTrue, IsFalse, ◌==◌, if◌then◌else◌}
 use Rattle.std.specs.Bool.{then_some}
 use Rattle.std.specs.Option.{option_len}
 use mir.Val.{bool_byte}
@@ -22,7 +24,7 @@ use Rattle.cc_ops.specs.Ops as ops
 use Rattle.cc_ops.specs.Commands.{finds_no_room}
 use Rattle.cc_ops.specs.declared.pending.Asked.{Asked}
 use Rattle.cc_ops.specs.Refusals.{busy}
-use Rattle.cc_ops.specs.Waiting.{line_limit, first_in, written_by}
+use Rattle.cc_ops.specs.Waiting.{line_limit, written_by}
 use Rattle.cc_sessions.specs.Sessions.{finds_no_room as finds_no_session}
 use Rattle.cc_messages.specs.declared.command.Command.{Command}
 use Rattle.cc_messages.specs.declared.event.Event.{Event}
@@ -36,6 +38,7 @@ use Rattle.cc_node.specs.Core.{replies, quorum, ids_of, lowest}
 use Rattle.cc_node.specs.Node.{Node, step, add, keep, forget_asked}
 use Rattle.cc_node.specs.Lawful.{IsLawfulCore, IsLawfulNode}
 use Rattle.cc_node.specs.Refusals.{decides}
+use Rattle.cc_node.proofs.Deciding.{posts_if_idle}
 use Rattle.cc_node.proofs.KeptLaws.{posts_forget}
 use Rattle.cc_node.proofs.KnownLaws.{none_waits}
 use Rattle.cc_node.proofs.LawfulLaws.{next_core, quorum_fits, step_lawful}
@@ -86,10 +89,6 @@ pub next_delivery : (c : Core) (from n : ℕ) (m : Message) → next c (event.De
 unfolding next
 next_delivery c from n m = ap (λ (k : ℕ). record (handled c (event.Deliver from n m)) { posts = c.posts + k }) (len_is (post c (event.Deliver from n m)))
 
-begins_one : (b : Bool) (a : Asked) (f : Asked → Message) → option_len (option_map f (first_in (if b then a ∷ [] else []))) ≡ cond b 1 0
-begins_one true a f = refl
-begins_one false a f = refl
-
 pub next_ask : (c : Core) (s r : ℕ) (k : Command) → next c (event.Ask s r k)
     ≡ record c {
   ops = ops.after_ask c.me (quorum c) (asked_of s r k) c.ops;
@@ -99,8 +98,7 @@ pub next_ask : (c : Core) (s r : ℕ) (k : Command) → next c (event.Ask s r k)
 unfolding next
 next_ask c s r k =
     let e = event.Ask s r k in
-    ap (λ (n : ℕ). record (handled c e) { posts = c.posts + n })
-    (begins_one (ops.is_idle c.ops.phase) (asked_of s r k) (λ asked. ops.first_post c.me asked (handled c e).ops))
+    ap (λ (n : ℕ). record (handled c e) { posts = c.posts + n }) (len_is (post c e) ∙ ap (λ b. cond b 1 0) (posts_if_idle c s r k))
 
 pub next_retire : {c s : Core} {d : churn.Churn} {ls : Links} (q : ℕ) → c ≡ s → ls ≡ add_all c.posts (q ∷ []) c.links → d ≡ churn.with_left q c.churn
     → record c { churn = d; links = ls } ≡ next s (event.Retire q)

@@ -1,6 +1,6 @@
 -- What a node keeps after an event: the posts above lowest, and answers of sessions of which each ask is answered.
 --     step_posts                     the posts after a step, and how many were made
---     first_answers, last_answers    the answers after the first ask is answered, and after one more
+--     round_answers, last_answers    the answers after a round is answered, and after one more ask
 use Rattle.std.proofs.Common.{◌≡◌, ℕ, ◌+◌, ◌-◌, ◌≤◌, false, ◌&&◌, nat_eq, List, [], ◌∷◌, ◌++◌, refl, sym, ap, subst, ◌∙◌, inl, inr, arith, add-zero}
 use Rattle.std.specs.Prelude.{Option, Some, None, IsTrue, is_some, ◌==◌}
 use Rattle.std.specs.List.{AllByRecursion}

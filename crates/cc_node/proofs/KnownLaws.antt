@@ -1,9 +1,11 @@
 -- Whoever a message names has a link, so whoever a node comes to know has one, and no quorum is more than can be known.
 --     AllListed, message_known           each id of a list has a link;  so each id of a message has one
---     KeepsChurn, message_churn          what coming and going keeps
---     left_stays                         who left has left for good
---     KeepsOps, message_ops, ask_ops     what the client and the server keep, and the asks that wait
---     all_last, same_tests               each ask that isn't answered is its session's last request;  two numbers apart
+--     KeepsChurn, message_churn          what coming and going keeps;  echoed_churn: one more echo
+--     left_stays, left_echoed            who left has left for good
+--     all_last                           each ask that isn't answered is its session's last request
+--     none_waits, none_left              where nothing is pending none waits, and none is left
+--     KeepsRound, message_round          what a view, a phase and its round keep
+--     KeepsOps, message_ops, ask_ops     so do the operations, with the asks that wait
 use Rattle.std.proofs.Common.{◌≡◌, ℕ, zero, suc, ◌+◌, ◌<◌, ◌≤◌, Bool, true, false, not, ◌&&◌, ◌||◌, nat_eq, nat_le, List, [], ◌∷◌, ◌++◌, length}
 use Rattle.std.proofs.Common.{length-append, refl, sym, ap, subst, ◌∙◌, inl, inr, arith}
 use Rattle.std.specs.Prelude.{Option, Some, IsTrue, ◌==◌}

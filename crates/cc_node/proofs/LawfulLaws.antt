@@ -1,5 +1,7 @@
 -- An event that isn't refused leaves a lawful node lawful.
---     next_core, step_lawful        the core, and the node
+--     core_with, linked_core        a core with other parts; with other changes and links alone
+--     next_core, step_lawful        the core after an event, and the node
+--     same_heard, hears_now         what was heard on the links;  request_now: and asked in the sessions
 --     lowest_next                   lowest doesn't fall
 --     links_go_on, left_grows       no link is lost or falls back, and who left has left for good
 use Rattle.std.proofs.Common.{◌≡◌, ℕ, ◌+◌, ◌<◌, ◌≤◌, true, false, ◌&&◌, nat_lt, List, [], ◌∷◌, ◌++◌, refl, sym, ap, subst, ◌∙◌, inl, inr, arith}

@@ -1,4 +1,6 @@
 -- Ids of an opening: which of them are 0, and how many are known.
+--     zero_listed, zero_first      a 0 among them
+--     links_room, initial_room     that there is room for their links
 use Rattle.std.proofs.Common.{◌≡◌, ℕ, zero, suc, ◌<◌, arith, Bool, true, false, List, [], ◌∷◌, ◌≤◌, nat_eq, sym, ap, ◌∙◌, inl, inr}
 use Rattle.std.specs.List.{Contains}
 use Rattle.std.specs.FinMap as table

@@ -1,7 +1,7 @@
 -- Asks begin in the order in which they were accepted; and what is taken where none may wait is taken where some may.
 --     begin_in_order             of each kind what waited and what was accepted is what began and what waits still
 --     taken_within, taken_along  what isn't refused where no ask may wait isn't refused;  the same along a list
---     none_waiting, .._along     and none waits then
+--     none_waiting, .._along     and none waits then;  none_behind: nor where none did
 use Rattle.std.proofs.Common.{◌≡◌, ℕ, zero, suc, inl, inr, Bool, true, false, not, ◌&&◌, ◌||◌, nat_le, List, [], ◌∷◌, ◌++◌, length, refl, sym, ap, ◌∙◌, arith}
 use Rattle.std.specs.Prelude.{Option, Some, None, if◌then◌else◌}
 use Rattle.std.specs.Bool.{then_some}

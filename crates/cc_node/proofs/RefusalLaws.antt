@@ -28,7 +28,7 @@ use Rattle.cc_sessions.specs.Sessions as requests
 use Rattle.cc_sessions.specs.Sessions.{last_request, is_stale, is_skip}
 use Rattle.cc_node.specs.Core.{Core, next, post, lowest, ids_of, with_links}
 use Rattle.cc_outbox.specs.Outbox.{post_limit}
-use Rattle.cc_node.specs.Refusals.{left, already_entered, not_entered, busy, outbox_full, spent, any_overruns, row_overruns, reasons, decides, decides_within}
+use Rattle.cc_node.specs.Refusals.{busy, outbox_full, spent, any_overruns, row_overruns, reasons, decides, decides_within}
 
 all_none : (rs : List (Option Refusal)) → first_of rs ≡ None → AllByRecursion (λ r. r ≡ None) rs
 all_none [] h = tt

@@ -1,5 +1,5 @@
 -- What a node may put out again stood at the start, or was made since.
---     standing_made
+--     step_send, step_ack, step_reply, standing_made
 --     posts_keep, last_forget     an answer is no post, and to forget one makes none
 --     get-above                   the posts above a number
 use Rattle.std.proofs.Common.{◌≡◌, ℕ, ◌+◌, ◌-◌, ◌<◌, ◌≤◌, ◌⊎◌, Bool, true, false, cond, not, nat_eq, nat_lt, List, [], ◌∷◌, ◌++◌, refl, sym, ap}

@@ -1,6 +1,6 @@
--- What a snapshot makes of the parts beside a union and a merge: one that counts as an echo, and a phase that begins anew.
+-- What a snapshot makes of the parts beside a union and a merge: it counts as an echo, and a phase begins anew.
 --     told_churn, left_told                  what coming and going keeps;  who left
---     echoes_told, told_more, told_one       how many echoes there are then
+--     one_echo, echoes_told, told_more, ..   how many echoes there are then
 --     anew_.., anew_ops                      a phase that begins anew leaves all but the tag, the need and the count
 --     snapshot_tag, .._number, .._echoes     a snapshot raises none of them by itself
 --     tells_snapshot, anew_snapshot          only a snapshot counts as an echo, or lets a phase begin anew

@@ -1,4 +1,4 @@
--- The rule of one operation at a time doesn't read the asks that wait: with others that wait it makes the same of all else.
+-- The rule of one operation at a time doesn't read the asks that wait: with others it makes the same of all else.
 --     post_unaware, next_unaware     the post of an event, and the core after it
 --     decides_unaware                what is refused, and why
 use Rattle.std.proofs.Common.{◌≡◌, ℕ, ◌+◌, ◌-◌, Bool, true, false, ◌&&◌, ◌||◌, List, [], ◌∷◌, ◌++◌, refl, ap, ◌∙◌}

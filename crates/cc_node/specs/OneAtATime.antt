@@ -1,9 +1,10 @@
--- The rule of a node that carries out one operation at a time: an ask begins at once, or is Busy while another is pending;
--- the last acknowledgement of an operation leaves none pending. No row reads the asks that wait, nor changes them.
+-- The rule of a node that carries out one operation at a time: an ask begins at once, or is Busy while another is
+-- pending; the last acknowledgement of an operation leaves none pending. No row reads the asks that wait, nor changes
+-- them.
 --     acked_alone, ops_alone   what an acknowledgement makes of the phase, and a message of the operations
 --     answer_alone             what a message is answered with
---     phase_alone, told_post_alone   what a delivery leaves of the operations, where a snapshot lets the pending phase begin
---                              anew, and what a snapshot is answered with
+--     phase_alone, told_post_alone   what a delivery leaves of the operations, where a snapshot lets the pending phase
+--                              begin anew, and what a snapshot is answered with
 --     next_alone, post_alone   the core after an event, and the post that it makes
 --     outputs_alone            what is put out for it, in order
 --     decides_alone            none, or the reason for which an event is refused
@@ -76,7 +77,8 @@ answer_alone me is_joined (message.Snapshot c v) before after = None
 
 -- ---- the core
 
--- the pending phase begins anew with the need of those that are members then, where the own snapshot came or one that skips
+-- the pending phase begins anew with the need of those that are members then, where the own snapshot came or one that
+-- skips
 abbrev pub quorum_told : Core → ℕ → ℕ → Message → ℕ
 quorum_told c from n m = churn.quorum c.beta (churn_told c from n m)
 
