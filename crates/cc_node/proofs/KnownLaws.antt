@@ -1,5 +1,5 @@
 -- Whoever a message names has a link, so whoever a node comes to know has one, and no quorum is more than can be known.
---     AllListed, message_known           each id of a list has a link;  so each id of a message has one
+--     AllListed, told_known, ..          each id of a list has a link;  so those of a message have
 --     KeepsChurn, message_churn          what coming and going keeps;  echoed_churn: one more echo
 --     left_stays, left_echoed            who left has left for good
 --     all_last                           each ask that isn't answered is its session's last request
@@ -73,19 +73,6 @@ tail_listed ls x xs h q k = h q (or_right _ _ k)
 keys_listed : {X : Type 0} (ls : Links) (m : FinMap nat_cmp X) → AllListed ls (table.keys m) → IsWithin m ls
 keys_listed ls m h q k = h q (sym (contains-keys m q) ∙ k)
 
-abbrev pub MessageKnown : Links → Message → Type 0
-MessageKnown ls (message.Enter q) = IsKnown ls q
-MessageKnown ls (message.EnterEcho c v from_joined q) = IsAmong c ls × IsWithin v ls
-MessageKnown ls (message.Join q) = IsKnown ls q
-MessageKnown ls (message.JoinEcho q) = IsKnown ls q
-MessageKnown ls (message.Leave q) = IsKnown ls q
-MessageKnown ls (message.LeaveEcho q) = IsKnown ls q
-MessageKnown ls (message.Query tag q) = IsKnown ls q
-MessageKnown ls (message.QueryReply v tag q) = IsWithin v ls
-MessageKnown ls (message.Store v tag q) = IsWithin v ls
-MessageKnown ls (message.StoreAck tag q) = IsKnown ls q
-MessageKnown ls (message.Snapshot c v) = IsAmong c ls × IsWithin v ls
-
 -- the changes and the view that a message tells
 told_known : (ls : Links) (c : ChangeSets) (v : ViewMap) → AllListed ls (ids_of (message.Snapshot c v)) → IsAmong c ls × IsWithin v ls
 told_known ls c v h =
@@ -102,12 +89,13 @@ told_known ls c v h =
       keys_listed ls v (second_listed ls (e ++ k ++ l) (table.keys v) h),
     )
 
-pub message_known : (ls : Links) (m : Message) → AllListed ls (ids_of m) → MessageKnown ls m
-message_known ls (message.EnterEcho c v j q) h = told_known ls c v (tail_listed ls q (ids_of (message.Snapshot c v)) h)
-message_known ls (message.QueryReply v tag q) h = keys_listed ls v (tail_listed ls q (table.keys v) h)
-message_known ls (message.Store v tag q) h = keys_listed ls v (tail_listed ls q (table.keys v) h)
-message_known ls (message.Snapshot c v) h = told_known ls c v h
-message_known ls _ h = head_listed ls _ [] h
+echo_known : (ls : Links) (c : ChangeSets) (v : ViewMap) (j : Bool) (q : ℕ) → AllListed ls (ids_of (message.EnterEcho c v j q))
+    → IsAmong c ls × IsWithin v ls
+echo_known ls c v j q h = told_known ls c v (tail_listed ls q (ids_of (message.Snapshot c v)) h)
+
+-- and the view behind its sender
+view_known : (ls : Links) (v : ViewMap) (q : ℕ) → AllListed ls (q ∷ table.keys v) → IsWithin v ls
+view_known ls v q h = keys_listed ls v (tail_listed ls q (table.keys v) h)
 
 -- ---- changes
 
@@ -182,17 +170,23 @@ echoed_churn ls me gamma j s share few own h =
     joined_churn ls me (churn.with_echo (churn.with_need gamma j s)) own (record { changes = n.changes; need = n.need })
 
 pub message_churn : (ls : Links) (me : ℕ) (gamma : Fraction) (m : Message) (s : Churn) → IsShare gamma → table.len ls ≤ known_limit → IsKnown ls me
-    → MessageKnown ls m → KeepsChurn ls s → KeepsChurn ls (churn.after_message me gamma m s)
-message_churn ls me gamma (message.Enter q) s share few own k h = record { changes = enter_changes ls s.changes q k h.changes; need = h.need }
+    → AllListed ls (ids_of m) → KeepsChurn ls s → KeepsChurn ls (churn.after_message me gamma m s)
+message_churn ls me gamma (message.Enter q) s share few own k h =
+    record { changes = enter_changes ls s.changes q (head_listed ls q [] k) h.changes; need = h.need }
 message_churn ls me gamma (message.EnterEcho c v j q) s share few own k h =
-    let u : KeepsChurn ls (churn.united c s) = record { changes = union_changes ls s.changes c k.0 h.changes; need = h.need } in
+    let u : KeepsChurn ls (churn.united c s) = record { changes = union_changes ls s.changes c (echo_known ls c v j q k).0 h.changes; need = h.need } in
     cond_both (churn.counts_for me q (churn.united c s)) (churn.echoed me gamma j (churn.united c s)) (churn.united c s) (KeepsChurn ls)
     (λ _. echoed_churn ls me gamma j (churn.united c s) share few own u) (λ _. u)
-message_churn ls me gamma (message.Join q) s share few own k h = record { changes = join_changes ls s.changes q k h.changes; need = h.need }
-message_churn ls me gamma (message.JoinEcho q) s share few own k h = record { changes = join_changes ls s.changes q k h.changes; need = h.need }
-message_churn ls me gamma (message.Leave q) s share few own k h = record { changes = leave_changes ls s.changes q k h.changes; need = h.need }
-message_churn ls me gamma (message.LeaveEcho q) s share few own k h = record { changes = leave_changes ls s.changes q k h.changes; need = h.need }
-message_churn ls me gamma (message.Snapshot c v) s share few own k h = record { changes = union_changes ls s.changes c k.0 h.changes; need = h.need }
+message_churn ls me gamma (message.Join q) s share few own k h =
+    record { changes = join_changes ls s.changes q (head_listed ls q [] k) h.changes; need = h.need }
+message_churn ls me gamma (message.JoinEcho q) s share few own k h =
+    record { changes = join_changes ls s.changes q (head_listed ls q [] k) h.changes; need = h.need }
+message_churn ls me gamma (message.Leave q) s share few own k h =
+    record { changes = leave_changes ls s.changes q (head_listed ls q [] k) h.changes; need = h.need }
+message_churn ls me gamma (message.LeaveEcho q) s share few own k h =
+    record { changes = leave_changes ls s.changes q (head_listed ls q [] k) h.changes; need = h.need }
+message_churn ls me gamma (message.Snapshot c v) s share few own k h =
+    record { changes = union_changes ls s.changes c (told_known ls c v k).0 h.changes; need = h.need }
 message_churn ls me gamma _ s share few own k h = h
 
 -- who left has left for good
@@ -410,20 +404,23 @@ module _ (ls : Links) (ss : Requests) (me quorum : ℕ) (some : 0 < quorum) (few
       (λ _. last_round s h last) (λ more. record { view = h.view; phase = (counted_more ss p more i.0, i.1, i.2); round = goes_on h.round j })
   ack_round _ s h last i j = h
 
-  message_round : (m : Message) (s : Ops) → MessageKnown ls m → AllByRecursion (IsLastOf ss) s.line → KeepsRound ls ss s
+  message_round : (m : Message) (s : Ops) → AllListed ls (ids_of m) → AllByRecursion (IsLastOf ss) s.line → KeepsRound ls ss s
       → KeepsRound ls ss (ops.after_message me quorum m s)
-  message_round (message.EnterEcho c v j q) s k last h = record { view = merge_within s.view v ls h.view k.1; phase = h.phase; round = h.round }
+  message_round (message.EnterEcho c v j q) s k last h =
+      record { view = merge_within s.view v ls h.view (echo_known ls c v j q k).1; phase = h.phase; round = h.round }
   message_round (message.QueryReply v tag q) s k last h =
       cond_both (ops.is_own me tag q s) (ops.after_reply quorum v s.phase s) s (KeepsRound ls ss)
-      (λ _. reply_round v s.phase s k h h.phase h.round.alike) (λ _. h)
-  message_round (message.Store v tag q) s k last h = record { view = merge_within s.view v ls h.view k; phase = h.phase; round = h.round }
+      (λ _. reply_round v s.phase s (view_known ls v q k) h h.phase h.round.alike) (λ _. h)
+  message_round (message.Store v tag q) s k last h =
+      record { view = merge_within s.view v ls h.view (view_known ls v q k); phase = h.phase; round = h.round }
   message_round (message.StoreAck tag q) s k last h =
       cond_both (ops.is_own me tag q s) (ops.after_ack me quorum s.phase s) s (KeepsRound ls ss)
       (λ _. ack_round s.phase s h last h.phase h.round.alike) (λ _. h)
-  message_round (message.Snapshot c v) s k last h = record { view = merge_within s.view v ls h.view k.1; phase = h.phase; round = h.round }
+  message_round (message.Snapshot c v) s k last h =
+      record { view = merge_within s.view v ls h.view (told_known ls c v k).1; phase = h.phase; round = h.round }
   message_round _ s k last h = h
 
-  pub message_ops : (m : Message) (s : Ops) → MessageKnown ls m → KeepsOps ls ss s → KeepsOps ls ss (ops.after_message me quorum m s)
+  pub message_ops : (m : Message) (s : Ops) → AllListed ls (ids_of m) → KeepsOps ls ss s → KeepsOps ls ss (ops.after_message me quorum m s)
   message_ops m s k h =
       let round = message_round m s k h.line.last (record { view = h.view; phase = h.phase; round = h.line.round }) in
       record { view = round.view; phase = round.phase; line = message_line_of ss me quorum m s h.line round.round }

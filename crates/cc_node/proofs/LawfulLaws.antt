@@ -45,7 +45,7 @@ use Rattle.cc_node.specs.Refusals.{decides}
 use Rattle.cc_node.specs.Node.{Node, step}
 use Rattle.cc_ops.specs.Stages.{HasRoom}
 use Rattle.cc_node.specs.Lawful.{CountsWithin, SessionsWithin, KeepsAnswers, IsLawfulCore, IsLawfulNode}
-use Rattle.cc_node.proofs.KnownLaws.{same_number, AllListed, tail_listed, MessageKnown, message_known, among_more, KeepsChanges, enter_changes}
+use Rattle.cc_node.proofs.KnownLaws.{same_number, AllListed, tail_listed, among_more, KeepsChanges, enter_changes}
 use Rattle.cc_node.proofs.KnownLaws.{leave_changes, KeepsChurn, members_fit, message_churn, left_stays, KeepsOps, ops_more, message_ops, ask_ops}
 use Rattle.cc_node.proofs.KnownLaws.{all_last, none_waits, none_left}
 use Rattle.cc_node.proofs.KeptLaws.{step_posts, posted, round_answers, last_answers}
@@ -243,7 +243,7 @@ deliver_core c from n m d h =
     let takes = takes_delivery c from n m d in
     let ls = hear from n (linked c from m) in
     let more : IsWithin c.links ls = go_within c.posts c.links ls (linked_goes c from n m d) in
-    let named : MessageKnown ls m = message_known ls m (tail_listed ls from (ids_of m) (all_linked c from n m d)) in
+    let named = tail_listed ls from (ids_of m) (all_linked c from n m d) in
     let most : table.len (linked c from m) ≤ known_limit = ltb-false _ _ takes.nodes in
     let few : table.len ls ≤ known_limit = omega (arith, hear_len from n (linked c from m), most) in
     let own : IsTrue (table.contains_key ls c.me) = more c.me h.me in

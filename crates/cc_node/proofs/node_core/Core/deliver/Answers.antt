@@ -45,7 +45,8 @@ after c =
     let again = c.quorum.ensures ∙ ap (churn.quorum a.beta) churn_is in
     let ops_is = c.ask_anew.ensures ∙ anew_as from n m c.self.view_is c.asks_anew-anew.ensures again served in
     let links_is : c.hear.new.self ≡ links_heard a from n m = rw (c.hear.ensures, c.add.ensures, c.link_named.ensures) refl in
-    let made = byte_is _ _ _ c.from-made.ensures c.makes_post.ensures ∙ ap (λ (s : Core). cond (is_some (post s e)) 1 0) view in
+    let made : c.from-made.result ≡ cond (is_some (post a e)) 1 0 =
+    byte_is _ _ _ c.from-made.ensures c.makes_post.ensures ∙ ap (λ (s : Core). cond (is_some (post s e)) 1 0) view in
     (λ i. record a { churn = churn_is i; ops = ops_is i; posts = a.posts + made i; links = links_is i })
     ∙ sym (next_delivery a from n m) ∙ ap (λ (s : Core). next s e) c.self.view_is
 
