@@ -149,45 +149,36 @@ present_fits ls c h k = let a = len_within (present c) ls (present_within ls c h
 pub members_fit : (ls : Links) (c : ChangeSets) → IsAmong c ls → table.len ls ≤ known_limit → set.len (members c) ≤ known_limit
 members_fit ls c h k = let a = len_within (members c) ls (members_within ls c h) in omega arith
 
--- the need changes alone, and the changes alone
-pub need_churn : (ls : Links) (gamma : Fraction) (j : Bool) (s : Churn) → IsShare gamma → table.len ls ≤ known_limit → KeepsChurn ls s
-    → KeepsChurn ls (churn.with_need gamma j s)
-need_churn ls gamma j s share few h =
-    let most = need_within gamma (set.len (present s.changes)) known_limit share (present_fits ls s.changes h.changes.known few) (omega arith) in
-    cond_both (j && (s.need == 0)) (record s { need = needed gamma (set.len (present s.changes)) }) s (KeepsChurn ls)
-    (λ _. record { changes = h.changes; need = most }) (λ _. h)
+module _ (ls : Links) (me : ℕ) (gamma : Fraction) (share : IsShare gamma) (few : table.len ls ≤ known_limit) (own : IsKnown ls me) where
+  need_churn : (j : Bool) (s : Churn) → KeepsChurn ls s → KeepsChurn ls (churn.with_need gamma j s)
+  need_churn j s h =
+      let most = need_within gamma (set.len (present s.changes)) known_limit share (present_fits ls s.changes h.changes.known few) (omega arith) in
+      cond_both (j && (s.need == 0)) (record s { need = needed gamma (set.len (present s.changes)) }) s (KeepsChurn ls)
+      (λ _. record { changes = h.changes; need = most }) (λ _. h)
 
-pub joined_churn : (ls : Links) (me : ℕ) (s : Churn) → IsKnown ls me → KeepsChurn ls s → KeepsChurn ls (churn.joined_if_answered me s)
-joined_churn ls me s k h =
-    cond_both (churn.is_answered s) (record s { changes = add_join s.changes me }) s (KeepsChurn ls)
-    (λ _. record { changes = join_changes ls s.changes me k h.changes; need = h.need }) (λ _. h)
+  joined_churn : (s : Churn) → KeepsChurn ls s → KeepsChurn ls (churn.joined_if_answered me s)
+  joined_churn s h =
+      cond_both (churn.is_answered s) (record s { changes = add_join s.changes me }) s (KeepsChurn ls)
+      (λ _. record { changes = join_changes ls s.changes me own h.changes; need = h.need }) (λ _. h)
 
--- one more echo
-pub echoed_churn : (ls : Links) (me : ℕ) (gamma : Fraction) (j : Bool) (s : Churn) → IsShare gamma → table.len ls ≤ known_limit → IsKnown ls me
-    → KeepsChurn ls s → KeepsChurn ls (churn.echoed me gamma j s)
-echoed_churn ls me gamma j s share few own h =
-    let n = need_churn ls gamma j s share few h in
-    joined_churn ls me (churn.with_echo (churn.with_need gamma j s)) own (record { changes = n.changes; need = n.need })
+  -- one more echo
+  pub echoed_churn : (j : Bool) (s : Churn) → KeepsChurn ls s → KeepsChurn ls (churn.echoed me gamma j s)
+  echoed_churn j s h =
+      let n = need_churn j s h in
+      joined_churn (churn.with_echo (churn.with_need gamma j s)) (record { changes = n.changes; need = n.need })
 
-pub message_churn : (ls : Links) (me : ℕ) (gamma : Fraction) (m : Message) (s : Churn) → IsShare gamma → table.len ls ≤ known_limit → IsKnown ls me
-    → AllListed ls (ids_of m) → KeepsChurn ls s → KeepsChurn ls (churn.after_message me gamma m s)
-message_churn ls me gamma (message.Enter q) s share few own k h =
-    record { changes = enter_changes ls s.changes q (head_listed ls q [] k) h.changes; need = h.need }
-message_churn ls me gamma (message.EnterEcho c v j q) s share few own k h =
-    let u : KeepsChurn ls (churn.united c s) = record { changes = union_changes ls s.changes c (echo_known ls c v j q k).0 h.changes; need = h.need } in
-    cond_both (churn.counts_for me q (churn.united c s)) (churn.echoed me gamma j (churn.united c s)) (churn.united c s) (KeepsChurn ls)
-    (λ _. echoed_churn ls me gamma j (churn.united c s) share few own u) (λ _. u)
-message_churn ls me gamma (message.Join q) s share few own k h =
-    record { changes = join_changes ls s.changes q (head_listed ls q [] k) h.changes; need = h.need }
-message_churn ls me gamma (message.JoinEcho q) s share few own k h =
-    record { changes = join_changes ls s.changes q (head_listed ls q [] k) h.changes; need = h.need }
-message_churn ls me gamma (message.Leave q) s share few own k h =
-    record { changes = leave_changes ls s.changes q (head_listed ls q [] k) h.changes; need = h.need }
-message_churn ls me gamma (message.LeaveEcho q) s share few own k h =
-    record { changes = leave_changes ls s.changes q (head_listed ls q [] k) h.changes; need = h.need }
-message_churn ls me gamma (message.Snapshot c v) s share few own k h =
-    record { changes = union_changes ls s.changes c (told_known ls c v k).0 h.changes; need = h.need }
-message_churn ls me gamma _ s share few own k h = h
+  pub message_churn : (m : Message) (s : Churn) → AllListed ls (ids_of m) → KeepsChurn ls s → KeepsChurn ls (churn.after_message me gamma m s)
+  message_churn (message.Enter q) s k h = record { changes = enter_changes ls s.changes q (head_listed ls q [] k) h.changes; need = h.need }
+  message_churn (message.EnterEcho c v j q) s k h =
+      let t = churn.united c s in
+      let u : KeepsChurn ls t = record { changes = union_changes ls s.changes c (echo_known ls c v j q k).0 h.changes; need = h.need } in
+      cond_both (churn.counts_for me q t) (churn.echoed me gamma j t) t (KeepsChurn ls) (λ _. echoed_churn j t u) (λ _. u)
+  message_churn (message.Join q) s k h = record { changes = join_changes ls s.changes q (head_listed ls q [] k) h.changes; need = h.need }
+  message_churn (message.JoinEcho q) s k h = record { changes = join_changes ls s.changes q (head_listed ls q [] k) h.changes; need = h.need }
+  message_churn (message.Leave q) s k h = record { changes = leave_changes ls s.changes q (head_listed ls q [] k) h.changes; need = h.need }
+  message_churn (message.LeaveEcho q) s k h = record { changes = leave_changes ls s.changes q (head_listed ls q [] k) h.changes; need = h.need }
+  message_churn (message.Snapshot c v) s k h = record { changes = union_changes ls s.changes c (told_known ls c v k).0 h.changes; need = h.need }
+  message_churn _ s k h = h
 
 -- who left has left for good
 pub left_echoed : (me : ℕ) (gamma : Fraction) (j : Bool) (s : Churn) → IsWithin s.changes.left (churn.echoed me gamma j s).changes.left

@@ -248,7 +248,7 @@ deliver_core c from n m d h =
     let few : table.len ls ≤ known_limit = omega (arith, hear_len from n (linked c from m), most) in
     let own : IsTrue (table.contains_key ls c.me) = more c.me h.me in
     let k : KeepsChurn ls (churn_told c from n m) = told_churn ls (tells c from n m) c.me c.gamma (churned c m) h.gamma few own
-    (message_churn ls c.me c.gamma m c.churn h.gamma few own named (record { changes = changes_more c ls more h; need = h.need })) in
+    (message_churn ls c.me c.gamma h.gamma few own m c.churn named (record { changes = changes_more c ls more h; need = h.need })) in
     let after = ops.after_message c.me (quorum c) m c.ops in
     let again = churn.quorum c.beta (churn_told c from n m) in
     let o : KeepsOps ls c.sessions (ops_anew c from n m) = anew_ops ls c.sessions (asks_anew c from n m) again after (need_positive c.beta _)

@@ -37,7 +37,7 @@ use Rattle.cc_node.proofs.KnownLaws.{KeepsChurn, echoed_churn, left_echoed, Keep
 pub told_churn : (ls : Links) (b : Bool) (me : ℕ) (gamma : Fraction) (s : Churn) → IsShare gamma → table.len ls ≤ known_limit → IsKnown ls me
     → KeepsChurn ls s → KeepsChurn ls (told_if b me gamma s)
 told_churn ls b me gamma s share few own h =
-    cond_both b (churn.told me gamma s) s (KeepsChurn ls) (λ _. echoed_churn ls me gamma true s share few own h) (λ _. h)
+    cond_both b (churn.told me gamma s) s (KeepsChurn ls) (λ _. echoed_churn ls me gamma share few own true s h) (λ _. h)
 
 pub left_told : (b : Bool) (me : ℕ) (gamma : Fraction) (s : Churn) → IsWithin s.changes.left (told_if b me gamma s).changes.left
 left_told b me gamma s x here =
