@@ -91,10 +91,10 @@ next_delivery c from n m = ap (λ (k : ℕ). record (handled c (event.Deliver fr
 
 pub next_ask : (c : Core) (s r : ℕ) (k : Command) → next c (event.Ask s r k)
     ≡ record c {
-  ops = ops.after_ask c.me (quorum c) (asked_of s r k) c.ops;
-  posts = c.posts + cond (ops.is_idle c.ops.phase) 1 0;
-  sessions = table.insert c.sessions s r;
-}
+      ops = ops.after_ask c.me (quorum c) (asked_of s r k) c.ops;
+      posts = c.posts + cond (ops.is_idle c.ops.phase) 1 0;
+      sessions = table.insert c.sessions s r;
+    }
 unfolding next
 next_ask c s r k =
     let e = event.Ask s r k in

@@ -18,9 +18,8 @@ keep_answers-requires c =
 after : (c : After-trim) → ◌≡◌ {A = Node} (record { core = c.apply.new.self; outbox = c.trim.new.self }) (step c.args.self.now c.args.event)
 unfolding step
 after c =
-    rw (c.trim.ensures, c.lowest.ensures, c.apply.ensures, c.keep_answers.ensures, c.keep_post.ensures, c.forget_asked.ensures, c.requires.made,
-      ← c.self.view_is)
-    refl
+    rw (c.trim.ensures, c.lowest.ensures, c.apply.ensures, c.keep_answers.ensures)
+    (rw (c.keep_post.ensures, c.forget_asked.ensures, c.requires.made, ← c.self.view_is) refl)
 
 pub invariant_of-self : goal.invariant_of-self
 invariant_of-self c =
