@@ -5,13 +5,12 @@
 --     lawful_alone, lawful_within   lists of events of which none is refused
 --     after_same, line_same    what such a list leaves and puts out
 --     leaves_line              the rule of one operation at a time leaves the asks that wait as they are
-use Rattle.std.proofs.Common.{◌≡◌, ℕ, ◌+◌, ◌-◌, Bool, true, false, not, ◌&&◌, ◌||◌, nat_le, List, [], ◌∷◌, ◌++◌, length, refl, sym, ap}
-use Rattle.std.proofs.Common.{subst, ◌∙◌, arith}
+use Rattle.std.proofs.Common.{◌≡◌, ℕ, ◌+◌, ◌-◌, Bool, true, false, not, ◌&&◌, List, [], ◌∷◌, ◌++◌, refl, sym, ap}
+use Rattle.std.proofs.Common.{subst, ◌∙◌}
 use Rattle.std.specs.Prelude.{Option, Some, None, if◌then◌else◌, is_some, ◌==◌}
 use Rattle.std.specs.Option.{option_len}
 use Rattle.std.specs.Bool.{then_some}
 use Rattle.std.specs.FinMap as table
-use Rattle.std.proofs.lemmas.Bool.{le-leb}
 use Rattle.cc_views.specs.Rows.{ViewMap}
 use Rattle.cc_messages.specs.declared.command.Command.{Command}
 use Rattle.cc_messages.specs.declared.event.Event.{Event}
@@ -24,21 +23,21 @@ use Rattle.cc_messages.specs.declared.refusal.Refusal.TheVariants as refusal
 use Rattle.cc_messages.specs.Refusals.{first_of}
 use Rattle.cc_ops.specs.declared.pending.Asked.{Asked}
 use Rattle.cc_ops.specs.Commands.{finds_no_room}
-use Rattle.cc_ops.specs.Waiting.{has_session, written_by}
+use Rattle.cc_ops.specs.Waiting.{written_by}
 use Rattle.cc_ops.specs.OwnLaws.{round_line}
 use Rattle.cc_ops.specs.Rounds.{first_round, line_behind}
 use Rattle.cc_ops.specs.RoundLaws.{no_round}
 use Rattle.cc_ops.specs.Ops.{Ops, Phase, Idle, Storing, Querying, StoringBack, is_idle, is_last, is_own, counted, with_begun, begin_round, after_ask}
-use Rattle.cc_ops.specs.Ops.{after_reply, after_last, after_ack, after_message, first_post, post_of_round, ends_store, begun_by, unanswered}
+use Rattle.cc_ops.specs.Ops.{after_reply, after_last, after_ack, after_message, first_post, post_of_round, ends_store, begun_by}
 use Rattle.cc_outbox.specs.Outbox.{post_limit, trim}
 use Rattle.cc_node.specs.Core.{Core, quorum, asked_of, ids_of, links_heard, churn_told, asks_anew, anew_if, next, post, outputs, ack, replies}
 use Rattle.cc_node.specs.Core.{send_ack, send_post, send_replies, lowest}
 use Rattle.cc_node.specs.Node.{Node, step, after, line, keep, add, forget_asked, IsLawfulWithin}
-use Rattle.cc_node.specs.Refusals.{decides_within, nothing_to_ack, too_many_nodes, nothing_to_lapse, busy, set_full, outbox_full, spent, any_overruns}
-use Rattle.cc_node.specs.OneAtATime.{acked_alone, ops_alone, quorum_told, next_alone, post_alone, outputs_alone, busy_alone, set_full_alone}
+use Rattle.cc_node.specs.Refusals.{decides_within, nothing_to_ack, too_many_nodes, nothing_to_lapse, set_full, outbox_full, spent, any_overruns}
+use Rattle.cc_node.specs.OneAtATime.{acked_alone, ops_alone, quorum_told, next_alone, post_alone, outputs_alone, set_full_alone}
 use Rattle.cc_node.specs.OneAtATime.{outbox_full_alone, spent_alone, decides_alone, step_alone, after_alone, line_alone, IsLawfulAlone}
 use Rattle.cc_node.proofs.Deciding.{of_enter, of_entered, of_member, of_retire, of_number, of_request}
-use Rattle.cc_node.proofs.OrderLaws.{none_behind, none_waiting}
+use Rattle.cc_node.proofs.OrderLaws.{none_behind, busy_same, idle_within, none_waiting}
 use Rattle.cc_node.proofs.RefusalLaws.{free_within}
 use Rattle.cc_node.proofs.ToldLaws.{anew_line}
 
@@ -110,22 +109,17 @@ told_same me quorum _ s none = refl
 -- the core after a message or an ask, by its operations and its post
 next_same : (c : Core) (e : Event) → c.ops.line ≡ [] → IsFree c e → next_alone c e ≡ next c e
 unfolding next next_alone
-next_same c (event.Deliver from n m) none free =
-    let e = event.Deliver from n m in
-    let f = λ (t : Ops) (p : Option Message). record c {
-      churn = churn_told c from n m;
-      ops = anew_if (asks_anew c from n m) (quorum_told c from n m) t;
-      posts = c.posts + option_len p;
-      links = links_heard c from n m;
-    } in
-    ap (λ (t : Ops). f t (post_alone c e)) (told_same c.me (quorum c) m c.ops none)
-    ∙ ap (λ (p : Option Message). f (after_message c.me (quorum c) m c.ops) p) (delivery_post c from n m none)
-next_same c (event.Ask s r k) none free =
-    let e = event.Ask s r k in
-    let a = asked_of s r k in
-    let f = λ (t : Ops) (p : Option Message). record (record c { ops = t; sessions = table.insert c.sessions s r }) { posts = c.posts + option_len p } in
-    ap (λ (t : Ops). f t (post_alone c e)) (ask_same c.me (quorum c) a c.ops free)
-    ∙ ap (λ (p : Option Message). f (after_ask c.me (quorum c) a c.ops) p) (ask_post c s r k free)
+next_same c (event.Deliver from n m) none free = λ i. record c {
+  churn = churn_told c from n m;
+  ops = anew_if (asks_anew c from n m) (quorum_told c from n m) (told_same c.me (quorum c) m c.ops none i);
+  posts = c.posts + option_len (delivery_post c from n m none i);
+  links = links_heard c from n m;
+}
+next_same c (event.Ask s r k) none free = λ i. record c {
+  ops = ask_same c.me (quorum c) (asked_of s r k) c.ops free i;
+  posts = c.posts + option_len (ask_post c s r k free i);
+  sessions = table.insert c.sessions s r;
+}
 next_same c _ none free = refl
 
 -- ---- what is refused
@@ -136,43 +130,24 @@ behind [] ys zs e = e
 behind (None ∷ xs) ys zs e = behind xs ys zs e
 behind (Some r ∷ xs) ys zs e = refl
 
-full_same : (c : Core) (e : Event) → c.ops.line ≡ [] → IsFree c e → outbox_full_alone c e ≡ outbox_full c e
-full_same c e none free =
-    ap (λ (p : Option Message). then_some (is_some p && ((c.posts - lowest c) == post_limit)) refusal.OutboxFull) (post_same c e none free)
-
 last_spent : (c : Core) (e : Event) → c.ops.line ≡ [] → IsFree c e → first_of (spent_alone c e ∷ []) ≡ first_of (spent c e ∷ [])
-last_spent c e none free = ap (λ (d : Core). first_of (then_some (any_overruns c d e) refusal.Spent ∷ [])) (next_same c e none free)
+last_spent c e none free = λ i. first_of (then_some (any_overruns c (next_same c e none free i) e) refusal.Spent ∷ [])
 
 last_two : (c : Core) (e : Event) → c.ops.line ≡ [] → IsFree c e
     → first_of (outbox_full_alone c e ∷ spent_alone c e ∷ []) ≡ first_of (outbox_full c e ∷ spent c e ∷ [])
 last_two c e none free =
-    ap (λ (o : Option Refusal). first_of (o ∷ spent_alone c e ∷ [])) (full_same c e none free)
-    ∙ behind (outbox_full c e ∷ []) _ _ (last_spent c e none free)
+    ap (λ (p : Option Message). first_of (then_some (is_some p && ((c.posts - lowest c) == post_limit)) refusal.OutboxFull ∷ spent_alone c e ∷ []))
+    (post_same c e none free) ∙ behind (outbox_full c e ∷ []) _ _ (last_spent c e none free)
 
--- busy is who has an operation pending
-busy_same : (c : Core) (s : ℕ) (idle : Bool) → is_idle c.ops.phase ≡ idle → busy 0 c s ≡ then_some (not idle) refusal.Busy
-busy_same c s idle e =
-    let there = has_session s (unanswered c.ops) in
-    ap (λ (b : Bool). then_some (not b && (nat_le 0 (length c.ops.line) || there)) refusal.Busy) e
-    ∙ ap (λ (b : Bool). then_some (not idle && (b || there)) refusal.Busy) (le-leb 0 (length c.ops.line) (omega arith)) ∙ both idle there
-  where
-    both : (b there : Bool) → then_some (not b && (true || there)) refusal.Busy ≡ then_some (not b) refusal.Busy
-    both true there = refl
-    both false there = refl
-
-from_busy : (c : Core) (s r : ℕ) (k : Command) (idle : Bool) → is_idle c.ops.phase ≡ idle → c.ops.line ≡ []
-    → first_of (busy_alone c ∷ set_full_alone c k ∷ outbox_full_alone c (event.Ask s r k) ∷ spent_alone c (event.Ask s r k) ∷ [])
-    ≡ first_of (busy 0 c s ∷ set_full c k ∷ outbox_full c (event.Ask s r k) ∷ spent c (event.Ask s r k) ∷ [])
+-- who is busy isn't looked at further
+from_busy : (c : Core) (s r : ℕ) (k : Command) (idle : Bool) → is_idle c.ops.phase ≡ idle → c.ops.line ≡ [] → (let a = event.Ask s r k in
+    first_of (then_some (not idle) refusal.Busy ∷ set_full_alone c k ∷ outbox_full_alone c a ∷ spent_alone c a ∷ [])
+    ≡ first_of (then_some (not idle) refusal.Busy ∷ set_full c k ∷ outbox_full c a ∷ spent c a ∷ []))
 from_busy c s r k true e none =
     let a = event.Ask s r k in
-    ap (λ (b : Bool). first_of (then_some (not b) refusal.Busy ∷ set_full_alone c k ∷ outbox_full_alone c a ∷ spent_alone c a ∷ [])) e
-    ∙ behind (set_full_alone c k ∷ []) _ _ (last_two c a none e)
+    behind (set_full_alone c k ∷ []) _ _ (last_two c a none e)
     ∙ ap (λ (l : List Asked). first_of (then_some (finds_no_room (written_by l c.ops.mine) k) refusal.SetFull ∷ outbox_full c a ∷ spent c a ∷ [])) (sym none)
-    ∙ ap (λ (o : Option Refusal). first_of (o ∷ set_full c k ∷ outbox_full c a ∷ spent c a ∷ [])) (sym (busy_same c s true e))
-from_busy c s r k false e none =
-    let a = event.Ask s r k in
-    ap (λ (b : Bool). first_of (then_some (not b) refusal.Busy ∷ set_full_alone c k ∷ outbox_full_alone c a ∷ spent_alone c a ∷ [])) e
-    ∙ ap (λ (o : Option Refusal). first_of (o ∷ set_full c k ∷ outbox_full c a ∷ spent c a ∷ [])) (sym (busy_same c s false e))
+from_busy c s r k false e none = refl
 
 pub refused_alone : (c : Core) (e : Event) → c.ops.line ≡ [] → decides_alone c e ≡ decides_within 0 c e
 unfolding decides_alone decides_within
@@ -181,7 +156,10 @@ refused_alone c event.Leave none = behind (of_entered c) _ _ (last_two c event.L
 refused_alone c (event.Deliver from n m) none =
     behind (of_entered c ++ of_number c from n m ++ too_many_nodes c (from ∷ ids_of m) ∷ []) _ _ (last_two c (event.Deliver from n m) none tt)
 refused_alone c (event.Acked peer n) none = behind (nothing_to_ack c peer n ∷ []) _ _ (last_spent c (event.Acked peer n) none tt)
-refused_alone c (event.Ask s r k) none = behind (of_member c ++ of_request c s r) _ _ (from_busy c s r k (is_idle c.ops.phase) refl none)
+refused_alone c (event.Ask s r k) none =
+    let rest = set_full c k ∷ outbox_full c (event.Ask s r k) ∷ spent c (event.Ask s r k) ∷ [] in
+    behind (of_member c ++ of_request c s r) _ _
+    (from_busy c s r k (is_idle c.ops.phase) refl none ∙ ap (λ (o : Option Refusal). first_of (o ∷ rest)) (sym (busy_same c s)))
 refused_alone c (event.Retire q) none = behind (of_retire q c ++ too_many_nodes c (q ∷ []) ∷ []) _ _ (last_spent c (event.Retire q) none tt)
 refused_alone c (event.Lapse q) none = behind (of_member c ++ nothing_to_lapse c q ∷ []) _ _ (last_spent c (event.Lapse q) none tt)
 refused_alone c event.Snapshot none = behind (of_member c) _ _ (last_two c event.Snapshot none tt)
@@ -190,29 +168,19 @@ refused_alone c event.Snapshot none = behind (of_member c) _ _ (last_two c event
 
 -- what isn't refused where none may wait is free
 free : (c : Core) (e : Event) → decides_within 0 c e ≡ None → IsFree c e
-free c (event.Ask s r k) d = idle_if (is_idle c.ops.phase) refl (sym (busy_same c s (is_idle c.ops.phase) refl) ∙ free_within 0 c s r k d)
-  where
-    idle_if : (b : Bool) → is_idle c.ops.phase ≡ b → then_some (not b) refusal.Busy ≡ None → is_idle c.ops.phase ≡ true
-    idle_if true e h = e
-    idle_if false e h = cc
+free c (event.Ask s r k) d = idle_within c s (free_within 0 c s r k d)
 free c _ d = tt
 
 pub step_same : (n : Node) (e : Event) → n.core.ops.line ≡ [] → decides_within 0 n.core e ≡ None → step_alone n e ≡ step n e
 unfolding step step_alone
 step_same n e none d =
-    let may = free n.core e d in
-    let f : Core → Option Message → Node = λ c p. record {
-      core = c;
-      outbox = trim (lowest c) (keep (replies n.core e) (add p (forget_asked e n.outbox)));
-    } in
-    ap (λ (c : Core). f c (post_alone n.core e)) (next_same n.core e none may)
-    ∙ ap (λ (p : Option Message). f (next n.core e) p) (post_same n.core e none may)
+    let core = next_same n.core e none (free n.core e d) in
+    let made = post_same n.core e none (free n.core e d) in
+    λ i. record { core = core i; outbox = trim (lowest (core i)) (keep (replies n.core e) (add (made i) (forget_asked e n.outbox))) }
 
 pub outputs_same : (c : Core) (e : Event) → c.ops.line ≡ [] → decides_within 0 c e ≡ None → outputs_alone c e ≡ outputs c e
 outputs_same c e none d =
-    let may = free c e d in
-    ap (λ (k : Core). send_ack (ack e) ++ send_post k (post_alone c e) ++ send_replies (replies c e)) (next_same c e none may)
-    ∙ ap (λ (p : Option Message). send_ack (ack e) ++ send_post (next c e) p ++ send_replies (replies c e)) (post_same c e none may)
+    λ i. send_ack (ack e) ++ send_post (next_same c e none (free c e d) i) (post_same c e none (free c e d) i) ++ send_replies (replies c e)
 
 -- ---- along a list
 
@@ -226,8 +194,7 @@ pub line_same : (n : Node) (es : List Event) → n.core.ops.line ≡ [] → IsLa
 unfolding step
 line_same n [] none d = refl
 line_same n (e ∷ es) none d =
-    ap (λ (os : List Output). os ++ line_alone (step_alone n e) es) (outputs_same n.core e none d.0)
-    ∙ ap (λ (m : Node). outputs n.core e ++ line_alone m es) (step_same n e none d.0)
+    (λ i. outputs_same n.core e none d.0 i ++ line_alone (step_same n e none d.0 i) es)
     ∙ ap (λ (os : List Output). outputs n.core e ++ os) (line_same (step n e) es (none_waiting n.core e none d.0) d.1)
 
 pub lawful_within : (n : Node) (es : List Event) → n.core.ops.line ≡ [] → IsLawfulAlone n es → IsLawfulWithin 0 n es

@@ -1,11 +1,12 @@
 -- Asks begin in the order in which they were accepted; and what is taken where none may wait is taken where some may.
 --     begin_in_order             of each kind what waited and what was accepted is what began and what waits still
+--     busy_same, idle_within     busy is who has an operation pending
 --     taken_within, taken_along  what isn't refused where no ask may wait isn't refused;  the same along a list
 --     none_waiting, .._along     and none waits then;  none_behind: nor where none did
 use Rattle.std.proofs.Common.{◌≡◌, ℕ, zero, suc, inl, inr, Bool, true, false, not, ◌&&◌, ◌||◌, nat_le, List, [], ◌∷◌, ◌++◌, length, refl, sym, ap, ◌∙◌, arith}
 use Rattle.std.specs.Prelude.{Option, Some, None, if◌then◌else◌}
 use Rattle.std.specs.Bool.{then_some}
-use Rattle.std.proofs.lemmas.Bool.{le-leb}
+use Rattle.std.proofs.lemmas.Bool.{le-leb, not-false}
 use Rattle.std.proofs.lemmas.List.{append_assoc, append-nil}
 use Rattle.cc_messages.specs.declared.command.Command.{Command}
 use Rattle.cc_messages.specs.declared.event.Event.{Event}
@@ -28,7 +29,7 @@ use Rattle.cc_node.specs.Writes.{asked_by, asked_along, begun_along}
 use Rattle.cc_node.specs.Lawful.{IsLawfulCore, IsLawfulNode}
 use Rattle.cc_node.proofs.KnownLaws.{none_waits}
 use Rattle.cc_node.proofs.LawfulLaws.{step_lawful}
-use Rattle.cc_node.proofs.RefusalLaws.{free_within}
+use Rattle.cc_node.proofs.RefusalLaws.{fails, free_within}
 use Rattle.cc_node.proofs.ToldLaws.{anew_line}
 
 -- ---- the order of asks
@@ -66,23 +67,25 @@ begin_in_order k n (e ∷ es) h d =
 
 -- ---- where no ask may wait
 
--- more may wait, so it isn't busy
-not_busy : (idle full more there : Bool) → (not idle && (true || more)) ≡ false → (not idle && (full || there)) ≡ false
-not_busy true full more there h = refl
-not_busy false full more there h = cc
-
--- no more may wait than none
-from_none : (n : ℕ) → nat_le 0 n ≡ true
-from_none n = le-leb 0 n (omega arith)
-
-free_more : (c : Core) (s : ℕ) → busy 0 c s ≡ None → busy line_limit c s ≡ None
-free_more c s h = ap (λ b. then_some b refusal.Busy)
-    (not_busy (ops.is_idle c.ops.phase) (nat_le line_limit (length c.ops.line)) (has_session s (ops.unanswered c.ops)) (has_session s (ops.unanswered c.ops))
-    (sym (ap (λ z. not (ops.is_idle c.ops.phase) && (z || has_session s (ops.unanswered c.ops))) (from_none (length c.ops.line))) ∙ none_is _ h))
+-- busy is who has an operation pending
+pub busy_same : (c : Core) (s : ℕ) → busy 0 c s ≡ then_some (not (ops.is_idle c.ops.phase)) refusal.Busy
+busy_same c s =
+    let idle = ops.is_idle c.ops.phase in
+    let there = has_session s (ops.unanswered c.ops) in
+    ap (λ (b : Bool). then_some (not idle && (b || there)) refusal.Busy) (le-leb 0 (length c.ops.line) (omega arith)) ∙ both idle there
   where
-    none_is : (b : Bool) → then_some b refusal.Busy ≡ None → b ≡ false
-    none_is true e = cc
-    none_is false e = refl
+    both : (b there : Bool) → then_some (not b && (true || there)) refusal.Busy ≡ then_some (not b) refusal.Busy
+    both true there = refl
+    both false there = refl
+
+pub idle_within : (c : Core) (s : ℕ) → busy 0 c s ≡ None → ops.is_idle c.ops.phase ≡ true
+idle_within c s h = not-false _ (fails refusal.Busy _ (sym (busy_same c s) ∙ h))
+
+-- who isn't busy then isn't where more may wait
+free_more : (c : Core) (s : ℕ) → busy 0 c s ≡ None → busy line_limit c s ≡ None
+free_more c s h =
+    let waits = nat_le line_limit (length c.ops.line) || has_session s (ops.unanswered c.ops) in
+    ap (λ b. then_some (not b && waits) refusal.Busy) (idle_within c s h)
 
 -- a reason in the middle of a list may be another that doesn't hold
 other_passes : (xs : List (Option Refusal)) (o p : Option Refusal) (rs : List (Option Refusal)) → (o ≡ None → p ≡ None)
@@ -123,15 +126,7 @@ unfolding next
 none_waiting c (event.Deliver from n m) none d =
     anew_line (asks_anew c from n m) _ (ops.after_message c.me (quorum c) m c.ops)
     ∙ parted_none c.ops (ops.begun_by c.me m c.ops) _ (message_parts c.me (quorum c) m c.ops) none
-none_waiting c (event.Ask s r k) none d =
-    let there = has_session s (ops.unanswered c.ops) in
-    let idle = ops.is_idle c.ops.phase in
-    none_asked c s r k none (must_idle idle there
-    (sym (ap (λ z. then_some (not idle && (z || there)) refusal.Busy) (from_none (length c.ops.line))) ∙ free_within 0 c s r k d))
-  where
-    must_idle : (idle there : Bool) → then_some (not idle && (true || there)) refusal.Busy ≡ None → idle ≡ true
-    must_idle true there e = refl
-    must_idle false there e = cc
+none_waiting c (event.Ask s r k) none d = none_asked c s r k none (idle_within c s (free_within 0 c s r k d))
 none_waiting c _ none d = none
 
 -- where none may wait, none does

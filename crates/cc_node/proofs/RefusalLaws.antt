@@ -36,7 +36,7 @@ all_none (None ∷ rs) h = (refl, all_none rs h)
 all_none (Some r ∷ rs) h = cc
 
 -- a reason that doesn't hold
-fails : (r : Refusal) (b : Bool) → then_some b r ≡ None → b ≡ false
+pub fails : (r : Refusal) (b : Bool) → then_some b r ≡ None → b ≡ false
 fails r true h = cc
 fails r false h = refl
 

@@ -13,7 +13,6 @@ use Rattle.cc_messages.specs.declared.event.Event.{Event}
 use Rattle.cc_messages.specs.declared.event.Event.TheVariants as event
 use Rattle.cc_messages.specs.declared.message.Message.{Message}
 use Rattle.cc_messages.specs.declared.message.Message.TheVariants as message
-use Rattle.cc_messages.specs.declared.refusal.Refusal.{Refusal}
 use Rattle.cc_messages.specs.declared.refusal.Refusal.TheVariants as refusal
 use Rattle.cc_messages.specs.Refusals.{first_of}
 use Rattle.cc_churn.specs.Churn as churn
@@ -23,7 +22,7 @@ use Rattle.cc_ops.specs.Ops.{Ops, Phase, Storing, Querying, StoringBack, is_last
 use Rattle.cc_outbox.specs.Outbox.{post_limit}
 use Rattle.cc_node.specs.Core.{Core, quorum, asked_of, ids_of, links_heard, churn_told, join_told, asks_anew, anew_if, question_if, lowest}
 use Rattle.cc_node.specs.Refusals.{nothing_to_ack, too_many_nodes, nothing_to_lapse, any_overruns, row_overruns}
-use Rattle.cc_node.specs.OneAtATime.{acked_alone, other_line, waiting, ops_alone, quorum_told, answer_alone, next_alone, post_alone, busy_alone}
+use Rattle.cc_node.specs.OneAtATime.{acked_alone, other_line, waiting, ops_alone, quorum_told, phase_alone, answer_alone, next_alone, post_alone, busy_alone}
 use Rattle.cc_node.specs.OneAtATime.{set_full_alone, outbox_full_alone, spent_alone, decides_alone}
 use Rattle.cc_node.proofs.AloneLaws.{behind}
 use Rattle.cc_node.proofs.Deciding.{of_enter, of_entered, of_member, of_retire, of_number, of_request}
@@ -61,20 +60,20 @@ answer_other l me joined _ s t = refl
 begun_other : (l : List Asked) (me quorum : ℕ) (a : Asked) (s : Ops) → with_begun me quorum a (other_line l s) ≡ other_line l (with_begun me quorum a s)
 begun_other l me quorum a s = ap (λ (t : Ops). record t { others = [] }) (either_other l (is_writing a.command) _ _)
 
+-- what a delivery leaves of the operations
+phase_other : (l : List Asked) (c : Core) (from n : ℕ) (m : Message) → phase_alone (waiting l c) from n m ≡ other_line l (phase_alone c from n m)
+phase_other l c from n m =
+    ap (anew_if (asks_anew c from n m) (quorum_told c from n m)) (told_other l c.me (quorum c) m c.ops)
+    ∙ anew_other l (asks_anew c from n m) (quorum_told c from n m) (ops_alone c.me (quorum c) m c.ops)
+
 pub post_unaware : (c : Core) (l : List Asked) (e : Event) → post_alone (waiting l c) e ≡ post_alone c e
 post_unaware c l (event.Deliver from n m) =
-    let b = asks_anew c from n m in
-    let need = quorum_told c from n m in
-    let before = ops_alone c.me (quorum c) m c.ops in
-    let after = anew_if b need before in
     let later = churn_told c from n m in
-    let first : Ops → Option Message = λ t. option_or (join_told c from n m) (question_if b c.me need t) in
-    let f : Ops → Option Message = λ t.
-    option_or (churn.post_of c.me t.view m c.churn later) (answer_alone c.me (churn.has_joined c.me later) m (other_line l c.ops) t) in
-    ap (λ (t : Ops). option_or (first t) (f (anew_if b need t))) (told_other l c.me (quorum c) m c.ops)
-    ∙ ap (λ (t : Ops). option_or (first before) (f t)) (anew_other l b need before)
-    ∙ ap (λ (p : Option Message). option_or (first before) (option_or (churn.post_of c.me after.view m c.churn later) p))
-    (answer_other l c.me (churn.has_joined c.me later) m c.ops after)
+    let joined = churn.has_joined c.me later in
+    let t = phase_other l c from n m in
+    let answer = ap (answer_alone c.me joined m (other_line l c.ops)) t ∙ answer_other l c.me joined m c.ops (phase_alone c from n m) in
+    let question = ap (question_if (asks_anew c from n m) c.me (quorum_told c from n m)) (told_other l c.me (quorum c) m c.ops) in
+    λ i. option_or (option_or (join_told c from n m) (question i)) (option_or (churn.post_of c.me (t i).view m c.churn later) (answer i))
 post_unaware c l (event.Ask s r k) =
     let a = asked_of s r k in
     ap (λ (t : Ops). Some (first_post c.me a t)) (begun_other l c.me (quorum c) a c.ops)
@@ -82,26 +81,17 @@ post_unaware c l _ = refl
 
 pub next_unaware : (c : Core) (l : List Asked) (e : Event) → next_alone (waiting l c) e ≡ waiting l (next_alone c e)
 unfolding next_alone
-next_unaware c l (event.Deliver from n m) =
-    let e = event.Deliver from n m in
-    let b = asks_anew c from n m in
-    let need = quorum_told c from n m in
-    let before = ops_alone c.me (quorum c) m c.ops in
-    let f = λ (t : Ops) (p : Option Message). record c {
-      churn = churn_told c from n m;
-      ops = t;
-      posts = c.posts + option_len p;
-      links = links_heard c from n m;
-    } in
-    ap (λ (t : Ops). f (anew_if b need t) (post_alone (waiting l c) e)) (told_other l c.me (quorum c) m c.ops)
-    ∙ ap (λ (t : Ops). f t (post_alone (waiting l c) e)) (anew_other l b need before)
-    ∙ ap (λ (p : Option Message). f (other_line l (anew_if b need before)) p) (post_unaware c l e)
-next_unaware c l (event.Ask s r k) =
-    let e = event.Ask s r k in
-    let a = asked_of s r k in
-    let f = λ (t : Ops) (p : Option Message). record (record c { ops = t; sessions = table.insert c.sessions s r }) { posts = c.posts + option_len p } in
-    ap (λ (t : Ops). f t (post_alone (waiting l c) e)) (begun_other l c.me (quorum c) a c.ops)
-    ∙ ap (λ (p : Option Message). f (other_line l (with_begun c.me (quorum c) a c.ops)) p) (post_unaware c l e)
+next_unaware c l (event.Deliver from n m) = λ i. record c {
+  churn = churn_told c from n m;
+  ops = phase_other l c from n m i;
+  posts = c.posts + option_len (post_unaware c l (event.Deliver from n m) i);
+  links = links_heard c from n m;
+}
+next_unaware c l (event.Ask s r k) = λ i. record c {
+  ops = begun_other l c.me (quorum c) (asked_of s r k) c.ops i;
+  posts = c.posts + option_len (post_unaware c l (event.Ask s r k) i);
+  sessions = table.insert c.sessions s r;
+}
 next_unaware c l _ = refl
 
 -- ---- what is refused
@@ -117,14 +107,11 @@ spent_unaware c l e =
     ∙ ap (λ (b : Bool). first_of (then_some (passes c.ops.number d.ops.number || overruns c.ops.tag d.ops.tag || overruns c.posts d.posts
     || overruns c.churn.echoes d.churn.echoes || b) refusal.Spent ∷ [])) (rows_unaware c d l e)
 
-full_unaware : (c : Core) (l : List Asked) (e : Event) → outbox_full_alone (waiting l c) e ≡ outbox_full_alone c e
-full_unaware c l e = ap (λ (p : Option Message). then_some (is_some p && ((c.posts - lowest c) == post_limit)) refusal.OutboxFull) (post_unaware c l e)
-
 both_unaware : (c : Core) (l : List Asked) (e : Event)
     → first_of (outbox_full_alone (waiting l c) e ∷ spent_alone (waiting l c) e ∷ []) ≡ first_of (outbox_full_alone c e ∷ spent_alone c e ∷ [])
 both_unaware c l e =
-    ap (λ (o : Option Refusal). first_of (o ∷ spent_alone (waiting l c) e ∷ [])) (full_unaware c l e)
-    ∙ behind (outbox_full_alone c e ∷ []) _ _ (spent_unaware c l e)
+    ap (λ (p : Option Message). first_of (then_some (is_some p && ((c.posts - lowest c) == post_limit)) refusal.OutboxFull ∷ spent_alone (waiting l c) e ∷ []))
+    (post_unaware c l e) ∙ behind (outbox_full_alone c e ∷ []) _ _ (spent_unaware c l e)
 
 pub decides_unaware : (c : Core) (l : List Asked) (e : Event) → decides_alone (waiting l c) e ≡ decides_alone c e
 unfolding decides_alone
