@@ -1,8 +1,8 @@
 -- The laws of what an absent member misses.
---     lapse_acknowledges     a lapse is the acknowledgement of all that was sent
---     anew_alone             a phase that begins anew is no new operation
---     not_churned, not_asked what isn't a snapshot changes no more than its part says
---     next_overruns          the next number of a link overruns where the last stands at its limit
+--     lapse_taken, lapse_next  a lapse is the acknowledgement of all that was sent
+--     anew_alone               a phase that begins anew is no new operation
+--     not_churned, not_asked   what isn't a snapshot changes no more than its part says
+--     next_overruns            the next number of a link overruns where the last stands at its limit
 use Rattle.std.proofs.Common.{◌≡◌, ℕ, ◌+◌, ◌-◌, Bool, true, false, not, ◌≤◌, nat_lt, sym, ap, ◌∙◌}
 use Rattle.std.specs.Prelude.{Some, None}
 use Rattle.std.specs.Option.{option_map_or}
@@ -30,7 +30,8 @@ use Rattle.cc_node.proofs.RefusalLaws.{takes_lapse}
 use Rattle.cc_node.proofs.ToldLaws.{not_told, not_anew}
 
 -- what is awaited on the link is news
-pub lapse_taken : (c : Core) (q : ℕ) (l : Link) → table.get c.links q ≡ Some l → decides c (event.Lapse q) ≡ None → decides c (event.Acked q (c.posts - l.start)) ≡ None
+pub lapse_taken : (c : Core) (q : ℕ) (l : Link) → table.get c.links q ≡ Some l → decides c (event.Lapse q) ≡ None
+    → decides c (event.Acked q (c.posts - l.start)) ≡ None
 lapse_taken c q l e d =
     let awaited = (or_parts _ _ (takes_lapse c q d).awaited).1 in
     let news : not (option_map_or (awaits_ack c.posts (c.posts - l.start)) (table.get c.links q) false) ≡ false =
@@ -61,7 +62,8 @@ not_asked c from n m e =
     ap (λ b. anew_if b (churn.quorum c.beta (churn_told c from n m)) (ops.after_message c.me (quorum c) m c.ops)) (not_anew c from n m e)
 
 pub next_overruns : (c : Core) (from n : ℕ) (m : Message) → n ≡ heard_from from c.links + 1 → heard_from from c.links ≤ counter_limit
-    → row_overruns c (next c (event.Deliver from n m)) (event.Deliver from n m) ≡ overruns (heard_from from c.links) (heard_from from (next c (event.Deliver from n m)).links)
+    → (let d = next c (event.Deliver from n m) in
+    row_overruns c d (event.Deliver from n m) ≡ overruns (heard_from from c.links) (heard_from from d.links))
 unfolding next
 next_overruns c from n m e few =
     let last = heard_from from c.links in

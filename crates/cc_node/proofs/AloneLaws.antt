@@ -1,15 +1,16 @@
 -- With no ask that waits, the rule of one operation at a time is the rule of today where none may wait.
+--     behind                   only what follows the same reasons can differ
 --     refused_alone            what is refused, and why
 --     step_same, outputs_same  what an event that isn't refused leaves and puts out
 --     lawful_alone, lawful_within   lists of events of which none is refused
 --     after_same, line_same    what such a list leaves and puts out
 --     leaves_line              the rule of one operation at a time leaves the asks that wait as they are
-use Rattle.std.proofs.Common.{◌≡◌, ℕ, zero, suc, ◌+◌, ◌-◌, Bool, true, false, not, ◌&&◌, ◌||◌, nat_le, List, [], ◌∷◌, ◌++◌, length, refl, sym, ap, subst, ◌∙◌, arith}
+use Rattle.std.proofs.Common.{◌≡◌, ℕ, ◌+◌, ◌-◌, Bool, true, false, not, ◌&&◌, List, [], ◌∷◌, ◌++◌, refl, sym, ap}
+use Rattle.std.proofs.Common.{subst, ◌∙◌}
 use Rattle.std.specs.Prelude.{Option, Some, None, if◌then◌else◌, is_some, ◌==◌}
 use Rattle.std.specs.Option.{option_len}
 use Rattle.std.specs.Bool.{then_some}
 use Rattle.std.specs.FinMap as table
-use Rattle.std.proofs.lemmas.Bool.{le-leb}
 use Rattle.cc_views.specs.Rows.{ViewMap}
 use Rattle.cc_messages.specs.declared.command.Command.{Command}
 use Rattle.cc_messages.specs.declared.event.Event.{Event}
@@ -22,25 +23,25 @@ use Rattle.cc_messages.specs.declared.refusal.Refusal.TheVariants as refusal
 use Rattle.cc_messages.specs.Refusals.{first_of}
 use Rattle.cc_ops.specs.declared.pending.Asked.{Asked}
 use Rattle.cc_ops.specs.Commands.{finds_no_room}
-use Rattle.cc_ops.specs.Waiting.{has_session, written_by}
+use Rattle.cc_ops.specs.Waiting.{written_by}
 use Rattle.cc_ops.specs.OwnLaws.{round_line}
 use Rattle.cc_ops.specs.Rounds.{first_round, line_behind}
 use Rattle.cc_ops.specs.RoundLaws.{no_round}
-use Rattle.cc_ops.specs.Ops.{Ops, Phase, Idle, Storing, Querying, StoringBack, is_idle, is_last, is_own, counted, with_begun, begin_round, after_ask, after_reply, after_last, after_ack, after_message, first_post, post_of_round, ends_store, begun_by, unanswered}
+use Rattle.cc_ops.specs.Ops.{Ops, Phase, Idle, Storing, Querying, StoringBack, is_idle, is_last, is_own, counted, with_begun, begin_round, after_ask}
+use Rattle.cc_ops.specs.Ops.{after_reply, after_last, after_ack, after_message, first_post, post_of_round, ends_store, begun_by}
 use Rattle.cc_outbox.specs.Outbox.{post_limit, trim}
-use Rattle.cc_node.specs.Core.{Core, quorum, asked_of, ids_of, links_heard, churn_told, asks_anew, anew_if, next, post, outputs, ack, replies, send_ack, send_post, send_replies, lowest}
+use Rattle.cc_node.specs.Core.{Core, quorum, asked_of, ids_of, links_heard, churn_told, asks_anew, anew_if, next, post, outputs, ack, replies}
+use Rattle.cc_node.specs.Core.{send_ack, send_post, send_replies, lowest}
 use Rattle.cc_node.specs.Node.{Node, step, after, line, keep, add, forget_asked, IsLawfulWithin}
-use Rattle.cc_node.specs.Refusals.{decides_within, left, has_gone, not_entered, already_entered, not_joined, old, gap, nothing_to_ack, too_many_nodes, too_many_sessions, repeat, stale, skip, nothing_to_lapse, busy, set_full, outbox_full, spent, any_overruns}
-use Rattle.cc_node.specs.OneAtATime.{acked_alone, ops_alone, quorum_told, next_alone, post_alone, outputs_alone, busy_alone, set_full_alone, outbox_full_alone, spent_alone, decides_alone, step_alone, after_alone, line_alone, IsLawfulAlone}
-use Rattle.cc_node.proofs.OrderLaws.{none_waiting}
+use Rattle.cc_node.specs.Refusals.{decides_within, nothing_to_ack, too_many_nodes, nothing_to_lapse, set_full, outbox_full, spent, any_overruns}
+use Rattle.cc_node.specs.OneAtATime.{acked_alone, ops_alone, quorum_told, next_alone, post_alone, outputs_alone, set_full_alone}
+use Rattle.cc_node.specs.OneAtATime.{outbox_full_alone, spent_alone, decides_alone, step_alone, after_alone, line_alone, IsLawfulAlone}
+use Rattle.cc_node.proofs.Deciding.{of_enter, of_entered, of_member, of_retire, of_number, of_request}
+use Rattle.cc_node.proofs.OrderLaws.{none_behind, busy_same, idle_within, none_waiting}
 use Rattle.cc_node.proofs.RefusalLaws.{free_within}
 use Rattle.cc_node.proofs.ToldLaws.{anew_line}
 
 -- ---- the last acknowledgement
-
-none_behind : (share : ℕ) → line_behind share [] ≡ []
-none_behind zero = refl
-none_behind (suc n) = refl
 
 last_same : (me quorum : ℕ) (s : Ops) → s.line ≡ [] → record s { phase = Idle; others = [] } ≡ after_last me quorum s
 last_same me quorum s none =
@@ -48,15 +49,12 @@ last_same me quorum s none =
     ∙ (λ i. begin_round me quorum (no_round s.share i) (record s { line = none_behind s.share i }))
     ∙ ap (λ (l : List Asked). record s { phase = Idle; others = []; line = l }) (sym none))
 
-either_acked : (b : Bool) (t u more : Ops) → t ≡ u → (if b then t else more) ≡ (if b then u else more)
-either_acked true t u more e = e
-either_acked false t u more e = refl
-
 acked_same : (me quorum : ℕ) (phase : Phase) (s : Ops) → s.line ≡ [] → acked_alone phase s ≡ after_ack me quorum phase s
-acked_same me quorum Idle s none = refl
-acked_same me quorum (Storing p) s none = either_acked (is_last p) _ _ (record s { phase = Storing (counted p) }) (last_same me quorum s none)
-acked_same me quorum (Querying p) s none = refl
-acked_same me quorum (StoringBack p seen) s none = either_acked (is_last p) _ _ (record s { phase = StoringBack (counted p) seen }) (last_same me quorum s none)
+acked_same me quorum (Storing p) s none =
+    ap (λ (t : Ops). if is_last p then t else record s { phase = Storing (counted p) }) (last_same me quorum s none)
+acked_same me quorum (StoringBack p seen) s none =
+    ap (λ (t : Ops). if is_last p then t else record s { phase = StoringBack (counted p) seen }) (last_same me quorum s none)
+acked_same me quorum _ s none = refl
 
 ack_same : (me quorum tag q : ℕ) (s : Ops) → s.line ≡ [] → ops_alone me quorum (message.StoreAck tag q) s ≡ after_message me quorum (message.StoreAck tag q) s
 ack_same me quorum tag q s none = ap (λ (t : Ops). if is_own me tag q s then t else s) (acked_same me quorum s.phase s none)
@@ -74,37 +72,23 @@ none_begins me tag q s none =
 -- ---- posts, and cores after an event
 
 -- an acknowledgement with no ask that waits is answered with nothing
-ack_post : (c : Core) (from n tag q : ℕ) → c.ops.line ≡ [] → post_alone c (event.Deliver from n (message.StoreAck tag q)) ≡ post c (event.Deliver from n (message.StoreAck tag q))
+ack_post : (c : Core) (from n tag q : ℕ) → c.ops.line ≡ []
+    → post_alone c (event.Deliver from n (message.StoreAck tag q)) ≡ post c (event.Deliver from n (message.StoreAck tag q))
 ack_post c from n tag q none =
     let after = after_message c.me (quorum c) (message.StoreAck tag q) c.ops in
     sym (ap (λ (asks : List Asked). post_of_round c.me asks after) (none_begins c.me tag q c.ops none))
 
 -- an event of which no ask that waits could be aware: any but an ask where an operation is pending
 abbrev IsFree : Core → Event → Type 0
-IsFree c event.Enter = Unit {0}
-IsFree c event.Leave = Unit {0}
-IsFree c (event.Deliver from n m) = Unit {0}
-IsFree c (event.Acked peer n) = Unit {0}
 IsFree c (event.Ask s r k) = is_idle c.ops.phase ≡ true
-IsFree c (event.Retire q) = Unit {0}
-IsFree c (event.Lapse q) = Unit {0}
-IsFree c event.Snapshot = Unit {0}
+IsFree c _ = Unit {0}
 
 ask_same : (me quorum : ℕ) (a : Asked) (s : Ops) → is_idle s.phase ≡ true → with_begun me quorum a s ≡ after_ask me quorum a s
 ask_same me quorum a s idle = sym (ap (λ (b : Bool). if b then with_begun me quorum a s else record s { line = s.line ++ a ∷ [] }) idle)
 
 delivery_post : (c : Core) (from n : ℕ) (m : Message) → c.ops.line ≡ [] → post_alone c (event.Deliver from n m) ≡ post c (event.Deliver from n m)
-delivery_post c from n (message.Enter q) none = refl
-delivery_post c from n (message.EnterEcho k v from_joined q) none = refl
-delivery_post c from n (message.Join q) none = refl
-delivery_post c from n (message.JoinEcho q) none = refl
-delivery_post c from n (message.Leave q) none = refl
-delivery_post c from n (message.LeaveEcho q) none = refl
-delivery_post c from n (message.Query tag q) none = refl
-delivery_post c from n (message.QueryReply v tag q) none = refl
-delivery_post c from n (message.Store v tag q) none = refl
 delivery_post c from n (message.StoreAck tag q) none = ack_post c from n tag q none
-delivery_post c from n (message.Snapshot k v) none = refl
+delivery_post c from n _ none = refl
 
 ask_post : (c : Core) (s r : ℕ) (k : Command) → is_idle c.ops.phase ≡ true → post_alone c (event.Ask s r k) ≡ post c (event.Ask s r k)
 ask_post c s r k idle =
@@ -113,152 +97,90 @@ ask_post c s r k idle =
     ∙ sym (ap (λ (b : Bool). post_of_round c.me (if b then a ∷ [] else []) (after_ask c.me (quorum c) a c.ops)) idle)
 
 post_same : (c : Core) (e : Event) → c.ops.line ≡ [] → IsFree c e → post_alone c e ≡ post c e
-post_same c event.Enter none free = refl
-post_same c event.Leave none free = refl
 post_same c (event.Deliver from n m) none free = delivery_post c from n m none
-post_same c (event.Acked peer n) none free = refl
 post_same c (event.Ask s r k) none free = ask_post c s r k free
-post_same c (event.Retire q) none free = refl
-post_same c (event.Lapse q) none free = refl
-post_same c event.Snapshot none free = refl
+post_same c _ none free = refl
 
 -- what a message makes of the operations
 told_same : (me quorum : ℕ) (m : Message) (s : Ops) → s.line ≡ [] → ops_alone me quorum m s ≡ after_message me quorum m s
-told_same me quorum (message.Enter q) s none = refl
-told_same me quorum (message.EnterEcho k v from_joined q) s none = refl
-told_same me quorum (message.Join q) s none = refl
-told_same me quorum (message.JoinEcho q) s none = refl
-told_same me quorum (message.Leave q) s none = refl
-told_same me quorum (message.LeaveEcho q) s none = refl
-told_same me quorum (message.Query tag q) s none = refl
-told_same me quorum (message.QueryReply v tag q) s none = refl
-told_same me quorum (message.Store v tag q) s none = refl
 told_same me quorum (message.StoreAck tag q) s none = ack_same me quorum tag q s none
-told_same me quorum (message.Snapshot k v) s none = refl
+told_same me quorum _ s none = refl
 
 -- the core after a message or an ask, by its operations and its post
 next_same : (c : Core) (e : Event) → c.ops.line ≡ [] → IsFree c e → next_alone c e ≡ next c e
 unfolding next next_alone
-next_same c event.Enter none free = refl
-next_same c event.Leave none free = refl
-next_same c (event.Deliver from n m) none free =
-    let e = event.Deliver from n m in
-    let f = λ (t : Ops) (p : Option Message). record c {
-      churn = churn_told c from n m;
-      ops = anew_if (asks_anew c from n m) (quorum_told c from n m) t;
-      posts = c.posts + option_len p;
-      links = links_heard c from n m;
-    } in
-    ap (λ (t : Ops). f t (post_alone c e)) (told_same c.me (quorum c) m c.ops none)
-    ∙ ap (λ (p : Option Message). f (after_message c.me (quorum c) m c.ops) p) (delivery_post c from n m none)
-next_same c (event.Acked peer n) none free = refl
-next_same c (event.Ask s r k) none free =
-    let e = event.Ask s r k in
-    let a = asked_of s r k in
-    let f = λ (t : Ops) (p : Option Message). record (record c { ops = t; sessions = table.insert c.sessions s r }) { posts = c.posts + option_len p } in
-    ap (λ (t : Ops). f t (post_alone c e)) (ask_same c.me (quorum c) a c.ops free)
-    ∙ ap (λ (p : Option Message). f (after_ask c.me (quorum c) a c.ops) p) (ask_post c s r k free)
-next_same c (event.Retire q) none free = refl
-next_same c (event.Lapse q) none free = refl
-next_same c event.Snapshot none free = refl
+next_same c (event.Deliver from n m) none free = λ i. record c {
+  churn = churn_told c from n m;
+  ops = anew_if (asks_anew c from n m) (quorum_told c from n m) (told_same c.me (quorum c) m c.ops none i);
+  posts = c.posts + option_len (delivery_post c from n m none i);
+  links = links_heard c from n m;
+}
+next_same c (event.Ask s r k) none free = λ i. record c {
+  ops = ask_same c.me (quorum c) (asked_of s r k) c.ops free i;
+  posts = c.posts + option_len (ask_post c s r k free i);
+  sessions = table.insert c.sessions s r;
+}
+next_same c _ none free = refl
 
 -- ---- what is refused
 
-pub behind : (o : Option Refusal) (xs ys : List (Option Refusal)) → first_of xs ≡ first_of ys → first_of (o ∷ xs) ≡ first_of (o ∷ ys)
-behind None xs ys e = e
-behind (Some r) xs ys e = refl
+-- only what follows the same reasons can differ
+pub behind : (xs ys zs : List (Option Refusal)) → first_of ys ≡ first_of zs → first_of (xs ++ ys) ≡ first_of (xs ++ zs)
+behind [] ys zs e = e
+behind (None ∷ xs) ys zs e = behind xs ys zs e
+behind (Some r ∷ xs) ys zs e = refl
 
-full_same : (c : Core) (e : Event) → c.ops.line ≡ [] → IsFree c e → outbox_full_alone c e ≡ outbox_full c e
-full_same c e none free = ap (λ (p : Option Message). then_some (is_some p && ((c.posts - lowest c) == post_limit)) refusal.OutboxFull) (post_same c e none free)
-
-spent_same : (c : Core) (e : Event) → c.ops.line ≡ [] → IsFree c e → spent_alone c e ≡ spent c e
-spent_same c e none free = ap (λ (d : Core). then_some (any_overruns c d e) refusal.Spent) (next_same c e none free)
+last_spent : (c : Core) (e : Event) → c.ops.line ≡ [] → IsFree c e → first_of (spent_alone c e ∷ []) ≡ first_of (spent c e ∷ [])
+last_spent c e none free = λ i. first_of (then_some (any_overruns c (next_same c e none free i) e) refusal.Spent ∷ [])
 
 last_two : (c : Core) (e : Event) → c.ops.line ≡ [] → IsFree c e
     → first_of (outbox_full_alone c e ∷ spent_alone c e ∷ []) ≡ first_of (outbox_full c e ∷ spent c e ∷ [])
 last_two c e none free =
-    ap (λ (o : Option Refusal). first_of (o ∷ spent_alone c e ∷ [])) (full_same c e none free)
-    ∙ ap (λ (o : Option Refusal). first_of (outbox_full c e ∷ o ∷ [])) (spent_same c e none free)
+    ap (λ (p : Option Message). first_of (then_some (is_some p && ((c.posts - lowest c) == post_limit)) refusal.OutboxFull ∷ spent_alone c e ∷ []))
+    (post_same c e none free) ∙ behind (outbox_full c e ∷ []) _ _ (last_spent c e none free)
 
--- busy is who has an operation pending
-busy_same : (c : Core) (s : ℕ) (idle : Bool) → is_idle c.ops.phase ≡ idle → busy 0 c s ≡ then_some (not idle) refusal.Busy
-busy_same c s idle e =
-    let there = has_session s (unanswered c.ops) in
-    ap (λ (b : Bool). then_some (not b && (nat_le 0 (length c.ops.line) || there)) refusal.Busy) e
-    ∙ ap (λ (b : Bool). then_some (not idle && (b || there)) refusal.Busy) (le-leb 0 (length c.ops.line) (omega arith)) ∙ both idle there
-  where
-    both : (b there : Bool) → then_some (not b && (true || there)) refusal.Busy ≡ then_some (not b) refusal.Busy
-    both true there = refl
-    both false there = refl
-
-from_busy : (c : Core) (s r : ℕ) (k : Command) (idle : Bool) → is_idle c.ops.phase ≡ idle → c.ops.line ≡ []
-    → first_of (busy_alone c ∷ set_full_alone c k ∷ outbox_full_alone c (event.Ask s r k) ∷ spent_alone c (event.Ask s r k) ∷ [])
-    ≡ first_of (busy 0 c s ∷ set_full c k ∷ outbox_full c (event.Ask s r k) ∷ spent c (event.Ask s r k) ∷ [])
+-- who is busy isn't looked at further
+from_busy : (c : Core) (s r : ℕ) (k : Command) (idle : Bool) → is_idle c.ops.phase ≡ idle → c.ops.line ≡ [] → (let a = event.Ask s r k in
+    first_of (then_some (not idle) refusal.Busy ∷ set_full_alone c k ∷ outbox_full_alone c a ∷ spent_alone c a ∷ [])
+    ≡ first_of (then_some (not idle) refusal.Busy ∷ set_full c k ∷ outbox_full c a ∷ spent c a ∷ []))
 from_busy c s r k true e none =
     let a = event.Ask s r k in
-    ap (λ (b : Bool). first_of (then_some (not b) refusal.Busy ∷ set_full_alone c k ∷ outbox_full_alone c a ∷ spent_alone c a ∷ [])) e
-    ∙ behind (set_full_alone c k) _ _ (last_two c a none e)
+    behind (set_full_alone c k ∷ []) _ _ (last_two c a none e)
     ∙ ap (λ (l : List Asked). first_of (then_some (finds_no_room (written_by l c.ops.mine) k) refusal.SetFull ∷ outbox_full c a ∷ spent c a ∷ [])) (sym none)
-    ∙ ap (λ (o : Option Refusal). first_of (o ∷ set_full c k ∷ outbox_full c a ∷ spent c a ∷ [])) (sym (busy_same c s true e))
-from_busy c s r k false e none =
-    let a = event.Ask s r k in
-    ap (λ (b : Bool). first_of (then_some (not b) refusal.Busy ∷ set_full_alone c k ∷ outbox_full_alone c a ∷ spent_alone c a ∷ [])) e
-    ∙ ap (λ (o : Option Refusal). first_of (o ∷ set_full c k ∷ outbox_full c a ∷ spent c a ∷ [])) (sym (busy_same c s false e))
+from_busy c s r k false e none = refl
 
 pub refused_alone : (c : Core) (e : Event) → c.ops.line ≡ [] → decides_alone c e ≡ decides_within 0 c e
 unfolding decides_alone decides_within
-refused_alone c event.Enter none = behind (left c) _ _ (behind (already_entered c) _ _ (last_two c event.Enter none tt))
-refused_alone c event.Leave none = behind (left c) _ _ (behind (not_entered c) _ _ (last_two c event.Leave none tt))
+refused_alone c event.Enter none = behind (of_enter c) _ _ (last_two c event.Enter none tt)
+refused_alone c event.Leave none = behind (of_entered c) _ _ (last_two c event.Leave none tt)
 refused_alone c (event.Deliver from n m) none =
-    behind (left c) _ _ (behind (not_entered c) _ _ (behind (old c from n) _ _ (behind (gap c from n m) _ _
-    (behind (too_many_nodes c (from ∷ ids_of m)) _ _ (last_two c (event.Deliver from n m) none tt)))))
-refused_alone c (event.Acked peer n) none =
-    ap (λ (o : Option Refusal). first_of (nothing_to_ack c peer n ∷ o ∷ [])) (spent_same c (event.Acked peer n) none tt)
+    behind (of_entered c ++ of_number c from n m ++ too_many_nodes c (from ∷ ids_of m) ∷ []) _ _ (last_two c (event.Deliver from n m) none tt)
+refused_alone c (event.Acked peer n) none = behind (nothing_to_ack c peer n ∷ []) _ _ (last_spent c (event.Acked peer n) none tt)
 refused_alone c (event.Ask s r k) none =
-    behind (left c) _ _ (behind (not_entered c) _ _ (behind (not_joined c) _ _ (behind (too_many_sessions c s) _ _ (behind (repeat c s r) _ _
-    (behind (stale c s r) _ _ (behind (skip c s r) _ _ (from_busy c s r k (is_idle c.ops.phase) refl none)))))))
-refused_alone c (event.Retire q) none =
-    ap (λ (o : Option Refusal). first_of (left c ∷ has_gone c q ∷ not_entered c ∷ too_many_nodes c (q ∷ []) ∷ o ∷ []))
-    (spent_same c (event.Retire q) none tt)
-refused_alone c (event.Lapse q) none =
-    ap (λ (o : Option Refusal). first_of (left c ∷ not_entered c ∷ not_joined c ∷ nothing_to_lapse c q ∷ o ∷ []))
-    (spent_same c (event.Lapse q) none tt)
-refused_alone c event.Snapshot none =
-    behind (left c) _ _ (behind (not_entered c) _ _ (behind (not_joined c) _ _ (last_two c event.Snapshot none tt)))
+    let rest = set_full c k ∷ outbox_full c (event.Ask s r k) ∷ spent c (event.Ask s r k) ∷ [] in
+    behind (of_member c ++ of_request c s r) _ _
+    (from_busy c s r k (is_idle c.ops.phase) refl none ∙ ap (λ (o : Option Refusal). first_of (o ∷ rest)) (sym (busy_same c s)))
+refused_alone c (event.Retire q) none = behind (of_retire q c ++ too_many_nodes c (q ∷ []) ∷ []) _ _ (last_spent c (event.Retire q) none tt)
+refused_alone c (event.Lapse q) none = behind (of_member c ++ nothing_to_lapse c q ∷ []) _ _ (last_spent c (event.Lapse q) none tt)
+refused_alone c event.Snapshot none = behind (of_member c) _ _ (last_two c event.Snapshot none tt)
 
 -- ---- one step
 
 -- what isn't refused where none may wait is free
 free : (c : Core) (e : Event) → decides_within 0 c e ≡ None → IsFree c e
-free c event.Enter d = tt
-free c event.Leave d = tt
-free c (event.Deliver from n m) d = tt
-free c (event.Acked peer n) d = tt
-free c (event.Ask s r k) d = idle_if (is_idle c.ops.phase) refl (sym (busy_same c s (is_idle c.ops.phase) refl) ∙ free_within 0 c s r k d)
-  where
-    idle_if : (b : Bool) → is_idle c.ops.phase ≡ b → then_some (not b) refusal.Busy ≡ None → is_idle c.ops.phase ≡ true
-    idle_if true e h = e
-    idle_if false e h = cc
-free c (event.Retire q) d = tt
-free c (event.Lapse q) d = tt
-free c event.Snapshot d = tt
+free c (event.Ask s r k) d = idle_within c s (free_within 0 c s r k d)
+free c _ d = tt
 
 pub step_same : (n : Node) (e : Event) → n.core.ops.line ≡ [] → decides_within 0 n.core e ≡ None → step_alone n e ≡ step n e
 unfolding step step_alone
 step_same n e none d =
-    let may = free n.core e d in
-    let f : Core → Option Message → Node = λ c p. record {
-      core = c;
-      outbox = trim (lowest c) (keep (replies n.core e) (add p (forget_asked e n.outbox)));
-    } in
-    ap (λ (c : Core). f c (post_alone n.core e)) (next_same n.core e none may)
-    ∙ ap (λ (p : Option Message). f (next n.core e) p) (post_same n.core e none may)
+    let core = next_same n.core e none (free n.core e d) in
+    let made = post_same n.core e none (free n.core e d) in
+    λ i. record { core = core i; outbox = trim (lowest (core i)) (keep (replies n.core e) (add (made i) (forget_asked e n.outbox))) }
 
 pub outputs_same : (c : Core) (e : Event) → c.ops.line ≡ [] → decides_within 0 c e ≡ None → outputs_alone c e ≡ outputs c e
 outputs_same c e none d =
-    let may = free c e d in
-    ap (λ (k : Core). send_ack (ack e) ++ send_post k (post_alone c e) ++ send_replies (replies c e)) (next_same c e none may)
-    ∙ ap (λ (p : Option Message). send_ack (ack e) ++ send_post (next c e) p ++ send_replies (replies c e)) (post_same c e none may)
+    λ i. send_ack (ack e) ++ send_post (next_same c e none (free c e d) i) (post_same c e none (free c e d) i) ++ send_replies (replies c e)
 
 -- ---- along a list
 
@@ -272,8 +194,7 @@ pub line_same : (n : Node) (es : List Event) → n.core.ops.line ≡ [] → IsLa
 unfolding step
 line_same n [] none d = refl
 line_same n (e ∷ es) none d =
-    ap (λ (os : List Output). os ++ line_alone (step_alone n e) es) (outputs_same n.core e none d.0)
-    ∙ ap (λ (m : Node). outputs n.core e ++ line_alone m es) (step_same n e none d.0)
+    (λ i. outputs_same n.core e none d.0 i ++ line_alone (step_same n e none d.0 i) es)
     ∙ ap (λ (os : List Output). outputs n.core e ++ os) (line_same (step n e) es (none_waiting n.core e none d.0) d.1)
 
 pub lawful_within : (n : Node) (es : List Event) → n.core.ops.line ≡ [] → IsLawfulAlone n es → IsLawfulWithin 0 n es
@@ -298,38 +219,22 @@ either_line true s t l h k = h
 either_line false s t l h k = k
 
 reply_line : (quorum : ℕ) (v : ViewMap) (phase : Phase) (s : Ops) → (after_reply quorum v phase s).line ≡ s.line
-reply_line quorum v Idle s = refl
-reply_line quorum v (Storing p) s = refl
 reply_line quorum v (Querying p) s = either_line (is_last p) _ _ s.line refl refl
-reply_line quorum v (StoringBack p seen) s = refl
+reply_line quorum v _ s = refl
 
 acked_line : (phase : Phase) (s : Ops) → (acked_alone phase s).line ≡ s.line
-acked_line Idle s = refl
 acked_line (Storing p) s = either_line (is_last p) _ _ s.line refl refl
-acked_line (Querying p) s = refl
 acked_line (StoringBack p seen) s = either_line (is_last p) _ _ s.line refl refl
+acked_line _ s = refl
 
 told_line : (me quorum : ℕ) (m : Message) (s : Ops) → (ops_alone me quorum m s).line ≡ s.line
-told_line me quorum (message.Enter q) s = refl
-told_line me quorum (message.EnterEcho k v from_joined q) s = refl
-told_line me quorum (message.Join q) s = refl
-told_line me quorum (message.JoinEcho q) s = refl
-told_line me quorum (message.Leave q) s = refl
-told_line me quorum (message.LeaveEcho q) s = refl
-told_line me quorum (message.Query tag q) s = refl
 told_line me quorum (message.QueryReply v tag q) s = either_line (is_own me tag q s) _ _ s.line (reply_line quorum v s.phase s) refl
-told_line me quorum (message.Store v tag q) s = refl
 told_line me quorum (message.StoreAck tag q) s = either_line (is_own me tag q s) _ _ s.line (acked_line s.phase s) refl
-told_line me quorum (message.Snapshot k v) s = refl
+told_line me quorum _ s = refl
 
 pub leaves_line : (c : Core) (e : Event) → (next_alone c e).ops.line ≡ c.ops.line
 unfolding next_alone
-leaves_line c event.Enter = refl
-leaves_line c event.Leave = refl
 leaves_line c (event.Deliver from n m) =
     anew_line (asks_anew c from n m) (quorum_told c from n m) (ops_alone c.me (quorum c) m c.ops) ∙ told_line c.me (quorum c) m c.ops
-leaves_line c (event.Acked peer n) = refl
 leaves_line c (event.Ask s r k) = round_line c.me (quorum c) (asked_of s r k ∷ []) c.ops
-leaves_line c (event.Retire q) = refl
-leaves_line c (event.Lapse q) = refl
-leaves_line c event.Snapshot = refl
+leaves_line c _ = refl

@@ -1,8 +1,10 @@
 -- What each event makes of a core, part by part, and that the parts have room for it.
---     next_enter, .._leave, .._delivery, .._ack, .._ask, .._retire    the core after an event, by its parts
---     .._room                                              that each part's call has what it asks for
+--     next_enter, ..        the core after an event, by its parts
+--     told_as, anew_as      what counting a snapshot makes of it, and a phase that begins anew
+--     next_keeps            what is the next core is lawful
+--     .._room               that each part's call has what it asks for
 use Rattle.std.proofs.Common.{◌≡◌, ℕ, ◌+◌, ◌-◌, ◌<◌, ◌≤◌, Bool, true, false, cond, ◌&&◌, List, [], ◌∷◌, ◌++◌, refl, sym, ap, subst, ◌∙◌, arith, add-zero}
-use Rattle.std.specs.Prelude.{Option, Some, None, is_some, IsTrue, IsFalse, ◌==◌, option_map, if◌then◌else◌}
+use Rattle.std.specs.Prelude.{Option, Some, None, is_some, IsTrue, IsFalse, ◌==◌, if◌then◌else◌}
 use Rattle.std.specs.Bool.{then_some}
 use Rattle.std.specs.Option.{option_len}
 use mir.Val.{bool_byte}
@@ -22,7 +24,7 @@ use Rattle.cc_ops.specs.Ops as ops
 use Rattle.cc_ops.specs.Commands.{finds_no_room}
 use Rattle.cc_ops.specs.declared.pending.Asked.{Asked}
 use Rattle.cc_ops.specs.Refusals.{busy}
-use Rattle.cc_ops.specs.Waiting.{line_limit, first_in, written_by}
+use Rattle.cc_ops.specs.Waiting.{line_limit, written_by}
 use Rattle.cc_sessions.specs.Sessions.{finds_no_room as finds_no_session}
 use Rattle.cc_messages.specs.declared.command.Command.{Command}
 use Rattle.cc_messages.specs.declared.event.Event.{Event}
@@ -31,10 +33,12 @@ use Rattle.cc_messages.specs.declared.message.Message.{Message}
 use Rattle.cc_messages.specs.declared.refusal.Refusal.TheVariants as refusal
 use Rattle.cc_outbox.specs.Outbox.{post_limit}
 use Rattle.cc_outbox.specs.OutboxLaws.{room_for_post}
-use Rattle.cc_node.specs.Core.{Core, asked_of, links_heard, churned, told_if, tells, churn_told, asks_anew, ops_anew, handled, next, post, replies, quorum, ids_of, lowest}
+use Rattle.cc_node.specs.Core.{Core, asked_of, links_heard, churned, told_if, tells, churn_told, asks_anew, anew_if, ops_anew, handled, next, post}
+use Rattle.cc_node.specs.Core.{replies, quorum, ids_of, lowest}
 use Rattle.cc_node.specs.Node.{Node, step, add, keep, forget_asked}
 use Rattle.cc_node.specs.Lawful.{IsLawfulCore, IsLawfulNode}
 use Rattle.cc_node.specs.Refusals.{decides}
+use Rattle.cc_node.proofs.Deciding.{posts_if_idle}
 use Rattle.cc_node.proofs.KeptLaws.{posts_forget}
 use Rattle.cc_node.proofs.KnownLaws.{none_waits}
 use Rattle.cc_node.proofs.LawfulLaws.{next_core, quorum_fits, step_lawful}
@@ -51,7 +55,8 @@ view_fits c h = omega (arith, len_within c.ops.view c.links h.view, h.link_count
 
 -- ---- the core after each event. s is the core, and c the same by its fields
 
-pub next_enter : {c s : Core} {d : churn.Churn} → c ≡ s → d ≡ churn.with_entered c.me c.churn → record c { churn = d; posts = c.posts + 1 } ≡ next s event.Enter
+pub next_enter : {c s : Core} {d : churn.Churn} → c ≡ s → d ≡ churn.with_entered c.me c.churn
+    → record c { churn = d; posts = c.posts + 1 } ≡ next s event.Enter
 unfolding next
 next_enter is made = rw (← is, made) refl
 
@@ -84,23 +89,31 @@ pub next_delivery : (c : Core) (from n : ℕ) (m : Message) → next c (event.De
 unfolding next
 next_delivery c from n m = ap (λ (k : ℕ). record (handled c (event.Deliver from n m)) { posts = c.posts + k }) (len_is (post c (event.Deliver from n m)))
 
-begins_one : (b : Bool) (a : Asked) (f : Asked → Message) → option_len (option_map f (first_in (if b then a ∷ [] else []))) ≡ cond b 1 0
-begins_one true a f = refl
-begins_one false a f = refl
-
 pub next_ask : (c : Core) (s r : ℕ) (k : Command) → next c (event.Ask s r k)
-    ≡ record c { ops = ops.after_ask c.me (quorum c) (asked_of s r k) c.ops; posts = c.posts + cond (ops.is_idle c.ops.phase) 1 0; sessions = table.insert c.sessions s r }
+    ≡ record c {
+      ops = ops.after_ask c.me (quorum c) (asked_of s r k) c.ops;
+      posts = c.posts + cond (ops.is_idle c.ops.phase) 1 0;
+      sessions = table.insert c.sessions s r;
+    }
 unfolding next
 next_ask c s r k =
     let e = event.Ask s r k in
-    ap (λ (n : ℕ). record (handled c e) { posts = c.posts + n })
-    (begins_one (ops.is_idle c.ops.phase) (asked_of s r k) (λ asked. ops.first_post c.me asked (handled c e).ops))
+    ap (λ (n : ℕ). record (handled c e) { posts = c.posts + n }) (len_is (post c e) ∙ ap (λ b. cond b 1 0) (posts_if_idle c s r k))
 
 pub next_retire : {c s : Core} {d : churn.Churn} {ls : Links} (q : ℕ) → c ≡ s → ls ≡ add_all c.posts (q ∷ []) c.links → d ≡ churn.with_left q c.churn
     → record c { churn = d; links = ls } ≡ next s (event.Retire q)
 unfolding next
 next_retire {c} q is linked made =
     (λ i. record c { churn = made i; links = linked i; posts = sym (add-zero c.posts) i }) ∙ ap (λ (d : Core). next d (event.Retire q)) is
+
+-- what counting a snapshot makes of a part, and a phase that begins anew, by tests of a copy of the core
+pub told_as : {c s : Core} {b : Bool} {d : churn.Churn} (from n : ℕ) (m : Message) → c ≡ s → b ≡ tells s from n m → d ≡ churned c m
+    → told_if b c.me c.gamma d ≡ churn_told c from n m
+told_as {c} from n m is tests same = λ i. told_if ((tests ∙ ap (λ (k : Core). tells k from n m) (sym is)) i) c.me c.gamma (same i)
+
+pub anew_as : {c s : Core} {b : Bool} {q : ℕ} {o : ops.Ops} (from n : ℕ) (m : Message) → c ≡ s → b ≡ asks_anew s from n m
+    → q ≡ churn.quorum c.beta (churn_told c from n m) → o ≡ ops.after_message c.me (quorum c) m c.ops → anew_if b q o ≡ ops_anew c from n m
+anew_as from n m is tests needs same = λ i. anew_if ((tests ∙ ap (λ (k : Core). asks_anew k from n m) (sym is)) i) (needs i) (same i)
 
 -- ---- what the parts ask for
 
@@ -132,7 +145,8 @@ pub record DeliveryRoom (c s : Core) (from n : ℕ) (m : Message) : Type 0 where
   pub tag : {q : ℕ} → q ≡ quorum s → (ops.after_message c.me q m c.ops).tag ≤ counter_limit
   pub anew : {q : ℕ} → q ≡ quorum s → asks_anew c from n m ≡ true → (ops.after_message c.me q m c.ops).tag + 1 ≤ counter_limit
 
-pub delivery_room : {c s : Core} {from : ℕ} {m : Message} (n : ℕ) → c ≡ s → decides s (event.Deliver from n m) ≡ None → IsLawfulCore c → DeliveryRoom c s from n m
+pub delivery_room : {c s : Core} {from : ℕ} {m : Message} (n : ℕ) → c ≡ s → decides s (event.Deliver from n m) ≡ None → IsLawfulCore c
+    → DeliveryRoom c s from n m
 unfolding next
 delivery_room {c} {s} {from} {m} n is d h =
     let none = rw (← is) at d in
@@ -192,7 +206,8 @@ pub record BeginRoom (c d : Core) (s r : ℕ) (k : Command) : Type 0 where
 pub begins_now : (me q : ℕ) (a : Asked) (o : ops.Ops) → ops.is_idle o.phase ≡ true → ops.after_ask me q a o ≡ ops.with_begun me q a o
 begins_now me q a o idle = ap (λ b. if b then ops.with_begun me q a o else record o { line = o.line ++ a ∷ [] }) idle
 
-pub begin_room : {c d : Core} {s r : ℕ} {k : Command} → c ≡ d → decides d (event.Ask s r k) ≡ None → IsLawfulCore c → ops.is_idle c.ops.phase ≡ true → BeginRoom c d s r k
+pub begin_room : {c d : Core} {s r : ℕ} {k : Command} → c ≡ d → decides d (event.Ask s r k) ≡ None → IsLawfulCore c → ops.is_idle c.ops.phase ≡ true
+    → BeginRoom c d s r k
 begin_room {c} {d} {s} {r} {k} is accepted h idle =
     let room = ask_room is accepted h in
     let now = λ (q : ℕ). begins_now c.me q (asked_of s r k) c.ops idle in
@@ -236,7 +251,8 @@ both_false true b h k = h
 both_false false b h k = cc
 
 -- there is room for the post of an event that isn't refused
-pub post_room : {n s : Node} (e : Event) → n ≡ s → decides s.core e ≡ None → IsLawfulNode n → IsTrue (is_some (post s.core e)) → table.len (forget_asked e n.outbox).posts < 512
+pub post_room : {n s : Node} (e : Event) → n ≡ s → decides s.core e ≡ None → IsLawfulNode n → IsTrue (is_some (post s.core e))
+    → table.len (forget_asked e n.outbox).posts < 512
 post_room {n} e is d h made =
     let none : decides n.core e ≡ None = rw is d in
     let makes : IsTrue (is_some (post n.core e)) = rw is made in
@@ -249,6 +265,7 @@ answers_fit : (n : Node) → IsLawfulNode n → table.len n.outbox.answers ≤ 2
 answers_fit n h = omega (arith, len_within n.outbox.answers n.core.sessions (λ s there. (h.answers s there).0), h.core.session_count)
 
 -- there is room for its answer
-pub answer_room : {n s : Node} (e : Event) → n ≡ s → decides s.core e ≡ None → IsLawfulNode n → table.len (keep (replies s.core e) (add (post s.core e) (forget_asked e n.outbox))).answers ≤ 256
+pub answer_room : {n s : Node} (e : Event) → n ≡ s → decides s.core e ≡ None → IsLawfulNode n
+    → table.len (keep (replies s.core e) (add (post s.core e) (forget_asked e n.outbox))).answers ≤ 256
 unfolding step
 answer_room {n} e is d h = rw (← is) (answers_fit (step n e) (step_lawful n e (rw is d) h))

@@ -39,7 +39,8 @@ me_known o = listed_known o o.me (or_left _ _ (same_number o.me))
 
 pub known_listed : (o : Opening) → IsWithin (table_of o) (set.from_list (ids_of o))
 known_listed o q h =
-    elim (or_cases (list_any (nat_eq q) (ids_of o)) (table.contains_key (table.empty {X = Link} {R = nat_cmp}) q) (sym (contains-add_all 0 (ids_of o) table.empty q) ∙ h))
+    let none = table.contains_key (table.empty {X = Link} {R = nat_cmp}) q in
+    elim (or_cases (list_any (nat_eq q) (ids_of o)) none (sym (contains-add_all 0 (ids_of o) table.empty q) ∙ h))
     as (λ _. IsTrue (set.contains (set.from_list (ids_of o)) q)) [
       | inl e ↦ contains-from_list (ids_of o) q ∙ e
       | inr e ↦ empty_within Link (set.from_list (ids_of o)) q e

@@ -1,11 +1,10 @@
 -- From how many peers something was heard, once something is from one of them.
 --     heard_first, heard_again     the sender is counted, where nothing was heard from it before
-use Rattle.std.proofs.Common.{◌≡◌, ℕ, ◌+◌, ◌<◌, true, cond, ◌||◌, List, ◌∷◌, refl, sym, ap, ◌∙◌, arith, nat_eq}
+use Rattle.std.proofs.Common.{◌≡◌, ℕ, ◌+◌, ◌<◌, true, cond, List, ◌∷◌, refl, sym, ap, ◌∙◌, arith}
 use Rattle.std.specs.Prelude.{nat_lt, Option, Some, None, is_some}
 use Rattle.std.specs.Option.{option_map_or}
-use Rattle.std.specs.List.{list_any}
 use Rattle.std.specs.FinMap as table
-use Rattle.std.proofs.lemmas.Bool.{lt-ltb, le-ltb}
+use Rattle.std.proofs.lemmas.Bool.{lt-ltb, le-ltb, or_left}
 use Rattle.cc_links.specs.Links.{Link, Links, add_all, hear, heard_from, heard_of}
 use Rattle.cc_links.specs.LinkLaws.{contains-add_all}
 use Rattle.cc_links.specs.HeardLaws.{heard_of-hear, heard_of-add_all}
@@ -24,7 +23,7 @@ heard_sender : (c : Core) (from n : ℕ) (m : Message) → 0 < n
 heard_sender c from n m some =
     let qs : List ℕ = from ∷ ids_of m in
     let ls = add_all c.posts qs c.links in
-    let there : is_some (table.get ls from) ≡ true = contains-add_all c.posts qs c.links from ∙ ap (λ b. (b || list_any (nat_eq from) (ids_of m)) || table.contains_key c.links from) (same_number from) in
+    let there : is_some (table.get ls from) ≡ true = contains-add_all c.posts qs c.links from ∙ or_left _ _ (or_left _ _ (same_number from)) in
     of_sender from n ls (table.get ls from) refl there some
     ∙ (λ i. cond (nat_lt 0 (add_all_heard c.posts qs c.links from i)) (heard_of-add_all c.posts qs c.links i) (heard_of-add_all c.posts qs c.links i + 1))
 

@@ -1,7 +1,7 @@
 -- What a node keeps after an event: the posts above lowest, and answers of sessions of which each ask is answered.
 --     step_posts                     the posts after a step, and how many were made
---     first_answers, last_answers    the answers after the first ask is answered, and after one more
-use Rattle.std.proofs.Common.{◌≡◌, ℕ, ◌+◌, ◌-◌, ◌≤◌, Bool, true, false, cond, ◌&&◌, nat_eq, List, [], ◌∷◌, ◌++◌, refl, sym, ap, subst, ◌∙◌, inl, inr, arith, add-zero}
+--     round_answers, last_answers    the answers after a round is answered, and after one more ask
+use Rattle.std.proofs.Common.{◌≡◌, ℕ, ◌+◌, ◌-◌, ◌≤◌, false, ◌&&◌, nat_eq, List, [], ◌∷◌, ◌++◌, refl, sym, ap, subst, ◌∙◌, inl, inr, arith, add-zero}
 use Rattle.std.specs.Prelude.{Option, Some, None, IsTrue, is_some, ◌==◌}
 use Rattle.std.specs.List.{AllByRecursion}
 use Rattle.std.specs.Option.{option_len}
@@ -9,7 +9,7 @@ use Rattle.std.specs.Ordering.{nat_cmp}
 use Rattle.std.specs.Cmp.{nat_cmp_total}
 use Rattle.std.specs.FinMap as table
 use Rattle.std.specs.FinMap.{FinMap}
-use Rattle.std.proofs.lemmas.Bool.{and_parts, eqb-true, or_cases, or_parts, not-true}
+use Rattle.std.proofs.lemmas.Bool.{cond_both, and_parts, eqb-true, or_cases, or_parts, not-true}
 use Rattle.cc_views.specs.NatSets.{contains-remove, contains-insert_key}
 use Rattle.cc_views.specs.MapLaws.{within_insert}
 use Rattle.cc_messages.specs.declared.answer.Answer.{Answer}
@@ -29,6 +29,7 @@ use Rattle.cc_outbox.specs.Outbox.{Outbox, post_limit, trim}
 use Rattle.cc_outbox.specs.OutboxLaws.{KeepsPosts, keeps_add, keeps_trim, room_for_post}
 use Rattle.cc_node.specs.Node.{add, keep, forget_asked}
 use Rattle.cc_node.specs.Lawful.{IsLastOf, KeepsAnswers}
+use Rattle.cc_node.proofs.Lists.{front_all}
 
 -- ---- posts
 
@@ -55,23 +56,11 @@ trimmed low high posts o h up = record {
 -- the answer of a session is no post
 pub posts_forget : (e : Event) (o : Outbox) → (forget_asked e o).posts ≡ o.posts
 posts_forget event.Enter o = refl
-posts_forget event.Leave o = refl
-posts_forget (event.Deliver from n m) o = refl
-posts_forget (event.Acked peer n) o = refl
-posts_forget (event.Ask s r command) o = refl
-posts_forget (event.Retire q) o = refl
-posts_forget (event.Lapse q) o = refl
-posts_forget event.Snapshot o = refl
+posts_forget _ o = refl
 
 forgotten : (low posts : ℕ) (e : Event) (o : Outbox) → KeepsTo low posts o → KeepsTo low posts (forget_asked e o)
-forgotten low posts event.Enter o h = h
-forgotten low posts event.Leave o h = h
-forgotten low posts (event.Deliver from n m) o h = h
-forgotten low posts (event.Acked peer n) o h = h
 forgotten low posts (event.Ask s r command) o h = record { last = h.last; kept = h.kept }
-forgotten low posts (event.Retire q) o h = h
-forgotten low posts (event.Lapse q) o h = h
-forgotten low posts event.Snapshot o h = h
+forgotten low posts _ o h = h
 
 answered : (low posts : ℕ) (rs : List Reply) (o : Outbox) → KeepsTo low posts o → KeepsTo low posts (keep rs o)
 answered low posts [] o h = h
@@ -87,11 +76,10 @@ step_posts low high posts e p rs o h up start full =
 -- ---- answers
 
 len_grows : (m : FinMap nat_cmp Answer) (k : ℕ) (v : Answer) → table.len m ≤ table.len (table.insert m k v)
-len_grows m k v = either (table.contains_key m k) (table.len-insert nat_cmp_total m k v)
-  where
-    either : (b : Bool) → table.len (table.insert m k v) ≡ cond b (table.len m) (table.len m + 1) → table.len m ≤ table.len (table.insert m k v)
-    either true e = omega (arith, e)
-    either false e = omega (arith, e)
+len_grows m k v =
+    let n = table.len m in
+    subst (λ l. n ≤ l) (sym (table.len-insert nat_cmp_total m k v))
+    (cond_both (table.contains_key m k) n (n + 1) (λ l. n ≤ l) (λ _. omega arith) (λ _. omega arith))
 
 -- keeping answers drops none
 pub keep_grows : (rs : List Reply) (o : Outbox) → table.len o.answers ≤ table.len (keep rs o).answers
@@ -101,7 +89,9 @@ keep_grows (r ∷ rs) o = omega (arith, len_grows o.answers r.session r.answer, 
 -- a post changes no answer
 same_answers : (rs : List Reply) (o u : Outbox) → o.answers ≡ u.answers → (keep rs o).answers ≡ (keep rs u).answers
 same_answers [] o u e = e
-same_answers (r ∷ rs) o u e = same_answers rs (kept.keep r.session r.answer o) (kept.keep r.session r.answer u) (ap (λ (t : FinMap nat_cmp Answer). table.insert t r.session r.answer) e)
+same_answers (r ∷ rs) o u e =
+    same_answers rs (kept.keep r.session r.answer o) (kept.keep r.session r.answer u)
+    (ap (λ (t : FinMap nat_cmp Answer). table.insert t r.session r.answer) e)
 
 pub answers_add : (p : Option Message) (rs : List Reply) (o : Outbox) → (keep rs (add p o)).answers ≡ (keep rs o).answers
 answers_add None rs o = refl
@@ -111,12 +101,9 @@ pub posted : (ss : Requests) (asks : List Asked) (p : Option Message) (rs : List
     → KeepsAnswers ss asks (keep rs o).answers → KeepsAnswers ss asks (keep rs (add p o)).answers
 posted ss asks p rs o h = subst (KeepsAnswers ss asks) (sym (answers_add p rs o)) h
 
-pub same_some : {X : Type 0} (x y : X) → Some x ≡ Some y → x ≡ y
-same_some x y e = cc
-
 -- the first of the asks that aren't answered is, and its session has no other
-first_kept : (ss : Requests) (a : Asked) (asks : List Asked) (answer : Answer) (kept : FinMap nat_cmp Answer) → IsLastOf ss a → has_session a.session asks ≡ false
-    → KeepsAnswers ss (a ∷ asks) kept → KeepsAnswers ss asks (table.insert kept a.session answer)
+first_kept : (ss : Requests) (a : Asked) (asks : List Asked) (answer : Answer) (kept : FinMap nat_cmp Answer) → IsLastOf ss a
+    → has_session a.session asks ≡ false → KeepsAnswers ss (a ∷ asks) kept → KeepsAnswers ss asks (table.insert kept a.session answer)
 first_kept ss a asks answer kept last alone h x j =
     elim (or_cases (nat_eq x a.session) (table.contains_key kept x) (sym (contains-insert_key kept a.session answer x) ∙ j))
     as (λ _. IsTrue (table.contains_key ss x) × (has_session x asks ≡ false)) [
@@ -127,8 +114,8 @@ first_kept ss a asks answer kept last alone h x j =
     ]
 
 -- so it is with each reply that answers one of those in front
-all_kept : (ss : Requests) (asks line : List Asked) (rs : List Reply) (o : Outbox) → AreAnswered asks rs → AreApart (asks ++ line) → AllByRecursion (IsLastOf ss) asks
-    → KeepsAnswers ss (asks ++ line) o.answers → KeepsAnswers ss line (keep rs o).answers
+all_kept : (ss : Requests) (asks line : List Asked) (rs : List Reply) (o : Outbox) → AreAnswered asks rs → AreApart (asks ++ line)
+    → AllByRecursion (IsLastOf ss) asks → KeepsAnswers ss (asks ++ line) o.answers → KeepsAnswers ss line (keep rs o).answers
 all_kept ss [] line [] o e apart last h = h
 all_kept ss [] line (r ∷ rs) o e apart last h = absurd e
 all_kept ss (a ∷ asks) line [] o e apart last h = absurd e
@@ -138,16 +125,13 @@ all_kept ss (a ∷ asks) line (r ∷ rs) o e apart last h =
     (first_kept ss a (asks ++ line) r.answer o.answers last.0 apart.0 h) in
     all_kept ss asks line rs (kept.keep r.session r.answer o) e.2 apart.1 last.1 kept_now
 
-front_each : (P : Asked → Type 0) (xs ys : List Asked) → AllByRecursion P (xs ++ ys) → AllByRecursion P xs
-front_each P [] ys h = tt
-front_each P (x ∷ xs) ys h = (h.0, front_each P xs ys h.1)
-
-pub round_answers : (ss : Requests) (s t : Ops) (rs : List Reply) (o : Outbox) → AnswersRound s t rs → AreApart (unanswered s) → AllByRecursion (IsLastOf ss) (unanswered s)
-    → KeepsAnswers ss (unanswered s) o.answers → KeepsAnswers ss (unanswered t) (keep rs o).answers
+pub round_answers : (ss : Requests) (s t : Ops) (rs : List Reply) (o : Outbox) → AnswersRound s t rs → AreApart (unanswered s)
+    → AllByRecursion (IsLastOf ss) (unanswered s) → KeepsAnswers ss (unanswered s) o.answers → KeepsAnswers ss (unanswered t) (keep rs o).answers
 round_answers ss s t rs o (inl h) apart last k =
-    subst (λ (l : List Reply). KeepsAnswers ss (unanswered t) (keep l o).answers) (sym h.0) (subst (λ (l : List Asked). KeepsAnswers ss l o.answers) (sym h.1) k)
+    subst (λ (l : List Reply). KeepsAnswers ss (unanswered t) (keep l o).answers) (sym h.0)
+    (subst (λ (l : List Asked). KeepsAnswers ss l o.answers) (sym h.1) k)
 round_answers ss s t rs o (inr h) apart last k =
-    let left = all_kept ss (pending s) s.line rs o h.0 apart (front_each (IsLastOf ss) (pending s) s.line last) k in
+    let left = all_kept ss (pending s) s.line rs o h.0 apart (front_all (IsLastOf ss) (pending s) s.line last) k in
     subst (λ (l : List Asked). KeepsAnswers ss l (keep rs o).answers) (sym h.1) (λ x j. ((left x j).0, round_has x s.share s.line ∙ (left x j).1))
 
 -- one more ask isn't answered yet, and its session's answer is forgotten

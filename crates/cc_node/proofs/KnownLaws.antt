@@ -1,10 +1,13 @@
 -- Whoever a message names has a link, so whoever a node comes to know has one, and no quorum is more than can be known.
---     AllListed, message_known           each id of a list has a link;  so each id of a message has one
---     KeepsChurn, message_churn          what coming and going keeps
---     left_stays                         who left has left for good
---     KeepsOps, message_ops, ask_ops     what the client and the server keep, and the asks that wait
---     all_last, same_tests               each ask that isn't answered is its session's last request;  two numbers apart
-use Rattle.std.proofs.Common.{◌≡◌, ℕ, zero, suc, ◌+◌, ◌<◌, ◌≤◌, Bool, true, false, cond, not, ◌&&◌, ◌||◌, nat_eq, nat_le, List, [], ◌∷◌, ◌++◌, length, length-append, refl, sym, ap, subst, ◌∙◌, inl, inr, arith}
+--     AllListed, told_known, ..          each id of a list has a link;  so those of a message have
+--     KeepsChurn, message_churn          what coming and going keeps;  echoed_churn: one more echo
+--     left_stays, left_echoed            who left has left for good
+--     all_last                           each ask that isn't answered is its session's last request
+--     none_waits, none_left              where nothing is pending none waits, and none is left
+--     KeepsRound, message_round          what a view, a phase and its round keep
+--     KeepsOps, message_ops, ask_ops     so do the operations, with the asks that wait
+use Rattle.std.proofs.Common.{◌≡◌, ℕ, zero, suc, ◌+◌, ◌<◌, ◌≤◌, Bool, true, false, not, ◌&&◌, ◌||◌, nat_eq, nat_le, List, [], ◌∷◌, ◌++◌, length}
+use Rattle.std.proofs.Common.{length-append, refl, sym, ap, subst, ◌∙◌, inl, inr, arith}
 use Rattle.std.specs.Prelude.{Option, Some, IsTrue, ◌==◌}
 use Rattle.std.specs.List.{list_any, AllByRecursion}
 use Rattle.std.specs.Ordering.{nat_cmp}
@@ -15,7 +18,7 @@ use Rattle.std.proofs.lemmas.List.{append_assoc}
 use Rattle.std.proofs.lemmas.List.Folds.{list_any-append}
 use Rattle.cc_views.specs.Limits.{known_limit}
 use Rattle.cc_views.specs.NatSets as set
-use Rattle.cc_views.specs.NatSets.{NatSet, IsWithin, contains-keys, contains-union, contains-insert, len_within, get-insert_key}
+use Rattle.cc_views.specs.NatSets.{NatSet, IsWithin, contains-keys, contains-union, contains-insert, len_within}
 use Rattle.cc_views.specs.Rows.{Pair, ViewMap, single}
 use Rattle.cc_views.specs.Merge.{merge}
 use Rattle.cc_views.specs.MergeLaws.{merge_within}
@@ -44,6 +47,7 @@ use Rattle.cc_links.specs.Links.{Links}
 use Rattle.cc_sessions.specs.Sessions.{Requests}
 use Rattle.cc_node.specs.Core.{ids_of}
 use Rattle.cc_node.specs.Rounds.{share_limit}
+use Rattle.cc_node.proofs.Lists.{both_all, inserted_here, inserted_beside}
 use Rattle.cc_node.specs.Lawful.{IsKnown, IsPendingIn, IsPhaseOf, IsLastOf, IsLineOf, IsRoundOf, IsBeside}
 
 pub same_number : (n : ℕ) → nat_eq n n ≡ true
@@ -69,43 +73,9 @@ tail_listed ls x xs h q k = h q (or_right _ _ k)
 keys_listed : {X : Type 0} (ls : Links) (m : FinMap nat_cmp X) → AllListed ls (table.keys m) → IsWithin m ls
 keys_listed ls m h q k = h q (sym (contains-keys m q) ∙ k)
 
-abbrev pub MessageKnown : Links → Message → Type 0
-MessageKnown ls (message.Enter q) = IsKnown ls q
-MessageKnown ls (message.EnterEcho c v from_joined q) = IsAmong c ls × IsWithin v ls
-MessageKnown ls (message.Join q) = IsKnown ls q
-MessageKnown ls (message.JoinEcho q) = IsKnown ls q
-MessageKnown ls (message.Leave q) = IsKnown ls q
-MessageKnown ls (message.LeaveEcho q) = IsKnown ls q
-MessageKnown ls (message.Query tag q) = IsKnown ls q
-MessageKnown ls (message.QueryReply v tag q) = IsWithin v ls
-MessageKnown ls (message.Store v tag q) = IsWithin v ls
-MessageKnown ls (message.StoreAck tag q) = IsKnown ls q
-MessageKnown ls (message.Snapshot c v) = IsAmong c ls × IsWithin v ls
-
-pub message_known : (ls : Links) (m : Message) → AllListed ls (ids_of m) → MessageKnown ls m
-message_known ls (message.Enter q) h = head_listed ls q [] h
-message_known ls (message.EnterEcho c v j q) h =
-    let e = set.items c.entered in
-    let k = set.items c.joined in
-    let l = set.items c.left in
-    let three = first_listed ls (q ∷ e ++ k ++ l) (table.keys v) h in
-    let two = first_listed ls (q ∷ e ++ k) l three in (
-      record {
-        entered = keys_listed ls c.entered (tail_listed ls q e (first_listed ls (q ∷ e) k two));
-        joined = keys_listed ls c.joined (second_listed ls (q ∷ e) k two);
-        left = keys_listed ls c.left (second_listed ls (q ∷ e ++ k) l three);
-      },
-      keys_listed ls v (second_listed ls (q ∷ e ++ k ++ l) (table.keys v) h),
-    )
-message_known ls (message.Join q) h = head_listed ls q [] h
-message_known ls (message.JoinEcho q) h = head_listed ls q [] h
-message_known ls (message.Leave q) h = head_listed ls q [] h
-message_known ls (message.LeaveEcho q) h = head_listed ls q [] h
-message_known ls (message.Query tag q) h = head_listed ls q [] h
-message_known ls (message.QueryReply v tag q) h = keys_listed ls v (tail_listed ls q (table.keys v) h)
-message_known ls (message.Store v tag q) h = keys_listed ls v (tail_listed ls q (table.keys v) h)
-message_known ls (message.StoreAck tag q) h = head_listed ls q [] h
-message_known ls (message.Snapshot c v) h =
+-- the changes and the view that a message tells
+told_known : (ls : Links) (c : ChangeSets) (v : ViewMap) → AllListed ls (ids_of (message.Snapshot c v)) → IsAmong c ls × IsWithin v ls
+told_known ls c v h =
     let e = set.items c.entered in
     let k = set.items c.joined in
     let l = set.items c.left in
@@ -119,11 +89,20 @@ message_known ls (message.Snapshot c v) h =
       keys_listed ls v (second_listed ls (e ++ k ++ l) (table.keys v) h),
     )
 
+echo_known : (ls : Links) (c : ChangeSets) (v : ViewMap) (j : Bool) (q : ℕ) → AllListed ls (ids_of (message.EnterEcho c v j q))
+    → IsAmong c ls × IsWithin v ls
+echo_known ls c v j q h = told_known ls c v (tail_listed ls q (ids_of (message.Snapshot c v)) h)
+
+-- and the view behind its sender
+view_known : (ls : Links) (v : ViewMap) (q : ℕ) → AllListed ls (q ∷ table.keys v) → IsWithin v ls
+view_known ls v q h = keys_listed ls v (tail_listed ls q (table.keys v) h)
+
 -- ---- changes
 
 union_within : {X : Type 0} (s t : NatSet) (m : FinMap nat_cmp X) → IsWithin s m → IsWithin t m → IsWithin (set.union s t) m
 union_within s t m h k q j =
-    elim (or_cases (set.contains s q) (set.contains t q) (sym (contains-union s t q) ∙ j)) as (λ _. IsTrue (table.contains_key m q)) [ inl e ↦ h q e | inr e ↦ k q e ]
+    elim (or_cases (set.contains s q) (set.contains t q) (sym (contains-union s t q) ∙ j))
+    as (λ _. IsTrue (table.contains_key m q)) [ inl e ↦ h q e | inr e ↦ k q e ]
 
 first_in_union : (s t : NatSet) → IsWithin s (set.union s t)
 first_in_union s t q h = contains-union s t q ∙ or_left _ _ h
@@ -170,98 +149,87 @@ present_fits ls c h k = let a = len_within (present c) ls (present_within ls c h
 pub members_fit : (ls : Links) (c : ChangeSets) → IsAmong c ls → table.len ls ≤ known_limit → set.len (members c) ≤ known_limit
 members_fit ls c h k = let a = len_within (members c) ls (members_within ls c h) in omega arith
 
-pub need_churn : (ls : Links) (gamma : Fraction) (j : Bool) (s : Churn) → IsShare gamma → table.len ls ≤ known_limit → KeepsChurn ls s → KeepsChurn ls (churn.with_need gamma j s)
-need_churn ls gamma j s share few h =
-    cond_both (j && (s.need == 0)) (record s { need = needed gamma (set.len (present s.changes)) }) s (KeepsChurn ls)
-    (λ _. record { changes = h.changes; need = need_within gamma (set.len (present s.changes)) known_limit share (present_fits ls s.changes h.changes.known few) (omega arith) })
-    (λ _. h)
+module _ (ls : Links) (me : ℕ) (gamma : Fraction) (share : IsShare gamma) (few : table.len ls ≤ known_limit) (own : IsKnown ls me) where
+  need_churn : (j : Bool) (s : Churn) → KeepsChurn ls s → KeepsChurn ls (churn.with_need gamma j s)
+  need_churn j s h =
+      let most = need_within gamma (set.len (present s.changes)) known_limit share (present_fits ls s.changes h.changes.known few) (omega arith) in
+      cond_both (j && (s.need == 0)) (record s { need = needed gamma (set.len (present s.changes)) }) s (KeepsChurn ls)
+      (λ _. record { changes = h.changes; need = most }) (λ _. h)
 
-pub joined_churn : (ls : Links) (me : ℕ) (s : Churn) → IsKnown ls me → KeepsChurn ls s → KeepsChurn ls (churn.joined_if_answered me s)
-joined_churn ls me s k h =
-    cond_both (churn.is_answered s) (record s { changes = add_join s.changes me }) s (KeepsChurn ls)
-    (λ _. record { changes = join_changes ls s.changes me k h.changes; need = h.need }) (λ _. h)
+  joined_churn : (s : Churn) → KeepsChurn ls s → KeepsChurn ls (churn.joined_if_answered me s)
+  joined_churn s h =
+      cond_both (churn.is_answered s) (record s { changes = add_join s.changes me }) s (KeepsChurn ls)
+      (λ _. record { changes = join_changes ls s.changes me own h.changes; need = h.need }) (λ _. h)
 
-pub message_churn : (ls : Links) (me : ℕ) (gamma : Fraction) (m : Message) (s : Churn) → IsShare gamma → table.len ls ≤ known_limit → IsKnown ls me → MessageKnown ls m
-    → KeepsChurn ls s → KeepsChurn ls (churn.after_message me gamma m s)
-message_churn ls me gamma (message.Enter q) s share few own k h = record { changes = enter_changes ls s.changes q k h.changes; need = h.need }
-message_churn ls me gamma (message.EnterEcho c v j q) s share few own k h =
-    let t = churn.united c s in
-    let u : KeepsChurn ls t = record { changes = union_changes ls s.changes c k.0 h.changes; need = h.need } in
-    let n = need_churn ls gamma j t share few u in
-    cond_both (churn.counts_for me q t) (churn.echoed me gamma j t) t (KeepsChurn ls)
-    (λ _. joined_churn ls me (churn.with_echo (churn.with_need gamma j t)) own (record { changes = n.changes; need = n.need })) (λ _. u)
-message_churn ls me gamma (message.Join q) s share few own k h = record { changes = join_changes ls s.changes q k h.changes; need = h.need }
-message_churn ls me gamma (message.JoinEcho q) s share few own k h = record { changes = join_changes ls s.changes q k h.changes; need = h.need }
-message_churn ls me gamma (message.Leave q) s share few own k h = record { changes = leave_changes ls s.changes q k h.changes; need = h.need }
-message_churn ls me gamma (message.LeaveEcho q) s share few own k h = record { changes = leave_changes ls s.changes q k h.changes; need = h.need }
-message_churn ls me gamma (message.Query tag q) s share few own k h = h
-message_churn ls me gamma (message.QueryReply v tag q) s share few own k h = h
-message_churn ls me gamma (message.Store v tag q) s share few own k h = h
-message_churn ls me gamma (message.StoreAck tag q) s share few own k h = h
-message_churn ls me gamma (message.Snapshot c v) s share few own k h = record { changes = union_changes ls s.changes c k.0 h.changes; need = h.need }
+  -- one more echo
+  pub echoed_churn : (j : Bool) (s : Churn) → KeepsChurn ls s → KeepsChurn ls (churn.echoed me gamma j s)
+  echoed_churn j s h =
+      let n = need_churn j s h in
+      joined_churn (churn.with_echo (churn.with_need gamma j s)) (record { changes = n.changes; need = n.need })
+
+  pub message_churn : (m : Message) (s : Churn) → AllListed ls (ids_of m) → KeepsChurn ls s → KeepsChurn ls (churn.after_message me gamma m s)
+  message_churn (message.Enter q) s k h = record { changes = enter_changes ls s.changes q (head_listed ls q [] k) h.changes; need = h.need }
+  message_churn (message.EnterEcho c v j q) s k h =
+      let t = churn.united c s in
+      let u : KeepsChurn ls t = record { changes = union_changes ls s.changes c (echo_known ls c v j q k).0 h.changes; need = h.need } in
+      cond_both (churn.counts_for me q t) (churn.echoed me gamma j t) t (KeepsChurn ls) (λ _. echoed_churn j t u) (λ _. u)
+  message_churn (message.Join q) s k h = record { changes = join_changes ls s.changes q (head_listed ls q [] k) h.changes; need = h.need }
+  message_churn (message.JoinEcho q) s k h = record { changes = join_changes ls s.changes q (head_listed ls q [] k) h.changes; need = h.need }
+  message_churn (message.Leave q) s k h = record { changes = leave_changes ls s.changes q (head_listed ls q [] k) h.changes; need = h.need }
+  message_churn (message.LeaveEcho q) s k h = record { changes = leave_changes ls s.changes q (head_listed ls q [] k) h.changes; need = h.need }
+  message_churn (message.Snapshot c v) s k h = record { changes = union_changes ls s.changes c (told_known ls c v k).0 h.changes; need = h.need }
+  message_churn _ s k h = h
 
 -- who left has left for good
+pub left_echoed : (me : ℕ) (gamma : Fraction) (j : Bool) (s : Churn) → IsWithin s.changes.left (churn.echoed me gamma j s).changes.left
+left_echoed me gamma j s x here =
+    let P : Churn → Type 0 = λ u. IsTrue (set.contains u.changes.left x) in
+    let needing = record s { need = needed gamma (set.len (present s.changes)) } in
+    let n : P (churn.with_need gamma j s) = cond_both (j && (s.need == 0)) needing s P (λ _. here) (λ _. here) in
+    let w = churn.with_echo (churn.with_need gamma j s) in
+    cond_both (churn.is_answered w) (record w { changes = add_join w.changes me }) w P (λ _. n) (λ _. n)
+
 pub left_stays : (me : ℕ) (gamma : Fraction) (m : Message) (s : Churn) → IsWithin s.changes.left (churn.after_message me gamma m s).changes.left
-left_stays me gamma (message.Enter q) s x h = h
 left_stays me gamma (message.EnterEcho c v j q) s x h =
     let t = churn.united c s in
-    let l = set.union s.changes.left c.left in
-    let here : IsTrue (set.contains l x) = first_in_union s.changes.left c.left x h in
-    let P : Churn → Type 0 = λ u. IsTrue (set.contains u.changes.left x) in
-    let n : P (churn.with_need gamma j t) = cond_both (j && (t.need == 0)) (record t { need = needed gamma (set.len (present t.changes)) }) t P (λ _. here) (λ _. here) in
-    let w = churn.with_echo (churn.with_need gamma j t) in
-    cond_both (churn.counts_for me q t) (churn.joined_if_answered me w) t P
-    (λ _. cond_both (churn.is_answered w) (record w { changes = add_join w.changes me }) w P (λ _. n) (λ _. n)) (λ _. here)
-left_stays me gamma (message.Join q) s x h = h
-left_stays me gamma (message.JoinEcho q) s x h = h
+    let here = first_in_union s.changes.left c.left x h in
+    cond_both (churn.counts_for me q t) (churn.echoed me gamma j t) t (λ u. IsTrue (set.contains u.changes.left x))
+    (λ _. left_echoed me gamma j t x here) (λ _. here)
 left_stays me gamma (message.Leave q) s x h = within_insert s.changes.left q tt x h
 left_stays me gamma (message.LeaveEcho q) s x h = within_insert s.changes.left q tt x h
-left_stays me gamma (message.Query tag q) s x h = h
-left_stays me gamma (message.QueryReply v tag q) s x h = h
-left_stays me gamma (message.Store v tag q) s x h = h
-left_stays me gamma (message.StoreAck tag q) s x h = h
 left_stays me gamma (message.Snapshot c v) s x h = first_in_union s.changes.left c.left x h
+left_stays me gamma _ s x h = h
 
 -- ---- views and phases
 
 phase_more : (ls ms : Links) (ss : Requests) (p : Phase) → IsWithin ls ms → IsPhaseOf ls ss p → IsPhaseOf ms ss p
 phase_more ls ms ss Idle more h = tt
-phase_more ls ms ss (Storing p) more h = h
-phase_more ls ms ss (Querying p) more h = h
 phase_more ls ms ss (StoringBack p seen) more h = (h.0, h.1, λ q k. more q (h.2 q k))
+phase_more ls ms ss _ more h = h
 
 -- ---- asks that wait
 
 pub same_tests : (x y : ℕ) → nat_eq x y ≡ false → nat_eq y x ≡ false
 same_tests x y e = let apart : x ≡ y → ⊥ = eqb-false x y e in ne_eqb y x (λ t. apart (sym t))
 
-both_all : (P : Asked → Type 0) (xs ys : List Asked) → AllByRecursion P xs → AllByRecursion P ys → AllByRecursion P (xs ++ ys)
-both_all P [] ys h k = k
-both_all P (x ∷ xs) ys h k = (h.0, both_all P xs ys h.1 k)
-
 first_last : (ls : Links) (ss : Requests) (phase : Phase) → IsPhaseOf ls ss phase → AllByRecursion (IsLastOf ss) (ops.asked_in phase)
 first_last ls ss Idle h = tt
-first_last ls ss (Storing p) h = (h.0.session, tt)
-first_last ls ss (Querying p) h = (h.0.session, tt)
-first_last ls ss (StoringBack p seen) h = (h.0.session, tt)
+first_last ls ss _ h = (h.0.session, tt)
 
 -- each ask that isn't answered is its session's last request
 pub all_last : (ls : Links) (ss : Requests) (s : Ops) → IsPhaseOf ls ss s.phase → IsLineOf ss s → AllByRecursion (IsLastOf ss) (ops.unanswered s)
 all_last ls ss s phase line =
-    both_all (IsLastOf ss) (ops.pending s) s.line (both_all (IsLastOf ss) (ops.asked_in s.phase) s.others (first_last ls ss s.phase phase) line.round.last) line.last
+    both_all (IsLastOf ss) (ops.pending s) s.line
+    (both_all (IsLastOf ss) (ops.asked_in s.phase) s.others (first_last ls ss s.phase phase) line.round.last) line.last
 
 -- nothing waits where nothing is pending; anything may where something is
 pub none_waits : (phase : Phase) (line : List Asked) → ops.is_idle phase ≡ true → WaitsBehind (stage_of phase) line → line ≡ []
 none_waits Idle line idle h = h
-none_waits (Storing p) line idle h = cc
-none_waits (Querying p) line idle h = cc
-none_waits (StoringBack p seen) line idle h = cc
+none_waits _ line idle h = cc
 
 none_beside : (phase : Phase) (others : List Asked) → ops.is_idle phase ≡ true → IsBeside phase others → others ≡ []
 none_beside Idle others idle h = h
-none_beside (Storing p) others idle h = cc
-none_beside (Querying p) others idle h = cc
-none_beside (StoringBack p seen) others idle h = cc
+none_beside _ others idle h = cc
 
 -- where nothing is pending none waits, and none is beside it
 pub none_left : {ss : Requests} (s : Ops) → IsLineOf ss s → ops.is_idle s.phase ≡ true → (s.line ≡ []) × (s.others ≡ [])
@@ -269,61 +237,47 @@ none_left s h idle = (none_waits s.phase s.line idle h.behind, none_beside s.pha
 
 may_wait : (phase : Phase) (line : List Asked) → ops.is_idle phase ≡ false → WaitsBehind (stage_of phase) line
 may_wait Idle line busy = cc
-may_wait (Storing p) line busy = tt
-may_wait (Querying p) line busy = tt
-may_wait (StoringBack p seen) line busy = tt
+may_wait _ line busy = tt
 
-round_behind : (me quorum : ℕ) (a : Asked) (others : List Asked) (s : Ops)
-    → WaitsBehind (stage_of (ops.begin_round me quorum (a ∷ others) s).phase) (ops.begin_round me quorum (a ∷ others) s).line
+-- asks wait behind what is pending
+abbrev IsBehind : Ops → Type 0
+IsBehind s = WaitsBehind (stage_of s.phase) s.line
+
+round_behind : (me quorum : ℕ) (a : Asked) (others : List Asked) (s : Ops) → IsBehind (ops.begin_round me quorum (a ∷ others) s)
 round_behind me quorum a others s =
     cond_both (is_writing a.command) (ops.next_round (Storing (ops.round_of quorum a)) (ops.with_own_row me (ops.with_written (a ∷ others) s)))
-    (ops.next_round (Querying (ops.round_of quorum a)) s) (λ (t : Ops). WaitsBehind (stage_of t.phase) t.line) (λ _. tt) (λ _. tt)
+    (ops.next_round (Querying (ops.round_of quorum a)) s) IsBehind (λ _. tt) (λ _. tt)
 
-last_behind : (me quorum : ℕ) (s : Ops) → 1 ≤ s.share → WaitsBehind (stage_of (ops.after_last me quorum s).phase) (ops.after_last me quorum s).line
+last_behind : (me quorum : ℕ) (s : Ops) → 1 ≤ s.share → IsBehind (ops.after_last me quorum s)
 last_behind me quorum s some = of_line s.share s.line some
   where
     of_line : (share : ℕ) (line : List Asked) → 1 ≤ share
-        → (let t = ops.begin_round me quorum (first_round share line) (record s { line = line_behind share line }) in WaitsBehind (stage_of t.phase) t.line)
+        → IsBehind (ops.begin_round me quorum (first_round share line) (record s { line = line_behind share line }))
     of_line zero line some = absurd (omega (arith, some))
     of_line (suc n) [] some = refl
-    of_line (suc n) (a ∷ line) some = round_behind me quorum a (picked (is_writing a.command) n line) (record s { line = spared (is_writing a.command) n line })
+    of_line (suc n) (a ∷ line) some =
+        round_behind me quorum a (picked (is_writing a.command) n line) (record s { line = spared (is_writing a.command) n line })
 
-ack_behind : (me quorum : ℕ) (phase : Phase) (s : Ops) → 1 ≤ s.share → WaitsBehind (stage_of s.phase) s.line
-    → WaitsBehind (stage_of (ops.after_ack me quorum phase s).phase) (ops.after_ack me quorum phase s).line
-ack_behind me quorum Idle s some h = h
+ack_behind : (me quorum : ℕ) (phase : Phase) (s : Ops) → 1 ≤ s.share → IsBehind s → IsBehind (ops.after_ack me quorum phase s)
 ack_behind me quorum (Storing p) s some h =
-    cond_both (ops.is_last p) (ops.after_last me quorum s) (record s { phase = Storing (ops.counted p) }) (λ (t : Ops). WaitsBehind (stage_of t.phase) t.line)
-    (λ _. last_behind me quorum s some) (λ _. tt)
-ack_behind me quorum (Querying p) s some h = h
+    cond_both (ops.is_last p) (ops.after_last me quorum s) (record s { phase = Storing (ops.counted p) }) IsBehind (λ _. last_behind me quorum s some) (λ _. tt)
 ack_behind me quorum (StoringBack p seen) s some h =
-    cond_both (ops.is_last p) (ops.after_last me quorum s) (record s { phase = StoringBack (ops.counted p) seen }) (λ (t : Ops). WaitsBehind (stage_of t.phase) t.line)
+    cond_both (ops.is_last p) (ops.after_last me quorum s) (record s { phase = StoringBack (ops.counted p) seen }) IsBehind
     (λ _. last_behind me quorum s some) (λ _. tt)
+ack_behind me quorum _ s some h = h
 
-reply_behind : (quorum : ℕ) (v : ViewMap) (phase : Phase) (s : Ops) → WaitsBehind (stage_of s.phase) s.line
-    → WaitsBehind (stage_of (ops.after_reply quorum v phase s).phase) (ops.after_reply quorum v phase s).line
-reply_behind quorum v Idle s h = h
-reply_behind quorum v (Storing p) s h = h
+reply_behind : (quorum : ℕ) (v : ViewMap) (phase : Phase) (s : Ops) → IsBehind s → IsBehind (ops.after_reply quorum v phase s)
 reply_behind quorum v (Querying p) s h =
-    cond_both (ops.is_last p)
-    (ops.next_round (StoringBack (ops.round_of quorum p.asked) (merge s.view v)) (ops.merged v s))
-    (record (ops.merged v s) { phase = Querying (ops.counted p) }) (λ (t : Ops). WaitsBehind (stage_of t.phase) t.line) (λ _. tt) (λ _. tt)
-reply_behind quorum v (StoringBack p seen) s h = h
+    cond_both (ops.is_last p) (ops.next_round (StoringBack (ops.round_of quorum p.asked) (merge s.view v)) (ops.merged v s))
+    (record (ops.merged v s) { phase = Querying (ops.counted p) }) IsBehind (λ _. tt) (λ _. tt)
+reply_behind quorum v _ s h = h
 
-message_behind : (me quorum : ℕ) (m : Message) (s : Ops) → 1 ≤ s.share → WaitsBehind (stage_of s.phase) s.line
-    → WaitsBehind (stage_of (ops.after_message me quorum m s).phase) (ops.after_message me quorum m s).line
-message_behind me quorum (message.Enter q) s some h = h
-message_behind me quorum (message.EnterEcho c v j q) s some h = h
-message_behind me quorum (message.Join q) s some h = h
-message_behind me quorum (message.JoinEcho q) s some h = h
-message_behind me quorum (message.Leave q) s some h = h
-message_behind me quorum (message.LeaveEcho q) s some h = h
-message_behind me quorum (message.Query tag q) s some h = h
+message_behind : (me quorum : ℕ) (m : Message) (s : Ops) → 1 ≤ s.share → IsBehind s → IsBehind (ops.after_message me quorum m s)
 message_behind me quorum (message.QueryReply v tag q) s some h =
-    cond_both (ops.is_own me tag q s) (ops.after_reply quorum v s.phase s) s (λ (t : Ops). WaitsBehind (stage_of t.phase) t.line) (λ _. reply_behind quorum v s.phase s h) (λ _. h)
-message_behind me quorum (message.Store v tag q) s some h = h
+    cond_both (ops.is_own me tag q s) (ops.after_reply quorum v s.phase s) s IsBehind (λ _. reply_behind quorum v s.phase s h) (λ _. h)
 message_behind me quorum (message.StoreAck tag q) s some h =
-    cond_both (ops.is_own me tag q s) (ops.after_ack me quorum s.phase s) s (λ (t : Ops). WaitsBehind (stage_of t.phase) t.line) (λ _. ack_behind me quorum s.phase s some h) (λ _. h)
-message_behind me quorum (message.Snapshot c v) s some h = h
+    cond_both (ops.is_own me tag q s) (ops.after_ack me quorum s.phase s) s IsBehind (λ _. ack_behind me quorum s.phase s some h) (λ _. h)
+message_behind me quorum _ s some h = h
 
 -- of the asks that wait the first round begins, or none
 parted_few : (s : Ops) (begun line : List Asked) → Parts s begun line → length line ≤ length s.line
@@ -376,125 +330,111 @@ counted_more ss p last h = record {
   count = let apart : p.count + 1 ≡ p.need → ⊥ = eqb-false (p.count + 1) p.need last in omega (arith, h.count, apart);
 }
 
-reply_round : (ls : Links) (ss : Requests) (quorum : ℕ) (v : ViewMap) (phase : Phase) (s : Ops) → 0 < quorum → quorum ≤ known_limit → IsWithin v ls
-    → KeepsRound ls ss s → IsPhaseOf ls ss phase → IsBeside phase s.others → KeepsRound ls ss (ops.after_reply quorum v phase s)
-reply_round ls ss quorum v Idle s some few k h i j = h
-reply_round ls ss quorum v (Storing p) s some few k h i j = h
-reply_round ls ss quorum v (Querying p) s some few k h i j =
-    let all : IsWithin (merge s.view v) ls = merge_within s.view v ls h.view k in
-    cond_both (ops.is_last p)
-    (ops.next_round (StoringBack (ops.round_of quorum p.asked) (merge s.view v)) (ops.merged v s))
-    (record (ops.merged v s) { phase = Querying (ops.counted p) })
-    (KeepsRound ls ss)
-    (λ _. record { view = all; phase = (record { session = i.0.session; need = few; count = some }, i.1, all); round = record { some = h.round.some; most = h.round.most; few = h.round.few; alike = j; last = h.round.last } })
-    (λ last. record { view = all; phase = (counted_more ss p last i.0, i.1); round = record { some = h.round.some; most = h.round.most; few = h.round.few; alike = j; last = h.round.last } })
-reply_round ls ss quorum v (StoringBack p seen) s some few k h i j = h
+-- a round goes on in another phase of its kind
+pub goes_on : {ss : Requests} {share : ℕ} {phase next : Phase} {others : List Asked} → IsRoundOf ss share phase others → IsBeside next others
+    → IsRoundOf ss share next others
+goes_on h alike = record { some = h.some; most = h.most; few = h.few; alike = alike; last = h.last }
 
-round_keeps : (ls : Links) (ss : Requests) (me quorum : ℕ) (a : Asked) (others : List Asked) (s : Ops) → 0 < quorum → quorum ≤ known_limit → IsKnown ls me → IsWithin s.view ls
-    → AllByRecursion (IsLastOf ss) (a ∷ others) → AllByRecursion (λ b. is_writing b.command ≡ is_writing a.command) others → length others < s.share → s.share ≤ share_limit
-    → KeepsRound ls ss (ops.begin_round me quorum (a ∷ others) s)
-round_keeps ls ss me quorum a others s some few own view last alike less most =
-    let pending : IsPendingIn ss (ops.round_of quorum a) = record { session = last.0; need = few; count = some } in
-    let w = ops.with_own_row me (ops.with_written (a ∷ others) s) in
-    cond_both (is_writing a.command) (ops.next_round (Storing (ops.round_of quorum a)) w) (ops.next_round (Querying (ops.round_of quorum a)) s)
-    (λ (t : Ops). KeepsRound ls ss (record t { others = others }))
-    (λ writes. record {
-      view = merge_within s.view (single (record { node = me; number = w.number; value = w.mine })) ls view (insert_within table.empty ls me (w.number, w.mine) (empty_within Pair ls) own);
-      phase = (pending, writes);
-      round = record {
-        some = omega (arith, less);
-        most = most;
-        few = less;
-        alike = subst (λ k. AllByRecursion (λ (b : Asked). is_writing b.command ≡ k) others) writes alike;
-        last = last.1;
-      };
-    })
-    (λ reads. record {
-      view = view;
-      phase = (pending, reads);
-      round = record {
-        some = omega (arith, less);
-        most = most;
-        few = less;
-        alike = subst (λ k. AllByRecursion (λ (b : Asked). is_writing b.command ≡ k) others) reads alike;
-        last = last.1;
-      };
-    })
+module _ (ls : Links) (ss : Requests) (me quorum : ℕ) (some : 0 < quorum) (few : quorum ≤ known_limit) (own : IsKnown ls me) where
+  reply_round : (v : ViewMap) (phase : Phase) (s : Ops) → IsWithin v ls → KeepsRound ls ss s → IsPhaseOf ls ss phase → IsBeside phase s.others
+      → KeepsRound ls ss (ops.after_reply quorum v phase s)
+  reply_round v (Querying p) s k h i j =
+      let all : IsWithin (merge s.view v) ls = merge_within s.view v ls h.view k in
+      cond_both (ops.is_last p)
+      (ops.next_round (StoringBack (ops.round_of quorum p.asked) (merge s.view v)) (ops.merged v s))
+      (record (ops.merged v s) { phase = Querying (ops.counted p) })
+      (KeepsRound ls ss)
+      (λ _. record { view = all; phase = (record { session = i.0.session; need = few; count = some }, i.1, all); round = goes_on h.round j })
+      (λ last. record { view = all; phase = (counted_more ss p last i.0, i.1); round = goes_on h.round j })
+  reply_round v _ s k h i j = h
 
-last_round : (ls : Links) (ss : Requests) (me quorum : ℕ) (s : Ops) → 0 < quorum → quorum ≤ known_limit → IsKnown ls me → IsWithin s.view ls
-    → AllByRecursion (IsLastOf ss) s.line → 1 ≤ s.share → s.share ≤ share_limit → KeepsRound ls ss (ops.after_last me quorum s)
-last_round ls ss me quorum s some few own view last one most = of_line s.share s.line refl last one most
-  where
-    of_line : (share : ℕ) (line : List Asked) → s.share ≡ share → AllByRecursion (IsLastOf ss) line → 1 ≤ share → share ≤ share_limit
-        → KeepsRound ls ss (ops.begin_round me quorum (first_round share line) (record s { line = line_behind share line }))
-    of_line zero line is last one most = absurd (omega (arith, one))
-    of_line (suc n) [] is last one most = record {
-      view = view;
-      phase = tt;
-      round = record { some = omega (arith, is); most = omega (arith, is, most); few = omega (arith, is); alike = refl; last = tt };
-    }
-    of_line (suc n) (a ∷ line) is last one most =
-        let kind = is_writing a.command in
-        let begun = each_first (IsLastOf ss) (suc n) (a ∷ line) last in
-        round_keeps ls ss me quorum a (picked kind n line) (record s { line = spared kind n line }) some few own view begun (picked_alike kind n line)
-        (omega (arith, picked_few kind n line, is)) (omega (arith, is, most))
+  round_keeps : (a : Asked) (others : List Asked) (s : Ops) → IsWithin s.view ls → AllByRecursion (IsLastOf ss) (a ∷ others)
+      → AllByRecursion (λ b. is_writing b.command ≡ is_writing a.command) others → length others < s.share → s.share ≤ share_limit
+      → KeepsRound ls ss (ops.begin_round me quorum (a ∷ others) s)
+  round_keeps a others s view last alike less most =
+      let pending : IsPendingIn ss (ops.round_of quorum a) = record { session = last.0; need = few; count = some } in
+      let w = ops.with_own_row me (ops.with_written (a ∷ others) s) in
+      let row = single (record { node = me; number = w.number; value = w.mine }) in
+      let AreOf : Bool → Type 0 = λ kind. AllByRecursion (λ (b : Asked). is_writing b.command ≡ kind) others in
+      cond_both (is_writing a.command) (ops.next_round (Storing (ops.round_of quorum a)) w) (ops.next_round (Querying (ops.round_of quorum a)) s)
+      (λ (t : Ops). KeepsRound ls ss (record t { others = others }))
+      (λ writes. record {
+        view = merge_within s.view row ls view (insert_within table.empty ls me (w.number, w.mine) (empty_within Pair ls) own);
+        phase = (pending, writes);
+        round = record { some = omega (arith, less); most = most; few = less; alike = subst AreOf writes alike; last = last.1 };
+      })
+      (λ reads. record {
+        view = view;
+        phase = (pending, reads);
+        round = record { some = omega (arith, less); most = most; few = less; alike = subst AreOf reads alike; last = last.1 };
+      })
 
-ack_round : (ls : Links) (ss : Requests) (me quorum : ℕ) (phase : Phase) (s : Ops) → 0 < quorum → quorum ≤ known_limit → IsKnown ls me → KeepsRound ls ss s
-    → AllByRecursion (IsLastOf ss) s.line → IsPhaseOf ls ss phase → IsBeside phase s.others → KeepsRound ls ss (ops.after_ack me quorum phase s)
-ack_round ls ss me quorum Idle s some few own h last i j = h
-ack_round ls ss me quorum (Storing p) s some few own h last i j =
-    cond_both (ops.is_last p) (ops.after_last me quorum s) (record s { phase = Storing (ops.counted p) }) (KeepsRound ls ss)
-    (λ _. last_round ls ss me quorum s some few own h.view last h.round.some h.round.most)
-    (λ more. record { view = h.view; phase = (counted_more ss p more i.0, i.1); round = record { some = h.round.some; most = h.round.most; few = h.round.few; alike = j; last = h.round.last } })
-ack_round ls ss me quorum (Querying p) s some few own h last i j = h
-ack_round ls ss me quorum (StoringBack p seen) s some few own h last i j =
-    cond_both (ops.is_last p) (ops.after_last me quorum s) (record s { phase = StoringBack (ops.counted p) seen }) (KeepsRound ls ss)
-    (λ _. last_round ls ss me quorum s some few own h.view last h.round.some h.round.most)
-    (λ more. record { view = h.view; phase = (counted_more ss p more i.0, i.1, i.2); round = record { some = h.round.some; most = h.round.most; few = h.round.few; alike = j; last = h.round.last } })
+  last_round : (s : Ops) → KeepsRound ls ss s → AllByRecursion (IsLastOf ss) s.line → KeepsRound ls ss (ops.after_last me quorum s)
+  last_round s h last = of_line s.share s.line refl last h.round.some h.round.most
+    where
+      of_line : (share : ℕ) (line : List Asked) → s.share ≡ share → AllByRecursion (IsLastOf ss) line → 1 ≤ share → share ≤ share_limit
+          → KeepsRound ls ss (ops.begin_round me quorum (first_round share line) (record s { line = line_behind share line }))
+      of_line zero line is last one most = absurd (omega (arith, one))
+      of_line (suc n) [] is last one most = record {
+        view = h.view;
+        phase = tt;
+        round = record { some = omega (arith, is); most = omega (arith, is, most); few = omega (arith, is); alike = refl; last = tt };
+      }
+      of_line (suc n) (a ∷ line) is last one most =
+          let kind = is_writing a.command in
+          round_keeps a (picked kind n line) (record s { line = spared kind n line }) h.view (each_first (IsLastOf ss) (suc n) (a ∷ line) last)
+          (picked_alike kind n line) (omega (arith, picked_few kind n line, is)) (omega (arith, is, most))
 
-message_round : (ls : Links) (ss : Requests) (me quorum : ℕ) (m : Message) (s : Ops) → 0 < quorum → quorum ≤ known_limit → IsKnown ls me → MessageKnown ls m
-    → AllByRecursion (IsLastOf ss) s.line → KeepsRound ls ss s → KeepsRound ls ss (ops.after_message me quorum m s)
-message_round ls ss me quorum (message.Enter q) s some few own k last h = h
-message_round ls ss me quorum (message.EnterEcho c v j q) s some few own k last h = record { view = merge_within s.view v ls h.view k.1; phase = h.phase; round = h.round }
-message_round ls ss me quorum (message.Join q) s some few own k last h = h
-message_round ls ss me quorum (message.JoinEcho q) s some few own k last h = h
-message_round ls ss me quorum (message.Leave q) s some few own k last h = h
-message_round ls ss me quorum (message.LeaveEcho q) s some few own k last h = h
-message_round ls ss me quorum (message.Query tag q) s some few own k last h = h
-message_round ls ss me quorum (message.QueryReply v tag q) s some few own k last h =
-    cond_both (ops.is_own me tag q s) (ops.after_reply quorum v s.phase s) s (KeepsRound ls ss) (λ _. reply_round ls ss quorum v s.phase s some few k h h.phase h.round.alike) (λ _. h)
-message_round ls ss me quorum (message.Store v tag q) s some few own k last h = record { view = merge_within s.view v ls h.view k; phase = h.phase; round = h.round }
-message_round ls ss me quorum (message.StoreAck tag q) s some few own k last h =
-    cond_both (ops.is_own me tag q s) (ops.after_ack me quorum s.phase s) s (KeepsRound ls ss) (λ _. ack_round ls ss me quorum s.phase s some few own h last h.phase h.round.alike) (λ _. h)
-message_round ls ss me quorum (message.Snapshot c v) s some few own k last h = record { view = merge_within s.view v ls h.view k.1; phase = h.phase; round = h.round }
+  ack_round : (phase : Phase) (s : Ops) → KeepsRound ls ss s → AllByRecursion (IsLastOf ss) s.line → IsPhaseOf ls ss phase → IsBeside phase s.others
+      → KeepsRound ls ss (ops.after_ack me quorum phase s)
+  ack_round (Storing p) s h last i j =
+      cond_both (ops.is_last p) (ops.after_last me quorum s) (record s { phase = Storing (ops.counted p) }) (KeepsRound ls ss)
+      (λ _. last_round s h last) (λ more. record { view = h.view; phase = (counted_more ss p more i.0, i.1); round = goes_on h.round j })
+  ack_round (StoringBack p seen) s h last i j =
+      cond_both (ops.is_last p) (ops.after_last me quorum s) (record s { phase = StoringBack (ops.counted p) seen }) (KeepsRound ls ss)
+      (λ _. last_round s h last) (λ more. record { view = h.view; phase = (counted_more ss p more i.0, i.1, i.2); round = goes_on h.round j })
+  ack_round _ s h last i j = h
 
-pub message_ops : (ls : Links) (ss : Requests) (me quorum : ℕ) (m : Message) (s : Ops) → 0 < quorum → quorum ≤ known_limit → IsKnown ls me → MessageKnown ls m
-    → KeepsOps ls ss s → KeepsOps ls ss (ops.after_message me quorum m s)
-message_ops ls ss me quorum m s some few own k h =
-    let round = message_round ls ss me quorum m s some few own k h.line.last (record { view = h.view; phase = h.phase; round = h.line.round }) in
-    record { view = round.view; phase = round.phase; line = message_line_of ss me quorum m s h.line round.round }
+  message_round : (m : Message) (s : Ops) → AllListed ls (ids_of m) → AllByRecursion (IsLastOf ss) s.line → KeepsRound ls ss s
+      → KeepsRound ls ss (ops.after_message me quorum m s)
+  message_round (message.EnterEcho c v j q) s k last h =
+      record { view = merge_within s.view v ls h.view (echo_known ls c v j q k).1; phase = h.phase; round = h.round }
+  message_round (message.QueryReply v tag q) s k last h =
+      cond_both (ops.is_own me tag q s) (ops.after_reply quorum v s.phase s) s (KeepsRound ls ss)
+      (λ _. reply_round v s.phase s (view_known ls v q k) h h.phase h.round.alike) (λ _. h)
+  message_round (message.Store v tag q) s k last h =
+      record { view = merge_within s.view v ls h.view (view_known ls v q k); phase = h.phase; round = h.round }
+  message_round (message.StoreAck tag q) s k last h =
+      cond_both (ops.is_own me tag q s) (ops.after_ack me quorum s.phase s) s (KeepsRound ls ss)
+      (λ _. ack_round s.phase s h last h.phase h.round.alike) (λ _. h)
+  message_round (message.Snapshot c v) s k last h =
+      record { view = merge_within s.view v ls h.view (told_known ls c v k).1; phase = h.phase; round = h.round }
+  message_round _ s k last h = h
+
+  pub message_ops : (m : Message) (s : Ops) → AllListed ls (ids_of m) → KeepsOps ls ss s → KeepsOps ls ss (ops.after_message me quorum m s)
+  message_ops m s k h =
+      let round = message_round m s k h.line.last (record { view = h.view; phase = h.phase; round = h.line.round }) in
+      record { view = round.view; phase = round.phase; line = message_line_of ss me quorum m s h.line round.round }
 
 -- ---- an ask
 
 begun_last : (ss : Requests) (a : Asked) → IsLastOf (table.insert ss a.session a.request) a
-begun_last ss a = get-insert_key ss a.session a.request a.session ∙ ap (λ b. cond b (Some a.request) (table.get ss a.session)) (same_number a.session)
+begun_last ss a = inserted_here ss a.session a.request a.session (same_number a.session)
 
 other_last : (ss : Requests) (s r x : ℕ) (o : Option ℕ) → nat_eq s x ≡ false → table.get ss x ≡ o → table.get (table.insert ss s r) x ≡ o
-other_last ss s r x o apart e = get-insert_key ss s r x ∙ ap (λ b. cond b (Some r) (table.get ss x)) (same_tests s x apart) ∙ e
+other_last ss s r x o apart e = inserted_beside ss s r x (same_tests s x apart) ∙ e
 
-others_last : (ss : Requests) (s r : ℕ) (line : List Asked) → has_session s line ≡ false → AllByRecursion (IsLastOf ss) line → AllByRecursion (IsLastOf (table.insert ss s r)) line
+others_last : (ss : Requests) (s r : ℕ) (line : List Asked) → has_session s line ≡ false → AllByRecursion (IsLastOf ss) line
+    → AllByRecursion (IsLastOf (table.insert ss s r)) line
 others_last ss s r [] apart h = tt
 others_last ss s r (a ∷ line) apart h =
     let parts = or_parts _ _ apart in (other_last ss s r a.session (Some a.request) parts.0 h.0, others_last ss s r line parts.1 h.1)
 
-all_behind : (P : Asked → Type 0) (line : List Asked) (a : Asked) → AllByRecursion P line → P a → AllByRecursion P (line ++ a ∷ [])
-all_behind P [] a h k = (k, tt)
-all_behind P (b ∷ line) a h k = (h.0, all_behind P line a h.1 k)
-
 other_pending : (ss : Requests) (s r : ℕ) (p : Pending) → nat_eq s p.asked.session ≡ false → IsPendingIn ss p → IsPendingIn (table.insert ss s r) p
 other_pending ss s r p apart h = record { session = other_last ss s r p.asked.session (Some p.asked.request) apart h.session; need = h.need; count = h.count }
 
-other_phase : (ls : Links) (ss : Requests) (s r : ℕ) (phase : Phase) → has_session s (ops.asked_in phase) ≡ false → IsPhaseOf ls ss phase → IsPhaseOf ls (table.insert ss s r) phase
+other_phase : (ls : Links) (ss : Requests) (s r : ℕ) (phase : Phase) → has_session s (ops.asked_in phase) ≡ false → IsPhaseOf ls ss phase
+    → IsPhaseOf ls (table.insert ss s r) phase
 other_phase ls ss s r Idle apart h = tt
 other_phase ls ss s r (Storing p) apart h = (other_pending ss s r p (or_parts _ _ apart).0 h.0, h.1)
 other_phase ls ss s r (Querying p) apart h = (other_pending ss s r p (or_parts _ _ apart).0 h.0, h.1)
@@ -521,7 +461,8 @@ busy_parts : (idle full there : Bool) → idle ≡ false → (not idle && (full 
 busy_parts true full there e h = cc
 busy_parts false full there e h = or_parts full there h
 
-pub waits_then : (s : ℕ) (o : Ops) → (not (ops.is_idle o.phase) && (nat_le line_limit (length o.line) || has_session s (ops.unanswered o))) ≡ false → ops.is_idle o.phase ≡ false → MayWait s o
+pub waits_then : (s : ℕ) (o : Ops) → (not (ops.is_idle o.phase) && (nat_le line_limit (length o.line) || has_session s (ops.unanswered o))) ≡ false
+    → ops.is_idle o.phase ≡ false → MayWait s o
 waits_then s o h pends =
     let both = busy_parts (ops.is_idle o.phase) (nat_le line_limit (length o.line)) (has_session s (ops.unanswered o)) pends h in
     record { few = leb-false line_limit (length o.line) both.0; apart = both.1 }
@@ -531,7 +472,7 @@ begins_ops : (ls : Links) (ss : Requests) (me quorum : ℕ) (a : Asked) (s : Ops
 begins_ops ls ss me quorum a s some few own none h =
     let now = table.insert ss a.session a.request in
     let t = ops.with_begun me quorum a s in
-    let round = round_keeps ls now me quorum a [] s some few own h.view (begun_last ss a, tt) tt (omega (arith, h.line.round.some)) h.line.round.most in
+    let round = round_keeps ls now me quorum some few own a [] s h.view (begun_last ss a, tt) tt (omega (arith, h.line.round.some)) h.line.round.most in
     let empty : t.line ≡ [] = round_line me quorum (a ∷ []) s ∙ none in
     let alone : ops.unanswered t ≡ a ∷ [] = round_unanswered me quorum (a ∷ []) s ∙ ap (λ (l : List Asked). a ∷ l) none in
     record {
@@ -558,7 +499,7 @@ waits_ops ls ss a s pends may h =
         behind = may_wait s.phase (s.line ++ a ∷ []) pends;
         few = omega (arith, length-append s.line (a ∷ []), may.few);
         apart = subst AreApart (append_assoc (ops.pending s) s.line (a ∷ [])) (apart_last (ops.unanswered s) a h.line.apart may.apart);
-        last = all_behind (IsLastOf now) s.line a (others_last ss a.session a.request s.line none.line h.line.last) (begun_last ss a);
+        last = both_all (IsLastOf now) s.line (a ∷ []) (others_last ss a.session a.request s.line none.line h.line.last) (begun_last ss a, tt);
         round = record {
           some = h.line.round.some;
           most = h.line.round.most;

@@ -11,6 +11,7 @@ pub mod KeptOutputs
 pub mod KnownLaws
 pub mod LawfulLaws
 pub mod LineLaws
+pub mod Lists
 pub mod Named
 pub mod Openings
 pub mod OrderLaws

@@ -8,7 +8,7 @@ use Rattle.std.proofs.Common.{◌≡◌, ℕ, ◌+◌, ◌≤◌, Bool, true, fa
 use Rattle.std.specs.Prelude.{◌↔◌, ◌==◌, ◌&&◌, Option, Some, None, IsTrue, is_some, option_map}
 use Rattle.std.specs.Cmp.{nat_cmp_total}
 use Rattle.std.specs.FinMap as table
-use Rattle.std.proofs.lemmas.Bool.{le-ltb, lt-ltb}
+use Rattle.std.proofs.lemmas.Bool.{false≢true, le-ltb, lt-ltb}
 use Rattle.std.proofs.lemmas.Bool.Decides.{eqb_tells}
 use Rattle.std.proofs.lemmas.List.{append_assoc}
 use Rattle.cc_views.specs.NatSets as set
@@ -48,7 +48,10 @@ module _ (posts : ℕ) (ls : Links) (n : Named) where
   abbrev after_entered : Links
   after_entered = add_all posts n.entered.now after_joined
 
-  pub named_links : (ids : List ℕ) → ids ≡ n.node.now ++ (n.entered.now ++ (n.joined.now ++ (n.left.now ++ nodes_of n.rows.now))) → add_all posts n.node.now after_entered ≡ add_all posts ids ls
+  abbrev named : List ℕ
+  named = n.node.now ++ (n.entered.now ++ (n.joined.now ++ (n.left.now ++ nodes_of n.rows.now)))
+
+  pub named_links : (ids : List ℕ) → ids ≡ named → add_all posts n.node.now after_entered ≡ add_all posts ids ls
   named_links ids is =
       let left = add_all-append posts n.left.now (nodes_of n.rows.now) ls in
       let joined = add_all-append posts n.joined.now (n.left.now ++ nodes_of n.rows.now) ls ∙ ap (add_all posts n.joined.now) left in
@@ -63,7 +66,7 @@ module _ (posts : ℕ) (ls : Links) (n : Named) where
     pub entered : table.len after_entered ≤ 256
     pub node : table.len (add_all posts n.node.now after_entered) ≤ 256
 
-  pub named_room : (ids : List ℕ) → ids ≡ n.node.now ++ (n.entered.now ++ (n.joined.now ++ (n.left.now ++ nodes_of n.rows.now))) → table.len (add_all posts ids ls) ≤ 256 → NamedRoom
+  pub named_room : (ids : List ℕ) → ids ≡ named → table.len (add_all posts ids ls) ≤ 256 → NamedRoom
   named_room ids is h =
       let same = ap table.len (named_links ids is) in
       let a = len_add_all posts n.left.now after_rows in
@@ -96,29 +99,23 @@ marks_then s t u xs ys b d e h k =
       added = λ f. k.added f ∙ sym same;
     }
 
--- what an EnterEcho names, bracketed from the last to the first
-pub echo_ids : (c : ChangeSets) (v : ViewMap) (j : Bool) (q : ℕ)
-    → (q ∷ []) ++ (set.items c.entered ++ (set.items c.joined ++ (set.items c.left ++ table.keys v))) ≡ ids_of (message.EnterEcho c v j q)
-echo_ids c v j q =
-    let e = set.items c.entered in
-    let k = set.items c.joined in
-    let l = set.items c.left in
-    sym (append_assoc (q ∷ e ++ k) l (table.keys v) ∙ append_assoc (q ∷ e) k (l ++ table.keys v))
-
--- and what a snapshot names
-pub snapshot_ids : (c : ChangeSets) (v : ViewMap) → set.items c.entered ++ (set.items c.joined ++ (set.items c.left ++ table.keys v)) ≡ ids_of (message.Snapshot c v)
+-- what a snapshot names, bracketed from the last to the first
+pub snapshot_ids : (c : ChangeSets) (v : ViewMap)
+    → set.items c.entered ++ (set.items c.joined ++ (set.items c.left ++ table.keys v)) ≡ ids_of (message.Snapshot c v)
 snapshot_ids c v =
     let e = set.items c.entered in
     let k = set.items c.joined in
     let l = set.items c.left in
     sym (append_assoc (e ++ k) l (table.keys v) ∙ append_assoc e k (l ++ table.keys v))
 
-not_itself : IsTrue false → ⊥
-not_itself k = cc
+-- and what an EnterEcho names
+pub echo_ids : (c : ChangeSets) (v : ViewMap) (j : Bool) (q : ℕ)
+    → (q ∷ []) ++ (set.items c.entered ++ (set.items c.joined ++ (set.items c.left ++ table.keys v))) ≡ ids_of (message.EnterEcho c v j q)
+echo_ids c v j q = ap (λ qs. q ∷ qs) (snapshot_ids c v)
 
 fits_or_not : (n : ℕ) (b : Bool) → IsTrue b ↔ (n ≤ 256) → not b ≡ nat_lt 256 n
 fits_or_not n true h = let le : n ≤ 256 = h.0 refl in sym (le-ltb 256 n le)
-fits_or_not n false h = let apart : n ≤ 256 → ⊥ = λ k. not_itself (h.1 k) in sym (lt-ltb 256 n (omega (arith, apart)))
+fits_or_not n false h = let apart : n ≤ 256 → ⊥ = λ k. false≢true (h.1 k) in sym (lt-ltb 256 n (omega (arith, apart)))
 
 -- whether the links of the known ids, of the sender and of those that a message names are too many
 pub too_many : (posts from : ℕ) (m : Message) (ls : Links) (b : Bool) (t : NatSet) → Marks set.empty ((from ∷ []) ++ (ids_of m ++ table.keys ls)) b t
@@ -147,5 +144,4 @@ pub one_too_many : (posts q : ℕ) (ls : Links) (o : Option Link) → table.get 
 one_too_many posts q ls (Some l) e few = le-ltb 256 (table.len ls) few
 one_too_many posts q ls None e few =
     let n = table.len ls in
-    let more : table.len (table.insert ls q (new_link posts)) ≡ n + 1 = table.len-insert nat_cmp_total ls q (new_link posts) ∙ ap (λ b. cond b n (n + 1)) (ap is_some e) in
-    ap (nat_lt 256) more ∙ full n few
+    ap (nat_lt 256) (table.len-insert nat_cmp_total ls q (new_link posts) ∙ ap (λ b. cond b n (n + 1)) (ap is_some e)) ∙ full n few

@@ -1,4 +1,6 @@
 -- Ids of an opening: which of them are 0, and how many are known.
+--     zero_listed, zero_first      a 0 among them
+--     links_room, initial_room     that there is room for their links
 use Rattle.std.proofs.Common.{◌≡◌, ℕ, zero, suc, ◌<◌, arith, Bool, true, false, List, [], ◌∷◌, ◌≤◌, nat_eq, sym, ap, ◌∙◌, inl, inr}
 use Rattle.std.specs.List.{Contains}
 use Rattle.std.specs.FinMap as table
@@ -51,7 +53,8 @@ module _ (o : Opening) where
 
   pub links_room : set.len (set.from_list (ids_of o)) ≤ 256 → LinksRoom
   links_room few =
-      let most : table.len (add_all 0 (ids_of o) table.empty) ≤ 256 = omega (arith, len_within (add_all 0 (ids_of o) table.empty) (set.from_list (ids_of o)) (known_listed o), few) in
+      let most : table.len (add_all 0 (ids_of o) table.empty) ≤ 256 =
+      omega (arith, len_within (add_all 0 (ids_of o) table.empty) (set.from_list (ids_of o)) (known_listed o), few) in
       let same = ap table.len opening_links in
       let a = len_add_all 0 o.initial (add_all 0 o.contacts table.empty) in
       let b = len_add_all 0 (o.me ∷ []) (add_all 0 o.initial (add_all 0 o.contacts table.empty)) in

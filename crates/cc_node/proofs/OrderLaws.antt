@@ -1,11 +1,12 @@
 -- Asks begin in the order in which they were accepted; and what is taken where none may wait is taken where some may.
 --     begin_in_order             of each kind what waited and what was accepted is what began and what waits still
+--     busy_same, idle_within     busy is who has an operation pending
 --     taken_within, taken_along  what isn't refused where no ask may wait isn't refused;  the same along a list
---     none_waiting, .._along     and none waits then
+--     none_waiting, .._along     and none waits then;  none_behind: nor where none did
 use Rattle.std.proofs.Common.{◌≡◌, ℕ, zero, suc, inl, inr, Bool, true, false, not, ◌&&◌, ◌||◌, nat_le, List, [], ◌∷◌, ◌++◌, length, refl, sym, ap, ◌∙◌, arith}
 use Rattle.std.specs.Prelude.{Option, Some, None, if◌then◌else◌}
 use Rattle.std.specs.Bool.{then_some}
-use Rattle.std.proofs.lemmas.Bool.{le-leb}
+use Rattle.std.proofs.lemmas.Bool.{le-leb, not-false}
 use Rattle.std.proofs.lemmas.List.{append_assoc, append-nil}
 use Rattle.cc_messages.specs.declared.command.Command.{Command}
 use Rattle.cc_messages.specs.declared.event.Event.{Event}
@@ -21,13 +22,14 @@ use Rattle.cc_ops.specs.Rounds.{of_kind, line_behind}
 use Rattle.cc_ops.specs.RoundLaws.{kind_both, round_kinds}
 use Rattle.cc_ops.specs.Waiting.{line_limit, has_session}
 use Rattle.cc_node.specs.Core.{Core, quorum, asked_of, asks_anew, begun, next}
-use Rattle.cc_node.specs.Refusals.{decides, decides_within, left, not_entered, not_joined, too_many_sessions, repeat, stale, skip, busy, set_full, outbox_full, spent}
+use Rattle.cc_node.specs.Refusals.{decides, decides_within, busy, set_full, outbox_full, spent}
+use Rattle.cc_node.proofs.Deciding.{of_member, of_request}
 use Rattle.cc_node.specs.Node.{Node, step, after, IsLawful, IsLawfulWithin}
 use Rattle.cc_node.specs.Writes.{asked_by, asked_along, begun_along}
 use Rattle.cc_node.specs.Lawful.{IsLawfulCore, IsLawfulNode}
 use Rattle.cc_node.proofs.KnownLaws.{none_waits}
 use Rattle.cc_node.proofs.LawfulLaws.{step_lawful}
-use Rattle.cc_node.proofs.RefusalLaws.{free_within}
+use Rattle.cc_node.proofs.RefusalLaws.{fails, free_within}
 use Rattle.cc_node.proofs.ToldLaws.{anew_line}
 
 -- ---- the order of asks
@@ -38,17 +40,13 @@ parted_kinds k s begun line (inr h) = sym (round_kinds k s.share s.line) ∙ sym
 
 one_in_order : (k : Bool) (c : Core) (e : Event) → IsLawfulCore c → of_kind k (c.ops.line ++ asked_by e) ≡ of_kind k (begun c e ++ (next c e).ops.line)
 unfolding next
-one_in_order k c event.Enter h = ap (of_kind k) (append-nil c.ops.line)
-one_in_order k c event.Leave h = ap (of_kind k) (append-nil c.ops.line)
 one_in_order k c (event.Deliver from n m) h =
     let t = ops.after_message c.me (quorum c) m c.ops in
     ap (of_kind k) (append-nil c.ops.line) ∙ parted_kinds k c.ops (ops.begun_by c.me m c.ops) t.line (message_parts c.me (quorum c) m c.ops)
     ∙ ap (λ (l : List Asked). of_kind k (ops.begun_by c.me m c.ops ++ l)) (sym (anew_line (asks_anew c from n m) _ t))
-one_in_order k c (event.Acked peer n) h = ap (of_kind k) (append-nil c.ops.line)
-one_in_order k c (event.Ask s r command) h = ap (of_kind k) (ask_line c.me (quorum c) (asked_of s r command) c.ops (λ idle. none_waits c.ops.phase c.ops.line idle h.line.behind))
-one_in_order k c (event.Retire q) h = ap (of_kind k) (append-nil c.ops.line)
-one_in_order k c (event.Lapse q) h = ap (of_kind k) (append-nil c.ops.line)
-one_in_order k c event.Snapshot h = ap (of_kind k) (append-nil c.ops.line)
+one_in_order k c (event.Ask s r command) h =
+    ap (of_kind k) (ask_line c.me (quorum c) (asked_of s r command) c.ops (λ idle. none_waits c.ops.phase c.ops.line idle h.line.behind))
+one_in_order k c _ h = ap (of_kind k) (append-nil c.ops.line)
 
 pub begin_in_order : (k : Bool) (n : Node) (es : List Event) → IsLawfulNode n → IsLawful n es
     → of_kind k (n.core.ops.line ++ asked_along es) ≡ of_kind k (begun_along n es ++ (after n es).core.ops.line)
@@ -69,85 +67,67 @@ begin_in_order k n (e ∷ es) h d =
 
 -- ---- where no ask may wait
 
--- more may wait, so it isn't busy
-not_busy : (idle full more there : Bool) → (not idle && (true || more)) ≡ false → (not idle && (full || there)) ≡ false
-not_busy true full more there h = refl
-not_busy false full more there h = cc
-
--- no more may wait than none
-from_none : (n : ℕ) → nat_le 0 n ≡ true
-from_none n = le-leb 0 n (omega arith)
-
-free_more : (c : Core) (s : ℕ) → busy 0 c s ≡ None → busy line_limit c s ≡ None
-free_more c s h = ap (λ b. then_some b refusal.Busy)
-    (not_busy (ops.is_idle c.ops.phase) (nat_le line_limit (length c.ops.line)) (has_session s (ops.unanswered c.ops)) (has_session s (ops.unanswered c.ops))
-    (sym (ap (λ z. not (ops.is_idle c.ops.phase) && (z || has_session s (ops.unanswered c.ops))) (from_none (length c.ops.line))) ∙ none_is _ h))
+-- busy is who has an operation pending
+pub busy_same : (c : Core) (s : ℕ) → busy 0 c s ≡ then_some (not (ops.is_idle c.ops.phase)) refusal.Busy
+busy_same c s =
+    let idle = ops.is_idle c.ops.phase in
+    let there = has_session s (ops.unanswered c.ops) in
+    ap (λ (b : Bool). then_some (not idle && (b || there)) refusal.Busy) (le-leb 0 (length c.ops.line) (omega arith)) ∙ both idle there
   where
-    none_is : (b : Bool) → then_some b refusal.Busy ≡ None → b ≡ false
-    none_is true e = cc
-    none_is false e = refl
+    both : (b there : Bool) → then_some (not b && (true || there)) refusal.Busy ≡ then_some (not b) refusal.Busy
+    both true there = refl
+    both false there = refl
+
+pub idle_within : (c : Core) (s : ℕ) → busy 0 c s ≡ None → ops.is_idle c.ops.phase ≡ true
+idle_within c s h = not-false _ (fails refusal.Busy _ (sym (busy_same c s) ∙ h))
+
+-- who isn't busy then isn't where more may wait
+free_more : (c : Core) (s : ℕ) → busy 0 c s ≡ None → busy line_limit c s ≡ None
+free_more c s h =
+    let waits = nat_le line_limit (length c.ops.line) || has_session s (ops.unanswered c.ops) in
+    ap (λ b. then_some (not b && waits) refusal.Busy) (idle_within c s h)
 
 -- a reason in the middle of a list may be another that doesn't hold
-either_none : (o p : Option Refusal) (rs : List (Option Refusal)) → (o ≡ None → p ≡ None) → first_of (o ∷ rs) ≡ None → first_of (p ∷ rs) ≡ None
-either_none None p rs f h = ap (λ (q : Option Refusal). first_of (q ∷ rs)) (f refl) ∙ h
-either_none (Some r) p rs f h = cc
-
-passes : (o : Option Refusal) (xs ys : List (Option Refusal)) → (first_of xs ≡ None → first_of ys ≡ None) → first_of (o ∷ xs) ≡ None → first_of (o ∷ ys) ≡ None
-passes None xs ys f h = f h
-passes (Some r) xs ys f h = cc
+other_passes : (xs : List (Option Refusal)) (o p : Option Refusal) (rs : List (Option Refusal)) → (o ≡ None → p ≡ None)
+    → first_of (xs ++ o ∷ rs) ≡ None → first_of (xs ++ p ∷ rs) ≡ None
+other_passes [] None p rs f h = ap (λ (q : Option Refusal). first_of (q ∷ rs)) (f refl) ∙ h
+other_passes [] (Some r) p rs f h = cc
+other_passes (None ∷ xs) o p rs f h = other_passes xs o p rs f h
+other_passes (Some r ∷ xs) o p rs f h = cc
 
 pub taken_within : (c : Core) (e : Event) → decides_within 0 c e ≡ None → decides c e ≡ None
 unfolding decides decides_within
-taken_within c event.Enter d = d
-taken_within c event.Leave d = d
-taken_within c (event.Deliver from n m) d = d
-taken_within c (event.Acked peer n) d = d
 taken_within c (event.Ask s r k) d =
     let e = event.Ask s r k in
-    let rest = set_full c k ∷ outbox_full c e ∷ spent c e ∷ [] in
-    passes (left c) _ _ (passes (not_entered c) _ _ (passes (not_joined c) _ _ (passes (too_many_sessions c s) _ _ (passes (repeat c s r) _ _
-    (passes (stale c s r) _ _ (passes (skip c s r) _ _ (either_none (busy 0 c s) (busy line_limit c s) rest (free_more c s)))))))) d
-taken_within c (event.Retire q) d = d
-taken_within c (event.Lapse q) d = d
-taken_within c event.Snapshot d = d
+    other_passes (of_member c ++ of_request c s r) (busy 0 c s) (busy line_limit c s) (set_full c k ∷ outbox_full c e ∷ spent c e ∷ []) (free_more c s) d
+taken_within c _ d = d
 
 pub taken_along : (n : Node) (es : List Event) → IsLawfulWithin 0 n es → IsLawful n es
 taken_along n [] d = tt
 taken_along n (e ∷ es) d = (taken_within n.core e d.0, taken_along (step n e) es d.1)
 
+pub none_behind : (share : ℕ) → line_behind share [] ≡ []
+none_behind zero = refl
+none_behind (suc n) = refl
+
 parted_none : (s : Ops) (begun line : List Asked) → Parts s begun line → s.line ≡ [] → line ≡ []
 parted_none s begun line (inl h) none = h.1 ∙ none
-parted_none s begun line (inr h) none = h.1 ∙ ap (line_behind s.share) none ∙ nothing s.share
-  where
-    nothing : (share : ℕ) → line_behind share [] ≡ []
-    nothing zero = refl
-    nothing (suc n) = refl
+parted_none s begun line (inr h) none = h.1 ∙ ap (line_behind s.share) none ∙ none_behind s.share
 
-none_asked : (c : Core) (s r : ℕ) (k : Command) → c.ops.line ≡ [] → ops.is_idle c.ops.phase ≡ true → (ops.after_ask c.me (quorum c) (asked_of s r k) c.ops).line ≡ []
+none_asked : (c : Core) (s r : ℕ) (k : Command) → c.ops.line ≡ [] → ops.is_idle c.ops.phase ≡ true
+    → (ops.after_ask c.me (quorum c) (asked_of s r k) c.ops).line ≡ []
 none_asked c s r k none idle =
     let a = asked_of s r k in
-    ap (λ b. (if b then ops.with_begun c.me (quorum c) a c.ops else record c.ops { line = c.ops.line ++ a ∷ [] }).line) idle ∙ round_line c.me (quorum c) (a ∷ []) c.ops ∙ none
+    ap (λ b. (if b then ops.with_begun c.me (quorum c) a c.ops else record c.ops { line = c.ops.line ++ a ∷ [] }).line) idle
+    ∙ round_line c.me (quorum c) (a ∷ []) c.ops ∙ none
 
 pub none_waiting : (c : Core) (e : Event) → c.ops.line ≡ [] → decides_within 0 c e ≡ None → (next c e).ops.line ≡ []
 unfolding next
-none_waiting c event.Enter none d = none
-none_waiting c event.Leave none d = none
 none_waiting c (event.Deliver from n m) none d =
     anew_line (asks_anew c from n m) _ (ops.after_message c.me (quorum c) m c.ops)
     ∙ parted_none c.ops (ops.begun_by c.me m c.ops) _ (message_parts c.me (quorum c) m c.ops) none
-none_waiting c (event.Acked peer n) none d = none
-none_waiting c (event.Ask s r k) none d =
-    let there = has_session s (ops.unanswered c.ops) in
-    let idle = ops.is_idle c.ops.phase in
-    none_asked c s r k none (must_idle idle there
-    (sym (ap (λ z. then_some (not idle && (z || there)) refusal.Busy) (from_none (length c.ops.line))) ∙ free_within 0 c s r k d))
-  where
-    must_idle : (idle there : Bool) → then_some (not idle && (true || there)) refusal.Busy ≡ None → idle ≡ true
-    must_idle true there e = refl
-    must_idle false there e = cc
-none_waiting c (event.Retire q) none d = none
-none_waiting c (event.Lapse q) none d = none
-none_waiting c event.Snapshot none d = none
+none_waiting c (event.Ask s r k) none d = none_asked c s r k none (idle_within c s (free_within 0 c s r k d))
+none_waiting c _ none d = none
 
 -- where none may wait, none does
 pub none_waiting_along : (n : Node) (es : List Event) → n.core.ops.line ≡ [] → IsLawfulWithin 0 n es → (after n es).core.ops.line ≡ []

@@ -26,21 +26,22 @@ module _ (ls : Links) (ss : Requests) (p : Pending) (is_known : Bool) (read : Is
   -- a read that stores back what it has seen
   pub stores_back : (phase : Phase) → stage.StoringBack p ≡ stage_of phase → ((seen : ViewMap) → seen_in phase ≡ Some seen → IsTrue is_known ↔ IsWithin seen ls)
       → IsTrue is_known ↔ IsPhaseOf ls ss phase
-  stores_back Idle e known = absurd cc
-  stores_back (Storing q) e known = absurd cc
-  stores_back (Querying q) e known = absurd cc
   stores_back (StoringBack q seen) e known = let same : p ≡ q = cc in second_round q seen same (known seen refl)
+  stores_back _ e known = absurd cc
 
 -- ---- the others of a round
 
-pub all_write : (asks : List Asked) → IsTrue (list_all (λ (a : Asked). is_writing a.command) asks) ↔ AllByRecursion (λ a. is_writing a.command ≡ true) asks
+abbrev pub IsOfKind : Bool → List Asked → Type 0
+IsOfKind kind asks = AllByRecursion (λ a. is_writing a.command ≡ kind) asks
+
+pub all_write : (asks : List Asked) → IsTrue (list_all (λ (a : Asked). is_writing a.command) asks) ↔ IsOfKind true asks
 all_write [] = (λ h. tt, λ h. refl)
 all_write (a ∷ asks) = (
   λ h. let both = and_parts _ _ h in (both.0, (all_write asks).0 both.1),
   λ h. and_from _ _ h.0 ((all_write asks).1 h.1),
 )
 
-pub all_read : (asks : List Asked) → IsTrue (list_all (λ (a : Asked). not (is_writing a.command)) asks) ↔ AllByRecursion (λ a. is_writing a.command ≡ false) asks
+pub all_read : (asks : List Asked) → IsTrue (list_all (λ (a : Asked). not (is_writing a.command)) asks) ↔ IsOfKind false asks
 all_read [] = (λ h. tt, λ h. refl)
 all_read (a ∷ asks) = (
   λ h. let both = and_parts _ _ h in (not-true _ both.0, (all_read asks).0 both.1),
@@ -50,24 +51,19 @@ all_read (a ∷ asks) = (
 module _ (others : List Asked) where
   pub beside_idle : (phase : Phase) → stage.Idle ≡ stage_of phase → (others ≡ []) ↔ IsBeside phase others
   beside_idle Idle e = (λ h. h, λ h. h)
-  beside_idle (Storing q) e = absurd cc
-  beside_idle (Querying q) e = absurd cc
-  beside_idle (StoringBack q seen) e = absurd cc
+  beside_idle _ e = absurd cc
 
-  pub beside_writes : (p : Pending) (phase : Phase) → stage.Storing p ≡ stage_of phase → IsTrue (list_all (λ (a : Asked). is_writing a.command) others) ↔ IsBeside phase others
-  beside_writes p Idle e = absurd cc
+  pub beside_writes : (p : Pending) (phase : Phase) → stage.Storing p ≡ stage_of phase
+      → IsTrue (list_all (λ (a : Asked). is_writing a.command) others) ↔ IsBeside phase others
   beside_writes p (Storing q) e = all_write others
-  beside_writes p (Querying q) e = absurd cc
-  beside_writes p (StoringBack q seen) e = absurd cc
+  beside_writes p _ e = absurd cc
 
-  pub beside_query : (p : Pending) (phase : Phase) → stage.Querying p ≡ stage_of phase → IsTrue (list_all (λ (a : Asked). not (is_writing a.command)) others) ↔ IsBeside phase others
-  beside_query p Idle e = absurd cc
-  beside_query p (Storing q) e = absurd cc
+  pub beside_query : (p : Pending) (phase : Phase) → stage.Querying p ≡ stage_of phase
+      → IsTrue (list_all (λ (a : Asked). not (is_writing a.command)) others) ↔ IsBeside phase others
   beside_query p (Querying q) e = all_read others
-  beside_query p (StoringBack q seen) e = absurd cc
+  beside_query p _ e = absurd cc
 
-  pub beside_seen : (p : Pending) (phase : Phase) → stage.StoringBack p ≡ stage_of phase → IsTrue (list_all (λ (a : Asked). not (is_writing a.command)) others) ↔ IsBeside phase others
-  beside_seen p Idle e = absurd cc
-  beside_seen p (Storing q) e = absurd cc
-  beside_seen p (Querying q) e = absurd cc
+  pub beside_seen : (p : Pending) (phase : Phase) → stage.StoringBack p ≡ stage_of phase
+      → IsTrue (list_all (λ (a : Asked). not (is_writing a.command)) others) ↔ IsBeside phase others
   beside_seen p (StoringBack q seen) e = all_read others
+  beside_seen p _ e = absurd cc

@@ -28,7 +28,7 @@ use Rattle.cc_sessions.specs.Sessions as requests
 use Rattle.cc_sessions.specs.Sessions.{last_request, is_stale, is_skip}
 use Rattle.cc_node.specs.Core.{Core, next, post, lowest, ids_of, with_links}
 use Rattle.cc_outbox.specs.Outbox.{post_limit}
-use Rattle.cc_node.specs.Refusals.{left, already_entered, not_entered, busy, outbox_full, spent, any_overruns, row_overruns, reasons, decides, decides_within}
+use Rattle.cc_node.specs.Refusals.{busy, outbox_full, spent, any_overruns, row_overruns, reasons, decides, decides_within}
 
 all_none : (rs : List (Option Refusal)) → first_of rs ≡ None → AllByRecursion (λ r. r ≡ None) rs
 all_none [] h = tt
@@ -36,7 +36,7 @@ all_none (None ∷ rs) h = (refl, all_none rs h)
 all_none (Some r ∷ rs) h = cc
 
 -- a reason that doesn't hold
-fails : (r : Refusal) (b : Bool) → then_some b r ≡ None → b ≡ false
+pub fails : (r : Refusal) (b : Bool) → then_some b r ≡ None → b ≡ false
 fails r true h = cc
 fails r false h = refl
 
@@ -72,19 +72,9 @@ pub record TakesLapse (c : Core) (q : ℕ) : Type 0 where
   pub awaited : (has_left q c.churn || not (option_map_or (awaits_any c.posts) (table.get c.links q) false)) ≡ false
   pub fits : Fits c (event.Lapse q)
 
--- where none of two reasons, of a full outbox and of a spent counter holds
-fits_after : (c : Core) (e : Event) (a b : Option Refusal) → first_of (a ∷ b ∷ outbox_full c e ∷ spent c e ∷ []) ≡ None → Fits c e
-fits_after c e a b h =
-    let all = (all_none (a ∷ b ∷ outbox_full c e ∷ spent c e ∷ []) h).1.1 in
-    record { posts = fails refusal.OutboxFull _ all.0; counts = fails refusal.Spent _ all.1.0 }
-
-pub takes_enter : (c : Core) → decides c event.Enter ≡ None → Fits c event.Enter
-unfolding decides decides_within
-takes_enter c h = fits_after c event.Enter (left c) (already_entered c) h
-
-pub takes_leave : (c : Core) → decides c event.Leave ≡ None → Fits c event.Leave
-unfolding decides decides_within
-takes_leave c h = fits_after c event.Leave (left c) (not_entered c) h
+-- where neither a full outbox nor a spent counter is a reason
+fits_last : (c : Core) (e : Event) → AllByRecursion (λ r. r ≡ None) (outbox_full c e ∷ spent c e ∷ []) → Fits c e
+fits_last c e all = record { posts = fails refusal.OutboxFull _ all.0; counts = fails refusal.Spent _ all.1.0 }
 
 pub takes_delivery : (c : Core) (from n : ℕ) (m : Message) → decides c (event.Deliver from n m) ≡ None → TakesDelivery c from n m
 unfolding decides decides_within
@@ -95,14 +85,13 @@ takes_delivery c from n m h =
       new = fails (refusal.Old (heard_from from c.links)) _ all.0;
       next = fails (refusal.Gap (heard_from from c.links)) _ all.1.0;
       nodes = fails refusal.TooManyNodes _ all.1.1.0;
-      fits = record { posts = fails refusal.OutboxFull _ all.1.1.1.0; counts = fails refusal.Spent _ all.1.1.1.1.0 };
+      fits = fits_last c e all.1.1.1;
     }
 
 pub takes_ack : (c : Core) (peer n : ℕ) → decides c (event.Acked peer n) ≡ None → TakesAck c peer n
 unfolding decides decides_within
 takes_ack c peer n h =
-    let e = event.Acked peer n in
-    let all = all_none (reasons line_limit c e) h in
+    let all = all_none (reasons line_limit c (event.Acked peer n)) h in
     record { awaited = fails refusal.NothingToAck _ all.0; fits = record { posts = refl; counts = fails refusal.Spent _ all.1.0 } }
 
 pub takes_ask : (c : Core) (s r : ℕ) (command : Command) → decides c (event.Ask s r command) ≡ None → TakesAsk c s r command
@@ -118,7 +107,7 @@ takes_ask c s r command h =
       next = fails (refusal.Skip (last_request c.sessions s)) _ rest.1.0;
       free = fails refusal.Busy _ rest.1.1.0;
       room = fails refusal.SetFull _ rest.1.1.1.0;
-      fits = record { posts = fails refusal.OutboxFull _ rest.1.1.1.1.0; counts = fails refusal.Spent _ rest.1.1.1.1.1.0 };
+      fits = fits_last c e rest.1.1.1.1;
     }
 
 -- where no more than so many asks may wait, the node isn't busy
@@ -138,21 +127,16 @@ takes_lapse c q h =
     let all = (all_none (reasons line_limit c (event.Lapse q)) h).1.1.1 in
     record { awaited = fails refusal.NothingToAck _ all.0; fits = record { posts = refl; counts = fails refusal.Spent _ all.1.0 } }
 
-pub takes_snapshot : (c : Core) → decides c event.Snapshot ≡ None → Fits c event.Snapshot
-unfolding decides decides_within
-takes_snapshot c h =
-    let all = (all_none (reasons line_limit c event.Snapshot) h).1.1.1 in
-    record { posts = fails refusal.OutboxFull _ all.0; counts = fails refusal.Spent _ all.1.0 }
-
 pub takes_any : (c : Core) (e : Event) → decides c e ≡ None → Fits c e
-takes_any c event.Enter h = takes_enter c h
-takes_any c event.Leave h = takes_leave c h
+unfolding decides decides_within
+takes_any c event.Enter h = fits_last c event.Enter (all_none (reasons line_limit c event.Enter) h).1.1
+takes_any c event.Leave h = fits_last c event.Leave (all_none (reasons line_limit c event.Leave) h).1.1
 takes_any c (event.Deliver from n m) h = (takes_delivery c from n m h).fits
 takes_any c (event.Acked peer n) h = (takes_ack c peer n h).fits
 takes_any c (event.Ask s r command) h = (takes_ask c s r command h).fits
 takes_any c (event.Retire q) h = (takes_retire c q h).fits
 takes_any c (event.Lapse q) h = (takes_lapse c q h).fits
-takes_any c event.Snapshot h = takes_snapshot c h
+takes_any c event.Snapshot h = fits_last c event.Snapshot (all_none (reasons line_limit c event.Snapshot) h).1.1.1
 
 -- a counter that may not pass its limit
 pub stays_within : (limit before after : ℕ) → ((before == limit) && nat_lt before after) ≡ false → before ≤ limit → after ≤ before + 1 → after ≤ limit

@@ -11,6 +11,7 @@ use Rattle.std.specs.Ordering.{nat_cmp}
 use Rattle.std.specs.FinMap as table
 use Rattle.std.specs.FinMap.{FinMap}
 use Rattle.std.proofs.lemmas.Bool.{and_parts, and_from, eqb-true, eq-eqb, leb-true, le-leb, ltb-true, lt-ltb, not-true, not_from_false}
+use Rattle.std.proofs.lemmas.Option.{same_Some, IfSome_then}
 use Rattle.cc_views.specs.Limits.{counter_limit}
 use Rattle.cc_views.specs.MapLaws.{all_entries, each_entry}
 use Rattle.cc_views.specs.NatSets as set
@@ -52,7 +53,8 @@ entries_pass p m = (
   λ h q. subst (λ o. IfSome o (λ x. IsTrue (p q x))) (sym (table.get-entries m q))
       (each_entry (λ k x. IsTrue (p k x)) (table.entries m) (all_passed (λ e. p e.0 e.1) (table.entries m) h) q),
   λ h. all_pass (λ e. p e.0 e.1) (table.entries m)
-      (all_entries (λ k x. IsTrue (p k x)) (table.entries m) (table.entries_sorted m) (λ q. subst (λ o. IfSome o (λ x. IsTrue (p q x))) (table.get-entries m q) (h q))),
+      (all_entries (λ k x. IsTrue (p k x)) (table.entries m) (table.entries_sorted m)
+      (λ q. subst (λ o. IfSome o (λ x. IsTrue (p q x))) (table.get-entries m q) (h q))),
 )
 
 -- ---- keys that are keys of another table
@@ -73,13 +75,15 @@ keys_within m n =
     )
 
 -- a test of rows is a test of the entries that they are of
-rows_tested : {E R : Type 0} (p : R → Bool) (row : E → R) (es : List E) (P : Type 0) → IsTrue (list_all (λ e. p (row e)) es) ↔ P → IsTrue (list_all p (map row es)) ↔ P
+rows_tested : {E R : Type 0} (p : R → Bool) (row : E → R) (es : List E) (P : Type 0) → IsTrue (list_all (λ e. p (row e)) es) ↔ P
+    → IsTrue (list_all p (map row es)) ↔ P
 rows_tested p row es P h = (λ k. h.0 (sym (list_all-map p row es) ∙ k), λ k. list_all-map p row es ∙ h.1 k)
 
 pub ids_within : {Y : Type 0} (s : NatSet) (n : FinMap nat_cmp Y) → IsTrue (list_all (λ q. table.contains_key n q) (set.items s)) ↔ IsWithin s n
 ids_within s n = rows_tested (λ q. table.contains_key n q) (λ (e : ℕ × Unit {0}). e.0) (table.entries s) (IsWithin s n) (keys_within s n)
 
-pub view_within : {Y : Type 0} (v : ViewMap) (n : FinMap nat_cmp Y) → IsTrue (list_all (λ (row : Row). table.contains_key n row.node) (views.rows_of v)) ↔ IsWithin v n
+pub view_within : {Y : Type 0} (v : ViewMap) (n : FinMap nat_cmp Y)
+    → IsTrue (list_all (λ (row : Row). table.contains_key n row.node) (views.rows_of v)) ↔ IsWithin v n
 view_within v n = rows_tested (λ (row : Row). table.contains_key n row.node) views.row_of (table.entries v) (IsWithin v n) (keys_within v n)
 
 -- ---- bounds
@@ -99,24 +103,21 @@ request_passes n h = let a = and_parts _ _ h in (ltb-true 0 n a.0, leb-true n co
 request_passed : (n : ℕ) → (0 < n) × (n ≤ counter_limit) → IsTrue (is_request_within n)
 request_passed n h = and_from _ _ (lt-ltb 0 n h.0) (le-leb n counter_limit h.1)
 
-if_some_more : {X : Type 0} (o : Option X) (P Q : X → Type 0) → ((x : X) → P x → Q x) → IfSome o P → IfSome o Q
-if_some_more None P Q f h = tt
-if_some_more (Some x) P Q f h = f x h
-
-pub links_pass : (posts : ℕ) (ls : Links) → IsTrue (list_all (λ (row : LinkRow). is_link_within posts (link_of row)) (links.rows_of ls)) ↔ LinksWithin posts ls
+pub links_pass : (posts : ℕ) (ls : Links)
+    → IsTrue (list_all (λ (row : LinkRow). is_link_within posts (link_of row)) (links.rows_of ls)) ↔ LinksWithin posts ls
 links_pass posts ls =
     let pass = entries_pass (λ q l. is_link_within posts l) ls in
     rows_tested (λ (row : LinkRow). is_link_within posts (link_of row)) links.row_of (table.entries ls) (LinksWithin posts ls) (
-      λ h q. if_some_more (table.get ls q) (λ l. IsTrue (is_link_within posts l)) (IsLinkWithin posts) (link_passes posts) (pass.0 h q),
-      λ h. pass.1 (λ q. if_some_more (table.get ls q) (IsLinkWithin posts) (λ l. IsTrue (is_link_within posts l)) (link_passed posts) (h q)),
+      λ h q. IfSome_then (table.get ls q) {P = λ l. IsTrue (is_link_within posts l)} (pass.0 h q) (link_passes posts),
+      λ h. pass.1 (λ q. IfSome_then (table.get ls q) {P = IsLinkWithin posts} (h q) (link_passed posts)),
     )
 
 pub sessions_pass : (ss : Requests) → IsTrue (list_all (λ (row : SessionRow). is_request_within row.last) (sessions.rows_of ss)) ↔ SessionsWithin ss
 sessions_pass ss =
     let pass = entries_pass (λ q last. is_request_within last) ss in
     rows_tested (λ (row : SessionRow). is_request_within row.last) sessions.row_of (table.entries ss) (SessionsWithin ss) (
-      λ h s. if_some_more (table.get ss s) (λ last. IsTrue (is_request_within last)) (λ last. (0 < last) × (last ≤ counter_limit)) request_passes (pass.0 h s),
-      λ h. pass.1 (λ s. if_some_more (table.get ss s) (λ last. (0 < last) × (last ≤ counter_limit)) (λ last. IsTrue (is_request_within last)) request_passed (h s)),
+      λ h s. IfSome_then (table.get ss s) {P = λ last. IsTrue (is_request_within last)} (pass.0 h s) request_passes,
+      λ h. pass.1 (λ s. IfSome_then (table.get ss s) {P = λ last. (0 < last) × (last ≤ counter_limit)} (h s) request_passed),
     )
 
 -- ---- kept answers, and asks that wait
@@ -130,16 +131,16 @@ pub answers_finished : (o : Outbox) (ss : Requests) (asks : List Asked)
 answers_finished o ss asks =
     let pass = entries_pass (λ q _. is_finished ss asks q) o.answers in
     rows_tested (λ (row : KeptAnswer). is_finished ss asks row.session) kept.row_of (table.entries o.answers) (KeepsAnswers ss asks o.answers) (
-      λ h q there. let both = and_parts _ _ (at_some (table.get o.answers q) (IsTrue (is_finished ss asks q)) (pass.0 h q) there) in (both.0, not-true _ both.1),
-      λ h. pass.1 (λ q. if_some (table.get o.answers q) (IsTrue (is_finished ss asks q)) (λ there. and_from _ _ (h q there).0 (not_from_false _ (h q there).1))),
+      λ h q there.
+          let both = and_parts _ _ (at_some (table.get o.answers q) (IsTrue (is_finished ss asks q)) (pass.0 h q) there) in
+          (both.0, not-true _ both.1),
+      λ h. pass.1 (λ q. if_some (table.get o.answers q) (IsTrue (is_finished ss asks q))
+          (λ there. and_from _ _ (h q there).0 (not_from_false _ (h q there).1))),
     )
 
 last_passes : (o : Option ℕ) (r : ℕ) → IsTrue (option_map_or (λ last. last == r) o false) ↔ (o ≡ Some r)
 last_passes None r = (λ h. cc, λ h. cc)
-last_passes (Some last) r = (λ h. ap (λ (n : ℕ). Some n) (eqb-true last r h), λ h. eq-eqb last r (same_last last r h))
-  where
-    same_last : (x y : ℕ) → Some x ≡ Some y → x ≡ y
-    same_last x y e = cc
+last_passes (Some last) r = (λ h. ap (λ (n : ℕ). Some n) (eqb-true last r h), λ h. eq-eqb last r (same_Some last r h))
 
 pub asks_pass : (ss : Requests) (asks : List Asked) → IsTrue (list_all (is_last_of ss) asks) ↔ AllByRecursion (IsLastOf ss) asks
 asks_pass ss [] = (λ h. tt, λ h. refl)

@@ -12,7 +12,7 @@ use Rattle.cc_ops.specs.declared.pending.Asked.{Asked}
 use Rattle.cc_ops.specs.declared.pending.Reply.{Reply}
 use Rattle.cc_ops.specs.Commands.{is_writing}
 use Rattle.cc_ops.specs.Ops as ops
-use Rattle.cc_ops.specs.Ops.{Ops, Phase, Idle, Storing, Querying, StoringBack}
+use Rattle.cc_ops.specs.Ops.{Ops, Phase, Idle, Storing, Querying}
 use Rattle.cc_ops.specs.OwnLaws.{Parts, AreAnswered, AnswersRound, EndsRound, round_line, message_parts, message_share, message_answers, message_ends, ask_line}
 use Rattle.cc_ops.specs.Rounds.{first_round, line_behind, IsAt, ComesOn}
 use Rattle.cc_ops.specs.RoundLaws.{one_round, first_few, round_fair, at_more}
@@ -31,16 +31,11 @@ parted_begun s begun line (inl h) = omega (arith, ap length h.0)
 parted_begun s begun line (inr h) = omega (arith, ap length h.0, first_few s.share s.line)
 
 pub begun_few : (c : Core) (e : Event) → 1 ≤ c.ops.share → length (begun c e) ≤ c.ops.share
-begun_few c event.Enter some = omega arith
-begun_few c event.Leave some = omega arith
 begun_few c (event.Deliver from n m) some =
     parted_begun c.ops (ops.begun_by c.me m c.ops) (ops.after_message c.me (quorum c) m c.ops).line (message_parts c.me (quorum c) m c.ops)
-begun_few c (event.Acked peer n) some = omega arith
 begun_few c (event.Ask s r k) some =
     cond_both (ops.is_idle c.ops.phase) (asked_of s r k ∷ []) [] (λ (l : List Asked). length l ≤ c.ops.share) (λ _. omega (arith, some)) (λ _. omega arith)
-begun_few c (event.Retire q) some = omega arith
-begun_few c (event.Lapse q) some = omega arith
-begun_few c event.Snapshot some = omega arith
+begun_few c _ some = omega arith
 
 answered_count : (asks : List Asked) (rs : List Reply) → AreAnswered asks rs → length rs ≡ length asks
 answered_count [] [] h = refl
@@ -50,9 +45,7 @@ answered_count (a ∷ asks) (r ∷ rs) h = let rest = answered_count asks rs h.2
 
 one_first : (phase : Phase) → length (ops.asked_in phase) ≤ 1
 one_first Idle = omega arith
-one_first (Storing p) = omega arith
-one_first (Querying p) = omega arith
-one_first (StoringBack p seen) = omega arith
+one_first _ = omega arith
 
 round_few : (s t : Ops) (rs : List Reply) → AnswersRound s t rs → length s.others < s.share → length rs ≤ s.share
 round_few s t rs (inl h) few = omega (arith, ap length h.0)
@@ -60,15 +53,9 @@ round_few s t rs (inr h) few =
     omega (arith, answered_count (ops.pending s) rs h.0, length-append (ops.asked_in s.phase) s.others, one_first s.phase, few)
 
 pub replies_few : (c : Core) (e : Event) → length c.ops.others < c.ops.share → length (replies c e) ≤ c.ops.share
-replies_few c event.Enter few = omega arith
-replies_few c event.Leave few = omega arith
 replies_few c (event.Deliver from n m) few =
     round_few c.ops (ops.after_message c.me (quorum c) m c.ops) (ops.replies_of c.me m c.ops) (message_answers c.me (quorum c) m c.ops) few
-replies_few c (event.Acked peer n) few = omega arith
-replies_few c (event.Ask s r k) few = omega arith
-replies_few c (event.Retire q) few = omega arith
-replies_few c (event.Lapse q) few = omega arith
-replies_few c event.Snapshot few = omega arith
+replies_few c _ few = omega arith
 
 -- ---- the share stays
 
@@ -82,18 +69,13 @@ begun_share me quorum a s =
 
 pub share_stays : (c : Core) (e : Event) → (next c e).ops.share ≡ c.ops.share
 unfolding next
-share_stays c event.Enter = refl
-share_stays c event.Leave = refl
 share_stays c (event.Deliver from n m) =
     anew_share (asks_anew c from n m) _ (ops.after_message c.me (quorum c) m c.ops) ∙ message_share c.me (quorum c) m c.ops
-share_stays c (event.Acked peer n) = refl
 share_stays c (event.Ask s r k) =
     let a = asked_of s r k in
-    cond_both (ops.is_idle c.ops.phase) (ops.with_begun c.me (quorum c) a c.ops) (record c.ops { line = c.ops.line ++ a ∷ [] }) (λ (t : Ops). t.share ≡ c.ops.share)
-    (λ _. begun_share c.me (quorum c) a c.ops) (λ _. refl)
-share_stays c (event.Retire q) = refl
-share_stays c (event.Lapse q) = refl
-share_stays c event.Snapshot = refl
+    cond_both (ops.is_idle c.ops.phase) (ops.with_begun c.me (quorum c) a c.ops) (record c.ops { line = c.ops.line ++ a ∷ [] })
+    (λ (t : Ops). t.share ≡ c.ops.share) (λ _. begun_share c.me (quorum c) a c.ops) (λ _. refl)
+share_stays c _ = refl
 
 pub share_along : (n : Node) (es : List Event) → (after n es).core.ops.share ≡ n.core.ops.share
 unfolding step
@@ -109,19 +91,15 @@ parted_line s begun line one (inr h) =
 
 one_in_line : (c : Core) (e : Event) → c.ops.share ≡ 1 → IsLawfulCore c → c.ops.line ++ asked_by e ≡ begun c e ++ (next c e).ops.line
 unfolding next
-one_in_line c event.Enter one h = append-nil c.ops.line
-one_in_line c event.Leave one h = append-nil c.ops.line
 one_in_line c (event.Deliver from n m) one h =
     let t = ops.after_message c.me (quorum c) m c.ops in
     append-nil c.ops.line ∙ parted_line c.ops (ops.begun_by c.me m c.ops) t.line one (message_parts c.me (quorum c) m c.ops)
     ∙ ap (λ (l : List Asked). ops.begun_by c.me m c.ops ++ l) (sym (anew_line (asks_anew c from n m) _ t))
-one_in_line c (event.Acked peer n) one h = append-nil c.ops.line
 one_in_line c (event.Ask s r k) one h = ask_line c.me (quorum c) (asked_of s r k) c.ops (λ idle. none_waits c.ops.phase c.ops.line idle h.line.behind)
-one_in_line c (event.Retire q) one h = append-nil c.ops.line
-one_in_line c (event.Lapse q) one h = append-nil c.ops.line
-one_in_line c event.Snapshot one h = append-nil c.ops.line
+one_in_line c _ one h = append-nil c.ops.line
 
-pub one_by_one : (n : Node) (es : List Event) → n.core.ops.share ≡ 1 → IsLawfulNode n → IsLawful n es → n.core.ops.line ++ asked_along es ≡ begun_along n es ++ (after n es).core.ops.line
+pub one_by_one : (n : Node) (es : List Event) → n.core.ops.share ≡ 1 → IsLawfulNode n → IsLawful n es
+    → n.core.ops.line ++ asked_along es ≡ begun_along n es ++ (after n es).core.ops.line
 unfolding step
 one_by_one n [] one h d = append-nil n.core.ops.line
 one_by_one n (e ∷ es) one h d =
@@ -135,25 +113,21 @@ one_by_one n (e ∷ es) one h d =
 
 -- ---- an ask that waits comes on
 
-ended_on : (s : Ops) (rs : List Reply) (begun line : List Asked) (n : ℕ) (a : Asked) → 1 ≤ s.share → IsAt n a s.line → (rs ≡ [] → ⊥) → EndsRound s rs begun line → ComesOn n a begun line
+ended_on : (s : Ops) (rs : List Reply) (begun line : List Asked) (n : ℕ) (a : Asked) → 1 ≤ s.share → IsAt n a s.line → (rs ≡ [] → ⊥)
+    → EndsRound s rs begun line → ComesOn n a begun line
 ended_on s rs begun line n a some there told (inl h) = absurd (told h.0)
 ended_on s rs begun line n a some there told (inr h) =
     subst (λ (l : List Asked). ComesOn n a begun l) (sym h.2)
     (subst (λ (l : List Asked). ComesOn n a l (line_behind s.share s.line)) (sym h.1) (round_fair s.share s.line n a some there))
 
-pub comes_on : (c : Core) (e : Event) (n : ℕ) (a : Asked) → 1 ≤ c.ops.share → IsAt n a c.ops.line → (replies c e ≡ [] → ⊥) → ComesOn n a (begun c e) (next c e).ops.line
+pub comes_on : (c : Core) (e : Event) (n : ℕ) (a : Asked) → 1 ≤ c.ops.share → IsAt n a c.ops.line → (replies c e ≡ [] → ⊥)
+    → ComesOn n a (begun c e) (next c e).ops.line
 unfolding next
-comes_on c event.Enter n a some there told = absurd (told refl)
-comes_on c event.Leave n a some there told = absurd (told refl)
 comes_on c (event.Deliver from k m) n a some there told =
     let t = ops.after_message c.me (quorum c) m c.ops in
     subst (λ (l : List Asked). ComesOn n a (ops.begun_by c.me m c.ops) l) (sym (anew_line (asks_anew c from k m) _ t))
     (ended_on c.ops (ops.replies_of c.me m c.ops) (ops.begun_by c.me m c.ops) t.line n a some there told (message_ends c.me (quorum c) m c.ops))
-comes_on c (event.Acked peer k) n a some there told = absurd (told refl)
-comes_on c (event.Ask s r k) n a some there told = absurd (told refl)
-comes_on c (event.Retire q) n a some there told = absurd (told refl)
-comes_on c (event.Lapse q) n a some there told = absurd (told refl)
-comes_on c event.Snapshot n a some there told = absurd (told refl)
+comes_on c _ n a some there told = absurd (told refl)
 
 waits_on : (s : Ops) (rs : List Reply) (begun line : List Asked) (n : ℕ) (a : Asked) → IsAt n a s.line → rs ≡ [] → EndsRound s rs begun line → IsAt n a line
 waits_on s rs begun line n a there none (inl h) = subst (IsAt n a) (sym h.1) there
@@ -161,17 +135,12 @@ waits_on s rs begun line n a there none (inr h) = absurd (h.0 none)
 
 pub stays_there : (c : Core) (e : Event) (n : ℕ) (a : Asked) → IsAt n a c.ops.line → replies c e ≡ [] → IsAt n a (next c e).ops.line
 unfolding next
-stays_there c event.Enter n a there none = there
-stays_there c event.Leave n a there none = there
 stays_there c (event.Deliver from k m) n a there none =
     let t = ops.after_message c.me (quorum c) m c.ops in
     subst (IsAt n a) (sym (anew_line (asks_anew c from k m) _ t))
     (waits_on c.ops (ops.replies_of c.me m c.ops) (ops.begun_by c.me m c.ops) t.line n a there none (message_ends c.me (quorum c) m c.ops))
-stays_there c (event.Acked peer k) n a there none = there
 stays_there c (event.Ask s r k) n a there none =
     let x = asked_of s r k in
     cond_both (ops.is_idle c.ops.phase) (ops.with_begun c.me (quorum c) x c.ops) (record c.ops { line = c.ops.line ++ x ∷ [] }) (λ (t : Ops). IsAt n a t.line)
     (λ _. subst (IsAt n a) (sym (round_line c.me (quorum c) (x ∷ []) c.ops)) there) (λ _. at_more c.ops.line (x ∷ []) n a there)
-stays_there c (event.Retire q) n a there none = there
-stays_there c (event.Lapse q) n a there none = there
-stays_there c event.Snapshot n a there none = there
+stays_there c _ n a there none = there

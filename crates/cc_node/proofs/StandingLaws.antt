@@ -1,20 +1,22 @@
 -- What a node may put out again stood at the start, or was made since.
---     standing_made
+--     step_send, step_ack, step_reply, standing_made
 --     posts_keep, last_forget     an answer is no post, and to forget one makes none
 --     get-above                   the posts above a number
-use Rattle.std.proofs.Common.{◌≡◌, ℕ, ◌+◌, ◌-◌, ◌<◌, ◌≤◌, ◌⊎◌, Bool, true, false, cond, not, nat_eq, nat_lt, List, [], ◌∷◌, ◌++◌, refl, sym, ap, subst, ◌∙◌, inl, inr, arith}
+use Rattle.std.proofs.Common.{◌≡◌, ℕ, ◌+◌, ◌-◌, ◌<◌, ◌≤◌, ◌⊎◌, Bool, true, false, cond, not, nat_eq, nat_lt, List, [], ◌∷◌, ◌++◌, refl, sym, ap}
+use Rattle.std.proofs.Common.{subst, ◌∙◌, inl, inr, arith}
 use Rattle.std.specs.Prelude.{Option, Some, None, is_some}
-use Rattle.std.specs.Option.{option_len, option_map_or}
+use Rattle.std.specs.Option.{option_len}
 use Rattle.std.specs.List.{Contains, AllByRecursion}
 use Rattle.std.specs.Ordering.{nat_cmp}
 use Rattle.std.specs.Cmp.{nat_cmp_total, unsigned_tied}
 use Rattle.std.specs.FinMap as table
 use Rattle.std.specs.FinMap.{FinMap, find, nat_cmp-IsAntisymmetric}
-use Rattle.std.proofs.lemmas.Bool.{eqb-true}
+use Rattle.std.proofs.lemmas.Bool.{cond-true, cond-false}
 use Rattle.std.proofs.lemmas.Bool.Decides.{eqb_tells}
-use Rattle.std.proofs.lemmas.List.Elements.{Contains-append_left, Contains-append_right}
+use Rattle.std.proofs.lemmas.Option.{same_Some}
+use Rattle.std.proofs.lemmas.List.Elements.{recursion_from_All, All-contains_itself, Contains-append_left, Contains-append_right}
 use Rattle.cc_views.specs.NatSets as set
-use Rattle.cc_views.specs.NatSets.{get-insert_key}
+use Rattle.cc_views.specs.MapLaws.{each_entry}
 use Rattle.cc_messages.specs.declared.answer.Answer.{Answer}
 use Rattle.cc_messages.specs.declared.event.Event.{Event}
 use Rattle.cc_messages.specs.declared.event.Event.TheVariants as event
@@ -37,30 +39,21 @@ use Rattle.cc_node.specs.Refusals.{decides}
 use Rattle.cc_node.specs.Node.{Node, step, after, line, keep, add, forget_asked, HasOutput, MayBeOut, IsLawful}
 use Rattle.cc_node.specs.Lawful.{IsLastOf, IsLawfulCore, IsLawfulNode}
 use Rattle.cc_node.proofs.KnownLaws.{all_last}
-use Rattle.cc_node.proofs.KeptLaws.{same_some, posts_forget, answers_add}
-use Rattle.cc_node.proofs.LawfulLaws.{links_go_on, left_grows, add_all_heard, hears_now, step_lawful}
+use Rattle.cc_node.proofs.KeptLaws.{posts_forget, answers_add}
+use Rattle.cc_node.proofs.Lists.{all_unmapped, if_at, inserted_here, inserted_beside}
+use Rattle.cc_node.proofs.LawfulLaws.{heard_at, same_heard, links_go_on, left_grows, add_all_heard, hears_now, step_lawful}
 
 contains_head : {X : Type 0} (x : X) (xs : List X) → Contains (x ∷ xs) x
-contains_head x xs = Contains-append_left (x ∷ []) xs x (0, omega arith, refl)
-
-contains_tail : {X : Type 0} (x y : X) (xs : List X) → Contains xs y → Contains (x ∷ xs) y
-contains_tail x y xs h = Contains-append_right (x ∷ []) xs y h
+contains_head x xs = (0, omega arith, refl)
 
 -- ---- posts
 
-sends_contain : (n : ℕ) (m : Message) (rows : List (ℕ × Link)) (q : ℕ) (l : Link) → find nat_cmp q rows ≡ Some l → Contains (sends n m rows) (output.Send q (n - l.start) m)
-sends_contain n m [] q l e = cc
-sends_contain n m (row ∷ rows) q l e =
-    elim (nat_eq q row.0) as (λ b. nat_eq q row.0 ≡ b → Contains (sends n m (row ∷ rows)) (output.Send q (n - l.start) m)) [
-      | true ↦ λ t.
-          let found : Some row.1 ≡ Some l = ap (λ b. cond b (Some row.1) (find nat_cmp q rows)) (sym (unsigned_tied q row.0 ∙ t)) ∙ e in
-          let here : output.Send row.0 (n - row.1.start) m ≡ output.Send q (n - l.start) m =
-          ap (λ k. output.Send k (n - row.1.start) m) (sym (eqb-true q row.0 t)) ∙ ap (λ (k : Link). output.Send q (n - k.start) m) (same_some row.1 l found) in
-          subst (Contains (sends n m (row ∷ rows))) here (contains_head (output.Send row.0 (n - row.1.start) m) (sends n m rows))
-      | false ↦ λ t.
-          contains_tail (output.Send row.0 (n - row.1.start) m) (output.Send q (n - l.start) m) (sends n m rows)
-          (sends_contain n m rows q l (ap (λ b. cond b (Some row.1) (find nat_cmp q rows)) (sym (unsigned_tied q row.0 ∙ t)) ∙ e))
-    ] refl
+sends_contain : (n : ℕ) (m : Message) (rows : List (ℕ × Link)) (q : ℕ) (l : Link) → find nat_cmp q rows ≡ Some l
+    → Contains (sends n m rows) (output.Send q (n - l.start) m)
+sends_contain n m rows q l e =
+    let Q : ℕ → Link → Type 0 = λ p k. Contains (sends n m rows) (output.Send p (n - k.start) m) in
+    let each = all_unmapped (Contains (sends n m rows)) _ rows (recursion_from_All _ (sends n m rows) (All-contains_itself (sends n m rows))) in
+    if_at (Q q) (find nat_cmp q rows) l e (each_entry Q rows each q)
 
 only_some : {X : Type 0} (b : Bool) (o : Option X) (x : X) → cond b o None ≡ Some x → o ≡ Some x
 only_some true o x e = e
@@ -72,27 +65,22 @@ posts_keep (r ∷ rs) o = posts_keep rs (kept.keep r.session r.answer o)
 
 pub last_forget : (e : Event) (o : Outbox) → (forget_asked e o).last ≡ o.last
 last_forget event.Enter o = refl
-last_forget event.Leave o = refl
-last_forget (event.Deliver from n m) o = refl
-last_forget (event.Acked peer n) o = refl
-last_forget (event.Ask s r command) o = refl
-last_forget (event.Retire q) o = refl
-last_forget (event.Lapse q) o = refl
-last_forget event.Snapshot o = refl
+last_forget _ o = refl
 
 kept_or_new : (p : Option Message) (o : Outbox) (number : ℕ) (m : Message) → table.get (add p o).posts number ≡ Some m
     → (table.get o.posts number ≡ Some m) ⊎ ((number ≡ o.last + 1) × (p ≡ Some m))
 kept_or_new None o number m e = inl e
 kept_or_new (Some x) o number m e =
-    let k = o.last + 1 in
-    elim (nat_eq number k) as (λ b. nat_eq number k ≡ b → (table.get o.posts number ≡ Some m) ⊎ ((number ≡ k) × (Some x ≡ Some m))) [
-      | true ↦ λ t. inr (eqb-true number k t, ap (λ b. cond b (Some x) (table.get o.posts number)) (sym t) ∙ sym (get-insert_key o.posts k x number) ∙ e)
-      | false ↦ λ t. inl (ap (λ b. cond b (Some x) (table.get o.posts number)) (sym t) ∙ sym (get-insert_key o.posts k x number) ∙ e)
-    ] refl
+    elim (eqb_tells number (o.last + 1)) as (λ _. (table.get o.posts number ≡ Some m) ⊎ ((number ≡ o.last + 1) × (Some x ≡ Some m))) [
+      | inl t ↦ inr (t.1, sym (inserted_here o.posts (o.last + 1) x number t.0) ∙ e)
+      | inr t ↦ inl (sym (inserted_beside o.posts (o.last + 1) x number t.0) ∙ e)
+    ]
 
 -- what is kept above a number
-pub get-above : (low : ℕ) (posts : FinMap nat_cmp Message) (q : ℕ) → table.get (table.retain_keys posts (λ k. nat_lt low k)) q ≡ cond (nat_lt low q) (table.get posts q) None
-get-above low posts q = table.get-retain_keys posts (λ k. nat_lt low k) q (λ x tied. ap (nat_lt low) (sym (nat_cmp-IsAntisymmetric q x tied)))
+pub get-above : (low : ℕ) (posts : FinMap nat_cmp Message) (q : ℕ)
+    → table.get (table.retain_keys posts (λ k. nat_lt low k)) q ≡ cond (nat_lt low q) (table.get posts q) None
+get-above low posts q =
+    table.get-retain_keys posts (λ k. nat_lt low k) q (λ x tied. ap (nat_lt low) (sym (nat_cmp-IsAntisymmetric q x tied)))
 
 -- a live link that starts below an old post was live already, and no more was acknowledged on it
 record WasLive (b : Bool) (o : Option Link) (m : Link) : Type 0 where
@@ -101,13 +89,14 @@ record WasLive (b : Bool) (o : Option Link) (m : Link) : Type 0 where
   start : link.start ≡ m.start
   acked : link.acked ≤ m.acked
 
-went_on : (posts number : ℕ) (o o' : Option Link) (m : Link) → LinkGoesOn posts o o' → number ≤ posts → o' ≡ Some m → m.start < number → WasLive false o m
+went_on : (posts number : ℕ) (o o' : Option Link) (m : Link) → LinkGoesOn posts o o' → number ≤ posts → o' ≡ Some m → m.start < number
+    → WasLive false o m
 went_on posts number o None m goes old e above = cc
 went_on posts number None (Some k) m goes old e above =
-    let same : k.start ≡ m.start = ap (λ (l : Link). l.start) (same_some k m e) in absurd (omega (arith, goes))
+    let same : k.start ≡ m.start = ap (λ (l : Link). l.start) (same_Some k m e) in absurd (omega (arith, goes))
 went_on posts number (Some l) (Some k) m goes old e above =
-    let same : k.start ≡ m.start = ap (λ (l : Link). l.start) (same_some k m e) in
-    let acks : k.acked ≡ m.acked = ap (λ (l : Link). l.acked) (same_some k m e) in
+    let same : k.start ≡ m.start = ap (λ (l : Link). l.start) (same_Some k m e) in
+    let acks : k.acked ≡ m.acked = ap (λ (l : Link). l.acked) (same_Some k m e) in
     record { link = l; live = refl; start = omega (arith, goes.0); acked = omega (arith, goes.1) }
 
 was_live : (posts number : ℕ) (b b' : Bool) (o o' : Option Link) (m : Link) → (b ≡ true → b' ≡ true) → LinkGoesOn posts o o' → number ≤ posts
@@ -126,16 +115,17 @@ step_send n e to wire m d h s =
     let live : cond (not (set.contains (next c e).churn.changes.left to)) (table.get (next c e).links to) None ≡ Some l =
     sym (get-live (next c e).churn.changes.left (next c e).links to) ∙ s.3 in
     let added = add (post c e) (forget_asked e n.outbox) in
+    let all = (keep (replies c e) added).posts in
     let kept : table.get added.posts number ≡ Some m =
     ap (λ p. table.get p number) (sym (posts_keep (replies c e) added))
-    ∙ only_some (nat_lt (lowest (next c e)) number) (table.get (keep (replies c e) added).posts number) m (sym (get-above (lowest (next c e)) (keep (replies c e) added).posts number) ∙ s.2) in
+    ∙ only_some (nat_lt (lowest (next c e)) number) (table.get all number) m (sym (get-above (lowest (next c e)) all number) ∙ s.2) in
     elim (kept_or_new (post c e) (forget_asked e n.outbox) number m kept)
     as (λ _. HasOutput n (output.Send to wire m) ⊎ Contains (outputs n.core e) (output.Send to wire m)) [
       | inl old ↦
           let was : table.get n.outbox.posts number ≡ Some m = ap (λ p. table.get p number) (sym (posts_forget e n.outbox)) ∙ old in
           let early : number ≤ c.posts = (h.posts.within number (ap is_some was)).1 in
-          let w = was_live c.posts number (set.contains c.churn.changes.left to) (set.contains (next c e).churn.changes.left to) (table.get c.links to) (table.get (next c e).links to) l
-          (left_grows c e to) (links_go_on c e d to) early live s.4.above in
+          let w = was_live c.posts number (set.contains c.churn.changes.left to) (set.contains (next c e).churn.changes.left to)
+          (table.get c.links to) (table.get (next c e).links to) l (left_grows c e to) (links_go_on c e d to) early live s.4.above in
           inl (
             number,
             w.link,
@@ -148,86 +138,79 @@ step_send n e to wire m d h s =
             },
           )
       | inr new ↦
-          let sent : Contains (sends (next c e).posts m (table.entries (live_links (next c e)))) (output.Send to ((next c e).posts - l.start) m) =
-          sends_contain (next c e).posts m (table.entries (live_links (next c e))) to l (sym (table.get-entries (live_links (next c e)) to) ∙ s.3) in
+          let to_all = sends (next c e).posts m (table.entries (live_links (next c e))) in
+          let sent = sends_contain (next c e).posts m (table.entries (live_links (next c e))) to l (sym (table.get-entries (live_links (next c e)) to) ∙ s.3) in
           let made : number ≡ c.posts + 1 = new.0 ∙ ap (λ k. k + 1) (last_forget e n.outbox ∙ h.last) in
           let count : (next c e).posts ≡ number = ap (λ p. c.posts + option_len p) new.1 ∙ sym made in
-          let is : output.Send to ((next c e).posts - l.start) m ≡ output.Send to wire m = ap (λ k. output.Send to (k - l.start) m) count ∙ ap (λ k. output.Send to k m) (sym s.4.is_number) in
+          let is = ap (λ k. output.Send to k m) (ap (λ k. k - l.start) count ∙ sym s.4.is_number) in
           let here : Contains (send_post (next c e) (post c e)) (output.Send to wire m) =
-          subst (λ p. Contains (send_post (next c e) p) (output.Send to wire m)) (sym new.1)
-          (subst (Contains (sends (next c e).posts m (table.entries (live_links (next c e))))) is sent) in
+          subst (λ p. Contains (send_post (next c e) p) (output.Send to wire m)) (sym new.1) (subst (Contains to_all) is sent) in
           inr (Contains-append_left (send_ack (core.ack e) ++ send_post (next c e) (post c e)) (send_replies (replies c e)) _
           (Contains-append_right (send_ack (core.ack e)) (send_post (next c e) (post c e)) _ here))
     ]
 
 -- ---- acknowledgements
 
-of_heard : (o : Option Link) (heard : ℕ) → option_map_or (λ l. l.heard) o 0 ≡ heard → 0 < heard → (l : Link) × (o ≡ Some l) × (l.heard ≡ heard) × (0 < heard)
+of_heard : (o : Option Link) (heard : ℕ) → heard_at o ≡ heard → 0 < heard → (l : Link) × (o ≡ Some l) × (l.heard ≡ heard) × (0 < heard)
 of_heard None heard e h = absurd (omega (arith, e))
 of_heard (Some l) heard e h = (l, refl, e, h)
 
-row_heard : (q peer : ℕ) (change : Link → Link) (o : Option Link) (ls : Links) → table.get ls peer ≡ o → nat_eq q peer ≡ false → heard_from q (with_row peer change o ls) ≡ heard_from q ls
-row_heard q peer change None ls e apart = refl
-row_heard q peer change (Some l) ls e apart =
-    ap (λ o. option_map_or (λ (k : Link). k.heard) o 0) (get-insert_key ls peer (change l) q ∙ ap (λ b. cond b (Some (change l)) (table.get ls q)) apart)
+row_heard : (q peer : ℕ) (change : Link → Link) (o : Option Link) (ls : Links) → nat_eq q peer ≡ false
+    → heard_from q (with_row peer change o ls) ≡ heard_from q ls
+row_heard q peer change None ls apart = refl
+row_heard q peer change (Some l) ls apart = ap heard_at (inserted_beside ls peer (change l) q apart)
 
-acked_heard_of : (q peer : ℕ) (count : Link → ℕ) (o : Option Link) (ls : Links) → table.get ls peer ≡ o → heard_from q (with_row peer (λ l. record l { acked = count l }) o ls) ≡ heard_from q ls
-acked_heard_of q peer count None ls e = refl
-acked_heard_of q peer count (Some l) ls e =
-    elim (eqb_tells q peer) as (λ _. heard_from q (table.insert ls peer (record l { acked = count l })) ≡ heard_from q ls) [
-      | inl t ↦
-          ap (λ o. option_map_or (λ (k : Link). k.heard) o 0) (get-insert_key ls peer (record l { acked = count l }) q ∙ ap (λ b. cond b (Some (record l { acked = count l })) (table.get ls q)) t.0)
-          ∙ sym (ap (λ o. option_map_or (λ (k : Link). k.heard) o 0) (ap (table.get ls) t.1 ∙ e))
-      | inr t ↦ ap (λ o. option_map_or (λ (k : Link). k.heard) o 0) (get-insert_key ls peer (record l { acked = count l }) q ∙ ap (λ b. cond b (Some (record l { acked = count l })) (table.get ls q)) t.0)
-    ]
+acked_heard : (q peer : ℕ) (count : Link → ℕ) (o : Option Link) (ls : Links) → table.get ls peer ≡ o
+    → heard_from q (with_row peer (λ l. record l { acked = count l }) o ls) ≡ heard_from q ls
+acked_heard q peer count None ls e = refl
+acked_heard q peer count (Some l) ls e = same_heard ls peer q (record l { acked = count l }) (ap heard_at e)
 
-step_ack : (n : Node) (e : Event) (to heard : ℕ) → HasOutput (step n e) (output.Ack to heard) → HasOutput n (output.Ack to heard) ⊎ Contains (outputs n.core e) (output.Ack to heard)
+-- what is acknowledged still was acknowledged before
+acked_before : (n d : Node) (to heard : ℕ) → heard_from to d.core.links ≡ heard_from to n.core.links → HasOutput d (output.Ack to heard)
+    → HasOutput n (output.Ack to heard)
+acked_before n d to heard same s = of_heard (table.get n.core.links to) heard (sym same ∙ ap heard_at s.1 ∙ s.2) s.3
+
+step_ack : (n : Node) (e : Event) (to heard : ℕ) → HasOutput (step n e) (output.Ack to heard)
+    → HasOutput n (output.Ack to heard) ⊎ Contains (outputs n.core e) (output.Ack to heard)
 unfolding step next
-step_ack n event.Enter to heard s = inl s
-step_ack n event.Leave to heard s = inl s
 step_ack n (event.Deliver from k m) to heard s =
     let c = n.core in
     let e = event.Deliver from k m in
     let ls = add_all c.posts (from ∷ ids_of m) c.links in
-    let now : heard_from to (hear from k ls) ≡ heard = ap (λ o. option_map_or (λ (l : Link). l.heard) o 0) s.1 ∙ s.2 in
     elim (eqb_tells to from) as (λ _. HasOutput n (output.Ack to heard) ⊎ Contains (outputs n.core e) (output.Ack to heard)) [
       | inl t ↦
-          let number : k ≡ heard = sym (hears_now c from k m) ∙ ap (λ q. heard_from q (hear from k ls)) (sym t.1) ∙ now in
-          let is : output.Ack from k ≡ output.Ack to heard = ap (λ q. output.Ack q k) (sym t.1) ∙ ap (λ q. output.Ack to q) number in
-          inr (Contains-append_left (send_ack (core.ack e) ++ send_post (next c e) (post c e)) (send_replies (replies c e)) _
-          (Contains-append_left (send_ack (core.ack e)) (send_post (next c e) (post c e)) _ (subst (Contains (output.Ack from k ∷ [])) is (contains_head (output.Ack from k) []))))
-      | inr t ↦ inl (of_heard (table.get c.links to) heard
-          (sym (row_heard to from (λ l. record l { heard = k }) (table.get ls from) ls refl t.0 ∙ add_all_heard c.posts (from ∷ ids_of m) c.links to) ∙ now) s.3)
+          let number : k ≡ heard = sym (hears_now c from k m) ∙ ap (λ q. heard_from q (hear from k ls)) (sym t.1) ∙ ap heard_at s.1 ∙ s.2 in
+          let is : output.Ack from k ≡ output.Ack to heard = λ i. output.Ack (sym t.1 i) (number i) in
+          let sent = send_ack (core.ack e) ++ send_post (next c e) (post c e) in
+          inr (Contains-append_left sent (send_replies (replies c e)) _ (subst (Contains sent) is (contains_head (output.Ack from k) _)))
+      | inr t ↦
+          let same = row_heard to from (λ l. record l { heard = k }) (table.get ls from) ls t.0 ∙ add_all_heard c.posts (from ∷ ids_of m) c.links to in
+          inl (acked_before n (step n e) to heard same s)
     ]
 step_ack n (event.Acked peer k) to heard s =
-    let c = n.core in
-    inl (of_heard (table.get c.links to) heard
-    (sym (acked_heard_of to peer (λ _. k) (table.get c.links peer) c.links refl) ∙ ap (λ o. option_map_or (λ (l : Link). l.heard) o 0) s.1 ∙ s.2) s.3)
-step_ack n (event.Ask x r k) to heard s = inl s
+    inl (acked_before n (step n (event.Acked peer k)) to heard (acked_heard to peer (λ _. k) (table.get n.core.links peer) n.core.links refl) s)
 step_ack n (event.Retire q) to heard s =
-    let c = n.core in
-    inl (of_heard (table.get c.links to) heard
-    (sym (add_all_heard c.posts (q ∷ []) c.links to) ∙ ap (λ o. option_map_or (λ (l : Link). l.heard) o 0) s.1 ∙ s.2) s.3)
+    inl (acked_before n (step n (event.Retire q)) to heard (add_all_heard n.core.posts (q ∷ []) n.core.links to) s)
 step_ack n (event.Lapse q) to heard s =
-    let c = n.core in
-    inl (of_heard (table.get c.links to) heard
-    (sym (acked_heard_of to q (λ l. c.posts - l.start) (table.get c.links q) c.links refl) ∙ ap (λ o. option_map_or (λ (l : Link). l.heard) o 0) s.1 ∙ s.2) s.3)
-step_ack n event.Snapshot to heard s = inl s
+    let same = acked_heard to q (λ l. n.core.posts - l.start) (table.get n.core.links q) n.core.links refl in
+    inl (acked_before n (step n (event.Lapse q)) to heard same s)
+step_ack n _ to heard s = inl s
 
 -- ---- answers
 
 abbrev IsLast : Requests → Reply → Type 0
 IsLast ss r = table.get ss r.session ≡ Some r.request
 
-told_last : (ss : Requests) (asks line : List Asked) (rs : List Reply) → AreAnswered asks rs → AllByRecursion (IsLastOf ss) (asks ++ line) → AllByRecursion (IsLast ss) rs
-told_last ss [] line [] e h = tt
+told_last : (ss : Requests) (asks line : List Asked) (rs : List Reply) → AreAnswered asks rs → AllByRecursion (IsLastOf ss) (asks ++ line)
+    → AllByRecursion (IsLast ss) rs
+told_last ss asks line [] e h = tt
 told_last ss [] line (r ∷ rs) e h = absurd e
-told_last ss (a ∷ asks) line [] e h = tt
 told_last ss (a ∷ asks) line (r ∷ rs) e h =
     let last : table.get ss a.session ≡ Some a.request = h.0 in
     (ap (table.get ss) (sym e.0) ∙ last ∙ ap (λ (q : ℕ). Some q) e.1, told_last ss asks line rs e.2 h.1)
 
-round_last : (ss : Requests) (s t : Ops) (rs : List Reply) → AnswersRound s t rs → AllByRecursion (IsLastOf ss) (ops.unanswered s) → AllByRecursion (IsLast ss) rs
+round_last : (ss : Requests) (s t : Ops) (rs : List Reply) → AnswersRound s t rs → AllByRecursion (IsLastOf ss) (ops.unanswered s)
+    → AllByRecursion (IsLast ss) rs
 round_last ss s t rs (inl h) last = subst (AllByRecursion (IsLast ss)) (sym h.0) tt
 round_last ss s t rs (inr h) last = told_last ss (ops.pending s) s.line rs h.0 last
 
@@ -236,26 +219,25 @@ replies_last c m h =
     round_last c.sessions c.ops (ops.after_message c.me (quorum c) m c.ops) (ops.replies_of c.me m c.ops) (message_answers c.me (quorum c) m c.ops)
     (all_last c.links c.sessions c.ops h.phase h.line)
 
-kept_or_told : (ss : Requests) (rs : List Reply) (o : Outbox) (x q : ℕ) (a : Answer) → AllByRecursion (IsLast ss) rs → table.get (keep rs o).answers x ≡ Some a → table.get ss x ≡ Some q
-    → (table.get o.answers x ≡ Some a) ⊎ Contains (send_replies rs) (output.Reply x q a)
+-- an answer that is kept was kept before, or is told now
+abbrev KeptOrTold : Outbox → List Reply → ℕ → ℕ → Answer → Type 0
+KeptOrTold o rs x q a = (table.get o.answers x ≡ Some a) ⊎ Contains (send_replies rs) (output.Reply x q a)
+
+kept_or_told : (ss : Requests) (rs : List Reply) (o : Outbox) (x q : ℕ) (a : Answer) → AllByRecursion (IsLast ss) rs
+    → table.get (keep rs o).answers x ≡ Some a → table.get ss x ≡ Some q → KeptOrTold o rs x q a
 kept_or_told ss [] o x q a h e f = inl e
 kept_or_told ss (r ∷ rs) o x q a h e f =
-    elim (kept_or_told ss rs (kept.keep r.session r.answer o) x q a h.1 e f) as (λ _. (table.get o.answers x ≡ Some a) ⊎ Contains (send_replies (r ∷ rs)) (output.Reply x q a)) [
-      | inl here ↦ here_or_told here
+    elim (kept_or_told ss rs (kept.keep r.session r.answer o) x q a h.1 e f) as (λ _. KeptOrTold o (r ∷ rs) x q a) [
+      | inl here ↦ elim (eqb_tells x r.session) as (λ _. KeptOrTold o (r ∷ rs) x q a) [
+        | inl t ↦
+            let answer : r.answer ≡ a = same_Some r.answer a (sym (inserted_here o.answers r.session r.answer x t.0) ∙ here) in
+            let request : r.request ≡ q = same_Some r.request q (sym h.0 ∙ ap (table.get ss) (sym t.1) ∙ f) in
+            let is : output.Reply r.session r.request r.answer ≡ output.Reply x q a = λ i. output.Reply (sym t.1 i) (request i) (answer i) in
+            inr (subst (Contains (send_replies (r ∷ rs))) is (contains_head (output.Reply r.session r.request r.answer) (send_replies rs)))
+        | inr t ↦ inl (sym (inserted_beside o.answers r.session r.answer x t.0) ∙ here)
+      ]
       | inr there ↦ inr (Contains-append_right (output.Reply r.session r.request r.answer ∷ []) (send_replies rs) _ there)
     ]
-  where
-    here_or_told : table.get (table.insert o.answers r.session r.answer) x ≡ Some a → (table.get o.answers x ≡ Some a) ⊎ Contains (send_replies (r ∷ rs)) (output.Reply x q a)
-    here_or_told here =
-        elim (eqb_tells x r.session) as (λ _. (table.get o.answers x ≡ Some a) ⊎ Contains (send_replies (r ∷ rs)) (output.Reply x q a)) [
-          | inl t ↦
-              let answer : r.answer ≡ a = same_some r.answer a (ap (λ b. cond b (Some r.answer) (table.get o.answers x)) (sym t.0) ∙ sym (get-insert_key o.answers r.session r.answer x) ∙ here) in
-              let request : r.request ≡ q = same_some r.request q (sym h.0 ∙ ap (table.get ss) (sym t.1) ∙ f) in
-              let is : output.Reply r.session r.request r.answer ≡ output.Reply x q a =
-              ap (λ k. output.Reply k r.request r.answer) (sym t.1) ∙ ap (λ k. output.Reply x k r.answer) request ∙ ap (λ k. output.Reply x q k) answer in
-              inr (subst (Contains (send_replies (r ∷ rs))) is (contains_head (output.Reply r.session r.request r.answer) (send_replies rs)))
-          | inr t ↦ inl (ap (λ b. cond b (Some r.answer) (table.get o.answers x)) (sym t.0) ∙ sym (get-insert_key o.answers r.session r.answer x) ∙ here)
-        ]
 
 get-remove_key : {X : Type 0} (m : FinMap nat_cmp X) (k q : ℕ) → table.get (table.remove m k) q ≡ cond (nat_eq q k) None (table.get m q)
 get-remove_key m k q = table.get-remove nat_cmp_total m k q ∙ ap (λ b. cond b None (table.get m q)) (unsigned_tied q k)
@@ -263,8 +245,6 @@ get-remove_key m k q = table.get-remove nat_cmp_total m k q ∙ ap (λ b. cond b
 step_reply : (n : Node) (e : Event) (x q : ℕ) (a : Answer) → IsLawfulNode n → HasOutput (step n e) (output.Reply x q a)
     → HasOutput n (output.Reply x q a) ⊎ Contains (outputs n.core e) (output.Reply x q a)
 unfolding step next
-step_reply n event.Enter x q a h s = inl s
-step_reply n event.Leave x q a h s = inl s
 step_reply n (event.Deliver from k m) x q a h s =
     let c = n.core in
     let e = event.Deliver from k m in
@@ -274,26 +254,24 @@ step_reply n (event.Deliver from k m) x q a h s =
       | inl old ↦ inl (old, s.1)
       | inr new ↦ inr (Contains-append_right (send_ack (core.ack e) ++ send_post (next c e) (post c e)) (send_replies (replies c e)) _ new)
     ]
-step_reply n (event.Acked peer k) x q a h s = inl s
 step_reply n (event.Ask y r k) x q a h s =
     let c = n.core in
     let e = event.Ask y r k in
     let kept : table.get (table.remove n.outbox.answers y) x ≡ Some a = ap (λ m. table.get m x) (sym (answers_add (post c e) [] (forget y n.outbox))) ∙ s.0 in
-    elim (nat_eq x y) as (λ b. nat_eq x y ≡ b → HasOutput n (output.Reply x q a) ⊎ Contains (outputs n.core (event.Ask y r k)) (output.Reply x q a)) [
-      | true ↦ λ t.
-          let gone : None ≡ Some a = ap (λ b. cond b None (table.get n.outbox.answers x)) (sym t) ∙ sym (get-remove_key n.outbox.answers y x) ∙ kept in cc
-      | false ↦ λ t. inl (
-        ap (λ b. cond b None (table.get n.outbox.answers x)) (sym t) ∙ sym (get-remove_key n.outbox.answers y x) ∙ kept,
-        ap (λ b. cond b (Some r) (table.get c.sessions x)) (sym t) ∙ sym (get-insert_key c.sessions y r x) ∙ s.1,
+    elim (eqb_tells x y) as (λ _. HasOutput n (output.Reply x q a) ⊎ Contains (outputs n.core (event.Ask y r k)) (output.Reply x q a)) [
+      | inl t ↦
+          let gone : None ≡ Some a = sym (cond-true _ None (table.get n.outbox.answers x) t.0) ∙ sym (get-remove_key n.outbox.answers y x) ∙ kept in cc
+      | inr t ↦ inl (
+        sym (cond-false _ None (table.get n.outbox.answers x) t.0) ∙ sym (get-remove_key n.outbox.answers y x) ∙ kept,
+        sym (inserted_beside c.sessions y r x t.0) ∙ s.1,
       )
-    ] refl
-step_reply n (event.Retire y) x q a h s = inl s
-step_reply n (event.Lapse y) x q a h s = inl s
-step_reply n event.Snapshot x q a h s = inl s
+    ]
+step_reply n _ x q a h s = inl s
 
 -- ---- along a list
 
-step_stands : (n : Node) (e : Event) (o : Output) → decides n.core e ≡ None → IsLawfulNode n → HasOutput (step n e) o → HasOutput n o ⊎ Contains (outputs n.core e) o
+step_stands : (n : Node) (e : Event) (o : Output) → decides n.core e ≡ None → IsLawfulNode n → HasOutput (step n e) o
+    → HasOutput n o ⊎ Contains (outputs n.core e) o
 step_stands n e (output.Send to wire m) d h s = step_send n e to wire m d h s
 step_stands n e (output.Ack to heard) d h s = step_ack n e to heard s
 step_stands n e (output.Reply x q a) d h s = step_reply n e x q a h s

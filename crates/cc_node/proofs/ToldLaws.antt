@@ -1,6 +1,6 @@
--- What a snapshot makes of the parts beside a union and a merge: one that counts as an echo, and a phase that begins anew.
+-- What a snapshot makes of the parts beside a union and a merge: it counts as an echo, and a phase begins anew.
 --     told_churn, left_told                  what coming and going keeps;  who left
---     echoes_told, told_more, told_one       how many echoes there are then
+--     one_echo, echoes_told, told_more, ..   how many echoes there are then
 --     anew_.., anew_ops                      a phase that begins anew leaves all but the tag, the need and the count
 --     snapshot_tag, .._number, .._echoes     a snapshot raises none of them by itself
 --     tells_snapshot, anew_snapshot          only a snapshot counts as an echo, or lets a phase begin anew
@@ -11,6 +11,7 @@ use Rattle.std.specs.FinMap as table
 use Rattle.std.proofs.lemmas.Bool.{cond_both}
 use Rattle.cc_views.specs.Limits.{known_limit}
 use Rattle.cc_views.specs.NatSets as set
+use Rattle.cc_views.specs.NatSets.{IsWithin}
 use Rattle.cc_changes.specs.ChangeSets.{present, add_join}
 use Rattle.cc_changes.specs.Need.{IsShare, needed}
 use Rattle.cc_changes.specs.declared.fraction.Fraction.{Fraction}
@@ -20,7 +21,7 @@ use Rattle.cc_messages.specs.declared.message.Message.TheVariants as message
 use Rattle.cc_churn.specs.Churn as churn
 use Rattle.cc_churn.specs.Churn.{Churn}
 use Rattle.cc_ops.specs.Ops as ops
-use Rattle.cc_ops.specs.Ops.{Ops, Phase, Idle, Storing, Querying, StoringBack, unanswered, mine_at_last}
+use Rattle.cc_ops.specs.Ops.{Ops, Phase, Idle, StoringBack, unanswered, mine_at_last}
 use Rattle.cc_ops.specs.OwnLaws.{anew_keeps}
 use Rattle.cc_ops.specs.Stages.{stage_of, WaitsBehind}
 use Rattle.cc_ops.specs.Waiting.{AreApart}
@@ -29,42 +30,39 @@ use Rattle.cc_links.specs.Links.{Links}
 use Rattle.cc_sessions.specs.Sessions.{Requests}
 use Rattle.cc_node.specs.Core.{Core, told_if, anew_if, tells, asks_anew}
 use Rattle.cc_node.specs.Lawful.{IsKnown, IsPhaseOf, IsBeside}
-use Rattle.cc_node.proofs.KnownLaws.{KeepsChurn, KeepsOps, need_churn, joined_churn}
+use Rattle.cc_node.proofs.KnownLaws.{KeepsChurn, echoed_churn, left_echoed, KeepsOps, goes_on}
 
 -- ---- one that counts as an echo
 
 pub told_churn : (ls : Links) (b : Bool) (me : ℕ) (gamma : Fraction) (s : Churn) → IsShare gamma → table.len ls ≤ known_limit → IsKnown ls me
     → KeepsChurn ls s → KeepsChurn ls (told_if b me gamma s)
 told_churn ls b me gamma s share few own h =
-    cond_both b (churn.told me gamma s) s (KeepsChurn ls)
-    (λ _. let n = need_churn ls gamma true s share few h in joined_churn ls me (churn.with_echo (churn.with_need gamma true s)) own (record { changes = n.changes; need = n.need }))
-    (λ _. h)
+    cond_both b (churn.told me gamma s) s (KeepsChurn ls) (λ _. echoed_churn ls me gamma share few own true s h) (λ _. h)
 
-pub left_told : (b : Bool) (me : ℕ) (gamma : Fraction) (s : Churn) (x : ℕ) → IsTrue (set.contains s.changes.left x) → IsTrue (set.contains (told_if b me gamma s).changes.left x)
+pub left_told : (b : Bool) (me : ℕ) (gamma : Fraction) (s : Churn) → IsWithin s.changes.left (told_if b me gamma s).changes.left
 left_told b me gamma s x here =
-    let P : Churn → Type 0 = λ u. IsTrue (set.contains u.changes.left x) in
-    let n : P (churn.with_need gamma true s) = cond_both (true && (s.need == 0)) (record s { need = needed gamma (set.len (present s.changes)) }) s P (λ _. here) (λ _. here) in
-    let w = churn.with_echo (churn.with_need gamma true s) in
-    cond_both b (churn.told me gamma s) s P (λ _. cond_both (churn.is_answered w) (record w { changes = add_join w.changes me }) w P (λ _. n) (λ _. n)) (λ _. here)
+    cond_both b (churn.told me gamma s) s (λ u. IsTrue (set.contains u.changes.left x)) (λ _. left_echoed me gamma true s x here) (λ _. here)
 
-told_echoes : (me : ℕ) (gamma : Fraction) (s : Churn) → (churn.told me gamma s).echoes ≡ s.echoes + 1
-told_echoes me gamma s =
-    let P : Churn → Type 0 = λ u. u.echoes ≡ s.echoes + 1 in
-    let n : (churn.with_need gamma true s).echoes ≡ s.echoes =
-    cond_both (true && (s.need == 0)) (record s { need = needed gamma (set.len (present s.changes)) }) s (λ u. u.echoes ≡ s.echoes) (λ _. refl) (λ _. refl) in
-    let w = churn.with_echo (churn.with_need gamma true s) in
-    cond_both (churn.is_answered w) (record w { changes = add_join w.changes me }) w P (λ _. omega (arith, n)) (λ _. omega (arith, n))
+-- one more echo is one more, whatever it says of the need and of who has joined
+pub one_echo : (me : ℕ) (gamma : Fraction) (j : Bool) (s : Churn) → (churn.echoed me gamma j s).echoes ≡ s.echoes + 1
+one_echo me gamma j s =
+    let needing = record s { need = needed gamma (set.len (present s.changes)) } in
+    let n = cond_both (j && (s.need == 0)) needing s (λ u. u.echoes ≡ s.echoes) (λ _. refl) (λ _. refl) in
+    let w = churn.with_echo (churn.with_need gamma j s) in
+    cond_both (churn.is_answered w) (record w { changes = add_join w.changes me }) w (λ u. u.echoes ≡ s.echoes + 1)
+    (λ _. ap (λ k. k + 1) n) (λ _. ap (λ k. k + 1) n)
 
 -- one more at most, and no fewer
-pub echoes_told : (b : Bool) (me : ℕ) (gamma : Fraction) (s : Churn) (n : ℕ) → (b ≡ true → s.echoes ≡ n) → s.echoes ≤ n + 1 → (told_if b me gamma s).echoes ≤ n + 1
+pub echoes_told : (b : Bool) (me : ℕ) (gamma : Fraction) (s : Churn) (n : ℕ) → (b ≡ true → s.echoes ≡ n) → s.echoes ≤ n + 1
+    → (told_if b me gamma s).echoes ≤ n + 1
 echoes_told b me gamma s n same up =
-    cond_both b (churn.told me gamma s) s (λ u. u.echoes ≤ n + 1) (λ e. omega (arith, told_echoes me gamma s, same e)) (λ _. up)
+    cond_both b (churn.told me gamma s) s (λ u. u.echoes ≤ n + 1) (λ e. omega (arith, one_echo me gamma true s, same e)) (λ _. up)
 
 pub told_more : (b : Bool) (me : ℕ) (gamma : Fraction) (s : Churn) → s.echoes ≤ (told_if b me gamma s).echoes
-told_more b me gamma s = cond_both b (churn.told me gamma s) s (λ u. s.echoes ≤ u.echoes) (λ _. omega (arith, told_echoes me gamma s)) (λ _. omega arith)
+told_more b me gamma s = cond_both b (churn.told me gamma s) s (λ u. s.echoes ≤ u.echoes) (λ _. omega (arith, one_echo me gamma true s)) (λ _. omega arith)
 
 pub told_one : (b : Bool) (me : ℕ) (gamma : Fraction) (s : Churn) → b ≡ true → (told_if b me gamma s).echoes ≡ s.echoes + 1
-told_one true me gamma s e = told_echoes me gamma s
+told_one true me gamma s e = one_echo me gamma true s
 told_one false me gamma s e = cc
 
 -- ---- a phase that begins anew
@@ -86,7 +84,8 @@ anew_last b q s = cond_both b (ops.anew q s) s (λ (t : Ops). mine_at_last t ≡
 
 pub anew_unanswered : (b : Bool) (q : ℕ) (s : Ops) → unanswered (anew_if b q s) ≡ unanswered s
 anew_unanswered b q s =
-    cond_both b (ops.anew q s) s (λ (t : Ops). unanswered t ≡ unanswered s) (λ _. ap (λ (l : List Asked). (l ++ s.others) ++ s.line) (anew_keeps q s).asked) (λ _. refl)
+    cond_both b (ops.anew q s) s (λ (t : Ops). unanswered t ≡ unanswered s)
+    (λ _. ap (λ (l : List Asked). (l ++ s.others) ++ s.line) (anew_keeps q s).asked) (λ _. refl)
 
 pub anew_tag : (b : Bool) (q : ℕ) (s : Ops) (n : ℕ) → (b ≡ true → s.tag ≡ n) → s.tag ≤ n + 1 → (anew_if b q s).tag ≤ n + 1
 anew_tag b q s n same up = cond_both b (ops.anew q s) s (λ t. t.tag ≤ n + 1) (λ e. omega (arith, same e)) (λ _. up)
@@ -100,21 +99,16 @@ anew_one false q s e = cc
 
 phase_anew : (ls : Links) (ss : Requests) (q : ℕ) (p : Phase) → 0 < q → q ≤ known_limit → IsPhaseOf ls ss p → IsPhaseOf ls ss (ops.again q p)
 phase_anew ls ss q Idle some few h = tt
-phase_anew ls ss q (Storing p) some few h = (record { session = h.0.session; need = few; count = some }, h.1)
-phase_anew ls ss q (Querying p) some few h = (record { session = h.0.session; need = few; count = some }, h.1)
 phase_anew ls ss q (StoringBack p seen) some few h = (record { session = h.0.session; need = few; count = some }, h.1, h.2)
+phase_anew ls ss q _ some few h = (record { session = h.0.session; need = few; count = some }, h.1)
 
 behind_anew : (q : ℕ) (p : Phase) (line : List Asked) → WaitsBehind (stage_of p) line → WaitsBehind (stage_of (ops.again q p)) line
 behind_anew q Idle line h = h
-behind_anew q (Storing p) line h = tt
-behind_anew q (Querying p) line h = tt
-behind_anew q (StoringBack p seen) line h = tt
+behind_anew q _ line h = tt
 
 beside_anew : (q : ℕ) (p : Phase) (others : List Asked) → IsBeside p others → IsBeside (ops.again q p) others
 beside_anew q Idle others h = h
-beside_anew q (Storing p) others h = h
-beside_anew q (Querying p) others h = h
-beside_anew q (StoringBack p seen) others h = h
+beside_anew q _ others h = h
 
 pub anew_ops : (ls : Links) (ss : Requests) (b : Bool) (q : ℕ) (s : Ops) → 0 < q → q ≤ known_limit → KeepsOps ls ss s → KeepsOps ls ss (anew_if b q s)
 anew_ops ls ss b q s some few h =
@@ -127,13 +121,7 @@ anew_ops ls ss b q s some few h =
         few = h.line.few;
         apart = subst AreApart (sym (ap (λ (l : List Asked). (l ++ s.others) ++ s.line) (anew_keeps q s).asked)) h.line.apart;
         last = h.line.last;
-        round = record {
-          some = h.line.round.some;
-          most = h.line.round.most;
-          few = h.line.round.few;
-          alike = beside_anew q s.phase s.others h.line.round.alike;
-          last = h.line.round.last;
-        };
+        round = goes_on h.line.round (beside_anew q s.phase s.others h.line.round.alike);
       };
     })
     (λ _. h)

@@ -2,7 +2,7 @@
 --     Core            the plain state
 --     begun C e       the asks that an event begins
 --     next C e        the state after an event
---     tells, asks_anew     what a snapshot makes of it beside a union and a merge: it counts as an echo, and a phase begins anew
+--     tells, asks_anew     of a snapshot, beside a union and a merge: it counts as an echo, and a phase begins anew
 --     made C e        the acknowledgement, the post and the answers that it makes
 --     outputs C e     what is put out for it, in order
 use Rattle.std.specs.Prelude.{ℕ, ◌+◌, ◌-◌, ◌==◌, ◌&&◌, ◌||◌, nat_lt, not, Bool, false, if◌then◌else◌, List, [], ◌∷◌, ◌++◌, map, Option, Some, None}

@@ -18,7 +18,8 @@ after-append n (x ∷ xs) ys = after-append (step n x) xs ys
 pub line-append : (n : Node) (xs ys : List Event) → line n (xs ++ ys) ≡ line n xs ++ line (after n xs) ys
 line-append n [] ys = refl
 line-append n (x ∷ xs) ys =
-    ap (λ (l : List Output). outputs n.core x ++ l) (line-append (step n x) xs ys) ∙ sym (append_assoc (outputs n.core x) (line (step n x) xs) (line (after (step n x) xs) ys))
+    ap (λ (l : List Output). outputs n.core x ++ l) (line-append (step n x) xs ys)
+    ∙ sym (append_assoc (outputs n.core x) (line (step n x) xs) (line (after (step n x) xs) ys))
 
 pub IsLawful-append : (n : Node) (xs ys : List Event) → IsLawful n xs → IsLawful (after n xs) ys → IsLawful n (xs ++ ys)
 IsLawful-append n [] ys first second = second

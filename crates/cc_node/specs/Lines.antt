@@ -1,5 +1,6 @@
 -- How a node's outputs follow one another.
---     Follows x y        y may come after x: on one link it has a greater number, and in one session it answers a later request
+--     Follows x y        y may come after x: on one link it has a greater number, and in one session it answers a later
+--                        request
 use Rattle.std.specs.Prelude.{◌≡◌, ◌<◌, ⊤}
 use Rattle.cc_messages.specs.declared.output.Output.{Output}
 use Rattle.cc_messages.specs.declared.output.Output.TheVariants as output

@@ -1,9 +1,10 @@
--- The rule of a node that carries out one operation at a time: an ask begins at once, or is Busy while another is pending;
--- the last acknowledgement of an operation leaves none pending. No row reads the asks that wait, nor changes them.
+-- The rule of a node that carries out one operation at a time: an ask begins at once, or is Busy while another is
+-- pending; the last acknowledgement of an operation leaves none pending. No row reads the asks that wait, nor changes
+-- them.
 --     acked_alone, ops_alone   what an acknowledgement makes of the phase, and a message of the operations
 --     answer_alone             what a message is answered with
---     phase_alone, told_post_alone   what a delivery leaves of the operations, where a snapshot lets the pending phase begin
---                              anew, and what a snapshot is answered with
+--     phase_alone, told_post_alone   what a delivery leaves of the operations, where a snapshot lets the pending phase
+--                              begin anew, and what a snapshot is answered with
 --     next_alone, post_alone   the core after an event, and the post that it makes
 --     outputs_alone            what is put out for it, in order
 --     decides_alone            none, or the reason for which an event is refused
@@ -27,13 +28,15 @@ use Rattle.cc_messages.specs.Refusals.{first_of}
 use Rattle.cc_churn.specs.Churn as churn
 use Rattle.cc_ops.specs.declared.pending.Asked.{Asked}
 use Rattle.cc_ops.specs.Commands.{finds_no_room}
-use Rattle.cc_ops.specs.Ops.{Ops, Phase, Idle, Storing, Querying, StoringBack, is_idle, is_last, counted, merged, is_own, with_begun, after_reply, first_post, ends_query}
+use Rattle.cc_ops.specs.Ops.{Ops, Phase, Idle, Storing, Querying, StoringBack, is_idle, is_last, counted, merged, is_own, with_begun, after_reply}
+use Rattle.cc_ops.specs.Ops.{first_post, ends_query}
 use Rattle.cc_links.specs.Links as links
 use Rattle.cc_outbox.specs.Outbox.{post_limit, trim}
 use Rattle.cc_node.specs.Core.{Core, asked_of, ids_of, with_links, links_heard, churn_told, join_told, asks_anew, anew_if, question_if}
 use Rattle.cc_node.specs.Core.{quorum, ack, replies, send_ack, send_post, send_replies, lowest}
 use Rattle.cc_node.specs.Node.{Node, keep, add, forget_asked}
-use Rattle.cc_node.specs.Refusals.{left, has_gone, not_entered, already_entered, not_joined, old, gap, nothing_to_ack, too_many_nodes, too_many_sessions, repeat, stale, skip, nothing_to_lapse, any_overruns}
+use Rattle.cc_node.specs.Refusals.{left, has_gone, not_entered, already_entered, not_joined, old, gap, nothing_to_ack, too_many_nodes}
+use Rattle.cc_node.specs.Refusals.{too_many_sessions, repeat, stale, skip, nothing_to_lapse, any_overruns}
 
 -- ---- operations
 
@@ -74,7 +77,8 @@ answer_alone me is_joined (message.Snapshot c v) before after = None
 
 -- ---- the core
 
--- the pending phase begins anew with the need of those that are members then, where the own snapshot came or one that skips
+-- the pending phase begins anew with the need of those that are members then, where the own snapshot came or one that
+-- skips
 abbrev pub quorum_told : Core → ℕ → ℕ → Message → ℕ
 quorum_told c from n m = churn.quorum c.beta (churn_told c from n m)
 

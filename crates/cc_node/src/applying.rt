@@ -46,7 +46,8 @@ impl Core {
     /// What the event makes, or why it is refused: the core's reason, else NoMemory where a growth was refused.
     pub fn made_or_refused(&self, alloc: Global, event: &Event) -> Result<Made, Refusal>
         ensures made { IfOk result (λ m. (decides self.now event.now ≡ None) × (m ≡ machine.made self.now event.now)) }
-        ensures refused { IfErr result (λ r. (decides self.now event.now ≡ Some r) ⊎ ((decides self.now event.now ≡ None) × (r ≡ refusal.NoMemory))) }
+        ensures refused { IfErr result (λ r. (decides self.now event.now ≡ Some r)
+            ⊎ ((decides self.now event.now ≡ None) × (r ≡ refusal.NoMemory))) }
     {
         self.decide(event)?;
         match self.made(alloc, event) {

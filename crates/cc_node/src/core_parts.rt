@@ -13,7 +13,8 @@ ghost use Rattle.cc_links.specs.Rows.{link_of};
 ghost use Rattle.cc_ops.specs.Commands as commands;
 ghost use Rattle.cc_ops.specs.Ops.{IsWaiting, seen_in};
 ghost use Rattle.cc_ops.specs.Stages.{HasRoom};
-ghost use Rattle.cc_node.specs.Lawful.{CountsWithin, IsBeside, IsLawfulCore, IsLineOf, IsRoundOf, IsPendingIn, IsPhaseOf, SessionsWithin};
+ghost use Rattle.cc_node.specs.Lawful.{CountsWithin, IsBeside, IsLawfulCore, IsLineOf, IsRoundOf};
+ghost use Rattle.cc_node.specs.Lawful.{IsPendingIn, IsPhaseOf, SessionsWithin};
 ghost use Rattle.cc_node.specs.Parts.{core_of, is_link_within, is_request_within, is_last_of};
 
 use cc_changes::{Changes, Fraction};
@@ -213,7 +214,8 @@ fn phase_fits(links: &Links, sessions: &Sessions, ops: &Ops) -> bool
 // Whether the operation is a read, and of its session's last request.
 fn is_last_read(sessions: &Sessions, pending: &Pending) -> bool
     requires { IsWaiting pending.now }
-    ensures { IsTrue result ↔ (IsPendingIn sessions.now pending.now × IsFalse (commands.is_writing pending.now.asked.command)) }
+    ensures { IsTrue result ↔ (IsPendingIn sessions.now pending.now
+        × IsFalse (commands.is_writing pending.now.asked.command)) }
 {
     is_last_request(sessions, pending) && !is_writing(&pending.asked.command)
 }
@@ -242,8 +244,8 @@ fn line_fits(sessions: &Sessions, ops: &Ops) -> bool
     round_fits(sessions, ops)
 }
 
-// Whether the others of the pending round are of the kind of its first ask, and each its session's last request. There are
-// fewer than the share, which is never too great.
+// Whether the others of the pending round are of the kind of its first ask, and each its session's last request. There
+// are fewer than the share, which is never too great.
 fn round_fits(sessions: &Sessions, ops: &Ops) -> bool
     ensures { IsTrue result ↔ IsRoundOf sessions.now ops.now.share ops.now.phase ops.now.others }
 {

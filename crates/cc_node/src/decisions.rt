@@ -1,6 +1,7 @@
 //! Why an event is refused: each part is asked for its reasons, in their order.
 
-ghost use Rattle.std.specs.Prelude.{◌≡◌, ◌-◌, ◌<◌, ◌==◌, ◌&&◌, [], ◌∷◌, None, Some, OnOk, IfErr, true, false, is_some, ℕ};
+ghost use Rattle.std.specs.Prelude.{◌≡◌, ◌-◌, ◌<◌, ◌==◌, ◌&&◌, [], ◌∷◌, None, Some, OnOk, IfErr};
+ghost use Rattle.std.specs.Prelude.{true, false, is_some, ℕ};
 ghost use Rattle.std.specs.Bool.{then_some};
 ghost use Rattle.cc_views.specs.Limits.{counter_limit};
 ghost use Rattle.cc_churn.specs.Churn as churn;
@@ -65,7 +66,9 @@ impl Core {
 
     // Why one post more can't be made, if it can't.
     fn decide_post(&self) -> Result<(), Refusal>
-        ensures { result ≡ decided (first_of (then_some ((self.now.posts - machine.lowest self.now) == post_limit) refusal.OutboxFull ∷ then_some (self.now.posts == counter_limit) refusal.Spent ∷ [])) }
+        ensures { result ≡ decided
+            (first_of (then_some ((self.now.posts - machine.lowest self.now) == post_limit) refusal.OutboxFull
+            ∷ then_some (self.now.posts == counter_limit) refusal.Spent ∷ [])) }
     {
         if self.is_outbox_full() {
             return Err(Refusal::OutboxFull);
@@ -94,7 +97,8 @@ impl Core {
     // Why the message, under a number above what was heard, can't be taken, if it can't.
     fn decide_message(&self, from: NodeId, number: u64, message: &Message) -> Result<(), Refusal>
         requires { links.heard_from from self.now.links < number }
-        ensures { result ≡ decided (first_of (reasons.too_many_nodes self.now (from ∷ machine.ids_of message.now) ∷ reasons.outbox_full self.now (event.Deliver from number message.now)
+        ensures { result ≡ decided (first_of (reasons.too_many_nodes self.now (from ∷ machine.ids_of message.now)
+            ∷ reasons.outbox_full self.now (event.Deliver from number message.now)
             ∷ reasons.spent self.now (event.Deliver from number message.now) ∷ [])) }
     {
         if self.knows_too_many(from, message) {
@@ -119,7 +123,8 @@ impl Core {
 
     // Why the number isn't the next one of its link, if it isn't. That of a snapshot may be any above what was heard.
     fn decide_number(&self, from: NodeId, number: u64, message: &Message) -> Result<(), Refusal>
-        ensures { result ≡ decided (first_of (reasons.old self.now from number ∷ reasons.gap self.now from number message.now ∷ [])) }
+        ensures { result ≡ decided (first_of (reasons.old self.now from number
+            ∷ reasons.gap self.now from number message.now ∷ [])) }
     {
         let heard = self.heard(from);
         if number <= heard {
@@ -133,7 +138,8 @@ impl Core {
 
     // Whether the sender, the nodes that the message names and the known ones are too many together.
     fn knows_too_many(&self, from: NodeId, message: &Message) -> bool
-        ensures { then_some result refusal.TooManyNodes ≡ reasons.too_many_nodes self.now (from ∷ machine.ids_of message.now) }
+        ensures { then_some result refusal.TooManyNodes
+            ≡ reasons.too_many_nodes self.now (from ∷ machine.ids_of message.now) }
     {
         let mut known = KnownIds::new();
         if !known.add_peers(self.links.rows()) {
@@ -175,7 +181,8 @@ impl Core {
     ) -> bool
         requires above { links.heard_from from self.now.links < number }
         requires posts { makes_post ≡ is_some (machine.post self.now (event.Deliver from number message.now)) }
-        ensures { result ≡ reasons.any_overruns self.now (machine.next self.now (event.Deliver from number message.now)) (event.Deliver from number message.now) }
+        ensures { result ≡ reasons.any_overruns self.now (machine.next self.now (event.Deliver from number message.now))
+            (event.Deliver from number message.now) }
     {
         if message.is_snapshot() {
             return self.told_is_spent(from, number, message, makes_post);
@@ -186,8 +193,10 @@ impl Core {
     // The same of a message that isn't a snapshot.
     fn message_is_spent(&self, number: u64, message: &Message, makes_post: bool) -> bool
         requires snapshot { is_snapshot message.now ≡ false }
-        requires posts { (from : ℕ) → makes_post ≡ is_some (machine.post self.now (event.Deliver from number message.now)) }
-        ensures { (from : ℕ) → result ≡ reasons.any_overruns self.now (machine.next self.now (event.Deliver from number message.now)) (event.Deliver from number message.now) }
+        requires posts { (from : ℕ) → makes_post
+            ≡ is_some (machine.post self.now (event.Deliver from number message.now)) }
+        ensures { (from : ℕ) → result ≡ reasons.any_overruns self.now
+            (machine.next self.now (event.Deliver from number message.now)) (event.Deliver from number message.now) }
     {
         if self.ops.is_spent(self.me, self.quorum(), message) {
             return true;
@@ -228,7 +237,8 @@ impl Core {
 
     // Why the request isn't the next one of its session, if it isn't.
     fn decide_request(&self, session: u64, request: u64) -> Result<(), Refusal>
-        ensures { result ≡ decided (first_of (reasons.too_many_sessions self.now session ∷ reasons.repeat self.now session request
+        ensures { result ≡ decided (first_of (reasons.too_many_sessions self.now session
+            ∷ reasons.repeat self.now session request
             ∷ reasons.stale self.now session request ∷ reasons.skip self.now session request ∷ [])) }
     {
         match self.sessions.check(session, request) {
@@ -240,10 +250,12 @@ impl Core {
         }
     }
 
-    // Why the command, under the next request of its session, can't begin, if it can't. One that waits needs nothing yet.
+    // Why the command, under the next request of its session, can't begin, if it can't. One that waits needs nothing
+    // yet.
     fn decide_command(&self, request: u64, command: &Command) -> Result<(), Refusal>
         ensures { (s : ℕ) → first_of (reasons.stale self.now s request ∷ reasons.skip self.now s request ∷ []) ≡ None
-            → result ≡ decided (first_of (reasons.outbox_full self.now (event.Ask s request command.now) ∷ reasons.spent self.now (event.Ask s request command.now) ∷ [])) }
+            → result ≡ decided (first_of (reasons.outbox_full self.now (event.Ask s request command.now)
+            ∷ reasons.spent self.now (event.Ask s request command.now) ∷ [])) }
     {
         if self.has_no_room(self.ops.is_idle()) {
             return Err(Refusal::OutboxFull);
@@ -257,7 +269,8 @@ impl Core {
     // Whether a counter stands at its limit that the ask, the next of its session, would raise.
     fn ask_is_spent(&self, request: u64, command: &Command) -> bool
         ensures { (s : ℕ) → first_of (reasons.stale self.now s request ∷ reasons.skip self.now s request ∷ []) ≡ None
-            → result ≡ reasons.any_overruns self.now (machine.next self.now (event.Ask s request command.now)) (event.Ask s request command.now) }
+            → result ≡ reasons.any_overruns self.now (machine.next self.now (event.Ask s request command.now))
+            (event.Ask s request command.now) }
     {
         if self.ops.ask_is_spent(command) {
             return true;

@@ -1,6 +1,7 @@
 //! The laws of a node's histories. Each is a function with an empty body, whose contract is the law.
 
-ghost use Rattle.std.specs.Prelude.{◌≡◌, ◌≢◌, ◌↔◌, ◌+◌, ◌-◌, ◌≤◌, ◌++◌, ◌∷◌, ℕ, Bool, List, [], length, None, Some, true, false};
+ghost use Rattle.std.specs.Prelude.{◌≡◌, ◌≢◌, ◌↔◌, ◌+◌, ◌-◌, ◌≤◌, ◌++◌, ◌∷◌, ℕ, Bool, List, [], length};
+ghost use Rattle.std.specs.Prelude.{None, Some, true, false};
 ghost use Rattle.std.specs.FinMap as table;
 ghost use Rattle.std.specs.List.{All, AllPairs};
 ghost use Rattle.cc_views.specs.Merge.{IsAtMost};
@@ -21,7 +22,8 @@ ghost use Rattle.cc_ops.specs.Rounds.{first_round, line_behind, of_kind, IsAt, C
 ghost use Rattle.cc_ops.specs.Waiting.{writes_by, written_by};
 ghost use Rattle.cc_node.specs.Core.{Core, quorum, churned, churn_told, asks_anew, ops_anew, begun, replies, next};
 ghost use Rattle.cc_node.specs.Node.{Node, step, after, line, HasOutput, MayBeOut, IsLawful, IsLawfulWithin};
-ghost use Rattle.cc_node.specs.OneAtATime.{waiting, decides_alone, next_alone, post_alone, step_alone, after_alone, line_alone, IsLawfulAlone};
+ghost use Rattle.cc_node.specs.OneAtATime.{waiting, decides_alone, next_alone, post_alone, step_alone, after_alone};
+ghost use Rattle.cc_node.specs.OneAtATime.{line_alone, IsLawfulAlone};
 ghost use Rattle.cc_node.specs.Refusals.{decides, decides_within, row_overruns};
 ghost use Rattle.cc_node.specs.Lawful.{IsLawfulCore, IsLawfulNode};
 ghost use Rattle.cc_node.specs.Opening.{Opening, IsOpening, fresh};
@@ -45,21 +47,25 @@ pub fn view_only_grows()
 pub fn own_number_counts_writes()
     ensures number { (c : Core) (e : Event) → (next c e).ops.number ≡ c.ops.number + writes_by (begun c e) }
     ensures value { (c : Core) (e : Event) → (next c e).ops.mine ≡ written_by (begun c e) c.ops.mine }
-    ensures number_after { (n : Node) (es : List Event) → (after n es).core.ops.number ≡ n.core.ops.number + writes_by (begun_along n es) }
-    ensures value_after { (n : Node) (es : List Event) → (after n es).core.ops.mine ≡ written_by (begun_along n es) n.core.ops.mine }
+    ensures number_after { (n : Node) (es : List Event) → (after n es).core.ops.number
+        ≡ n.core.ops.number + writes_by (begun_along n es) }
+    ensures value_after { (n : Node) (es : List Event) → (after n es).core.ops.mine
+        ≡ written_by (begun_along n es) n.core.ops.mine }
 {}
 
-/// Asks of a kind, which write or read, begin in the order in which they were accepted: those that waited at the start and
-/// those that were accepted since are those that began since and those that wait still. At a share of 1 so do all asks.
+/// Asks of a kind, which write or read, begin in the order in which they were accepted: those that waited at the start
+/// and those that were accepted since are those that began since and those that wait still. At a share of 1 so do all
+/// asks.
 pub fn asks_begin_in_order()
     ensures kinds { (writes : Bool) (n : Node) (es : List Event) → IsLawfulNode n → IsLawful n es
-        → of_kind writes (n.core.ops.line ++ asked_along es) ≡ of_kind writes (begun_along n es ++ (after n es).core.ops.line) }
+        → of_kind writes (n.core.ops.line ++ asked_along es)
+        ≡ of_kind writes (begun_along n es ++ (after n es).core.ops.line) }
     ensures one_by_one { (n : Node) (es : List Event) → n.core.ops.share ≡ 1 → IsLawfulNode n → IsLawful n es
         → n.core.ops.line ++ asked_along es ≡ begun_along n es ++ (after n es).core.ops.line }
 {}
 
-/// No more asks begin with an event than the share, nor are more answered, and no event changes the share. At a share of 1
-/// the first round of a line is its first ask alone.
+/// No more asks begin with an event than the share, nor are more answered, and no event changes the share. At a share
+/// of 1 the first round of a line is its first ask alone.
 pub fn share_one()
     ensures begun { (c : Core) (e : Event) → 1 ≤ c.ops.share → length (begun c e) ≤ c.ops.share }
     ensures answered { (c : Core) (e : Event) → IsLawfulCore c → length (replies c e) ≤ c.ops.share }
@@ -70,65 +76,81 @@ pub fn share_one()
     ensures behind { (a : Asked) (line : List Asked) → line_behind 1 (a ∷ line) ≡ line }
 {}
 
-/// No ask is passed over for ever: with each event that answers clients, an ask that waits begins, or fewer stand before it
-/// than did; with any other it keeps its place.
+/// No ask is passed over for ever: with each event that answers clients, an ask that waits begins, or fewer stand
+/// before it than did; with any other it keeps its place.
 pub fn rounds_are_fair()
-    ensures comes_on { (c : Core) (e : Event) (n : ℕ) (a : Asked) → 1 ≤ c.ops.share → IsAt n a c.ops.line → replies c e ≢ []
+    ensures comes_on { (c : Core) (e : Event) (n : ℕ) (a : Asked) → 1 ≤ c.ops.share → IsAt n a c.ops.line
+        → replies c e ≢ []
         → ComesOn n a (begun c e) (next c e).ops.line }
-    ensures stays { (c : Core) (e : Event) (n : ℕ) (a : Asked) → IsAt n a c.ops.line → replies c e ≡ [] → IsAt n a (next c e).ops.line }
+    ensures stays { (c : Core) (e : Event) (n : ℕ) (a : Asked) → IsAt n a c.ops.line → replies c e ≡ []
+        → IsAt n a (next c e).ops.line }
 {}
 
 /// What isn't refused where no ask may wait isn't refused where 32 may; and then none waits.
 pub fn lines_may_grow()
     ensures event { (c : Core) (e : Event) → decides_within 0 c e ≡ None → decides c e ≡ None }
     ensures lawful { (n : Node) (es : List Event) → IsLawfulWithin 0 n es → IsLawful n es }
-    ensures none_waits { (n : Node) (es : List Event) → n.core.ops.line ≡ [] → IsLawfulWithin 0 n es → (after n es).core.ops.line ≡ [] }
+    ensures none_waits { (n : Node) (es : List Event) → n.core.ops.line ≡ [] → IsLawfulWithin 0 n es
+        → (after n es).core.ops.line ≡ [] }
 {}
 
-/// Lines of asks that wait add nothing where none waits: where none may, what is refused and why, what an event leaves and
-/// what it puts out are as the rule of one operation at a time has it. That rule neither changes the asks that wait nor reads
-/// them.
+/// Lines of asks that wait add nothing where none waits: where none may, what is refused and why, what an event leaves
+/// and what it puts out are as the rule of one operation at a time has it. That rule neither changes the asks that wait
+/// nor reads them.
 pub fn lines_add_nothing()
     ensures refused { (c : Core) (e : Event) → c.ops.line ≡ [] → decides_alone c e ≡ decides_within 0 c e }
-    ensures step { (n : Node) (e : Event) → n.core.ops.line ≡ [] → decides_within 0 n.core e ≡ None → step_alone n e ≡ step n e }
-    ensures lawful { (n : Node) (es : List Event) → n.core.ops.line ≡ [] → (IsLawfulAlone n es ↔ IsLawfulWithin 0 n es) }
-    ensures after { (n : Node) (es : List Event) → n.core.ops.line ≡ [] → IsLawfulWithin 0 n es → after_alone n es ≡ after n es }
-    ensures line { (n : Node) (es : List Event) → n.core.ops.line ≡ [] → IsLawfulWithin 0 n es → line_alone n es ≡ line n es }
+    ensures step { (n : Node) (e : Event) → n.core.ops.line ≡ [] → decides_within 0 n.core e ≡ None
+        → step_alone n e ≡ step n e }
+    ensures lawful { (n : Node) (es : List Event) → n.core.ops.line ≡ []
+        → (IsLawfulAlone n es ↔ IsLawfulWithin 0 n es) }
+    ensures after { (n : Node) (es : List Event) → n.core.ops.line ≡ [] → IsLawfulWithin 0 n es
+        → after_alone n es ≡ after n es }
+    ensures line { (n : Node) (es : List Event) → n.core.ops.line ≡ [] → IsLawfulWithin 0 n es
+        → line_alone n es ≡ line n es }
     ensures leaves { (c : Core) (e : Event) → (next_alone c e).ops.line ≡ c.ops.line }
-    ensures unaware { (c : Core) (asks : List Asked) (e : Event) → (next_alone (waiting asks c) e ≡ waiting asks (next_alone c e))
+    ensures unaware { (c : Core) (asks : List Asked) (e : Event)
+        → (next_alone (waiting asks c) e ≡ waiting asks (next_alone c e))
         × (post_alone (waiting asks c) e ≡ post_alone c e) × (decides_alone (waiting asks c) e ≡ decides_alone c e) }
 {}
 
 /// What a node may put out again stood at the start, or was made for an event since.
 pub fn standing_made()
-    ensures { (n : Node) (es : List Event) (o : Output) → IsLawfulNode n → IsLawful n es → HasOutput (after n es) o → MayBeOut n es o }
+    ensures { (n : Node) (es : List Event) (o : Output) → IsLawfulNode n → IsLawful n es → HasOutput (after n es) o
+        → MayBeOut n es o }
 {}
 
-/// On each link the numbers of what is sent rise, as do those that are acknowledged, and in each session the requests that
-/// are answered; they begin above all that stood at the start. So no two events of a history make the same output.
+/// On each link the numbers of what is sent rise, as do those that are acknowledged, and in each session the requests
+/// that are answered; they begin above all that stood at the start. So no two events of a history make the same output.
 pub fn no_output_twice()
     ensures rising { (n : Node) (es : List Event) → IsLawfulNode n → IsLawful n es → AllPairs Follows (line n es) }
-    ensures since { (n : Node) (es : List Event) (o : Output) → IsLawfulNode n → IsLawful n es → HasOutput n o → All (Follows o) (line n es) }
-    ensures apart { (n : Node) (es : List Event) → IsLawfulNode n → IsLawful n es → AllPairs (λ x y. x ≢ y) (line n es) }
+    ensures since { (n : Node) (es : List Event) (o : Output) → IsLawfulNode n → IsLawful n es → HasOutput n o
+        → All (Follows o) (line n es) }
+    ensures apart { (n : Node) (es : List Event) → IsLawfulNode n → IsLawful n es
+        → AllPairs (λ x y. x ≢ y) (line n es) }
 {}
 
-/// A lapse makes of a core what the peer's acknowledgement of all that was sent to it would, which isn't refused either.
+/// A lapse makes of a core what the peer's acknowledgement of all that was sent to it would, which isn't refused
+/// either.
 pub fn lapse_is_an_acknowledgement()
     ensures { (c : Core) (q : ℕ) (l : Link) → table.get c.links q ≡ Some l → decides c (event.Lapse q) ≡ None
-        → (decides c (event.Acked q (c.posts - l.start)) ≡ None) × (next c (event.Lapse q) ≡ next c (event.Acked q (c.posts - l.start))) }
+        → (decides c (event.Acked q (c.posts - l.start)) ≡ None)
+        × (next c (event.Lapse q) ≡ next c (event.Acked q (c.posts - l.start))) }
 {}
 
 /// What isn't a snapshot counts as no more than it is, and lets nothing begin anew. Under the next number of its link a
 /// message raises what was heard past its limit exactly where that stands at it.
 pub fn others_stay()
     ensures echo { (c : Core) (from n : ℕ) (m : Message) → is_snapshot m ≡ false → churn_told c from n m ≡ churned c m }
-    ensures phase { (c : Core) (from n : ℕ) (m : Message) → is_snapshot m ≡ false → ops_anew c from n m ≡ after_message c.me (quorum c) m c.ops }
-    ensures limit { (c : Core) (from n : ℕ) (m : Message) → n ≡ heard_from from c.links + 1 → heard_from from c.links ≤ counter_limit
-        → row_overruns c (next c (event.Deliver from n m)) (event.Deliver from n m) ≡ overruns (heard_from from c.links) (heard_from from (next c (event.Deliver from n m)).links) }
+    ensures phase { (c : Core) (from n : ℕ) (m : Message) → is_snapshot m ≡ false
+        → ops_anew c from n m ≡ after_message c.me (quorum c) m c.ops }
+    ensures limit { (c : Core) (from n : ℕ) (m : Message) → n ≡ heard_from from c.links + 1
+        → heard_from from c.links ≤ counter_limit
+        → row_overruns c (next c (event.Deliver from n m)) (event.Deliver from n m)
+        ≡ overruns (heard_from from c.links) (heard_from from (next c (event.Deliver from n m)).links) }
 {}
 
-/// A phase that begins anew is no new operation: beside the union and the merge of the snapshot it changes the tag, the need
-/// and the count alone.
+/// A phase that begins anew is no new operation: beside the union and the merge of the snapshot it changes the tag, the
+/// need and the count alone.
 pub fn asks_anew_alone()
     ensures { (c : Core) (from n : ℕ) (d : ChangeSets) (v : ViewMap) → asks_anew c from n (message.Snapshot d v) ≡ true
         → AsksAnewAlone (merged v c.ops) (next c (event.Deliver from n (message.Snapshot d v))).ops

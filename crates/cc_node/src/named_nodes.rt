@@ -24,7 +24,8 @@ struct Named<'a> {
 }
 
 fn named_by(message: &Message) -> Named<'_>
-    ensures { ids_of message.now ≡ result.node.now ++ (result.entered.now ++ (result.joined.now ++ (result.left.now ++ nodes_of result.rows.now))) }
+    ensures { ids_of message.now ≡ result.node.now
+        ++ (result.entered.now ++ (result.joined.now ++ (result.left.now ++ nodes_of result.rows.now))) }
 {
     match message {
         Message::EnterEcho {
@@ -60,7 +61,9 @@ fn named_by(message: &Message) -> Named<'_>
 
 // Those of rows, and one.
 fn named_by_rows<'a>(rows: &'a [Row], node: &'a NodeId) -> Named<'a>
-    ensures { result.node.now ++ (result.entered.now ++ (result.joined.now ++ (result.left.now ++ nodes_of result.rows.now))) ≡ node.now ∷ nodes_of rows.now }
+    ensures { result.node.now
+        ++ (result.entered.now ++ (result.joined.now ++ (result.left.now ++ nodes_of result.rows.now)))
+        ≡ node.now ∷ nodes_of rows.now }
 {
     Named {
         rows,
@@ -73,7 +76,8 @@ fn named_by_rows<'a>(rows: &'a [Row], node: &'a NodeId) -> Named<'a>
 
 // Adds these ids to the known ones too, if those before them fit.
 fn mark_more(known: &mut KnownIds, fit: bool, ids: &[NodeId]) -> bool
-    ensures { (before : NatSet) (marked : List ℕ) → Marks before marked fit known.old → Marks before (ids.now ++ marked) result known.new }
+    ensures { (before : NatSet) (marked : List ℕ) → Marks before marked fit known.old
+        → Marks before (ids.now ++ marked) result known.new }
 {
     if !fit {
         return false;

@@ -7,8 +7,8 @@ use crate::node_core::Core;
 use cc_ops::Stage;
 
 impl Core {
-    /// Whether the pending operation needs more answers than one would that begins now: members have gone since its phase
-    /// began.
+    /// Whether the pending operation needs more answers than one would that begins now: members have gone since its
+    /// phase began.
     pub fn needs_anew(&self) -> bool
         ensures { result ≡ needs_anew self.now }
     {

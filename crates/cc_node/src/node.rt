@@ -185,7 +185,9 @@ fn keeps_answers(outbox: &Outbox, sessions: &Sessions, ops: &Ops) -> bool
 }
 
 fn are_finished(answers: &[KeptAnswer], sessions: &Sessions, ops: &Ops) -> bool
-    ensures { result ≡ list_all (λ kept. table.contains_key sessions.now kept.session && not (has_session kept.session (unanswered ops.now))) answers.now }
+    ensures { result ≡ list_all
+        (λ kept. table.contains_key sessions.now kept.session && not (has_session kept.session (unanswered ops.now)))
+        answers.now }
 {
     answers
         .iter()

@@ -45,9 +45,27 @@ impl Model for Core {
 
     ghost coded = { core_code };
 
-    ghost view = { λ a. record { me = a.me; beta = a.beta; gamma = a.gamma; churn = a.churn; ops = a.ops; posts = a.posts; links = a.links; sessions = a.sessions } };
+    ghost view = { λ a. record {
+      me = a.me;
+      beta = a.beta;
+      gamma = a.gamma;
+      churn = a.churn;
+      ops = a.ops;
+      posts = a.posts;
+      links = a.links;
+      sessions = a.sessions;
+    } };
 
-    ghost invariant = { λ a. IsLawfulCore (record { me = a.me; beta = a.beta; gamma = a.gamma; churn = a.churn; ops = a.ops; posts = a.posts; links = a.links; sessions = a.sessions }) };
+    ghost invariant = { λ a. IsLawfulCore (record {
+      me = a.me;
+      beta = a.beta;
+      gamma = a.gamma;
+      churn = a.churn;
+      ops = a.ops;
+      posts = a.posts;
+      links = a.links;
+      sessions = a.sessions;
+    }) };
 }
 
 impl Core {

@@ -97,7 +97,11 @@ impl Opening<'_> {
     pub(crate) fn changes(&self, alloc: Global) -> Result<Changes, NoMemory>
         requires ids { ¬ (Contains (ids_of (told self.now)) 0) }
         requires few { set.len (set.from_list (ids_of (told self.now))) ≤ known_limit }
-        ensures { IfOk result (λ c. c ≡ record { entered = set.from_list self.now.initial.now; joined = set.from_list self.now.initial.now; left = set.empty }) }
+        ensures { IfOk result (λ c. c ≡ record {
+          entered = set.from_list self.now.initial.now;
+          joined = set.from_list self.now.initial.now;
+          left = set.empty;
+        }) }
     {
         let entered = id_set(alloc, self.initial)?;
         let joined = entered.copy(alloc)?;

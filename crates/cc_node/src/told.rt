@@ -47,7 +47,8 @@ impl Core {
 
     // Whether fewer echoes were counted than nodes were heard of, this one among them, and the node hasn't joined.
     fn lacks_echo(&self, from: NodeId, told: &Changes) -> bool
-        ensures { (n : ℕ) (view : ViewMap) → 0 < n → result ≡ machine.lacks_echo self.now from n (message.Snapshot told.now view) }
+        ensures { (n : ℕ) (view : ViewMap) → 0 < n
+            → result ≡ machine.lacks_echo self.now from n (message.Snapshot told.now view) }
     {
         if self.churn.knows_join(self.me, told) {
             return false;
@@ -96,7 +97,8 @@ impl Core {
     // Whether the node joins with a snapshot that tells these changes.
     fn joins_told(&self, from: NodeId, number: u64, told: &Changes) -> bool
         requires { links.heard_from from self.now.links < number }
-        ensures { (view : ViewMap) → result ≡ is_some (machine.join_told self.now from number (message.Snapshot told.now view)) }
+        ensures { (view : ViewMap) → result
+            ≡ is_some (machine.join_told self.now from number (message.Snapshot told.now view)) }
     {
         if !self.is_told_by(from, number, told) {
             return false;
@@ -132,7 +134,8 @@ impl Core {
         requires snapshot { is_snapshot message.now ≡ true }
         requires above { links.heard_from from self.now.links < number }
         requires posts { makes_post ≡ is_some (machine.post self.now (event.Deliver from number message.now)) }
-        ensures { result ≡ any_overruns self.now (machine.next self.now (event.Deliver from number message.now)) (event.Deliver from number message.now) }
+        ensures { result ≡ any_overruns self.now (machine.next self.now (event.Deliver from number message.now))
+            (event.Deliver from number message.now) }
     {
         if self.anew_is_spent(from, number, message) {
             return true;
@@ -156,7 +159,8 @@ impl Core {
     // Whether the message counts as an echo, and their count stands at its limit.
     fn echo_is_spent(&self, from: NodeId, number: u64, message: &Message) -> bool
         requires { links.heard_from from self.now.links < number }
-        ensures { result ≡ (machine.tells self.now from number message.now && (self.now.churn.echoes == counter_limit)) }
+        ensures { result ≡ (machine.tells self.now from number message.now
+            && (self.now.churn.echoes == counter_limit)) }
     {
         self.tells(from, number, message) && self.churn.echoes() == COUNTER_LIMIT
     }
@@ -171,8 +175,11 @@ impl Core {
         told: &View,
     ) -> Result<Option<Message>, NoMemory>
         requires fits { table.len (ops.merged told.now self.now.ops).view ≤ known_limit }
-        requires tag { machine.asks_anew self.now from number message.now ≡ true → self.now.ops.tag + 1 ≤ counter_limit }
-        ensures { (quorum : ℕ) → IfOk result (λ p. p ≡ machine.question_if (machine.asks_anew self.now from number message.now) self.now.me quorum (ops.merged told.now self.now.ops)) }
+        requires tag { machine.asks_anew self.now from number message.now ≡ true
+            → self.now.ops.tag + 1 ≤ counter_limit }
+        ensures { (quorum : ℕ) → IfOk result
+            (λ p. p ≡ machine.question_if (machine.asks_anew self.now from number message.now)
+            self.now.me quorum (ops.merged told.now self.now.ops)) }
     {
         if !self.asks_anew(from, number, message) {
             return Ok(None);

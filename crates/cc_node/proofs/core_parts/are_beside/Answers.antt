@@ -8,4 +8,5 @@ pub returns-in-Querying : goal.returns-in-Querying
 returns-in-Querying c = rw c.all_read.ensures (beside_query c.args.others.now c.in-Querying.field-0 c.args.ops.now.phase c.in-Querying.ensures.stage)
 
 pub returns-in-StoringBack : goal.returns-in-StoringBack
-returns-in-StoringBack c = rw c.all_read-in-StoringBack.ensures (beside_seen c.args.others.now c.in-StoringBack.field-0 c.args.ops.now.phase c.in-StoringBack.ensures.stage)
+returns-in-StoringBack c =
+    rw c.all_read-in-StoringBack.ensures (beside_seen c.args.others.now c.in-StoringBack.field-0 c.args.ops.now.phase c.in-StoringBack.ensures.stage)

@@ -18,11 +18,13 @@ keep_answers-requires c =
 after : (c : After-trim) → ◌≡◌ {A = Node} (record { core = c.apply.new.self; outbox = c.trim.new.self }) (step c.args.self.now c.args.event)
 unfolding step
 after c =
-    rw (c.trim.ensures, c.lowest.ensures, c.apply.ensures, c.keep_answers.ensures, c.keep_post.ensures, c.forget_asked.ensures, c.requires.made, ← c.self.view_is) refl
+    rw (c.trim.ensures, c.lowest.ensures, c.apply.ensures, c.keep_answers.ensures)
+    (rw (c.keep_post.ensures, c.forget_asked.ensures, c.requires.made, ← c.self.view_is) refl)
 
 pub invariant_of-self : goal.invariant_of-self
 invariant_of-self c =
-    subst IsLawfulNode (sym (after (goal.at.invariant_of-self c).After-trim)) (step_lawful _ _ c.requires.accepted (subst IsLawfulNode c.self.view_is c.self.invariant))
+    subst IsLawfulNode (sym (after (goal.at.invariant_of-self c).After-trim))
+    (step_lawful _ _ c.requires.accepted (subst IsLawfulNode c.self.view_is c.self.invariant))
 
 pub returns : goal.returns
 returns c = after (goal.at.returns c).After-trim

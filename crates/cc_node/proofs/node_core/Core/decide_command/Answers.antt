@@ -12,7 +12,8 @@ use Rattle.cc_node.proofs.node_core.Core.decide_command.Goals as goal
 use Rattle.cc_node.proofs.node_core.Core.decide_command.Goals.{After-has_no_room}
 
 -- only an ask that begins has a post
-full : (c : After-has_no_room) (n : ℕ) → then_some c.has_no_room.result refusal.OutboxFull ≡ outbox_full c.args.self.now (event.Ask n c.args.request c.args.command.now)
+full : (c : After-has_no_room) (n : ℕ) → then_some c.has_no_room.result refusal.OutboxFull
+    ≡ outbox_full c.args.self.now (event.Ask n c.args.request c.args.command.now)
 full c n =
     let s = c.args.self.now in
     ap (λ b. then_some b refusal.OutboxFull)
@@ -21,7 +22,8 @@ full c n =
     (c.is_idle.ensures ∙ ap (λ (t : Core). is_idle t.ops.phase) c.self.view_is ∙ sym (posts_if_idle s n c.args.request c.args.command.now)))
 
 pub returns-then-has_no_room : goal.returns-then-has_no_room
-returns-then-has_no_room c n h = first_holds c.has_no_room.result refusal.OutboxFull _ _ (full (goal.at.returns-then-has_no_room c).After-has_no_room n) c.if-has_no_room.true
+returns-then-has_no_room c n h =
+    first_holds c.has_no_room.result refusal.OutboxFull _ _ (full (goal.at.returns-then-has_no_room c).After-has_no_room n) c.if-has_no_room.true
 
 pub returns-then-ask_is_spent : goal.returns-then-ask_is_spent
 returns-then-ask_is_spent c n h =

@@ -11,7 +11,8 @@ returns c n view some =
     let a = the_view c.self.inside in
     let m = message.Snapshot c.args.told.now view in
     let heard = heard_of (links_heard a c.args.from n m) in
-    let counted : c.heard_with.result ≡ heard = c.heard_with.ensures n m some ∙ ap (λ (s : Core). heard_of (links_heard s c.args.from n m)) (sym c.self.view_is) in
+    let counted : c.heard_with.result ≡ heard =
+    c.heard_with.ensures n m some ∙ ap (λ (s : Core). heard_of (links_heard s c.args.from n m)) (sym c.self.view_is) in
     let joined : has_joined a.me (united c.args.told.now a.churn) ≡ false = sym c.knows_join.ensures ∙ c.if-knows_join.false in
     (λ i. nat_lt (c.echoes.ensures.echoes i) (counted i)) ∙ sym (ap (λ b. not b && nat_lt a.churn.echoes heard) joined)
     ∙ ap (λ (s : Core). lacks_echo s c.args.from n m) c.self.view_is

@@ -2,7 +2,6 @@ use Rattle.std.proofs.Common.{◌∙◌, ap}
 use Rattle.cc_links.specs.Links as links
 use Rattle.cc_views.specs.NatSets as set
 use Rattle.cc_node.specs.Core as machine
-use Rattle.cc_node.specs.Core.{Core}
 use Rattle.cc_node.specs.contracts.node_core.Core.{the_view}
 use Rattle.cc_node.proofs.Effects.{from_items}
 use Rattle.cc_node.proofs.node_core.Core.lowest.Goals as goal

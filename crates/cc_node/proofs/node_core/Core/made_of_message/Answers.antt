@@ -29,5 +29,6 @@ returns c =
     rw (c.or.ensures, c.in_ok-churned.ensures, c.view.ensures, c.in_ok-served.ensures, c.quorum.ensures, c.is_joined.ensures, ← c.self.view_is) refl in
     let answered : c.in_ok-answers.answers ≡ replies_of a.me m a.ops = c.in_ok-answers.ensures in
     let post_is : option_or (echoed a m) (served a m) ≡ post a e = sym (post_either a c.args.from c.args.number m c.requires.snapshot) in
-    let all : Option Message → List Reply → Made = λ p rs. record { ack = Some (record { to = c.args.from; number = c.args.number }); post = p; answers = rs } in
+    let told = Some (record { to = c.args.from; number = c.args.number }) in
+    let all : Option Message → List Reply → Made = λ p rs. record { ack = told; post = p; answers = rs } in
     (λ i. all ((posted ∙ post_is) i) (answered i)) ∙ ap (λ (s : Core). made s e) c.self.view_is

@@ -10,4 +10,5 @@ returns c quorum =
     let view = c.args.told.now in
     let asks : asks_anew s c.args.from c.args.number c.args.message.now ≡ true = sym c.asks_anew.ensures ∙ c.if-not-asks_anew.false in
     subst (λ (b : Bool). IfOk c.question.result (λ p. p ≡ question_if b s.me quorum (ops.merged view s.ops))) (sym asks)
-    (subst (λ (k : Core). IfOk c.question.result (λ p. p ≡ ops.question k.me (ops.anew quorum (ops.merged view k.ops)))) c.self.view_is (c.question.ensures quorum))
+    (subst (λ (k : Core). IfOk c.question.result (λ p. p ≡ ops.question k.me (ops.anew quorum (ops.merged view k.ops)))) c.self.view_is
+    (c.question.ensures quorum))
