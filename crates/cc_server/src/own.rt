@@ -28,6 +28,29 @@ impl<R: Wait, F: Flushed> Own<'_, R, F> {
             None => self.from.recv(self.rt).unwrap_or(None),
         }
     }
+
+    // What becomes of an event's permit.
+    fn settle(&self, answer: Result<Accepted, Refused>) {
+        match answer {
+            Ok(_) => self.admission.accept(),
+            Err(refused) => {
+                self.shared.gauges.refuse(refused.why);
+                self.admission.release(self.rt);
+            }
+        }
+    }
+
+    // Does a duty. Whether that is to bring the event again.
+    fn act(&self, duty: Duty) -> bool {
+        match duty {
+            Duty::Wake => self.shared.waker.wake(),
+            Duty::Defer => self.shared.waker.defer(),
+            Duty::Reack(peer) => self.shared.reack(self.rt, peer),
+            Duty::BringAgain => return true,
+            other => drop(other),
+        }
+        false
+    }
 }
 
 impl<R: Wait, F: Flushed> Source for Own<'_, R, F> {
@@ -47,20 +70,8 @@ impl<R: Wait, F: Flushed> Source for Own<'_, R, F> {
 
     fn told(&mut self, event: Event, answer: Result<Accepted, Refused>) {
         let duty = duty_of(&event, &answer);
-        match answer {
-            Ok(_) => self.admission.accept(),
-            Err(refused) => {
-                self.shared.gauges.refuse(refused.why);
-                self.admission.release(self.rt);
-            }
-        }
-        match duty {
-            Duty::Wake => self.shared.waker.wake(),
-            Duty::Defer => self.shared.waker.defer(),
-            Duty::Reack(peer) => self.shared.reack(self.rt, peer),
-            Duty::BringAgain => self.due = Some(event),
-            other => drop(other),
-        }
+        self.settle(answer);
+        self.due = if self.act(duty) { Some(event) } else { None };
     }
 }
 
