@@ -9,7 +9,8 @@ use Rattle.cc_changes.specs.ChangeSets.{ChangeSets}
 
 pub filter_alike : (p r : ℕ → Bool) → ((q : ℕ) → p q ≡ r q) → (qs : List ℕ) → filter p qs ≡ filter r qs
 filter_alike p r same [] = refl
-filter_alike p r same (q ∷ qs) = ap (λ b. cond b (q ∷ filter p qs) (filter p qs)) (same q) ∙ ap (λ (t : List ℕ). cond (r q) (q ∷ t) t) (filter_alike p r same qs)
+filter_alike p r same (q ∷ qs) = ap (λ b. cond b (q ∷ filter p qs) (filter p qs)) (same q)
+    ∙ ap (λ (t : List ℕ). cond (r q) (q ∷ t) t) (filter_alike p r same qs)
 
 -- the ids of a set that a test keeps, where it keeps those outside another
 outside : (s t : NatSet) (p : ℕ → Bool) → ((q : ℕ) → p q ≡ not (set.contains t q)) → length (filter p (set.items s)) ≡ set.len (set.difference s t)
@@ -77,7 +78,8 @@ present_by_counts a b known entering joining ids others known-is ids-is others-i
     let r : ℕ → Bool = λ q. not ((set.contains a.entered q || set.contains b.entered q) || (set.contains a.left q || set.contains b.left q)) in
     let enters : entering ≡ set.len (set.difference b.entered (set.union a.entered gone)) =
     entering-is ∙ ap (λ (is : List ℕ). length (filter p is)) ids-is
-    ∙ outside b.entered (set.union a.entered gone) p (λ q. either a.left b.left (set.contains a.entered q) q ∙ ap not (sym (contains-union a.entered gone q))) in
+    ∙ outside b.entered (set.union a.entered gone) p (λ q. either a.left b.left (set.contains a.entered q) q
+      ∙ ap not (sym (contains-union a.entered gone q))) in
     let joins : joining ≡ set.len (set.difference b.joined (set.union (set.union a.entered b.entered) gone)) =
     joining-is ∙ ap (λ (is : List ℕ). length (filter r is)) others-is
     ∙ outside b.joined (set.union (set.union a.entered b.entered) gone) r (λ q.

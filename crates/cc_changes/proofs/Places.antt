@@ -1,5 +1,6 @@
 -- The ids of a set as an ascending list.
-use Rattle.std.proofs.Common.{◌≡◌, ℕ, zero, suc, ◌+◌, ◌<◌, ◌≤◌, Bool, true, false, not, ◌||◌, List, [], ◌∷◌, ◌++◌, length, get_or, take, refl, sym, ap, ◌∙◌, arith}
+use Rattle.std.proofs.Common.{◌≡◌, ℕ, zero, suc, ◌+◌, ◌<◌, ◌≤◌, Bool, true, false, not, ◌||◌, List, [], ◌∷◌, ◌++◌, length, get_or, take, refl, sym}
+use Rattle.std.proofs.Common.{ap, ◌∙◌, arith}
 use Rattle.std.specs.Prelude.{nat_eq}
 use Rattle.std.specs.List.{list_any, filter, count_by}
 use Rattle.std.proofs.lemmas.List.{take_more}
@@ -30,7 +31,8 @@ any_take q (k ∷ ids) (suc i) e = or_part (nat_eq q k) (list_any (nat_eq q) (ta
 pub so_far_fits : (s : NatSet) (others : List ℕ) (i : ℕ) → set.len (set.insert_all s others) ≤ 256 → set.len (set.insert_all s (take i others)) ≤ 256
 so_far_fits s others i fits =
     let within : IsWithin (set.insert_all s (take i others)) (set.insert_all s others) = λ q e.
-    contains-insert_all s others q ∙ or_part (set.contains s q) (list_any (nat_eq q) (take i others)) (list_any (nat_eq q) others) (any_take q others i) (sym (contains-insert_all s (take i others) q) ∙ e) in
+    contains-insert_all s others q ∙ or_part (set.contains s q) (list_any (nat_eq q) (take i others)) (list_any (nat_eq q) others) (any_take q others i)
+      (sym (contains-insert_all s (take i others) q) ∙ e) in
     omega (arith, fits, len_within (set.insert_all s (take i others)) (set.insert_all s others) within)
 
 -- ---- counts
@@ -39,14 +41,16 @@ so_far_fits s others i fits =
 pub items_are : (ids : List ℕ) (s : NatSet) → IsRising marked ids → table_of marked ids ≡ s → ids ≡ set.items s
 items_are ids s h is = sym (items-table_of ids h) ∙ ap set.items is
 
-pub outside : (ids : List ℕ) (s other : NatSet) → IsRising marked ids → table_of marked ids ≡ s → length (filter (λ q. not (set.contains other q)) ids) ≡ set.len (set.difference s other)
+pub outside : (ids : List ℕ) (s other : NatSet) → IsRising marked ids → table_of marked ids ≡ s
+    → length (filter (λ q. not (set.contains other q)) ids) ≡ set.len (set.difference s other)
 outside ids s other h is =
     length-filter (λ q. not (set.contains other q)) ids ∙ ap (count_by (λ q. not (set.contains other q))) (items_are ids s h is) ∙ sym (len-difference s other)
 
 pub outside_both : (ids : List ℕ) (s one other : NatSet) → IsRising marked ids → table_of marked ids ≡ s
     → length (filter (λ q. not (set.contains one q || set.contains other q)) ids) ≡ set.len (set.difference s (set.union one other))
 outside_both ids s one other h is =
-    ap length (filter_alike (λ q. not (set.contains one q || set.contains other q)) (λ q. not (set.contains (set.union one other) q)) (λ q. ap not (sym (contains-union one other q))) ids)
+    ap length (filter_alike (λ q. not (set.contains one q || set.contains other q)) (λ q. not (set.contains (set.union one other) q))
+      (λ q. ap not (sym (contains-union one other q))) ids)
     ∙ outside ids s (set.union one other) h is
 
 pub at_most_all : (p : ℕ → Bool) (ids : List ℕ) → length ids ≤ 256 → length (filter p ids) ≤ 256

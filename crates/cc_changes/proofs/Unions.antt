@@ -13,11 +13,14 @@ first_fits s t u fits =
     omega (arith, fits, len_within (set.union s t) (set.union (set.union s t) u) within)
 
 -- who entered by either, and who joined by the other
-pub entered_parts : (s e j : NatSet) → set.len (set.union s (set.union e j)) ≡ (set.len s + set.len (set.difference e s)) + set.len (set.difference j (set.union s e))
-entered_parts s e j = ap set.len (union_assoc s e j) ∙ len-union_parts (set.union s e) j ∙ ap (λ n. n + set.len (set.difference j (set.union s e))) (len-union_parts s e)
+pub entered_parts : (s e j : NatSet) → set.len (set.union s (set.union e j)) ≡ (set.len s + set.len (set.difference e s))
+    + set.len (set.difference j (set.union s e))
+entered_parts s e j = ap set.len (union_assoc s e j) ∙ len-union_parts (set.union s e) j ∙ ap (λ n. n + set.len (set.difference j (set.union s e)))
+    (len-union_parts s e)
 
 pub joins_fit : {a b c d : ChangeSets} → a ≡ c → b ≡ d → FitsRoom (changes.union c d) → set.len (set.union (set.union a.entered b.entered) b.joined) ≤ 256
-joins_fit {a} {b} a-is b-is fits = omega (arith, fits.entered, ap set.len (union_assoc a.entered b.entered b.joined), ap (λ (x : ChangeSets × ChangeSets). set.len (changes.union x.0 x.1).entered) (λ i. (a-is i, b-is i)))
+joins_fit {a} {b} a-is b-is fits = omega (arith, fits.entered, ap set.len (union_assoc a.entered b.entered b.joined),
+    ap (λ (x : ChangeSets × ChangeSets). set.len (changes.union x.0 x.1).entered) (λ i. (a-is i, b-is i)))
 
 pub enters_fit : {a b c d : ChangeSets} → a ≡ c → b ≡ d → FitsRoom (changes.union c d) → set.len (set.union a.entered b.entered) ≤ 256
 enters_fit {a} {b} a-is b-is fits = first_fits a.entered b.entered b.joined (joins_fit a-is b-is fits)

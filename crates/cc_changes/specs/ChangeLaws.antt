@@ -4,7 +4,8 @@
 --     fits_among                                         each set has at most as many ids as the table
 --     need_within, need_positive                         a share of a count is no more than the count, and at least 1
 --     present_within, members_within                     who is present, or a member, is a key of the table
-use Rattle.std.proofs.Common.{◌≡◌, ℕ, ◌+◌, ◌*◌, ◌<◌, ◌≤◌, nat_eq, sym, ap, subst, ◌∙◌, arith, add-mul, one-mul, mul_comm, mul-le-mul_right, lt_of_mul-lt-mul_right}
+use Rattle.std.proofs.Common.{◌≡◌, ℕ, ◌+◌, ◌*◌, ◌<◌, ◌≤◌, nat_eq, sym, ap, subst, ◌∙◌, arith, add-mul, one-mul, mul_comm, mul-le-mul_right}
+use Rattle.std.proofs.Common.{lt_of_mul-lt-mul_right}
 use Rattle.std.specs.Prelude.{IsTrue, max}
 use Rattle.std.specs.Int.{div_ceil}
 use Rattle.std.specs.Ordering.{nat_cmp}
@@ -41,7 +42,8 @@ module _ {X : Type 0} (ids : FinMap nat_cmp X) (c : ChangeSets) (among : IsAmong
   enter_among q known = record { entered = within_inserted ids c.entered q among.entered known; joined = among.joined; left = among.left }
 
   pub join_among : (q : ℕ) → IsTrue (table.contains_key ids q) → IsAmong (changes.add_join c q) ids
-  join_among q known = record { entered = within_inserted ids c.entered q among.entered known; joined = within_inserted ids c.joined q among.joined known; left = among.left }
+  join_among q known = record { entered = within_inserted ids c.entered q among.entered known; joined = within_inserted ids c.joined q among.joined known;
+    left = among.left }
 
   pub leave_among : (q : ℕ) → IsTrue (table.contains_key ids q) → IsAmong (changes.add_leave c q) ids
   leave_among q known = record { entered = among.entered; joined = among.joined; left = within_inserted ids c.left q among.left known }

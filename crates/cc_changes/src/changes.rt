@@ -187,7 +187,8 @@ impl Changes {
 
 // How many of the ids haven't entered as far as the one knows, and not left as far as both know.
 fn count_entering(ids: &[NodeId], mine: &Changes, told: &Changes) -> usize
-    ensures count { result ≡ length (filter (λ q. not (set.contains mine.now.entered q || (set.contains mine.now.left q || set.contains told.now.left q))) ids.now) }
+    ensures count { result ≡ length (filter (λ q. not (set.contains mine.now.entered
+      q || (set.contains mine.now.left q || set.contains told.now.left q))) ids.now) }
     ensures fits { result ≤ length ids.now }
 {
     ids.iter()
@@ -197,7 +198,8 @@ fn count_entering(ids: &[NodeId], mine: &Changes, told: &Changes) -> usize
 
 // How many of the ids have neither entered nor left, as far as both know.
 fn count_joining(ids: &[NodeId], mine: &Changes, told: &Changes) -> usize
-    ensures count { result ≡ length (filter (λ q. not ((set.contains mine.now.entered q || set.contains told.now.entered q) || (set.contains mine.now.left q || set.contains told.now.left q))) ids.now) }
+    ensures count { result ≡ length (filter (λ q. not ((set.contains mine.now.entered q || set.contains told.now.entered q)
+      || (set.contains mine.now.left q || set.contains told.now.left q))) ids.now) }
     ensures fits { result ≤ length ids.now }
 {
     ids.iter()

@@ -13,7 +13,8 @@ ghost use Rattle.cc_outbox.specs.Rows as answers;
 ghost use Rattle.cc_sides.specs.States.{phase_spelling, round_spelling};
 ghost use Rattle.cc_states.specs.Fields.{membership_in, own_in, entering_in, round_in};
 ghost use Rattle.cc_states.specs.Parts.{piece_limit};
-ghost use Rattle.cc_states.proofs.StateFormat.{membership_spelled, own_spelled, entering_spelled, round_spelled, link_spelled, sessions_spelled, kept_answer_spelled};
+ghost use Rattle.cc_states.proofs.StateFormat.{membership_spelled, own_spelled, entering_spelled, round_spelled, link_spelled, sessions_spelled};
+ghost use Rattle.cc_states.proofs.StateFormat.{kept_answer_spelled};
 ghost use Rattle.cc_states.proofs.StateLengths.{length-membership, length-own, length-round, length-sessions, length-kept_answer};
 ghost use Rattle.cc_checkpoint.specs.Formats.{Format, spelled_as, entering_small, number_small, count_small, link_small};
 

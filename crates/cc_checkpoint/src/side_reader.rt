@@ -34,7 +34,8 @@ fn read_links<S: Site>(
     count: u16,
 ) -> Result<Vec<LinkRow>, ReadFault>
     requires { LiesOn S.Site site.old unread.old }
-    ensures exact { ReadsOff S.Site (rows_at link_at count 1) (at site.old piece.old unread.old) (at site.new piece.new unread.new) (seen_by (λ rows. map links.entry_of rows.items) result) }
+    ensures exact { ReadsOff S.Site (rows_at link_at count 1) (at site.old piece.old unread.old) (at site.new piece.new unread.new)
+      (seen_by (λ rows. map links.entry_of rows.items) result) }
     ensures rising { IfOk result (λ rows. IsRising links.entry_of rows.items) }
 {
     let mut rows = Vec::new(alloc);
@@ -55,7 +56,8 @@ fn read_posts<S: Site>(
     count: u16,
 ) -> Result<Vec<Message>, ReadFault>
     requires { LiesOn S.Site site.old unread.old }
-    ensures exact { ReadsOff S.Site (posts_at count) (at site.old piece.old unread.old) (at site.new piece.new unread.new) (seen_by (λ posts. posts.items) result) }
+    ensures exact { ReadsOff S.Site (posts_at count) (at site.old piece.old unread.old) (at site.new piece.new unread.new)
+      (seen_by (λ posts. posts.items) result) }
     ensures length { IfOk result (λ posts. length posts.items ≡ count) }
 {
     let mut posts = Vec::new(alloc);
@@ -74,7 +76,8 @@ fn read_kept_answers<S: Site>(
     count: u16,
 ) -> Result<Vec<KeptAnswer>, ReadFault>
     requires { LiesOn S.Site site.old unread.old }
-    ensures exact { ReadsOff S.Site (rows_at kept_answer_at count 0) (at site.old piece.old unread.old) (at site.new piece.new unread.new) (seen_by (λ rows. map answers.entry_of rows.items) result) }
+    ensures exact { ReadsOff S.Site (rows_at kept_answer_at count 0) (at site.old piece.old unread.old) (at site.new piece.new unread.new)
+      (seen_by (λ rows. map answers.entry_of rows.items) result) }
     ensures rising { IfOk result (λ rows. IsRising answers.entry_of rows.items) }
 {
     let mut rows = Vec::new(alloc);
@@ -94,7 +97,8 @@ fn read_link_table<S: Site>(
     unread: &mut Unread,
 ) -> Result<Vec<LinkRow>, ReadFault>
     requires { LiesOn S.Site site.old unread.old }
-    ensures exact { ReadsOff S.Site (table_at link_at most_rows 1) (at site.old piece.old unread.old) (at site.new piece.new unread.new) (seen_by (λ rows. table_of links.entry_of rows.items) result) }
+    ensures exact { ReadsOff S.Site (table_at link_at most_rows 1) (at site.old piece.old unread.old) (at site.new piece.new unread.new)
+      (seen_by (λ rows. table_of links.entry_of rows.items) result) }
     ensures rising { IfOk result (λ rows. IsRising links.entry_of rows.items) }
 {
     let count = read_element(alloc, site, piece, unread, &CountAt)?;
@@ -125,7 +129,8 @@ fn read_answer_table<S: Site>(
     unread: &mut Unread,
 ) -> Result<Vec<KeptAnswer>, ReadFault>
     requires { LiesOn S.Site site.old unread.old }
-    ensures exact { ReadsOff S.Site (table_at kept_answer_at most_rows 0) (at site.old piece.old unread.old) (at site.new piece.new unread.new) (seen_by (λ rows. table_of answers.entry_of rows.items) result) }
+    ensures exact { ReadsOff S.Site (table_at kept_answer_at most_rows 0) (at site.old piece.old unread.old) (at site.new piece.new unread.new)
+      (seen_by (λ rows. table_of answers.entry_of rows.items) result) }
     ensures rising { IfOk result (λ rows. IsRising answers.entry_of rows.items) }
 {
     let count = read_element(alloc, site, piece, unread, &CountAt)?;

@@ -34,7 +34,8 @@ either_echo true s t before h = before h
 either_echo false s t before h = h
 
 pub before_echo : (me : ℕ) (gamma : Fraction) (j : Bool) (s : Churn) → FitsRoom (echoed me gamma j s).changes → FitsRoom s.changes
-before_echo me gamma j s h = subst FitsRoom (same_changes _ _ s) (either_join (is_answered (with_echo (with_need gamma j s))) me (with_echo (with_need gamma j s)) h)
+before_echo me gamma j s h = subst FitsRoom (same_changes _ _ s) (either_join (is_answered (with_echo (with_need gamma j s))) me
+    (with_echo (with_need gamma j s)) h)
 
 pub before_counted : (me : ℕ) (gamma : Fraction) (j : Bool) (q : ℕ) (s : Churn) → FitsRoom (counted me gamma j q s).changes → FitsRoom s.changes
 before_counted me gamma j q s h = either_echo (counts_for me q s) s (echoed me gamma j s) (before_echo me gamma j s) h

@@ -27,18 +27,23 @@ either_joined : (b : Bool) (me : ℕ) (s : Churn) → has_joined me s ≡ false 
 either_joined true me s not_yet = joined_now me s
 either_joined false me s not_yet = not_yet
 
-echo_joins : (me : ℕ) (gamma : Fraction) (j : Bool) (s : Churn) → has_joined me s ≡ false → has_joined me (echoed me gamma j s) ≡ is_answered (with_echo (with_need gamma j s))
-echo_joins me gamma j s not_yet = either_joined (is_answered (with_echo (with_need gamma j s))) me (with_echo (with_need gamma j s)) (same_joined _ _ me s ∙ not_yet)
+echo_joins : (me : ℕ) (gamma : Fraction) (j : Bool) (s : Churn) → has_joined me s ≡ false
+    → has_joined me (echoed me gamma j s) ≡ is_answered (with_echo (with_need gamma j s))
+echo_joins me gamma j s not_yet = either_joined (is_answered (with_echo (with_need gamma j s))) me (with_echo (with_need gamma j s))
+    (same_joined _ _ me s ∙ not_yet)
 
-either_echo : (own : Bool) (me : ℕ) (s t : Churn) (answered : Bool) → has_joined me s ≡ false → has_joined me t ≡ answered → has_joined me (cond own t s) ≡ (own && answered)
+either_echo : (own : Bool) (me : ℕ) (s t : Churn) (answered : Bool) → has_joined me s ≡ false → has_joined me t ≡ answered
+    → has_joined me (cond own t s) ≡ (own && answered)
 either_echo true me s t answered not_yet joins = joins
 either_echo false me s t answered not_yet joins = not_yet
 
 joins_if : (known : Bool) (me q : ℕ) (gamma : Fraction) (j : Bool) (s : Churn) → has_joined me s ≡ known
-    → ((q == me) && (not known && is_answered (with_echo (with_need gamma j s)))) ≡ (not known && has_joined me (cond ((q == me) && not known) (echoed me gamma j s) s))
+    → ((q == me) && (not known && is_answered (with_echo (with_need gamma j s))))
+    ≡ (not known && has_joined me (cond ((q == me) && not known) (echoed me gamma j s) s))
 joins_if true me q gamma j s is = and-false (q == me)
 joins_if false me q gamma j s is =
-    sym (either_echo ((q == me) && true) me s (echoed me gamma j s) _ is (echo_joins me gamma j s is) ∙ ap (λ (b : Bool). b && is_answered (with_echo (with_need gamma j s))) (and-true (q == me)))
+    sym (either_echo ((q == me) && true) me s (echoed me gamma j s) _ is (echo_joins me gamma j s is)
+      ∙ ap (λ (b : Bool). b && is_answered (with_echo (with_need gamma j s))) (and-true (q == me)))
 
 -- the Join that is posted on an echo
 pub join_posted : (me : ℕ) (gamma : Fraction) (c : ChangeSets) (j : Bool) (q : ℕ) (s : Churn)

@@ -41,7 +41,8 @@ impl<S: Site> Flusher<S> {
         // How many actions were carried out, what those came to, and each moment of them.
         ensures run { HasRun S.Site actions.items self.old self.new result }
         ensures same_opened { self.new.opened ≡ self.old.opened }
-        ensures count { self.old.failed ≡ None → MatchResult result (λ _. S.failures self.new.site ≡ S.failures self.old.site) (λ _. Rose (S.failures self.old.site) (S.failures self.new.site)) }
+        ensures count { self.old.failed ≡ None → MatchResult result (λ _. S.failures self.new.site ≡ S.failures self.old.site)
+          (λ _. Rose (S.failures self.old.site) (S.failures self.new.site)) }
     {
         if let Some(fault) = self.fault() {
             return Err(Failed { fault });

@@ -25,7 +25,8 @@ pub(crate) fn make_durable<S: Site>(
     ensures landed { IfOk result (λ landed. landed ≡ batch.now) }
     ensures ok { OnOk result (journal.new ≡ record { side = journal.old.side; place = journal.old.place + length (batch_bytes batch.now) }) }
     ensures err { OnErr result (journal.new ≡ journal.old) }
-    ensures stops { S.honest site.old → OnErr result (CommitStops (S.state site.old journal.old.side) journal.old.place batch.now (S.state site.new journal.old.side)) }
+    ensures stops { S.honest site.old → OnErr result (CommitStops (S.state site.old journal.old.side) journal.old.place batch.now
+      (S.state site.new journal.old.side)) }
     ensures honest { S.honest site.old ↔ S.honest site.new }
     ensures tells { (S.tells site.old ↔ S.tells site.new) × (S.sent site.new ≡ S.sent site.old) }
     ensures other_side { S.honest site.old → S.state site.new (other journal.old.side) ≡ S.state site.old (other journal.old.side) }
@@ -34,7 +35,8 @@ pub(crate) fn make_durable<S: Site>(
     ensures at_rest { S.honest site.old → (generation : ℕ) (start : Node) (events : List Event) (opening : ℕ)
         → RestsFor S.Site (events_in batch.now) site.old journal.old generation start events opening
         → OnOk result (RestsNow S.Site site.new journal.new generation start (events ++ events_in batch.now) opening) }
-    ensures length { S.honest site.old → OnOk result (length (S.state site.new journal.old.side).bytes ≡ max (length (S.state site.old journal.old.side).bytes) (journal.old.place + 1 + length (batch_bytes batch.now))) }
+    ensures length { S.honest site.old → OnOk result (length (S.state site.new journal.old.side).bytes
+      ≡ max (length (S.state site.old journal.old.side).bytes) (journal.old.place + 1 + length (batch_bytes batch.now))) }
     ensures short { OnOk result (length (batch_bytes batch.now) ≤ record_room) }
     ensures device { IfErr result (λ forfeit. (forfeit.fault.side ≡ journal.old.side) × ((forfeit.fault.call ≡ Write) ⊎ (forfeit.fault.call ≡ Sync))) }
     ensures fault { MatchResult result (λ _. S.failures site.new ≡ S.failures site.old) (λ _. Rose (S.failures site.old) (S.failures site.new)) }

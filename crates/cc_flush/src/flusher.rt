@@ -1,6 +1,7 @@
 //! The engine: one node, the site that keeps it, and where its next record goes.
 
-ghost use Rattle.std.specs.Prelude.{max, ◌≡◌, ◌↔◌, ◌⊎◌, ◌≤◌, ◌<◌, ◌+◌, ◌^◌, ◌++◌, [], ℕ, List, true, false, nat_lt, None, Some, Ok, Err, IsTrue, IfOk, IfErr, OnOk, OnErr, MatchResult, length};
+ghost use Rattle.std.specs.Prelude.{max, ◌≡◌, ◌↔◌, ◌⊎◌, ◌≤◌, ◌<◌, ◌+◌, ◌^◌, ◌++◌, [], ℕ, List, true, false, nat_lt, None, Some, Ok, Err, IsTrue};
+ghost use Rattle.std.specs.Prelude.{IfOk, IfErr, OnOk, OnErr, MatchResult, length};
 ghost use Rattle.std.specs.FinMap as table;
 ghost use Rattle.cc_messages.specs.declared.event.Event.{Event as EventValue};
 ghost use Rattle.cc_site.specs.declared.site.Side.{Side as SideValue};
@@ -114,9 +115,11 @@ impl<S: Site> Model for Flusher<S> {
 
     ghost coded = { engine_code S.code };
 
-    ghost view = { λ f. record { site = f.site; twin = f.node; at = f.journal; generation = f.generation; used = f.used; owes = is_some f.owed; owed = option_map_or (λ s. s.value) f.owed []; failed = f.failed; opened = f.opened } };
+    ghost view = { λ f. record { site = f.site; twin = f.node; at = f.journal; generation = f.generation; used = f.used; owes = is_some f.owed; owed =
+      option_map_or (λ s. s.value) f.owed []; failed = f.failed; opened = f.opened } };
 
-    ghost invariant = { λ f. IsSound S.Site (record { site = f.site; twin = f.node; at = f.journal; generation = f.generation; used = f.used; owes = is_some f.owed; owed = option_map_or (λ s. s.value) f.owed []; failed = f.failed; opened = f.opened }) };
+    ghost invariant = { λ f. IsSound S.Site (record { site = f.site; twin = f.node; at = f.journal; generation = f.generation; used = f.used; owes =
+      is_some f.owed; owed = option_map_or (λ s. s.value) f.owed []; failed = f.failed; opened = f.opened }) };
 }
 
 // Up to how many bytes of a side there is room for a record.
@@ -194,16 +197,20 @@ impl<S: Site> Flusher<S> {
     pub fn open(alloc: Global, site: S) -> Result<(Self, Core), Back<S, OpenFault>>
         ensures outlet { MatchResult result (λ opened. KeepsOutlet S.Site site opened.0.site) (λ b. KeepsOutlet S.Site site b.site) }
         ensures engine { IfOk result (λ opened. (opened.0.failed ≡ None) × (opened.0.owes ≡ false) × (opened.1 ≡ opened.0.twin.core)) }
-        ensures stands { S.honest site → IfOk result (λ opened. StandsAt (S.state site opened.0.at.side).bytes (S.state site (other opened.0.at.side)).bytes opened.0.generation opened.0.at.place opened.0.twin) }
-        ensures counted { S.honest site → IfOk result (λ opened. IsCounted (bytes_of S.Site site) opened.0.twin opened.0.at opened.0.generation opened.0.opened) }
+        ensures stands { S.honest site → IfOk result (λ opened. StandsAt (S.state site opened.0.at.side).bytes
+          (S.state site (other opened.0.at.side)).bytes opened.0.generation opened.0.at.place opened.0.twin) }
+        ensures counted { S.honest site → IfOk result (λ opened. IsCounted (bytes_of S.Site site) opened.0.twin opened.0.at opened.0.generation
+          opened.0.opened) }
         ensures faults { S.honest site → IfErr result (λ b. OpenFails (bytes_of S.Site site) b.fault) }
-        ensures settled { S.honest site → MatchResult result (λ opened. AreSettled (S.state site) (S.state opened.0.site)) (λ b. OpenStops (S.state site) (S.state b.site) b.fault) }
+        ensures settled { S.honest site → MatchResult result (λ opened. AreSettled (S.state site) (S.state opened.0.site))
+          (λ b. OpenStops (S.state site) (S.state b.site) b.fault) }
         // At each moment a crash leaves what it might have left at the start, and nothing is put.
         ensures every_moment { S.honest site → MatchResult result (λ opened. EachMoment S.Site site opened.0.site (Possible (S.state site) (S.sent site)))
             (λ b. EachMoment S.Site site b.site (Possible (S.state site) (S.sent site))) }
         ensures at_rest { S.honest site → ((side : SideValue) → 1 ≤ length (S.state site side).bytes)
             → IfOk result (λ opened. IsGoodNow S.Site opened.0.site opened.0.twin [] (length (S.sent opened.0.site))) }
-        ensures count { MatchResult result (λ opened. S.failures opened.0.site ≡ S.failures site) (λ b. FaultRose Opens (S.failures site) (S.failures b.site) b.fault) }
+        ensures count { MatchResult result (λ opened. S.failures opened.0.site ≡ S.failures site)
+          (λ b. FaultRose Opens (S.failures site) (S.failures b.site) b.fault) }
     {
         let mut site = site;
         let Found {
@@ -275,12 +282,16 @@ impl<S: Site> Flusher<S> {
         ensures honest { S.honest self.old.site ↔ S.honest self.new.site }
         ensures tells { (S.tells self.old.site ↔ S.tells self.new.site) × (S.sent self.new.site ≡ S.sent self.old.site) }
         ensures other_side { S.honest self.old.site → S.state self.new.site (other self.old.at.side) ≡ S.state self.old.site (other self.old.at.side) }
-        ensures every_moment { S.honest self.old.site → self.old.failed ≡ None → KeepsGood S.Site (LeadsTo S.Site self.old) (events_in batch.now) self.old.site self.new.site }
-        ensures at_rest { S.honest self.old.site → self.old.failed ≡ None → (start : NodeValue) (events : List EventValue) (opening : ℕ) → LeadsTo S.Site self.old start events opening
+        ensures every_moment { S.honest self.old.site → self.old.failed ≡ None → KeepsGood S.Site (LeadsTo S.Site self.old) (events_in batch.now)
+          self.old.site self.new.site }
+        ensures at_rest { S.honest self.old.site → self.old.failed ≡ None → (start : NodeValue) (events : List EventValue) (opening : ℕ)
+          → LeadsTo S.Site self.old start events opening
             → OnOk result (IsGoodNow S.Site self.new.site start (events ++ events_in batch.now) opening) }
-        ensures stops { S.honest self.old.site → self.old.failed ≡ None → OnErr result (CommitStops (S.state self.old.site self.old.at.side) self.old.at.place batch.now (S.state self.new.site self.old.at.side)) }
+        ensures stops { S.honest self.old.site → self.old.failed ≡ None
+          → OnErr result (CommitStops (S.state self.old.site self.old.at.side) self.old.at.place batch.now (S.state self.new.site self.old.at.side)) }
         ensures device { self.old.failed ≡ None → IfErr result (λ f. (f.fault.side ≡ self.old.at.side) × ((f.fault.call ≡ Write) ⊎ (f.fault.call ≡ Sync))) }
-        ensures count { self.old.failed ≡ None → MatchResult result (λ _. S.failures self.new.site ≡ S.failures self.old.site) (λ _. Rose (S.failures self.old.site) (S.failures self.new.site)) }
+        ensures count { self.old.failed ≡ None → MatchResult result (λ _. S.failures self.new.site ≡ S.failures self.old.site)
+          (λ _. Rose (S.failures self.old.site) (S.failures self.new.site)) }
     {
         self.check()?;
         match make_durable(&mut self.journal, &mut self.site, batch) {
@@ -304,7 +315,8 @@ impl<S: Site> Flusher<S> {
         ensures empties { batch.new ≡ [] }
         ensures twin { self.new.twin ≡ after self.old.twin (events_in landed) }
         ensures owes { self.new.owes ≡ false }
-        ensures same { (self.new.at ≡ self.old.at) × (self.new.generation ≡ self.old.generation) × (self.new.used ≡ self.old.used) × (self.new.failed ≡ self.old.failed) }
+        ensures same { (self.new.at ≡ self.old.at) × (self.new.generation ≡ self.old.generation) × (self.new.used ≡ self.old.used)
+          × (self.new.failed ≡ self.old.failed) }
         ensures same_opened { self.new.opened ≡ self.old.opened }
         ensures honest { S.honest self.old.site ↔ S.honest self.new.site }
         ensures same_sides { S.honest self.old.site → S.state self.new.site ≡ S.state self.old.site }
@@ -350,9 +362,11 @@ impl<S: Site> Flusher<S> {
     /// 2^62 or more, and changes nothing. Failed comes only where a disk call fails, and ends the engine.
     pub fn checkpoint(&mut self) -> Result<(), CheckpointFault>
         requires owes { self.old.owes ≡ false }
-        ensures ended { (fault : DeviceFault) → self.old.failed ≡ Some fault → (result ≡ Err (checkpoint_faults.Failed (record { fault = fault }))) × (self.new ≡ self.old) }
+        ensures ended { (fault : DeviceFault) → self.old.failed ≡ Some fault → (result ≡ Err (checkpoint_faults.Failed (record { fault = fault })))
+          × (self.new ≡ self.old) }
         ensures spent { self.old.failed ≡ None → counter_limit ≤ self.old.generation → (result ≡ Err checkpoint_faults.Spent) × (self.new ≡ self.old) }
-        ensures moves { self.old.failed ≡ None → self.old.generation < counter_limit → MatchResult result (λ _. Moves S.Site self.old self.new) (MoveStops S.Site self.old self.new) }
+        ensures moves { self.old.failed ≡ None → self.old.generation < counter_limit → MatchResult result (λ _. Moves S.Site self.old self.new)
+          (MoveStops S.Site self.old self.new) }
         ensures same_twin { self.new.twin ≡ self.old.twin }
         ensures same_opened { self.new.opened ≡ self.old.opened }
         ensures owes { self.new.owes ≡ false }

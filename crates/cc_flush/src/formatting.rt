@@ -179,7 +179,8 @@ fn format_sides<S: Site>(site: &mut S, image: &[u8]) -> Result<(), FormatFault>
     ensures already { S.honest site.old → IsErrOf result faults.AlreadyFormatted
         → (IsArmed (S.state site.old A).bytes ⊎ IsArmed (S.state site.old B).bytes) × (S.state site.new ≡ S.state site.old) }
     ensures every_moment { S.honest site.old → AreShut (S.state site.old) → EachMoment S.Site site.old site.new (HasNoneOrAll image.now (S.sent site.old)) }
-    ensures stops { S.honest site.old → (device : DeviceFault) → IsErrOf result (faults.Device device) → FormatStops (S.state site.old) (S.state site.new) device }
+    ensures stops { S.honest site.old → (device : DeviceFault) → IsErrOf result (faults.Device device)
+      → FormatStops (S.state site.old) (S.state site.new) device }
     ensures only { IfErr result (λ fault. (fault ≡ faults.AlreadyFormatted) ⊎ ((device : DeviceFault) × (fault ≡ faults.Device device))) }
     ensures fault { MatchResult result (λ _. S.failures site.new ≡ S.failures site.old) (FormatRose (S.failures site.old) (S.failures site.new)) }
 {
@@ -201,7 +202,8 @@ pub fn format<S: Site>(
     opening: &Opening<'_>,
 ) -> Result<S, Back<S, FormatFault>>
     ensures outlet { MatchResult result (KeepsOutlet S.Site site) (λ b. KeepsOutlet S.Site site b.site) }
-    ensures at_rest { S.honest site → IfOk result (λ s. (place : ℕ) × RestsNow S.Site s (record { side = A; place = place }) 1 (fresh (told opening.now)) [] (length (S.sent s))) }
+    ensures at_rest { S.honest site → IfOk result (λ s. (place : ℕ) × RestsNow S.Site s (record { side = A; place = place }) 1 (fresh (told opening.now))
+      [] (length (S.sent s))) }
     ensures second { S.honest site → IfOk result (λ s. S.state s B ≡ durable (0 ∷ [])) }
     ensures unarmed { S.honest site → OnOk result (¬ (IsArmed (S.state site A).bytes) × ¬ (IsArmed (S.state site B).bytes)) }
     // Where each side begins with the byte of a closed gate, whatever a crash leaves, it is done whole or not at all.

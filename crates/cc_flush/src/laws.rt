@@ -34,7 +34,8 @@ pub fn one_node()
 /// they name it, but for the device's faults and want of memory.
 pub fn node_or_fault()
     ensures apart { (left : Contents) (node : Node) (fault : OpenFault) → Stands (left A) (left B) node → IsReadingFault fault → ReadingFails left fault → ⊥ }
-    ensures one { (left : Contents) (first second : OpenFault) → IsReadingFault first → IsReadingFault second → ReadingFails left first → ReadingFails left second → first ≡ second }
+    ensures one { (left : Contents) (first second : OpenFault) → IsReadingFault first → IsReadingFault second → ReadingFails left first
+      → ReadingFails left second → first ≡ second }
     ensures neither { (left : Contents) → ((side : Side) (place : ℕ) → slice_index (left side) place < 256)
         → ((node : Node) → Stands (left A) (left B) node → ⊥) → ((fault : OpenFault) → IsReadingFault fault → ReadingFails left fault → ⊥) → ⊥ }
 {
@@ -44,9 +45,11 @@ pub fn node_or_fault()
 
 /// What lies behind the closed gate of a side, either side, has no part in what is good.
 pub fn shut_side()
-    ensures first { (a b changed : List ℕ) → ¬ (IsArmed a) → ¬ (IsArmed changed) → 1 ≤ length a → 1 ≤ length changed → (start : Node) (events : List Event) (durable opening : ℕ) (told : List Output)
+    ensures first { (a b changed : List ℕ) → ¬ (IsArmed a) → ¬ (IsArmed changed) → 1 ≤ length a → 1 ≤ length changed
+      → (start : Node) (events : List Event) (durable opening : ℕ) (told : List Output)
         → IsGoodAt start events durable opening a b told ↔ IsGoodAt start events durable opening changed b told }
-    ensures second { (a b changed : List ℕ) → ¬ (IsArmed b) → ¬ (IsArmed changed) → 1 ≤ length b → 1 ≤ length changed → (start : Node) (events : List Event) (durable opening : ℕ) (told : List Output)
+    ensures second { (a b changed : List ℕ) → ¬ (IsArmed b) → ¬ (IsArmed changed) → 1 ≤ length b → 1 ≤ length changed
+      → (start : Node) (events : List Event) (durable opening : ℕ) (told : List Output)
         → IsGoodAt start events durable opening a b told ↔ IsGoodAt start events durable opening a changed told }
 {}
 
@@ -59,7 +62,8 @@ pub fn good_for_more()
 /// A moment is good just where the two sides are, and what was sent was made in the prefix that they stand for.
 pub fn good_parts()
     ensures { (start : Node) (events : List Event) (durable opening : ℕ) (left : Contents) (told : List Output)
-        → IsGood start events durable opening left told ↔ ((sides : HasGoodSides start events durable left) × AllMade start (take sides.prefix events) opening told) }
+        → IsGood start events durable opening left told ↔ ((sides : HasGoodSides start events durable left)
+        × AllMade start (take sides.prefix events) opening told) }
 {}
 
 /// A side rests with all events just where the moment is good with all of them durable, and the side holds the node after

@@ -30,7 +30,8 @@ fn ensure_gate<S: Site>(site: &mut S, side: Side) -> Result<(), DeviceFault>
     ensures other_side { S.honest site.old → S.state site.new (other side) ≡ S.state site.old (other side) }
     ensures there { S.honest site.old → OnOk result (1 ≤ length (S.state site.new side).bytes) }
     ensures same { S.honest site.old → 1 ≤ length (S.state site.old side).bytes → S.state site.new ≡ S.state site.old }
-    ensures every_moment { S.honest site.old → 1 ≤ length (S.state site.old side).bytes → EachMoment S.Site site.old site.new (Possible (S.state site.old) (S.sent site.old)) }
+    ensures every_moment { S.honest site.old → 1 ≤ length (S.state site.old side).bytes
+      → EachMoment S.Site site.old site.new (Possible (S.state site.old) (S.sent site.old)) }
     ensures begins { S.honest site.old → OnOk result (HasClosed (S.state site.old side) (S.state site.new side)) }
     ensures failed { S.honest site.old → IfErr result (λ f. BeginStops (S.state site.old side) f.call (S.state site.new side)) }
     ensures fault { CountsCalls (Begins side) (S.failures site.old) (S.failures site.new) result }
@@ -53,7 +54,8 @@ fn gate_and_fill<S: Site>(
     ensures honest { S.honest site.old ↔ S.honest site.new }
     ensures tells { (S.tells site.old ↔ S.tells site.new) × (S.sent site.new ≡ S.sent site.old) }
     ensures other_side { S.honest site.old → S.state site.new (other side) ≡ S.state site.old (other side) }
-    ensures every_moment { S.honest site.old → IsSettled (S.state site.old side) → 1 ≤ length (S.state site.old side).bytes → KeepsOff S.Site side site.old site.new }
+    ensures every_moment { S.honest site.old → IsSettled (S.state site.old side) → 1 ≤ length (S.state site.old side).bytes
+      → KeepsOff S.Site side site.old site.new }
     ensures filled { S.honest site.old → OnOk result (IsFilled (S.state site.new side) generation node.now) }
     ensures failed { S.honest site.old → IfErr result (λ f. FilledStops generation node.now (S.state site.old side) f.call (S.state site.new side)) }
     ensures fault { CountsCalls (λ on call. Begins side on call ⊎ Fills side on call) (S.failures site.old) (S.failures site.new) result }
@@ -79,7 +81,8 @@ fn put_on_side<S: Site>(
     ensures spelled { S.honest site.old → OnOk result (SpellsImage (image_of generation node.now) generation node.now) }
     ensures good { S.honest site.old → IsSettled (S.state site.old side) → (place lower : ℕ) → lower < generation
         → StaysGood S.Site (RestsFrom S.Site node.now (record { side = other side; place = place }) lower site.old) site.old site.new }
-    ensures rests { S.honest site.old → IsSettled (S.state site.old side) → (place lower : ℕ) → lower < generation → (start : NodeValue) (events : List Event) (opening : ℕ)
+    ensures rests { S.honest site.old → IsSettled (S.state site.old side) → (place lower : ℕ) → lower < generation
+      → (start : NodeValue) (events : List Event) (opening : ℕ)
         → RestsFrom S.Site node.now (record { side = other side; place = place }) lower site.old start events opening
         → OnOk result (RestsOn S.Site site.new side generation (length (image_of generation (after start events))) start events opening) }
     ensures failed { S.honest site.old → IfErr result (λ f. FilledStops generation node.now (S.state site.old side) f.call (S.state site.new side)) }

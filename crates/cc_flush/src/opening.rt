@@ -85,7 +85,8 @@ fn greatest(m: u64, n: u64) -> u64
 
 // Reads what both sides hold, the state through the piece.
 fn read_sides<S: Site>(alloc: Global, site: &mut S, piece: Piece) -> Result<Found, OpenFault>
-    ensures found { S.honest site.old → IfOk result (λ found. IsFound (bytes_of S.Site site.old) found.node found.journal found.generation found.used found.opened) }
+    ensures found { S.honest site.old → IfOk result (λ found. IsFound (bytes_of S.Site site.old) found.node found.journal found.generation found.used
+      found.opened) }
     ensures reaches { IfOk result (λ found. found.journal.place ≤ found.used) }
     ensures failed { S.honest site.old → IfErr result (OpenFails (bytes_of S.Site site.old)) }
     ensures reads { OnlyReads S.Site site.old site.new }
@@ -121,7 +122,8 @@ fn read_sides<S: Site>(alloc: Global, site: &mut S, piece: Piece) -> Result<Foun
 pub(crate) fn open_sides<S: Site>(alloc: Global, site: &mut S) -> Result<Found, OpenFault>
     ensures honest { S.honest site.old ↔ S.honest site.new }
     ensures tells { (S.tells site.old ↔ S.tells site.new) × (S.sent site.new ≡ S.sent site.old) }
-    ensures found { S.honest site.old → IfOk result (λ found. IsFound (bytes_of S.Site site.old) found.node found.journal found.generation found.used found.opened) }
+    ensures found { S.honest site.old → IfOk result (λ found. IsFound (bytes_of S.Site site.old) found.node found.journal found.generation found.used
+      found.opened) }
     ensures reaches { IfOk result (λ found. found.journal.place ≤ found.used) }
     ensures failed { S.honest site.old → IfErr result (OpenFails (bytes_of S.Site site.old)) }
     ensures every_moment { S.honest site.old → EachMoment S.Site site.old site.new (Possible (S.state site.old) (S.sent site.old)) }

@@ -8,8 +8,10 @@ use Rattle.cc_wire.specs.declared.fault.WireFault.TheVariants.{Short}
 use Rattle.cc_frames.specs.declared.frame.Frame.{Frame}
 use Rattle.cc_frames.specs.declared.frame.Frame.TheVariants.{Post, Ack, Ask, Reply, Refused, Leave, Retire}
 use Rattle.cc_wire.specs.Reading.{◌>>=◌, Reading, via, bytes_at, whole}
-use Rattle.cc_frames.specs.Frames.{replied_spelling, IsReplied, replied_at, refused_spelling, IsRefused, refused_at, body_spelling, frame_spelling, IsFrame, body_fields, body_at, body_length_at, enclosed_at, frame_at}
-use Rattle.cc_wire.proofs.Spelled.{IsBytes, bind_ok, guard_ok, ok_is, Takes, Spelled, both, as_facts, tested, counted, byte_spelled, bytes_spelled, nothing_spelled, kind_or, kinded_takes}
+use Rattle.cc_frames.specs.Frames.{replied_spelling, IsReplied, replied_at, refused_spelling, IsRefused, refused_at, body_spelling, frame_spelling}
+use Rattle.cc_frames.specs.Frames.{IsFrame, body_fields, body_at, body_length_at, enclosed_at, frame_at}
+use Rattle.cc_wire.proofs.Spelled.{IsBytes, bind_ok, guard_ok, ok_is, Takes, Spelled, both, as_facts, tested, counted, byte_spelled, bytes_spelled}
+use Rattle.cc_wire.proofs.Spelled.{nothing_spelled, kind_or, kinded_takes}
 use Rattle.cc_wire.proofs.Formats.{limited_spelled, id_spelled, u32_spelled, u64_spelled}
 use Rattle.cc_wire.proofs.AnswerFormat.{answer_spelled}
 use Rattle.cc_wire.proofs.EventFormat.{numbered_spelled, delivery_spelled, place_spelled, asked_spelled}
@@ -90,7 +92,8 @@ bytes_again n bytes rest e =
     rw (long, take_at bytes rest n e, drop_at bytes rest n e) refl
 
 -- what is read of so many bytes is spelled by all of them
-enclosed_takes : (n : ℕ) (bytes : List ℕ) (x : Frame) (rest : List ℕ) → IsBytes bytes → enclosed_at n bytes ≡ Ok (x, rest) → Takes bytes (body_spelling x) rest × ((length (body_spelling x) ≡ n) × IsFrame x)
+enclosed_takes : (n : ℕ) (bytes : List ℕ) (x : Frame) (rest : List ℕ) → IsBytes bytes → enclosed_at n bytes ≡ Ok (x, rest)
+    → Takes bytes (body_spelling x) rest × ((length (body_spelling x) ≡ n) × IsFrame x)
 unfolding enclosed_at
 enclosed_takes n bytes x rest fits e =
     let read = bind_ok (whole body_at (take n bytes)) (λ frame. bytes_at n bytes >>= λ body. Ok (frame, body.1)) (x, rest) e in

@@ -14,8 +14,10 @@ closed : (old body : List ℕ)
     → take (length old) (kept old body) ++ (to_be_bytes w32 (length (kept old body) - length old - 4) ++ drop (length old + 4) (kept old body))
     ≡ old ++ (to_be_bytes w32 (length body) ++ body)
 closed old body =
-    let long : length (kept old body) - length old - 4 ≡ length body = omega (arith, length-append (old ++ to_be_bytes w32 0) body, length-append old (to_be_bytes w32 0)) in
-    rw (long, append_assoc old (to_be_bytes w32 0) body, take-append_seam old (to_be_bytes w32 0 ++ body), drop-append-add old (to_be_bytes w32 0 ++ body) 4) refl
+    let long : length (kept old body) - length old - 4 ≡ length body =
+      omega (arith, length-append (old ++ to_be_bytes w32 0) body, length-append old (to_be_bytes w32 0)) in
+    rw (long, append_assoc old (to_be_bytes w32 0) body, take-append_seam old (to_be_bytes w32 0 ++ body),
+      drop-append-add old (to_be_bytes w32 0 ++ body) 4) refl
 
 -- what stands where a frame was put behind other bytes
 pub framed : (f : Frame) (old zeros put now : List ℕ) (start : ℕ) → start ≡ length old → zeros ≡ old ++ to_be_bytes w32 0 → put ≡ zeros ++ body_spelling f

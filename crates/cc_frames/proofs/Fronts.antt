@@ -1,9 +1,11 @@
 -- What stands at the front of a stream is read alike, whatever follows it.
-use Rattle.std.proofs.Common.{◌≡◌, ℕ, ◌+◌, ◌-◌, ◌≤◌, ◌<◌, min, Bool, true, false, cond, ltb, eqb, List, [], ◌++◌, length, take, drop, Result, Ok, Err, refl, sym, ap, subst, ◌∙◌, append_assoc, take-add, arith, inl, inr}
+use Rattle.std.proofs.Common.{◌≡◌, ℕ, ◌+◌, ◌-◌, ◌≤◌, ◌<◌, min, Bool, true, false, cond, ltb, eqb, List, [], ◌++◌, length, take, drop, Result, Ok, Err}
+use Rattle.std.proofs.Common.{refl, sym, ap, subst, ◌∙◌, append_assoc, take-add, arith, inl, inr}
 use Rattle.std.specs.Prelude.{IsTrue}
 use Rattle.std.specs.Int.{w32, from_be_bytes}
 use Rattle.std.proofs.lemmas.Bool.{cases_lt, ltb-false, ltb-true, le-ltb, lt-ltb}
-use Rattle.std.proofs.lemmas.List.{take-append-le, drop-append-le, take-append-drop, take_all, drop_all, length-append, length-take, length-drop, append-nil, nil_from_length}
+use Rattle.std.proofs.lemmas.List.{take-append-le, drop-append-le, take-append-drop, take_all, drop_all, length-append, length-take, length-drop}
+use Rattle.std.proofs.lemmas.List.{append-nil, nil_from_length}
 use Rattle.cc_wire.specs.declared.fault.WireFault.{WireFault}
 use Rattle.cc_wire.specs.declared.fault.WireFault.TheVariants.{Short, TooLarge}
 use Rattle.cc_frames.specs.declared.frame.Frame.{Frame}
@@ -34,9 +36,11 @@ bytes_at-append n bytes more le =
 
 -- the tests of a length say the same, whatever follows
 judged : (n : ℕ) (rest more : List ℕ) (b : Bool)
-    → (cond b (Err TooLarge) (Ok (n, rest ++ more)) >>= λ x. cond (eqb x.0 0) (Err Short) (Ok x)) ≡ with_more (cond b (Err TooLarge) (Ok (n, rest)) >>= λ x. cond (eqb x.0 0) (Err Short) (Ok x)) more
+    → (cond b (Err TooLarge) (Ok (n, rest ++ more)) >>= λ x. cond (eqb x.0 0) (Err Short) (Ok x))
+    ≡ with_more (cond b (Err TooLarge) (Ok (n, rest)) >>= λ x. cond (eqb x.0 0) (Err Short) (Ok x)) more
 judged n rest more true = refl
-judged n rest more false = elim (eqb n 0) as (λ b. cond b (Err Short) (Ok (n, rest ++ more)) ≡ with_more (cond b (Err Short) (Ok (n, rest))) more) [ true ↦ refl | false ↦ refl ]
+judged n rest more false = elim (eqb n 0) as (λ b. cond b (Err Short) (Ok (n, rest ++ more)) ≡ with_more (cond b (Err Short) (Ok (n, rest))) more)
+    [ true ↦ refl | false ↦ refl ]
 
 -- a length that is there is read alike, whatever follows
 body_length_at-append : (bytes more : List ℕ) → 4 ≤ length bytes → body_length_at (bytes ++ more) ≡ with_more (body_length_at bytes) more
@@ -46,7 +50,8 @@ body_length_at-append bytes more le =
     (judged (from_be_bytes w32 (take 4 bytes)) (drop 4 bytes) more (ltb 65536 (from_be_bytes w32 (take 4 bytes))))
 
 -- what passes the tests of a length is unchanged
-judged_is : (n : ℕ) (rest : List ℕ) (y : ℕ × List ℕ) (b : Bool) → (cond b (Err TooLarge) (Ok (n, rest)) >>= λ x. cond (eqb x.0 0) (Err Short) (Ok x)) ≡ Ok y → (n, rest) ≡ y
+judged_is : (n : ℕ) (rest : List ℕ) (y : ℕ × List ℕ) (b : Bool) → (cond b (Err TooLarge) (Ok (n, rest)) >>= λ x. cond (eqb x.0 0) (Err Short) (Ok x))
+    ≡ Ok y → (n, rest) ≡ y
 judged_is n rest y true e = absurd cc
 judged_is n rest y false e = (guard_ok (eqb n 0) Short (n, rest) y e).1
 
@@ -55,7 +60,8 @@ body_length_at-rest : (bytes : List ℕ) (n : ℕ) (rest : List ℕ) → 4 ≤ l
 unfolding body_length_at
 body_length_at-rest bytes n rest le e =
     let read = rw (bytes_at-within 4 bytes le) at e in
-    sym (ap (λ (p : ℕ × List ℕ). p.1) (judged_is (from_be_bytes w32 (take 4 bytes)) (drop 4 bytes) (n, rest) (ltb 65536 (from_be_bytes w32 (take 4 bytes))) read))
+    sym (ap (λ (p : ℕ × List ℕ). p.1) (judged_is (from_be_bytes w32 (take 4 bytes)) (drop 4 bytes) (n, rest)
+      (ltb 65536 (from_be_bytes w32 (take 4 bytes))) read))
 
 -- ---- the length of a frame
 
@@ -116,7 +122,8 @@ length_fits bytes n rest e =
     let same : b.0.0 ≡ n = ap (λ (x : ℕ × List ℕ). x.0) (h.1 ∙ g.1) in
     omega (arith, same, ltb-false _ _ h.0)
 
-frame_fits : (r : Result (ℕ × List ℕ) WireFault) (goal : ℕ) → ((n : ℕ) (rest : List ℕ) → r ≡ Ok (n, rest) → n ≤ 65536) → (r >>= λ n. Ok (4 + n.0)) ≡ Ok goal → goal ≤ 65540
+frame_fits : (r : Result (ℕ × List ℕ) WireFault) (goal : ℕ) → ((n : ℕ) (rest : List ℕ) → r ≡ Ok (n, rest) → n ≤ 65536)
+    → (r >>= λ n. Ok (4 + n.0)) ≡ Ok goal → goal ≤ 65540
 frame_fits (Ok x) goal fits e = let same : 4 + x.0 ≡ goal = ok_is _ _ e in omega (arith, same, fits x.0 x.1 refl)
 frame_fits (Err f) goal fits e = absurd cc
 
@@ -129,14 +136,16 @@ pub partial_fits : (bytes : List ℕ) → is_partial bytes ≡ true → length b
 partial_fits bytes partial =
     elim (cases_lt (length bytes) 4) [
       | inl lt ↦ omega (arith, lt)
-      | inr le ↦ below_limit (length bytes) (frame_length bytes) (λ goal e. frame_fits (body_length_at bytes) goal (length_fits bytes) (sym (frame_length-of bytes le) ∙ e)) (sym (is_partial-of bytes (frame_length bytes) refl) ∙ partial)
+      | inr le ↦ below_limit (length bytes) (frame_length bytes) (λ goal e. frame_fits (body_length_at bytes) goal (length_fits bytes)
+        (sym (frame_length-of bytes le) ∙ e)) (sym (is_partial-of bytes (frame_length bytes) refl) ∙ partial)
     ]
 
 -- what isn't partial has its length
 pub whole_has_length : (bytes : List ℕ) → is_partial bytes ≡ false → 4 ≤ length bytes
 whole_has_length bytes h =
     elim (cases_lt (length bytes) 4) [
-      | inl lt ↦ absurd (let partial : is_partial bytes ≡ true = is_partial-of bytes (Ok 4) (frame_length-short bytes lt) ∙ lt-ltb _ _ lt in let no : ⊥ = cc in no)
+      | inl lt ↦ absurd (let partial : is_partial bytes ≡ true = is_partial-of bytes (Ok 4) (frame_length-short bytes lt)
+        ∙ lt-ltb _ _ lt in let no : ⊥ = cc in no)
       | inr le ↦ le
     ]
 
@@ -149,7 +158,8 @@ still_above (Err e) n k le h = refl
 pub is_partial-append : (bytes more : List ℕ) → is_partial bytes ≡ false → is_partial (bytes ++ more) ≡ false
 is_partial-append bytes more h =
     is_partial-of (bytes ++ more) (frame_length bytes) (frame_length-append bytes more (whole_has_length bytes h))
-    ∙ still_above (frame_length bytes) (length bytes) (length (bytes ++ more)) (omega (arith, length-append bytes more)) (sym (is_partial-of bytes (frame_length bytes) refl) ∙ h)
+    ∙ still_above (frame_length bytes) (length bytes) (length (bytes ++ more)) (omega (arith, length-append bytes more))
+      (sym (is_partial-of bytes (frame_length bytes) refl) ∙ h)
 
 -- ---- frames
 
@@ -167,7 +177,8 @@ enclosed_at-append n bytes more le =
     ∙ followed (whole body_at (take n bytes)) n bytes more le
 
 -- a frame whose length is there, by that length
-by_length : (bytes more : List ℕ) (r : Result (ℕ × List ℕ) WireFault) → 4 ≤ length bytes → body_length_at bytes ≡ r → is_below (length bytes) (r >>= λ n. Ok (4 + n.0)) ≡ false
+by_length : (bytes more : List ℕ) (r : Result (ℕ × List ℕ) WireFault) → 4 ≤ length bytes → body_length_at bytes ≡ r
+    → is_below (length bytes) (r >>= λ n. Ok (4 + n.0)) ≡ false
     → (with_more r more >>= λ n. enclosed_at n.0 n.1) ≡ with_more (r >>= λ n. enclosed_at n.0 n.1) more
 by_length bytes more (Ok x) le e h =
     let rest : x.1 ≡ drop 4 bytes = body_length_at-rest bytes x.0 x.1 le e in
@@ -180,7 +191,8 @@ unfolding frame_at
 frame_at-append bytes more h =
     let le = whole_has_length bytes h in
     rw (body_length_at-append bytes more le)
-    (by_length bytes more (body_length_at bytes) le refl (sym (is_partial-of bytes (body_length_at bytes >>= λ n. Ok (4 + n.0)) (frame_length-of bytes le)) ∙ h))
+    (by_length bytes more (body_length_at bytes) le refl (sym (is_partial-of bytes
+      (body_length_at bytes >>= λ n. Ok (4 + n.0)) (frame_length-of bytes le)) ∙ h))
 
 -- a frame that isn't partial and no longer than its length leaves nothing
 enclosed_rest : (n : ℕ) (bytes : List ℕ) (f : Frame) (rest : List ℕ) → enclosed_at n bytes ≡ Ok (f, rest) → length bytes ≤ n → rest ≡ []
@@ -195,12 +207,14 @@ enclosed_rest n bytes f rest e le =
     sym left ∙ sym dropped ∙ drop_all n bytes le
 
 -- a frame that isn't partial, in no more bytes than its length, leaves nothing
-pub frame_at-rest : (bytes : List ℕ) (goal : ℕ) (f : Frame) (rest : List ℕ) → 4 ≤ length bytes → frame_length bytes ≡ Ok goal → length bytes ≤ goal → frame_at bytes ≡ Ok (f, rest) → rest ≡ []
+pub frame_at-rest : (bytes : List ℕ) (goal : ℕ) (f : Frame) (rest : List ℕ) → 4 ≤ length bytes → frame_length bytes ≡ Ok goal → length bytes ≤ goal
+    → frame_at bytes ≡ Ok (f, rest) → rest ≡ []
 unfolding frame_at
 frame_at-rest bytes goal f rest four known le e =
     let n = bind_ok (body_length_at bytes) (λ n. enclosed_at n.0 n.1) (f, rest) e in
     let behind : n.0.1 ≡ drop 4 bytes = body_length_at-rest bytes n.0.0 n.0.1 four n.1 in
-    let same : 4 + n.0.0 ≡ goal = ok_is _ _ (sym (frame_length-of bytes four ∙ ap (λ (r : Result (ℕ × List ℕ) WireFault). r >>= λ n. Ok (4 + n.0)) n.1) ∙ known) in
+    let same : 4 + n.0.0 ≡ goal = ok_is _ _ (sym (frame_length-of bytes
+      four ∙ ap (λ (r : Result (ℕ × List ℕ) WireFault). r >>= λ n. Ok (4 + n.0)) n.1) ∙ known) in
     enclosed_rest n.0.0 n.0.1 f rest n.2 (omega (arith, same, le, four, ap length behind, length-drop 4 bytes))
 
 -- a bad length is the fault of the frame
@@ -250,18 +264,21 @@ take_none : (n : ℕ) (xs : List ℕ) → length xs ≡ 0 → take n xs ≡ []
 take_none n xs e = take_all n xs (omega (arith, e)) ∙ nil_from_length xs e
 
 -- the length of what is added to the four bytes doesn't change
-length_kept : (old piece mid : List ℕ) (first goal more : ℕ) → first ≡ min (4 - length old) (length piece) → mid ≡ old ++ take first piece → frame_length mid ≡ Ok goal
+length_kept : (old piece mid : List ℕ) (first goal more : ℕ) → first ≡ min (4 - length old) (length piece) → mid ≡ old ++ take first piece
+    → frame_length mid ≡ Ok goal
     → frame_length (mid ++ take more (drop first piece)) ≡ Ok goal
 length_kept old piece mid first goal more is added known =
     elim (cases_lt (length mid) 4) [
       | inl lt ↦ (
-          let all : length (drop first piece) ≡ 0 = omega (arith, lt, is, ap length added, length-append old (take first piece), length-take first piece, length-drop first piece) in
+          let all : length (drop first piece) ≡ 0 = omega (arith, lt, is, ap length added, length-append old (take first piece), length-take first piece,
+            length-drop first piece) in
           ap frame_length (ap (λ (t : List ℕ). mid ++ t) (take_none more (drop first piece) all) ∙ append-nil mid) ∙ known)
       | inr le ↦ frame_length-append mid (take more (drop first piece)) le ∙ known
     ]
 
 -- a partial front isn't longer than its length, nor is it with the rest of the four bytes
-within_goal : (old piece mid : List ℕ) (first goal : ℕ) → IsTrue (is_partial old) → first ≡ min (4 - length old) (length piece) → mid ≡ old ++ take first piece → frame_length mid ≡ Ok goal → length mid ≤ goal
+within_goal : (old piece mid : List ℕ) (first goal : ℕ) → IsTrue (is_partial old) → first ≡ min (4 - length old) (length piece)
+    → mid ≡ old ++ take first piece → frame_length mid ≡ Ok goal → length mid ≤ goal
 within_goal old piece mid first goal partial is added known =
     elim (cases_lt (length old) 4) [
       | inl lt ↦ omega (arith, lt, is, ap length added, length-append old (take first piece), length-take first piece, frame_length-least mid goal known)
@@ -273,15 +290,18 @@ within_goal old piece mid first goal partial is added known =
     ]
 
 -- the four bytes first, and then the rest of the frame
-pub topped_up : (old piece mid new : List ℕ) (first goal more : ℕ) → IsTrue (is_partial old) → first ≡ min (4 - length old) (length piece) → mid ≡ old ++ take first piece → frame_length mid ≡ Ok goal
+pub topped_up : (old piece mid new : List ℕ) (first goal more : ℕ) → IsTrue (is_partial old) → first ≡ min (4 - length old) (length piece)
+    → mid ≡ old ++ take first piece → frame_length mid ≡ Ok goal
     → more ≡ min (goal - length mid) (length (drop first piece)) → new ≡ mid ++ take more (drop first piece) → TopsUp old piece (first + more) new
 topped_up old piece mid new first goal more partial is added known is_more added_more =
     let kept : frame_length new ≡ Ok goal = ap frame_length added_more ∙ length_kept old piece mid first goal more is added known in
-    let size : length new ≡ length mid + more = omega (arith, ap length added_more, length-append mid (take more (drop first piece)), length-take more (drop first piece), is_more) in
+    let size : length new ≡ length mid + more = omega (arith, ap length added_more, length-append mid (take more (drop first piece)),
+      length-take more (drop first piece), is_more) in
     let fits : length mid ≤ goal = within_goal old piece mid first goal partial is added known in
     record {
       within = omega (arith, is, is_more, length-drop first piece);
-      added = added_more ∙ ap (λ (t : List ℕ). t ++ take more (drop first piece)) added ∙ append_assoc old (take first piece) (take more (drop first piece)) ∙ ap (λ (t : List ℕ). old ++ t) (sym (take-add first more piece));
+      added = added_more ∙ ap (λ (t : List ℕ). t ++ take more (drop first piece)) added
+        ∙ append_assoc old (take first piece) (take more (drop first piece)) ∙ ap (λ (t : List ℕ). old ++ t) (sym (take-add first more piece));
       all = λ p.
           let below : is_below (length new) (Ok goal) ≡ true = sym (is_partial-of new (Ok goal) kept) ∙ p in
           omega (arith, ltb-true _ _ below, size, fits, is, is_more, length-drop first piece);
@@ -289,7 +309,9 @@ topped_up old piece mid new first goal more partial is added known is_more added
     }
 
 -- a bad length in the first four bytes is the fault of what is held and the piece
-pub topped_refused : (old piece mid : List ℕ) (first : ℕ) (e : WireFault) → mid ≡ old ++ take first piece → Fails e (frame_length mid) → Fails e (front_of (old ++ piece))
+pub topped_refused : (old piece mid : List ℕ) (first : ℕ) (e : WireFault) → mid ≡ old ++ take first piece → Fails e (frame_length mid)
+    → Fails e (front_of (old ++ piece))
 topped_refused old piece mid first e added h =
-    let all : mid ++ drop first piece ≡ old ++ piece = ap (λ (t : List ℕ). t ++ drop first piece) added ∙ append_assoc old (take first piece) (drop first piece) ∙ ap (λ (t : List ℕ). old ++ t) (take-append-drop first piece) in
+    let all : mid ++ drop first piece ≡ old ++ piece = ap (λ (t : List ℕ). t ++ drop first piece) added ∙ append_assoc old (take first piece)
+      (drop first piece) ∙ ap (λ (t : List ℕ). old ++ t) (take-append-drop first piece) in
     subst (λ (t : List ℕ). Fails e (front_of t)) all (fails_at_front-append mid (drop first piece) e h)

@@ -1,5 +1,6 @@
 -- What many feeds give together, and that a stream holds one list of frames.
-use Rattle.std.proofs.Common.{◌≡◌, ℕ, ◌+◌, ◌-◌, ◌≤◌, ◌<◌, true, false, cond, List, [], ◌∷◌, ◌++◌, length, take, drop, Option, Some, None, Result, Ok, Err, refl, sym, ap, subst, ◌∙◌, append_assoc, arith, inl, inr}
+use Rattle.std.proofs.Common.{◌≡◌, ℕ, ◌+◌, ◌-◌, ◌≤◌, ◌<◌, true, false, cond, List, [], ◌∷◌, ◌++◌, length, take, drop, Option, Some, None, Result, Ok}
+use Rattle.std.proofs.Common.{Err, refl, sym, ap, subst, ◌∙◌, append_assoc, arith, inl, inr}
 use Rattle.std.specs.Prelude.{IsTrue, IfSome}
 use Rattle.std.specs.Int.{w32, to_be_bytes}
 use Rattle.std.specs.List.{flat_map, AllByRecursion}
@@ -14,7 +15,8 @@ use Rattle.cc_frames.specs.declared.frame_reader.Fed.{Fed}
 use Rattle.cc_wire.specs.Reading.{Gives}
 use Rattle.cc_frames.specs.Frames.{body_spelling, frame_spelling, IsFrame, body_length_at, frame_at}
 use Rattle.cc_frames.specs.Held.{is_partial}
-use Rattle.cc_frames.specs.Streams.{fed, rest_after, Progress, at_start, frames_of, Feed, after_feed, after_feeds, AreFeeds, Reads, Refuses, FeedsRead, FeedsRefuse, StreamsReadOneWay, StreamsStayRefused}
+use Rattle.cc_frames.specs.Streams.{fed, rest_after, Progress, at_start, frames_of, Feed, after_feed, after_feeds, AreFeeds, Reads, Refuses}
+use Rattle.cc_frames.specs.Streams.{FeedsRead, FeedsRefuse, StreamsReadOneWay, StreamsStayRefused}
 use Rattle.cc_wire.proofs.Items.{all_push}
 use Rattle.cc_wire.proofs.Spelled.{IsBytes, bind_ok, ok_is}
 use Rattle.cc_wire.proofs.Formats.{bytes_of_all, all_of_bytes}
@@ -29,7 +31,8 @@ use Rattle.cc_frames.proofs.Feeds.{given_of, nothing_partial}
 pub spelled_whole : (f : Frame) (more : List ℕ) → IsFrame f → is_partial (frame_spelling f ++ more) ≡ false
 spelled_whole f more is =
     let n = length (body_spelling f) in
-    let size : length (frame_spelling f ++ more) ≡ 4 + n + length more = omega (arith, length-append (frame_spelling f) more, length-append (to_be_bytes w32 n) (body_spelling f)) in
+    let size : length (frame_spelling f ++ more) ≡ 4 + n + length more =
+      omega (arith, length-append (frame_spelling f) more, length-append (to_be_bytes w32 n) (body_spelling f)) in
     let read : body_length_at (frame_spelling f ++ more) ≡ Ok (n, body_spelling f ++ more) =
     ap body_length_at (append_assoc (to_be_bytes w32 n) (body_spelling f) more)
     ∙ length_spelled.again n (body_spelling f ++ more) ((omega (arith, length-body f is), omega (arith, length-body f is)), length-body-positive f) in
@@ -55,8 +58,10 @@ bad_stops : (bad : List ℕ) (e : WireFault) → frame_at bad ≡ Err e → Stop
 bad_stops bad e h f more is spelled = let read : frame_at bad ≡ Ok (f, more) = ap frame_at spelled ∙ spelled_read f more is in cc
 
 -- the first frame, and what follows it
-first_of : (f : Frame) (fs : List Frame) (end stream : List ℕ) → stream ≡ flat_map frame_spelling (f ∷ fs) ++ end → stream ≡ frame_spelling f ++ (flat_map frame_spelling fs ++ end)
-first_of f fs end stream e = e ∙ ap (λ (t : List ℕ). t ++ end) (flat_map-cons frame_spelling f fs) ∙ append_assoc (frame_spelling f) (flat_map frame_spelling fs) end
+first_of : (f : Frame) (fs : List Frame) (end stream : List ℕ) → stream ≡ flat_map frame_spelling (f ∷ fs) ++ end
+    → stream ≡ frame_spelling f ++ (flat_map frame_spelling fs ++ end)
+first_of f fs end stream e = e ∙ ap (λ (t : List ℕ). t ++ end) (flat_map-cons frame_spelling f fs)
+    ∙ append_assoc (frame_spelling f) (flat_map frame_spelling fs) end
 
 -- two lists of frames, each with an end that begins with no frame, are one where their spellings are
 one_list : (fs gs : List Frame) (a b stream : List ℕ) → AllByRecursion IsFrame fs → AllByRecursion IsFrame gs → Stops a → Stops b
@@ -80,15 +85,18 @@ streams_read_one_way stream frames others rest other p q =
 -- and refused in one way, whatever follows
 pub streams_stay_refused : StreamsStayRefused
 streams_stay_refused stream more frames bad e p =
-    let spelled : stream ++ more ≡ flat_map frame_spelling frames ++ (bad ++ more) = ap (λ (t : List ℕ). t ++ more) p.spelled ∙ append_assoc (flat_map frame_spelling frames) bad more in
+    let spelled : stream ++ more ≡ flat_map frame_spelling frames ++ (bad ++ more) =
+      ap (λ (t : List ℕ). t ++ more) p.spelled ∙ append_assoc (flat_map frame_spelling frames) bad more in
     let read : frame_at (bad ++ more) ≡ Err e = frame_at-append bad more p.there ∙ rw p.refused refl in (
       λ others rest q.
-          let same = one_list frames others (bad ++ more) rest (stream ++ more) p.lawful q.lawful (bad_stops (bad ++ more) e read) (partial_stops rest q.partial) spelled q.spelled in
+          let same = one_list frames others (bad ++ more) rest (stream ++ more) p.lawful q.lawful (bad_stops (bad ++ more) e read)
+            (partial_stops rest q.partial) spelled q.spelled in
           let whole : is_partial rest ≡ false = ap is_partial (sym same.1) ∙ is_partial-append bad more p.there in
           let part : is_partial rest ≡ true = q.partial in
           cc,
       λ others worse d q.
-          let same = one_list frames others (bad ++ more) worse (stream ++ more) p.lawful q.lawful (bad_stops (bad ++ more) e read) (bad_stops worse d q.refused) spelled q.spelled in
+          let same = one_list frames others (bad ++ more) worse (stream ++ more) p.lawful q.lawful (bad_stops (bad ++ more) e read)
+            (bad_stops worse d q.refused) spelled q.spelled in
           let fault : Result (Frame × List ℕ) WireFault = Err e in
           let alike : fault ≡ Err d = sym read ∙ ap frame_at same.1 ∙ q.refused in
           (same.0, cc),
@@ -106,7 +114,9 @@ cut_in_piece rest piece f after is part e =
       | inl lt ↦ (
           let some : length piece - length after ≡ length x - length rest = omega (arith, sizes, lt) in
           let whole : length rest + (length x - length rest) ≡ length x = omega (arith, lt) in
-          let front : rest ++ take (length x - length rest) piece ≡ x = sym (take-append-add rest piece (length x - length rest)) ∙ ap (λ (n : ℕ). take n (rest ++ piece)) whole ∙ ap (take (length x)) e ∙ take-append_seam x after in
+          let front : rest ++ take (length x - length rest) piece ≡ x =
+            sym (take-append-add rest piece (length x - length rest)) ∙ ap (λ (n : ℕ). take n (rest ++ piece)) whole ∙ ap (take (length x)) e
+              ∙ take-append_seam x after in
           (omega (arith, sizes, lt), ap (λ (n : ℕ). rest ++ take n piece) some ∙ front))
       | inr le ↦ (
           let front : take (length x) rest ≡ x = sym (take-append-le (length x) rest piece le) ∙ ap (take (length x)) e ∙ take-append_seam x after in
@@ -141,16 +151,19 @@ module _ (used : List ℕ) (frames : List Frame) (rest piece : List ℕ) (sound 
       })
 
   -- a piece that makes one whole
-  on_whole : (f : Frame) (after : List ℕ) → frame_at (rest ++ piece) ≡ Ok (f, after) → IsSound (used ++ take (length piece - length after) piece) (frames ++ f ∷ []) []
+  on_whole : (f : Frame) (after : List ℕ) → frame_at (rest ++ piece) ≡ Ok (f, after) → IsSound (used ++ take (length piece - length after) piece)
+    (frames ++ f ∷ []) []
   on_whole f after e =
       let t = frame_spelled.takes (rest ++ piece) f after (IsBytes-append rest piece sound.bytes fits) e in
       let cut = cut_in_piece rest piece f after t.1 sound.reads.partial t.0.parts in
       let text : flat_map frame_spelling (frames ++ f ∷ []) ≡ flat_map frame_spelling frames ++ frame_spelling f =
-      flat_map-append frame_spelling frames (f ∷ []) ∙ ap (λ (t : List ℕ). flat_map frame_spelling frames ++ t) (flat_map-cons frame_spelling f [] ∙ append-nil (frame_spelling f)) in
+      flat_map-append frame_spelling frames (f ∷ []) ∙ ap (λ (t : List ℕ). flat_map frame_spelling frames ++ t) (flat_map-cons frame_spelling f []
+        ∙ append-nil (frame_spelling f)) in
       record {
         reads = record {
           lawful = all_push IsFrame frames f sound.reads.lawful t.1;
-          spelled = ap (λ (t : List ℕ). t ++ take (length piece - length after) piece) sound.reads.spelled ∙ append_assoc (flat_map frame_spelling frames) rest (take (length piece - length after) piece)
+          spelled = ap (λ (t : List ℕ). t ++ take (length piece - length after) piece) sound.reads.spelled
+            ∙ append_assoc (flat_map frame_spelling frames) rest (take (length piece - length after) piece)
               ∙ ap (λ (t : List ℕ). flat_map frame_spelling frames ++ t) cut.1 ∙ sym text ∙ sym (append-nil (flat_map frame_spelling (frames ++ f ∷ [])));
           partial = nothing_partial;
         };
@@ -158,19 +171,23 @@ module _ (used : List ℕ) (frames : List Frame) (rest piece : List ℕ) (sound 
       }
 
   -- either
-  on_ok : (given : Fed) → fed (Some rest) piece ≡ Ok given → IsSound (used ++ take given.used piece) (frames ++ frames_of given.frame) (rest_after rest piece given.frame)
+  on_ok : (given : Fed) → fed (Some rest) piece ≡ Ok given → IsSound (used ++ take given.used piece) (frames ++ frames_of given.frame)
+    (rest_after rest piece given.frame)
   on_ok given e =
       elim (is_partial (rest ++ piece)) as (λ b. is_partial (rest ++ piece) ≡ b
       → cond b (Ok (record { used = length piece; frame = None })) (given_of piece (frame_at (rest ++ piece))) ≡ Ok given
       → IsSound (used ++ take given.used piece) (frames ++ frames_of given.frame) (rest_after rest piece given.frame)) [
-        | true ↦ λ part h. subst (λ (g : Fed). IsSound (used ++ take g.used piece) (frames ++ frames_of g.frame) (rest_after rest piece g.frame)) (ok_is _ _ h) (on_partial part)
+        | true ↦ λ part h. subst (λ (g : Fed). IsSound (used ++ take g.used piece) (frames ++ frames_of g.frame) (rest_after rest piece g.frame))
+          (ok_is _ _ h) (on_partial part)
         | false ↦ λ whole h. (
             let f = bind_ok (frame_at (rest ++ piece)) (λ f. Ok (record { used = length piece - length f.1; frame = Some f.0 })) given h in
-            subst (λ (g : Fed). IsSound (used ++ take g.used piece) (frames ++ frames_of g.frame) (rest_after rest piece g.frame)) (ok_is _ _ f.2) (on_whole f.0.0 f.0.1 f.1))
+            subst (λ (g : Fed). IsSound (used ++ take g.used piece) (frames ++ frames_of g.frame) (rest_after rest piece g.frame)) (ok_is _ _ f.2)
+              (on_whole f.0.0 f.0.1 f.1))
       ] refl e
 
 -- one more feed
-by_result : (used : List ℕ) (frames : List Frame) (held : Option (List ℕ)) (piece : List ℕ) (r : Result Fed WireFault) → IfSome held (IsSound used frames) → AllByRecursion (λ b. b < 256) piece → Gives (λ x. x) r (fed held piece)
+by_result : (used : List ℕ) (frames : List Frame) (held : Option (List ℕ)) (piece : List ℕ) (r : Result Fed WireFault) → IfSome held (IsSound used frames)
+    → AllByRecursion (λ b. b < 256) piece → Gives (λ x. x) r (fed held piece)
     → let p = after_feed (record { used = used; frames = frames; held = held }) (piece, r) in IfSome p.held (IsSound p.used p.frames)
 by_result used frames None piece (Ok given) sound fits e = tt
 by_result used frames None piece (Err e) sound fits h = tt
@@ -184,7 +201,8 @@ by_result used frames (Some rest) piece (Err Trailing) sound fits h = tt
 by_result used frames (Some rest) piece (Err Broken) sound fits h = tt
 
 -- after all feeds
-all_sound : (fs : List Feed) (p : Progress) → IfSome p.held (IsSound p.used p.frames) → AreFeeds p fs → let q = after_feeds p fs in IfSome q.held (IsSound q.used q.frames)
+all_sound : (fs : List Feed) (p : Progress) → IfSome p.held (IsSound p.used p.frames) → AreFeeds p fs
+    → let q = after_feeds p fs in IfSome q.held (IsSound q.used q.frames)
 all_sound [] p sound are = sound
 all_sound (f ∷ fs) p sound are = all_sound fs (after_feed p f) (by_result p.used p.frames p.held f.0 f.1 sound are.0.0 are.0.1) are.1
 
@@ -206,7 +224,8 @@ pub feeds_read : FeedsRead
 feeds_read fs are = let p = after_feeds at_start fs in reads_of p.used p.frames p.held (from_start fs are)
 
 -- a piece that is refused
-refuses_of : (used : List ℕ) (frames : List Frame) (rest piece : List ℕ) (e : WireFault) → Reads used frames rest → fed (Some rest) piece ≡ Err e → Refuses (used ++ piece) frames (rest ++ piece) e
+refuses_of : (used : List ℕ) (frames : List Frame) (rest piece : List ℕ) (e : WireFault) → Reads used frames rest → fed (Some rest) piece ≡ Err e
+    → Refuses (used ++ piece) frames (rest ++ piece) e
 refuses_of used frames rest piece e reads h =
     elim (is_partial (rest ++ piece)) as (λ b. is_partial (rest ++ piece) ≡ b
     → cond b (Ok (record { used = length piece; frame = None })) (given_of piece (frame_at (rest ++ piece))) ≡ Err e

@@ -9,7 +9,8 @@ use Rattle.cc_wire.specs.Reading.{◌>>=◌, Reading, ◌⊗◌, via, nothing_at
 use Rattle.cc_frames.specs.Limits.{body_limit}
 use Rattle.cc_wire.specs.Spelling.{Spells, IsId}
 use Rattle.cc_wire.specs.Answers.{answer_spelling, IsAnswer, answer_at}
-use Rattle.cc_wire.specs.Events.{numbered_spelling, IsNumbered, numbered_at, delivery_spelling, IsDelivery, delivery_at, place_spelling, IsPlace, place_at, asked_spelling, IsAsked, asked_at}
+use Rattle.cc_wire.specs.Events.{numbered_spelling, IsNumbered, numbered_at, delivery_spelling, IsDelivery, delivery_at, place_spelling, IsPlace}
+use Rattle.cc_wire.specs.Events.{place_at, asked_spelling, IsAsked, asked_at}
 
 -- the answer to the command at a place
 abbrev pub replied_spelling : ℕ → ℕ → Answer → List ℕ

@@ -2,7 +2,8 @@
 --     frame_length, is_partial      how long the frame at the front is, and whether not all of it is there
 --     front_of                      the frame at the front, where it is whole
 --     TopsUp, IsHeld                how bytes are added, and what a reader keeps
-use Rattle.std.specs.Prelude.{◌≡◌, ℕ, ◌+◌, ◌≤◌, List, ◌++◌, length, take, Bool, false, Option, Some, None, Result, Ok, Err, IsTrue, IsOkAnd, nat_lt, if◌then◌else◌}
+use Rattle.std.specs.Prelude.{◌≡◌, ℕ, ◌+◌, ◌≤◌, List, ◌++◌, length, take, Bool, false, Option, Some, None, Result, Ok, Err, IsTrue, IsOkAnd, nat_lt}
+use Rattle.std.specs.Prelude.{if◌then◌else◌}
 use Rattle.cc_wire.specs.declared.fault.WireFault.{WireFault}
 use Rattle.cc_frames.specs.declared.frame.Frame.{Frame}
 use Rattle.cc_frames.specs.Limits.{frame_limit}

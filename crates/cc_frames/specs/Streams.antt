@@ -53,7 +53,8 @@ abbrev pub Feed : Type 0
 Feed = List ℕ × Result Fed WireFault
 
 abbrev pub after_feed : Progress → Feed → Progress
-after_feed p (piece, Ok given) = record { used = p.used ++ take given.used piece; frames = p.frames ++ frames_of given.frame; held = held_after p.held piece (Ok given) }
+after_feed p (piece, Ok given) = record { used = p.used ++ take given.used piece; frames = p.frames
+    ++ frames_of given.frame; held = held_after p.held piece (Ok given) }
 after_feed p (piece, Err e) = record { used = p.used; frames = p.frames; held = held_after p.held piece (Err e) }
 
 abbrev pub after_feeds : Progress → List Feed → Progress
@@ -92,7 +93,8 @@ FeedsRefuse = (fs : List Feed) (rest piece : List ℕ) (e : WireFault) → AreFe
 
 -- A stream holds one list of frames and one rest, so these are the same however the stream is cut.
 abbrev pub StreamsReadOneWay : Type 0
-StreamsReadOneWay = (stream : List ℕ) (frames others : List Frame) (rest other : List ℕ) → Reads stream frames rest → Reads stream others other → (frames ≡ others) × (rest ≡ other)
+StreamsReadOneWay = (stream : List ℕ) (frames others : List Frame) (rest other : List ℕ) → Reads stream frames rest → Reads stream others other
+    → (frames ≡ others) × (rest ≡ other)
 
 -- A stream that is refused is refused whatever follows, and behind the same frames.
 abbrev pub StreamsStayRefused : Type 0

@@ -7,7 +7,8 @@ ghost use Rattle.cc_frames.specs.Limits.{body_limit};
 ghost use Rattle.cc_frames.specs.declared.frame.Frame.TheVariants as frames;
 ghost use Rattle.cc_wire.specs.Writing.{Writes};
 ghost use Rattle.cc_wire.specs.Reading.{Gives, whole};
-ghost use Rattle.cc_frames.specs.Frames.{replied_spelling, IsReplied, refused_spelling, IsRefused, body_spelling, frame_spelling, IsFrame, SpellsFrame, body_at, body_fields, replied_at, refused_at, body_length_at, enclosed_at, frame_at};
+ghost use Rattle.cc_frames.specs.Frames.{replied_spelling, IsReplied, refused_spelling, IsRefused, body_spelling, frame_spelling, IsFrame};
+ghost use Rattle.cc_frames.specs.Frames.{SpellsFrame, body_at, body_fields, replied_at, refused_at, body_length_at, enclosed_at, frame_at};
 
 use byteorder::{BigEndian, ByteOrder};
 use cc_messages::{Answer, Command, Message};

@@ -26,7 +26,8 @@ first_named : (text : List ℕ)
 first_named [] = refl
 first_named (b ∷ text) =
     let parts = slice_split ends_line text in
-    elim (ends_line b) as (λ t. flat_map data_line (cond t ([] ∷ parts) (onto_first b parts)) ≡ codes "data: " ++ named_lines (cond t ([] ∷ parts) (onto_first b parts)))
+    elim (ends_line b) as (λ t. flat_map data_line (cond t ([] ∷ parts) (onto_first b parts)) ≡ codes "data: "
+      ++ named_lines (cond t ([] ∷ parts) (onto_first b parts)))
     [ true ↦ at_first [] parts | false ↦ at_grown b parts ]
 
 by_bytes : (text : List ℕ) → flat_map data_byte text ++ codes "\n" ≡ named_lines (slice_split ends_line text)

@@ -99,7 +99,8 @@ lawful digits reason first other is_stream size three numeral passes is more fit
   minor = lit≤ tt;
   digits = (three, AllPass-from_list_all is_ascii_digit digits numeral);
   reason = AllPass-from_list_all is_value_byte reason passes;
-  fields = All-cons IsField first (common_fields ++ (other ++ length_fields is_stream size)) is (All-append IsField common_fields (other ++ length_fields is_stream size) common
+  fields = All-cons IsField first (common_fields ++ (other ++ length_fields is_stream size)) is
+    (All-append IsField common_fields (other ++ length_fields is_stream size) common
       (All-append IsField other (length_fields is_stream size) more (size_line is_stream size fits)));
 }
 
@@ -110,8 +111,12 @@ page_heads page NotReady size fits =
     lawful (codes "503") (codes "Service Unavailable") _ (policy_fields page) (is_stream page) size refl refl refl (form page) (policy page) fits
 
 pub wrong_heads : (wrong : Wrong) (size : ℕ) → size < 2 ^ 64 → IsResponseHead (wrong_head wrong size)
-wrong_heads Malformed size fits = lawful (codes "400") (codes "Bad Request") _ (allow_fields Malformed) false size refl refl refl (form Health) (allow Malformed) fits
+wrong_heads Malformed size fits = lawful (codes "400") (codes "Bad Request") _ (allow_fields Malformed) false size refl refl refl (form Health)
+    (allow Malformed) fits
 wrong_heads NoPage size fits = lawful (codes "404") (codes "Not Found") _ (allow_fields NoPage) false size refl refl refl (form Health) (allow NoPage) fits
-wrong_heads Method size fits = lawful (codes "405") (codes "Method Not Allowed") _ (allow_fields Method) false size refl refl refl (form Health) (allow Method) fits
-wrong_heads TooLong size fits = lawful (codes "431") (codes "Request Header Fields Too Large") _ (allow_fields TooLong) false size refl refl refl (form Health) (allow TooLong) fits
-wrong_heads Version size fits = lawful (codes "505") (codes "HTTP Version Not Supported") _ (allow_fields Version) false size refl refl refl (form Health) (allow Version) fits
+wrong_heads Method size fits = lawful (codes "405") (codes "Method Not Allowed") _ (allow_fields Method) false size refl refl refl (form Health)
+    (allow Method) fits
+wrong_heads TooLong size fits = lawful (codes "431") (codes "Request Header Fields Too Large") _ (allow_fields TooLong) false size refl refl refl
+    (form Health) (allow TooLong) fits
+wrong_heads Version size fits = lawful (codes "505") (codes "HTTP Version Not Supported") _ (allow_fields Version) false size refl refl refl (form Health)
+    (allow Version) fits

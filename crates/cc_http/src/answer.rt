@@ -8,7 +8,8 @@ ghost use Rattle.cc_http.specs.declared.page.Page.{Page};
 ghost use Rattle.cc_http.specs.declared.asking.Wrong.{Wrong};
 ghost use Rattle.cc_http.specs.declared.answer.Outcome.{Outcome};
 ghost use Rattle.cc_http.specs.Writing.{Writes};
-ghost use Rattle.cc_http.specs.Answers.{field, form_of, common_fields, policy_fields, is_stream, page_head, wrong_head, page_answer, wrong_answer, wrong_digits, wrong_reason, allow_fields, wrong_text, body_spelling, digits_of, reason_of};
+ghost use Rattle.cc_http.specs.Answers.{field, form_of, common_fields, policy_fields, is_stream, page_head, wrong_head, page_answer, wrong_answer};
+ghost use Rattle.cc_http.specs.Answers.{wrong_digits, wrong_reason, allow_fields, wrong_text, body_spelling, digits_of, reason_of};
 ghost use Rattle.cc_http.specs.Lines.{status_line, lines, length_lines};
 
 use crate::asking::Wrong;

@@ -148,9 +148,9 @@ tr.is-new > * { animation: fresh 1.6s ease-out; }
     <dl class="facts" id="facts"></dl>
   </section>
   <div class="charts">
-    <section aria-labelledby="events-title">
-      <div class="head"><h2 id="events-title">Events a second</h2><p><b id="events-now"></b></p></div>
-      <svg class="chart" id="events" viewBox="0 0 340 124" role="img"></svg>
+    <section aria-labelledby="operations-title">
+      <div class="head"><h2 id="operations-title">Operations a second</h2><p><b id="operations-now"></b></p></div>
+      <svg class="chart" id="operations" viewBox="0 0 340 124" role="img"></svg>
     </section>
     <section aria-labelledby="syncs-title">
       <div class="head">
@@ -206,7 +206,8 @@ function draw(name, attributes, text) {
   if (text !== undefined) element.textContent = text;
   return element;
 }
-const count = (number, word) => number.toLocaleString("en") + " " + word + (number === 1 ? "" : "s");
+const count = (number, word, words = word + "s") => number.toLocaleString("en") + " " + (number === 1 ? word : words);
+const total = named => Object.values(named).reduce((sum, number) => sum + number, 0);
 function lasting(ms) {
   const s = Math.max(0, Math.floor(ms / 1000)), m = Math.floor(s / 60), h = Math.floor(m / 60), d = Math.floor(h / 24);
   if (d) return d + " d " + h % 24 + " h";
@@ -340,18 +341,25 @@ function fact(name, value, used, limit) {
   group.append(make("dt", "", name), cell);
   return group;
 }
+// Up to how many events half of the batches have, and nine of ten.
+function batches(counts) {
+  if (!counts.commits) return "–";
+  const [half, most] = [.5, .9].map(part => counts.batches.find(([, seen]) => seen >= part * counts.commits)[0]);
+  return `half up to ${half}, 9 of 10 up to ${most}`;
+}
 function showFacts(status) {
   const { sessions, posts, disk, counts, syncs } = status, limit = status.session_limit;
-  const refusals = Object.entries(counts.refusals).map(([name, number]) => name + " " + number.toLocaleString("en"));
+  const list = named => Object.entries(named).map(([name, number]) => name + " " + number.toLocaleString("en")).join(", ") || "none";
   at("facts").replaceChildren(
     fact("Sessions", `${sessions.length} of ${limit}`, sessions.length, limit),
     fact("Posts kept", `${posts.kept} of ${posts.limit}`, posts.kept, posts.limit),
     fact("Connections", counts.connections),
     fact("Begin together", "up to " + count(status.share, "ask")),
-    fact("Commits", counts.commits.toLocaleString("en")),
-    fact("Events", counts.events.toLocaleString("en")),
+    fact("Operations", list(counts.asks)),
+    fact("Events", `${counts.events.toLocaleString("en")} in ${count(counts.commits, "batch", "batches")}`),
+    fact("Events of a batch", batches(counts)),
     fact("Slowest sync", milliseconds(syncs.worst_us)),
-    fact("Refused", refusals.join(", ") || "none"),
+    fact("Refused", list(counts.refusals)),
     fact("Disk", `${bytes(disk.bytes)} on side ${disk.side}`),
     fact("Records", disk.records.toLocaleString("en")),
     fact("Generation", disk.generation.toLocaleString("en")),
@@ -398,11 +406,12 @@ function showPeers(status) {
 
 // Samples of the last five minutes, and charts of them, as wide as there are minutes.
 function sample(status) {
-  const before = samples[samples.length - 1], events = status.counts.events, seconds = before && (status.now - before.now) / 1000;
+  const before = samples[samples.length - 1], seconds = before && (status.now - before.now) / 1000;
+  const operations = total(status.counts.asks);
   if (before && before.started === status.started && seconds <= 0) return;
-  const isNext = before && before.started === status.started && events >= before.events && seconds < 30;
+  const isNext = before && before.started === status.started && operations >= before.operations && seconds < 30;
   samples.push({
-    now: status.now, started: status.started, events, rate: isNext ? (events - before.events) / seconds : null,
+    now: status.now, started: status.started, operations, rate: isNext ? (operations - before.operations) / seconds : null,
     half: status.syncs.count ? status.syncs.p50_us / 1000 : null, most: status.syncs.count ? status.syncs.p99_us / 1000 : null,
   });
   while (samples[0].now < status.now - 60000 * SPANS[SPANS.length - 1]) samples.shift();
@@ -439,10 +448,10 @@ function showCharts(status) {
   const newest = samples[samples.length - 1], hasSyncs = status.syncs.count > 0;
   const rate = newest.rate === null ? "–" : newest.rate < 10 ? newest.rate.toFixed(1) : Math.round(newest.rate).toLocaleString("en");
   const [half, most] = [status.syncs.p50_us, status.syncs.p99_us].map(us => hasSyncs ? milliseconds(us) : "–");
-  say(at("events-now"), rate);
+  say(at("operations-now"), rate);
   say(at("half-now"), half);
   say(at("most-now"), most);
-  showChart(at("events"), ["rate"], "", `Events a second over the last minutes, now ${rate}`);
+  showChart(at("operations"), ["rate"], "", `Operations a second over the last minutes, now ${rate}`);
   showChart(at("syncs"), ["half", "most"], " ms", `Disk sync over the last minutes: half take at most ${half}, 99 of 100 at most ${most}`);
 }
 

@@ -13,5 +13,7 @@ pub no_entry : (batch : List Entry) → length batch ≡ 0 → batch ≡ []
 no_entry [] none = refl
 no_entry (e ∷ es) none = absurd (omega arith)
 
-pub flushed_none : {D : Type 0} (s : Ghosts D) (batch : List Entry) (e : Engine D) → length batch ≡ 0 → e.owes ≡ false → e.failed ≡ None → (s.honest e.site → OnlyNow s e.site) → Flushes s batch e e
-flushed_none s batch e none owes goes only = subst (λ (b : List Entry). Flushes s b e e) (sym (no_entry batch none)) (stays s (LeadsTo s) e (λ start events opening led. led.good) owes goes only)
+pub flushed_none : {D : Type 0} (s : Ghosts D) (batch : List Entry) (e : Engine D) → length batch ≡ 0 → e.owes ≡ false → e.failed ≡ None
+    → (s.honest e.site → OnlyNow s e.site) → Flushes s batch e e
+flushed_none s batch e none owes goes only = subst (λ (b : List Entry). Flushes s b e e) (sym (no_entry batch none))
+    (stays s (LeadsTo s) e (λ start events opening led. led.good) owes goes only)

@@ -54,9 +54,11 @@ module _ {D : Type 0} (s : Ghosts D) (reached : ℕ → List Entry → Type 0) w
 
   -- n entries were handed over of those popped before, and m more of those popped now
   module _ (opening : Node) (before now : List Entry) (n m : ℕ) (kept taken left kept' : Option Entry) (batch : List Entry) (old new : Engine D)
-      (took : taken ≡ kept) (is : IsTurner opening before n kept old) (put : kept' ≡ left) (gathered : Gathers before taken batch left now) (len : m ≡ length batch) (lawful : AreLawful opening now) (limit : length now ≤ life_limit) where
+      (took : taken ≡ kept) (is : IsTurner opening before n kept old) (put : kept' ≡ left) (gathered : Gathers before taken batch left now)
+        (len : m ≡ length batch) (lawful : AreLawful opening now) (limit : length now ≤ life_limit) where
     on : HandedOn opening before now n m kept' batch
-    on = hands_on opening before now n m kept taken kept' batch took is.whole is.count (subst (λ (k : Option Entry). Gathers before taken batch k now) (sym put) gathered) len lawful limit
+    on = hands_on opening before now n m kept taken kept' batch took is.whole is.count
+      (subst (λ (k : Option Entry). Gathers before taken batch k now) (sym put) gathered) len lawful limit
 
     pub lawful_batch : old.failed ≡ None → AreLawful old.twin batch
     lawful_batch none = subst (λ (s : Node). AreLawful s batch) (sym (is.twin none)) on.lawful
@@ -67,13 +69,15 @@ module _ {D : Type 0} (s : Ghosts D) (reached : ℕ → List Entry → Type 0) w
     abbrev pub becomes : ℕ → Turning D
     becomes finds = record { handed = take (n + m) now; kept = kept'; finds = finds; engine = new }
 
-    pub turned : (finds finds' : ℕ) → IsDone reached batch left now finds finds' → Goes batch old new → IsTurn (was finds) (becomes finds') (Ok (record { events = m; full = false }))
+    pub turned : (finds finds' : ℕ) → IsDone reached batch left now finds finds' → Goes batch old new
+      → IsTurn (was finds) (becomes finds') (Ok (record { events = m; full = false }))
     turned finds finds' done run = record {
       batch = batch;
       more = on.more;
       handed = on.handed;
       behind = on.behind ∙ ap (λ (l : List Entry). l ++ on.more) is.whole;
-      done = (len, λ _. subst (λ (l : List Entry). IsDone reached batch kept' l finds finds') on.whole (subst (λ (k : Option Entry). IsDone reached batch k now finds finds') (sym put) done));
+      done = (len, λ _. subst (λ (l : List Entry). IsDone reached batch kept' l finds finds') on.whole
+        (subst (λ (k : Option Entry). IsDone reached batch k now finds finds') (sym put) done));
       engine = run;
     }
 

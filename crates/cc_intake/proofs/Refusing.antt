@@ -40,9 +40,12 @@ first_own (Some r ∷ rs) all = all.0
 own_reasons : (c : Core) (e : Event) → AllByRecursion (λ r. IfSome r IsOwn) (reasons line_limit c e)
 own_reasons c event.Enter = (own_if _ _ tt, (own_if _ _ tt, (own_if _ _ tt, (own_if _ _ tt, tt))))
 own_reasons c event.Leave = (own_if _ _ tt, (own_if _ _ tt, (own_if _ _ tt, (own_if _ _ tt, tt))))
-own_reasons c (event.Deliver from n m) = (own_if _ _ tt, (own_if _ _ tt, (own_if _ _ tt, (own_if _ _ tt, (own_if _ _ tt, (own_if _ _ tt, (own_if _ _ tt, tt)))))))
+own_reasons c (event.Deliver from n m) = (own_if _ _ tt, (own_if _ _ tt,
+    (own_if _ _ tt, (own_if _ _ tt, (own_if _ _ tt, (own_if _ _ tt, (own_if _ _ tt, tt)))))))
 own_reasons c (event.Acked peer n) = (own_if _ _ tt, (own_if _ _ tt, tt))
-own_reasons c (event.Ask s r command) = (own_if _ _ tt, (own_if _ _ tt, (own_if _ _ tt, (own_if _ _ tt, (own_if _ _ tt, (own_if _ _ tt, (own_if _ _ tt, (own_if _ _ tt, (own_if _ _ tt, (own_if _ _ tt, (own_if _ _ tt, tt)))))))))))
+own_reasons c (event.Ask s r command) = (own_if _ _ tt, (own_if _ _ tt,
+    (own_if _ _ tt, (own_if _ _ tt, (own_if _ _ tt, (own_if _ _ tt, (own_if _ _ tt,
+      (own_if _ _ tt, (own_if _ _ tt, (own_if _ _ tt, (own_if _ _ tt, tt)))))))))))
 own_reasons c (event.Retire q) = (own_if _ _ tt, (own_if _ _ tt, (own_if _ _ tt, (own_if _ _ tt, (own_if _ _ tt, tt)))))
 own_reasons c (event.Lapse q) = (own_if _ _ tt, (own_if _ _ tt, (own_if _ _ tt, (own_if _ _ tt, (own_if _ _ tt, tt)))))
 own_reasons c event.Snapshot = (own_if _ _ tt, (own_if _ _ tt, (own_if _ _ tt, (own_if _ _ tt, (own_if _ _ tt, tt)))))
@@ -54,7 +57,8 @@ own_reason c e = first_own (reasons line_limit c e) (own_reasons c e)
 is_own : (c : Core) (e : Event) (r : Refusal) → decides c e ≡ Some r → IsOwn r
 is_own c e r is = subst (λ d. IfSome d IsOwn) is (own_reason c e)
 
-pub refuses_own : (opening : Node) (taken : ℕ → List Entry → Type 0) (i j : Accepting) (e : Event) (r : Refusal) → decides (core_after opening i.entries) e ≡ Some r → j ≡ i → Refuses opening taken i e r j
+pub refuses_own : (opening : Node) (taken : ℕ → List Entry → Type 0) (i j : Accepting) (e : Event) (r : Refusal)
+    → decides (core_after opening i.entries) e ≡ Some r → j ≡ i → Refuses opening taken i e r j
 refuses_own opening taken i j e refusal.Spent is same = (inl is, same)
 refuses_own opening taken i j e refusal.NoMemory is same = absurd (is_own (core_after opening i.entries) e refusal.NoMemory is)
 refuses_own opening taken i j e refusal.QueueFull is same = absurd (is_own (core_after opening i.entries) e refusal.QueueFull is)
@@ -63,7 +67,8 @@ refuses_own opening taken i j e r is same = (is, same)
 -- an intake's core decides as the core after its entries
 pub decides_after : (opening : Node) (i j : Accepting) (core : Core) (e : Event) (d : Option Refusal)
     → j ≡ i → core ≡ core_after opening j.entries → decides core e ≡ d → decides (core_after opening i.entries) e ≡ d
-decides_after opening i j core e d same is decided = subst (λ (k : Accepting). decides (core_after opening k.entries) e ≡ d) same (subst (λ (k : Core). decides k e ≡ d) is decided)
+decides_after opening i j core e d same is decided = subst (λ (k : Accepting). decides (core_after opening k.entries) e ≡ d) same
+    (subst (λ (k : Core). decides k e ≡ d) is decided)
 
 -- where an intake's core doesn't refuse an event, and the life has room
 pub may_accept : (opening : Node) (i j : Accepting) (core : Core) (accepted : ℕ) (e : Event)
@@ -73,7 +78,9 @@ may_accept opening i j core accepted e same is count free room =
     (decides_after opening i j core e None same is free, omega (arith, n, count, room))
 
 pub refuses_made : (opening : Node) (taken : ℕ → List Entry → Type 0) (i j : Accepting) (core : Core) (accepted : ℕ) (e : Event) (r : Refusal)
-    → j ≡ i → core ≡ core_after opening j.entries → accepted ≡ length j.entries → accepted < life_limit → (decides core e ≡ Some r) ⊎ ((decides core e ≡ None) × (r ≡ refusal.NoMemory)) → Refuses opening taken i e r i
-refuses_made opening taken i j core accepted e r same is count room (inl own) = refuses_own opening taken i i e r (decides_after opening i j core e (Some r) same is own) refl
+    → j ≡ i → core ≡ core_after opening j.entries → accepted ≡ length j.entries → accepted < life_limit
+    → (decides core e ≡ Some r) ⊎ ((decides core e ≡ None) × (r ≡ refusal.NoMemory)) → Refuses opening taken i e r i
+refuses_made opening taken i j core accepted e r same is count room (inl own) =
+    refuses_own opening taken i i e r (decides_after opening i j core e (Some r) same is own) refl
 refuses_made opening taken i j core accepted e r same is count room (inr free) =
     subst (λ (s : Refusal). Refuses opening taken i e s i) (sym free.1) (may_accept opening i j core accepted e same is count free.0 room, refl)

@@ -4,7 +4,8 @@ use Rattle.std.specs.Prelude.{Ok, Err}
 use Rattle.cc_messages.specs.declared.event.Event.{Event}
 use Rattle.cc_intake.specs.Talks.{Answer, Spoke, places_of, PlacesRise, step, IsAbove}
 
-pub spoke-push : {S : Type 0} (gives : S → Option Event → S → Type 0) (hears : S → Event → Answer → S → Type 0) (answers : Event → Answer → Type 0) (s : S) (rest : List Answer) (t : S) (e : Event) (u : S) (a : Answer) (w : S)
+pub spoke-push : {S : Type 0} (gives : S → Option Event → S → Type 0) (hears : S → Event → Answer → S → Type 0) (answers : Event → Answer → Type 0)
+    (s : S) (rest : List Answer) (t : S) (e : Event) (u : S) (a : Answer) (w : S)
     → Spoke gives hears answers s rest t → gives t (Some e) u → answers e a → hears u e a w → Spoke gives hears answers s (rest ++ a ∷ []) w
 spoke-push gives hears answers s [] t e u a w spoke gave answered heard = (e, u, w, subst (λ x. gives x (Some e) u) (sym spoke) gave, answered, heard, refl)
 spoke-push gives hears answers s (b ∷ rest) t e u a w spoke gave answered heard =

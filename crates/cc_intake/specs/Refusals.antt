@@ -22,8 +22,10 @@ MayAccept opening i event = (decides (core_after opening i.entries) event ≡ No
 -- behind it. Each look that found the queue full counts, so none stands for two refusals.
 abbrev pub Refuses : Node → (ℕ → List Entry → Type 0) → Accepting → Event → Refusal → Accepting → Type 0
 Refuses opening taken i event Spent j =
-    ((decides (core_after opening i.entries) event ≡ Some Spent) ⊎ ((decides (core_after opening i.entries) event ≡ None) × (length i.entries ≡ life_limit))) × (j ≡ i)
+    ((decides (core_after opening i.entries) event ≡ Some Spent) ⊎ ((decides (core_after opening i.entries) event ≡ None)
+      × (length i.entries ≡ life_limit))) × (j ≡ i)
 Refuses opening taken i event NoMemory j = MayAccept opening i event × (j ≡ i)
 Refuses opening taken i event QueueFull j =
-    MayAccept opening i event × (j ≡ record { entries = i.entries; finds = i.finds + 1; issued = i.issued }) × Held queue_limit (WasRest taken i.finds i.entries)
+    MayAccept opening i event × (j ≡ record { entries = i.entries; finds = i.finds + 1; issued = i.issued })
+      × Held queue_limit (WasRest taken i.finds i.entries)
 Refuses opening taken i event r j = (decides (core_after opening i.entries) event ≡ Some r) × (j ≡ i)

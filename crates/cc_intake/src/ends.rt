@@ -37,7 +37,8 @@ impl<L: Life> Model for Ends<L> {
 
     ghost view = { λ e. e.ring.table.shared.table_id };
 
-    ghost invariant = { λ e. (e.ring.cap ≡ 256) × (IsPassOf e.ring e.pushing × (hand_of e.pushing ≡ producer [] 0)) × (IsPassOf e.ring e.popping × (hand_of e.popping ≡ consumer [] 0)) };
+    ghost invariant = { λ e. (e.ring.cap ≡ 256) × (IsPassOf e.ring e.pushing × (hand_of e.pushing ≡ producer [] 0))
+      × (IsPassOf e.ring e.popping × (hand_of e.popping ≡ consumer [] 0)) };
 }
 
 // How many entries the queue holds at most.
@@ -135,7 +136,8 @@ impl<L: Life, Q: Lane> Model for Producer<L, Q> {
 
     ghost view = { λ p. record { entries = (hand_of p.pass).sent; finds = (hand_of p.pass).finds } };
 
-    ghost invariant = { λ p. (p.pass.table_id ≡ Q.table) × (p.pass.me.1 ≡ []) × (hand_of p.pass ≡ producer (hand_of p.pass).sent (hand_of p.pass).finds) × ((look : ℕ) (list : List EntryValue) → L.reached look list) × ((list : List EntryValue) → L.accepted list) };
+    ghost invariant = { λ p. (p.pass.table_id ≡ Q.table) × (p.pass.me.1 ≡ []) × (hand_of p.pass ≡ producer (hand_of p.pass).sent (hand_of p.pass).finds)
+      × ((look : ℕ) (list : List EntryValue) → L.reached look list) × ((list : List EntryValue) → L.accepted list) };
 }
 
 impl<L: Life, Q: Lane> Producer<L, Q> {
@@ -150,7 +152,8 @@ impl<L: Life, Q: Lane> Producer<L, Q> {
         requires may_accept { decides (core_after L.opening self.old.entries) entry.event ≡ None }
         requires made { entry.made ≡ made (core_after L.opening self.old.entries) entry.event }
         ensures pushed { OnOk result (self.new ≡ record { entries = self.old.entries ++ entry ∷ []; finds = self.old.finds }) }
-        ensures full { OnErr result ((self.new ≡ record { entries = self.old.entries; finds = self.old.finds + 1 }) × Held queue_limit (WasRest L.taken self.old.finds self.old.entries)) }
+        ensures full { OnErr result ((self.new ≡ record { entries = self.old.entries; finds = self.old.finds + 1 })
+          × Held queue_limit (WasRest L.taken self.old.finds self.old.entries)) }
         ensures accepted { L.accepted self.new.entries }
     {
         match queue.ring.push_as::<Push<L>, R>(rt, &mut self.pass, entry) {
@@ -187,7 +190,8 @@ impl<L: Life, Q: Lane> Model for Consumer<L, Q> {
 
     ghost view = { λ p. record { entries = (hand_of p.pass).got; finds = (hand_of p.pass).finds } };
 
-    ghost invariant = { λ p. (p.pass.table_id ≡ Q.table) × (p.pass.me.1 ≡ []) × (hand_of p.pass ≡ consumer (hand_of p.pass).got (hand_of p.pass).finds) × AreLawful L.opening (hand_of p.pass).got × (length (hand_of p.pass).got ≤ life_limit) × ((look : ℕ) (list : List EntryValue) → L.taken look list) };
+    ghost invariant = { λ p. (p.pass.table_id ≡ Q.table) × (p.pass.me.1 ≡ []) × (hand_of p.pass ≡ consumer (hand_of p.pass).got (hand_of p.pass).finds)
+      × AreLawful L.opening (hand_of p.pass).got × (length (hand_of p.pass).got ≤ life_limit) × ((look : ℕ) (list : List EntryValue) → L.taken look list) };
 }
 
 impl<L: Life, Q: Lane> Consumer<L, Q> {
@@ -201,7 +205,8 @@ impl<L: Life, Q: Lane> Consumer<L, Q> {
 
     // None only where the queue was empty at one moment of the call.
     pub(crate) fn pop<R: Wait>(&mut self, rt: &R, queue: &Queue<L, Q>) -> Option<Entry>
-        ensures popped { MatchOption result ((self.new ≡ record { entries = self.old.entries; finds = self.old.finds + 1 }) × L.reached self.old.finds self.old.entries) (λ e. self.new ≡ record { entries = self.old.entries ++ e ∷ []; finds = self.old.finds }) }
+        ensures popped { MatchOption result ((self.new ≡ record { entries = self.old.entries; finds = self.old.finds + 1 })
+          × L.reached self.old.finds self.old.entries) (λ e. self.new ≡ record { entries = self.old.entries ++ e ∷ []; finds = self.old.finds }) }
         ensures lawful { AreLawful L.opening self.new.entries }
         ensures limit { length self.new.entries ≤ life_limit }
     {

@@ -132,7 +132,9 @@ impl<L: Life, Q: Lane> Model for Intake<L, Q> {
 
     ghost view = { λ i. record { entries = i.producer.entries; finds = i.producer.finds; issued = i.issued } };
 
-    ghost invariant = { λ i. (i.core ≡ core_after L.opening i.producer.entries) × (i.accepted ≡ length i.producer.entries) × (i.accepted ≤ life_limit) × (i.book.total ≡ i.accepted) × (i.unissued.parts + i.issued ≡ share_limit) × (i.unissued.amount ≡ 0) × (L.parts ≡ share_limit) × L.accepted i.producer.entries };
+    ghost invariant = { λ i. (i.core ≡ core_after L.opening i.producer.entries) × (i.accepted ≡ length i.producer.entries) × (i.accepted ≤ life_limit)
+      × (i.book.total ≡ i.accepted) × (i.unissued.parts + i.issued ≡ share_limit) × (i.unissued.amount ≡ 0) × (L.parts ≡ share_limit)
+        × L.accepted i.producer.entries };
 }
 
 impl<L: Life, Q: Lane> Intake<L, Q> {
@@ -178,7 +180,8 @@ impl<L: Life, Q: Lane> Intake<L, Q> {
     /// A share that counts nothing yet. It takes no memory. None where 1,048,576 were given out in this life.
     pub fn share(&mut self) -> Option<Share<L>>
         ensures { MatchOption result ((self.old.issued ≡ share_limit) × (self.new ≡ self.old))
-            (λ s. (s ≡ 0) × (self.old.issued < share_limit) × (self.new ≡ record { entries = self.old.entries; finds = self.old.finds; issued = self.old.issued + 1 })) }
+            (λ s. (s ≡ 0) × (self.old.issued < share_limit) × (self.new
+              ≡ record { entries = self.old.entries; finds = self.old.finds; issued = self.old.issued + 1 })) }
     {
         if self.issued >= SHARE_LIMIT {
             return None;
@@ -201,7 +204,8 @@ impl<L: Life, Q: Lane> Intake<L, Q> {
         event: Event,
     ) -> Result<Accepted, Refused>
         ensures accepted { IfOk result (λ a. MayAccept L.opening self.old event × (a.place ≡ length self.new.entries)
-            × (self.new ≡ record { entries = self.old.entries ++ entry_at (core_after L.opening self.old.entries) event ∷ []; finds = self.old.finds; issued = self.old.issued })) }
+            × (self.new ≡ record { entries = self.old.entries ++ entry_at (core_after L.opening self.old.entries) event ∷ []; finds = self.old.finds;
+              issued = self.old.issued })) }
         ensures stirs { IfOk result (λ a. a.stirs ≡ stirs (made (core_after L.opening self.old.entries) event)) }
         ensures counted { IfOk result (λ a. (share.new ≡ share.old + 1) × (share.old < a.place)) }
         ensures refused { IfErr result (λ r. Refuses L.opening L.taken self.old event r.why self.new × (r.accepted ≡ length self.old.entries)) }
@@ -223,7 +227,8 @@ impl<L: Life, Q: Lane> Intake<L, Q> {
         event: &Event,
     ) -> Result<Accepted, Refused>
         ensures accepted { IfOk result (λ a. MayAccept L.opening self.old event.now × (a.place ≡ length self.new.entries)
-            × (self.new ≡ record { entries = self.old.entries ++ entry_at (core_after L.opening self.old.entries) event.now ∷ []; finds = self.old.finds; issued = self.old.issued })) }
+            × (self.new ≡ record { entries = self.old.entries ++ entry_at (core_after L.opening self.old.entries) event.now ∷ []; finds = self.old.finds;
+              issued = self.old.issued })) }
         ensures stirs { IfOk result (λ a. a.stirs ≡ stirs (made (core_after L.opening self.old.entries) event.now)) }
         ensures counted { IfOk result (λ a. (share.new ≡ share.old + 1) × (share.old < a.place)) }
         ensures refused { IfErr result (λ r. Refuses L.opening L.taken self.old event.now r.why self.new × (r.accepted ≡ length self.old.entries)) }
@@ -252,7 +257,8 @@ impl<L: Life, Q: Lane> Intake<L, Q> {
         event: &Event,
     ) -> Result<Accepted, Refusal>
         ensures accepted { IfOk result (λ a. MayAccept L.opening self.old event.now × (a.place ≡ length self.new.entries)
-            × (self.new ≡ record { entries = self.old.entries ++ entry_at (core_after L.opening self.old.entries) event.now ∷ []; finds = self.old.finds; issued = self.old.issued })) }
+            × (self.new ≡ record { entries = self.old.entries ++ entry_at (core_after L.opening self.old.entries) event.now ∷ []; finds = self.old.finds;
+              issued = self.old.issued })) }
         ensures stirs { IfOk result (λ a. a.stirs ≡ stirs (made (core_after L.opening self.old.entries) event.now)) }
         ensures counted { IfOk result (λ a. (share.new ≡ share.old + 1) × (share.old < a.place)) }
         ensures refused { IfErr result (λ r. Refuses L.opening L.taken self.old event.now r self.new) }

@@ -1,6 +1,7 @@
 //! The turner, which hands what it pops to its engine, batch by batch. Nothing here takes the lock of the intake.
 
-ghost use Rattle.std.specs.Prelude.{◌≡◌, ◌↔◌, ◌≤◌, ◌<◌, ◌^◌, ℕ, [], None, Some, Ok, Err, false, nat_lt, length, is_some, IsTrue, IfOk, IfErr, OnOk, MatchResult};
+ghost use Rattle.std.specs.Prelude.{◌≡◌, ◌↔◌, ◌≤◌, ◌<◌, ◌^◌, ℕ, [], None, Some, Ok, Err, false, nat_lt, length, is_some, IsTrue, IfOk, IfErr, OnOk};
+ghost use Rattle.std.specs.Prelude.{MatchResult};
 ghost use Rattle.std.specs.FinMap as table;
 ghost use Rattle.cc_views.specs.Limits.{counter_limit};
 ghost use Rattle.cc_links.specs.Links.{heard_from};
@@ -151,14 +152,18 @@ impl<S: Site, L: Life, Q: Lane> Turner<S, L, Q> {
     /// Moves the engine's node to the other side, as `Flusher::checkpoint` does.
     pub fn checkpoint(&mut self) -> Result<(), CheckpointFault>
         ensures lists { self.new ≡ record self.old { engine = self.new.engine } }
-        ensures ended { (fault : DeviceFault) → self.old.engine.failed ≡ Some fault → (result ≡ Err (CheckpointFault.Failed (record { fault = fault }))) × (self.new ≡ self.old) }
-        ensures spent { self.old.engine.failed ≡ None → counter_limit ≤ self.old.engine.generation → (result ≡ Err CheckpointFault.Spent) × (self.new ≡ self.old) }
-        ensures moves { self.old.engine.failed ≡ None → self.old.engine.generation < counter_limit → MatchResult result (λ _. Moves S.Site self.old.engine self.new.engine) (MoveStops S.Site self.old.engine self.new.engine) }
+        ensures ended { (fault : DeviceFault) → self.old.engine.failed ≡ Some fault → (result ≡ Err (CheckpointFault.Failed (record { fault = fault })))
+          × (self.new ≡ self.old) }
+        ensures spent { self.old.engine.failed ≡ None → counter_limit ≤ self.old.engine.generation → (result ≡ Err CheckpointFault.Spent)
+          × (self.new ≡ self.old) }
+        ensures moves { self.old.engine.failed ≡ None → self.old.engine.generation < counter_limit
+          → MatchResult result (λ _. Moves S.Site self.old.engine self.new.engine) (MoveStops S.Site self.old.engine self.new.engine) }
         ensures same_twin { self.new.engine.twin ≡ self.old.engine.twin }
         ensures owes { self.new.engine.owes ≡ false }
         ensures honest { S.honest self.old.engine.site ↔ S.honest self.new.engine.site }
         ensures tells { (S.tells self.old.engine.site ↔ S.tells self.new.engine.site) × (S.sent self.new.engine.site ≡ S.sent self.old.engine.site) }
-        ensures good { S.honest self.old.engine.site → self.old.engine.failed ≡ None → StaysGood S.Site (LeadsTo S.Site self.old.engine) self.old.engine.site self.new.engine.site }
+        ensures good { S.honest self.old.engine.site → self.old.engine.failed ≡ None → StaysGood S.Site (LeadsTo S.Site self.old.engine)
+          self.old.engine.site self.new.engine.site }
     {
         self.engine.checkpoint()
     }

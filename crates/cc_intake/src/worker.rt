@@ -44,7 +44,8 @@ pub fn work<L: Life, Q: Lane, H: Hooks, S: Source, R: Wait>(
     hooks: &H,
     source: &mut S,
 )
-    ensures { (answers : List Answer) × Talks S.gives S.hears (IsAnswer L.opening L.accepted L.taken) source.old answers source.new × (share.new ≡ share.old + places_of answers) × PlacesRise share.old answers }
+    ensures { (answers : List Answer) × Talks S.gives S.hears (IsAnswer L.opening L.accepted L.taken) source.old answers source.new
+      × (share.new ≡ share.old + places_of answers) × PlacesRise share.old answers }
 {
     for _ in rt.forever() {
         let Some(event) = source.next() else {

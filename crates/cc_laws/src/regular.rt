@@ -79,13 +79,17 @@ pub fn objects_are_regular()
 /// the later one: whoever enters, leaves or is retired meanwhile.
 pub fn shared_nodes_tell_readings()
     ensures max { (c mid d : Cluster) (first second : List (ℕ × Move)) → IsFreshCluster c → Run c first mid → Run mid second d
-        → (q s r k : ℕ) → IsDone mid q s r (command.WriteMax k) → (p x y : ℕ) → IsAhead mid p x y → ShareNode mid d q s r p x y → (n : ℕ) → IsAnswered d p x y (answer.Max n) → k ≤ n }
+        → (q s r k : ℕ) → IsDone mid q s r (command.WriteMax k) → (p x y : ℕ) → IsAhead mid p x y → ShareNode mid d q s r p x y → (n : ℕ)
+        → IsAnswered d p x y (answer.Max n) → k ≤ n }
     ensures max_in_turn { (c mid d : Cluster) (first second : List (ℕ × Move)) → IsFreshCluster c → Run c first mid → Run mid second d
-        → (q s r k : ℕ) → IsAnswered mid q s r (answer.Max k) → (p x y : ℕ) → IsAhead mid p x y → ShareNode mid d q s r p x y → (n : ℕ) → IsAnswered d p x y (answer.Max n) → k ≤ n }
+        → (q s r k : ℕ) → IsAnswered mid q s r (answer.Max k) → (p x y : ℕ) → IsAhead mid p x y → ShareNode mid d q s r p x y → (n : ℕ)
+        → IsAnswered d p x y (answer.Max n) → k ≤ n }
     ensures flag { (c mid d : Cluster) (first second : List (ℕ × Move)) → IsFreshCluster c → Run c first mid → Run mid second d
-        → (q s r : ℕ) → IsDone mid q s r command.SetFlag → (p x y : ℕ) → IsAhead mid p x y → ShareNode mid d q s r p x y → (b : Bool) → IsAnswered d p x y (answer.Flag b) → b ≡ true }
+        → (q s r : ℕ) → IsDone mid q s r command.SetFlag → (p x y : ℕ) → IsAhead mid p x y → ShareNode mid d q s r p x y → (b : Bool)
+        → IsAnswered d p x y (answer.Flag b) → b ≡ true }
     ensures flag_in_turn { (c mid d : Cluster) (first second : List (ℕ × Move)) → IsFreshCluster c → Run c first mid → Run mid second d
-        → (q s r : ℕ) → IsAnswered mid q s r (answer.Flag true) → (p x y : ℕ) → IsAhead mid p x y → ShareNode mid d q s r p x y → (b : Bool) → IsAnswered d p x y (answer.Flag b) → b ≡ true }
+        → (q s r : ℕ) → IsAnswered mid q s r (answer.Flag true) → (p x y : ℕ) → IsAhead mid p x y → ShareNode mid d q s r p x y → (b : Bool)
+        → IsAnswered d p x y (answer.Flag b) → b ≡ true }
     ensures member { (c mid d : Cluster) (first second : List (ℕ × Move)) → IsFreshCluster c → Run c first mid → Run mid second d
         → (q s r k : ℕ) → IsDone mid q s r (command.AddMember k) → (p x y : ℕ) → IsAhead mid p x y → ShareNode mid d q s r p x y
         → (zs : NatSet) → IsAnswered d p x y (answer.Set zs) → set.contains zs k ≡ true }

@@ -15,9 +15,11 @@ ghost use Rattle.cc_laws.specs.Rounds.{counts, ends_round, begins_anew, peers_al
 /// (`anew`). After any history as many peers are counted as the pending round has answers (`along`), and each round that ended
 /// counted as many as it needs (`enough`).
 pub fn rounds_are_shown()
-    ensures counted { (c : Core) (e : Event) (q : ℕ) → (counts c e ≡ Some q) ↔ (IsFrom q e × (GainsAnswer c.ops (next c e).ops ⊎ EndsRound c.ops (next c e).ops)) }
+    ensures counted { (c : Core) (e : Event) (q : ℕ) → (counts c e ≡ Some q) ↔
+      (IsFrom q e × (GainsAnswer c.ops (next c e).ops ⊎ EndsRound c.ops (next c e).ops)) }
     ensures ended { (c : Core) (e : Event) → (ends_round c e ≡ true) ↔ EndsRound c.ops (next c e).ops }
     ensures anew { (c : Core) (e : Event) → (begins_anew c e ≡ true) ↔ BeginsAnew c.ops (next c e).ops }
     ensures along { (o : Opening) (es : List Event) → length (peers_along (fresh o) [] es) ≡ answers_in (after (fresh o) es).core.ops.phase }
-    ensures enough { (o : Opening) (es : List Event) (round : Round (fresh o) es) → length (peers_of (fresh o) es round) ≡ need_in (after (fresh o) round.before).core.ops.phase }
+    ensures enough { (o : Opening) (es : List Event) (round : Round (fresh o) es) → length (peers_of (fresh o) es round)
+      ≡ need_in (after (fresh o) round.before).core.ops.phase }
 {}

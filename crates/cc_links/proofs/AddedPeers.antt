@@ -14,7 +14,8 @@ fewer_fit posts peers ls all same fits = omega (arith, len_add_all posts peers l
 pub next_number : (posts : ℕ) (peers : List ℕ) (i peer other : ℕ) (ls all : Links) → i < length peers → peer ≡ get_or peers i other
     → add_all posts (drop i peers) ls ≡ all → add_all posts (drop (i + 1) peers) (add posts peer ls) ≡ all
 next_number posts peers i peer other ls all lt is h =
-    let front : drop i peers ≡ peer ∷ drop (i + 1) peers = drop-cons peers i other lt ∙ ap (λ (q : ℕ). q ∷ drop (suc i) peers) (sym is) ∙ ap (λ (n : ℕ). peer ∷ drop n peers) (sym (add-one i)) in
+    let front : drop i peers ≡ peer ∷ drop (i + 1) peers = drop-cons peers i other lt ∙ ap (λ (q : ℕ). q ∷ drop (suc i) peers)
+      (sym is) ∙ ap (λ (n : ℕ). peer ∷ drop n peers) (sym (add-one i)) in
     add_all-add posts peer (drop (i + 1) peers) ls ∙ sym (ap (λ (qs : List ℕ). add_all posts qs ls) front) ∙ h
 
 pub next_peer : (posts : ℕ) (peers : List ℕ) (i peer : ℕ) (ls all : Links) → i < length peers → peer ≡ get_or peers i peer

@@ -26,5 +26,7 @@ module _ (rows : List LinkRow) (capacity : ℕ) (is : IsTable entry_of 256 rows 
         ∙ ap (λ (m : Links). with_row peer change (table.get m peer) m) view
 
   -- without a row there is nothing to change
-  pub link_unchanged : IsGapFor entry_of rows peer at → (change : Link → Link) (ls : Links) → table_of entry_of rows ≡ ls → ls ≡ with_row peer change (table.get ls peer) ls
-  link_unchanged gap change ls view = sym (ap (λ o. with_row peer change o ls) (ap (λ (m : Links). table.get m peer) (sym view) ∙ get-gap entry_of rows peer at gap))
+  pub link_unchanged : IsGapFor entry_of rows peer at → (change : Link → Link) (ls : Links) → table_of entry_of rows ≡ ls
+    → ls ≡ with_row peer change (table.get ls peer) ls
+  link_unchanged gap change ls view = sym (ap (λ o. with_row peer change o ls) (ap (λ (m : Links). table.get m peer) (sym view)
+    ∙ get-gap entry_of rows peer at gap))

@@ -1,5 +1,6 @@
 -- From how many peers something was heard, row by row.
-use Rattle.std.proofs.Common.{◌≡◌, ℕ, suc, ◌+◌, ◌<◌, ◌≤◌, Bool, true, false, cond, List, [], ◌∷◌, map, length, get_or, drop, drop-cons, add-one, refl, sym, ap, subst, ◌∙◌, arith}
+use Rattle.std.proofs.Common.{◌≡◌, ℕ, suc, ◌+◌, ◌<◌, ◌≤◌, Bool, true, false, cond, List, [], ◌∷◌, map, length, get_or, drop, drop-cons, add-one, refl}
+use Rattle.std.proofs.Common.{sym, ap, subst, ◌∙◌, arith}
 use Rattle.std.specs.Prelude.{nat_lt, Option, Some, None, IfSome}
 use Rattle.std.specs.Option.{option_map_or}
 use Rattle.std.specs.List.{AllByRecursion}
@@ -28,19 +29,22 @@ own_heard : (o : Option Link) → IfSome o (λ l. nat_lt 0 (option_map_or (λ (m
 own_heard None = tt
 own_heard (Some l) = refl
 
-rows_tell : (rows : List LinkRow) → IsRising entry_of rows → AllByRecursion (TellsTheSame (λ q. nat_lt 0 (heard_from q (table_of entry_of rows)))) (map entry_of rows)
+rows_tell : (rows : List LinkRow) → IsRising entry_of rows → AllByRecursion (TellsTheSame (λ q. nat_lt 0 (heard_from q (table_of entry_of rows))))
+    (map entry_of rows)
 rows_tell rows rising =
     let m = table_of entry_of rows in
     all_entries (λ q l. nat_lt 0 (heard_from q m) ≡ nat_lt 0 l.heard) (map entry_of rows) (to_T _ rising)
     (λ q. subst (λ o. IfSome o (λ l. nat_lt 0 (heard_from q m) ≡ nat_lt 0 l.heard)) (get-table_of entry_of rows q) (own_heard (table.get m q)))
 
-count_of_rows : (p : ℕ → Bool) (rows : List LinkRow) → AllByRecursion (TellsTheSame p) (map entry_of rows) → length (where_key nat_cmp p (map entry_of rows)) ≡ heard_rows rows
+count_of_rows : (p : ℕ → Bool) (rows : List LinkRow) → AllByRecursion (TellsTheSame p) (map entry_of rows)
+    → length (where_key nat_cmp p (map entry_of rows)) ≡ heard_rows rows
 count_of_rows p [] h = refl
 count_of_rows p (row ∷ rows) h =
     let rest = count_of_rows p rows h.1 in
     let kept = where_key nat_cmp p (map entry_of rows) in
     subst (λ b. length (cond b (entry_of row ∷ kept) kept) ≡ cond (nat_lt 0 row.heard) (heard_rows rows + 1) (heard_rows rows)) (sym h.0)
-    (elim (nat_lt 0 row.heard) as (λ b. length (cond b (entry_of row ∷ kept) kept) ≡ cond b (heard_rows rows + 1) (heard_rows rows)) [ true ↦ omega (arith, rest) | false ↦ rest ])
+    (elim (nat_lt 0 row.heard) as (λ b. length (cond b (entry_of row ∷ kept) kept) ≡ cond b (heard_rows rows + 1) (heard_rows rows))
+      [ true ↦ omega (arith, rest) | false ↦ rest ])
 
 pub heard_of_rows : (rows : List LinkRow) → IsRising entry_of rows → heard_rows rows ≡ heard_of (table_of entry_of rows)
 heard_of_rows rows rising =
@@ -53,7 +57,8 @@ pub heard_within : (rows : List LinkRow) → heard_rows rows ≤ length rows
 heard_within [] = omega arith
 heard_within (row ∷ rows) =
     let rest = heard_within rows in
-    elim (nat_lt 0 row.heard) as (λ b. cond b (heard_rows rows + 1) (heard_rows rows) ≤ length (row ∷ rows)) [ true ↦ omega (arith, rest) | false ↦ omega (arith, rest) ]
+    elim (nat_lt 0 row.heard) as (λ b. cond b (heard_rows rows + 1) (heard_rows rows) ≤ length (row ∷ rows)) [ true ↦ omega (arith, rest) | false ↦ omega
+      (arith, rest) ]
 
 -- ---- the next row that a loop takes
 

@@ -41,10 +41,12 @@ first_fits s all ids same fits = omega (arith, len_insert_all s ids, ap set.len 
 pub next_number : (s all : NatSet) (ids : List ℕ) (i id other : ℕ) → i < length ids → id ≡ get_or ids i other → set.insert_all s (drop i ids) ≡ all
     → set.insert_all (set.insert s id) (drop (i + 1) ids) ≡ all
 next_number s all ids i id other lt is h =
-    let front : drop i ids ≡ id ∷ drop (i + 1) ids = drop-cons ids i other lt ∙ ap (λ (q : ℕ). q ∷ drop (suc i) ids) (sym is) ∙ ap (λ (n : ℕ). id ∷ drop n ids) (sym (add-one i)) in
+    let front : drop i ids ≡ id ∷ drop (i + 1) ids = drop-cons ids i other lt ∙ ap (λ (q : ℕ). q ∷ drop (suc i) ids)
+      (sym is) ∙ ap (λ (n : ℕ). id ∷ drop n ids) (sym (add-one i)) in
     insert_all-insert s id (drop (i + 1) ids) ∙ sym (ap (set.insert_all s) front) ∙ h
 
-pub next_id : (s all : NatSet) (ids : List ℕ) (i id : ℕ) → i < length ids → id ≡ get_or ids i id → set.insert_all s (drop i ids) ≡ all → set.insert_all (set.insert s id) (drop (i + 1) ids) ≡ all
+pub next_id : (s all : NatSet) (ids : List ℕ) (i id : ℕ) → i < length ids → id ≡ get_or ids i id → set.insert_all s (drop i ids) ≡ all
+    → set.insert_all (set.insert s id) (drop (i + 1) ids) ≡ all
 next_id s all ids i id lt is h = next_number s all ids i id id lt is h
 
 -- the next row that a loop takes

@@ -24,7 +24,8 @@ if_heard o = cond (nat_lt 0 (heard_in o)) o None
 abbrev heard_links : Links → Links
 heard_links ls = table.retain_keys ls (λ peer. nat_lt 0 (heard_from peer ls))
 
-pub get-heard : (ls : Links) (q : ℕ) → table.get (table.retain_keys ls (λ peer. nat_lt 0 (heard_from peer ls))) q ≡ cond (nat_lt 0 (heard_from q ls)) (table.get ls q) None
+pub get-heard : (ls : Links) (q : ℕ) → table.get (table.retain_keys ls (λ peer. nat_lt 0 (heard_from peer ls))) q
+    ≡ cond (nat_lt 0 (heard_from q ls)) (table.get ls q) None
 get-heard ls q =
     table.get-retain_keys ls (λ k. nat_lt 0 (heard_from k ls)) q (λ x tied. ap (λ k. nat_lt 0 (heard_from k ls)) (sym (nat_cmp-IsAntisymmetric q x tied)))
 

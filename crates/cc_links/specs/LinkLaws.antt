@@ -6,7 +6,8 @@
 --     contains-add_all, .._len           which rows there are, and how many
 --     add_all-add, add_all-append        the order in which rows are added is no matter;  rows for two lists
 --     reaches_.., len_..                 what one row more keeps, and how many rows there are at most
-use Rattle.std.proofs.Common.{◌≡◌, ℕ, ◌+◌, ◌-◌, ◌<◌, ◌≤◌, Bool, true, false, cond, not, ◌||◌, ◌&&◌, nat_eq, List, [], ◌∷◌, ◌++◌, refl, sym, ap, subst, ◌∙◌, inl, inr, arith}
+use Rattle.std.proofs.Common.{◌≡◌, ℕ, ◌+◌, ◌-◌, ◌<◌, ◌≤◌, Bool, true, false, cond, not, ◌||◌, ◌&&◌, nat_eq, List, [], ◌∷◌, ◌++◌, refl, sym, ap, subst}
+use Rattle.std.proofs.Common.{◌∙◌, inl, inr, arith}
 use Rattle.std.specs.Prelude.{Option, Some, None, IfSome, is_some, min, nat_lt, ⊤}
 use Rattle.std.specs.Option.{option_map_or, unwrap_or}
 use Rattle.std.specs.List.{AllByRecursion, list_any}
@@ -21,7 +22,8 @@ use Rattle.cc_views.specs.NatSets as set
 use Rattle.cc_views.specs.NatSets.{NatSet, IsWithin, get-insert_key, contains-insert_key, len_within}
 use Rattle.cc_views.specs.MapLaws.{all_insert, within_same, insert_within, all_values, each_value, len_insert}
 use Rattle.cc_views.specs.Limits.{counter_limit}
-use Rattle.cc_links.specs.Links.{Link, Links, new_link, with_row, add_absent, add, add_all, hear, ack, lapse, heard_from, live, least, reach, lowest, awaits_ack, awaits_any, IsLinkWithin, LinksWithin, ReachesWithin}
+use Rattle.cc_links.specs.Links.{Link, Links, new_link, with_row, add_absent, add, add_all, hear, ack, lapse, heard_from, live, least, reach, lowest}
+use Rattle.cc_links.specs.Links.{awaits_ack, awaits_any, IsLinkWithin, LinksWithin, ReachesWithin}
 
 -- ---- the least of a list
 
@@ -48,9 +50,11 @@ least_within p none (x ∷ y ∷ ys) h k = omega (arith, h.0)
 -- ---- lowest
 
 pub get-live : (left : NatSet) (ls : Links) (q : ℕ) → table.get (live left ls) q ≡ cond (not (set.contains left q)) (table.get ls q) None
-get-live left ls q = table.get-retain_keys ls (λ k. not (set.contains left k)) q (λ x tied. ap (λ k. not (set.contains left k)) (sym (nat_cmp-IsAntisymmetric q x tied)))
+get-live left ls q = table.get-retain_keys ls (λ k. not (set.contains left k)) q
+    (λ x tied. ap (λ k. not (set.contains left k)) (sym (nat_cmp-IsAntisymmetric q x tied)))
 
-lowest_above : (b : ℕ) (left : NatSet) (posts : ℕ) (ls : Links) → b ≤ posts → ((q : ℕ) → IfSome (table.get (live left ls) q) (λ l. b ≤ reach l)) → b ≤ lowest left posts ls
+lowest_above : (b : ℕ) (left : NatSet) (posts : ℕ) (ls : Links) → b ≤ posts → ((q : ℕ) → IfSome (table.get (live left ls) q) (λ l. b ≤ reach l))
+    → b ≤ lowest left posts ls
 lowest_above b left posts ls h k = least_above b posts _ (all_values (λ x. b ≤ x) reach (live left ls) k) h
 
 pub lowest_below : (left : NatSet) (posts : ℕ) (ls : Links) (q : ℕ) → IfSome (table.get (live left ls) q) (λ l. lowest left posts ls ≤ reach l)
@@ -64,7 +68,8 @@ in_reach posts false o h = tt
 pub lowest_within : (left : NatSet) (posts : ℕ) (ls : Links) → LinksWithin posts ls → lowest left posts ls ≤ posts
 lowest_within left posts ls h =
     least_within posts posts _ (all_values (λ x. x ≤ posts) reach (live left ls)
-    (λ q. subst (λ o. IfSome o (λ l. reach l ≤ posts)) (sym (get-live left ls q)) (in_reach posts (not (set.contains left q)) (table.get ls q) (h q)))) (omega arith)
+    (λ q. subst (λ o. IfSome o (λ l. reach l ≤ posts)) (sym (get-live left ls q)) (in_reach posts (not (set.contains left q)) (table.get ls q) (h q))))
+      (omega arith)
 
 -- a link is there still, with what was acknowledged; a new one starts behind the posts so far
 abbrev pub LinkGoesOn : ℕ → Option Link → Option Link → Type 0
@@ -98,7 +103,8 @@ go_insert : (posts : ℕ) (ls : Links) (k : ℕ) (m : Link) → LinkGoesOn posts
 go_insert posts ls k m h q =
     subst (LinkGoesOn posts (table.get ls q)) (sym (get-insert_key ls k m q))
     (elim (eqb_tells q k) as (λ _. LinkGoesOn posts (table.get ls q) (cond (nat_eq q k) (Some m) (table.get ls q))) [
-      | inl e ↦ subst (λ b. LinkGoesOn posts (table.get ls q) (cond b (Some m) (table.get ls q))) (sym e.0) (subst (λ n. LinkGoesOn posts (table.get ls n) (Some m)) (sym e.1) h)
+      | inl e ↦ subst (λ b. LinkGoesOn posts (table.get ls q) (cond b (Some m) (table.get ls q))) (sym e.0)
+        (subst (λ n. LinkGoesOn posts (table.get ls n) (Some m)) (sym e.1) h)
       | inr e ↦ subst (λ b. LinkGoesOn posts (table.get ls q) (cond b (Some m) (table.get ls q))) (sym e.0) (goes_same posts (table.get ls q))
     ])
 
@@ -128,27 +134,33 @@ pub awaited : (posts n : ℕ) (o : Option Link) → not (option_map_or (awaits_a
 awaited posts n None h = tt
 awaited posts n (Some l) h = let both = and_parts _ _ (not-false _ h) in (ltb-true l.acked n both.0, leb-true n (posts - l.start) both.1)
 
-newer : (n m : ℕ) (o : Option Link) → IfSome o (λ l. (l.acked < n) × (n ≤ m - l.start)) → IfSome o (λ l. (l.start ≡ l.start) × (l.acked ≤ n) × (l.heard ≤ l.heard))
+newer : (n m : ℕ) (o : Option Link) → IfSome o (λ l. (l.acked < n) × (n ≤ m - l.start))
+    → IfSome o (λ l. (l.start ≡ l.start) × (l.acked ≤ n) × (l.heard ≤ l.heard))
 newer n m None h = tt
 newer n m (Some l) h = (refl, omega (arith, h.0), omega arith)
 
 pub ack_goes : (posts peer n : ℕ) (ls : Links) → not (option_map_or (awaits_ack posts n) (table.get ls peer) false) ≡ false → LinksGoOn posts ls (ack peer n ls)
-ack_goes posts peer n ls h = row_goes posts peer (λ l. record l { acked = n }) (table.get ls peer) ls refl (newer n posts (table.get ls peer) (awaited posts n (table.get ls peer) h))
+ack_goes posts peer n ls h = row_goes posts peer (λ l. record l { acked = n }) (table.get ls peer) ls refl
+    (newer n posts (table.get ls peer) (awaited posts n (table.get ls peer) h))
 
 -- a lapse is the acknowledgement of all that was sent
 pub lapse_is_ack : (posts peer : ℕ) (ls : Links) (l : Link) → table.get ls peer ≡ Some l → lapse posts peer ls ≡ ack peer (posts - l.start) ls
 lapse_is_ack posts peer ls l e =
-    ap (λ o. with_row peer (λ m. record m { acked = posts - m.start }) o ls) e ∙ sym (ap (λ o. with_row peer (λ m. record m { acked = posts - l.start }) o ls) e)
+    ap (λ o. with_row peer (λ m. record m { acked = posts - m.start }) o ls) e
+      ∙ sym (ap (λ o. with_row peer (λ m. record m { acked = posts - l.start }) o ls) e)
 
 -- that acknowledgement is news where any would be
 pub lapse_is_news : (posts : ℕ) (l : Link) → awaits_any posts l ≡ awaits_ack posts (posts - l.start) l
-lapse_is_news posts l = sym (ap (λ b. nat_lt l.acked (posts - l.start) && b) (le-leb (posts - l.start) (posts - l.start) (omega arith)) ∙ and-true (nat_lt l.acked (posts - l.start)))
+lapse_is_news posts l = sym (ap (λ b. nat_lt l.acked (posts - l.start) && b) (le-leb (posts - l.start) (posts - l.start) (omega arith))
+    ∙ and-true (nat_lt l.acked (posts - l.start)))
 
-lapsed : (posts : ℕ) (o : Option Link) → not (option_map_or (awaits_any posts) o false) ≡ false → IfSome o (λ l. (l.start ≡ l.start) × (l.acked ≤ posts - l.start) × (l.heard ≤ l.heard))
+lapsed : (posts : ℕ) (o : Option Link) → not (option_map_or (awaits_any posts) o false) ≡ false
+    → IfSome o (λ l. (l.start ≡ l.start) × (l.acked ≤ posts - l.start) × (l.heard ≤ l.heard))
 lapsed posts None h = tt
 lapsed posts (Some l) h = let up : l.acked < posts - l.start = ltb-true l.acked (posts - l.start) (not-false _ h) in (refl, omega arith, omega arith)
 
-pub lapse_goes : (posts peer : ℕ) (ls : Links) → not (option_map_or (awaits_any posts) (table.get ls peer) false) ≡ false → LinksGoOn posts ls (lapse posts peer ls)
+pub lapse_goes : (posts peer : ℕ) (ls : Links) → not (option_map_or (awaits_any posts) (table.get ls peer) false) ≡ false
+    → LinksGoOn posts ls (lapse posts peer ls)
 lapse_goes posts peer ls h = row_goes posts peer (λ l. record l { acked = posts - l.start }) (table.get ls peer) ls refl (lapsed posts (table.get ls peer) h)
 
 -- ---- what goes on has every row, and lowest doesn't fall
@@ -167,12 +179,14 @@ low_goes low posts None (Some m) p h k = omega (arith, h)
 low_goes low posts (Some l) None p h k = tt
 low_goes low posts (Some l) (Some m) p h k = omega (arith, h.0, h.1, k)
 
-live_still : (P : Link → Type 0) (b c : Bool) (o o' : Option Link) → (b ≡ true → c ≡ true) → IfSome (cond (not b) o None) P → (IfSome o P → IfSome o' P) → IfSome (cond (not c) o' None) P
+live_still : (P : Link → Type 0) (b c : Bool) (o o' : Option Link) → (b ≡ true → c ≡ true) → IfSome (cond (not b) o None) P → (IfSome o P → IfSome o' P)
+    → IfSome (cond (not c) o' None) P
 live_still P b true o o' grows h goes = tt
 live_still P true false o o' grows h goes = let e : false ≡ true = grows refl in cc
 live_still P false false o o' grows h goes = goes h
 
-pub lowest_grows : (left left' : NatSet) (posts posts' : ℕ) (ls ms : Links) → IsWithin left left' → LinksGoOn posts ls ms → LinksWithin posts ls → posts ≤ posts'
+pub lowest_grows : (left left' : NatSet) (posts posts' : ℕ) (ls ms : Links) → IsWithin left left' → LinksGoOn posts ls ms → LinksWithin posts ls
+    → posts ≤ posts'
     → lowest left posts ls ≤ lowest left' posts' ms
 lowest_grows left left' posts posts' ls ms grows go within more =
     let low = lowest left posts ls in
@@ -200,7 +214,8 @@ pub add_all_links : (posts : ℕ) (peers : List ℕ) (ls : Links) → LinksWithi
 add_all_links posts [] ls h = h
 add_all_links posts (p ∷ ps) ls h = add_links posts p (table.get (add_all posts ps ls) p) (add_all posts ps ls) (add_all_links posts ps ls h)
 
-row_links : (posts peer : ℕ) (change : Link → Link) (o : Option Link) (ls : Links) → LinksWithin posts ls → IfSome o (λ l. IsLinkWithin posts (change l)) → LinksWithin posts (with_row peer change o ls)
+row_links : (posts peer : ℕ) (change : Link → Link) (o : Option Link) (ls : Links) → LinksWithin posts ls → IfSome o (λ l. IsLinkWithin posts (change l))
+    → LinksWithin posts (with_row peer change o ls)
 row_links posts peer change None ls h k = h
 row_links posts peer change (Some l) ls h k = all_insert (λ _. IsLinkWithin posts) ls peer (change l) h k
 
@@ -211,35 +226,42 @@ heard_link posts n (Some l) h k = (k.0, k.1, h)
 pub hear_links : (posts from n : ℕ) (ls : Links) → n ≤ counter_limit → LinksWithin posts ls → LinksWithin posts (hear from n ls)
 hear_links posts from n ls h k = row_links posts from (λ l. record l { heard = n }) (table.get ls from) ls k (heard_link posts n (table.get ls from) h (k from))
 
-acked_link : (posts n : ℕ) (o : Option Link) → IfSome o (λ l. (l.acked < n) × (n ≤ posts - l.start)) → IfSome o (IsLinkWithin posts) → IfSome o (λ l. IsLinkWithin posts (record l { acked = n }))
+acked_link : (posts n : ℕ) (o : Option Link) → IfSome o (λ l. (l.acked < n) × (n ≤ posts - l.start)) → IfSome o (IsLinkWithin posts)
+    → IfSome o (λ l. IsLinkWithin posts (record l { acked = n }))
 acked_link posts n None h k = tt
 acked_link posts n (Some l) h k = (k.0, h.1, k.2)
 
-pub ack_links : (posts peer n : ℕ) (ls : Links) → not (option_map_or (awaits_ack posts n) (table.get ls peer) false) ≡ false → LinksWithin posts ls → LinksWithin posts (ack peer n ls)
+pub ack_links : (posts peer n : ℕ) (ls : Links) → not (option_map_or (awaits_ack posts n) (table.get ls peer) false) ≡ false → LinksWithin posts ls
+    → LinksWithin posts (ack peer n ls)
 ack_links posts peer n ls h k =
-    row_links posts peer (λ l. record l { acked = n }) (table.get ls peer) ls k (acked_link posts n (table.get ls peer) (awaited posts n (table.get ls peer) h) (k peer))
+    row_links posts peer (λ l. record l { acked = n }) (table.get ls peer) ls k
+      (acked_link posts n (table.get ls peer) (awaited posts n (table.get ls peer) h) (k peer))
 
 lapsed_link : (posts : ℕ) (o : Option Link) → IfSome o (IsLinkWithin posts) → IfSome o (λ l. IsLinkWithin posts (record l { acked = posts - l.start }))
 lapsed_link posts None k = tt
 lapsed_link posts (Some l) k = (k.0, omega arith, k.2)
 
 pub lapse_links : (posts peer : ℕ) (ls : Links) → LinksWithin posts ls → LinksWithin posts (lapse posts peer ls)
-lapse_links posts peer ls k = row_links posts peer (λ l. record l { acked = posts - l.start }) (table.get ls peer) ls k (lapsed_link posts (table.get ls peer) (k peer))
+lapse_links posts peer ls k = row_links posts peer (λ l. record l { acked = posts - l.start }) (table.get ls peer) ls k
+    (lapsed_link posts (table.get ls peer) (k peer))
 
 -- ---- which rows there are
 
-absent_or_there : {X : Type 0} (m : FinMap nat_cmp X) (peer q : ℕ) (l : X) → table.get m peer ≡ Some l → table.contains_key m q ≡ (nat_eq q peer || table.contains_key m q)
+absent_or_there : {X : Type 0} (m : FinMap nat_cmp X) (peer q : ℕ) (l : X) → table.get m peer ≡ Some l
+    → table.contains_key m q ≡ (nat_eq q peer || table.contains_key m q)
 absent_or_there {X} m peer q l e =
     elim (eqb_tells q peer) as (λ _. table.contains_key m q ≡ (nat_eq q peer || table.contains_key m q)) [
       | inl t ↦ (ap (table.contains_key m) t.1 ∙ ap is_some e) ∙ sym (ap (λ b. b || table.contains_key m q) t.0)
       | inr t ↦ sym (ap (λ b. b || table.contains_key m q) t.0)
     ]
 
-contains-add_absent : (posts peer q : ℕ) (o : Option Link) (ls : Links) → table.get ls peer ≡ o → table.contains_key (add_absent posts peer o ls) q ≡ (nat_eq q peer || table.contains_key ls q)
+contains-add_absent : (posts peer q : ℕ) (o : Option Link) (ls : Links) → table.get ls peer ≡ o
+    → table.contains_key (add_absent posts peer o ls) q ≡ (nat_eq q peer || table.contains_key ls q)
 contains-add_absent posts peer q None ls e = contains-insert_key ls peer (new_link posts) q
 contains-add_absent posts peer q (Some l) ls e = absent_or_there ls peer q l e
 
-pub contains-add_all : (posts : ℕ) (peers : List ℕ) (ls : Links) (q : ℕ) → table.contains_key (add_all posts peers ls) q ≡ (list_any (nat_eq q) peers || table.contains_key ls q)
+pub contains-add_all : (posts : ℕ) (peers : List ℕ) (ls : Links) (q : ℕ) → table.contains_key (add_all posts peers ls) q
+    ≡ (list_any (nat_eq q) peers || table.contains_key ls q)
 contains-add_all posts [] ls q = refl
 contains-add_all posts (p ∷ ps) ls q =
     contains-add_absent posts p q (table.get (add_all posts ps ls) p) (add_all posts ps ls) refl
@@ -274,7 +296,8 @@ reaches_within posts ls h q = reach_of posts (table.get ls q) (h q)
 abbrev pub added : ℕ → Option Link → Option Link
 added posts o = Some (unwrap_or o (new_link posts))
 
-get-add_absent : (posts p : ℕ) (o : Option Link) (ls : Links) (q : ℕ) → table.get ls p ≡ o → table.get (add_absent posts p o ls) q ≡ cond (nat_eq q p) (added posts (table.get ls q)) (table.get ls q)
+get-add_absent : (posts p : ℕ) (o : Option Link) (ls : Links) (q : ℕ) → table.get ls p ≡ o
+    → table.get (add_absent posts p o ls) q ≡ cond (nat_eq q p) (added posts (table.get ls q)) (table.get ls q)
 get-add_absent posts p None ls q e =
     elim (eqb_tells q p) as (λ _. table.get (table.insert ls p (new_link posts)) q ≡ cond (nat_eq q p) (added posts (table.get ls q)) (table.get ls q)) [
       | inl t ↦ get-insert_key ls p (new_link posts) q ∙ rw t.0 (ap (added posts) (sym (ap (table.get ls) t.1 ∙ e)))

@@ -38,7 +38,8 @@ few_within xs i g lt few v less =
       | inr missed ↦ omega (arith, count_by_more_no (λ y. leb y v) xs i 0 lt missed.0, within_first v i xs)
     ]
 
-pub at_the_end : (xs : List ℕ) (i g : ℕ) → length xs ≤ i → count_within g (take i xs) ≡ i → ((v : ℕ) → v < g → count_within v (take i xs) < i) → IsQuantile 100 xs g
+pub at_the_end : (xs : List ℕ) (i g : ℕ) → length xs ≤ i → count_within g (take i xs) ≡ i → ((v : ℕ) → v < g → count_within v (take i xs) < i)
+    → IsQuantile 100 xs g
 at_the_end xs i g over all few =
     let whole : take i xs ≡ xs = take_all i xs over in
     let most = count_by-le-length (λ x. leb x g) xs in

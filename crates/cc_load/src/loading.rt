@@ -62,7 +62,7 @@ where
     let time = Deadline::new(rt, order.seconds);
     let patience = Deadline::new(rt, order.seconds.saturating_add(PATIENCE));
     for number in 0..order.clients {
-        if let Some((address, session)) = order.seat(number) {
+        if let Some((address, session)) = order.session_of(number) {
             let task = Task {
                 address,
                 session,

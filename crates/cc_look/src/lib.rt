@@ -11,5 +11,7 @@ mod table;
 pub use fault::LookFault;
 pub use head::body_of;
 pub use looking::{Look, look_at};
-pub use status::{DiskPart, PeerPart, PostPart, QuorumPart, RoundPart, Status, SyncPart};
+pub use status::{
+    CountPart, DiskPart, PeerPart, PostPart, QuorumPart, RoundPart, RowPart, Status, SyncPart,
+};
 pub use table::Table;

@@ -1,7 +1,7 @@
 //! What is read of a node's status. It may have more members, and they are passed over. Moments are milliseconds since 1970 by
 //! the node's clock.
 
-use serde_json::Value;
+use serde_json::{Map, Value};
 
 /// What is read of a node's status. Its texts and lists are those of the JSON that it is read from.
 #[derive(Clone, Copy)]
@@ -15,6 +15,8 @@ pub struct Status<'a> {
     pub reason: &'a str,
     pub quorum: QuorumPart<'a>,
     pub members: &'a [Value],
+    /// Each of them is read by `RowPart::of`.
+    pub view: &'a [Value],
     pub round: Option<RoundPart<'a>>,
     /// How many asks wait behind the round.
     pub waiting: u64,
@@ -24,6 +26,7 @@ pub struct Status<'a> {
     /// Each of them is read by `PeerPart::of`.
     pub peers: &'a [Value],
     pub disk: DiskPart<'a>,
+    pub counts: CountPart<'a>,
     pub syncs: SyncPart,
 }
 
@@ -35,6 +38,17 @@ pub struct QuorumPart<'a> {
     pub members: u64,
     pub need: u64,
     pub may_be_away: u64,
+}
+
+/// The last write of a node.
+#[derive(Clone, Copy)]
+pub struct RowPart<'a> {
+    pub node: u64,
+    pub number: u64,
+    pub text: &'a str,
+    pub max: u64,
+    pub flag: bool,
+    pub set: &'a [Value],
 }
 
 /// The pending round.
@@ -80,6 +94,17 @@ pub struct DiskPart<'a> {
     pub events: u64,
 }
 
+/// What was counted since the start.
+#[derive(Clone, Copy)]
+pub struct CountPart<'a> {
+    pub commits: u64,
+    pub events: u64,
+    pub connections: u64,
+    /// How many asks were accepted, by their command, and how many events were refused, by the refusal's name.
+    pub asks: &'a Map<String, Value>,
+    pub refusals: &'a Map<String, Value>,
+}
+
 /// How long syncs took, in microseconds.
 #[derive(Clone, Copy)]
 pub struct SyncPart {
@@ -115,6 +140,7 @@ impl<'a> Status<'a> {
             reason: text(value, "reason")?,
             quorum: QuorumPart::of(value.get("quorum")?)?,
             members: numbers(value, "members")?,
+            view: rows_in(value)?,
             round: round_in(value.get("round")?)?,
             waiting: number(value, "waiting")?,
             sessions: list(value, "sessions")?,
@@ -122,6 +148,7 @@ impl<'a> Status<'a> {
             posts: PostPart::of(value.get("posts")?)?,
             peers: peers_in(value)?,
             disk: DiskPart::of(value.get("disk")?)?,
+            counts: CountPart::of(value.get("counts")?)?,
             syncs: SyncPart::of(value.get("syncs")?)?,
         })
     }
@@ -134,6 +161,14 @@ fn numbers<'a>(value: &'a Value, name: &str) -> Option<&'a [Value]> {
         item.as_u64()?;
     }
     Some(items)
+}
+
+fn rows_in(value: &Value) -> Option<&[Value]> {
+    let rows = list(value, "view")?;
+    for row in rows {
+        RowPart::of(row)?;
+    }
+    Some(rows)
 }
 
 fn peers_in(value: &Value) -> Option<&[Value]> {
@@ -160,6 +195,20 @@ impl<'a> QuorumPart<'a> {
             members: number(value, "members")?,
             need: number(value, "need")?,
             may_be_away: number(value, "may_be_away")?,
+        })
+    }
+}
+
+impl<'a> RowPart<'a> {
+    /// What the JSON of a row says.
+    pub fn of(value: &'a Value) -> Option<Self> {
+        Some(RowPart {
+            node: number(value, "node")?,
+            number: number(value, "number")?,
+            text: text(value, "text")?,
+            max: number(value, "max")?,
+            flag: value.get("flag")?.as_bool()?,
+            set: numbers(value, "set")?,
         })
     }
 }
@@ -211,6 +260,18 @@ impl<'a> DiskPart<'a> {
             bytes: number(value, "bytes")?,
             records: number(value, "records")?,
             events: number(value, "events")?,
+        })
+    }
+}
+
+impl<'a> CountPart<'a> {
+    fn of(value: &'a Value) -> Option<Self> {
+        Some(CountPart {
+            commits: number(value, "commits")?,
+            events: number(value, "events")?,
+            connections: number(value, "connections")?,
+            asks: value.get("asks")?.as_object()?,
+            refusals: value.get("refusals")?.as_object()?,
         })
     }
 }

@@ -1,10 +1,10 @@
 //! A node's status as a table.
 
-use crate::status::{PeerPart, QuorumPart, RoundPart, Status};
-use serde_json::Value;
+use crate::status::{CountPart, PeerPart, QuorumPart, RoundPart, RowPart, Status};
+use serde_json::{Map, Value};
 use std::fmt;
 
-/// A line for each part of the status, which begins with its word, and then a line for each peer.
+/// A line for each part of the status, which begins with its word, and then a line for each peer and each row of the view.
 #[derive(Clone, Copy)]
 pub struct Table<'a>(pub Status<'a>);
 
@@ -13,11 +13,15 @@ impl fmt::Display for Table<'_> {
         let status = &self.0;
         print_node(f, status)?;
         print_quorum(f, &status.quorum)?;
-        print_members(f, status.members)?;
+        write!(f, "members   ")?;
+        print_numbers(f, status.members)?;
+        writeln!(f, "")?;
         print_round(f, status)?;
-        print_counts(f, status)?;
+        print_use(f, status)?;
+        print_counts(f, &status.counts)?;
         print_disk(f, status)?;
-        print_peers(f, status)
+        print_peers(f, status)?;
+        print_rows(f, status.view)
     }
 }
 
@@ -42,15 +46,14 @@ fn print_quorum<W: fmt::Write>(f: &mut fmt::Formatter<W>, quorum: &QuorumPart<'_
     )
 }
 
-fn print_members<W: fmt::Write>(f: &mut fmt::Formatter<W>, members: &[Value]) -> fmt::Result {
-    write!(f, "members   ")?;
-    for (i, member) in members.iter().enumerate() {
+fn print_numbers<W: fmt::Write>(f: &mut fmt::Formatter<W>, numbers: &[Value]) -> fmt::Result {
+    for (i, number) in numbers.iter().enumerate() {
         if i > 0 {
             write!(f, ",")?;
         }
-        print_number(f, member)?;
+        print_number(f, number)?;
     }
-    writeln!(f, "{}", if members.is_empty() { "none" } else { "" })
+    write!(f, "{}", if numbers.is_empty() { "none" } else { "" })
 }
 
 fn print_number<W: fmt::Write>(f: &mut fmt::Formatter<W>, value: &Value) -> fmt::Result {
@@ -84,11 +87,39 @@ fn print_pending<W: fmt::Write>(
     )
 }
 
-fn print_counts<W: fmt::Write>(f: &mut fmt::Formatter<W>, status: &Status<'_>) -> fmt::Result {
+fn print_use<W: fmt::Write>(f: &mut fmt::Formatter<W>, status: &Status<'_>) -> fmt::Result {
     let (used, limit) = (status.sessions.len(), status.session_limit);
     let (kept, most, made) = (status.posts.kept, status.posts.limit, status.posts.made);
     writeln!(f, "sessions  {used} of {limit}")?;
     writeln!(f, "posts     {kept} of {most} kept, {made} made")
+}
+
+fn print_counts<W: fmt::Write>(
+    f: &mut fmt::Formatter<W>,
+    counts: &CountPart<'_>,
+) -> fmt::Result {
+    let (events, commits, connections) = (counts.events, counts.commits, counts.connections);
+    writeln!(
+        f,
+        "counts    {events} events in {commits} batches, {connections} connections"
+    )?;
+    write!(f, "asked     ")?;
+    print_named(f, counts.asks)?;
+    write!(f, "refused   ")?;
+    print_named(f, counts.refusals)
+}
+
+// Each name with its number.
+fn print_named<W: fmt::Write>(
+    f: &mut fmt::Formatter<W>,
+    named: &Map<String, Value>,
+) -> fmt::Result {
+    for (i, (name, number)) in named.iter().enumerate() {
+        let (name, between) = (name.as_str(), if i > 0 { ", " } else { "" });
+        write!(f, "{between}{name} ")?;
+        print_number(f, number)?;
+    }
+    writeln!(f, "{}", if named.is_empty() { "none" } else { "" })
 }
 
 fn print_disk<W: fmt::Write>(f: &mut fmt::Formatter<W>, status: &Status<'_>) -> fmt::Result {
@@ -147,6 +178,27 @@ fn print_contact<W: fmt::Write>(
         (None, Some(since)) => write!(f, ", connected for {} s", seconds_since(since, now)),
         (None, None) => write!(f, ", not connected"),
     }
+}
+
+fn print_rows<W: fmt::Write>(f: &mut fmt::Formatter<W>, rows: &[Value]) -> fmt::Result {
+    for row in rows {
+        if let Some(row) = RowPart::of(row) {
+            print_row(f, &row)?;
+        }
+    }
+    Ok(())
+}
+
+// A row. What a terminal could take for a command of its own stands in its text as an escape.
+fn print_row<W: fmt::Write>(f: &mut fmt::Formatter<W>, row: &RowPart<'_>) -> fmt::Result {
+    let (node, number, max) = (row.node, row.number, row.max);
+    let (text, flag) = (row.text.escape_debug(), if row.flag { "yes" } else { "no" });
+    write!(
+        f,
+        "row       {node}, number {number}, text \"{text}\", max {max}, flag {flag}, set "
+    )?;
+    print_numbers(f, row.set)?;
+    writeln!(f, "")
 }
 
 // How many whole seconds lie between two moments, 0 where the clock went back.

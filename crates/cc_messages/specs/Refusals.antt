@@ -3,7 +3,9 @@
 use Rattle.std.specs.Prelude.{ℕ, List, [], ◌∷◌, ◌++◌, Option, Some, None, Result, Ok, Err, codes, unwrap_or}
 use Rattle.std.specs.Fmt.{decimal}
 use Rattle.cc_messages.specs.declared.refusal.Refusal.{Refusal}
-use Rattle.cc_messages.specs.declared.refusal.Refusal.TheVariants.{Left, NotEntered, AlreadyEntered, NotJoined, Old, Gap, NothingToAck, TooManyNodes, TooManySessions, Repeat, Stale, Skip, Busy, SetFull, OutboxFull, Spent, NoMemory, QueueFull}
+use Rattle.cc_messages.specs.declared.refusal.Refusal.TheVariants.{Left, NotEntered, AlreadyEntered, NotJoined, Old, Gap, NothingToAck, TooManyNodes}
+use Rattle.cc_messages.specs.declared.refusal.Refusal.TheVariants.{TooManySessions, Repeat, Stale, Skip, Busy, SetFull, OutboxFull, Spent, NoMemory}
+use Rattle.cc_messages.specs.declared.refusal.Refusal.TheVariants.{QueueFull}
 
 abbrev pub number_of : Refusal → ℕ
 number_of Left = 1

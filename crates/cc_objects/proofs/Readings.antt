@@ -26,7 +26,8 @@ any_append q [] ms = refl
 any_append q (n ∷ ns) ms = ap (λ b. nat_eq q n || b) (any_append q ns ms) ∙ sym (or_assoc (nat_eq q n) (list_any (nat_eq q) ns) (list_any (nat_eq q) ms))
 
 -- what is in a set's items, one set after another, is what is in their union
-any_member : (q : ℕ) (rows : List Row) → list_any (nat_eq q) (flat_map (λ row. items row.value.set) rows) ≡ contains (union_all (map (λ row. row.value.set) rows)) q
+any_member : (q : ℕ) (rows : List Row) → list_any (nat_eq q) (flat_map (λ row. items row.value.set) rows)
+    ≡ contains (union_all (map (λ row. row.value.set) rows)) q
 any_member q [] = sym (contains-empty q)
 any_member q (row ∷ rows) =
     let members : List ℕ = flat_map (λ (row : Row). items row.value.set) rows in

@@ -2,7 +2,8 @@
 --     none_waits, may_wait      nothing waits where nothing is pending; anything may where something is
 --     begin_room, wait_room     room for what waits, as an ask begins where nothing waits, and as it waits behind the others
 --     no_room                   where one finds no room, not all do
-use Rattle.std.proofs.Common.{◌≡◌, ℕ, zero, suc, ◌+◌, ◌<◌, ◌≤◌, arith, nat_lt, ◌&&◌, Bool, true, false, List, [], ◌∷◌, ◌++◌, length, drop, get_or, refl, sym, ap, subst, ◌∙◌}
+use Rattle.std.proofs.Common.{◌≡◌, ℕ, zero, suc, ◌+◌, ◌<◌, ◌≤◌, arith, nat_lt, ◌&&◌, Bool, true, false, List, [], ◌∷◌, ◌++◌, length, drop, get_or}
+use Rattle.std.proofs.Common.{refl, sym, ap, subst, ◌∙◌}
 use Rattle.std.specs.Prelude.{Option, Some, None, is_some, option_map, if◌then◌else◌}
 use Rattle.std.proofs.lemmas.Bool.{cond_both, lt-ltb, ltb-true, ne_eqb}
 use Rattle.std.proofs.lemmas.List.{drop_more}
@@ -19,7 +20,8 @@ use Rattle.cc_ops.specs.declared.stage.Stage.TheVariants as stage
 use Rattle.cc_ops.specs.Commands.{is_writing, written, finds_no_room}
 use Rattle.cc_ops.specs.OwnLaws.{last_number}
 use Rattle.cc_ops.specs.Refusals.{passes}
-use Rattle.cc_ops.specs.Ops.{Ops, Phase, Idle, Storing, Querying, StoringBack, is_idle, is_last, counted, after_ack, begun_in, round_of, next_round, with_own_row, with_written, begin_round, after_last}
+use Rattle.cc_ops.specs.Ops.{Ops, Phase, Idle, Storing, Querying, StoringBack, is_idle, is_last, counted, after_ack, begun_in, round_of, next_round}
+use Rattle.cc_ops.specs.Ops.{with_own_row, with_written, begin_round, after_last}
 use Rattle.cc_ops.specs.Rounds.{picked, spared, first_round, line_behind}
 use Rattle.cc_ops.specs.RoundLaws.{round_written, behind_within}
 use Rattle.cc_ops.specs.Stages.{phase_of, WaitsBehind, HasRoom}
@@ -38,17 +40,20 @@ may_wait (stage.Storing p) seen line busy = tt
 may_wait (stage.Querying p) seen line busy = tt
 may_wait (stage.StoringBack p) seen line busy = tt
 
-pub begin_room : (line : List Asked) (k : Command) (mine : Value) → line ≡ [] → finds_no_room (written_by line mine) k ≡ false → HasRoom line mine → HasRoom line (written k mine)
+pub begin_room : (line : List Asked) (k : Command) (mine : Value) → line ≡ [] → finds_no_room (written_by line mine) k ≡ false → HasRoom line mine
+    → HasRoom line (written k mine)
 begin_room [] k mine none room h = written_fits k mine room h
 begin_room (a ∷ line) k mine none room h = cc
 
-pub wait_room : (line : List Asked) (a : Asked) (mine : Value) → finds_no_room (written_by line mine) a.command ≡ false → HasRoom line mine → HasRoom (line ++ a ∷ []) mine
+pub wait_room : (line : List Asked) (a : Asked) (mine : Value) → finds_no_room (written_by line mine) a.command ≡ false → HasRoom line mine
+    → HasRoom (line ++ a ∷ []) mine
 wait_room line a mine room h =
     subst (λ (v : Value). set.len v.set ≤ set_limit) (sym (written_last line a mine)) (written_fits a.command (written_by line mine) room h)
 
 -- ---- the first of those that wait
 
-pub no_room : (asks : List Asked) (i : ℕ) (value mine : Value) (a : Asked) → i < length asks → a ≡ get_or asks i a → written_by (drop i asks) value ≡ written_by asks mine
+pub no_room : (asks : List Asked) (i : ℕ) (value mine : Value) (a : Asked) → i < length asks → a ≡ get_or asks i a
+    → written_by (drop i asks) value ≡ written_by asks mine
     → finds_no_room value a.command ≡ true → HasRoom asks mine → ⊥
 no_room asks i value mine a inside is same full h =
     let front : drop i asks ≡ a ∷ drop (i + 1) asks = drop_more asks i a inside ∙ ap (λ (x : Asked). x ∷ drop (i + 1) asks) (sym is) in
@@ -61,7 +66,8 @@ no_room asks i value mine a inside is same full h =
 
 -- ---- a round that begins
 
-pub round_room : (share : ℕ) (line : List Asked) (mine : Value) → HasRoom line mine → HasRoom (line_behind share line) (written_by (first_round share line) mine)
+pub round_room : (share : ℕ) (line : List Asked) (mine : Value) → HasRoom line mine
+    → HasRoom (line_behind share line) (written_by (first_round share line) mine)
 round_room share line mine h =
     subst (λ (v : Value). set.len v.set ≤ set_limit)
     (sym (round_written share line mine) ∙ written_both (first_round share line) (line_behind share line) mine) h
@@ -75,12 +81,14 @@ behind_room share line mine h =
 -- of a round whose first ask writes the row is that of its last one
 pub round_view : (me quorum : ℕ) (a : Asked) (s : Ops) → Some a ≡ first_in s.line → is_writing a.command ≡ true → 1 ≤ s.share
     → (after_last me quorum s).view
-    ≡ merge s.view (single (record { node = me; number = s.number + writes_by (first_round s.share s.line); value = written_by (first_round s.share s.line) s.mine }))
+    ≡ merge s.view (single (record { node = me; number = s.number + writes_by (first_round s.share s.line); value =
+      written_by (first_round s.share s.line) s.mine }))
 round_view me quorum a s first writes some = of_line s.share s.line first some
   where
     of_line : (share : ℕ) (line : List Asked) → Some a ≡ first_in line → 1 ≤ share
         → (begin_round me quorum (first_round share line) (record s { line = line_behind share line })).view
-        ≡ merge s.view (single (record { node = me; number = s.number + writes_by (first_round share line); value = written_by (first_round share line) s.mine }))
+        ≡ merge s.view (single (record { node = me; number = s.number + writes_by (first_round share line); value =
+          written_by (first_round share line) s.mine }))
     of_line share [] first some = cc
     of_line zero (b ∷ line) first some = absurd (omega (arith, some))
     of_line (suc n) (b ∷ line) first some =
@@ -88,7 +96,8 @@ round_view me quorum a s first writes some = of_line s.share s.line first some
         let is : is_writing b.command ≡ true = subst (λ (x : Asked). is_writing x.command ≡ true) same writes in
         let round = b ∷ picked (is_writing b.command) n line in
         let t : Ops = record s { line = spared (is_writing b.command) n line } in
-        ap (λ (c : Bool). (if c then next_round (Storing (round_of quorum b)) (with_own_row me (with_written round t)) else next_round (Querying (round_of quorum b)) t).view) is
+        ap (λ (c : Bool). (if c then next_round (Storing (round_of quorum b)) (with_own_row me (with_written round t)) else
+          next_round (Querying (round_of quorum b)) t).view) is
 
 -- the counters as one does
 pub round_tag : (me quorum : ℕ) (a : Asked) (s : Ops) → Some a ≡ first_in s.line → 1 ≤ s.share → (after_last me quorum s).tag ≡ s.tag + 1
@@ -100,8 +109,10 @@ round_tag me quorum a s first some = of_line s.share s.line first some
     of_line zero (b ∷ line) first some = absurd (omega (arith, some))
     of_line (suc n) (b ∷ line) first some =
         cond_both (is_writing b.command)
-        (next_round (Storing (round_of quorum b)) (with_own_row me (with_written (b ∷ picked (is_writing b.command) n line) (record s { line = spared (is_writing b.command) n line }))))
-        (next_round (Querying (round_of quorum b)) (record s { line = spared (is_writing b.command) n line })) (λ (u : Ops). u.tag ≡ s.tag + 1) (λ _. refl) (λ _. refl)
+        (next_round (Storing (round_of quorum b)) (with_own_row me (with_written (b ∷ picked (is_writing b.command) n line)
+          (record s { line = spared (is_writing b.command) n line }))))
+        (next_round (Querying (round_of quorum b)) (record s { line = spared (is_writing b.command) n line }))
+          (λ (u : Ops). u.tag ≡ s.tag + 1) (λ _. refl) (λ _. refl)
 
 -- the round that begins has the first ask of the line
 first_same : (share : ℕ) (line : List Asked) → 1 ≤ share → first_in (first_round share line) ≡ first_in line
@@ -122,11 +133,13 @@ either_raises me quorum true a s more first some = record {
 }
 either_raises me quorum false a s more first some = cc
 
-pub ack_raises : (me quorum : ℕ) (phase : Phase) (a : Asked) (s : Ops) → Some a ≡ first_in (begun_in phase s) → 1 ≤ s.share → Raises s (after_ack me quorum phase s)
+pub ack_raises : (me quorum : ℕ) (phase : Phase) (a : Asked) (s : Ops) → Some a ≡ first_in (begun_in phase s) → 1 ≤ s.share
+    → Raises s (after_ack me quorum phase s)
 ack_raises me quorum Idle a s first some = cc
 ack_raises me quorum (Storing p) a s first some = either_raises me quorum (is_last p) a s (record s { phase = Storing (counted p) }) first some
 ack_raises me quorum (Querying p) a s first some = cc
-ack_raises me quorum (StoringBack p seen) a s first some = either_raises me quorum (is_last p) a s (record s { phase = StoringBack (counted p) seen }) first some
+ack_raises me quorum (StoringBack p seen) a s first some = either_raises me quorum (is_last p) a s
+    (record s { phase = StoringBack (counted p) seen }) first some
 
 pub passes_by : (n k : ℕ) → n ≤ counter_limit → passes n (n + k) ≡ nat_lt counter_limit (n + k)
 passes_by n k within =

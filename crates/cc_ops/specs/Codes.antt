@@ -35,7 +35,8 @@ phase_back (Querying p) = refl
 phase_back (StoringBack p seen) = refl
 
 abbrev pub phase_code : Coded Phase
-phase_code = code_by (ℕ × (Pending × ViewMap)) (coded× coded_ℕ (coded× (pending.the_row).coded view_code)) phase_fields (λ f. phase_with f.0 f.1.0 f.1.1) phase_back
+phase_code = code_by (ℕ × (Pending × ViewMap)) (coded× coded_ℕ (coded× (pending.the_row).coded view_code)) phase_fields
+    (λ f. phase_with f.0 f.1.0 f.1.1) phase_back
 
 abbrev pub line_code : Coded (List Asked)
 line_code = coded_list (asked.the_row).coded
@@ -48,4 +49,5 @@ ops_code =
     code_by (ViewMap × (ℕ × (Value × (ℕ × (ℕ × (Phase × (List Asked × List Asked)))))))
     (coded× view_code (coded× coded_ℕ (coded× value_code (coded× coded_ℕ (coded× coded_ℕ (coded× phase_code (coded× line_code line_code)))))))
     (λ s. (s.view, (s.number, (s.mine, (s.tag, (s.share, (s.phase, (s.others, s.line))))))))
-    (λ p. record { view = p.0; number = p.1.0; mine = p.1.1.0; tag = p.1.1.1.0; share = p.1.1.1.1.0; phase = p.1.1.1.1.1.0; others = p.1.1.1.1.1.1.0; line = p.1.1.1.1.1.1.1 }) (λ _. refl)
+    (λ p. record { view = p.0; number = p.1.0; mine = p.1.1.0; tag = p.1.1.1.0; share = p.1.1.1.1.0; phase = p.1.1.1.1.1.0; others = p.1.1.1.1.1.1.0;
+      line = p.1.1.1.1.1.1.1 }) (λ _. refl)

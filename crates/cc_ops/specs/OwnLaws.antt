@@ -23,7 +23,10 @@ use Rattle.cc_ops.specs.RoundLaws.{none_write, round_written}
 use Rattle.cc_ops.specs.Waiting.{writes_by, written_by}
 pub use Rattle.cc_ops.specs.WaitingLaws.{reading_leaves}
 use Rattle.cc_ops.specs.WaitingLaws.{written_last, written_both, no_writes}
-use Rattle.cc_ops.specs.Ops.{Ops, Phase, Idle, Storing, Querying, StoringBack, is_idle, seen_in, round_of, counted, is_last, is_own, merged, next_round, again, anew, begin_round, with_own_row, with_written, after_ask, after_reply, after_last, after_ack, after_message, begun_by_ask, begun_in, begun_by, told, replies_in, replies_of, asked_in, pending, unanswered, mine_at_last}
+use Rattle.cc_ops.specs.Ops.{Ops, Phase, Idle, Storing, Querying, StoringBack, is_idle, seen_in, round_of, counted, is_last, is_own, merged}
+use Rattle.cc_ops.specs.Ops.{next_round, again, anew, begin_round, with_own_row, with_written, after_ask, after_reply, after_last, after_ack}
+use Rattle.cc_ops.specs.Ops.{after_message, begun_by_ask, begun_in, begun_by, told, replies_in, replies_of, asked_in, pending, unanswered}
+use Rattle.cc_ops.specs.Ops.{mine_at_last}
 
 -- ---- a round begins
 
@@ -46,7 +49,8 @@ round_number me quorum [] s alike = sym (add-zero s.number)
 round_number me quorum (a ∷ others) s alike =
     elim (is_writing a.command)
     as (λ b. is_writing a.command ≡ b
-    → (if b then next_round (Storing (round_of quorum a)) (with_own_row me (with_written (a ∷ others) s)) else next_round (Querying (round_of quorum a)) s).number ≡ s.number + writes_by (a ∷ others)) [
+    → (if b then next_round (Storing (round_of quorum a)) (with_own_row me (with_written (a ∷ others) s)) else
+    next_round (Querying (round_of quorum a)) s).number ≡ s.number + writes_by (a ∷ others)) [
       | true ↦ λ _. refl
       | false ↦ λ reads. let none = none_reads a others reads (alike reads) in omega (arith, none)
     ] refl
@@ -56,7 +60,8 @@ round_mine me quorum [] s alike = refl
 round_mine me quorum (a ∷ others) s alike =
     elim (is_writing a.command)
     as (λ b. is_writing a.command ≡ b
-    → (if b then next_round (Storing (round_of quorum a)) (with_own_row me (with_written (a ∷ others) s)) else next_round (Querying (round_of quorum a)) s).mine ≡ written_by (a ∷ others) s.mine) [
+    → (if b then next_round (Storing (round_of quorum a)) (with_own_row me (with_written (a ∷ others) s)) else
+    next_round (Querying (round_of quorum a)) s).mine ≡ written_by (a ∷ others) s.mine) [
       | true ↦ λ _. refl
       | false ↦ λ reads. sym (no_writes (a ∷ others) s.mine (none_reads a others reads (alike reads)))
     ] refl
@@ -64,20 +69,23 @@ round_mine me quorum (a ∷ others) s alike =
 pub round_line : (me quorum : ℕ) (asks : List Asked) (s : Ops) → (begin_round me quorum asks s).line ≡ s.line
 round_line me quorum [] s = refl
 round_line me quorum (a ∷ others) s =
-    cond_both (is_writing a.command) (next_round (Storing (round_of quorum a)) (with_own_row me (with_written (a ∷ others) s))) (next_round (Querying (round_of quorum a)) s)
+    cond_both (is_writing a.command) (next_round (Storing (round_of quorum a)) (with_own_row me (with_written (a ∷ others) s)))
+      (next_round (Querying (round_of quorum a)) s)
     (λ (t : Ops). t.line ≡ s.line) (λ _. refl) (λ _. refl)
 
 -- what begins is what is pending then
 pub round_pending : (me quorum : ℕ) (asks : List Asked) (s : Ops) → pending (begin_round me quorum asks s) ≡ asks
 round_pending me quorum [] s = refl
 round_pending me quorum (a ∷ others) s =
-    cond_both (is_writing a.command) (next_round (Storing (round_of quorum a)) (with_own_row me (with_written (a ∷ others) s))) (next_round (Querying (round_of quorum a)) s)
+    cond_both (is_writing a.command) (next_round (Storing (round_of quorum a)) (with_own_row me (with_written (a ∷ others) s)))
+      (next_round (Querying (round_of quorum a)) s)
     (λ (t : Ops). asked_in t.phase ++ others ≡ a ∷ others) (λ _. refl) (λ _. refl)
 
 pub round_unanswered : (me quorum : ℕ) (asks : List Asked) (s : Ops) → unanswered (begin_round me quorum asks s) ≡ asks ++ s.line
 round_unanswered me quorum asks s = λ i. round_pending me quorum asks s i ++ round_line me quorum asks s i
 
-round_last : (me quorum : ℕ) (asks : List Asked) (s : Ops) → IsRound asks → mine_at_last (begin_round me quorum asks s) ≡ written_by s.line (written_by asks s.mine)
+round_last : (me quorum : ℕ) (asks : List Asked) (s : Ops) → IsRound asks → mine_at_last (begin_round me quorum asks s) ≡ written_by s.line
+    (written_by asks s.mine)
 round_last me quorum asks s alike = λ i. written_by (round_line me quorum asks s i) (round_mine me quorum asks s alike i)
 
 -- ---- the last acknowledgement
@@ -117,7 +125,8 @@ each_ack P me quorum (Storing p) s same last more =
     either_ack P (is_last p) (after_last me quorum s) (record s { phase = Storing (counted p) }) (first_round s.share s.line) last (more (Storing (counted p)))
 each_ack P me quorum (Querying p) s same last more = same
 each_ack P me quorum (StoringBack p seen) s same last more =
-    either_ack P (is_last p) (after_last me quorum s) (record s { phase = StoringBack (counted p) seen }) (first_round s.share s.line) last (more (StoringBack (counted p) seen))
+    either_ack P (is_last p) (after_last me quorum s) (record s { phase = StoringBack (counted p) seen }) (first_round s.share s.line) last
+      (more (StoringBack (counted p) seen))
 
 -- ---- a message
 
@@ -126,7 +135,8 @@ either_reply : (P : Ops → Type 0) (quorum : ℕ) (v : ViewMap) (phase : Phase)
 either_reply P quorum v Idle s same more = same
 either_reply P quorum v (Storing p) s same more = same
 either_reply P quorum v (Querying p) s same more =
-    cond_both (is_last p) (next_round (StoringBack (round_of quorum p.asked) (merge s.view v)) (merged v s)) (record (merged v s) { phase = Querying (counted p) }) P
+    cond_both (is_last p) (next_round (StoringBack (round_of quorum p.asked) (merge s.view v)) (merged v s))
+      (record (merged v s) { phase = Querying (counted p) }) P
     (λ _. more (StoringBack (round_of quorum p.asked) (merge s.view v)) (s.tag + 1)) (λ _. more (Querying (counted p)) s.tag)
 either_reply P quorum v (StoringBack p seen) s same more = same
 
@@ -173,17 +183,20 @@ pub message_last : (me quorum : ℕ) (m : Message) (s : Ops) → mine_at_last (a
 message_last me quorum m s = each_message (λ t o. mine_at_last t ≡ mine_at_last s) me quorum m s (λ v p tag. refl) (last_last me quorum s)
 
 pub message_share : (me quorum : ℕ) (m : Message) (s : Ops) → (after_message me quorum m s).share ≡ s.share
-message_share me quorum m s = each_message (λ t o. t.share ≡ s.share) me quorum m s (λ v p tag. refl) (round_share me quorum (first_round s.share s.line) (line_left s))
+message_share me quorum m s = each_message (λ t o. t.share ≡ s.share) me quorum m s (λ v p tag. refl)
+    (round_share me quorum (first_round s.share s.line) (line_left s))
   where
     round_share : (me quorum : ℕ) (asks : List Asked) (t : Ops) → (begin_round me quorum asks t).share ≡ t.share
     round_share me quorum [] t = refl
     round_share me quorum (a ∷ others) t =
-        cond_both (is_writing a.command) (next_round (Storing (round_of quorum a)) (with_own_row me (with_written (a ∷ others) t))) (next_round (Querying (round_of quorum a)) t)
+        cond_both (is_writing a.command) (next_round (Storing (round_of quorum a)) (with_own_row me (with_written (a ∷ others) t)))
+          (next_round (Querying (round_of quorum a)) t)
         (λ (u : Ops). u.share ≡ t.share) (λ _. refl) (λ _. refl)
 
 -- ---- an ask
 
-either_idle : (P : Ops → List Asked → Type 0) (b : Bool) (t u : Ops) (a : Asked) → (b ≡ true → P t (a ∷ [])) → P u [] → P (if b then t else u) (if b then a ∷ [] else [])
+either_idle : (P : Ops → List Asked → Type 0) (b : Bool) (t u : Ops) (a : Asked) → (b ≡ true → P t (a ∷ [])) → P u []
+    → P (if b then t else u) (if b then a ∷ [] else [])
 either_idle P true t u a h k = h refl
 either_idle P false t u a h k = k
 
@@ -200,14 +213,17 @@ ask_mine me quorum a s =
     either_idle (λ t o. t.mine ≡ written_by o s.mine) (is_idle s.phase) (begin_round me quorum (a ∷ []) s) (record s { line = s.line ++ a ∷ [] }) a
     (λ _. round_mine me quorum (a ∷ []) s (alone a)) refl
 
-pub ask_line : (me quorum : ℕ) (a : Asked) (s : Ops) → (is_idle s.phase ≡ true → s.line ≡ []) → s.line ++ a ∷ [] ≡ begun_by_ask a s ++ (after_ask me quorum a s).line
+pub ask_line : (me quorum : ℕ) (a : Asked) (s : Ops) → (is_idle s.phase ≡ true → s.line ≡ [])
+    → s.line ++ a ∷ [] ≡ begun_by_ask a s ++ (after_ask me quorum a s).line
 ask_line me quorum a s none =
     either_idle (λ t o. s.line ++ a ∷ [] ≡ o ++ t.line) (is_idle s.phase) (begin_round me quorum (a ∷ []) s) (record s { line = s.line ++ a ∷ [] }) a
     (λ idle. ap (λ (l : List Asked). l ++ a ∷ []) (none idle) ∙ ap (λ (l : List Asked). a ∷ l) (sym (round_line me quorum (a ∷ []) s ∙ none idle))) refl
 
-pub ask_last : (me quorum : ℕ) (a : Asked) (s : Ops) → (is_idle s.phase ≡ true → s.line ≡ []) → mine_at_last (after_ask me quorum a s) ≡ written a.command (mine_at_last s)
+pub ask_last : (me quorum : ℕ) (a : Asked) (s : Ops) → (is_idle s.phase ≡ true → s.line ≡ [])
+    → mine_at_last (after_ask me quorum a s) ≡ written a.command (mine_at_last s)
 ask_last me quorum a s none =
-    either_idle (λ t o. mine_at_last t ≡ written a.command (mine_at_last s)) (is_idle s.phase) (begin_round me quorum (a ∷ []) s) (record s { line = s.line ++ a ∷ [] }) a
+    either_idle (λ t o. mine_at_last t ≡ written a.command (mine_at_last s)) (is_idle s.phase) (begin_round me quorum (a ∷ []) s)
+      (record s { line = s.line ++ a ∷ [] }) a
     (λ idle. round_last me quorum (a ∷ []) s (alone a) ∙ ap (λ (l : List Asked). written_by l (written a.command s.mine)) (none idle)
     ∙ ap (λ (l : List Asked). written a.command (written_by l s.mine)) (sym (none idle)))
     (written_last s.line a s.mine)
@@ -219,7 +235,8 @@ none_pending (Querying p) e = cc
 none_pending (StoringBack p seen) e = cc
 
 -- one more ask isn't answered yet, the last of them
-pub ask_unanswered : (me quorum : ℕ) (a : Asked) (s : Ops) → (is_idle s.phase ≡ true → (s.line ≡ []) × (s.others ≡ [])) → unanswered (after_ask me quorum a s) ≡ unanswered s ++ a ∷ []
+pub ask_unanswered : (me quorum : ℕ) (a : Asked) (s : Ops) → (is_idle s.phase ≡ true → (s.line ≡ []) × (s.others ≡ []))
+    → unanswered (after_ask me quorum a s) ≡ unanswered s ++ a ∷ []
 ask_unanswered me quorum a s none =
     either_idle (λ t o. unanswered t ≡ unanswered s ++ a ∷ []) (is_idle s.phase) (begin_round me quorum (a ∷ []) s) (record s { line = s.line ++ a ∷ [] }) a
     (λ idle. round_unanswered me quorum (a ∷ []) s ∙ ap (λ (l : List Asked). a ∷ l) (none idle).0
@@ -248,7 +265,8 @@ reply_unanswered : (quorum : ℕ) (v : ViewMap) (phase : Phase) (s : Ops) → s.
 reply_unanswered quorum v Idle s e = refl
 reply_unanswered quorum v (Storing p) s e = refl
 reply_unanswered quorum v (Querying p) s e =
-    cond_both (is_last p) (next_round (StoringBack (round_of quorum p.asked) (merge s.view v)) (merged v s)) (record (merged v s) { phase = Querying (counted p) })
+    cond_both (is_last p) (next_round (StoringBack (round_of quorum p.asked) (merge s.view v)) (merged v s))
+      (record (merged v s) { phase = Querying (counted p) })
     (λ (t : Ops). unanswered t ≡ unanswered s) (λ _. same) (λ _. same)
   where
     same : (p.asked ∷ [] ++ s.others) ++ s.line ≡ unanswered s
@@ -256,7 +274,8 @@ reply_unanswered quorum v (Querying p) s e =
 reply_unanswered quorum v (StoringBack p seen) s e = refl
 
 -- with the last acknowledgement, or with another one
-either_told : (me quorum : ℕ) (b : Bool) (seen : ViewMap) (asks : List Asked) (phase : Phase) (s : Ops) → pending s ≡ asks → unanswered (record s { phase = phase }) ≡ unanswered s
+either_told : (me quorum : ℕ) (b : Bool) (seen : ViewMap) (asks : List Asked) (phase : Phase) (s : Ops) → pending s ≡ asks
+    → unanswered (record s { phase = phase }) ≡ unanswered s
     → AnswersRound s (if b then after_last me quorum s else record s { phase = phase }) (if b then map (told seen) asks else [])
 either_told me quorum true seen asks phase s are same =
     inr (subst (λ (l : List Asked). AreAnswered l (map (told seen) asks)) (sym are) (all_told seen asks), last_unanswered me quorum s)
@@ -281,7 +300,8 @@ message_answers me quorum (message.Leave q) s = inl (refl, refl)
 message_answers me quorum (message.LeaveEcho q) s = inl (refl, refl)
 message_answers me quorum (message.Query tag q) s = inl (refl, refl)
 message_answers me quorum (message.QueryReply v tag q) s =
-    inl (refl, cond_both (is_own me tag q s) (after_reply quorum v s.phase s) s (λ (t : Ops). unanswered t ≡ unanswered s) (λ _. reply_unanswered quorum v s.phase s refl) (λ _. refl))
+    inl (refl, cond_both (is_own me tag q s) (after_reply quorum v s.phase s) s (λ (t : Ops). unanswered t ≡ unanswered s)
+      (λ _. reply_unanswered quorum v s.phase s refl) (λ _. refl))
 message_answers me quorum (message.Store v tag q) s = inl (refl, refl)
 message_answers me quorum (message.StoreAck tag q) s =
     elim (is_own me tag q s)
@@ -296,7 +316,8 @@ abbrev pub EndsRound : Ops → List Reply → List Asked → List Asked → Type
 EndsRound s rs begun line = ((rs ≡ []) × (line ≡ s.line)) ⊎ ((rs ≡ [] → ⊥) × (begun ≡ first_round s.share s.line) × (line ≡ line_behind s.share s.line))
 
 either_ends : (me quorum : ℕ) (b : Bool) (r : Reply) (rs : List Reply) (phase : Phase) (s : Ops)
-    → EndsRound s (if b then r ∷ rs else []) (if b then first_round s.share s.line else []) (if b then after_last me quorum s else record s { phase = phase }).line
+    → EndsRound s (if b then r ∷ rs else []) (if b then first_round s.share s.line else [])
+    (if b then after_last me quorum s else record s { phase = phase }).line
 either_ends me quorum true r rs phase s = inr (λ e. cc, refl, last_line me quorum s)
 either_ends me quorum false r rs phase s = inl (refl, refl)
 
@@ -323,7 +344,8 @@ message_ends me quorum (message.QueryReply v tag q) s =
 message_ends me quorum (message.Store v tag q) s = inl (refl, refl)
 message_ends me quorum (message.StoreAck tag q) s =
     elim (is_own me tag q s)
-    as (λ b. EndsRound s (if b then replies_in s.view s.others s.phase else []) (if b then begun_in s.phase s else []) (if b then after_ack me quorum s.phase s else s).line) [
+    as (λ b. EndsRound s (if b then replies_in s.view s.others s.phase else []) (if b then begun_in s.phase s else [])
+      (if b then after_ack me quorum s.phase s else s).line) [
       | true ↦ ack_ends me quorum s.phase s
       | false ↦ inl (refl, refl)
     ]

@@ -7,7 +7,8 @@
 --     count_still                 there are as many
 --     round_.., .._behind         the same of a line, with its first round in front of what is left
 --     round_fair, at_more         an ask that waits begins, or fewer stand before it;  one more behind it leaves its place
-use Rattle.std.specs.Prelude.{◌≡◌, ℕ, ◌+◌, ◌-◌, ◌<◌, ◌≤◌, ◌⊎◌, zero, suc, length, Bool, true, false, not, IsTrue, ◌||◌, nat_eq, List, [], ◌∷◌, ◌++◌, if◌then◌else◌, refl}
+use Rattle.std.specs.Prelude.{◌≡◌, ℕ, ◌+◌, ◌-◌, ◌<◌, ◌≤◌, ◌⊎◌, zero, suc, length, Bool, true, false, not, IsTrue, ◌||◌, nat_eq, List, [], ◌∷◌, ◌++◌}
+use Rattle.std.specs.Prelude.{if◌then◌else◌, refl}
 use Rattle.std.proofs.Common.{sym, ap, arith, inl, inr, ◌∙◌}
 use Rattle.std.specs.List.{AllByRecursion}
 use Rattle.std.proofs.lemmas.Bool.{or_parts, eqb-false, ne_eqb}
@@ -37,15 +38,19 @@ or_join : (a b c : Bool) → (a || (b || c)) ≡ ((a || b) || c)
 or_join true b c = refl
 or_join false b c = refl
 
-pub either_has : (s : ℕ) (kind : Bool) (n : ℕ) (asks : List Asked) → has_session s asks ≡ (has_session s (picked kind n asks) || has_session s (spared kind n asks))
+pub either_has : (s : ℕ) (kind : Bool) (n : ℕ) (asks : List Asked) → has_session s asks
+    ≡ (has_session s (picked kind n asks) || has_session s (spared kind n asks))
 either_has s kind zero asks = refl
 either_has s kind (suc n) [] = refl
 either_has s kind (suc n) (a ∷ asks) =
     elim (is_of kind a)
     as (λ b. (nat_eq s a.session || has_session s asks)
-    ≡ (has_session s (if b then a ∷ picked kind n asks else picked kind (suc n) asks) || has_session s (if b then spared kind n asks else a ∷ spared kind (suc n) asks))) [
-      | true ↦ ap (λ (h : Bool). nat_eq s a.session || h) (either_has s kind n asks) ∙ or_join (nat_eq s a.session) (has_session s (picked kind n asks)) (has_session s (spared kind n asks))
-      | false ↦ ap (λ (h : Bool). nat_eq s a.session || h) (either_has s kind (suc n) asks) ∙ or_swap (nat_eq s a.session) (has_session s (picked kind (suc n) asks)) (has_session s (spared kind (suc n) asks))
+    ≡ (has_session s (if b then a ∷ picked kind n asks else picked kind (suc n) asks) || has_session s
+      (if b then spared kind n asks else a ∷ spared kind (suc n) asks))) [
+      | true ↦ ap (λ (h : Bool). nat_eq s a.session || h) (either_has s kind n asks) ∙ or_join (nat_eq s a.session) (has_session s (picked kind n asks))
+        (has_session s (spared kind n asks))
+      | false ↦ ap (λ (h : Bool). nat_eq s a.session || h) (either_has s kind (suc n) asks)
+        ∙ or_swap (nat_eq s a.session) (has_session s (picked kind (suc n) asks)) (has_session s (spared kind (suc n) asks))
     ]
 
 pub has_both : (s : ℕ) (xs ys : List Asked) → has_session s (xs ++ ys) ≡ (has_session s xs || has_session s ys)
@@ -69,7 +74,8 @@ apart_between (x ∷ xs) ys a none h =
     let parts = or_parts _ _ none in
     let other : nat_eq x.session a.session ≡ false = same_tests a.session x.session parts.0 in
     let here = or_parts _ _ (sym (has_both x.session xs ys) ∙ h.0) in (
-      has_both x.session xs (a ∷ ys) ∙ both_false (has_session x.session xs) (nat_eq x.session a.session || has_session x.session ys) here.0 (both_false (nat_eq x.session a.session) (has_session x.session ys) other here.1),
+      has_both x.session xs (a ∷ ys) ∙ both_false (has_session x.session xs) (nat_eq x.session a.session || has_session x.session ys) here.0
+        (both_false (nat_eq x.session a.session) (has_session x.session ys) other here.1),
       apart_between xs ys a parts.1 h.1,
     )
 
@@ -80,7 +86,8 @@ apart_still kind (suc n) (a ∷ asks) h =
     elim (is_of kind a)
     as (λ b. AreApart ((if b then a ∷ picked kind n asks else picked kind (suc n) asks) ++ (if b then spared kind n asks else a ∷ spared kind (suc n) asks))) [
       | true ↦ (has_still a.session kind n asks ∙ h.0, apart_still kind n asks h.1)
-      | false ↦ apart_between (picked kind (suc n) asks) (spared kind (suc n) asks) a (has_still a.session kind (suc n) asks ∙ h.0) (apart_still kind (suc n) asks h.1)
+      | false ↦ apart_between (picked kind (suc n) asks) (spared kind (suc n) asks) a
+        (has_still a.session kind (suc n) asks ∙ h.0) (apart_still kind (suc n) asks h.1)
     ]
 
 -- ---- order within a kind
@@ -123,7 +130,8 @@ same_own kind (suc n) [] = refl
 same_own kind (suc n) (a ∷ asks) =
     elim (is_of kind a)
     as (λ b. is_of kind a ≡ b
-    → of_kind kind ((if b then a ∷ picked kind n asks else picked kind (suc n) asks) ++ (if b then spared kind n asks else a ∷ spared kind (suc n) asks)) ≡ (if b then a ∷ of_kind kind asks else of_kind kind asks)) [
+    → of_kind kind ((if b then a ∷ picked kind n asks else picked kind (suc n) asks) ++ (if b then spared kind n asks else a ∷ spared kind (suc n) asks))
+    ≡ (if b then a ∷ of_kind kind asks else of_kind kind asks)) [
       | true ↦ λ is. takes (is_of kind a) a (of_kind kind (picked kind n asks ++ spared kind n asks)) is ∙ ap (λ (l : List Asked). a ∷ l) (same_own kind n asks)
       | false ↦ λ is.
           kind_both kind (picked kind (suc n) asks) (a ∷ spared kind (suc n) asks)
@@ -146,7 +154,8 @@ others_stay kind (suc n) [] = refl
 others_stay kind (suc n) (a ∷ asks) =
     elim (is_of kind a)
     as (λ b. is_of kind a ≡ b
-    → of_kind (not kind) (if b then spared kind n asks else a ∷ spared kind (suc n) asks) ≡ (if is_of (not kind) a then a ∷ of_kind (not kind) asks else of_kind (not kind) asks)) [
+    → of_kind (not kind) (if b then spared kind n asks else a ∷ spared kind (suc n) asks)
+    ≡ (if is_of (not kind) a then a ∷ of_kind (not kind) asks else of_kind (not kind) asks)) [
       | true ↦ λ is. others_stay kind n asks ∙ sym (skips (is_of (not kind) a) a (of_kind (not kind) asks) (other kind a is))
       | false ↦ λ _. ap (λ (l : List Asked). if is_of (not kind) a then a ∷ l else l) (others_stay kind (suc n) asks)
     ] refl
@@ -218,7 +227,8 @@ count_still kind zero asks = omega arith
 count_still kind (suc n) [] = refl
 count_still kind (suc n) (a ∷ asks) =
     elim (is_of kind a)
-    as (λ b. length (if b then a ∷ picked kind n asks else picked kind (suc n) asks) + length (if b then spared kind n asks else a ∷ spared kind (suc n) asks) ≡ length (a ∷ asks)) [
+    as (λ b. length (if b then a ∷ picked kind n asks else picked kind (suc n) asks) + length (if b then spared kind n asks else a ∷ spared kind (suc n)
+      asks) ≡ length (a ∷ asks)) [
       | true ↦ omega (arith, count_still kind n asks)
       | false ↦ omega (arith, count_still kind (suc n) asks)
     ]
@@ -267,8 +277,10 @@ spared_within kind zero asks v q h = h
 spared_within kind (suc n) [] v q h = h
 spared_within kind (suc n) (a ∷ asks) v q h =
     elim (is_of kind a)
-    as (λ b. IsTrue (contains (written_by (if b then spared kind n asks else a ∷ spared kind (suc n) asks) v).set q) → IsTrue (contains (written_by asks (written a.command v)).set q)) [
-      | true ↦ λ there. spared_within kind n asks (written a.command v) q (all_within (spared kind n asks) v (written a.command v) (written_within a.command v) q there)
+    as (λ b. IsTrue (contains (written_by (if b then spared kind n asks else a ∷ spared kind (suc n) asks) v).set q)
+      → IsTrue (contains (written_by asks (written a.command v)).set q)) [
+      | true ↦ λ there. spared_within kind n asks (written a.command v) q
+        (all_within (spared kind n asks) v (written a.command v) (written_within a.command v) q there)
       | false ↦ λ there. spared_within kind (suc n) asks (written a.command v) q there
     ] h
 
@@ -335,7 +347,8 @@ pub picked_alike : (kind : Bool) (n : ℕ) (asks : List Asked) → AllByRecursio
 picked_alike kind zero asks = tt
 picked_alike kind (suc n) [] = tt
 picked_alike kind (suc n) (a ∷ asks) =
-    elim (is_of kind a) as (λ b. is_of kind a ≡ b → AllByRecursion (λ b. is_writing b.command ≡ kind) (if b then a ∷ picked kind n asks else picked kind (suc n) asks)) [
+    elim (is_of kind a) as (λ b. is_of kind a ≡ b → AllByRecursion (λ b. is_writing b.command
+      ≡ kind) (if b then a ∷ picked kind n asks else picked kind (suc n) asks)) [
       | true ↦ λ is. (of_its_kind kind a is, picked_alike kind n asks)
       | false ↦ λ _. picked_alike kind (suc n) asks
     ] refl
@@ -362,19 +375,22 @@ rest_more : (n : ℕ) (asked a : Asked) (round rest : List Asked) → IsKeptAt n
 rest_more n asked a round rest (inl h) = inl h
 rest_more n asked a round rest (inr h) = let more : suc h.0 ≤ suc n = omega (arith, h.1) in inr (suc h.0, more, h.2)
 
-place_kept : (kind : Bool) (most : ℕ) (asks : List Asked) (n : ℕ) (asked : Asked) → IsAt n asked asks → IsKeptAt n asked (picked kind most asks) (spared kind most asks)
+place_kept : (kind : Bool) (most : ℕ) (asks : List Asked) (n : ℕ) (asked : Asked) → IsAt n asked asks
+    → IsKeptAt n asked (picked kind most asks) (spared kind most asks)
 place_kept kind zero asks n asked h = let same : n ≤ n = omega arith in inr (n, same, h)
 place_kept kind (suc m) [] n asked h = absurd h
 place_kept kind (suc m) (a ∷ asks) zero asked h =
     let none : 0 ≤ 0 = omega arith in
     elim (is_of kind a)
-    as (λ b. IsKeptAt 0 asked (if b then a ∷ picked kind m asks else picked kind (suc m) asks) (if b then spared kind m asks else a ∷ spared kind (suc m) asks)) [
+    as (λ b. IsKeptAt 0 asked (if b then a ∷ picked kind m asks else picked kind (suc m) asks)
+      (if b then spared kind m asks else a ∷ spared kind (suc m) asks)) [
       | true ↦ inl (0, h)
       | false ↦ inr (0, none, h)
     ]
 place_kept kind (suc m) (a ∷ asks) (suc n) asked h =
     elim (is_of kind a)
-    as (λ b. IsKeptAt (suc n) asked (if b then a ∷ picked kind m asks else picked kind (suc m) asks) (if b then spared kind m asks else a ∷ spared kind (suc m) asks)) [
+    as (λ b. IsKeptAt (suc n) asked (if b then a ∷ picked kind m asks else picked kind (suc m) asks)
+      (if b then spared kind m asks else a ∷ spared kind (suc m) asks)) [
       | true ↦ round_more n asked a (picked kind m asks) (spared kind m asks) (place_kept kind m asks n asked h)
       | false ↦ rest_more n asked a (picked kind (suc m) asks) (spared kind (suc m) asks) (place_kept kind (suc m) asks n asked h)
     ]
@@ -383,7 +399,8 @@ behind_first : (n : ℕ) (asked a : Asked) (round rest : List Asked) → IsKeptA
 behind_first n asked a round rest (inl h) = inl (suc h.0, h.1)
 behind_first n asked a round rest (inr h) = let fewer : h.0 < suc n = omega (arith, h.1) in inr (h.0, fewer, h.2)
 
-pub round_fair : (share : ℕ) (line : List Asked) (n : ℕ) (asked : Asked) → 1 ≤ share → IsAt n asked line → ComesOn n asked (first_round share line) (line_behind share line)
+pub round_fair : (share : ℕ) (line : List Asked) (n : ℕ) (asked : Asked) → 1 ≤ share → IsAt n asked line
+    → ComesOn n asked (first_round share line) (line_behind share line)
 round_fair zero line n asked some h = absurd (omega (arith, some))
 round_fair (suc m) [] n asked some h = absurd h
 round_fair (suc m) (a ∷ line) zero asked some h = inl (0, h)

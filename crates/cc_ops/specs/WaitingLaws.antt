@@ -7,7 +7,8 @@
 --     writes_both, written_both   how often they write, and what they make of the own value, with others behind them
 --     writes_most               they write no more often than there are of them
 --     no_writes                 those that never write leave the own value
-use Rattle.std.proofs.Common.{◌≡◌, ℕ, ◌+◌, ◌≤◌, Bool, true, false, cond, not, ◌&&◌, ◌||◌, nat_eq, List, [], ◌∷◌, ◌++◌, length, refl, sym, ap, ◌∙◌, inl, inr, arith}
+use Rattle.std.proofs.Common.{◌≡◌, ℕ, ◌+◌, ◌≤◌, Bool, true, false, cond, not, ◌&&◌, ◌||◌, nat_eq, List, [], ◌∷◌, ◌++◌, length, refl, sym, ap, ◌∙◌}
+use Rattle.std.proofs.Common.{inl, inr, arith}
 use Rattle.std.specs.Prelude.{◌==◌, if◌then◌else◌}
 use Rattle.std.proofs.lemmas.Bool.{cond_both, and_cases, or_parts, or_left, eq-eqb, eqb-false, ne_eqb}
 use Rattle.cc_views.specs.Limits.{set_limit}
@@ -68,7 +69,8 @@ fits_written (command.WriteMax x) mine h = refl
 fits_written command.ReadMax mine h = refl
 fits_written command.SetFlag mine h = refl
 fits_written command.ReadFlag mine h = refl
-fits_written (command.AddMember x) mine h = room_was_there (set.len mine.set) (set.len (set.insert mine.set x)) (set.contains mine.set x) (set.len-insert mine.set x) h
+fits_written (command.AddMember x) mine h = room_was_there (set.len mine.set) (set.len (set.insert mine.set x)) (set.contains mine.set x)
+    (set.len-insert mine.set x) h
 fits_written command.ReadSet mine h = refl
 
 -- what was put in stays, whatever else is
@@ -81,7 +83,8 @@ more_within command.ReadMax mine more h = h
 more_within command.SetFlag mine more h = h
 more_within command.ReadFlag mine more h = h
 more_within (command.AddMember x) mine more h =
-    insert_within mine.set (set.insert more.set x) x tt (λ q there. within_insert more.set x tt q (h q there)) (contains-insert more.set x x ∙ or_left _ _ (eq-eqb x x refl))
+    insert_within mine.set (set.insert more.set x) x tt (λ q there. within_insert more.set x tt q (h q there))
+      (contains-insert more.set x x ∙ or_left _ _ (eq-eqb x x refl))
 more_within command.ReadSet mine more h = h
 
 pub written_within : (k : Command) (mine : Value) → IsWithin mine.set (written k mine).set
@@ -110,7 +113,8 @@ first_room a asks mine h =
     fits_written a.command mine (omega (arith, more, h))
 
 -- so they do without the first one
-pub room_behind : (a : Asked) (asks : List Asked) (mine : Value) → set.len (written_by (a ∷ asks) mine).set ≤ set_limit → set.len (written_by asks mine).set ≤ set_limit
+pub room_behind : (a : Asked) (asks : List Asked) (mine : Value) → set.len (written_by (a ∷ asks) mine).set ≤ set_limit
+    → set.len (written_by asks mine).set ≤ set_limit
 room_behind a asks mine h =
     let w = written a.command mine in
     let more : set.len (written_by asks mine).set ≤ set.len (written_by asks w).set =
@@ -134,7 +138,8 @@ both_false false b e f = f
 
 pub none_last : (s : ℕ) (asks : List Asked) (a : Asked) → has_session s asks ≡ false → nat_eq s a.session ≡ false → has_session s (asks ++ a ∷ []) ≡ false
 none_last s [] a h e = both_false (nat_eq s a.session) false e refl
-none_last s (b ∷ asks) a h e = let parts = or_parts _ _ h in both_false (nat_eq s b.session) (has_session s (asks ++ a ∷ [])) parts.0 (none_last s asks a parts.1 e)
+none_last s (b ∷ asks) a h e = let parts = or_parts _ _ h in both_false (nat_eq s b.session) (has_session s (asks ++ a ∷ [])) parts.0
+    (none_last s asks a parts.1 e)
 
 pub apart_last : (asks : List Asked) (a : Asked) → AreApart asks → has_session a.session asks ≡ false → AreApart (asks ++ a ∷ [])
 apart_last [] a h e = (refl, tt)

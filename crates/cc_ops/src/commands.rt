@@ -56,7 +56,8 @@ impl Ops {
 
     /// Whether an ask of the command would raise a counter that stands at its limit, `2 ^ 62`. One that waits raises none.
     pub fn ask_is_spent(&self, command: &Command) -> bool
-        ensures { (me quorum session request : ℕ) → result ≡ (passes self.now.number (ops.after_ask me quorum (record { session = session; request = request; command = command.now }) self.now).number
+        ensures { (me quorum session request : ℕ) → result ≡ (passes self.now.number
+          (ops.after_ask me quorum (record { session = session; request = request; command = command.now }) self.now).number
             || overruns self.now.tag (ops.after_ask me quorum (record { session = session; request = request; command = command.now }) self.now).tag) }
     {
         let raises = is_writing(command) && self.number == COUNTER_LIMIT;

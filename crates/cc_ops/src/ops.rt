@@ -41,7 +41,8 @@ impl Model for Ops {
 
     ghost coded = { ops_code };
 
-    ghost view = { λ a. record { view = a.view; number = a.number; mine = a.mine; tag = a.tag; share = a.share; phase = phase_of a.stage a.seen; others = a.others; line = a.line } };
+    ghost view = { λ a. record { view = a.view; number = a.number; mine = a.mine; tag = a.tag; share = a.share; phase = phase_of a.stage a.seen; others =
+      a.others; line = a.line } };
 
     ghost invariant = { λ a. IsKept a.number a.tag a.share a.mine a.stage a.others a.line };
 }
@@ -90,7 +91,8 @@ impl Ops {
         requires waits { HasWaiting stage }
         requires behind { WaitsBehind stage line }
         requires room { HasRoom line mine }
-        ensures { IfOk result (λ o. o ≡ record { view = view; number = number; mine = mine; tag = tag; share = share; phase = phase_of stage seen; others = others; line = line }) }
+        ensures { IfOk result (λ o. o ≡ record { view = view; number = number; mine = mine; tag = tag; share = share; phase = phase_of stage seen;
+          others = others; line = line }) }
     {
         Ok(Ops {
             view,

@@ -96,7 +96,7 @@ impl LoadOrder {
 
     /// The node of the client with this number, from 0 on, and its session there. Clients go round the nodes, so no two have
     /// one session of one node. None without a node.
-    pub fn seat(&self, client: u64) -> Option<(SocketAddr, u64)> {
+    pub fn session_of(&self, client: u64) -> Option<(SocketAddr, u64)> {
         let nodes = self.addresses.len() as u64;
         if nodes == 0 {
             return None;

@@ -35,10 +35,12 @@ module _ (last : ℕ) (posts : List Message) (rows : List KeptAnswer) (numbers :
       ap (λ (k : ℕ). numbered k (posts ++ m ∷ [])) start ∙ numbered-append (last - length posts) posts m (last + 1) (omega arith) in
       ap (λ (ps : FinMap nat_cmp Message). record { last = last + 1; posts = ps; answers = table_of entry_of rows })
       (ap (λ (es : List (ℕ × Message)). map.from_entries es) entries
-      ∙ map.from_entries_push nat_cmp_total nat_cmp-IsAntisymmetric (numbered (last - length posts) posts) (last + 1) m (find_past (last - length posts) posts (last + 1) (omega arith)))
+      ∙ map.from_entries_push nat_cmp_total nat_cmp-IsAntisymmetric (numbered (last - length posts) posts) (last + 1) m
+        (find_past (last - length posts) posts (last + 1) (omega arith)))
 
   -- the posts above a number are left
-  pub outbox_of-trim : (low kept : ℕ) → kept ≡ min (last - low) (length posts) → outbox_of last (drop (length posts - kept) posts) rows ≡ trim low (outbox_of last posts rows)
+  pub outbox_of-trim : (low kept : ℕ) → kept ≡ min (last - low) (length posts) → outbox_of last (drop (length posts - kept) posts) rows ≡ trim low
+    (outbox_of last posts rows)
   outbox_of-trim low kept is =
       let d = length posts - kept in
       let left : length (drop (length posts - kept) posts) ≡ length posts - (length posts - kept) = length-drop (length posts - kept) posts in

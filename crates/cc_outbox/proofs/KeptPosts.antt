@@ -42,7 +42,8 @@ module _ (n : ℕ) (ms : List Message) where
       ap is_some (table.get-from_entries nat_cmp_total (numbered n ms) k ∙ find_numbered n ms (k - n - 1) k (message.Enter 0) (omega arith) (omega arith))
 
 -- the posts that are kept under the last numbers up to `last`
-pub keeps_numbered : (last : ℕ) (ms : List Message) → length ms ≤ last → length ms ≤ 512 → KeepsPosts (last - length ms) last (posts_after (last - length ms) ms)
+pub keeps_numbered : (last : ℕ) (ms : List Message) → length ms ≤ last → length ms ≤ 512
+    → KeepsPosts (last - length ms) last (posts_after (last - length ms) ms)
 keeps_numbered last ms le room =
     let n = last - length ms in
     let same : n + length ms ≡ last = omega arith in

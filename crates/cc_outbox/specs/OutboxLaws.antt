@@ -4,13 +4,15 @@
 --     keeps_none, keeps_add, keeps_trim  of no posts, after one more, and after the posts up to a higher number are dropped
 --     room_for_post                      where fewer than 512 are kept, one more fits
 --     len_between                        how many keys a map has that has just those between two numbers
-use Rattle.std.proofs.Common.{◌≡◌, ℕ, zero, suc, ◌+◌, ◌-◌, ◌<◌, ◌≤◌, ◌⊎◌, true, false, cond, ◌||◌, ◌&&◌, nat_eq, nat_lt, refl, sym, ap, subst, ◌∙◌, inl, inr, arith}
+use Rattle.std.proofs.Common.{◌≡◌, ℕ, zero, suc, ◌+◌, ◌-◌, ◌<◌, ◌≤◌, ◌⊎◌, true, false, cond, ◌||◌, ◌&&◌, nat_eq, nat_lt, refl, sym, ap, subst, ◌∙◌}
+use Rattle.std.proofs.Common.{inl, inr, arith}
 use Rattle.std.specs.Prelude.{IsTrue, T, is_some, ◌==◌}
 use Rattle.std.specs.Ordering.{nat_cmp}
 use Rattle.std.specs.Cmp.{nat_cmp_total}
 use Rattle.std.specs.FinMap as table
 use Rattle.std.specs.FinMap.{FinMap}
-use Rattle.std.proofs.lemmas.Bool.{and_parts, and_from, eq-eqb, eqb-true, eqb-false, ne_eqb, or_cases, or_left, or_right, ltb-true, lt-ltb, not-true, not_from_false}
+use Rattle.std.proofs.lemmas.Bool.{and_parts, and_from, eq-eqb, eqb-true, eqb-false, ne_eqb, or_cases, or_left, or_right, ltb-true, lt-ltb, not-true}
+use Rattle.std.proofs.lemmas.Bool.{not_from_false}
 use Rattle.cc_views.specs.NatSets.{contains-remove, contains-retain, contains-insert_key, len_within, len_positive}
 use Rattle.cc_messages.specs.declared.message.Message.{Message}
 use Rattle.cc_outbox.specs.Outbox.{Outbox, post_limit, add, trim}
@@ -47,7 +49,8 @@ below_last low high k e a b t = omega arith
 
 pub len_between : {X : Type 0} (d low high : ℕ) (m : FinMap nat_cmp X) → high - low ≡ d → AllWithin low high m → HasAll low high m → table.len m ≡ d
 len_between zero low high m e within all =
-    let none : table.len m ≤ table.len (table.empty {X = Unit {0}} {R = nat_cmp}) = len_within m table.empty (λ q h. absurd (nothing low high q e (within q h))) in
+    let none : table.len m ≤ table.len (table.empty {X = Unit {0}} {R = nat_cmp}) =
+      len_within m table.empty (λ q h. absurd (nothing low high q e (within q h))) in
     let empty : table.len (table.empty {X = Unit {0}} {R = nat_cmp}) ≡ 0 = table.len-empty nat_cmp (Unit {0}) in
     omega arith
 len_between (suc d) low high m e within all =
@@ -59,7 +62,8 @@ len_between (suc d) low high m e within all =
 
 -- ---- posts
 
-pub make_posts : (low posts : ℕ) (kept : FinMap nat_cmp Message) → AllWithin low posts kept → HasAll low posts kept → posts - low ≤ post_limit → KeepsPosts low posts kept
+pub make_posts : (low posts : ℕ) (kept : FinMap nat_cmp Message) → AllWithin low posts kept → HasAll low posts kept → posts - low ≤ post_limit
+    → KeepsPosts low posts kept
 make_posts low posts kept within all room =
     let count : table.len kept ≡ posts - low = len_between (posts - low) low posts kept refl within all in
     record { within = within; all = all; count = count; room = omega arith }
@@ -78,10 +82,12 @@ cases_last : (k last : ℕ) → k ≤ last + 1 → (k ≡ last + 1) ⊎ (k ≤ l
 cases_last k last h = grind arith
 
 -- one post more
-pub keeps_add : (low : ℕ) (m : Message) (o : Outbox) → KeepsPosts low o.last o.posts → low ≤ o.last → table.len o.posts < post_limit → KeepsPosts low (o.last + 1) (add m o).posts
+pub keeps_add : (low : ℕ) (m : Message) (o : Outbox) → KeepsPosts low o.last o.posts → low ≤ o.last → table.len o.posts < post_limit
+    → KeepsPosts low (o.last + 1) (add m o).posts
 keeps_add low m o h start room =
     make_posts low (o.last + 1) (table.insert o.posts (o.last + 1) m)
-    (λ q k. elim (or_cases (nat_eq q (o.last + 1)) (table.contains_key o.posts q) (sym (contains-insert_key o.posts (o.last + 1) m q) ∙ k)) as (λ _. (low < q) × (q ≤ o.last + 1)) [
+    (λ q k. elim (or_cases (nat_eq q (o.last + 1)) (table.contains_key o.posts q) (sym (contains-insert_key o.posts (o.last + 1) m q) ∙ k))
+      as (λ _. (low < q) × (q ≤ o.last + 1)) [
       | inl e ↦ let same : q ≡ o.last + 1 = eqb-true q (o.last + 1) e in (omega arith, omega arith)
       | inr e ↦ let old = h.within q e in (old.0, omega (arith, old.1))
     ])
@@ -92,7 +98,8 @@ keeps_add low m o h start room =
     ])
     (omega (arith, h.count, room))
 
-contains-above : (low : ℕ) (kept : FinMap nat_cmp Message) (q : ℕ) → table.contains_key (table.retain_keys kept (λ k. nat_lt low k)) q ≡ (table.contains_key kept q && nat_lt low q)
+contains-above : (low : ℕ) (kept : FinMap nat_cmp Message) (q : ℕ) → table.contains_key (table.retain_keys kept (λ k. nat_lt low k)) q
+    ≡ (table.contains_key kept q && nat_lt low q)
 contains-above low kept q = contains-retain kept (λ k. nat_lt low k) q
 
 -- what is kept above a number that is no lower
@@ -104,5 +111,6 @@ keeps_trim low high o h up =
     (omega (arith, h.count, h.room))
 
 -- an outbox that is not full has room for one more
-pub room_for_post : (low posts : ℕ) (kept : FinMap nat_cmp Message) → KeepsPosts low posts kept → ((posts - low) == post_limit) ≡ false → table.len kept < post_limit
+pub room_for_post : (low posts : ℕ) (kept : FinMap nat_cmp Message) → KeepsPosts low posts kept → ((posts - low) == post_limit) ≡ false
+    → table.len kept < post_limit
 room_for_post low posts kept h e = let apart : posts - low ≡ post_limit → ⊥ = eqb-false (posts - low) post_limit e in omega (arith, h.count, h.room, apart)

@@ -15,7 +15,8 @@ use Rattle.cc_protocol.specs.declared.asking.Heard.{Heard}
 use Rattle.cc_protocol.specs.declared.asking.Heard.TheVariants as heard
 use Rattle.cc_protocol.specs.declared.asking.Step.{Step}
 use Rattle.cc_protocol.specs.declared.asking.Step.TheVariants as step
-use Rattle.cc_protocol.specs.Asking.{is_about, refusal_told, number_after, learning_step, told_step, told_client, came_step, came_client, step_of, client_after, steps, AsksUnder}
+use Rattle.cc_protocol.specs.Asking.{is_about, refusal_told, number_after, learning_step, told_step, told_client, came_step, came_client, step_of}
+use Rattle.cc_protocol.specs.Asking.{client_after, steps, AsksUnder}
 
 abbrev pub client_with : ℕ → Command → Option ℕ → Client
 client_with s k number = record { session = s; command = k; request = number }
@@ -24,7 +25,8 @@ client_with s k number = record { session = s; command = k; request = number }
 abbrev pub Stays : ℕ → Command → ℕ → Client → Step → Type 0
 Stays s k n d t = (d ≡ client_with s k (Some n)) × AsksUnder d n t
 
-stays_told : (s : ℕ) (k : Command) (n : ℕ) (told : Option Refusal) → Stays s k n (told_client (client_with s k (Some n)) told) (told_step (client_with s k (Some n)) told)
+stays_told : (s : ℕ) (k : Command) (n : ℕ) (told : Option Refusal) → Stays s k n (told_client (client_with s k (Some n)) told)
+    (told_step (client_with s k (Some n)) told)
 stays_told s k n None = (refl, tt)
 stays_told s k n (Some (refusal.Stale last)) = (refl, tt)
 stays_told s k n (Some why) = (refl, tt)

@@ -3,7 +3,8 @@
 --     held_fits                     how much it holds
 --     start_begins, ahead_start     before the first one
 --     unused_step                   what is left of a piece
-use Rattle.std.proofs.Common.{◌≡◌, ℕ, ◌+◌, ◌-◌, ◌≤◌, ◌<◌, true, cond, List, [], ◌∷◌, ◌++◌, length, take, drop, Option, Some, None, Result, Ok, Err, refl, sym, ap, subst, ◌∙◌, append_assoc, arith}
+use Rattle.std.proofs.Common.{◌≡◌, ℕ, ◌+◌, ◌-◌, ◌≤◌, ◌<◌, true, cond, List, [], ◌∷◌, ◌++◌, length, take, drop, Option, Some, None, Result, Ok, Err}
+use Rattle.std.proofs.Common.{refl, sym, ap, subst, ◌∙◌, append_assoc, arith}
 use Rattle.std.specs.Prelude.{IfSome, MatchResult}
 use Rattle.std.specs.List.{flat_map, AllByRecursion}
 use Rattle.std.proofs.lemmas.List.{take-append-drop, take_all, drop-take, length-append, append-nil}
@@ -36,7 +37,8 @@ first_gives held part = ap (λ b. cond b (Ok (record { used = length held; frame
 -- what is left of a piece behind a front of it
 rest_is_nothing : (held front rest piece : List ℕ) → front ++ rest ≡ piece → held ++ front ≡ held ++ piece → rest ≡ []
 rest_is_nothing held front [] piece whole same = refl
-rest_is_nothing held front (x ∷ rest) piece whole same = absurd (omega (arith, ap length whole, ap length same, length-append held front, length-append held piece, length-append front (x ∷ rest)))
+rest_is_nothing held front (x ∷ rest) piece whole same = absurd (omega (arith, ap length whole, ap length same, length-append held front,
+    length-append held piece, length-append front (x ∷ rest)))
 
 module _ (held piece : List ℕ) (part : is_partial held ≡ true) (old : AllByRecursion (λ b. b < 256) held) (new : AllByRecursion (λ b. b < 256) piece) where
   feeds_are : (r : Result Fed WireFault) → Gives (λ x. x) r (fed (Some held) piece) → AreFeeds at_start (first_feed held ∷ (piece, r) ∷ [])
@@ -68,7 +70,8 @@ module _ (held piece : List ℕ) (part : is_partial held ≡ true) (old : AllByR
   one_frame : (used : ℕ) (frame : Frame) (rest : List ℕ) → Reads (take (length held) held ++ take used piece) (frame ∷ []) []
       → Next (held ++ (piece ++ rest)) frame (Some (drop used piece ++ rest))
   one_frame used frame rest reads =
-      let text : take (length held) held ++ take used piece ≡ frame_spelling frame = reads.spelled ∙ append-nil (flat_map frame_spelling (frame ∷ [])) ∙ flat_map-cons frame_spelling frame [] ∙ append-nil (frame_spelling frame) in
+      let text : take (length held) held ++ take used piece ≡ frame_spelling frame =
+        reads.spelled ∙ append-nil (flat_map frame_spelling (frame ∷ [])) ∙ flat_map-cons frame_spelling frame [] ∙ append-nil (frame_spelling frame) in
       (reads.lawful.0, drop used piece ++ rest, refl, parts used rest ∙ ap (λ t. t ++ (drop used piece ++ rest)) text)
 
   passes : (given : Fed) (rest : List ℕ) → fed (Some held) piece ≡ Ok given
@@ -86,11 +89,13 @@ module _ (held piece : List ℕ) (part : is_partial held ≡ true) (old : AllByR
   begins_again : (given : Fed) → fed (Some held) piece ≡ Ok given → Begins (Some (rest_after held piece given.frame))
   begins_again given gives = by_frame given.frame (on_given given gives)
     where
-      by_frame : (frame : Option Frame) → Reads (take (length held) held ++ take given.used piece) (frames_of frame) (rest_after held piece frame) → Begins (Some (rest_after held piece frame))
+      by_frame : (frame : Option Frame) → Reads (take (length held) held ++ take given.used piece) (frames_of frame) (rest_after held piece frame)
+        → Begins (Some (rest_after held piece frame))
       by_frame None reads = (reads.partial, together held piece old new)
       by_frame (Some frame) reads = (reads.partial, tt)
 
-pub fed_begins : (held : Option (List ℕ)) (piece : List ℕ) (r : Result Fed WireFault) → Begins held → AllByRecursion (λ b. b < 256) piece → Gives (λ x. x) r (fed held piece) → Begins (held_after held piece r)
+pub fed_begins : (held : Option (List ℕ)) (piece : List ℕ) (r : Result Fed WireFault) → Begins held → AllByRecursion (λ b. b < 256) piece
+    → Gives (λ x. x) r (fed held piece) → Begins (held_after held piece r)
 fed_begins None piece r begins fits gives = tt
 fed_begins (Some held) piece (Ok given) begins fits gives = begins_again held piece begins.0 begins.1 fits given gives
 fed_begins (Some held) piece (Err NoMemory) begins fits gives = begins
@@ -101,8 +106,10 @@ fed_begins (Some held) piece (Err TooLarge) begins fits gives = tt
 fed_begins (Some held) piece (Err Trailing) begins fits gives = tt
 fed_begins (Some held) piece (Err Broken) begins fits gives = tt
 
-pub fed_step : (held : Option (List ℕ)) (piece : List ℕ) (r : Result Fed WireFault) (rest : Option (List ℕ)) → Begins held → AllByRecursion (λ b. b < 256) piece → Gives (λ x. x) r (fed held piece)
-    → IfSome (ahead held piece rest) (λ bytes. MatchResult r (λ given. Passes bytes given.frame (ahead (held_after held piece r) (drop given.used piece) rest)) (λ fault. IsRefused bytes fault))
+pub fed_step : (held : Option (List ℕ)) (piece : List ℕ) (r : Result Fed WireFault) (rest : Option (List ℕ)) → Begins held
+    → AllByRecursion (λ b. b < 256) piece → Gives (λ x. x) r (fed held piece)
+    → IfSome (ahead held piece rest) (λ bytes. MatchResult r (λ given. Passes bytes given.frame
+    (ahead (held_after held piece r) (drop given.used piece) rest)) (λ fault. IsRefused bytes fault))
 fed_step None piece r rest begins fits gives = tt
 fed_step (Some held) piece r None begins fits gives = tt
 fed_step (Some held) piece (Ok given) (Some rest) begins fits gives = passes held piece begins.0 begins.1 fits given rest gives

@@ -22,7 +22,8 @@ no_repeat : (o : Option ℕ) → IfSome o (λ last. (0 < last) × (last ≤ coun
 no_repeat None h = refl
 no_repeat (Some last) h = grind (arith, nat_tests, h.0)
 
-pub zero_told : (c : Core) (s : ℕ) (k : Command) → IsLawfulCore c → reason.left c ≡ None → reason.not_entered c ≡ None → reason.not_joined c ≡ None → reason.too_many_sessions c s ≡ None
+pub zero_told : (c : Core) (s : ℕ) (k : Command) → IsLawfulCore c → reason.left c ≡ None → reason.not_entered c ≡ None → reason.not_joined c ≡ None
+    → reason.too_many_sessions c s ≡ None
     → decides c (event.Ask s 0 k) ≡ Some (refusal.Stale (last_request c.sessions s))
 unfolding decides decides_within
 zero_told c s k is stays entered joined room =

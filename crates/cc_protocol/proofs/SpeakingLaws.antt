@@ -11,5 +11,6 @@ use Rattle.cc_protocol.proofs.RoutingLaws.{shorter}
 pub kept_speakers : (rows : Speaking) (capacity : ℕ) → IsSpeaking rows capacity → (p : Speaker → Bool) → IsSpeaking (filter p rows) capacity
 kept_speakers rows capacity is p = record { fits = omega (arith, shorter p rows, is.fits); room = is.room }
 
-pub pushed_speaker : (rows : Speaking) (capacity more : ℕ) (row : Speaker) → IsSpeaking rows capacity → length rows < speaker_limit → capacity ≤ more → IsSpeaking (rows ++ row ∷ []) more
+pub pushed_speaker : (rows : Speaking) (capacity more : ℕ) (row : Speaker) → IsSpeaking rows capacity → length rows < speaker_limit → capacity ≤ more
+    → IsSpeaking (rows ++ row ∷ []) more
 pushed_speaker rows capacity more row is below le = record { fits = omega (arith, length-append rows (row ∷ []), below); room = omega (arith, is.room, le) }

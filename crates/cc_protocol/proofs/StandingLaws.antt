@@ -30,7 +30,8 @@ live_fine : (before last acked sent : ℕ) (s : Standing) → before ≤ acked �
 live_fine before last acked sent Current up h =
     cond_both (nat_le sent acked) Current (of_owing Current acked sent) (IsFine last sent) (λ _. tt) (λ _. owing_fine before last acked sent Current up h)
 live_fine before last acked sent (Owing due seconds) up h =
-    cond_both (nat_le sent acked) Current (of_owing (Owing due seconds) acked sent) (IsFine last sent) (λ _. tt) (λ _. owing_fine before last acked sent (Owing due seconds) up h)
+    cond_both (nat_le sent acked) Current (of_owing (Owing due seconds) acked sent) (IsFine last sent) (λ _. tt)
+      (λ _. owing_fine before last acked sent (Owing due seconds) up h)
 live_fine before last acked sent Absent up h = absurd h
 
 second_fine : (before last : ℕ) (s : Second) (standing : Standing) → before ≤ s.acked → IsFine before last standing

@@ -7,7 +7,8 @@
 --     closed                       without a connection and its routes
 --     connection_of                      the connection that an answer goes to
 --     IsRouting                    how many there are, that routes lead to open connections, and that tickets and places were given
-use Rattle.std.specs.Prelude.{◌≤◌, ℕ, ◌+◌, ◌^◌, ◌==◌, ◌&&◌, ◌||◌, nat_lt, not, Bool, List, [], ◌∷◌, ◌++◌, length, filter, find, Option, Some, None, if◌then◌else◌, option_map, IsTrue}
+use Rattle.std.specs.Prelude.{◌≤◌, ℕ, ◌+◌, ◌^◌, ◌==◌, ◌&&◌, ◌||◌, nat_lt, not, Bool, List, [], ◌∷◌, ◌++◌, length, filter, find, Option, Some, None}
+use Rattle.std.specs.Prelude.{if◌then◌else◌, option_map, IsTrue}
 use Rattle.std.specs.List.{list_any, AllByRecursion}
 use Rattle.cc_protocol.specs.Access.{operator_alone}
 use Rattle.cc_protocol.specs.declared.origin.Access.{Access}

@@ -4,7 +4,8 @@
 --     speaking_after            who speaks then
 --     silenced                  without a connection
 --     IsSpeaking                how many there are
-use Rattle.std.specs.Prelude.{◌≤◌, ℕ, ◌==◌, ◌&&◌, ◌||◌, nat_lt, not, Bool, List, [], ◌∷◌, ◌++◌, length, filter, find, option_map, Option, Some, None, if◌then◌else◌}
+use Rattle.std.specs.Prelude.{◌≤◌, ℕ, ◌==◌, ◌&&◌, ◌||◌, nat_lt, not, Bool, List, [], ◌∷◌, ◌++◌, length, filter, find, option_map, Option, Some, None}
+use Rattle.std.specs.Prelude.{if◌then◌else◌}
 use Rattle.std.specs.List.{list_any}
 use Rattle.cc_protocol.specs.declared.speakers.Speaker.{Speaker}
 use Rattle.cc_protocol.specs.declared.speakers.Spoken.{Spoken}

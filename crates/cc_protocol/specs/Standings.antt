@@ -6,7 +6,8 @@
 --     lapses, after_lapse               whether what is kept for a peer lapses now;  and what is remembered then
 --     has_absent                        whether a peer is absent
 --     IsStanding                        how many there are
-use Rattle.std.specs.Prelude.{◌≤◌, ℕ, ◌==◌, ◌&&◌, nat_lt, not, Bool, true, false, List, [], ◌∷◌, ◌++◌, length, filter, find, Option, option_map, unwrap_or, if◌then◌else◌}
+use Rattle.std.specs.Prelude.{◌≤◌, ℕ, ◌==◌, ◌&&◌, nat_lt, not, Bool, true, false, List, [], ◌∷◌, ◌++◌, length, filter, find, Option, option_map}
+use Rattle.std.specs.Prelude.{unwrap_or, if◌then◌else◌}
 use Rattle.std.specs.List.{list_any}
 use Rattle.cc_protocol.specs.declared.standing.Standing.TheVariants.{Current}
 use Rattle.cc_protocol.specs.declared.standings.PeerStanding.{PeerStanding}

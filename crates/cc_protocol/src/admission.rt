@@ -90,5 +90,6 @@ pub fn is_furthest_behind(core: &Core, least: u64, peer: NodeId) -> bool
 /// A message that is handed over whatever room there is, and whoever sent it, makes no post and no answer, in any state of
 /// a node.
 pub fn what_needs_no_room_makes_no_post()
-    ensures { (c : Core) (from number : ℕ) (m : Message) → may_stir c.me m ≡ false → machine.made c (event.Deliver from number m) ≡ record { ack = machine.ack (event.Deliver from number m); post = None; answers = [] } }
+    ensures { (c : Core) (from number : ℕ) (m : Message) → may_stir c.me m ≡ false → machine.made c (event.Deliver from number m)
+      ≡ record { ack = machine.ack (event.Deliver from number m); post = None; answers = [] } }
 {}

@@ -9,7 +9,8 @@ ghost use Rattle.cc_node.specs.Core.{Core};
 ghost use Rattle.cc_node.specs.Lawful.{IsLawfulCore};
 ghost use Rattle.cc_node.specs.Refusals as reason;
 ghost use Rattle.cc_node.specs.Refusals.{decides};
-ghost use Rattle.cc_protocol.specs.Asking.{ask_of, is_about, knows_number, refusal_told, refused_step, refused_client, told_step, told_client, came_step, came_client, step_of, client_after, steps, AsksUnder};
+ghost use Rattle.cc_protocol.specs.Asking.{ask_of, is_about, knows_number, refusal_told, refused_step, refused_client, told_step, told_client};
+ghost use Rattle.cc_protocol.specs.Asking.{came_step, came_client, step_of, client_after, steps, AsksUnder};
 
 use cc_frames::Frame;
 use cc_messages::{Answer, Command, Refusal};

@@ -144,7 +144,8 @@ fn read_whole<I: Input>(
     requires unused { IsUnused window.old.piece.items window.old.start window.old.end }
     ensures begins { Begins frames.new }
     ensures unused { IsUnused window.new.piece.items window.new.start window.new.end }
-    ensures gives { IfSome (ahead frames.old (unused window.old.piece.items window.old.start window.old.end) (I.remaining reader.old)) (λ bytes. MatchResult result
+    ensures gives { IfSome (ahead frames.old (unused window.old.piece.items window.old.start window.old.end) (I.remaining reader.old))
+      (λ bytes. MatchResult result
         (λ frame. Next bytes frame (ahead frames.new (unused window.new.piece.items window.new.start window.new.end) (I.remaining reader.new)))
         (λ why. Ends I.may_fail bytes why)) }
 {
@@ -164,7 +165,8 @@ fn refill<I: Input>(reader: &mut I, window: &mut Window) -> Result<(), Ending>
     requires unused { IsUnused window.old.piece.items window.old.start window.old.end }
     ensures unused { IsUnused window.new.piece.items window.new.start window.new.end }
     ensures some { IfOk result (λ _. window.new.start < window.new.end) }
-    ensures gives { (held : Option (List ℕ)) → IfSome (ahead held (unused window.old.piece.items window.old.start window.old.end) (I.remaining reader.old)) (λ bytes. MatchResult result
+    ensures gives { (held : Option (List ℕ)) → IfSome (ahead held (unused window.old.piece.items window.old.start window.old.end)
+      (I.remaining reader.old)) (λ bytes. MatchResult result
         (λ _. ahead held (unused window.new.piece.items window.new.start window.new.end) (I.remaining reader.new) ≡ Some bytes)
         (λ why. Begins held → Ends I.may_fail bytes why)) }
 {
@@ -208,7 +210,8 @@ fn feed_rest(
     ensures begins { Begins frames.new }
     ensures unused { IsUnused window.new.piece.items window.new.start window.new.end }
     ensures grows { IfOk result (λ frame. Grows frames.old (window.old.end - window.old.start) frame frames.new) }
-    ensures gives { (rest : Option (List ℕ)) → IfSome (ahead frames.old (unused window.old.piece.items window.old.start window.old.end) rest) (λ bytes. MatchResult result
+    ensures gives { (rest : Option (List ℕ)) → IfSome (ahead frames.old (unused window.old.piece.items window.old.start window.old.end) rest)
+      (λ bytes. MatchResult result
         (λ frame. Passes bytes frame (ahead frames.new (unused window.new.piece.items window.new.start window.new.end) rest))
         (λ fault. IsRefused bytes fault)) }
 {

@@ -4,7 +4,8 @@ ghost use Rattle.std.specs.Prelude.{◌≡◌, ◌≢◌, ◌≤◌, ◌<◌, �
 ghost use Rattle.std.specs.List.{AllByRecursion};
 ghost use Rattle.std.specs.Bool.{then_some};
 ghost use Rattle.std.specs.Vec.{vec_capacity};
-ghost use Rattle.cc_protocol.specs.Routing.{Routing, no_routing, is_open, is_ask, connection_in, connection_of, admitted, entered, may_route, routed, is_passed, taken, taken_back, ticket_of, closed, connection_limit, connection_limit_for};
+ghost use Rattle.cc_protocol.specs.Routing.{Routing, no_routing, is_open, is_ask, connection_in, connection_of, admitted, entered, may_route, routed};
+ghost use Rattle.cc_protocol.specs.Routing.{is_passed, taken, taken_back, ticket_of, closed, connection_limit, connection_limit_for};
 
 use crate::origin::{Access, Admitted, Origin};
 use crate::route::Route;
@@ -32,7 +33,8 @@ impl Model for Routes {
 
     ghost view = { λ r. record { connections = r.connections.items; spare = r.spare.items; routes = r.routes.items; issued = r.issued; asked = r.asked } };
 
-    ghost invariant = { λ r. IsRouting (record { connections = r.connections.items; spare = r.spare.items; routes = r.routes.items; issued = r.issued; asked = r.asked }) (vec_capacity r.connections) (vec_capacity r.spare) (vec_capacity r.routes) };
+    ghost invariant = { λ r. IsRouting (record { connections = r.connections.items; spare = r.spare.items; routes = r.routes.items; issued = r.issued;
+      asked = r.asked }) (vec_capacity r.connections) (vec_capacity r.spare) (vec_capacity r.routes) };
 }
 
 impl Routes {
@@ -221,9 +223,13 @@ fn remove_connection(connections: &mut Vec<u64>, ticket: u64)
 /// was refused, the answer to what was asked before goes where it went. Those of other sessions go where they went, and none
 /// to a connection that is gone.
 pub fn answers_follow_asks()
-    ensures asked { (session request ticket : ℕ) (g : Routing) → IsTrue (may_route ticket g) → connection_of session request (routed session request ticket g) ≡ Some ticket }
-    ensures judged { (session request ticket other : ℕ) (g : Routing) → other ≢ request → IsSome (find (is_ask session other) g.routes) → connection_of session other (routed session request ticket g) ≡ connection_of session other g }
-    ensures refused { (session request ticket : ℕ) (g : Routing) → AllByRecursion (λ (r : Route). r.place ≤ g.asked) g.routes → IsTrue (may_route ticket g) → (taken_back (g.asked + 1) (routed session request ticket g)).routes ≡ g.routes }
-    ensures others { (session request ticket other that : ℕ) (g : Routing) → other ≢ session → connection_of other that (routed session request ticket g) ≡ connection_of other that g }
+    ensures asked { (session request ticket : ℕ) (g : Routing) → IsTrue (may_route ticket g)
+      → connection_of session request (routed session request ticket g) ≡ Some ticket }
+    ensures judged { (session request ticket other : ℕ) (g : Routing) → other ≢ request → IsSome (find (is_ask session other) g.routes)
+      → connection_of session other (routed session request ticket g) ≡ connection_of session other g }
+    ensures refused { (session request ticket : ℕ) (g : Routing) → AllByRecursion (λ (r : Route). r.place ≤ g.asked) g.routes
+      → IsTrue (may_route ticket g) → (taken_back (g.asked + 1) (routed session request ticket g)).routes ≡ g.routes }
+    ensures others { (session request ticket other that : ℕ) (g : Routing) → other ≢ session → connection_of other that (routed session request ticket g)
+      ≡ connection_of other that g }
     ensures gone { (session request ticket : ℕ) (g : Routing) → connection_of session request (closed ticket g) ≢ Some ticket }
 {}

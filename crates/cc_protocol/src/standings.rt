@@ -4,7 +4,8 @@ ghost use Rattle.std.specs.Prelude.{◌≡◌, ℕ, Bool, true, [], IfOk, option
 ghost use Rattle.std.specs.Vec.{vec_capacity};
 ghost use Rattle.cc_protocol.specs.declared.standing.Standing.TheVariants as stands;
 ghost use Rattle.cc_protocol.specs.Standing.{is_absent};
-ghost use Rattle.cc_protocol.specs.Standings.{Standings as Table, found, row_of, with_row, others, row_passed, row_shows, row_spoken, row_heard, row_lapsed, passed, after_pass, after_voice, after_heard, lapses, after_lapse, has_absent};
+ghost use Rattle.cc_protocol.specs.Standings.{Standings as Table, found, row_of, with_row, others, row_passed, row_shows, row_spoken, row_heard};
+ghost use Rattle.cc_protocol.specs.Standings.{row_lapsed, passed, after_pass, after_voice, after_heard, lapses, after_lapse, has_absent};
 
 use crate::standing::Standing;
 use cc_views::{NoMemory, NodeId};
@@ -241,5 +242,6 @@ fn lapsed(row: PeerStanding, posts: u64) -> PeerStanding
 /// Whatever is handed in, in whatever order: what is kept for a peer lapses only where it was absent at the end of a second
 /// and no acknowledgement of its own was accepted since.
 pub fn lapses_are_of_absent_peers()
-    ensures { (rows : Table) (peer reach posts : ℕ) (is_tick : Bool) → lapses peer reach posts is_tick rows ≡ true → (row_of peer rows).standing ≡ stands.Absent }
+    ensures { (rows : Table) (peer reach posts : ℕ) (is_tick : Bool) → lapses peer reach posts is_tick rows ≡ true → (row_of peer rows).standing
+      ≡ stands.Absent }
 {}

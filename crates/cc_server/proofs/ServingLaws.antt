@@ -11,12 +11,14 @@ use Rattle.cc_protocol.specs.Frames.{event_in}
 use Rattle.cc_server.specs.declared.caller.Done.{Done}
 use Rattle.cc_server.specs.Serving.{due_after, Takes, IsUnasked, Stops, Worker, Gives, Hears, Brings}
 
-pub unasked : (ahead : Option (List ℕ)) (frame : Frame) (after : Option (List ℕ)) → IfSome ahead (λ bytes. Next bytes frame after) → event_in frame ≡ None → IfSome ahead (λ bytes. IsUnasked bytes)
+pub unasked : (ahead : Option (List ℕ)) (frame : Frame) (after : Option (List ℕ)) → IfSome ahead (λ bytes. Next bytes frame after) → event_in frame ≡ None
+    → IfSome ahead (λ bytes. IsUnasked bytes)
 unasked None frame after next none = tt
 unasked (Some bytes) frame after next none = (frame, after, next, none)
 
 module _ (fails turns : Type 0) (answers : Event → Answer → Type 0) where
-  stopped : (due : Option Event) (ahead : Option (List ℕ)) (why : Done) → Stops fails turns due ahead why → IfSome ahead (λ bytes. Stops fails turns due (Some bytes) why)
+  stopped : (due : Option Event) (ahead : Option (List ℕ)) (why : Done) → Stops fails turns due ahead why
+    → IfSome ahead (λ bytes. Stops fails turns due (Some bytes) why)
   stopped due None why stops = tt
   stopped due (Some bytes) why stops = stops
 
@@ -52,7 +54,8 @@ module _ (fails turns : Type 0) (answers : Event → Answer → Type 0) where
         let why = (worker end).done in
         let g = spoke.3 in
         let h = spoke.5 in
-        let more : More why (worker w).due (worker u).ahead rest = subst (λ (x : Option (List ℕ)). More why (worker w).due x rest) h.0 (brings_then w rest t end spoke.6 last) in
+        let more : More why (worker w).due (worker u).ahead rest = subst (λ (x : Option (List ℕ)). More why (worker w).due x rest) h.0
+          (brings_then w rest t end spoke.6 last) in
         one_more why (worker s).due (worker s).ahead (worker u).ahead e answer rest g spoke.4
         (subst (λ (d : Option Event). More why d (worker u).ahead rest) h.1 more)
 

@@ -145,9 +145,10 @@ impl<R: Wait + Log, I: Input, S: Admitting, D: Replies, F: Flushed> Caller<'_, R
         }
     }
 
-    // What an accepted event tells of the node that sent it.
+    // What an accepted event tells of the node that sent it, and what it asks.
     fn hear(&self, event: &Event) {
         match event {
+            Event::Ask { command, .. } => self.shared.gauges.ask(command),
             Event::Deliver { from, message, .. } => self.meeting().hear(self.rt, *from, message),
             Event::Acked { peer, .. } => {
                 if self.shared.hear_ack(self.rt, *peer) {

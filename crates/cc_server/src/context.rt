@@ -69,7 +69,8 @@ impl<R: Wait, H: Hooks, L: Life, Q: Lane> Context<'_, R, H, L, Q> {
 
     /// Brings each event of a source to the intake.
     pub fn work<S: Source>(&self, share: &mut Share<L>, source: &mut S)
-        ensures { (answers : List Answer) × Talks S.gives S.hears (IsAnswer L.opening L.accepted L.taken) source.old answers source.new × (share.new ≡ share.old + places_of answers) × PlacesRise share.old answers }
+        ensures { (answers : List Answer) × Talks S.gives S.hears (IsAnswer L.opening L.accepted L.taken) source.old answers source.new
+          × (share.new ≡ share.old + places_of answers) × PlacesRise share.old answers }
     {
         work(
             self.rt, self.alloc, self.lock, self.queue, share, self.hooks, source,

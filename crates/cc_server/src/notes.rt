@@ -98,7 +98,8 @@ fn note_absent<R: Log>(rt: &R, me: NodeId, peer: NodeId) {
 
 fn note_pending<R: Log>(rt: &R, me: NodeId, waiting: Waiting) {
     let Waiting { asked, count, need } = waiting;
-    warn!(rt; "node {} has {} of {} answers for request {} of session {}, pending for {} seconds", me.number(), count, need, asked.request, asked.session, Lasting::LONG_SECONDS);
+    warn!(rt; "node {} has {} of {} answers for request {} of session {}, pending for {} seconds", me.number(), count, need, asked.request, asked.session,
+      Lasting::LONG_SECONDS);
 }
 
 fn note_moved<R: Log>(rt: &R, me: NodeId, bytes: u64, millis: u64) {

@@ -9,7 +9,7 @@ use cc_links::LinkRow;
 use cc_node::Core;
 use cc_protocol::AskName;
 use cc_site::Site;
-use cc_status::{Counted, DiskShown, PeerNote, Shown};
+use cc_status::{BATCH_BOUNDS, Counted, DiskShown, PeerNote, Shown};
 use cc_views::NoMemory;
 use cc_watch::Laid;
 use std::alloc::Global;
@@ -25,6 +25,8 @@ const ALL_SESSIONS: usize = 256;
 pub struct Tally {
     commits: u64,
     events: u64,
+    // How many batches had so many events, by their bucket.
+    batches: [u64; 7],
     checkpoints: u64,
     // How many records count behind the state, and how many events they hold.
     side_records: u64,
@@ -43,6 +45,7 @@ impl Tally {
         Tally {
             commits: 0,
             events: 0,
+            batches: [0; 7],
             checkpoints: 0,
             side_records: opened.records,
             side_events: opened.events,
@@ -60,6 +63,10 @@ impl Tally {
         self.events = self.events.saturating_add(events);
         self.side_records = self.side_records.saturating_add(1);
         self.side_events = self.side_events.saturating_add(events);
+        let bucket = BATCH_BOUNDS.iter().take_while(|bound| **bound < events);
+        if let Some(count) = self.batches.get_mut(bucket.count()) {
+            *count = count.saturating_add(1);
+        }
     }
 
     /// The node was moved to the other side.
@@ -102,6 +109,7 @@ impl Tally {
         let mut counted = Counted {
             commits: self.commits,
             events: self.events,
+            batches: self.batches,
             checkpoints: self.checkpoints,
             ..Counted::default()
         };

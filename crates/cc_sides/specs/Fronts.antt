@@ -3,7 +3,8 @@
 --     holds_within, holds_kept                       the closed gate is within, and what is behind it has no meaning
 --     holds_closed, holds_opened                     another closed byte at the gate;  an open one, over a record
 --     one_byte, generation_held, held_armed          a content that differs in one byte;  the first nine bytes
-use Rattle.std.proofs.Common.{◌≡◌, ◌≢◌, ℕ, ◌+◌, ◌≤◌, List, [], ◌∷◌, ◌++◌, length, take, drop, set, slice_index, refl, sym, ◌∙◌, ap, subst, arith, length-append, take-append-drop, get_or}
+use Rattle.std.proofs.Common.{◌≡◌, ◌≢◌, ℕ, ◌+◌, ◌≤◌, List, [], ◌∷◌, ◌++◌, length, take, drop, set, slice_index, refl, sym, ◌∙◌, ap, subst, arith}
+use Rattle.std.proofs.Common.{length-append, take-append-drop, get_or}
 use Rattle.std.specs.Int.{to_be_bytes, from_be_bytes, w32, w64}
 use Rattle.std.proofs.lemmas.Nat.{from_be_bytes-to_be_bytes_8}
 use Rattle.std.proofs.lemmas.List.{append_assoc, append-nil, take_at, drop_at, set_at, set-set, set-get_or}
@@ -31,7 +32,8 @@ events_push (first ∷ batches) batch =
     ap (λ (l : List Event). first ++ l) (events_push batches batch) ∙ sym (append_assoc first (events_of batches) batch)
 
 -- one record more, behind an open gate
-pub front_more : (bytes : List ℕ) (generation : ℕ) (node : Node) (body : List ℕ) (events : List Event) → IsFront bytes generation node → SpellsRecord body events → IsLawful node events
+pub front_more : (bytes : List ℕ) (generation : ℕ) (node : Node) (body : List ℕ) (events : List Event) → IsFront bytes generation node
+    → SpellsRecord body events → IsLawful node events
     → IsFront (bytes ++ OPEN ∷ body) generation (after node events)
 front_more bytes generation node body events front spelled lawful = record {
   start = front.start;
@@ -43,8 +45,10 @@ front_more bytes generation node body events front spelled lawful = record {
   parts = ap (λ (l : List ℕ). l ++ OPEN ∷ body) front.parts ∙ append_assoc front.head front.records (OPEN ∷ body);
   head_spelled = front.head_spelled;
   records_spelled = records_push front.records front.batches body events front.records_spelled spelled;
-  lawful = subst (λ (l : List Event). IsLawful front.start l) (sym (events_push front.batches events)) (IsLawful-append front.start (events_of front.batches) events front.lawful (subst (λ (n : Node). IsLawful n events) front.leads_to lawful));
-  leads_to = ap (λ (n : Node). after n events) front.leads_to ∙ sym (after-append front.start (events_of front.batches) events) ∙ ap (λ (l : List Event). after front.start l) (sym (events_push front.batches events));
+  lawful = subst (λ (l : List Event). IsLawful front.start l) (sym (events_push front.batches events))
+    (IsLawful-append front.start (events_of front.batches) events front.lawful (subst (λ (n : Node). IsLawful n events) front.leads_to lawful));
+  leads_to = ap (λ (n : Node). after n events) front.leads_to ∙ sym (after-append front.start (events_of front.batches) events)
+    ∙ ap (λ (l : List Event). after front.start l) (sym (events_push front.batches events));
 }
 
 module _ (bytes : List ℕ) (generation : ℕ) (node : Node) (place : ℕ) (holds : Holds bytes generation node place) where
@@ -67,7 +71,8 @@ module _ (bytes : List ℕ) (generation : ℕ) (node : Node) (place : ℕ) (hold
     front = holds.front;
     gate = holds.gate;
     rest = drop (place + 1) c;
-    parts = sym (take-append-drop (place + 1) c) ∙ ap (λ (l : List ℕ). l ++ drop (place + 1) c) (same ∙ holds_to) ∙ append_assoc holds.front (holds.gate ∷ []) (drop (place + 1) c);
+    parts = sym (take-append-drop (place + 1) c) ∙ ap (λ (l : List ℕ). l ++ drop (place + 1) c) (same ∙ holds_to)
+      ∙ append_assoc holds.front (holds.gate ∷ []) (drop (place + 1) c);
     closed = holds.closed;
     at_place = holds.at_place;
     is_front = holds.is_front;
@@ -99,20 +104,24 @@ module _ (bytes : List ℕ) (generation : ℕ) (node : Node) (place : ℕ) (hold
     gate = batch.gate;
     rest = standing.rest;
     parts = regated OPEN
-        ∙ ap (λ (l : List ℕ). holds.front ++ OPEN ∷ l) (sym behind ∙ standing.parts ∙ ap (λ (l : List ℕ). l ++ standing.rest) batch.parts ∙ append_assoc batch.record_bytes (batch.gate ∷ []) standing.rest)
+        ∙ ap (λ (l : List ℕ). holds.front ++ OPEN ∷ l) (sym behind ∙ standing.parts ∙ ap (λ (l : List ℕ). l ++ standing.rest) batch.parts
+          ∙ append_assoc batch.record_bytes (batch.gate ∷ []) standing.rest)
         ∙ sym (append_assoc holds.front (OPEN ∷ batch.record_bytes) (batch.gate ∷ standing.rest));
     closed = batch.closed;
-    at_place = length-append holds.front (OPEN ∷ batch.record_bytes) ∙ omega (arith, holds.at_place, ap length batch.parts, length-append batch.record_bytes (batch.gate ∷ []));
+    at_place = length-append holds.front (OPEN ∷ batch.record_bytes) ∙ omega (arith, holds.at_place, ap length batch.parts,
+      length-append batch.record_bytes (batch.gate ∷ []));
     is_front = front_more holds.front generation node batch.record_bytes events holds.is_front batch.spelled lawful;
   }
 
 -- a content that differs in one byte
 pub one_byte : (bytes c : List ℕ) (place : ℕ) → set c place (slice_index bytes place) ≡ bytes → c ≡ set bytes place (slice_index c place)
 one_byte bytes c place same =
-    sym (set-get_or c place 0) ∙ sym (set-set c place (slice_index bytes place) (slice_index c place)) ∙ ap (λ (l : List ℕ). set l place (slice_index c place)) same
+    sym (set-get_or c place 0) ∙ sym (set-set c place (slice_index bytes place) (slice_index c place))
+      ∙ ap (λ (l : List ℕ). set l place (slice_index c place)) same
 
 -- the generation of a side that holds a node
-pub generation_held : (bytes : List ℕ) (generation : ℕ) (node : Node) (place : ℕ) → Holds bytes generation node place → (9 ≤ length bytes) × (1 ≤ generation) × (generation_of bytes ≡ generation)
+pub generation_held : (bytes : List ℕ) (generation : ℕ) (node : Node) (place : ℕ) → Holds bytes generation node place
+    → (9 ≤ length bytes) × (1 ≤ generation) × (generation_of bytes ≡ generation)
 generation_held bytes generation node place holds =
     let front = holds.is_front in
     let head = front.head_spelled in
@@ -121,7 +130,8 @@ generation_held bytes generation node place holds =
     let all : bytes ≡ OPEN ∷ (number ++ (tail ++ (front.records ++ holds.gate ∷ holds.rest))) =
     holds.parts
     ∙ ap (λ (l : List ℕ). l ++ holds.gate ∷ holds.rest) (front.parts ∙ ap (λ (l : List ℕ). l ++ front.records) head.parts)
-    ∙ ap (λ (l : List ℕ). OPEN ∷ l) (append_assoc (number ++ tail) front.records (holds.gate ∷ holds.rest) ∙ append_assoc number tail (front.records ++ holds.gate ∷ holds.rest)) in
+    ∙ ap (λ (l : List ℕ). OPEN ∷ l) (append_assoc (number ++ tail) front.records (holds.gate ∷ holds.rest)
+      ∙ append_assoc number tail (front.records ++ holds.gate ∷ holds.rest)) in
     let eight : length number ≡ 8 = refl in (
       omega (arith, ap length all, length-append number (tail ++ (front.records ++ holds.gate ∷ holds.rest)), eight),
       head.from_one,

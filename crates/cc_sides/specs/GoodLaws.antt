@@ -18,7 +18,8 @@ pub other_way : (a b : List ℕ) (n : Node) → Stands a b n → Stands b a n
 other_way a b n (inl first) = inr first
 other_way a b n (inr second) = inl second
 
-pub good_other_way : (start : Node) (events : List Event) (durable opening : ℕ) (a b : List ℕ) (told : List Output) → IsGoodAt start events durable opening a b told → IsGoodAt start events durable opening b a told
+pub good_other_way : (start : Node) (events : List Event) (durable opening : ℕ) (a b : List ℕ) (told : List Output)
+    → IsGoodAt start events durable opening a b told → IsGoodAt start events durable opening b a told
 good_other_way start events durable opening a b told good = record {
   a_there = good.b_there;
   b_there = good.a_there;
@@ -29,8 +30,10 @@ good_other_way start events durable opening a b told good = record {
   made = good.made;
 }
 
-module _ (generation place : ℕ) (start : Node) (events : List Event) (opening : ℕ) (a b : List ℕ) (told : List Output) (rests : RestsAt generation place start events opening a b told) where
-  pub rests_good : (all : List Event) (durable : ℕ) → durable ≤ length events → length events ≤ length all → take (length events) all ≡ events → IsGoodAt start all durable opening a b told
+module _ (generation place : ℕ) (start : Node) (events : List Event) (opening : ℕ) (a b : List ℕ) (told : List Output)
+    (rests : RestsAt generation place start events opening a b told) where
+  pub rests_good : (all : List Event) (durable : ℕ) → durable ≤ length events → length events ≤ length all → take (length events) all ≡ events
+    → IsGoodAt start all durable opening a b told
   rests_good all durable least most front = record {
     a_there = omega (arith, holds_within a generation (after start events) place rests.stands.holds);
     b_there = rests.other_there;
@@ -46,12 +49,14 @@ module _ (generation place : ℕ) (start : Node) (events : List Event) (opening 
   }
 
   pub more_good : (more : List Event) → IsGoodAt start (events ++ more) (length events) opening a b told
-  more_good more = rests_good (events ++ more) (length events) (omega arith) (omega (arith, length-append events more)) (take_at events more (length events) refl)
+  more_good more = rests_good (events ++ more) (length events) (omega arith) (omega (arith, length-append events more))
+    (take_at events more (length events) refl)
 
   pub whole_good : (durable : ℕ) → durable ≤ length events → IsGoodAt start events durable opening a b told
   whole_good durable least = rests_good events durable least (omega arith) (take_all (length events) events (omega arith))
 
-pub good_for_more : (start : Node) (events more : List Event) (durable less opening : ℕ) (a b : List ℕ) (told : List Output) → less ≤ durable → IsGoodAt start events durable opening a b told → IsGoodAt start (events ++ more) less opening a b told
+pub good_for_more : (start : Node) (events more : List Event) (durable less opening : ℕ) (a b : List ℕ) (told : List Output) → less ≤ durable
+    → IsGoodAt start events durable opening a b told → IsGoodAt start (events ++ more) less opening a b told
 good_for_more start events more durable less opening a b told least good =
     let front : take good.prefix (events ++ more) ≡ take good.prefix events = take-append-le good.prefix events more good.within in
     record {
@@ -65,7 +70,8 @@ good_for_more start events more durable less opening a b told least good =
     }
 
 pub at_rest_is : (generation place : ℕ) (start : Node) (events : List Event) (opening : ℕ) (a b : List ℕ) (told : List Output)
-    → RestsAt generation place start events opening a b told ↔ (IsGoodAt start events (length events) opening a b told × StandsAt a b generation place (after start events))
+    → RestsAt generation place start events opening a b told ↔ (IsGoodAt start events (length events) opening a b told
+    × StandsAt a b generation place (after start events))
 at_rest_is generation place start events opening a b told = (
   λ rests. (whole_good generation place start events opening a b told rests (length events) (omega arith), rests.stands),
   λ both. record {
@@ -78,9 +84,11 @@ at_rest_is generation place start events opening a b told = (
 module _ (a b changed : List ℕ) (unarmed : ¬ IsArmed a) (still : ¬ IsArmed changed) where
   stands_changed : (n : Node) → Stands a b n → Stands changed b n
   stands_changed n (inl first) = absurd (unarmed (held_armed a first.generation n first.place first.at.holds))
-  stands_changed n (inr second) = inr (record { generation = second.generation; place = second.place; at = record { holds = second.at.holds; yields = inl still } })
+  stands_changed n (inr second) = inr (record { generation = second.generation; place = second.place; at =
+    record { holds = second.at.holds; yields = inl still } })
 
-  pub shut_side : (start : Node) (events : List Event) (durable opening : ℕ) (told : List Output) → 1 ≤ length changed → IsGoodAt start events durable opening a b told → IsGoodAt start events durable opening changed b told
+  pub shut_side : (start : Node) (events : List Event) (durable opening : ℕ) (told : List Output) → 1 ≤ length changed
+    → IsGoodAt start events durable opening a b told → IsGoodAt start events durable opening changed b told
   shut_side start events durable opening told there good = record {
     a_there = there;
     b_there = good.b_there;

@@ -23,7 +23,8 @@ one_sized x y u w is-x is-y e =
     let one = one_spelling event_spelled (event_spelling x) (event_spelling y) u w x y is-x is-y refl refl rest in
     (one.0, behind_front (event_spelling x) (event_spelling y) u w one.1 rest)
 
-pub one_run : (xs ys : List Event) (u w : List ℕ) → AllByRecursion IsEvent xs → AllByRecursion IsEvent ys → length xs ≡ length ys → flat_map sized_spelling xs ++ u ≡ flat_map sized_spelling ys ++ w → xs ≡ ys
+pub one_run : (xs ys : List Event) (u w : List ℕ) → AllByRecursion IsEvent xs → AllByRecursion IsEvent ys → length xs ≡ length ys
+    → flat_map sized_spelling xs ++ u ≡ flat_map sized_spelling ys ++ w → xs ≡ ys
 one_run [] [] u w all-x all-y same e = refl
 one_run [] (y ∷ ys) u w all-x all-y same e = absurd cc
 one_run (x ∷ xs) [] u w all-x all-y same e = absurd cc
@@ -47,7 +48,8 @@ one_record a b u w xs ys p q e =
 abbrev pub Ends : List ℕ → Node → Type 0
 Ends bytes node = (body rest : List ℕ) (events : List Event) → bytes ≡ OPEN ∷ (body ++ rest) → SpellsRecord body events → IsLawful node events → ⊥
 
-pub one_front : (n : Node) (xs ys : List (List Event)) (a b u w : List ℕ) → SpellsRecords a xs → SpellsRecords b ys → IsLawful n (events_of xs) → IsLawful n (events_of ys)
+pub one_front : (n : Node) (xs ys : List (List Event)) (a b u w : List ℕ) → SpellsRecords a xs → SpellsRecords b ys → IsLawful n (events_of xs)
+    → IsLawful n (events_of ys)
     → Ends u (after n (events_of xs)) → Ends w (after n (events_of ys)) → a ++ u ≡ b ++ w → (xs ≡ ys) × (a ≡ b) × (u ≡ w)
 one_front n [] [] a b u w p q lawful-x lawful-y ends-u ends-w e =
     (refl, p ∙ sym q, sym (ap (λ (l : List ℕ). l ++ u) p) ∙ e ∙ ap (λ (l : List ℕ). l ++ w) q)
@@ -64,7 +66,8 @@ one_front n (x ∷ xs) (y ∷ ys) a b u w p q lawful-x lawful-y ends-u ends-w e 
     let behind : p.0 ++ (p.1 ++ u) ≡ q.0 ++ (q.1 ++ w) = sym (append_assoc p.0 p.1 u) ∙ ap (λ (l : List ℕ). drop 1 l) all ∙ append_assoc q.0 q.1 w in
     let first = one_record p.0 q.0 (p.1 ++ u) (q.1 ++ w) x y p.3 q.3 behind in
     let rest : p.1 ++ u ≡ q.1 ++ w = behind_front p.0 q.0 (p.1 ++ u) (q.1 ++ w) first.1 behind in
-    let after-y : (l : List Event) → after n (y ++ l) ≡ after (after n x) l = λ l. after-append n y l ∙ ap (λ (z : List Event). after (after n z) l) (sym first.0) in
+    let after-y : (l : List Event) → after n (y ++ l) ≡ after (after n x) l = λ l. after-append n y l ∙ ap (λ (z : List Event). after (after n z) l)
+      (sym first.0) in
     let others = one_front (after n x) xs ys p.1 q.1 u w p.4 q.4
     (lawful_parts n x (events_of xs) lawful-x).1
     (subst (λ (z : List Event). IsLawful (after n z) (events_of ys)) (sym first.0) (lawful_parts n y (events_of ys) lawful-y).1)

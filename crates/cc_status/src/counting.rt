@@ -1,33 +1,44 @@
 //! What was counted.
 
-use crate::counts::{Counted, REFUSALS, SYNC_BOUNDS, SyncCounts};
+use crate::counts::{BATCH_BOUNDS, SYNC_BOUNDS, SyncCounts};
 use crate::status::SyncStatus;
 use cc_views::NoMemory;
 use std::alloc::Global;
 use std::collections::BTreeMap;
 
-/// Adds how many events were refused, by the refusal's name: those of which there was one.
-pub(crate) fn put_refusals(
+/// Adds each count under its name, but for those of 0.
+pub(crate) fn put_named(
     alloc: Global,
-    counted: &Counted,
-    refusals: &mut BTreeMap<String, u64>,
+    names: &[&str],
+    counts: &[u64],
+    into: &mut BTreeMap<String, u64>,
 ) -> Result<(), NoMemory> {
-    for (name, count) in REFUSALS.iter().zip(&counted.refusals) {
+    for (name, count) in names.iter().zip(counts) {
         if *count > 0 {
-            put_refusal(alloc, name, *count, refusals)?;
+            put_one(alloc, name, *count, into)?;
         }
     }
     Ok(())
 }
 
-fn put_refusal(
+fn put_one(
     alloc: Global,
     name: &str,
     count: u64,
-    refusals: &mut BTreeMap<String, u64>,
+    into: &mut BTreeMap<String, u64>,
 ) -> Result<(), NoMemory> {
     let name = String::from_str(alloc, name)?;
-    let _ = refusals.insert(name, count)?;
+    let _ = into.insert(name, count)?;
+    Ok(())
+}
+
+/// How many batches had no more than so many events.
+pub(crate) fn put_batches(batches: &[u64; 7], into: &mut Vec<(u64, u64)>) -> Result<(), NoMemory> {
+    let mut seen: u64 = 0;
+    for (bound, bucket) in BATCH_BOUNDS.iter().zip(batches) {
+        seen = seen.saturating_add(*bucket);
+        into.push((*bound, seen))?;
+    }
     Ok(())
 }
 

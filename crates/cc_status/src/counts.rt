@@ -28,6 +28,14 @@ pub const REFUSALS: [&str; 18] = [
     "QueueFull",
 ];
 
+/// The name of each command, as it is asked for.
+pub const COMMANDS: [&str; 8] = [
+    "store", "collect", "max", "readmax", "flag", "readflag", "add", "readset",
+];
+
+/// Up to how many events the batches of each bucket have, ascending, up to the most that a batch has.
+pub const BATCH_BOUNDS: [u64; 7] = [1, 2, 4, 8, 16, 32, 64];
+
 /// What a node counted since its start.
 #[derive(Clone, Copy, Debug, Default)]
 pub struct Counted {
@@ -38,6 +46,10 @@ pub struct Counted {
     pub connections: u64,
     /// How many events were refused, by the refusal's place in `REFUSALS`.
     pub refusals: [u64; 18],
+    /// How many asks were accepted, by their command's place in `COMMANDS`.
+    pub asks: [u64; 8],
+    /// How many batches had so many events, by their bucket: those of `BATCH_BOUNDS`.
+    pub batches: [u64; 7],
     pub syncs: SyncCounts,
 }
 

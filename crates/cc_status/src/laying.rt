@@ -3,7 +3,8 @@
 ghost use Rattle.std.specs.Prelude.{◌≡◌, [], IfOk, OnOk};
 ghost use Rattle.cc_status.specs.Showing.{Shows, Begins};
 
-use crate::counting::{put_refusals, put_syncs};
+use crate::counting::{put_batches, put_named, put_syncs};
+use crate::counts::{COMMANDS, Counted, REFUSALS};
 use crate::live::{Live, Shown};
 use crate::members::{push_all, push_live, push_sessions};
 use crate::peers::push_peers;
@@ -89,6 +90,8 @@ fn blank_counts(alloc: Global, live: &Live<'_>) -> Counts {
         checkpoints: live.counted.checkpoints,
         connections: live.counted.connections,
         refusals: BTreeMap::new(alloc),
+        asks: BTreeMap::new(alloc),
+        batches: Vec::new(alloc),
     }
 }
 
@@ -139,9 +142,15 @@ fn lay_rest(
     status.round = round_status(alloc, core, live)?;
     push_peers(alloc, core, live, &mut status.peers)?;
     status.disk.side.push_str(side_name(live))?;
-    put_refusals(alloc, live.counted, &mut status.counts.refusals)?;
+    put_counts(alloc, live.counted, &mut status.counts)?;
     put_syncs(&live.counted.syncs, &mut status.syncs)?;
     Ok(())
+}
+
+fn put_counts(alloc: Global, counted: &Counted, counts: &mut Counts) -> Result<(), NoMemory> {
+    put_named(alloc, &REFUSALS, &counted.refusals, &mut counts.refusals)?;
+    put_named(alloc, &COMMANDS, &counted.asks, &mut counts.asks)?;
+    put_batches(&counted.batches, &mut counts.batches)
 }
 
 fn side_name(live: &Live<'_>) -> &'static str {

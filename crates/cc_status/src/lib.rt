@@ -14,7 +14,7 @@ mod standing;
 mod status;
 mod texts;
 
-pub use counts::{Counted, REFUSALS, SYNC_BOUNDS, SyncCounts};
+pub use counts::{BATCH_BOUNDS, COMMANDS, Counted, REFUSALS, SYNC_BOUNDS, SyncCounts};
 pub use laying::status_of;
 pub use live::{DiskShown, Live, PeerNote, Shown};
 pub use metrics::Metrics;

@@ -1,6 +1,6 @@
 //! What a node shows, in the text format of Prometheus: counters end in `_total`, times are in seconds, lengths in bytes.
 
-use crate::status::{PeerStatus, Status, SyncStatus};
+use crate::status::{Counts, PeerStatus, Status, SyncStatus};
 use std::fmt;
 
 /// What is shown of a node, as metrics.
@@ -13,7 +13,8 @@ impl fmt::Display for Metrics<'_> {
         print_node(f, status)?;
         print_clients(f, status)?;
         print_counts(f, status)?;
-        print_refusals(f, status)?;
+        print_labelled(f, &status.counts)?;
+        print_batches(f, &status.counts)?;
         print_peers(f, &status.peers)?;
         print_disk(f, status)?;
         print_syncs(f, &status.syncs)
@@ -190,14 +191,33 @@ fn print_counts<W: fmt::Write>(f: &mut fmt::Formatter<W>, status: &Status) -> fm
     )
 }
 
-fn print_refusals<W: fmt::Write>(f: &mut fmt::Formatter<W>, status: &Status) -> fmt::Result {
+// What is counted by a name.
+fn print_labelled<W: fmt::Write>(f: &mut fmt::Formatter<W>, counts: &Counts) -> fmt::Result {
     let help = "Events refused since the start.";
     print_head(f, "refusals_total", Kind::Counter, help)?;
-    for (name, count) in status.counts.refusals.iter() {
+    for (name, count) in counts.refusals.iter() {
         let name = name.as_str();
         write!(f, "ccnode_refusals_total{{refusal=\"{name}\"}} {count}\n")?;
     }
+    let help = "Asks accepted since the start.";
+    print_head(f, "asks_total", Kind::Counter, help)?;
+    for (name, count) in counts.asks.iter() {
+        let name = name.as_str();
+        write!(f, "ccnode_asks_total{{command=\"{name}\"}} {count}\n")?;
+    }
     Ok(())
+}
+
+fn print_batches<W: fmt::Write>(f: &mut fmt::Formatter<W>, counts: &Counts) -> fmt::Result {
+    let help = "Events of a batch.";
+    print_head(f, "batch_events", Kind::Histogram, help)?;
+    for (bound, count) in &counts.batches {
+        write!(f, "ccnode_batch_events_bucket{{le=\"{bound}\"}} {count}\n")?;
+    }
+    let (events, commits) = (counts.events, counts.commits);
+    write!(f, "ccnode_batch_events_bucket{{le=\"+Inf\"}} {commits}\n")?;
+    write!(f, "ccnode_batch_events_sum {events}\n")?;
+    write!(f, "ccnode_batch_events_count {commits}\n")
 }
 
 fn print_peers<W: fmt::Write>(f: &mut fmt::Formatter<W>, peers: &[PeerStatus]) -> fmt::Result {

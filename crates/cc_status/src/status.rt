@@ -126,8 +126,11 @@ pub struct Counts {
     pub checkpoints: u64,
     /// How many connections are open.
     pub connections: u64,
-    /// How many events were refused, by the refusal's name.
+    /// How many events were refused, by the refusal's name, and how many asks were accepted, by their command.
     pub refusals: BTreeMap<String, u64>,
+    pub asks: BTreeMap<String, u64>,
+    /// How many batches had no more than so many events, each pair a bound and a count.
+    pub batches: Vec<(u64, u64)>,
 }
 
 /// How long syncs took, in microseconds.

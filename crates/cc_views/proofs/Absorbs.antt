@@ -1,5 +1,6 @@
 -- To absorb the rows of one view after another is to merge the views.
-use Rattle.std.proofs.Common.{◌≡◌, ℕ, ◌+◌, ◌≤◌, Bool, true, false, cond, ◌<◌, List, [], ◌∷◌, length, get_or, drop, drop-cons, add-one, suc, Option, Some, None, refl, sym, ap, subst, ◌∙◌, arith}
+use Rattle.std.proofs.Common.{◌≡◌, ℕ, ◌+◌, ◌≤◌, Bool, true, false, cond, ◌<◌, List, [], ◌∷◌, length, get_or, drop, drop-cons, add-one, suc, Option}
+use Rattle.std.proofs.Common.{Some, None, refl, sym, ap, subst, ◌∙◌, arith}
 use Rattle.std.specs.declared.cmp.Ordering.TheVariants.{Less, Equal, Greater}
 use Rattle.std.specs.Ordering.{nat_cmp, is_eq, eq_by_cmp}
 use Rattle.std.specs.Cmp.{ranked, nat_cmp_total}
@@ -13,7 +14,8 @@ use Rattle.cc_views.specs.Tables.{IsRising, table_of, rows-table_of, get-table_o
 use Rattle.cc_views.specs.Entries.{and_left, and_right, to_T, from_T, find_below, entries_back}
 
 -- what a view has of a node after one more row
-pub find-absorbed : (es : List (ℕ × Pair)) (row : Row) (q : ℕ) → find nat_cmp q (absorbed es row) ≡ cond (eq_by_cmp nat_cmp q row.node) (Some (newest (find nat_cmp row.node es) (row.number, row.value))) (find nat_cmp q es)
+pub find-absorbed : (es : List (ℕ × Pair)) (row : Row) (q : ℕ) → find nat_cmp q (absorbed es row)
+    ≡ cond (eq_by_cmp nat_cmp q row.node) (Some (newest (find nat_cmp row.node es) (row.number, row.value))) (find nat_cmp q es)
 find-absorbed es row q = find-put nat_cmp nat_cmp_total q row.node (newest (find nat_cmp row.node es) (row.number, row.value)) es
 
 pub rising-absorbed : (es : List (ℕ × Pair)) (row : Row) → is_sorted nat_cmp es ≡ true → is_sorted nat_cmp (absorbed es row) ≡ true
@@ -56,7 +58,8 @@ find-absorbed_all (row ∷ rows) es q h =
       | Less ↦ λ _ e. rest ∙ ap (λ x. merged x (find nat_cmp q (entries_of rows))) e
       | Equal ↦ λ is e.
           let same : q ≡ row.node = ranked q row.node Equal is in
-          let none : find nat_cmp q (entries_of rows) ≡ None = subst (λ (k : ℕ). find nat_cmp k (entries_of rows) ≡ None) (sym same) (find_below row.node (entries_of rows) (and_left _ _ h)) in
+          let none : find nat_cmp q (entries_of rows) ≡ None = subst (λ (k : ℕ). find nat_cmp k (entries_of rows) ≡ None) (sym same)
+            (find_below row.node (entries_of rows) (and_left _ _ h)) in
           rest ∙ ap (λ x. merged x (find nat_cmp q (entries_of rows))) e ∙ ap (merged (Some (newest (find nat_cmp row.node es) y))) none
           ∙ ap (λ (k : ℕ). Some (newest (find nat_cmp k es) y)) (sym same) ∙ sym (merged-newest (find nat_cmp q es) y)
       | Greater ↦ λ _ e. rest ∙ ap (λ x. merged x (find nat_cmp q (entries_of rows))) e
@@ -80,16 +83,19 @@ rows_back rows h = sym (rows-table_of entry_of row_of (λ _. refl) rows h)
 pub step : (es : List (ℕ × Pair)) (rows : List Row) (i : ℕ) (row : Row) (total : List (ℕ × Pair)) → i < length rows → row ≡ get_or rows i row
     → absorbed_all es (drop i rows) ≡ total → absorbed_all (absorbed es row) (drop (i + 1) rows) ≡ total
 step es rows i row total lt is so_far =
-    let front : drop i rows ≡ row ∷ drop (i + 1) rows = drop-cons rows i row lt ∙ ap (λ (r : Row). r ∷ drop (suc i) rows) (sym is) ∙ ap (λ (n : ℕ). row ∷ drop n rows) (sym (add-one i)) in
+    let front : drop i rows ≡ row ∷ drop (i + 1) rows = drop-cons rows i row lt ∙ ap (λ (r : Row). r ∷ drop (suc i) rows)
+      (sym is) ∙ ap (λ (n : ℕ). row ∷ drop n rows) (sym (add-one i)) in
     sym (ap (absorbed_all es) front) ∙ so_far
 
-pub step_fits : (es : List (ℕ × Pair)) (rows : List Row) (row : Row) (i : ℕ) (total : List (ℕ × Pair)) → is_sorted nat_cmp es ≡ true → i < length rows → row ≡ get_or rows i row
+pub step_fits : (es : List (ℕ × Pair)) (rows : List Row) (row : Row) (i : ℕ) (total : List (ℕ × Pair)) → is_sorted nat_cmp es ≡ true → i < length rows
+    → row ≡ get_or rows i row
     → absorbed_all es (drop i rows) ≡ total → length total ≤ 256 → length (absorbed es row) ≤ 256
 step_fits es rows row i total rising lt is so_far fits =
     omega (arith, all_grow (drop (i + 1) rows) (absorbed es row) (rising-absorbed es row rising), ap length (step es rows i row total lt is so_far))
 
 -- what the map that the rows make has of a node
-pub get_of_rows : (rows : List Row) (node : ℕ) (v : ViewMap) → map.from_entries {R = nat_cmp} (entries_of rows) ≡ v → find nat_cmp node (entries_of rows) ≡ map.get v node
+pub get_of_rows : (rows : List Row) (node : ℕ) (v : ViewMap) → map.from_entries {R = nat_cmp} (entries_of rows) ≡ v
+    → find nat_cmp node (entries_of rows) ≡ map.get v node
 get_of_rows rows node v is = sym (get-table_of entry_of rows node) ∙ ap (λ (w : ViewMap). map.get w node) is
 
 -- a merge that fits takes no more rows than it has

@@ -48,7 +48,8 @@ module _ (cells : List ℕ) (len : ℕ) (s : NatSet) (table : IsNumberTable cell
     at_most_len = omega (arith, gap.in_range, used)
 
     pub one_more_fits : len + 1 ≤ 32
-    one_more_fits = omega (arith, fits, len-insert_gap marked (take len cells) number at gap tt table.rising, used, ap (λ (t : NatSet). set.len (set.insert t number)) is)
+    one_more_fits = omega (arith, fits, len-insert_gap marked (take len cells) number at gap tt table.rising, used,
+      ap (λ (t : NatSet). set.len (set.insert t number)) is)
 
     front : take (len + 1) (with_gap_filled cells len at number) ≡ insert (take len cells) at number
     front = take-with_gap_filled cells len at number at_most_len (omega (arith, one_more_fits, table.room.whole))

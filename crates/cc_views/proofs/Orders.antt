@@ -28,7 +28,8 @@ kept_by_rows (row ∷ rows) w e q =
     let pair : Pair = (row.number, row.value) in
     elim (nat_cmp q row.node) as (λ r. r ≡ nat_cmp q row.node → IsKept (cond (is_eq r) (Some pair) (find nat_cmp q (entries_of rows))) (map.get w q)) [
       | Less ↦ λ _. kept_by_rows rows w (and_right _ _ e) q
-      | Equal ↦ λ is. subst (λ (k : ℕ). IsKept (Some pair) (map.get w k)) (sym (ranked q row.node Equal is)) (kept_by_test pair (map.get w row.node) (and_left _ _ e))
+      | Equal ↦ λ is. subst (λ (k : ℕ). IsKept (Some pair) (map.get w k)) (sym (ranked q row.node Equal is))
+        (kept_by_test pair (map.get w row.node) (and_left _ _ e))
       | Greater ↦ λ _. kept_by_rows rows w (and_right _ _ e) q
     ] refl
 
@@ -38,7 +39,8 @@ kept_of_more : (row : Row) (rows : List Row) (w : ViewMap) → is_sorted nat_cmp
 kept_of_more row rows w rising q =
     let pair : Pair = (row.number, row.value) in
     let es = entries_of rows in
-    elim (nat_cmp q row.node) as (λ r. r ≡ nat_cmp q row.node → IsKept (cond (is_eq r) (Some pair) (find nat_cmp q es)) (map.get w q) → IsKept (find nat_cmp q es) (map.get w q)) [
+    elim (nat_cmp q row.node) as (λ r. r ≡ nat_cmp q row.node → IsKept (cond (is_eq r) (Some pair) (find nat_cmp q es)) (map.get w q)
+      → IsKept (find nat_cmp q es) (map.get w q)) [
       | Less ↦ λ _ h. h
       | Equal ↦ λ is _.
           let none : find nat_cmp q es ≡ None = ap (λ (k : ℕ). find nat_cmp k es) (ranked q row.node Equal is) ∙ find_below row.node es (and_left _ _ rising) in
@@ -46,7 +48,8 @@ kept_of_more row rows w rising q =
       | Greater ↦ λ _ h. h
     ] refl
 
-rows_by_kept : (rows : List Row) (w : ViewMap) → is_sorted nat_cmp (entries_of rows) ≡ true → ((q : ℕ) → IsKept (find nat_cmp q (entries_of rows)) (map.get w q)) → list_all (keeps w) rows ≡ true
+rows_by_kept : (rows : List Row) (w : ViewMap) → is_sorted nat_cmp (entries_of rows) ≡ true
+    → ((q : ℕ) → IsKept (find nat_cmp q (entries_of rows)) (map.get w q)) → list_all (keeps w) rows ≡ true
 rows_by_kept [] w rising h = refl
 rows_by_kept (row ∷ rows) w rising h =
     let pair : Pair = (row.number, row.value) in
@@ -56,7 +59,8 @@ rows_by_kept (row ∷ rows) w rising h =
     and_from _ _ (test_by_kept pair (map.get w row.node) first) (rows_by_kept rows w (and_right _ _ rising) (λ q. kept_of_more row rows w rising q (h q)))
 
 -- the test of all rows tells whether their view is at most the other
-pub all_kept_is_at_most : (rows : List Row) (v w : ViewMap) (b : Bool) → is_sorted nat_cmp (entries_of rows) ≡ true → map.from_entries {R = nat_cmp} (entries_of rows) ≡ v
+pub all_kept_is_at_most : (rows : List Row) (v w : ViewMap) (b : Bool) → is_sorted nat_cmp (entries_of rows) ≡ true
+    → map.from_entries {R = nat_cmp} (entries_of rows) ≡ v
     → b ≡ list_all (keeps w) rows → IsTrue b ↔ IsAtMost v w
 all_kept_is_at_most rows v w b rising is tested = (
   λ yes q. subst (λ (o : Option Pair). IsKept o (map.get w q)) (get_of_rows rows q v is) (kept_by_rows rows w (sym tested ∙ yes) q),

@@ -3,12 +3,14 @@ use Rattle.std.proofs.Common.{◌≡◌, ℕ, ◌+◌, ◌-◌, ◌<◌, ◌≤�
 use Rattle.std.specs.List.{insert, copy_within}
 use Rattle.std.proofs.Math.ListN.{replicate}
 use Rattle.std.proofs.Math.Seq.{take-set-lt}
-use Rattle.std.proofs.lemmas.List.{length-set, length-drop, set-append_left, take-take, take_more_set, drop-take, drop-set-lt, drop_at, length-append, drop-replicate, length-replicate, drop-drop}
+use Rattle.std.proofs.lemmas.List.{length-set, length-drop, set-append_left, take-take, take_more_set, drop-take, drop-set-lt, drop_at, length-append}
+use Rattle.std.proofs.lemmas.List.{drop-replicate, length-replicate, drop-drop}
 use Rattle.std.proofs.lemmas.List.Edits.{length-paste, take-paste, drop-paste}
 use Rattle.cc_views.specs.Room.{IsRoom}
 
 -- some cells, and what is left of zeros
-pub room_of_front : (size : ℕ) (front rest : List ℕ) → length front ≤ size → rest ≡ drop (length front) (replicate size 0) → IsRoom size (front ++ rest) (length front)
+pub room_of_front : (size : ℕ) (front rest : List ℕ) → length front ≤ size → rest ≡ drop (length front) (replicate size 0)
+    → IsRoom size (front ++ rest) (length front)
 room_of_front size front rest le is =
     let zeros : rest ≡ replicate (size - length front) 0 = is ∙ drop-replicate (length front) size 0 in
     record {
@@ -79,7 +81,8 @@ module _ (cells : List ℕ) (len at x : ℕ) (le : at ≤ len) (lt : len < lengt
       ∙ ap (λ (n : ℕ). drop n cells) count
 
 -- and one more cell is used
-pub room_inserted : (size : ℕ) (cells : List ℕ) (len at x : ℕ) → at ≤ len → len < size → IsRoom size cells len → IsRoom size (with_gap_filled cells len at x) (len + 1)
+pub room_inserted : (size : ℕ) (cells : List ℕ) (len at x : ℕ) → at ≤ len → len < size → IsRoom size cells len
+    → IsRoom size (with_gap_filled cells len at x) (len + 1)
 room_inserted size cells len at x le lt h =
     let in_cells : len < length cells = omega (arith, h.whole) in
     record {

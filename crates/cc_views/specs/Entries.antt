@@ -1,5 +1,6 @@
 -- Entries whose keys rise: an edit at a place is a `put`, and a map of such entries has them as its entries.
-use Rattle.std.proofs.Common.{◌≡◌, ℕ, zero, suc, ◌<◌, ◌≤◌, Bool, true, false, ◌&&◌, T, List, [], ◌∷◌, map as list_map, length, get_or, set, Some, None, refl, sym, ap, subst, ◌∙◌, arith, inl, inr}
+use Rattle.std.proofs.Common.{◌≡◌, ℕ, zero, suc, ◌<◌, ◌≤◌, Bool, true, false, ◌&&◌, T, List, [], ◌∷◌, map as list_map, length, get_or, set, Some}
+use Rattle.std.proofs.Common.{None, refl, sym, ap, subst, ◌∙◌, arith, inl, inr}
 use Rattle.std.specs.List.{AllByRecursion, insert}
 use Rattle.std.proofs.lemmas.Bool.{and_from}
 use Rattle.std.proofs.lemmas.List.{nil_from_length}
@@ -74,7 +75,8 @@ module _ {X : Type 0} where
   rises (e ∷ es) h (suc i) (suc j) d lt lj = rises es (and_right _ _ h) i j d (omega arith) (omega arith)
 
   -- to write over the entry of a key is to put it
-  pub put_at : (es : List (ℕ × X)) (i k : ℕ) (v : X) (d : ℕ × X) → is_sorted nat_cmp es ≡ true → i < length es → (get_or es i d).0 ≡ k → set es i (k, v) ≡ put nat_cmp k v es
+  pub put_at : (es : List (ℕ × X)) (i k : ℕ) (v : X) (d : ℕ × X) → is_sorted nat_cmp es ≡ true → i < length es → (get_or es i d).0 ≡ k
+    → set es i (k, v) ≡ put nat_cmp k v es
   put_at [] i k v d h lt is = absurd (omega arith)
   put_at (e ∷ es) zero k v d h lt is =
       let c : nat_cmp k e.0 ≡ Equal = cmp_eq k e.0 (sym is) in
@@ -95,10 +97,12 @@ module _ {X : Type 0} where
       rw c refl
   put_gap (e ∷ es) (suc i) k v d le below above =
       let c : nat_cmp k e.0 ≡ Greater = cmp_gt k e.0 (below 0 (omega arith)) in
-      rw c (ap (λ (t : List (ℕ × X)). e ∷ t) (put_gap es i k v d (omega arith) (λ j lt. below (suc j) (omega arith)) (λ j lo hi. above (suc j) (omega arith) (omega arith))))
+      rw c (ap (λ (t : List (ℕ × X)). e ∷ t) (put_gap es i k v d (omega arith) (λ j lt. below (suc j) (omega arith))
+        (λ j lo hi. above (suc j) (omega arith) (omega arith))))
 
   -- the key at a place is found there
-  pub find_at : (es : List (ℕ × X)) (i k : ℕ) (d : ℕ × X) → is_sorted nat_cmp es ≡ true → i < length es → (get_or es i d).0 ≡ k → find nat_cmp k es ≡ Some (get_or es i d).1
+  pub find_at : (es : List (ℕ × X)) (i k : ℕ) (d : ℕ × X) → is_sorted nat_cmp es ≡ true → i < length es → (get_or es i d).0 ≡ k
+    → find nat_cmp k es ≡ Some (get_or es i d).1
   find_at [] i k d h lt is = absurd (omega arith)
   find_at (e ∷ es) zero k d h lt is = rw (cmp_eq k e.0 (sym is)) refl
   find_at (e ∷ es) (suc i) k d h lt is =
@@ -106,7 +110,8 @@ module _ {X : Type 0} where
       rw (cmp_gt k e.0 (subst (λ (q : ℕ). e.0 < q) is later)) (find_at es i k d (and_right _ _ h) (omega arith) is)
 
   -- a key that differs from each is not found
-  pub find_none : (es : List (ℕ × X)) (k : ℕ) (d : ℕ × X) → ((j : ℕ) → j < length es → ((get_or es j d).0 < k) ⊎ (k < (get_or es j d).0)) → find nat_cmp k es ≡ None
+  pub find_none : (es : List (ℕ × X)) (k : ℕ) (d : ℕ × X) → ((j : ℕ) → j < length es → ((get_or es j d).0 < k) ⊎ (k < (get_or es j d).0))
+    → find nat_cmp k es ≡ None
   find_none [] k d apart = refl
   find_none (e ∷ es) k d apart =
       let rest = find_none es k d (λ j lt. apart (suc j) (omega arith)) in
@@ -129,4 +134,5 @@ module _ {X : Type 0} where
   pub entries_back : (es : List (ℕ × X)) → is_sorted nat_cmp es ≡ true → map.entries (map.from_entries {R = nat_cmp} es) ≡ es
   entries_back [] h = nil_from_length _ (sym (map.len-entries (map.empty {X = X} {R = nat_cmp})) ∙ map.len-empty nat_cmp X)
   entries_back (e ∷ es) h =
-      map.entries-insert nat_cmp_total (map.from_entries es) e.0 e.1 ∙ ap (put nat_cmp e.0 e.1) (entries_back es (and_right _ _ h)) ∙ put_below e.0 e.1 es (and_left _ _ h)
+      map.entries-insert nat_cmp_total (map.from_entries es) e.0 e.1 ∙ ap (put nat_cmp e.0 e.1) (entries_back es (and_right _ _ h))
+        ∙ put_below e.0 e.1 es (and_left _ _ h)

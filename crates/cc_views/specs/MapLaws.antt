@@ -85,12 +85,16 @@ unmapped : {X : Type 0} (P : ℕ → Type 0) (f : X → ℕ) (es : List (ℕ × 
 unmapped P f [] h = tt
 unmapped P f (e ∷ es) h = (h.0, unmapped P f es h.1)
 
-pub all_values : {X : Type 0} (P : ℕ → Type 0) (f : X → ℕ) (m : FinMap nat_cmp X) → ((q : ℕ) → IfSome (table.get m q) (λ x. P (f x))) → AllByRecursion P (map f (table.values m))
+pub all_values : {X : Type 0} (P : ℕ → Type 0) (f : X → ℕ) (m : FinMap nat_cmp X) → ((q : ℕ) → IfSome (table.get m q) (λ x. P (f x)))
+    → AllByRecursion P (map f (table.values m))
 all_values P f m h =
-    mapped P f (table.entries m) (all_entries (λ q x. P (f x)) (table.entries m) (table.entries_sorted m) (λ q. subst (λ o. IfSome o (λ x. P (f x))) (table.get-entries m q) (h q)))
+    mapped P f (table.entries m) (all_entries (λ q x. P (f x)) (table.entries m) (table.entries_sorted m)
+      (λ q. subst (λ o. IfSome o (λ x. P (f x))) (table.get-entries m q) (h q)))
 
-pub each_value : {X : Type 0} (P : ℕ → Type 0) (f : X → ℕ) (m : FinMap nat_cmp X) → AllByRecursion P (map f (table.values m)) → (q : ℕ) → IfSome (table.get m q) (λ x. P (f x))
-each_value P f m h q = subst (λ o. IfSome o (λ x. P (f x))) (sym (table.get-entries m q)) (each_entry (λ q x. P (f x)) (table.entries m) (unmapped P f (table.entries m) h) q)
+pub each_value : {X : Type 0} (P : ℕ → Type 0) (f : X → ℕ) (m : FinMap nat_cmp X) → AllByRecursion P (map f (table.values m)) → (q : ℕ)
+    → IfSome (table.get m q) (λ x. P (f x))
+each_value P f m h q = subst (λ o. IfSome o (λ x. P (f x))) (sym (table.get-entries m q))
+    (each_entry (λ q x. P (f x)) (table.entries m) (unmapped P f (table.entries m) h) q)
 
 same_without : {X : Type 0} (b : Bool) (o : Option X) → (b ≡ true → o ≡ None) → cond b None o ≡ o
 same_without true o h = sym (h refl)

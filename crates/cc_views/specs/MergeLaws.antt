@@ -5,7 +5,8 @@
 --     at_most_same, at_most_trans, same_view             views are in order by it; when two views are one
 --     merge_is_no_larger, merge_row_is_no_larger         how many nodes a merge has at most
 --     len_merge_within                                   and where each node of both is among some ids
-use Rattle.std.proofs.Common.{◌≡◌, ◌≢◌, ◌⊎◌, ℕ, ◌+◌, ◌≤◌, Bool, true, false, cond, ◌||◌, nat_eq, List, [], ◌∷◌, ◌++◌, map as list_map, Option, Some, None, refl, sym, ap, subst, ◌∙◌, inl, inr, arith}
+use Rattle.std.proofs.Common.{◌≡◌, ◌≢◌, ◌⊎◌, ℕ, ◌+◌, ◌≤◌, Bool, true, false, cond, ◌||◌, nat_eq, List, [], ◌∷◌, ◌++◌, map as list_map, Option, Some}
+use Rattle.std.proofs.Common.{None, refl, sym, ap, subst, ◌∙◌, inl, inr, arith}
 use Rattle.std.specs.Prelude.{nat_lt, is_some, IsTrue}
 use Rattle.std.specs.Ordering.{nat_cmp, is_eq}
 use Rattle.std.specs.declared.cmp.Ordering.TheVariants.{Less, Equal, Greater}
@@ -40,7 +41,8 @@ find_over : (w : ViewMap) (es : List (ℕ × Pair)) (q : ℕ) → find nat_cmp q
 find_over w [] q = sym (map.get-entries w q) ∙ merged-left_none (map.get w q)
 find_over w (e ∷ es) q =
     elim (nat_cmp q e.0) as (λ r. r ≡ nat_cmp q e.0
-    → cond (is_eq r) (Some (newer_or_left e.1 (map.get w e.0))) (find nat_cmp q (over_each w es ++ map.entries w)) ≡ merged (cond (is_eq r) (Some e.1) (find nat_cmp q es)) (map.get w q)) [
+    → cond (is_eq r) (Some (newer_or_left e.1 (map.get w e.0))) (find nat_cmp q (over_each w es ++ map.entries w))
+    ≡ merged (cond (is_eq r) (Some e.1) (find nat_cmp q es)) (map.get w q)) [
       | Less ↦ λ _. find_over w es q
       | Equal ↦ λ is. ap (λ (k : ℕ). Some (newer_or_left e.1 (map.get w k))) (sym (ranked q e.0 Equal is)) ∙ merged-or e.1 (map.get w q)
       | Greater ↦ λ _. find_over w es q
@@ -48,7 +50,8 @@ find_over w (e ∷ es) q =
 
 pub get-merge : MergesAtEachNode
 unfolding merge
-get-merge v w q = map.get-from_entries nat_cmp_total (over_each w (map.entries v) ++ map.entries w) q ∙ find_over w (map.entries v) q ∙ ap (λ x. merged x (map.get w q)) (sym (map.get-entries v q))
+get-merge v w q = map.get-from_entries nat_cmp_total (over_each w (map.entries v) ++ map.entries w) q ∙ find_over w (map.entries v) q
+    ∙ ap (λ x. merged x (map.get w q)) (sym (map.get-entries v q))
 
 is_some-merged : (a b : Option Pair) → is_some (merged a b) ≡ (is_some a || is_some b)
 is_some-merged None None = refl
@@ -181,7 +184,8 @@ unfolding merge
 merge_is_no_larger v w =
     let pair : ℕ × Pair → ℕ × Pair = λ e. (e.0, newer_or_left e.1 (map.get w e.0)) in
     let left : List (ℕ × Pair) = list_map pair (map.entries v) in
-    omega (arith, len-from_entries (left ++ map.entries w), length-append left (map.entries w), length-map (map.entries v) pair, map.len-entries v, map.len-entries w)
+    omega (arith, len-from_entries (left ++ map.entries w), length-append left (map.entries w), length-map (map.entries v) pair, map.len-entries v,
+      map.len-entries w)
 
 -- one row adds at most one node
 pub merge_row_is_no_larger : (v : ViewMap) (row : Row) → map.len (merge v (single row)) ≤ map.len v + 1

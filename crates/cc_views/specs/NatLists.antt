@@ -19,7 +19,8 @@ use Rattle.cc_views.specs.Ascending.{IsAscending}
 use Rattle.cc_views.specs.Entries.{from_T, ascending_of_sorted, sorted_of_ascending}
 use Rattle.cc_views.specs.MapLaws.{len_insert, insert_there}
 use Rattle.cc_views.specs.Tables.{IsRising, IsAt, table_of, entries-table_of, get-at, rising-push}
-use Rattle.cc_views.specs.NatSets.{NatSet, marked, contains, insert, insert_all, from_list, items, len, union, difference, contains-keys, contains-from_list, contains-insert_all, contains-union, contains-difference, len-insert, same_ids}
+use Rattle.cc_views.specs.NatSets.{NatSet, marked, contains, insert, insert_all, from_list, items, len, union, difference, contains-keys}
+use Rattle.cc_views.specs.NatSets.{contains-from_list, contains-insert_all, contains-union, contains-difference, len-insert, same_ids}
 
 unmarked : (qs : List ℕ) → map (λ e. e.0) (map marked qs) ≡ qs
 unmarked [] = refl
@@ -82,7 +83,8 @@ len_with_new s [] h = omega arith
 len_with_new s (q ∷ qs) h =
     len-insert (insert_all s qs) q
     ∙ ap (λ (b : Bool). cond b (len (insert_all s qs)) (len (insert_all s qs) + 1)) (contains-insert_all s qs q)
-    ∙ counted_more (contains s q) (list_any (nat_eq q) qs) (len s) (len (insert_all s qs)) q (filter (λ k. not (contains s k)) qs) (not_above q qs h.0) (len_with_new s qs h.1)
+    ∙ counted_more (contains s q) (list_any (nat_eq q) qs) (len s) (len (insert_all s qs)) q (filter (λ k. not (contains s k)) qs) (not_above q qs h.0)
+      (len_with_new s qs h.1)
 
 pub len-insert_all : (s : NatSet) (qs : List ℕ) → IsAscending qs → len (insert_all s qs) ≡ len s + count_by (λ q. not (contains s q)) qs
 len-insert_all s qs h = len_with_new s qs h ∙ ap (λ (n : ℕ). len s + n) (length-filter (λ q. not (contains s q)) qs)
@@ -97,19 +99,23 @@ len-union s t = len-insert_all s (items t) (items_ascending t)
 module _ (p : ℕ → Bool) where
   all_filter : (P : ℕ → Type 0) (qs : List ℕ) → AllByRecursion P qs → AllByRecursion P (filter p qs)
   all_filter P [] h = tt
-  all_filter P (q ∷ qs) h = elim (p q) as (λ b. AllByRecursion P (cond b (q ∷ filter p qs) (filter p qs))) [ true ↦ (h.0, all_filter P qs h.1) | false ↦ all_filter P qs h.1 ]
+  all_filter P (q ∷ qs) h = elim (p q) as (λ b. AllByRecursion P (cond b (q ∷ filter p qs) (filter p qs)))
+    [ true ↦ (h.0, all_filter P qs h.1) | false ↦ all_filter P qs h.1 ]
 
   pub ascending_filter : (qs : List ℕ) → IsAscending qs → IsAscending (filter p qs)
   ascending_filter [] h = tt
-  ascending_filter (q ∷ qs) h = elim (p q) as (λ b. IsAscending (cond b (q ∷ filter p qs) (filter p qs))) [ true ↦ (all_filter (λ r. q < r) qs h.0, ascending_filter qs h.1) | false ↦ ascending_filter qs h.1 ]
+  ascending_filter (q ∷ qs) h = elim (p q) as (λ b. IsAscending (cond b (q ∷ filter p qs) (filter p qs)))
+    [ true ↦ (all_filter (λ r. q < r) qs h.0, ascending_filter qs h.1) | false ↦ ascending_filter qs h.1 ]
 
-  with_it : (q k : ℕ) (ks : List ℕ) → nat_eq q k ≡ true → list_any (nat_eq q) (filter p ks) ≡ (list_any (nat_eq q) ks && p q) → (b : Bool) → p k ≡ b → list_any (nat_eq q) (cond b (k ∷ filter p ks) (filter p ks)) ≡ p q
+  with_it : (q k : ℕ) (ks : List ℕ) → nat_eq q k ≡ true → list_any (nat_eq q) (filter p ks) ≡ (list_any (nat_eq q) ks && p q) → (b : Bool) → p k ≡ b
+    → list_any (nat_eq q) (cond b (k ∷ filter p ks) (filter p ks)) ≡ p q
   with_it q k ks e rest true is = rw e (sym is ∙ ap p (sym (eqb-true q k e)))
   with_it q k ks e rest false is =
       let none : p q ≡ false = ap p (eqb-true q k e) ∙ is in
       rest ∙ ap (λ (b : Bool). list_any (nat_eq q) ks && b) none ∙ and-false (list_any (nat_eq q) ks) ∙ sym none
 
-  without_it : (q k : ℕ) (ks : List ℕ) → nat_eq q k ≡ false → list_any (nat_eq q) (filter p ks) ≡ (list_any (nat_eq q) ks && p q) → (b : Bool) → list_any (nat_eq q) (cond b (k ∷ filter p ks) (filter p ks)) ≡ (list_any (nat_eq q) ks && p q)
+  without_it : (q k : ℕ) (ks : List ℕ) → nat_eq q k ≡ false → list_any (nat_eq q) (filter p ks) ≡ (list_any (nat_eq q) ks && p q) → (b : Bool)
+    → list_any (nat_eq q) (cond b (k ∷ filter p ks) (filter p ks)) ≡ (list_any (nat_eq q) ks && p q)
   without_it q k ks e rest true = rw e rest
   without_it q k ks e rest false = rest
 
@@ -126,7 +132,8 @@ pub items-difference : (s t : NatSet) → items (difference s t) ≡ filter (λ 
 items-difference s t =
     let kept = filter (λ q. not (contains t q)) (items s) in
     let same : difference s t ≡ from_list kept = same_ids (difference s t) (from_list kept) (λ q.
-    contains-difference s t q ∙ ap (λ (b : Bool). b && not (contains t q)) (contains-keys s q) ∙ sym (contains-from_list kept q ∙ any_filter (λ k. not (contains t k)) q (items s))) in
+    contains-difference s t q ∙ ap (λ (b : Bool). b && not (contains t q)) (contains-keys s q)
+      ∙ sym (contains-from_list kept q ∙ any_filter (λ k. not (contains t k)) q (items s))) in
     ap items same ∙ items-from_list kept (ascending_filter (λ k. not (contains t k)) (items s) (items_ascending s))
 
 pub len-difference : (s t : NatSet) → len (difference s t) ≡ count_by (λ q. not (contains t q)) (items s)

@@ -83,10 +83,12 @@ is_some_but false (Some x) = refl
 pub get-insert_key : {X : Type 0} (m : FinMap nat_cmp X) (k : ℕ) (v : X) (q : ℕ) → table.get (table.insert m k v) q ≡ cond (nat_eq q k) (Some v) (table.get m q)
 get-insert_key m k v q = table.get-insert nat_cmp_total m k v q ∙ ap (λ b. cond b (Some v) (table.get m q)) (unsigned_tied q k)
 
-pub contains-insert_key : {X : Type 0} (m : FinMap nat_cmp X) (k : ℕ) (v : X) (q : ℕ) → table.contains_key (table.insert m k v) q ≡ (nat_eq q k || table.contains_key m q)
+pub contains-insert_key : {X : Type 0} (m : FinMap nat_cmp X) (k : ℕ) (v : X) (q : ℕ) → table.contains_key (table.insert m k v) q
+    ≡ (nat_eq q k || table.contains_key m q)
 contains-insert_key m k v q = ap is_some (get-insert_key m k v q) ∙ is_some_either (nat_eq q k) v (table.get m q)
 
-pub contains-retain : {X : Type 0} (m : FinMap nat_cmp X) (p : ℕ → Bool) (q : ℕ) → table.contains_key (table.retain_keys m p) q ≡ (table.contains_key m q && p q)
+pub contains-retain : {X : Type 0} (m : FinMap nat_cmp X) (p : ℕ → Bool) (q : ℕ) → table.contains_key (table.retain_keys m p) q
+    ≡ (table.contains_key m q && p q)
 contains-retain m p q =
     ap is_some (table.get-retain_keys m p q (λ x tied. ap p (sym (nat_cmp-IsAntisymmetric q x tied)))) ∙ is_some_only (p q) (table.get m q)
 
@@ -211,7 +213,8 @@ within_list [] n sorted h = omega arith
 within_list (e ∷ es) n sorted h =
     let first : table.contains_key n e.0 ≡ true = h e.0 (found_first e es) in
     let rest : length es ≤ table.len (table.remove n e.0) = within_list es (table.remove n e.0) (lt_both _ _ sorted).1
-    (λ q k. contains-remove n e.0 q ∙ and_true _ _ (h q (found_later (eq_by_cmp nat_cmp q e.0) e.1 (find nat_cmp q es) k)) (apart e.0 q es (lt_both _ _ sorted).0 k)) in
+    (λ q k. contains-remove n e.0 q ∙ and_true _ _ (h q (found_later (eq_by_cmp nat_cmp q e.0) e.1 (find nat_cmp q es) k))
+      (apart e.0 q es (lt_both _ _ sorted).0 k)) in
     let more : length es + 1 ≤ table.len n = one_less_room (length es) (table.len n) (table.contains_key n e.0) first (len_positive n e.0 first)
     (subst (λ k. length es ≤ k) (table.len-remove nat_cmp_total n e.0) rest) in
     one_longer (length es) (table.len n) more

@@ -7,7 +7,8 @@
 --     get-.., len-.., entries-..   look-ups, size and entries of the map by the rows
 --     keys_ascend, rising_of_keys  keys that rise, as numbers that ascend
 --     .._table                     that a table stays one
-use Rattle.std.proofs.Common.{◌≡◌, ℕ, zero, suc, ◌+◌, ◌<◌, ◌≤◌, Bool, true, false, cond, not, List, [], ◌∷◌, ◌++◌, map, length, get_or, set, Option, Some, None, Result, Ok, Err, refl, sym, ap, subst, ◌∙◌, arith, inl, inr}
+use Rattle.std.proofs.Common.{◌≡◌, ℕ, zero, suc, ◌+◌, ◌<◌, ◌≤◌, Bool, true, false, cond, not, List, [], ◌∷◌, ◌++◌, map, length, get_or, set, Option}
+use Rattle.std.proofs.Common.{Some, None, Result, Ok, Err, refl, sym, ap, subst, ◌∙◌, arith, inl, inr}
 use Rattle.std.specs.Prelude.{IsTrue, ◌⊎◌, is_ok, is_some}
 use Rattle.std.specs.List.{AllByRecursion, insert, remove}
 use Rattle.std.specs.List.Sorted.{IsSearchInRange, IsBinarySearchResult, IsNonDecreasingBy}
@@ -24,7 +25,8 @@ use Rattle.std.proofs.lemmas.Cmp.{ranked}
 use Rattle.std.proofs.lemmas.List.{length-append, length-map, length-set, map-set, map_push}
 use Rattle.std.proofs.lemmas.List.Edits.{length-insert, length-remove}
 use Rattle.cc_views.specs.Ascending.{IsAscending}
-use Rattle.cc_views.specs.Entries.{cmp_lt, cmp_eq, cmp_gt, and_left, and_right, to_T, from_T, lt_from_cmp, ascending_of_sorted, sorted_of_ascending, below_at, rises, put_at, put_gap, find_at, find_none, entries_back}
+use Rattle.cc_views.specs.Entries.{cmp_lt, cmp_eq, cmp_gt, and_left, and_right, to_T, from_T, lt_from_cmp, ascending_of_sorted, sorted_of_ascending}
+use Rattle.cc_views.specs.Entries.{below_at, rises, put_at, put_gap, find_at, find_none, entries_back}
 
 -- keys rise from row to row
 abbrev pub IsRising : {Row X : Type 0} → (Row → ℕ × X) → List Row → Type 0
@@ -56,10 +58,12 @@ IsPlaceOf entry rows key (Ok i) = IsAt entry rows key i
 IsPlaceOf entry rows key (Err i) = IsGapFor entry rows key i
 
 -- a map of entries with one more put is the map with it inserted
-from_entries-put : {X : Type 0} (k : ℕ) (v : X) (es : List (ℕ × X)) → finite.from_entries {R = nat_cmp} (put nat_cmp k v es) ≡ finite.insert (finite.from_entries es) k v
+from_entries-put : {X : Type 0} (k : ℕ) (v : X) (es : List (ℕ × X)) → finite.from_entries {R = nat_cmp} (put nat_cmp k v es)
+    ≡ finite.insert (finite.from_entries es) k v
 from_entries-put k v es = finite.same_map nat_cmp_total nat_cmp-IsAntisymmetric _ _ (λ q.
     finite.get-from_entries nat_cmp_total (put nat_cmp k v es) q ∙ find-put nat_cmp nat_cmp_total q k v es
-    ∙ sym (finite.get-insert nat_cmp_total (finite.from_entries es) k v q ∙ ap (λ o. cond (eq_by_cmp nat_cmp q k) (Some v) o) (finite.get-from_entries nat_cmp_total es q)))
+    ∙ sym (finite.get-insert nat_cmp_total (finite.from_entries es) k v q ∙ ap (λ o. cond (eq_by_cmp nat_cmp q k) (Some v) o)
+      (finite.get-from_entries nat_cmp_total es q)))
 
 module _ {Row X : Type 0} (entry : Row → ℕ × X) (rows : List Row) where
   entry_at : (i : ℕ) (d : Row) → get_or (map entry rows) i (entry d) ≡ entry (get_or rows i d)
@@ -97,7 +101,8 @@ module _ {Row X : Type 0} (entry : Row → ℕ × X) (rows : List Row) where
     table_of-set row is = ap (λ (es : List (ℕ × X)). finite.from_entries es) (put_set row is) ∙ from_entries-put key (entry row).1 (map entry rows)
 
     pub rising-set : (row : Row) → (entry row).0 ≡ key → IsRising entry (set rows i row)
-    rising-set row is = ap (is_sorted nat_cmp) (put_set row is) ∙ from_T _ (is_sorted-put nat_cmp nat_cmp_total key (entry row).1 (map entry rows) (to_T _ rising))
+    rising-set row is = ap (is_sorted nat_cmp) (put_set row is) ∙ from_T _
+      (is_sorted-put nat_cmp nat_cmp_total key (entry row).1 (map entry rows) (to_T _ rising))
 
   -- a row goes into the gap for its key
   module _ (key i : ℕ) (gap : IsGapFor entry rows key i) where
@@ -136,7 +141,8 @@ module _ {Row X : Type 0} (entry : Row → ℕ × X) (rows : List Row) where
     table_of-insert row is = ap (λ (es : List (ℕ × X)). finite.from_entries es) (put_insert row is) ∙ from_entries-put key (entry row).1 (map entry rows)
 
     pub rising-insert : (row : Row) → (entry row).0 ≡ key → IsRising entry rows → IsRising entry (insert rows i row)
-    rising-insert row is rising = ap (is_sorted nat_cmp) (put_insert row is) ∙ from_T _ (is_sorted-put nat_cmp nat_cmp_total key (entry row).1 (map entry rows) (to_T _ rising))
+    rising-insert row is rising = ap (is_sorted nat_cmp) (put_insert row is)
+      ∙ from_T _ (is_sorted-put nat_cmp nat_cmp_total key (entry row).1 (map entry rows) (to_T _ rising))
 
     -- so that there is one more
     pub len-insert_gap : (v : X) → IsRising entry rows → finite.len (finite.insert (table_of entry rows) key v) ≡ length rows + 1
@@ -155,7 +161,8 @@ module _ {Row X : Type 0} (entry : Row → ℕ × X) (rows : List Row) (rising :
       grind (arith, length-map rows entry, rises (map entry rows) rising i j (entry d), λ (same : i ≡ j). ap (λ (k : ℕ). (entry (get_or rows k d)).0) same) in
       grind (arith, nat_tests)
 
-  pub searched : (r : Result ℕ ℕ) → IsSearchInRange r (length rows) → IsBinarySearchResult (λ (row : Row). nat_cmp (entry row).0 key) rows r → IsPlaceOf entry rows key r
+  pub searched : (r : Result ℕ ℕ) → IsSearchInRange r (length rows) → IsBinarySearchResult (λ (row : Row). nat_cmp (entry row).0 key) rows r
+    → IsPlaceOf entry rows key r
   searched (Ok i) in_range equal = record { in_range = in_range; has_key = λ d. ranked _ key _ (sym (equal d)) }
   searched (Err i) in_range parted = record {
     in_range = in_range;
@@ -183,7 +190,8 @@ module _ {X : Type 0} where
   all_others k [] h = refl
   all_others k (e ∷ es) h = rw (cmp_lt k e.0 (lt_from_cmp k e.0 (and_left _ _ h))) (ap (λ (t : List (ℕ × X)). e ∷ t) (all_others k es (and_right _ _ h)))
 
-  remove_other : (es : List (ℕ × X)) (i k : ℕ) (d : ℕ × X) → is_sorted nat_cmp es ≡ true → i < length es → (get_or es i d).0 ≡ k → remove es i ≡ where_key nat_cmp (other_than k) es
+  remove_other : (es : List (ℕ × X)) (i k : ℕ) (d : ℕ × X) → is_sorted nat_cmp es ≡ true → i < length es → (get_or es i d).0 ≡ k
+    → remove es i ≡ where_key nat_cmp (other_than k) es
   remove_other [] i k d h lt is = absurd (omega arith)
   remove_other (e ∷ es) zero k d h lt is =
       rw (cmp_eq k e.0 (sym is)) (subst (λ (q : ℕ). es ≡ where_key nat_cmp (other_than q) es) is (all_others e.0 es (and_left _ _ h)))
@@ -191,12 +199,14 @@ module _ {X : Type 0} where
       let later : e.0 < (get_or es i d).0 = below_at e.0 es (and_left _ _ h) i d (omega arith) in
       rw (cmp_gt k e.0 (subst (λ (q : ℕ). e.0 < q) is later)) (ap (λ (t : List (ℕ × X)). e ∷ t) (remove_other es i k d (and_right _ _ h) (omega arith) is))
 
-  from_entries-other : (k : ℕ) (es : List (ℕ × X)) → finite.from_entries {R = nat_cmp} (where_key nat_cmp (other_than k) es) ≡ finite.remove (finite.from_entries es) k
+  from_entries-other : (k : ℕ) (es : List (ℕ × X)) → finite.from_entries {R = nat_cmp} (where_key nat_cmp (other_than k) es)
+    ≡ finite.remove (finite.from_entries es) k
   from_entries-other k es = finite.same_map nat_cmp_total nat_cmp-IsAntisymmetric _ _ (λ q.
       finite.get-from_entries nat_cmp_total (where_key nat_cmp (other_than k) es) q
       ∙ find-where_key nat_cmp (other_than k) q (λ x tied. ap (other_than k) (sym (nat_cmp-IsAntisymmetric q x tied))) es
       ∙ turned (eq_by_cmp nat_cmp k q) _ _ ∙ ap (λ (b : Bool). cond b None (find nat_cmp q es)) ((eq_by_cmp_equiv nat_cmp_total).symm k q)
-      ∙ sym (finite.get-remove nat_cmp_total (finite.from_entries es) k q ∙ ap (λ o. cond (eq_by_cmp nat_cmp q k) None o) (finite.get-from_entries nat_cmp_total es q)))
+      ∙ sym (finite.get-remove nat_cmp_total (finite.from_entries es) k q ∙ ap (λ o. cond (eq_by_cmp nat_cmp q k) None o)
+        (finite.get-from_entries nat_cmp_total es q)))
 
 module _ {Row X : Type 0} (entry : Row → ℕ × X) (rows : List Row) (rising : IsRising entry rows) (key i : ℕ) (at : IsAt entry rows key i) where
   map_remove : (rs : List Row) (j : ℕ) → map entry (remove rs j) ≡ remove (map entry rs) j
@@ -206,7 +216,8 @@ module _ {Row X : Type 0} (entry : Row → ℕ × X) (rows : List Row) (rising :
   map_remove (r ∷ rs) (suc j) = ap (λ (t : List (ℕ × X)). entry r ∷ t) (map_remove rs j)
 
   others : (d : Row) → map entry (remove rows i) ≡ where_key nat_cmp (other_than key) (map entry rows)
-  others d = map_remove rows i ∙ remove_other (map entry rows) i key (entry d) rising (in_entries entry rows rising key i at) (key_at entry rows rising key i at d)
+  others d = map_remove rows i ∙ remove_other (map entry rows) i key (entry d) rising (in_entries entry rows rising key i at)
+    (key_at entry rows rising key i at d)
 
   pub table_of-remove : (d : Row) → table_of entry (remove rows i) ≡ finite.remove (table_of entry rows) key
   table_of-remove d = ap (λ (es : List (ℕ × X)). finite.from_entries es) (others d) ∙ from_entries-other key (map entry rows)
@@ -220,7 +231,8 @@ module _ {Row X : Type 0} (entry : Row → ℕ × X) where
   abbrev pub IsAboveAll : Row → List Row → Type 0
   IsAboveAll row rows = AllByRecursion (λ r. (entry r).0 < (entry row).0) rows
 
-  below_push : (k : ℕ) (rows : List Row) (row : Row) → below_all nat_cmp k (map entry rows) ≡ true → k < (entry row).0 → below_all nat_cmp k (map entry (rows ++ row ∷ [])) ≡ true
+  below_push : (k : ℕ) (rows : List Row) (row : Row) → below_all nat_cmp k (map entry rows) ≡ true → k < (entry row).0
+    → below_all nat_cmp k (map entry (rows ++ row ∷ [])) ≡ true
   below_push k [] row below lt = and_from _ _ (ap is_lt (cmp_lt k (entry row).0 lt)) refl
   below_push k (r ∷ rows) row below lt = and_from _ _ (and_left _ _ below) (below_push k rows row (and_right _ _ below) lt)
 
@@ -233,12 +245,14 @@ module _ {Row X : Type 0} (entry : Row → ℕ × X) where
   find_above [] row above = refl
   find_above (r ∷ rows) row above = rw (cmp_gt (entry row).0 (entry r).0 above.0) (find_above rows row above.1)
 
-  pub table_of-push : (rows : List Row) (row : Row) → IsAboveAll row rows → table_of entry (rows ++ row ∷ []) ≡ finite.insert (table_of entry rows) (entry row).0 (entry row).1
+  pub table_of-push : (rows : List Row) (row : Row) → IsAboveAll row rows → table_of entry (rows ++ row ∷ []) ≡ finite.insert (table_of entry rows)
+    (entry row).0 (entry row).1
   table_of-push rows row above =
       ap (λ (es : List (ℕ × X)). finite.from_entries es) (map_push entry rows row)
       ∙ finite.from_entries_push nat_cmp_total nat_cmp-IsAntisymmetric (map entry rows) (entry row).0 (entry row).1 (find_above rows row above)
 
-  pub push_table : (limit : ℕ) (rows : List Row) (capacity : ℕ) → IsTable entry limit rows capacity → (row : Row) → IsAboveAll row rows → length rows < limit → (more : ℕ) → capacity ≤ more
+  pub push_table : (limit : ℕ) (rows : List Row) (capacity : ℕ) → IsTable entry limit rows capacity → (row : Row) → IsAboveAll row rows
+    → length rows < limit → (more : ℕ) → capacity ≤ more
       → IsTable entry limit (rows ++ row ∷ []) more
   push_table limit rows capacity is row above lt more le = record {
     rising = rising-push rows row is.rising above;
@@ -249,7 +263,8 @@ module _ {Row X : Type 0} (entry : Row → ℕ × X) where
 -- ---- rows again, and a part of the rows
 
 -- to keep the keys that pass a test is to keep their entries
-pub retain-from_entries : {X : Type 0} (p : ℕ → Bool) (es : List (ℕ × X)) → finite.retain_keys (finite.from_entries {R = nat_cmp} es) p ≡ finite.from_entries (where_key nat_cmp p es)
+pub retain-from_entries : {X : Type 0} (p : ℕ → Bool) (es : List (ℕ × X)) → finite.retain_keys (finite.from_entries {R = nat_cmp} es) p
+    ≡ finite.from_entries (where_key nat_cmp p es)
 retain-from_entries p es =
     let alike : (q x : ℕ) → nat_cmp q x ≡ Equal → p x ≡ p q = λ q x tied. ap p (sym (nat_cmp-IsAntisymmetric q x tied)) in
     finite.same_map nat_cmp_total nat_cmp-IsAntisymmetric _ _ (λ q.
@@ -262,11 +277,13 @@ module _ {Row X : Type 0} (entry : Row → ℕ × X) where
   rows_again row_of back (row ∷ rows) = λ i. back row i ∷ rows_again row_of back rows i
 
   -- the map has the rows that it is made of
-  pub rows-table_of : (row_of : ℕ × X → Row) → ((row : Row) → row_of (entry row) ≡ row) → (rows : List Row) → IsRising entry rows → map row_of (finite.entries (table_of entry rows)) ≡ rows
+  pub rows-table_of : (row_of : ℕ × X → Row) → ((row : Row) → row_of (entry row) ≡ row) → (rows : List Row) → IsRising entry rows
+    → map row_of (finite.entries (table_of entry rows)) ≡ rows
   rows-table_of row_of back rows rising = ap (map row_of) (entries-table_of entry rows rising) ∙ rows_again row_of back rows
 
   -- the entries whose keys pass a test
-  pub entries-retain : (rows : List Row) (p : ℕ → Bool) → IsRising entry rows → finite.entries (finite.retain_keys (table_of entry rows) p) ≡ where_key nat_cmp p (map entry rows)
+  pub entries-retain : (rows : List Row) (p : ℕ → Bool) → IsRising entry rows → finite.entries (finite.retain_keys (table_of entry rows) p)
+    ≡ where_key nat_cmp p (map entry rows)
   entries-retain rows p rising =
       ap finite.entries (retain-from_entries p (map entry rows))
       ∙ entries_back (where_key nat_cmp p (map entry rows)) (from_T _ (is_sorted-where_key nat_cmp p (map entry rows) (to_T _ rising)))
@@ -292,7 +309,8 @@ module _ {Row X : Type 0} (entry : Row → ℕ × X) (limit : ℕ) (rows : List 
     room = is.room;
   }
 
-  pub insert_table : IsGapFor entry rows key i → (row : Row) → (entry row).0 ≡ key → finite.len (finite.insert (table_of entry rows) key (entry row).1) ≤ limit → (more : ℕ) → capacity ≤ more → IsTable entry limit (insert rows i row) more
+  pub insert_table : IsGapFor entry rows key i → (row : Row) → (entry row).0 ≡ key → finite.len (finite.insert (table_of entry rows) key (entry row).1)
+    ≤ limit → (more : ℕ) → capacity ≤ more → IsTable entry limit (insert rows i row) more
   insert_table gap row of fits more le = record {
     rising = rising-insert entry rows key i gap row of is.rising;
     fits = omega (arith, length-insert rows i row gap.in_range, len-insert_gap entry rows key i gap (entry row).1 is.rising, fits);

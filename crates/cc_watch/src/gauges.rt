@@ -1,20 +1,24 @@
 //! What the threads of a node count.
 
-use cc_messages::Refusal;
+use cc_messages::{Command, Refusal};
 use cc_status::{Counted, SYNC_BOUNDS, SyncCounts};
 use std::alloc::{AllocError, Global};
 use std::sync::atomic::{AtomicU64, Ordering};
 
-// How many refusals and how many buckets of syncs there are.
+// How many refusals, buckets of syncs and commands there are.
 const REFUSALS: usize = 18;
 
 const BUCKETS: usize = 17;
+
+const COMMANDS: usize = 8;
 
 /// What the threads of a node count, without waiting for each other.
 #[derive(Drop)]
 pub struct Gauges {
     // How many events were refused, by the refusal's number less one.
     refusals: Vec<AtomicU64>,
+    // How many asks were accepted, by the place of their command.
+    asks: Vec<AtomicU64>,
     // How many syncs took so long, by their bucket.
     buckets: Vec<AtomicU64>,
     total_us: AtomicU64,
@@ -29,6 +33,7 @@ impl Gauges {
     pub fn new(alloc: Global) -> Result<Self, AllocError> {
         Ok(Gauges {
             refusals: zeros(alloc, REFUSALS)?,
+            asks: zeros(alloc, COMMANDS)?,
             buckets: zeros(alloc, BUCKETS)?,
             total_us: AtomicU64::new(0),
             worst_us: AtomicU64::new(0),
@@ -41,6 +46,13 @@ impl Gauges {
     pub fn refuse(&self, why: Refusal) {
         let place = usize::from(why.number()).saturating_sub(1);
         if let Some(count) = self.refusals.get(place) {
+            count.fetch_add(1, Ordering::SeqCst);
+        }
+    }
+
+    /// An ask was accepted.
+    pub fn ask(&self, command: &Command) {
+        if let Some(count) = self.asks.get(place_of(command)) {
             count.fetch_add(1, Ordering::SeqCst);
         }
     }
@@ -73,6 +85,7 @@ impl Gauges {
     /// Puts what was counted where it is shown.
     pub fn read(&self, counted: &mut Counted) {
         copy_all(&self.refusals, &mut counted.refusals);
+        copy_all(&self.asks, &mut counted.asks);
         counted.connections = self.connections.load(Ordering::SeqCst);
         let syncs = &mut counted.syncs;
         copy_all(&self.buckets, &mut syncs.buckets);
@@ -95,6 +108,20 @@ fn bucket_of(micros: u64) -> usize {
         .iter()
         .take_while(|bound| **bound < micros)
         .count()
+}
+
+// The place of a command among the names of commands.
+fn place_of(command: &Command) -> usize {
+    match command {
+        Command::Store(_) => 0,
+        Command::Collect => 1,
+        Command::WriteMax(_) => 2,
+        Command::ReadMax => 3,
+        Command::SetFlag => 4,
+        Command::ReadFlag => 5,
+        Command::AddMember(_) => 6,
+        Command::ReadSet => 7,
+    }
 }
 
 fn copy_all(from: &[AtomicU64], to: &mut [u64]) {

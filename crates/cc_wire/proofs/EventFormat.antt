@@ -3,7 +3,8 @@ use Rattle.std.proofs.Common.{◌≡◌, ℕ, cond, eqb, List, [], ◌∷◌, �
 use Rattle.cc_messages.specs.declared.event.Event.{Event}
 use Rattle.cc_messages.specs.declared.event.Event.TheVariants.{Enter, Leave, Deliver, Acked, Ask, Retire, Lapse, Snapshot}
 use Rattle.cc_wire.specs.Reading.{Reading, via}
-use Rattle.cc_wire.specs.Events.{numbered_spelling, IsNumbered, numbered_at, delivery_spelling, IsDelivery, delivery_at, place_spelling, IsPlace, place_at, asked_spelling, IsAsked, asked_at, event_spelling, IsEvent, event_fields, event_at}
+use Rattle.cc_wire.specs.Events.{numbered_spelling, IsNumbered, numbered_at, delivery_spelling, IsDelivery, delivery_at, place_spelling, IsPlace}
+use Rattle.cc_wire.specs.Events.{place_at, asked_spelling, IsAsked, asked_at, event_spelling, IsEvent, event_fields, event_at}
 use Rattle.cc_wire.proofs.Spelled.{IsBytes, Takes, Spelled, both, as_facts, nothing_spelled, kind_or, kinded_takes}
 use Rattle.cc_wire.proofs.Formats.{id_spelled, u64_spelled}
 use Rattle.cc_wire.proofs.MessageFormat.{message_spelled}

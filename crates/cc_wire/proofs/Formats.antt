@@ -1,5 +1,6 @@
 -- Each format is read as it is spelled.
-use Rattle.std.proofs.Common.{◌≡◌, ℕ, zero, suc, ◌+◌, ◌^◌, ◌<◌, ◌≤◌, Bool, true, false, ltb, List, [], ◌∷◌, ◌++◌, map as list_map, length, Ok, refl, sym, ap, subst, ◌∙◌, arith}
+use Rattle.std.proofs.Common.{◌≡◌, ℕ, zero, suc, ◌+◌, ◌^◌, ◌<◌, ◌≤◌, Bool, true, false, ltb, List, [], ◌∷◌, ◌++◌, map as list_map, length, Ok, refl}
+use Rattle.std.proofs.Common.{sym, ap, subst, ◌∙◌, arith}
 use Rattle.std.specs.Int.{w16, w32, w64, to_be_bytes}
 use Rattle.std.specs.List.{flat_map, AllByRecursion}
 use Rattle.std.specs.FinMap as map
@@ -16,9 +17,14 @@ use Rattle.cc_views.specs.Tables.{IsRising, keys_ascend, rising_of_keys}
 use Rattle.cc_views.specs.Entries.{from_T}
 use Rattle.cc_views.proofs.Absorbs.{rows_back}
 use Rattle.cc_wire.specs.declared.fault.WireFault.TheVariants.{NotAscending, TooLarge}
-use Rattle.cc_wire.specs.Reading.{Reading, via, byte_at, number_at, limited, number_from, flag_with, flag_at, text_at, numbers_at, number_set_at, number_list_at, listed_at, value_with, value_at, row_with, row_at, row_list_at, view_with, view_at, id_set_at, changes_with, changes_at}
-use Rattle.cc_wire.specs.Spelling.{text_spelling, IsText, flag_spelling, number_spelling, number_set_spelling, IsNumberSet, value_spelling, IsValue, row_spelling, IsRow, view_spelling, IsView, number_list_spelling, IsNumberList, id_set_spelling, IsId, IsIdSet, changes_spelling, IsChanges}
-use Rattle.cc_wire.proofs.Spelled.{IsBytes, ok_is, Takes, Spelled, both, as_fields, as_facts, tested, counted, IsRun, items_spelled, byte_spelled, bytes_spelled, IsWide, number_spelled}
+use Rattle.cc_wire.specs.Reading.{Reading, via, byte_at, number_at, limited, number_from, flag_with, flag_at, text_at, numbers_at, number_set_at}
+use Rattle.cc_wire.specs.Reading.{number_list_at, listed_at, value_with, value_at, row_with, row_at, row_list_at, view_with, view_at, id_set_at}
+use Rattle.cc_wire.specs.Reading.{changes_with, changes_at}
+use Rattle.cc_wire.specs.Spelling.{text_spelling, IsText, flag_spelling, number_spelling, number_set_spelling, IsNumberSet, value_spelling, IsValue}
+use Rattle.cc_wire.specs.Spelling.{row_spelling, IsRow, view_spelling, IsView, number_list_spelling, IsNumberList, id_set_spelling, IsId, IsIdSet}
+use Rattle.cc_wire.specs.Spelling.{changes_spelling, IsChanges}
+use Rattle.cc_wire.proofs.Spelled.{IsBytes, ok_is, Takes, Spelled, both, as_fields, as_facts, tested, counted, IsRun, items_spelled, byte_spelled}
+use Rattle.cc_wire.proofs.Spelled.{bytes_spelled, IsWide, number_spelled}
 use Rattle.cc_wire.proofs.Views.{len-rows_of, view_of_rows, entries_of_rows}
 
 -- ---- numbers
@@ -53,7 +59,8 @@ wide32 = record {
 pub wide64 : IsWide w64 (2 ^ 64)
 wide64 = record {
   len = λ n. refl;
-  fit = λ n. bytes_of_all (to_be_bytes w64 n) (omega arith, (omega arith, (omega arith, (omega arith, (omega arith, (omega arith, (omega arith, (omega arith, tt))))))));
+  fit = λ n. bytes_of_all (to_be_bytes w64 n) (omega arith, (omega arith,
+    (omega arith, (omega arith, (omega arith, (omega arith, (omega arith, (omega arith, tt))))))));
   back = λ bytes len fits. be_bytes_8 bytes _ len fits refl;
   again = λ n lt. from_be_bytes-to_be_bytes_8 n lt;
   below = λ bytes len fits. omega (arith, fits 0, fits 1, fits 2, fits 3, fits 4, fits 5, fits 6, fits 7);
@@ -80,9 +87,12 @@ id_spelled = as_facts IsId (λ n h. record { positive = h.1; fits = h.0 }) (λ n
 
 -- ---- flags
 
-flag_takes : (byte : ℕ) (bytes : List ℕ) (x : Bool) (rest : List ℕ) → IsBytes bytes → flag_with (byte, bytes) ≡ Ok (x, rest) → Takes (byte ∷ bytes) (flag_spelling x) rest
-flag_takes zero bytes x rest fits e = subst (λ (y : Bool × List ℕ). Takes (0 ∷ bytes) (flag_spelling y.0) y.1) (ok_is (false, bytes) (x, rest) e) (record { parts = refl; left = fits })
-flag_takes (suc zero) bytes x rest fits e = subst (λ (y : Bool × List ℕ). Takes (1 ∷ bytes) (flag_spelling y.0) y.1) (ok_is (true, bytes) (x, rest) e) (record { parts = refl; left = fits })
+flag_takes : (byte : ℕ) (bytes : List ℕ) (x : Bool) (rest : List ℕ) → IsBytes bytes → flag_with (byte, bytes) ≡ Ok (x, rest)
+    → Takes (byte ∷ bytes) (flag_spelling x) rest
+flag_takes zero bytes x rest fits e = subst (λ (y : Bool × List ℕ). Takes (0 ∷ bytes) (flag_spelling y.0) y.1) (ok_is (false, bytes) (x, rest) e)
+    (record { parts = refl; left = fits })
+flag_takes (suc zero) bytes x rest fits e = subst (λ (y : Bool × List ℕ). Takes (1 ∷ bytes) (flag_spelling y.0) y.1) (ok_is (true, bytes) (x, rest) e)
+    (record { parts = refl; left = fits })
 flag_takes (suc (suc byte)) bytes x rest fits e = absurd cc
 
 flag_take : (bytes : List ℕ) (x : Bool) (rest : List ℕ) → IsBytes bytes → flag_at bytes ≡ Ok (x, rest) → Takes bytes (flag_spelling x) rest × Unit {0}
@@ -134,7 +144,8 @@ pub ascending_of_run : {X : Type 0} (key : X → ℕ) (Q : X → Type 0) (least 
 ascending_of_run key Q least [] run = tt
 ascending_of_run key Q least (x ∷ xs) run = (next_le key (key x) xs (above_of_run key Q (key x + 1) xs run.1), ascending_of_run key Q (key x + 1) xs run.1)
 
-pub run_of_ascending : {X : Type 0} (key : X → ℕ) (Q : X → Type 0) (least : ℕ) (xs : List X) → AllByRecursion (λ x. least ≤ key x) xs → IsAscending (list_map key xs) → AllByRecursion Q xs → IsRun key Q least xs
+pub run_of_ascending : {X : Type 0} (key : X → ℕ) (Q : X → Type 0) (least : ℕ) (xs : List X) → AllByRecursion (λ x. least ≤ key x) xs
+    → IsAscending (list_map key xs) → AllByRecursion Q xs → IsRun key Q least xs
 run_of_ascending key Q least [] above up all = tt
 run_of_ascending key Q least (x ∷ xs) above up all = ((all.0, above.0), run_of_ascending key Q (key x + 1) xs (next_lt key (key x) xs up.0) up.1 all.1)
 
@@ -145,7 +156,8 @@ same_numbers (n ∷ ns) = ap (λ (t : List ℕ). n ∷ t) (same_numbers ns)
 numbers_of_run : (least : ℕ) (ns : List ℕ) → IsRun (λ n. n) (λ n. n < 2 ^ 32) least ns → IsAscending ns
 numbers_of_run least ns run = subst IsAscending (same_numbers ns) (ascending_of_run (λ n. n) (λ n. n < 2 ^ 32) least ns run)
 
-run_of_numbers : (least : ℕ) (ns : List ℕ) → AllByRecursion (λ n. least ≤ n) ns → IsAscending ns → AllByRecursion (λ n. n < 2 ^ 32) ns → IsRun (λ n. n) (λ n. n < 2 ^ 32) least ns
+run_of_numbers : (least : ℕ) (ns : List ℕ) → AllByRecursion (λ n. least ≤ n) ns → IsAscending ns → AllByRecursion (λ n. n < 2 ^ 32) ns
+    → IsRun (λ n. n) (λ n. n < 2 ^ 32) least ns
 run_of_numbers least ns above up all = run_of_ascending (λ n. n) (λ n. n < 2 ^ 32) least ns above (subst IsAscending (sym (same_numbers ns)) up) all
 
 from_zero : (ns : List ℕ) → AllByRecursion (λ n. 0 ≤ n) ns
@@ -159,7 +171,8 @@ IsListed P limit least ns = (P (length ns) × (length ns ≤ limit)) × IsRun (�
 listed_spelled : {count : Reading ℕ} {P : ℕ → Type 0} {c : ℕ → List ℕ} (limit least : ℕ) → Spelled count P c
     → Spelled (listed_at count limit least) (IsListed P limit least) (λ ns. c (length ns) ++ flat_map number_spelling ns)
 unfolding listed_at
-listed_spelled limit least spelled = counted length (limited_spelled limit spelled) (λ n. items_spelled number_from (λ n. n) (λ n. n < 2 ^ 32) number_spelling from_spelled n least)
+listed_spelled limit least spelled = counted length (limited_spelled limit spelled)
+    (λ n. items_spelled number_from (λ n. n) (λ n. n < 2 ^ 32) number_spelling from_spelled n least)
 
 pub number_set_spelled : Spelled number_set_at IsNumberSet number_set_spelling
 unfolding number_set_at
@@ -233,12 +246,15 @@ rising_rows_of v = rw (entries_of_rows v) (from_T _ (map.entries_sorted v))
 pub view_spelled : Spelled view_at IsView view_spelling
 unfolding view_at
 view_spelled = record {
-  takes = λ bytes v rest fits e. let t = as_list.takes bytes v rest fits e in (subst (λ (n : ℕ). Takes bytes (to_be_bytes w16 n ++ flat_map row_spelling (rows_of v)) rest) (len-rows_of v) t.0, lawful v t.1);
-  again = λ v rest is. ap (λ (n : ℕ). view_at ((to_be_bytes w16 n ++ flat_map row_spelling (rows_of v)) ++ rest)) (sym (len-rows_of v)) ∙ as_list.again v rest (listed v is);
+  takes = λ bytes v rest fits e. let t = as_list.takes bytes v rest fits e in
+    (subst (λ (n : ℕ). Takes bytes (to_be_bytes w16 n ++ flat_map row_spelling (rows_of v)) rest) (len-rows_of v) t.0, lawful v t.1);
+  again = λ v rest is. ap (λ (n : ℕ). view_at ((to_be_bytes w16 n ++ flat_map row_spelling (rows_of v)) ++ rest)) (sym (len-rows_of v))
+    ∙ as_list.again v rest (listed v is);
 }
   where
     as_list : Spelled (via view_with row_list_at) (λ v. IsRowList (rows_of v)) (λ v. to_be_bytes w16 (length (rows_of v)) ++ flat_map row_spelling (rows_of v))
-    as_list = as_fields view_with rows_of view_of_rows (λ rows is. sym (rows_back rows (rising_of_keys entry_of rows (ascending_of_run node_of HasRowFields 1 rows is.1)))) row_list_spelled
+    as_list = as_fields view_with rows_of view_of_rows (λ rows is. sym
+      (rows_back rows (rising_of_keys entry_of rows (ascending_of_run node_of HasRowFields 1 rows is.1)))) row_list_spelled
 
     lawful : (v : ViewMap) → IsRowList (rows_of v) → IsView v
     lawful v is = record { fits = omega (arith, is.0.1, len-rows_of v); rows = rows_of_run 1 (rows_of v) (omega arith) is.1 }
@@ -246,7 +262,8 @@ view_spelled = record {
     listed : (v : ViewMap) → IsView v → IsRowList (rows_of v)
     listed v is = (
       (omega (arith, is.fits, len-rows_of v), omega (arith, is.fits, len-rows_of v)),
-      run_of_ascending node_of HasRowFields 1 (rows_of v) (ids_above (rows_of v) is.rows) (keys_ascend entry_of (rows_of v) (rising_rows_of v)) (fields_of_rows (rows_of v) is.rows),
+      run_of_ascending node_of HasRowFields 1 (rows_of v) (ids_above (rows_of v) is.rows) (keys_ascend entry_of (rows_of v) (rising_rows_of v))
+        (fields_of_rows (rows_of v) is.rows),
     )
 
 -- ---- sets of ids
@@ -281,19 +298,22 @@ changes_spelled = as_facts IsChanges
     (as_fields changes_with changes_fields (λ _. refl) (λ _ _. refl) (both id_set_spelled (both id_set_spelled id_set_spelled)))
 
 -- a count within its limit, and so many numbers
-listed_is_read : (count_at : Reading ℕ) (limit least : ℕ) (bytes : List ℕ) (count : ℕ) (after : List ℕ) (s : NatSet) (rest : List ℕ) → count_at bytes ≡ Ok (count, after) → count ≤ limit → numbers_at count least after ≡ Ok (items s, rest)
+listed_is_read : (count_at : Reading ℕ) (limit least : ℕ) (bytes : List ℕ) (count : ℕ) (after : List ℕ) (s : NatSet) (rest : List ℕ)
+    → count_at bytes ≡ Ok (count, after) → count ≤ limit → numbers_at count least after ≡ Ok (items s, rest)
     → via from_list (listed_at count_at limit least) bytes ≡ Ok (s, rest)
 unfolding listed_at
 listed_is_read count_at limit least bytes count after s rest counted le read =
     let test : ltb limit count ≡ false = le-ltb limit count le in
     rw (counted, test, read) (ap (λ (t : NatSet). Ok (t, rest)) (from_list-items s))
 
-pub number_set_is_read : (bytes : List ℕ) (count : ℕ) (after : List ℕ) (s : NatSet) (rest : List ℕ) → byte_at bytes ≡ Ok (count, after) → count ≤ 32 → numbers_at count 0 after ≡ Ok (items s, rest)
+pub number_set_is_read : (bytes : List ℕ) (count : ℕ) (after : List ℕ) (s : NatSet) (rest : List ℕ) → byte_at bytes ≡ Ok (count, after) → count ≤ 32
+    → numbers_at count 0 after ≡ Ok (items s, rest)
     → number_set_at bytes ≡ Ok (s, rest)
 unfolding number_set_at
 number_set_is_read = listed_is_read byte_at 32 0
 
-pub id_set_is_read : (bytes : List ℕ) (count : ℕ) (after : List ℕ) (s : NatSet) (rest : List ℕ) → number_at w16 bytes ≡ Ok (count, after) → count ≤ 256 → numbers_at count 1 after ≡ Ok (items s, rest)
+pub id_set_is_read : (bytes : List ℕ) (count : ℕ) (after : List ℕ) (s : NatSet) (rest : List ℕ) → number_at w16 bytes ≡ Ok (count, after) → count ≤ 256
+    → numbers_at count 1 after ≡ Ok (items s, rest)
     → id_set_at bytes ≡ Ok (s, rest)
 unfolding id_set_at
 id_set_is_read = listed_is_read (number_at w16) 256 1

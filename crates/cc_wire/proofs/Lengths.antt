@@ -17,7 +17,9 @@ use Rattle.cc_messages.specs.declared.answer.Answer.{Answer}
 use Rattle.cc_messages.specs.declared.answer.Answer.TheVariants as answers
 use Rattle.cc_messages.specs.declared.event.Event.{Event}
 use Rattle.cc_messages.specs.declared.event.Event.TheVariants as events
-use Rattle.cc_wire.specs.Spelling.{text_spelling, IsText, flag_spelling, number_spelling, number_set_spelling, IsNumberSet, value_spelling, IsValue, row_spelling, IsRow, view_spelling, IsView, listed_spelling, number_list_spelling, IsNumberList, id_set_spelling, IsIdSet, changes_spelling, IsChanges}
+use Rattle.cc_wire.specs.Spelling.{text_spelling, IsText, flag_spelling, number_spelling, number_set_spelling, IsNumberSet, value_spelling, IsValue}
+use Rattle.cc_wire.specs.Spelling.{row_spelling, IsRow, view_spelling, IsView, listed_spelling, number_list_spelling, IsNumberList, id_set_spelling}
+use Rattle.cc_wire.specs.Spelling.{IsIdSet, changes_spelling, IsChanges}
 use Rattle.cc_wire.specs.Messages.{call_spelling, echo_spelling, IsEcho, snapshot_spelling, IsSnapshot, message_spelling, IsMessage}
 use Rattle.cc_wire.specs.Commands.{command_spelling, IsCommand}
 use Rattle.cc_wire.specs.Answers.{answer_spelling, IsAnswer}
@@ -25,7 +27,8 @@ use Rattle.cc_wire.specs.Events.{numbered_spelling, delivery_spelling, IsDeliver
 use Rattle.cc_wire.proofs.Views.{len-rows_of}
 
 -- each piece has at most so many bytes
-pub length-pieces : {X : Type 0} (P : X → Type 0) (f : X → List ℕ) (most : ℕ) → ((x : X) → P x → length (f x) ≤ most) → (xs : List X) → AllByRecursion P xs → length (flat_map f xs) ≤ most * length xs
+pub length-pieces : {X : Type 0} (P : X → Type 0) (f : X → List ℕ) (most : ℕ) → ((x : X) → P x → length (f x) ≤ most) → (xs : List X)
+    → AllByRecursion P xs → length (flat_map f xs) ≤ most * length xs
 length-pieces P f most each [] all = omega arith
 length-pieces P f most each (x ∷ xs) all =
     omega (arith, flat_map-cons f x xs, length-append (f x) (flat_map f xs), each x all.0, length-pieces P f most each xs all.1)

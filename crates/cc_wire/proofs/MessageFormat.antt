@@ -1,9 +1,11 @@
 -- Messages are read as they are spelled.
 use Rattle.std.proofs.Common.{◌≡◌, ℕ, cond, eqb, List, [], ◌∷◌, ◌++◌, Ok, refl}
 use Rattle.cc_messages.specs.declared.message.Message.{Message}
-use Rattle.cc_messages.specs.declared.message.Message.TheVariants.{Enter, EnterEcho, Join, JoinEcho, Leave, LeaveEcho, Query, QueryReply, Store, StoreAck, Snapshot}
+use Rattle.cc_messages.specs.declared.message.Message.TheVariants.{Enter, EnterEcho, Join, JoinEcho, Leave, LeaveEcho, Query, QueryReply, Store}
+use Rattle.cc_messages.specs.declared.message.Message.TheVariants.{StoreAck, Snapshot}
 use Rattle.cc_wire.specs.Reading.{Reading, via}
-use Rattle.cc_wire.specs.Messages.{call_spelling, IsCall, echo_spelling, IsEcho, message_spelling, IsMessage, snapshot_spelling, IsSnapshot, call_at, echo_at, snapshot_at, fields_of, message_at}
+use Rattle.cc_wire.specs.Messages.{call_spelling, IsCall, echo_spelling, IsEcho, message_spelling, IsMessage, snapshot_spelling, IsSnapshot, call_at}
+use Rattle.cc_wire.specs.Messages.{echo_at, snapshot_at, fields_of, message_at}
 use Rattle.cc_wire.proofs.Spelled.{IsBytes, Takes, Spelled, both, as_facts, kind_or, kinded_takes}
 use Rattle.cc_wire.proofs.Formats.{u64_spelled, from_spelled, id_spelled, flag_spelled, view_spelled, changes_spelled}
 

@@ -1,6 +1,7 @@
 -- A format is read as it is spelled: what was taken from the front is the spelling of what was read, and a
 -- spelling is read again, whatever follows it.
-use Rattle.std.proofs.Common.{◌≡◌, ℕ, zero, suc, ◌+◌, ◌<◌, ◌≤◌, Bool, true, false, cond, ltb, eqb, List, [], ◌∷◌, ◌++◌, length, get_or, take, drop, Result, Ok, Err, refl, sym, ap, subst, ◌∙◌, append_assoc, arith, inl, inr}
+use Rattle.std.proofs.Common.{◌≡◌, ℕ, zero, suc, ◌+◌, ◌<◌, ◌≤◌, Bool, true, false, cond, ltb, eqb, List, [], ◌∷◌, ◌++◌, length, get_or, take, drop}
+use Rattle.std.proofs.Common.{Result, Ok, Err, refl, sym, ap, subst, ◌∙◌, append_assoc, arith, inl, inr}
 use Rattle.std.specs.Int.{Width, byte_len, from_be_bytes, to_be_bytes}
 use Rattle.std.specs.List.{flat_map}
 use Rattle.std.proofs.lemmas.Bool.{eqb-true, cases_lt, ltb-false, le-ltb}
@@ -67,7 +68,8 @@ both {A} {B} {r} {s} {P} {Q} {f} {g} first second = record {
 }
 
 -- a value that is its fields
-pub as_fields : {A B : Type 0} {r : Reading A} {P : A → Type 0} {f : A → List ℕ} (make : A → B) (fields : B → A) → ((b : B) → make (fields b) ≡ b) → ((a : A) → P a → fields (make a) ≡ a)
+pub as_fields : {A B : Type 0} {r : Reading A} {P : A → Type 0} {f : A → List ℕ} (make : A → B) (fields : B → A) → ((b : B) → make (fields b) ≡ b)
+    → ((a : A) → P a → fields (make a) ≡ a)
     → Spelled r P f → Spelled (via make r) (λ b. P (fields b)) (λ b. f (fields b))
 as_fields {A} {B} {r} {P} {f} make fields there back spelled = record {
   takes = λ bytes x rest fits e.
@@ -80,7 +82,8 @@ as_fields {A} {B} {r} {P} {f} make fields there back spelled = record {
 }
 
 -- the same under facts that say as much
-pub as_facts : {A : Type 0} {r : Reading A} {P : A → Type 0} {f : A → List ℕ} (Q : A → Type 0) → ((a : A) → P a → Q a) → ((a : A) → Q a → P a) → Spelled r P f → Spelled r Q f
+pub as_facts : {A : Type 0} {r : Reading A} {P : A → Type 0} {f : A → List ℕ} (Q : A → Type 0) → ((a : A) → P a → Q a) → ((a : A) → Q a → P a)
+    → Spelled r P f → Spelled r Q f
 as_facts Q to from spelled = record {
   takes = λ bytes x rest fits e. let t = spelled.takes bytes x rest fits e in (t.0, to x t.1);
   again = λ x rest fits. spelled.again x rest (from x fits);
@@ -121,26 +124,33 @@ abbrev pub IsRun : {X : Type 0} → (X → ℕ) → (X → Type 0) → ℕ → L
 IsRun key Q least [] = Unit {0}
 IsRun key Q least (x ∷ xs) = (Q x × (least ≤ key x)) × IsRun key Q (key x + 1) xs
 
-module _ {X : Type 0} (item : ℕ → Reading X) (key : X → ℕ) (Q : X → Type 0) (f : X → List ℕ) (each : (least : ℕ) → Spelled (item least) (λ x. Q x × (least ≤ key x)) f) where
-  items_take : (n least : ℕ) (bytes : List ℕ) (xs : List X) (rest : List ℕ) → IsBytes bytes → items_at item key n least bytes ≡ Ok (xs, rest) → Takes bytes (flat_map f xs) rest × ((length xs ≡ n) × IsRun key Q least xs)
+module _ {X : Type 0} (item : ℕ → Reading X) (key : X → ℕ) (Q : X → Type 0) (f : X → List ℕ)
+    (each : (least : ℕ) → Spelled (item least) (λ x. Q x × (least ≤ key x)) f) where
+  items_take : (n least : ℕ) (bytes : List ℕ) (xs : List X) (rest : List ℕ) → IsBytes bytes → items_at item key n least bytes ≡ Ok (xs, rest)
+    → Takes bytes (flat_map f xs) rest × ((length xs ≡ n) × IsRun key Q least xs)
   unfolding items_at
   items_take zero least bytes xs rest fits e =
-      subst (λ (y : List X × List ℕ). Takes bytes (flat_map f y.0) y.1 × ((length y.0 ≡ 0) × IsRun key Q least y.0)) (ok_is ([], bytes) (xs, rest) e) (record { parts = refl; left = fits }, (refl, tt))
+      subst (λ (y : List X × List ℕ). Takes bytes (flat_map f y.0) y.1 × ((length y.0 ≡ 0) × IsRun key Q least y.0)) (ok_is ([], bytes) (xs, rest) e)
+        (record { parts = refl; left = fits }, (refl, tt))
   items_take (suc n) least bytes xs rest fits e =
-      let a = bind_ok (item least bytes) (λ first. items_at item key n (key first.0 + 1) first.1 >>= λ others. Ok (first.0 ∷ others.0, others.1)) (xs, rest) e in
+      let a = bind_ok (item least bytes) (λ first. items_at item key n (key first.0 + 1) first.1 >>= λ others. Ok (first.0 ∷ others.0, others.1))
+        (xs, rest) e in
       let b = bind_ok (items_at item key n (key a.0.0 + 1) a.0.1) (λ others. Ok (a.0.0 ∷ others.0, others.1)) (xs, rest) a.2 in
       let t = (each least).takes bytes a.0.0 a.0.1 fits a.1 in
       let u = items_take n (key a.0.0 + 1) a.0.1 b.0.0 b.0.1 t.0.left b.1 in
       let all = Takes-then bytes (f a.0.0) a.0.1 (flat_map f b.0.0) b.0.1 t.0 u.0 in
       let made : List X × List ℕ = (a.0.0 ∷ b.0.0, b.0.1) in
-      subst (λ (y : List X × List ℕ). Takes bytes (flat_map f y.0) y.1 × ((length y.0 ≡ suc n) × IsRun key Q least y.0)) (ok_is made (xs, rest) b.2) (rw flat_map-cons all, (ap suc u.1.0, (t.1, u.1.1)))
+      subst (λ (y : List X × List ℕ). Takes bytes (flat_map f y.0) y.1 × ((length y.0 ≡ suc n) × IsRun key Q least y.0)) (ok_is made (xs, rest) b.2)
+        (rw flat_map-cons all, (ap suc u.1.0, (t.1, u.1.1)))
 
   items_again : (xs : List X) (least : ℕ) (rest : List ℕ) → IsRun key Q least xs → items_at item key (length xs) least (flat_map f xs ++ rest) ≡ Ok (xs, rest)
   unfolding items_at
   items_again [] least rest fits = refl
   items_again (x ∷ xs) least rest fits =
-      let regrouped : flat_map f (x ∷ xs) ++ rest ≡ f x ++ (flat_map f xs ++ rest) = ap (λ (t : List ℕ). t ++ rest) (flat_map-cons f x xs) ∙ append_assoc (f x) (flat_map f xs) rest in
-      ap (items_at item key (suc (length xs)) least) regrouped ∙ rw ((each least).again x (flat_map f xs ++ rest) fits.0, items_again xs (key x + 1) rest fits.1) refl
+      let regrouped : flat_map f (x ∷ xs) ++ rest ≡ f x ++ (flat_map f xs ++ rest) =
+        ap (λ (t : List ℕ). t ++ rest) (flat_map-cons f x xs) ∙ append_assoc (f x) (flat_map f xs) rest in
+      ap (items_at item key (suc (length xs)) least) regrouped ∙ rw ((each least).again x (flat_map f xs ++ rest) fits.0,
+        items_again xs (key x + 1) rest fits.1) refl
 
   pub items_spelled : (n least : ℕ) → Spelled (items_at item key n least) (λ xs. (length xs ≡ n) × IsRun key Q least xs) (flat_map f)
   items_spelled n least = record {
@@ -153,7 +163,8 @@ module _ {X : Type 0} (item : ℕ → Reading X) (key : X → ℕ) (Q : X → Ty
 byte_takes : (bytes : List ℕ) (x : ℕ) (rest : List ℕ) → IsBytes bytes → byte_at bytes ≡ Ok (x, rest) → Takes bytes (x ∷ []) rest × (x < 256)
 byte_takes [] x rest fits e = absurd cc
 byte_takes (b ∷ bytes) x rest fits e =
-    subst (λ (y : ℕ × List ℕ). Takes (b ∷ bytes) (y.0 ∷ []) y.1 × (y.0 < 256)) (ok_is (b, bytes) (x, rest) e) (record { parts = refl; left = λ i. fits (suc i) }, fits 0)
+    subst (λ (y : ℕ × List ℕ). Takes (b ∷ bytes) (y.0 ∷ []) y.1 × (y.0 < 256)) (ok_is (b, bytes) (x, rest) e)
+      (record { parts = refl; left = λ i. fits (suc i) }, fits 0)
 
 pub byte_spelled : Spelled byte_at (λ b. b < 256) (λ b. b ∷ [])
 byte_spelled = record { takes = byte_takes; again = λ x rest fits. refl }
@@ -191,7 +202,8 @@ number_spelled w limit wide = record {
 
 -- ---- a kind, and then its fields
 
-module _ {M : Type 0} (spelling : M → List ℕ) (Is : M → Type 0) (bytes after : List ℕ) (k : ℕ) (m : M) (rest : List ℕ) (fits : IsBytes after) (front : Takes bytes (k ∷ []) after) where
+module _ {M : Type 0} (spelling : M → List ℕ) (Is : M → Type 0) (bytes after : List ℕ) (k : ℕ) (m : M) (rest : List ℕ) (fits : IsBytes after)
+    (front : Takes bytes (k ∷ []) after) where
   pub kind_takes : {A : Type 0} {r : Reading A} {P : A → Type 0} {f : A → List ℕ} (spelled : Spelled r P f) (make : A → M) (kind : ℕ)
       → ((a : A) → P a → Is (make a)) → ((a : A) → spelling (make a) ≡ kind ∷ f a)
       → k ≡ kind → via make r after ≡ Ok (m, rest) → Takes bytes (spelling m) rest × Is m
@@ -199,7 +211,8 @@ module _ {M : Type 0} (spelling : M → List ℕ) (Is : M → Type 0) (bytes aft
       let a = bind_ok (r after) (λ a. Ok (make a.0, a.1)) (m, rest) e in
       let t = spelled.takes after a.0.0 a.0.1 fits a.1 in
       let all : Takes bytes (k ∷ f a.0.0) a.0.1 = Takes-then bytes (k ∷ []) after (f a.0.0) a.0.1 front t.0 in
-      let spelt : Takes bytes (spelling (make a.0.0)) a.0.1 = subst (λ (x : List ℕ). Takes bytes x a.0.1) (ap (λ (n : ℕ). n ∷ f a.0.0) is ∙ sym (text a.0.0)) all in
+      let spelt : Takes bytes (spelling (make a.0.0)) a.0.1 = subst (λ (x : List ℕ). Takes bytes x a.0.1)
+        (ap (λ (n : ℕ). n ∷ f a.0.0) is ∙ sym (text a.0.0)) all in
       let made : M × List ℕ = (make a.0.0, a.0.1) in
       subst (λ (y : M × List ℕ). Takes bytes (spelling y.0) y.1 × Is y.0) (ok_is made (m, rest) a.2) (spelt, lawful a.0.0 t.1)
 
@@ -216,7 +229,8 @@ module _ {M : Type 0} (spelling : M → List ℕ) (Is : M → Type 0) (bytes aft
 
 -- where the fields of each kind are read as they are spelled, so is the whole
 pub kinded_takes : {M : Type 0} {spelling : M → List ℕ} {Is : M → Type 0} {fields : ℕ → Reading M}
-    → ((bytes after : List ℕ) (k : ℕ) (m : M) (rest : List ℕ) → IsBytes after → Takes bytes (k ∷ []) after → fields k after ≡ Ok (m, rest) → Takes bytes (spelling m) rest × Is m)
+    → ((bytes after : List ℕ) (k : ℕ) (m : M) (rest : List ℕ) → IsBytes after → Takes bytes (k ∷ []) after → fields k after ≡ Ok (m, rest)
+    → Takes bytes (spelling m) rest × Is m)
     → (bytes : List ℕ) (m : M) (rest : List ℕ) → IsBytes bytes → kinded fields bytes ≡ Ok (m, rest) → Takes bytes (spelling m) rest × Is m
 kinded_takes {fields} fields_take bytes m rest fits e =
     let k = bind_ok (byte_at bytes) (λ kind. fields kind.0 kind.1) (m, rest) e in
@@ -226,6 +240,7 @@ kinded_takes {fields} fields_take bytes m rest fits e =
 -- nothing stands behind a kind that has no fields
 pub nothing_spelled : Spelled nothing_at (λ _. Unit {0}) (λ _. [])
 nothing_spelled = record {
-  takes = λ bytes x rest fits e. (record { parts = ap (λ (p : Unit {0} × List ℕ). p.1) (ok_is (tt, bytes) (x, rest) e); left = subst IsBytes (ap (λ (p : Unit {0} × List ℕ). p.1) (ok_is (tt, bytes) (x, rest) e)) fits }, tt);
+  takes = λ bytes x rest fits e. (record { parts = ap (λ (p : Unit {0} × List ℕ). p.1) (ok_is (tt, bytes) (x, rest) e); left =
+    subst IsBytes (ap (λ (p : Unit {0} × List ℕ). p.1) (ok_is (tt, bytes) (x, rest) e)) fits }, tt);
   again = λ x rest fits. refl;
 }

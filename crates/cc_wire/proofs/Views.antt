@@ -20,10 +20,12 @@ pub entries_of_rows : (v : ViewMap) → entries_of (rows_of v) ≡ map.entries v
 entries_of_rows v = entries_are (map.entries v)
 
 pub view_of_rows : (v : ViewMap) → map.from_entries {R = nat_cmp} (entries_of (rows_of v)) ≡ v
-view_of_rows v = ap (map.from_entries {R = nat_cmp}) (entries_are (map.entries v)) ∙ map.same_entries_map _ _ (entries_back (map.entries v) (from_T _ (map.entries_sorted v)))
+view_of_rows v = ap (map.from_entries {R = nat_cmp}) (entries_are (map.entries v))
+    ∙ map.same_entries_map _ _ (entries_back (map.entries v) (from_T _ (map.entries_sorted v)))
 
 -- a count within its limit, and so many rows
-pub view_is_read : (bytes : List ℕ) (count : ℕ) (after : List ℕ) (v : ViewMap) (rest : List ℕ) → number_at w16 bytes ≡ Ok (count, after) → count ≤ 256 → rows_at count 1 after ≡ Ok (rows_of v, rest)
+pub view_is_read : (bytes : List ℕ) (count : ℕ) (after : List ℕ) (v : ViewMap) (rest : List ℕ) → number_at w16 bytes ≡ Ok (count, after) → count ≤ 256
+    → rows_at count 1 after ≡ Ok (rows_of v, rest)
     → view_at bytes ≡ Ok (v, rest)
 unfolding view_at row_list_at
 view_is_read bytes count after v rest counted le read =

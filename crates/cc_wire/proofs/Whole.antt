@@ -42,7 +42,8 @@ module _ {X : Type 0} {read : Reading X} {Is : X → Type 0} {spelling : X → L
   pub whole_only : (bytes : List ℕ) (x : X) → Spells Is spelling bytes x → whole read bytes ≡ Ok x
   whole_only bytes x is = ap (whole read) is.spelled ∙ whole_again x is.lawful
 
-  pub given_only : (bytes : List ℕ) (r : Result X WireFault) → Gives (λ x. x) r (whole read bytes) → (x : X) → Spells Is spelling bytes x → Gives (λ x. x) r (Ok x)
+  pub given_only : (bytes : List ℕ) (r : Result X WireFault) → Gives (λ x. x) r (whole read bytes) → (x : X) → Spells Is spelling bytes x
+    → Gives (λ x. x) r (Ok x)
   given_only bytes r given x is = subst (λ f. Gives (λ x. x) r f) (whole_only bytes x is) given
 
   -- no spelling begins another

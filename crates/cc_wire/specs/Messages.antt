@@ -5,7 +5,8 @@ use Rattle.cc_views.specs.Rows.{ViewMap}
 use Rattle.cc_changes.specs.ChangeSets.{ChangeSets}
 use Rattle.cc_wire.specs.declared.fault.WireFault.TheVariants.{BadKind}
 use Rattle.cc_messages.specs.declared.message.Message.{Message}
-use Rattle.cc_messages.specs.declared.message.Message.TheVariants.{Enter, EnterEcho, Join, JoinEcho, Leave, LeaveEcho, Query, QueryReply, Store, StoreAck, Snapshot}
+use Rattle.cc_messages.specs.declared.message.Message.TheVariants.{Enter, EnterEcho, Join, JoinEcho, Leave, LeaveEcho, Query, QueryReply, Store}
+use Rattle.cc_messages.specs.declared.message.Message.TheVariants.{StoreAck, Snapshot}
 use Rattle.cc_wire.specs.Reading.{Reading, ◌⊗◌, via, kinded, number_at, number_from, flag_at, view_at, changes_at}
 use Rattle.cc_wire.specs.Spelling.{Spells, view_spelling, IsView, flag_spelling, changes_spelling, IsChanges, IsId}
 

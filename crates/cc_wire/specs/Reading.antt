@@ -1,5 +1,6 @@
 -- Reading from left to right, with the first fault that is met. A field is a value and the bytes after it.
-use Rattle.std.specs.Prelude.{◌≡◌, ◌≢◌, IfErr, ℕ, zero, suc, ◌+◌, List, [], ◌∷◌, length, take, drop, Bool, true, false, Result, Ok, Err, nat_lt, ◌==◌, if◌then◌else◌}
+use Rattle.std.specs.Prelude.{◌≡◌, ◌≢◌, IfErr, ℕ, zero, suc, ◌+◌, List, [], ◌∷◌, length, take, drop, Bool, true, false, Result, Ok, Err, nat_lt, ◌==◌}
+use Rattle.std.specs.Prelude.{if◌then◌else◌}
 use Rattle.std.specs.Int.{Width, w16, w32, w64, byte_len, from_be_bytes}
 use Rattle.std.specs.FinMap.{from_entries}
 use Rattle.cc_views.specs.declared.value.Value.{Value}

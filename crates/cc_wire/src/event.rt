@@ -4,7 +4,9 @@ ghost use Rattle.std.specs.Prelude.{◌≡◌, ◌≤◌, ◌+◌, ℕ, List, []
 ghost use Rattle.std.specs.Vec.{vec_capacity};
 ghost use Rattle.cc_wire.specs.Writing.{Writes};
 ghost use Rattle.cc_wire.specs.Reading.{Gives, whole};
-ghost use Rattle.cc_wire.specs.Events.{numbered_spelling, IsNumbered, delivery_spelling, IsDelivery, asked_spelling, IsAsked, place_spelling, IsPlace, event_at, event_fields, numbered_at, delivery_at, place_at, asked_at, event_spelling, IsEvent, SpellsEvent};
+ghost use Rattle.cc_wire.specs.Events.{numbered_spelling, IsNumbered, delivery_spelling, IsDelivery, asked_spelling, IsAsked, place_spelling};
+ghost use Rattle.cc_wire.specs.Events.{IsPlace, event_at, event_fields, numbered_at, delivery_at, place_at, asked_at, event_spelling, IsEvent};
+ghost use Rattle.cc_wire.specs.Events.{SpellsEvent};
 
 use crate::changes_bytes::put_id;
 use crate::command::put_command;

@@ -5,7 +5,8 @@ ghost use Rattle.std.specs.Vec.{vec_capacity};
 ghost use Rattle.cc_wire.specs.Writing.{Writes};
 ghost use Rattle.cc_wire.specs.Reading.{◌⊗◌, Gives, via, view_at, whole};
 ghost use Rattle.cc_messages.specs.declared.message.Message.TheVariants as variants;
-ghost use Rattle.cc_wire.specs.Messages.{message_at, fields_of, call_at, echo_at, snapshot_at, message_spelling, IsMessage, SpellsMessage, call_spelling, IsCall, echo_spelling, IsEcho, snapshot_spelling, IsSnapshot};
+ghost use Rattle.cc_wire.specs.Messages.{message_at, fields_of, call_at, echo_at, snapshot_at, message_spelling, IsMessage, SpellsMessage};
+ghost use Rattle.cc_wire.specs.Messages.{call_spelling, IsCall, echo_spelling, IsEcho, snapshot_spelling, IsSnapshot};
 ghost use Rattle.cc_wire.specs.Spelling.{view_spelling, IsView, number_spelling, IsId};
 
 use crate::changes_bytes::{put_changes, put_id};
@@ -66,27 +67,12 @@ impl<'a> Reader<'a> {
         ensures { Gives (λ x. (x, self.new)) result (fields_of kind self.old) }
     {
         match kind {
-            1 => {
-                let node = self.id(1)?;
-                Ok(Message::Enter { node })
-            }
+            1 => Ok(Message::Enter { node: self.id(1)? }),
             2 => self.echo(alloc),
-            3 => {
-                let node = self.id(1)?;
-                Ok(Message::Join { node })
-            }
-            4 => {
-                let node = self.id(1)?;
-                Ok(Message::JoinEcho { node })
-            }
-            5 => {
-                let node = self.id(1)?;
-                Ok(Message::Leave { node })
-            }
-            6 => {
-                let node = self.id(1)?;
-                Ok(Message::LeaveEcho { node })
-            }
+            3 => Ok(Message::Join { node: self.id(1)? }),
+            4 => Ok(Message::JoinEcho { node: self.id(1)? }),
+            5 => Ok(Message::Leave { node: self.id(1)? }),
+            6 => Ok(Message::LeaveEcho { node: self.id(1)? }),
             7 => {
                 let (tag, node) = self.call()?;
                 Ok(Message::Query { tag, node })

@@ -46,10 +46,12 @@ long_or_short : (n : ℕ) → (2 ≤ n) ⊎ (n ≤ 1)
 long_or_short n = elim (cases_lt 1 n) [ inl long ↦ inl (omega (arith, long)) | inr short ↦ inr short ]
 
 -- as `parse` answers
-parsed : {E : Type 0} (bits : ℕ) (word : List ℕ) (r : Result ℕ E) → 2 ^ bits ≤ 2 ^ 64 → IsPlain word → OkIff r ((0 < length word) × (digits_value 10 word < 2 ^ bits)) (digits_value 10 word)
+parsed : {E : Type 0} (bits : ℕ) (word : List ℕ) (r : Result ℕ E) → 2 ^ bits ≤ 2 ^ 64 → IsPlain word
+    → OkIff r ((0 < length word) × (digits_value 10 word < 2 ^ bits)) (digits_value 10 word)
     → MatchOption (result_ok r) (NoNumber bits word) (λ n. word ≡ decimal n)
 parsed bits word (Ok n) most plain is =
-    sym (decimal-digits_value own word plain.1 is.0.0 (one_zero word plain is.0.0 (long_or_short (length word))) (omega (arith, is.0.1, most))) ∙ ap decimal (sym is.1)
+    sym (decimal-digits_value own word plain.1 is.0.0 (one_zero word plain is.0.0 (long_or_short (length word))) (omega (arith, is.0.1, most)))
+      ∙ ap decimal (sym is.1)
 parsed bits word (Err e) most plain never = λ n small is.
     let fits : n < 2 ^ 64 = omega (arith, small, most) in
     never (
@@ -57,5 +59,6 @@ parsed bits word (Err e) most plain never = λ n small is.
       subst (λ (w : List ℕ). digits_value 10 w < 2 ^ bits) (sym is) (subst (λ (m : ℕ). m < 2 ^ bits) (sym (digits_value-decimal own n fits)) small),
     )
 
-pub plain_parsed : {E : Type 0} (bits : ℕ) (word : List ℕ) (r : Result ℕ E) → 2 ^ bits ≤ 2 ^ 64 → IsPlain word → ParsesUnsigned bits 10 word r → MatchOption (result_ok r) (NoNumber bits word) (λ n. word ≡ decimal n)
+pub plain_parsed : {E : Type 0} (bits : ℕ) (word : List ℕ) (r : Result ℕ E) → 2 ^ bits ≤ 2 ^ 64 → IsPlain word → ParsesUnsigned bits 10 word r
+    → MatchOption (result_ok r) (NoNumber bits word) (λ n. word ≡ decimal n)
 plain_parsed bits word r most plain is = parsed bits word r most plain (parse_digits own bits word r is plain.1)

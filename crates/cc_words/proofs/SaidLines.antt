@@ -6,7 +6,8 @@
 --     spells_list, lines_are_list    peers on lines are those of the list;  without commas both say the same
 --     first_fault                    the fault of the first line that says something else
 --     peers_of_lines, list_of_peers, fault_of_lines     the same of a text's lines
-use Rattle.std.proofs.Common.{◌≡◌, ℕ, zero, suc, ◌<◌, ◌≤◌, ◌+◌, ◌^◌, List, [], ◌∷◌, ◌++◌, length, map, take, get_or, false, Option, Some, None, Result, Ok, Err, refl, sym, ap, subst, ◌∙◌, arith, lit<, add-one}
+use Rattle.std.proofs.Common.{◌≡◌, ℕ, zero, suc, ◌<◌, ◌≤◌, ◌+◌, ◌^◌, List, [], ◌∷◌, ◌++◌, length, map, take, get_or, false, Option, Some, None}
+use Rattle.std.proofs.Common.{Result, Ok, Err, refl, sym, ap, subst, ◌∙◌, arith, lit<, add-one}
 use Rattle.std.specs.Prelude.{IfOk, IfErr}
 use Rattle.std.specs.Fmt.{decimal}
 use Rattle.std.specs.Int.{IsInRange}
@@ -27,7 +28,8 @@ use Rattle.cc_words.proofs.AddressWords.{Avoids, ip_avoids, joined}
 use Rattle.cc_words.proofs.Digits.{fits}
 use Rattle.cc_words.proofs.Parts.{avoids}
 
-are_push : (words : List (List ℕ)) (peers : List Peer) (word : List ℕ) (p : Peer) → ArePeers words peers → SpellsPeer word p → ArePeers (words ++ word ∷ []) (peers ++ p ∷ [])
+are_push : (words : List (List ℕ)) (peers : List Peer) (word : List ℕ) (p : Peer) → ArePeers words peers → SpellsPeer word p
+    → ArePeers (words ++ word ∷ []) (peers ++ p ∷ [])
 are_push [] [] word p are is = (is, tt)
 are_push [] (q ∷ peers) word p are is = absurd are
 are_push (w ∷ words) [] word p are is = absurd are
@@ -90,14 +92,16 @@ list_is_lines (word ∷ next ∷ words) some none =
 pub spells_list : (words : List (List ℕ)) (peers : List Peer) → ArePeers words peers → 1 ≤ length words → SpellsPeers (join_with_byte 44 words) peers
 spells_list words peers are some = subst (λ (ws : List (List ℕ)). ArePeers ws peers) (sym (list_is_lines words some (peers_have_no_comma words peers are))) are
 
-pub lines_are_list : (text : List ℕ) (peers : List Peer) → 1 ≤ length (said_lines text) → HaveNoComma (said_lines text) → (ArePeers (said_lines text) peers → SpellsPeers (list_of_lines text) peers) × (SpellsPeers (list_of_lines text) peers → ArePeers (said_lines text) peers)
+pub lines_are_list : (text : List ℕ) (peers : List Peer) → 1 ≤ length (said_lines text) → HaveNoComma (said_lines text)
+    → (ArePeers (said_lines text) peers → SpellsPeers (list_of_lines text) peers) × (SpellsPeers (list_of_lines text) peers → ArePeers (said_lines text) peers)
 lines_are_list text peers some none =
     let same = list_is_lines (said_lines text) some none in
     (λ are. subst (λ (ws : List (List ℕ)). ArePeers ws peers) (sym same) are, λ are. subst (λ (ws : List (List ℕ)). ArePeers ws peers) same are)
 
 -- ---- as a call answers
 
-pub first_fault : {W : Type 0} (text : W → List ℕ) (lines : List W) (i : ℕ) (d : W) (peers : List Peer) (e : LineFault) → i < length lines → IsFaultAt (i + 1) (text (get_or lines i d)) e
+pub first_fault : {W : Type 0} (text : W → List ℕ) (lines : List W) (i : ℕ) (d : W) (peers : List Peer) (e : LineFault) → i < length lines
+    → IsFaultAt (i + 1) (text (get_or lines i d)) e
     → ArePeers (said_on (map text (take i lines))) peers → IsFirstFault (map text lines) e
 first_fault text lines i d peers (fault.NoPeer n) within is are = record {
   at = i;
@@ -108,16 +112,20 @@ first_fault text lines i d peers (fault.NoPeer n) within is are = record {
 }
 first_fault text lines i d peers fault.NoMemory within is are = tt
 
-pub peers_of_lines : {V E : Type 0} (items : V → List Peer) (text : List ℕ) (lines : List (List ℕ)) (r : Result V E) → lines ≡ lines_of text → IfOk r (λ v. ArePeers (said_on lines) (items v)) → IfOk r (λ v. ArePeers (said_lines text) (items v))
+pub peers_of_lines : {V E : Type 0} (items : V → List Peer) (text : List ℕ) (lines : List (List ℕ)) (r : Result V E) → lines ≡ lines_of text
+    → IfOk r (λ v. ArePeers (said_on lines) (items v)) → IfOk r (λ v. ArePeers (said_lines text) (items v))
 peers_of_lines items text lines r same is = subst (λ (ls : List (List ℕ)). IfOk r (λ v. ArePeers (said_on ls) (items v))) same is
 
-pub list_of_peers : {V E : Type 0} (items : V → List Peer) (text : List ℕ) (r : Result V E) → IfOk r (λ v. ArePeers (said_lines text) (items v)) → IfOk r (λ v. 1 ≤ length (said_lines text) → SpellsPeers (list_of_lines text) (items v))
+pub list_of_peers : {V E : Type 0} (items : V → List Peer) (text : List ℕ) (r : Result V E) → IfOk r (λ v. ArePeers (said_lines text) (items v))
+    → IfOk r (λ v. 1 ≤ length (said_lines text) → SpellsPeers (list_of_lines text) (items v))
 list_of_peers items text (Ok v) are = λ some. spells_list (said_lines text) (items v) are some
 list_of_peers items text (Err e) are = tt
 
-pub fault_of_lines : {V : Type 0} (text : List ℕ) (lines : List (List ℕ)) (r : Result V LineFault) → lines ≡ lines_of text → IfErr r (λ e. IsFirstFault lines e) → IfErr r (λ e. IsFirstFault (lines_of text) e)
+pub fault_of_lines : {V : Type 0} (text : List ℕ) (lines : List (List ℕ)) (r : Result V LineFault) → lines ≡ lines_of text
+    → IfErr r (λ e. IsFirstFault lines e) → IfErr r (λ e. IsFirstFault (lines_of text) e)
 fault_of_lines text lines r same is = subst (λ (ls : List (List ℕ)). IfErr r (λ e. IsFirstFault ls e)) same is
 
-pub peers_more : {W : Type 0} (text : W → List ℕ) (lines : List W) (i : ℕ) (d : W) (peers : List Peer) → i < length lines → ArePeers (said_on (map text (take i lines)) ++ cons_option (said_in (text (get_or lines i d))) []) peers
+pub peers_more : {W : Type 0} (text : W → List ℕ) (lines : List W) (i : ℕ) (d : W) (peers : List Peer) → i < length lines
+    → ArePeers (said_on (map text (take i lines)) ++ cons_option (said_in (text (get_or lines i d))) []) peers
     → ArePeers (said_on (map text (take (i + 1) lines))) peers
 peers_more text lines i d peers within are = rw add-one (subst (λ (words : List (List ℕ)). ArePeers words peers) (sym (said_more text lines i d within)) are)

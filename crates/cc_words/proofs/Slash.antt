@@ -18,13 +18,16 @@ no_slash_in : (n : ℕ) → n < 2 ^ 32 → (i : ℕ) → i < length (decimal n) 
 no_slash_in n small i within is = eqb-false (get_or (decimal n) i 0) 47 (avoids 47 n (fits n small) slash_is_no_digit i 0 within) is
 
 -- the parts of a fraction's word are its numbers
-parts : (word : List ℕ) (f : Fraction) (r : Option (Bor (List ℕ) × Bor (List ℕ))) (a b : Bor (List ℕ)) → IsSplitOnceResult 47 word r → r ≡ Some (a, b) → f.num < 2 ^ 32 → word ≡ fraction_word f → (a.now ≡ decimal f.num) × (b.now ≡ decimal f.den)
+parts : (word : List ℕ) (f : Fraction) (r : Option (Bor (List ℕ) × Bor (List ℕ))) (a b : Bor (List ℕ)) → IsSplitOnceResult 47 word r → r ≡ Some (a, b)
+    → f.num < 2 ^ 32 → word ≡ fraction_word f → (a.now ≡ decimal f.num) × (b.now ≡ decimal f.den)
 parts word f r a b cut some small is = rw some at (split_after 47 word (decimal f.num) (decimal f.den) r cut (lit< tt) is (no_slash_in f.num small))
 
-pub not_before : (word : List ℕ) (r : Option (Bor (List ℕ) × Bor (List ℕ))) (a b : Bor (List ℕ)) → IsSplitOnceResult 47 word r → r ≡ Some (a, b) → NoNumber 32 a.now → NoFraction word
+pub not_before : (word : List ℕ) (r : Option (Bor (List ℕ) × Bor (List ℕ))) (a b : Bor (List ℕ)) → IsSplitOnceResult 47 word r → r ≡ Some (a, b)
+    → NoNumber 32 a.now → NoFraction word
 not_before word r a b cut some never f small small_too is = never f.num small (parts word f r a b cut some small is).0
 
-pub not_behind : (word : List ℕ) (r : Option (Bor (List ℕ) × Bor (List ℕ))) (a b : Bor (List ℕ)) → IsSplitOnceResult 47 word r → r ≡ Some (a, b) → NoNumber 32 b.now → NoFraction word
+pub not_behind : (word : List ℕ) (r : Option (Bor (List ℕ) × Bor (List ℕ))) (a b : Bor (List ℕ)) → IsSplitOnceResult 47 word r → r ≡ Some (a, b)
+    → NoNumber 32 b.now → NoFraction word
 not_behind word r a b cut some never f small small_too is = never f.den small_too (parts word f r a b cut some small is).1
 
 pub no_slash : (word : List ℕ) (r : Option (Bor (List ℕ) × Bor (List ℕ))) → IsSplitOnceResult 47 word r → r ≡ None → NoFraction word

@@ -63,7 +63,8 @@ fn peers_on(alloc: Global, lines: &[&str]) -> Result<Vec<Peer>, LineFault>
 
 // One more line, the one with this number.
 fn take_line(peers: &mut Vec<Peer>, line: &str, number: usize) -> Result<(), LineFault>
-    ensures peers { OnOk result ((words : List (List ℕ)) → ArePeers words peers.old.items → ArePeers (words ++ cons_option (said_in line.now) []) peers.new.items) }
+    ensures peers { OnOk result ((words : List (List ℕ)) → ArePeers words peers.old.items → ArePeers (words ++ cons_option (said_in line.now) [])
+      peers.new.items) }
     ensures fault { IfErr result (λ e. IsFaultAt number line.now e) }
 {
     let Some(word) = said(line) else {
@@ -89,5 +90,7 @@ fn said(line: &str) -> Option<&str>
 
 /// Lines without a comma are those peers exactly where the list of what they say is.
 pub fn lines_are_a_list()
-    ensures { (text : List ℕ) (peers : List PeerValue) → 1 ≤ length (said_lines text) → HaveNoComma (said_lines text) → (ArePeers (said_lines text) peers → SpellsPeers (list_of_lines text) peers) × (SpellsPeers (list_of_lines text) peers → ArePeers (said_lines text) peers) }
+    ensures { (text : List ℕ) (peers : List PeerValue) → 1 ≤ length (said_lines text) → HaveNoComma (said_lines text)
+      → (ArePeers (said_lines text) peers → SpellsPeers (list_of_lines text) peers)
+      × (SpellsPeers (list_of_lines text) peers → ArePeers (said_lines text) peers) }
 {}

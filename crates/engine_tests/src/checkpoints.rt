@@ -63,7 +63,7 @@ fn check_moved<R: Abort + AllocGlobal>(
     let site = with_laid(rt.alloc(), from.0, from.1)?;
     let (site, found) = run(rt.alloc(), site, &[Step::Checkpoint])?;
     let are_sides = are_sides(rt.alloc(), site, to.0, to.1)?;
-    assert_eq!(rt; (found, are_sides), (came, true));
+    assert!(rt; (found, are_sides) == (came, true));
     Ok(())
 }
 
@@ -106,7 +106,7 @@ fn a_node_goes_on_behind_a_checkpoint(rt: HostRuntime) -> Result<(), Fail> {
     let (site, _) = run(rt.alloc(), entrant(rt.alloc())?, &[Step::Checkpoint])?;
     let (site, _) = run(rt.alloc(), site, &[Step::Turn(Part::Enter)])?;
     let (site, _) = run(rt.alloc(), site, &[Step::Checkpoint])?;
-    assert_eq!(rt; left_of(rt.alloc(), site), Ok((1, 0, 0)));
+    assert!(rt; left_of(rt.alloc(), site) == Ok((1, 0, 0)));
     Ok(())
 }
 
@@ -195,7 +195,7 @@ fn a_checkpoint_keeps_the_node(rt: HostRuntime) -> Result<(), Fail> {
     let kept = keeps_state(rt.alloc(), &mut flusher);
     let put = flusher.site().outputs().len();
     drop(flusher.close());
-    assert_eq!(rt; (kept?, put), ((Came::Put(0), true), 0));
+    assert!(rt; (kept?, put) == ((Came::Put(0), true), 0));
     Ok(())
 }
 
@@ -218,7 +218,7 @@ fn check_each_stop<R: Abort + AllocGlobal>(
         for at in 0..=calls {
             let site = failing_image(rt.alloc(), from, first.saturating_add(at), failing)?;
             let stopped = stop(rt.alloc(), site, states)?;
-            assert_eq!(rt; stopped, (at < calls, true));
+            assert!(rt; stopped == (at < calls, true));
         }
     }
     Ok(())

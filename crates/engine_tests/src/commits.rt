@@ -83,7 +83,7 @@ const PUTS: [Put; 5] = [
 fn a_store_is_sent_first_and_replied_to_last(rt: HostRuntime) -> Result<(), Fail> {
     let site = member(rt.alloc(), 16)?;
     let put = put_by(rt.alloc(), site, &[Step::Turn(Part::Store)], &PUTS)?;
-    assert_eq!(rt; put, (Came::Put(0), true));
+    assert!(rt; put == (Came::Put(0), true));
     Ok(())
 }
 
@@ -129,10 +129,7 @@ fn a_commit_that_was_not_released_stands(rt: HostRuntime) -> Result<(), Fail> {
     let outcome = repeated(&mut flusher);
     let is_put = are_put(flusher.site().outputs(), &[REPLY]);
     drop(flusher.close());
-    assert_eq!(rt;
-        (outcome?, is_put),
-        ((Some(Refusal::Repeat), true, 1), true)
-    );
+    assert!(rt; (outcome?, is_put) == ((Some(Refusal::Repeat), true, 1), true));
     Ok(())
 }
 
@@ -159,7 +156,7 @@ fn what_stands_is_put_again(rt: HostRuntime) -> Result<(), Fail> {
     let (site, came) = run(rt.alloc(), site, &[Step::Turn(Part::Store)])?;
     let resent = resent_of_crashes(rt.alloc(), &site);
     drop(site);
-    assert_eq!(rt; came, Came::Failed(Side::A, Call::Sync));
-    assert_eq!(rt; resent?, [(Came::Put(2), 2), (Came::Put(0), 0)]);
+    assert!(rt; came == Came::Failed(Side::A, Call::Sync));
+    assert!(rt; resent? == [(Came::Put(2), 2), (Came::Put(0), 0)]);
     Ok(())
 }

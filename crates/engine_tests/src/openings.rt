@@ -46,7 +46,7 @@ const ENTERED_ENTRANT: Laid = [&HEAD, &ENTRANT_STATE, &ENTERED];
 fn an_entrant_and_a_member_are_formatted(rt: HostRuntime) -> Result<(), Fail> {
     let of_entrant = are_sides(rt.alloc(), entrant(rt.alloc())?, &BEGUN_ENTRANT, &CLOSED)?;
     let of_member = are_sides(rt.alloc(), member(rt.alloc(), 0)?, &BEGUN_MEMBER, &CLOSED)?;
-    assert_eq!(rt; (of_entrant, of_member), (true, true));
+    assert!(rt; (of_entrant, of_member) == (true, true));
     Ok(())
 }
 
@@ -81,11 +81,11 @@ fn kept(alloc: Global, tail: &[u8]) -> Result<MemorySite, Fail> {
 fn no_armed_side_and_no_node_without_a_name_is_formatted(rt: HostRuntime) -> Result<(), Fail> {
     for &tail in &ARMED {
         let fault = fault_of_format(rt.alloc(), kept(rt.alloc(), tail)?, &ENTRANT);
-        assert_eq!(rt; fault, Some(FormatFault::AlreadyFormatted));
+        assert!(rt; fault == Some(FormatFault::AlreadyFormatted));
     }
     let nameless = Opening { me: 0, ..ENTRANT };
     let fault = fault_of_format(rt.alloc(), MemorySite::new(rt.alloc(), 0)?, &nameless);
-    assert_eq!(rt; fault, Some(FormatFault::BadOpening));
+    assert!(rt; fault == Some(FormatFault::BadOpening));
     Ok(())
 }
 
@@ -124,10 +124,10 @@ fn each_call_of_formatting_may_fail(rt: HostRuntime) -> Result<(), Fail> {
     for &(at, side, call) in &FORMATTING {
         let fault = fault_of_format(rt.alloc(), failing(rt.alloc(), at)?, &ENTRANT);
         let device = DeviceFault { side, call };
-        assert_eq!(rt; fault, Some(FormatFault::Device(device)));
+        assert!(rt; fault == Some(FormatFault::Device(device)));
     }
     let fault = fault_of_format(rt.alloc(), failing(rt.alloc(), 16)?, &ENTRANT);
-    assert_eq!(rt; fault, None);
+    assert!(rt; fault == None);
     Ok(())
 }
 
@@ -151,10 +151,10 @@ fn left_again(alloc: Global, at: u64) -> Result<Result<Left, FormatFault>, Fail>
 #[test]
 fn formatting_may_be_tried_again(rt: HostRuntime) -> Result<(), Fail> {
     for at in 0..15 {
-        assert_eq!(rt; left_again(rt.alloc(), at)?, Ok(BEGUN));
+        assert!(rt; left_again(rt.alloc(), at)? == Ok(BEGUN));
     }
     let twice = Err(FormatFault::AlreadyFormatted);
-    assert_eq!(rt; left_again(rt.alloc(), 15)?, twice);
+    assert!(rt; left_again(rt.alloc(), 15)? == twice);
     Ok(())
 }
 
@@ -184,7 +184,7 @@ fn half_formatted(alloc: Global, at: u64) -> Result<[Left; 5], Fail> {
 #[test]
 fn a_crash_leaves_shut_sides_or_an_entrant(rt: HostRuntime) -> Result<(), Fail> {
     for at in 0..14 {
-        assert_eq!(rt; half_formatted(rt.alloc(), at)?, [NOTHING; 5]);
+        assert!(rt; half_formatted(rt.alloc(), at)? == [NOTHING; 5]);
     }
     // The last write opens the gate, and the last sync makes sure of it.
     let left = [
@@ -193,7 +193,7 @@ fn a_crash_leaves_shut_sides_or_an_entrant(rt: HostRuntime) -> Result<(), Fail> 
     ];
     let written = [NOTHING, NOTHING, BEGUN, NOTHING, NOTHING];
     let synced = [BEGUN, NOTHING, BEGUN, NOTHING, BEGUN];
-    assert_eq!(rt; left, [written, synced]);
+    assert!(rt; left == [written, synced]);
     Ok(())
 }
 
@@ -201,7 +201,7 @@ const EMPTY: Laid = [&[], &[], &[]];
 
 fn check_sides<R: Abort + AllocGlobal>(rt: &R, a: &Laid, b: &Laid, left: Left) -> Result<(), Fail> {
     let site = with_laid(rt.alloc(), a, b)?;
-    assert_eq!(rt; left_of(rt.alloc(), site), left);
+    assert!(rt; left_of(rt.alloc(), site) == left);
     Ok(())
 }
 
@@ -236,7 +236,7 @@ const TAILS: [(&[u8], Left); 5] = [
 fn a_record_behind_a_closed_gate_is_not_kept(rt: HostRuntime) -> Result<(), Fail> {
     for &(tail, left) in &TAILS {
         let site = kept(rt.alloc(), tail)?;
-        assert_eq!(rt; left_of(rt.alloc(), site), left);
+        assert!(rt; left_of(rt.alloc(), site) == left);
     }
     Ok(())
 }
@@ -275,7 +275,7 @@ const FAULTS: [(&[u8], OpenFault); 7] = [
 fn a_side_that_cannot_be_read_is_damaged(rt: HostRuntime) -> Result<(), Fail> {
     for &(a, fault) in &FAULTS {
         let site = with_sides(rt.alloc(), a, &[])?;
-        assert_eq!(rt; left_of(rt.alloc(), site), Err(fault));
+        assert!(rt; left_of(rt.alloc(), site) == Err(fault));
     }
     Ok(())
 }
@@ -300,7 +300,7 @@ fn the_side_of_the_greater_generation_is_opened(rt: HostRuntime) -> Result<(), F
     for &(generation, left) in &ARMED_TWICE {
         let garbage = [0xA5, 0, 0, 0, 0, 0, 0, 0, generation, 0xFF, 0xA5];
         let site = with_sides(rt.alloc(), &garbage, &fifth)?;
-        assert_eq!(rt; left_of(rt.alloc(), site), left);
+        assert!(rt; left_of(rt.alloc(), site) == left);
     }
     Ok(())
 }
@@ -337,12 +337,9 @@ const OPENING: [(u64, Side, Call); 14] = [
 fn each_call_of_opening_may_fail(rt: HostRuntime) -> Result<(), Fail> {
     for &(at, side, call) in &OPENING {
         let device = DeviceFault { side, call };
-        assert_eq!(rt;
-            left_failing(rt.alloc(), at)?,
-            Err(OpenFault::Device(device))
-        );
+        assert!(rt; left_failing(rt.alloc(), at)? == Err(OpenFault::Device(device)));
     }
-    assert_eq!(rt; left_failing(rt.alloc(), 14)?, BEGUN);
+    assert!(rt; left_failing(rt.alloc(), 14)? == BEGUN);
     Ok(())
 }
 
@@ -412,7 +409,7 @@ fn an_enter_is_sent_and_sent_again(rt: HostRuntime) -> Result<(), Fail> {
     let sent = put_by(rt.alloc(), entrant(rt.alloc())?, &enter, &SENT)?;
     let life = [Step::Life(Life::Enter)];
     let again = put_by(rt.alloc(), entrant(rt.alloc())?, &life, &SENT_AGAIN)?;
-    assert_eq!(rt; [sent, again], [(Came::Put(0), true); 2]);
+    assert!(rt; [sent, again] == [(Came::Put(0), true); 2]);
     Ok(())
 }
 
@@ -450,18 +447,12 @@ fn a_failed_disk_call_ends_the_engine(rt: HostRuntime) -> Result<(), Fail> {
     let call = Call::Write;
     let came = Came::Failed(side, call);
     let outcome = both_failing(rt.alloc(), entrant(rt.alloc())?, 16, twice)?;
-    assert_eq!(rt;
-        outcome,
-        ((came, came, Some(DeviceFault { side, call })), 0)
-    );
+    assert!(rt; outcome == ((came, came, Some(DeviceFault { side, call })), 0));
     let resent = [Step::Turn(Part::Store), Step::Resend];
     let call = Call::Sync;
     let came = Came::Failed(side, call);
     let outcome = both_failing(rt.alloc(), member(rt.alloc(), 16)?, 15, resent)?;
-    assert_eq!(rt;
-        outcome,
-        ((came, came, Some(DeviceFault { side, call })), 0)
-    );
+    assert!(rt; outcome == ((came, came, Some(DeviceFault { side, call })), 0));
     Ok(())
 }
 
@@ -481,7 +472,7 @@ const NAMES: [(FormatFault, &str); 4] = [
 fn faults_print_their_names(rt: HostRuntime) -> Result<(), Fail> {
     for (fault, name) in &NAMES {
         let text = format!(in rt.alloc(); "{fault}")?;
-        assert_eq!(rt; text.as_str(), *name);
+        assert!(rt; text.as_str() == *name);
     }
     let call = Call::Sync;
     let failed = Failed {
@@ -498,6 +489,6 @@ fn faults_print_their_names(rt: HostRuntime) -> Result<(), Fail> {
     });
     let spent = CheckpointFault::Spent;
     let text = format!(in rt.alloc(); "{failed}, {moving}, {spent}")?;
-    assert_eq!(rt; text.as_str(), "Failed A Sync, Failed B Sync, Spent");
+    assert!(rt; text.as_str() == "Failed A Sync, Failed B Sync, Spent");
     Ok(())
 }

@@ -42,7 +42,7 @@ pub enum Life {
 }
 
 /// What steps come to: how many outputs the calls of some names have put again, or why the last step failed.
-#[derive(Clone, Copy, Debug, PartialEq, Eq)]
+#[derive(Clone, Copy, PartialEq, Eq)]
 pub enum Came {
     Put(u64),
     Failed(Side, Call),
@@ -258,7 +258,7 @@ pub fn check_each<R: Abort + AllocGlobal>(
         for &(at, outcome) in cases {
             let site = failing_image(rt.alloc(), from, first.saturating_add(at), failing)?;
             let found = outcome_of(rt.alloc(), site, steps)?;
-            assert_eq!(rt; (at, found), (at, outcome));
+            assert!(rt; (at, found) == (at, outcome));
         }
     }
     Ok(())

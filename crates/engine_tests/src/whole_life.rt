@@ -246,7 +246,7 @@ fn count_calls(alloc: Global, failing: Failing, states: &[Vec<u8>]) -> Result<u6
 fn each_call_of_a_whole_life_may_fail(rt: HostRuntime) -> Result<(), Fail> {
     let states = plain_states(rt.alloc())?;
     for &failing in &[Failing::Once, Failing::Stop] {
-        assert_eq!(rt; count_calls(rt.alloc(), failing, &states)?, 72);
+        assert!(rt; count_calls(rt.alloc(), failing, &states)? == 72);
     }
     Ok(())
 }

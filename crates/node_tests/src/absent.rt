@@ -51,8 +51,8 @@ fn check_lapsed<R: Abort>(rt: &R, node: &Node, second: NodeId, third: NodeId) {
         refusal(node, Event::Lapse { node: third }),
         refusal(node, acked),
     ];
-    assert_eq!(rt; refusals, [Some(Refusal::NothingToAck); 3]);
-    assert_eq!(rt; (node.kept(), node.core().posts()), (0, 1));
+    assert!(rt; refusals == [Some(Refusal::NothingToAck); 3]);
+    assert!(rt; (node.kept(), node.core().posts()) == (0, 1));
 }
 
 // Node 2 never acknowledges the Store, which is kept for it until it lapses.
@@ -60,7 +60,7 @@ fn check_lapse<R: Abort + AllocGlobal>(rt: &R, node: &mut Node) -> Result<(), Fa
     let (peer, second, third) = (node.me(), id(2)?, id(3)?);
     take(rt.alloc(), node, ask(1, Command::SetFlag))?;
     take(rt.alloc(), node, Event::Acked { peer, number: 1 })?;
-    assert_eq!(rt; node.kept(), 1);
+    assert!(rt; node.kept() == 1);
     take(rt.alloc(), node, Event::Lapse { node: second })?;
     check_lapsed(rt, node, second, third);
     Ok(())
@@ -144,10 +144,7 @@ fn check_need<R: Abort + AllocGlobal>(rt: &R, node: &mut Node) -> Result<(), Fai
     take(rt.alloc(), node, Event::Snapshot)?;
     let own = delivery(rt.alloc(), 1, 2, &OF_TWO)?;
     take(rt.alloc(), node, own)?;
-    assert_eq!(rt;
-        [before, asked, retired, node.core().needs_anew()],
-        [false, false, true, false]
-    );
+    assert!(rt; [before, asked, retired, node.core().needs_anew()] == [false, false, true, false]);
     Ok(())
 }
 
@@ -166,9 +163,8 @@ fn check_numbers<R: Abort + AllocGlobal>(rt: &R, node: &Node) -> Result<(), Fail
         refusal(node, delivery(rt.alloc(), 2, 2, &JOIN)?),
         refusal(node, delivery(rt.alloc(), 2, 0, &OF_TWO)?),
     ];
-    assert_eq!(rt;
-        refusals,
-        [
+    assert!(rt;
+        refusals == [
             None,
             Some(Refusal::Spent),
             Some(Refusal::Gap(0)),
@@ -219,7 +215,7 @@ fn check_named<R: Abort + AllocGlobal>(rt: &R, node: &Node) -> Result<(), Fail> 
         refusal_up_to(rt.alloc(), node, 256)?,
         refusal_up_to(rt.alloc(), node, 257)?,
     ];
-    assert_eq!(rt; refusals, [None, Some(Refusal::TooManyNodes)]);
+    assert!(rt; refusals == [None, Some(Refusal::TooManyNodes)]);
     Ok(())
 }
 
@@ -234,13 +230,13 @@ fn a_snapshot_names_up_to_256_nodes(rt: HostRuntime) -> Result<(), Fail> {
 fn check_enter<R: Abort + AllocGlobal>(rt: &R, node: &mut Node) -> Result<(), Fail> {
     let first = id(1)?;
     let lapse = refusal(node, Event::Lapse { node: first });
-    assert_eq!(rt; lapse, Some(Refusal::NotEntered));
+    assert!(rt; lapse == Some(Refusal::NotEntered));
     take(rt.alloc(), node, Event::Enter)?;
     let refusals = [
         refusal(node, Event::Lapse { node: first }),
         refusal(node, Event::Snapshot),
     ];
-    assert_eq!(rt; refusals, [Some(Refusal::NotJoined); 2]);
+    assert!(rt; refusals == [Some(Refusal::NotJoined); 2]);
     Ok(())
 }
 
@@ -261,13 +257,13 @@ fn echoes(node: &Node) -> (u64, bool) {
 fn check_echoes<R: Abort + AllocGlobal>(rt: &R, node: &mut Node) -> Result<(), Fail> {
     let first = delivery(rt.alloc(), 1, 2, &OF_AN_ENTRANT)?;
     take(rt.alloc(), node, first)?;
-    assert_eq!(rt; echoes(node), (1, false));
+    assert!(rt; echoes(node) == (1, false));
     let again = delivery(rt.alloc(), 1, 4, &OF_AN_ENTRANT)?;
     take(rt.alloc(), node, again)?;
-    assert_eq!(rt; echoes(node), (1, false));
+    assert!(rt; echoes(node) == (1, false));
     let second = delivery(rt.alloc(), 2, 2, &OF_AN_ENTRANT)?;
     take(rt.alloc(), node, second)?;
-    assert_eq!(rt; echoes(node), (2, true));
+    assert!(rt; echoes(node) == (2, true));
     Ok(())
 }
 

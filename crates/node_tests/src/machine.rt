@@ -105,7 +105,7 @@ fn an_opening_names_up_to_256_nodes(rt: HostRuntime) -> Result<(), Fail> {
         is_bad_up_to(rt.alloc(), 256)?,
         is_bad_up_to(rt.alloc(), 257)?,
     ];
-    assert_eq!(rt; are_bad, [false, true]);
+    assert!(rt; are_bad == [false, true]);
     Ok(())
 }
 
@@ -117,14 +117,14 @@ fn check_member<R: Abort>(rt: &R, node: &Node, contact: NodeId) {
         node.heard(contact),
         core.links().len(),
     );
-    assert_eq!(rt; numbers, (2, 0, 0, 3));
+    assert!(rt; numbers == (2, 0, 0, 3));
     let facts = [
         node.is_joined(),
         node.view().rows().is_empty(),
         core.is_live(contact),
         core.link(3).is_none(),
     ];
-    assert_eq!(rt; facts, [true; 4]);
+    assert!(rt; facts == [true; 4]);
 }
 
 #[test]
@@ -143,7 +143,7 @@ fn faults_print_their_names(rt: HostRuntime) -> Result<(), Fail> {
         (Fresh::NoMemory, "NoMemory"),
     ] {
         let text = format!(in rt.alloc(); "{fault}")?;
-        assert_eq!(rt; text.as_str(), name);
+        assert!(rt; text.as_str() == name);
         drop(text);
     }
     Ok(())
@@ -180,7 +180,7 @@ pub fn refusal(node: &Node, event: Event) -> Option<Refusal> {
 }
 
 fn check_same_rows<R: Abort>(rt: &R, copy: &Core, core: &Core) {
-    assert_eq!(rt; copy.view().rows(), core.view().rows());
+    assert!(rt; copy.view().rows() == core.view().rows());
 }
 
 fn check_copy<R: Abort + AllocGlobal>(rt: &R, core: &Core) -> Result<(), Fail> {
@@ -192,12 +192,12 @@ fn check_copy<R: Abort + AllocGlobal>(rt: &R, core: &Core) -> Result<(), Fail> {
 
 fn check_asked<R: Abort>(rt: &R, node: &Node) {
     assert!(rt; matches!(node.outbox().post(1), Some(Message::Store { tag: 1, .. })));
-    assert_eq!(rt; (node.core().posts(), node.kept()), (1, 1));
+    assert!(rt; (node.core().posts(), node.kept()) == (1, 1));
     let refusals = [
         refusal(node, ask(1, Command::SetFlag)),
         refusal(node, ask(2, Command::Collect)),
     ];
-    assert_eq!(rt; refusals, [Some(Refusal::Repeat), Some(Refusal::Busy)]);
+    assert!(rt; refusals == [Some(Refusal::Repeat), Some(Refusal::Busy)]);
 }
 
 fn check_ask<R: Abort + AllocGlobal>(rt: &R, node: &mut Node) -> Result<(), Fail> {
@@ -217,20 +217,17 @@ fn an_ask_is_taken_in(rt: HostRuntime) -> Result<(), Fail> {
 // Node 2 never acknowledges the Store. Once node 1 itself has, retiring node 2 drops it.
 fn check_retired<R: Abort>(rt: &R, node: &Node, dead: NodeId) {
     let core = node.core();
-    assert_eq!(rt;
-        (core.is_live(dead), node.kept(), core.posts()),
-        (false, 0, 1)
-    );
+    assert!(rt; (core.is_live(dead), node.kept(), core.posts()) == (false, 0, 1));
     assert!(rt; matches!(node.phase(), Stage::Storing(pending) if pending.need == 2));
     let again = refusal(node, Event::Retire { node: dead });
-    assert_eq!(rt; again, Some(Refusal::Left));
+    assert!(rt; again == Some(Refusal::Left));
 }
 
 fn check_retire<R: Abort + AllocGlobal>(rt: &R, node: &mut Node, dead: NodeId) -> Result<(), Fail> {
     let peer = node.me();
     take(rt.alloc(), node, ask(1, Command::SetFlag))?;
     take(rt.alloc(), node, Event::Acked { peer, number: 1 })?;
-    assert_eq!(rt; node.kept(), 1);
+    assert!(rt; node.kept() == 1);
     take(rt.alloc(), node, Event::Retire { node: dead })?;
     check_retired(rt, node, dead);
     Ok(())
@@ -252,7 +249,7 @@ fn check_itself<R: Abort + AllocGlobal>(rt: &R, node: &mut Node) -> Result<(), F
     take(rt.alloc(), node, Event::Retire { node: me })?;
     let (kept, is_live) = (node.kept(), node.core().is_live(me));
     let refused = refusal(node, Event::Leave);
-    assert_eq!(rt; (kept, is_live, refused), (0, false, Some(Refusal::Left)));
+    assert!(rt; (kept, is_live, refused) == (0, false, Some(Refusal::Left)));
     Ok(())
 }
 
@@ -267,10 +264,10 @@ fn a_node_retires_itself(rt: HostRuntime) -> Result<(), Fail> {
 fn check_enter<R: Abort + AllocGlobal>(rt: &R, node: &mut Node) -> Result<(), Fail> {
     let is_joined = node.is_joined();
     let refused = refusal(node, ask(1, Command::Collect));
-    assert_eq!(rt; (is_joined, refused), (false, Some(Refusal::NotEntered)));
+    assert!(rt; (is_joined, refused) == (false, Some(Refusal::NotEntered)));
     take(rt.alloc(), node, Event::Enter)?;
     assert!(rt; matches!(node.outbox().post(1), Some(Message::Enter { .. })));
-    assert_eq!(rt; refusal(node, Event::Enter), Some(Refusal::AlreadyEntered));
+    assert!(rt; refusal(node, Event::Enter) == Some(Refusal::AlreadyEntered));
     Ok(())
 }
 

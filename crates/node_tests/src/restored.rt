@@ -253,21 +253,21 @@ fn check_states<R: Abort + AllocGlobal>(
 ) -> Result<(), Fail> {
     for state in states {
         let is_restored = is_restored(rt.alloc(), state)?;
-        assert_eq!(rt; is_restored, are_lawful);
+        assert!(rt; is_restored == are_lawful);
     }
     Ok(())
 }
 
 fn check_restored<R: Abort>(rt: &R, node: &Node) {
     let core = node.core();
-    assert_eq!(rt; (core.beta(), core.gamma()), (FOUR_FIFTHS, FOUR_FIFTHS));
+    assert!(rt; (core.beta(), core.gamma()) == (FOUR_FIFTHS, FOUR_FIFTHS));
     assert!(rt; core.churn().has_joined(core.me()));
     let numbers = (
         core.ops().number(),
         core.sessions().finish(7),
         node.outbox().last(),
     );
-    assert_eq!(rt; numbers, (1, Some(1), 1));
+    assert!(rt; numbers == (1, Some(1), 1));
 }
 
 #[test]

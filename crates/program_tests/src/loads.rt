@@ -180,23 +180,23 @@ const BAD_WORDS: [(LoadWords<'_>, WordFault); 7] = [
 ];
 
 // The port and the session of a client of four at two nodes.
-fn seat_of(alloc: Global, client: u64) -> Result<Option<(u16, u64)>, Fail> {
+fn session_of(alloc: Global, client: u64) -> Result<Option<(u16, u64)>, Fail> {
     let order = LoadOrder::parse(alloc, &WORDS)?;
-    let seat = order.seat(client);
+    let found = order.session_of(client);
     drop(order);
-    Ok(match seat {
+    Ok(match found {
         Some((address, session)) => Some((address.port(), session)),
         None => None,
     })
 }
 
 // Clients, and the port and the session of each.
-const SEATS: [(u64, u16, u64); 3] = [(0, 7001, 9000), (1, 7002, 9000), (2, 7001, 9001)];
+const CLIENTS: [(u64, u16, u64); 3] = [(0, 7001, 9000), (1, 7002, 9000), (2, 7001, 9001)];
 
 #[test]
 fn clients_go_round_the_nodes(rt: HostRuntime) -> Result<(), Fail> {
-    for &(client, port, session) in &SEATS {
-        assert!(rt; seat_of(rt.alloc(), client)? == Some((port, session)));
+    for &(client, port, session) in &CLIENTS {
+        assert!(rt; session_of(rt.alloc(), client)? == Some((port, session)));
     }
     Ok(())
 }

@@ -41,7 +41,7 @@ fn check_cases<R: Abort>(rt: &R, event: &Event, cases: &[Case]) -> Result<(), Fa
     let me = node(1)?;
     for (kept, is_furthest, waited, may) in cases {
         let handed = may_hand_over(me, event, *kept, *is_furthest, *waited);
-        assert_eq!(rt; handed, *may, "with {kept} posts");
+        assert!(rt; handed == *may, "with {kept} posts");
     }
     Ok(())
 }
@@ -64,7 +64,7 @@ fn given_up(event: Event) -> [bool; 2] {
 fn a_message_is_given_up_after_five_seconds(rt: HostRuntime) -> Result<(), Fail> {
     let other = node(2)?;
     let given = [given_up(joined(other)), given_up(asked())];
-    assert_eq!(rt; given, [[false, true], [false, false]]);
+    assert!(rt; given == [[false, true], [false, false]]);
     Ok(())
 }
 
@@ -159,9 +159,8 @@ fn check_behind<R: Abort + AllocGlobal>(rt: &R, member: &mut Node) -> Result<(),
     };
     let after_ack = behind_after(rt.alloc(), member, acked)?;
     let after_retire = behind_after(rt.alloc(), member, Event::Retire { node: two })?;
-    assert_eq!(rt;
-        [after_ask, after_ack, after_retire],
-        [
+    assert!(rt;
+        [after_ask, after_ack, after_retire] == [
             [true, true, false],
             [false, true, false],
             [true, false, false]

@@ -43,13 +43,11 @@ fn check_asks<R: Abort>(rt: &R, routes: &mut Routes) {
     ];
     let first = connections(routes);
     let place = routes.route(7, 1, 2);
-    assert_eq!(rt;
-        (entered, places, place),
-        ([whole(1), whole(2)], [Some(1), Some(2), Some(3)], Some(4))
+    assert!(rt;
+        (entered, places, place) == ([whole(1), whole(2)], [Some(1), Some(2), Some(3)], Some(4))
     );
-    assert_eq!(rt;
-        [first, connections(routes)],
-        [[Some(1), Some(1), Some(2)], [Some(2), Some(1), Some(2)]]
+    assert!(rt;
+        [first, connections(routes)] == [[Some(1), Some(1), Some(2)], [Some(2), Some(1), Some(2)]]
     );
 }
 
@@ -59,8 +57,8 @@ fn check_leaves<R: Abort>(rt: &R, routes: &mut Routes) {
     routes.leave(2);
     let left = connections(routes);
     let places = [routes.route(7, 1, 2), routes.route(7, 1, 3)];
-    assert_eq!(rt; (left, places), ([Some(1), Some(1), None], [None; 2]));
-    assert_eq!(rt; routes.enter(Origin::Stranger, ALL), whole(3));
+    assert!(rt; (left, places) == ([Some(1), Some(1), None], [None; 2]));
+    assert!(rt; routes.enter(Origin::Stranger, ALL) == whole(3));
 }
 
 #[test]
@@ -91,9 +89,9 @@ fn check_judged<R: Abort>(rt: &R, routes: &mut Routes) {
     let first = routes.route(7, 5, 1);
     routes.take(7, 1);
     let second = routes.route(7, 9, 2);
-    assert_eq!(rt; entered, [whole(1), whole(2)]);
-    assert_eq!(rt; (first, second), (Some(1), Some(2)));
-    assert_eq!(rt; sevens(routes), [Some(1), Some(2), Some(2)]);
+    assert!(rt; entered == [whole(1), whole(2)]);
+    assert!(rt; (first, second) == (Some(1), Some(2)));
+    assert!(rt; sevens(routes) == [Some(1), Some(2), Some(2)]);
 }
 
 // It is refused: all goes to the first as before. Then number 6 is taken over the second.
@@ -102,8 +100,8 @@ fn check_refused<R: Abort>(rt: &R, routes: &mut Routes) {
     let refused = sevens(routes);
     let third = routes.route(7, 6, 2);
     routes.take(7, 3);
-    assert_eq!(rt; (refused, third), ([Some(1); 3], Some(3)));
-    assert_eq!(rt; sevens(routes), [Some(2); 3]);
+    assert!(rt; (refused, third) == ([Some(1); 3], Some(3)));
+    assert!(rt; sevens(routes) == [Some(2); 3]);
 }
 
 // An older ask that is told of later takes nothing from a newer one.
@@ -112,8 +110,8 @@ fn check_late<R: Abort>(rt: &R, routes: &mut Routes) {
     routes.take(8, 5);
     let newer = routes.connection_of(8, 1);
     routes.take(8, 4);
-    assert_eq!(rt; places, [Some(4), Some(5)]);
-    assert_eq!(rt; [newer, routes.connection_of(8, 1)], [Some(2); 2]);
+    assert!(rt; places == [Some(4), Some(5)]);
+    assert!(rt; [newer, routes.connection_of(8, 1)] == [Some(2); 2]);
 }
 
 #[test]
@@ -145,14 +143,14 @@ fn check_kept<R: Abort>(rt: &R, routes: &mut Routes) {
 fn check_connections<R: Abort>(rt: &R, routes: &mut Routes) {
     check_full(rt, routes, Origin::Stranger, 768);
     check_kept(rt, routes);
-    assert_eq!(rt; routes.enter(Origin::Stranger, ALL), spare(769));
+    assert!(rt; routes.enter(Origin::Stranger, ALL) == spare(769));
     check_full(rt, routes, Origin::Peer, 248);
-    assert_eq!(rt; routes.enter(Origin::Peer, ALL), spare(1018));
+    assert!(rt; routes.enter(Origin::Peer, ALL) == spare(1018));
     check_full(rt, routes, Origin::Loopback, 8);
     for ticket in 1027..1033 {
-        assert_eq!(rt; routes.enter(Origin::Loopback, ALL), spare(ticket));
+        assert!(rt; routes.enter(Origin::Loopback, ALL) == spare(ticket));
     }
-    assert_eq!(rt; routes.enter(Origin::Loopback, ALL), None);
+    assert!(rt; routes.enter(Origin::Loopback, ALL) == None);
 }
 
 // One of the strangers leaves, and then one of those for the operator.
@@ -167,7 +165,7 @@ fn check_left<R: Abort>(rt: &R, routes: &mut Routes) {
         routes.enter(Origin::Peer, ALL),
         routes.enter(Origin::Peer, ALL),
     ];
-    assert_eq!(rt; (first, second), ([None, whole(1033)], [spare(1034), None]));
+    assert!(rt; (first, second) == ([None, whole(1033)], [spare(1034), None]));
 }
 
 #[test]
@@ -184,14 +182,14 @@ fn check_sessions<R: Abort>(rt: &R, routes: &mut Routes) -> Result<(), Fail> {
     let one = routes.enter(Origin::Stranger, ALL).ok_or("there is room")?;
     for session in 0..1280u64 {
         let place = routes.route(session, 1, one.ticket);
-        assert_eq!(rt; place, session.checked_add(1));
+        assert!(rt; place == session.checked_add(1));
     }
     let full = routes.route(1280, 1, one.ticket);
     routes.take_back(4);
     let freed = routes.route(1280, 1, one.ticket);
-    assert_eq!(rt; (full, freed), (None, Some(1281)));
+    assert!(rt; (full, freed) == (None, Some(1281)));
     let connections = [routes.connection_of(3, 1), routes.connection_of(1280, 1)];
-    assert_eq!(rt; connections, [None, Some(one.ticket)]);
+    assert!(rt; connections == [None, Some(one.ticket)]);
     Ok(())
 }
 

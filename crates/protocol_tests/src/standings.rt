@@ -21,7 +21,7 @@ fn check_seconds<R: Abort>(rt: &R, cases: &[Case]) -> Result<(), Fail> {
     let mut standing = Standing::Current;
     for (acked, sent, wanted) in cases {
         standing = standing.after_second(*acked, *sent, true);
-        assert_eq!(rt; standing, *wanted, "with {acked} of {sent}");
+        assert!(rt; standing == *wanted, "with {acked} of {sent}");
     }
     Ok(())
 }
@@ -57,7 +57,7 @@ fn who_has_left_owes_nothing(rt: HostRuntime) -> Result<(), Fail> {
         owing(9, 1).after_second(0, 9, false),
         Standing::Absent.after_second(0, 9, false),
     ];
-    assert_eq!(rt; left, [Standing::Current; 2]);
+    assert!(rt; left == [Standing::Current; 2]);
     Ok(())
 }
 
@@ -69,7 +69,7 @@ fn who_has_owed_for_a_second_is_late(rt: HostRuntime) -> Result<(), Fail> {
         owing(9, 1).is_late(),
         Standing::Absent.is_late(),
     ];
-    assert_eq!(rt; late, [false, false, true, true]);
+    assert!(rt; late == [false, false, true, true]);
     Ok(())
 }
 
@@ -90,9 +90,8 @@ fn check_absent<R: Abort>(rt: &R, peers: &mut Standings, two: NodeId, three: Nod
         peers.pass_second(two, 0, 80, true),
         peers.pass_second(two, 0, 80, true),
     ];
-    assert_eq!(rt;
-        seconds,
-        [
+    assert!(rt;
+        seconds == [
             passed(owing(80, 0), false, false),
             passed(Standing::Current, false, false),
             passed(owing(80, 1), false, false),
@@ -101,7 +100,7 @@ fn check_absent<R: Abort>(rt: &R, peers: &mut Standings, two: NodeId, three: Nod
         ]
     );
     assert!(rt; peers.has_absent());
-    assert_eq!(rt; peers.standing(three), Standing::Current);
+    assert!(rt; peers.standing(three) == Standing::Current);
 }
 
 // More than 64 posts are kept for peer 2: that is handed in once, and again where a second has passed or it was taken.
@@ -115,7 +114,7 @@ fn check_lapses<R: Abort>(rt: &R, peers: &mut Standings, two: NodeId, three: Nod
         peers.lapse(two, 71, 136, false),
         peers.lapse(three, 0, 500, true),
     ];
-    assert_eq!(rt; handed, [false, true, false, true, false, true, false]);
+    assert!(rt; handed == [false, true, false, true, false, true, false]);
 }
 
 // A voice of peer 3, which is in time, is nothing; that of peer 2 is noted for one second. Then it acknowledges.
@@ -132,15 +131,14 @@ fn check_back<R: Abort>(rt: &R, peers: &mut Standings, two: NodeId, three: NodeI
         peers.hear_ack(two),
         peers.hear_ack(two),
     ];
-    assert_eq!(rt;
-        seconds,
-        [
+    assert!(rt;
+        seconds == [
             passed(Standing::Current, false, false),
             passed(Standing::Absent, false, true),
             passed(Standing::Absent, false, false),
         ]
     );
-    assert_eq!(rt; acked, [false, true, false]);
+    assert!(rt; acked == [false, true, false]);
     assert!(rt; !peers.has_absent());
 }
 

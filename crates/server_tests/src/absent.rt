@@ -74,55 +74,31 @@ fn collect_late<R: Net<Stream = TcpStream> + Clock>(
 
 #[test]
 fn two_members_go_on_and_the_third_comes_late(rt: HostRuntime) -> Result<(), Fail> {
-    let Places {
-        first,
-        second,
-        one,
-        two,
-    } = set_up_of_three(&rt, "absent-1", "absent-2", Some("2/3"))?;
+    let places = set_up_of_three(&rt, "absent-1", "absent-2", Some("2/3"))?;
     format_member_of(&rt, "absent-3", "3", "1,2,3", Some("2/3"))?;
     let third = TcpListener::bind(&rt, "127.0.0.1:0")?;
-    let three = third.local_addr()?;
-    let alloc = rt.alloc();
+    let (one, two, three) = (places.one, places.two, third.local_addr()?);
+    let (first, second, alloc) = (places.first, places.second, rt.alloc());
     let (stop, late) = (Stop::new(), Stop::new());
-    let of_1 = [(2, two), (3, three)];
-    let of_2 = [(1, one), (3, three)];
+    let (of_1, of_2) = ([(2, two), (3, three)], [(1, one), (3, three)]);
     let of_3 = [(1, one), (2, two)];
+    let setting_1 = Setting::of("absent-1", &of_1);
+    let setting_2 = Setting::of("absent-2", &of_2);
+    let setting_3 = Setting::of("absent-3", &of_3);
     let ((ended_1, ended_2), (stored, (ended_3, told))) = thread::join(
         &rt,
         || {
             thread::join(
                 &rt,
-                || run_with(
-                    &rt,
-                    alloc,
-                    &Setting::of("absent-1", &of_1),
-                    first,
-                    &stop,
-                    &NoHooks,
-                ),
-                || run_with(
-                    &rt,
-                    alloc,
-                    &Setting::of("absent-2", &of_2),
-                    second,
-                    &stop,
-                    &NoHooks,
-                ),
+                || run_with(&rt, alloc, &setting_1, first, &stop, &NoHooks),
+                || run_with(&rt, alloc, &setting_2, second, &stop, &NoHooks),
             )
         },
         || {
             let stored = store_all(&rt, alloc, one);
             let back = thread::join(
                 &rt,
-                || run_with(
-                    &rt,
-                    alloc,
-                    &Setting::of("absent-3", &of_3),
-                    third,
-                    &late,
-                    &NoHooks,
-                ),
+                || run_with(&rt, alloc, &setting_3, third, &late, &NoHooks),
                 || collect_late(&rt, alloc, &late, three),
             );
             end(&rt, &stop, one, two);

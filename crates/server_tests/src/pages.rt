@@ -110,7 +110,12 @@ fn check_status<R: Net<Stream = TcpStream> + Clock>(
     check(told("/id") == Some(1), "its number")?;
     check(told("/members/0") == Some(1), "its member")?;
     check(told("/sessions/0/request") == Some(1), "its session")?;
-    check(told("/view/0/number") == Some(1), "its row")
+    check(told("/view/0/number") == Some(1), "its row")?;
+    check(told("/counts/asks/store") == Some(1), "its ask")?;
+    check(
+        told("/counts/batches/6/1") == told("/counts/commits"),
+        "its batches",
+    )
 }
 
 // Looks at the node, before and after a store.

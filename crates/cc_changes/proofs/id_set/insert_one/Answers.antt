@@ -11,7 +11,8 @@ unwrap-requires c =
 
 pub returns-in-Err-clause-table : goal.returns-in-Err-clause-table
 returns-in-Err-clause-table c =
-    rw (c.insert.ensures.items, c.unwrap.ensures) (insert_table _ _ _ _ c.requires.table _ _ (rw c.deref.ensures.value at c.in-Err.ensures) _ refl c.requires.fits _ c.insert.ensures.capacity)
+    rw (c.insert.ensures.items, c.unwrap.ensures) (insert_table _ _ _ _ c.requires.table _ _ (rw c.deref.ensures.value at c.in-Err.ensures) _ refl
+      c.requires.fits _ c.insert.ensures.capacity)
 
 pub returns-in-Err-clause-ids : goal.returns-in-Err-clause-ids
 returns-in-Err-clause-ids c = rw (c.insert.ensures.items, c.unwrap.ensures) (table_of-insert marked _ _ _ (rw c.deref.ensures.value at c.in-Err.ensures) _ refl)

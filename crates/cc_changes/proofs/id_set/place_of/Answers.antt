@@ -8,4 +8,5 @@ pub returns : goal.returns
 returns c =
     let facts = c.binary_search_by_key.ensures in
     subst (λ (k : ℕ). IsPlaceOf marked c.args.ids.now k c.binary_search_by_key.result) c.number.ensures.number
-    (searched marked c.args.ids.now c.requires c.number.result _ facts.bound (facts.position (λ id. id) (answers_always _ _ _ (λ f a r g called. search rules))))
+    (searched marked c.args.ids.now c.requires c.number.result _ facts.bound
+      (facts.position (λ id. id) (answers_always _ _ _ (λ f a r g called. search rules))))

@@ -31,9 +31,11 @@ returns-then-not-add_numbers-2 c =
     subst (λ s. Marks s o.contacts.now c.add_numbers.result c.add_numbers.new.self) c.new-known.ensures
     (record { fits = c.add_numbers.ensures.fits; added = c.add_numbers.ensures.added }) in
     let initial : Marks set.empty (o.initial.now ++ o.contacts.now) c.add_numbers-2.result c.add_numbers-2.new.self =
-    marks_then set.empty c.add_numbers.new.self c.add_numbers-2.new.self o.contacts.now o.initial.now c.add_numbers.result c.add_numbers-2.result c.if-not-add_numbers.false contacts
+    marks_then set.empty c.add_numbers.new.self c.add_numbers-2.new.self o.contacts.now o.initial.now c.add_numbers.result c.add_numbers-2.result
+      c.if-not-add_numbers.false contacts
     (record { fits = c.add_numbers-2.ensures.fits; added = c.add_numbers-2.ensures.added }) in
-    (marks_too_many set.empty c.add_numbers-2.new.self (o.initial.now ++ o.contacts.now) (o.me ∷ []) c.add_numbers-2.result c.if-not-add_numbers-2.true initial).fits
+    (marks_too_many set.empty c.add_numbers-2.new.self (o.initial.now ++ o.contacts.now) (o.me ∷ []) c.add_numbers-2.result c.if-not-add_numbers-2.true
+      initial).fits
 
 pub returns : goal.returns
 returns c =
@@ -42,9 +44,12 @@ returns c =
     subst (λ s. Marks s o.contacts.now c.add_numbers.result c.add_numbers.new.self) c.new-known.ensures
     (record { fits = c.add_numbers.ensures.fits; added = c.add_numbers.ensures.added }) in
     let initial : Marks set.empty (o.initial.now ++ o.contacts.now) c.add_numbers-2.result c.add_numbers-2.new.self =
-    marks_then set.empty c.add_numbers.new.self c.add_numbers-2.new.self o.contacts.now o.initial.now c.add_numbers.result c.add_numbers-2.result c.if-not-add_numbers.false contacts
+    marks_then set.empty c.add_numbers.new.self c.add_numbers-2.new.self o.contacts.now o.initial.now c.add_numbers.result c.add_numbers-2.result
+      c.if-not-add_numbers.false contacts
     (record { fits = c.add_numbers-2.ensures.fits; added = c.add_numbers-2.ensures.added }) in
     let me_is : c.unwrap.result ≡ o.me = subst (λ i. IfSome i (λ id. id ≡ o.me)) c.unwrap.ensures c.new.ensures.id in
     let me : Marks c.add_numbers-2.new.self (o.me ∷ []) c.add.result c.add.new.self =
-    subst (λ q. Marks c.add_numbers-2.new.self (q ∷ []) c.add.result c.add.new.self) me_is (record { fits = c.add.ensures.fits; added = c.add.ensures.added }) in
-    (marks_then set.empty c.add_numbers-2.new.self c.add.new.self (o.initial.now ++ o.contacts.now) (o.me ∷ []) c.add_numbers-2.result c.add.result c.if-not-add_numbers-2.false initial me).fits
+    subst (λ q. Marks c.add_numbers-2.new.self (q ∷ []) c.add.result c.add.new.self) me_is
+      (record { fits = c.add.ensures.fits; added = c.add.ensures.added }) in
+    (marks_then set.empty c.add_numbers-2.new.self c.add.new.self (o.initial.now ++ o.contacts.now) (o.me ∷ []) c.add_numbers-2.result c.add.result
+      c.if-not-add_numbers-2.false initial me).fits

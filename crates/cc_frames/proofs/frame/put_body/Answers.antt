@@ -8,17 +8,20 @@ use Rattle.cc_frames.proofs.frame.put_body.Goals as goal
 pub returns-in_ok-put_u8-in-Ack-clause-writes : goal.returns-in_ok-put_u8-in-Ack-clause-writes
 returns-in_ok-put_u8-in-Ack-clause-writes c =
     subst (λ (f : Frame). Writes c.args.out.now c.put_numbered.new.out (body_spelling f) c.put_numbered.result) (sym c.in-Ack.is)
-    (writes_then c.args.out.now c.put_u8.new.out c.put_numbered.new.out (2 ∷ []) _ c.put_numbered.result c.in_ok-put_u8-in-Ack.ensures c.put_numbered.ensures.writes)
+    (writes_then c.args.out.now c.put_u8.new.out c.put_numbered.new.out (2 ∷ []) _ c.put_numbered.result c.in_ok-put_u8-in-Ack.ensures
+      c.put_numbered.ensures.writes)
 
 pub returns-in_ok-put_u8-in-Ask-clause-writes : goal.returns-in_ok-put_u8-in-Ask-clause-writes
 returns-in_ok-put_u8-in-Ask-clause-writes c =
     subst (λ (f : Frame). Writes c.args.out.now c.put_asked.new.out (body_spelling f) c.put_asked.result) (sym c.in-Ask.is)
-    (writes_then c.args.out.now c.put_u8-in-Ask.new.out c.put_asked.new.out (3 ∷ []) _ c.put_asked.result c.in_ok-put_u8-in-Ask.ensures c.put_asked.ensures.writes)
+    (writes_then c.args.out.now c.put_u8-in-Ask.new.out c.put_asked.new.out (3 ∷ []) _ c.put_asked.result c.in_ok-put_u8-in-Ask.ensures
+      c.put_asked.ensures.writes)
 
 pub returns-in_ok-put_u8-in-Refused-clause-writes : goal.returns-in_ok-put_u8-in-Refused-clause-writes
 returns-in_ok-put_u8-in-Refused-clause-writes c =
     subst (λ (f : Frame). Writes c.args.out.now c.put_refused.new.out (body_spelling f) c.put_refused.result) (sym c.in-Refused.is)
-    (writes_then c.args.out.now c.put_u8-in-Refused.new.out c.put_refused.new.out (5 ∷ []) _ c.put_refused.result c.in_ok-put_u8-in-Refused.ensures c.put_refused.ensures.writes)
+    (writes_then c.args.out.now c.put_u8-in-Refused.new.out c.put_refused.new.out (5 ∷ []) _ c.put_refused.result c.in_ok-put_u8-in-Refused.ensures
+      c.put_refused.ensures.writes)
 
 pub returns-in_ok-put_u8-in-Retire-clause-writes : goal.returns-in_ok-put_u8-in-Retire-clause-writes
 returns-in_ok-put_u8-in-Retire-clause-writes c =

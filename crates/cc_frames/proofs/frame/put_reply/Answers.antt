@@ -24,7 +24,9 @@ close_body-requires-clause-fits c =
 
 pub returns-clause-writes : goal.returns-clause-writes
 returns-clause-writes c = record {
-  ok = framed (frames.Reply c.args.session c.args.request c.args.answer.now) c.args.out.now.items c.put_u32.new.out.items c.put_reply_body.new.out.items c.close_body.new.out.items c.len-start.result (omega (arith, c.len-start.ensures, c.args.out.now.ok)) c.in_ok-put_u32.ensures.ok c.in_ok-put_reply_body.ensures.writes.ok c.close_body.ensures.closed;
+  ok = framed (frames.Reply c.args.session c.args.request c.args.answer.now) c.args.out.now.items c.put_u32.new.out.items c.put_reply_body.new.out.items
+    c.close_body.new.out.items c.len-start.result (omega (arith, c.len-start.ensures, c.args.out.now.ok)) c.in_ok-put_u32.ensures.ok
+      c.in_ok-put_reply_body.ensures.writes.ok c.close_body.ensures.closed;
   err = tt;
   room = search rules;
   grows = omega (arith, c.in_ok-put_u32.ensures.grows, c.in_ok-put_reply_body.ensures.writes.grows, c.close_body.ensures.room);

@@ -8,7 +8,8 @@ use Rattle.cc_intake.proofs.turner.gather.Given as goal
 abbrev pub invariant-loop-consumer : goal.invariant-loop-consumer
 invariant-loop-consumer g l =
     ((more : List Entry) × (l.consumer.entries ≡ l.fn.consumer.entries ++ more) × (listed l.fn.kept ++ more ≡ l.batch))
-    × (l.consumer.finds ≡ l.fn.consumer.finds) × (length l.batch ≤ 64) × AreLawful g.L.Life.opening l.consumer.entries × (length l.consumer.entries ≤ life_limit)
+    × (l.consumer.finds ≡ l.fn.consumer.finds) × (length l.batch ≤ 64) × AreLawful g.L.Life.opening l.consumer.entries
+      × (length l.consumer.entries ≤ life_limit)
 
 abbrev pub decreases-loop-consumer : goal.decreases-loop-consumer
 decreases-loop-consumer g l = 64 - length l.batch

@@ -21,4 +21,5 @@ returns-clause-ascending c =
 
 pub returns-clause-fits : goal.returns-clause-fits
 returns-clause-fits c =
-    omega (arith, c.dedup.ensures.bound, c.sort_unstable.ensures.len, c.in_ok-numbers.ensures.fits, ap length c.rows.ensures.rows, as_many_rows c.args.view.now, c.rows.ensures.fits)
+    omega (arith, c.dedup.ensures.bound, c.sort_unstable.ensures.len, c.in_ok-numbers.ensures.fits, ap length c.rows.ensures.rows,
+      as_many_rows c.args.view.now, c.rows.ensures.fits)

@@ -2,7 +2,8 @@ use Rattle.std.proofs.Common.{◌≡◌, ◌+◌, ℕ, true, cond, arith, ap, sy
 use Rattle.cc_views.specs.NatSets as set
 use Rattle.cc_views.specs.NatSets.{NatSet, len-insert, len_insert_at_most}
 use Rattle.cc_objects.proofs.writes.add_member.Goals as goal
-use Rattle.cc_objects.proofs.writes.add_member.Goals.{else-len-eq-MAX_LEN-via-then-len-eq-MAX_LEN+else-not-contains, else-len-eq-MAX_LEN-via-else-len-eq-MAX_LEN}
+use Rattle.cc_objects.proofs.writes.add_member.Goals.{else-len-eq-MAX_LEN-via-then-len-eq-MAX_LEN+else-not-contains}
+use Rattle.cc_objects.proofs.writes.add_member.Goals.{else-len-eq-MAX_LEN-via-else-len-eq-MAX_LEN}
 
 -- a member that is there makes the set no larger
 held : (s : NatSet) (n : ℕ) → set.contains s n ≡ true → set.len (set.insert s n) ≡ set.len s

@@ -4,7 +4,9 @@ use Rattle.cc_protocol.proofs.IncomingLaws.{fed_begins, fed_step}
 use Rattle.cc_protocol.proofs.incoming.feed.Goals as goal
 
 pub returns-clause-begins : goal.returns-clause-begins
-returns-clause-begins c = rw c.feed.ensures.held (fed_begins c.args.frames.now c.args.piece.now c.feed.result c.requires (all_of_bytes c.args.piece.now (λ i. omega (arith, c.type_inv.piece i))) c.feed.ensures.exact)
+returns-clause-begins c = rw c.feed.ensures.held (fed_begins c.args.frames.now c.args.piece.now c.feed.result c.requires
+    (all_of_bytes c.args.piece.now (λ i. omega (arith, c.type_inv.piece i))) c.feed.ensures.exact)
 
 pub returns-clause-gives : goal.returns-clause-gives
-returns-clause-gives c rest = rw c.feed.ensures.held (fed_step c.args.frames.now c.args.piece.now c.feed.result rest c.requires (all_of_bytes c.args.piece.now (λ i. omega (arith, c.type_inv.piece i))) c.feed.ensures.exact)
+returns-clause-gives c rest = rw c.feed.ensures.held (fed_step c.args.frames.now c.args.piece.now c.feed.result rest c.requires
+    (all_of_bytes c.args.piece.now (λ i. omega (arith, c.type_inv.piece i))) c.feed.ensures.exact)

@@ -11,8 +11,10 @@ returns-in-Ok-clause-gives c rest =
     let start = c.args.start.now in
     let end = c.args.end in
     let used = c.in-Ok.given.used in
-    let within : used ≤ end - start = subst (λ n. used ≤ n) (length-take-le (end - start) (drop start piece) (omega (arith, c.requires.within.1, length-drop start piece))) c.in-Ok.ensures.used in
-    subst (λ (left : List ℕ). IfSome (ahead c.args.frames.now (unused piece start end) rest) (λ bytes. Passes bytes c.in-Ok.given.frame (ahead c.feed.new.frames left rest)))
+    let within : used ≤ end - start = subst (λ n. used ≤ n) (length-take-le (end - start) (drop start piece)
+      (omega (arith, c.requires.within.1, length-drop start piece))) c.in-Ok.ensures.used in
+    subst (λ (left : List ℕ). IfSome (ahead c.args.frames.now (unused piece start end) rest)
+      (λ bytes. Passes bytes c.in-Ok.given.frame (ahead c.feed.new.frames left rest)))
     (unused_step piece start used end within) (c.in-Ok.ensures.gives rest)
 
 pub returns-in-Err-clause-gives : goal.returns-in-Err-clause-gives

@@ -7,4 +7,5 @@ use Rattle.cc_sessions.proofs.sessions.place_of.Goals as goal
 pub returns : goal.returns
 returns c =
     let facts = c.binary_search_by_key.ensures in
-    searched entry_of c.args.rows.now c.requires c.args.session _ facts.bound (facts.position (λ row. row.session) (answers_always _ _ _ (λ f a r g called. search rules)))
+    searched entry_of c.args.rows.now c.requires c.args.session _ facts.bound
+      (facts.position (λ row. row.session) (answers_always _ _ _ (λ f a r g called. search rules)))

@@ -8,17 +8,20 @@ use Rattle.cc_wire.proofs.event.put_event.Goals as goal
 pub returns-in_ok-put_u8-in-Deliver-clause-writes : goal.returns-in_ok-put_u8-in-Deliver-clause-writes
 returns-in_ok-put_u8-in-Deliver-clause-writes c =
     subst (λ (e : Event). Writes c.args.out.now c.put_delivery.new.out (event_spelling e) c.put_delivery.result) (sym c.in-Deliver.is)
-    (writes_then c.args.out.now c.put_u8-in-Deliver.new.out c.put_delivery.new.out (3 ∷ []) _ c.put_delivery.result c.in_ok-put_u8-in-Deliver.ensures c.put_delivery.ensures.writes)
+    (writes_then c.args.out.now c.put_u8-in-Deliver.new.out c.put_delivery.new.out (3 ∷ []) _ c.put_delivery.result c.in_ok-put_u8-in-Deliver.ensures
+      c.put_delivery.ensures.writes)
 
 pub returns-in_ok-put_u8-in-Acked-clause-writes : goal.returns-in_ok-put_u8-in-Acked-clause-writes
 returns-in_ok-put_u8-in-Acked-clause-writes c =
     subst (λ (e : Event). Writes c.args.out.now c.put_numbered.new.out (event_spelling e) c.put_numbered.result) (sym c.in-Acked.is)
-    (writes_then c.args.out.now c.put_u8-in-Acked.new.out c.put_numbered.new.out (4 ∷ []) _ c.put_numbered.result c.in_ok-put_u8-in-Acked.ensures c.put_numbered.ensures.writes)
+    (writes_then c.args.out.now c.put_u8-in-Acked.new.out c.put_numbered.new.out (4 ∷ []) _ c.put_numbered.result c.in_ok-put_u8-in-Acked.ensures
+      c.put_numbered.ensures.writes)
 
 pub returns-in_ok-put_u8-in-Ask-clause-writes : goal.returns-in_ok-put_u8-in-Ask-clause-writes
 returns-in_ok-put_u8-in-Ask-clause-writes c =
     subst (λ (e : Event). Writes c.args.out.now c.put_asked.new.out (event_spelling e) c.put_asked.result) (sym c.in-Ask.is)
-    (writes_then c.args.out.now c.put_u8-in-Ask.new.out c.put_asked.new.out (5 ∷ []) _ c.put_asked.result c.in_ok-put_u8-in-Ask.ensures c.put_asked.ensures.writes)
+    (writes_then c.args.out.now c.put_u8-in-Ask.new.out c.put_asked.new.out (5 ∷ []) _ c.put_asked.result c.in_ok-put_u8-in-Ask.ensures
+      c.put_asked.ensures.writes)
 
 pub returns-in_ok-put_u8-in-Retire-clause-writes : goal.returns-in_ok-put_u8-in-Retire-clause-writes
 returns-in_ok-put_u8-in-Retire-clause-writes c =
@@ -28,4 +31,5 @@ returns-in_ok-put_u8-in-Retire-clause-writes c =
 pub returns-in_ok-put_u8-in-Lapse-clause-writes : goal.returns-in_ok-put_u8-in-Lapse-clause-writes
 returns-in_ok-put_u8-in-Lapse-clause-writes c =
     subst (λ (e : Event). Writes c.args.out.now c.put_id-in-Lapse.new.out (event_spelling e) c.put_id-in-Lapse.result) (sym c.in-Lapse.is)
-    (writes_then c.args.out.now c.put_u8-in-Lapse.new.out c.put_id-in-Lapse.new.out (32 ∷ []) _ c.put_id-in-Lapse.result c.in_ok-put_u8-in-Lapse.ensures c.put_id-in-Lapse.ensures.writes)
+    (writes_then c.args.out.now c.put_u8-in-Lapse.new.out c.put_id-in-Lapse.new.out (32 ∷ []) _ c.put_id-in-Lapse.result c.in_ok-put_u8-in-Lapse.ensures
+      c.put_id-in-Lapse.ensures.writes)

@@ -16,4 +16,5 @@ returns-clause-len c =
     omega (arith, length-append (flag_spelling v.flag) (number_set_spelling v.set), length-flag v.flag, set) in
     let numbered : length (number ++ (flag_spelling v.flag ++ number_set_spelling v.set)) ≡ 10 + 4 * length (items v.set) =
     omega (arith, length-append number (flag_spelling v.flag ++ number_set_spelling v.set), flagged) in
-    omega (arith, c.text_len.ensures.len, c.len.ensures.len, len-items v.set, length-append (text_spelling v.text) (number ++ (flag_spelling v.flag ++ number_set_spelling v.set)), numbered)
+    omega (arith, c.text_len.ensures.len, c.len.ensures.len, len-items v.set,
+      length-append (text_spelling v.text) (number ++ (flag_spelling v.flag ++ number_set_spelling v.set)), numbered)

@@ -15,6 +15,9 @@ overflow_cast-rows c = omega (arith, ap length c.rows-rows.ensures.rows, len-row
 pub returns-clause-writes : goal.returns-clause-writes
 returns-clause-writes c =
     let rows = c.rows-rows.result.now in
-    let all = writes_then c.args.out.now c.put_u16.new.out c.put_rows.new.out (to_be_bytes w16 (length rows)) (flat_map row_spelling rows) c.put_rows.result c.in_ok-put_u16.ensures c.put_rows.ensures.writes in
-    let by_rows = subst (λ (rs : List Row). Writes c.args.out.now c.put_rows.new.out (to_be_bytes w16 (length rs) ++ flat_map row_spelling rs) c.put_rows.result) c.rows-rows.ensures.rows all in
-    subst (λ (n : ℕ). Writes c.args.out.now c.put_rows.new.out (to_be_bytes w16 n ++ flat_map row_spelling (rows_of c.args.view.now)) c.put_rows.result) (len-rows_of c.args.view.now) by_rows
+    let all = writes_then c.args.out.now c.put_u16.new.out c.put_rows.new.out (to_be_bytes w16 (length rows)) (flat_map row_spelling rows)
+      c.put_rows.result c.in_ok-put_u16.ensures c.put_rows.ensures.writes in
+    let by_rows = subst (λ (rs : List Row). Writes c.args.out.now c.put_rows.new.out (to_be_bytes w16 (length rs) ++ flat_map row_spelling rs)
+      c.put_rows.result) c.rows-rows.ensures.rows all in
+    subst (λ (n : ℕ). Writes c.args.out.now c.put_rows.new.out (to_be_bytes w16 n ++ flat_map row_spelling (rows_of c.args.view.now)) c.put_rows.result)
+      (len-rows_of c.args.view.now) by_rows

@@ -6,5 +6,7 @@ use Rattle.cc_words.proofs.addresses.peers.Goals as goal
 
 pub returns : goal.returns
 returns c =
-    let parts = map_from_collect _ c.collect.ensures.ran (YieldsList-from_str_split 44 c.args.word.now (lit< tt) c.split.ensures.text c.split.ensures.has_more c.split.ensures.pattern) in
-    peers_of_parts (λ v. v.items) c.args.word.now _ c.peers_in.result (ap (map (λ w. w.now)) c.deref.ensures.value ∙ (rw c.in_ok-words.was at parts)) c.peers_in.ensures
+    let parts = map_from_collect _ c.collect.ensures.ran (YieldsList-from_str_split 44 c.args.word.now (lit< tt) c.split.ensures.text
+      c.split.ensures.has_more c.split.ensures.pattern) in
+    peers_of_parts (λ v. v.items) c.args.word.now _ c.peers_in.result (ap (map (λ w. w.now)) c.deref.ensures.value ∙ (rw c.in_ok-words.was at parts))
+      c.peers_in.ensures

@@ -9,4 +9,5 @@ returns-in_default c =
     let i = c.loop-word.word-index in
     let words = c.args.words.now in
     let never = c.in_default.ensures in
-    no_numbers (map (λ w. w.now) words) i (rw length-map c.loop-word-test.true) (subst (NoNumber 32) (sym (get_or-map (λ w. w.now) words i _ [] c.loop-word-test.true)) never)
+    no_numbers (map (λ w. w.now) words) i (rw length-map c.loop-word-test.true)
+      (subst (NoNumber 32) (sym (get_or-map (λ w. w.now) words i _ [] c.loop-word-test.true)) never)

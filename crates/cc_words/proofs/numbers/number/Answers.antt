@@ -5,7 +5,9 @@ use Rattle.cc_words.proofs.Digits.{not_plain, plain_parsed}
 use Rattle.cc_words.proofs.numbers.number.Goals as goal
 
 pub returns-then-not-is_plain : goal.returns-then-not-is_plain
-returns-then-not-is_plain c = not_plain 64 c.args.word.now (lit≤ tt) (subst (λ w. ¬ (IsPlain w)) c.as_bytes.ensures.value (λ plain. false≢true (c.if-not-is_plain.ensures.1 plain)))
+returns-then-not-is_plain c = not_plain 64 c.args.word.now (lit≤ tt) (subst (λ w. ¬ (IsPlain w)) c.as_bytes.ensures.value
+    (λ plain. false≢true (c.if-not-is_plain.ensures.1 plain)))
 
 pub returns : goal.returns
-returns c = rw c.ok.ensures.value (plain_parsed 64 c.args.word.now c.parse.result (lit≤ tt) (subst IsPlain c.as_bytes.ensures.value (c.if-not-is_plain.ensures.0 refl)) c.parse.ensures.value.0)
+returns c = rw c.ok.ensures.value (plain_parsed 64 c.args.word.now c.parse.result (lit≤ tt)
+    (subst IsPlain c.as_bytes.ensures.value (c.if-not-is_plain.ensures.0 refl)) c.parse.ensures.value.0)

@@ -6,16 +6,21 @@ use Rattle.cc_words.proofs.peer_lines.peers_in_lines.Goals as goal
 
 pub returns-clause-peers : goal.returns-clause-peers
 returns-clause-peers c =
-    let parts = map_from_collect _ c.collect.ensures.ran (YieldsList-from_str_split 10 c.args.text.now (lit< tt) c.split.ensures.text c.split.ensures.has_more c.split.ensures.pattern) in
-    peers_of_lines (λ v. v.items) c.args.text.now _ c.peers_on.result (ap (map (λ l. l.now)) c.deref.ensures.value ∙ (rw c.in_ok-lines.was at parts)) c.peers_on.ensures.peers
+    let parts = map_from_collect _ c.collect.ensures.ran (YieldsList-from_str_split 10 c.args.text.now (lit< tt) c.split.ensures.text
+      c.split.ensures.has_more c.split.ensures.pattern) in
+    peers_of_lines (λ v. v.items) c.args.text.now _ c.peers_on.result (ap (map (λ l. l.now)) c.deref.ensures.value ∙ (rw c.in_ok-lines.was at parts))
+      c.peers_on.ensures.peers
 
 pub returns-clause-list : goal.returns-clause-list
 returns-clause-list c =
-    let parts = map_from_collect _ c.collect.ensures.ran (YieldsList-from_str_split 10 c.args.text.now (lit< tt) c.split.ensures.text c.split.ensures.has_more c.split.ensures.pattern) in
+    let parts = map_from_collect _ c.collect.ensures.ran (YieldsList-from_str_split 10 c.args.text.now (lit< tt) c.split.ensures.text
+      c.split.ensures.has_more c.split.ensures.pattern) in
     list_of_peers (λ v. v.items) c.args.text.now c.peers_on.result
-    (peers_of_lines (λ v. v.items) c.args.text.now _ c.peers_on.result (ap (map (λ l. l.now)) c.deref.ensures.value ∙ (rw c.in_ok-lines.was at parts)) c.peers_on.ensures.peers)
+    (peers_of_lines (λ v. v.items) c.args.text.now _ c.peers_on.result (ap (map (λ l. l.now)) c.deref.ensures.value ∙ (rw c.in_ok-lines.was at parts))
+      c.peers_on.ensures.peers)
 
 pub returns-clause-fault : goal.returns-clause-fault
 returns-clause-fault c =
-    let parts = map_from_collect _ c.collect.ensures.ran (YieldsList-from_str_split 10 c.args.text.now (lit< tt) c.split.ensures.text c.split.ensures.has_more c.split.ensures.pattern) in
+    let parts = map_from_collect _ c.collect.ensures.ran (YieldsList-from_str_split 10 c.args.text.now (lit< tt) c.split.ensures.text
+      c.split.ensures.has_more c.split.ensures.pattern) in
     fault_of_lines c.args.text.now _ c.peers_on.result (ap (map (λ l. l.now)) c.deref.ensures.value ∙ (rw c.in_ok-lines.was at parts)) c.peers_on.ensures.fault

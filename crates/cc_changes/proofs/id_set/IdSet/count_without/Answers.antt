@@ -11,5 +11,6 @@ returns-clause-count c =
 
 pub returns-clause-fits : goal.returns-clause-fits
 returns-clause-fits c =
-    let all = at_most_all (λ q. not (set.contains c.args.other.now q)) c.deref.result.now (omega (arith, c.self.invariant.fits, ap length c.deref.ensures.value)) in
+    let all = at_most_all (λ q. not (set.contains c.args.other.now q)) c.deref.result.now
+      (omega (arith, c.self.invariant.fits, ap length c.deref.ensures.value)) in
     omega (arith, c.count_outside.ensures, all)

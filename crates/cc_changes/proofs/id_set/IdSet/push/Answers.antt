@@ -19,10 +19,12 @@ unwrap-requires c = c.push.ensures.succeeds (omega (arith, has_room _ _ _ c.self
 pub invariant_of-self : goal.invariant_of-self
 invariant_of-self c =
     rw (c.push.ensures.items, c.unwrap.ensures)
-    (push_table _ _ _ _ c.self.invariant _ (below _ _ _ c.self.invariant c.self.view_is _ c.requires.above) (has_room _ _ _ c.self.invariant c.self.view_is c.requires.room) _ c.push.ensures.capacity)
+    (push_table _ _ _ _ c.self.invariant _ (below _ _ _ c.self.invariant c.self.view_is _ c.requires.above)
+      (has_room _ _ _ c.self.invariant c.self.view_is c.requires.room) _ c.push.ensures.capacity)
 
 pub returns-clause-set : goal.returns-clause-set
-returns-clause-set c = rw (c.push.ensures.items, c.unwrap.ensures, ← c.self.view_is) (table_of-push marked _ _ (below _ _ _ c.self.invariant c.self.view_is _ c.requires.above))
+returns-clause-set c = rw (c.push.ensures.items, c.unwrap.ensures, ← c.self.view_is)
+    (table_of-push marked _ _ (below _ _ _ c.self.invariant c.self.view_is _ c.requires.above))
 
 pub returns-clause-items : goal.returns-clause-items
 returns-clause-items c =

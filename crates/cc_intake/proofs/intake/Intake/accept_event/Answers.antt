@@ -14,7 +14,8 @@ invariant_of-self-2 g c =
     let opening = g.L.Life.opening in
     let entry = c.in_ok-entry.entry in
     let pushed = c.in-Ok.ensures.pushed in
-    let core = c.apply.ensures ∙ ap (λ (e : Event). next c.self.inside.core e) (sym (ap (λ (e : Entry). e.event) c.in_ok-entry.ensures.entry.1)) ∙ ap (λ (s : Core). next s entry.event) i.0
+    let core = c.apply.ensures ∙ ap (λ (e : Event). next c.self.inside.core e) (sym (ap (λ (e : Entry). e.event) c.in_ok-entry.ensures.entry.1))
+      ∙ ap (λ (s : Core). next s entry.event) i.0
     ∙ sym (core_more opening c.self.inside.producer.entries entry)
     ∙ ap (λ (p : End). core_after opening p.entries) (sym pushed) in
     let count = i.1 in
@@ -22,4 +23,5 @@ invariant_of-self-2 g c =
     let shown = ap (λ (a : Accepting). length a.entries) c.self.view_is in
     let longer = ap (λ (p : End). length p.entries) pushed in
     let added = length-append c.self.inside.producer.entries (entry ∷ []) in
-    (core, omega (arith, count, longer, added), omega (arith, count, room, shown), omega (arith, c.raise.ensures.total, i.3), i.4, i.5, i.6, c.in-Ok.ensures.accepted)
+    (core, omega (arith, count, longer, added), omega (arith, count, room, shown), omega (arith, c.raise.ensures.total, i.3), i.4, i.5, i.6,
+      c.in-Ok.ensures.accepted)

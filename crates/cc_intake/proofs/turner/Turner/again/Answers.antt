@@ -5,4 +5,5 @@ use Rattle.cc_flush.specs.Standing.{reply_again}
 use Rattle.cc_intake.proofs.turner.Turner.again.Goals as goal
 
 pub returns-clause-puts : goal.returns-clause-puts
-returns-clause-puts g c = subst (λ e. e.engine.failed ≡ None → PutsAgain g.S.Site (reply_again c.args.session e.engine.twin) e.engine c.again.new.self) c.self.view_is c.again.ensures.puts
+returns-clause-puts g c = subst (λ e. e.engine.failed ≡ None → PutsAgain g.S.Site (reply_again c.args.session e.engine.twin) e.engine c.again.new.self)
+    c.self.view_is c.again.ensures.puts

@@ -5,4 +5,5 @@ use Rattle.cc_flush.specs.Standing.{ack_again}
 use Rattle.cc_intake.proofs.turner.Turner.reack.Goals as goal
 
 pub returns-clause-puts : goal.returns-clause-puts
-returns-clause-puts g c = subst (λ e. e.engine.failed ≡ None → PutsAgain g.S.Site (ack_again c.args.peer e.engine.twin) e.engine c.reack.new.self) c.self.view_is c.reack.ensures.puts
+returns-clause-puts g c = subst (λ e. e.engine.failed ≡ None → PutsAgain g.S.Site (ack_again c.args.peer e.engine.twin) e.engine c.reack.new.self)
+    c.self.view_is c.reack.ensures.puts

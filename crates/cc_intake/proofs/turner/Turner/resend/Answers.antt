@@ -5,4 +5,5 @@ use Rattle.cc_flush.specs.Standing.{resends}
 use Rattle.cc_intake.proofs.turner.Turner.resend.Goals as goal
 
 pub returns-clause-puts : goal.returns-clause-puts
-returns-clause-puts g c = subst (λ e. e.engine.failed ≡ None → PutsAgain g.S.Site (resends e.engine.twin) e.engine c.resend.new.self) c.self.view_is c.resend.ensures.puts
+returns-clause-puts g c = subst (λ e. e.engine.failed ≡ None → PutsAgain g.S.Site (resends e.engine.twin) e.engine c.resend.new.self) c.self.view_is
+    c.resend.ensures.puts

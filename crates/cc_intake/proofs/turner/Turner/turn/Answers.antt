@@ -7,14 +7,18 @@ use Rattle.cc_intake.proofs.turner.Turner.turn.Goals as goal
 
 pub flush-requires-clause-lawful : goal.flush-requires-clause-lawful
 flush-requires-clause-lawful g c =
-    lawful_batch g.S.Site g.L.Life.reached g.L.Life.opening c.self.inside.consumer.entries c.gather-kept.new.consumer.entries c.self.inside.flushed c.len-events.result c.self.inside.kept c.take-kept.result c.gather-kept.result c.gather-kept.result c.gather-kept.new.batch
-    c.self.inside.engine c.self.inside.engine c.take-kept.ensures.value c.self.invariant.0 refl c.gather-kept.ensures.gathers c.len-events.ensures.len c.gather-kept.ensures.lawful c.gather-kept.ensures.limit
+    lawful_batch g.S.Site g.L.Life.reached g.L.Life.opening c.self.inside.consumer.entries c.gather-kept.new.consumer.entries c.self.inside.flushed
+      c.len-events.result c.self.inside.kept c.take-kept.result c.gather-kept.result c.gather-kept.result c.gather-kept.new.batch
+    c.self.inside.engine c.self.inside.engine c.take-kept.ensures.value c.self.invariant.0 refl c.gather-kept.ensures.gathers c.len-events.ensures.len
+      c.gather-kept.ensures.lawful c.gather-kept.ensures.limit
     (sym c.fault.ensures ∙ c.in_default.is)
 
 pub invariant_of-self : goal.invariant_of-self
 invariant_of-self g c = (
-  kept_failed g.S.Site g.L.Life.reached g.L.Life.opening c.self.inside.consumer.entries c.gather-kept.new.consumer.entries c.self.inside.flushed c.len-events.result c.self.inside.kept c.take-kept.result c.gather-kept.result c.replace.new.dest c.gather-kept.new.batch
-      c.self.inside.engine c.flush.new.engine c.take-kept.ensures.value c.self.invariant.0 c.replace.ensures.after c.gather-kept.ensures.gathers c.len-events.ensures.len c.gather-kept.ensures.lawful c.gather-kept.ensures.limit
+  kept_failed g.S.Site g.L.Life.reached g.L.Life.opening c.self.inside.consumer.entries c.gather-kept.new.consumer.entries c.self.inside.flushed
+    c.len-events.result c.self.inside.kept c.take-kept.result c.gather-kept.result c.replace.new.dest c.gather-kept.new.batch
+      c.self.inside.engine c.flush.new.engine c.take-kept.ensures.value c.self.invariant.0 c.replace.ensures.after c.gather-kept.ensures.gathers
+        c.len-events.ensures.len c.gather-kept.ensures.lawful c.gather-kept.ensures.limit
       c.in_err-flush.field-0.0.fault c.in_err-flush.ensures.flushed,
   c.flush.ensures.empties,
   c.self.invariant.2,
@@ -35,17 +39,22 @@ pub returns-in_err-flush-clause-turned : goal.returns-in_err-flush-clause-turned
 returns-in_err-flush-clause-turned g c =
     let now = c.gather-kept.new.consumer in
     let p = err_from_is_err_and c.from_residual.result c.from_residual.ensures.1 in
-    let next : Turning g.row.S.Denot = record { handed = take (c.self.inside.flushed + c.len-events.result) now.entries; kept = c.replace.new.dest; finds = now.finds; engine = c.flush.new.engine } in
+    let next : Turning g.row.S.Denot = record { handed = take (c.self.inside.flushed + c.len-events.result) now.entries; kept = c.replace.new.dest;
+      finds = now.finds; engine = c.flush.new.engine } in
     let run =
-    turned_failed g.S.Site g.L.Life.reached g.L.Life.opening c.self.inside.consumer.entries c.gather-kept.new.consumer.entries c.self.inside.flushed c.len-events.result c.self.inside.kept c.take-kept.result c.gather-kept.result c.replace.new.dest c.gather-kept.new.batch
-    c.self.inside.engine c.flush.new.engine c.take-kept.ensures.value c.self.invariant.0 c.replace.ensures.after c.gather-kept.ensures.gathers c.len-events.ensures.len c.gather-kept.ensures.lawful c.gather-kept.ensures.limit
+    turned_failed g.S.Site g.L.Life.reached g.L.Life.opening c.self.inside.consumer.entries c.gather-kept.new.consumer.entries c.self.inside.flushed
+      c.len-events.result c.self.inside.kept c.take-kept.result c.gather-kept.result c.replace.new.dest c.gather-kept.new.batch
+    c.self.inside.engine c.flush.new.engine c.take-kept.ensures.value c.self.invariant.0 c.replace.ensures.after c.gather-kept.ensures.gathers
+      c.len-events.ensures.len c.gather-kept.ensures.lawful c.gather-kept.ensures.limit
     c.self.inside.consumer.finds now.finds c.in_err-flush.field-0.0 c.in_err-flush.ensures.flushed in
     subst (λ t. Turns g.S.Site g.L.Life.reached t next c.from_residual.result) c.self.view_is (rw (p.1, p.2) run)
 
 pub invariant_of-self-2 : goal.invariant_of-self-2
 invariant_of-self-2 g c = (
-  kept_on g.S.Site g.L.Life.reached g.L.Life.opening c.self.inside.consumer.entries c.gather-kept.new.consumer.entries c.self.inside.flushed c.len-events.result c.self.inside.kept c.take-kept.result c.gather-kept.result c.replace.new.dest c.gather-kept.new.batch
-      c.self.inside.engine c.flush.new.engine c.take-kept.ensures.value c.self.invariant.0 c.replace.ensures.after c.gather-kept.ensures.gathers c.len-events.ensures.len c.gather-kept.ensures.lawful c.gather-kept.ensures.limit
+  kept_on g.S.Site g.L.Life.reached g.L.Life.opening c.self.inside.consumer.entries c.gather-kept.new.consumer.entries c.self.inside.flushed
+    c.len-events.result c.self.inside.kept c.take-kept.result c.gather-kept.result c.replace.new.dest c.gather-kept.new.batch
+      c.self.inside.engine c.flush.new.engine c.take-kept.ensures.value c.self.invariant.0 c.replace.ensures.after c.gather-kept.ensures.gathers
+        c.len-events.ensures.len c.gather-kept.ensures.lawful c.gather-kept.ensures.limit
       (sym c.fault.ensures ∙ c.in_default.is) c.in_ok-flush.ensures.flushed,
   c.flush.ensures.empties,
   c.self.invariant.2,
@@ -54,17 +63,22 @@ invariant_of-self-2 g c = (
 pub returns-clause-turned : goal.returns-clause-turned
 returns-clause-turned g c =
     let now = c.gather-kept.new.consumer in
-    let next : Turning g.row.S.Denot = record { handed = take (c.self.inside.flushed + c.len-events.result) now.entries; kept = c.replace.new.dest; finds = now.finds; engine = c.flush.new.engine } in
+    let next : Turning g.row.S.Denot = record { handed = take (c.self.inside.flushed + c.len-events.result) now.entries; kept = c.replace.new.dest;
+      finds = now.finds; engine = c.flush.new.engine } in
     let run =
-    turned g.S.Site g.L.Life.reached g.L.Life.opening c.self.inside.consumer.entries c.gather-kept.new.consumer.entries c.self.inside.flushed c.len-events.result c.self.inside.kept c.take-kept.result c.gather-kept.result c.replace.new.dest c.gather-kept.new.batch
-    c.self.inside.engine c.flush.new.engine c.take-kept.ensures.value c.self.invariant.0 c.replace.ensures.after c.gather-kept.ensures.gathers c.len-events.ensures.len c.gather-kept.ensures.lawful c.gather-kept.ensures.limit
+    turned g.S.Site g.L.Life.reached g.L.Life.opening c.self.inside.consumer.entries c.gather-kept.new.consumer.entries c.self.inside.flushed
+      c.len-events.result c.self.inside.kept c.take-kept.result c.gather-kept.result c.replace.new.dest c.gather-kept.new.batch
+    c.self.inside.engine c.flush.new.engine c.take-kept.ensures.value c.self.invariant.0 c.replace.ensures.after c.gather-kept.ensures.gathers
+      c.len-events.ensures.len c.gather-kept.ensures.lawful c.gather-kept.ensures.limit
     c.self.inside.consumer.finds now.finds c.gather-kept.ensures.done c.in_ok-flush.ensures.flushed in
     subst (λ t. Turns g.S.Site g.L.Life.reached t next (Ok (record { events = c.len-events.result; full = false }))) c.self.view_is run
 
 pub returns-clause-twin : goal.returns-clause-twin
 returns-clause-twin g c =
     let kept =
-    kept_on g.S.Site g.L.Life.reached g.L.Life.opening c.self.inside.consumer.entries c.gather-kept.new.consumer.entries c.self.inside.flushed c.len-events.result c.self.inside.kept c.take-kept.result c.gather-kept.result c.gather-kept.result c.gather-kept.new.batch
-    c.self.inside.engine c.flush.new.engine c.take-kept.ensures.value c.self.invariant.0 refl c.gather-kept.ensures.gathers c.len-events.ensures.len c.gather-kept.ensures.lawful c.gather-kept.ensures.limit
+    kept_on g.S.Site g.L.Life.reached g.L.Life.opening c.self.inside.consumer.entries c.gather-kept.new.consumer.entries c.self.inside.flushed
+      c.len-events.result c.self.inside.kept c.take-kept.result c.gather-kept.result c.gather-kept.result c.gather-kept.new.batch
+    c.self.inside.engine c.flush.new.engine c.take-kept.ensures.value c.self.invariant.0 refl c.gather-kept.ensures.gathers c.len-events.ensures.len
+      c.gather-kept.ensures.lawful c.gather-kept.ensures.limit
     (sym c.fault.ensures ∙ c.in_default.is) c.in_ok-flush.ensures.flushed in
     kept.twin c.in_ok-flush.ensures.flushed.goes_on

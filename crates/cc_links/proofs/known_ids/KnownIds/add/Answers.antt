@@ -17,7 +17,8 @@ invariant_of-self c =
 
 pub returns-in-Ok : goal.returns-in-Ok
 returns-in-Ok c =
-    let same = there_already c.self.invariant c.self.view_is (rw c.deref.ensures.0 at c.in-Ok.ensures) ∙ ap (set.insert c.args.self.now) c.number-number.ensures.number in
+    let same = there_already c.self.invariant c.self.view_is (rw c.deref.ensures.0 at c.in-Ok.ensures)
+      ∙ ap (set.insert c.args.self.now) c.number-number.ensures.number in
     let within = len_known c.self.invariant c.self.view_is in
     record { fits = (λ _. omega (arith, ap set.len same, within), λ _. refl); added = λ _. same; unchanged = λ _. refl; within = within }
 

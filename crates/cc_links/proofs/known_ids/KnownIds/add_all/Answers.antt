@@ -7,7 +7,8 @@ loop-id-init c = record { within = len_known c.self.invariant c.self.view_is; re
 
 pub returns-then-not-add-clause-fits : goal.returns-then-not-add-clause-fits
 returns-then-not-add-clause-fits c =
-    (λ h. cc, λ fits. sym c.if-not-add.true ∙ c.add.ensures.fits.1 (first_fits _ _ _ (next_id _ _ _ _ _ c.loop-id-test.true c.id-item.is c.loop-id.invariant.rest) fits))
+    (λ h. cc, λ fits. sym c.if-not-add.true ∙ c.add.ensures.fits.1 (first_fits _ _ _
+      (next_id _ _ _ _ _ c.loop-id-test.true c.id-item.is c.loop-id.invariant.rest) fits))
 
 pub loop-id-preserved : goal.loop-id-preserved
 loop-id-preserved c = record {

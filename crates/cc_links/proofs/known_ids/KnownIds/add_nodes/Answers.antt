@@ -8,7 +8,8 @@ loop-row-init c = record { within = len_known c.self.invariant c.self.view_is; r
 
 pub returns-then-not-add-clause-fits : goal.returns-then-not-add-clause-fits
 returns-then-not-add-clause-fits c =
-    (λ h. cc, λ fits. sym c.if-not-add.true ∙ c.add.ensures.fits.1 (first_fits _ _ _ (next_named (λ (r : Row). r.node) _ _ _ _ _ c.loop-row-test.true c.row-item.is c.loop-row.invariant.rest) fits))
+    (λ h. cc, λ fits. sym c.if-not-add.true ∙ c.add.ensures.fits.1 (first_fits _ _ _
+      (next_named (λ (r : Row). r.node) _ _ _ _ _ c.loop-row-test.true c.row-item.is c.loop-row.invariant.rest) fits))
 
 pub loop-row-preserved : goal.loop-row-preserved
 loop-row-preserved c = record {

@@ -7,10 +7,12 @@ loop-number-init c = record { within = len_known c.self.invariant c.self.view_is
 
 pub returns-then-not-add-clause-fits : goal.returns-then-not-add-clause-fits
 returns-then-not-add-clause-fits c =
-    (λ h. cc, λ fits. sym c.if-not-add.true ∙ c.add.ensures.fits.1 (first_fits _ _ _ (next_number _ _ _ _ _ 0 c.loop-number-test.true (rw c.unwrap.ensures at c.new.ensures.id) c.loop-number.invariant.rest) fits))
+    (λ h. cc, λ fits. sym c.if-not-add.true ∙ c.add.ensures.fits.1 (first_fits _ _ _
+      (next_number _ _ _ _ _ 0 c.loop-number-test.true (rw c.unwrap.ensures at c.new.ensures.id) c.loop-number.invariant.rest) fits))
 
 pub loop-number-preserved : goal.loop-number-preserved
 loop-number-preserved c = record {
   within = c.add.ensures.within;
-  rest = rw (c.add.ensures.added c.if-not-add.false) (next_number _ _ _ _ _ 0 c.loop-number-test.true (rw c.unwrap.ensures at c.new.ensures.id) c.loop-number.invariant.rest);
+  rest = rw (c.add.ensures.added c.if-not-add.false) (next_number _ _ _ _ _ 0 c.loop-number-test.true (rw c.unwrap.ensures at c.new.ensures.id)
+    c.loop-number.invariant.rest);
 }

@@ -11,4 +11,5 @@ returns-in-Ok c =
     (λ l. record l { acked = c.args.n }) refl _ c.self.view_is
 
 pub returns-in_default : goal.returns-in_default
-returns-in_default c = link_unchanged _ _ c.self.invariant _ _ (rw c.deref.ensures.value at c.in_default.ensures) (λ l. record l { acked = c.args.n }) _ c.self.view_is
+returns-in_default c = link_unchanged _ _ c.self.invariant _ _ (rw c.deref.ensures.value at c.in_default.ensures) (λ l. record l { acked = c.args.n }) _
+    c.self.view_is

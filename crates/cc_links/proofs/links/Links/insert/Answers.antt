@@ -14,10 +14,12 @@ unwrap-requires c =
 pub invariant_of-self-in-Err : goal.invariant_of-self-in-Err
 invariant_of-self-in-Err c =
     rw (c.insert.ensures.items, c.unwrap.ensures)
-    (insert_table _ _ _ _ c.self.invariant _ _ (rw c.deref.ensures.value at c.in-Err.ensures) _ refl (rw (← c.self.view_is) at c.requires) _ c.insert.ensures.capacity)
+    (insert_table _ _ _ _ c.self.invariant _ _ (rw c.deref.ensures.value at c.in-Err.ensures) _ refl (rw (← c.self.view_is) at c.requires) _
+      c.insert.ensures.capacity)
 
 pub returns-in-Ok : goal.returns-in-Ok
 returns-in-Ok c = rw (← c.self.view_is) (table_of-set entry_of _ c.self.invariant.rising _ _ (rw c.deref.ensures.value at c.in-Ok.ensures) _ refl)
 
 pub returns-in-Err : goal.returns-in-Err
-returns-in-Err c = rw (c.insert.ensures.items, c.unwrap.ensures, ← c.self.view_is) (table_of-insert entry_of _ _ _ (rw c.deref.ensures.value at c.in-Err.ensures) _ refl)
+returns-in-Err c = rw (c.insert.ensures.items, c.unwrap.ensures, ← c.self.view_is)
+    (table_of-insert entry_of _ _ _ (rw c.deref.ensures.value at c.in-Err.ensures) _ refl)

@@ -28,5 +28,6 @@ invariant_of-self-else-is_idle c =
       beside = c.self.invariant.beside;
       waits = c.self.invariant.waits;
       behind = may_wait a.stage a.seen _ busy;
-      room = wait_room a.line c.args.asked.now a.mine (ap (λ (s : Ops). finds_no_room (mine_at_last s) k) c.self.view_is ∙ c.requires.room) c.self.invariant.room;
+      room = wait_room a.line c.args.asked.now a.mine (ap (λ (s : Ops). finds_no_room (mine_at_last s) k) c.self.view_is
+        ∙ c.requires.room) c.self.invariant.room;
     })

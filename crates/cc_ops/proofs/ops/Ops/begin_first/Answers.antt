@@ -31,7 +31,8 @@ invariant_of-self c =
 pub begin-requires-clause-room : goal.begin-requires-clause-room
 begin-requires-clause-room c =
     let a = c.self.inside in
-    let same : written_by (line_behind a.share a.line) (written_by (first_round a.share a.line) a.mine) ≡ written_by c.take_round-round.new.line (written_by (c.in-Some.asked ∷ c.take_round-round.new.others) a.mine) =
+    let same : written_by (line_behind a.share a.line) (written_by (first_round a.share a.line) a.mine) ≡ written_by c.take_round-round.new.line
+      (written_by (c.in-Some.asked ∷ c.take_round-round.new.others) a.mine) =
     λ i. written_by (sym c.in-Some.ensures.line i) (written_by (sym c.in-Some.ensures.some i) a.mine) in
     subst (λ (v : Value). set.len v.set ≤ set_limit) same (round_room a.share a.line a.mine c.self.invariant.room)
 

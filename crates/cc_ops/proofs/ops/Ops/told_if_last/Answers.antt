@@ -10,12 +10,14 @@ loop-asked-init c = c.in_ok-replies.ensures ∙ ap (λ r. r ∷ []) c.in_ok-firs
 
 pub push-requires-clause-some : goal.push-requires-clause-some
 push-requires-clause-some c =
-    omega (arith, ap length c.loop-asked.invariant, told_count c.args.seen.now c.args.pending.now.asked (take c.loop-asked.asked-index c.asks-asked-items.result.now))
+    omega (arith, ap length c.loop-asked.invariant, told_count c.args.seen.now c.args.pending.now.asked
+      (take c.loop-asked.asked-index c.asks-asked-items.result.now))
 
 pub push-requires-clause-room : goal.push-requires-clause-room
 push-requires-clause-room c =
     let few = front_few c.asks-asked-items.result.now c.loop-asked.asked-index in
-    let count = ap length c.loop-asked.invariant ∙ told_count c.args.seen.now c.args.pending.now.asked (take c.loop-asked.asked-index c.asks-asked-items.result.now) in
+    let count = ap length c.loop-asked.invariant ∙ told_count c.args.seen.now c.args.pending.now.asked
+      (take c.loop-asked.asked-index c.asks-asked-items.result.now) in
     omega (arith, few, count, c.loop-asked-test.true, ap length c.asks-asked-items.ensures.asks, c.self.invariant.beside, c.self.invariant.few)
 
 pub loop-asked-preserved : goal.loop-asked-preserved

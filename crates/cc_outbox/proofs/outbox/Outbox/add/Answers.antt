@@ -8,13 +8,15 @@ pub unwrap-requires : goal.unwrap-requires
 unwrap-requires c =
     let inside = c.self.inside in
     let count = len_posts (inside.last - length inside.posts.items) inside.posts.items in
-    c.push_back.ensures.succeeds (omega (arith, count, ap (λ (o : Outbox). map.len o.posts) c.self.view_is, c.requires.room, c.self.invariant.room, inside.posts.ok))
+    c.push_back.ensures.succeeds (omega (arith, count, ap (λ (o : Outbox). map.len o.posts) c.self.view_is, c.requires.room, c.self.invariant.room,
+      inside.posts.ok))
 
 pub invariant_of-self : goal.invariant_of-self
 invariant_of-self c =
     let inside = c.self.inside in
     let count = len_posts (inside.last - length inside.posts.items) inside.posts.items in
-    let more : length c.push_back.new.self.items ≡ length inside.posts.items + 1 = rw (c.push_back.ensures.items, c.unwrap.ensures) (length-append inside.posts.items (c.args.post ∷ [])) in
+    let more : length c.push_back.new.self.items ≡ length inside.posts.items + 1 = rw (c.push_back.ensures.items, c.unwrap.ensures)
+      (length-append inside.posts.items (c.args.post ∷ [])) in
     record {
       numbers = omega (arith, more, c.self.invariant.numbers);
       fits = omega (arith, more, count, ap (λ (o : Outbox). map.len o.posts) c.self.view_is, c.requires.room);

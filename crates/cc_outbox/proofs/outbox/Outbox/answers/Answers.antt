@@ -10,4 +10,5 @@ returns-clause-answers c = rw (← c.self.view_is) (c.deref.ensures.value ∙ sy
 
 pub returns-clause-len : goal.returns-clause-len
 returns-clause-len c =
-    omega (arith, len-table_of entry_of c.self.inside.answers.items c.self.invariant.answers.rising, ap (λ (o : Outbox). map.len o.answers) c.self.view_is, c.deref.ensures.len)
+    omega (arith, len-table_of entry_of c.self.inside.answers.items c.self.invariant.answers.rising,
+      ap (λ (o : Outbox). map.len o.answers) c.self.view_is, c.deref.ensures.len)

@@ -7,7 +7,8 @@ use Rattle.cc_outbox.proofs.outbox.Outbox.keep.Goals as goal
 pub invariant_of-self : goal.invariant_of-self
 invariant_of-self c =
     kept_answers _ _ _ _ _ c.self.invariant _ _
-    (set_table _ _ _ _ c.self.invariant.answers _ _ (rw c.deref.ensures.value at c.in-Ok.ensures) c.replace.new.dest (ap (λ (r : KeptAnswer). r.session) c.replace.ensures.after))
+    (set_table _ _ _ _ c.self.invariant.answers _ _ (rw c.deref.ensures.value at c.in-Ok.ensures) c.replace.new.dest
+      (ap (λ (r : KeptAnswer). r.session) c.replace.ensures.after))
 
 pub unwrap-requires : goal.unwrap-requires
 unwrap-requires c =
@@ -18,7 +19,8 @@ pub invariant_of-self-in-Err : goal.invariant_of-self-in-Err
 invariant_of-self-in-Err c =
     rw (c.insert.ensures.items, c.unwrap.ensures)
     (kept_answers _ _ _ _ _ c.self.invariant _ _
-    (insert_table _ _ _ _ c.self.invariant.answers _ _ (rw c.deref.ensures.value at c.in-Err.ensures) _ refl (rw (← c.self.view_is) at c.requires) _ c.insert.ensures.capacity))
+    (insert_table _ _ _ _ c.self.invariant.answers _ _ (rw c.deref.ensures.value at c.in-Err.ensures) _ refl (rw (← c.self.view_is) at c.requires) _
+      c.insert.ensures.capacity))
 
 pub returns-in-Ok : goal.returns-in-Ok
 returns-in-Ok c =

@@ -6,7 +6,8 @@ use Rattle.cc_outbox.proofs.outbox.Outbox.post.Goals as goal
 
 pub returns-then-number-dropped : goal.returns-then-number-dropped
 returns-then-number-dropped c =
-    let low : c.args.number ≤ c.self.inside.last - length c.self.inside.posts.items = omega (arith, c.if-number-dropped.true, c.len.ensures, c.self.inside.posts.ok) in
+    let low : c.args.number ≤ c.self.inside.last - length c.self.inside.posts.items =
+      omega (arith, c.if-number-dropped.true, c.len.ensures, c.self.inside.posts.ok) in
     rw (← c.self.view_is) (sym (map.get-from_entries nat_cmp_total _ _ ∙ find_up_to _ _ _ low))
 
 pub returns : goal.returns

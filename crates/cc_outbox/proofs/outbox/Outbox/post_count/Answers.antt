@@ -7,7 +7,8 @@ use Rattle.cc_outbox.proofs.outbox.Outbox.post_count.Goals as goal
 
 pub returns-clause-count : goal.returns-clause-count
 returns-clause-count c =
-    omega (arith, len_posts (c.self.inside.last - length c.self.inside.posts.items) c.self.inside.posts.items, ap (λ (o : Outbox). map.len o.posts) c.self.view_is, c.len.ensures, c.self.inside.posts.ok)
+    omega (arith, len_posts (c.self.inside.last - length c.self.inside.posts.items) c.self.inside.posts.items,
+      ap (λ (o : Outbox). map.len o.posts) c.self.view_is, c.len.ensures, c.self.inside.posts.ok)
 
 pub returns-clause-last : goal.returns-clause-last
 returns-clause-last c =

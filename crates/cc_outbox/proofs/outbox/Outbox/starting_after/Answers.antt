@@ -12,4 +12,5 @@ returns-clause-posts c =
     len_posts (c.args.last - length posts) posts ∙ ap length c.in_ok-posts.ensures.items
 
 pub returns-clause-answers : goal.returns-clause-answers
-returns-clause-answers c = ap (λ rows. finite.len (finite.from_entries {R = nat_cmp} (map entry_of rows))) c.in_ok-answers.ensures.items ∙ finite.len-empty nat_cmp Answer
+returns-clause-answers c = ap (λ rows. finite.len (finite.from_entries {R = nat_cmp} (map entry_of rows))) c.in_ok-answers.ensures.items
+    ∙ finite.len-empty nat_cmp Answer

@@ -3,7 +3,8 @@ use Rattle.cc_protocol.proofs.IncomingLaws.{start_begins, ahead_start}
 use Rattle.cc_protocol.proofs.incoming.Incoming.new.Goals as goal
 
 pub invariant_of-result : goal.invariant_of-result
-invariant_of-result g c = rw c.in_ok-frames.ensures (start_begins, record { ordered = omega arith; within = omega arith; some = omega (arith, c.in_ok-piece.ensures.len) })
+invariant_of-result g c = rw c.in_ok-frames.ensures (start_begins, record { ordered = omega arith; within = omega arith; some =
+    omega (arith, c.in_ok-piece.ensures.len) })
 
 pub returns : goal.returns
 returns g c = rw c.in_ok-frames.ensures (ahead_start (g.I.Input.remaining c.args.reader))

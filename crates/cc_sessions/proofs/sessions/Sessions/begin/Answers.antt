@@ -8,7 +8,8 @@ use Rattle.cc_sessions.specs.Rows.{entry_of}
 use Rattle.cc_sessions.proofs.sessions.Sessions.begin.Goals as goal
 
 -- the rows have room for the session
-fits_rows : (rows : List SessionRow) (capacity : ℕ) (ss : Requests) (s r : ℕ) → IsTable entry_of 256 rows capacity → table_of entry_of rows ≡ ss → IsFalse (finds_no_room ss s)
+fits_rows : (rows : List SessionRow) (capacity : ℕ) (ss : Requests) (s r : ℕ) → IsTable entry_of 256 rows capacity → table_of entry_of rows ≡ ss
+    → IsFalse (finds_no_room ss s)
     → table.len (table.insert (table_of entry_of rows) s r) ≤ 256
 fits_rows rows capacity ss s r is view room = rw view (begin_fits ss s r room (omega (arith, len-table_of entry_of rows is.rising, is.fits, ap table.len view)))
 
@@ -31,4 +32,5 @@ pub returns-in-Ok : goal.returns-in-Ok
 returns-in-Ok c = rw (← c.self.view_is) (table_of-set entry_of _ c.self.invariant.rising _ _ (rw c.deref.ensures.value at c.in-Ok.ensures) _ refl)
 
 pub returns-in-Err : goal.returns-in-Err
-returns-in-Err c = rw (c.insert.ensures.items, c.unwrap.ensures, ← c.self.view_is) (table_of-insert entry_of _ _ _ (rw c.deref.ensures.value at c.in-Err.ensures) _ refl)
+returns-in-Err c = rw (c.insert.ensures.items, c.unwrap.ensures, ← c.self.view_is)
+    (table_of-insert entry_of _ _ _ (rw c.deref.ensures.value at c.in-Err.ensures) _ refl)

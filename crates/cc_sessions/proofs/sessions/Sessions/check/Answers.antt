@@ -33,4 +33,5 @@ returns-in-None-2 c =
     let count = len-table_of entry_of c.self.inside.rows.items c.self.invariant.rising in
     let apart : c.len.result ≡ 256 → ⊥ = c.if-len-eq-MAX_ROWS.false in
     c.check_after.ensures
-    ∙ first _ (table.len c.args.self.now) _ (sym c.finish.ensures ∙ c.in-None-2.is) (λ e. apart (omega (arith, count, ap table.len c.self.view_is, c.len.ensures, e)))
+    ∙ first _ (table.len c.args.self.now) _ (sym c.finish.ensures ∙ c.in-None-2.is) (λ e. apart
+      (omega (arith, count, ap table.len c.self.view_is, c.len.ensures, e)))

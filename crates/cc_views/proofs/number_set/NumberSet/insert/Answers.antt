@@ -26,7 +26,8 @@ pub bounds-self-inside-at : goal.bounds-self-inside-at
 bounds-self-inside-at c = let found = place (goal.at.bounds-self-inside-at c).In-Err in omega arith
 
 pub invariant_of-self : goal.invariant_of-self
-invariant_of-self c = rw c.copy_within.ensures.after (table_insert _ _ _ c.self.invariant c.self.view_is _ _ c.requires (gap (goal.at.invariant_of-self c).In-Err))
+invariant_of-self c = rw c.copy_within.ensures.after (table_insert _ _ _ c.self.invariant c.self.view_is _ _ c.requires
+    (gap (goal.at.invariant_of-self c).In-Err))
 
 pub returns-in-Err : goal.returns-in-Err
 returns-in-Err c = rw c.copy_within.ensures.after (set_insert _ _ _ c.self.invariant c.self.view_is _ _ c.requires (gap (goal.at.returns-in-Err c).In-Err))

@@ -5,7 +5,8 @@ use Rattle.cc_views.proofs.Absorbs.{merge_of_absorbed, merge_fits, rising-absorb
 use Rattle.cc_views.proofs.view.View.merge.Goals as goal
 
 pub absorb_all-requires-clause-fits : goal.absorb_all-requires-clause-fits
-absorb_all-requires-clause-fits c = rw c.deref.ensures.value (merge_fits _ _ _ _ c.self.invariant.rising c.other.invariant.rising c.self.view_is c.other.view_is c.requires)
+absorb_all-requires-clause-fits c = rw c.deref.ensures.value (merge_fits _ _ _ _ c.self.invariant.rising c.other.invariant.rising c.self.view_is
+    c.other.view_is c.requires)
 
 pub invariant_of-self : goal.invariant_of-self
 invariant_of-self c =
@@ -20,4 +21,5 @@ invariant_of-self c =
     }
 
 pub returns : goal.returns
-returns c = rw (← c.self.view_is, ← c.other.view_is, c.absorb_all.ensures.rows, c.deref.ensures.value) (merge_of_absorbed c.self.inside.rows.items c.other.inside.rows.items c.other.invariant.rising)
+returns c = rw (← c.self.view_is, ← c.other.view_is, c.absorb_all.ensures.rows, c.deref.ensures.value)
+    (merge_of_absorbed c.self.inside.rows.items c.other.inside.rows.items c.other.invariant.rising)

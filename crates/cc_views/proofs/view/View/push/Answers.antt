@@ -26,18 +26,22 @@ unwrap-requires c = c.push.ensures.succeeds (omega (arith, has_room _ _ _ c.self
 pub invariant_of-self : goal.invariant_of-self
 invariant_of-self c =
     rw (c.push.ensures.items, c.unwrap.ensures)
-    (push_table _ _ _ _ c.self.invariant _ (below _ _ _ c.self.invariant c.self.view_is c.args.row c.requires.above) (has_room _ _ _ c.self.invariant c.self.view_is c.requires.room) _ c.push.ensures.capacity)
+    (push_table _ _ _ _ c.self.invariant _ (below _ _ _ c.self.invariant c.self.view_is c.args.row c.requires.above)
+      (has_room _ _ _ c.self.invariant c.self.view_is c.requires.room) _ c.push.ensures.capacity)
 
 pub returns-clause-map : goal.returns-clause-map
-returns-clause-map c = rw (c.push.ensures.items, c.unwrap.ensures, ← c.self.view_is) (table_of-push entry_of _ _ (below _ _ _ c.self.invariant c.self.view_is c.args.row c.requires.above))
+returns-clause-map c = rw (c.push.ensures.items, c.unwrap.ensures, ← c.self.view_is)
+    (table_of-push entry_of _ _ (below _ _ _ c.self.invariant c.self.view_is c.args.row c.requires.above))
 
 pub returns-clause-rows : goal.returns-clause-rows
 returns-clause-rows c =
     rw (c.push.ensures.items, c.unwrap.ensures)
-    (sym (rows_back _ (rises _ _ _ c.self.invariant c.self.view_is c.args.row c.requires.above)) ∙ ap (λ (rs : List Row). rs ++ c.args.row ∷ []) (known _ _ _ c.self.invariant c.self.view_is))
+    (sym (rows_back _ (rises _ _ _ c.self.invariant c.self.view_is c.args.row c.requires.above))
+      ∙ ap (λ (rs : List Row). rs ++ c.args.row ∷ []) (known _ _ _ c.self.invariant c.self.view_is))
 
 pub returns-clause-len : goal.returns-clause-len
 returns-clause-len c =
     let rows = c.self.inside.rows.items in
     let more = len-table_of entry_of (rows ++ c.args.row ∷ []) (rises _ _ _ c.self.invariant c.self.view_is c.args.row c.requires.above) in
-    rw (c.push.ensures.items, c.unwrap.ensures, ← c.self.view_is) (omega (arith, more, length-append rows (c.args.row ∷ []), len-table_of entry_of rows c.self.invariant.rising))
+    rw (c.push.ensures.items, c.unwrap.ensures, ← c.self.view_is) (omega (arith, more, length-append rows (c.args.row ∷ []),
+      len-table_of entry_of rows c.self.invariant.rising))
