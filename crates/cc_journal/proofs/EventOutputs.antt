@@ -44,15 +44,15 @@ module _ (n : Node) (e : Event) where
   unfolding next
   posts_are p made = ap (λ (q : Option Message). n.core.posts + option_len q) made
 
-  post_put_of : (p : Option Message) → post n.core e ≡ p → IsLawfulNode n → send_post (next n.core e) (new_post n.core.posts (step n e)) ≡ send_post (next n.core e) p
-  unfolding step
-  post_put_of None made h =
-      let c = next n.core e in
-      ap (λ (b : Bool). send_post c (if b then table.get (step n e).outbox.posts c.posts else None)) (le-ltb n.core.posts c.posts (omega (arith, posts_are None made)))
+  post_if : Bool → List Output
+  post_if b = send_post (next n.core e) (if b then table.get (step n e).outbox.posts (next n.core e).posts else None)
+
+  post_put_of : (p : Option Message) → post n.core e ≡ p → IsLawfulNode n
+      → send_post (next n.core e) (new_post n.core.posts (step n e)) ≡ send_post (next n.core e) p
+  unfolding step post_if
+  post_put_of None made h = ap post_if (le-ltb n.core.posts (next n.core e).posts (omega (arith, posts_are None made)))
   post_put_of (Some m) made h =
-      let c = next n.core e in
-      ap (λ (b : Bool). send_post c (if b then table.get (step n e).outbox.posts c.posts else None)) (lt-ltb n.core.posts c.posts (omega (arith, posts_are (Some m) made)))
-      ∙ post_kept n e m made h
+      ap post_if (lt-ltb n.core.posts (next n.core e).posts (omega (arith, posts_are (Some m) made))) ∙ post_kept n e m made h
 
   pub post_put : IsLawfulNode n → send_post (step n e).core (new_post n.core.posts (step n e)) ≡ send_post (next n.core e) (post n.core e)
   unfolding step

@@ -1,9 +1,9 @@
 -- Events behind their sizes are read as they are spelled.
-use Rattle.std.proofs.Common.{◌≡◌, ℕ, ◌+◌, ◌<◌, ◌≤◌, ◌^◌, List, [], ◌∷◌, ◌++◌, length, take, drop, get_or, refl, sym, ◌∙◌, ap, arith, length-append, take-append-drop}
+use Rattle.std.proofs.Common.{◌≡◌, ℕ, ◌+◌, ◌<◌, ◌≤◌, ◌^◌, List, [], ◌∷◌, ◌++◌, length, take, drop, get_or, refl, sym, ◌∙◌, ap, arith, length-append}
 use Rattle.std.specs.Int.{to_be_bytes, from_be_bytes, w32}
 use Rattle.std.specs.List.{flat_map, AllByRecursion}
 use Rattle.std.proofs.lemmas.Nat.{from_be_bytes-to_be_bytes_4, be_bytes_4}
-use Rattle.std.proofs.lemmas.List.{append_assoc, append-nil, take_at, length-take, length-drop, drop-drop}
+use Rattle.std.proofs.lemmas.List.{append_assoc, append-nil, take_at, take-append-drop, length-take, length-drop, drop-drop}
 use Rattle.cc_messages.specs.declared.event.Event.{Event}
 use Rattle.cc_wire.specs.Events.{event_spelling, IsEvent, SpellsEvent}
 use Rattle.cc_wire.proofs.Lengths.{length-event}
@@ -18,22 +18,18 @@ first_byte (b ∷ bytes) long = refl
 
 -- ---- a number of four bytes
 
-pub four_bytes : (bytes : List ℕ) → 4 ≤ length bytes → take 4 bytes ≡ get_or bytes 0 0 ∷ get_or bytes 1 0 ∷ get_or bytes 2 0 ∷ get_or bytes 3 0 ∷ []
-four_bytes [] long = absurd (omega (arith, long))
-four_bytes (a ∷ []) long = absurd (omega (arith, long))
-four_bytes (a ∷ b ∷ []) long = absurd (omega (arith, long))
-four_bytes (a ∷ b ∷ c ∷ []) long = absurd (omega (arith, long))
+pub four_bytes : (bytes : List ℕ) → 4 ≤ length bytes
+    → take 4 bytes ≡ get_or bytes 0 0 ∷ get_or bytes 1 0 ∷ get_or bytes 2 0 ∷ get_or bytes 3 0 ∷ []
 four_bytes (a ∷ b ∷ c ∷ d ∷ rest) long = refl
-
-pub number_back : (bytes : List ℕ) (n : ℕ) → IsBytes bytes → length bytes ≡ 4 → n ≡ from_be_bytes w32 bytes → to_be_bytes w32 n ≡ bytes
-number_back bytes n fits long is = be_bytes_4 bytes n long fits is
+four_bytes bytes long = absurd (omega arith)
 
 -- ---- an event behind its size
 
 -- the size that stands at the front of these bytes
 module _ (bytes : List ℕ) (size : ℕ) (is_size : size ≡ from_be_bytes w32 (take 4 bytes)) where
   -- where an event stands there, this is its size
-  pub shape : (e : Event) (rest : List ℕ) → IsEvent e → bytes ≡ sized_spelling e ++ rest → (size ≡ length (event_spelling e)) × (drop 4 bytes ≡ event_spelling e ++ rest)
+  pub shape : (e : Event) (rest : List ℕ) → IsEvent e → bytes ≡ sized_spelling e ++ rest
+      → (size ≡ length (event_spelling e)) × (drop 4 bytes ≡ event_spelling e ++ rest)
   shape e rest is-e parts =
       let n = length (event_spelling e) in
       let small : n < 2 ^ 32 = omega (arith, length-event e is-e) in (
@@ -54,19 +50,19 @@ module _ (bytes : List ℕ) (size : ℕ) (is_size : size ≡ from_be_bytes w32 (
         spelled = ap (λ (l : List ℕ). take size l) s.1 ∙ take_at (event_spelling e) rest size (sym s.0);
       })
 
-  pub one_found : 4 ≤ length bytes → IsBytes (take 4 bytes) → size ≤ length (drop 4 bytes) → (e : Event) → SpellsEvent (take size (drop 4 bytes)) e → BeginsWith bytes e (4 + size)
+  pub one_found : 4 ≤ length bytes → IsBytes (take 4 bytes) → size ≤ length (drop 4 bytes) → (e : Event) → SpellsEvent (take size (drop 4 bytes)) e
+      → BeginsWith bytes e (4 + size)
   one_found long fits within e spelled =
       let tail = drop 4 bytes in
-      let of_size : length (event_spelling e) ≡ size = omega (arith, ap length spelled.spelled, length-take size tail, within) in
+      let of_size : length (event_spelling e) ≡ size = omega (arith, ap length spelled.spelled, length-take size tail) in
       let first : take 4 bytes ≡ to_be_bytes w32 (length (event_spelling e)) =
-      sym (number_back (take 4 bytes) size fits (omega (arith, length-take 4 bytes, long)) is_size) ∙ ap (λ (n : ℕ). to_be_bytes w32 n) (sym of_size) in
-      let second : tail ≡ event_spelling e ++ drop size tail = sym (take-append-drop size tail) ∙ ap (λ (l : List ℕ). l ++ drop size tail) spelled.spelled in
-      let rest : drop size tail ≡ drop (4 + size) bytes = drop-drop size 4 bytes in
+      sym (be_bytes_4 (take 4 bytes) size (omega (arith, length-take 4 bytes)) fits is_size) ∙ ap (λ (n : ℕ). to_be_bytes w32 n) (sym of_size) in
+      let second : tail ≡ event_spelling e ++ drop (4 + size) bytes =
+      sym (take-append-drop size tail) ∙ (λ i. spelled.spelled i ++ drop-drop size 4 bytes i) in
       record {
-        within = omega (arith, length-drop 4 bytes, within, long);
+        within = omega (arith, length-drop 4 bytes);
         is_event = spelled.lawful;
-        parts = sym (take-append-drop 4 bytes) ∙ ap (λ (l : List ℕ). l ++ tail) first
-            ∙ ap (λ (l : List ℕ). to_be_bytes w32 (length (event_spelling e)) ++ l) (second ∙ ap (λ (l : List ℕ). event_spelling e ++ l) rest)
+        parts = sym (take-append-drop 4 bytes) ∙ (λ i. first i ++ second i)
             ∙ sym (append_assoc (to_be_bytes w32 (length (event_spelling e))) (event_spelling e) (drop (4 + size) bytes));
       }
 
@@ -78,7 +74,8 @@ pub record IsRead (whole rest : List ℕ) (read : List Event) : Type 0 where
   pub each : AllByRecursion IsEvent read
 
 -- what is left of the events, where as many or more are spelled
-pub left_over : (read events : List Event) (rest : List ℕ) → AllByRecursion IsEvent read → AllByRecursion IsEvent events → length read ≤ length events → flat_map sized_spelling read ++ rest ≡ flat_map sized_spelling events
+left_over : (read events : List Event) (rest : List ℕ) → AllByRecursion IsEvent read → AllByRecursion IsEvent events
+    → length read ≤ length events → flat_map sized_spelling read ++ rest ≡ flat_map sized_spelling events
     → (more : List Event) × (length events ≡ length read + length more) × AllByRecursion IsEvent more × (rest ≡ flat_map sized_spelling more)
 left_over [] events rest all-r all-e le e = (events, omega arith, all-e, e)
 left_over (x ∷ read) [] rest all-r all-e le e = absurd cc
@@ -88,8 +85,10 @@ left_over (x ∷ read) (y ∷ events) rest all-r all-e le e =
     let more = left_over read events rest all-r.1 all-e.1 (omega (arith, le)) first.1 in
     (more.0, omega (arith, more.1), more.2, more.3)
 
-module _ (bytes : List ℕ) (count : ℕ) (whole rest : List ℕ) (read : List Event) (split : bytes ≡ count ∷ whole) (is_read : IsRead whole rest read) where
-  spelled_rest : (events : List Event) → SpellsEvents bytes events → length read ≤ count → (more : List Event) × (count ≡ length read + length more) × AllByRecursion IsEvent more × (rest ≡ flat_map sized_spelling more)
+module _ (bytes : List ℕ) (count : ℕ) (whole rest : List ℕ) (read : List Event) (split : bytes ≡ count ∷ whole)
+    (is_read : IsRead whole rest read) where
+  spelled_rest : (events : List Event) → SpellsEvents bytes events → length read ≤ count
+      → (more : List Event) × (count ≡ length read + length more) × AllByRecursion IsEvent more × (rest ≡ flat_map sized_spelling more)
   spelled_rest events spelled le =
       let all : count ∷ whole ≡ length events ∷ flat_map sized_spelling events = sym split ∙ spelled.spelled in
       let same : count ≡ length events = cc in

@@ -13,7 +13,8 @@ use Rattle.cc_journal.specs.GoodSides.{MayBeLeft}
 use Rattle.cc_journal.specs.Outlet.{IsPutting, Puts}
 
 -- nothing has been put yet
-pub putting_none : (state : Side → SideState) (sent all : List Output) (left : Contents) (told : List Output) → Possible state sent left told → IsPutting state sent all left told
+pub putting_none : (state : Side → SideState) (sent all : List Output) (left : Contents) (told : List Output) → Possible state sent left told
+    → IsPutting state sent all left told
 putting_none state sent all left told possible = record {
   each = possible.each;
   put = [];
@@ -23,7 +24,8 @@ putting_none state sent all left told possible = record {
 }
 
 -- while the first are put, others are to come
-putting_first : (state : Side → SideState) (sent xs ys : List Output) (left : Contents) (told : List Output) → IsPutting state sent xs left told → IsPutting state sent (xs ++ ys) left told
+putting_first : (state : Side → SideState) (sent xs ys : List Output) (left : Contents) (told : List Output) → IsPutting state sent xs left told
+    → IsPutting state sent (xs ++ ys) left told
 putting_first state sent xs ys left told putting = record {
   each = putting.each;
   put = putting.put;
@@ -33,7 +35,8 @@ putting_first state sent xs ys left told putting = record {
 }
 
 -- while the others are put, the first have been
-putting_then : (old mid : Side → SideState) (sent now xs ys : List Output) → mid ≡ old → now ≡ sent ++ xs → (left : Contents) (told : List Output) → IsPutting mid now ys left told → IsPutting old sent (xs ++ ys) left told
+putting_then : (old mid : Side → SideState) (sent now xs ys : List Output) → mid ≡ old → now ≡ sent ++ xs → (left : Contents) (told : List Output)
+    → IsPutting mid now ys left told → IsPutting old sent (xs ++ ys) left told
 putting_then old mid sent now xs ys same more left told putting = record {
   each = λ side. subst (λ (t : Side → SideState). MayLeave (t side) (left side)) same (putting.each side);
   put = xs ++ putting.put;
@@ -51,7 +54,8 @@ module _ {D : Type 0} (s : Ghosts D) where
     same_honest = (λ h. h, λ h. h);
     same_state = λ _. refl;
     told = λ t. (t, sym (append-nil (s.sent site)));
-    moments = λ h _. started s site (IsPutting (s.state site) (s.sent site) []) (λ left told since. putting_none (s.state site) (s.sent site) [] left told (only h left told since));
+    moments = λ h _. started s site (IsPutting (s.state site) (s.sent site) [])
+        (λ left told since. putting_none (s.state site) (s.sent site) [] left told (only h left told since));
     contents = λ h. started s site (λ left told. MayBeLeft (s.state site) left) (λ left told since. (only h left told since).each);
     same_failures = refl;
   }
@@ -87,7 +91,8 @@ module _ {D : Type 0} (s : Ghosts D) where
   pub put_none : (site : D) (all : List Output) → (s.honest site → OnlyNow s site) → HasPut site site all all
   put_none site all only = record { front = []; puts = puts_none site only; parts = refl }
 
-  pub put_more : (old now new : D) (all left first rest : List Output) → HasPut old now all left → left ≡ first ++ rest → Run first now new → HasPut old new all rest
+  pub put_more : (old now new : D) (all left first rest : List Output) → HasPut old now all left → left ≡ first ++ rest → Run first now new
+      → HasPut old new all rest
   put_more old now new all left first rest put split run = record {
     front = put.front ++ first;
     puts = puts_both old now new put.front first put.puts run;

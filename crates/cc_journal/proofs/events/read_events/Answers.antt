@@ -12,12 +12,12 @@ returns-in_default-2 c =
     let inv = c.loop.invariant in
     let whole = take_all (length bytes - c.loop.place) rest (omega (arith, length-drop c.loop.place bytes)) in
     let none = MatchOption-at_none (NoEvent (take (length bytes - c.loop.place) rest)) _ c.in_default-2.is c.in_ok-event.ensures in
-    none_next bytes (get_or bytes 0 0) (drop 1 bytes) rest c.loop.events.items (first_byte bytes c.in-len1-up.len_at_least) inv.is_read (omega (arith, inv.count, c.loop-test.true))
-    (subst NoEvent whole none)
+    none_next bytes (get_or bytes 0 0) (drop 1 bytes) rest c.loop.events.items (first_byte bytes c.in-len1-up.len_at_least) inv.is_read
+    (omega (arith, inv.count, c.loop-test.true)) (subst NoEvent whole none)
 
 pub returns-then-place-bytes : goal.returns-then-place-bytes
 returns-then-place-bytes c =
     let bytes = c.args.bytes.now in
     let inv = c.loop.invariant in
-    none_behind bytes (get_or bytes 0 0) (drop 1 bytes) (drop c.loop.place bytes) c.loop.events.items (first_byte bytes c.in-len1-up.len_at_least) inv.is_read (omega (arith, inv.count, inv.within, c.loop-test.false))
-    (omega (arith, length-drop c.loop.place bytes, c.if-place-bytes.true))
+    none_behind bytes (get_or bytes 0 0) (drop 1 bytes) (drop c.loop.place bytes) c.loop.events.items (first_byte bytes c.in-len1-up.len_at_least)
+    inv.is_read (omega (arith, inv.count, inv.within, c.loop-test.false)) (omega (arith, length-drop c.loop.place bytes, c.if-place-bytes.true))

@@ -20,17 +20,15 @@ returns-clause-puts g c =
     let answered = c.deref.ensures.0 ∙ c.answered_by-answered.ensures ∙ ap (λ (m : Made). map request_of m.answers) made_is in
     let box = c.outbox.ensures ∙ ap (λ k. k.outbox) stepped in
     let ack : send_ack c.args.entry.made.ack ≡ send_ack (core.ack e) = ap (λ (m : Made). send_ack m.ack) made_is in
-    let post : send_post c.settle.new.self.core (new_post c.posts-posts.result c.settle.new.self) ≡ send_post (next n.core e) (core.post n.core e) =
+    let post_sent = send_post c.settle.new.self.core (new_post c.posts-posts.result c.settle.new.self) in
+    let post : post_sent ≡ send_post (next n.core e) (core.post n.core e) =
     (λ i. send_post (stepped i).core (new_post (posts i) (stepped i))) ∙ post_put n e c.core.ensures.lawful in
-    let replies : send_replies (kept_replies c.deref.result.now c.outbox.result.now) ≡ send_replies (core.replies n.core e) =
+    let replies_sent = send_replies (kept_replies c.deref.result.now c.outbox.result.now) in
+    let replies : replies_sent ≡ send_replies (core.replies n.core e) =
     (λ i. send_replies (kept_replies (answered i) (box i))) ∙ ap send_replies (replies_put n e c.core.ensures.lawful) in
-    let all : send_ack c.args.entry.made.ack ++ send_post c.settle.new.self.core (new_post c.posts-posts.result c.settle.new.self) ++ send_replies (kept_replies c.deref.result.now c.outbox.result.now)
-    ≡ core.outputs n.core e = λ i. ack i ++ post i ++ replies i in
     let old = c.args.site.now in
-    let mid = c.put_ack.new.site in
     let then = c.put_post.new.site in
     let new = c.put_replies.new.site in
-    let both = puts_both s old mid then (send_ack c.args.entry.made.ack) (send_post c.settle.new.self.core (new_post c.posts-posts.result c.settle.new.self)) c.put_ack.ensures c.put_post.ensures in
-    subst (λ (l : List Output). Puts s l old new) all
-    (puts_both s old then new
-    (send_ack c.args.entry.made.ack ++ send_post c.settle.new.self.core (new_post c.posts-posts.result c.settle.new.self)) (send_replies (kept_replies c.deref.result.now c.outbox.result.now)) both c.put_replies.ensures)
+    let both = puts_both s old c.put_ack.new.site then (send_ack c.args.entry.made.ack) post_sent c.put_ack.ensures c.put_post.ensures in
+    subst (λ (l : List Output). Puts s l old new) (λ i. ack i ++ post i ++ replies i)
+    (puts_both s old then new (send_ack c.args.entry.made.ack ++ post_sent) replies_sent both c.put_replies.ensures)

@@ -7,8 +7,8 @@ use Rattle.cc_journal.proofs.Puts.{put_none, put_more, put_all}
 use Rattle.cc_journal.proofs.outlet.put_on_links.Goals as goal
 
 pub put_on_link-requires : goal.put_on_link-requires
-put_on_link-requires g c =
-    (start_at c.args.core.now.posts c.rows-rows.result.now c.loop-row.row-index c.row-item.result c.loop-row-test.true c.row-item.is c.loop-row.invariant.start).0
+put_on_link-requires g c = (start_at c.args.core.now.posts c.rows-rows.result.now c.loop-row.row-index c.row-item.result
+    c.loop-row-test.true c.row-item.is c.loop-row.invariant.start).0
 
 pub loop-row-init : goal.loop-row-init
 loop-row-init g c =
@@ -32,8 +32,9 @@ loop-row-preserved g c =
     let inv = c.loop-row.invariant in
     record {
       start = (start_at core.posts rows i row c.loop-row-test.true c.row-item.is inv.start).1;
-      put = put_more s c.args.site.now c.loop-row.site c.put_on_link.new.site (row_sends core post rows) (row_sends core post (drop i rows)) (on_link core post row)
-          (row_sends core post (drop (i + 1) rows)) inv.put (next_sends core post rows i row c.loop-row-test.true c.row-item.is) c.put_on_link.ensures;
+      put = put_more s c.args.site.now c.loop-row.site c.put_on_link.new.site (row_sends core post rows) (row_sends core post (drop i rows))
+          (on_link core post row) (row_sends core post (drop (i + 1) rows)) inv.put
+          (next_sends core post rows i row c.loop-row-test.true c.row-item.is) c.put_on_link.ensures;
     }
 
 pub returns : goal.returns
@@ -43,6 +44,7 @@ returns g c =
     let post = c.args.post.now in
     let rows = c.rows-rows.result.now in
     let i = c.loop-row.row-index in
-    let all : row_sends core post rows ≡ send_post core (Some post) = ap (row_sends core post) (c.rows-rows.ensures.rows ∙ ap rows_of c.links.ensures) ∙ rows_send core post in
-    put_all s c.args.site.now c.loop-row.site (row_sends core post rows) (send_post core (Some post)) (row_sends core post (drop i rows)) c.loop-row.invariant.put all
-    (after_last core post rows i c.loop-row-test.false)
+    let all : row_sends core post rows ≡ send_post core (Some post) =
+    ap (row_sends core post) (c.rows-rows.ensures.rows ∙ ap rows_of c.links.ensures) ∙ rows_send core post in
+    put_all s c.args.site.now c.loop-row.site (row_sends core post rows) (send_post core (Some post)) (row_sends core post (drop i rows))
+    c.loop-row.invariant.put all (after_last core post rows i c.loop-row-test.false)

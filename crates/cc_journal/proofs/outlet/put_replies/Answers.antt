@@ -27,5 +27,6 @@ returns g c =
     let o = c.args.outbox.now in
     let all = c.args.requests.now in
     let i = c.loop-answered.answered-index in
-    put_all g.S.Site c.args.site.now c.loop-answered.site (send_replies (kept_replies all o)) (send_replies (kept_replies all o)) (send_replies (kept_replies (drop i all) o))
-    c.loop-answered.invariant refl (no_replies all i o c.loop-answered-test.false)
+    let whole = send_replies (kept_replies all o) in
+    put_all g.S.Site c.args.site.now c.loop-answered.site whole whole (send_replies (kept_replies (drop i all) o)) c.loop-answered.invariant refl
+    (no_replies all i o c.loop-answered-test.false)

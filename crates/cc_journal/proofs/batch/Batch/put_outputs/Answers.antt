@@ -13,7 +13,8 @@ loop-entry-init g c =
     let s = g.S.Site in
     let node = c.args.node.now in
     let all : drain_items c.into_iter-entry-iterator.result ≡ c.args.self.now =
-    ap (λ d. drain_items d) c.into_iter-entry-iterator.ensures.into_iter_gives ∙ c.drain-entry-items.ensures.rest ∙ take_all _ c.self.inside.entries.items (omega arith) ∙ c.self.view_is in
+    ap (λ d. drain_items d) c.into_iter-entry-iterator.ensures.into_iter_gives ∙ c.drain-entry-items.ensures.rest
+    ∙ take_all _ c.self.inside.entries.items (omega arith) ∙ c.self.view_is in
     record {
       can = rw c.into_iter-entry-iterator.ensures.into_iter_gives c.drain-entry-items.ensures.ready;
       ends = tt;
