@@ -1,13 +1,12 @@
 -- Gates, and what stands behind the length of a record, are read as they stand.
-use Rattle.std.proofs.Common.{◌≡◌, inl, inr, ℕ, ◌-◌, ◌<◌, ◌≤◌, ◌^◌, eqb, Bool, List, ◌∷◌, ◌++◌, length, take, drop, get_or, sym, ◌∙◌, ap, subst, arith}
+use Rattle.std.proofs.Common.{◌≡◌, inl, inr, ℕ, ◌-◌, ◌<◌, ◌≤◌, eqb, Bool, List, ◌∷◌, ◌++◌, length, take, drop, get_or, sym, ◌∙◌, ap, subst, arith}
 use Rattle.std.specs.Prelude.{MatchBool}
 use Rattle.std.specs.Int.{to_be_bytes, from_be_bytes, w32}
 use Rattle.std.proofs.lemmas.Bool.{cases_Bool, eqb-true, eqb-false}
-use Rattle.std.proofs.lemmas.Nat.{from_be_bytes-to_be_bytes_4, be_bytes_4}
-use Rattle.std.proofs.lemmas.List.{append_assoc, get_or-take, length-append, length-take, length-drop, take-append-drop}
+use Rattle.std.proofs.lemmas.List.{get_or-take, length-append, length-drop}
 use Rattle.cc_wire.proofs.Spelled.{IsBytes}
 use Rattle.cc_journal.specs.Reading.{BodyStands, NoBody, BeginsOpen, BeginsClosed}
-use Rattle.cc_journal.proofs.EventReading.{first_byte}
+use Rattle.cc_journal.proofs.EventReading.{first_byte, too_short, stand_behind}
 
 -- ---- a gate (its byte stands here as the number that the code has: compared under its name it takes minutes)
 
@@ -30,29 +29,12 @@ none_short rest short body stands =
     absurd (omega (arith, ap length stands.parts, length-append (size ++ body) stands.rest, length-append size body))
 
 module _ (rest : List ℕ) (size : ℕ) (number : List ℕ) (is_size : size ≡ from_be_bytes w32 number) (read : number ≡ take 4 rest) where
-  pub shape : (body : List ℕ) (stands : BodyStands rest body) → (size ≡ length body) × (drop 4 rest ≡ body ++ stands.rest)
-  shape body stands =
-      let small : length body < 2 ^ 32 = omega (arith, stands.fits) in (
-        is_size ∙ ap (λ (l : List ℕ). from_be_bytes w32 l) (read ∙ ap (λ (l : List ℕ). take 4 l) stands.parts)
-            ∙ from_be_bytes-to_be_bytes_4 (length body) small,
-        ap (λ (l : List ℕ). drop 4 l) stands.parts,
-      )
-
   pub none_past : length rest - 4 < size → NoBody rest
   none_past past body stands =
-      let s = shape body stands in
-      absurd (omega (arith, s.0, length-drop 4 rest, ap length s.1, length-append body stands.rest))
+      too_short rest number size is_size read (omega (arith, length-drop 4 rest)) body stands.rest (omega (arith, stands.fits)) stands.parts
 
   pub body_stands : 4 ≤ length rest → IsBytes number → size ≤ 262144 → size ≤ length rest - 4 → (body : List ℕ) → body ≡ take size (drop 4 rest)
       → BodyStands rest body
   body_stands some fits few within body body_read =
-      let tail = drop 4 rest in
-      let long : length body ≡ size = omega (arith, ap length body_read, length-take size tail, length-drop 4 rest) in
-      let first : to_be_bytes w32 (length body) ≡ take 4 rest = ap (λ (n : ℕ). to_be_bytes w32 n) long
-          ∙ be_bytes_4 number size (omega (arith, ap length read, length-take 4 rest)) fits is_size ∙ read in
-      let second : body ++ drop size tail ≡ tail = ap (λ (l : List ℕ). l ++ drop size tail) body_read ∙ take-append-drop size tail in
-      record {
-        rest = drop size tail;
-        fits = omega arith;
-        parts = sym (append_assoc (to_be_bytes w32 (length body)) body (drop size tail) ∙ (λ i. first i ++ second i) ∙ take-append-drop 4 rest);
-      }
+      let behind = stand_behind rest number size is_size read some fits (omega (arith, length-drop 4 rest)) body body_read in
+      record { rest = drop size (drop 4 rest); fits = omega (arith, behind.0); parts = behind.1 }

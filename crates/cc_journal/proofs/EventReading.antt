@@ -23,47 +23,50 @@ pub four_bytes : (bytes : List ℕ) → 4 ≤ length bytes
 four_bytes (a ∷ b ∷ c ∷ d ∷ rest) long = refl
 four_bytes bytes long = absurd (omega arith)
 
+-- ---- bytes behind their size, which is the number that stands at the front
+
+module _ (bytes number : List ℕ) (size : ℕ) (is_size : size ≡ from_be_bytes w32 number) (read : number ≡ take 4 bytes) where
+  -- where some stand there, this is their size
+  pub size_of : (body rest : List ℕ) → length body < 2 ^ 32 → bytes ≡ to_be_bytes w32 (length body) ++ body ++ rest
+      → (size ≡ length body) × (drop 4 bytes ≡ body ++ rest)
+  size_of body rest small parts = (
+    is_size ∙ ap (λ (l : List ℕ). from_be_bytes w32 l) (read ∙ ap (λ (l : List ℕ). take 4 l) parts) ∙ from_be_bytes-to_be_bytes_4 (length body) small,
+    ap (λ (l : List ℕ). drop 4 l) parts,
+  )
+
+  pub too_short : length (drop 4 bytes) < size → (body rest : List ℕ) → length body < 2 ^ 32
+      → bytes ≡ to_be_bytes w32 (length body) ++ body ++ rest → ⊥
+  too_short short body rest small parts = let s = size_of body rest small parts in absurd (omega (arith, s.0, ap length s.1, length-append body rest))
+
+  pub stand_behind : 4 ≤ length bytes → IsBytes number → size ≤ length (drop 4 bytes) → (body : List ℕ) → body ≡ take size (drop 4 bytes)
+      → (length body ≡ size) × (bytes ≡ to_be_bytes w32 (length body) ++ body ++ drop size (drop 4 bytes))
+  stand_behind long fits within body is =
+      let tail = drop 4 bytes in
+      let of_size : length body ≡ size = omega (arith, ap length is, length-take size tail) in
+      let first : to_be_bytes w32 (length body) ≡ take 4 bytes =
+      ap (λ (n : ℕ). to_be_bytes w32 n) of_size ∙ be_bytes_4 number size (omega (arith, ap length read, length-take 4 bytes)) fits is_size ∙ read in
+      let second : body ++ drop size tail ≡ tail = ap (λ (l : List ℕ). l ++ drop size tail) is ∙ take-append-drop size tail in
+      (of_size, sym (append_assoc (to_be_bytes w32 (length body)) body (drop size tail) ∙ (λ i. first i ++ second i) ∙ take-append-drop 4 bytes))
+
 -- ---- an event behind its size
 
--- the size that stands at the front of these bytes
 module _ (bytes : List ℕ) (size : ℕ) (is_size : size ≡ from_be_bytes w32 (take 4 bytes)) where
-  -- where an event stands there, this is its size
-  pub shape : (e : Event) (rest : List ℕ) → IsEvent e → bytes ≡ sized_spelling e ++ rest
-      → (size ≡ length (event_spelling e)) × (drop 4 bytes ≡ event_spelling e ++ rest)
-  shape e rest is-e parts =
-      let n = length (event_spelling e) in
-      let small : n < 2 ^ 32 = omega (arith, length-event e is-e) in (
-        is_size ∙ ap (λ (l : List ℕ). from_be_bytes w32 (take 4 l)) parts ∙ from_be_bytes-to_be_bytes_4 n small,
-        ap (λ (l : List ℕ). drop 4 l) parts,
-      )
-
   pub none_short : length (drop 4 bytes) < size → NoEvent bytes
-  none_short short e rest is-e parts =
-      let s = shape e rest is-e parts in
-      absurd (omega (arith, short, s.0, ap length s.1, length-append (event_spelling e) rest))
+  none_short short e rest is-e = too_short bytes (take 4 bytes) size is_size refl short (event_spelling e) rest (omega (arith, length-event e is-e))
 
   pub none_spelled : ((e : Event) → SpellsEvent (take size (drop 4 bytes)) e → ⊥) → NoEvent bytes
   none_spelled none e rest is-e parts =
-      let s = shape e rest is-e parts in
-      none e (record {
-        lawful = is-e;
-        spelled = ap (λ (l : List ℕ). take size l) s.1 ∙ take_at (event_spelling e) rest size (sym s.0);
-      })
+      let s = size_of bytes (take 4 bytes) size is_size refl (event_spelling e) rest (omega (arith, length-event e is-e)) parts in
+      none e (record { lawful = is-e; spelled = ap (λ (l : List ℕ). take size l) s.1 ∙ take_at (event_spelling e) rest size (sym s.0) })
 
   pub one_found : 4 ≤ length bytes → IsBytes (take 4 bytes) → size ≤ length (drop 4 bytes) → (e : Event) → SpellsEvent (take size (drop 4 bytes)) e
       → BeginsWith bytes e (4 + size)
   one_found long fits within e spelled =
-      let tail = drop 4 bytes in
-      let of_size : length (event_spelling e) ≡ size = omega (arith, ap length spelled.spelled, length-take size tail) in
-      let first : take 4 bytes ≡ to_be_bytes w32 (length (event_spelling e)) =
-      sym (be_bytes_4 (take 4 bytes) size (omega (arith, length-take 4 bytes)) fits is_size) ∙ ap (λ (n : ℕ). to_be_bytes w32 n) (sym of_size) in
-      let second : tail ≡ event_spelling e ++ drop (4 + size) bytes =
-      sym (take-append-drop size tail) ∙ (λ i. spelled.spelled i ++ drop-drop size 4 bytes i) in
+      let behind = stand_behind bytes (take 4 bytes) size is_size refl long fits within (event_spelling e) (sym spelled.spelled) in
       record {
         within = omega (arith, length-drop 4 bytes);
         is_event = spelled.lawful;
-        parts = sym (take-append-drop 4 bytes) ∙ (λ i. first i ++ second i)
-            ∙ sym (append_assoc (to_be_bytes w32 (length (event_spelling e))) (event_spelling e) (drop (4 + size) bytes));
+        parts = behind.1 ∙ ap (λ (l : List ℕ). sized_spelling e ++ l) (drop-drop size 4 bytes);
       }
 
 -- ---- one event after another

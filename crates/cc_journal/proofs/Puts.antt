@@ -70,14 +70,11 @@ module _ {D : Type 0} (s : Ghosts D) where
         (before.0, after.1 ∙ ap (λ (l : List Output). l ++ ys) before.1 ∙ append_assoc (s.sent old) xs ys);
     moments = λ h t.
         let after = then.told t in
-        joined s old mid new (IsPutting (s.state old) (s.sent old) (xs ++ ys))
-        (weaker s old mid (IsPutting (s.state old) (s.sent old) xs) (IsPutting (s.state old) (s.sent old) (xs ++ ys)) (first.moments h after.0)
-        (putting_first (s.state old) (s.sent old) xs ys))
-        (weaker s mid new (IsPutting (s.state mid) (s.sent mid) ys) (IsPutting (s.state old) (s.sent old) (xs ++ ys)) (then.moments (first.same_honest.0 h) t)
+        let putting = IsPutting (s.state old) (s.sent old) (xs ++ ys) in
+        joined s old mid new putting (weaker s old mid _ putting (first.moments h after.0) (putting_first (s.state old) (s.sent old) xs ys))
+        (weaker s mid new _ putting (then.moments (first.same_honest.0 h) t)
         (putting_then (s.state old) (s.state mid) (s.sent old) (s.sent mid) xs ys (first.same_state h) (first.told after.0).1));
-    contents = λ h.
-        joined s old mid new (λ left told. MayBeLeft (s.state old) left) (first.contents h)
-        (weaker s mid new (λ left told. MayBeLeft (s.state mid) left) (λ left told. MayBeLeft (s.state old) left) (then.contents (first.same_honest.0 h))
+    contents = λ h. joined s old mid new _ (first.contents h) (weaker s mid new _ _ (then.contents (first.same_honest.0 h))
         (λ left told may side. subst (λ (t : Side → SideState). MayLeave (t side) (left side)) (first.same_state h) (may side)));
     same_failures = then.same_failures ∙ first.same_failures;
   }

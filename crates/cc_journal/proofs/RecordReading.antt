@@ -1,6 +1,6 @@
 -- A record is its length and the events behind it.
 use Rattle.std.proofs.Common.{◌≡◌, ℕ, ◌+◌, ◌≤◌, List, [], ◌∷◌, ◌++◌, length, take, refl, sym, ◌∙◌, ap, arith, length-append}
-use Rattle.std.specs.Int.{to_be_bytes, from_be_bytes, w32}
+use Rattle.std.specs.Int.{to_be_bytes, w32}
 use Rattle.std.specs.List.{flat_map}
 use Rattle.std.proofs.lemmas.List.{take_at}
 use Rattle.cc_messages.specs.declared.event.Event.{Event}
@@ -10,7 +10,7 @@ use Rattle.cc_journal.specs.Scanning.{NoRecord}
 use Rattle.cc_journal.specs.Reading.{BytesLead, LeadNowhere, RecordLeads, BodyStands, NoBody, IfDamaged}
 use Rattle.cc_journal.specs.declared.scanning.ScanFault.{ScanFault}
 use Rattle.cc_journal.specs.declared.scanning.ScanFault.TheVariants.{Damaged, Device, NoMemory}
-use Rattle.cc_journal.proofs.BodyReading.{shape}
+use Rattle.cc_journal.proofs.EventReading.{size_of}
 use Rattle.cc_journal.proofs.Records.{length_sized}
 
 pub damaged_weaker : (P Q : ℕ → Type 0) (fault : ScanFault) → ((place : ℕ) → P place → Q place) → IfDamaged P fault → IfDamaged Q fault
@@ -31,8 +31,8 @@ no_body_no_record bytes node none body rest events parts spelled lawful = none (
 -- there is one body
 one_body : (bytes a b : List ℕ) → BodyStands bytes a → BodyStands bytes b → a ≡ b
 one_body bytes a b p q =
-    let x = shape bytes (from_be_bytes w32 (take 4 bytes)) (take 4 bytes) refl refl a p in
-    let y = shape bytes (from_be_bytes w32 (take 4 bytes)) (take 4 bytes) refl refl b q in
+    let x = size_of bytes (take 4 bytes) _ refl refl a p.rest (omega (arith, p.fits)) p.parts in
+    let y = size_of bytes (take 4 bytes) _ refl refl b q.rest (omega (arith, q.fits)) q.parts in
     let same : length b ≡ length a = sym y.0 ∙ x.0 in
     sym (take_at a p.rest (length a) refl) ∙ ap (λ (l : List ℕ). take (length a) l) (sym x.1 ∙ y.1) ∙ take_at b q.rest (length a) same
 

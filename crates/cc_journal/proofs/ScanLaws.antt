@@ -1,7 +1,7 @@
 -- Bytes are scanned in one way.
 --     found_once, stopped_once     what is found is one, and so is where it stops
 --     either_one, neither_one      not both;  and one of the two
-use Rattle.std.proofs.Common.{◌≡◌, ◌≢◌, ◌⊎◌, inl, inr, ℕ, zero, suc, ◌+◌, ◌≤◌, eqb, List, [], ◌∷◌, ◌++◌, length, drop, get_or, refl, sym, ◌∙◌, ap}
+use Rattle.std.proofs.Common.{◌≡◌, ◌≢◌, inl, inr, ℕ, zero, suc, ◌+◌, ◌≤◌, eqb, List, [], ◌∷◌, ◌++◌, length, drop, get_or, refl, sym, ◌∙◌, ap}
 use Rattle.std.proofs.Common.{arith, length-drop}
 use Rattle.std.proofs.lemmas.Bool.{cases_Bool, eqb-true, eqb-false}
 use Rattle.cc_messages.specs.declared.event.Event.{Event}
@@ -9,12 +9,7 @@ use Rattle.cc_node.specs.Node.{Node, after}
 use Rattle.cc_sides.specs.Sides.{OPEN, events_of}
 use Rattle.cc_sides.specs.RecordLaws.{Ends, one_front}
 use Rattle.cc_journal.specs.Scanning.{ScansTo, StopsAt, NoRecord}
-use Rattle.cc_journal.proofs.Scans.{SoFar, none_so_far, one_more, scanned, ended, stopped}
-
--- the place of a stop
-abbrev Stop : (front rest : List ℕ) (node : Node) (place : ℕ) → Type 0
-Stop front rest node place =
-    ((rest ≡ []) × (place ≡ length front)) ⊎ ((behind : List ℕ) × (rest ≡ OPEN ∷ behind) × (place ≡ length front + 1) × NoRecord behind node)
+use Rattle.cc_journal.proofs.Scans.{Stop, SoFar, none_so_far, one_more, scanned, ended, stopped}
 
 no_gate : (x : ℕ) (l : List ℕ) → [] ≡ x ∷ l → ⊥
 no_gate x l e = absurd cc
@@ -37,7 +32,7 @@ pub found_once : (bytes : List ℕ) (start x y : Node) (size-x size-y records-x 
     → (x ≡ y) × (size-x ≡ size-y) × (records-x ≡ records-y) × (events-x ≡ events-y)
 found_once bytes start x y size-x size-y records-x records-y events-x events-y p q =
     let one = one_front start p.batches q.batches p.front q.front (p.gate ∷ p.rest) (q.gate ∷ q.rest) p.spelled q.spelled p.lawful q.lawful
-        (gate_ends p) (gate_ends q) (sym p.parts ∙ q.parts) in (
+    (gate_ends p) (gate_ends q) (sym p.parts ∙ q.parts) in (
       p.leads_to ∙ ap (λ (l : List (List Event)). after start (events_of l)) one.0 ∙ sym q.leads_to,
       sym p.at_size ∙ ap length one.1 ∙ q.at_size,
       p.record_count ∙ ap length one.0 ∙ sym q.record_count,
@@ -55,7 +50,7 @@ pub stopped_once : (bytes : List ℕ) (start : Node) (place-x place-y : ℕ) →
     → place-x ≡ place-y
 stopped_once bytes start place-x place-y p q =
     let one = one_front start p.batches q.batches p.front q.front p.rest q.rest p.spelled q.spelled p.lawful q.lawful
-        (stop_ends p) (stop_ends q) (sym p.parts ∙ q.parts) in
+    (stop_ends p) (stop_ends q) (sym p.parts ∙ q.parts) in
     one_stop p.front q.front p.rest q.rest _ _ place-x place-y one.1 one.2 p.stop q.stop
 
 not_shut : (gate : ℕ) (rest front u : List ℕ) (node : Node) (place : ℕ) → gate ≢ OPEN → gate ∷ rest ≡ u → Stop front u node place → ⊥
@@ -66,7 +61,7 @@ pub either_one : (bytes : List ℕ) (start node : Node) (size records events pla
     → StopsAt bytes start place → ⊥
 either_one bytes start node size records events place p q =
     let one = one_front start p.batches q.batches p.front q.front (p.gate ∷ p.rest) q.rest p.spelled q.spelled p.lawful q.lawful
-        (gate_ends p) (stop_ends q) (sym p.parts ∙ q.parts) in
+    (gate_ends p) (stop_ends q) (sym p.parts ∙ q.parts) in
     not_shut p.gate p.rest q.front q.rest _ place p.closed one.2 q.stop
 
 -- Where bytes neither lead to a node nor stop, they would go on for ever, from open gate to open gate.

@@ -3,7 +3,7 @@
 --     one_more, scanned, ended, stopped        one record more;  a closed gate behind them;  the end;  an open gate and no record
 --     LeadsOn                                  the records from one place of a side to another
 --     goes_on, ends_shut, stops_behind, stops_past     the same four of them
-use Rattle.std.proofs.Common.{◌≡◌, ◌≢◌, inl, inr, ℕ, ◌+◌, ◌-◌, ◌≤◌, List, [], ◌∷◌, ◌++◌, length, drop, refl, sym, ◌∙◌, ap, subst, arith}
+use Rattle.std.proofs.Common.{◌≡◌, ◌≢◌, ◌⊎◌, inl, inr, ℕ, ◌+◌, ◌-◌, ◌≤◌, List, [], ◌∷◌, ◌++◌, length, drop, refl, sym, ◌∙◌, ap, subst, arith}
 use Rattle.std.proofs.Common.{length-append}
 use Rattle.std.proofs.lemmas.List.{append_assoc, drop_at, drop-drop, drop_all}
 use Rattle.cc_messages.specs.declared.event.Event.{Event}
@@ -13,6 +13,11 @@ use Rattle.cc_sides.specs.Sides.{OPEN, SpellsRecords, events_of}
 use Rattle.cc_sides.specs.Fronts.{records_push, events_push}
 use Rattle.cc_journal.specs.Scanning.{ScansTo, StopsAt, NoRecord}
 use Rattle.cc_journal.specs.Reading.{RecordLeads, BeginsOpen, BeginsClosed, IsStopped}
+
+-- the place of a stop behind records: the end, or an open gate behind which no record stands
+abbrev pub Stop : (front rest : List ℕ) (node : Node) (place : ℕ) → Type 0
+Stop front rest node place =
+    ((rest ≡ []) × (place ≡ length front)) ⊎ ((behind : List ℕ) × (rest ≡ OPEN ∷ behind) × (place ≡ length front + 1) × NoRecord behind node)
 
 -- records of lawful events begin the bytes: so many bytes with their gates, so many records and events
 pub record SoFar (bytes : List ℕ) (start node : Node) (size records events : ℕ) : Type 0 where
@@ -84,29 +89,19 @@ module _ {bytes : List ℕ} {start node : Node} {size records events : ℕ} (so_
     event_count = so_far.event_count;
   }
 
+  stops : (place : ℕ) → Stop so_far.front so_far.rest (after start (events_of so_far.batches)) place → StopsAt bytes start place
+  stops place stop =
+      let p = so_far in
+      record { front = p.front; rest = p.rest; batches = p.batches; parts = p.parts; spelled = p.spelled; lawful = p.lawful; stop = stop }
+
   -- the end
   pub ended : drop size bytes ≡ [] → StopsAt bytes start size
-  ended none = record {
-    front = so_far.front;
-    rest = so_far.rest;
-    batches = so_far.batches;
-    parts = so_far.parts;
-    spelled = so_far.spelled;
-    lawful = so_far.lawful;
-    stop = inl (sym rest_is ∙ none, sym so_far.at_size);
-  }
+  ended none = stops size (inl (sym rest_is ∙ none, sym so_far.at_size))
 
   -- an open gate, and no record
   pub stopped : (behind : List ℕ) → drop size bytes ≡ OPEN ∷ behind → NoRecord behind node → StopsAt bytes start (size + 1)
-  stopped behind opened none = record {
-    front = so_far.front;
-    rest = so_far.rest;
-    batches = so_far.batches;
-    parts = so_far.parts;
-    spelled = so_far.spelled;
-    lawful = so_far.lawful;
-    stop = inr (behind, sym rest_is ∙ opened, ap (λ (n : ℕ). n + 1) (sym so_far.at_size), subst (λ (n : Node). NoRecord behind n) so_far.leads_to none);
-  }
+  stopped behind opened none = stops (size + 1)
+      (inr (behind, sym rest_is ∙ opened, ap (λ (n : ℕ). n + 1) (sym so_far.at_size), subst (λ (n : Node). NoRecord behind n) so_far.leads_to none))
 
 -- ---- places of the side
 

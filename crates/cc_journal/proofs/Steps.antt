@@ -6,12 +6,11 @@
 use Rattle.std.proofs.Common.{◌≡◌, ℕ, ◌+◌, ◌<◌, ◌≤◌, List, [], ◌∷◌, ◌++◌, length, take, drop, set, sym, ◌∙◌, ap, subst, arith, add-one}
 use Rattle.std.proofs.lemmas.List.{append_assoc, set_split}
 use Rattle.cc_messages.specs.declared.event.Event.{Event}
-use Rattle.cc_messages.specs.declared.output.Output.{Output}
 use Rattle.cc_site.specs.declared.site.Side.{Side}
 use Rattle.cc_site.specs.declared.site.Site.{Ghosts}
 use Rattle.cc_site.specs.Sides.{SideState, MayLeave, other, touch, written, settled}
 use Rattle.cc_site.specs.SideLaws.{settled_only}
-use Rattle.cc_site.specs.Moments.{Contents, Within, Nothing}
+use Rattle.cc_site.specs.Moments.{Within, Nothing}
 use Rattle.cc_site.specs.Runs.{Passes, EachMoment, OnlyNow, CountsNow, started, goes_on, rests, joined, weaker, now_has}
 use Rattle.cc_node.specs.Node.{Node, after}
 use Rattle.cc_sides.specs.Sides.{OPEN, SpellsBatch, StandsBehind}
@@ -29,37 +28,32 @@ module _ {D : Type 0} (s : Ghosts D) where
 
   module _ (old new : D) (at : Position) (only : OnlyNow s old) where
     module _ (generation : ℕ) (start : Node) (events : List Event) (opening : ℕ) (rest : RestsNow s old at generation start events opening) where
-      abbrev Resting : Contents → List Output → Type 0
-      Resting = Rests at generation start events opening
+      at_first : EachMoment s old old (Rests at generation start events opening)
+      at_first = started s old (Rests at generation start events opening) (λ left told since. rest left told (only left told since))
 
-      at_first : EachMoment s old old Resting
-      at_first = started s old Resting (λ left told since. rest left told (only left told since))
+      still : Passes s old new Nothing → EachMoment s old new (Rests at generation start events opening)
+      still time = rests s old old new (Rests at generation start events opening) at_first time
 
-      still : Passes s old new Nothing → EachMoment s old new Resting
-      still time = rests s old old new Resting at_first time
+      behind : (n : ℕ) → Passes s old new (Within at.side (touch (s.state old at.side) (at.place + 1) n) (s.state old) (s.sent old))
+          → at.place + 1 ≤ length (s.state old at.side).bytes → EachMoment s old new (Rests at generation start events opening)
+      behind n time fits = goes_on s old old new (Rests at generation start events opening) _ at_first time
+          (behind_rests (s.state old) (s.sent old) at generation start events opening rest n fits)
 
-      good : (more : List Event) → EachMoment s old new Resting → EachMoment s old new (IsGood start (events ++ more) (length events) opening)
-      good more run = weaker s old new Resting (IsGood start (events ++ more) (length events) opening) run
-          (rests_more_good at generation start events opening more)
+    good : (more : List Event) (start : Node) (events : List Event) (generation opening : ℕ) → EachMoment s old new (Rests at generation start events opening)
+        → EachMoment s old new (IsGood start (events ++ more) (length events) opening)
+    good more start events generation opening run = weaker s old new _ _ run (rests_more_good at generation start events opening more)
 
     pub behind_gate : (n : ℕ) → Passes s old new (Within at.side (touch (s.state old at.side) (at.place + 1) n) (s.state old) (s.sent old))
         → at.place + 1 ≤ length (s.state old at.side).bytes → CountsNow s new → (more : List Event) → StaysAtRest old new at more
     behind_gate n time fits counts more = record {
       moments = λ generation start events opening rest.
-          good generation start events opening rest more (behind generation start events opening rest);
-      afterwards = λ generation start events opening rest.
-          now_has s old new (Rests at generation start events opening) (behind generation start events opening rest) counts;
+          good more start events generation opening (behind generation start events opening rest n time fits);
+      afterwards = λ generation start events opening rest. now_has s old new _ (behind generation start events opening rest n time fits) counts;
     }
-      where
-        behind : (generation : ℕ) (start : Node) (events : List Event) (opening : ℕ) → RestsNow s old at generation start events opening
-            → EachMoment s old new (Rests at generation start events opening)
-        behind generation start events opening rest =
-            goes_on s old old new (Rests at generation start events opening) _ (at_first generation start events opening rest) time
-            (behind_rests (s.state old) (s.sent old) at generation start events opening rest n fits)
 
     pub still_good : Passes s old new Nothing → (batch : List Event) (generation : ℕ) → KeepsGood s (RestsFor s batch old at generation) batch old new
     still_good time batch generation start events opening led =
-        good generation start events opening led.rests batch (still generation start events opening led.rests time)
+        good batch start events generation opening (still generation start events opening led.rests time)
 
   -- the bytes of a batch stand behind the closed gate, and a sync made sure of the side
   pub record IsSure (old mid : D) (at : Position) (bytes : List ℕ) (batch : List Event) : Type 0 where
@@ -81,34 +75,31 @@ module _ {D : Type 0} (s : Ghosts D) where
       standing = subst (λ (t : SideState). StandsBehind t.bytes at.place bytes) (sym sure.made_sure) sure.standing;
     }
 
-    module _ (generation : ℕ) (start : Node) (events : List Event) (opening : ℕ) (led : RestsFor s batch old at generation start events opening) where
-      rest : RestsNow s mid at generation start events opening
-      rest = now_has s old mid (Rests at generation start events opening)
-          (still old mid at sure.only generation start events opening led.rests sure.time) sure.counts
-
-      set_open : (written (s.state mid at.side) at.place (OPEN ∷ [])).bytes ≡ set (s.state mid at.side).bytes at.place OPEN
-      set_open =
-          let now = (s.state mid at.side).bytes in
-          let was = rest_of (s.state mid) (s.sent mid) at generation start events opening rest now (s.state mid (other at.side)).bytes
-              (sure.read at.side) (sure.read (other at.side)) in
-          let inside : at.place < length now = omega (arith, holds_within now generation (after start events) at.place was.stands.holds) in
-          append_assoc (take at.place now) (OPEN ∷ []) (drop (at.place + 1) now) ∙ (λ i. take at.place now ++ OPEN ∷ drop (add-one at.place i) now)
-          ∙ sym (set_split now at.place OPEN inside)
-
-      pub gate_opened : s.state new at.side ≡ with_open_gate (s.state mid at.side) at.place → s.state new (other at.side) ≡ s.state mid (other at.side)
-          → s.sent new ≡ s.sent mid → RestsNow s new (record { side = at.side; place = at.place + length bytes }) generation start (events ++ batch) opening
-      gate_opened opened same outlet left told possible =
-          let is = settled_only (written (s.state mid at.side) at.place (OPEN ∷ [])) (left at.side)
-              (subst (λ (t : SideState). MayLeave t (left at.side)) opened (possible.each at.side)) in
-          subst (λ (l : List ℕ). RestsAt generation (at.place + length bytes) start (events ++ batch) opening l (left (other at.side)) told)
-          (sym (is ∙ set_open))
-          (opened_rests (s.state mid) (s.sent mid) at generation start events opening rest bytes batch ready led.lawful (left (other at.side)) told
-          (subst (λ (t : SideState). MayLeave t (left (other at.side))) same (possible.each (other at.side))) (possible.outlet ∙ outlet))
+    rest_mid : (generation : ℕ) (start : Node) (events : List Event) (opening : ℕ) → RestsFor s batch old at generation start events opening
+        → RestsNow s mid at generation start events opening
+    rest_mid generation start events opening led =
+        now_has s old mid _ (still old mid at sure.only generation start events opening led.rests sure.time) sure.counts
 
     pub gate_opens : EachMoment s mid new (Within at.side (touch (s.state mid at.side) at.place 1) (s.state mid) (s.sent mid)) → (generation : ℕ)
         → KeepsGood s (RestsFor s batch old at generation) batch old new
     gate_opens run generation start events opening led =
-        let good = IsGood start (events ++ batch) (length events) opening in
-        joined s old mid new good (still_good old mid at sure.only sure.time batch generation start events opening led)
-        (weaker s mid new _ good run (gate_good (s.state mid) (s.sent mid) at generation start events opening
-        (rest generation start events opening led) bytes batch ready led.lawful))
+        joined s old mid new _ (still_good old mid at sure.only sure.time batch generation start events opening led)
+        (weaker s mid new _ _ run (gate_good (s.state mid) (s.sent mid) at generation start events opening
+        (rest_mid generation start events opening led) bytes batch ready led.lawful))
+
+    pub gate_opened : s.state new at.side ≡ with_open_gate (s.state mid at.side) at.place → s.state new (other at.side) ≡ s.state mid (other at.side)
+        → s.sent new ≡ s.sent mid → (generation : ℕ) (start : Node) (events : List Event) (opening : ℕ)
+        → RestsFor s batch old at generation start events opening
+        → RestsNow s new (record { side = at.side; place = at.place + length bytes }) generation start (events ++ batch) opening
+    gate_opened opened same outlet generation start events opening led left told possible =
+        let now = (s.state mid at.side).bytes in
+        let rest = rest_mid generation start events opening led in
+        let was = rest_of (s.state mid) (s.sent mid) at generation start events opening rest now _ ready.read (sure.read (other at.side)) in
+        let inside : at.place < length now = omega (arith, holds_within now generation (after start events) at.place was.stands.holds) in
+        let is = settled_only (written (s.state mid at.side) at.place (OPEN ∷ [])) (left at.side)
+        (subst (λ (t : SideState). MayLeave t (left at.side)) opened (possible.each at.side)) in
+        let set_open : left at.side ≡ set now at.place OPEN = is ∙ append_assoc (take at.place now) (OPEN ∷ []) (drop (at.place + 1) now)
+        ∙ (λ i. take at.place now ++ OPEN ∷ drop (add-one at.place i) now) ∙ sym (set_split now at.place OPEN inside) in
+        subst (λ (l : List ℕ). RestsAt generation (at.place + length bytes) start (events ++ batch) opening l (left (other at.side)) told) (sym set_open)
+        (opened_rests (s.state mid) (s.sent mid) at generation start events opening rest bytes batch ready led.lawful (left (other at.side)) told
+        (subst (λ (t : SideState). MayLeave t (left (other at.side))) same (possible.each (other at.side))) (possible.outlet ∙ outlet))

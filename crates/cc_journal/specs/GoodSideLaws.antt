@@ -73,9 +73,11 @@ module _ {D : Type 0} (s : Ghosts D) where
       → IsGoodNow s site start events (length (s.sent site))
   good_from site start events sides left told possible =
       let here = sides left possible.each in
-      (good_parts start events (length events) (length (s.sent site)) left told).1
-      (here, subst (AllMade start (take here.prefix events) (length (s.sent site))) (sym possible.outlet)
-      (nothing_put start (take here.prefix events) (s.sent site)))
+      (good_parts start events (length events) (length (s.sent site)) left told).1 (
+        here,
+        subst (AllMade start (take here.prefix events) (length (s.sent site))) (sym possible.outlet)
+            (nothing_put start (take here.prefix events) (s.sent site)),
+      )
 
   pub sides_now : (site : D) (start : Node) (events : List Event) (opening : ℕ) → IsGoodNow s site start events opening
       → HasGoodSidesNow s site start events

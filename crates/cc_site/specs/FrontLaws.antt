@@ -102,7 +102,7 @@ pub touch_keeps : (s : SideState) (n at size : ℕ) → n ≤ at → at ≤ leng
 touch_keeps s n at size before fits = record {
   from = λ c may. kept s.bytes s.touched n (omega arith) c s.shifted
       (omega (arith, firm-touch s at size, may.no_shorter))
-      (λ p below clean. may.same p (omega (arith, firm-touch s at size)) 
+      (λ p below clean. may.same p (omega (arith, firm-touch s at size))
       (or_false (s.touched p) (nat_le at p && nat_lt p (at + size)) clean (and_left (nat_le at p) (nat_lt p (at + size)) (lt-leb at p (omega arith)))));
 }
 

@@ -43,8 +43,10 @@ module _ {D : Type 0} (s : Ghosts D) where
   pub reads_then : (old mid new : D) → OnlyReads old mid → OnlyReads mid new → OnlyReads old new
   reads_then old mid new first second = record {
     keeps_honesty = (λ h. second.keeps_honesty.0 (first.keeps_honesty.0 h), λ h. first.keeps_honesty.1 (second.keeps_honesty.1 h));
-    keeps_telling = ((λ t. second.keeps_telling.0.0 (first.keeps_telling.0.0 t), λ t. first.keeps_telling.0.1 (second.keeps_telling.0.1 t)),
-        second.keeps_telling.1 ∙ first.keeps_telling.1);
+    keeps_telling = (
+      (λ t. second.keeps_telling.0.0 (first.keeps_telling.0.0 t), λ t. first.keeps_telling.0.1 (second.keeps_telling.0.1 t)),
+      second.keeps_telling.1 ∙ first.keeps_telling.1,
+    );
     keeps_state = λ h. second.keeps_state (first.keeps_honesty.0 h) ∙ first.keeps_state h;
     no_moment = λ h. nothing_then old mid new (first.no_moment h) (second.no_moment (first.keeps_honesty.0 h));
   }

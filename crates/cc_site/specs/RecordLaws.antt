@@ -183,13 +183,13 @@ module _ (old now : Disk) (side : Side) (told : ℕ) (outputs : List Output) (to
       (Since (bytes_of now) now.steps.items outputs) H
   elapses H fits here = subst (λ l. Elapses (length old.steps.items + length outputs) (length l + length outputs)
       (Since (bytes_of old) old.steps.items outputs) (Since (bytes_of now) l outputs) H) (sym adds.last) (record {
-    later = omega (arith, length-append old.steps.items (adds.step ∷ []));
-    nothing_else = λ t left told le since. ⊎_elim (λ was. inl was)
-        (λ is. ⊎_elim (λ h. inr h) (λ was. inl (since_now (bytes_of old) old.steps.items outputs fits t left told le was))
-        (here left told (subst (λ l. Possible (state_now (bytes_of now) l) outputs left told) (sym adds.last) is)))
-        (was_or_is (bytes_of old) (bytes_of now) old.steps.items adds.step outputs (adds.told_is ∙ told_is) undoes t left told since);
-    keeps = λ t left told le. keeps (bytes_of old) (bytes_of now) old.steps.items adds.step outputs (adds.told_is ∙ told_is) undoes t left told;
-  })
+        later = omega (arith, length-append old.steps.items (adds.step ∷ []));
+        nothing_else = λ t left told le since. ⊎_elim (λ was. inl was)
+            (λ is. ⊎_elim (λ h. inr h) (λ was. inl (since_now (bytes_of old) old.steps.items outputs fits t left told le was))
+            (here left told (subst (λ l. Possible (state_now (bytes_of now) l) outputs left told) (sym adds.last) is)))
+            (was_or_is (bytes_of old) (bytes_of now) old.steps.items adds.step outputs (adds.told_is ∙ told_is) undoes t left told since);
+        keeps = λ t left told le. keeps (bytes_of old) (bytes_of now) old.steps.items adds.step outputs (adds.told_is ∙ told_is) undoes t left told;
+      })
 
   -- where the side is within a bound, each moment is
   pub within : (bound : SideState) (left : Contents) (told : List Output) → ((l : List ℕ) → MayLeave (disk_state now side) l → MayLeave bound l)

@@ -18,7 +18,7 @@ returns-in_default-2 c =
     let n = c.from_be_bytes-size.result in
     let size = c.from_be_bytes-size.ensures ∙ ap (λ (l : List ℕ). from_be_bytes w32 l) (sym (four_bytes bytes c.in-len4-up.len_at_least)) in
     let none = MatchOption-at_none ((e : Event) → SpellsEvent (take n (take (length bytes - 4) (drop 4 bytes))) e → ⊥) _
-        c.in_default-2.is c.in_ok-event.ensures in
+    c.in_default-2.is c.in_ok-event.ensures in
     none_spelled bytes n size (subst (λ (l : List ℕ). (e : Event) → SpellsEvent (take n l) e → ⊥) (behind bytes) none)
 
 pub returns : goal.returns

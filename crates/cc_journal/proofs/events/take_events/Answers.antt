@@ -14,5 +14,5 @@ returns-else-branch c events spelled lawful =
     let start = c.args.node.now in
     let items = c.in-Some.events.items in
     let refused = subst (λ b. MatchBool b (IsLawful start items × (c.settle_all.new.node ≡ after start items)) (IsLawful start items → ⊥))
-        c.if-branch.false c.in_ok-settle_all.ensures in
+    c.if-branch.false c.in_ok-settle_all.ensures in
     refused (subst (λ (l : List Event). IsLawful start l) (one_list bytes events items spelled read) lawful)

@@ -26,9 +26,5 @@ returns-clause-puts g c =
     let replies_sent = send_replies (kept_replies c.deref.result.now c.outbox.result.now) in
     let replies : replies_sent ≡ send_replies (core.replies n.core e) =
     (λ i. send_replies (kept_replies (answered i) (box i))) ∙ ap send_replies (replies_put n e c.core.ensures.lawful) in
-    let old = c.args.site.now in
-    let then = c.put_post.new.site in
-    let new = c.put_replies.new.site in
-    let both = puts_both s old c.put_ack.new.site then (send_ack c.args.entry.made.ack) post_sent c.put_ack.ensures c.put_post.ensures in
-    subst (λ (l : List Output). Puts s l old new) (λ i. ack i ++ post i ++ replies i)
-    (puts_both s old then new (send_ack c.args.entry.made.ack ++ post_sent) replies_sent both c.put_replies.ensures)
+    subst (λ (l : List Output). Puts s l c.args.site.now c.put_replies.new.site) (λ i. ack i ++ post i ++ replies i)
+    (puts_both s _ _ _ _ _ (puts_both s _ _ _ _ _ c.put_ack.ensures c.put_post.ensures) c.put_replies.ensures)

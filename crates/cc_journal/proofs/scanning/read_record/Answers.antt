@@ -21,9 +21,11 @@ pub returns-in_default-clause-damaged : goal.returns-in_default-clause-damaged
 returns-in_default-clause-damaged g c honest =
     let rest = drop c.args.place (g.S.Site.state c.args.site.now c.args.side).bytes in
     let start = c.args.node.now in
-    let none = MatchOption-at_none (LeadNowhere c.deref.result.now start) _ c.in_default.is c.in_ok-events.ensures in
-    (refl, nowhere_no_record rest c.read_body.new.body.items start (c.in_ok-read_body.ensures.found honest)
-    (subst (λ (l : List ℕ). LeadNowhere l start) c.deref.ensures.value none))
+    let none = MatchOption-at_none (LeadNowhere c.deref.result.now start) _ c.in_default.is c.in_ok-events.ensures in (
+      refl,
+      nowhere_no_record rest c.read_body.new.body.items start (c.in_ok-read_body.ensures.found honest)
+          (subst (λ (l : List ℕ). LeadNowhere l start) c.deref.ensures.value none),
+    )
 
 -- the events were taken in
 led : (g : Over) (c : In-Some g) → BytesLead c.read_body.new.body.items c.args.node.now c.take_events.new.node c.in-Some.events

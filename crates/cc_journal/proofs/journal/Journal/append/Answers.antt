@@ -12,8 +12,9 @@ use Rattle.cc_journal.proofs.journal.Journal.append.Goals as goal
 use Rattle.cc_journal.proofs.journal.Journal.append.Goals.{After-write_durably}
 
 pub overflow_add-self : goal.overflow_add-self
-overflow_add-self g c = omega (arith, c.requires.room, ap (λ p. p.place) c.self.view_is, c.flight.invariant.size,
-    length_batch c.flight.inside.batch.value c.flight.invariant.spelled)
+overflow_add-self g c =
+    let f = c.flight.invariant in
+    omega (arith, c.requires.room, ap (λ p. p.place) c.self.view_is, f.size, length_batch c.flight.inside.batch.value f.spelled)
 
 pub returns-in_err-sync-clause-every_moment : goal.returns-in_err-sync-clause-every_moment
 returns-in_err-sync-clause-every_moment g c honest standing =
@@ -72,9 +73,9 @@ returns-clause-at_rest g c honest standing generation start events opening led =
     let at = the_view c.self.inside in
     subst (λ n. RestsNow s new (record { side = at.side; place = at.place + n }) generation start (events ++ batch) opening) size_is
     (gate_opened s old c.sync.new.self new at (batch_bytes c.args.flight) batch
-    (sure g (goal.at.returns-clause-at_rest g c).After-write_durably honest standing) generation start events opening
-    (subst (λ p. RestsFor s batch old p generation start events opening) (sym c.self.view_is) led)
-    (c.in_ok-write_durably.ensures.value honest_mid) (opened.other_side honest_mid) opened.tells.1)
+    (sure g (goal.at.returns-clause-at_rest g c).After-write_durably honest standing) (c.in_ok-write_durably.ensures.value honest_mid)
+    (opened.other_side honest_mid) opened.tells.1 generation start events opening
+    (subst (λ p. RestsFor s batch old p generation start events opening) (sym c.self.view_is) led))
 
 pub returns-clause-short : goal.returns-clause-short
 returns-clause-short g c = subst (λ b. length (batch_bytes b) ≤ record_room) c.flight.view_is
