@@ -1,12 +1,12 @@
 -- Gates, and what stands behind the length of a record, are read as they stand.
-use Rattle.std.proofs.Common.{◌≡◌, inl, inr, ℕ, ◌-◌, ◌<◌, ◌≤◌, eqb, Bool, List, ◌∷◌, ◌++◌, length, take, drop, get_or, sym, ◌∙◌, ap, subst, arith}
+use Rattle.std.proofs.Common.{drop-cons, ◌≡◌, inl, inr, ℕ, ◌-◌, ◌<◌, ◌≤◌, eqb, Bool, List, ◌∷◌, ◌++◌, length, take, drop, get_or, sym, ◌∙◌, ap, subst, arith}
 use Rattle.std.specs.Prelude.{MatchBool}
 use Rattle.std.specs.Int.{to_be_bytes, from_be_bytes, w32}
 use Rattle.std.proofs.lemmas.Bool.{cases_Bool, eqb-true, eqb-false}
 use Rattle.std.proofs.lemmas.List.{get_or-take, length-append, length-drop}
 use Rattle.cc_wire.proofs.Spelled.{IsBytes}
 use Rattle.cc_journal.specs.Reading.{BodyStands, NoBody, BeginsOpen, BeginsClosed}
-use Rattle.cc_journal.proofs.EventReading.{first_byte, too_short, stand_behind}
+use Rattle.cc_journal.proofs.EventReading.{too_short, stand_behind}
 
 -- ---- a gate (its byte stands here as the number that the code has: compared under its name it takes minutes)
 
@@ -14,7 +14,7 @@ pub gate_read : (rest gate : List ℕ) → 1 ≤ length rest → gate ≡ take 1
     → MatchBool (eqb (get_or gate 0 0) 165) (BeginsOpen rest) (BeginsClosed rest)
 gate_read rest gate some read =
     let byte : get_or gate 0 0 ≡ get_or rest 0 0 = ap (λ (l : List ℕ). get_or l 0 0) read ∙ get_or-take 1 rest 0 0 (omega arith) in
-    let stands : rest ≡ get_or gate 0 0 ∷ drop 1 rest = first_byte rest some ∙ ap (λ (b : ℕ). b ∷ drop 1 rest) (sym byte) in
+    let stands : rest ≡ get_or gate 0 0 ∷ drop 1 rest = drop-cons rest 0 0 some ∙ ap (λ (b : ℕ). b ∷ drop 1 rest) (sym byte) in
     let read_as = λ (b : Bool). MatchBool b (BeginsOpen rest) (BeginsClosed rest) in
     elim (cases_Bool (eqb (get_or gate 0 0) 165)) [
       | inl is ↦ subst read_as (sym is) (stands ∙ ap (λ (b : ℕ). b ∷ drop 1 rest) (eqb-true _ _ is))

@@ -12,10 +12,6 @@ use Rattle.cc_sides.specs.Sides.{sized_spelling}
 use Rattle.cc_sides.specs.RecordLaws.{one_sized, one_run}
 use Rattle.cc_journal.specs.Reading.{SpellsEvents, BeginsWith, NoEvent}
 
-pub first_byte : (bytes : List ℕ) → 1 ≤ length bytes → bytes ≡ get_or bytes 0 0 ∷ drop 1 bytes
-first_byte [] long = absurd (omega (arith, long))
-first_byte (b ∷ bytes) long = refl
-
 -- ---- a number of four bytes
 
 pub four_bytes : (bytes : List ℕ) → 4 ≤ length bytes

@@ -15,13 +15,8 @@ use Rattle.cc_journal.specs.Outlet.{IsPutting, Puts}
 -- nothing has been put yet
 pub putting_none : (state : Side → SideState) (sent all : List Output) (left : Contents) (told : List Output) → Possible state sent left told
     → IsPutting state sent all left told
-putting_none state sent all left told possible = record {
-  each = possible.each;
-  put = [];
-  rest = all;
-  parts = refl;
-  outlet = possible.outlet ∙ sym (append-nil sent);
-}
+putting_none state sent all left told possible =
+    record { each = possible.each; put = []; rest = all; parts = refl; outlet = possible.outlet ∙ sym (append-nil sent) }
 
 -- while the first are put, others are to come
 putting_first : (state : Side → SideState) (sent xs ys : List Output) (left : Contents) (told : List Output) → IsPutting state sent xs left told
@@ -46,10 +41,7 @@ putting_then old mid sent now xs ys same more left told putting = record {
 }
 
 module _ {D : Type 0} (s : Ghosts D) where
-  abbrev Run : List Output → D → D → Type 0
-  Run = Puts s
-
-  pub puts_none : (site : D) → (s.honest site → OnlyNow s site) → Run [] site site
+  pub puts_none : (site : D) → (s.honest site → OnlyNow s site) → Puts s [] site site
   puts_none site only = record {
     same_honest = (λ h. h, λ h. h);
     same_state = λ _. refl;
@@ -60,7 +52,7 @@ module _ {D : Type 0} (s : Ghosts D) where
     same_failures = refl;
   }
 
-  pub puts_both : (old mid new : D) (xs ys : List Output) → Run xs old mid → Run ys mid new → Run (xs ++ ys) old new
+  pub puts_both : (old mid new : D) (xs ys : List Output) → Puts s xs old mid → Puts s ys mid new → Puts s (xs ++ ys) old new
   puts_both old mid new xs ys first then = record {
     same_honest = (λ h. then.same_honest.0 (first.same_honest.0 h), λ h. first.same_honest.1 (then.same_honest.1 h));
     same_state = λ h. then.same_state (first.same_honest.0 h) ∙ first.same_state h;
@@ -82,13 +74,13 @@ module _ {D : Type 0} (s : Ghosts D) where
   -- of all, what isn't left has been put
   pub record HasPut (old now : D) (all left : List Output) : Type 0 where
     pub front : List Output
-    pub puts : Run front old now
+    pub puts : Puts s front old now
     pub parts : all ≡ front ++ left
 
   pub put_none : (site : D) (all : List Output) → (s.honest site → OnlyNow s site) → HasPut site site all all
   put_none site all only = record { front = []; puts = puts_none site only; parts = refl }
 
-  pub put_more : (old now new : D) (all left first rest : List Output) → HasPut old now all left → left ≡ first ++ rest → Run first now new
+  pub put_more : (old now new : D) (all left first rest : List Output) → HasPut old now all left → left ≡ first ++ rest → Puts s first now new
       → HasPut old new all rest
   put_more old now new all left first rest put split run = record {
     front = put.front ++ first;
@@ -96,6 +88,6 @@ module _ {D : Type 0} (s : Ghosts D) where
     parts = put.parts ∙ ap (λ (l : List Output). put.front ++ l) split ∙ sym (append_assoc put.front first rest);
   }
 
-  pub put_all : (old now : D) (all outputs left : List Output) → HasPut old now all left → all ≡ outputs → left ≡ [] → Run outputs old now
+  pub put_all : (old now : D) (all outputs left : List Output) → HasPut old now all left → all ≡ outputs → left ≡ [] → Puts s outputs old now
   put_all old now all outputs left put is none =
-      subst (λ (l : List Output). Run l old now) (sym (put.parts ∙ ap (λ (l : List Output). put.front ++ l) none ∙ append-nil put.front) ∙ is) put.puts
+      subst (λ (l : List Output). Puts s l old now) (sym (put.parts ∙ ap (λ (l : List Output). put.front ++ l) none ∙ append-nil put.front) ∙ is) put.puts

@@ -74,9 +74,6 @@ module _ (state : Side → SideState) (sent : List Output) (at : Position) (gene
     abbrev bytes : List ℕ
     bytes = (state at.side).bytes
 
-    abbrev moved : Position
-    moved = record { side = at.side; place = at.place + length written }
-
     -- with it open
     pub opened_rests : (y : List ℕ) (told : List Output) → MayLeave (state (other at.side)) y → told ≡ sent
         → RestsAt generation (at.place + length written) start (events ++ batch) opening (set bytes at.place OPEN) y told
@@ -105,7 +102,8 @@ module _ (state : Side → SideState) (sent : List Output) (at : Position) (gene
         one_byte bytes (left at.side) at.place (ready.only _ (restored (state at.side) at.place inside (left at.side) within.this)) in
         elim (cases_eq byte OPEN) [
           | inl opened ↦
-              rests_whole_good moved generation start (events ++ batch) opening (length events) left told (omega (arith, length-append events batch))
+              rests_whole_good (record { side = at.side; place = at.place + length written }) generation start (events ++ batch) opening (length events)
+              left told (omega (arith, length-append events batch))
               (subst (λ (l : List ℕ). RestsAt generation (at.place + length written) start (events ++ batch) opening l y told)
               (ap (λ (b : ℕ). set bytes at.place b) (sym opened) ∙ sym now) (opened_rests y told within.rest within.outlet))
           | inr closed ↦

@@ -1,7 +1,7 @@
 -- Bytes are scanned in one way.
 --     found_once, stopped_once     what is found is one, and so is where it stops
 --     either_one, neither_one      not both;  and one of the two
-use Rattle.std.proofs.Common.{◌≡◌, ◌≢◌, inl, inr, ℕ, zero, suc, ◌+◌, ◌≤◌, eqb, List, [], ◌∷◌, ◌++◌, length, drop, get_or, refl, sym, ◌∙◌, ap}
+use Rattle.std.proofs.Common.{◌≡◌, inl, inr, ℕ, zero, suc, ◌+◌, ◌≤◌, eqb, List, [], ◌∷◌, ◌++◌, length, drop, get_or, refl, sym, ◌∙◌, ap}
 use Rattle.std.proofs.Common.{arith, length-drop}
 use Rattle.std.proofs.lemmas.Bool.{cases_Bool, eqb-true, eqb-false}
 use Rattle.cc_messages.specs.declared.event.Event.{Event}
@@ -19,13 +19,11 @@ gate_ends : {bytes : List ℕ} {start node : Node} {size records events : ℕ} (
     → Ends (p.gate ∷ p.rest) (after start (events_of p.batches))
 gate_ends p body more events is spelled lawful = p.closed (ap (λ (l : List ℕ). get_or l 0 0) is)
 
-ends_at : (front rest : List ℕ) (node : Node) (place : ℕ) → Stop front rest node place → Ends rest node
-ends_at front rest node place (inl none) body more events is spelled lawful = no_gate OPEN (body ++ more) (sym none.0 ∙ is)
-ends_at front rest node place (inr stop) body more events is spelled lawful =
-    stop.3 body more events (ap (λ (l : List ℕ). drop 1 l) (sym stop.1 ∙ is)) spelled lawful
-
 stop_ends : {bytes : List ℕ} {start : Node} {place : ℕ} (p : StopsAt bytes start place) → Ends p.rest (after start (events_of p.batches))
-stop_ends p = ends_at p.front p.rest _ _ p.stop
+stop_ends p body more events is spelled lawful = elim p.stop [
+  | inl none ↦ no_gate OPEN (body ++ more) (sym none.0 ∙ is)
+  | inr stop ↦ stop.3 body more events (ap (λ (l : List ℕ). drop 1 l) (sym stop.1 ∙ is)) spelled lawful
+]
 
 pub found_once : (bytes : List ℕ) (start x y : Node) (size-x size-y records-x records-y events-x events-y : ℕ)
     → ScansTo bytes start x size-x records-x events-x → ScansTo bytes start y size-y records-y events-y
@@ -53,16 +51,15 @@ stopped_once bytes start place-x place-y p q =
     (stop_ends p) (stop_ends q) (sym p.parts ∙ q.parts) in
     one_stop p.front q.front p.rest q.rest _ _ place-x place-y one.1 one.2 p.stop q.stop
 
-not_shut : (gate : ℕ) (rest front u : List ℕ) (node : Node) (place : ℕ) → gate ≢ OPEN → gate ∷ rest ≡ u → Stop front u node place → ⊥
-not_shut gate rest front u node place closed same (inl none) = no_gate gate rest (sym (same ∙ none.0))
-not_shut gate rest front u node place closed same (inr is_open) = closed (ap (λ (l : List ℕ). get_or l 0 0) (same ∙ is_open.1))
-
 pub either_one : (bytes : List ℕ) (start node : Node) (size records events place : ℕ) → ScansTo bytes start node size records events
     → StopsAt bytes start place → ⊥
 either_one bytes start node size records events place p q =
     let one = one_front start p.batches q.batches p.front q.front (p.gate ∷ p.rest) q.rest p.spelled q.spelled p.lawful q.lawful
     (gate_ends p) (stop_ends q) (sym p.parts ∙ q.parts) in
-    not_shut p.gate p.rest q.front q.rest _ place p.closed one.2 q.stop
+    elim q.stop [
+      | inl none ↦ no_gate p.gate p.rest (sym (one.2 ∙ none.0))
+      | inr opened ↦ p.closed (ap (λ (l : List ℕ). get_or l 0 0) (one.2 ∙ opened.1))
+    ]
 
 -- Where bytes neither lead to a node nor stop, they would go on for ever, from open gate to open gate.
 module _ (bytes : List ℕ) (start : Node) (no_scan : (node : Node) (size records events : ℕ) → ScansTo bytes start node size records events → ⊥)

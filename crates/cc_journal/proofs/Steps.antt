@@ -6,17 +6,18 @@
 use Rattle.std.proofs.Common.{◌≡◌, ℕ, ◌+◌, ◌<◌, ◌≤◌, List, [], ◌∷◌, ◌++◌, length, take, drop, set, sym, ◌∙◌, ap, subst, arith, add-one}
 use Rattle.std.proofs.lemmas.List.{append_assoc, set_split}
 use Rattle.cc_messages.specs.declared.event.Event.{Event}
+use Rattle.cc_messages.specs.declared.output.Output.{Output}
 use Rattle.cc_site.specs.declared.site.Side.{Side}
 use Rattle.cc_site.specs.declared.site.Site.{Ghosts}
 use Rattle.cc_site.specs.Sides.{SideState, MayLeave, other, touch, written, settled}
 use Rattle.cc_site.specs.SideLaws.{settled_only}
-use Rattle.cc_site.specs.Moments.{Within, Nothing}
-use Rattle.cc_site.specs.Runs.{Passes, EachMoment, OnlyNow, CountsNow, started, goes_on, rests, joined, weaker, now_has}
+use Rattle.cc_site.specs.Moments.{Contents, Within, Nothing}
+use Rattle.cc_site.specs.Runs.{Passes, EachMoment, OnlyNow, CountsNow, started, goes_on, joined, weaker, now_has}
 use Rattle.cc_node.specs.Node.{Node, after}
 use Rattle.cc_sides.specs.Sides.{OPEN, SpellsBatch, StandsBehind}
 use Rattle.cc_sides.specs.Good.{RestsAt}
 use Rattle.cc_sides.specs.Fronts.{holds_within}
-use Rattle.cc_journal.specs.Journals.{Position, IsGood, Rests, RestsNow, RestsFor, KeepsGood, with_open_gate}
+use Rattle.cc_journal.specs.Journals.{Position, Rests, RestsNow, RestsFor, KeepsGood, with_open_gate}
 use Rattle.cc_journal.proofs.Rests.{IsReady, behind_rests, rest_of, rests_more_good, gate_good, opened_rests}
 
 module _ {D : Type 0} (s : Ghosts D) where
@@ -27,33 +28,34 @@ module _ {D : Type 0} (s : Ghosts D) where
         → RestsNow s new at generation start events opening
 
   module _ (old new : D) (at : Position) (only : OnlyNow s old) where
-    module _ (generation : ℕ) (start : Node) (events : List Event) (opening : ℕ) (rest : RestsNow s old at generation start events opening) where
-      at_first : EachMoment s old old (Rests at generation start events opening)
-      at_first = started s old (Rests at generation start events opening) (λ left told since. rest left told (only left told since))
-
-      still : Passes s old new Nothing → EachMoment s old new (Rests at generation start events opening)
-      still time = rests s old old new (Rests at generation start events opening) at_first time
-
-      behind : (n : ℕ) → Passes s old new (Within at.side (touch (s.state old at.side) (at.place + 1) n) (s.state old) (s.sent old))
-          → at.place + 1 ≤ length (s.state old at.side).bytes → EachMoment s old new (Rests at generation start events opening)
-      behind n time fits = goes_on s old old new (Rests at generation start events opening) _ at_first time
-          (behind_rests (s.state old) (s.sent old) at generation start events opening rest n fits)
-
-    good : (more : List Event) (start : Node) (events : List Event) (generation opening : ℕ) → EachMoment s old new (Rests at generation start events opening)
-        → EachMoment s old new (IsGood start (events ++ more) (length events) opening)
-    good more start events generation opening run = weaker s old new _ _ run (rests_more_good at generation start events opening more)
+    -- a call at each moment of which they rest
+    runs : (generation : ℕ) (start : Node) (events : List Event) (opening : ℕ) → RestsNow s old at generation start events opening
+        → (here : Contents → List Output → Type 0) → Passes s old new here
+        → ((left : Contents) (told : List Output) → here left told → Rests at generation start events opening left told)
+        → EachMoment s old new (Rests at generation start events opening)
+    runs generation start events opening rest here =
+        goes_on s old old new _ here (started s old _ (λ left told since. rest left told (only left told since)))
 
     pub behind_gate : (n : ℕ) → Passes s old new (Within at.side (touch (s.state old at.side) (at.place + 1) n) (s.state old) (s.sent old))
         → at.place + 1 ≤ length (s.state old at.side).bytes → CountsNow s new → (more : List Event) → StaysAtRest old new at more
     behind_gate n time fits counts more = record {
       moments = λ generation start events opening rest.
-          good more start events generation opening (behind generation start events opening rest n time fits);
-      afterwards = λ generation start events opening rest. now_has s old new _ (behind generation start events opening rest n time fits) counts;
+          weaker s old new _ _ (run generation start events opening rest) (rests_more_good at generation start events opening more);
+      afterwards = λ generation start events opening rest. now_has s old new _ (run generation start events opening rest) counts;
     }
+      where
+        run : (generation : ℕ) (start : Node) (events : List Event) (opening : ℕ) → RestsNow s old at generation start events opening
+            → EachMoment s old new (Rests at generation start events opening)
+        run generation start events opening rest = runs generation start events opening rest _ time
+            (behind_rests (s.state old) (s.sent old) at generation start events opening rest n fits)
+
+    still : Passes s old new Nothing → (generation : ℕ) (start : Node) (events : List Event) (opening : ℕ)
+        → RestsNow s old at generation start events opening → EachMoment s old new (Rests at generation start events opening)
+    still time generation start events opening rest = runs generation start events opening rest Nothing time (λ left told none. absurd none)
 
     pub still_good : Passes s old new Nothing → (batch : List Event) (generation : ℕ) → KeepsGood s (RestsFor s batch old at generation) batch old new
-    still_good time batch generation start events opening led =
-        good batch start events generation opening (still generation start events opening led.rests time)
+    still_good time batch generation start events opening led = weaker s old new _ _ (still time generation start events opening led.rests)
+        (rests_more_good at generation start events opening batch)
 
   -- the bytes of a batch stand behind the closed gate, and a sync made sure of the side
   pub record IsSure (old mid : D) (at : Position) (bytes : List ℕ) (batch : List Event) : Type 0 where
@@ -78,7 +80,7 @@ module _ {D : Type 0} (s : Ghosts D) where
     rest_mid : (generation : ℕ) (start : Node) (events : List Event) (opening : ℕ) → RestsFor s batch old at generation start events opening
         → RestsNow s mid at generation start events opening
     rest_mid generation start events opening led =
-        now_has s old mid _ (still old mid at sure.only generation start events opening led.rests sure.time) sure.counts
+        now_has s old mid _ (still old mid at sure.only sure.time generation start events opening led.rests) sure.counts
 
     pub gate_opens : EachMoment s mid new (Within at.side (touch (s.state mid at.side) at.place 1) (s.state mid) (s.sent mid)) → (generation : ℕ)
         → KeepsGood s (RestsFor s batch old at generation) batch old new

@@ -1,6 +1,9 @@
 use Rattle.std.proofs.Common.{refl}
+use Rattle.std.proofs.lemmas.List.{at_drop_all}
+use Rattle.cc_node.specs.Core.{send_replies}
+use Rattle.cc_journal.specs.Outlet.{kept_replies}
 use Rattle.cc_journal.specs.declared.outlet.Answered.{Answered}
-use Rattle.cc_journal.proofs.EventOutputs.{next_replies, no_replies}
+use Rattle.cc_journal.proofs.EventOutputs.{next_replies}
 use Rattle.cc_journal.proofs.Puts.{put_none, put_more, put_all}
 use Rattle.cc_journal.proofs.outlet.put_replies.Goals as goal
 
@@ -15,4 +18,4 @@ loop-answered-preserved g c =
 
 pub returns : goal.returns
 returns g c = put_all g.S.Site _ _ _ _ _ c.loop-answered.invariant refl
-    (no_replies c.args.requests.now c.loop-answered.answered-index c.args.outbox.now c.loop-answered-test.false)
+    (at_drop_all (λ l. send_replies (kept_replies l c.args.outbox.now)) c.args.requests.now c.loop-answered.answered-index c.loop-answered-test.false)
