@@ -1,5 +1,10 @@
 -- Events behind their sizes are read as they are spelled.
-use Rattle.std.proofs.Common.{◌≡◌, ℕ, ◌+◌, ◌<◌, ◌≤◌, ◌^◌, List, [], ◌∷◌, ◌++◌, length, take, drop, get_or, refl, sym, ◌∙◌, ap, arith, length-append}
+--     size_of, too_short, stand_behind        bytes behind their size
+--     none_short, none_spelled, one_found     an event behind its size
+--     IsRead, none_next, none_behind          one event after another
+--     one_list                                bytes spell one list of events
+use Rattle.std.proofs.Common.{◌≡◌, ◌⊎◌, ⊎_elim, inl, inr, ℕ, suc, ◌+◌, ◌<◌, ◌≤◌, ◌^◌, List, [], ◌∷◌, ◌++◌, length, take, drop, get_or, refl, sym}
+use Rattle.std.proofs.Common.{subst, ◌∙◌, ap, arith, length-append}
 use Rattle.std.specs.Int.{to_be_bytes, from_be_bytes, w32}
 use Rattle.std.specs.List.{flat_map, AllByRecursion}
 use Rattle.std.proofs.lemmas.Nat.{from_be_bytes-to_be_bytes_4, be_bytes_4}
@@ -72,46 +77,39 @@ pub record IsRead (whole rest : List ℕ) (read : List Event) : Type 0 where
   pub parts : whole ≡ flat_map sized_spelling read ++ rest
   pub each : AllByRecursion IsEvent read
 
--- what is left of the events, where as many or more are spelled
+-- so many of the events were read: all of them, and no byte is left, or fewer, and an event begins what is left
+abbrev Left : ℕ → ℕ → List ℕ → Type 0
+Left read count rest =
+    ((read ≡ count) × (rest ≡ [])) ⊎ ((read < count) × ((e : Event) × (more : List ℕ) × IsEvent e × (rest ≡ sized_spelling e ++ more)))
+
 left_over : (read events : List Event) (rest : List ℕ) → AllByRecursion IsEvent read → AllByRecursion IsEvent events
-    → length read ≤ length events → flat_map sized_spelling read ++ rest ≡ flat_map sized_spelling events
-    → (more : List Event) × (length events ≡ length read + length more) × AllByRecursion IsEvent more × (rest ≡ flat_map sized_spelling more)
-left_over [] events rest all-r all-e le e = (events, omega arith, all-e, e)
-left_over (x ∷ read) [] rest all-r all-e le e = absurd cc
-left_over (x ∷ read) (y ∷ events) rest all-r all-e le e =
-    let parts = sym (append_assoc (sized_spelling x) (flat_map sized_spelling read) rest) ∙ e in
+    → length read ≤ length events → flat_map sized_spelling read ++ rest ≡ flat_map sized_spelling events → Left (length read) (length events) rest
+left_over [] [] rest all-r all-e le is = inl (refl, is)
+left_over [] (e ∷ events) rest all-r all-e le is = inr (omega arith, (e, flat_map sized_spelling events, all-e.0, is))
+left_over (x ∷ read) [] rest all-r all-e le is = absurd cc
+left_over (x ∷ read) (y ∷ events) rest all-r all-e le is =
+    let parts = sym (append_assoc (sized_spelling x) (flat_map sized_spelling read) rest) ∙ is in
     let first = one_sized x y (flat_map sized_spelling read ++ rest) (flat_map sized_spelling events) all-r.0 all-e.0 parts in
-    let more = left_over read events rest all-r.1 all-e.1 (omega (arith, le)) first.1 in
-    (more.0, omega (arith, more.1), more.2, more.3)
+    ⊎_elim (λ all. inl (ap suc all.0, all.1)) (λ one. inr (omega (arith, one.0), one.1))
+    (left_over read events rest all-r.1 all-e.1 (omega arith) first.1)
 
 module _ (bytes : List ℕ) (count : ℕ) (whole rest : List ℕ) (read : List Event) (split : bytes ≡ count ∷ whole)
     (is_read : IsRead whole rest read) where
-  spelled_rest : (events : List Event) → SpellsEvents bytes events → length read ≤ count
-      → (more : List Event) × (count ≡ length read + length more) × AllByRecursion IsEvent more × (rest ≡ flat_map sized_spelling more)
+  spelled_rest : (events : List Event) → SpellsEvents bytes events → length read ≤ count → Left (length read) count rest
   spelled_rest events spelled le =
       let all : count ∷ whole ≡ length events ∷ flat_map sized_spelling events = sym split ∙ spelled.spelled in
-      let same : count ≡ length events = cc in
+      let same : length events ≡ count = cc in
       let items : whole ≡ flat_map sized_spelling events = ap (λ (l : List ℕ). drop 1 l) all in
-      let more = left_over read events rest is_read.each spelled.each (omega (arith, le, same)) (sym is_read.parts ∙ items) in
-      (more.0, same ∙ more.1, more.2, more.3)
+      subst (λ (n : ℕ). Left (length read) n rest) same
+      (left_over read events rest is_read.each spelled.each (omega arith) (sym is_read.parts ∙ items))
 
   pub none_next : length read < count → NoEvent rest → (events : List Event) → SpellsEvents bytes events → ⊥
   none_next lt none events spelled =
-      let more = spelled_rest events spelled (omega (arith, lt)) in
-      no_more more.0 (omega (arith, more.1, lt)) more.2 more.3
-    where
-      no_more : (more : List Event) → 1 ≤ length more → AllByRecursion IsEvent more → rest ≡ flat_map sized_spelling more → ⊥
-      no_more [] some each is = absurd (omega (arith, some))
-      no_more (e ∷ more) some each is = none e (flat_map sized_spelling more) each.0 is
+      ⊎_elim (λ all. absurd (omega (arith, all.0))) (λ one. none one.1.0 one.1.1 one.1.2 one.1.3) (spelled_rest events spelled (omega arith))
 
   pub none_behind : length read ≡ count → 1 ≤ length rest → (events : List Event) → SpellsEvents bytes events → ⊥
   none_behind same some events spelled =
-      let more = spelled_rest events spelled (omega (arith, same)) in
-      nothing more.0 (omega (arith, more.1, same)) more.3
-    where
-      nothing : (more : List Event) → length more ≡ 0 → rest ≡ flat_map sized_spelling more → ⊥
-      nothing [] none is = absurd (omega (arith, some, ap length is))
-      nothing (e ∷ more) none is = absurd cc
+      ⊎_elim (λ all. absurd (omega (arith, ap length all.1))) (λ one. absurd (omega (arith, one.0))) (spelled_rest events spelled (omega arith))
 
 -- bytes spell one list of events
 pub one_list : (bytes : List ℕ) (xs ys : List Event) → SpellsEvents bytes xs → SpellsEvents bytes ys → xs ≡ ys

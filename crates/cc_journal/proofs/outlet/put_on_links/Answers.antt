@@ -21,12 +21,11 @@ loop-row-init g c =
 
 pub loop-row-preserved : goal.loop-row-preserved
 loop-row-preserved g c =
-    let core = c.args.core.now in
     let inv = c.loop-row.invariant in
     let more = next c.rows-rows.result.now c.loop-row.row-index c.row-item.result c.loop-row-test.true c.row-item.is in
     record {
-      start = (subst (AllStart core.posts) more inv.start).1;
-      put = put_more g.S.Site _ _ _ _ _ _ _ inv.put (ap (row_sends core c.args.post.now) more) c.put_on_link.ensures;
+      start = (subst (AllStart c.args.core.now.posts) more inv.start).1;
+      put = put_more g.S.Site _ _ _ _ _ _ _ inv.put (ap (row_sends c.args.core.now c.args.post.now) more) c.put_on_link.ensures;
     }
 
 pub returns : goal.returns

@@ -50,13 +50,12 @@ returns-in_err-taken-clause-damaged g c =
     let s = g.S.Site in
     let side = c.args.side in
     let place = c.loop-place.place in
-    let old = c.args.site.now in
     let node = c.loop-place.node in
     let shared = (goal.at.returns-in_err-taken-clause-damaged g c).After-read_record in
     let reads = read_gate g shared in
     let p = err_from_is_err_and c.from_residual-in_err-taken.result c.from_residual-in_err-taken.ensures.1 in
     rw (p.1, p.2) (λ honest.
-    let stopped = IsStopped (s.state old side).bytes c.args.place c.args.node.now in
+    let stopped = IsStopped (s.state c.args.site.now side).bytes c.args.place c.args.node.now in
     damaged_weaker (λ (q : ℕ). (q ≡ place + 1) × NoRecord (drop (place + 1) (s.state c.gate_is_open.new.site side).bytes) node) stopped
     c.in_err-taken.field-0.0 (λ q is. subst stopped (sym is.0) (stops_behind (c.loop-place.invariant.so_far honest) (opened g shared honest)
     (subst (λ (t : Side → SideState). NoRecord (drop (place + 1) (t side).bytes) node) (reads.keeps_state honest) is.1)))
@@ -64,21 +63,18 @@ returns-in_err-taken-clause-damaged g c =
 
 pub loop-place-preserved : goal.loop-place-preserved
 loop-place-preserved g c =
-    let s = g.S.Site in
     let inv = c.loop-place.invariant in
-    let node = c.loop-place.node in
     let next = c.read_record.new.node in
-    let size = c.in_ok-taken.taken.size in
-    let count = c.in_ok-taken.taken.events in
+    let taken = c.in_ok-taken.taken in
     let shared = (goal.at.loop-place-preserved g c).After-read_record in
     let reads = read_gate g shared in
     record {
-      reads = reads_then s c.args.site.now c.gate_is_open.new.site c.read_record.new.site reads c.read_record.ensures.reads;
+      reads = reads_then g.S.Site c.args.site.now c.gate_is_open.new.site c.read_record.new.site reads c.read_record.ensures.reads;
       size = inv.size;
       few_records = omega (arith, inv.few_records);
       few_events = omega (arith, inv.few_events, c.in_ok-taken.ensures.few);
-      so_far = λ honest. goes_on (inv.so_far honest) next size count (opened g shared honest)
-          (subst (λ (t : Side → SideState). RecordLeads (drop (c.loop-place.place + 1) (t c.args.side).bytes) node next size count)
+      so_far = λ honest. goes_on (inv.so_far honest) next taken.size taken.events (opened g shared honest) (subst
+          (λ (t : Side → SideState). RecordLeads (drop (c.loop-place.place + 1) (t c.args.side).bytes) c.loop-place.node next taken.size taken.events)
           (reads.keeps_state honest) (c.in_ok-taken.ensures.found (reads.keeps_honesty.0 honest)));
       failures = c.in_ok-taken.ensures.fault ∙ c.in_ok-gate_is_open.ensures.fault ∙ inv.failures;
     }

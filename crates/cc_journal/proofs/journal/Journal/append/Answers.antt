@@ -92,17 +92,15 @@ returns-in_err-sync-clause-failed g c honest = on_err c.from_residual.result _ (
 pub returns-in_err-write_durably-clause-failed : goal.returns-in_err-write_durably-clause-failed
 returns-in_err-write_durably-clause-failed g c honest =
     let s = g.S.Site in
-    let at = the_view c.self.inside in
     let new = c.write_durably.new.site in
     on_err c.from_residual-in_err-write_durably.result _
     (subst (λ p. MayHaveOpened (s.state c.args.site.now p.side) p.place (s.state new p.side)) c.self.view_is
-    (inr (subst (λ t. MayHaveWritten t at.place (OPEN ∷ []) (s.state new at.side)) (c.in_ok-sync.ensures.value honest)
+    (inr (subst (λ t. MayHaveWritten t c.self.inside.place (OPEN ∷ []) (s.state new c.self.inside.side)) (c.in_ok-sync.ensures.value honest)
     (c.in_err-write_durably.ensures.failed (c.sync.ensures.honest.0 honest)))))
 
 pub returns-clause-holds : goal.returns-clause-holds
 returns-clause-holds g c honest =
     let s = g.S.Site in
-    let at = the_view c.self.inside in
     subst (λ p. s.state c.write_durably.new.site p.side ≡ with_open_gate (s.state c.args.site.now p.side) p.place) c.self.view_is
     (c.in_ok-write_durably.ensures.value (c.sync.ensures.honest.0 honest)
-    ∙ ap (λ t. settled (written t at.place (OPEN ∷ []))) (c.in_ok-sync.ensures.value honest))
+    ∙ ap (λ t. settled (written t c.self.inside.place (OPEN ∷ []))) (c.in_ok-sync.ensures.value honest))
