@@ -10,8 +10,7 @@ use Rattle.cc_journal.proofs.EventReading.{too_short, stand_behind}
 
 -- ---- a gate (its byte stands here as the number that the code has: compared under its name it takes minutes)
 
-pub gate_read : (rest gate : List ℕ) → 1 ≤ length rest → gate ≡ take 1 rest
-    → MatchBool (eqb (get_or gate 0 0) 165) (BeginsOpen rest) (BeginsClosed rest)
+pub gate_read : (rest gate : List ℕ) → 1 ≤ length rest → gate ≡ take 1 rest → MatchBool (eqb (get_or gate 0 0) 165) (BeginsOpen rest) (BeginsClosed rest)
 gate_read rest gate some read =
     let byte : get_or gate 0 0 ≡ get_or rest 0 0 = ap (λ (l : List ℕ). get_or l 0 0) read ∙ get_or-take 1 rest 0 0 (omega arith) in
     let stands : rest ≡ get_or gate 0 0 ∷ drop 1 rest = drop-cons rest 0 0 some ∙ ap (λ (b : ℕ). b ∷ drop 1 rest) (sym byte) in

@@ -27,8 +27,7 @@ both_sent : (xs ys : List Reply) → send_replies (xs ++ ys) ≡ send_replies xs
 both_sent [] ys = refl
 both_sent (x ∷ xs) ys = ap (λ (l : List Output). output.Reply x.session x.request x.answer ∷ l) (both_sent xs ys)
 
-pub next_replies : (xs : List Answered) (i : ℕ) (d : Answered) (o : Outbox) → i < length xs
-    → send_replies (kept_replies (drop i xs) o)
+pub next_replies : (xs : List Answered) (i : ℕ) (d : Answered) (o : Outbox) → i < length xs → send_replies (kept_replies (drop i xs) o)
     ≡ send_replies (kept_reply (get_or xs i d) (table.get o.answers (get_or xs i d).session)) ++ send_replies (kept_replies (drop (i + 1) xs) o)
 next_replies xs i d o lt =
     let x = get_or xs i d in
@@ -43,8 +42,7 @@ module _ (n : Node) (e : Event) where
       → send_post (step n e).core (new_post n.core.posts (step n e)) ≡ send_post (next n.core e) p
   unfolding step next post_if
   post_put None made h = ap post_if (le-ltb n.core.posts (next n.core e).posts (omega (arith, ap option_len made)))
-  post_put (Some m) made h =
-      ap post_if (lt-ltb n.core.posts (next n.core e).posts (omega (arith, ap option_len made))) ∙ post_kept n e m made h
+  post_put (Some m) made h = ap post_if (lt-ltb n.core.posts (next n.core e).posts (omega (arith, ap option_len made))) ∙ post_kept n e m made h
 
   pub replies_put : (rs : List Reply) → AllByRecursion (λ r. table.get (step n e).outbox.answers r.session ≡ Some r.answer) rs
       → kept_replies (map request_of rs) (step n e).outbox ≡ rs

@@ -19,8 +19,7 @@ use Rattle.cc_journal.specs.Reading.{SpellsEvents, BeginsWith, NoEvent}
 
 -- ---- a number of four bytes
 
-pub four_bytes : (bytes : List ℕ) → 4 ≤ length bytes
-    → take 4 bytes ≡ get_or bytes 0 0 ∷ get_or bytes 1 0 ∷ get_or bytes 2 0 ∷ get_or bytes 3 0 ∷ []
+pub four_bytes : (bytes : List ℕ) → 4 ≤ length bytes → take 4 bytes ≡ get_or bytes 0 0 ∷ get_or bytes 1 0 ∷ get_or bytes 2 0 ∷ get_or bytes 3 0 ∷ []
 four_bytes (a ∷ b ∷ c ∷ d ∷ rest) long = refl
 four_bytes bytes long = absurd (omega arith)
 
@@ -35,8 +34,7 @@ module _ (bytes number : List ℕ) (size : ℕ) (is_size : size ≡ from_be_byte
     ap (λ (l : List ℕ). drop 4 l) parts,
   )
 
-  pub too_short : length (drop 4 bytes) < size → (body rest : List ℕ) → length body < 2 ^ 32
-      → bytes ≡ to_be_bytes w32 (length body) ++ body ++ rest → ⊥
+  pub too_short : length (drop 4 bytes) < size → (body rest : List ℕ) → length body < 2 ^ 32 → bytes ≡ to_be_bytes w32 (length body) ++ body ++ rest → ⊥
   too_short short body rest small parts = let s = size_of body rest small parts in absurd (omega (arith, s.0, ap length s.1, length-append body rest))
 
   pub stand_behind : 4 ≤ length bytes → IsBytes number → size ≤ length (drop 4 bytes) → (body : List ℕ) → body ≡ take size (drop 4 bytes)
@@ -79,8 +77,7 @@ pub record IsRead (whole rest : List ℕ) (read : List Event) : Type 0 where
 
 -- so many of the events were read: all of them, and no byte is left, or fewer, and an event begins what is left
 abbrev Left : ℕ → ℕ → List ℕ → Type 0
-Left read count rest =
-    ((read ≡ count) × (rest ≡ [])) ⊎ ((read < count) × ((e : Event) × (more : List ℕ) × IsEvent e × (rest ≡ sized_spelling e ++ more)))
+Left read count rest = ((read ≡ count) × (rest ≡ [])) ⊎ ((read < count) × ((e : Event) × (more : List ℕ) × IsEvent e × (rest ≡ sized_spelling e ++ more)))
 
 left_over : (read events : List Event) (rest : List ℕ) → AllByRecursion IsEvent read → AllByRecursion IsEvent events
     → length read ≤ length events → flat_map sized_spelling read ++ rest ≡ flat_map sized_spelling events → Left (length read) (length events) rest
@@ -90,8 +87,7 @@ left_over (x ∷ read) [] rest all-r all-e le is = absurd cc
 left_over (x ∷ read) (y ∷ events) rest all-r all-e le is =
     let parts = sym (append_assoc (sized_spelling x) (flat_map sized_spelling read) rest) ∙ is in
     let first = one_sized x y (flat_map sized_spelling read ++ rest) (flat_map sized_spelling events) all-r.0 all-e.0 parts in
-    ⊎_elim (λ all. inl (ap suc all.0, all.1)) (λ one. inr (omega (arith, one.0), one.1))
-    (left_over read events rest all-r.1 all-e.1 (omega arith) first.1)
+    ⊎_elim (λ all. inl (ap suc all.0, all.1)) (λ one. inr (omega (arith, one.0), one.1)) (left_over read events rest all-r.1 all-e.1 (omega arith) first.1)
 
 module _ (bytes : List ℕ) (count : ℕ) (whole rest : List ℕ) (read : List Event) (split : bytes ≡ count ∷ whole)
     (is_read : IsRead whole rest read) where
@@ -99,9 +95,8 @@ module _ (bytes : List ℕ) (count : ℕ) (whole rest : List ℕ) (read : List E
   spelled_rest events spelled le =
       let all : count ∷ whole ≡ length events ∷ flat_map sized_spelling events = sym split ∙ spelled.spelled in
       let same : length events ≡ count = cc in
-      let items : whole ≡ flat_map sized_spelling events = ap (λ (l : List ℕ). drop 1 l) all in
       subst (λ (n : ℕ). Left (length read) n rest) same
-      (left_over read events rest is_read.each spelled.each (omega arith) (sym is_read.parts ∙ items))
+      (left_over read events rest is_read.each spelled.each (omega arith) (sym is_read.parts ∙ ap (λ (l : List ℕ). drop 1 l) all))
 
   pub none_next : length read < count → NoEvent rest → (events : List Event) → SpellsEvents bytes events → ⊥
   none_next lt none events spelled =
@@ -116,5 +111,5 @@ pub one_list : (bytes : List ℕ) (xs ys : List Event) → SpellsEvents bytes xs
 one_list bytes xs ys p q =
     let all : length xs ∷ flat_map sized_spelling xs ≡ length ys ∷ flat_map sized_spelling ys = sym p.spelled ∙ q.spelled in
     let count : length xs ≡ length ys = cc in
-    let items : flat_map sized_spelling xs ≡ flat_map sized_spelling ys = ap (λ (l : List ℕ). drop 1 l) all in
-    one_run xs ys [] [] p.each q.each count (append-nil (flat_map sized_spelling xs) ∙ items ∙ sym (append-nil (flat_map sized_spelling ys)))
+    one_run xs ys [] [] p.each q.each count
+    (append-nil (flat_map sized_spelling xs) ∙ ap (λ (l : List ℕ). drop 1 l) all ∙ sym (append-nil (flat_map sized_spelling ys)))

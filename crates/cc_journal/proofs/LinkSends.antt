@@ -49,8 +49,7 @@ sends_where c m (e ∷ es) =
     ]
 
 pub rows_send : (c : Core) (m : Message) → row_sends c m (rows_of c.links) ≡ send_post c (Some m)
-rows_send c m =
-    sym (ap (sends c.posts m) (entries_where (λ q. not (set.contains c.churn.changes.left q)) c.links) ∙ sends_where c m (table.entries c.links))
+rows_send c m = sym (ap (sends c.posts m) (entries_where (λ q. not (set.contains c.churn.changes.left q)) c.links) ∙ sends_where c m (table.entries c.links))
 
 -- ---- where they start
 

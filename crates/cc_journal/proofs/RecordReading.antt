@@ -9,18 +9,16 @@ use Rattle.cc_sides.specs.Sides.{sized_spelling, events_spelling, record_spellin
 use Rattle.cc_journal.specs.Scanning.{NoRecord}
 use Rattle.cc_journal.specs.Reading.{BytesLead, LeadNowhere, RecordLeads, BodyStands, NoBody, IfDamaged}
 use Rattle.cc_journal.specs.declared.scanning.ScanFault.{ScanFault}
-use Rattle.cc_journal.specs.declared.scanning.ScanFault.TheVariants.{Damaged, Device, NoMemory}
+use Rattle.cc_journal.specs.declared.scanning.ScanFault.TheVariants.{Damaged}
 use Rattle.cc_journal.proofs.EventReading.{size_of}
 use Rattle.cc_journal.proofs.Records.{length_sized}
 
 pub damaged_weaker : (P Q : ℕ → Type 0) (fault : ScanFault) → ((place : ℕ) → P place → Q place) → IfDamaged P fault → IfDamaged Q fault
 damaged_weaker P Q (Damaged place) to is = to place is
-damaged_weaker P Q (Device fault) to is = tt
-damaged_weaker P Q NoMemory to is = tt
+damaged_weaker P Q fault to is = tt
 
 -- the events of a record stand behind its length
-spelled_body : (bytes rest body : List ℕ) (events : List Event) → bytes ≡ body ++ rest → SpellsRecord body events
-    → BodyStands bytes (events_spelling events)
+spelled_body : (bytes rest body : List ℕ) (events : List Event) → bytes ≡ body ++ rest → SpellsRecord body events → BodyStands bytes (events_spelling events)
 unfolding record_spelling
 spelled_body bytes rest body events parts spelled =
     record { rest = rest; fits = spelled.fits; parts = parts ∙ ap (λ (l : List ℕ). l ++ rest) spelled.spelled }
@@ -33,8 +31,7 @@ one_body : (bytes a b : List ℕ) → BodyStands bytes a → BodyStands bytes b 
 one_body bytes a b p q =
     let x = size_of bytes (take 4 bytes) _ refl refl a p.rest (omega (arith, p.fits)) p.parts in
     let y = size_of bytes (take 4 bytes) _ refl refl b q.rest (omega (arith, q.fits)) q.parts in
-    let same : length b ≡ length a = sym y.0 ∙ x.0 in
-    sym (take_at a p.rest (length a) refl) ∙ ap (λ (l : List ℕ). take (length a) l) (sym x.1 ∙ y.1) ∙ take_at b q.rest (length a) same
+    sym (take_at a p.rest (length a) refl) ∙ ap (λ (l : List ℕ). take (length a) l) (sym x.1 ∙ y.1) ∙ take_at b q.rest (length a) (sym y.0 ∙ x.0)
 
 pub nowhere_no_record : (bytes body : List ℕ) (node : Node) → BodyStands bytes body → LeadNowhere body node → NoRecord bytes node
 nowhere_no_record bytes body node stands nowhere front rest events parts spelled lawful =

@@ -40,8 +40,7 @@ record_is entries =
     ∙ ap (λ (n : ℕ). size ++ n ∷ sized entries) (sym (length-map entries (λ (entry : Entry). entry.event)))
 
 -- a batch and the gate behind it fill no more than the room of one record
-pub length_batch : (entries : List Entry) → SpellsRecord (record_spelling (events_in entries)) (events_in entries)
-    → length (batch_bytes entries) ≤ 262149
+pub length_batch : (entries : List Entry) → SpellsRecord (record_spelling (events_in entries)) (events_in entries) → length (batch_bytes entries) ≤ 262149
 unfolding record_spelling
 length_batch entries spelled =
     let bytes = events_spelling (events_in entries) in

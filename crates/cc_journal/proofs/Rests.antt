@@ -47,8 +47,7 @@ pub record IsReady (side : SideState) (place : ℕ) (written : List ℕ) (batch 
 
 module _ (state : Side → SideState) (sent : List Output) (at : Position) (generation : ℕ) (start : Node) (events : List Event) (opening : ℕ)
     (rest : IsAtRest state sent at generation start events opening) where
-  pub rest_of : (x y : List ℕ) → MayLeave (state at.side) x → MayLeave (state (other at.side)) y
-      → RestsAt generation at.place start events opening x y sent
+  pub rest_of : (x y : List ℕ) → MayLeave (state at.side) x → MayLeave (state (other at.side)) y → RestsAt generation at.place start events opening x y sent
   rest_of = after_crash_of state sent at.side (λ x y told. RestsAt generation at.place start events opening x y told) rest
 
   -- other bytes of the side that hold the same node

@@ -37,15 +37,13 @@ found_once bytes start x y size-x size-y records-x records-y events-x events-y p
       p.event_count ∙ ap (λ (l : List (List Event)). length (events_of l)) one.0 ∙ sym q.event_count,
     )
 
-one_stop : (a b u w : List ℕ) (n m : Node) (place-x place-y : ℕ) → a ≡ b → u ≡ w → Stop a u n place-x → Stop b w m place-y
-    → place-x ≡ place-y
+one_stop : (a b u w : List ℕ) (n m : Node) (place-x place-y : ℕ) → a ≡ b → u ≡ w → Stop a u n place-x → Stop b w m place-y → place-x ≡ place-y
 one_stop a b u w n m place-x place-y same rest (inl p) (inl q) = p.1 ∙ ap length same ∙ sym q.1
 one_stop a b u w n m place-x place-y same rest (inl p) (inr q) = absurd (no_gate OPEN q.0 (sym p.0 ∙ rest ∙ q.1))
 one_stop a b u w n m place-x place-y same rest (inr p) (inl q) = absurd (no_gate OPEN p.0 (sym q.0 ∙ sym rest ∙ p.1))
 one_stop a b u w n m place-x place-y same rest (inr p) (inr q) = p.2 ∙ ap (λ (l : List ℕ). length l + 1) same ∙ sym q.2
 
-pub stopped_once : (bytes : List ℕ) (start : Node) (place-x place-y : ℕ) → StopsAt bytes start place-x → StopsAt bytes start place-y
-    → place-x ≡ place-y
+pub stopped_once : (bytes : List ℕ) (start : Node) (place-x place-y : ℕ) → StopsAt bytes start place-x → StopsAt bytes start place-y → place-x ≡ place-y
 stopped_once bytes start place-x place-y p q =
     let one = one_front start p.batches q.batches p.front q.front p.rest q.rest p.spelled q.spelled p.lawful q.lawful
     (stop_ends p) (stop_ends q) (sym p.parts ∙ q.parts) in

@@ -119,24 +119,22 @@ module _ {bytes : List ℕ} {from place : ℕ} {start node : Node} {records even
 
   pub goes_on : (next : Node) (more count : ℕ) → BeginsOpen (drop place bytes) → RecordLeads (drop (place + 1) bytes) node next more count
       → LeadsOn bytes from (place + (1 + more)) start next (records + 1) (events + count)
-  goes_on next more count opened leads =
-      let further : place - from + (1 + more) ≡ place + (1 + more) - from = omega (arith, on.onward) in record {
-        onward = omega (arith, on.onward);
-        so_far = subst (λ (n : ℕ). SoFar (drop from bytes) start next n (records + 1) (events + count)) further
-            (one_more on.so_far (drop 1 (drop place bytes)) next more count (here ∙ opened)
-            (subst (λ (l : List ℕ). RecordLeads l node next more count) (sym (drop-drop 1 place bytes)) leads));
-      }
+  goes_on next more count opened leads = record {
+    onward = omega (arith, on.onward);
+    so_far = subst (λ (n : ℕ). SoFar (drop from bytes) start next n (records + 1) (events + count)) (omega (arith, on.onward))
+        (one_more on.so_far (drop 1 (drop place bytes)) next more count (here ∙ opened)
+        (subst (λ (l : List ℕ). RecordLeads l node next more count) (sym (drop-drop 1 place bytes)) leads));
+  }
 
   pub ends_shut : BeginsClosed (drop place bytes) → ScansTo (drop from bytes) start node (place - from) records events
   ends_shut shut = scanned on.so_far shut.0 (drop 1 (drop place bytes)) (here ∙ shut.1) shut.2
 
   pub stops_behind : BeginsOpen (drop place bytes) → NoRecord (drop (place + 1) bytes) node → IsStopped bytes from start (place + 1)
-  stops_behind opened none =
-      let further : place - from + 1 ≡ place + 1 - from = omega (arith, on.onward) in record {
-        onward = omega (arith, on.onward);
-        stops = subst (λ (n : ℕ). StopsAt (drop from bytes) start n) further (stopped on.so_far (drop 1 (drop place bytes)) (here ∙ opened)
-            (subst (λ (l : List ℕ). NoRecord l node) (sym (drop-drop 1 place bytes)) none));
-      }
+  stops_behind opened none = record {
+    onward = omega (arith, on.onward);
+    stops = subst (λ (n : ℕ). StopsAt (drop from bytes) start n) (omega (arith, on.onward)) (stopped on.so_far (drop 1 (drop place bytes))
+        (here ∙ opened) (subst (λ (l : List ℕ). NoRecord l node) (sym (drop-drop 1 place bytes)) none));
+  }
 
   pub stops_past : length bytes ≤ place → IsStopped bytes from start place
   stops_past past = record { onward = on.onward; stops = ended on.so_far (here ∙ drop_all place bytes past) }

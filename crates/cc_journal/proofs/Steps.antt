@@ -33,8 +33,7 @@ module _ {D : Type 0} (s : Ghosts D) where
         → (here : Contents → List Output → Type 0) → Passes s old new here
         → ((left : Contents) (told : List Output) → here left told → Rests at generation start events opening left told)
         → EachMoment s old new (Rests at generation start events opening)
-    runs generation start events opening rest here =
-        goes_on s old old new _ here (started s old _ (λ left told since. rest left told (only left told since)))
+    runs generation start events opening rest here = goes_on s old old new _ here (started s old _ (λ left told since. rest left told (only left told since)))
 
     pub behind_gate : (n : ℕ) → Passes s old new (Within at.side (touch (s.state old at.side) (at.place + 1) n) (s.state old) (s.sent old))
         → at.place + 1 ≤ length (s.state old at.side).bytes → CountsNow s new → (more : List Event) → StaysAtRest old new at more

@@ -69,8 +69,7 @@ nothing_put start events sent output has = absurd (none output (subst (λ (l : L
     none output has = omega (arith, has.1)
 
 module _ {D : Type 0} (s : Ghosts D) where
-  pub good_from : (site : D) (start : Node) (events : List Event) → HasGoodSidesNow s site start events
-      → IsGoodNow s site start events (length (s.sent site))
+  pub good_from : (site : D) (start : Node) (events : List Event) → HasGoodSidesNow s site start events → IsGoodNow s site start events (length (s.sent site))
   good_from site start events sides left told possible =
       let here = sides left possible.each in
       (good_parts start events (length events) (length (s.sent site)) left told).1 (
@@ -79,8 +78,7 @@ module _ {D : Type 0} (s : Ghosts D) where
             (nothing_put start (take here.prefix events) (s.sent site)),
       )
 
-  pub sides_now : (site : D) (start : Node) (events : List Event) (opening : ℕ) → IsGoodNow s site start events opening
-      → HasGoodSidesNow s site start events
+  pub sides_now : (site : D) (start : Node) (events : List Event) (opening : ℕ) → IsGoodNow s site start events opening → HasGoodSidesNow s site start events
   sides_now site start events opening good left may =
       ((good_parts start events (length events) opening left (s.sent site)).0 (good left (s.sent site) (record { each = may; outlet = refl }))).0
 

@@ -16,8 +16,7 @@ length-overlaid (false ∷ flags) (x ∷ bytes) (y ∷ new) = ap suc (length-ove
 length-overlaid flags bytes new = refl
 
 -- places that aren't flagged stay
-stays : (flags : List Bool) (bytes new : List ℕ) (p : ℕ) → slice_index_or flags p false ≡ false
-    → slice_index (overlaid flags bytes new) p ≡ slice_index bytes p
+stays : (flags : List Bool) (bytes new : List ℕ) (p : ℕ) → slice_index_or flags p false ≡ false → slice_index (overlaid flags bytes new) p ≡ slice_index bytes p
 stays (true ∷ flags) (x ∷ bytes) (y ∷ new) zero clean = absurd cc
 stays (true ∷ flags) (x ∷ bytes) (y ∷ new) (suc p) clean = stays flags bytes new p clean
 stays (false ∷ flags) (x ∷ bytes) (y ∷ new) (suc p) clean = stays flags bytes (y ∷ new) p clean
@@ -37,8 +36,7 @@ cut_short s fits =
       same = λ p below clean. get_or-take (firm s) s.bytes p 0 below;
     }
 
-laid_possible : (s : SideState) (new : List ℕ) → firm s ≤ length s.bytes
-    → MayLeave s (overlaid (touched_list s.touched 0 (length s.bytes)) s.bytes new)
+laid_possible : (s : SideState) (new : List ℕ) → firm s ≤ length s.bytes → MayLeave s (overlaid (touched_list s.touched 0 (length s.bytes)) s.bytes new)
 laid_possible s new fits =
     let flags = touched_list s.touched 0 (length s.bytes) in
     kept s (overlaid flags s.bytes new) fits (length-overlaid flags s.bytes new) (λ p below clean.

@@ -172,8 +172,7 @@ module _ (old now : Disk) (side : Side) (told : ℕ) (outputs : List Output) (to
         omega (arith, told_last old.steps.items adds.step i (omega (arith, length-append old.steps.items (adds.step ∷ []))), adds.told_is)
   ])
 
-  pub firm_fits : FirmFits (bytes_of old) old.steps.items → firm (disk_state now side) ≤ length (bytes_of now side)
-      → FirmFits (bytes_of now) now.steps.items
+  pub firm_fits : FirmFits (bytes_of old) old.steps.items → firm (disk_state now side) ≤ length (bytes_of now side) → FirmFits (bytes_of now) now.steps.items
   firm_fits fits here = each_side side (λ q. firm (disk_state now q) ≤ length (bytes_of now q)) here
       (subst (λ s. firm s ≤ length s.bytes) (sym that_side) (fits (other side)))
 

@@ -28,8 +28,7 @@ module _ {D : Type 0} (s : Ghosts D) where
 
   -- since this moment only what is possible now was so
   abbrev pub OnlyNow : D → Type 0
-  OnlyNow site =
-      (left : Contents) (told : List Output) → s.left_since site (s.moment site) left told → Possible (s.state site) (s.sent site) left told
+  OnlyNow site = (left : Contents) (told : List Output) → s.left_since site (s.moment site) left told → Possible (s.state site) (s.sent site) left told
 
   -- what is possible now counts since an earlier moment
   abbrev pub CountsNow : D → Type 0

@@ -54,8 +54,7 @@ rebased s bytes long same left may =
     }
 
 -- the bytes after a write
-length_written : (old bytes : List ℕ) (at : ℕ) → at ≤ length old → at + length bytes ≤ length old
-    → length (overwritten old at bytes) ≡ length old
+length_written : (old bytes : List ℕ) (at : ℕ) → at ≤ length old → at + length bytes ≤ length old → length (overwritten old at bytes) ≡ length old
 length_written old bytes at within fits = grind (arith, common_steps)
 
 pub no_shorter_written : (old bytes : List ℕ) (at : ℕ) → at ≤ length old → length old ≤ length (overwritten old at bytes)
@@ -64,8 +63,7 @@ no_shorter_written old bytes at within = grind (arith, common_steps)
 before_written : (old bytes : List ℕ) (at p : ℕ) → at ≤ length old → p < at → slice_index (overwritten old at bytes) p ≡ slice_index old p
 before_written old bytes at p within below = grind (arith, common_steps)
 
-after_written : (old bytes : List ℕ) (at p : ℕ) → at ≤ length old → at + length bytes ≤ p
-    → slice_index (overwritten old at bytes) p ≡ slice_index old p
+after_written : (old bytes : List ℕ) (at p : ℕ) → at ≤ length old → at + length bytes ≤ p → slice_index (overwritten old at bytes) p ≡ slice_index old p
 after_written old bytes at p within above = grind (arith, common_steps)
 
 outside_range : (at n p : ℕ) → (nat_le at p && nat_lt p (at + n)) ≡ false → (p < at) ⊎ (at + n ≤ p)

@@ -21,11 +21,9 @@ returns-clause-puts g c =
     let answered = c.deref.ensures.0 ∙ c.answered_by-answered.ensures ∙ ap (λ (m : Made). map request_of m.answers) made_is in
     let box = c.outbox.ensures ∙ ap (λ k. k.outbox) stepped in
     let ack : send_ack c.args.entry.made.ack ≡ send_ack (core.ack e) = ap (λ (m : Made). send_ack m.ack) made_is in
-    let post_sent = send_post c.settle.new.self.core (new_post c.posts-posts.result c.settle.new.self) in
-    let post : post_sent ≡ send_post (next n.core e) (core.post n.core e) =
+    let post : send_post c.settle.new.self.core (new_post c.posts-posts.result c.settle.new.self) ≡ send_post (next n.core e) (core.post n.core e) =
     (λ i. send_post (stepped i).core (new_post (posts i) (stepped i))) ∙ post_put n e _ refl c.core.ensures.lawful in
-    let replies_sent = send_replies (kept_replies c.deref.result.now c.outbox.result.now) in
-    let replies : replies_sent ≡ send_replies (core.replies n.core e) =
+    let replies : send_replies (kept_replies c.deref.result.now c.outbox.result.now) ≡ send_replies (core.replies n.core e) =
     (λ i. send_replies (kept_replies (answered i) (box i))) ∙ ap send_replies (replies_put n e _ (answers_kept n e c.core.ensures.lawful)) in
     subst (λ (l : List Output). Puts s l c.args.site.now c.put_replies.new.site) (λ i. ack i ++ post i ++ replies i)
     (puts_both s _ _ _ _ _ (puts_both s _ _ _ _ _ c.put_ack.ensures c.put_post.ensures) c.put_replies.ensures)

@@ -13,9 +13,8 @@ put_on_link-requires g c =
 pub loop-row-init : goal.loop-row-init
 loop-row-init g c =
     let core = c.args.core.now in
-    let is = c.rows-rows.ensures.rows ∙ ap rows_of c.links.ensures in
     record {
-      start = subst (AllStart core.posts) (sym is) (all_start core.posts core.links c.requires);
+      start = subst (AllStart core.posts) (sym (c.rows-rows.ensures.rows ∙ ap rows_of c.links.ensures)) (all_start core.posts core.links c.requires);
       put = put_none g.S.Site c.args.site.now _ (g.met.S.Site.only_now c.args.site.now);
     }
 

@@ -55,8 +55,7 @@ module _ (g : Over) (c : After-write_durably g) (honest : g.S.Site.honest c.args
       (c.write_durably.ensures.every_moment (c.sync.ensures.honest.0 honest)))
 
 pub returns-in_err-write_durably-clause-every_moment : goal.returns-in_err-write_durably-clause-every_moment
-returns-in_err-write_durably-clause-every_moment g c =
-    moments g (goal.at.returns-in_err-write_durably-clause-every_moment g c).After-write_durably
+returns-in_err-write_durably-clause-every_moment g c = moments g (goal.at.returns-in_err-write_durably-clause-every_moment g c).After-write_durably
 
 pub returns-clause-every_moment : goal.returns-clause-every_moment
 returns-clause-every_moment g c = moments g (goal.at.returns-clause-every_moment g c).After-write_durably

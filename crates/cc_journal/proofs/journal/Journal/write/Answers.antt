@@ -19,12 +19,10 @@ stays g c honest =
     fits (g.met.S.Site.counts_now new (c.write_at.ensures.honest.0 honest)) (events_in c.args.batch.now))
 
 pub returns-in_err-write_at-clause-every_moment : goal.returns-in_err-write_at-clause-every_moment
-returns-in_err-write_at-clause-every_moment g c honest =
-    (stays g (goal.at.returns-in_err-write_at-clause-every_moment g c).After-write_at honest).moments
+returns-in_err-write_at-clause-every_moment g c honest = (stays g (goal.at.returns-in_err-write_at-clause-every_moment g c).After-write_at honest).moments
 
 pub returns-in_err-write_at-clause-at_rest : goal.returns-in_err-write_at-clause-at_rest
-returns-in_err-write_at-clause-at_rest g c honest =
-    (stays g (goal.at.returns-in_err-write_at-clause-at_rest g c).After-write_at honest).afterwards
+returns-in_err-write_at-clause-at_rest g c honest = (stays g (goal.at.returns-in_err-write_at-clause-at_rest g c).After-write_at honest).afterwards
 
 pub returns-clause-every_moment : goal.returns-clause-every_moment
 returns-clause-every_moment g c honest = (stays g (goal.at.returns-clause-every_moment g c).After-write_at honest).moments
