@@ -7,6 +7,7 @@ use Rattle.std.specs.Prelude.{Option, Some, None, if◌then◌else◌}
 use Rattle.std.specs.Option.{option_len}
 use Rattle.std.specs.FinMap as table
 use Rattle.std.proofs.lemmas.Bool.{le-ltb, lt-ltb}
+use Rattle.std.proofs.lemmas.List.{map-append}
 use Rattle.cc_messages.specs.declared.answer.Answer.{Answer}
 use Rattle.cc_messages.specs.declared.event.Event.{Event}
 use Rattle.cc_messages.specs.declared.message.Message.{Message}
@@ -23,16 +24,12 @@ use Rattle.cc_journal.specs.Outlet.{request_of, new_post, kept_reply, kept_repli
 
 -- ---- replies, one by one
 
-both_sent : (xs ys : List Reply) → send_replies (xs ++ ys) ≡ send_replies xs ++ send_replies ys
-both_sent [] ys = refl
-both_sent (x ∷ xs) ys = ap (λ (l : List Output). output.Reply x.session x.request x.answer ∷ l) (both_sent xs ys)
-
 pub next_replies : (xs : List Answered) (i : ℕ) (d : Answered) (o : Outbox) → i < length xs → send_replies (kept_replies (drop i xs) o)
     ≡ send_replies (kept_reply (get_or xs i d) (table.get o.answers (get_or xs i d).session)) ++ send_replies (kept_replies (drop (i + 1) xs) o)
 next_replies xs i d o lt =
     let x = get_or xs i d in
     ap (λ (l : List Answered). send_replies (kept_replies l o)) (drop-cons xs i d lt ∙ ap (λ (n : ℕ). x ∷ drop n xs) (sym (add-one i)))
-    ∙ both_sent (kept_reply x (table.get o.answers x.session)) (kept_replies (drop (i + 1) xs) o)
+    ∙ map-append (λ (r : Reply). output.Reply r.session r.request r.answer) (kept_reply x (table.get o.answers x.session)) (kept_replies (drop (i + 1) xs) o)
 
 module _ (n : Node) (e : Event) where
   post_if : Bool → List Output
