@@ -1,9 +1,14 @@
 -- Events behind their sizes are read as they are spelled.
-use Rattle.std.proofs.Common.{◌≡◌, ℕ, ◌+◌, ◌<◌, ◌≤◌, ◌^◌, List, [], ◌∷◌, ◌++◌, length, take, drop, get_or, refl, sym, ◌∙◌, ap, arith, length-append, take-append-drop}
+--     size_of, too_short, stand_behind        bytes behind their size
+--     none_short, none_spelled, one_found     an event behind its size
+--     IsRead, none_next, none_behind          one event after another
+--     one_list                                bytes spell one list of events
+use Rattle.std.proofs.Common.{◌≡◌, ◌⊎◌, ⊎_elim, inl, inr, ℕ, suc, ◌+◌, ◌<◌, ◌≤◌, ◌^◌, List, [], ◌∷◌, ◌++◌, length, take, drop, get_or, refl, sym}
+use Rattle.std.proofs.Common.{subst, ◌∙◌, ap, arith, length-append}
 use Rattle.std.specs.Int.{to_be_bytes, from_be_bytes, w32}
 use Rattle.std.specs.List.{flat_map, AllByRecursion}
 use Rattle.std.proofs.lemmas.Nat.{from_be_bytes-to_be_bytes_4, be_bytes_4}
-use Rattle.std.proofs.lemmas.List.{append_assoc, append-nil, take_at, length-take, length-drop, drop-drop}
+use Rattle.std.proofs.lemmas.List.{append_assoc, append-nil, take_at, take-append-drop, length-take, length-drop, drop-drop}
 use Rattle.cc_messages.specs.declared.event.Event.{Event}
 use Rattle.cc_wire.specs.Events.{event_spelling, IsEvent, SpellsEvent}
 use Rattle.cc_wire.proofs.Lengths.{length-event}
@@ -12,62 +17,55 @@ use Rattle.cc_sides.specs.Sides.{sized_spelling}
 use Rattle.cc_sides.specs.RecordLaws.{one_sized, one_run}
 use Rattle.cc_journal.specs.Reading.{SpellsEvents, BeginsWith, NoEvent}
 
-pub first_byte : (bytes : List ℕ) → 1 ≤ length bytes → bytes ≡ get_or bytes 0 0 ∷ drop 1 bytes
-first_byte [] long = absurd (omega (arith, long))
-first_byte (b ∷ bytes) long = refl
-
 -- ---- a number of four bytes
 
 pub four_bytes : (bytes : List ℕ) → 4 ≤ length bytes → take 4 bytes ≡ get_or bytes 0 0 ∷ get_or bytes 1 0 ∷ get_or bytes 2 0 ∷ get_or bytes 3 0 ∷ []
-four_bytes [] long = absurd (omega (arith, long))
-four_bytes (a ∷ []) long = absurd (omega (arith, long))
-four_bytes (a ∷ b ∷ []) long = absurd (omega (arith, long))
-four_bytes (a ∷ b ∷ c ∷ []) long = absurd (omega (arith, long))
 four_bytes (a ∷ b ∷ c ∷ d ∷ rest) long = refl
+four_bytes bytes long = absurd (omega arith)
 
-pub number_back : (bytes : List ℕ) (n : ℕ) → IsBytes bytes → length bytes ≡ 4 → n ≡ from_be_bytes w32 bytes → to_be_bytes w32 n ≡ bytes
-number_back bytes n fits long is = be_bytes_4 bytes n long fits is
+-- ---- bytes behind their size, which is the number that stands at the front
+
+module _ (bytes number : List ℕ) (size : ℕ) (is_size : size ≡ from_be_bytes w32 number) (read : number ≡ take 4 bytes) where
+  -- where some stand there, this is their size
+  pub size_of : (body rest : List ℕ) → length body < 2 ^ 32 → bytes ≡ to_be_bytes w32 (length body) ++ body ++ rest
+      → (size ≡ length body) × (drop 4 bytes ≡ body ++ rest)
+  size_of body rest small parts = (
+    is_size ∙ ap (λ (l : List ℕ). from_be_bytes w32 l) (read ∙ ap (λ (l : List ℕ). take 4 l) parts) ∙ from_be_bytes-to_be_bytes_4 (length body) small,
+    ap (λ (l : List ℕ). drop 4 l) parts,
+  )
+
+  pub too_short : length (drop 4 bytes) < size → (body rest : List ℕ) → length body < 2 ^ 32 → bytes ≡ to_be_bytes w32 (length body) ++ body ++ rest → ⊥
+  too_short short body rest small parts = let s = size_of body rest small parts in absurd (omega (arith, s.0, ap length s.1, length-append body rest))
+
+  pub stand_behind : 4 ≤ length bytes → IsBytes number → size ≤ length (drop 4 bytes) → (body : List ℕ) → body ≡ take size (drop 4 bytes)
+      → (length body ≡ size) × (bytes ≡ to_be_bytes w32 (length body) ++ body ++ drop size (drop 4 bytes))
+  stand_behind long fits within body is =
+      let tail = drop 4 bytes in
+      let of_size : length body ≡ size = omega (arith, ap length is, length-take size tail) in
+      let first : to_be_bytes w32 (length body) ≡ take 4 bytes =
+      ap (λ (n : ℕ). to_be_bytes w32 n) of_size ∙ be_bytes_4 number size (omega (arith, ap length read, length-take 4 bytes)) fits is_size ∙ read in
+      let second : body ++ drop size tail ≡ tail = ap (λ (l : List ℕ). l ++ drop size tail) is ∙ take-append-drop size tail in
+      (of_size, sym (append_assoc (to_be_bytes w32 (length body)) body (drop size tail) ∙ (λ i. first i ++ second i) ∙ take-append-drop 4 bytes))
 
 -- ---- an event behind its size
 
--- the size that stands at the front of these bytes
 module _ (bytes : List ℕ) (size : ℕ) (is_size : size ≡ from_be_bytes w32 (take 4 bytes)) where
-  -- where an event stands there, this is its size
-  pub shape : (e : Event) (rest : List ℕ) → IsEvent e → bytes ≡ sized_spelling e ++ rest → (size ≡ length (event_spelling e)) × (drop 4 bytes ≡ event_spelling e ++ rest)
-  shape e rest is-e parts =
-      let n = length (event_spelling e) in
-      let small : n < 2 ^ 32 = omega (arith, length-event e is-e) in (
-        is_size ∙ ap (λ (l : List ℕ). from_be_bytes w32 (take 4 l)) parts ∙ from_be_bytes-to_be_bytes_4 n small,
-        ap (λ (l : List ℕ). drop 4 l) parts,
-      )
-
   pub none_short : length (drop 4 bytes) < size → NoEvent bytes
-  none_short short e rest is-e parts =
-      let s = shape e rest is-e parts in
-      absurd (omega (arith, short, s.0, ap length s.1, length-append (event_spelling e) rest))
+  none_short short e rest is-e = too_short bytes (take 4 bytes) size is_size refl short (event_spelling e) rest (omega (arith, length-event e is-e))
 
   pub none_spelled : ((e : Event) → SpellsEvent (take size (drop 4 bytes)) e → ⊥) → NoEvent bytes
   none_spelled none e rest is-e parts =
-      let s = shape e rest is-e parts in
-      none e (record {
-        lawful = is-e;
-        spelled = ap (λ (l : List ℕ). take size l) s.1 ∙ take_at (event_spelling e) rest size (sym s.0);
-      })
+      let s = size_of bytes (take 4 bytes) size is_size refl (event_spelling e) rest (omega (arith, length-event e is-e)) parts in
+      none e (record { lawful = is-e; spelled = ap (λ (l : List ℕ). take size l) s.1 ∙ take_at (event_spelling e) rest size (sym s.0) })
 
-  pub one_found : 4 ≤ length bytes → IsBytes (take 4 bytes) → size ≤ length (drop 4 bytes) → (e : Event) → SpellsEvent (take size (drop 4 bytes)) e → BeginsWith bytes e (4 + size)
+  pub one_found : 4 ≤ length bytes → IsBytes (take 4 bytes) → size ≤ length (drop 4 bytes) → (e : Event) → SpellsEvent (take size (drop 4 bytes)) e
+      → BeginsWith bytes e (4 + size)
   one_found long fits within e spelled =
-      let tail = drop 4 bytes in
-      let of_size : length (event_spelling e) ≡ size = omega (arith, ap length spelled.spelled, length-take size tail, within) in
-      let first : take 4 bytes ≡ to_be_bytes w32 (length (event_spelling e)) =
-      sym (number_back (take 4 bytes) size fits (omega (arith, length-take 4 bytes, long)) is_size) ∙ ap (λ (n : ℕ). to_be_bytes w32 n) (sym of_size) in
-      let second : tail ≡ event_spelling e ++ drop size tail = sym (take-append-drop size tail) ∙ ap (λ (l : List ℕ). l ++ drop size tail) spelled.spelled in
-      let rest : drop size tail ≡ drop (4 + size) bytes = drop-drop size 4 bytes in
+      let behind = stand_behind bytes (take 4 bytes) size is_size refl long fits within (event_spelling e) (sym spelled.spelled) in
       record {
-        within = omega (arith, length-drop 4 bytes, within, long);
+        within = omega (arith, length-drop 4 bytes);
         is_event = spelled.lawful;
-        parts = sym (take-append-drop 4 bytes) ∙ ap (λ (l : List ℕ). l ++ tail) first
-            ∙ ap (λ (l : List ℕ). to_be_bytes w32 (length (event_spelling e)) ++ l) (second ∙ ap (λ (l : List ℕ). event_spelling e ++ l) rest)
-            ∙ sym (append_assoc (to_be_bytes w32 (length (event_spelling e))) (event_spelling e) (drop (4 + size) bytes));
+        parts = behind.1 ∙ ap (λ (l : List ℕ). sized_spelling e ++ l) (drop-drop size 4 bytes);
       }
 
 -- ---- one event after another
@@ -77,48 +75,41 @@ pub record IsRead (whole rest : List ℕ) (read : List Event) : Type 0 where
   pub parts : whole ≡ flat_map sized_spelling read ++ rest
   pub each : AllByRecursion IsEvent read
 
--- what is left of the events, where as many or more are spelled
-pub left_over : (read events : List Event) (rest : List ℕ) → AllByRecursion IsEvent read → AllByRecursion IsEvent events → length read ≤ length events → flat_map sized_spelling read ++ rest ≡ flat_map sized_spelling events
-    → (more : List Event) × (length events ≡ length read + length more) × AllByRecursion IsEvent more × (rest ≡ flat_map sized_spelling more)
-left_over [] events rest all-r all-e le e = (events, omega arith, all-e, e)
-left_over (x ∷ read) [] rest all-r all-e le e = absurd cc
-left_over (x ∷ read) (y ∷ events) rest all-r all-e le e =
-    let parts = sym (append_assoc (sized_spelling x) (flat_map sized_spelling read) rest) ∙ e in
-    let first = one_sized x y (flat_map sized_spelling read ++ rest) (flat_map sized_spelling events) all-r.0 all-e.0 parts in
-    let more = left_over read events rest all-r.1 all-e.1 (omega (arith, le)) first.1 in
-    (more.0, omega (arith, more.1), more.2, more.3)
+-- so many of the events were read: all of them, and no byte is left, or fewer, and an event begins what is left
+abbrev Left : ℕ → ℕ → List ℕ → Type 0
+Left read count rest = ((read ≡ count) × (rest ≡ [])) ⊎ ((read < count) × ((e : Event) × (more : List ℕ) × IsEvent e × (rest ≡ sized_spelling e ++ more)))
 
-module _ (bytes : List ℕ) (count : ℕ) (whole rest : List ℕ) (read : List Event) (split : bytes ≡ count ∷ whole) (is_read : IsRead whole rest read) where
-  spelled_rest : (events : List Event) → SpellsEvents bytes events → length read ≤ count → (more : List Event) × (count ≡ length read + length more) × AllByRecursion IsEvent more × (rest ≡ flat_map sized_spelling more)
+left_over : (read events : List Event) (rest : List ℕ) → AllByRecursion IsEvent read → AllByRecursion IsEvent events
+    → length read ≤ length events → flat_map sized_spelling read ++ rest ≡ flat_map sized_spelling events → Left (length read) (length events) rest
+left_over [] [] rest all-r all-e le is = inl (refl, is)
+left_over [] (e ∷ events) rest all-r all-e le is = inr (omega arith, (e, flat_map sized_spelling events, all-e.0, is))
+left_over (x ∷ read) [] rest all-r all-e le is = absurd cc
+left_over (x ∷ read) (y ∷ events) rest all-r all-e le is =
+    let parts = sym (append_assoc (sized_spelling x) (flat_map sized_spelling read) rest) ∙ is in
+    let first = one_sized x y (flat_map sized_spelling read ++ rest) (flat_map sized_spelling events) all-r.0 all-e.0 parts in
+    ⊎_elim (λ all. inl (ap suc all.0, all.1)) (λ one. inr (omega (arith, one.0), one.1)) (left_over read events rest all-r.1 all-e.1 (omega arith) first.1)
+
+module _ (bytes : List ℕ) (count : ℕ) (whole rest : List ℕ) (read : List Event) (split : bytes ≡ count ∷ whole)
+    (is_read : IsRead whole rest read) where
+  spelled_rest : (events : List Event) → SpellsEvents bytes events → length read ≤ count → Left (length read) count rest
   spelled_rest events spelled le =
       let all : count ∷ whole ≡ length events ∷ flat_map sized_spelling events = sym split ∙ spelled.spelled in
-      let same : count ≡ length events = cc in
-      let items : whole ≡ flat_map sized_spelling events = ap (λ (l : List ℕ). drop 1 l) all in
-      let more = left_over read events rest is_read.each spelled.each (omega (arith, le, same)) (sym is_read.parts ∙ items) in
-      (more.0, same ∙ more.1, more.2, more.3)
+      let same : length events ≡ count = cc in
+      subst (λ (n : ℕ). Left (length read) n rest) same
+      (left_over read events rest is_read.each spelled.each (omega arith) (sym is_read.parts ∙ ap (λ (l : List ℕ). drop 1 l) all))
 
   pub none_next : length read < count → NoEvent rest → (events : List Event) → SpellsEvents bytes events → ⊥
   none_next lt none events spelled =
-      let more = spelled_rest events spelled (omega (arith, lt)) in
-      no_more more.0 (omega (arith, more.1, lt)) more.2 more.3
-    where
-      no_more : (more : List Event) → 1 ≤ length more → AllByRecursion IsEvent more → rest ≡ flat_map sized_spelling more → ⊥
-      no_more [] some each is = absurd (omega (arith, some))
-      no_more (e ∷ more) some each is = none e (flat_map sized_spelling more) each.0 is
+      ⊎_elim (λ all. absurd (omega (arith, all.0))) (λ one. none one.1.0 one.1.1 one.1.2 one.1.3) (spelled_rest events spelled (omega arith))
 
   pub none_behind : length read ≡ count → 1 ≤ length rest → (events : List Event) → SpellsEvents bytes events → ⊥
   none_behind same some events spelled =
-      let more = spelled_rest events spelled (omega (arith, same)) in
-      nothing more.0 (omega (arith, more.1, same)) more.3
-    where
-      nothing : (more : List Event) → length more ≡ 0 → rest ≡ flat_map sized_spelling more → ⊥
-      nothing [] none is = absurd (omega (arith, some, ap length is))
-      nothing (e ∷ more) none is = absurd cc
+      ⊎_elim (λ all. absurd (omega (arith, ap length all.1))) (λ one. absurd (omega (arith, one.0))) (spelled_rest events spelled (omega arith))
 
 -- bytes spell one list of events
 pub one_list : (bytes : List ℕ) (xs ys : List Event) → SpellsEvents bytes xs → SpellsEvents bytes ys → xs ≡ ys
 one_list bytes xs ys p q =
     let all : length xs ∷ flat_map sized_spelling xs ≡ length ys ∷ flat_map sized_spelling ys = sym p.spelled ∙ q.spelled in
     let count : length xs ≡ length ys = cc in
-    let items : flat_map sized_spelling xs ≡ flat_map sized_spelling ys = ap (λ (l : List ℕ). drop 1 l) all in
-    one_run xs ys [] [] p.each q.each count (append-nil (flat_map sized_spelling xs) ∙ items ∙ sym (append-nil (flat_map sized_spelling ys)))
+    one_run xs ys [] [] p.each q.each count
+    (append-nil (flat_map sized_spelling xs) ∙ ap (λ (l : List ℕ). drop 1 l) all ∙ sym (append-nil (flat_map sized_spelling ys)))

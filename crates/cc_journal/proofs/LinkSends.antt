@@ -3,14 +3,14 @@
 --     rows_send            those of all links
 --     entries_where        the entries of a table whose keys pass a test
 --     all_start            no link starts behind the posts that were made
---     next, next_sends, start_at, after_last       the next row that a loop takes, and the end of it
-use Rattle.std.proofs.Common.{◌≡◌, ℕ, suc, ◌+◌, ◌-◌, ◌<◌, ◌≤◌, Bool, true, false, cond, not, List, [], ◌∷◌, ◌++◌, map, length, get_or, drop, drop-cons, add-one, refl, sym, ap, subst, ◌∙◌}
+--     next                 the next item that a loop takes
+use Rattle.std.proofs.Common.{◌≡◌, ℕ, suc, ◌+◌, ◌-◌, ◌<◌, ◌≤◌, Bool, true, false, cond, not, List, [], ◌∷◌, ◌++◌, map, length, get_or, drop}
+use Rattle.std.proofs.Common.{drop-cons, add-one, refl, sym, ap, subst, ◌∙◌}
 use Rattle.std.specs.Prelude.{Some, IfSome}
 use Rattle.std.specs.List.{AllByRecursion, flat_map}
 use Rattle.std.specs.Ordering.{nat_cmp}
 use Rattle.std.specs.FinMap as table
 use Rattle.std.specs.FinMap.Entries.{where_key, is_sorted-where_key}
-use Rattle.std.proofs.lemmas.List.{at_drop_all}
 use Rattle.cc_views.specs.NatSets as set
 use Rattle.cc_views.specs.Entries.{entries_back, from_T}
 use Rattle.cc_views.specs.MapLaws.{all_entries}
@@ -29,16 +29,15 @@ row_sends c m rows = flat_map (on_link c m) rows
 
 -- ---- the rows that pass a test
 
-entries_again : (ls : Links) → ls ≡ table.from_entries (table.entries ls)
-entries_again ls = table.same_entries_map ls (table.from_entries (table.entries ls)) (sym (entries_back (table.entries ls) (from_T _ (table.entries_sorted ls))))
-
 pub entries_where : (p : ℕ → Bool) (ls : Links) → table.entries (table.retain_keys ls p) ≡ where_key nat_cmp p (table.entries ls)
 entries_where p ls =
-    ap (λ (m : Links). table.entries (table.retain_keys m p)) (entries_again ls)
+    ap (λ (m : Links). table.entries (table.retain_keys m p)) (table.same_entries_map ls (table.from_entries (table.entries ls))
+    (sym (entries_back (table.entries ls) (from_T _ (table.entries_sorted ls)))))
     ∙ ap table.entries (retain-from_entries p (table.entries ls))
     ∙ entries_back (where_key nat_cmp p (table.entries ls)) (from_T _ (is_sorted-where_key nat_cmp p (table.entries ls) (table.entries_sorted ls)))
 
-sends_where : (c : Core) (m : Message) (es : List (ℕ × Link)) → sends c.posts m (where_key nat_cmp (λ q. not (set.contains c.churn.changes.left q)) es) ≡ row_sends c m (map row_of es)
+sends_where : (c : Core) (m : Message) (es : List (ℕ × Link))
+    → sends c.posts m (where_key nat_cmp (λ q. not (set.contains c.churn.changes.left q)) es) ≡ row_sends c m (map row_of es)
 sends_where c m [] = refl
 sends_where c m (e ∷ es) =
     let kept = where_key nat_cmp (λ q. not (set.contains c.churn.changes.left q)) es in
@@ -50,8 +49,7 @@ sends_where c m (e ∷ es) =
     ]
 
 pub rows_send : (c : Core) (m : Message) → row_sends c m (rows_of c.links) ≡ send_post c (Some m)
-rows_send c m =
-    sym (ap (sends c.posts m) (entries_where (λ q. not (set.contains c.churn.changes.left q)) c.links) ∙ sends_where c m (table.entries c.links))
+rows_send c m = sym (ap (sends c.posts m) (entries_where (λ q. not (set.contains c.churn.changes.left q)) c.links) ∙ sends_where c m (table.entries c.links))
 
 -- ---- where they start
 
@@ -63,20 +61,10 @@ entries_start posts [] h = tt
 entries_start posts (e ∷ es) h = (h.0.0, entries_start posts es h.1)
 
 pub all_start : (posts : ℕ) (ls : Links) → LinksWithin posts ls → AllStart posts (rows_of ls)
-all_start posts ls h =
-    entries_start posts (table.entries ls)
-    (all_entries (λ q l. IsLinkWithin posts l) (table.entries ls) (table.entries_sorted ls) (λ q. subst (λ o. IfSome o (IsLinkWithin posts)) (table.get-entries ls q) (h q)))
+all_start posts ls h = entries_start posts (table.entries ls) (all_entries (λ q l. IsLinkWithin posts l) (table.entries ls) (table.entries_sorted ls)
+    (λ q. subst (λ o. IfSome o (IsLinkWithin posts)) (table.get-entries ls q) (h q)))
 
--- ---- row by row
+-- ---- item by item
 
 pub next : {X : Type 0} (xs : List X) (i : ℕ) (x : X) → i < length xs → x ≡ get_or xs i x → drop i xs ≡ x ∷ drop (i + 1) xs
 next xs i x lt is = drop-cons xs i x lt ∙ ap (λ r. r ∷ drop (suc i) xs) (sym is) ∙ ap (λ (n : ℕ). x ∷ drop n xs) (sym (add-one i))
-
-pub next_sends : (c : Core) (m : Message) (rows : List LinkRow) (i : ℕ) (row : LinkRow) → i < length rows → row ≡ get_or rows i row → row_sends c m (drop i rows) ≡ on_link c m row ++ row_sends c m (drop (i + 1) rows)
-next_sends c m rows i row lt is = ap (row_sends c m) (next rows i row lt is)
-
-pub start_at : (posts : ℕ) (rows : List LinkRow) (i : ℕ) (row : LinkRow) → i < length rows → row ≡ get_or rows i row → AllStart posts (drop i rows) → (row.start ≤ posts) × AllStart posts (drop (i + 1) rows)
-start_at posts rows i row lt is h = subst (AllStart posts) (next rows i row lt is) h
-
-pub after_last : (c : Core) (m : Message) (rows : List LinkRow) (i : ℕ) → length rows ≤ i → row_sends c m (drop i rows) ≡ []
-after_last c m rows i past = at_drop_all (row_sends c m) rows i past

@@ -1,35 +1,36 @@
 -- Bytes are scanned in one way.
-use Rattle.std.proofs.Common.{◌≡◌, ◌≢◌, ◌⊎◌, inl, inr, ℕ, zero, suc, ◌+◌, ◌≤◌, eqb, List, [], ◌∷◌, ◌++◌, length, drop, get_or, refl, sym, ◌∙◌, ap, arith, length-drop}
+--     found_once, stopped_once     what is found is one, and so is where it stops
+--     either_one, neither_one      not both;  and one of the two
+use Rattle.std.proofs.Common.{◌≡◌, inl, inr, ℕ, zero, suc, ◌+◌, ◌≤◌, eqb, List, [], ◌∷◌, ◌++◌, length, drop, get_or, refl, sym, ◌∙◌, ap}
+use Rattle.std.proofs.Common.{arith, length-drop}
 use Rattle.std.proofs.lemmas.Bool.{cases_Bool, eqb-true, eqb-false}
 use Rattle.cc_messages.specs.declared.event.Event.{Event}
 use Rattle.cc_node.specs.Node.{Node, after}
 use Rattle.cc_sides.specs.Sides.{OPEN, events_of}
 use Rattle.cc_sides.specs.RecordLaws.{Ends, one_front}
 use Rattle.cc_journal.specs.Scanning.{ScansTo, StopsAt, NoRecord}
-use Rattle.cc_journal.proofs.Scans.{SoFar, none_so_far, one_more, scanned, ended, stopped}
-
--- a closed gate ends records
-shut_ends : (gate : ℕ) (rest : List ℕ) (node : Node) → gate ≢ OPEN → Ends (gate ∷ rest) node
-shut_ends gate rest node closed body more events is spelled lawful = closed (ap (λ (l : List ℕ). get_or l 0 0) is)
-
--- so do the end, and an open gate behind which no record stands
-abbrev Stop : (front rest : List ℕ) (node : Node) (place : ℕ) → Type 0
-Stop front rest node place = ((rest ≡ []) × (place ≡ length front)) ⊎ ((behind : List ℕ) × (rest ≡ OPEN ∷ behind) × (place ≡ length front + 1) × NoRecord behind node)
+use Rattle.cc_journal.proofs.Scans.{Stop, SoFar, none_so_far, one_more, scanned, ended, stopped}
 
 no_gate : (x : ℕ) (l : List ℕ) → [] ≡ x ∷ l → ⊥
 no_gate x l e = absurd cc
 
-stop_ends : (front rest : List ℕ) (node : Node) (place : ℕ) → Stop front rest node place → Ends rest node
-stop_ends front rest node place (inl none) body more events is spelled lawful = no_gate OPEN (body ++ more) (sym none.0 ∙ is)
-stop_ends front rest node place (inr stop) body more events is spelled lawful =
-    stop.3 body more events (ap (λ (l : List ℕ). drop 1 l) (sym stop.1 ∙ is)) spelled lawful
+-- a closed gate ends records, and so do the end, and an open gate behind which no record stands
+gate_ends : {bytes : List ℕ} {start node : Node} {size records events : ℕ} (p : ScansTo bytes start node size records events)
+    → Ends (p.gate ∷ p.rest) (after start (events_of p.batches))
+gate_ends p body more events is spelled lawful = p.closed (ap (λ (l : List ℕ). get_or l 0 0) is)
+
+stop_ends : {bytes : List ℕ} {start : Node} {place : ℕ} (p : StopsAt bytes start place) → Ends p.rest (after start (events_of p.batches))
+stop_ends p body more events is spelled lawful = elim p.stop [
+  | inl none ↦ no_gate OPEN (body ++ more) (sym none.0 ∙ is)
+  | inr stop ↦ stop.3 body more events (ap (λ (l : List ℕ). drop 1 l) (sym stop.1 ∙ is)) spelled lawful
+]
 
 pub found_once : (bytes : List ℕ) (start x y : Node) (size-x size-y records-x records-y events-x events-y : ℕ)
     → ScansTo bytes start x size-x records-x events-x → ScansTo bytes start y size-y records-y events-y
     → (x ≡ y) × (size-x ≡ size-y) × (records-x ≡ records-y) × (events-x ≡ events-y)
 found_once bytes start x y size-x size-y records-x records-y events-x events-y p q =
     let one = one_front start p.batches q.batches p.front q.front (p.gate ∷ p.rest) (q.gate ∷ q.rest) p.spelled q.spelled p.lawful q.lawful
-    (shut_ends p.gate p.rest (after start (events_of p.batches)) p.closed) (shut_ends q.gate q.rest (after start (events_of q.batches)) q.closed) (sym p.parts ∙ q.parts) in (
+    (gate_ends p) (gate_ends q) (sym p.parts ∙ q.parts) in (
       p.leads_to ∙ ap (λ (l : List (List Event)). after start (events_of l)) one.0 ∙ sym q.leads_to,
       sym p.at_size ∙ ap length one.1 ∙ q.at_size,
       p.record_count ∙ ap length one.0 ∙ sym q.record_count,
@@ -44,39 +45,40 @@ one_stop a b u w n m place-x place-y same rest (inr p) (inr q) = p.2 ∙ ap (λ 
 
 pub stopped_once : (bytes : List ℕ) (start : Node) (place-x place-y : ℕ) → StopsAt bytes start place-x → StopsAt bytes start place-y → place-x ≡ place-y
 stopped_once bytes start place-x place-y p q =
-    let one = one_front start p.batches q.batches p.front q.front p.rest q.rest p.spelled q.spelled p.lawful q.lawful (stop_ends p.front p.rest (after start (events_of p.batches)) place-x p.stop) (stop_ends q.front q.rest (after start (events_of q.batches)) place-y q.stop) (sym p.parts ∙ q.parts) in
-    one_stop p.front q.front p.rest q.rest (after start (events_of p.batches)) (after start (events_of q.batches)) place-x place-y one.1 one.2 p.stop q.stop
+    let one = one_front start p.batches q.batches p.front q.front p.rest q.rest p.spelled q.spelled p.lawful q.lawful
+    (stop_ends p) (stop_ends q) (sym p.parts ∙ q.parts) in
+    one_stop p.front q.front p.rest q.rest _ _ place-x place-y one.1 one.2 p.stop q.stop
 
-not_shut : (gate : ℕ) (rest front u : List ℕ) (node : Node) (place : ℕ) → gate ≢ OPEN → gate ∷ rest ≡ u → Stop front u node place → ⊥
-not_shut gate rest front u node place closed same (inl none) = no_gate gate rest (sym (same ∙ none.0))
-not_shut gate rest front u node place closed same (inr is_open) = closed (ap (λ (l : List ℕ). get_or l 0 0) (same ∙ is_open.1))
-
-pub either_one : (bytes : List ℕ) (start node : Node) (size records events place : ℕ) → ScansTo bytes start node size records events → StopsAt bytes start place → ⊥
+pub either_one : (bytes : List ℕ) (start node : Node) (size records events place : ℕ) → ScansTo bytes start node size records events
+    → StopsAt bytes start place → ⊥
 either_one bytes start node size records events place p q =
     let one = one_front start p.batches q.batches p.front q.front (p.gate ∷ p.rest) q.rest p.spelled q.spelled p.lawful q.lawful
-    (shut_ends p.gate p.rest (after start (events_of p.batches)) p.closed) (stop_ends q.front q.rest (after start (events_of q.batches)) place q.stop) (sym p.parts ∙ q.parts) in
-    not_shut p.gate p.rest q.front q.rest (after start (events_of q.batches)) place p.closed one.2 q.stop
+    (gate_ends p) (stop_ends q) (sym p.parts ∙ q.parts) in
+    elim q.stop [
+      | inl none ↦ no_gate p.gate p.rest (sym (one.2 ∙ none.0))
+      | inr opened ↦ p.closed (ap (λ (l : List ℕ). get_or l 0 0) (one.2 ∙ opened.1))
+    ]
 
 -- Where bytes neither lead to a node nor stop, they would go on for ever, from open gate to open gate.
-module _ (bytes : List ℕ) (start : Node) (no_scan : (node : Node) (size records events : ℕ) → ScansTo bytes start node size records events → ⊥) (no_stop : (place : ℕ) → StopsAt bytes start place → ⊥) where
-  at_gate : (node : Node) (size records events : ℕ) → SoFar bytes start node size records events → ((behind : List ℕ) → drop size bytes ≡ OPEN ∷ behind → NoRecord behind node)
-      → (rest : List ℕ) → drop size bytes ≡ rest → ⊥
-  at_gate node size records events so_far none [] is = no_stop size (ended bytes start node size records events so_far is)
+module _ (bytes : List ℕ) (start : Node) (no_scan : (node : Node) (size records events : ℕ) → ScansTo bytes start node size records events → ⊥)
+    (no_stop : (place : ℕ) → StopsAt bytes start place → ⊥) where
+  at_gate : (node : Node) (size records events : ℕ) → SoFar bytes start node size records events
+      → ((behind : List ℕ) → drop size bytes ≡ OPEN ∷ behind → NoRecord behind node) → (rest : List ℕ) → drop size bytes ≡ rest → ⊥
+  at_gate node size records events so_far none [] is = no_stop size (ended so_far is)
   at_gate node size records events so_far none (gate ∷ rest) is = elim (cases_Bool (eqb gate OPEN)) [
     | inl opened ↦
         let open_gate : drop size bytes ≡ OPEN ∷ rest = is ∙ ap (λ (g : ℕ). g ∷ rest) (eqb-true _ _ opened) in
-        no_stop (size + 1) (stopped bytes start node size records events so_far rest open_gate (none rest open_gate))
-    | inr shut ↦ no_scan node size records events (scanned bytes start node size records events so_far gate rest is (eqb-false _ _ shut))
+        no_stop (size + 1) (stopped so_far rest open_gate (none rest open_gate))
+    | inr shut ↦ no_scan node size records events (scanned so_far gate rest is (eqb-false _ _ shut))
   ]
 
   from_gate : (fuel : ℕ) (node : Node) (size records events : ℕ) → SoFar bytes start node size records events → length bytes ≤ fuel + size → ⊥
-  from_gate zero node size records events so_far enough =
-      at_gate node size records events so_far (λ behind opened. absurd (omega (arith, enough, ap length opened, length-drop size bytes))) (drop size bytes) refl
-  from_gate (suc fuel) node size records events so_far enough =
-      at_gate node size records events so_far
+  from_gate zero node size records events so_far enough = at_gate node size records events so_far
+      (λ behind opened. absurd (omega (arith, ap length opened, length-drop size bytes))) (drop size bytes) refl
+  from_gate (suc fuel) node size records events so_far enough = at_gate node size records events so_far
       (λ behind opened body rest batch is spelled lawful.
       from_gate fuel (after node batch) (size + (1 + length body)) (records + 1) (events + length batch)
-      (one_more bytes start node size records events so_far behind (after node batch) (length body) (length batch) opened (record {
+      (one_more so_far behind (after node batch) (length body) (length batch) opened (record {
         body = body;
         rest = rest;
         events = batch;
@@ -84,9 +86,7 @@ module _ (bytes : List ℕ) (start : Node) (no_scan : (node : Node) (size record
         at_size = refl;
         spelled = spelled;
         leads = record { lawful = lawful; leads_to = refl; event_count = refl };
-      }))
-      (omega (arith, enough)))
-      (drop size bytes) refl
+      })) (omega arith)) (drop size bytes) refl
 
   pub neither_one : ⊥
   neither_one = from_gate (length bytes) start 0 0 0 (none_so_far bytes start) (omega arith)

@@ -37,24 +37,26 @@ good_parts start events durable opening left told = (
   },
 )
 
-pub more_sides : (start : Node) (events more : List Event) (durable less : ℕ) (left : Contents) → less ≤ durable → HasGoodSides start events durable left → HasGoodSides start (events ++ more) less left
+pub more_sides : (start : Node) (events more : List Event) (durable less : ℕ) (left : Contents) → less ≤ durable → HasGoodSides start events durable left
+    → HasGoodSides start (events ++ more) less left
 more_sides start events more durable less left least sides =
     let front : take sides.prefix (events ++ more) ≡ take sides.prefix events = take-append-le sides.prefix events more sides.within in
     record {
       a_there = sides.a_there;
       b_there = sides.b_there;
       prefix = sides.prefix;
-      has_durable = omega (arith, sides.has_durable, least);
-      within = omega (arith, sides.within, length-append events more);
+      has_durable = omega arith;
+      within = omega (arith, length-append events more);
       stands = subst (λ (l : List Event). Stands (left A) (left B) (after start l)) (sym front) sides.stands;
     }
 
-pub fewer_sides : (start : Node) (events : List Event) (durable less : ℕ) (left : Contents) → less ≤ durable → HasGoodSides start events durable left → HasGoodSides start events less left
+pub fewer_sides : (start : Node) (events : List Event) (durable less : ℕ) (left : Contents) → less ≤ durable → HasGoodSides start events durable left
+    → HasGoodSides start events less left
 fewer_sides start events durable less left least sides = record {
   a_there = sides.a_there;
   b_there = sides.b_there;
   prefix = sides.prefix;
-  has_durable = omega (arith, sides.has_durable, least);
+  has_durable = omega arith;
   within = sides.within;
   stands = sides.stands;
 }
@@ -70,14 +72,18 @@ module _ {D : Type 0} (s : Ghosts D) where
   pub good_from : (site : D) (start : Node) (events : List Event) → HasGoodSidesNow s site start events → IsGoodNow s site start events (length (s.sent site))
   good_from site start events sides left told possible =
       let here = sides left possible.each in
-      (good_parts start events (length events) (length (s.sent site)) left told).1
-      (here, subst (AllMade start (take here.prefix events) (length (s.sent site))) (sym possible.outlet) (nothing_put start (take here.prefix events) (s.sent site)))
+      (good_parts start events (length events) (length (s.sent site)) left told).1 (
+        here,
+        subst (AllMade start (take here.prefix events) (length (s.sent site))) (sym possible.outlet)
+            (nothing_put start (take here.prefix events) (s.sent site)),
+      )
 
   pub sides_now : (site : D) (start : Node) (events : List Event) (opening : ℕ) → IsGoodNow s site start events opening → HasGoodSidesNow s site start events
   sides_now site start events opening good left may =
       ((good_parts start events (length events) opening left (s.sent site)).0 (good left (s.sent site) (record { each = may; outlet = refl }))).0
 
-  pub sides_kept : (old new : D) (start : Node) (events : List Event) (durable opening : ℕ) → EachMoment s old new (IsGood start events durable opening) → EachLeaves s (HasGoodSides start events durable) old new
+  pub sides_kept : (old new : D) (start : Node) (events : List Event) (durable opening : ℕ)
+      → EachMoment s old new (IsGood start events durable opening) → EachLeaves s (HasGoodSides start events durable) old new
   sides_kept old new start events durable opening run =
       weaker s old new (IsGood start events durable opening) (λ left told. HasGoodSides start events durable left) run
       (λ left told good. ((good_parts start events durable opening left told).0 good).0)

@@ -35,4 +35,5 @@ module _ {D : Type 0} (s : Ghosts D) where
 
   -- The sides stand for the node after some of the events and of those that come, of which none need be durable.
   abbrev pub KeepsSides : (Node → List Event → Type 0) → List Event → D → D → Type 0
-  KeepsSides led more old new = (start : Node) (events : List Event) → led start events → EachLeaves (HasGoodSides start (events ++ more) (length events)) old new
+  KeepsSides led more old new =
+      (start : Node) (events : List Event) → led start events → EachLeaves (HasGoodSides start (events ++ more) (length events)) old new

@@ -78,8 +78,10 @@ module _ {D : Type 0} (s : Ghosts D) where
 
   -- The moments are good for the events and those that come, of which none need be durable.
   abbrev pub KeepsGood : (Node → List Event → ℕ → Type 0) → List Event → D → D → Type 0
-  KeepsGood led more old new = (start : Node) (events : List Event) (opening : ℕ) → led start events opening → EachMoment s old new (IsGood start (events ++ more) (length events) opening)
+  KeepsGood led more old new = (start : Node) (events : List Event) (opening : ℕ) → led start events opening
+      → EachMoment s old new (IsGood start (events ++ more) (length events) opening)
 
   pub record StaysGood (led : Node → List Event → ℕ → Type 0) (old new : D) : Type 0 where
-    pub moments : (start : Node) (events : List Event) (opening : ℕ) → led start events opening → EachMoment s old new (IsGood start events (length events) opening)
+    pub moments : (start : Node) (events : List Event) (opening : ℕ) → led start events opening
+        → EachMoment s old new (IsGood start events (length events) opening)
     pub afterwards : (start : Node) (events : List Event) (opening : ℕ) → led start events opening → IsGoodNow new start events opening

@@ -2,10 +2,12 @@
 --     KeepsFront, touch_keeps, shift_keeps     the bytes in front of its range
 --     restored                                 for a write of one byte: all, once that byte is as it was read
 --     or_false                                 two tests that fail
-use Rattle.std.proofs.Common.{◌≡◌, inl, inr, ℕ, zero, suc, ◌+◌, ◌-◌, ◌<◌, ◌≤◌, min, Bool, false, ◌||◌, ◌&&◌, cond, nat_le, nat_lt, List, [], ◌∷◌, ◌++◌, length, take, drop, set, get_or, slice_index, Option, None, Some, unwrap_or, refl, sym, ◌∙◌, ap, arith, length-append, length-drop, get_or-drop, get_or-take}
+use Rattle.std.proofs.Common.{◌≡◌, inl, inr, ℕ, zero, suc, ◌+◌, ◌-◌, ◌<◌, ◌≤◌, min, Bool, false, ◌||◌, ◌&&◌, cond, nat_le, nat_lt, List, [], ◌∷◌, ◌++◌}
+use Rattle.std.proofs.Common.{length, take, drop, set, get_or, slice_index, Option, None, Some, unwrap_or, refl, sym, ◌∙◌, ap, arith, length-append}
 use Rattle.std.proofs.Math.ListN.{replicate}
 use Rattle.std.proofs.lemmas.Bool.{cases_lt, cases_eq, lt-leb, le-ltb, and_left, and_right}
-use Rattle.std.proofs.lemmas.List.{length-set, length-replicate, length-take-le, get_or-set_same, get_or-set_other, get_or_append_left, get_or-append_right, take_at}
+use Rattle.std.proofs.lemmas.List.{length-set, length-drop, length-replicate, length-take-le, get_or-take, get_or-drop, get_or-set_same, get_or-set_other}
+use Rattle.std.proofs.lemmas.List.{get_or_append_left, get_or-append_right, take_at}
 use Rattle.cc_site.specs.Sides.{SideState, MayLeave, firm, touch, shift}
 use Rattle.cc_site.specs.SideLaws.{firm-touch}
 
@@ -54,7 +56,8 @@ pub record KeepsFront (n : ℕ) (new old : SideState) : Type 0 where
   pub from : (c : List ℕ) → MayLeave new c → (d : List ℕ) × MayLeave old d × (take n c ≡ take n d)
 
 module _ (bytes : List ℕ) (touched : ℕ → Bool) (n : ℕ) (fits : n ≤ length bytes) (c : List ℕ) where
-  kept : (shifted : Option ℕ) → min (unwrap_or shifted (length bytes)) n ≤ length c → ((p : ℕ) → p < min (unwrap_or shifted (length bytes)) n → touched p ≡ false → slice_index c p ≡ slice_index bytes p)
+  kept : (shifted : Option ℕ) → min (unwrap_or shifted (length bytes)) n ≤ length c
+      → ((p : ℕ) → p < min (unwrap_or shifted (length bytes)) n → touched p ≡ false → slice_index c p ≡ slice_index bytes p)
       → (d : List ℕ) × MayLeave (record { bytes = bytes; touched = touched; shifted = shifted }) d × (take n c ≡ take n d)
   kept None long same =
       let reaches : n ≤ length c = omega arith in (
@@ -99,7 +102,8 @@ pub touch_keeps : (s : SideState) (n at size : ℕ) → n ≤ at → at ≤ leng
 touch_keeps s n at size before fits = record {
   from = λ c may. kept s.bytes s.touched n (omega arith) c s.shifted
       (omega (arith, firm-touch s at size, may.no_shorter))
-      (λ p below clean. may.same p (omega (arith, firm-touch s at size)) (or_false (s.touched p) (nat_le at p && nat_lt p (at + size)) clean (and_left (nat_le at p) (nat_lt p (at + size)) (lt-leb at p (omega arith)))));
+      (λ p below clean. may.same p (omega (arith, firm-touch s at size))
+      (or_false (s.touched p) (nat_le at p && nat_lt p (at + size)) clean (and_left (nat_le at p) (nat_lt p (at + size)) (lt-leb at p (omega arith)))));
 }
 
 -- a cut keeps what lies before it
@@ -114,10 +118,13 @@ restored s p within c may =
     let long : firm s ≤ length c = omega (arith, firm-touch s p 1, may.no_shorter) in
     record {
       no_shorter = omega (arith, length-set c p (slice_index s.bytes p));
-      no_longer = λ none. length-set c p (slice_index s.bytes p) ∙ may.no_longer (ap (λ (b : Bool). cond b (Some (firm s)) s.shifted) (le-ltb (length s.bytes) (p + 1) (omega arith)) ∙ none);
+      no_longer = λ none. length-set c p (slice_index s.bytes p)
+          ∙ may.no_longer (ap (λ (b : Bool). cond b (Some (firm s)) s.shifted) (le-ltb (length s.bytes) (p + 1) (omega arith)) ∙ none);
       same = λ q below clean. elim (cases_eq q p) [
-        | inl is ↦ ap (λ (i : ℕ). get_or (set c p (slice_index s.bytes p)) i 0) is ∙ get_or-set_same c p (slice_index s.bytes p) 0 (omega arith) ∙ ap (λ (i : ℕ). get_or s.bytes i 0) (sym is)
-        | inr not ↦ get_or-set_other c p q (slice_index s.bytes p) 0 not ∙ may.same q (omega (arith, firm-touch s p 1)) (or_false (s.touched q) (nat_le p q && nat_lt q (p + 1)) clean (outside q not))
+        | inl is ↦ ap (λ (i : ℕ). get_or (set c p (slice_index s.bytes p)) i 0) is ∙ get_or-set_same c p (slice_index s.bytes p) 0 (omega arith)
+            ∙ ap (λ (i : ℕ). get_or s.bytes i 0) (sym is)
+        | inr not ↦ get_or-set_other c p q (slice_index s.bytes p) 0 not
+            ∙ may.same q (omega (arith, firm-touch s p 1)) (or_false (s.touched q) (nat_le p q && nat_lt q (p + 1)) clean (outside q not))
       ];
     }
   where

@@ -25,8 +25,9 @@ module _ {D : Type 0} (s : Ghosts D) where
   pub nothing_then : (a b c : D) → Passes s a b Nothing → Passes s b c Nothing → Passes s a c Nothing
   nothing_then a b c first second = record {
     later = omega (arith, first.later, second.later);
-    nothing_else = λ t left told le now. ⊎_elim (λ was. first.nothing_else t left told le was) (λ none. inr none) (second.nothing_else t left told (omega (arith, le, first.later)) now);
-    keeps = λ t left told le was. second.keeps t left told (omega (arith, le, first.later)) (first.keeps t left told le was);
+    nothing_else = λ t left told le now.
+        ⊎_elim (first.nothing_else t left told le) (λ none. inr none) (second.nothing_else t left told (omega (arith, first.later)) now);
+    keeps = λ t left told le was. second.keeps t left told (omega (arith, first.later)) (first.keeps t left told le was);
   }
 
   -- no call
@@ -42,11 +43,15 @@ module _ {D : Type 0} (s : Ghosts D) where
   pub reads_then : (old mid new : D) → OnlyReads old mid → OnlyReads mid new → OnlyReads old new
   reads_then old mid new first second = record {
     keeps_honesty = (λ h. second.keeps_honesty.0 (first.keeps_honesty.0 h), λ h. first.keeps_honesty.1 (second.keeps_honesty.1 h));
-    keeps_telling = ((λ t. second.keeps_telling.0.0 (first.keeps_telling.0.0 t), λ t. first.keeps_telling.0.1 (second.keeps_telling.0.1 t)), second.keeps_telling.1 ∙ first.keeps_telling.1);
+    keeps_telling = (
+      (λ t. second.keeps_telling.0.0 (first.keeps_telling.0.0 t), λ t. first.keeps_telling.0.1 (second.keeps_telling.0.1 t)),
+      second.keeps_telling.1 ∙ first.keeps_telling.1,
+    );
     keeps_state = λ h. second.keeps_state (first.keeps_honesty.0 h) ∙ first.keeps_state h;
     no_moment = λ h. nothing_then old mid new (first.no_moment h) (second.no_moment (first.keeps_honesty.0 h));
   }
 
   -- what holds at a moment holds at each moment of a run of reads from it on
-  pub read_each : (old new : D) (P : Contents → List Output → Type 0) → OnlyReads old new → s.honest old → ((left : Contents) (told : List Output) → s.left_since old (s.moment old) left told → P left told) → EachMoment s old new P
+  pub read_each : (old new : D) (P : Contents → List Output → Type 0) → OnlyReads old new → s.honest old
+      → ((left : Contents) (told : List Output) → s.left_since old (s.moment old) left told → P left told) → EachMoment s old new P
   read_each old new P reads h here = rests s old old new P (started s old P here) (reads.no_moment h)

@@ -5,7 +5,8 @@
 --     state_now, state_at, told_at        each side now;  after the first steps;  how many outputs there were then
 --     ToldFits, FirmFits                  what holds of every record
 --     Since, Adds                         what was possible from a moment on;  one step more
-use Rattle.std.specs.Prelude.{◌≡◌, ℕ, zero, suc, ◌+◌, ◌<◌, ◌≤◌, min, Bool, true, false, ◌||◌, ◌&&◌, nat_le, nat_lt, if◌then◌else◌, List, [], ◌∷◌, ◌++◌, length, take, drop, slice_index, Option, None, Some, unwrap_or}
+use Rattle.std.specs.Prelude.{◌≡◌, ℕ, zero, suc, ◌+◌, ◌<◌, ◌≤◌, min, Bool, true, false, ◌||◌, ◌&&◌, nat_le, nat_lt, if◌then◌else◌}
+use Rattle.std.specs.Prelude.{List, [], ◌∷◌, ◌++◌, length, take, drop, slice_index, Option, None, Some, unwrap_or}
 use Rattle.cc_messages.specs.declared.output.Output.{Output}
 use Rattle.cc_site.specs.declared.site.Side.{Side}
 use Rattle.cc_site.specs.declared.site.Side.TheVariants.{A, B}
@@ -89,7 +90,8 @@ state_now files steps side = let m = marks side steps in record { bytes = files 
 
 -- each side after the first k steps
 abbrev pub state_at : (Side → List ℕ) → List Step → ℕ → Side → SideState
-state_at files steps k side = let m = marks side (take k steps) in record { bytes = undo side (drop k steps) (files side); touched = m.touched; shifted = m.shifted }
+state_at files steps k side =
+    let m = marks side (take k steps) in record { bytes = undo side (drop k steps) (files side); touched = m.touched; shifted = m.shifted }
 
 -- how many outputs there were at a step
 abbrev pub told_at : List Step → ℕ → ℕ

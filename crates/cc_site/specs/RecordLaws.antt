@@ -1,31 +1,48 @@
 -- One step or one output more at a site in memory.
 --     since_now, now_only, may_read_now   what is possible now
---     marks_push, at_end, at_earlier      the record with one step more, at its end and before
+--     side_of, disk_state                 a side of these bytes and marks;  the sides of a disk
+--     marks_push                          the marks with one step more
 --     this_side, that_side, told_fits, firm_fits, within     what a step does to its side, and to the rest
 --     elapses, elapses_same, elapses_put  what a step, nothing, or an output adds to the moments
-use Rattle.std.proofs.Common.{◌≡◌, ◌⊎◌, inl, inr, ⊎_elim, ℕ, zero, suc, ◌+◌, ◌<◌, ◌≤◌, true, false, cond, List, [], ◌∷◌, ◌++◌, length, take, drop, refl, sym, ◌∙◌, ap, subst, arith, length-append}
-use Rattle.std.proofs.lemmas.List.{take_all, drop_all}
+use Rattle.std.proofs.Common.{◌≡◌, ◌⊎◌, inl, inr, ⊎_elim, ℕ, zero, suc, ◌+◌, ◌<◌, ◌≤◌, Bool, true, false, cond, List, [], ◌∷◌, ◌++◌, length, take, drop}
+use Rattle.std.proofs.Common.{refl, sym, ◌∙◌, ap, subst, subst₂, arith, length-append}
+use Rattle.std.proofs.lemmas.Bool.{cases_lt}
+use Rattle.std.proofs.lemmas.List.{take_all, drop_all, take-append-le, drop-append-le}
 use Rattle.cc_messages.specs.declared.output.Output.{Output}
 use Rattle.cc_site.specs.declared.site.Side.{Side}
 use Rattle.cc_site.specs.declared.site.Side.TheVariants.{A, B}
 use Rattle.cc_site.specs.declared.steps.Step.{Step}
+use Rattle.cc_site.specs.declared.disk.Disk.{Disk}
 use Rattle.cc_site.specs.Sides.{SideState, MayLeave, other, firm}
 use Rattle.cc_site.specs.Moments.{Contents, Possible, Within, Elapses}
-use Rattle.cc_site.specs.Record.{is_side, Marks, no_marks, mark_change, mark_step, marks_after, marks, undo_change, undo_step, undo, state_now, state_at, told_at, ToldFits, FirmFits, Since, Adds}
+use Rattle.cc_site.specs.Crashes.{each_side}
+use Rattle.cc_site.specs.Record.{is_side, Marks, no_marks, mark_change, mark_step, marks_after, marks, undo_change, undo_step, undo, state_now, state_at}
+use Rattle.cc_site.specs.Record.{told_at, ToldFits, FirmFits, Since}
+use Rattle.cc_site.specs.Disks.{bytes_of, AddsStep}
 
-pub same_side : (side : Side) → is_side side side ≡ true
+same_side : (side : Side) → is_side side side ≡ true
 same_side A = refl
 same_side B = refl
 
-pub other_side : (side : Side) → is_side (other side) side ≡ false
+other_side : (side : Side) → is_side (other side) side ≡ false
 other_side A = refl
 other_side B = refl
 
-pub marks_push : (side : Side) (m : Marks) (steps : List Step) (step : Step) → marks_after side m (steps ++ step ∷ []) ≡ mark_step side (marks_after side m steps) step
+-- a side of these bytes and marks
+abbrev pub side_of : List ℕ → Marks → SideState
+side_of bytes m = record { bytes = bytes; touched = m.touched; shifted = m.shifted }
+
+-- the sides of a disk now
+abbrev pub disk_state : Disk → Side → SideState
+disk_state disk = state_now (bytes_of disk) disk.steps.items
+
+pub marks_push : (side : Side) (m : Marks) (steps : List Step) (step : Step)
+    → marks_after side m (steps ++ step ∷ []) ≡ mark_step side (marks_after side m steps) step
 marks_push side m [] step = refl
 marks_push side m (first ∷ steps) step = marks_push side (mark_step side m first) steps step
 
-undo_push : (side : Side) (steps : List Step) (step : Step) (bytes : List ℕ) → undo side (steps ++ step ∷ []) bytes ≡ undo side steps (undo_step side step bytes)
+undo_push : (side : Side) (steps : List Step) (step : Step) (bytes : List ℕ)
+    → undo side (steps ++ step ∷ []) bytes ≡ undo side steps (undo_step side step bytes)
 undo_push side [] step bytes = refl
 undo_push side (first ∷ steps) step bytes = ap (undo_step side first) (undo_push side steps step bytes)
 
@@ -34,191 +51,148 @@ told_old [] step i within = absurd (omega arith)
 told_old (first ∷ steps) step zero within = refl
 told_old (first ∷ steps) step (suc i) within = told_old steps step i (omega arith)
 
-told_last : (steps : List Step) (step : Step) → told_at (steps ++ step ∷ []) (length steps) ≡ step.told
-told_last [] step = refl
-told_last (first ∷ steps) step = told_last steps step
+told_last : (steps : List Step) (step : Step) (i : ℕ) → i ≡ length steps → told_at (steps ++ step ∷ []) i ≡ step.told
+told_last [] step i is = ap (told_at (step ∷ [])) is
+told_last (first ∷ steps) step zero is = absurd (omega arith)
+told_last (first ∷ steps) step (suc i) is = told_last steps step i (omega arith)
 
-take_push : {X : Type 0} (k : ℕ) (xs : List X) (x : X) → k ≤ length xs → take k (xs ++ x ∷ []) ≡ take k xs
-take_push zero xs x within = refl
-take_push (suc k) [] x within = absurd (omega arith)
-take_push (suc k) (y ∷ xs) x within = ap (λ (l : List _). y ∷ l) (take_push k xs x (omega arith))
-
-drop_push : {X : Type 0} (k : ℕ) (xs : List X) (x : X) → k ≤ length xs → drop k (xs ++ x ∷ []) ≡ drop k xs ++ x ∷ []
-drop_push zero xs x within = refl
-drop_push (suc k) [] x within = absurd (omega arith)
-drop_push (suc k) (y ∷ xs) x within = drop_push k xs x (omega arith)
-
+-- after all steps and outputs it is now
 module _ (files : Side → List ℕ) (steps : List Step) where
-  -- the moment now
-  pub at_end : (side : Side) → state_at files steps (length steps) side ≡ state_now files steps side
-  at_end side =
-      ap (λ (l : List Step). record { bytes = undo side (drop (length steps) steps) (files side); touched = (marks side l).touched; shifted = (marks side l).shifted }) (take_all (length steps) steps (omega arith))
-      ∙ ap (λ (l : List Step). record { bytes = undo side l (files side); touched = (marks side steps).touched; shifted = (marks side steps).shifted }) (drop_all (length steps) steps (omega arith))
+  at_end : (k : ℕ) → length steps ≤ k → state_at files steps k ≡ state_now files steps
+  at_end k all = λ i side. side_of (undo side (drop_all k steps all i) (files side)) (marks side (take_all k steps all i))
 
-  -- an earlier one, after one step more
-  pub at_earlier : (later : Side → List ℕ) (step : Step) → ((side : Side) → undo_step side step (later side) ≡ files side) → (k : ℕ) → k ≤ length steps → (side : Side) → state_at later (steps ++ step ∷ []) k side ≡ state_at files steps k side
-  at_earlier later step undoes k within side =
-      ap (λ (l : List Step). record { bytes = undo side (drop k (steps ++ step ∷ [])) (later side); touched = (marks side l).touched; shifted = (marks side l).shifted }) (take_push k steps step within)
-      ∙ ap (λ (l : List ℕ). record { bytes = l; touched = (marks side (take k steps)).touched; shifted = (marks side (take k steps)).shifted })
-      (ap (λ (l : List Step). undo side l (later side)) (drop_push k steps step within) ∙ undo_push side (drop k steps) step (later side) ∙ ap (undo side (drop k steps)) (undoes side))
+  all_now : (outputs : List Output) (t : ℕ) (left : Contents) (told : List Output) (since : Since files steps outputs t left told)
+      → length steps ≤ since.done → length outputs ≤ since.put → Possible (state_now files steps) outputs left told
+  all_now outputs t left told since done put =
+      subst₂ (λ (s : Side → SideState) (l : List Output). Possible s l left told) (at_end since.done done) (take_all since.put outputs put) since.possible
 
-  possible_at : (outputs : List Output) (k : ℕ) (left : Contents) (told : List Output) (state : Side → SideState) → ((side : Side) → state_at files steps k side ≡ state side) → Possible state outputs left told → Possible (state_at files steps k) outputs left told
-  possible_at outputs k left told state is possible = record {
-    each = λ side. subst (λ s. MayLeave s (left side)) (sym (is side)) (possible.each side);
-    outlet = possible.outlet;
+  -- what is possible now has been possible since any earlier moment
+  pub since_now : (outputs : List Output) → ToldFits steps outputs → (t : ℕ) (left : Contents) (told : List Output) → t ≤ length steps + length outputs
+      → Possible (state_now files steps) outputs left told → Since files steps outputs t left told
+  since_now outputs fits t left told le possible = record {
+    done = length steps;
+    put = length outputs;
+    from = le;
+    within = omega arith;
+    put_within = omega arith;
+    before = fits;
+    after = λ i from below. absurd (omega arith);
+    possible = subst₂ (λ (s : Side → SideState) (l : List Output). Possible s l left told) (sym (at_end (length steps) (omega arith)))
+        (sym (take_all (length outputs) outputs (omega arith))) possible;
   }
 
--- the same moment in terms of another record
-moved : (state later : Side → SideState) (outputs : List Output) (left : Contents) (told : List Output) → ((side : Side) → state side ≡ later side) → Possible state outputs left told → Possible later outputs left told
-moved state later outputs left told is possible = record {
-  each = λ side. subst (λ s. MayLeave s (left side)) (is side) (possible.each side);
-  outlet = possible.outlet;
-}
+  -- since now only what is possible now
+  pub now_only : (outputs : List Output) (left : Contents) (told : List Output) → Since files steps outputs (length steps + length outputs) left told
+      → Possible (state_now files steps) outputs left told
+  now_only outputs left told since = all_now outputs (length steps + length outputs) left told since (omega arith) (omega arith)
 
--- what is possible now has been possible since any earlier moment
-pub since_now : (files : Side → List ℕ) (steps : List Step) (outputs : List Output) → ToldFits steps outputs → (t : ℕ) (left : Contents) (told : List Output) → t ≤ length steps + length outputs → Possible (state_now files steps) outputs left told → Since files steps outputs t left told
-since_now files steps outputs fits t left told le possible = record {
-  done = length steps;
-  put = length outputs;
-  from = le;
-  within = omega arith;
-  put_within = omega arith;
-  before = fits;
-  after = λ i from below. absurd (omega arith);
-  possible = subst (λ (l : List Output). Possible (state_at files steps (length steps)) l left told) (sym (take_all (length outputs) outputs (omega arith)))
-      (moved (state_now files steps) (state_at files steps (length steps)) outputs left told (λ side. sym (at_end files steps side)) possible);
-}
+  -- the record as it was
+  pub elapses_same : (outputs : List Output) (H : Contents → List Output → Type 0)
+      → Elapses (length steps + length outputs) (length steps + length outputs) (Since files steps outputs) (Since files steps outputs) H
+  elapses_same outputs H = record { later = omega arith; nothing_else = λ t left told le since. inl since; keeps = λ t left told le since. since }
 
--- since now only what is possible now
-pub now_only : (files : Side → List ℕ) (steps : List Step) (outputs : List Output) → (left : Contents) (told : List Output) → Since files steps outputs (length steps + length outputs) left told → Possible (state_now files steps) outputs left told
-now_only files steps outputs left told since =
-    let done_is : since.done ≡ length steps = omega (arith, since.from, since.within, since.put_within) in
-    let put_is : since.put ≡ length outputs = omega (arith, since.from, since.within, since.put_within) in
-    let here : Possible (state_at files steps (length steps)) (take (length outputs) outputs) left told =
-    subst (λ k. Possible (state_at files steps k) (take (length outputs) outputs) left told) done_is (subst (λ j. Possible (state_at files steps since.done) (take j outputs) left told) put_is since.possible) in
-    moved (state_at files steps (length steps)) (state_now files steps) outputs left told (at_end files steps)
-    (subst (λ (l : List Output). Possible (state_at files steps (length steps)) l left told) (take_all (length outputs) outputs (omega arith)) here)
+  -- what a read gives is one of the contents that a crash may leave
+  pub may_read_now : FirmFits files steps → (side : Side) → MayLeave (state_now files steps side) (state_now files steps side).bytes
+  may_read_now fits side = record { no_shorter = fits side; no_longer = λ is. refl; same = λ p below clean. refl }
 
 -- one disk call more
-module _ (files later : Side → List ℕ) (steps : List Step) (step : Step) (outputs : List Output) (told_is : step.told ≡ length outputs) (fits : ToldFits steps outputs) (undoes : (side : Side) → undo_step side step (later side) ≡ files side) where
+module _ (files later : Side → List ℕ) (steps : List Step) (step : Step) (outputs : List Output) (told_is : step.told ≡ length outputs)
+    (undoes : (side : Side) → undo_step side step (later side) ≡ files side) where
+  -- an earlier moment
+  at_earlier : (k : ℕ) → k ≤ length steps → state_at later (steps ++ step ∷ []) k ≡ state_at files steps k
+  at_earlier k within = λ i side. side_of (bytes side i) (marks side (take-append-le k steps (step ∷ []) within i))
+    where
+      bytes : (side : Side) → undo side (drop k (steps ++ step ∷ [])) (later side) ≡ undo side (drop k steps) (files side)
+      bytes side = ap (λ (l : List Step). undo side l (later side)) (drop-append-le k steps (step ∷ []) within)
+          ∙ undo_push side (drop k steps) step (later side) ∙ ap (undo side (drop k steps)) (undoes side)
+
   keeps : (t : ℕ) (left : Contents) (told : List Output) → Since files steps outputs t left told → Since later (steps ++ step ∷ []) outputs t left told
   keeps t left told since = record {
     done = since.done;
     put = since.put;
     from = since.from;
-    within = omega (arith, since.within, length-append steps (step ∷ []));
+    within = omega (arith, length-append steps (step ∷ []));
     put_within = since.put_within;
-    before = λ i below. subst (λ n. n ≤ since.put) (sym (told_old steps step i (omega (arith, below, since.within)))) (since.before i below);
-    after = λ i from below. after i from below (up_to i below);
-    possible = moved (state_at files steps since.done) (state_at later (steps ++ step ∷ []) since.done) (take since.put outputs) left told (λ side. sym (at_earlier files steps later step undoes since.done since.within side)) since.possible;
+    before = λ i below. omega (arith, told_old steps step i (omega arith), since.before i below);
+    after = λ i from below. elim (cases_lt i (length steps)) [
+      | inl old ↦ omega (arith, told_old steps step i old, since.after i from old)
+      | inr last ↦ omega (arith, told_last steps step i (omega (arith, length-append steps (step ∷ []))))
+    ];
+    possible = subst (λ (s : Side → SideState). Possible s (take since.put outputs) left told) (sym (at_earlier since.done since.within)) since.possible;
   }
-    where
-      up_to : (i : ℕ) → i < length (steps ++ step ∷ []) → (i < length steps) ⊎ (i ≡ length steps)
-      up_to i below = grind (arith, length-append steps (step ∷ []))
 
-      after : (i : ℕ) → since.done ≤ i → i < length (steps ++ step ∷ []) → (i < length steps) ⊎ (i ≡ length steps) → since.put ≤ told_at (steps ++ step ∷ []) i
-      after i from below (inl old) = subst (λ n. since.put ≤ n) (sym (told_old steps step i old)) (since.after i from old)
-      after i from below (inr last) = subst (λ n. since.put ≤ n) (sym (ap (told_at (steps ++ step ∷ [])) last ∙ told_last steps step ∙ told_is)) since.put_within
+  was_or_is : (t : ℕ) (left : Contents) (told : List Output) → Since later (steps ++ step ∷ []) outputs t left told
+      → Since files steps outputs t left told ⊎ Possible (state_now later (steps ++ step ∷ [])) outputs left told
+  was_or_is t left told since = elim (cases_lt (length steps) since.done) [
+    | inl new ↦ inr (all_now later (steps ++ step ∷ []) outputs t left told since (omega (arith, length-append steps (step ∷ [])))
+        (omega (arith, told_last steps step (length steps) refl, since.before (length steps) new)))
+    | inr old ↦ inl (record {
+      done = since.done;
+      put = since.put;
+      from = since.from;
+      within = old;
+      put_within = since.put_within;
+      before = λ i below. omega (arith, told_old steps step i (omega arith), since.before i below);
+      after = λ i from below. omega (arith, told_old steps step i below, since.after i from (omega (arith, length-append steps (step ∷ []))));
+      possible = subst (λ (s : Side → SideState). Possible s (take since.put outputs) left told) (at_earlier since.done old) since.possible;
+    })
+  ]
 
-  was_or_is : (t : ℕ) (left : Contents) (told : List Output) → t ≤ length steps + length outputs → Since later (steps ++ step ∷ []) outputs t left told → Since files steps outputs t left told ⊎ Possible (state_now later (steps ++ step ∷ [])) outputs left told
-  was_or_is t left told le since = which (up_to since.done since.within)
-    where
-      up_to : (k : ℕ) → k ≤ length (steps ++ step ∷ []) → (k ≤ length steps) ⊎ (k ≡ length steps + 1)
-      up_to k below = grind (arith, length-append steps (step ∷ []))
+-- one step more on a side of a disk
+module _ (old now : Disk) (side : Side) (told : ℕ) (outputs : List Output) (told_is : told ≡ length outputs) (effect : Marks → Marks)
+    (adds : AddsStep side told old now effect) (rest : bytes_of now (other side) ≡ bytes_of old (other side)) where
+  marks_new : (q : Side) (b : Bool) → is_side q adds.step.side ≡ b
+      → marks q now.steps.items ≡ cond b (mark_change (marks q old.steps.items) adds.step.length adds.step.change) (marks q old.steps.items)
+  marks_new q b is = ap (marks q) adds.last ∙ marks_push q no_marks old.steps.items adds.step
+      ∙ ap (λ b. cond b (mark_change (marks q old.steps.items) adds.step.length adds.step.change) (marks q old.steps.items)) is
 
-      which : (since.done ≤ length steps) ⊎ (since.done ≡ length steps + 1) → Since files steps outputs t left told ⊎ Possible (state_now later (steps ++ step ∷ [])) outputs left told
-      which (inl old) = inl (record {
-        done = since.done;
-        put = since.put;
-        from = since.from;
-        within = old;
-        put_within = since.put_within;
-        before = λ i below. subst (λ n. n ≤ since.put) (told_old steps step i (omega (arith, below, old))) (since.before i below);
-        after = λ i from below. subst (λ n. since.put ≤ n) (told_old steps step i below) (since.after i from (omega (arith, below, length-append steps (step ∷ []))));
-        possible = moved (state_at later (steps ++ step ∷ []) since.done) (state_at files steps since.done) (take since.put outputs) left told (at_earlier files steps later step undoes since.done old) since.possible;
-      })
-      which (inr new) =
-          let at_last : told_at (steps ++ step ∷ []) (length steps) ≤ since.put = since.before (length steps) (omega (arith, new)) in
-          let put_all : length outputs ≤ since.put = subst (λ n. n ≤ since.put) (told_last steps step ∙ told_is) at_last in
-          inr (now_only later (steps ++ step ∷ []) outputs left told (record {
-            done = since.done;
-            put = since.put;
-            from = omega (arith, new, put_all, length-append steps (step ∷ []));
-            within = since.within;
-            put_within = since.put_within;
-            before = since.before;
-            after = since.after;
-            possible = since.possible;
-          }))
-
--- the record as it was
-pub elapses_same : (files : Side → List ℕ) (steps : List Step) (outputs : List Output) (H : Contents → List Output → Type 0) → Elapses (length steps + length outputs) (length steps + length outputs) (Since files steps outputs) (Since files steps outputs) H
-elapses_same files steps outputs H = record { later = omega arith; nothing_else = λ t left told le since. inl since; keeps = λ t left told le since. since }
-
-pub sides_are : (side q : Side) → (q ≡ side) ⊎ (q ≡ other side)
-sides_are A A = inl refl
-sides_are A B = inr refl
-sides_are B A = inr refl
-sides_are B B = inl refl
-
-module _ (files later : Side → List ℕ) (side : Side) (steps new : List Step) (outputs : List Output) (effect : Marks → Marks) (adds : Adds side (length outputs) steps new (files side) (later side) effect) (rest : later (other side) ≡ files (other side)) where
   on_side : is_side side adds.step.side ≡ true
-  on_side = subst (λ q. is_side side q ≡ true) (sym adds.side_is) (same_side side)
+  on_side = ap (is_side side) adds.side_is ∙ same_side side
 
   off_side : is_side (other side) adds.step.side ≡ false
-  off_side = subst (λ q. is_side (other side) q ≡ false) (sym adds.side_is) (other_side side)
+  off_side = ap (is_side (other side)) adds.side_is ∙ other_side side
 
-  undoes : (q : Side) → undo_step q adds.step (later q) ≡ files q
-  undoes q = ⊎_elim (λ is. subst (λ r. undo_step r adds.step (later r) ≡ files r) (sym is) this) (λ is. subst (λ r. undo_step r adds.step (later r) ≡ files r) (sym is) that) (sides_are side q)
-    where
-      this : undo_step side adds.step (later side) ≡ files side
-      this = ap (λ b. cond b (undo_change adds.step.change (later side)) (later side)) on_side ∙ adds.undoes
-
-      that : undo_step (other side) adds.step (later (other side)) ≡ files (other side)
-      that = ap (λ b. cond b (undo_change adds.step.change (later (other side))) (later (other side))) off_side ∙ rest
-
-  marks_side : marks side new ≡ effect (marks side steps)
-  marks_side = ap (marks side) adds.last ∙ marks_push side no_marks steps adds.step ∙ ap (λ b. cond b (mark_change (marks side steps) adds.step.length adds.step.change) (marks side steps)) on_side ∙ adds.marked (marks side steps)
-
-  marks_other : marks (other side) new ≡ marks (other side) steps
-  marks_other = ap (marks (other side)) adds.last ∙ marks_push (other side) no_marks steps adds.step ∙ ap (λ b. cond b (mark_change (marks (other side) steps) adds.step.length adds.step.change) (marks (other side) steps)) off_side
+  undoes : (q : Side) → undo_step q adds.step (bytes_of now q) ≡ bytes_of old q
+  undoes = each_side side (λ q. undo_step q adds.step (bytes_of now q) ≡ bytes_of old q)
+      (ap (λ b. cond b (undo_change adds.step.change (bytes_of now side)) (bytes_of now side)) on_side ∙ adds.undoes)
+      (ap (λ b. cond b (undo_change adds.step.change (bytes_of now (other side))) (bytes_of now (other side))) off_side ∙ rest)
 
   -- the side after the step
-  pub this_side : state_now later new side ≡ record { bytes = later side; touched = (effect (marks side steps)).touched; shifted = (effect (marks side steps)).shifted }
-  this_side = ap (λ (m : Marks). record { bytes = later side; touched = m.touched; shifted = m.shifted }) marks_side
+  pub this_side : disk_state now side ≡ side_of (bytes_of now side) (effect (marks side old.steps.items))
+  this_side = ap (side_of (bytes_of now side)) (marks_new side true on_side ∙ adds.marked (marks side old.steps.items))
 
   -- the other is as it was
-  pub that_side : state_now later new (other side) ≡ state_now files steps (other side)
-  that_side = ap (λ (m : Marks). record { bytes = later (other side); touched = m.touched; shifted = m.shifted }) marks_other ∙ ap (λ (b : List ℕ). record { bytes = b; touched = (marks (other side) steps).touched; shifted = (marks (other side) steps).shifted }) rest
+  pub that_side : disk_state now (other side) ≡ disk_state old (other side)
+  that_side = λ i. side_of (rest i) (marks_new (other side) false off_side i)
 
-  pub told_fits : ToldFits steps outputs → ToldFits new outputs
-  told_fits fits i below = subst (λ l. told_at l i ≤ length outputs) (sym adds.last) (which (up_to (subst (λ l. i < length l) adds.last below)))
-    where
-      up_to : i < length (steps ++ adds.step ∷ []) → (i < length steps) ⊎ (i ≡ length steps)
-      up_to within = grind (arith, length-append steps (adds.step ∷ []))
+  pub told_fits : ToldFits old.steps.items outputs → ToldFits now.steps.items outputs
+  told_fits fits = subst (λ l. ToldFits l outputs) (sym adds.last) (λ i below. elim (cases_lt i (length old.steps.items)) [
+    | inl before ↦ omega (arith, told_old old.steps.items adds.step i before, fits i before)
+    | inr last ↦
+        omega (arith, told_last old.steps.items adds.step i (omega (arith, length-append old.steps.items (adds.step ∷ []))), adds.told_is)
+  ])
 
-      which : (i < length steps) ⊎ (i ≡ length steps) → told_at (steps ++ adds.step ∷ []) i ≤ length outputs
-      which (inl old) = subst (λ n. n ≤ length outputs) (sym (told_old steps adds.step i old)) (fits i old)
-      which (inr last) = omega (arith, ap (told_at (steps ++ adds.step ∷ [])) last ∙ told_last steps adds.step ∙ adds.told_is)
+  pub firm_fits : FirmFits (bytes_of old) old.steps.items → firm (disk_state now side) ≤ length (bytes_of now side) → FirmFits (bytes_of now) now.steps.items
+  firm_fits fits here = each_side side (λ q. firm (disk_state now q) ≤ length (bytes_of now q)) here
+      (subst (λ s. firm s ≤ length s.bytes) (sym that_side) (fits (other side)))
 
-  pub firm_fits : FirmFits files steps → firm (state_now later new side) ≤ length (later side) → FirmFits later new
-  firm_fits fits here q = ⊎_elim (λ is. subst (λ r. firm (state_now later new r) ≤ length (later r)) (sym is) here) (λ is. subst (λ r. firm (state_now later new r) ≤ length (later r)) (sym is) there) (sides_are side q)
-    where
-      there : firm (state_now later new (other side)) ≤ length (later (other side))
-      there = subst (λ s. firm s ≤ length s.bytes) (sym that_side) (fits (other side))
-
-  pub elapses : (H : Contents → List Output → Type 0) → ToldFits steps outputs → ((left : Contents) (told : List Output) → Possible (state_now later new) outputs left told → H left told ⊎ Possible (state_now files steps) outputs left told)
-      → Elapses (length steps + length outputs) (length new + length outputs) (Since files steps outputs) (Since later new outputs) H
-  elapses H fits here = subst (λ l. Elapses (length steps + length outputs) (length l + length outputs) (Since files steps outputs) (Since later l outputs) H) (sym adds.last) (record {
-    later = omega (arith, length-append steps (adds.step ∷ []));
-    nothing_else = λ t left told le since. ⊎_elim (λ was. inl was)
-        (λ now. ⊎_elim (λ h. inr h) (λ was. inl (since_now files steps outputs fits t left told le was)) (here left told (subst (λ l. Possible (state_now later l) outputs left told) (sym adds.last) now)))
-        (was_or_is files later steps adds.step outputs adds.told_is fits undoes t left told le since);
-    keeps = λ t left told le since. keeps files later steps adds.step outputs adds.told_is fits undoes t left told since;
-  })
+  pub elapses : (H : Contents → List Output → Type 0) → ToldFits old.steps.items outputs
+      → ((left : Contents) (told : List Output) → Possible (disk_state now) outputs left told → H left told ⊎ Possible (disk_state old) outputs left told)
+      → Elapses (length old.steps.items + length outputs) (length now.steps.items + length outputs) (Since (bytes_of old) old.steps.items outputs)
+      (Since (bytes_of now) now.steps.items outputs) H
+  elapses H fits here = subst (λ l. Elapses (length old.steps.items + length outputs) (length l + length outputs)
+      (Since (bytes_of old) old.steps.items outputs) (Since (bytes_of now) l outputs) H) (sym adds.last) (record {
+        later = omega (arith, length-append old.steps.items (adds.step ∷ []));
+        nothing_else = λ t left told le since. ⊎_elim (λ was. inl was)
+            (λ is. ⊎_elim (λ h. inr h) (λ was. inl (since_now (bytes_of old) old.steps.items outputs fits t left told le was))
+            (here left told (subst (λ l. Possible (state_now (bytes_of now) l) outputs left told) (sym adds.last) is)))
+            (was_or_is (bytes_of old) (bytes_of now) old.steps.items adds.step outputs (adds.told_is ∙ told_is) undoes t left told since);
+        keeps = λ t left told le. keeps (bytes_of old) (bytes_of now) old.steps.items adds.step outputs (adds.told_is ∙ told_is) undoes t left told;
+      })
 
   -- where the side is within a bound, each moment is
-  pub within : (bound : SideState) (left : Contents) (told : List Output) → ((l : List ℕ) → MayLeave (state_now later new side) l → MayLeave bound l) → Possible (state_now later new) outputs left told → Within side bound (state_now files steps) outputs left told
+  pub within : (bound : SideState) (left : Contents) (told : List Output) → ((l : List ℕ) → MayLeave (disk_state now side) l → MayLeave bound l)
+      → Possible (disk_state now) outputs left told → Within side bound (disk_state old) outputs left told
   within bound left told less possible = record {
     this = less (left side) (possible.each side);
     rest = subst (λ s. MayLeave s (left (other side))) that_side (possible.each (other side));
@@ -226,42 +200,39 @@ module _ (files later : Side → List ℕ) (side : Side) (steps new : List Step)
   }
 
 -- one output more
-module _ (files : Side → List ℕ) (steps : List Step) (outputs : List Output) (output : Output) (fits : ToldFits steps outputs) where
-  pub told_fits_put : ToldFits steps (outputs ++ output ∷ [])
-  told_fits_put i below = omega (arith, fits i below, length-append outputs (output ∷ []))
+pub elapses_put : (files : Side → List ℕ) (steps : List Step) (outputs : List Output) (output : Output) → ToldFits steps outputs
+    → Elapses (length steps + length outputs) (length steps + length (outputs ++ output ∷ [])) (Since files steps outputs)
+    (Since files steps (outputs ++ output ∷ [])) (Possible (state_now files steps) (outputs ++ output ∷ []))
+elapses_put files steps outputs output fits = record {
+  later = omega (arith, length-append outputs (output ∷ []));
+  nothing_else = λ t left told le since. was t left told since;
+  keeps = λ t left told le since. record {
+    done = since.done;
+    put = since.put;
+    from = since.from;
+    within = since.within;
+    put_within = omega (arith, length-append outputs (output ∷ []));
+    before = since.before;
+    after = since.after;
+    possible = subst (λ (l : List Output). Possible (state_at files steps since.done) l left told)
+        (sym (take-append-le since.put outputs (output ∷ []) since.put_within)) since.possible;
+  };
+}
+  where
+    -- the new one is put after all steps
+    all_done : (t : ℕ) (left : Contents) (told : List Output) (since : Since files steps (outputs ++ output ∷ []) t left told)
+        → length outputs < since.put → length steps ≤ since.done
+    all_done t left told since new = elim (cases_lt since.done (length steps)) [
+      | inl below ↦ absurd (omega (arith, since.after since.done (omega arith) below, fits since.done below))
+      | inr all ↦ all
+    ]
 
-  pub elapses_put : Elapses (length steps + length outputs) (length steps + length (outputs ++ output ∷ [])) (Since files steps outputs) (Since files steps (outputs ++ output ∷ [])) (Possible (state_now files steps) (outputs ++ output ∷ []))
-  elapses_put = record {
-    later = omega (arith, length-append outputs (output ∷ []));
-    nothing_else = λ t left told le since. was t left told le since (up_to since.put since.put_within);
-    keeps = λ t left told le since. record {
-      done = since.done;
-      put = since.put;
-      from = since.from;
-      within = since.within;
-      put_within = omega (arith, since.put_within, length-append outputs (output ∷ []));
-      before = since.before;
-      after = since.after;
-      possible = subst (λ (l : List Output). Possible (state_at files steps since.done) l left told) (sym (take_push since.put outputs output since.put_within)) since.possible;
-    };
-  }
-    where
-      up_to : (j : ℕ) → j ≤ length (outputs ++ output ∷ []) → (j ≤ length outputs) ⊎ (j ≡ length outputs + 1)
-      up_to j below = grind (arith, length-append outputs (output ∷ []))
-
-      at_last : (since_done since_put : ℕ) → since_done ≤ length steps → since_put ≡ length outputs + 1 → ((i : ℕ) → since_done ≤ i → i < length steps → since_put ≤ told_at steps i) → since_done ≡ length steps
-      at_last k j within is after = last (up k within)
-        where
-          up : (k : ℕ) → k ≤ length steps → (k < length steps) ⊎ (k ≡ length steps)
-          up k within = grind arith
-
-          last : (k < length steps) ⊎ (k ≡ length steps) → k ≡ length steps
-          last (inl below) = absurd (omega (arith, after k (omega arith) below, fits k below, is))
-          last (inr all) = all
-
-      was : (t : ℕ) (left : Contents) (told : List Output) → t ≤ length steps + length outputs → (since : Since files steps (outputs ++ output ∷ []) t left told) → (since.put ≤ length outputs) ⊎ (since.put ≡ length outputs + 1)
-          → Since files steps outputs t left told ⊎ Possible (state_now files steps) (outputs ++ output ∷ []) left told
-      was t left told le since (inl old) = inl (record {
+    was : (t : ℕ) (left : Contents) (told : List Output) → Since files steps (outputs ++ output ∷ []) t left told
+        → Since files steps outputs t left told ⊎ Possible (state_now files steps) (outputs ++ output ∷ []) left told
+    was t left told since = elim (cases_lt (length outputs) since.put) [
+      | inl new ↦ inr (all_now files steps (outputs ++ output ∷ []) t left told since (all_done t left told since new)
+          (omega (arith, length-append outputs (output ∷ []))))
+      | inr old ↦ inl (record {
         done = since.done;
         put = since.put;
         from = since.from;
@@ -269,21 +240,7 @@ module _ (files : Side → List ℕ) (steps : List Step) (outputs : List Output)
         put_within = old;
         before = since.before;
         after = since.after;
-        possible = subst (λ (l : List Output). Possible (state_at files steps since.done) l left told) (take_push since.put outputs output old) since.possible;
+        possible = subst (λ (l : List Output). Possible (state_at files steps since.done) l left told)
+            (take-append-le since.put outputs (output ∷ []) old) since.possible;
       })
-      was t left told le since (inr new) =
-          let all = at_last since.done since.put since.within new since.after in
-          inr (now_only files steps (outputs ++ output ∷ []) left told (record {
-            done = since.done;
-            put = since.put;
-            from = omega (arith, all, new, length-append outputs (output ∷ []));
-            within = since.within;
-            put_within = since.put_within;
-            before = since.before;
-            after = since.after;
-            possible = since.possible;
-          }))
-
--- what a read gives is one of the contents that a crash may leave
-pub may_read_now : (files : Side → List ℕ) (steps : List Step) → FirmFits files steps → (side : Side) → MayLeave (state_now files steps side) (state_now files steps side).bytes
-may_read_now files steps fits side = record { no_shorter = fits side; no_longer = λ is. refl; same = λ p below clean. refl }
+    ]

@@ -32,18 +32,22 @@ module _ {D : Type 0} (s : Ghosts D) where
 
   -- what is possible now counts since an earlier moment
   abbrev pub CountsNow : D → Type 0
-  CountsNow site = (t : ℕ) (left : Contents) (told : List Output) → t ≤ s.moment site → Possible (s.state site) (s.sent site) left told → s.left_since site t left told
+  CountsNow site =
+      (t : ℕ) (left : Contents) (told : List Output) → t ≤ s.moment site → Possible (s.state site) (s.sent site) left told → s.left_since site t left told
 
   -- before the first call
-  pub started : (site : D) (P : Contents → List Output → Type 0) → ((left : Contents) (told : List Output) → s.left_since site (s.moment site) left told → P left told) → EachMoment site site P
+  pub started : (site : D) (P : Contents → List Output → Type 0)
+      → ((left : Contents) (told : List Output) → s.left_since site (s.moment site) left told → P left told) → EachMoment site site P
   started site P here = record { later = omega arith; each = here; before = λ t left told le since. inl since }
 
   -- one call more
-  pub goes_on : (old mid new : D) (P here : Contents → List Output → Type 0) → EachMoment old mid P → Passes mid new here → ((left : Contents) (told : List Output) → here left told → P left told) → EachMoment old new P
+  pub goes_on : (old mid new : D) (P here : Contents → List Output → Type 0) → EachMoment old mid P → Passes mid new here
+      → ((left : Contents) (told : List Output) → here left told → P left told) → EachMoment old new P
   goes_on old mid new P here so_far time has = record {
     later = omega (arith, so_far.later, time.later);
     each = λ left told since. ⊎_elim (so_far.each left told) (has left told) (time.nothing_else (s.moment old) left told so_far.later since);
-    before = λ t left told le since. ⊎_elim (so_far.before t left told le) (λ now. inr (has left told now)) (time.nothing_else t left told (omega (arith, le, so_far.later)) since);
+    before = λ t left told le since.
+        ⊎_elim (so_far.before t left told le) (λ now. inr (has left told now)) (time.nothing_else t left told (omega (arith, so_far.later)) since);
   }
 
   -- one call more that touches nothing
@@ -55,10 +59,11 @@ module _ {D : Type 0} (s : Ghosts D) where
   joined old mid new P first second = record {
     later = omega (arith, first.later, second.later);
     each = λ left told since. ⊎_elim (first.each left told) (λ has. has) (second.before (s.moment old) left told first.later since);
-    before = λ t left told le since. ⊎_elim (first.before t left told le) (λ has. inr has) (second.before t left told (omega (arith, le, first.later)) since);
+    before = λ t left told le since. ⊎_elim (first.before t left told le) (λ has. inr has) (second.before t left told (omega (arith, first.later)) since);
   }
 
-  pub weaker : (old new : D) (P Q : Contents → List Output → Type 0) → EachMoment old new P → ((left : Contents) (told : List Output) → P left told → Q left told) → EachMoment old new Q
+  pub weaker : (old new : D) (P Q : Contents → List Output → Type 0) → EachMoment old new P
+      → ((left : Contents) (told : List Output) → P left told → Q left told) → EachMoment old new Q
   weaker old new P Q run to = record {
     later = run.later;
     each = λ left told since. to left told (run.each left told since);
@@ -66,5 +71,6 @@ module _ {D : Type 0} (s : Ghosts D) where
   }
 
   -- at the end of a run, what is possible is what was so at one of its moments
-  pub now_has : (old new : D) (P : Contents → List Output → Type 0) → EachMoment old new P → CountsNow new → (left : Contents) (told : List Output) → Possible (s.state new) (s.sent new) left told → P left told
+  pub now_has : (old new : D) (P : Contents → List Output → Type 0) → EachMoment old new P → CountsNow new
+      → (left : Contents) (told : List Output) → Possible (s.state new) (s.sent new) left told → P left told
   now_has old new P run counts left told is = run.each left told (counts (s.moment old) left told run.later is)

@@ -4,14 +4,15 @@
 --     settled_only, settled_within        after a sync it leaves what is read, which it might have left before
 --     durable_only                        of a durable side it leaves its bytes
 --     rebased, firm-touch, no_shorter_written, other_other     what these and others rest on
-use Rattle.std.proofs.Common.{◌≡◌, ◌⊎◌, ⊎_elim, ℕ, ◌+◌, ◌<◌, ◌≤◌, min, Bool, true, false, ◌&&◌, cond, nat_le, nat_lt, List, ◌++◌, length, take, drop, slice_index, Option, None, Some, unwrap_or, refl, sym, ◌∙◌, subst, arith}
+use Rattle.std.proofs.Common.{◌≡◌, ◌⊎◌, ⊎_elim, ℕ, ◌+◌, ◌<◌, ◌≤◌, min, Bool, true, false, ◌&&◌, cond, nat_le, nat_lt, List, length, take, slice_index}
+use Rattle.std.proofs.Common.{Option, None, Some, unwrap_or, refl, sym, ◌∙◌, subst, arith}
 use Rattle.std.proofs.lemmas.Bool.{or_parts}
 use Rattle.std.proofs.lemmas.Bool.Decides.{nat_tests}
 use Rattle.std.proofs.lemmas.Grind.{common_steps}
 use Rattle.std.proofs.lemmas.List.{ext_get_or}
 use Rattle.cc_site.specs.declared.site.Side.{Side}
 use Rattle.cc_site.specs.declared.site.Side.TheVariants.{A, B}
-use Rattle.cc_site.specs.Sides.{SideState, MayLeave, other, firm, touch, written, shift, cut_to, settled, durable}
+use Rattle.cc_site.specs.Sides.{SideState, MayLeave, other, firm, touch, overwritten, written, shift, cut_to, settled, durable}
 
 -- the other side's other side
 pub other_other : (side : Side) → other (other side) ≡ side
@@ -42,7 +43,8 @@ firm_same None m n is = is refl
 firm_same (Some w) m n is = refl
 
 -- other bytes at touched places, and from the lowest shifted place on, make no difference to what a crash may leave
-pub rebased : (s : SideState) (bytes : List ℕ) → (s.shifted ≡ None → length bytes ≡ length s.bytes) → ((p : ℕ) → p < firm s → s.touched p ≡ false → slice_index bytes p ≡ slice_index s.bytes p)
+pub rebased : (s : SideState) (bytes : List ℕ) → (s.shifted ≡ None → length bytes ≡ length s.bytes)
+    → ((p : ℕ) → p < firm s → s.touched p ≡ false → slice_index bytes p ≡ slice_index s.bytes p)
     → (left : List ℕ) → MayLeave (record s { bytes = bytes }) left → MayLeave s left
 rebased s bytes long same left may =
     let firm_is = firm_same s.shifted (length bytes) (length s.bytes) long in record {
@@ -52,16 +54,16 @@ rebased s bytes long same left may =
     }
 
 -- the bytes after a write
-length_written : (old bytes : List ℕ) (at : ℕ) → at ≤ length old → at + length bytes ≤ length old → length (take at old ++ bytes ++ drop (at + length bytes) old) ≡ length old
+length_written : (old bytes : List ℕ) (at : ℕ) → at ≤ length old → at + length bytes ≤ length old → length (overwritten old at bytes) ≡ length old
 length_written old bytes at within fits = grind (arith, common_steps)
 
-pub no_shorter_written : (old bytes : List ℕ) (at : ℕ) → at ≤ length old → length old ≤ length (take at old ++ bytes ++ drop (at + length bytes) old)
+pub no_shorter_written : (old bytes : List ℕ) (at : ℕ) → at ≤ length old → length old ≤ length (overwritten old at bytes)
 no_shorter_written old bytes at within = grind (arith, common_steps)
 
-before_written : (old bytes : List ℕ) (at p : ℕ) → at ≤ length old → p < at → slice_index (take at old ++ bytes ++ drop (at + length bytes) old) p ≡ slice_index old p
+before_written : (old bytes : List ℕ) (at p : ℕ) → at ≤ length old → p < at → slice_index (overwritten old at bytes) p ≡ slice_index old p
 before_written old bytes at p within below = grind (arith, common_steps)
 
-after_written : (old bytes : List ℕ) (at p : ℕ) → at ≤ length old → at + length bytes ≤ p → slice_index (take at old ++ bytes ++ drop (at + length bytes) old) p ≡ slice_index old p
+after_written : (old bytes : List ℕ) (at p : ℕ) → at ≤ length old → at + length bytes ≤ p → slice_index (overwritten old at bytes) p ≡ slice_index old p
 after_written old bytes at p within above = grind (arith, common_steps)
 
 outside_range : (at n p : ℕ) → (nat_le at p && nat_lt p (at + n)) ≡ false → (p < at) ⊎ (at + n ≤ p)
@@ -71,10 +73,12 @@ not_extended : (old at n : ℕ) (w : ℕ) (shifted : Option ℕ) → (cond (nat_
 not_extended old at n w shifted is = grind (arith, nat_tests)
 
 -- a crash after a write leaves nothing else than one in it
-pub written_within : (s : SideState) (at : ℕ) (bytes : List ℕ) (left : List ℕ) → at ≤ length s.bytes → MayLeave (written s at bytes) left → MayLeave (touch s at (length bytes)) left
-written_within s at bytes left within = rebased (touch s at (length bytes)) (take at s.bytes ++ bytes ++ drop (at + length bytes) s.bytes)
+pub written_within : (s : SideState) (at : ℕ) (bytes : List ℕ) (left : List ℕ) → at ≤ length s.bytes → MayLeave (written s at bytes) left
+    → MayLeave (touch s at (length bytes)) left
+written_within s at bytes left within = rebased (touch s at (length bytes)) (overwritten s.bytes at bytes)
     (λ is. length_written s.bytes bytes at within (not_extended (length s.bytes) at (length bytes) (firm s) s.shifted is))
-    (λ p below clean. ⊎_elim (before_written s.bytes bytes at p within) (after_written s.bytes bytes at p within) (outside_range at (length bytes) p ((or_parts (s.touched p) (nat_le at p && nat_lt p (at + length bytes)) clean).1)))
+    (λ p below clean. ⊎_elim (before_written s.bytes bytes at p within) (after_written s.bytes bytes at p within)
+    (outside_range at (length bytes) p ((or_parts (s.touched p) (nat_le at p && nat_lt p (at + length bytes)) clean).1)))
     left
 
 cut_same : (bytes : List ℕ) (to n p : ℕ) → p < min n to → slice_index (take to bytes) p ≡ slice_index bytes p
@@ -101,4 +105,5 @@ durable_only bytes left may = settled_only (durable bytes) left may
 
 -- which it might have left before
 pub settled_within : (s : SideState) (left : List ℕ) → firm s ≤ length s.bytes → MayLeave (settled s) left → MayLeave s left
-settled_within s left fits may = subst (MayLeave s) (sym (settled_only s left may)) (record { no_shorter = fits; no_longer = λ is. refl; same = λ p below clean. refl })
+settled_within s left fits may = subst (MayLeave s) (sym (settled_only s left may))
+    (record { no_shorter = fits; no_longer = λ is. refl; same = λ p below clean. refl })

@@ -17,15 +17,17 @@ returns-in_default-2 c =
     let bytes = c.args.bytes.now in
     let n = c.from_be_bytes-size.result in
     let size = c.from_be_bytes-size.ensures ∙ ap (λ (l : List ℕ). from_be_bytes w32 l) (sym (four_bytes bytes c.in-len4-up.len_at_least)) in
-    let none = MatchOption-at_none ((e : Event) → SpellsEvent (take n (take (length bytes - 4) (drop 4 bytes))) e → ⊥) _ c.in_default-2.is c.in_ok-event.ensures in
+    let none = MatchOption-at_none ((e : Event) → SpellsEvent (take n (take (length bytes - 4) (drop 4 bytes))) e → ⊥) _
+    c.in_default-2.is c.in_ok-event.ensures in
     none_spelled bytes n size (subst (λ (l : List ℕ). (e : Event) → SpellsEvent (take n l) e → ⊥) (behind bytes) none)
 
 pub returns : goal.returns
 returns c =
     let bytes = c.args.bytes.now in
     let n = c.from_be_bytes-size.result in
+    let e = c.in-Some.event in
     let long = c.in-len4-up.len_at_least in
     let size = c.from_be_bytes-size.ensures ∙ ap (λ (l : List ℕ). from_be_bytes w32 l) (sym (four_bytes bytes long)) in
-    let spelled = MatchOption-at_some _ (λ e. SpellsEvent (take n (take (length bytes - 4) (drop 4 bytes))) e) c.in-Some.event c.in-Some.is c.in_ok-event.ensures in
-    one_found bytes n size long (IsBytes-take 4 bytes (λ i. omega (arith, c.type_inv.bytes i))) (omega (arith, c.if-rest-size.false, length-drop 4 bytes)) c.in-Some.event
-    (subst (λ (l : List ℕ). SpellsEvent (take n l) c.in-Some.event) (behind bytes) spelled)
+    let spelled = MatchOption-at_some _ (λ e. SpellsEvent (take n (take (length bytes - 4) (drop 4 bytes))) e) e c.in-Some.is c.in_ok-event.ensures in
+    one_found bytes n size long (IsBytes-take 4 bytes (λ i. omega (arith, c.type_inv.bytes i)))
+    (omega (arith, c.if-rest-size.false, length-drop 4 bytes)) e (subst (λ (l : List ℕ). SpellsEvent (take n l) e) (behind bytes) spelled)

@@ -13,5 +13,6 @@ returns-else-branch c events spelled lawful =
     let read = MatchOption-at_some _ (λ v. SpellsEvents bytes v.items) c.in-Some.events c.in-Some.is c.in_ok-events.ensures in
     let start = c.args.node.now in
     let items = c.in-Some.events.items in
-    let refused = subst (λ b. MatchBool b (IsLawful start items × (c.settle_all.new.node ≡ after start items)) (IsLawful start items → ⊥)) c.if-branch.false c.in_ok-settle_all.ensures in
+    let refused = subst (λ b. MatchBool b (IsLawful start items × (c.settle_all.new.node ≡ after start items)) (IsLawful start items → ⊥))
+    c.if-branch.false c.in_ok-settle_all.ensures in
     refused (subst (λ (l : List Event). IsLawful start l) (one_list bytes events items spelled read) lawful)

@@ -1,9 +1,10 @@
-use Rattle.std.proofs.Common.{◌≡◌, ◌++◌, List, ◌∙◌, ap, subst}
+use Rattle.std.proofs.Common.{◌≡◌, ◌++◌, List, refl, ◌∙◌, ap, subst}
 use Rattle.std.specs.Prelude.{map}
 use Rattle.cc_messages.specs.declared.output.Output.{Output}
 use Rattle.cc_node.specs.declared.made.Made.{Made}
 use Rattle.cc_node.specs.Core as core
 use Rattle.cc_node.specs.Core.{next, send_ack, send_post, send_replies}
+use Rattle.cc_node.proofs.KeptOutputs.{answers_kept}
 use Rattle.cc_journal.specs.Outlet.{Puts, request_of, new_post, kept_replies}
 use Rattle.cc_journal.proofs.EventOutputs.{post_put, replies_put}
 use Rattle.cc_journal.proofs.Puts.{puts_both}
@@ -21,16 +22,8 @@ returns-clause-puts g c =
     let box = c.outbox.ensures ∙ ap (λ k. k.outbox) stepped in
     let ack : send_ack c.args.entry.made.ack ≡ send_ack (core.ack e) = ap (λ (m : Made). send_ack m.ack) made_is in
     let post : send_post c.settle.new.self.core (new_post c.posts-posts.result c.settle.new.self) ≡ send_post (next n.core e) (core.post n.core e) =
-    (λ i. send_post (stepped i).core (new_post (posts i) (stepped i))) ∙ post_put n e c.core.ensures.lawful in
+    (λ i. send_post (stepped i).core (new_post (posts i) (stepped i))) ∙ post_put n e _ refl c.core.ensures.lawful in
     let replies : send_replies (kept_replies c.deref.result.now c.outbox.result.now) ≡ send_replies (core.replies n.core e) =
-    (λ i. send_replies (kept_replies (answered i) (box i))) ∙ ap send_replies (replies_put n e c.core.ensures.lawful) in
-    let all : send_ack c.args.entry.made.ack ++ send_post c.settle.new.self.core (new_post c.posts-posts.result c.settle.new.self) ++ send_replies (kept_replies c.deref.result.now c.outbox.result.now)
-    ≡ core.outputs n.core e = λ i. ack i ++ post i ++ replies i in
-    let old = c.args.site.now in
-    let mid = c.put_ack.new.site in
-    let then = c.put_post.new.site in
-    let new = c.put_replies.new.site in
-    let both = puts_both s old mid then (send_ack c.args.entry.made.ack) (send_post c.settle.new.self.core (new_post c.posts-posts.result c.settle.new.self)) c.put_ack.ensures c.put_post.ensures in
-    subst (λ (l : List Output). Puts s l old new) all
-    (puts_both s old then new
-    (send_ack c.args.entry.made.ack ++ send_post c.settle.new.self.core (new_post c.posts-posts.result c.settle.new.self)) (send_replies (kept_replies c.deref.result.now c.outbox.result.now)) both c.put_replies.ensures)
+    (λ i. send_replies (kept_replies (answered i) (box i))) ∙ ap send_replies (replies_put n e _ (answers_kept n e c.core.ensures.lawful)) in
+    subst (λ (l : List Output). Puts s l c.args.site.now c.put_replies.new.site) (λ i. ack i ++ post i ++ replies i)
+    (puts_both s _ _ _ _ _ (puts_both s _ _ _ _ _ c.put_ack.ensures c.put_post.ensures) c.put_replies.ensures)

@@ -4,9 +4,7 @@ use Rattle.cc_journal.proofs.Puts.{HasPut}
 use Rattle.cc_journal.proofs.outlet.put_on_links.Given as goal
 
 abbrev pub invariant-loop-row : goal.invariant-loop-row
-invariant-loop-row g l =
-    let s = g.S.Site in
-    record {
-      start : AllStart l.core.posts (drop l.row-index l.rows);
-      put : HasPut s l.fn.site l.site (row_sends l.core l.post l.rows) (row_sends l.core l.post (drop l.row-index l.rows));
-    }
+invariant-loop-row g l = record {
+  start : AllStart l.core.posts (drop l.row-index l.rows);
+  put : HasPut g.S.Site l.fn.site l.site (row_sends l.core l.post l.rows) (row_sends l.core l.post (drop l.row-index l.rows));
+}

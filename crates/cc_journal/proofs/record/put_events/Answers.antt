@@ -1,6 +1,7 @@
-use Rattle.std.proofs.Common.{◌≡◌, ℕ, ◌+◌, List, ◌++◌, length, drop, sym, ◌∙◌, ap, subst, arith, length-append}
+use Rattle.std.proofs.Common.{◌≡◌, ℕ, ◌+◌, ◌≤◌, List, ◌++◌, length, drop, sym, ◌∙◌, ap, subst, arith, length-append}
 use Rattle.std.specs.Int.{w32, to_be_bytes}
 use Rattle.std.specs.List.{AllByRecursion}
+use Rattle.std.specs.Vec.{vec_capacity}
 use Rattle.std.proofs.lemmas.List.{append_assoc}
 use Rattle.cc_wire.specs.Events.{IsEvent, event_spelling}
 use Rattle.cc_sides.specs.Sides.{sized_spelling}
@@ -17,15 +18,19 @@ loop-entry-preserved c =
     let rest = sized (drop (i + 1) all) in
     let inv = c.loop-entry.invariant in
     let next : sized (drop i all) ≡ sized_spelling e ++ rest = next_sized all i c.entry-item.result c.loop-entry-test.true c.entry-item.is in
-    let size_put : c.put_u32.new.out.items ≡ text.items ++ to_be_bytes w32 (length (event_spelling e)) =
+    let head = to_be_bytes w32 (length (event_spelling e)) in
+    let size_put : c.put_u32.new.out.items ≡ text.items ++ head =
     (rw c.unwrap.ensures at c.put_u32.ensures.ok) ∙ ap (λ (n : ℕ). text.items ++ to_be_bytes w32 n) c.event_len.ensures.len in
     let event_put : new.items ≡ c.put_u32.new.out.items ++ event_spelling e = rw c.unwrap-in-loop-entry.ensures at c.encode_event.ensures.ok in
     let put : new.items ≡ text.items ++ sized_spelling e =
-    event_put ∙ ap (λ (l : List ℕ). l ++ event_spelling e) size_put ∙ append_assoc text.items (to_be_bytes w32 (length (event_spelling e))) (event_spelling e) in
+    event_put ∙ ap (λ (l : List ℕ). l ++ event_spelling e) size_put ∙ append_assoc text.items head (event_spelling e) in
     let spelled = rw c.unwrap-in-loop-entry.ensures at c.encode_event.ensures.spelled in
+    let grows : vec_capacity text ≤ vec_capacity new = omega (arith, c.put_u32.ensures.grows, c.encode_event.ensures.grows) in
     record {
-      bytes = ap (λ (l : List ℕ). l ++ rest) put ∙ append_assoc text.items (sized_spelling e) rest ∙ ap (λ (l : List ℕ). text.items ++ l) (sym next) ∙ inv.bytes;
-      spelled = λ others. inv.spelled (subst (AllByRecursion IsEvent) (sym (next_events all i c.entry-item.result c.loop-entry-test.true c.entry-item.is)) (spelled.lawful, others));
-      room = omega (arith, inv.room, ap length put, length-append text.items (sized_spelling e), ap length next, length-append (sized_spelling e) rest, c.put_u32.ensures.grows, c.encode_event.ensures.grows);
-      grows = omega (arith, inv.grows, c.put_u32.ensures.grows, c.encode_event.ensures.grows);
+      bytes = ap (λ (l : List ℕ). l ++ rest) put ∙ append_assoc text.items (sized_spelling e) rest
+          ∙ ap (λ (l : List ℕ). text.items ++ l) (sym next) ∙ inv.bytes;
+      spelled = λ others. inv.spelled (subst (AllByRecursion IsEvent)
+          (sym (next_events all i c.entry-item.result c.loop-entry-test.true c.entry-item.is)) (spelled.lawful, others));
+      room = omega (arith, inv.room, grows, ap length put, length-append text.items (sized_spelling e), ap length next, length-append (sized_spelling e) rest);
+      grows = omega (arith, inv.grows, grows);
     }

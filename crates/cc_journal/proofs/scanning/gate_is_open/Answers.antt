@@ -6,4 +6,5 @@ use Rattle.cc_journal.proofs.scanning.gate_is_open.Goals as goal
 pub returns-clause-value : goal.returns-clause-value
 returns-clause-value g c honest =
     let bytes = (g.S.Site.state c.args.site.now c.args.side).bytes in
-    gate_read (drop c.args.place bytes) c.read_into.new.into (omega (arith, length-drop c.args.place bytes, c.requires honest)) (c.in_ok-read_into.ensures.value honest)
+    gate_read (drop c.args.place bytes) c.read_into.new.into (omega (arith, length-drop c.args.place bytes, c.requires honest))
+    (c.in_ok-read_into.ensures.value honest)

@@ -1,6 +1,6 @@
-use Rattle.std.proofs.Common.{◌≡◌, ◌-◌, ◌≤◌, length, drop}
+use Rattle.std.proofs.Common.{◌≡◌, ◌-◌, ◌≤◌, length}
 use Rattle.cc_site.specs.Reads.{OnlyReads}
-use Rattle.cc_journal.proofs.Scans.{SoFar}
+use Rattle.cc_journal.proofs.Scans.{LeadsOn}
 use Rattle.cc_journal.proofs.scanning.scan_records.Given as goal
 
 abbrev pub invariant-loop-place : goal.invariant-loop-place
@@ -10,10 +10,9 @@ invariant-loop-place g l =
     record {
       reads : OnlyReads s l.fn.site l.site;
       size : s.honest l.fn.site → l.len ≡ length bytes;
-      onward : l.fn.place ≤ l.place;
       few_records : l.records ≤ l.place;
       few_events : l.events ≤ l.place;
-      so_far : s.honest l.fn.site → SoFar (drop l.fn.place bytes) l.fn.node l.node (l.place - l.fn.place) l.records l.events;
+      so_far : s.honest l.fn.site → LeadsOn bytes l.fn.place l.place l.fn.node l.node l.records l.events;
       failures : s.failures l.site ≡ s.failures l.fn.site;
     }
 

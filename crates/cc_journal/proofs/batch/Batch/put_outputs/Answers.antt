@@ -13,7 +13,8 @@ loop-entry-init g c =
     let s = g.S.Site in
     let node = c.args.node.now in
     let all : drain_items c.into_iter-entry-iterator.result ≡ c.args.self.now =
-    ap (λ d. drain_items d) c.into_iter-entry-iterator.ensures.into_iter_gives ∙ c.drain-entry-items.ensures.rest ∙ take_all _ c.self.inside.entries.items (omega arith) ∙ c.self.view_is in
+    ap (λ d. drain_items d) c.into_iter-entry-iterator.ensures.into_iter_gives ∙ c.drain-entry-items.ensures.rest
+    ∙ take_all _ c.self.inside.entries.items (omega arith) ∙ c.self.view_is in
     record {
       can = rw c.into_iter-entry-iterator.ensures.into_iter_gives c.drain-entry-items.ensures.ready;
       ends = tt;
@@ -21,12 +22,11 @@ loop-entry-init g c =
       leads = ap (λ (l : List Entry). after node (events_in l)) all;
       lawful = subst (AreLawful node) (sym all) c.requires;
       put = subst (λ (l : List Entry). HasPut s c.args.site.now c.args.site.now (line node (events_in c.args.self.now)) (line node (events_in l))) (sym all)
-          (put_none s c.args.site.now (line node (events_in c.args.self.now)) (g.met.S.Site.only_now c.args.site.now));
+          (put_none s c.args.site.now _ (g.met.S.Site.only_now c.args.site.now));
     }
 
 pub loop-entry-preserved : goal.loop-entry-preserved
 loop-entry-preserved g c =
-    let s = g.S.Site in
     let inv = c.loop-entry.invariant in
     let node = c.loop-entry.node in
     let entry = c.in-Some.entry in
@@ -40,7 +40,6 @@ loop-entry-preserved g c =
       keeps = (c.in-Some.ensures.steps.1.0 ∙ inv.keeps.0, c.in-Some.ensures.steps.1.1 ∙ inv.keeps.1);
       leads = ap (λ n. after n (events_in left)) stepped ∙ ap (λ l. after node (events_in l)) (sym took) ∙ inv.leads;
       lawful = subst (λ n. AreLawful n left) (sym stepped) lawful.2;
-      put = put_more s c.args.site.now c.loop-entry.site c.put_entry.new.site (line c.args.node.now (events_in c.args.self.now))
-          (line node (events_in (drain_items c.loop-entry.entry-iterator))) (outputs node.core entry.event) (line c.put_entry.new.node (events_in left)) inv.put
+      put = put_more g.S.Site _ _ _ _ _ _ _ inv.put
           (ap (λ l. line node (events_in l)) took ∙ ap (λ n. outputs node.core entry.event ++ line n (events_in left)) (sym stepped)) c.put_entry.ensures.puts;
     }

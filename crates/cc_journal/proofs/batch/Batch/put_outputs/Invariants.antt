@@ -7,7 +7,6 @@ use Rattle.cc_journal.proofs.batch.Batch.put_outputs.Given as goal
 
 abbrev pub invariant-loop-entry : goal.invariant-loop-entry
 invariant-loop-entry g l =
-    let s = g.S.Site in
     let left = drain_items l.entry-iterator in
     record {
       can : (goal.iterator-loop-entry g).can_next l.entry-iterator;
@@ -15,5 +14,5 @@ invariant-loop-entry g l =
       keeps : DrainKeeps l.initial.entry-iterator l.entry-iterator;
       leads : after l.node (events_in left) ≡ after l.fn.node (events_in l.fn.self);
       lawful : AreLawful l.node left;
-      put : HasPut s l.fn.site l.site (line l.fn.node (events_in l.fn.self)) (line l.node (events_in left));
+      put : HasPut g.S.Site l.fn.site l.site (line l.fn.node (events_in l.fn.self)) (line l.node (events_in left));
     }

@@ -3,4 +3,6 @@ use Rattle.cc_site.proofs.Recorded.{elapses_kept}
 use Rattle.cc_site.proofs.memory.MemorySiteSite.send.Goals as goal
 
 pub returns-clause-time : goal.returns-clause-time
-returns-clause-time c = elapses_kept (bytes_of c.args.self.now.disk) c.args.self.now.disk.steps.items c.args.self.now.outputs.items c.keep.new.outputs.items c.args.self.now.told_fits c.keep.ensures.cases
+returns-clause-time c =
+    let m = c.args.self.now in
+    elapses_kept (bytes_of m.disk) m.disk.steps.items m.outputs.items c.keep.new.outputs.items m.told_fits c.keep.ensures.cases

@@ -1,46 +1,33 @@
-use Rattle.std.proofs.Common.{◌≡◌, is_err, rules}
-use Rattle.cc_site.specs.Sides.{settled}
-use Rattle.cc_site.specs.Record.{state_now}
-use Rattle.cc_site.specs.Disks.{bytes_of}
-use Rattle.cc_site.specs.Memory.{memory_state}
-use Rattle.cc_site.proofs.Bytes.{bytes_synced}
-use Rattle.cc_site.proofs.Recorded.{on_ok_like, on_err_like, sync_leaves}
+use Rattle.std.proofs.Common.{◌∙◌, rules}
+use Rattle.cc_site.specs.Moments.{Nothing}
+use Rattle.cc_site.proofs.Recorded.{Leaves, sync_leaves, side_synced, side_unsynced}
 use Rattle.cc_site.proofs.memory.MemorySiteSite.sync.Goals as goal
+use Rattle.cc_site.proofs.memory.MemorySiteSite.sync.Goals.{After-count}
 
-pub invariant_of-self-clause-told_fits : goal.invariant_of-self-clause-told_fits
-invariant_of-self-clause-told_fits c =
+leaves : (c : After-count) → Leaves c.args.self.now c.sync-outcome.new.self c.args.side Nothing
+leaves c =
     let w = c.sync-outcome in
-    (sync_leaves w.result c.args.self.now w.new.self c.args.side c.len-told.result (search rules) w.ensures.files.0 w.ensures.files.1 w.ensures.adds w.ensures.err).told
+    sync_leaves _ _ _ c.len-told.result (search rules) w.ensures.files.0 w.ensures.files.1 w.result w.ensures.adds w.ensures.err
 
-pub invariant_of-self-clause-firm_fits : goal.invariant_of-self-clause-firm_fits
-invariant_of-self-clause-firm_fits c =
-    let w = c.sync-outcome in
-    (sync_leaves w.result c.args.self.now w.new.self c.args.side c.len-told.result (search rules) w.ensures.files.0 w.ensures.files.1 w.ensures.adds w.ensures.err).firm
+pub invariant_of-self : goal.invariant_of-self
+invariant_of-self c =
+    let l = leaves (goal.at.invariant_of-self c).After-count in
+    record { room = search rules; told_fits = l.told; firm_fits = l.firm; are_bytes = l.bytes }
 
 pub returns-clause-value : goal.returns-clause-value
 returns-clause-value c =
     let w = c.sync-outcome in
-    let alike : is_err c.count.result ≡ is_err w.result = search rules in
-    on_ok_like w.result c.count.result (state_now (bytes_of w.new.self) w.new.self.steps.items c.args.side ≡ settled (memory_state c.args.self.now c.args.side)) alike (sync_leaves w.result c.args.self.now w.new.self c.args.side c.len-told.result (search rules) w.ensures.files.0 w.ensures.files.1 w.ensures.adds w.ensures.err).value
+    side_synced c.args.self.now w.new.self _ c.len-told.result (search rules) w.ensures.files.0 w.ensures.files.1 w.result c.count.result
+    (c.count.ensures.outcome ∙ c.is_err.ensures.value) w.ensures.adds
 
 pub returns-clause-failed : goal.returns-clause-failed
 returns-clause-failed c =
     let w = c.sync-outcome in
-    let alike : is_err c.count.result ≡ is_err w.result = search rules in
-    on_err_like w.result c.count.result (state_now (bytes_of w.new.self) w.new.self.steps.items c.args.side ≡ memory_state c.args.self.now c.args.side) alike (sync_leaves w.result c.args.self.now w.new.self c.args.side c.len-told.result (search rules) w.ensures.files.0 w.ensures.files.1 w.ensures.adds w.ensures.err).failed
+    side_unsynced c.args.self.now w.new.self _ c.len-told.result (search rules) w.ensures.files.0 w.ensures.files.1 w.result c.count.result
+    (c.count.ensures.outcome ∙ c.is_err.ensures.value) w.ensures.err
 
 pub returns-clause-other_side : goal.returns-clause-other_side
-returns-clause-other_side c =
-    let w = c.sync-outcome in
-    (sync_leaves w.result c.args.self.now w.new.self c.args.side c.len-told.result (search rules) w.ensures.files.0 w.ensures.files.1 w.ensures.adds w.ensures.err).rest
+returns-clause-other_side c = (leaves (goal.at.returns-clause-other_side c).After-count).rest
 
 pub returns-clause-time : goal.returns-clause-time
-returns-clause-time c =
-    let w = c.sync-outcome in
-    (sync_leaves w.result c.args.self.now w.new.self c.args.side c.len-told.result (search rules) w.ensures.files.0 w.ensures.files.1 w.ensures.adds w.ensures.err).time
-
-pub invariant_of-self-clause-are_bytes : goal.invariant_of-self-clause-are_bytes
-invariant_of-self-clause-are_bytes c =
-    let m = c.args.self.now in
-    let w = c.sync-outcome in
-    bytes_synced m.disk.a.items m.disk.b.items w.new.self.a.items w.new.self.b.items c.args.side m.are_bytes w.ensures.files.0 w.ensures.files.1
+returns-clause-time c = (leaves (goal.at.returns-clause-time c).After-count).time
