@@ -18,23 +18,26 @@ fn put_pieces(pieces: &mut Pieces, piece: &mut Piece, all: &mut Vec<u8>) -> Resu
 }
 
 // What they are together.
-fn joined(alloc: Global, node: &Node) -> Result<Vec<u8>, Fail> {
+fn put_joined(alloc: Global, node: &Node, all: &mut Vec<u8>) -> Result<(), Fail> {
     let mut piece = Piece::new(alloc)?;
-    let mut all = Vec::new(alloc);
     let mut pieces = Pieces::new(node);
-    let put = put_pieces(&mut pieces, &mut piece, &mut all);
+    let put = put_pieces(&mut pieces, &mut piece, all);
     drop(pieces);
     drop(piece);
-    put?;
-    Ok(all)
+    put
 }
 
 // Whether the pieces of a node's state are its plain spelling, as long as is told.
 fn comes_in_pieces(alloc: Global, node: &Node) -> Result<bool, Fail> {
-    let pieces = joined(alloc, node)?;
     let plain = encoded(alloc, node)?;
-    let length = state_length(node);
-    Ok(pieces.as_slice() == plain.as_slice() && length == plain.len() as u64)
+    let mut pieces = Vec::new(alloc);
+    let put = put_joined(alloc, node, &mut pieces);
+    let is_long = state_length(node) == plain.len() as u64;
+    let is_plain = pieces.as_slice() == plain.as_slice();
+    drop(pieces);
+    drop(plain);
+    put?;
+    Ok(is_plain && is_long)
 }
 
 // It has 119 bytes.
@@ -44,8 +47,7 @@ fn a_state_comes_in_pieces(rt: HostRuntime) -> Result<(), Fail> {
     let comes_in_pieces = comes_in_pieces(rt.alloc(), &member);
     let length = state_length(&member);
     drop(member);
-    assert!(rt; length == 119);
-    assert!(rt; comes_in_pieces?);
+    assert!(rt; (length, comes_in_pieces?) == (119, true));
     Ok(())
 }
 

@@ -177,9 +177,20 @@ fn each_call_of_a_checkpoint_may_fail(rt: HostRuntime) -> Result<(), Fail> {
 // What a checkpoint comes to, and whether the node's state is the same behind it.
 fn keeps_state(alloc: Global, flusher: &mut Flusher<MemorySite>) -> Result<(Came, bool), Fail> {
     let before = state_of_twin(alloc, flusher)?;
+    let moved = moves_on(alloc, flusher, &before);
+    drop(before);
+    moved
+}
+
+// The same of a node with that state.
+fn moves_on(
+    alloc: Global,
+    flusher: &mut Flusher<MemorySite>,
+    before: &[u8],
+) -> Result<(Came, bool), Fail> {
     let came = carry_out(alloc, flusher, Step::Checkpoint)?;
     let after = state_of_twin(alloc, flusher)?;
-    Ok((came, before == after))
+    Ok((came, after.as_slice() == before))
 }
 
 // Member 1 of 1 after a store, with posts and an answer that are kept, where nothing was put yet.

@@ -103,11 +103,17 @@ fn unreleased(alloc: Global, flusher: &mut Flusher<MemorySite>) -> Result<Memory
     }
 }
 
-// Why the ask isn't taken again, whether its answer is put again, and the own number.
-fn repeated(flusher: &mut Flusher<MemorySite>) -> Result<(Option<Refusal>, bool, u64), Fail> {
+// Why the ask isn't taken again.
+fn refusal_of_ask(flusher: &Flusher<MemorySite>) -> Result<Option<Refusal>, Fail> {
     let asked = ask()?;
     let refusal = flusher.twin().core().decide(&asked).err();
     drop(asked);
+    Ok(refusal)
+}
+
+// The same, whether its answer is put again, and the own number.
+fn repeated(flusher: &mut Flusher<MemorySite>) -> Result<(Option<Refusal>, bool, u64), Fail> {
+    let refusal = refusal_of_ask(flusher)?;
     if flusher.owes() {
         return Err("outputs are owed")?;
     }

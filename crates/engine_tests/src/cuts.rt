@@ -30,13 +30,18 @@ fn left_of_either(alloc: Global, side: &[u8]) -> Result<[Left; 2], Fail> {
     Ok([of_a, of_b])
 }
 
+// Whether the first bytes of a side, so many of them, are damaged at that place, whichever side they are.
+fn is_damaged(alloc: Global, side: &[u8], len: usize, place: u64) -> Result<bool, Fail> {
+    let cut = side.get(..len).ok_or("the side is that long")?;
+    let of_a = Err(OpenFault::Damaged(Side::A, place));
+    let of_b = Err(OpenFault::Damaged(Side::B, place));
+    Ok(left_of_either(alloc, cut)? == [of_a, of_b])
+}
+
 fn check_cuts<R: Abort + AllocGlobal>(rt: &R, side: &[u8]) -> Result<(), Fail> {
     for &(from, to, place) in &CUTS {
-        let of_a = Err(OpenFault::Damaged(Side::A, place));
-        let of_b = Err(OpenFault::Damaged(Side::B, place));
         for len in from..to {
-            let cut = side.get(..len).ok_or("the side is that long")?;
-            assert!(rt; left_of_either(rt.alloc(), cut)? == [of_a, of_b]);
+            assert!(rt; is_damaged(rt.alloc(), side, len, place)?);
         }
     }
     Ok(())
