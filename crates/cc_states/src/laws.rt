@@ -20,6 +20,7 @@ pub fn one_spelling_of_nodes()
 {}
 
 /// But for version 1, in which some nodes with a share of 1 are read, a node is spelled in the layout of its share alone.
+#[tactic(auto, using(crate::proofs::Written::one_layout))]
 pub fn each_node_has_one_layout()
     ensures { (layout : Layout) (bytes : List ℕ) (n : Node) → SpellsNode layout bytes n → (layout ≡ layouts.Plain) ⊎ (layout ≡ layout_of_node n) }
 {}

@@ -10,7 +10,9 @@ ghost use Rattle.cc_links.specs.Rows as links;
 ghost use Rattle.cc_sessions.specs.Rows as sessions;
 ghost use Rattle.cc_outbox.specs.Outbox.{post_limit};
 ghost use Rattle.cc_outbox.specs.Rows as answers;
-ghost use Rattle.cc_sides.specs.States.{fraction_at, membership_at, pending_at, phase_at, ask_at, asks_at, ask_list_at, line_at, share_at, others_at, round_at, entering_at, work_at, rows_at, row_list_at, table_at, link_at, session_from, session_at, kept_answer_at, posts_at, kept_at, most_rows, tables_at, state_at};
+ghost use Rattle.cc_sides.specs.States.{fraction_at, membership_at, pending_at, phase_at, ask_at, asks_at, ask_list_at, line_at, share_at, others_at};
+ghost use Rattle.cc_sides.specs.States.{round_at, entering_at, work_at, rows_at, row_list_at, table_at, link_at, session_from, session_at};
+ghost use Rattle.cc_sides.specs.States.{kept_answer_at, posts_at, kept_at, most_rows, tables_at, state_at};
 ghost use Rattle.cc_states.specs.Fields.{membership_in, own_at, own_in, entering_in, round_in, work_in, tables_in, state_in, AreRead};
 
 use crate::fields::{Entering, Fields, Membership, Own, Round, Tables, Work};
