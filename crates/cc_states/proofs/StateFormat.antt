@@ -8,21 +8,12 @@ use Rattle.std.specs.FinMap as table
 use Rattle.std.specs.FinMap.{FinMap}
 use Rattle.std.proofs.lemmas.Bool.{ltb-false, le-ltb, or_parts, or_from}
 use Rattle.std.proofs.lemmas.List.Concat.{flat_map-cons}
-use Rattle.cc_views.specs.Rows.{ViewMap}
-use Rattle.cc_views.specs.declared.value.Value.{Value}
 use Rattle.cc_views.specs.Entries.{from_T, ascending_of_sorted, sorted_of_ascending, entries_back}
-use Rattle.cc_changes.specs.ChangeSets.{ChangeSets}
-use Rattle.cc_changes.specs.declared.fraction.Fraction.{Fraction}
 use Rattle.cc_wire.specs.declared.fault.WireFault.TheVariants.{BadKind, NotAscending}
-use Rattle.cc_messages.specs.declared.message.Message.{Message}
-use Rattle.cc_messages.specs.declared.command.Command.{Command}
-use Rattle.cc_messages.specs.declared.answer.Answer.{Answer}
 use Rattle.cc_wire.specs.Reading.{◌>>=◌, Reading, via, nothing_at, byte_at, items_at}
 use Rattle.cc_ops.specs.declared.pending.Asked.{Asked}
-use Rattle.cc_ops.specs.declared.pending.Pending.{Pending}
 use Rattle.cc_ops.specs.Ops.{Phase, Idle, Storing, Querying, StoringBack}
-use Rattle.cc_links.specs.Links.{Link, Links}
-use Rattle.cc_sessions.specs.Sessions.{Requests}
+use Rattle.cc_links.specs.Links.{Link}
 use Rattle.cc_wire.proofs.Spelled.{IsBytes, bind_ok, guard_ok, ok_is, Takes, Takes-then, Spelled, both, as_fields, as_facts, tested, counted}
 use Rattle.cc_wire.proofs.Spelled.{IsRun, items_spelled, byte_spelled, nothing_spelled, kind_or, kinded_takes}
 use Rattle.cc_wire.proofs.Formats.{ascending_of_run, run_of_ascending, u16_spelled, u32_spelled, u64_spelled, limited_spelled, from_spelled}
@@ -36,7 +27,7 @@ use Rattle.cc_states.specs.Fields.{own_at}
 use Rattle.cc_node.specs.Rounds.{share_limit}
 use Rattle.cc_sides.specs.declared.layout.Layout.{Layout}
 use Rattle.cc_sides.specs.declared.layout.Layout.TheVariants.{Plain, Lined, Shared}
-use Rattle.cc_sides.specs.States.{Membership, Work, Tables, State, fraction_spelling, IsFraction, fraction_with, fraction_at}
+use Rattle.cc_sides.specs.States.{fraction_spelling, IsFraction, fraction_with, fraction_at}
 use Rattle.cc_sides.specs.States.{membership_spelling, IsMembership, membership_with, membership_at, pending_spelling, IsPending, pending_with, pending_at}
 use Rattle.cc_sides.specs.States.{phase_spelling, IsPhase, phase_fields, phase_at, ask_spelling, IsAsk, ask_with, ask_at, asks_spelling, AreAsks, ask_list_at}
 use Rattle.cc_sides.specs.States.{line_spelling, IsLineOf, line_at, others_spelling, IsRoundShare, AreOthersOf, share_at, others_at, round_spelling, round_at}
@@ -56,27 +47,23 @@ fraction_spelled = as_facts IsFraction
 
 -- ---- the first part
 
-abbrev membership_fields : Membership → ℕ × (Fraction × (Fraction × ChangeSets))
-membership_fields m = (m.me, (m.beta, (m.gamma, m.changes)))
-
 pub membership_spelled : Spelled membership_at IsMembership membership_spelling
 unfolding membership_at
 membership_spelled = as_facts IsMembership
     (λ m h. record { me = h.0; beta = h.1.0; gamma = h.1.1.0; changes = h.1.1.1 })
     (λ m h. (h.me, (h.beta, (h.gamma, h.changes))))
-    (as_fields membership_with membership_fields (λ _. refl) (λ _ _. refl) (both id_spelled (both fraction_spelled (both fraction_spelled changes_spelled))))
+    (as_fields membership_with (λ m. (m.me, (m.beta, (m.gamma, m.changes)))) (λ _. refl) (λ _ _. refl)
+    (both id_spelled (both fraction_spelled (both fraction_spelled changes_spelled))))
 
 -- ---- the pending operation
-
-abbrev pending_fields : Pending → ((ℕ × ℕ) × Command) × (ℕ × ℕ)
-pending_fields p = (((p.asked.session, p.asked.request), p.asked.command), (p.need, p.count))
 
 pub pending_spelled : Spelled pending_at IsPending pending_spelling
 unfolding pending_at
 pending_spelled = as_facts IsPending
     (λ p h. record { asked = h.0; need = h.1.0; count = h.1.1 })
     (λ p h. (h.asked, (h.need, h.count)))
-    (as_fields pending_with pending_fields (λ _. refl) (λ _ _. refl) (both asked_spelled (both u16_spelled u16_spelled)))
+    (as_fields pending_with (λ p. (((p.asked.session, p.asked.request), p.asked.command), (p.need, p.count))) (λ _. refl) (λ _ _. refl)
+    (both asked_spelled (both u16_spelled u16_spelled)))
 
 module _ (bytes after : List ℕ) (k : ℕ) (m : Phase) (rest : List ℕ) (fits : IsBytes after) (front : Takes bytes (k ∷ []) after) where
   abbrev case : {A : Type 0} {r : Reading A} {P : A → Type 0} {f : A → List ℕ} (spelled : Spelled r P f) (make : A → Phase) (kind : ℕ)
@@ -142,12 +129,9 @@ module _ {X : Type 0} {read : Reading X} {Is : X → Type 0} {f : X → List ℕ
 
 -- ---- the asks that wait
 
-abbrev ask_fields : Asked → (ℕ × ℕ) × Command
-ask_fields a = ((a.session, a.request), a.command)
-
 ask_spelled : Spelled ask_at IsAsk ask_spelling
 unfolding ask_at
-ask_spelled = as_fields ask_with ask_fields (λ _. refl) (λ _ _. refl) asked_spelled
+ask_spelled = as_fields ask_with (λ a. ((a.session, a.request), a.command)) (λ _. refl) (λ _ _. refl) asked_spelled
 
 pub ask_list_spelled : Spelled ask_list_at AreAsks asks_spelling
 unfolding ask_list_at
@@ -219,26 +203,13 @@ own_spelled = both u64_spelled (both value_spelled u64_spelled)
 pub entering_spelled : Spelled entering_at (λ entering. (entering.0 < 2 ^ 64) × (entering.1 < 2 ^ 16)) (λ entering. entering_spelling entering.0 entering.1)
 entering_spelled = both u64_spelled u16_spelled
 
-abbrev work_fields : Work → (ViewMap × (ℕ × (Value × ℕ))) × ((ℕ × ℕ) × (Phase × ((ℕ × List Asked) × List Asked)))
-work_fields w = ((w.view, (w.number, (w.mine, w.tag))), ((w.echoes, w.need), (w.phase, ((w.share, w.others), w.line))))
-
 pub work_spelled : (layout : Layout) → Spelled (work_at layout) (IsWork layout) (work_spelling layout)
 unfolding work_at
 work_spelled layout = as_facts (IsWork layout)
-    (λ w ((view, (number, (mine, tag))), ((echoes, need), (phase, (others, line)))). record {
-      view = view;
-      number = number;
-      mine = mine;
-      tag = tag;
-      echoes = echoes;
-      need = need;
-      phase = phase;
-      others = others;
-      line = line;
-    })
+    (λ w (s, (e, r)). record { view = s.0; number = s.1.0; mine = s.1.1.0; tag = s.1.1.1; echoes = e.0; need = e.1; phase = r.0; others = r.1.0; line = r.1.1 })
     (λ w h. ((h.view, (h.number, (h.mine, h.tag))), ((h.echoes, h.need), (h.phase, (h.others, h.line)))))
-    (as_fields work_with work_fields (λ _. refl) (λ _ _. refl)
-    (both (both view_spelled own_spelled) (both entering_spelled (round_spelled layout))))
+    (as_fields work_with (λ w. ((w.view, (w.number, (w.mine, w.tag))), ((w.echoes, w.need), (w.phase, ((w.share, w.others), w.line)))))
+    (λ _. refl) (λ _ _. refl) (both (both view_spelled own_spelled) (both entering_spelled (round_spelled layout))))
 
 -- ---- tables
 
@@ -294,15 +265,13 @@ module _ {X : Type 0} (row : ℕ → Reading (ℕ × X)) (Body Is : ℕ × X →
 abbrev IsLinkBody : ℕ × Link → Type 0
 IsLinkBody e = (e.0 < 2 ^ 32) × ((e.1.start < 2 ^ 64) × ((e.1.acked < 2 ^ 64) × (e.1.heard < 2 ^ 64)))
 
-abbrev link_fields : ℕ × Link → ℕ × (ℕ × (ℕ × ℕ))
-link_fields e = (e.0, (e.1.start, (e.1.acked, e.1.heard)))
-
 pub link_spelled : (least : ℕ) → Spelled (link_at least) (λ e. IsLinkBody e × (least ≤ e.0)) link_spelling
 unfolding link_at
 link_spelled least = as_facts (λ e. IsLinkBody e × (least ≤ e.0))
     (λ e h. ((h.0.0, h.1), h.0.1))
     (λ e h. ((h.0.0, h.1), h.0.1))
-    (as_fields link_with link_fields (λ _. refl) (λ _ _. refl) (both (from_spelled least) (both u64_spelled (both u64_spelled u64_spelled))))
+    (as_fields link_with (λ e. (e.0, (e.1.start, (e.1.acked, e.1.heard)))) (λ _. refl) (λ _ _. refl)
+    (both (from_spelled least) (both u64_spelled (both u64_spelled u64_spelled))))
 
 pub links_spelled : Spelled (table_at link_at most_rows 1) (IsTableOf IsLink most_rows) (table_spelling link_spelling)
 links_spelled =
@@ -350,25 +319,20 @@ kept_spelled = as_facts IsKeptPosts
 
 -- ---- the third part
 
-abbrev tables_fields : Tables → ℕ × (Links × (Requests × (List Message × FinMap nat_cmp Answer)))
-tables_fields t = (t.posts, (t.links, (t.sessions, (t.kept, t.answers))))
-
 pub tables_spelled : Spelled tables_at IsTables tables_spelling
 unfolding tables_at
 tables_spelled = as_facts IsTables
     (λ t h. record { posts = h.0; links = h.1.0; sessions = h.1.1.0; kept = h.1.1.1.0; answers = h.1.1.1.1 })
     (λ t h. (h.posts, (h.links, (h.sessions, (h.kept, h.answers)))))
-    (as_fields tables_with tables_fields (λ _. refl) (λ _ _. refl)
+    (as_fields tables_with (λ t. (t.posts, (t.links, (t.sessions, (t.kept, t.answers))))) (λ _. refl) (λ _ _. refl)
     (both u64_spelled (both links_spelled (both sessions_spelled (both kept_spelled kept_answers_spelled)))))
 
 -- ---- states
-
-abbrev state_fields : State → Membership × (Work × Tables)
-state_fields s = (s.membership, (s.work, s.tables))
 
 pub state_spelled : (layout : Layout) → Spelled (state_at layout) (IsState layout) (state_spelling layout)
 unfolding state_at
 state_spelled layout = as_facts (IsState layout)
     (λ s h. record { membership = h.0; work = h.1.0; tables = h.1.1 })
     (λ s h. (h.membership, (h.work, h.tables)))
-    (as_fields state_with state_fields (λ _. refl) (λ _ _. refl) (both membership_spelled (both (work_spelled layout) tables_spelled)))
+    (as_fields state_with (λ s. (s.membership, (s.work, s.tables))) (λ _. refl) (λ _ _. refl)
+    (both membership_spelled (both (work_spelled layout) tables_spelled)))

@@ -81,16 +81,11 @@ length-round layout r is = omega (arith, length-asked_beside layout r is, few_ot
 length-work : (layout : Layout) (w : Work) → IsWork layout w → length w.others ≤ 31 → length (work_spelling layout w) ≤ 115569
 length-work layout w is few =
     let round = length-asked_beside layout (w.phase, ((w.share, w.others), w.line)) (is.phase, (is.others, is.line)) in
-    omega (
-      arith,
-      length-append (stored_spelling w.view w.number w.mine w.tag) (entering_spelling w.echoes w.need ++ round_spelling layout w.phase w.share w.others w.line),
-      length-append (view_spelling w.view) (to_be_bytes w64 w.number ++ (value_spelling w.mine ++ to_be_bytes w64 w.tag)),
-      length-append (value_spelling w.mine) (to_be_bytes w64 w.tag),
-      length-view w.view is.view,
-      length-value w.mine is.mine,
-      round,
-      few,
-    )
+    let behind = entering_spelling w.echoes w.need ++ round_spelling layout w.phase w.share w.others w.line in
+    let stored = length-append (stored_spelling w.view w.number w.mine w.tag) behind in
+    let view = length-append (view_spelling w.view) (to_be_bytes w64 w.number ++ (value_spelling w.mine ++ to_be_bytes w64 w.tag)) in
+    let value = length-append (value_spelling w.mine) (to_be_bytes w64 w.tag) in
+    omega (arith, stored, view, value, length-view w.view is.view, length-value w.mine is.mine, round, few)
 
 pub length-link : (e : ℕ × Link) → IsLink e → length (link_spelling e) ≤ 28
 length-link e is = omega arith
@@ -149,3 +144,5 @@ length-node layout bytes n is =
       length-work layout s.work fits.work few,
       length-tables s.tables fits.tables is.lawful.core.link_count (answers_within n is.lawful),
     )
+
+pub ruleset longest = (length-node)

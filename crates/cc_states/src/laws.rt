@@ -31,6 +31,7 @@ pub fn lawful_states_are_of_nodes()
 {}
 
 /// How many bytes the spelling of a node has at most: so its length always fits into four bytes.
+#[tactic(auto, using(crate::proofs::StateLengths::longest))]
 pub fn largest_node()
     ensures { (layout : Layout) (bytes : List ℕ) (n : Node) → SpellsNode layout bytes n → length bytes ≤ 43983515 }
 {}
