@@ -153,10 +153,10 @@ pub fn arm<S: Site>(site: &mut S, side: Side) -> Result<(), DeviceFault>
     ensures other_side { S.honest site.old → S.state site.new (other side) ≡ S.state site.old (other side) }
     ensures value { S.honest site.old → OnOk result (S.state site.new side ≡ settled (written (S.state site.old side) 0 (OPEN ∷ []))) }
     ensures every_moment { S.honest site.old → (next : ℕ) (start : NodeState) (events : List Event) (opening : ℕ)
-      → ArmsFor S.Site side site.old next start events opening
+        → ArmsFor S.Site side site.old next start events opening
         → EachMoment S.Site site.old site.new (IsGoodForAll start events opening) }
     ensures at_rest { S.honest site.old → (next : ℕ) (start : NodeState) (events : List Event) (opening : ℕ)
-      → ArmsFor S.Site side site.old next start events opening
+        → ArmsFor S.Site side site.old next start events opening
         → OnOk result (RestsOn S.Site site.new side next (length (image_of next (after start events))) start events opening) }
     ensures failed { S.honest site.old → OnErr result (MayHaveWritten (S.state site.old side) 0 (OPEN ∷ []) (S.state site.new side)) }
     ensures fault { CountsOneFault (S.failures site.old) (S.failures site.new) side Write Sync result }

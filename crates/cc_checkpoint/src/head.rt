@@ -61,7 +61,7 @@ fn read_node<S: Site>(
 // The layout of the version that stands before the state, where it is known, and how long the state is.
 fn state_size<S: Site>(site: &mut S, side: Side) -> Result<(Layout, u32), OpenFault>
     ensures exact { S.honest site.old → MatchResult result (λ found. HasState (S.state site.old side).bytes
-      × (found.0 ≡ layout_of (slice_index (S.state site.old side).bytes 9)) × (found.1 ≡ size_of (S.state site.old side).bytes))
+        × (found.0 ≡ layout_of (slice_index (S.state site.old side).bytes 9)) × (found.1 ≡ size_of (S.state site.old side).bytes))
         (HeadFails side (S.state site.old side).bytes) }
     ensures reads { OnlyReads S.Site site.old site.new }
     ensures fault { CountsDevice (LooksAt side) (S.failures site.old) (S.failures site.new) result }
@@ -98,7 +98,7 @@ pub fn read_state<S: Site>(
     piece: &mut Piece,
 ) -> Result<(Node, u64), OpenFault>
     ensures exact { S.honest site.old → MatchResult result (λ found. HeadAt (S.state site.old side).bytes found.0 found.1)
-      (HeadFails side (S.state site.old side).bytes) }
+        (HeadFails side (S.state site.old side).bytes) }
     ensures reads { OnlyReads S.Site site.old site.new }
     ensures fault { CountsDevice (LooksAt side) (S.failures site.old) (S.failures site.new) result }
 {

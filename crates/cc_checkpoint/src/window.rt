@@ -49,7 +49,7 @@ pub(crate) fn read_element<S: Site, E: Element>(
 ) -> Result<E::Of, ReadFault>
     requires { LiesOn S.Site site.old unread.old }
     ensures exact { ReadsOff S.Site (E.format element.now).read (at site.old piece.old unread.old) (at site.new piece.new unread.new)
-      (seen_by (E.format element.now).see result) }
+        (seen_by (E.format element.now).see result) }
     ensures holds { IfOk result (E.has element.now) }
 {
     refill(site, piece, unread, element.most())?;

@@ -27,18 +27,19 @@ module _ {X Row : Type 0} (entry : Row → ℕ × X) (item : ℕ → Reading (�
       ap (λ (front : List (ℕ × X)). with_front front (rows_at item (count - (i + 1)) ((entry row).0 + 1) after)) (map_push entry rows row)
       ∙ goes_on item (λ e. e.0) (map entry rows) count i least bytes (entry row) after total lt read so_far
 
-  -- so many rows of a count have come, of which the total is made
-  pub record RowsRead (count : ℕ) (total : Result (List (ℕ × X) × List ℕ) WireFault) (i least : ℕ) (bytes : List ℕ) (rows : List Row) : Type 0 where
-    pub so_far : with_front (map entry rows) (rows_at item (count - i) least bytes) ≡ total
+  -- so many rows of a count have come, of which the total is made where the source is honest
+  pub record RowsRead (honest : Type 0) (count : ℕ) (total : Result (List (ℕ × X) × List ℕ) WireFault) (i least : ℕ) (bytes : List ℕ)
+      (rows : List Row) : Type 0 where
+    pub so_far : honest → with_front (map entry rows) (rows_at item (count - i) least bytes) ≡ total
     pub length : length rows ≡ i
     pub below : AllByRecursion (λ row. (entry row).0 < least) rows
     pub rising : IsRising entry rows
 
-  pub row_read : {count i least : ℕ} {bytes after : List ℕ} {total : Result (List (ℕ × X) × List ℕ) WireFault} {rows : List Row} {row : Row}
-      → i < count → item least bytes ≡ Ok (entry row, after) → least ≤ (entry row).0 → RowsRead count total i least bytes rows
-      → RowsRead count total (i + 1) ((entry row).0 + 1) after (rows ++ row ∷ [])
+  pub row_read : {honest : Type 0} {count i least : ℕ} {bytes after : List ℕ} {total : Result (List (ℕ × X) × List ℕ) WireFault} {rows : List Row} {row : Row}
+      → i < count → (honest → item least bytes ≡ Ok (entry row, after)) → least ≤ (entry row).0 → RowsRead honest count total i least bytes rows
+      → RowsRead honest count total (i + 1) ((entry row).0 + 1) after (rows ++ row ∷ [])
   row_read {count} {i} {least} {bytes} {after} {total} {rows} {row} lt read le is = record {
-    so_far = rows_go_on rows count i least bytes row after total lt read is.so_far;
+    so_far = λ honest. rows_go_on rows count i least bytes row after total lt (read honest) (is.so_far honest);
     length = length_push rows row ∙ ap (λ k. k + 1) is.length;
     below = below_next (λ row. (entry row).0) rows row least is.below le;
     rising = rising-push entry rows row is.rising (still_below (λ row. (entry row).0) rows row least is.below le);

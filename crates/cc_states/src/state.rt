@@ -9,10 +9,10 @@ ghost use Rattle.cc_states.specs.Decoding.{Decodes, Is, SpellsUnlawful};
 ghost use Rattle.cc_states.specs.declared.fault.StateFault.TheVariants as faults;
 
 use crate::fault::StateFault;
+use crate::field_reader::read_all;
 use crate::parts::{part_count, put_part};
 use crate::restoring::restore;
 use crate::spellable::node_is_spellable;
-use crate::state_reader::read_all;
 use cc_node::Node;
 use cc_sides::Layout;
 use cc_views::NoMemory;

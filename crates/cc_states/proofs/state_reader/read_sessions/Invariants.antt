@@ -1,4 +1,4 @@
-use Rattle.std.proofs.Common.{◌≤◌}
+use Rattle.std.specs.Prelude.{◌≤◌, ⊤}
 use Rattle.std.specs.Vec.{vec_capacity}
 use Rattle.cc_sessions.specs.Rows.{entry_of}
 use Rattle.cc_sides.specs.States.{rows_at, session_at}
@@ -7,6 +7,6 @@ use Rattle.cc_states.proofs.state_reader.read_sessions.Given as goal
 
 abbrev pub invariant-loop : goal.invariant-loop
 invariant-loop l = record {
-  read : RowsRead entry_of session_at l.count (rows_at session_at l.count 0 l.fn.reader) l.counter l.least l.reader l.rows.items;
+  read : RowsRead entry_of session_at ⊤ l.count (rows_at session_at l.count 0 l.fn.reader) l.counter l.least l.reader l.rows.items;
   room : l.count ≤ vec_capacity l.rows;
 }
