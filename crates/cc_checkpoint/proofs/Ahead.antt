@@ -3,32 +3,24 @@
 --     bytes_of_both, ahead_bytes        all that is ahead are bytes
 --     read_further                      reading on leaves what is ahead
 --     used, taken                       what is read is so many bytes of the front, and leaves the others
---     runs_none, runs_on                no call;  one after another
 --     runs_as, runs_stop, runs_quietly  what they answer in the end
---     no_memory, no_refill              nothing is told of what is ahead
+--     no_refill                         nothing is told of what is ahead
 --     element, no_element               an element is read in the window as it is read of all that is ahead
---     in_turn, first_stops, then_stops  one thing behind another, and where the first or the second of them is missing
---     made, not_made                    what they make
---     all_of, not_all, none_of          reading all that is ahead
---     few, too_many, uncounted          a count within its limit, and so many
---     misses_along                      rows up to one that is missing
-use Rattle.std.proofs.Common.{◌≡◌, ℕ, suc, ◌+◌, ◌-◌, ◌<◌, ◌≤◌, ◌⊎◌, inl, inr, true, false, ltb, eqb, List, [], ◌++◌, length, take, drop}
+use Rattle.std.proofs.Common.{◌≡◌, ℕ, ◌+◌, ◌-◌, ◌<◌, ◌≤◌, ◌⊎◌, inl, inr, List, [], ◌++◌, length, take, drop}
 use Rattle.std.proofs.Common.{Result, Ok, Err, refl, sym, ap, subst, ◌∙◌, append_assoc, take-add, arith}
 use Rattle.std.specs.Prelude.{slice_index, IsErrAnd}
-use Rattle.std.proofs.lemmas.Bool.{cases_lt, le-ltb, lt-ltb, ne_eqb}
-use Rattle.std.proofs.lemmas.List.{take_at, drop_at, take-append-le, take-append-drop, drop-drop, append-nil, nil_from_length}
-use Rattle.std.proofs.lemmas.List.{length-append, length-take, length-drop, get_or_append_left, get_or-append_right}
+use Rattle.std.proofs.lemmas.Bool.{cases_lt}
+use Rattle.std.proofs.lemmas.List.{take_at, drop_at, take-append-le, take-append-drop, drop-drop, append-nil}
+use Rattle.std.proofs.lemmas.List.{length-append, get_or_append_left, get_or-append_right}
 use Rattle.cc_wire.specs.declared.fault.WireFault.{WireFault}
 use Rattle.cc_wire.specs.declared.fault.WireFault.TheVariants.{Short, BadKind, NotAscending, TooLarge, Trailing, NoMemory, Broken}
-use Rattle.cc_wire.specs.Reading.{◌>>=◌, Fails, Reading, ◌⊗◌, via, limited, items_at, ended, whole}
-use Rattle.cc_wire.proofs.Items.{with_front}
+use Rattle.cc_wire.specs.Reading.{Fails, Reading}
 use Rattle.cc_wire.proofs.Spelled.{IsBytes, IsBytes-take, IsBytes-drop, Spelled}
 use Rattle.cc_site.specs.declared.site.Side.{Side}
 use Rattle.cc_site.specs.declared.site.Site.{Ghosts}
-use Rattle.cc_site.specs.Reads.{reads_none, reads_then}
 use Rattle.cc_checkpoint.specs.declared.read_fault.ReadFault.{ReadFault}
 use Rattle.cc_checkpoint.specs.declared.read_fault.ReadFault.TheVariants as faults
-use Rattle.cc_checkpoint.specs.Windows.{of_wire, IsMissing, Misses, IsOfDevice, AreBytes, CountsRead, FaultRead, At, ahead, LiesOn, Runs, ReadsOff}
+use Rattle.cc_checkpoint.specs.Windows.{of_wire, IsMissing, Misses, IsOfDevice, AreBytes, FaultRead, At, ahead, Runs, ReadsOff}
 
 pub err_is : {T E : Type 0} {e : E} (r : Result T E) → IsErrAnd r (λ y. y ≡ e) → r ≡ Err e
 err_is (Ok x) is = absurd is
@@ -61,12 +53,6 @@ read_further held new bytes now place n end same put within =
 
 -- ---- what is missing
 
-pub misses_then : {A B : Type 0} (fault : ReadFault) (r : Result A WireFault) (f : A → Result B WireFault) → Misses fault r → Misses fault (r >>= f)
-misses_then (faults.Device _) r f missing = tt
-misses_then faults.NoMemory r f missing = tt
-misses_then faults.NoState (Ok x) f missing = absurd missing
-misses_then faults.NoState (Err e) f missing = tt
-
 misses_of_device : {A : Type 0} (fault : ReadFault) (r : Result A WireFault) → IsOfDevice fault → Misses fault r
 misses_of_device (faults.Device _) r is = tt
 misses_of_device faults.NoMemory r is = absurd is
@@ -91,15 +77,6 @@ quiet side before now TooLarge same = same
 quiet side before now Trailing same = same
 quiet side before now NoMemory same = same
 quiet side before now Broken same = same
-
--- rows up to one that is missing
-pub misses_along : {X : Type 0} (item : ℕ → Reading X) (key : X → ℕ) (fault : ReadFault) (front : List X) (count i least : ℕ) (bytes : List ℕ)
-    (total : Result (List X × List ℕ) WireFault)
-    → i < count → Misses fault (item least bytes) → with_front front (items_at item key (count - i) least bytes) ≡ total → Misses fault total
-unfolding items_at
-misses_along item key fault front count i least bytes total lt missing so_far =
-    let k : count - i ≡ suc (count - (i + 1)) = omega arith in
-    subst (λ t. Misses fault t) so_far (rw k (misses_then fault _ _ (misses_then fault (item least bytes) _ missing)))
 
 -- ---- an element in the window
 
@@ -151,20 +128,8 @@ module _ {X : Type 0} {read : Reading X} {Is : X → Type 0} {spelling : X → L
 -- ---- calls that only read
 
 module _ {D : Type 0} (s : Ghosts D) where
-  pub runs_on : {T U : Type 0} {a m c : At D} {t : T} {outcome : Result U ReadFault} → Runs s a m (Ok t) → Runs s m c outcome → Runs s a c outcome
-  runs_on {a} {m} {c} {outcome} first second = record {
-    side = second.side ∙ first.side;
-    lies = second.lies;
-    reads = reads_then s a.site m.site c.site first.reads second.reads;
-    fault = subst (λ n. CountsRead a.unread.side n (s.failures c.site) outcome) first.fault
-        (subst (λ side. CountsRead side (s.failures m.site) (s.failures c.site) outcome) first.side second.fault);
-  }
-
   pub ahead_bytes : (a : At D) → IsBytes a.held → ((place : ℕ) → slice_index (s.state a.site a.unread.side).bytes place < 256) → AreBytes (ahead s a)
   ahead_bytes a held bytes = bytes_of_both a.held _ held (IsBytes-take (a.unread.end - a.unread.place) _ (IsBytes-drop a.unread.place _ bytes))
-
-  pub runs_none : (a : At D) → LiesOn s a.site a.unread → Runs s {T = Unit {0}} a a (Ok tt)
-  runs_none a lies = record { side = refl; lies = lies; reads = reads_none s a.site; fault = refl }
 
   pub runs_as : {T U : Type 0} {a m : At D} {held : List ℕ} {t : T} {u : U} → Runs s a m (Ok t) → Runs s a (record m { held = held }) (Ok u)
   runs_as run = record { side = run.side; lies = run.lies; reads = run.reads; fault = run.fault }
@@ -180,9 +145,6 @@ module _ {D : Type 0} (s : Ghosts D) where
     reads = run.reads;
     fault = quiet a.unread.side (s.failures a.site) (s.failures m.site) e run.fault;
   }
-
-  pub no_memory : {T X : Type 0} {read : Reading X} {a m : At D} {t : T} → Runs s a m (Ok t) → ReadsOff s read a m (Err faults.NoMemory)
-  no_memory {m} run = record { run = runs_quietly {m = m} NoMemory run; exact = λ honest. tt }
 
   -- ---- elements
 
@@ -216,94 +178,3 @@ module _ {D : Type 0} (s : Ghosts D) where
           (misses_of_wire e (read m.held) (read (ahead s m))
           (λ f is. none_ahead spelled most small m.held (behind m) f (fits honest) (reaches most m reach) is) h);
     }
-
-  -- ---- one thing behind another
-
-  pub in_turn : {X Y : Type 0} {p : Reading X} {q : Reading Y} {a m c : At D} {x : X} {y : Y}
-      → ReadsOff s p a m (Ok x) → ReadsOff s q m c (Ok y) → ReadsOff s (p ⊗ q) a c (Ok (x, y))
-  in_turn {c} first second = record {
-    run = runs_as {m = c} (runs_on first.run second.run);
-    exact = λ honest. rw (first.exact honest, second.exact (first.run.reads.keeps_honesty.0 honest)) refl;
-  }
-
-  pub first_stops : {X Y : Type 0} {p : Reading X} (q : Reading Y) {a m : At D} {fault : ReadFault}
-      → ReadsOff s p a m (Err fault) → ReadsOff s (p ⊗ q) a m (Err fault)
-  first_stops q {fault} first = record { run = runs_stop first.run; exact = λ honest. misses_then fault _ _ (first.exact honest) }
-
-  pub then_stops : {X Y : Type 0} {p : Reading X} {q : Reading Y} {a m c : At D} {x : X} {fault : ReadFault}
-      → ReadsOff s p a m (Ok x) → ReadsOff s q m c (Err fault) → ReadsOff s (p ⊗ q) a c (Err fault)
-  then_stops {fault} first second = record {
-    run = runs_stop (runs_on first.run second.run);
-    exact = λ honest. rw (first.exact honest) (misses_then fault _ _ (second.exact (first.run.reads.keeps_honesty.0 honest)));
-  }
-
-  -- what they make
-  pub made : {X Y : Type 0} {p : Reading X} (make : X → Y) {a m : At D} {x : X} → ReadsOff s p a m (Ok x) → ReadsOff s (via make p) a m (Ok (make x))
-  made make {m} reads = record { run = runs_as {m = m} reads.run; exact = λ honest. rw (reads.exact honest) refl }
-
-  pub not_made : {X Y : Type 0} {p : Reading X} (make : X → Y) {a m : At D} {fault : ReadFault}
-      → ReadsOff s p a m (Err fault) → ReadsOff s (via make p) a m (Err fault)
-  not_made make {fault} reads = record { run = runs_stop reads.run; exact = λ honest. misses_then fault _ _ (reads.exact honest) }
-
-  -- ---- all that is ahead
-
-  pub none_ahead_of : (c : At D) → length c.held ≡ 0 → c.unread.end ≤ c.unread.place → ahead s c ≡ []
-  none_ahead_of c empty past =
-      let none : c.unread.end - c.unread.place ≡ 0 = omega (arith, past) in
-      let tail = drop c.unread.place (s.state c.site c.unread.side).bytes in
-      ap (λ (l : List ℕ). l ++ take (c.unread.end - c.unread.place) tail) (nil_from_length c.held empty) ∙ ap (λ (n : ℕ). take n tail) none
-
-  pub some_ahead_of : (c : At D) → s.honest c.site → LiesOn s c.site c.unread
-      → (0 < length c.held) ⊎ (c.unread.place < c.unread.end) → 0 < length (ahead s c)
-  some_ahead_of c honest lies some =
-      let bytes = (s.state c.site c.unread.side).bytes in
-      let tail = drop c.unread.place bytes in
-      let within = lies.within honest in
-      let all = length-append c.held (take (c.unread.end - c.unread.place) tail) in
-      let more = length-take (c.unread.end - c.unread.place) tail in
-      let behind = length-drop c.unread.place bytes in
-      elim some [ inl held ↦ omega (arith, held, all) | inr left ↦ omega (arith, left, all, more, behind, within) ]
-
-  pub all_of : {X : Type 0} {read : Reading X} {a c : At D} {x : X}
-      → ReadsOff s read a c (Ok x) → length c.held ≡ 0 → c.unread.end ≤ c.unread.place → s.honest a.site → whole read (ahead s a) ≡ Ok x
-  unfolding whole ended
-  all_of {c} reads empty past honest = rw (reads.exact honest, none_ahead_of c empty past) refl
-
-  pub not_all : {X : Type 0} {read : Reading X} {a c : At D} {x : X}
-      → ReadsOff s read a c (Ok x) → (0 < length c.held) ⊎ (c.unread.place < c.unread.end) → s.honest a.site → IsMissing (whole read (ahead s a))
-  unfolding whole ended
-  not_all {c} reads some honest =
-      let long = some_ahead_of c (reads.run.reads.keeps_honesty.0 honest) reads.run.lies some in
-      let left : eqb (length (ahead s c)) 0 ≡ false = ne_eqb (length (ahead s c)) 0 (λ e. omega (arith, long, e)) in
-      rw (reads.exact honest, left) tt
-
-  pub none_of : {X : Type 0} {read : Reading X} {a c : At D} {fault : ReadFault}
-      → ReadsOff s read a c (Err fault) → s.honest a.site → Misses fault (whole read (ahead s a))
-  unfolding whole
-  none_of {read} {a} {fault} reads honest = misses_then fault (read (ahead s a)) _ (reads.exact honest)
-
-  -- ---- a count, and so many
-
-  abbrev counted_at : {Y : Type 0} → ℕ → Reading ℕ → (ℕ → Reading Y) → Reading Y
-  counted_at limit count items bytes = limited limit count bytes >>= λ n. items n.0 n.1
-
-  module _ {Y : Type 0} (limit : ℕ) {count : Reading ℕ} (items : ℕ → Reading Y) where
-    pub few : {a m c : At D} {n : ℕ} {outcome : Result Y ReadFault}
-        → ReadsOff s count a m (Ok n) → n ≤ limit → ReadsOff s (items n) m c outcome → ReadsOff s (counted_at limit count items) a c outcome
-    few {n} first le second = record {
-      run = runs_on first.run second.run;
-      exact = λ honest.
-          let within : ltb limit n ≡ false = le-ltb _ _ le in
-          rw (first.exact honest, within) (second.exact (first.run.reads.keeps_honesty.0 honest));
-    }
-
-    pub too_many : {a m : At D} {n : ℕ} → ReadsOff s count a m (Ok n) → limit < n → ReadsOff s (counted_at limit count items) a m (Err faults.NoState)
-    too_many {m} {n} first lt = record {
-      run = runs_quietly {m = m} TooLarge first.run;
-      exact = λ honest.
-          let above : ltb limit n ≡ true = lt-ltb _ _ lt in
-          rw (first.exact honest, above) tt;
-    }
-
-    pub uncounted : {a m : At D} {fault : ReadFault} → ReadsOff s count a m (Err fault) → ReadsOff s (counted_at limit count items) a m (Err fault)
-    uncounted {fault} first = record { run = runs_stop first.run; exact = λ honest. misses_then fault _ _ (misses_then fault _ _ (first.exact honest)) }

@@ -5,5 +5,4 @@ pub mod BehindRuns
 mod PastGate
 pub mod OffRuns
 pub mod Ahead
-pub mod RowReads
 pub mod StateReads

@@ -8,7 +8,12 @@
 --     At, ahead               a site, the bytes that are held, and those of the site that are still to be read;  the bytes of both
 --     LiesOn                  the side has the bytes that are still to be read
 --     Runs, ReadsOff          a call only reads this side;  and it answers what is read from the front of what is ahead
-use Rattle.std.specs.Prelude.{◌≡◌, ℕ, ◌-◌, ◌<◌, ◌≤◌, List, ◌++◌, length, take, drop, slice_index, Result, Ok, Err, MatchResult}
+--     outcome_of              a failure of the source, as an outcome
+--     runs_start, runs_again  no call;  one after another
+use Rattle.std.specs.Prelude.{◌≡◌, ℕ, ◌-◌, ◌<◌, ◌≤◌, List, [], ◌++◌, length, take, drop, slice_index, Result, Ok, Err, MatchResult, Option, Some, None}
+use Rattle.std.proofs.Common.{refl, subst, ◌∙◌}
+use Rattle.cc_site.specs.declared.site.DeviceFault.{DeviceFault}
+use Rattle.cc_site.specs.Reads.{reads_none, reads_then}
 use Rattle.cc_wire.specs.declared.fault.WireFault.{WireFault}
 use Rattle.cc_wire.specs.declared.fault.WireFault.TheVariants as wire
 use Rattle.cc_wire.specs.Reading.{Reading}
@@ -86,3 +91,25 @@ module _ {D : Type 0} (s : Ghosts D) where
   pub record ReadsOff {Y : Type 0} (read : Reading Y) (from to : At D) (outcome : Result Y ReadFault) : Type 0 where
     pub run : Runs from to outcome
     pub exact : s.honest from.site → Finds (λ y. (y, ahead to)) outcome (read (ahead from))
+
+-- ---- a source of bytes
+
+abbrev pub outcome_of : Option DeviceFault → Result (Unit {0}) ReadFault
+outcome_of None = Ok tt
+outcome_of (Some fault) = Err (Device fault)
+
+module _ {D : Type 0} (s : Ghosts D) where
+  abbrev pub Goes : D → Unread → D → Unread → Option DeviceFault → Type 0
+  Goes d u e v failure = Runs s (at d [] u) (at e [] v) (outcome_of failure)
+
+  pub runs_start : (d : D) (u : Unread) → LiesOn s d u → Goes d u d u None
+  runs_start d u lies = record { side = refl; lies = lies; reads = reads_none s d; fault = refl }
+
+  pub runs_again : (d e f : D) (u v w : Unread) (failure : Option DeviceFault) → Goes d u e v None → Goes e v f w failure → Goes d u f w failure
+  runs_again d e f u v w failure first second = record {
+    side = second.side ∙ first.side;
+    lies = second.lies;
+    reads = reads_then s d e f first.reads second.reads;
+    fault = subst (λ n. CountsRead u.side n (s.failures f) (outcome_of failure)) first.fault
+        (subst (λ side. CountsRead side (s.failures e) (s.failures f) (outcome_of failure)) first.side second.fault);
+  }

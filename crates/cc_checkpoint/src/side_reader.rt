@@ -1,18 +1,16 @@
-//! Reading a node's state off a side, element by element, through one buffer.
+//! What is still to be read of a side, as a source of bytes: a state is read off it through one buffer.
 
-ghost use Rattle.std.specs.Prelude.{◌≡◌, ◌⊎◌, ◌<◌, ◌≤◌, length, map, IfOk, MatchBool};
-ghost use Rattle.cc_views.specs.Tables.{IsRising, table_of};
+ghost use Rattle.std.specs.Prelude.{◌≡◌, IfOk};
 ghost use Rattle.cc_wire.specs.Reading.{whole};
-ghost use Rattle.cc_links.specs.Rows as links;
-ghost use Rattle.cc_outbox.specs.Outbox.{post_limit};
-ghost use Rattle.cc_outbox.specs.Rows as answers;
-ghost use Rattle.cc_sides.specs.States.{work_at, rows_at, table_at, link_at, kept_answer_at, posts_at, kept_at, most_rows, tables_at, state_at};
-ghost use Rattle.cc_states.specs.Fields.{work_in, tables_in, state_in, AreRead};
-ghost use Rattle.cc_checkpoint.specs.Windows.{Finds, LiesOn, ReadsOff, Runs, ahead, at, seen_by};
+ghost use Rattle.cc_sides.specs.States.{state_at};
+ghost use Rattle.cc_states.specs.Fields.{state_in, AreRead};
+ghost use Rattle.cc_states.specs.Sources.{failure_of};
+ghost use Rattle.cc_states.specs.Sources as sources;
+ghost use Rattle.cc_checkpoint.specs.Windows.{Finds, Goes, LiesOn, Runs, ahead, at, runs_start, runs_again};
 
 use crate::elements::{
-    CountAt, EnteringAt, KeptAnswerAt, LinkAt, MembershipAt, MessageAt, NumberAt, OwnAt, RoundAt,
-    SessionsAt, ViewAt,
+    CountAt, Element, EnteringAt, KeptAnswerAt, LinkAt, MembershipAt, MessageAt, NumberAt, OwnAt,
+    RoundAt, SessionsAt, ViewAt,
 };
 use crate::piece::Piece;
 use crate::read_fault::ReadFault;
@@ -20,34 +18,47 @@ use crate::unread::Unread;
 use crate::window::read_element;
 use cc_links::LinkRow;
 use cc_messages::Message;
-use cc_outbox::{KeptAnswer, Outbox};
+use cc_outbox::KeptAnswer;
+use cc_sessions::SessionRow;
 use cc_sides::Layout;
-use cc_site::Site;
-use cc_states::{Entering, Fields, Own, Tables, Work};
+use cc_site::{DeviceFault, Site};
+use cc_states::{Entering, Fields, Membership, Own, Round, Source, SourceFault, read_whole};
+use cc_views::View;
+use cc_wire::WireFault;
 use std::alloc::Global;
 
-fn read_links<S: Site>(
+// Reads an element. Which fault of the wire it is isn't told.
+fn take<S: Site, E: Element>(
     alloc: Global,
-    site: &mut S,
+    device: &mut S,
     piece: &mut Piece,
     unread: &mut Unread,
+<<<<<<< HEAD
     count: u16,
 ) -> Result<Vec<LinkRow>, ReadFault>
     requires { LiesOn S.Site site.old unread.old }
     ensures exact { ReadsOff S.Site (rows_at link_at count 1) (at site.old piece.old unread.old) (at site.new piece.new unread.new)
         (seen_by (λ rows. map links.entry_of rows.items) result) }
     ensures rising { IfOk result (λ rows. IsRising links.entry_of rows.items) }
+=======
+    element: &E,
+) -> Result<E::Of, SourceFault<DeviceFault>>
+    requires { LiesOn S.Site device.old unread.old }
+    ensures exact { S.honest device.old → sources.Finds ⊥ (λ x. ((E.format element.now).see x, ahead S.Site (at device.new piece.new unread.new))) result
+        ((E.format element.now).read (ahead S.Site (at device.old piece.old unread.old))) }
+    ensures holds { IfOk result (E.has element.now) }
+    ensures run { Goes S.Site device.old unread.old device.new unread.new (failure_of result) }
+>>>>>>> 49ac0d26649842e5b3b73d4c9408ac3edbbd0f92
 {
-    let mut rows = Vec::new(alloc);
-    let mut least = 1;
-    for _ in 0..count {
-        let row = read_element(alloc, site, piece, unread, &LinkAt { least })?;
-        least = u64::from(row.peer.number()) + 1;
-        rows.push(row)?;
+    match read_element(alloc, device, piece, unread, element) {
+        Ok(found) => Ok(found),
+        Err(ReadFault::Device(fault)) => Err(SourceFault::Failed(fault)),
+        Err(ReadFault::NoMemory) => Err(SourceFault::Wire(WireFault::NoMemory)),
+        Err(ReadFault::NoState) => Err(SourceFault::Wire(WireFault::Broken)),
     }
-    Ok(rows)
 }
 
+<<<<<<< HEAD
 fn read_posts<S: Site>(
     alloc: Global,
     site: &mut S,
@@ -64,10 +75,31 @@ fn read_posts<S: Site>(
     for _ in 0..count {
         let post = read_element(alloc, site, piece, unread, &MessageAt)?;
         posts.push(post)?;
-    }
-    Ok(posts)
-}
+=======
+impl<S: Site> Source<S, Piece> for Unread {
+    type Failure = DeviceFault;
 
+    ghost ahead = { λ device piece unread. ahead S.Site (at device piece unread) };
+
+    ghost honest = { S.honest };
+
+    ghost told = { ⊥ };
+
+    ghost lies = { LiesOn S.Site };
+
+    ghost runs = { Goes S.Site };
+
+    fn number(
+        &mut self,
+        alloc: Global,
+        device: &mut S,
+        piece: &mut Piece,
+    ) -> Result<u64, SourceFault<DeviceFault>> {
+        take(alloc, device, piece, self, &NumberAt)
+>>>>>>> 49ac0d26649842e5b3b73d4c9408ac3edbbd0f92
+    }
+
+<<<<<<< HEAD
 fn read_kept_answers<S: Site>(
     alloc: Global,
     site: &mut S,
@@ -86,10 +118,18 @@ fn read_kept_answers<S: Site>(
         let kept = read_element(alloc, site, piece, unread, &KeptAnswerAt { least })?;
         least = u128::from(kept.session) + 1;
         rows.push(kept)?;
+=======
+    fn count(
+        &mut self,
+        alloc: Global,
+        device: &mut S,
+        piece: &mut Piece,
+    ) -> Result<u16, SourceFault<DeviceFault>> {
+        take(alloc, device, piece, self, &CountAt)
+>>>>>>> 49ac0d26649842e5b3b73d4c9408ac3edbbd0f92
     }
-    Ok(rows)
-}
 
+<<<<<<< HEAD
 fn read_link_table<S: Site>(
     alloc: Global,
     site: &mut S,
@@ -118,10 +158,18 @@ fn read_kept<S: Site>(
     let count = read_element(alloc, site, piece, unread, &CountAt)?;
     if usize::from(count) > Outbox::MAX_POSTS {
         return Err(ReadFault::NoState);
+=======
+    fn membership(
+        &mut self,
+        alloc: Global,
+        device: &mut S,
+        piece: &mut Piece,
+    ) -> Result<Membership, SourceFault<DeviceFault>> {
+        take(alloc, device, piece, self, &MembershipAt)
+>>>>>>> 49ac0d26649842e5b3b73d4c9408ac3edbbd0f92
     }
-    read_posts(alloc, site, piece, unread, count)
-}
 
+<<<<<<< HEAD
 fn read_answer_table<S: Site>(
     alloc: Global,
     site: &mut S,
@@ -136,82 +184,94 @@ fn read_answer_table<S: Site>(
     let count = read_element(alloc, site, piece, unread, &CountAt)?;
     read_kept_answers(alloc, site, piece, unread, count)
 }
+=======
+    fn view(
+        &mut self,
+        alloc: Global,
+        device: &mut S,
+        piece: &mut Piece,
+    ) -> Result<View, SourceFault<DeviceFault>> {
+        take(alloc, device, piece, self, &ViewAt)
+    }
+>>>>>>> 49ac0d26649842e5b3b73d4c9408ac3edbbd0f92
 
-fn read_work<S: Site>(
-    alloc: Global,
-    site: &mut S,
-    piece: &mut Piece,
-    unread: &mut Unread,
-    layout: Layout,
-) -> Result<Work, ReadFault>
-    requires { LiesOn S.Site site.old unread.old }
-    ensures { ReadsOff S.Site (work_at layout) (at site.old piece.old unread.old) (at site.new piece.new unread.new) (seen_by work_in result) }
-{
-    let view = read_element(alloc, site, piece, unread, &ViewAt)?;
-    let Own { number, mine, tag } = read_element(alloc, site, piece, unread, &OwnAt)?;
-    let Entering { echoes, need } = read_element(alloc, site, piece, unread, &EnteringAt)?;
-    let round = read_element(alloc, site, piece, unread, &RoundAt { layout })?;
-    Ok(Work {
-        view,
-        number,
-        mine,
-        tag,
-        echoes,
-        need,
-        round,
-    })
-}
+    fn own(
+        &mut self,
+        alloc: Global,
+        device: &mut S,
+        piece: &mut Piece,
+    ) -> Result<Own, SourceFault<DeviceFault>> {
+        take(alloc, device, piece, self, &OwnAt)
+    }
 
-fn read_tables<S: Site>(
-    alloc: Global,
-    site: &mut S,
-    piece: &mut Piece,
-    unread: &mut Unread,
-) -> Result<Tables, ReadFault>
-    requires { LiesOn S.Site site.old unread.old }
-    ensures exact { ReadsOff S.Site tables_at (at site.old piece.old unread.old) (at site.new piece.new unread.new) (seen_by tables_in result) }
-    ensures read { IfOk result AreRead }
-{
-    let posts = read_element(alloc, site, piece, unread, &NumberAt)?;
-    let links = read_link_table(alloc, site, piece, unread)?;
-    let sessions = read_element(alloc, site, piece, unread, &SessionsAt)?;
-    let kept = read_kept(alloc, site, piece, unread)?;
-    let answers = read_answer_table(alloc, site, piece, unread)?;
-    Ok(Tables {
-        posts,
-        links,
-        sessions,
-        kept,
-        answers,
-    })
-}
+    fn entering(
+        &mut self,
+        alloc: Global,
+        device: &mut S,
+        piece: &mut Piece,
+    ) -> Result<Entering, SourceFault<DeviceFault>> {
+        take(alloc, device, piece, self, &EnteringAt)
+    }
 
-fn read_fields<S: Site>(
-    alloc: Global,
-    site: &mut S,
-    piece: &mut Piece,
-    unread: &mut Unread,
-    layout: Layout,
-) -> Result<Fields, ReadFault>
-    requires { LiesOn S.Site site.old unread.old }
-    ensures exact { ReadsOff S.Site (state_at layout) (at site.old piece.old unread.old) (at site.new piece.new unread.new) (seen_by state_in result) }
-    ensures read { IfOk result (λ x. AreRead x.tables) }
-{
-    let membership = read_element(alloc, site, piece, unread, &MembershipAt)?;
-    let work = read_work(alloc, site, piece, unread, layout)?;
-    let tables = read_tables(alloc, site, piece, unread)?;
-    Ok(Fields {
-        membership,
-        work,
-        tables,
-    })
-}
+    fn round(
+        &mut self,
+        alloc: Global,
+        device: &mut S,
+        piece: &mut Piece,
+        layout: Layout,
+    ) -> Result<Round, SourceFault<DeviceFault>> {
+        take(alloc, device, piece, self, &RoundAt { layout })
+    }
 
-// Whether nothing is ahead.
-fn is_all_read(piece: &Piece, unread: &Unread) -> bool
-    ensures { MatchBool result ((length piece.now ≡ 0) × (unread.now.end ≤ unread.now.place)) ((0 < length piece.now) ⊎ (unread.now.place < unread.now.end)) }
-{
-    piece.len() == 0 && unread.place == unread.end
+    fn link(
+        &mut self,
+        alloc: Global,
+        device: &mut S,
+        piece: &mut Piece,
+        least: u64,
+    ) -> Result<LinkRow, SourceFault<DeviceFault>> {
+        take(alloc, device, piece, self, &LinkAt { least })
+    }
+
+    fn sessions(
+        &mut self,
+        alloc: Global,
+        device: &mut S,
+        piece: &mut Piece,
+    ) -> Result<Vec<SessionRow>, SourceFault<DeviceFault>> {
+        take(alloc, device, piece, self, &SessionsAt)
+    }
+
+    fn message(
+        &mut self,
+        alloc: Global,
+        device: &mut S,
+        piece: &mut Piece,
+    ) -> Result<Message, SourceFault<DeviceFault>> {
+        take(alloc, device, piece, self, &MessageAt)
+    }
+
+    fn kept_answer(
+        &mut self,
+        alloc: Global,
+        device: &mut S,
+        piece: &mut Piece,
+        least: u128,
+    ) -> Result<KeptAnswer, SourceFault<DeviceFault>> {
+        take(alloc, device, piece, self, &KeptAnswerAt { least })
+    }
+
+    fn is_ended(&self, _device: &S, piece: &Piece) -> bool {
+        piece.len() == 0 && self.place == self.end
+    }
+
+    ghost starts = { λ d u lies. runs_start _ d u lies };
+
+    ghost lies_on = { λ _ _ _ _ run. run.lies };
+
+    ghost honest_on = { λ _ _ _ _ run honest. run.reads.keeps_honesty.0 honest };
+
+    ghost goes_on = { λ d e f u v w failure first second. runs_again _ d e f u v w failure first second };
 }
 
 /// The fields of the state that lies ahead, all of it.
@@ -227,9 +287,9 @@ pub(crate) fn read_off<S: Site>(
     ensures read { IfOk result (λ x. AreRead x.tables) }
     ensures run { Runs S.Site (at site.old piece.old unread.old) (at site.new piece.new unread.new) result }
 {
-    let fields = read_fields(alloc, site, piece, unread, layout)?;
-    if !is_all_read(piece, unread) {
-        return Err(ReadFault::NoState);
+    match read_whole(alloc, site, piece, unread, layout) {
+        Ok(fields) => Ok(fields),
+        Err(SourceFault::Failed(fault)) => Err(ReadFault::Device(fault)),
+        Err(SourceFault::Wire(fault)) => Err(ReadFault::from(fault)),
     }
-    Ok(fields)
 }

@@ -8,3 +8,4 @@ pub mod Decoded
 pub mod StateLengths
 pub mod PartLaws
 mod Written
+pub mod SourceLaws

@@ -20,7 +20,11 @@ use Rattle.cc_ops.specs.Ops.{Phase, Idle, Storing, Querying, StoringBack}
 use Rattle.cc_node.specs.Node.{Node}
 use Rattle.cc_sides.specs.declared.layout.Layout.{Layout}
 use Rattle.cc_sides.specs.declared.layout.Layout.TheVariants.{Plain, Lined, Shared}
-use Rattle.cc_sides.specs.States.{Membership, Work, Tables, membership_spelling, IsMembership, counts_spelling, pending_spelling, IsPending, phase_spelling, IsPhase, ask_spelling, IsAsk, asks_spelling, AreAsks, line_spelling, IsLineOf, others_spelling, AreOthersOf, round_spelling, stored_spelling, entering_spelling, work_spelling, IsWork, table_spelling, IsTableOf, link_spelling, IsLink, session_spelling, IsSession, kept_answer_spelling, IsKeptAnswer, kept_spelling, IsKeptPosts, tables_spelling, IsTables, SpellsNode, state_of}
+use Rattle.cc_sides.specs.States.{Membership, Work, Tables, membership_spelling, IsMembership, counts_spelling, pending_spelling, IsPending}
+use Rattle.cc_sides.specs.States.{phase_spelling, IsPhase, ask_spelling, IsAsk, asks_spelling, AreAsks, line_spelling, IsLineOf, others_spelling, AreOthersOf}
+use Rattle.cc_sides.specs.States.{round_spelling, stored_spelling, entering_spelling, work_spelling, IsWork, table_spelling, IsTableOf}
+use Rattle.cc_sides.specs.States.{link_spelling, IsLink, session_spelling, IsSession}
+use Rattle.cc_sides.specs.States.{kept_answer_spelling, IsKeptAnswer, kept_spelling, IsKeptPosts, tables_spelling, IsTables, SpellsNode, state_of}
 use Rattle.cc_states.proofs.LawfulFields.{answers_within}
 
 pub length-membership : (m : Membership) → IsMembership m → length (membership_spelling m) ≤ 3098
@@ -28,7 +32,8 @@ length-membership m is = omega (arith, length-changes m.changes is.changes)
 
 length-pending : (p : Pending) → IsPending p → length (pending_spelling p) ≤ 86
 length-pending p is =
-    omega (arith, length-append (asked_spelling p.asked.session p.asked.request p.asked.command) (counts_spelling p.need p.count), length-asked p.asked.session p.asked.request p.asked.command is.asked)
+    let asked = length-append (asked_spelling p.asked.session p.asked.request p.asked.command) (counts_spelling p.need p.count) in
+    omega (arith, asked, length-asked p.asked.session p.asked.request p.asked.command is.asked)
 
 -- with a view that is stored back it is the longest
 pub length-phase : (phase : Phase) → IsPhase phase → length (phase_spelling phase) ≤ 55129
@@ -49,7 +54,8 @@ length-line Lined line is = omega (arith, length-asks line is, is.fits)
 length-line Shared line is = omega (arith, length-asks line is, is.fits)
 
 -- the share, and the others of the pending round
-length-others : (layout : Layout) (share : ℕ) (others : List Asked) → AreOthersOf layout share others → length (others_spelling layout share others) ≤ 2 + 82 * length others
+length-others : (layout : Layout) (share : ℕ) (others : List Asked) → AreOthersOf layout share others
+    → length (others_spelling layout share others) ≤ 2 + 82 * length others
 length-others Plain share others are = omega arith
 length-others Lined share others are = omega arith
 length-others Shared share others are = omega (arith, length-asks others are.1)
@@ -62,33 +68,24 @@ few_others Shared share others are = are.1.fits
 abbrev pub AreRound : Layout → Phase × ((ℕ × List Asked) × List Asked) → Type 0
 AreRound layout r = IsPhase r.0 × (AreOthersOf layout r.1.0.0 r.1.0.1 × IsLineOf layout r.1.1)
 
-length-asked_beside : (layout : Layout) (r : Phase × ((ℕ × List Asked) × List Asked)) → AreRound layout r → length (round_spelling layout r.0 r.1.0.0 r.1.0.1 r.1.1) ≤ 57756 + 82 * length r.1.0.1
-length-asked_beside layout r is =
-    omega (
-      arith,
-      length-append (phase_spelling r.0) (others_spelling layout r.1.0.0 r.1.0.1 ++ line_spelling layout r.1.1),
-      length-append (others_spelling layout r.1.0.0 r.1.0.1) (line_spelling layout r.1.1),
-      length-phase r.0 is.0,
-      length-others layout r.1.0.0 r.1.0.1 is.1.0,
-      length-line layout r.1.1 is.1.1,
-    )
+length-asked_beside : (layout : Layout) (r : Phase × ((ℕ × List Asked) × List Asked)) → AreRound layout r
+    → length (round_spelling layout r.0 r.1.0.0 r.1.0.1 r.1.1) ≤ 57756 + 82 * length r.1.0.1
+length-asked_beside layout (phase, ((share, others), line)) is =
+    omega (arith, length-append {A = ℕ}, length-phase phase is.0, length-others layout share others is.1.0, length-line layout line is.1.1)
 
-pub length-round : (layout : Layout) (r : Phase × ((ℕ × List Asked) × List Asked)) → AreRound layout r → length (round_spelling layout r.0 r.1.0.0 r.1.0.1 r.1.1) ≤ 60380
+pub length-round : (layout : Layout) (r : Phase × ((ℕ × List Asked) × List Asked)) → AreRound layout r
+    → length (round_spelling layout r.0 r.1.0.0 r.1.0.1 r.1.1) ≤ 60380
 length-round layout r is = omega (arith, length-asked_beside layout r is, few_others layout r.1.0.0 r.1.0.1 is.1.0)
 
 -- a lawful node has fewer others than its share
 length-work : (layout : Layout) (w : Work) → IsWork layout w → length w.others ≤ 31 → length (work_spelling layout w) ≤ 115569
 length-work layout w is few =
-    omega (
-      arith,
-      length-append (stored_spelling w.view w.number w.mine w.tag) (entering_spelling w.echoes w.need ++ round_spelling layout w.phase w.share w.others w.line),
-      length-append (view_spelling w.view) (to_be_bytes w64 w.number ++ (value_spelling w.mine ++ to_be_bytes w64 w.tag)),
-      length-append (value_spelling w.mine) (to_be_bytes w64 w.tag),
-      length-view w.view is.view,
-      length-value w.mine is.mine,
-      length-asked_beside layout (w.phase, ((w.share, w.others), w.line)) (is.phase, (is.others, is.line)),
-      few,
-    )
+    let round = length-asked_beside layout (w.phase, ((w.share, w.others), w.line)) (is.phase, (is.others, is.line)) in
+    let behind = entering_spelling w.echoes w.need ++ round_spelling layout w.phase w.share w.others w.line in
+    let stored = length-append (stored_spelling w.view w.number w.mine w.tag) behind in
+    let view = length-append (view_spelling w.view) (to_be_bytes w64 w.number ++ (value_spelling w.mine ++ to_be_bytes w64 w.tag)) in
+    let value = length-append (value_spelling w.mine) (to_be_bytes w64 w.tag) in
+    omega (arith, stored, view, value, length-view w.view is.view, length-value w.mine is.mine, round, few)
 
 pub length-link : (e : ℕ × Link) → IsLink e → length (link_spelling e) ≤ 28
 length-link e is = omega arith
@@ -100,12 +97,13 @@ pub length-kept_answer : (e : ℕ × Answer) → IsKeptAnswer e → length (kept
 length-kept_answer e is = omega (arith, length-answer e.1 is.answer)
 
 -- the own value under its number, and the tag
-pub length-own : (own : ℕ × (Value × ℕ)) → (own.0 < 2 ^ 64) × (IsValue own.1.0 × (own.1.1 < 2 ^ 64)) → length (to_be_bytes w64 own.0 ++ (value_spelling own.1.0 ++ to_be_bytes w64 own.1.1)) ≤ 219
+pub length-own : (own : ℕ × (Value × ℕ)) → (own.0 < 2 ^ 64) × (IsValue own.1.0 × (own.1.1 < 2 ^ 64))
+    → length (to_be_bytes w64 own.0 ++ (value_spelling own.1.0 ++ to_be_bytes w64 own.1.1)) ≤ 219
 length-own own is = omega (arith, length-append (value_spelling own.1.0) (to_be_bytes w64 own.1.1), length-value own.1.0 is.1.0)
 
 -- a count and the rows
-length-table : {X : Type 0} (Is : ℕ × X → Type 0) (f : ℕ × X → List ℕ) (most : ℕ) → ((e : ℕ × X) → Is e → length (f e) ≤ most) → (m : FinMap nat_cmp X) → AllByRecursion Is (table.entries m)
-    → length (table_spelling f m) ≤ 2 + most * table.len m
+length-table : {X : Type 0} (Is : ℕ × X → Type 0) (f : ℕ × X → List ℕ) (most : ℕ) → ((e : ℕ × X) → Is e → length (f e) ≤ most)
+    → (m : FinMap nat_cmp X) → AllByRecursion Is (table.entries m) → length (table_spelling f m) ≤ 2 + most * table.len m
 length-table Is f most each m all = omega (arith, length-pieces Is f most each (table.entries m) all, ap (λ (n : ℕ). most * n) (table.len-entries m))
 
 length-kept : (posts : List Message) → IsKeptPosts posts → length (kept_spelling posts) ≤ 29760514
@@ -113,10 +111,11 @@ length-kept posts is = omega (arith, length-pieces IsMessage message_spelling 58
 
 length-tables : (t : Tables) → IsTables t → table.len t.links ≤ 256 → table.len t.answers ≤ 256 → length (tables_spelling t) ≤ 43864848
 length-tables t is links answers =
+    let kept = kept_spelling t.kept ++ table_spelling kept_answer_spelling t.answers in
     omega (
       arith,
-      length-append (table_spelling link_spelling t.links) (table_spelling session_spelling t.sessions ++ (kept_spelling t.kept ++ table_spelling kept_answer_spelling t.answers)),
-      length-append (table_spelling session_spelling t.sessions) (kept_spelling t.kept ++ table_spelling kept_answer_spelling t.answers),
+      length-append (table_spelling link_spelling t.links) (table_spelling session_spelling t.sessions ++ kept),
+      length-append (table_spelling session_spelling t.sessions) kept,
       length-append (kept_spelling t.kept) (table_spelling kept_answer_spelling t.answers),
       length-table IsLink link_spelling 28 length-link t.links is.links.rows,
       length-table IsSession session_spelling 16 length-session t.sessions is.sessions.rows,
@@ -145,3 +144,5 @@ length-node layout bytes n is =
       length-work layout s.work fits.work few,
       length-tables s.tables fits.tables is.lawful.core.link_count (answers_within n is.lawful),
     )
+
+pub ruleset longest = (length-node)

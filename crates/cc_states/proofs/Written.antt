@@ -1,5 +1,5 @@
 -- What a node has is written in the layout of its share, and read in no other that is written.
-use Rattle.std.proofs.Common.{◌≡◌, ◌⊎◌, inl, inr, sym, ap, ℕ, ◌<◌, ◌≤◌, Bool, true, false, eqb, List, [], length, refl, arith}
+use Rattle.std.proofs.Common.{◌≡◌, ◌⊎◌, inl, inr, sym, ap, ℕ, ◌<◌, ◌≤◌, Bool, true, false, eqb, List, length, refl, arith}
 use Rattle.std.proofs.lemmas.Bool.{eqb-true, eqb-false, ne_eqb}
 use Rattle.std.proofs.lemmas.List.{nil_from_length}
 use Rattle.std.specs.Prelude.{if◌then◌else◌}
@@ -18,14 +18,13 @@ line_written share line are = in_either (eqb share 1)
     in_either true = are
     in_either false = are
 
-pub others_written : (share : ℕ) (others : List Asked) → 1 ≤ share → share ≤ share_limit → length others < share → AreAsks others → AreOthersOf (layout_for share) share others
+pub others_written : (share : ℕ) (others : List Asked) → 1 ≤ share → share ≤ share_limit → length others < share → AreAsks others
+    → AreOthersOf (layout_for share) share others
 others_written share others some most few are = in_either (eqb share 1) refl
   where
     in_either : (b : Bool) → eqb share 1 ≡ b → AreOthersOf (if b then Lined else Shared) share others
     in_either true e = let one = eqb-true share 1 e in (one, nil_from_length others (omega (arith, few, one)))
-    in_either false e =
-        let apart = eqb-false share 1 e in
-        (record { several = omega (arith, some, apart); most = most }, are)
+    in_either false e = (record { several = omega (arith, some, eqb-false share 1 e); most = most }, are)
 
 pub one_layout : (layout : Layout) (bytes : List ℕ) (n : Node) → SpellsNode layout bytes n → (layout ≡ Plain) ⊎ (layout ≡ layout_of_node n)
 one_layout Plain bytes n is = inl refl

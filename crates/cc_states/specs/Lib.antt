@@ -1,3 +1,4 @@
 pub mod Fields
 pub mod Decoding
 pub mod Parts
+pub mod Sources

@@ -13,7 +13,8 @@ use Rattle.cc_outbox.specs.Outbox.{Outbox}
 use Rattle.cc_node.specs.Core.{Core}
 use Rattle.cc_node.specs.Node.{Node}
 use Rattle.cc_sides.specs.Layouts.{layout_for}
-use Rattle.cc_sides.specs.States.{membership_spelling, membership_of, stored_spelling, entering_spelling, round_spelling, table_spelling, link_spelling, session_spelling, kept_answer_spelling}
+use Rattle.cc_sides.specs.States.{membership_spelling, membership_of, stored_spelling, entering_spelling, round_spelling}
+use Rattle.cc_sides.specs.States.{table_spelling, link_spelling, session_spelling, kept_answer_spelling}
 
 -- what is stored, and how far the own entering has come
 abbrev pub own_spelling : Core → List ℕ
@@ -21,7 +22,8 @@ own_spelling c = stored_spelling c.ops.view c.ops.number c.ops.mine c.ops.tag ++
 
 -- how many posts there were, the links, the sessions, and how many posts are kept
 abbrev pub front_spelling : Core → ℕ → List ℕ
-front_spelling c kept = to_be_bytes w64 c.posts ++ (table_spelling link_spelling c.links ++ (table_spelling session_spelling c.sessions ++ to_be_bytes w16 kept))
+front_spelling c kept =
+    to_be_bytes w64 c.posts ++ (table_spelling link_spelling c.links ++ (table_spelling session_spelling c.sessions ++ to_be_bytes w16 kept))
 
 -- the pending round, and the asks that wait behind it
 abbrev pub operations_spelling : Ops → List ℕ
@@ -31,7 +33,9 @@ unfoldable pub kept_parts : Outbox → List (List ℕ)
 kept_parts o = map message_spelling (table.values o.posts) ++ to_be_bytes w16 (table.len o.answers) ∷ map kept_answer_spelling (table.entries o.answers)
 
 unfoldable pub parts_of : Node → List (List ℕ)
-parts_of n = membership_spelling (membership_of n.core) ∷ own_spelling n.core ∷ operations_spelling n.core.ops ∷ front_spelling n.core (length (table.values n.outbox.posts)) ∷ kept_parts n.outbox
+parts_of n =
+    membership_spelling (membership_of n.core) ∷ own_spelling n.core ∷ operations_spelling n.core.ops
+    ∷ front_spelling n.core (length (table.values n.outbox.posts)) ∷ kept_parts n.outbox
 
 -- these parts one after the other
 abbrev pub joined : List (List ℕ) → List ℕ

@@ -20,6 +20,7 @@ pub fn one_spelling_of_nodes()
 {}
 
 /// But for version 1, in which some nodes with a share of 1 are read, a node is spelled in the layout of its share alone.
+#[tactic(auto, using(crate::proofs::Written::one_layout))]
 pub fn each_node_has_one_layout()
     ensures { (layout : Layout) (bytes : List ℕ) (n : Node) → SpellsNode layout bytes n → (layout ≡ layouts.Plain) ⊎ (layout ≡ layout_of_node n) }
 {}
@@ -30,6 +31,7 @@ pub fn lawful_states_are_of_nodes()
 {}
 
 /// How many bytes the spelling of a node has at most: so its length always fits into four bytes.
+#[tactic(auto, using(crate::proofs::StateLengths::longest))]
 pub fn largest_node()
     ensures { (layout : Layout) (bytes : List ℕ) (n : Node) → SpellsNode layout bytes n → length bytes ≤ 43983515 }
 {}

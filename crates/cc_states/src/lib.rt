@@ -3,16 +3,20 @@
 #![tactic(auto)]
 
 mod fault;
+mod field_reader;
 mod fields;
 mod laws;
 mod parts;
 mod restoring;
+mod source;
+mod source_fault;
 mod spellable;
 mod state;
 mod state_reader;
 mod state_writer;
 
 pub use fault::StateFault;
+pub use field_reader::read_whole;
 pub use fields::{Entering, Fields, Membership, Own, Round, Tables, Work};
 pub use laws::{
     each_node_has_one_layout, largest_node, lawful_states_are_of_nodes, one_spelling_of_nodes,
@@ -23,6 +27,8 @@ pub use parts::{
     part_count, part_len, pending_len, put_part,
 };
 pub use restoring::restore;
+pub use source::Source;
+pub use source_fault::SourceFault;
 pub use spellable::node_is_spellable;
 pub use state::{decode_state, encode_state};
 pub use state_reader::{

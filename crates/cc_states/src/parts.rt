@@ -5,7 +5,8 @@ ghost use Rattle.std.specs.List.{flat_map};
 ghost use Rattle.cc_ops.specs.Waiting.{line_limit};
 ghost use Rattle.std.specs.FinMap as table;
 ghost use Rattle.cc_wire.specs.Writing.{Writes};
-ghost use Rattle.cc_sides.specs.States.{membership_spelling, membership_of, pending_spelling, phase_spelling, ask_spelling, asks_spelling, line_spelling, others_spelling};
+ghost use Rattle.cc_sides.specs.States.{membership_spelling, membership_of, pending_spelling, phase_spelling, ask_spelling, asks_spelling};
+ghost use Rattle.cc_sides.specs.States.{line_spelling, others_spelling};
 ghost use Rattle.cc_states.specs.Parts.{own_spelling, operations_spelling, front_spelling, kept_parts, parts_of};
 
 use crate::state_writer::{

@@ -155,7 +155,16 @@ fn ops_of(alloc: Global, work: Work) -> Result<Ops, NoMemory>
     requires most { work.round.share ≤ share_limit }
     requires beside { length work.round.others < work.round.share }
     requires room { HasRoom work.round.line work.mine }
-    ensures { IfOk result (λ o. o ≡ record { view = work.view; number = work.number; mine = work.mine; tag = work.tag; share = work.round.share; phase = (round_in work.round).0; others = work.round.others; line = work.round.line }) }
+    ensures { IfOk result (λ o. o ≡ record {
+      view = work.view;
+      number = work.number;
+      mine = work.mine;
+      tag = work.tag;
+      share = work.round.share;
+      phase = (round_in work.round).0;
+      others = work.round.others;
+      line = work.round.line;
+    }) }
 {
     let Work {
         view,
@@ -191,7 +200,11 @@ fn tables_of(alloc: Global, tables: Tables) -> Result<NodeTables, NoMemory>
     requires numbers { length tables.kept.items ≤ tables.posts }
     ensures links { IfOk result (λ t. t.links ≡ table_of links.entry_of tables.links.items) }
     ensures sessions { IfOk result (λ t. t.sessions ≡ table_of sessions.entry_of tables.sessions.items) }
-    ensures outbox { IfOk result (λ t. t.outbox ≡ record { last = tables.posts; posts = numbered_to tables.posts tables.kept.items; answers = table_of kept_rows.entry_of tables.answers.items }) }
+    ensures outbox { IfOk result (λ t. t.outbox ≡ record {
+      last = tables.posts;
+      posts = numbered_to tables.posts tables.kept.items;
+      answers = table_of kept_rows.entry_of tables.answers.items;
+    }) }
 {
     let Tables {
         posts,

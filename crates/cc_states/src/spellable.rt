@@ -10,7 +10,9 @@ ghost use Rattle.cc_links.specs.Rows as links;
 ghost use Rattle.cc_sessions.specs.Rows as sessions;
 ghost use Rattle.cc_outbox.specs.Rows as answers;
 ghost use Rattle.cc_sides.specs.Layouts.{layout_for};
-ghost use Rattle.cc_sides.specs.States.{IsFraction, IsMembership, membership_of, IsPending, IsPhase, IsAsk, AreAsks, IsLineOf, AreOthersOf, IsWork, work_of, IsTableOf, IsLink, IsSession, IsKeptAnswer, IsKeptPosts, IsState, state_of, SpellsNode, layout_of_node, node_spelling};
+ghost use Rattle.cc_sides.specs.States.{IsFraction, IsMembership, membership_of, IsPending, IsPhase, IsAsk, AreAsks, IsLineOf, AreOthersOf, IsWork};
+ghost use Rattle.cc_sides.specs.States.{work_of, IsTableOf, IsLink, IsSession, IsKeptAnswer, IsKeptPosts, IsState, state_of, SpellsNode};
+ghost use Rattle.cc_sides.specs.States.{layout_of_node, node_spelling};
 
 use crate::parts::kept_post;
 use cc_changes::Fraction;
@@ -72,6 +74,7 @@ fn ask_is_spellable(asked: &Asked)
     command_is_spellable(&asked.command);
 }
 
+#[tactic(auto, using(cc_wire::proofs::Writes::all_more))]
 fn asks_are_spellable(asks: &[Asked])
     ensures { AllByRecursion IsAsk asks.now }
 {
@@ -86,12 +89,14 @@ fn ask_list_is_spellable(list: &AskList)
     asks_are_spellable(list.asks());
 }
 
+#[tactic(auto, using(crate::proofs::Written::line_written))]
 fn line_is_spellable(ops: &Ops)
     ensures { IsLineOf (layout_for ops.now.share) ops.now.line }
 {
     ask_list_is_spellable(ops.line());
 }
 
+#[tactic(auto, using(crate::proofs::Written::others_written))]
 fn others_are_spellable(ops: &Ops)
     ensures { AreOthersOf (layout_for ops.now.share) ops.now.share ops.now.others }
 {
@@ -123,6 +128,7 @@ fn link_is_spellable(row: &LinkRow)
     number_fits(row.heard);
 }
 
+#[tactic(auto, using(cc_wire::proofs::Writes::all_more))]
 fn link_rows_are_spellable(rows: &[LinkRow])
     ensures { AllByRecursion (λ row. IsLink (links.entry_of row)) rows.now }
 {
@@ -144,6 +150,7 @@ fn session_is_spellable(row: &SessionRow)
     number_fits(row.last);
 }
 
+#[tactic(auto, using(cc_wire::proofs::Writes::all_more, std::proofs::lemmas::List::get_or_default))]
 fn session_rows_are_spellable(rows: &[SessionRow])
     ensures { AllByRecursion (λ row. IsSession (sessions.entry_of row)) rows.now }
 {
@@ -173,6 +180,7 @@ fn kept_answer_is_spellable(kept: &KeptAnswer)
     answer_is_spellable(&kept.answer);
 }
 
+#[tactic(auto, using(cc_wire::proofs::Writes::all_more))]
 fn answer_rows_are_spellable(rows: &[KeptAnswer])
     ensures { AllByRecursion (λ kept. IsKeptAnswer (answers.entry_of kept)) rows.now }
 {

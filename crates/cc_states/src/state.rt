@@ -9,10 +9,10 @@ ghost use Rattle.cc_states.specs.Decoding.{Decodes, Is, SpellsUnlawful};
 ghost use Rattle.cc_states.specs.declared.fault.StateFault.TheVariants as faults;
 
 use crate::fault::StateFault;
+use crate::field_reader::read_all;
 use crate::parts::{part_count, put_part};
 use crate::restoring::restore;
 use crate::spellable::node_is_spellable;
-use crate::state_reader::read_all;
 use cc_node::Node;
 use cc_sides::Layout;
 use cc_views::NoMemory;
@@ -54,6 +54,7 @@ fn decode_all(alloc: Global, bytes: &[u8], layout: Layout) -> Result<Node, State
 
 /// The node whose state the bytes spell, all of the bytes. A fault of the wire is that of the first field, from left to
 /// right, that can't be read; Unlawful comes where all can be read, and no node can be in that state.
+#[tactic(auto, using(crate::proofs::Decoded::node_is_told, crate::proofs::Decoded::unlawful_is_told))]
 pub fn decode_state(alloc: Global, bytes: &[u8], layout: Layout) -> Result<Node, StateFault>
     // What each answer tells of the bytes.
     ensures answer { Decodes layout bytes.now result }

@@ -10,7 +10,9 @@ ghost use Rattle.cc_links.specs.Rows as links;
 ghost use Rattle.cc_sessions.specs.Rows as sessions;
 ghost use Rattle.cc_outbox.specs.Outbox.{post_limit};
 ghost use Rattle.cc_outbox.specs.Rows as answers;
-ghost use Rattle.cc_sides.specs.States.{fraction_at, membership_at, pending_at, phase_at, ask_at, asks_at, ask_list_at, line_at, share_at, others_at, round_at, entering_at, work_at, rows_at, row_list_at, table_at, link_at, session_from, session_at, kept_answer_at, posts_at, kept_at, most_rows, tables_at, state_at};
+ghost use Rattle.cc_sides.specs.States.{fraction_at, membership_at, pending_at, phase_at, ask_at, asks_at, ask_list_at, line_at, share_at, others_at};
+ghost use Rattle.cc_sides.specs.States.{round_at, entering_at, work_at, rows_at, row_list_at, table_at, link_at, session_from, session_at};
+ghost use Rattle.cc_sides.specs.States.{kept_answer_at, posts_at, kept_at, most_rows, tables_at, state_at};
 ghost use Rattle.cc_states.specs.Fields.{membership_in, own_at, own_in, entering_in, round_in, work_in, tables_in, state_in, AreRead};
 
 use crate::fields::{Entering, Fields, Membership, Own, Round, Tables, Work};
@@ -227,25 +229,6 @@ pub fn read_entering(reader: &mut Reader<'_>) -> Result<Entering, WireFault>
     Ok(Entering { echoes, need })
 }
 
-#[tactic(auto, unfolding(cc_sides::specs::States::work_at))]
-fn read_work(alloc: Global, reader: &mut Reader<'_>, layout: Layout) -> Result<Work, WireFault>
-    ensures { Gives (λ x. (work_in x, reader.new)) result (work_at layout reader.old) }
-{
-    let view = reader.view(alloc)?;
-    let Own { number, mine, tag } = read_own(reader)?;
-    let Entering { echoes, need } = read_entering(reader)?;
-    let round = read_round(alloc, reader, layout)?;
-    Ok(Work {
-        view,
-        number,
-        mine,
-        tag,
-        echoes,
-        need,
-        round,
-    })
-}
-
 /// A link, whose peer isn't below the least.
 #[tactic(auto, unfolding(cc_sides::specs::States::link_at))]
 pub fn read_link(reader: &mut Reader<'_>, least: u64) -> Result<LinkRow, WireFault>
@@ -302,20 +285,6 @@ pub fn read_kept_answer(
     Ok(KeptAnswer { session, answer })
 }
 
-fn read_links(alloc: Global, reader: &mut Reader<'_>, count: u16) -> Result<Vec<LinkRow>, WireFault>
-    ensures exact { Gives (λ rows. (map links.entry_of rows.items, reader.new)) result (rows_at link_at count 1 reader.old) }
-    ensures rising { IfOk result (λ rows. IsRising links.entry_of rows.items) }
-{
-    let mut rows = Vec::with_capacity(alloc, usize::from(count))?;
-    let mut least = 1;
-    for _ in 0..count {
-        let row = read_link(reader, least)?;
-        least = u64::from(row.peer.number()) + 1;
-        rows.push(row).unwrap();
-    }
-    Ok(rows)
-}
-
 fn read_sessions(
     alloc: Global,
     reader: &mut Reader<'_>,
@@ -335,45 +304,6 @@ fn read_sessions(
     Ok(rows)
 }
 
-fn read_kept_answers(
-    alloc: Global,
-    reader: &mut Reader<'_>,
-    count: u16,
-) -> Result<Vec<KeptAnswer>, WireFault>
-    ensures exact { Gives (λ rows. (map answers.entry_of rows.items, reader.new)) result (rows_at kept_answer_at count 0 reader.old) }
-    ensures rising { IfOk result (λ rows. IsRising answers.entry_of rows.items) }
-{
-    let mut rows = Vec::with_capacity(alloc, usize::from(count))?;
-    let mut least = 0;
-    for _ in 0..count {
-        let kept = read_kept_answer(alloc, reader, least)?;
-        least = u128::from(kept.session) + 1;
-        rows.push(kept).unwrap();
-    }
-    Ok(rows)
-}
-
-fn read_posts(alloc: Global, reader: &mut Reader<'_>, count: u16) -> Result<Vec<Message>, WireFault>
-    ensures exact { Gives (λ posts. (posts.items, reader.new)) result (posts_at count reader.old) }
-    ensures length { IfOk result (λ posts. length posts.items ≡ count) }
-{
-    let mut posts = Vec::with_capacity(alloc, usize::from(count))?;
-    for _ in 0..count {
-        let post = reader.message(alloc)?;
-        posts.push(post).unwrap();
-    }
-    Ok(posts)
-}
-
-#[tactic(auto, unfolding(cc_sides::specs::States::row_list_at))]
-fn read_link_table(alloc: Global, reader: &mut Reader<'_>) -> Result<Vec<LinkRow>, WireFault>
-    ensures exact { Gives (λ rows. (table_of links.entry_of rows.items, reader.new)) result (table_at link_at most_rows 1 reader.old) }
-    ensures rising { IfOk result (λ rows. IsRising links.entry_of rows.items) }
-{
-    let count = reader.u16()?;
-    read_links(alloc, reader, count)
-}
-
 /// The sessions, each with its last request.
 #[tactic(auto, unfolding(cc_sides::specs::States::row_list_at))]
 pub fn read_session_table(
@@ -389,71 +319,4 @@ pub fn read_session_table(
         return Err(WireFault::TooLarge);
     }
     read_sessions(alloc, reader, count)
-}
-
-#[tactic(auto, unfolding(cc_sides::specs::States::row_list_at))]
-fn read_answer_table(alloc: Global, reader: &mut Reader<'_>) -> Result<Vec<KeptAnswer>, WireFault>
-    ensures exact { Gives (λ rows. (table_of answers.entry_of rows.items, reader.new)) result (table_at kept_answer_at most_rows 0 reader.old) }
-    ensures rising { IfOk result (λ rows. IsRising answers.entry_of rows.items) }
-{
-    let count = reader.u16()?;
-    read_kept_answers(alloc, reader, count)
-}
-
-#[tactic(auto, unfolding(cc_sides::specs::States::kept_at))]
-fn read_kept(alloc: Global, reader: &mut Reader<'_>) -> Result<Vec<Message>, WireFault>
-    ensures exact { Gives (λ posts. (posts.items, reader.new)) result (kept_at reader.old) }
-    ensures few { IfOk result (λ posts. length posts.items ≤ post_limit) }
-{
-    let count = reader.u16()?;
-    if usize::from(count) > Outbox::MAX_POSTS {
-        return Err(WireFault::TooLarge);
-    }
-    read_posts(alloc, reader, count)
-}
-
-#[tactic(auto, unfolding(cc_sides::specs::States::tables_at))]
-fn read_tables(alloc: Global, reader: &mut Reader<'_>) -> Result<Tables, WireFault>
-    ensures exact { Gives (λ x. (tables_in x, reader.new)) result (tables_at reader.old) }
-    ensures read { IfOk result AreRead }
-{
-    let posts = reader.u64()?;
-    let links = read_link_table(alloc, reader)?;
-    let sessions = read_session_table(alloc, reader)?;
-    let kept = read_kept(alloc, reader)?;
-    let answers = read_answer_table(alloc, reader)?;
-    Ok(Tables {
-        posts,
-        links,
-        sessions,
-        kept,
-        answers,
-    })
-}
-
-#[tactic(auto, unfolding(cc_sides::specs::States::state_at))]
-fn read_fields(alloc: Global, reader: &mut Reader<'_>, layout: Layout) -> Result<Fields, WireFault>
-    ensures exact { Gives (λ x. (state_in x, reader.new)) result (state_at layout reader.old) }
-    ensures read { IfOk result (λ x. AreRead x.tables) }
-{
-    let membership = read_membership(alloc, reader)?;
-    let work = read_work(alloc, reader, layout)?;
-    let tables = read_tables(alloc, reader)?;
-    Ok(Fields {
-        membership,
-        work,
-        tables,
-    })
-}
-
-/// The fields that the bytes spell, all of the bytes.
-#[tactic(auto, unfolding(cc_wire::specs::Reading::whole))]
-pub(crate) fn read_all(alloc: Global, bytes: &[u8], layout: Layout) -> Result<Fields, WireFault>
-    ensures exact { Gives state_in result (whole (state_at layout) bytes.now) }
-    ensures read { IfOk result (λ x. AreRead x.tables) }
-{
-    let mut reader = Reader::new(bytes);
-    let fields = read_fields(alloc, &mut reader, layout)?;
-    reader.end()?;
-    Ok(fields)
 }

@@ -6,7 +6,8 @@ ghost use Rattle.cc_wire.specs.Writing.{Writes};
 ghost use Rattle.cc_links.specs.Rows as links;
 ghost use Rattle.cc_sessions.specs.Rows as sessions;
 ghost use Rattle.cc_outbox.specs.Rows as answers;
-ghost use Rattle.cc_sides.specs.States.{fraction_spelling, membership_spelling, membership_of, counts_spelling, pending_spelling, phase_spelling, ask_spelling, asks_spelling, line_spelling, others_spelling, stored_spelling, entering_spelling};
+ghost use Rattle.cc_sides.specs.States.{fraction_spelling, membership_spelling, membership_of, counts_spelling, pending_spelling, phase_spelling};
+ghost use Rattle.cc_sides.specs.States.{ask_spelling, asks_spelling, line_spelling, others_spelling, stored_spelling, entering_spelling};
 ghost use Rattle.cc_states.specs.Parts.{operations_spelling};
 ghost use Rattle.cc_sides.specs.States.{table_spelling, link_spelling, session_spelling, kept_answer_spelling};
 
@@ -218,6 +219,7 @@ fn put_links(out: &mut Vec<u8>, rows: &[LinkRow]) -> Result<(), AllocError>
     Ok(())
 }
 
+#[tactic(auto, using(cc_wire::proofs::Writes::each_more, std::proofs::lemmas::List::get_or_default))]
 fn put_sessions(out: &mut Vec<u8>, rows: &[SessionRow]) -> Result<(), AllocError>
     ensures { Writes out.old out.new (flat_map (λ row. session_spelling (sessions.entry_of row)) rows.now) result }
 {

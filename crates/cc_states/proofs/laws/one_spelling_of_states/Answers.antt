@@ -1,9 +1,5 @@
-use Rattle.std.proofs.Common.{sym, ◌∙◌}
 use Rattle.cc_states.proofs.NodeStates.{one_spelling_of_state}
 use Rattle.cc_states.proofs.laws.one_spelling_of_states.Goals as goal
 
 pub returns-clause-one : goal.returns-clause-one
 returns-clause-one c = one_spelling_of_state
-
-pub returns-clause-same : goal.returns-clause-same
-returns-clause-same c = λ layout a b x p q. p.spelled ∙ sym q.spelled

@@ -5,4 +5,4 @@ use Rattle.cc_states.proofs.TableWrites.{table_fits}
 use Rattle.cc_states.proofs.spellable.links_are_spellable.Goals as goal
 
 pub returns : goal.returns
-returns c = table_fits entry_of row_of (λ _. refl) IsLink 256 _ _ c.rows.ensures.rows c.rows.ensures.fits c.link_rows_are_spellable.ensures
+returns c = table_fits entry_of row_of refl IsLink 256 _ _ c.rows.ensures.rows c.rows.ensures.fits c.link_rows_are_spellable.ensures

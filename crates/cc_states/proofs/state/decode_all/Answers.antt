@@ -1,10 +1,10 @@
-use Rattle.std.proofs.Common.{subst, sym, arith}
-use Rattle.cc_states.specs.Decoding.{Decodes}
+use Rattle.std.proofs.Common.{arith}
 use Rattle.cc_states.specs.Fields.{state_in}
 use Rattle.cc_states.proofs.Decoded.{decodes}
 use Rattle.cc_states.proofs.state.decode_all.Goals as goal
 
 pub returns : goal.returns
 returns c =
-    subst (Decodes c.args.layout c.args.bytes.now) (sym c.ok_or.ensures.value)
-    (decodes c.args.layout c.args.bytes.now (state_in c.in_ok-fields.fields) c.in_ok-node.node (λ i. omega (arith, c.type_inv.bytes i)) c.in_ok-fields.ensures.exact c.in_ok-node.ensures.lawful c.in_ok-node.ensures.node)
+    rw c.ok_or.ensures.value
+    (decodes c.args.layout c.args.bytes.now (state_in c.in_ok-fields.fields) c.in_ok-node.node (λ i. omega (arith, c.type_inv.bytes i))
+    c.in_ok-fields.ensures.exact c.in_ok-node.ensures.lawful c.in_ok-node.ensures.node)

@@ -5,4 +5,4 @@ use Rattle.cc_states.proofs.TableWrites.{table_writes}
 use Rattle.cc_states.proofs.state_writer.put_link_table.Goals as goal
 
 pub returns : goal.returns
-returns c = table_writes entry_of row_of (λ _. refl) link_spelling _ _ _ _ _ _ c.rows-rows.ensures.rows c.in_ok-put_u16.ensures c.put_links.ensures
+returns c = table_writes entry_of row_of refl link_spelling _ _ _ _ _ _ c.rows-rows.ensures.rows c.in_ok-put_u16.ensures c.put_links.ensures

@@ -10,4 +10,5 @@ returns-in_err-put_link c =
     rw p.1 (each_stops (λ row. link_spelling (entry_of row)) _ _ _ _ _ _ _ _ c.loop-row-test.true c.row-item.is c.loop-row.invariant c.in_err-put_link.ensures)
 
 pub loop-row-preserved : goal.loop-row-preserved
-loop-row-preserved c = each_more (λ row. link_spelling (entry_of row)) _ _ _ _ _ _ c.loop-row-test.true c.row-item.is c.loop-row.invariant c.in_ok-put_link.ensures
+loop-row-preserved c =
+    each_more (λ row. link_spelling (entry_of row)) _ _ _ _ _ _ c.loop-row-test.true c.row-item.is c.loop-row.invariant c.in_ok-put_link.ensures

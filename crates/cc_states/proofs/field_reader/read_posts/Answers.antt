@@ -1,0 +1,28 @@
+use Rattle.std.proofs.Common.{rules, ◌+◌, ◌∙◌, ap}
+use Rattle.std.proofs.lemmas.List.{length_push}
+use Rattle.cc_wire.specs.Messages.{message_at}
+use Rattle.cc_wire.proofs.Items.{is_done}
+use Rattle.cc_states.proofs.TableReads.{err_is, posts_go_on}
+use Rattle.cc_states.proofs.SourceLaws.{misses_along}
+use Rattle.cc_states.proofs.field_reader.read_posts.Goals as goal
+
+pub loop-init : goal.loop-init
+loop-init g c = record { run = g.met.S.Source.starts _ _ c.requires; so_far = λ _. search rules; length = search rules }
+
+pub returns-in_err-post-clause-exact : goal.returns-in_err-post-clause-exact
+returns-in_err-post-clause-exact g c =
+    rw (err_is c.from_residual.result c.from_residual.ensures.1) (λ honest.
+    misses_along g.S.Source.told (λ _. message_at) (λ _. 0) _ _ _ _ 0 _ _ c.loop-test.true
+    (c.in_err-post.ensures.exact (g.met.S.Source.honest_on _ _ _ _ c.loop.invariant.run honest)) (c.loop.invariant.so_far honest))
+
+pub loop-preserved : goal.loop-preserved
+loop-preserved g c =
+    let read = λ (honest : g.S.Source.honest c.args.device.now). c.in_ok-post.ensures.exact (g.met.S.Source.honest_on _ _ _ _ c.loop.invariant.run honest) in
+    rw c.in_ok-push.ensures.items (record {
+      run = g.met.S.Source.goes_on _ _ _ _ _ _ _ c.loop.invariant.run c.in_ok-post.ensures.run;
+      so_far = λ honest. posts_go_on _ _ _ _ _ _ _ c.loop-test.true (read honest) (c.loop.invariant.so_far honest);
+      length = length_push _ _ ∙ ap (λ k. k + 1) c.loop.invariant.length;
+    })
+
+pub returns-clause-exact : goal.returns-clause-exact
+returns-clause-exact g c = λ honest. is_done (λ _. message_at) (λ _. 0) _ _ _ 0 _ _ c.loop-test.false (c.loop.invariant.so_far honest)

@@ -1,0 +1,53 @@
+use Rattle.cc_sides.specs.States.{tables_at}
+use Rattle.cc_states.proofs.TableReads.{err_is}
+use Rattle.cc_states.proofs.SourceLaws.{misses_then}
+use Rattle.cc_states.proofs.field_reader.read_tables.Goals as goal
+use Rattle.std.proofs.Common.{refl}
+
+pub returns-in_err-links-clause-exact : goal.returns-in_err-links-clause-exact
+unfolding tables_at
+returns-in_err-links-clause-exact g c = rw (err_is c.from_residual-in_err-links.result c.from_residual-in_err-links.ensures.1) (λ honest.
+    let h1 = g.met.S.Source.honest_on _ _ _ _ c.in_ok-posts.ensures.run honest in
+    rw (c.in_ok-posts.ensures.exact honest) (misses_then _ _ _ _ (misses_then _ _ _ _ (misses_then _ _ _ _ (c.in_err-links.ensures.exact h1)))))
+
+pub returns-in_err-sessions-clause-exact : goal.returns-in_err-sessions-clause-exact
+unfolding tables_at
+returns-in_err-sessions-clause-exact g c = rw (err_is c.from_residual-in_err-sessions.result c.from_residual-in_err-sessions.ensures.1) (λ honest.
+    let h1 = g.met.S.Source.honest_on _ _ _ _ c.in_ok-posts.ensures.run honest in
+    let h2 = g.met.S.Source.honest_on _ _ _ _ c.in_ok-links.ensures.run h1 in
+    rw (c.in_ok-posts.ensures.exact honest, c.in_ok-links.ensures.exact h1)
+    (misses_then _ _ _ _ (misses_then _ _ _ _ (misses_then _ _ _ _ (misses_then _ _ _ _ (c.in_err-sessions.ensures.exact h2))))))
+
+pub returns-in_err-kept-clause-exact : goal.returns-in_err-kept-clause-exact
+unfolding tables_at
+returns-in_err-kept-clause-exact g c = rw (err_is c.from_residual-in_err-kept.result c.from_residual-in_err-kept.ensures.1) (λ honest.
+    let h1 = g.met.S.Source.honest_on _ _ _ _ c.in_ok-posts.ensures.run honest in
+    let h2 = g.met.S.Source.honest_on _ _ _ _ c.in_ok-links.ensures.run h1 in
+    let h3 = g.met.S.Source.honest_on _ _ _ _ c.in_ok-sessions.ensures.run h2 in
+    rw (c.in_ok-posts.ensures.exact honest, c.in_ok-links.ensures.exact h1, c.in_ok-sessions.ensures.exact h2)
+    (misses_then _ _ _ _ (misses_then _ _ _ _ (misses_then _ _ _ _ (misses_then _ _ _ _ (misses_then _ _ _ _ (c.in_err-kept.ensures.exact h3)))))))
+
+pub returns-in_err-answers-clause-exact : goal.returns-in_err-answers-clause-exact
+unfolding tables_at
+returns-in_err-answers-clause-exact g c = rw (err_is c.from_residual-in_err-answers.result c.from_residual-in_err-answers.ensures.1) (λ honest.
+    let h1 = g.met.S.Source.honest_on _ _ _ _ c.in_ok-posts.ensures.run honest in
+    let h2 = g.met.S.Source.honest_on _ _ _ _ c.in_ok-links.ensures.run h1 in
+    let h3 = g.met.S.Source.honest_on _ _ _ _ c.in_ok-sessions.ensures.run h2 in
+    let h4 = g.met.S.Source.honest_on _ _ _ _ c.in_ok-kept.ensures.run h3 in
+    rw (c.in_ok-posts.ensures.exact honest, c.in_ok-links.ensures.exact h1, c.in_ok-sessions.ensures.exact h2, c.in_ok-kept.ensures.exact h3)
+    (misses_then _ _ _ _ (misses_then _ _ _ _ (misses_then _ _ _ _ (misses_then _ _ _ _ (misses_then _ _ _ _ (c.in_err-answers.ensures.exact h4)))))))
+
+pub returns-clause-exact : goal.returns-clause-exact
+unfolding tables_at
+returns-clause-exact g c = λ honest.
+    let h1 = g.met.S.Source.honest_on _ _ _ _ c.in_ok-posts.ensures.run honest in
+    let h2 = g.met.S.Source.honest_on _ _ _ _ c.in_ok-links.ensures.run h1 in
+    let h3 = g.met.S.Source.honest_on _ _ _ _ c.in_ok-sessions.ensures.run h2 in
+    let h4 = g.met.S.Source.honest_on _ _ _ _ c.in_ok-kept.ensures.run h3 in
+    rw (
+      c.in_ok-posts.ensures.exact honest,
+      c.in_ok-links.ensures.exact h1,
+      c.in_ok-sessions.ensures.exact h2,
+      c.in_ok-kept.ensures.exact h3,
+      c.in_ok-answers.ensures.exact h4,
+    ) refl

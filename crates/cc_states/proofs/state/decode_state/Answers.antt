@@ -1,8 +1,0 @@
-use Rattle.cc_states.proofs.Decoded.{node_is_told, unlawful_is_told}
-use Rattle.cc_states.proofs.state.decode_state.Goals as goal
-
-pub returns-clause-only : goal.returns-clause-only
-returns-clause-only c = node_is_told c.args.layout c.args.bytes.now c.decode_all.result c.decode_all.ensures
-
-pub returns-clause-unlawful : goal.returns-clause-unlawful
-returns-clause-unlawful c = unlawful_is_told c.args.layout c.args.bytes.now c.decode_all.result c.decode_all.ensures
