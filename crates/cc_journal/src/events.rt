@@ -78,7 +78,8 @@ fn read_events(alloc: Global, bytes: &[u8]) -> Result<Option<Vec<Event>>, NoMemo
 
 // Takes in the events, one after the other, up to the first that is refused. Whether none was.
 fn settle_all(alloc: Global, node: &mut Node, events: Vec<Event>) -> Result<bool, NoMemory>
-    ensures { IfOk result (λ all. MatchBool all (IsLawful node.old events.items × (node.new ≡ after node.old events.items)) (IsLawful node.old events.items → ⊥)) }
+    ensures { IfOk result (λ all. MatchBool all (IsLawful node.old events.items × (node.new ≡ after node.old events.items))
+        (IsLawful node.old events.items → ⊥)) }
 {
     for event in events {
         match node.core().made_or_refused(alloc, &event) {

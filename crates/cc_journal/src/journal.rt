@@ -1,6 +1,7 @@
 //! A record is written behind a closed gate and made sure of; then the gate is opened, and made sure of.
 
-ghost use Rattle.std.specs.Prelude.{max, ◌≡◌, ◌↔◌, ◌≤◌, ◌<◌, ◌+◌, ◌^◌, ◌++◌, ◌∷◌, [], length, List, ℕ, OnOk, OnErr, IfOk, IfErr, MatchResult, slice_index_or, ◌⊎◌};
+ghost use Rattle.std.specs.Prelude.{max, ◌≡◌, ◌↔◌, ◌≤◌, ◌<◌, ◌+◌, ◌^◌, ◌++◌, ◌∷◌, [], length, List, ℕ, OnOk, OnErr, IfOk, IfErr, MatchResult};
+ghost use Rattle.std.specs.Prelude.{slice_index_or, ◌⊎◌};
 ghost use Rattle.std.specs.Vec.{vec_capacity};
 ghost use Rattle.cc_messages.specs.declared.event.Event.{Event};
 ghost use Rattle.cc_wire.specs.Events.{IsEvent};
@@ -162,14 +163,19 @@ impl Journal {
         ensures honest { S.honest site.old ↔ S.honest site.new }
         ensures tells { (S.tells site.old ↔ S.tells site.new) × (S.sent site.new ≡ S.sent site.old) }
         ensures other_side { S.honest site.old → S.state site.new (other self.old.side) ≡ S.state site.old (other self.old.side) }
-        ensures holds { S.honest site.old → OnOk result (S.state site.new self.old.side ≡ with_record (S.state site.old self.old.side) self.old.place batch.now) }
-        ensures failed { S.honest site.old → OnErr result (HalfWritten (S.state site.old self.old.side) (self.old.place + 1) (length (batch_bytes batch.now)) (S.state site.new self.old.side) ⊎ (S.state site.new self.old.side ≡ S.state site.old self.old.side)) }
-        ensures every_moment { S.honest site.old → (generation : ℕ) → KeepsGood S.Site (RestsNow S.Site site.old self.old generation) (events_in batch.now) site.old site.new }
+        ensures holds { S.honest site.old → OnOk result (S.state site.new self.old.side ≡ with_record (S.state site.old self.old.side) self.old.place
+            batch.now) }
+        ensures failed { S.honest site.old → OnErr result (HalfWritten (S.state site.old self.old.side)
+            (self.old.place + 1) (length (batch_bytes batch.now)) (S.state site.new self.old.side)
+            ⊎ (S.state site.new self.old.side ≡ S.state site.old self.old.side)) }
+        ensures every_moment { S.honest site.old → (generation : ℕ) → KeepsGood S.Site (RestsNow S.Site site.old self.old generation)
+            (events_in batch.now) site.old site.new }
         ensures at_rest { S.honest site.old → (generation : ℕ) (start : NodeValue) (events : List Event) (opening : ℕ)
             → RestsNow S.Site site.old self.old generation start events opening → RestsNow S.Site site.new self.old generation start events opening }
         ensures within { S.honest site.old → OnOk result (self.old.place + 1 ≤ length (S.state site.new self.old.side).bytes) }
         ensures behind { S.honest site.old → OnOk result (StandsBehind (S.state site.new self.old.side).bytes self.old.place (batch_bytes batch.now)) }
-        ensures length { S.honest site.old → OnOk result (length (S.state site.new self.old.side).bytes ≡ max (length (S.state site.old self.old.side).bytes) (self.old.place + 1 + length (batch_bytes batch.now))) }
+        ensures length { S.honest site.old → OnOk result (length (S.state site.new self.old.side).bytes
+            ≡ max (length (S.state site.old self.old.side).bytes) (self.old.place + 1 + length (batch_bytes batch.now))) }
         ensures device { IfErr result (λ forfeit. forfeit.fault ≡ record { side = self.old.side; call = Write }) }
         ensures fault { MatchResult result (λ _. S.failures site.new ≡ S.failures site.old) (λ forfeit. Rose (S.failures site.old) (S.failures site.new)) }
     {
@@ -198,7 +204,8 @@ impl Journal {
         ensures every_moment { S.honest site.old → StandsBehind (S.state site.old self.old.side).bytes self.old.place (batch_bytes flight)
             → (generation : ℕ) → KeepsGood S.Site (RestsFor S.Site (events_in flight) site.old self.old generation) (events_in flight) site.old site.new }
         ensures at_rest { S.honest site.old → StandsBehind (S.state site.old self.old.side).bytes self.old.place (batch_bytes flight)
-            → (generation : ℕ) (start : NodeValue) (events : List Event) (opening : ℕ) → RestsFor S.Site (events_in flight) site.old self.old generation start events opening
+            → (generation : ℕ) (start : NodeValue) (events : List Event) (opening : ℕ) → RestsFor S.Site (events_in flight) site.old self.old generation
+            start events opening
             → OnOk result (RestsNow S.Site site.new self.new generation start (events ++ events_in flight) opening) }
         ensures length { S.honest site.old → OnOk result (length (S.state site.new self.old.side).bytes ≡ length (S.state site.old self.old.side).bytes) }
         ensures short { OnOk result (length (batch_bytes flight) ≤ record_room) }

@@ -74,7 +74,8 @@ struct Taken {
 // Whether the gate at a place is open.
 fn gate_is_open<S: Site>(site: &mut S, side: Side, place: u64) -> Result<bool, DeviceFault>
     requires { S.honest site.old → place < length (S.state site.old side).bytes }
-    ensures value { S.honest site.old → IfOk result (λ is_open. MatchBool is_open (BeginsOpen (drop place (S.state site.old side).bytes)) (BeginsClosed (drop place (S.state site.old side).bytes))) }
+    ensures value { S.honest site.old → IfOk result (λ is_open. MatchBool is_open (BeginsOpen (drop place (S.state site.old side).bytes))
+        (BeginsClosed (drop place (S.state site.old side).bytes))) }
     ensures reads { OnlyReads S.Site site.old site.new }
     ensures fault { CountsFault (S.failures site.old) (S.failures site.new) side Read result }
 {
@@ -128,7 +129,8 @@ fn read_record<S: Site>(
 ) -> Result<Taken, ScanFault>
     requires within { place ≤ len }
     requires len { S.honest site.old → len ≡ length (S.state site.old side).bytes }
-    ensures found { S.honest site.old → IfOk result (λ taken. RecordLeads (drop place (S.state site.old side).bytes) node.old node.new taken.size taken.events) }
+    ensures found { S.honest site.old → IfOk result (λ taken. RecordLeads (drop place (S.state site.old side).bytes) node.old node.new taken.size
+        taken.events) }
     ensures damaged { S.honest site.old → IfErr result (IfDamaged (λ p. (p ≡ place) × NoRecord (drop place (S.state site.old side).bytes) node.old)) }
     ensures within { IfOk result (λ taken. place + taken.size ≤ len) }
     ensures few { IfOk result (λ taken. taken.events ≤ taken.size) }
@@ -161,7 +163,8 @@ fn scan_into<S: Site>(
     place: u64,
     node: &mut Node,
 ) -> Result<Ended, ScanFault>
-    ensures scanned { S.honest site.old → IfOk result (λ e. IsScanned (S.state site.old side).bytes side place node.old (record { journal = e.journal; node = node.new; records = e.records; events = e.events })) }
+    ensures scanned { S.honest site.old → IfOk result (λ e. IsScanned (S.state site.old side).bytes side place node.old
+        (record { journal = e.journal; node = node.new; records = e.records; events = e.events })) }
     ensures damaged { S.honest site.old → IfErr result (IfDamaged (IsStopped (S.state site.old side).bytes place node.old)) }
     ensures reads { OnlyReads S.Site site.old site.new }
     ensures fault { CountsScanFault side (S.failures site.old) (S.failures site.new) result }
@@ -182,7 +185,8 @@ fn scan_records<S: Site>(
     node: &mut Node,
 ) -> Result<Ended, ScanFault>
     requires len { S.honest site.old → len ≡ length (S.state site.old side).bytes }
-    ensures scanned { S.honest site.old → IfOk result (λ e. IsScanned (S.state site.old side).bytes side place node.old (record { journal = e.journal; node = node.new; records = e.records; events = e.events })) }
+    ensures scanned { S.honest site.old → IfOk result (λ e. IsScanned (S.state site.old side).bytes side place node.old
+        (record { journal = e.journal; node = node.new; records = e.records; events = e.events })) }
     ensures damaged { S.honest site.old → IfErr result (IfDamaged (IsStopped (S.state site.old side).bytes place node.old)) }
     ensures reads { OnlyReads S.Site site.old site.new }
     ensures fault { CountsScanFault side (S.failures site.old) (S.failures site.new) result }

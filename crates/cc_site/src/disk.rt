@@ -56,7 +56,8 @@ impl Disk {
         ensures other { bytes_of self.new (other side) ≡ bytes_of self.old (other side) }
         ensures adds { OnOk result (AddsStep side told self.old self.new (λ m. mark_write m (length (bytes_of self.old side)) place (length new.now))) }
         ensures fails { IsTrue fails → IsTrue (is_err result) }
-        ensures missed { OnErr result (AddsStep side told self.old self.new (λ m. mark_write m (length (bytes_of self.old side)) place (length new.now)) ⊎ StaysFull self.old self.new) }
+        ensures missed { OnErr result (AddsStep side told self.old self.new (λ m. mark_write m (length (bytes_of self.old side)) place (length new.now))
+            ⊎ StaysFull self.old self.new) }
     {
         let steps = &mut self.steps;
         match side {
@@ -73,7 +74,8 @@ impl Disk {
         ensures other { bytes_of self.new (other side) ≡ bytes_of self.old (other side) }
         ensures adds { OnOk result (AddsStep side told self.old self.new (λ m. mark_cut m (length (bytes_of self.old side)) to)) }
         ensures fails { IsTrue fails → IsTrue (is_err result) }
-        ensures missed { OnErr result (AddsStep side told self.old self.new (λ m. mark_cut m (length (bytes_of self.old side)) to) ⊎ StaysFull self.old self.new) }
+        ensures missed { OnErr result (AddsStep side told self.old self.new (λ m. mark_cut m (length (bytes_of self.old side)) to)
+            ⊎ StaysFull self.old self.new) }
     {
         let steps = &mut self.steps;
         match side {

@@ -1,6 +1,7 @@
 //! What a crash makes of the sides of a site in memory.
 
-ghost use Rattle.std.specs.Prelude.{◌≡◌, ◌+◌, ◌<◌, ◌≤◌, ◌||◌, ◌&&◌, ℕ, Bool, false, unwrap_or, take, nat_le, nat_lt, if◌then◌else◌, length, slice_index, slice_index_or, IfOk};
+ghost use Rattle.std.specs.Prelude.{◌≡◌, ◌+◌, ◌<◌, ◌≤◌, ◌||◌, ◌&&◌, ℕ, Bool, false, unwrap_or, take, nat_le, nat_lt, if◌then◌else◌, length};
+ghost use Rattle.std.specs.Prelude.{slice_index, slice_index_or, IfOk};
 ghost use Rattle.cc_site.specs.Record.{Marks, mark_step, marks};
 ghost use Rattle.cc_site.specs.Image.{overlaid, taken, touched_list, IsFilled};
 
@@ -22,7 +23,8 @@ pub enum Choice {
 }
 
 fn mark_range(flags: &mut [bool], place: usize, count: usize)
-    ensures { (p : ℕ) → p < length flags.old → slice_index_or flags.new p false ≡ (slice_index_or flags.old p false || (nat_le place p && nat_lt p (place + count))) }
+    ensures { (p : ℕ) → p < length flags.old → slice_index_or flags.new p false
+        ≡ (slice_index_or flags.old p false || (nat_le place p && nat_lt p (place + count))) }
 {
     let end = place.saturating_add(count).min(flags.len());
     for i in place..end {
@@ -32,7 +34,8 @@ fn mark_range(flags: &mut [bool], place: usize, count: usize)
 
 // What a step does to the flags of a side.
 fn mark(flags: &mut [bool], side: Side, step: &Step)
-    ensures { (m : Marks) → ((p : ℕ) → p < length flags.old → slice_index_or flags.old p false ≡ m.touched p) → (p : ℕ) → p < length flags.old → slice_index_or flags.new p false ≡ (mark_step side m step.now).touched p }
+    ensures { (m : Marks) → ((p : ℕ) → p < length flags.old → slice_index_or flags.old p false ≡ m.touched p) → (p : ℕ) → p < length flags.old
+        → slice_index_or flags.new p false ≡ (mark_step side m step.now).touched p }
 {
     if step.side != side {
         return;

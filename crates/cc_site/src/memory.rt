@@ -1,6 +1,7 @@
 //! A site in memory, which keeps a record of its disk calls and its first outputs.
 
-ghost use Rattle.std.specs.Prelude.{◌≡◌, ◌⊎◌, ◌↔◌, ◌+◌, ◌%◌, ◌^◌, ◌≤◌, ◌<◌, ◌++◌, [], ◌∷◌, length, take, drop, Option, None, Some, IsTrue, is_err, IsSome, IfSome, OnOk, OnErr, IfOk, ⊤};
+ghost use Rattle.std.specs.Prelude.{◌≡◌, ◌⊎◌, ◌↔◌, ◌+◌, ◌%◌, ◌^◌, ◌≤◌, ◌<◌, ◌++◌, [], ◌∷◌, length, take, drop, Option, None, Some, IsTrue, is_err};
+ghost use Rattle.std.specs.Prelude.{IsSome, IfSome, OnOk, OnErr, IfOk, ⊤};
 ghost use Rattle.std.specs.Vec.{vec_capacity};
 ghost use Rattle.cc_messages.specs.declared.output.Output.{Output};
 ghost use Rattle.cc_messages.specs.declared.output.Output.TheVariants.{Send, Ack, Reply};
@@ -184,7 +185,8 @@ fn keep(outputs: &mut Vec<Output>, reserve: usize, lost: &mut u64, output: Optio
 }
 
 impl Site for MemorySite {
-    ghost use Rattle.cc_site.specs.Memory.{memory_state, memory_outputs, memory_lost, memory_calls, memory_fuse, memory_failures, memory_moment, memory_left_since, CountsCall, Keeps};
+    ghost use Rattle.cc_site.specs.Memory.{memory_state, memory_outputs, memory_lost, memory_calls, memory_fuse, memory_failures, memory_moment};
+    ghost use Rattle.cc_site.specs.Memory.{memory_left_since, CountsCall, Keeps};
     ghost use Rattle.cc_site.specs.RecordLaws.{since_now, now_only, may_read_now};
 
     ghost honest = { λ _. ⊤ };
@@ -243,9 +245,11 @@ impl Site for MemorySite {
         ensures call { CountsCall self.old self.new }
         ensures fuse { MayFail (memory_fuse self.old) (memory_calls self.old) → IsTrue (is_err result) }
         ensures value { OnOk result (memory_state self.new side ≡ written (memory_state self.old side) place bytes.now) }
-        ensures failed { OnErr result ((memory_state self.new side ≡ touch (memory_state self.old side) place (length bytes.now)) ⊎ (memory_state self.new side ≡ memory_state self.old side)) }
+        ensures failed { OnErr result ((memory_state self.new side ≡ touch (memory_state self.old side) place (length bytes.now))
+            ⊎ (memory_state self.new side ≡ memory_state self.old side)) }
         ensures other_side { memory_state self.new (other side) ≡ memory_state self.old (other side) }
-        ensures time { Elapses (memory_moment self.old) (memory_moment self.new) (memory_left_since self.old) (memory_left_since self.new) (Within side (touch (memory_state self.old side) place (length bytes.now)) (memory_state self.old) (memory_outputs self.old)) }
+        ensures time { Elapses (memory_moment self.old) (memory_moment self.new) (memory_left_since self.old) (memory_left_since self.new)
+            (Within side (touch (memory_state self.old side) place (length bytes.now)) (memory_state self.old) (memory_outputs self.old)) }
         ensures fault { CountsFault (memory_failures self.old) (memory_failures self.new) side Write result }
     {
         let fails = next_fails(&mut self.calls, &self.fuse);
@@ -259,9 +263,11 @@ impl Site for MemorySite {
         ensures call { CountsCall self.old self.new }
         ensures fuse { MayFail (memory_fuse self.old) (memory_calls self.old) → IsTrue (is_err result) }
         ensures value { OnOk result (memory_state self.new side ≡ cut_to (memory_state self.old side) len) }
-        ensures failed { OnErr result ((memory_state self.new side ≡ shift (memory_state self.old side) len) ⊎ (memory_state self.new side ≡ memory_state self.old side)) }
+        ensures failed { OnErr result ((memory_state self.new side ≡ shift (memory_state self.old side) len)
+            ⊎ (memory_state self.new side ≡ memory_state self.old side)) }
         ensures other_side { memory_state self.new (other side) ≡ memory_state self.old (other side) }
-        ensures time { Elapses (memory_moment self.old) (memory_moment self.new) (memory_left_since self.old) (memory_left_since self.new) (Within side (shift (memory_state self.old side) len) (memory_state self.old) (memory_outputs self.old)) }
+        ensures time { Elapses (memory_moment self.old) (memory_moment self.new) (memory_left_since self.old) (memory_left_since self.new)
+            (Within side (shift (memory_state self.old side) len) (memory_state self.old) (memory_outputs self.old)) }
         ensures fault { CountsFault (memory_failures self.old) (memory_failures self.new) side Cut result }
     {
         let fails = next_fails(&mut self.calls, &self.fuse);
@@ -287,9 +293,11 @@ impl Site for MemorySite {
 
     fn send(&mut self, to: NodeId, number: u64, message: &Message)
         ensures kept { Keeps (Some (Send to number message.now)) self.old self.new ⊎ Keeps None self.old self.new }
-        ensures tells { memory_lost self.new ≡ 0 → (memory_lost self.old ≡ 0) × (memory_outputs self.new ≡ memory_outputs self.old ++ Send to number message.now ∷ []) }
+        ensures tells { memory_lost self.new ≡ 0 → (memory_lost self.old ≡ 0)
+            × (memory_outputs self.new ≡ memory_outputs self.old ++ Send to number message.now ∷ []) }
         ensures same { memory_state self.new ≡ memory_state self.old }
-        ensures time { Elapses (memory_moment self.old) (memory_moment self.new) (memory_left_since self.old) (memory_left_since self.new) (Possible (memory_state self.old) (memory_outputs self.new)) }
+        ensures time { Elapses (memory_moment self.old) (memory_moment self.new) (memory_left_since self.old) (memory_left_since self.new)
+            (Possible (memory_state self.old) (memory_outputs self.new)) }
         ensures failures { memory_failures self.new ≡ memory_failures self.old }
     {
         let output = match message.copy(self.alloc) {
@@ -307,7 +315,8 @@ impl Site for MemorySite {
         ensures kept { Keeps (Some (Ack to number)) self.old self.new }
         ensures tells { memory_lost self.new ≡ 0 → (memory_lost self.old ≡ 0) × (memory_outputs self.new ≡ memory_outputs self.old ++ Ack to number ∷ []) }
         ensures same { memory_state self.new ≡ memory_state self.old }
-        ensures time { Elapses (memory_moment self.old) (memory_moment self.new) (memory_left_since self.old) (memory_left_since self.new) (Possible (memory_state self.old) (memory_outputs self.new)) }
+        ensures time { Elapses (memory_moment self.old) (memory_moment self.new) (memory_left_since self.old) (memory_left_since self.new)
+            (Possible (memory_state self.old) (memory_outputs self.new)) }
         ensures failures { memory_failures self.new ≡ memory_failures self.old }
     {
         let output = Some(Output::Ack { to, number });
@@ -316,9 +325,11 @@ impl Site for MemorySite {
 
     fn reply(&mut self, session: u64, request: u64, answer: &Answer)
         ensures kept { Keeps (Some (Reply session request answer.now)) self.old self.new ⊎ Keeps None self.old self.new }
-        ensures tells { memory_lost self.new ≡ 0 → (memory_lost self.old ≡ 0) × (memory_outputs self.new ≡ memory_outputs self.old ++ Reply session request answer.now ∷ []) }
+        ensures tells { memory_lost self.new ≡ 0 → (memory_lost self.old ≡ 0)
+            × (memory_outputs self.new ≡ memory_outputs self.old ++ Reply session request answer.now ∷ []) }
         ensures same { memory_state self.new ≡ memory_state self.old }
-        ensures time { Elapses (memory_moment self.old) (memory_moment self.new) (memory_left_since self.old) (memory_left_since self.new) (Possible (memory_state self.old) (memory_outputs self.new)) }
+        ensures time { Elapses (memory_moment self.old) (memory_moment self.new) (memory_left_since self.old) (memory_left_since self.new)
+            (Possible (memory_state self.old) (memory_outputs self.new)) }
         ensures failures { memory_failures self.new ≡ memory_failures self.old }
     {
         let output = match answer.copy(self.alloc) {

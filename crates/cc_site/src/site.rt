@@ -140,9 +140,11 @@ pub trait Site {
         ensures honest { honest self.old ↔ honest self.new }
         ensures tells { (tells self.old ↔ tells self.new) × (sent self.new ≡ sent self.old) }
         ensures value { honest self.old → OnOk result (state self.new side ≡ written (state self.old side) place bytes.now) }
-        ensures failed { honest self.old → OnErr result (HalfWritten (state self.old side) place (length bytes.now) (state self.new side) ⊎ (state self.new side ≡ state self.old side)) }
+        ensures failed { honest self.old → OnErr result (HalfWritten (state self.old side) place (length bytes.now) (state self.new side)
+            ⊎ (state self.new side ≡ state self.old side)) }
         ensures other_side { honest self.old → state self.new (other side) ≡ state self.old (other side) }
-        ensures time { honest self.old → Elapses (moment self.old) (moment self.new) (left_since self.old) (left_since self.new) (Within side (touch (state self.old side) place (length bytes.now)) (state self.old) (sent self.old)) }
+        ensures time { honest self.old → Elapses (moment self.old) (moment self.new) (left_since self.old) (left_since self.new)
+            (Within side (touch (state self.old side) place (length bytes.now)) (state self.old) (sent self.old)) }
         ensures fault { CountsFault (failures self.old) (failures self.new) side Write result };
 
     /// Cuts a side to a length, which is at most the one that it has.
@@ -151,9 +153,11 @@ pub trait Site {
         ensures honest { honest self.old ↔ honest self.new }
         ensures tells { (tells self.old ↔ tells self.new) × (sent self.new ≡ sent self.old) }
         ensures value { honest self.old → OnOk result (state self.new side ≡ cut_to (state self.old side) len) }
-        ensures failed { honest self.old → OnErr result (HalfCut (state self.old side) len (state self.new side) ⊎ (state self.new side ≡ state self.old side)) }
+        ensures failed { honest self.old → OnErr result (HalfCut (state self.old side) len (state self.new side)
+            ⊎ (state self.new side ≡ state self.old side)) }
         ensures other_side { honest self.old → state self.new (other side) ≡ state self.old (other side) }
-        ensures time { honest self.old → Elapses (moment self.old) (moment self.new) (left_since self.old) (left_since self.new) (Within side (shift (state self.old side) len) (state self.old) (sent self.old)) }
+        ensures time { honest self.old → Elapses (moment self.old) (moment self.new) (left_since self.old) (left_since self.new)
+            (Within side (shift (state self.old side) len) (state self.old) (sent self.old)) }
         ensures fault { CountsFault (failures self.old) (failures self.new) side Cut result };
 
     /// Makes sure of a side: after Ok a crash leaves what a read gives.
@@ -171,7 +175,8 @@ pub trait Site {
         ensures honest { honest self.old ↔ honest self.new }
         ensures tells { tells self.new → tells self.old × (sent self.new ≡ sent self.old ++ Send to number message.now ∷ []) }
         ensures same { honest self.old → state self.new ≡ state self.old }
-        ensures time { honest self.old → Elapses (moment self.old) (moment self.new) (left_since self.old) (left_since self.new) (Possible (state self.old) (sent self.new)) }
+        ensures time { honest self.old → Elapses (moment self.old) (moment self.new) (left_since self.old) (left_since self.new)
+            (Possible (state self.old) (sent self.new)) }
         ensures failures { failures self.new ≡ failures self.old };
 
     /// Tells a peer up to which number its messages were heard.
@@ -179,7 +184,8 @@ pub trait Site {
         ensures honest { honest self.old ↔ honest self.new }
         ensures tells { tells self.new → tells self.old × (sent self.new ≡ sent self.old ++ Ack to number ∷ []) }
         ensures same { honest self.old → state self.new ≡ state self.old }
-        ensures time { honest self.old → Elapses (moment self.old) (moment self.new) (left_since self.old) (left_since self.new) (Possible (state self.old) (sent self.new)) }
+        ensures time { honest self.old → Elapses (moment self.old) (moment self.new) (left_since self.old) (left_since self.new)
+            (Possible (state self.old) (sent self.new)) }
         ensures failures { failures self.new ≡ failures self.old };
 
     /// Answers a request of a session.
@@ -187,7 +193,8 @@ pub trait Site {
         ensures honest { honest self.old ↔ honest self.new }
         ensures tells { tells self.new → tells self.old × (sent self.new ≡ sent self.old ++ Reply session request answer.now ∷ []) }
         ensures same { honest self.old → state self.new ≡ state self.old }
-        ensures time { honest self.old → Elapses (moment self.old) (moment self.new) (left_since self.old) (left_since self.new) (Possible (state self.old) (sent self.new)) }
+        ensures time { honest self.old → Elapses (moment self.old) (moment self.new) (left_since self.old) (left_since self.new)
+            (Possible (state self.old) (sent self.new)) }
         ensures failures { failures self.new ≡ failures self.old };
 
     /// What a read gives is one of the contents that a crash may leave.
@@ -197,8 +204,10 @@ pub trait Site {
     ghost are_bytes: { (site : Self) → honest site → (side : Side) (place : ℕ) → slice_index (state site side).bytes place < 256 };
 
     /// This moment is one of those since an earlier one.
-    ghost counts_now: { (site : Self) → honest site → (t : ℕ) (left : Contents) (told : List Output) → t ≤ moment site → Possible (state site) (sent site) left told → left_since site t left told };
+    ghost counts_now: { (site : Self) → honest site → (t : ℕ) (left : Contents) (told : List Output) → t ≤ moment site
+        → Possible (state site) (sent site) left told → left_since site t left told };
 
     /// Since this moment there is no other.
-    ghost only_now: { (site : Self) → honest site → (left : Contents) (told : List Output) → left_since site (moment site) left told → Possible (state site) (sent site) left told };
+    ghost only_now: { (site : Self) → honest site → (left : Contents) (told : List Output) → left_since site (moment site) left told
+        → Possible (state site) (sent site) left told };
 }

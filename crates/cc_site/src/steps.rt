@@ -88,7 +88,8 @@ fn write_bytes(
     requires place { place ≤ length bytes.old.items }
     requires room { length steps.old.items < vec_capacity steps.old }
     ensures ok { OnOk result (bytes.new.items ≡ overwritten bytes.old.items place new.now) }
-    ensures adds { OnOk result (Adds side told steps.old.items steps.new.items bytes.old.items bytes.new.items (λ m. mark_write m (length bytes.old.items) place (length new.now))) }
+    ensures adds { OnOk result (Adds side told steps.old.items steps.new.items bytes.old.items bytes.new.items
+        (λ m. mark_write m (length bytes.old.items) place (length new.now))) }
     ensures err { OnErr result ((bytes.new.items ≡ bytes.old.items) × (steps.new ≡ steps.old)) }
 {
     let length = bytes.len();
@@ -139,9 +140,12 @@ pub fn attempt_write(
     requires { place ≤ length bytes.old.items }
     ensures ok { OnOk result (bytes.new.items ≡ overwritten bytes.old.items place new.now) }
     ensures err { OnErr result (bytes.new.items ≡ bytes.old.items) }
-    ensures adds { OnOk result (Adds side told steps.old.items steps.new.items bytes.old.items bytes.new.items (λ m. mark_write m (length bytes.old.items) place (length new.now))) }
+    ensures adds { OnOk result (Adds side told steps.old.items steps.new.items bytes.old.items bytes.new.items
+        (λ m. mark_write m (length bytes.old.items) place (length new.now))) }
     ensures fails { IsTrue fails → IsTrue (is_err result) }
-    ensures missed { OnErr result (Adds side told steps.old.items steps.new.items bytes.old.items bytes.new.items (λ m. mark_write m (length bytes.old.items) place (length new.now)) ⊎ ((steps.new.items ≡ steps.old.items) × (vec_capacity steps.old ≤ length steps.old.items))) }
+    ensures missed { OnErr result (Adds side told steps.old.items steps.new.items bytes.old.items bytes.new.items
+        (λ m. mark_write m (length bytes.old.items) place (length new.now))
+        ⊎ ((steps.new.items ≡ steps.old.items) × (vec_capacity steps.old ≤ length steps.old.items))) }
 {
     steps.reserve(1)?;
     if !fails && write_bytes(side, told, bytes, steps, place, new).is_ok() {
@@ -167,7 +171,8 @@ pub fn attempt_cut(
     ensures err { OnErr result (bytes.new.items ≡ bytes.old.items) }
     ensures adds { OnOk result (Adds side told steps.old.items steps.new.items bytes.old.items bytes.new.items (λ m. mark_cut m (length bytes.old.items) to)) }
     ensures fails { IsTrue fails → IsTrue (is_err result) }
-    ensures missed { OnErr result (Adds side told steps.old.items steps.new.items bytes.old.items bytes.new.items (λ m. mark_cut m (length bytes.old.items) to) ⊎ ((steps.new.items ≡ steps.old.items) × (vec_capacity steps.old ≤ length steps.old.items))) }
+    ensures missed { OnErr result (Adds side told steps.old.items steps.new.items bytes.old.items bytes.new.items
+        (λ m. mark_cut m (length bytes.old.items) to) ⊎ ((steps.new.items ≡ steps.old.items) × (vec_capacity steps.old ≤ length steps.old.items))) }
 {
     steps.reserve(1)?;
     if !fails && cut_bytes(side, told, bytes, steps, to).is_ok() {
