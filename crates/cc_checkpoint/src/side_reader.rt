@@ -33,14 +33,6 @@ fn take<S: Site, E: Element>(
     device: &mut S,
     piece: &mut Piece,
     unread: &mut Unread,
-<<<<<<< HEAD
-    count: u16,
-) -> Result<Vec<LinkRow>, ReadFault>
-    requires { LiesOn S.Site site.old unread.old }
-    ensures exact { ReadsOff S.Site (rows_at link_at count 1) (at site.old piece.old unread.old) (at site.new piece.new unread.new)
-        (seen_by (λ rows. map links.entry_of rows.items) result) }
-    ensures rising { IfOk result (λ rows. IsRising links.entry_of rows.items) }
-=======
     element: &E,
 ) -> Result<E::Of, SourceFault<DeviceFault>>
     requires { LiesOn S.Site device.old unread.old }
@@ -48,7 +40,6 @@ fn take<S: Site, E: Element>(
         ((E.format element.now).read (ahead S.Site (at device.old piece.old unread.old))) }
     ensures holds { IfOk result (E.has element.now) }
     ensures run { Goes S.Site device.old unread.old device.new unread.new (failure_of result) }
->>>>>>> 49ac0d26649842e5b3b73d4c9408ac3edbbd0f92
 {
     match read_element(alloc, device, piece, unread, element) {
         Ok(found) => Ok(found),
@@ -58,24 +49,6 @@ fn take<S: Site, E: Element>(
     }
 }
 
-<<<<<<< HEAD
-fn read_posts<S: Site>(
-    alloc: Global,
-    site: &mut S,
-    piece: &mut Piece,
-    unread: &mut Unread,
-    count: u16,
-) -> Result<Vec<Message>, ReadFault>
-    requires { LiesOn S.Site site.old unread.old }
-    ensures exact { ReadsOff S.Site (posts_at count) (at site.old piece.old unread.old) (at site.new piece.new unread.new)
-        (seen_by (λ posts. posts.items) result) }
-    ensures length { IfOk result (λ posts. length posts.items ≡ count) }
-{
-    let mut posts = Vec::new(alloc);
-    for _ in 0..count {
-        let post = read_element(alloc, site, piece, unread, &MessageAt)?;
-        posts.push(post)?;
-=======
 impl<S: Site> Source<S, Piece> for Unread {
     type Failure = DeviceFault;
 
@@ -96,29 +69,8 @@ impl<S: Site> Source<S, Piece> for Unread {
         piece: &mut Piece,
     ) -> Result<u64, SourceFault<DeviceFault>> {
         take(alloc, device, piece, self, &NumberAt)
->>>>>>> 49ac0d26649842e5b3b73d4c9408ac3edbbd0f92
     }
 
-<<<<<<< HEAD
-fn read_kept_answers<S: Site>(
-    alloc: Global,
-    site: &mut S,
-    piece: &mut Piece,
-    unread: &mut Unread,
-    count: u16,
-) -> Result<Vec<KeptAnswer>, ReadFault>
-    requires { LiesOn S.Site site.old unread.old }
-    ensures exact { ReadsOff S.Site (rows_at kept_answer_at count 0) (at site.old piece.old unread.old) (at site.new piece.new unread.new)
-        (seen_by (λ rows. map answers.entry_of rows.items) result) }
-    ensures rising { IfOk result (λ rows. IsRising answers.entry_of rows.items) }
-{
-    let mut rows = Vec::new(alloc);
-    let mut least = 0;
-    for _ in 0..count {
-        let kept = read_element(alloc, site, piece, unread, &KeptAnswerAt { least })?;
-        least = u128::from(kept.session) + 1;
-        rows.push(kept)?;
-=======
     fn count(
         &mut self,
         alloc: Global,
@@ -126,39 +78,8 @@ fn read_kept_answers<S: Site>(
         piece: &mut Piece,
     ) -> Result<u16, SourceFault<DeviceFault>> {
         take(alloc, device, piece, self, &CountAt)
->>>>>>> 49ac0d26649842e5b3b73d4c9408ac3edbbd0f92
     }
 
-<<<<<<< HEAD
-fn read_link_table<S: Site>(
-    alloc: Global,
-    site: &mut S,
-    piece: &mut Piece,
-    unread: &mut Unread,
-) -> Result<Vec<LinkRow>, ReadFault>
-    requires { LiesOn S.Site site.old unread.old }
-    ensures exact { ReadsOff S.Site (table_at link_at most_rows 1) (at site.old piece.old unread.old) (at site.new piece.new unread.new)
-        (seen_by (λ rows. table_of links.entry_of rows.items) result) }
-    ensures rising { IfOk result (λ rows. IsRising links.entry_of rows.items) }
-{
-    let count = read_element(alloc, site, piece, unread, &CountAt)?;
-    read_links(alloc, site, piece, unread, count)
-}
-
-fn read_kept<S: Site>(
-    alloc: Global,
-    site: &mut S,
-    piece: &mut Piece,
-    unread: &mut Unread,
-) -> Result<Vec<Message>, ReadFault>
-    requires { LiesOn S.Site site.old unread.old }
-    ensures exact { ReadsOff S.Site kept_at (at site.old piece.old unread.old) (at site.new piece.new unread.new) (seen_by (λ posts. posts.items) result) }
-    ensures few { IfOk result (λ posts. length posts.items ≤ post_limit) }
-{
-    let count = read_element(alloc, site, piece, unread, &CountAt)?;
-    if usize::from(count) > Outbox::MAX_POSTS {
-        return Err(ReadFault::NoState);
-=======
     fn membership(
         &mut self,
         alloc: Global,
@@ -166,25 +87,8 @@ fn read_kept<S: Site>(
         piece: &mut Piece,
     ) -> Result<Membership, SourceFault<DeviceFault>> {
         take(alloc, device, piece, self, &MembershipAt)
->>>>>>> 49ac0d26649842e5b3b73d4c9408ac3edbbd0f92
     }
 
-<<<<<<< HEAD
-fn read_answer_table<S: Site>(
-    alloc: Global,
-    site: &mut S,
-    piece: &mut Piece,
-    unread: &mut Unread,
-) -> Result<Vec<KeptAnswer>, ReadFault>
-    requires { LiesOn S.Site site.old unread.old }
-    ensures exact { ReadsOff S.Site (table_at kept_answer_at most_rows 0) (at site.old piece.old unread.old) (at site.new piece.new unread.new)
-        (seen_by (λ rows. table_of answers.entry_of rows.items) result) }
-    ensures rising { IfOk result (λ rows. IsRising answers.entry_of rows.items) }
-{
-    let count = read_element(alloc, site, piece, unread, &CountAt)?;
-    read_kept_answers(alloc, site, piece, unread, count)
-}
-=======
     fn view(
         &mut self,
         alloc: Global,
@@ -193,7 +97,6 @@ fn read_answer_table<S: Site>(
     ) -> Result<View, SourceFault<DeviceFault>> {
         take(alloc, device, piece, self, &ViewAt)
     }
->>>>>>> 49ac0d26649842e5b3b73d4c9408ac3edbbd0f92
 
     fn own(
         &mut self,
