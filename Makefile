@@ -97,7 +97,7 @@ must-not-compile:
 	@python3 tools/must_not_compile.py
 
 # Builds the tests, and refuses each growth of each test once: a test may then end with want of memory, never with a fault.
-# CRATES=node_tests does one crate. The tests over sockets are left out, since a node that is refused memory waits there for
+# CRATES=parts_tests does one crate. The tests over sockets are left out, since a node that is refused memory waits there for
 # seconds. It needs a C compiler.
 TESTS = $(filter-out server_tests, $(shell grep -rl '\[test\]' crates/*/src | cut -d/ -f2 | sort -u)) script_rows
 refused-growths: CRATES = $(TESTS)

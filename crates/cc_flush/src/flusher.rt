@@ -245,6 +245,8 @@ impl<S: Site> Flusher<S> {
         let core = match node.core().copy(alloc) {
             Ok(core) => core,
             Err(NoMemory) => {
+                drop(node);
+                drop(piece);
                 return Err(Back {
                     site,
                     fault: OpenFault::NoMemory,

@@ -165,7 +165,9 @@ fn first_image(alloc: Global, opening: &Opening<'_>) -> Result<Vec<u8>, FormatFa
     ensures only { IfErr result (λ fault. (fault ≡ faults.BadOpening) ⊎ (fault ≡ faults.NoMemory)) }
 {
     let node = Node::fresh(alloc, opening)?;
-    Ok(encode_image(alloc, 1, &node)?)
+    let image = encode_image(alloc, 1, &node);
+    drop(node);
+    Ok(image?)
 }
 
 // Lays the image out, unless a side is armed.

@@ -101,7 +101,13 @@ fn read_sides<S: Site>(alloc: Global, site: &mut S, piece: Piece) -> Result<Foun
         records,
         events,
     } = read_records(alloc, site, side, first, start)?;
-    let len = length_of(site, side)?;
+    let len = match length_of(site, side) {
+        Ok(len) => len,
+        Err(fault) => {
+            drop(node);
+            return Err(OpenFault::Device(fault));
+        }
+    };
     let used = greatest(len, journal.place());
     let opened = Opened {
         side,

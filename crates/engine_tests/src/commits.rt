@@ -68,7 +68,8 @@ fn both_deliveries_stand_or_neither(rt: HostRuntime) -> Result<(), Fail> {
     check_outcomes(&rt, site, &steps, &DELIVERIES)
 }
 
-const REPLY: Put = Put::Reply(7, 1, true);
+/// The reply to a store.
+pub const REPLY: Put = Put::Reply(7, 1, true);
 
 // All that a store puts.
 const PUTS: [Put; 5] = [
@@ -121,8 +122,8 @@ fn repeated(flusher: &mut Flusher<MemorySite>) -> Result<(Option<Refusal>, bool,
     Ok((refusal, is_put, flusher.twin().core().ops().number()))
 }
 
-// Member 1 of 1 that crashed between the commit of a store and its release.
-fn unreleased_member(alloc: Global) -> Result<MemorySite, Fail> {
+/// Member 1 of 1 that crashed between the commit of a store and its release.
+pub fn unreleased_member(alloc: Global) -> Result<MemorySite, Fail> {
     let mut flusher = opened(alloc, member(alloc, 16)?)?;
     let image = unreleased(alloc, &mut flusher);
     drop(flusher.close());

@@ -2,7 +2,7 @@
 
 use crate::openings::{ENTERED, HEAD};
 use crate::sites::{laid, with_sides};
-use crate::steps::{Left, left_of};
+use crate::steps::left_of;
 use crate::versions::ENTRANT_STATE;
 use cc_checkpoint::OpenFault;
 use cc_site::Side;
@@ -23,19 +23,22 @@ const CUTS: [(usize, usize, u64); 6] = [
     (164, 165, 164),
 ];
 
-// What is opened where one side has these bytes and the other is closed: side A, or side B.
-fn left_of_either(alloc: Global, side: &[u8]) -> Result<[Left; 2], Fail> {
-    let of_a = left_of(alloc, with_sides(alloc, side, &[0])?);
-    let of_b = left_of(alloc, with_sides(alloc, &[0], side)?);
-    Ok([of_a, of_b])
+// Whether a site of these sides is damaged at that place of that side.
+fn is_damaged_at(
+    alloc: Global,
+    a: &[u8],
+    b: &[u8],
+    side: Side,
+    place: u64,
+) -> Result<bool, Fail> {
+    Ok(left_of(alloc, with_sides(alloc, a, b)?) == Err(OpenFault::Damaged(side, place)))
 }
 
-// Whether the first bytes of a side, so many of them, are damaged at that place, whichever side they are.
+// Whether the first bytes of a side, so many of them, are damaged at that place, whichever side they are: the other one is closed.
 fn is_damaged(alloc: Global, side: &[u8], len: usize, place: u64) -> Result<bool, Fail> {
     let cut = side.get(..len).ok_or("the side is that long")?;
-    let of_a = Err(OpenFault::Damaged(Side::A, place));
-    let of_b = Err(OpenFault::Damaged(Side::B, place));
-    Ok(left_of_either(alloc, cut)? == [of_a, of_b])
+    Ok(is_damaged_at(alloc, cut, &[0], Side::A, place)?
+        && is_damaged_at(alloc, &[0], cut, Side::B, place)?)
 }
 
 fn check_cuts<R: Abort + AllocGlobal>(rt: &R, side: &[u8]) -> Result<(), Fail> {

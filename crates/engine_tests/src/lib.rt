@@ -1,4 +1,5 @@
-//! Tests of the engine over a site in memory, by its public calls alone.
+//! Tests of the engine over a site in memory, of the threads that hand events to it, and of a first life, by public calls
+//! alone.
 #![tactic(auto)]
 
 #[cfg(test)]
@@ -11,6 +12,8 @@ mod commits;
 mod counts;
 #[cfg(test)]
 mod cuts;
+#[cfg(test)]
+mod first_lives;
 #[cfg(test)]
 mod lives;
 #[cfg(test)]
@@ -31,6 +34,8 @@ mod sites;
 mod steps;
 #[cfg(test)]
 mod ten_lives;
+#[cfg(test)]
+mod threads;
 #[cfg(test)]
 mod versions;
 #[cfg(test)]

@@ -1,4 +1,4 @@
-//! Tests of the messages and the parts of a node, by their public calls alone.
+//! Tests of the messages, of the parts of a node, and of a whole one, by their public calls alone.
 #![tactic(auto)]
 
 #[cfg(test)]
@@ -15,6 +15,8 @@ mod frames;
 mod lines;
 #[cfg(test)]
 mod links;
+#[cfg(test)]
+mod node;
 #[cfg(test)]
 mod objects;
 #[cfg(test)]

@@ -1,5 +1,5 @@
-//! Tests of what a server and a client of a node decide, and of the words of commands and addresses, by the public calls
-//! alone.
+//! Tests of what a server and a client of a node decide, of the words of commands and addresses, and of requests over HTTP,
+//! by the public calls alone.
 #![tactic(auto)]
 
 #[cfg(test)]
@@ -16,6 +16,8 @@ mod clients;
 mod duties;
 #[cfg(test)]
 mod frames;
+#[cfg(test)]
+mod http;
 #[cfg(test)]
 mod incoming;
 #[cfg(test)]

@@ -41,14 +41,14 @@ returns-clause-found g c honest =
     let head = subst (λ st. HeadAt (st used.side).bytes start first) (chose.keeps_state honest) (c.in_ok-start.ensures.exact (chose.keeps_honesty.0 honest)) in
     let scanned = subst (λ st. IsScanned (st used.side).bytes used.side first start found) (read.keeps_state honest)
     (c.in_ok-journal.ensures.scanned (read.keeps_honesty.0 honest)) in
-    let len_is = c.in_ok-len.ensures.value (scan.keeps_honesty.0 honest) ∙ ap (λ st. length (st used.side).bytes) (scan.keeps_state honest) in
-    let fits : c.place.result ≤ c.in_ok-len.len = omega (arith, len_is, scanned.within, c.place.ensures, ap (λ p. p.place) c.journal.view_is) in
+    let len_is = c.in-Ok.ensures.value (scan.keeps_honesty.0 honest) ∙ ap (λ st. length (st used.side).bytes) (scan.keeps_state honest) in
+    let fits : c.place.result ≤ c.in-Ok.len = omega (arith, len_is, scanned.within, c.place.ensures, ap (λ p. p.place) c.journal.view_is) in
     found_there (bytes_of s old) used start found.node first (found.journal.place - first) found.records found.events (g.met.S.Site.are_bytes old honest)
     (c.in_ok-side.ensures.exact honest) head scanned.scans found.journal c.greatest-used.result scanned.same_side
-    (onward_to first found.journal.place scanned.onward) (c.greatest-used.ensures ∙ furthest c.in_ok-len.len c.place.result fits ∙ len_is)
+    (onward_to first found.journal.place scanned.onward) (c.greatest-used.ensures ∙ furthest c.in-Ok.len c.place.result fits ∙ len_is)
 
-pub returns-in_err-len-clause-reads : goal.returns-in_err-len-clause-reads
-returns-in_err-len-clause-reads g c =
+pub returns-in-Err-clause-reads : goal.returns-in-Err-clause-reads
+returns-in-Err-clause-reads g c =
     reads_four g.S.Site c.args.site.now c.choose.new.site c.read_state.new.site c.read_records.new.site c.length_of.new.site
     c.choose.ensures.reads c.read_state.ensures.reads c.read_records.ensures.reads c.length_of.ensures.reads
 

@@ -1,9 +1,9 @@
 //! A worker that asks the same twice.
 
-use crate::fixtures::{Told, check, shown, store_a};
-use crate::holding::{Hold, Holding};
-use crate::lives::lives;
-use crate::stories::Story;
+use crate::threads::fixtures::{Told, check, shown, store_a};
+use crate::threads::holding::{Hold, Holding};
+use crate::threads::lives::lives;
+use crate::threads::stories::Story;
 use cc_intake::{Accepted, Intake, Lane, Life, Queue, Refused, Share, Source, work};
 use cc_messages::{Event, Refusal};
 use std::alloc::Global;

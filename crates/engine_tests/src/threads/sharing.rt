@@ -1,10 +1,10 @@
 //! Workers whose asks begin together, each of which is answered once.
 
-use crate::fixtures::{Disk, check, drawn, formatted_with_share, opened, shown};
-use crate::holding::{Hold, Holding, TURNS, comes};
-use crate::lives::{counts, live};
-use crate::stories::Story;
-use crate::workers::{Client, Worker, labour_whole};
+use crate::threads::fixtures::{Disk, check, drawn, formatted_with_share, opened, shown};
+use crate::threads::holding::{Hold, Holding, TURNS, comes};
+use crate::threads::lives::{counts, live};
+use crate::threads::stories::Story;
+use crate::threads::workers::{Client, Worker, labour_whole};
 use cc_intake::{Accepted, Intake, Lane, Life, Queue, Refused, Share, Turner};
 use cc_messages::{Answer, Command, Event, Message, Output, Refusal};
 use cc_site::{Choice, MemorySite};

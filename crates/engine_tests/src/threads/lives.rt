@@ -4,9 +4,10 @@ ghost use Rattle.std.specs.Prelude.{◌≡◌, ℕ, List, None, false};
 ghost use Rattle.cc_journal.specs.declared.entry.Entry.{Entry as EntryValue};
 ghost use Rattle.cc_intake.specs.Accepting.{share_limit};
 
-use crate::fixtures::{Disk, check, formatted, opened};
-use crate::holding::{Hold, Holding};
-use crate::stories::{Story, play};
+use crate::sites::member;
+use crate::threads::fixtures::{Disk, check, opened};
+use crate::threads::holding::{Hold, Holding};
+use crate::threads::stories::{Story, play};
 use cc_flush::Flusher;
 use cc_intake::{Ends, Finished, Lane, Life, finish, lane, start};
 use cc_node::Core;
@@ -27,7 +28,7 @@ pub(crate) fn lives<R: Threads + Wait + Sync>(
     expected: [u64; 4],
 ) -> Result<MemorySite, Fail> {
     let hooks = Hold::new(holding);
-    let site = formatted(alloc)?;
+    let site = member(alloc, 2048)?;
     let finished = live(rt, alloc, site, &hooks, story)?;
     let came = counts(&finished) == expected;
     let site = finished.site.site;

@@ -1,12 +1,12 @@
 //! What may happen in a life.
 
-use crate::crashes::after_crash;
-use crate::fixtures::{Disk, drawn};
-use crate::holding::Hold;
-use crate::repeats::repeat;
-use crate::sharing::share_rounds;
-use crate::turns::{batches, full_queue, moves};
-use crate::workers::many;
+use crate::threads::crashes::after_crash;
+use crate::threads::fixtures::{Disk, drawn};
+use crate::threads::holding::Hold;
+use crate::threads::repeats::repeat;
+use crate::threads::sharing::share_rounds;
+use crate::threads::turns::{batches, full_queue, moves};
+use crate::threads::workers::many;
 use cc_intake::{Intake, Lane, Life, Queue, Share, Turner};
 use std::alloc::Global;
 use std::sync::{Mutex, Wait};

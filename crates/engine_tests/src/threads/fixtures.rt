@@ -2,9 +2,9 @@
 
 ghost use Rattle.std.specs.Prelude.{◌≡◌, ◌<◌, None, false, IfOk};
 
-use crate::holding::Hold;
-use cc_changes::Fraction;
-use cc_flush::{Back, Flusher, format};
+use crate::sites::{MEMBER, begun};
+use crate::threads::holding::Hold;
+use cc_flush::{Back, Flusher};
 use cc_intake::{Accepted, Hooked, Intake, Lane, Life, Queue, Refused, Share};
 use cc_messages::{Command, Event, Message, Refusal};
 use cc_node::{Core, Opening};
@@ -29,26 +29,10 @@ pub(crate) fn check(holds: bool, what: &'static str) -> Result<(), Fail> {
     if holds { Ok(()) } else { Err(what)? }
 }
 
-/// Member 1 of 1 on a disk in memory.
-pub(crate) fn formatted(alloc: Global) -> Result<MemorySite, Fail> {
-    formatted_with_share(alloc, 1)
-}
-
-/// The same, up to so many of whose asks begin together.
+/// Member 1 of 1 on a disk in memory, up to so many of whose asks begin together.
 pub(crate) fn formatted_with_share(alloc: Global, share: usize) -> Result<MemorySite, Fail> {
-    let most = Fraction { num: 4, den: 5 };
-    let opening = Opening {
-        me: 1,
-        initial: &[1],
-        contacts: &[],
-        beta: most,
-        gamma: most,
-        share,
-    };
-    match format(alloc, MemorySite::new(alloc, 2048)?, &opening) {
-        Ok(site) => Ok(site),
-        Err(Back { site: _, fault }) => Err(fault)?,
-    }
+    let site = MemorySite::new(alloc, 2048)?;
+    Ok(begun(alloc, site, &Opening { share, ..MEMBER })?)
 }
 
 pub(crate) fn opened<'a>(

@@ -1,6 +1,6 @@
 use Rattle.std.proofs.Common.{arith}
 use Rattle.cc_views.specs.NatSets as set
-use Rattle.node_tests.proofs.restored.ops.Goals as goal
+use Rattle.parts_tests.proofs.node.restored.ops.Goals as goal
 
 pub from_parts-requires-clause-room : goal.from_parts-requires-clause-room
 from_parts-requires-clause-room c = rw (c.in_ok-line.ensures, c.empty-mine.ensures) (omega (arith, set.len-empty))

@@ -21,7 +21,9 @@ fn batch_of_enter(alloc: Global, opening: &Opening<'_>) -> Result<Batch, Fail>
     ensures some { IfOk result (λ b. 1 ≤ length b) }
 {
     let node = Node::fresh(alloc, opening)?;
-    Ok(Batch::of_one(Entry::of(alloc, node.core(), Event::Enter)?))
+    let entry = Entry::of(alloc, node.core(), Event::Enter);
+    drop(node);
+    Ok(Batch::of_one(entry?))
 }
 
 // How many outputs a first life of entrant 4 with contact 1 puts, and where it stops.

@@ -1,4 +1,4 @@
-use Rattle.threads_tests.proofs.lives.live.Given as goal
+use Rattle.engine_tests.proofs.threads.lives.live.Given as goal
 
 -- the ledger that was just made
 abbrev pub ghosts-live_as-L-Ledger : goal.ghosts-live_as-L-Ledger

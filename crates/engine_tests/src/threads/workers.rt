@@ -1,10 +1,10 @@
 //! Workers that bring events side by side, while one thread takes turns.
 
-use crate::fixtures::{Disk, check, drawn, opened, shown};
-use crate::holding::{Hold, Holding, TURNS};
-use crate::lives::lives;
-use crate::sharing::{Acker, Asker};
-use crate::stories::Story;
+use crate::threads::fixtures::{Disk, check, drawn, opened, shown};
+use crate::threads::holding::{Hold, Holding, TURNS};
+use crate::threads::lives::lives;
+use crate::threads::sharing::{Acker, Asker};
+use crate::threads::stories::Story;
 use cc_intake::{Accepted, Intake, Lane, Life, Queue, Refused, Share, Source, Turner, work};
 use cc_messages::{Event, Message, Output, Refusal};
 use cc_node::Core;

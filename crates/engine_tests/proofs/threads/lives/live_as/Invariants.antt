@@ -1,4 +1,4 @@
-use Rattle.threads_tests.proofs.lives.live_as.Given as goal
+use Rattle.engine_tests.proofs.threads.lives.live_as.Given as goal
 
 -- the queue that was just made
 abbrev pub ghosts-live_at : goal.ghosts-live_at

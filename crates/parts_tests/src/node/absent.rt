@@ -1,6 +1,6 @@
 //! Members that stay away: what lapses, what a snapshot takes over, and what begins anew.
 
-use crate::machine::{ask, opening, refusal, take};
+use crate::node::machine::{ask, opening, refusal, take};
 use cc_messages::{Command, Event, Message, Refusal};
 use cc_node::Node;
 use cc_ops::Stage;

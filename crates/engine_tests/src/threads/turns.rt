@@ -1,9 +1,9 @@
 //! Whole turns, and a queue that is full.
 
-use crate::fixtures::{Disk, at, check, hear, hears_all};
-use crate::holding::{Hold, Holding};
-use crate::lives::lives;
-use crate::stories::Story;
+use crate::threads::fixtures::{Disk, at, check, hear, hears_all};
+use crate::threads::holding::{Hold, Holding};
+use crate::threads::lives::lives;
+use crate::threads::stories::Story;
 use cc_intake::{Intake, Lane, Life, Queue, Share, Turned, Turner};
 use cc_messages::Refusal;
 use cc_site::{MemorySite, Side, Site};

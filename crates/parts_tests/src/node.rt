@@ -1,0 +1,5 @@
+//! A whole node in memory.
+
+mod absent;
+mod machine;
+mod restored;

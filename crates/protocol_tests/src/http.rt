@@ -1,0 +1,4 @@
+//! What requests ask for, and the bytes of answers.
+
+mod answers;
+mod requests;
