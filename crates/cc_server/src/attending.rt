@@ -55,6 +55,8 @@ where
         return;
     };
     let Some(admitted) = admitted(context, &connection, from, port) else {
+        drop(pen);
+        drop(connection);
         debug!(rt; "node {} takes no connection from {}: too many are open", context.me.number(), from);
         return;
     };

@@ -227,8 +227,12 @@ impl<R: Wait + Log, I: Input, S: Admitting, D: Replies, F: Flushed> Source
     fn told(&mut self, event: Event, answer: Result<Accepted, Refused>) {
         self.note(&event, &answer);
         let duty = duty_of(&event, &answer);
-        let is_due = self.act(duty, answer);
-        self.due = if is_due { Some(event) } else { None };
+        if self.act(duty, answer) {
+            drop(self.due.replace(event));
+        } else {
+            drop(event);
+            drop(self.due.take());
+        }
     }
 }
 
@@ -269,5 +273,7 @@ pub fn serve<R: Wait + Log, H: Hooks, L: Life, Q: Lane, I: Input + Drop, S: Admi
         done: Done::NoMemory,
     };
     context.work(share, &mut caller);
-    caller.done
+    let done = caller.done;
+    drop(caller);
+    done
 }

@@ -71,7 +71,12 @@ impl<R: Wait, F: Flushed> Source for Own<'_, R, F> {
     fn told(&mut self, event: Event, answer: Result<Accepted, Refused>) {
         let duty = duty_of(&event, &answer);
         self.settle(answer);
-        self.due = if self.act(duty) { Some(event) } else { None };
+        if self.act(duty) {
+            drop(self.due.replace(event));
+        } else {
+            drop(event);
+            drop(self.due.take());
+        }
     }
 }
 
@@ -81,6 +86,7 @@ pub fn serve_own<R: Wait, H: Hooks, L: Life, Q: Lane>(
     from: Receiver<Option<Event>>,
 ) {
     let Some(mut share) = context.draw() else {
+        drop(from);
         return;
     };
     let mut own = Own {
@@ -91,5 +97,6 @@ pub fn serve_own<R: Wait, H: Hooks, L: Life, Q: Lane>(
         due: None,
     };
     context.work(&mut share, &mut own);
+    drop(own);
     context.give_back(share);
 }

@@ -24,21 +24,16 @@ const CUTS: [(usize, usize, u64); 6] = [
 ];
 
 // Whether a site of these sides is damaged at that place of that side.
-fn is_damaged_at(
-    alloc: Global,
-    a: &[u8],
-    b: &[u8],
-    side: Side,
-    place: u64,
-) -> Result<bool, Fail> {
+fn is_damaged_at(alloc: Global, a: &[u8], b: &[u8], side: Side, place: u64) -> Result<bool, Fail> {
     Ok(left_of(alloc, with_sides(alloc, a, b)?) == Err(OpenFault::Damaged(side, place)))
 }
 
-// Whether the first bytes of a side, so many of them, are damaged at that place, whichever side they are: the other one is closed.
+// Whether the first bytes of a side, so many of them, are damaged at that place, whichever side they are: the other one is
+// closed.
 fn is_damaged(alloc: Global, side: &[u8], len: usize, place: u64) -> Result<bool, Fail> {
     let cut = side.get(..len).ok_or("the side is that long")?;
-    Ok(is_damaged_at(alloc, cut, &[0], Side::A, place)?
-        && is_damaged_at(alloc, &[0], cut, Side::B, place)?)
+    let is_in_a = is_damaged_at(alloc, cut, &[0], Side::A, place)?;
+    Ok(is_in_a && is_damaged_at(alloc, &[0], cut, Side::B, place)?)
 }
 
 fn check_cuts<R: Abort + AllocGlobal>(rt: &R, side: &[u8]) -> Result<(), Fail> {

@@ -53,6 +53,12 @@ fn only_replied(finished: &Finished<Disk<'_>>) -> Result<(), Fail> {
 fn what_was_stored_is_a_repeat_after_a_crash(rt: HostRuntime) -> Result<(), Fail> {
     let alloc = rt.alloc();
     let hooks = Hold::new(Holding::Nothing);
-    let finished = live(&rt, alloc, unreleased_member(alloc)?, &hooks, Story::AfterCrash)?;
+    let finished = live(
+        &rt,
+        alloc,
+        unreleased_member(alloc)?,
+        &hooks,
+        Story::AfterCrash,
+    )?;
     only_replied(&finished)
 }
