@@ -100,7 +100,9 @@ const HEAD: [u8; 14] = [0xA5, 0, 0, 0, 0, 0, 0, 0, 2, 2, 0, 0, 0, 0x77];
 
 // Whether a side has that head, the state of a node, and a closed gate.
 fn has_state(alloc: Global, side: &[u8], node: &Node) -> Result<bool, Fail> {
-    let state = side.get(14..133).ok_or("there is no state")?;
+    let Some(state) = side.get(14..133) else {
+        return Err("there is no state".into());
+    };
     let is_state = is_state_of(alloc, node, state)?;
     Ok(is_state && side.starts_with(&HEAD) && side.ends_with(&[0]) && side.len() == 134)
 }

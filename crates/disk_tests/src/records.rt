@@ -100,11 +100,6 @@ fn is_found(alloc: Global, bytes: &[u8], wanted: Result<Found, ScanFault>) -> Re
     is_found
 }
 
-// Whether these bytes are damaged at that place.
-fn is_damaged(alloc: Global, bytes: &[u8], place: u64) -> Result<bool, Fail> {
-    is_found(alloc, bytes, Err(ScanFault::Damaged(place)))
-}
-
 // Writes an event of the node behind the gate of a journal. The place behind it.
 fn place_after(
     alloc: Global,
@@ -284,56 +279,64 @@ fn a_record_is_read_again(rt: HostRuntime) -> Result<(), Fail> {
     Ok(())
 }
 
-// What a scan finds of these bytes, and how many posts were made.
-const FOUND: [(&[u8], Counts, u64); 3] = [
+// What a scan finds of these bytes, or why it stops.
+const SCANS: [(&[u8], Result<Found, ScanFault>); 13] = [
     // Two records, and one of two events, up to a closed gate.
     (
         &[
             0xA5, 0, 0, 0, 6, 1, 0, 0, 0, 1, 1, 0xA5, 0, 0, 0, 6, 1, 0, 0, 0, 1, 2, 0xFF, 0xA5,
         ],
-        (22, 2, 2),
-        2,
+        Ok((Side::A, (22, 2, 2), 2)),
     ),
-    (&BOTH, (16, 1, 2), 2),
+    (&BOTH, Ok((Side::A, (16, 1, 2), 2))),
     // What stands behind a closed gate is not read.
-    (&[0, 0xA5, 0, 0, 0, 6, 1, 0, 0, 0, 1, 1, 0xA5], (0, 0, 0), 0),
-];
-
-// Bytes that are damaged at a place: no gate stands there, or a node enters twice.
-const DAMAGED: [(&[u8], u64); 3] = [
-    (&[], 0),
-    (&[0xA5, 0, 0, 0, 6, 1, 0, 0, 0, 1, 1], 11),
+    (
+        &[0, 0xA5, 0, 0, 0, 6, 1, 0, 0, 0, 1, 1, 0xA5],
+        Ok((Side::A, (0, 0, 0), 0)),
+    ),
+    // No gate, and none behind a record.
+    (&[], Err(ScanFault::Damaged(0))),
+    (
+        &[0xA5, 0, 0, 0, 6, 1, 0, 0, 0, 1, 1],
+        Err(ScanFault::Damaged(11)),
+    ),
+    // A record that is cut off.
+    (&[0xA5, 0, 0, 0], Err(ScanFault::Damaged(1))),
+    (
+        &[0xA5, 0, 0, 0, 6, 1, 0, 0, 0, 1],
+        Err(ScanFault::Damaged(1)),
+    ),
+    // No event, 65 events, no such event, an event of no byte, and a byte too many.
+    (&[0xA5, 0, 0, 0, 1, 0, 0], Err(ScanFault::Damaged(1))),
+    (
+        &[0xA5, 0, 0, 0, 6, 65, 0, 0, 0, 1, 1, 0],
+        Err(ScanFault::Damaged(1)),
+    ),
+    (
+        &[0xA5, 0, 0, 0, 6, 1, 0, 0, 0, 1, 7, 0],
+        Err(ScanFault::Damaged(1)),
+    ),
+    (
+        &[0xA5, 0, 0, 0, 5, 1, 0, 0, 0, 0, 0],
+        Err(ScanFault::Damaged(1)),
+    ),
+    (
+        &[0xA5, 0, 0, 0, 7, 1, 0, 0, 0, 1, 1, 0, 0],
+        Err(ScanFault::Damaged(1)),
+    ),
+    // A node enters once.
     (
         &[
             0xA5, 0, 0, 0, 6, 1, 0, 0, 0, 1, 1, 0xA5, 0, 0, 0, 6, 1, 0, 0, 0, 1, 1, 0,
         ],
-        12,
+        Err(ScanFault::Damaged(12)),
     ),
-];
-
-// Bytes whose first record is damaged.
-const DAMAGED_RECORDS: [&[u8]; 7] = [
-    // A record that is cut off.
-    &[0xA5, 0, 0, 0],
-    &[0xA5, 0, 0, 0, 6, 1, 0, 0, 0, 1],
-    // No event, 65 events, no such event, an event of no byte, and a byte too many.
-    &[0xA5, 0, 0, 0, 1, 0, 0],
-    &[0xA5, 0, 0, 0, 6, 65, 0, 0, 0, 1, 1, 0],
-    &[0xA5, 0, 0, 0, 6, 1, 0, 0, 0, 1, 7, 0],
-    &[0xA5, 0, 0, 0, 5, 1, 0, 0, 0, 0, 0],
-    &[0xA5, 0, 0, 0, 7, 1, 0, 0, 0, 1, 1, 0, 0],
 ];
 
 #[test]
 fn records_are_read_up_to_a_closed_gate_or_damage(rt: HostRuntime) -> Result<(), Fail> {
-    for &(bytes, counts, posts) in &FOUND {
-        assert!(rt; is_found(rt.alloc(), bytes, Ok((Side::A, counts, posts)))?);
-    }
-    for &(bytes, place) in &DAMAGED {
-        assert!(rt; is_damaged(rt.alloc(), bytes, place)?);
-    }
-    for bytes in &DAMAGED_RECORDS {
-        assert!(rt; is_damaged(rt.alloc(), bytes, 1)?);
+    for &(bytes, wanted) in &SCANS {
+        assert!(rt; is_found(rt.alloc(), bytes, wanted)?);
     }
     Ok(())
 }

@@ -101,7 +101,10 @@ const ALL: [&[u8]; 5] = [
 // The state that stands on a side behind the head, and before a closed gate.
 fn state_of(side: &[u8]) -> Result<&[u8], Fail> {
     let end = side.len().saturating_sub(1);
-    Ok(side.get(14..end).ok_or("there is no state")?)
+    match side.get(14..end) {
+        Some(state) => Ok(state),
+        None => Err("there is no state".into()),
+    }
 }
 
 // What the node is on a side, under that generation, which is 1 or more.
@@ -126,6 +129,11 @@ fn last_side_of(alloc: Global, node: Node, generation: u64) -> Result<Vec<u8>, F
     side
 }
 
+// Whether the bytes are what a node that is given up is on a side, under that generation.
+fn is_on_side(alloc: Global, node: Node, generation: u64, bytes: &[u8]) -> Result<bool, Fail> {
+    Ok(last_side_of(alloc, node, generation)?.as_slice() == bytes)
+}
+
 // The node on a side of these bytes, and the place behind its state.
 fn node_on(alloc: Global, side: &[u8]) -> Result<(Node, u64), Fail> {
     let mut site = holding(alloc, side)?;
@@ -136,10 +144,12 @@ fn node_on(alloc: Global, side: &[u8]) -> Result<(Node, u64), Fail> {
 
 // Whether the node that is read off a side is written there again, byte for byte.
 fn is_read_and_written(alloc: Global, side: &[u8]) -> Result<bool, Fail> {
-    let generation = side.get(8).ok_or("there is no generation")?;
+    let Some(generation) = side.get(8) else {
+        return Err("there is no generation".into());
+    };
     let (node, place) = node_on(alloc, side)?;
-    let again = last_side_of(alloc, node, u64::from(*generation))?;
-    Ok(again.as_slice() == side && place as usize == side.len().saturating_sub(1))
+    let is_same = is_on_side(alloc, node, u64::from(*generation), side)?;
+    Ok(is_same && place as usize == side.len().saturating_sub(1))
 }
 
 #[test]
@@ -167,47 +177,33 @@ fn each_part_of_a_shared_state_is_damaged(rt: HostRuntime) -> Result<(), Fail> {
     Ok(())
 }
 
-// What the node that begins so is on its first side.
-fn formatted(
-    alloc: Global,
-    me: u32,
-    initial: &[u32],
-    contacts: &[u32],
-    share: usize,
-) -> Result<Vec<u8>, Fail> {
-    let node = opened_with_share(alloc, me, initial, contacts, share)?;
-    last_side_of(alloc, node, 1)
-}
-
 #[test]
 fn a_share_is_formatted(rt: HostRuntime) -> Result<(), Fail> {
-    let side = formatted(rt.alloc(), 1, &[1], &[], 32)?;
-    let is_member = side.as_slice() == FORMATTED.as_slice();
-    drop(side);
-    assert!(rt; is_member);
-    let side = formatted(rt.alloc(), 4, &[], &[1], 2)?;
-    let is_entrant = side.as_slice() == ENTRANT.as_slice();
-    drop(side);
-    assert!(rt; is_entrant);
+    let member = opened_with_share(rt.alloc(), 1, &[1], &[], 32)?;
+    assert!(rt; is_on_side(rt.alloc(), member, 1, &FORMATTED)?);
+    let entrant = opened_with_share(rt.alloc(), 4, &[], &[1], 2)?;
+    assert!(rt; is_on_side(rt.alloc(), entrant, 1, &ENTRANT)?);
     Ok(())
 }
 
 #[test]
 fn a_share_of_1_is_written_in_version_2(rt: HostRuntime) -> Result<(), Fail> {
-    let side = formatted(rt.alloc(), 1, &[1], &[], 1)?;
+    let member = opened_with_share(rt.alloc(), 1, &[1], &[], 1)?;
+    let side = last_side_of(rt.alloc(), member, 1)?;
     let is_second = side.len() == 134 && side[9] == 2;
     drop(side);
     assert!(rt; is_second);
     Ok(())
 }
 
-// The first request of a session.
-fn ask(session: u64, command: Command) -> Event {
-    Event::Ask {
+// Takes in the first request of a session.
+fn ask(alloc: Global, node: &mut Node, session: u64, command: Command) -> Result<(), Fail> {
+    let asked = Event::Ask {
         session,
         request: 1,
         command,
-    }
+    };
+    take(alloc, node, asked)
 }
 
 fn store(text: &[u8]) -> Command
@@ -218,10 +214,10 @@ fn store(text: &[u8]) -> Command
 
 // A store is answered, two writing asks begin together, and that one waits.
 fn begin_two(alloc: Global, node: &mut Node, last: Command) -> Result<(), Fail> {
-    take(alloc, node, ask(7, store(b"a")))?;
-    take(alloc, node, ask(8, store(b"b")))?;
-    take(alloc, node, ask(9, Command::WriteMax(5)))?;
-    take(alloc, node, ask(10, last))?;
+    ask(alloc, node, 7, store(b"a"))?;
+    ask(alloc, node, 8, store(b"b"))?;
+    ask(alloc, node, 9, Command::WriteMax(5))?;
+    ask(alloc, node, 10, last)?;
     deliver(alloc, node, 1)?;
     deliver(alloc, node, 2)
 }
@@ -241,31 +237,24 @@ fn with_two(alloc: Global, last: Command) -> Result<Node, Fail> {
     led_to(node, begun)
 }
 
-fn side_of_two(alloc: Global, last: Command) -> Result<Vec<u8>, Fail> {
-    last_side_of(alloc, with_two(alloc, last)?, 2)
-}
-
 #[test]
 fn a_round_is_written_with_all_its_asks(rt: HostRuntime) -> Result<(), Fail> {
-    let side = side_of_two(rt.alloc(), Command::Collect)?;
-    let is_storing = side.as_slice() == STORING.as_slice();
-    drop(side);
-    assert!(rt; is_storing);
+    let node = with_two(rt.alloc(), Command::Collect)?;
+    assert!(rt; is_on_side(rt.alloc(), node, 2, &STORING)?);
     Ok(())
 }
 
-fn side_after_two(alloc: Global) -> Result<Vec<u8>, Fail> {
+// That member once both are answered, which stores back what its collect has seen.
+fn after_two(alloc: Global) -> Result<Node, Fail> {
     let mut node = with_two(alloc, Command::Collect)?;
     let ended = end_two(alloc, &mut node);
-    last_side_of(alloc, led_to(node, ended)?, 3)
+    led_to(node, ended)
 }
 
 #[test]
 fn each_answer_of_a_round_is_kept(rt: HostRuntime) -> Result<(), Fail> {
-    let side = side_after_two(rt.alloc())?;
-    let is_storing_back = side.as_slice() == STORING_BACK.as_slice();
-    drop(side);
-    assert!(rt; is_storing_back);
+    let node = after_two(rt.alloc())?;
+    assert!(rt; is_on_side(rt.alloc(), node, 3, &STORING_BACK)?);
     Ok(())
 }
 
@@ -326,7 +315,8 @@ fn is_of_three(alloc: Global, side: &[u8]) -> Result<bool, Fail> {
 // Three writing asks are pending. A state that has two others has a share of three at least.
 #[test]
 fn a_round_has_no_more_than_the_share(rt: HostRuntime) -> Result<(), Fail> {
-    let side = side_of_two(rt.alloc(), Command::SetFlag)?;
+    let node = with_two(rt.alloc(), Command::SetFlag)?;
+    let side = last_side_of(rt.alloc(), node, 2)?;
     let is_of_three = is_of_three(rt.alloc(), &side);
     drop(side);
     assert!(rt; is_of_three?);

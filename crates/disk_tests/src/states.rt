@@ -337,7 +337,9 @@ pub(crate) fn take(alloc: Global, node: &mut Node, event: Event) -> Result<(), F
 // The node's own post of that number comes back to it.
 pub(crate) fn deliver(alloc: Global, node: &mut Node, number: u64) -> Result<(), Fail> {
     let from = id(1);
-    let post = node.outbox().post(number).ok_or("there is no such post")?;
+    let Some(post) = node.outbox().post(number) else {
+        return Err("there is no such post".into());
+    };
     let message = post.copy(alloc)?;
     let event = Event::Deliver {
         from,
@@ -391,7 +393,9 @@ const PHASE: [u8; 24] = [
 
 // Whether a state that has that part at a place is stored again.
 fn is_stored_with(alloc: Global, bytes: &[u8], at: usize, part: &[u8]) -> Result<bool, Fail> {
-    let rest = bytes.get(at..).ok_or("the state ends before")?;
+    let Some(rest) = bytes.get(at..) else {
+        return Err("the state ends before".into());
+    };
     Ok(rest.starts_with(part) && is_stored_again(alloc, bytes)?)
 }
 

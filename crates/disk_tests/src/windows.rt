@@ -220,7 +220,9 @@ pub(crate) fn is_damaged(alloc: Global, bytes: &[u8], place: u64) -> Result<bool
 
 // Whether the state of a side is damaged up to a place, and as a whole.
 fn are_damaged(alloc: Global, side: &[u8], end: usize) -> Result<bool, Fail> {
-    let part = side.get(..end).ok_or("no state stands there")?;
+    let Some(part) = side.get(..end) else {
+        return Err("no state stands there".into());
+    };
     Ok(is_damaged(alloc, part, 14)? && is_damaged(alloc, side, 14)?)
 }
 
