@@ -114,13 +114,12 @@ fn has_node(alloc: Global, site: &mut MemorySite, node: &Node) -> Result<bool, F
     has_state
 }
 
-// Whether a whole checkpoint is done, and leaves one closed byte of side A, and the state on side B.
+// Whether a whole checkpoint leaves one closed byte of side A, and the state on side B.
 fn is_moved_over(alloc: Global, site: &mut MemorySite, node: &Node) -> Result<bool, Fail> {
-    Ok(
-        is_moved(alloc, site, node)?
-            && has(alloc, site, Side::A, &[0])?
-            && has_node(alloc, site, node)?,
-    )
+    if !is_moved(alloc, site, node)? {
+        return Err("the checkpoint stopped".into());
+    }
+    Ok(has(alloc, site, Side::A, &[0])? && has_node(alloc, site, node)?)
 }
 
 fn moves_sides(alloc: Global, node: &Node) -> Result<bool, Fail> {
