@@ -1,10 +1,11 @@
 //! A state in pieces, and the steps of a checkpoint.
 
-use crate::memory_sites::contents;
-use crate::states::{answered_node, encoded, opened};
+use crate::memory_sites::{contents, has, two_sides};
+use crate::refusals::led_to;
+use crate::states::{answered_node, is_state_of, opened};
 use cc_checkpoint::{Piece, Pieces, arm, fill, retire, state_length};
 use cc_node::Node;
-use cc_site::{Failing, MemorySite, Side, Site, write_durably};
+use cc_site::{Failing, MemorySite, Side, Site};
 use std::alloc::Global;
 use std::test::*;
 
@@ -18,26 +19,23 @@ fn put_pieces(pieces: &mut Pieces, piece: &mut Piece, all: &mut Vec<u8>) -> Resu
 }
 
 // What they are together.
-fn put_joined(alloc: Global, node: &Node, all: &mut Vec<u8>) -> Result<(), Fail> {
+fn joined(alloc: Global, node: &Node) -> Result<Vec<u8>, Fail> {
     let mut piece = Piece::new(alloc)?;
     let mut pieces = Pieces::new(node);
-    let put = put_pieces(&mut pieces, &mut piece, all);
+    let mut all = Vec::new(alloc);
+    let put = put_pieces(&mut pieces, &mut piece, &mut all);
     drop(pieces);
     drop(piece);
-    put
+    led_to(all, put)
 }
 
 // Whether the pieces of a node's state are its plain spelling, as long as is told.
 fn comes_in_pieces(alloc: Global, node: &Node) -> Result<bool, Fail> {
-    let plain = encoded(alloc, node)?;
-    let mut pieces = Vec::new(alloc);
-    let put = put_joined(alloc, node, &mut pieces);
-    let is_long = state_length(node) == plain.len() as u64;
-    let is_plain = pieces.as_slice() == plain.as_slice();
+    let pieces = joined(alloc, node)?;
+    let is_long = state_length(node) == pieces.len() as u64;
+    let is_plain = is_state_of(alloc, node, &pieces);
     drop(pieces);
-    drop(plain);
-    put?;
-    Ok(is_plain && is_long)
+    Ok(is_plain? && is_long)
 }
 
 // It has 119 bytes.
@@ -47,7 +45,7 @@ fn a_state_comes_in_pieces(rt: HostRuntime) -> Result<(), Fail> {
     let comes_in_pieces = comes_in_pieces(rt.alloc(), &member);
     let length = state_length(&member);
     drop(member);
-    assert!(rt; (length, comes_in_pieces?) == (119, true));
+    assert!(rt; comes_in_pieces? && length == 119);
     Ok(())
 }
 
@@ -84,19 +82,9 @@ fn moves_over<S: Site>(site: &mut S, node: &Node, piece: &mut Piece) -> bool {
         && retire(site, Side::A).is_ok()
 }
 
-// Writes one closed byte on each side. Whether that was done.
-fn shuts<S: Site>(site: &mut S) -> bool {
-    write_durably(site, Side::A, 0, &[0]).is_ok() && write_durably(site, Side::B, 0, &[0]).is_ok()
-}
-
-// Two sides of one closed byte each.
-pub(crate) fn two_sides(alloc: Global) -> Result<MemorySite, Fail> {
-    let mut site = MemorySite::new(alloc, 0)?;
-    if !shuts(&mut site) {
-        drop(site);
-        return Err("the write failed")?;
-    }
-    Ok(site)
+/// Two sides of one closed byte each.
+pub(crate) fn shut_sides(alloc: Global) -> Result<MemorySite, Fail> {
+    two_sides(alloc, &[0], &[0])
 }
 
 // Whether a whole checkpoint is done, from the first side on.
@@ -110,50 +98,49 @@ fn is_moved(alloc: Global, site: &mut MemorySite, node: &Node) -> Result<bool, F
 // What stands before the state of 119 bytes: an open gate, generation 2, version 2, and that length.
 const HEAD: [u8; 14] = [0xA5, 0, 0, 0, 0, 0, 0, 0, 2, 2, 0, 0, 0, 0x77];
 
-// Whether a side has that head, the state, and a closed gate.
-fn has_state(side: &[u8], state: &[u8]) -> bool {
-    side.get(..14) == Some(HEAD.as_slice())
-        && side.get(14..133) == Some(state)
-        && side.get(133..) == Some([0].as_slice())
-}
-
-fn is_closed(alloc: Global, site: &mut MemorySite) -> Result<bool, Fail> {
-    Ok(contents(alloc, site, Side::A)?.as_slice() == [0].as_slice())
+// Whether a side has that head, the state of a node, and a closed gate.
+fn has_state(alloc: Global, side: &[u8], node: &Node) -> Result<bool, Fail> {
+    let Some(state) = side.get(14..133) else {
+        return Err("there is no state".into());
+    };
+    let is_state = is_state_of(alloc, node, state)?;
+    Ok(is_state && side.starts_with(&HEAD) && side.ends_with(&[0]) && side.len() == 134)
 }
 
 fn has_node(alloc: Global, site: &mut MemorySite, node: &Node) -> Result<bool, Fail> {
-    let state = encoded(alloc, node)?;
-    let new = contents(alloc, site, Side::B)?;
-    Ok(has_state(&new, &state))
+    let side = contents(alloc, site, Side::B)?;
+    let has_state = has_state(alloc, &side, node);
+    drop(side);
+    has_state
 }
 
 // Whether a whole checkpoint leaves one closed byte of side A, and the state on side B.
-fn is_moved_over(alloc: Global, site: &mut MemorySite, node: &Node) -> Result<[bool; 2], Fail> {
+fn is_moved_over(alloc: Global, site: &mut MemorySite, node: &Node) -> Result<bool, Fail> {
     if !is_moved(alloc, site, node)? {
-        return Err("the checkpoint stopped")?;
+        return Err("the checkpoint stopped".into());
     }
-    Ok([is_closed(alloc, site)?, has_node(alloc, site, node)?])
+    Ok(has(alloc, site, Side::A, &[0])? && has_node(alloc, site, node)?)
 }
 
-fn moved_over(alloc: Global, node: &Node) -> Result<[bool; 2], Fail> {
-    let mut site = two_sides(alloc)?;
-    let moved = is_moved_over(alloc, &mut site, node);
+fn moves_sides(alloc: Global, node: &Node) -> Result<bool, Fail> {
+    let mut site = shut_sides(alloc)?;
+    let is_moved_over = is_moved_over(alloc, &mut site, node);
     drop(site);
-    moved
+    is_moved_over
 }
 
 #[test]
 fn a_checkpoint_moves_to_the_other_side(rt: HostRuntime) -> Result<(), Fail> {
     let member = opened(rt.alloc(), 1, &[1], &[])?;
-    let moved = moved_over(rt.alloc(), &member);
+    let moves_sides = moves_sides(rt.alloc(), &member);
     drop(member);
-    assert!(rt; moved? == [true; 2]);
+    assert!(rt; moves_sides?);
     Ok(())
 }
 
 // Whether a checkpoint is done where that disk call fails, and all after it.
 fn is_done_in_spite_of(alloc: Global, node: &Node, call: u64) -> Result<bool, Fail> {
-    let mut site = two_sides(alloc)?;
+    let mut site = shut_sides(alloc)?;
     site.fuse(call, Failing::Stop);
     let is_done = is_moved(alloc, &mut site, node);
     drop(site);
@@ -167,7 +154,7 @@ fn first_unneeded(alloc: Global, node: &Node, from: u64) -> Result<u64, Fail> {
             return Ok(call);
         }
     }
-    Err("the checkpoint doesn't end")?
+    Err("the checkpoint doesn't end".into())
 }
 
 // The calls 0 to 3 made the sides. To fill a side takes 7, to arm it 2, and to retire one 4.

@@ -1,7 +1,8 @@
 //! Which side is in use.
 
+use crate::memory_sites::two_sides;
 use cc_checkpoint::{InUse, OpenFault, Peeked, choose, peek};
-use cc_site::{DeviceFault, MemorySite, Side, Site, write_durably};
+use cc_site::Side;
 use std::alloc::Global;
 use std::test::*;
 
@@ -16,26 +17,25 @@ const UNDER_3: &[u8] = &[0xA5, 0, 0, 0, 0, 0, 0, 0, 3];
 
 const UNDER_4: &[u8] = &[0xA5, 0, 0, 0, 0, 0, 0, 0, 4, 2];
 
-fn write_sides<S: Site>(site: &mut S, a: &[u8], b: &[u8]) -> Result<(), DeviceFault> {
-    write_durably(site, Side::A, 0, a)?;
-    write_durably(site, Side::B, 0, b)
+// Whether side A tells that where it has these bytes.
+fn tells(alloc: Global, side: &[u8], wanted: Peeked) -> Result<bool, Fail> {
+    let mut site = two_sides(alloc, side, CLOSED)?;
+    let told = peek(&mut site, Side::A);
+    drop(site);
+    Ok(told == Ok(wanted))
 }
 
-// What side A tells where both sides have these bytes, and which is in use.
-type Told = (Result<Peeked, DeviceFault>, Result<InUse, OpenFault>);
-
-fn told(alloc: Global, a: &[u8], b: &[u8]) -> Result<Told, Fail> {
-    let mut site = MemorySite::new(alloc, 0)?;
-    let written = write_sides(&mut site, a, b);
-    let told = (peek(&mut site, Side::A), choose(&mut site));
+// Which side is in use where both have these bytes, or why none is.
+fn chosen(alloc: Global, a: &[u8], b: &[u8]) -> Result<Result<InUse, OpenFault>, Fail> {
+    let mut site = two_sides(alloc, a, b)?;
+    let chosen = choose(&mut site);
     drop(site);
-    written.or(Err("the write failed"))?;
-    Ok(told)
+    Ok(chosen)
 }
 
 #[test]
 fn an_armed_side_tells_its_generation(rt: HostRuntime) -> Result<(), Fail> {
-    for &(side, peeked) in &[
+    for &(side, wanted) in &[
         ([].as_slice(), Peeked::Closed),
         (CLOSED, Peeked::Closed),
         (SHORT, Peeked::Short),
@@ -43,8 +43,7 @@ fn an_armed_side_tells_its_generation(rt: HostRuntime) -> Result<(), Fail> {
         (UNDER_3, Peeked::Armed(3)),
         (UNDER_4, Peeked::Armed(4)),
     ] {
-        let (told, _) = told(rt.alloc(), side, CLOSED)?;
-        assert!(rt; told == Ok(peeked));
+        assert!(rt; tells(rt.alloc(), side, wanted)?);
     }
     Ok(())
 }
@@ -57,8 +56,8 @@ fn the_greater_generation_is_in_use(rt: HostRuntime) -> Result<(), Fail> {
         (UNDER_4, UNDER_3, Side::A, 4),
         (UNDER_3, UNDER_4, Side::B, 4),
     ] {
-        let (_, told) = told(rt.alloc(), a, b)?;
-        assert!(rt; told == Ok(InUse { side, generation }));
+        let chosen = chosen(rt.alloc(), a, b)?;
+        assert!(rt; chosen == Ok(InUse { side, generation }));
     }
     Ok(())
 }
@@ -73,8 +72,7 @@ fn sides_of_which_none_is_in_use(rt: HostRuntime) -> Result<(), Fail> {
         (UNDER_4, SHORT, OpenFault::Damaged(Side::B, 1)),
         (UNDER_4, UNDER_4, OpenFault::Damaged(Side::B, 1)),
     ] {
-        let (_, told) = told(rt.alloc(), a, b)?;
-        assert!(rt; told == Err(fault));
+        assert!(rt; chosen(rt.alloc(), a, b)? == Err(fault));
     }
     Ok(())
 }

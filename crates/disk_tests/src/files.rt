@@ -2,6 +2,7 @@
 
 ghost use Rattle.std.specs.Prelude.{◌≤◌, IfOk};
 
+use crate::refusals::says;
 use cc_files::{FileSite, NoOutlet, Outlet, SiteFault, read_whole, write_whole};
 use cc_messages::{Answer, Message};
 use cc_site::{Call, DeviceFault, Side, Site};
@@ -53,43 +54,43 @@ impl FileExt for Scant {
     }
 }
 
+// Why eight bytes of a file can't be written, if they can't, and how many calls that took.
+fn written(most: usize, fails_at: u64) -> (Option<ErrorKind>, u64) {
+    let file = Scant::new(most, fails_at);
+    let kind = kind_of(write_whole(&file, 0, b"abcdefgh"));
+    (kind, file.calls.get())
+}
+
+// The same of reading them.
+fn read(most: usize, fails_at: u64, into: &mut [u8; 8]) -> (Option<ErrorKind>, u64) {
+    let file = Scant::new(most, fails_at);
+    let kind = kind_of(read_whole(&file, 0, into));
+    (kind, file.calls.get())
+}
+
 #[test]
-fn what_a_call_leaves_is_asked_for_next(rt: HostRuntime) -> Result<(), Fail> {
-    let file = Scant::new(3, 9);
-    assert!(rt; write_whole(&file, 0, b"abcdefgh").is_ok());
-    assert!(rt; file.calls.get() == 3);
+fn what_a_call_leaves_is_asked_for_next(rt: HostRuntime) {
     let mut into = [0; 8];
-    let file = Scant::new(3, 9);
-    assert!(rt; read_whole(&file, 0, &mut into).is_ok());
-    assert!(rt; file.calls.get() == 3);
+    assert!(rt; written(3, 9) == (None, 3));
+    assert!(rt; read(3, 9, &mut into) == (None, 3));
     assert!(rt; into == [7; 8]);
-    Ok(())
 }
 
 #[test]
-fn nothing_is_tried_twice(rt: HostRuntime) -> Result<(), Fail> {
+fn nothing_is_tried_twice(rt: HostRuntime) {
     let mut into = [0; 8];
-    for fails_at in 0..3 {
-        let file = Scant::new(3, fails_at);
-        assert!(rt; write_whole(&file, 0, b"abcdefgh").is_err());
-        assert!(rt; file.calls.get() == fails_at + 1);
-        let file = Scant::new(3, fails_at);
-        assert!(rt; read_whole(&file, 0, &mut into).is_err());
-        assert!(rt; file.calls.get() == fails_at + 1);
+    for &(fails_at, calls) in &[(0, 1), (1, 2), (2, 3)] {
+        let once = (Some(ErrorKind::Interrupted), calls);
+        assert!(rt; written(3, fails_at) == once);
+        assert!(rt; read(3, fails_at, &mut into) == once);
     }
-    Ok(())
 }
 
 #[test]
-fn a_call_that_moves_nothing_ends_it(rt: HostRuntime) -> Result<(), Fail> {
+fn a_call_that_moves_nothing_ends_it(rt: HostRuntime) {
     let mut into = [0; 8];
-    let file = Scant::new(0, 9);
-    let read = read_whole(&file, 0, &mut into);
-    let written = write_whole(&file, 0, b"abcdefgh");
-    assert!(rt; kind_of(read) == Some(ErrorKind::UnexpectedEof));
-    assert!(rt; kind_of(written) == Some(ErrorKind::WriteZero));
-    assert!(rt; file.calls.get() == 2);
-    Ok(())
+    assert!(rt; read(0, 9, &mut into) == (Some(ErrorKind::UnexpectedEof), 1));
+    assert!(rt; written(0, 9) == (Some(ErrorKind::WriteZero), 1));
 }
 
 // Keeps the last failure that it is told of.
@@ -108,37 +109,49 @@ impl Outlet for Told<'_> {
     }
 }
 
+// Whether a read of an empty side fails, and an outlet is told why.
+fn is_told(rt: &HostRuntime, folder: &str) -> Result<bool, Fail> {
+    let told = Cell::new(None);
+    let mut site = FileSite::open(rt, rt.alloc(), folder, Told(&told))?;
+    let failed = site.read(Side::B, 0, &mut [0; 8]).is_err();
+    drop(site);
+    Ok(failed && told.get() == Some((Side::B, ErrorKind::UnexpectedEof)))
+}
+
 #[test]
 fn an_outlet_is_told_why_a_call_failed(rt: HostRuntime) -> Result<(), Fail> {
     made(&rt, "told-folder")?;
-    let told = Cell::new(None);
-    let mut site = FileSite::open(&rt, rt.alloc(), "told-folder", Told(&told))?;
-    let mut into = [0; 8];
-    let outcome = site.read(Side::B, 0, &mut into);
-    drop(site);
-    assert!(rt; outcome.is_err());
-    assert!(rt; told.get() == Some((Side::B, ErrorKind::UnexpectedEof)));
+    assert!(rt; is_told(&rt, "told-folder")?);
     Ok(())
 }
 
 fn kind_of(outcome: io::Result<()>) -> Option<ErrorKind> {
-    outcome.err().map(|error| error.kind())
+    match outcome {
+        Ok(()) => None,
+        Err(error) => {
+            let kind = error.kind();
+            drop(error);
+            Some(kind)
+        }
+    }
 }
 
-// Why the folder can't be opened, if it can't.
-fn refused(rt: &HostRuntime, folder: &str) -> Option<SiteFault> {
-    FileSite::open(rt, rt.alloc(), folder, NoOutlet).err()
+// Whether the folder can't be opened, for the call Length of that side.
+fn is_refused(rt: &HostRuntime, folder: &str, side: Side) -> bool {
+    let call = Call::Length;
+    let wanted = SiteFault::Device(DeviceFault { side, call });
+    match FileSite::open(rt, rt.alloc(), folder, NoOutlet) {
+        Ok(site) => {
+            drop(site);
+            false
+        }
+        Err(fault) => fault == wanted,
+    }
 }
 
 // The site of a folder.
 fn site(rt: &HostRuntime, folder: &str) -> Result<FileSite<NoOutlet>, Fail> {
     Ok(FileSite::open(rt, rt.alloc(), folder, NoOutlet)?)
-}
-
-// The call Length of a side, as a fault.
-fn unopened(side: Side) -> Option<SiteFault> {
-    let call = Call::Length;
-    Some(SiteFault::Device(DeviceFault { side, call }))
 }
 
 // A new folder.
@@ -148,11 +161,14 @@ fn made(rt: &HostRuntime, folder: &str) -> Result<(), Fail> {
     Ok(())
 }
 
-#[test]
-fn a_folder_has_to_exist(rt: HostRuntime) -> Result<(), Fail> {
-    let fault = refused(&rt, "no-such-folder");
-    assert!(rt; fault == unopened(Side::A));
+fn remove(rt: &HostRuntime, folder: &str) -> Result<(), Fail> {
+    fs::remove_dir_all(rt, folder)?;
     Ok(())
+}
+
+#[test]
+fn a_folder_has_to_exist(rt: HostRuntime) {
+    assert!(rt; is_refused(&rt, "no-such-folder", Side::A));
 }
 
 // Writes six bytes, cuts two off, and reads the other four.
@@ -165,53 +181,57 @@ fn written_and_cut(site: &mut FileSite<NoOutlet>) -> Result<[u8; 4], DeviceFault
     Ok(into)
 }
 
-// How long both sides are.
-fn lengths(site: &mut FileSite<NoOutlet>) -> Result<(u64, u64), DeviceFault> {
-    Ok((site.length(Side::A)?, site.length(Side::B)?))
+// Whether both sides are so long.
+fn has_lengths(site: &mut FileSite<NoOutlet>, a: u64, b: u64) -> bool {
+    site.length(Side::A) == Ok(a) && site.length(Side::B) == Ok(b)
 }
 
-// How long both sides of a new folder are, what is written, and whether another one opens the folder meanwhile.
-type Opened = (
-    Result<(u64, u64), DeviceFault>,
-    Result<[u8; 4], DeviceFault>,
-    Option<SiteFault>,
-);
+// Whether both sides of a new folder are empty, and take what is written.
+fn is_written(site: &mut FileSite<NoOutlet>) -> bool {
+    has_lengths(site, 0, 0) && written_and_cut(site) == Ok(*b"abcd")
+}
 
-fn opened(rt: &HostRuntime, folder: &str) -> Result<Opened, Fail> {
+// The same, and whether no other one opens the folder meanwhile.
+fn is_taken(rt: &HostRuntime, folder: &str) -> Result<bool, Fail> {
     let mut first = site(rt, folder)?;
-    let opened = (
-        lengths(&mut first),
-        written_and_cut(&mut first),
-        refused(rt, folder),
-    );
+    let is_written = is_written(&mut first);
+    let is_refused = is_refused(rt, folder, Side::A);
     drop(first);
-    Ok(opened)
+    Ok(is_written && is_refused)
 }
 
-fn lengths_again(rt: &HostRuntime, folder: &str) -> Result<Result<(u64, u64), DeviceFault>, Fail> {
+// Whether what was written is there again.
+fn is_kept(rt: &HostRuntime, folder: &str) -> Result<bool, Fail> {
     let mut second = site(rt, folder)?;
-    let lengths = lengths(&mut second);
+    let is_kept = has_lengths(&mut second, 0, 4);
     drop(second);
-    Ok(lengths)
+    Ok(is_kept)
 }
 
 #[test]
 fn a_folder_is_a_site(rt: HostRuntime) -> Result<(), Fail> {
     const FOLDER: &str = "file_site_test";
     made(&rt, FOLDER)?;
-    let opened = opened(&rt, FOLDER)?;
-    assert!(rt; opened == (Ok((0, 0)), Ok(*b"abcd"), unopened(Side::A)));
-    assert!(rt; lengths_again(&rt, FOLDER)? == Ok((0, 4)));
-    fs::remove_dir_all(&rt, FOLDER)?;
-    Ok(())
+    assert!(rt; is_taken(&rt, FOLDER)?);
+    assert!(rt; is_kept(&rt, FOLDER)?);
+    remove(&rt, FOLDER)
 }
 
-// Why four bytes of an empty side can't be read.
-fn fault_of_short(rt: &HostRuntime, folder: &str) -> Result<Option<DeviceFault>, Fail> {
+// Whether four bytes of an empty side can't be read.
+fn is_short(rt: &HostRuntime, folder: &str) -> Result<bool, Fail> {
+    let side = Side::B;
+    let call = Call::Read;
     let mut short = site(rt, folder)?;
-    let fault = short.read(Side::B, 0, &mut [0; 4]).err();
+    let read = short.read(side, 0, &mut [0; 4]);
     drop(short);
-    Ok(fault)
+    Ok(read == Err(DeviceFault { side, call }))
+}
+
+// Puts a folder in the place of a file.
+fn replace(rt: &HostRuntime, file: &str) -> Result<(), Fail> {
+    fs::remove_file(rt, file)?;
+    fs::create_dir(rt, file)?;
+    Ok(())
 }
 
 // A read past the end gives nothing too early, and a side is named by its file.
@@ -219,24 +239,26 @@ fn fault_of_short(rt: &HostRuntime, folder: &str) -> Result<Option<DeviceFault>,
 fn a_site_of_files_names_its_faults(rt: HostRuntime) -> Result<(), Fail> {
     const FOLDER: &str = "file_site_faults";
     made(&rt, FOLDER)?;
-    let side = Side::B;
-    let call = Call::Read;
-    assert!(rt; fault_of_short(&rt, FOLDER)? == Some(DeviceFault { side, call }));
-    fs::remove_file(&rt, "file_site_faults/side-b")?;
-    fs::create_dir(&rt, "file_site_faults/side-b")?;
-    assert!(rt; refused(&rt, FOLDER) == unopened(Side::B));
-    fs::remove_dir_all(&rt, FOLDER)?;
-    Ok(())
+    assert!(rt; is_short(&rt, FOLDER)?);
+    replace(&rt, "file_site_faults/side-b")?;
+    assert!(rt; is_refused(&rt, FOLDER, Side::B));
+    remove(&rt, FOLDER)
 }
 
-fn says(rt: &HostRuntime, fault: SiteFault, wanted: &str) -> Result<bool, Fail> {
-    Ok(format!(in rt.alloc(); "{fault}")?.as_str() == wanted)
-}
+const LENGTH: DeviceFault = DeviceFault {
+    side: Side::B,
+    call: Call::Length,
+};
+
+const FAULT_TEXTS: [(SiteFault, &str); 2] = [
+    (SiteFault::Device(LENGTH), "Device B Length"),
+    (SiteFault::NoMemory, "NoMemory"),
+];
 
 #[test]
 fn faults_of_a_folder_print_their_names(rt: HostRuntime) -> Result<(), Fail> {
-    let fault = unopened(Side::B).ok_or("a fault")?;
-    assert!(rt; says(&rt, fault, "Device B Length")?);
-    assert!(rt; says(&rt, SiteFault::NoMemory, "NoMemory")?);
+    for (fault, wanted) in &FAULT_TEXTS {
+        assert!(rt; says(rt.alloc(), fault, wanted)?);
+    }
     Ok(())
 }

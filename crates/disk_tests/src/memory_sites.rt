@@ -1,6 +1,6 @@
 //! A site in memory: its calls, its fuse and its images.
 
-use crate::refusals::unless_failed;
+use crate::refusals::{led_to, says, unless_failed};
 use cc_messages::{Answer, Message, Output};
 use cc_site::{
     Call, Choice, DeviceFault, Failing, MemorySite, Side, Site, cut_durably, write_durably,
@@ -9,33 +9,66 @@ use cc_views::NodeId;
 use std::alloc::Global;
 use std::test::*;
 
+const UNREAD_LENGTH: &str = "the length can't be read";
+
 // Writes behind what is there, or over it.
 fn put<S: Site>(site: &mut S, side: Side, place: u64, bytes: &[u8]) -> Result<(), Fail> {
-    let length = site.length(side).or(Err("the length can't be read"))?;
+    let Ok(length) = site.length(side) else {
+        return Err(UNREAD_LENGTH.into());
+    };
     if length < place {
-        return Err("the place is past the end")?;
+        return Err("the place is past the end".into());
     }
     let written = site.write_at(side, place, bytes);
     let is_as_before = site.length(side) == Ok(length);
     unless_failed(written, is_as_before)
 }
 
-// Bytes that are sure, at the start of a side.
-fn keep(site: &mut MemorySite, side: Side, bytes: &[u8]) -> Result<(), Fail> {
-    write_durably(site, side, 0, bytes).or(Err("the write failed"))?;
-    Ok(())
+/// Bytes that are sure, at the start of a side.
+pub(crate) fn keep(site: &mut MemorySite, side: Side, bytes: &[u8]) -> Result<(), Fail> {
+    match write_durably(site, side, 0, bytes) {
+        Ok(()) => Ok(()),
+        Err(_) => Err("the write failed".into()),
+    }
+}
+
+fn keep_both(site: &mut MemorySite, a: &[u8], b: &[u8]) -> Result<(), Fail> {
+    keep(site, Side::A, a)?;
+    keep(site, Side::B, b)
+}
+
+/// A site whose sides have these bytes.
+pub(crate) fn two_sides(alloc: Global, a: &[u8], b: &[u8]) -> Result<MemorySite, Fail> {
+    let mut site = MemorySite::new(alloc, 0)?;
+    let kept = keep_both(&mut site, a, b);
+    led_to(site, kept)
 }
 
 /// All that a side has.
 pub(crate) fn contents<S: Site>(alloc: Global, site: &mut S, side: Side) -> Result<Vec<u8>, Fail> {
-    let length = site.length(side).or(Err("the length can't be read"))?;
+    let Ok(length) = site.length(side) else {
+        return Err(UNREAD_LENGTH.into());
+    };
     let mut bytes = vec![in alloc; 0; length as usize]?;
-    site.read(side, 0, &mut bytes).or(Err("the read failed"))?;
+    if site.read(side, 0, &mut bytes).is_err() {
+        drop(bytes);
+        return Err("the read failed".into());
+    }
     Ok(bytes)
 }
 
-// Whether a crash leaves these bytes of a side.
-fn is_left(
+/// Whether a side has just these bytes.
+pub(crate) fn has<S: Site>(
+    alloc: Global,
+    site: &mut S,
+    side: Side,
+    bytes: &[u8],
+) -> Result<bool, Fail> {
+    Ok(contents(alloc, site, side)?.as_slice() == bytes)
+}
+
+/// Whether a crash leaves these bytes of a side.
+pub(crate) fn is_left(
     alloc: Global,
     site: &MemorySite,
     side: Side,
@@ -45,9 +78,9 @@ fn is_left(
     let image = site.image(alloc, &choice);
     drop(choice);
     let mut image = image?;
-    let left = contents(alloc, &mut image, side);
+    let is_left = has(alloc, &mut image, side, bytes);
     drop(image);
-    Ok(left?.as_slice() == bytes)
+    is_left
 }
 
 /// The id of this number, which is at least 1.
@@ -64,29 +97,17 @@ fn tear(site: &mut MemorySite) -> Result<(), Fail> {
 // Three bytes that are sure, the middle one written over, and two more behind them.
 fn torn(alloc: Global) -> Result<MemorySite, Fail> {
     let mut site = MemorySite::new(alloc, 1)?;
-    match tear(&mut site) {
-        Ok(()) => Ok(site),
-        Err(fault) => {
-            drop(site);
-            Err(fault)
-        }
-    }
+    let torn = tear(&mut site);
+    led_to(site, torn)
 }
 
 // What a read gives, touched places filled, and the end where the side was extended.
-fn are_left(alloc: Global, site: &MemorySite) -> Result<[bool; 3], Fail> {
-    let a = Side::A;
-    Ok([
-        is_left(alloc, site, a, Choice::Read, &[1, 9, 3, 4, 5])?,
-        is_left(
-            alloc,
-            site,
-            a,
-            Choice::Fill(0xA5),
-            &[1, 0xA5, 3, 0xA5, 0xA5],
-        )?,
-        is_left(alloc, site, a, Choice::Short, &[1, 9, 3])?,
-    ])
+fn are_left(alloc: Global, site: &MemorySite) -> Result<bool, Fail> {
+    let filled = [1, 0xA5, 3, 0xA5, 0xA5];
+    let is_read = is_left(alloc, site, Side::A, Choice::Read, &[1, 9, 3, 4, 5])?;
+    let is_filled = is_left(alloc, site, Side::A, Choice::Fill(0xA5), &filled)?;
+    let is_short = is_left(alloc, site, Side::A, Choice::Short, &[1, 9, 3])?;
+    Ok(is_read && is_filled && is_short)
 }
 
 #[test]
@@ -94,7 +115,7 @@ fn a_crash_reads_fills_or_ends_torn_bytes(rt: HostRuntime) -> Result<(), Fail> {
     let site = torn(rt.alloc())?;
     let are_left = are_left(rt.alloc(), &site);
     drop(site);
-    assert!(rt; are_left? == [true; 3]);
+    assert!(rt; are_left?);
     Ok(())
 }
 
@@ -103,12 +124,11 @@ fn laid(alloc: Global) -> Result<Choice, Fail> {
 }
 
 // Side A takes three of the bytes, and side B the fourth.
-fn are_laid(alloc: Global, site: &mut MemorySite) -> Result<[bool; 2], Fail> {
+fn are_laid(alloc: Global, site: &mut MemorySite) -> Result<bool, Fail> {
     put(site, Side::B, 0, &[6, 6])?;
-    Ok([
-        is_left(alloc, site, Side::A, laid(alloc)?, &[1, 7, 3, 8, 9])?,
-        is_left(alloc, site, Side::B, laid(alloc)?, &[10, 6])?,
-    ])
+    let takes_a = is_left(alloc, site, Side::A, laid(alloc)?, &[1, 7, 3, 8, 9])?;
+    let takes_b = is_left(alloc, site, Side::B, laid(alloc)?, &[10, 6])?;
+    Ok(takes_a && takes_b)
 }
 
 #[test]
@@ -116,7 +136,7 @@ fn a_crash_lays_bytes_over_both_sides(rt: HostRuntime) -> Result<(), Fail> {
     let mut site = torn(rt.alloc())?;
     let are_laid = are_laid(rt.alloc(), &mut site);
     drop(site);
-    assert!(rt; are_laid? == [true; 2]);
+    assert!(rt; are_laid?);
     Ok(())
 }
 
@@ -127,52 +147,55 @@ fn image_filled(alloc: Global, site: &MemorySite) -> Result<MemorySite, Fail> {
     Ok(image?)
 }
 
-// How many outputs an image has after one was put, and whether what it has is sure.
-fn image_of(alloc: Global, site: &mut MemorySite) -> Result<(usize, bool), Fail> {
+// Whether an image has no output after one was put, and what it has is sure.
+fn is_image_sure(alloc: Global, site: &mut MemorySite) -> Result<bool, Fail> {
     site.ack(id(2), 1);
     let image = image_filled(alloc, site)?;
     let count = image.outputs().len();
     let is_sure = is_left(alloc, &image, Side::A, Choice::Fill(0), &[1, 7, 3, 7, 7]);
     drop(image);
-    Ok((count, is_sure?))
+    Ok(is_sure? && count == 0)
 }
 
 #[test]
 fn an_image_is_sure_and_put_nothing(rt: HostRuntime) -> Result<(), Fail> {
     let mut site = torn(rt.alloc())?;
-    let image = image_of(rt.alloc(), &mut site);
+    let is_image_sure = is_image_sure(rt.alloc(), &mut site);
     drop(site);
-    assert!(rt; image? == (0, true));
+    assert!(rt; is_image_sure?);
     Ok(())
 }
 
-// Puts a byte on side B, and one on side A that is made sure of. What a crash leaves of both.
-fn left_of_one_sync(alloc: Global, site: &mut MemorySite) -> Result<[bool; 2], Fail> {
+// Puts a byte on side B, and one on side A that is made sure of. Whether a crash leaves the second alone.
+fn syncs_one_side(alloc: Global, site: &mut MemorySite) -> Result<bool, Fail> {
     put(site, Side::B, 0, &[1])?;
     keep(site, Side::B.other(), &[2])?;
-    Ok([
-        is_left(alloc, site, Side::A, Choice::Fill(0), &[2])?,
-        is_left(alloc, site, Side::B, Choice::Fill(0), &[0])?,
-    ])
+    let is_sure = is_left(alloc, site, Side::A, Choice::Fill(0), &[2])?;
+    let is_touched = is_left(alloc, site, Side::B, Choice::Fill(0), &[0])?;
+    Ok(is_sure && is_touched)
 }
 
 // A synced side is sure, and the other is not.
 #[test]
 fn a_sync_is_of_one_side(rt: HostRuntime) -> Result<(), Fail> {
     let mut site = MemorySite::new(rt.alloc(), 0)?;
-    let left = left_of_one_sync(rt.alloc(), &mut site);
+    let syncs_one_side = syncs_one_side(rt.alloc(), &mut site);
     drop(site);
-    assert!(rt; left? == [true; 2]);
+    assert!(rt; syncs_one_side?);
     Ok(())
 }
 
 fn cut<S: Site>(site: &mut S, len: u64) -> Result<(), Fail> {
-    let length = site.length(Side::A).or(Err("the length can't be read"))?;
+    let Ok(length) = site.length(Side::A) else {
+        return Err(UNREAD_LENGTH.into());
+    };
     if length < len {
-        return Err("the cut is past the end")?;
+        return Err("the cut is past the end".into());
     }
-    cut_durably(site, Side::A, len).or(Err("the cut failed"))?;
-    Ok(())
+    match cut_durably(site, Side::A, len) {
+        Ok(()) => Ok(()),
+        Err(_) => Err("the cut failed".into()),
+    }
 }
 
 fn left_of_cut(alloc: Global, site: &mut MemorySite) -> Result<bool, Fail> {
@@ -191,54 +214,46 @@ fn a_cut_side_ends_there(rt: HostRuntime) -> Result<(), Fail> {
 
 // Two bytes that are sure, by disk calls 0 to 2: a length, a write and a sync. Call 4 is to fail.
 fn fuse(site: &mut MemorySite, failing: Failing) -> Result<(), Fail> {
-    site.length(Side::A).or(Err("the length can't be read"))?;
+    if site.length(Side::A).is_err() {
+        return Err(UNREAD_LENGTH.into());
+    }
     keep(site, Side::A, &[1, 2])?;
     site.fuse(4, failing);
     Ok(())
 }
 
-type Outcomes = (Result<u64, DeviceFault>, Result<(), DeviceFault>, [bool; 2]);
+// Whether call 3 answers a length, and the write that is call 4 fails.
+fn fails_once(site: &mut MemorySite) -> bool {
+    let write = DeviceFault {
+        side: Side::A,
+        call: Call::Write,
+    };
+    site.length(Side::B) == Ok(0) && site.write_at(Side::A, 0, &[7]) == Err(write)
+}
 
-// The outcomes of the calls 3 and 4, a length and a write; and whether a read gives the byte as it was, and a crash fills it.
-fn fail_once(alloc: Global, site: &mut MemorySite) -> Result<Outcomes, Fail> {
+// The same; and whether a read gives the byte as it was, and a crash fills it.
+fn touches_a_byte(alloc: Global, site: &mut MemorySite) -> Result<bool, Fail> {
     fuse(site, Failing::Once)?;
-    let length = site.length(Side::B);
-    let written = site.write_at(Side::A, 0, &[7]);
-    let read = contents(alloc, site, Side::A)?;
-    let is_read = read.as_slice() == [1, 2].as_slice();
-    drop(read);
-    let is_filled = is_left(alloc, site, Side::A, Choice::Fill(0), &[0, 2])?;
-    Ok((length, written, [is_read, is_filled]))
+    Ok(
+        fails_once(site)
+            && has(alloc, site, Side::A, &[1, 2])?
+            && is_left(alloc, site, Side::A, Choice::Fill(0), &[0, 2])?,
+    )
 }
 
 // The write leaves the byte as a read gives it, and touches it.
 #[test]
 fn a_fuse_fails_one_call(rt: HostRuntime) -> Result<(), Fail> {
     let mut site = MemorySite::new(rt.alloc(), 0)?;
-    let outcomes = fail_once(rt.alloc(), &mut site);
+    let touches_a_byte = touches_a_byte(rt.alloc(), &mut site);
     drop(site);
-    let write = DeviceFault {
-        side: Side::A,
-        call: Call::Write,
-    };
-    assert!(rt; outcomes? == (Ok(0), Err(write), [true; 2]));
+    assert!(rt; touches_a_byte?);
     Ok(())
 }
 
-// The outcomes of the calls 3 to 5 of a disk that stops at the fourth: two lengths and a sync.
-fn stop(site: &mut MemorySite) -> Result<[Option<DeviceFault>; 3], Fail> {
+// Whether call 3 succeeds, and the calls 4 and 5 fail, of a disk that stops at the fourth: two lengths and a sync.
+fn stops(site: &mut MemorySite) -> Result<bool, Fail> {
     fuse(site, Failing::Stop)?;
-    let first = site.length(Side::B).err();
-    let second = site.length(Side::A).err();
-    let third = site.sync(Side::B).err();
-    Ok([first, second, third])
-}
-
-#[test]
-fn a_fuse_stops_the_disk(rt: HostRuntime) -> Result<(), Fail> {
-    let mut site = MemorySite::new(rt.alloc(), 0)?;
-    let stopped = stop(&mut site);
-    drop(site);
     let length = DeviceFault {
         side: Side::A,
         call: Call::Length,
@@ -247,7 +262,19 @@ fn a_fuse_stops_the_disk(rt: HostRuntime) -> Result<(), Fail> {
         side: Side::B,
         call: Call::Sync,
     };
-    assert!(rt; stopped? == [None, Some(length), Some(sync)]);
+    Ok(
+        site.length(Side::B).is_ok()
+            && site.length(Side::A) == Err(length)
+            && site.sync(Side::B) == Err(sync),
+    )
+}
+
+#[test]
+fn a_fuse_stops_the_disk(rt: HostRuntime) -> Result<(), Fail> {
+    let mut site = MemorySite::new(rt.alloc(), 0)?;
+    let stops = stops(&mut site);
+    drop(site);
+    assert!(rt; stops?);
     Ok(())
 }
 
@@ -310,14 +337,10 @@ const NAMES: [(Side, Call, &str); 10] = [
     (Side::B, Call::Sync, "B Sync"),
 ];
 
-fn says(alloc: Global, fault: DeviceFault, wanted: &str) -> Result<bool, Fail> {
-    Ok(format!(in alloc; "{fault}")?.as_str() == wanted)
-}
-
 #[test]
 fn faults_print_their_side_and_call(rt: HostRuntime) -> Result<(), Fail> {
     for &(side, call, name) in &NAMES {
-        assert!(rt; says(rt.alloc(), DeviceFault { side, call }, name)?);
+        assert!(rt; says(rt.alloc(), &DeviceFault { side, call }, name)?);
     }
     Ok(())
 }

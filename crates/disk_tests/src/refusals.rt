@@ -1,5 +1,7 @@
-//! What a call leaves that is refused memory. `make refused-growths` counts what is told here.
+//! What a call leaves that is refused memory, and what a fault says. `make refused-growths` counts what is told here.
 
+use std::alloc::Global;
+use std::fmt::Display;
 use std::test::Fail;
 
 /// A call's answer. Where it failed, what it was to leave as it was is looked at.
@@ -18,4 +20,20 @@ pub(crate) fn unless_failed<T, E: Drop>(
             })?
         }
     }
+}
+
+/// The value, where what was done with it came to its end.
+pub(crate) fn led_to<T: Drop>(value: T, done: Result<(), Fail>) -> Result<T, Fail> {
+    match done {
+        Ok(()) => Ok(value),
+        Err(fail) => {
+            drop(value);
+            Err(fail)
+        }
+    }
+}
+
+/// Whether that is what a fault says.
+pub(crate) fn says<F: Display>(alloc: Global, fault: &F, wanted: &str) -> Result<bool, Fail> {
+    Ok(format!(in alloc; "{fault}")?.as_str() == wanted)
 }

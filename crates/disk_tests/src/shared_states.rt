@@ -4,14 +4,15 @@ ghost use Rattle.std.specs.Prelude.{◌≤◌, length};
 
 use crate::memory_sites::id;
 use crate::records::holding;
-use crate::states::{deliver, led_to, opened_with_share, take, turned};
-use crate::windows::{check_cuts, check_parts, fault, front, read};
+use crate::refusals::led_to;
+use crate::states::{decoder_fault, deliver, opened_with_share, take, turned};
+use crate::windows::{check_cuts, check_parts, fault, front, is_damaged, read};
 use cc_checkpoint::{OpenFault, encode_image};
 use cc_messages::{Command, Event, Message, Refusal};
 use cc_node::Node;
 use cc_sides::Layout;
 use cc_site::Side;
-use cc_states::{StateFault, decode_state};
+use cc_states::StateFault;
 use cc_views::Text;
 use cc_wire::WireFault;
 use std::alloc::Global;
@@ -100,15 +101,37 @@ const ALL: [&[u8]; 5] = [
 // The state that stands on a side behind the head, and before a closed gate.
 fn state_of(side: &[u8]) -> Result<&[u8], Fail> {
     let end = side.len().saturating_sub(1);
-    Ok(side.get(14..end).ok_or("there is no state")?)
+    match side.get(14..end) {
+        Some(state) => Ok(state),
+        None => Err("there is no state".into()),
+    }
 }
 
 // What the node is on a side, under that generation, which is 1 or more.
 fn side_of(alloc: Global, node: &Node, generation: u64) -> Result<Vec<u8>, Fail> {
     let image = encode_image(alloc, generation.max(1), node)?;
+    let side = gated(alloc, &image);
+    drop(image);
+    side
+}
+
+// An image behind an open gate.
+fn gated(alloc: Global, image: &[u8]) -> Result<Vec<u8>, Fail> {
     let mut side = Vec::from_slice(alloc, &[0xA5])?;
-    side.extend_from_slice(&image)?;
+    side.extend_from_slice(image)?;
     Ok(side)
+}
+
+// What a node that is given up is on a side, under that generation.
+fn last_side_of(alloc: Global, node: Node, generation: u64) -> Result<Vec<u8>, Fail> {
+    let side = side_of(alloc, &node, generation);
+    drop(node);
+    side
+}
+
+// Whether the bytes are what a node that is given up is on a side, under that generation.
+fn is_on_side(alloc: Global, node: Node, generation: u64, bytes: &[u8]) -> Result<bool, Fail> {
+    Ok(last_side_of(alloc, node, generation)?.as_slice() == bytes)
 }
 
 // The node on a side of these bytes, and the place behind its state.
@@ -121,11 +144,11 @@ fn node_on(alloc: Global, side: &[u8]) -> Result<(Node, u64), Fail> {
 
 // Whether the node that is read off a side is written there again, byte for byte.
 fn is_read_and_written(alloc: Global, side: &[u8]) -> Result<bool, Fail> {
-    let generation = side.get(8).ok_or("there is no generation")?;
+    let Some(generation) = side.get(8) else {
+        return Err("there is no generation".into());
+    };
     let (node, place) = node_on(alloc, side)?;
-    let again = side_of(alloc, &node, u64::from(*generation));
-    drop(node);
-    let is_same = again?.as_slice() == side;
+    let is_same = is_on_side(alloc, node, u64::from(*generation), side)?;
     Ok(is_same && place as usize == side.len().saturating_sub(1))
 }
 
@@ -154,46 +177,33 @@ fn each_part_of_a_shared_state_is_damaged(rt: HostRuntime) -> Result<(), Fail> {
     Ok(())
 }
 
-// What the node that begins so is on its first side.
-fn formatted(
-    alloc: Global,
-    me: u32,
-    initial: &[u32],
-    contacts: &[u32],
-    share: usize,
-) -> Result<Vec<u8>, Fail> {
-    let node = opened_with_share(alloc, me, initial, contacts, share)?;
-    let side = side_of(alloc, &node, 1);
-    drop(node);
-    side
-}
-
 #[test]
 fn a_share_is_formatted(rt: HostRuntime) -> Result<(), Fail> {
-    let side = formatted(rt.alloc(), 1, &[1], &[], 32)?;
-    assert!(rt; side.as_slice() == FORMATTED.as_slice());
-    drop(side);
-    let side = formatted(rt.alloc(), 4, &[], &[1], 2)?;
-    assert!(rt; side.as_slice() == ENTRANT.as_slice());
+    let member = opened_with_share(rt.alloc(), 1, &[1], &[], 32)?;
+    assert!(rt; is_on_side(rt.alloc(), member, 1, &FORMATTED)?);
+    let entrant = opened_with_share(rt.alloc(), 4, &[], &[1], 2)?;
+    assert!(rt; is_on_side(rt.alloc(), entrant, 1, &ENTRANT)?);
     Ok(())
 }
 
 #[test]
 fn a_share_of_1_is_written_in_version_2(rt: HostRuntime) -> Result<(), Fail> {
-    let side = formatted(rt.alloc(), 1, &[1], &[], 1)?;
-    let found = (side.get(9) == Some(&2), side.len());
+    let member = opened_with_share(rt.alloc(), 1, &[1], &[], 1)?;
+    let side = last_side_of(rt.alloc(), member, 1)?;
+    let is_second = side.len() == 134 && side[9] == 2;
     drop(side);
-    assert!(rt; found == (true, 134));
+    assert!(rt; is_second);
     Ok(())
 }
 
-// The first request of a session.
-fn ask(session: u64, command: Command) -> Event {
-    Event::Ask {
+// Takes in the first request of a session.
+fn ask(alloc: Global, node: &mut Node, session: u64, command: Command) -> Result<(), Fail> {
+    let asked = Event::Ask {
         session,
         request: 1,
         command,
-    }
+    };
+    take(alloc, node, asked)
 }
 
 fn store(text: &[u8]) -> Command
@@ -204,14 +214,10 @@ fn store(text: &[u8]) -> Command
 
 // A store is answered, two writing asks begin together, and that one waits.
 fn begin_two(alloc: Global, node: &mut Node, last: Command) -> Result<(), Fail> {
-    for &(session, command) in &[
-        (7, store(b"a")),
-        (8, store(b"b")),
-        (9, Command::WriteMax(5)),
-        (10, last),
-    ] {
-        take(alloc, node, ask(session, command))?;
-    }
+    ask(alloc, node, 7, store(b"a"))?;
+    ask(alloc, node, 8, store(b"b"))?;
+    ask(alloc, node, 9, Command::WriteMax(5))?;
+    ask(alloc, node, 10, last)?;
     deliver(alloc, node, 1)?;
     deliver(alloc, node, 2)
 }
@@ -231,33 +237,24 @@ fn with_two(alloc: Global, last: Command) -> Result<Node, Fail> {
     led_to(node, begun)
 }
 
-fn side_of_two(alloc: Global, last: Command) -> Result<Vec<u8>, Fail> {
-    let node = with_two(alloc, last)?;
-    let side = side_of(alloc, &node, 2);
-    drop(node);
-    side
-}
-
 #[test]
 fn a_round_is_written_with_all_its_asks(rt: HostRuntime) -> Result<(), Fail> {
-    let side = side_of_two(rt.alloc(), Command::Collect)?;
-    assert!(rt; side.as_slice() == STORING.as_slice());
+    let node = with_two(rt.alloc(), Command::Collect)?;
+    assert!(rt; is_on_side(rt.alloc(), node, 2, &STORING)?);
     Ok(())
 }
 
-fn side_after_two(alloc: Global) -> Result<Vec<u8>, Fail> {
+// That member once both are answered, which stores back what its collect has seen.
+fn after_two(alloc: Global) -> Result<Node, Fail> {
     let mut node = with_two(alloc, Command::Collect)?;
     let ended = end_two(alloc, &mut node);
-    let node = led_to(node, ended)?;
-    let side = side_of(alloc, &node, 3);
-    drop(node);
-    side
+    led_to(node, ended)
 }
 
 #[test]
 fn each_answer_of_a_round_is_kept(rt: HostRuntime) -> Result<(), Fail> {
-    let side = side_after_two(rt.alloc())?;
-    assert!(rt; side.as_slice() == STORING_BACK.as_slice());
+    let node = after_two(rt.alloc())?;
+    assert!(rt; is_on_side(rt.alloc(), node, 3, &STORING_BACK)?);
     Ok(())
 }
 
@@ -289,33 +286,40 @@ fn fault_turned(
     fault
 }
 
-const DAMAGED: OpenFault = OpenFault::Damaged(Side::A, 14);
+// Whether the state of a side is damaged with another byte at that place.
+fn damages(alloc: Global, side: &[u8], at: usize, byte: u8) -> Result<bool, Fail> {
+    let side = turned(alloc, side, at, byte)?;
+    let is_damaged = is_damaged(alloc, &side, 14);
+    drop(side);
+    is_damaged
+}
 
 #[test]
 fn rounds_that_no_node_has_pending(rt: HostRuntime) -> Result<(), Fail> {
     for &(at, byte) in &NO_ROUND {
-        assert!(rt; fault_turned(rt.alloc(), &STORING, at, byte)? == Some(DAMAGED));
+        assert!(rt; damages(rt.alloc(), &STORING, at, byte)?);
     }
     assert!(rt; fault_turned(rt.alloc(), &STORING, 9, 3)? == Some(OpenFault::Version(3)));
     Ok(())
 }
 
-// The count of others, and the faults with a share of three and of two.
-type Shares = (Option<u8>, Option<OpenFault>, Option<OpenFault>);
-
-fn shares(alloc: Global, side: &[u8]) -> Result<Shares, Fail> {
-    let three = fault_turned(alloc, side, 136, 3)?;
-    let two = fault_turned(alloc, side, 136, 2)?;
-    Ok((side.get(137).copied(), three, two))
+// Whether a side has two others, which a share of three takes, and one of two doesn't.
+fn is_of_three(alloc: Global, side: &[u8]) -> Result<bool, Fail> {
+    Ok(
+        side.get(137) == Some(&2)
+            && fault_turned(alloc, side, 136, 3)?.is_none()
+            && damages(alloc, side, 136, 2)?,
+    )
 }
 
 // Three writing asks are pending. A state that has two others has a share of three at least.
 #[test]
 fn a_round_has_no_more_than_the_share(rt: HostRuntime) -> Result<(), Fail> {
-    let side = side_of_two(rt.alloc(), Command::SetFlag)?;
-    let shares = shares(rt.alloc(), &side);
+    let node = with_two(rt.alloc(), Command::SetFlag)?;
+    let side = last_side_of(rt.alloc(), node, 2)?;
+    let is_of_three = is_of_three(rt.alloc(), &side);
     drop(side);
-    assert!(rt; shares? == (Some(2), None, Some(DAMAGED)));
+    assert!(rt; is_of_three?);
     Ok(())
 }
 
@@ -385,17 +389,6 @@ fn a_round_up_to_the_limit_is_taken(rt: HostRuntime) -> Result<(), Fail> {
     let (refusal, number, _) = told?;
     assert!(rt; (refusal, number) == (None, 1 << 62));
     Ok(())
-}
-
-// Why the bytes of a state aren't decoded, if they aren't.
-fn decoder_fault(alloc: Global, bytes: &[u8], layout: Layout) -> Option<StateFault> {
-    match decode_state(alloc, bytes, layout) {
-        Ok(node) => {
-            drop(node);
-            None
-        }
-        Err(fault) => Some(fault),
-    }
 }
 
 // A byte of the state that stores for two sessions, and the fault that the decoder then meets.

@@ -1,7 +1,7 @@
 //! The bytes of states.
 
 use crate::memory_sites::id;
-use crate::refusals::unless_failed;
+use crate::refusals::{led_to, says, unless_failed};
 use cc_changes::Fraction;
 use cc_checkpoint::OpenFault;
 use cc_messages::{Command, Event};
@@ -74,20 +74,31 @@ pub(crate) fn encoded(alloc: Global, node: &Node) -> Result<Vec<u8>, Fail> {
     Ok(bytes)
 }
 
+/// Whether these bytes are the state of a node.
+pub(crate) fn is_state_of(alloc: Global, node: &Node, bytes: &[u8]) -> Result<bool, Fail> {
+    Ok(encoded(alloc, node)?.as_slice() == bytes)
+}
+
+/// The state of a node that is given up.
+pub(crate) fn state_of(alloc: Global, node: Node) -> Result<Vec<u8>, Fail> {
+    let state = encoded(alloc, &node);
+    drop(node);
+    state
+}
+
 fn decoded(alloc: Global, bytes: &[u8]) -> Result<Node, Fail> {
     Ok(decode_state(alloc, bytes, Layout::Lined)?)
 }
 
 // Whether the state that is read and written again is these bytes.
 fn is_stored_again(alloc: Global, bytes: &[u8]) -> Result<bool, Fail> {
-    let node = decoded(alloc, bytes)?;
-    let state = encoded(alloc, &node);
-    drop(node);
-    Ok(state?.as_slice() == bytes)
+    let state = state_of(alloc, decoded(alloc, bytes)?)?;
+    Ok(state.as_slice() == bytes)
 }
 
-fn fault(alloc: Global, bytes: &[u8]) -> Option<StateFault> {
-    match decode_state(alloc, bytes, Layout::Lined) {
+/// Why the bytes of a state aren't decoded, if they aren't.
+pub(crate) fn decoder_fault(alloc: Global, bytes: &[u8], layout: Layout) -> Option<StateFault> {
+    match decode_state(alloc, bytes, layout) {
         Ok(node) => {
             drop(node);
             None
@@ -96,15 +107,9 @@ fn fault(alloc: Global, bytes: &[u8]) -> Option<StateFault> {
     }
 }
 
-/// The node, where what was done with it came to its end.
-pub(crate) fn led_to(node: Node, done: Result<(), Fail>) -> Result<Node, Fail> {
-    match done {
-        Ok(()) => Ok(node),
-        Err(fault) => {
-            drop(node);
-            Err(fault)
-        }
-    }
+// The same of a state of version 2.
+fn fault(alloc: Global, bytes: &[u8]) -> Option<StateFault> {
+    decoder_fault(alloc, bytes, Layout::Lined)
 }
 
 /// The bytes, with another one at that place.
@@ -116,7 +121,7 @@ pub(crate) fn turned(alloc: Global, bytes: &[u8], at: usize, byte: u8) -> Result
     Ok(turned)
 }
 
-// Whether the state of the node that begins so is these bytes.
+// Whether the state of the node that begins so is these bytes, also where it is read and written again.
 fn begins_as(
     alloc: Global,
     me: u32,
@@ -124,23 +129,21 @@ fn begins_as(
     contacts: &[u32],
     bytes: &[u8],
 ) -> Result<bool, Fail> {
-    let node = opened(alloc, me, initial, contacts)?;
-    let state = encoded(alloc, &node);
-    drop(node);
-    Ok(state?.as_slice() == bytes)
+    let state = state_of(alloc, opened(alloc, me, initial, contacts)?)?;
+    let is_state = state.as_slice() == bytes;
+    drop(state);
+    Ok(is_state && is_stored_again(alloc, bytes)?)
 }
 
 #[test]
 fn a_member_begins_with_119_bytes(rt: HostRuntime) -> Result<(), Fail> {
     assert!(rt; begins_as(rt.alloc(), 1, &[1], &[], &MEMBER)?);
-    assert!(rt; is_stored_again(rt.alloc(), &MEMBER)?);
     Ok(())
 }
 
 #[test]
 fn an_entrant_begins_with_139_bytes(rt: HostRuntime) -> Result<(), Fail> {
     assert!(rt; begins_as(rt.alloc(), 4, &[], &[1], &ENTRANT)?);
-    assert!(rt; is_stored_again(rt.alloc(), &ENTRANT)?);
     Ok(())
 }
 
@@ -155,17 +158,16 @@ fn without_line(alloc: Global, bytes: &[u8]) -> Result<Vec<u8>, Fail> {
 
 // The state of the node whose state these bytes of version 1 are.
 fn from_version_1(alloc: Global, bytes: &[u8]) -> Result<Vec<u8>, Fail> {
-    let node = decode_state(alloc, bytes, Layout::Plain)?;
-    let state = encoded(alloc, &node);
-    drop(node);
-    state
+    state_of(alloc, decode_state(alloc, bytes, Layout::Plain)?)
 }
 
 // Whether an opening state that has so many bytes in version 1 is read as that, and stored as it is in version 2.
 fn is_stored_anew(alloc: Global, length: usize, second: &[u8]) -> Result<bool, Fail> {
     let first = without_line(alloc, second)?;
-    let again = from_version_1(alloc, &first)?;
-    Ok(first.len() == length && again.as_slice() == second)
+    let is_first = first.len() == length;
+    let again = from_version_1(alloc, &first);
+    drop(first);
+    Ok(again?.as_slice() == second && is_first)
 }
 
 #[test]
@@ -320,18 +322,14 @@ fn link_count(alloc: Global, bytes: &[u8]) -> Result<usize, Fail> {
 
 // Takes the event in, which isn't refused.
 pub(crate) fn take(alloc: Global, node: &mut Node, event: Event) -> Result<(), Fail> {
-    if let Err(refusal) = node.core().decide(&event) {
-        drop(event);
-        return Err(refusal)?;
-    }
-    match node.core().made(alloc, &event) {
+    match node.core().made_or_refused(alloc, &event) {
         Ok(made) => {
             node.settle(event, made);
             Ok(())
         }
-        Err(fault) => {
+        Err(refusal) => {
             drop(event);
-            Err(fault)?
+            Err(refusal)?
         }
     }
 }
@@ -339,7 +337,9 @@ pub(crate) fn take(alloc: Global, node: &mut Node, event: Event) -> Result<(), F
 // The node's own post of that number comes back to it.
 pub(crate) fn deliver(alloc: Global, node: &mut Node, number: u64) -> Result<(), Fail> {
     let from = id(1);
-    let post = node.outbox().post(number).ok_or("there is no such post")?;
+    let Some(post) = node.outbox().post(number) else {
+        return Err("there is no such post".into());
+    };
     let message = post.copy(alloc)?;
     let event = Event::Deliver {
         from,
@@ -367,17 +367,11 @@ fn collect_whole(alloc: Global, node: &mut Node) -> Result<(), Fail> {
     deliver(alloc, node, 4)
 }
 
-fn state_of_collect(alloc: Global, node: &mut Node) -> Result<Vec<u8>, Fail> {
-    collect(alloc, node)?;
-    encoded(alloc, node)
-}
-
 // The state of member 1 of 1 that stores back what its collect has seen.
 fn storing_back(alloc: Global) -> Result<Vec<u8>, Fail> {
     let mut node = opened(alloc, 1, &[1], &[])?;
-    let state = state_of_collect(alloc, &mut node);
-    drop(node);
-    state
+    let collected = collect(alloc, &mut node);
+    state_of(alloc, led_to(node, collected)?)
 }
 
 // Member 1 of 1, whose collect is answered.
@@ -387,11 +381,9 @@ pub(crate) fn answered_node(alloc: Global) -> Result<Node, Fail> {
     led_to(node, collected)
 }
 
-fn answered(alloc: Global) -> Result<Vec<u8>, Fail> {
-    let node = answered_node(alloc)?;
-    let state = encoded(alloc, &node);
-    drop(node);
-    state
+/// Its state, which keeps an answer and posts.
+pub(crate) fn answered(alloc: Global) -> Result<Vec<u8>, Fail> {
+    state_of(alloc, answered_node(alloc)?)
 }
 
 // The first request of session 7, a collect that needs one answer, and an empty view.
@@ -399,13 +391,19 @@ const PHASE: [u8; 24] = [
     3, 0, 0, 0, 0, 0, 0, 0, 7, 0, 0, 0, 0, 0, 0, 0, 1, 2, 0, 1, 0, 0, 0, 0,
 ];
 
+// Whether a state that has that part at a place is stored again.
+fn is_stored_with(alloc: Global, bytes: &[u8], at: usize, part: &[u8]) -> Result<bool, Fail> {
+    let Some(rest) = bytes.get(at..) else {
+        return Err("the state ends before".into());
+    };
+    Ok(rest.starts_with(part) && is_stored_again(alloc, bytes)?)
+}
+
 #[test]
 fn a_pending_collect_is_stored(rt: HostRuntime) -> Result<(), Fail> {
     let bytes = storing_back(rt.alloc())?;
-    let is_pending = bytes.get(73..97) == Some(PHASE.as_slice());
-    let is_stored = is_stored_again(rt.alloc(), &bytes);
+    let is_stored = is_stored_with(rt.alloc(), &bytes, 73, &PHASE);
     drop(bytes);
-    assert!(rt; is_pending);
     assert!(rt; is_stored?);
     Ok(())
 }
@@ -413,20 +411,18 @@ fn a_pending_collect_is_stored(rt: HostRuntime) -> Result<(), Fail> {
 // The state of the same node, with the first request of session 8 waiting behind it, a flag to set.
 fn waiting(alloc: Global) -> Result<Vec<u8>, Fail> {
     let mut node = opened(alloc, 1, &[1], &[])?;
-    let state = state_of_waiting(alloc, &mut node);
-    drop(node);
-    state
+    let waits = collect_and_ask(alloc, &mut node);
+    state_of(alloc, led_to(node, waits)?)
 }
 
-fn state_of_waiting(alloc: Global, node: &mut Node) -> Result<Vec<u8>, Fail> {
+fn collect_and_ask(alloc: Global, node: &mut Node) -> Result<(), Fail> {
     collect(alloc, node)?;
     let asked = Event::Ask {
         session: 8,
         request: 1,
         command: Command::SetFlag,
     };
-    take(alloc, node, asked)?;
-    encoded(alloc, node)
+    take(alloc, node, asked)
 }
 
 const LINE: [u8; 18] = [1, 0, 0, 0, 0, 0, 0, 0, 8, 0, 0, 0, 0, 0, 0, 0, 1, 5];
@@ -434,10 +430,8 @@ const LINE: [u8; 18] = [1, 0, 0, 0, 0, 0, 0, 0, 8, 0, 0, 0, 0, 0, 0, 0, 1, 5];
 #[test]
 fn an_ask_that_waits_is_stored(rt: HostRuntime) -> Result<(), Fail> {
     let bytes = waiting(rt.alloc())?;
-    let is_waiting = bytes.get(97..115) == Some(LINE.as_slice());
-    let is_stored = is_stored_again(rt.alloc(), &bytes);
+    let is_stored = is_stored_with(rt.alloc(), &bytes, 97, &LINE);
     drop(bytes);
-    assert!(rt; is_waiting);
     assert!(rt; is_stored?);
     Ok(())
 }
@@ -497,12 +491,11 @@ fn keeps_an_answer(node: &Node) -> bool {
 }
 
 // Whether such a state is read and written again, and the node that is read keeps them.
-fn is_kept(alloc: Global, bytes: &[u8]) -> Result<[bool; 2], Fail> {
-    let is_stored = is_stored_again(alloc, bytes)?;
+fn is_kept(alloc: Global, bytes: &[u8]) -> Result<bool, Fail> {
     let node = decoded(alloc, bytes)?;
     let keeps = keeps_an_answer(&node);
     drop(node);
-    Ok([is_stored, keeps])
+    Ok(keeps && is_stored_again(alloc, bytes)?)
 }
 
 #[test]
@@ -510,7 +503,7 @@ fn what_a_node_keeps_is_stored_and_read(rt: HostRuntime) -> Result<(), Fail> {
     let bytes = answered(rt.alloc())?;
     let is_kept = is_kept(rt.alloc(), &bytes);
     drop(bytes);
-    assert!(rt; is_kept? == [true; 2]);
+    assert!(rt; is_kept?);
     Ok(())
 }
 
@@ -522,13 +515,9 @@ const FAULT_TEXTS: [(StateFault, &str); 2] = [
     (StateFault::Unlawful, "no node can be in that state"),
 ];
 
-fn says(alloc: Global, fault: StateFault, wanted: &str) -> Result<bool, Fail> {
-    Ok(format!(in alloc; "{fault}")?.as_str() == wanted)
-}
-
 #[test]
 fn faults_of_states_print_what_is_wrong(rt: HostRuntime) -> Result<(), Fail> {
-    for &(fault, wanted) in &FAULT_TEXTS {
+    for (fault, wanted) in &FAULT_TEXTS {
         assert!(rt; says(rt.alloc(), fault, wanted)?);
     }
     Ok(())
@@ -548,14 +537,10 @@ const OPEN_FAULTS: [(OpenFault, &str); 6] = [
     (OpenFault::NoMemory, "NoMemory"),
 ];
 
-fn names(alloc: Global, fault: OpenFault, wanted: &str) -> Result<bool, Fail> {
-    Ok(format!(in alloc; "{fault}")?.as_str() == wanted)
-}
-
 #[test]
 fn faults_of_opening_print_their_names(rt: HostRuntime) -> Result<(), Fail> {
-    for &(fault, wanted) in &OPEN_FAULTS {
-        assert!(rt; names(rt.alloc(), fault, wanted)?);
+    for (fault, wanted) in &OPEN_FAULTS {
+        assert!(rt; says(rt.alloc(), fault, wanted)?);
     }
     Ok(())
 }

@@ -1,9 +1,10 @@
 //! States that are read off a side through one buffer.
 
-use crate::checkpoints::{fills, two_sides};
+use crate::checkpoints::{fills, shut_sides};
 use crate::memory_sites::id;
 use crate::records::holding;
-use crate::states::{answered_node, deliver, encoded, led_to, take};
+use crate::refusals::led_to;
+use crate::states::{answered, answered_node, deliver, is_state_of, state_of, take};
 use cc_changes::Fraction;
 use cc_checkpoint::{OpenFault, Piece, arm, read_state};
 use cc_messages::{Command, Event, Message};
@@ -17,8 +18,8 @@ use std::test::*;
 
 fn put_rows(bytes: &mut Vec<u8>) -> Result<(), Fail> {
     for node in 1..257u32 {
-        bytes.extend_from_slice(&node.to_be_bytes())?;
-        bytes.extend_from_slice(&[0, 0, 0, 0, 0, 0, 0, 1, 64])?;
+        let [a, b, c, d] = node.to_be_bytes();
+        bytes.extend_from_slice(&[a, b, c, d, 0, 0, 0, 0, 0, 0, 0, 1, 64])?;
         bytes.extend_from_slice(&[b'x'; 64])?;
         bytes.extend_from_slice(&[0; 10])?;
     }
@@ -114,31 +115,27 @@ pub(crate) fn read(alloc: Global, site: &mut MemorySite) -> Result<(Node, u64), 
 // The same of a side that was made to hold it.
 fn held_and_read(alloc: Global, site: &mut MemorySite, node: &Node) -> Result<(Node, u64), Fail> {
     if !holds(alloc, site, node)? {
-        return Err("the side wasn't armed")?;
+        return Err("the side wasn't armed".into());
     }
     Ok(read(alloc, site)?)
 }
 
 // The state of the node that is read back, and the place behind it.
 fn read_back(alloc: Global, node: &Node) -> Result<(Vec<u8>, u64), Fail> {
-    let mut site = two_sides(alloc)?;
+    let mut site = shut_sides(alloc)?;
     let read = held_and_read(alloc, &mut site, node);
     drop(site);
     let (again, place) = read?;
-    let state = encoded(alloc, &again);
-    drop(again);
-    Ok((state?, place))
+    Ok((state_of(alloc, again)?, place))
 }
 
 // Whether a node whose state is so long is read back.
 fn is_read_back(alloc: Global, node: &Node, at_least: usize) -> Result<bool, Fail> {
-    let state = encoded(alloc, node)?;
     let (again, place) = read_back(alloc, node)?;
-    Ok(
-        state.len() >= at_least
-            && again.as_slice() == state.as_slice()
-            && place == 14 + state.len() as u64,
-    )
+    let is_long = again.len() >= at_least && place == 14 + again.len() as u64;
+    let is_same = is_state_of(alloc, node, &again);
+    drop(again);
+    Ok(is_same? && is_long)
 }
 
 #[test]
@@ -166,9 +163,12 @@ pub(crate) fn front(
     state: &[u8],
     told: usize,
 ) -> Result<Vec<u8>, Fail> {
-    let told = u32::try_from(told).or(Err("no state is so long"))?;
-    let mut bytes = Vec::from_slice(alloc, &[0xA5, 0, 0, 0, 0, 0, 0, 0, 1, version])?;
-    bytes.extend_from_slice(&told.to_be_bytes())?;
+    let Ok(told) = u32::try_from(told) else {
+        return Err("no state is so long".into());
+    };
+    let [a, b, c, d] = told.to_be_bytes();
+    let head = [0xA5, 0, 0, 0, 0, 0, 0, 0, 1, version, a, b, c, d];
+    let mut bytes = Vec::from_slice(alloc, &head)?;
     bytes.extend_from_slice(state)?;
     Ok(bytes)
 }
@@ -196,49 +196,42 @@ pub(crate) fn check_cuts<R: Abort + AllocGlobal>(rt: &R, side: &[u8]) -> Result<
     for len in 0..side.len() {
         // No version stands there, or no length, or that goes past the end.
         let place = if len < 10 { 9 } else { 10 };
-        let cut = fault(rt.alloc(), &side[..len])?;
-        assert!(rt; cut == Some(OpenFault::Damaged(Side::A, place)));
+        assert!(rt; is_damaged(rt.alloc(), &side[..len], place)?);
     }
-    assert!(rt; fault(rt.alloc(), side)? == None);
+    assert!(rt; fault(rt.alloc(), side)?.is_none());
     Ok(())
-}
-
-// The state of a node that keeps an answer and posts.
-fn kept_state(alloc: Global) -> Result<Vec<u8>, Fail> {
-    let node = answered_node(alloc)?;
-    let state = encoded(alloc, &node);
-    drop(node);
-    state
 }
 
 #[test]
 fn each_cut_of_a_side_is_damaged(rt: HostRuntime) -> Result<(), Fail> {
-    let state = kept_state(rt.alloc())?;
-    let side = front(rt.alloc(), 2, &state, state.len())?;
-    check_cuts(&rt, &side)
-}
-
-type Faults = (Option<OpenFault>, Option<OpenFault>);
-
-// Why a side can't be read up to a place, and as a whole.
-fn part_faults(alloc: Global, side: &[u8], end: usize) -> Result<Faults, Fail> {
-    let part = side.get(..end).ok_or("no state stands there")?;
-    Ok((fault(alloc, part)?, fault(alloc, side)?))
-}
-
-// Of the state that long a part is told, whatever stands behind it.
-fn check_part<R: Abort + AllocGlobal>(
-    rt: &R,
-    version: u8,
-    state: &[u8],
-    told: usize,
-) -> Result<(), Fail> {
-    let side = front(rt.alloc(), version, state, told)?;
-    let faults = part_faults(rt.alloc(), &side, told.saturating_add(14));
+    let state = answered(rt.alloc())?;
+    let side = front(rt.alloc(), 2, &state, state.len());
+    drop(state);
+    let side = side?;
+    let checked = check_cuts(&rt, &side);
     drop(side);
-    let damage = Some(OpenFault::Damaged(Side::A, 14));
-    assert!(rt; faults? == (damage, damage));
-    Ok(())
+    checked
+}
+
+/// Whether side A is damaged at that place, where it has just these bytes.
+pub(crate) fn is_damaged(alloc: Global, bytes: &[u8], place: u64) -> Result<bool, Fail> {
+    Ok(fault(alloc, bytes)? == Some(OpenFault::Damaged(Side::A, place)))
+}
+
+// Whether the state of a side is damaged up to a place, and as a whole.
+fn are_damaged(alloc: Global, side: &[u8], end: usize) -> Result<bool, Fail> {
+    let Some(part) = side.get(..end) else {
+        return Err("no state stands there".into());
+    };
+    Ok(is_damaged(alloc, part, 14)? && is_damaged(alloc, side, 14)?)
+}
+
+// The same where so long a part of a state is told, whatever stands behind it.
+fn is_part_damaged(alloc: Global, version: u8, state: &[u8], told: usize) -> Result<bool, Fail> {
+    let side = front(alloc, version, state, told)?;
+    let are_damaged = are_damaged(alloc, &side, told.saturating_add(14));
+    drop(side);
+    are_damaged
 }
 
 /// Of a state each part but the whole is told.
@@ -248,13 +241,15 @@ pub(crate) fn check_parts<R: Abort + AllocGlobal>(
     state: &[u8],
 ) -> Result<(), Fail> {
     for told in 0..state.len() {
-        check_part(rt, version, state, told)?;
+        assert!(rt; is_part_damaged(rt.alloc(), version, state, told)?);
     }
     Ok(())
 }
 
 #[test]
 fn each_part_of_a_state_is_damaged(rt: HostRuntime) -> Result<(), Fail> {
-    let state = kept_state(rt.alloc())?;
-    check_parts(&rt, 2, &state)
+    let state = answered(rt.alloc())?;
+    let checked = check_parts(&rt, 2, &state);
+    drop(state);
+    checked
 }
