@@ -126,57 +126,37 @@ fn a_load_is_printed(rt: HostRuntime) -> Result<(), Fail> {
     Ok(())
 }
 
-// Words of another form.
-const BAD_WORDS: [(LoadWords<'_>, WordFault); 7] = [
-    (
-        LoadWords {
-            addresses: "127.0.0.1:7001,",
+// The words of a load, but for that text in place of the one that a fault names.
+fn load_with(place: WordFault, text: &str) -> LoadWords<'_> {
+    match place {
+        WordFault::Addresses | WordFault::AddressTwice => LoadWords {
+            addresses: text,
             ..WORDS
         },
-        WordFault::Addresses,
-    ),
-    (
-        LoadWords {
-            addresses: "127.0.0.1:7001,127.0.0.1:7001",
+        WordFault::Clients => LoadWords {
+            clients: Some(text),
             ..WORDS
         },
-        WordFault::AddressTwice,
-    ),
-    (
-        LoadWords {
-            clients: Some("0"),
+        WordFault::Seconds => LoadWords {
+            seconds: Some(text),
             ..WORDS
         },
-        WordFault::Clients,
-    ),
-    (
-        LoadWords {
-            clients: Some("257"),
+        _ => LoadWords {
+            sessions_from: Some(text),
             ..WORDS
         },
-        WordFault::Clients,
-    ),
-    (
-        LoadWords {
-            seconds: Some("0"),
-            ..WORDS
-        },
-        WordFault::Seconds,
-    ),
-    (
-        LoadWords {
-            seconds: Some("1.5"),
-            ..WORDS
-        },
-        WordFault::Seconds,
-    ),
-    (
-        LoadWords {
-            sessions_from: Some("18446744073709551615"),
-            ..WORDS
-        },
-        WordFault::SessionsFrom,
-    ),
+    }
+}
+
+// A text of another form, and the fault that names its place.
+const BAD_WORDS: [(WordFault, &str); 7] = [
+    (WordFault::Addresses, "127.0.0.1:7001,"),
+    (WordFault::AddressTwice, "127.0.0.1:7001,127.0.0.1:7001"),
+    (WordFault::Clients, "0"),
+    (WordFault::Clients, "257"),
+    (WordFault::Seconds, "0"),
+    (WordFault::Seconds, "1.5"),
+    (WordFault::SessionsFrom, "18446744073709551615"),
 ];
 
 // The port and the session of a client of four at two nodes.
@@ -203,8 +183,8 @@ fn clients_go_round_the_nodes(rt: HostRuntime) -> Result<(), Fail> {
 
 #[test]
 fn each_word_of_load_is_checked(rt: HostRuntime) {
-    for &(words, fault) in &BAD_WORDS {
-        let refused = LoadOrder::parse(rt.alloc(), &words).err();
+    for &(fault, text) in &BAD_WORDS {
+        let refused = LoadOrder::parse(rt.alloc(), &load_with(fault, text)).err();
         assert!(rt; refused == Some(fault), "{fault}");
     }
 }

@@ -9,13 +9,13 @@ use std::test::*;
 
 const LONGER_TEXT: &str = "0123456789abcdef0123456789abcdef0123456789abcdef0123456789abcdef.";
 
-// The words of a command with its value or its text.
-fn words_of(
-    command: &'static str,
-    value: Option<&'static str>,
-    text: Option<&'static str>,
-) -> AskWords<'static> {
-    AskWords {
+// A command, its value and its text, and what is told of them.
+type Row = (&'static str, Option<&'static str>, Option<&'static str>, &'static str);
+
+// Words that are no command, and whether just this is told of them.
+fn is_told(alloc: Global, row: &Row) -> Result<bool, Fail> {
+    let &(command, value, text, wanted) = row;
+    let words = AskWords {
         address: "127.0.0.1:7001",
         session: "7",
         command,
@@ -25,93 +25,72 @@ fn words_of(
         timeout: None,
         form: AnswerForm::Plain,
         waits: false,
-    }
-}
-
-// Whether just this is told of words that are no command.
-fn is_told(alloc: Global, words: &AskWords<'_>, wanted: &str) -> Result<bool, Fail> {
-    let fault = CommandFault::of(alloc, words)?;
+    };
+    let fault = CommandFault::of(alloc, &words)?;
     let told = format!(in alloc; "{fault}")?;
-    Ok(are_no_command(words) && told.as_str() == wanted)
+    Ok(are_no_command(&words) && told.as_str() == wanted)
 }
 
-fn check_told<R: Abort + AllocGlobal>(
-    rt: &R,
-    words: &AskWords<'_>,
-    wanted: &str,
-) -> Result<(), Fail> {
-    assert!(rt; is_told(rt.alloc(), words, wanted)?, "{wanted}");
+fn check_told<R: Abort + AllocGlobal>(rt: &R, rows: &[Row]) -> Result<(), Fail> {
+    for row in rows {
+        assert!(rt; is_told(rt.alloc(), row)?, "{}", row.3);
+    }
     Ok(())
 }
 
-fn check_value<R: Abort + AllocGlobal>(
-    rt: &R,
-    command: &'static str,
-    value: &'static str,
-    wanted: &str,
-) -> Result<(), Fail> {
-    check_told(rt, &words_of(command, Some(value), None), wanted)
-}
+const LONGER: &str = "store takes 1 to 64 bytes; this has 65";
 
-fn check_text<R: Abort + AllocGlobal>(
-    rt: &R,
-    command: &'static str,
-    text: &'static str,
-    wanted: &str,
-) -> Result<(), Fail> {
-    check_told(rt, &words_of(command, None, Some(text)), wanted)
-}
+const UNSEEN: &str = "store takes a word of visible ASCII characters; others go behind --text";
 
-fn check_alone<R: Abort + AllocGlobal>(
-    rt: &R,
-    command: &'static str,
-    wanted: &str,
-) -> Result<(), Fail> {
-    check_told(rt, &words_of(command, None, None), wanted)
-}
+const BAD_TEXTS: [Row; 6] = [
+    ("store", None, None, "store takes a value"),
+    ("store", Some(LONGER_TEXT), None, LONGER),
+    ("store", None, Some(LONGER_TEXT), LONGER),
+    ("store", None, Some(""), "store takes 1 to 64 bytes; this has 0"),
+    ("store", Some("two words"), None, UNSEEN),
+    ("store", Some("a"), Some("b"), "store takes a word or --text, not both"),
+];
 
 #[test]
 fn a_bad_text_is_told_as_what_it_is(rt: HostRuntime) -> Result<(), Fail> {
-    let longer = "store takes 1 to 64 bytes; this has 65";
-    let empty = "store takes 1 to 64 bytes; this has 0";
-    let unseen = "store takes a word of visible ASCII characters; others go behind --text";
-    let both = "store takes a word or --text, not both";
-    check_alone(&rt, "store", "store takes a value")?;
-    check_value(&rt, "store", LONGER_TEXT, longer)?;
-    check_text(&rt, "store", LONGER_TEXT, longer)?;
-    check_text(&rt, "store", "", empty)?;
-    check_value(&rt, "store", "two words", unseen)?;
-    check_told(&rt, &words_of("store", Some("a"), Some("b")), both)
+    check_told(&rt, &BAD_TEXTS)
 }
+
+const U64S: &str = "max takes a number from 0 to 18446744073709551615";
+
+const U32S: &str = "add takes a number from 0 to 4294967295";
+
+const BAD_VALUES: [Row; 6] = [
+    ("max", None, None, "max takes a value"),
+    ("max", Some("-1"), None, U64S),
+    ("add", Some("4294967296"), None, U32S),
+    ("add", None, Some("5"), "add takes no --text, as store does"),
+    ("collect", Some("a"), None, "collect takes no value"),
+    ("readmax", Some("9"), None, "readmax takes no value"),
+];
 
 #[test]
 fn a_bad_value_is_told_as_what_it_is(rt: HostRuntime) -> Result<(), Fail> {
-    let u64s = "max takes a number from 0 to 18446744073709551615";
-    let u32s = "add takes a number from 0 to 4294967295";
-    let no_text = "add takes no --text, as store does";
-    check_alone(&rt, "max", "max takes a value")?;
-    check_value(&rt, "max", "-1", u64s)?;
-    check_value(&rt, "add", "4294967296", u32s)?;
-    check_text(&rt, "add", "5", no_text)?;
-    check_value(&rt, "collect", "a", "collect takes no value")?;
-    check_value(&rt, "readmax", "9", "readmax takes no value")
+    check_told(&rt, &BAD_VALUES)
 }
+
+const SETT: &str =
+    "sett is no command: store WORD, collect, max N, readmax, flag, readflag, add N, readset";
+
+const EMPTY: &str =
+    " is no command: store WORD, collect, max N, readmax, flag, readflag, add N, readset";
+
+const BAD_COMMANDS: [Row; 5] = [
+    ("stor", Some("a"), None, "stor is no command; did you mean store?"),
+    ("red-max", None, None, "red-max is no command; did you mean readmax?"),
+    ("sett", None, None, SETT),
+    ("Flag", None, None, "Flag is no command; did you mean flag?"),
+    ("", None, None, EMPTY),
+];
 
 #[test]
 fn a_bad_command_is_told_as_what_it_is(rt: HostRuntime) -> Result<(), Fail> {
-    let sett =
-        "sett is no command: store WORD, collect, max N, readmax, flag, readflag, add N, readset";
-    let empty =
-        " is no command: store WORD, collect, max N, readmax, flag, readflag, add N, readset";
-    check_value(&rt, "stor", "a", "stor is no command; did you mean store?")?;
-    check_alone(
-        &rt,
-        "red-max",
-        "red-max is no command; did you mean readmax?",
-    )?;
-    check_alone(&rt, "sett", sett)?;
-    check_alone(&rt, "Flag", "Flag is no command; did you mean flag?")?;
-    check_alone(&rt, "", empty)
+    check_told(&rt, &BAD_COMMANDS)
 }
 
 const MEMBER: FormatWords<'_> = FormatWords {
@@ -130,27 +109,24 @@ fn rule_of(alloc: Global, words: &FormatWords<'_>) -> Result<Option<BadOpening>,
     Ok(rule)
 }
 
-// A beginning with that text in the place of one word breaks that rule first.
-fn check_rule<R: Abort + AllocGlobal>(
-    rt: &R,
-    place: WordFault,
-    text: &str,
-    rule: BadOpening,
-) -> Result<(), Fail> {
-    let told = rule_of(rt.alloc(), &with(&MEMBER, place, text))?;
-    assert!(rt; told == Some(rule), "{text}");
-    Ok(())
-}
+// A place, a text for it, and the rule that a beginning with that text breaks first.
+const BAD_BEGINNINGS: [(WordFault, &str, BadOpening); 8] = [
+    (WordFault::Beta, "5/4", BadOpening::Beta),
+    (WordFault::Gamma, "0/4", BadOpening::Gamma),
+    (WordFault::Initial, "1,3,2", BadOpening::Initial),
+    (WordFault::Contacts, "4,4", BadOpening::Contacts),
+    (WordFault::Id, "4", BadOpening::NoMember),
+    (WordFault::Contacts, "1", BadOpening::OwnContact),
+    (WordFault::Contacts, "0", BadOpening::Zero),
+    (WordFault::Share, "33", BadOpening::Share),
+];
 
 #[test]
 fn a_bad_beginning_is_told_by_its_rule(rt: HostRuntime) -> Result<(), Fail> {
     assert!(rt; rule_of(rt.alloc(), &MEMBER)?.is_none());
-    check_rule(&rt, WordFault::Beta, "5/4", BadOpening::Beta)?;
-    check_rule(&rt, WordFault::Gamma, "0/4", BadOpening::Gamma)?;
-    check_rule(&rt, WordFault::Initial, "1,3,2", BadOpening::Initial)?;
-    check_rule(&rt, WordFault::Contacts, "4,4", BadOpening::Contacts)?;
-    check_rule(&rt, WordFault::Id, "4", BadOpening::NoMember)?;
-    check_rule(&rt, WordFault::Contacts, "1", BadOpening::OwnContact)?;
-    check_rule(&rt, WordFault::Contacts, "0", BadOpening::Zero)?;
-    check_rule(&rt, WordFault::Share, "33", BadOpening::Share)
+    for &(place, text, rule) in &BAD_BEGINNINGS {
+        let told = rule_of(rt.alloc(), &with(&MEMBER, place, text))?;
+        assert!(rt; told == Some(rule), "{text}");
+    }
+    Ok(())
 }

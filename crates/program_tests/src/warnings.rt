@@ -6,14 +6,34 @@ use std::alloc::Global;
 use std::process::Abort;
 use std::test::*;
 
+// The members at the start, the contacts and β of a node, and just what is told of it.
+type Row = (
+    Option<&'static str>,
+    Option<&'static str>,
+    Option<&'static str>,
+    [Option<Warning>; 3],
+);
+
 const NOTHING: [Option<Warning>; 3] = [None, None, None];
 
-fn warned(
-    alloc: Global,
-    initial: Option<&'static str>,
-    contacts: Option<&'static str>,
-    beta: Option<&'static str>,
-) -> Result<[Option<Warning>; 3], Fail> {
+const ALL: [Option<Warning>; 3] = [None, Some(Warning::All), None];
+
+const HALF: [Option<Warning>; 3] = [Some(Warning::Half), None, None];
+
+const ALONE: [Option<Warning>; 3] = [None, None, Some(Warning::Alone)];
+
+const ROWS: [Row; 7] = [
+    (Some("1,2,3"), None, None, ALL),
+    (Some("1,2,3"), None, Some("2/3"), NOTHING),
+    (Some("1,2,3,4,5"), None, None, NOTHING),
+    (Some("1,2,3"), None, Some("1/2"), HALF),
+    (Some("1"), None, None, NOTHING),
+    (None, Some("1"), None, NOTHING),
+    (None, None, None, ALONE),
+];
+
+fn is_warned(alloc: Global, row: &Row) -> Result<bool, Fail> {
+    let &(initial, contacts, beta, wanted) = row;
     let words = FormatWords {
         id: "1",
         initial,
@@ -25,31 +45,17 @@ fn warned(
     let order = FormatOrder::parse(alloc, &words)?;
     let warnings = order.warnings();
     drop(order);
-    Ok(warnings)
+    Ok(warnings == wanted)
 }
 
-// Of the members at the start, the contacts and β of a node just this is told.
-fn check_warned<R: Abort + AllocGlobal>(
-    rt: &R,
-    initial: Option<&'static str>,
-    contacts: Option<&'static str>,
-    beta: Option<&'static str>,
-    wanted: [Option<Warning>; 3],
-) -> Result<(), Fail> {
-    assert!(rt; warned(rt.alloc(), initial, contacts, beta)? == wanted);
+fn check_rows<R: Abort + AllocGlobal>(rt: &R, rows: &[Row]) -> Result<(), Fail> {
+    for row in rows {
+        assert!(rt; is_warned(rt.alloc(), row)?);
+    }
     Ok(())
 }
 
 #[test]
 fn an_operator_is_warned(rt: HostRuntime) -> Result<(), Fail> {
-    let all = [None, Some(Warning::All), None];
-    let half = [Some(Warning::Half), None, None];
-    let alone = [None, None, Some(Warning::Alone)];
-    check_warned(&rt, Some("1,2,3"), None, None, all)?;
-    check_warned(&rt, Some("1,2,3"), None, Some("2/3"), NOTHING)?;
-    check_warned(&rt, Some("1,2,3,4,5"), None, None, NOTHING)?;
-    check_warned(&rt, Some("1,2,3"), None, Some("1/2"), half)?;
-    check_warned(&rt, Some("1"), None, None, NOTHING)?;
-    check_warned(&rt, None, Some("1"), None, NOTHING)?;
-    check_warned(&rt, None, None, None, alone)
+    check_rows(&rt, &ROWS)
 }

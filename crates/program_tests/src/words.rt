@@ -54,21 +54,21 @@ const NO_LISTS: [&str; 9] = [
 ];
 
 // Whether a word is that list. None is empty, which stands for no list.
-fn is_list(alloc: Global, word: &str, wanted: &[u32]) -> Result<bool, Fail> {
-    Ok(match list(alloc, word)? {
-        Some(ids) => ids.as_slice() == wanted && !wanted.is_empty(),
-        None => wanted.is_empty(),
-    })
+fn is_list(alloc: Global, word: &str, wanted: &[u32]) -> bool {
+    match list(alloc, word) {
+        Ok(Some(ids)) => ids.as_slice() == wanted && !wanted.is_empty(),
+        Ok(None) => wanted.is_empty(),
+        Err(_) => false,
+    }
 }
 
 #[test]
-fn lists_are_numbers_and_commas(rt: HostRuntime) -> Result<(), Fail> {
+fn lists_are_numbers_and_commas(rt: HostRuntime) {
     for &word in &NO_LISTS {
-        assert!(rt; is_list(rt.alloc(), word, &[])?, "{word}");
+        assert!(rt; is_list(rt.alloc(), word, &[]), "{word}");
     }
-    assert!(rt; is_list(rt.alloc(), "3,1,4294967295,1", &[3, 1, u32::MAX, 1])?);
-    assert!(rt; is_list(rt.alloc(), "0", &[0])?);
-    Ok(())
+    assert!(rt; is_list(rt.alloc(), "3,1,4294967295,1", &[3, 1, u32::MAX, 1]));
+    assert!(rt; is_list(rt.alloc(), "0", &[0]));
 }
 
 // Words that are no fraction.
@@ -99,6 +99,36 @@ const ALONE: RunWords<'_> = RunWords {
     log: None,
 };
 
+// The same, but for that text in place of the one that a fault names.
+fn alone_with(place: WordFault, text: &str) -> RunWords<'_> {
+    match place {
+        WordFault::Listen => RunWords {
+            listen: text,
+            ..ALONE
+        },
+        WordFault::ListenClients => RunWords {
+            listen_clients: Some(text),
+            ..ALONE
+        },
+        WordFault::Operators => RunWords {
+            operators: Some(text),
+            ..ALONE
+        },
+        WordFault::Peers | WordFault::PeerTwice => RunWords {
+            peers: Some(text),
+            ..ALONE
+        },
+        WordFault::Status => RunWords {
+            status: Some(text),
+            ..ALONE
+        },
+        _ => RunWords {
+            log: Some(text),
+            ..ALONE
+        },
+    }
+}
+
 // The same beside node 2.
 const BESIDE_TWO: RunWords<'_> = RunWords {
     peers: Some("2=127.0.0.1:7002"),
@@ -113,30 +143,35 @@ const BY_LINES: RunWords<'_> = RunWords {
 
 const THREE_LINES: &str = "# three\n1=127.0.0.1:7001\n2=127.0.0.1:7002\n3=127.0.0.1:7003\n";
 
-// Whether these words, with the lines of a file or without, name so many peers, node 2 among them.
-fn names_two(
+// Whether these words, with the lines of a file or without, name so many peers, and whether node 2 is among them.
+fn names(
     alloc: Global,
     words: &RunWords<'_>,
     lines: Option<&str>,
     count: usize,
-) -> Result<bool, Fail> {
-    let order = RunOrder::parse(alloc, words, lines)?;
-    let two = NodeId::new(2).ok_or("ids begin at 1")?;
-    Ok(order.listen == local(7001) && order.peers.len() == count && order.names(two))
+    has_two: bool,
+) -> bool {
+    match (RunOrder::parse(alloc, words, lines), NodeId::new(2)) {
+        (Ok(order), Some(two)) => {
+            order.listen == local(7001)
+                && order.peers.len() == count
+                && order.names(two) == has_two
+        }
+        _ => false,
+    }
 }
 
 #[test]
-fn run_listens_and_knows_its_peers(rt: HostRuntime) -> Result<(), Fail> {
-    assert!(rt; names_two(rt.alloc(), &BESIDE_TWO, None, 1)?);
-    assert!(rt; names_two(rt.alloc(), &BY_LINES, Some(THREE_LINES), 3)?);
-    assert!(rt; !names_two(rt.alloc(), &ALONE, None, 0)?);
-    Ok(())
+fn run_listens_and_knows_its_peers(rt: HostRuntime) {
+    assert!(rt; names(rt.alloc(), &BESIDE_TWO, None, 1, true));
+    assert!(rt; names(rt.alloc(), &BY_LINES, Some(THREE_LINES), 3, true));
+    assert!(rt; names(rt.alloc(), &ALONE, None, 0, false));
 }
 
 // Whether node 1 passes its own line over, and no other.
 fn passes_over_itself(alloc: Global) -> Result<bool, Fail> {
-    let mut order = RunOrder::parse(alloc, &BY_LINES, Some(THREE_LINES))?;
     let one = NodeId::new(1).ok_or("ids begin at 1")?;
+    let mut order = RunOrder::parse(alloc, &BY_LINES, Some(THREE_LINES))?;
     order.pass_over(one);
     Ok(order.peers.len() == 2 && !order.names(one))
 }
@@ -147,141 +182,103 @@ fn one_file_serves_all_nodes(rt: HostRuntime) -> Result<(), Fail> {
     Ok(())
 }
 
-// What a node tells of itself.
-type Telling = (Option<SocketAddr>, LogLevel);
-
-fn telling(alloc: Global, words: &RunWords<'_>) -> Result<Telling, WordFault> {
-    let order = RunOrder::parse(alloc, words, None)?;
-    Ok((order.status, order.log))
+// Whether a node tells just this of itself.
+fn tells(alloc: Global, words: &RunWords<'_>, status: Option<SocketAddr>, log: LogLevel) -> bool {
+    match RunOrder::parse(alloc, words, None) {
+        Ok(order) => order.status == status && order.log == log,
+        Err(_) => false,
+    }
 }
 
-// Levels, and their words.
-const LEVELS: [(Option<&str>, LogLevel); 5] = [
-    (None, LogLevel::Info),
-    (Some("error"), LogLevel::Error),
-    (Some("warn"), LogLevel::Warn),
-    (Some("info"), LogLevel::Info),
-    (Some("debug"), LogLevel::Debug),
+// The words of levels.
+const LEVELS: [(&str, LogLevel); 4] = [
+    ("error", LogLevel::Error),
+    ("warn", LogLevel::Warn),
+    ("info", LogLevel::Info),
+    ("debug", LogLevel::Debug),
 ];
 
 #[test]
 fn run_notes_by_levels(rt: HostRuntime) {
-    for &(log, level) in &LEVELS {
-        let told = telling(rt.alloc(), &RunWords { log, ..ALONE });
-        assert!(rt; told == Ok((None, level)));
+    assert!(rt; tells(rt.alloc(), &ALONE, None, LogLevel::Info));
+    for &(word, level) in &LEVELS {
+        let words = alone_with(WordFault::Log, word);
+        assert!(rt; tells(rt.alloc(), &words, None, level), "{word}");
     }
-    let shown = RunWords {
-        status: Some("127.0.0.1:8001"),
-        ..ALONE
-    };
-    let told = telling(rt.alloc(), &shown);
-    assert!(rt; told == Ok((Some(local(8001)), LogLevel::Info)));
+    let shown = alone_with(WordFault::Status, "127.0.0.1:8001");
+    assert!(rt; tells(rt.alloc(), &shown, Some(local(8001)), LogLevel::Info));
 }
 
-// Where clients alone are served, and whether the operator of another machine is heard.
-type Guard = (Option<SocketAddr>, bool);
-
-fn guard(alloc: Global, words: &RunWords<'_>) -> Result<Guard, WordFault> {
-    let order = RunOrder::parse(alloc, words, None)?;
-    Ok((order.listen_clients, order.remote_operators))
+// Whether a node serves clients alone just there, and whether it hears the operator of another machine just so.
+fn guards(
+    alloc: Global,
+    words: &RunWords<'_>,
+    listen_clients: Option<SocketAddr>,
+    remote_operators: bool,
+) -> bool {
+    match RunOrder::parse(alloc, words, None) {
+        Ok(order) => {
+            order.listen_clients == listen_clients && order.remote_operators == remote_operators
+        }
+        Err(_) => false,
+    }
 }
+
+const GUARDED: RunWords<'_> = RunWords {
+    listen_clients: Some("127.0.0.1:7501"),
+    operators: Some("off"),
+    ..ALONE
+};
 
 #[test]
 fn run_takes_all_from_all_by_itself(rt: HostRuntime) {
-    assert!(rt; guard(rt.alloc(), &ALONE) == Ok((None, true)));
-    let open = RunWords {
-        operators: Some("on"),
-        ..ALONE
-    };
-    assert!(rt; guard(rt.alloc(), &open) == Ok((None, true)));
-    let guarded = RunWords {
-        listen_clients: Some("127.0.0.1:7501"),
-        operators: Some("off"),
-        ..ALONE
-    };
-    assert!(rt; guard(rt.alloc(), &guarded) == Ok((Some(local(7501)), false)));
+    assert!(rt; guards(rt.alloc(), &ALONE, None, true));
+    let open = alone_with(WordFault::Operators, "on");
+    assert!(rt; guards(rt.alloc(), &open, None, true));
+    assert!(rt; guards(rt.alloc(), &GUARDED, Some(local(7501)), false));
 }
 
-// What a node can't run by, the lines of its file, and why.
-const NO_RUNS: [(RunWords<'_>, Option<&str>, WordFault); 10] = [
+// A word that a node can't run by, and the fault that names its place.
+const NO_RUNS: [(WordFault, &str); 7] = [
+    (WordFault::Listen, "7001"),
+    (WordFault::ListenClients, "7501"),
+    (WordFault::Operators, "On"),
+    (WordFault::Peers, ""),
     (
-        RunWords {
-            listen: "7001",
-            ..ALONE
-        },
-        None,
-        WordFault::Listen,
-    ),
-    (
-        RunWords {
-            listen_clients: Some("7501"),
-            ..ALONE
-        },
-        None,
-        WordFault::ListenClients,
-    ),
-    (
-        RunWords {
-            operators: Some("On"),
-            ..ALONE
-        },
-        None,
-        WordFault::Operators,
-    ),
-    (
-        RunWords {
-            peers: Some(""),
-            ..ALONE
-        },
-        None,
-        WordFault::Peers,
-    ),
-    (
-        RunWords {
-            peers: Some("2=127.0.0.1:7002,2=127.0.0.1:7003"),
-            ..ALONE
-        },
-        None,
         WordFault::PeerTwice,
+        "2=127.0.0.1:7002,2=127.0.0.1:7003",
     ),
-    (
-        RunWords {
-            peers_file: Some("peers"),
-            ..BESIDE_TWO
-        },
-        Some(""),
-        WordFault::PeersTwice,
-    ),
-    (BY_LINES, Some("\n2"), WordFault::Line(2)),
-    (
-        BY_LINES,
-        Some("2=127.0.0.1:7002\n2=127.0.0.1:7003"),
-        WordFault::LineTwice,
-    ),
-    (
-        RunWords {
-            status: Some("8001"),
-            ..ALONE
-        },
-        None,
-        WordFault::Status,
-    ),
-    (
-        RunWords {
-            log: Some("Info"),
-            ..ALONE
-        },
-        None,
-        WordFault::Log,
-    ),
+    (WordFault::Status, "8001"),
+    (WordFault::Log, "Info"),
 ];
+
+// Beside node 2, and by the lines of a file.
+const BY_BOTH: RunWords<'_> = RunWords {
+    peers_file: Some("peers"),
+    ..BESIDE_TWO
+};
+
+const TWO_TWICE: &str = "2=127.0.0.1:7002\n2=127.0.0.1:7003";
+
+// A node can't run by these words, and that is why.
+fn check_no_run<R: Abort + AllocGlobal>(
+    rt: &R,
+    words: &RunWords<'_>,
+    lines: Option<&str>,
+    fault: WordFault,
+) {
+    let refused = RunOrder::parse(rt.alloc(), words, lines).err();
+    assert!(rt; refused == Some(fault), "{fault}");
+}
 
 #[test]
 fn each_word_of_run_is_checked(rt: HostRuntime) {
-    for &(words, lines, fault) in &NO_RUNS {
-        let refused = RunOrder::parse(rt.alloc(), &words, lines).err();
-        assert!(rt; refused == Some(fault), "{fault}");
+    for &(fault, text) in &NO_RUNS {
+        check_no_run(&rt, &alone_with(fault, text), None, fault);
     }
+    check_no_run(&rt, &BY_BOTH, Some(""), WordFault::PeersTwice);
+    check_no_run(&rt, &BY_LINES, Some("\n2"), WordFault::Line(2));
+    check_no_run(&rt, &BY_LINES, Some(TWO_TWICE), WordFault::LineTwice);
 }
 
 const COLLECT: AskWords<'_> = AskWords {
@@ -296,24 +293,27 @@ const COLLECT: AskWords<'_> = AskWords {
     waits: false,
 };
 
-// How long it may take, and how many seconds that are.
-const TIMEOUTS: [(Option<&str>, u64); 2] = [(None, 10), (Some("60"), 60)];
+// The order of these words within so many seconds.
+fn collect_within(seconds: u64) -> AskOrder {
+    AskOrder {
+        address: local(7001),
+        session: 7,
+        command: Command::Collect,
+        request: None,
+        timeout: seconds,
+        form: AnswerForm::Plain,
+        waits: false,
+    }
+}
 
 #[test]
 fn ask_waits_ten_seconds_by_itself(rt: HostRuntime) {
-    for &(timeout, seconds) in &TIMEOUTS {
-        let order = AskOrder::parse(&AskWords { timeout, ..COLLECT });
-        let wanted = AskOrder {
-            address: local(7001),
-            session: 7,
-            command: Command::Collect,
-            request: None,
-            timeout: seconds,
-            form: AnswerForm::Plain,
-            waits: false,
-        };
-        assert!(rt; order == Ok(wanted), "{seconds}");
-    }
+    assert!(rt; AskOrder::parse(&COLLECT) == Ok(collect_within(10)));
+    let longer = AskWords {
+        timeout: Some("60"),
+        ..COLLECT
+    };
+    assert!(rt; AskOrder::parse(&longer) == Ok(collect_within(60)));
 }
 
 #[test]
@@ -334,40 +334,60 @@ pub fn are_no_command(words: &AskWords<'_>) -> bool {
     AskOrder::parse(words) == Err(WordFault::Command)
 }
 
-fn check_no_ask<R: Abort>(rt: &R, words: &AskWords<'_>, fault: WordFault) {
-    assert!(rt; AskOrder::parse(words) == Err(fault), "{fault}");
+// The words of a collect, but for that text in place of the one that a fault names.
+fn collect_with(place: WordFault, text: &str) -> AskWords<'_> {
+    match place {
+        WordFault::Address => AskWords {
+            address: text,
+            ..COLLECT
+        },
+        WordFault::Session => AskWords {
+            session: text,
+            ..COLLECT
+        },
+        WordFault::Command => AskWords {
+            command: text,
+            ..COLLECT
+        },
+        WordFault::Request => AskWords {
+            request: Some(text),
+            ..COLLECT
+        },
+        _ => AskWords {
+            timeout: Some(text),
+            ..COLLECT
+        },
+    }
 }
+
+// A bad text, and the fault that names its place.
+const NO_ASKS: [(WordFault, &str); 6] = [
+    (WordFault::Address, "7001"),
+    (WordFault::Session, "07"),
+    (WordFault::Command, "collects"),
+    (WordFault::Request, "0"),
+    (WordFault::Request, "012"),
+    (WordFault::Timeout, "1.5"),
+];
 
 #[test]
 fn each_word_of_ask_is_checked(rt: HostRuntime) {
-    let mut words = COLLECT;
-    words.address = "7001";
-    check_no_ask(&rt, &words, WordFault::Address);
-    words = COLLECT;
-    words.session = "07";
-    check_no_ask(&rt, &words, WordFault::Session);
-    words = COLLECT;
-    words.command = "collects";
-    check_no_ask(&rt, &words, WordFault::Command);
-    words = COLLECT;
-    words.request = Some("0");
-    check_no_ask(&rt, &words, WordFault::Request);
-    words.request = Some("012");
-    check_no_ask(&rt, &words, WordFault::Request);
-    words = COLLECT;
-    words.timeout = Some("1.5");
-    check_no_ask(&rt, &words, WordFault::Timeout);
+    for &(fault, text) in &NO_ASKS {
+        let order = AskOrder::parse(&collect_with(fault, text));
+        assert!(rt; order == Err(fault), "{fault}");
+    }
 }
+
+const ADDRESS: &str = "127.0.0.1:7001";
 
 #[test]
 fn the_operator_names_a_node(rt: HostRuntime) -> Result<(), Fail> {
-    let order = LeaveOrder::parse("127.0.0.1:7001")?;
-    assert!(rt; order.address == local(7001));
-    assert!(rt; LeaveOrder::parse("").err() == Some(WordFault::Address));
-    let order = RetireOrder::parse("127.0.0.1:7001", "3")?;
-    assert!(rt; order.address == local(7001) && order.node.number() == 3);
-    let refused = RetireOrder::parse("127.0.0.1:7001", "0").err();
-    assert!(rt; refused == Some(WordFault::Node));
+    let address = local(7001);
+    assert!(rt; LeaveOrder::parse(ADDRESS) == Ok(LeaveOrder { address }));
+    assert!(rt; LeaveOrder::parse("") == Err(WordFault::Address));
+    let node = NodeId::new(3).ok_or("ids begin at 1")?;
+    assert!(rt; RetireOrder::parse(ADDRESS, "3") == Ok(RetireOrder { address, node }));
+    assert!(rt; RetireOrder::parse(ADDRESS, "0") == Err(WordFault::Node));
     let refused = StatusOrder::parse("8001", AnswerForm::Plain, false).err();
     assert!(rt; refused == Some(WordFault::Address));
     Ok(())
