@@ -15,11 +15,23 @@ const FAILING: DeviceFault = DeviceFault {
 
 // Faults, and their texts.
 const TEXTS: [(NodeFault, &str); 8] = [
-    (NodeFault::Format(FormatFault::Device(FAILING)), "Device A Sync"),
-    (NodeFault::Format(FormatFault::AlreadyFormatted), "AlreadyFormatted"),
-    (NodeFault::Open(OpenFault::Damaged(Side::A, 153)), "Damaged A 153"),
+    (
+        NodeFault::Format(FormatFault::Device(FAILING)),
+        "Device A Sync",
+    ),
+    (
+        NodeFault::Format(FormatFault::AlreadyFormatted),
+        "AlreadyFormatted",
+    ),
+    (
+        NodeFault::Open(OpenFault::Damaged(Side::A, 153)),
+        "Damaged A 153",
+    ),
     (NodeFault::Open(OpenFault::NotFormatted), "NotFormatted"),
-    (NodeFault::Engine(Failed { fault: FAILING }), "Failed A Sync"),
+    (
+        NodeFault::Engine(Failed { fault: FAILING }),
+        "Failed A Sync",
+    ),
     (NodeFault::Spent, "Spent"),
     (NodeFault::Outlet, "Outlet"),
     (NodeFault::NoMemory, "NoMemory"),

@@ -1,6 +1,6 @@
 //! What is told of words that are no command, and of beginnings that no node has.
 
-use crate::words::{are_no_command, with};
+use crate::words::{are_no_command, format_of, with};
 use cc_commands::{BadOpening, FormatOrder};
 use cc_orders::{AnswerForm, AskWords, CommandFault, FormatWords, WordFault};
 use std::alloc::Global;
@@ -9,12 +9,19 @@ use std::test::*;
 
 const LONGER_TEXT: &str = "0123456789abcdef0123456789abcdef0123456789abcdef0123456789abcdef.";
 
-// A command, its value and its text, and what is told of them.
-type Row = (&'static str, Option<&'static str>, Option<&'static str>, &'static str);
+fn told(alloc: Global, words: &AskWords<'_>) -> Result<String, WordFault> {
+    let fault = CommandFault::of(alloc, words)?;
+    format!(in alloc; "{fault}").or(Err(WordFault::NoMemory))
+}
 
-// Words that are no command, and whether just this is told of them.
-fn is_told(alloc: Global, row: &Row) -> Result<bool, Fail> {
-    let &(command, value, text, wanted) = row;
+// Whether a command with that value and that text is none, and just this is told of it.
+fn is_told<'a>(
+    alloc: Global,
+    command: &'a str,
+    value: Option<&'a str>,
+    text: Option<&'a str>,
+    wanted: &str,
+) -> bool {
     let words = AskWords {
         address: "127.0.0.1:7001",
         session: "7",
@@ -26,81 +33,91 @@ fn is_told(alloc: Global, row: &Row) -> Result<bool, Fail> {
         form: AnswerForm::Plain,
         waits: false,
     };
-    let fault = CommandFault::of(alloc, &words)?;
-    let told = format!(in alloc; "{fault}")?;
-    Ok(are_no_command(&words) && told.as_str() == wanted)
+    match told(alloc, &words) {
+        Ok(told) => are_no_command(&words) && told.as_str() == wanted,
+        Err(_) => false,
+    }
 }
 
-fn check_told<R: Abort + AllocGlobal>(rt: &R, rows: &[Row]) -> Result<(), Fail> {
-    for row in rows {
-        assert!(rt; is_told(rt.alloc(), row)?, "{}", row.3);
-    }
-    Ok(())
+// The same of one by itself, and of one with a value.
+fn check_alone<R: Abort + AllocGlobal>(rt: &R, command: &str, wanted: &str) {
+    assert!(rt;
+        is_told(rt.alloc(), command, None, None, wanted),
+        "{wanted}"
+    );
+}
+
+fn check_value<'a, R: Abort + AllocGlobal>(rt: &R, command: &'a str, value: &'a str, wanted: &str) {
+    assert!(rt;
+        is_told(rt.alloc(), command, Some(value), None, wanted),
+        "{wanted}"
+    );
+}
+
+fn check_text<'a, R: Abort + AllocGlobal>(rt: &R, command: &'a str, text: &'a str, wanted: &str) {
+    assert!(rt;
+        is_told(rt.alloc(), command, None, Some(text), wanted),
+        "{wanted}"
+    );
 }
 
 const LONGER: &str = "store takes 1 to 64 bytes; this has 65";
 
+const EMPTY: &str = "store takes 1 to 64 bytes; this has 0";
+
 const UNSEEN: &str = "store takes a word of visible ASCII characters; others go behind --text";
 
-const BAD_TEXTS: [Row; 6] = [
-    ("store", None, None, "store takes a value"),
-    ("store", Some(LONGER_TEXT), None, LONGER),
-    ("store", None, Some(LONGER_TEXT), LONGER),
-    ("store", None, Some(""), "store takes 1 to 64 bytes; this has 0"),
-    ("store", Some("two words"), None, UNSEEN),
-    ("store", Some("a"), Some("b"), "store takes a word or --text, not both"),
-];
+const BOTH: &str = "store takes a word or --text, not both";
 
 #[test]
-fn a_bad_text_is_told_as_what_it_is(rt: HostRuntime) -> Result<(), Fail> {
-    check_told(&rt, &BAD_TEXTS)
+fn a_bad_text_is_told_as_what_it_is(rt: HostRuntime) {
+    check_alone(&rt, "store", "store takes a value");
+    check_value(&rt, "store", LONGER_TEXT, LONGER);
+    check_text(&rt, "store", LONGER_TEXT, LONGER);
+    check_text(&rt, "store", "", EMPTY);
+    check_value(&rt, "store", "two words", UNSEEN);
+    assert!(rt; is_told(rt.alloc(), "store", Some("a"), Some("b"), BOTH));
 }
 
 const U64S: &str = "max takes a number from 0 to 18446744073709551615";
 
 const U32S: &str = "add takes a number from 0 to 4294967295";
 
-const BAD_VALUES: [Row; 6] = [
-    ("max", None, None, "max takes a value"),
-    ("max", Some("-1"), None, U64S),
-    ("add", Some("4294967296"), None, U32S),
-    ("add", None, Some("5"), "add takes no --text, as store does"),
-    ("collect", Some("a"), None, "collect takes no value"),
-    ("readmax", Some("9"), None, "readmax takes no value"),
+#[test]
+fn a_bad_value_is_told_as_what_it_is(rt: HostRuntime) {
+    check_alone(&rt, "max", "max takes a value");
+    check_value(&rt, "max", "-1", U64S);
+    check_value(&rt, "add", "4294967296", U32S);
+    check_text(&rt, "add", "5", "add takes no --text, as store does");
+    check_value(&rt, "collect", "a", "collect takes no value");
+    check_value(&rt, "readmax", "9", "readmax takes no value");
+}
+
+// Commands that are none, and what is told of each by itself.
+const NO_COMMANDS: [(&str, &str); 4] = [
+    ("red-max", "red-max is no command; did you mean readmax?"),
+    (
+        "sett",
+        "sett is no command: store WORD, collect, max N, readmax, flag, readflag, add N, readset",
+    ),
+    ("Flag", "Flag is no command; did you mean flag?"),
+    (
+        "",
+        " is no command: store WORD, collect, max N, readmax, flag, readflag, add N, readset",
+    ),
 ];
 
 #[test]
-fn a_bad_value_is_told_as_what_it_is(rt: HostRuntime) -> Result<(), Fail> {
-    check_told(&rt, &BAD_VALUES)
+fn a_bad_command_is_told_as_what_it_is(rt: HostRuntime) {
+    check_value(&rt, "stor", "a", "stor is no command; did you mean store?");
+    for &(command, wanted) in &NO_COMMANDS {
+        check_alone(&rt, command, wanted);
+    }
 }
 
-const SETT: &str =
-    "sett is no command: store WORD, collect, max N, readmax, flag, readflag, add N, readset";
-
-const EMPTY: &str =
-    " is no command: store WORD, collect, max N, readmax, flag, readflag, add N, readset";
-
-const BAD_COMMANDS: [Row; 5] = [
-    ("stor", Some("a"), None, "stor is no command; did you mean store?"),
-    ("red-max", None, None, "red-max is no command; did you mean readmax?"),
-    ("sett", None, None, SETT),
-    ("Flag", None, None, "Flag is no command; did you mean flag?"),
-    ("", None, None, EMPTY),
-];
-
-#[test]
-fn a_bad_command_is_told_as_what_it_is(rt: HostRuntime) -> Result<(), Fail> {
-    check_told(&rt, &BAD_COMMANDS)
+fn member() -> FormatWords<'static> {
+    with(&format_of("1"), WordFault::Initial, "1,2,3")
 }
-
-const MEMBER: FormatWords<'_> = FormatWords {
-    id: "1",
-    initial: Some("1,2,3"),
-    contacts: None,
-    beta: None,
-    gamma: None,
-    share: None,
-};
 
 fn rule_of(alloc: Global, words: &FormatWords<'_>) -> Result<Option<BadOpening>, Fail> {
     let order = FormatOrder::parse(alloc, words)?;
@@ -121,12 +138,19 @@ const BAD_BEGINNINGS: [(WordFault, &str, BadOpening); 8] = [
     (WordFault::Share, "33", BadOpening::Share),
 ];
 
-#[test]
-fn a_bad_beginning_is_told_by_its_rule(rt: HostRuntime) -> Result<(), Fail> {
-    assert!(rt; rule_of(rt.alloc(), &MEMBER)?.is_none());
-    for &(place, text, rule) in &BAD_BEGINNINGS {
-        let told = rule_of(rt.alloc(), &with(&MEMBER, place, text))?;
+fn check_rules<R: Abort + AllocGlobal>(
+    rt: &R,
+    rows: &[(WordFault, &str, BadOpening)],
+) -> Result<(), Fail> {
+    for &(place, text, rule) in rows {
+        let told = rule_of(rt.alloc(), &with(&member(), place, text))?;
         assert!(rt; told == Some(rule), "{text}");
     }
     Ok(())
+}
+
+#[test]
+fn a_bad_beginning_is_told_by_its_rule(rt: HostRuntime) -> Result<(), Fail> {
+    assert!(rt; rule_of(rt.alloc(), &member())?.is_none());
+    check_rules(&rt, &BAD_BEGINNINGS)
 }

@@ -1,39 +1,18 @@
 //! What is told of a node that can begin so, though its operator may not want it.
 
 use cc_commands::{FormatOrder, Warning};
-use cc_orders::FormatWords;
+use cc_orders::{FormatWords, WordFault};
 use std::alloc::Global;
-use std::process::Abort;
 use std::test::*;
-
-// The members at the start, the contacts and β of a node, and just what is told of it.
-type Row = (
-    Option<&'static str>,
-    Option<&'static str>,
-    Option<&'static str>,
-    [Option<Warning>; 3],
-);
 
 const NOTHING: [Option<Warning>; 3] = [None, None, None];
 
-const ALL: [Option<Warning>; 3] = [None, Some(Warning::All), None];
-
-const HALF: [Option<Warning>; 3] = [Some(Warning::Half), None, None];
-
-const ALONE: [Option<Warning>; 3] = [None, None, Some(Warning::Alone)];
-
-const ROWS: [Row; 7] = [
-    (Some("1,2,3"), None, None, ALL),
-    (Some("1,2,3"), None, Some("2/3"), NOTHING),
-    (Some("1,2,3,4,5"), None, None, NOTHING),
-    (Some("1,2,3"), None, Some("1/2"), HALF),
-    (Some("1"), None, None, NOTHING),
-    (None, Some("1"), None, NOTHING),
-    (None, None, None, ALONE),
-];
-
-fn is_warned(alloc: Global, row: &Row) -> Result<bool, Fail> {
-    let &(initial, contacts, beta, wanted) = row;
+fn warned<'a>(
+    alloc: Global,
+    initial: Option<&'a str>,
+    contacts: Option<&'a str>,
+    beta: Option<&'a str>,
+) -> Result<[Option<Warning>; 3], WordFault> {
     let words = FormatWords {
         id: "1",
         initial,
@@ -45,17 +24,40 @@ fn is_warned(alloc: Global, row: &Row) -> Result<bool, Fail> {
     let order = FormatOrder::parse(alloc, &words)?;
     let warnings = order.warnings();
     drop(order);
-    Ok(warnings == wanted)
+    Ok(warnings)
 }
 
-fn check_rows<R: Abort + AllocGlobal>(rt: &R, rows: &[Row]) -> Result<(), Fail> {
-    for row in rows {
-        assert!(rt; is_warned(rt.alloc(), row)?);
-    }
-    Ok(())
+// Whether just this is told of the members at the start, the contacts and β of a node.
+fn is_warned<'a>(
+    alloc: Global,
+    initial: Option<&'a str>,
+    contacts: Option<&'a str>,
+    beta: Option<&'a str>,
+    wanted: [Option<Warning>; 3],
+) -> bool {
+    warned(alloc, initial, contacts, beta) == Ok(wanted)
+}
+
+// Members at the start, β, and what is told of a node without contacts.
+fn are_members_warned(alloc: Global) -> bool {
+    let all = [None, Some(Warning::All), None];
+    let half = [Some(Warning::Half), None, None];
+    is_warned(alloc, Some("1,2,3"), None, None, all)
+        && is_warned(alloc, Some("1,2,3"), None, Some("2/3"), NOTHING)
+        && is_warned(alloc, Some("1,2,3,4,5"), None, None, NOTHING)
+        && is_warned(alloc, Some("1,2,3"), None, Some("1/2"), half)
+}
+
+// One that has no other member.
+fn are_others_warned(alloc: Global) -> bool {
+    let alone = [None, None, Some(Warning::Alone)];
+    is_warned(alloc, Some("1"), None, None, NOTHING)
+        && is_warned(alloc, None, Some("1"), None, NOTHING)
+        && is_warned(alloc, None, None, None, alone)
 }
 
 #[test]
-fn an_operator_is_warned(rt: HostRuntime) -> Result<(), Fail> {
-    check_rows(&rt, &ROWS)
+fn an_operator_is_warned(rt: HostRuntime) {
+    assert!(rt; are_members_warned(rt.alloc()));
+    assert!(rt; are_others_warned(rt.alloc()));
 }

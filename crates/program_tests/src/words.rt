@@ -89,57 +89,66 @@ fn local(port: u16) -> SocketAddr {
     SocketAddr::V4(SocketAddrV4::new(Ipv4Addr::new(127, 0, 0, 1), port))
 }
 
-const ALONE: RunWords<'_> = RunWords {
-    listen: "127.0.0.1:7001",
-    listen_clients: None,
-    operators: None,
-    peers: None,
-    peers_file: None,
-    status: None,
-    log: None,
-};
+// A node that runs by its address alone. Words are made by a call: a constant of them costs more to prove wherever it is named.
+fn alone() -> RunWords<'static> {
+    RunWords {
+        listen: "127.0.0.1:7001",
+        listen_clients: None,
+        operators: None,
+        peers: None,
+        peers_file: None,
+        status: None,
+        log: None,
+    }
+}
 
-// The same, but for that text in place of the one that a fault names.
-fn alone_with(place: WordFault, text: &str) -> RunWords<'_> {
+// The same words, but for that text in place of the one that a fault names.
+fn run_with<'a>(words: &RunWords<'a>, place: WordFault, text: &'a str) -> RunWords<'a> {
     match place {
         WordFault::Listen => RunWords {
             listen: text,
-            ..ALONE
+            ..*words
         },
         WordFault::ListenClients => RunWords {
             listen_clients: Some(text),
-            ..ALONE
+            ..*words
         },
         WordFault::Operators => RunWords {
             operators: Some(text),
-            ..ALONE
+            ..*words
         },
         WordFault::Peers | WordFault::PeerTwice => RunWords {
             peers: Some(text),
-            ..ALONE
+            ..*words
         },
         WordFault::Status => RunWords {
             status: Some(text),
-            ..ALONE
+            ..*words
         },
         _ => RunWords {
             log: Some(text),
-            ..ALONE
+            ..*words
         },
     }
 }
 
-// The same beside node 2.
-const BESIDE_TWO: RunWords<'_> = RunWords {
-    peers: Some("2=127.0.0.1:7002"),
-    ..ALONE
-};
+// The words alone, but for that one.
+fn alone_with(place: WordFault, text: &str) -> RunWords<'_> {
+    run_with(&alone(), place, text)
+}
 
-// The same by the lines of a file.
-const BY_LINES: RunWords<'_> = RunWords {
-    peers_file: Some("peers"),
-    ..ALONE
-};
+// A node beside node 2.
+fn beside_two() -> RunWords<'static> {
+    alone_with(WordFault::Peers, "2=127.0.0.1:7002")
+}
+
+// The same words, with a file of peers.
+fn by_lines(words: RunWords<'static>) -> RunWords<'static> {
+    RunWords {
+        peers_file: Some("peers"),
+        ..words
+    }
+}
 
 const THREE_LINES: &str = "# three\n1=127.0.0.1:7001\n2=127.0.0.1:7002\n3=127.0.0.1:7003\n";
 
@@ -153,9 +162,7 @@ fn names(
 ) -> bool {
     match (RunOrder::parse(alloc, words, lines), NodeId::new(2)) {
         (Ok(order), Some(two)) => {
-            order.listen == local(7001)
-                && order.peers.len() == count
-                && order.names(two) == has_two
+            order.listen == local(7001) && order.peers.len() == count && order.names(two) == has_two
         }
         _ => false,
     }
@@ -163,22 +170,30 @@ fn names(
 
 #[test]
 fn run_listens_and_knows_its_peers(rt: HostRuntime) {
-    assert!(rt; names(rt.alloc(), &BESIDE_TWO, None, 1, true));
-    assert!(rt; names(rt.alloc(), &BY_LINES, Some(THREE_LINES), 3, true));
-    assert!(rt; names(rt.alloc(), &ALONE, None, 0, false));
+    assert!(rt; names(rt.alloc(), &beside_two(), None, 1, true));
+    assert!(rt; names(rt.alloc(), &by_lines(alone()), Some(THREE_LINES), 3, true));
+    assert!(rt; names(rt.alloc(), &alone(), None, 0, false));
 }
 
 // Whether node 1 passes its own line over, and no other.
-fn passes_over_itself(alloc: Global) -> Result<bool, Fail> {
-    let one = NodeId::new(1).ok_or("ids begin at 1")?;
-    let mut order = RunOrder::parse(alloc, &BY_LINES, Some(THREE_LINES))?;
-    order.pass_over(one);
-    Ok(order.peers.len() == 2 && !order.names(one))
+fn passes_over_itself(order: &mut RunOrder) -> bool {
+    match NodeId::new(1) {
+        Some(one) => {
+            order.pass_over(one);
+            order.peers.len() == 2 && !order.names(one)
+        }
+        None => false,
+    }
+}
+
+fn is_passed_over(alloc: Global) -> Result<bool, Fail> {
+    let mut order = RunOrder::parse(alloc, &by_lines(alone()), Some(THREE_LINES))?;
+    Ok(passes_over_itself(&mut order))
 }
 
 #[test]
 fn one_file_serves_all_nodes(rt: HostRuntime) -> Result<(), Fail> {
-    assert!(rt; passes_over_itself(rt.alloc())?);
+    assert!(rt; is_passed_over(rt.alloc())?);
     Ok(())
 }
 
@@ -200,7 +215,7 @@ const LEVELS: [(&str, LogLevel); 4] = [
 
 #[test]
 fn run_notes_by_levels(rt: HostRuntime) {
-    assert!(rt; tells(rt.alloc(), &ALONE, None, LogLevel::Info));
+    assert!(rt; tells(rt.alloc(), &alone(), None, LogLevel::Info));
     for &(word, level) in &LEVELS {
         let words = alone_with(WordFault::Log, word);
         assert!(rt; tells(rt.alloc(), &words, None, level), "{word}");
@@ -224,18 +239,17 @@ fn guards(
     }
 }
 
-const GUARDED: RunWords<'_> = RunWords {
-    listen_clients: Some("127.0.0.1:7501"),
-    operators: Some("off"),
-    ..ALONE
-};
+fn guarded() -> RunWords<'static> {
+    let words = alone_with(WordFault::ListenClients, "127.0.0.1:7501");
+    run_with(&words, WordFault::Operators, "off")
+}
 
 #[test]
 fn run_takes_all_from_all_by_itself(rt: HostRuntime) {
-    assert!(rt; guards(rt.alloc(), &ALONE, None, true));
+    assert!(rt; guards(rt.alloc(), &alone(), None, true));
     let open = alone_with(WordFault::Operators, "on");
     assert!(rt; guards(rt.alloc(), &open, None, true));
-    assert!(rt; guards(rt.alloc(), &GUARDED, Some(local(7501)), false));
+    assert!(rt; guards(rt.alloc(), &guarded(), Some(local(7501)), false));
 }
 
 // A word that a node can't run by, and the fault that names its place.
@@ -244,19 +258,10 @@ const NO_RUNS: [(WordFault, &str); 7] = [
     (WordFault::ListenClients, "7501"),
     (WordFault::Operators, "On"),
     (WordFault::Peers, ""),
-    (
-        WordFault::PeerTwice,
-        "2=127.0.0.1:7002,2=127.0.0.1:7003",
-    ),
+    (WordFault::PeerTwice, "2=127.0.0.1:7002,2=127.0.0.1:7003"),
     (WordFault::Status, "8001"),
     (WordFault::Log, "Info"),
 ];
-
-// Beside node 2, and by the lines of a file.
-const BY_BOTH: RunWords<'_> = RunWords {
-    peers_file: Some("peers"),
-    ..BESIDE_TWO
-};
 
 const TWO_TWICE: &str = "2=127.0.0.1:7002\n2=127.0.0.1:7003";
 
@@ -276,22 +281,52 @@ fn each_word_of_run_is_checked(rt: HostRuntime) {
     for &(fault, text) in &NO_RUNS {
         check_no_run(&rt, &alone_with(fault, text), None, fault);
     }
-    check_no_run(&rt, &BY_BOTH, Some(""), WordFault::PeersTwice);
-    check_no_run(&rt, &BY_LINES, Some("\n2"), WordFault::Line(2));
-    check_no_run(&rt, &BY_LINES, Some(TWO_TWICE), WordFault::LineTwice);
+    let both = by_lines(beside_two());
+    check_no_run(&rt, &both, Some(""), WordFault::PeersTwice);
+    let words = by_lines(alone());
+    check_no_run(&rt, &words, Some("\n2"), WordFault::Line(2));
+    check_no_run(&rt, &words, Some(TWO_TWICE), WordFault::LineTwice);
 }
 
-const COLLECT: AskWords<'_> = AskWords {
-    address: "127.0.0.1:7001",
-    session: "7",
-    command: "collect",
-    value: None,
-    text: None,
-    request: None,
-    timeout: None,
-    form: AnswerForm::Plain,
-    waits: false,
-};
+fn collect() -> AskWords<'static> {
+    AskWords {
+        address: "127.0.0.1:7001",
+        session: "7",
+        command: "collect",
+        value: None,
+        text: None,
+        request: None,
+        timeout: None,
+        form: AnswerForm::Plain,
+        waits: false,
+    }
+}
+
+// The same words, but for that text in place of the one that a fault names.
+fn ask_with<'a>(words: &AskWords<'a>, place: WordFault, text: &'a str) -> AskWords<'a> {
+    match place {
+        WordFault::Address => AskWords {
+            address: text,
+            ..*words
+        },
+        WordFault::Session => AskWords {
+            session: text,
+            ..*words
+        },
+        WordFault::Command => AskWords {
+            command: text,
+            ..*words
+        },
+        WordFault::Request => AskWords {
+            request: Some(text),
+            ..*words
+        },
+        _ => AskWords {
+            timeout: Some(text),
+            ..*words
+        },
+    }
+}
 
 // The order of these words within so many seconds.
 fn collect_within(seconds: u64) -> AskOrder {
@@ -308,20 +343,14 @@ fn collect_within(seconds: u64) -> AskOrder {
 
 #[test]
 fn ask_waits_ten_seconds_by_itself(rt: HostRuntime) {
-    assert!(rt; AskOrder::parse(&COLLECT) == Ok(collect_within(10)));
-    let longer = AskWords {
-        timeout: Some("60"),
-        ..COLLECT
-    };
+    assert!(rt; AskOrder::parse(&collect()) == Ok(collect_within(10)));
+    let longer = ask_with(&collect(), WordFault::Timeout, "60");
     assert!(rt; AskOrder::parse(&longer) == Ok(collect_within(60)));
 }
 
 #[test]
 fn a_request_may_have_a_number(rt: HostRuntime) {
-    let order = AskOrder::parse(&AskWords {
-        request: Some("12"),
-        ..COLLECT
-    });
+    let order = AskOrder::parse(&ask_with(&collect(), WordFault::Request, "12"));
     let wanted = AskOrder {
         request: Some(12),
         ..AskOrder::new(local(7001), 7, Command::Collect, 10)
@@ -332,32 +361,6 @@ fn a_request_may_have_a_number(rt: HostRuntime) {
 /// Whether the words are none of a command.
 pub fn are_no_command(words: &AskWords<'_>) -> bool {
     AskOrder::parse(words) == Err(WordFault::Command)
-}
-
-// The words of a collect, but for that text in place of the one that a fault names.
-fn collect_with(place: WordFault, text: &str) -> AskWords<'_> {
-    match place {
-        WordFault::Address => AskWords {
-            address: text,
-            ..COLLECT
-        },
-        WordFault::Session => AskWords {
-            session: text,
-            ..COLLECT
-        },
-        WordFault::Command => AskWords {
-            command: text,
-            ..COLLECT
-        },
-        WordFault::Request => AskWords {
-            request: Some(text),
-            ..COLLECT
-        },
-        _ => AskWords {
-            timeout: Some(text),
-            ..COLLECT
-        },
-    }
 }
 
 // A bad text, and the fault that names its place.
@@ -373,34 +376,44 @@ const NO_ASKS: [(WordFault, &str); 6] = [
 #[test]
 fn each_word_of_ask_is_checked(rt: HostRuntime) {
     for &(fault, text) in &NO_ASKS {
-        let order = AskOrder::parse(&collect_with(fault, text));
+        let order = AskOrder::parse(&ask_with(&collect(), fault, text));
         assert!(rt; order == Err(fault), "{fault}");
     }
 }
 
 const ADDRESS: &str = "127.0.0.1:7001";
 
-#[test]
-fn the_operator_names_a_node(rt: HostRuntime) -> Result<(), Fail> {
-    let address = local(7001);
-    assert!(rt; LeaveOrder::parse(ADDRESS) == Ok(LeaveOrder { address }));
-    assert!(rt; LeaveOrder::parse("") == Err(WordFault::Address));
-    let node = NodeId::new(3).ok_or("ids begin at 1")?;
-    assert!(rt; RetireOrder::parse(ADDRESS, "3") == Ok(RetireOrder { address, node }));
-    assert!(rt; RetireOrder::parse(ADDRESS, "0") == Err(WordFault::Node));
-    let refused = StatusOrder::parse("8001", AnswerForm::Plain, false).err();
-    assert!(rt; refused == Some(WordFault::Address));
-    Ok(())
+fn leaves() -> Result<bool, WordFault> {
+    Ok(LeaveOrder::parse(ADDRESS)?.address == local(7001))
 }
 
-const GOOD: FormatWords<'_> = FormatWords {
-    id: "4",
-    initial: None,
-    contacts: None,
-    beta: None,
-    gamma: None,
-    share: None,
-};
+// Whether it names node 3.
+fn retires() -> Result<bool, WordFault> {
+    let order = RetireOrder::parse(ADDRESS, "3")?;
+    Ok(order.address == local(7001) && order.node.number() == 3)
+}
+
+#[test]
+fn the_operator_names_a_node(rt: HostRuntime) {
+    assert!(rt; leaves() == Ok(true));
+    assert!(rt; LeaveOrder::parse("").err() == Some(WordFault::Address));
+    assert!(rt; retires() == Ok(true));
+    assert!(rt; RetireOrder::parse(ADDRESS, "0").err() == Some(WordFault::Node));
+    let refused = StatusOrder::parse("8001", AnswerForm::Plain, false).err();
+    assert!(rt; refused == Some(WordFault::Address));
+}
+
+/// The words of a node of that id alone.
+pub fn format_of(id: &str) -> FormatWords<'_> {
+    FormatWords {
+        id,
+        initial: None,
+        contacts: None,
+        beta: None,
+        gamma: None,
+        share: None,
+    }
+}
 
 // Whether the order has what stands where the options are left out.
 fn has_defaults(order: &FormatOrder) -> bool {
@@ -413,7 +426,7 @@ fn has_defaults(order: &FormatOrder) -> bool {
 
 #[test]
 fn options_have_defaults(rt: HostRuntime) -> Result<(), Fail> {
-    let order = FormatOrder::parse(rt.alloc(), &GOOD)?;
+    let order = FormatOrder::parse(rt.alloc(), &format_of("4"))?;
     assert!(rt; has_defaults(&order));
     Ok(())
 }
@@ -458,7 +471,8 @@ const NO_FORMATS: [(WordFault, &str); 6] = [
 #[test]
 fn each_word_of_format_is_checked(rt: HostRuntime) {
     for &(fault, text) in &NO_FORMATS {
-        let refused = FormatOrder::parse(rt.alloc(), &with(&GOOD, fault, text)).err();
+        let words = with(&format_of("4"), fault, text);
+        let refused = FormatOrder::parse(rt.alloc(), &words).err();
         assert!(rt; refused == Some(fault), "{fault}");
     }
 }
