@@ -85,32 +85,15 @@ fn play_round(
     part: &str,
     chance: &mut Chance,
 ) -> Result<(), Fail> {
-    let session = begin_session(trial)?;
-    let lines = round(alloc, &trial.printed, session, part, chance)?;
-    say_all(alloc, &mut trial.cluster, &lines, &mut trial.printed)
-}
-
-fn begin_session(trial: &mut Trial) -> Result<usize, Fail> {
     let session = trial.asked.len();
     let printed = str::from_utf8(&trial.printed)?;
     trial.asked.push(printed.lines().count())?;
-    Ok(session)
+    let mut lines = String::new(alloc);
+    push_round(&mut lines, printed, session, part, chance)?;
+    say_all(alloc, &mut trial.cluster, &lines, &mut trial.printed)
 }
 
 // The lines of a round, by what was printed so far.
-fn round(
-    alloc: Global,
-    printed: &[u8],
-    session: usize,
-    part: &str,
-    chance: &mut Chance,
-) -> Result<String, Fail> {
-    let printed = str::from_utf8(printed)?;
-    let mut lines = String::new(alloc);
-    push_round(&mut lines, printed, session, part, chance)?;
-    Ok(lines)
-}
-
 fn push_round(
     lines: &mut String,
     printed: &str,
@@ -161,18 +144,22 @@ fn push_link(
 fn last_told(printed: &str, node: &str, word: &str, other: &str) -> u64 {
     let mut last = 0;
     for line in printed.lines() {
-        if let Some(rest) = behind(line, node, word, other) {
+        if let Some(rest) = behind_all(line, node, word, other) {
             last = first_number(rest, ' ');
         }
     }
     last
 }
 
-// What stands behind these words and the space after each.
-fn behind<'a>(line: &'a str, node: &str, word: &str, other: &str) -> Option<&'a str> {
-    let line = line.strip_prefix(node)?.strip_prefix(' ')?;
-    let line = line.strip_prefix(word)?.strip_prefix(' ')?;
-    line.strip_prefix(other)?.strip_prefix(' ')
+// What stands behind a word and a space.
+fn behind<'a>(line: &'a str, word: &str) -> Option<&'a str> {
+    line.strip_prefix(word)?.strip_prefix(' ')
+}
+
+// The same of three words.
+fn behind_all<'a>(line: &'a str, node: &str, word: &str, other: &str) -> Option<&'a str> {
+    let line = behind(line, node)?;
+    behind(behind(line, word)?, other)
 }
 
 // The number before that letter, or the whole one, or 0.

@@ -82,11 +82,8 @@ fn check_lines<R: Abort + AllocGlobal>(
     wanted: &str,
 ) -> Result<(), Fail> {
     let mut output = Vec::new(rt.alloc());
-    let said = say_all(rt.alloc(), cluster, lines, &mut output);
-    let is_printed = output.as_slice() == wanted.as_bytes();
-    drop(output);
-    said?;
-    assert!(rt; is_printed, "{lines}");
+    say_all(rt.alloc(), cluster, lines, &mut output)?;
+    assert!(rt; output.as_slice() == wanted.as_bytes(), "{lines}");
     Ok(())
 }
 

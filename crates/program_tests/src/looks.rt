@@ -56,14 +56,11 @@ const TABLES: [(&str, &str); 2] = [(READY, READY_TABLE), (APART, APART_TABLE)];
 // Whether just this table is made of a status.
 fn is_table(alloc: Global, json: &str, wanted: &str) -> Result<bool, Fail> {
     let value = Value::from_str(alloc, json)?;
-    is_table_of(alloc, &value, wanted)
-}
-
-fn is_table_of(alloc: Global, value: &Value, wanted: &str) -> Result<bool, Fail> {
-    let Some(status) = Status::of(value) else {
+    let Some(status) = Status::of(&value) else {
         return Ok(false);
     };
     let table = format!(in alloc; "{}", Table(status))?;
+    drop(value);
     Ok(table.as_str() == wanted)
 }
 

@@ -39,7 +39,7 @@ fn is_told<'a>(
     }
 }
 
-// The same of one by itself, and of one with a value.
+// The same of one by itself, of one with a value, and of one with a text.
 fn check_alone<R: Abort + AllocGlobal>(rt: &R, command: &str, wanted: &str) {
     assert!(rt;
         is_told(rt.alloc(), command, None, None, wanted),

@@ -38,7 +38,7 @@ fn is_warned<'a>(
     warned(alloc, initial, contacts, beta) == Ok(wanted)
 }
 
-// Members at the start, β, and what is told of a node without contacts.
+// Of a node that has other members at the start.
 fn are_members_warned(alloc: Global) -> bool {
     let all = [None, Some(Warning::All), None];
     let half = [Some(Warning::Half), None, None];
@@ -48,7 +48,7 @@ fn are_members_warned(alloc: Global) -> bool {
         && is_warned(alloc, Some("1,2,3"), None, Some("1/2"), half)
 }
 
-// One that has no other member.
+// Of one that has none.
 fn are_others_warned(alloc: Global) -> bool {
     let alone = [None, None, Some(Warning::Alone)];
     is_warned(alloc, Some("1"), None, None, NOTHING)

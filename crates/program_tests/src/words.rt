@@ -168,11 +168,23 @@ fn names(
     }
 }
 
+fn names_one(alloc: Global) -> bool {
+    names(alloc, &beside_two(), None, 1, true)
+}
+
+fn names_three(alloc: Global) -> bool {
+    names(alloc, &by_lines(alone()), Some(THREE_LINES), 3, true)
+}
+
+fn names_none(alloc: Global) -> bool {
+    names(alloc, &alone(), None, 0, false)
+}
+
 #[test]
 fn run_listens_and_knows_its_peers(rt: HostRuntime) {
-    assert!(rt; names(rt.alloc(), &beside_two(), None, 1, true));
-    assert!(rt; names(rt.alloc(), &by_lines(alone()), Some(THREE_LINES), 3, true));
-    assert!(rt; names(rt.alloc(), &alone(), None, 0, false));
+    assert!(rt; names_one(rt.alloc()));
+    assert!(rt; names_three(rt.alloc()));
+    assert!(rt; names_none(rt.alloc()));
 }
 
 // Whether node 1 passes its own line over, and no other.
@@ -205,6 +217,19 @@ fn tells(alloc: Global, words: &RunWords<'_>, status: Option<SocketAddr>, log: L
     }
 }
 
+fn tells_by_itself(alloc: Global) -> bool {
+    tells(alloc, &alone(), None, LogLevel::Info)
+}
+
+fn tells_by_level(alloc: Global, word: &str, level: LogLevel) -> bool {
+    tells(alloc, &alone_with(WordFault::Log, word), None, level)
+}
+
+fn tells_where_it_shows(alloc: Global) -> bool {
+    let words = alone_with(WordFault::Status, "127.0.0.1:8001");
+    tells(alloc, &words, Some(local(8001)), LogLevel::Info)
+}
+
 // The words of levels.
 const LEVELS: [(&str, LogLevel); 4] = [
     ("error", LogLevel::Error),
@@ -215,13 +240,11 @@ const LEVELS: [(&str, LogLevel); 4] = [
 
 #[test]
 fn run_notes_by_levels(rt: HostRuntime) {
-    assert!(rt; tells(rt.alloc(), &alone(), None, LogLevel::Info));
+    assert!(rt; tells_by_itself(rt.alloc()));
     for &(word, level) in &LEVELS {
-        let words = alone_with(WordFault::Log, word);
-        assert!(rt; tells(rt.alloc(), &words, None, level), "{word}");
+        assert!(rt; tells_by_level(rt.alloc(), word, level), "{word}");
     }
-    let shown = alone_with(WordFault::Status, "127.0.0.1:8001");
-    assert!(rt; tells(rt.alloc(), &shown, Some(local(8001)), LogLevel::Info));
+    assert!(rt; tells_where_it_shows(rt.alloc()));
 }
 
 // Whether a node serves clients alone just there, and whether it hears the operator of another machine just so.
