@@ -89,13 +89,12 @@ fn play_round(
     let printed = str::from_utf8(&trial.printed)?;
     trial.asked.push(printed.lines().count())?;
     let mut lines = String::new(alloc);
-    push_round(alloc, &mut lines, printed, session, part, chance)?;
+    push_round(&mut lines, printed, session, part, chance)?;
     say_all(alloc, &mut trial.cluster, &lines, &mut trial.printed)
 }
 
 // The lines of a round, by what was printed so far.
 fn push_round(
-    alloc: Global,
     lines: &mut String,
     printed: &str,
     session: usize,
@@ -105,11 +104,10 @@ fn push_round(
     let node = chance.pick(&NODES);
     let command = chance.pick(&COMMANDS);
     write!(lines, "ask {node} {session} 1 {command}\n")?;
-    push_carries(alloc, lines, printed, part, chance)
+    push_carries(lines, printed, part, chance)
 }
 
 fn push_carries(
-    alloc: Global,
     lines: &mut String,
     printed: &str,
     part: &str,
@@ -118,7 +116,7 @@ fn push_carries(
     for &from in &NODES {
         for &to in &NODES {
             if part.contains(from) == part.contains(to) {
-                push_link(alloc, lines, printed, (from, to), chance.below(8))?;
+                push_link(lines, printed, from, to, chance.below(8))?;
             }
         }
     }
@@ -127,15 +125,14 @@ fn push_carries(
 
 // Up to so many of the messages that were sent on a link and aren't heard yet.
 fn push_link(
-    alloc: Global,
     lines: &mut String,
     printed: &str,
-    link: (&str, &str),
+    from: &str,
+    to: &str,
     most: u64,
 ) -> Result<(), Fail> {
-    let (from, to) = link;
-    let first = last_told(alloc, printed, (to, "ack", from))?;
-    let last = last_told(alloc, printed, (from, "send", to))?;
+    let first = last_told(printed, to, "ack", from);
+    let last = last_told(printed, from, "send", to);
     let end = first.saturating_add(most).min(last);
     for number in first..end {
         write!(lines, "carry {from} {to} {}\n", number.saturating_add(1))?;
@@ -144,20 +141,25 @@ fn push_link(
 }
 
 // The number behind these words in the last line that begins with them, or 0.
-fn last_told(alloc: Global, printed: &str, words: (&str, &str, &str)) -> Result<u64, Fail> {
-    let (node, word, other) = words;
-    let words = format!(in alloc; "{node} {word} {other} ")?;
-    Ok(last_behind(printed, &words))
-}
-
-fn last_behind(printed: &str, words: &str) -> u64 {
+fn last_told(printed: &str, node: &str, word: &str, other: &str) -> u64 {
     let mut last = 0;
     for line in printed.lines() {
-        if let Some(rest) = line.strip_prefix(words) {
+        if let Some(rest) = behind_all(line, node, word, other) {
             last = first_number(rest, ' ');
         }
     }
     last
+}
+
+// What stands behind a word and a space.
+fn behind<'a>(line: &'a str, word: &str) -> Option<&'a str> {
+    line.strip_prefix(word)?.strip_prefix(' ')
+}
+
+// The same of three words.
+fn behind_all<'a>(line: &'a str, node: &str, word: &str, other: &str) -> Option<&'a str> {
+    let line = behind(line, node)?;
+    behind(behind(line, word)?, other)
 }
 
 // The number before that letter, or the whole one, or 0.
@@ -285,6 +287,11 @@ fn stale_collects_are_found_at_half(rt: HostRuntime) -> Result<(), Fail> {
 
 // Nodes 1 and 2 are enough for the store, and nodes 3 and 4 for the collect.
 const STALE: &str = "\
+fractions 1/2 4/5
+member 1 of 1,2,3,4
+member 2 of 1,2,3,4
+member 3 of 1,2,3,4
+member 4 of 1,2,3,4
 ask 1 1 1 store a
 carry 1 1 1
 carry 1 2 1
@@ -325,10 +332,13 @@ fn is_told(output: &str) -> bool {
         && answered_and_stale(output, &[0, 0, before]) == (1, 0)
 }
 
+fn is_stale_told(alloc: Global) -> Result<bool, Fail> {
+    let (status, output) = played(alloc, STALE)?;
+    Ok(status == 0 && is_told(&output))
+}
+
 #[test]
 fn a_stale_collect_is_told(rt: HostRuntime) -> Result<(), Fail> {
-    let script = format!(in rt.alloc(); "{AT_HALF}{STALE}")?;
-    let (status, output) = played(rt.alloc(), &script)?;
-    assert!(rt; status == 0 && is_told(&output), "{output}");
+    assert!(rt; is_stale_told(rt.alloc())?);
     Ok(())
 }

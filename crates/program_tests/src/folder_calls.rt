@@ -1,26 +1,28 @@
 //! Folders that are made anew, formatted and told of.
 
+use crate::words::{format_of, with};
 use cc_commands::{DumpScope, FormatOrder, dump_folder, format_folder};
 use cc_files::{FileSite, NoOutlet};
-use cc_orders::FormatWords;
+use cc_orders::{FormatWords, WordFault};
 use std::fs;
 use std::fs::{File, Files};
 use std::test::*;
 
 /// Entrant 4, whose one contact is node 1.
-pub const ENTRANT: FormatWords<'_> = FormatWords {
-    id: "4",
-    initial: None,
-    contacts: Some("1"),
-    beta: None,
-    gamma: None,
-    share: None,
-};
+pub fn entrant() -> FormatWords<'static> {
+    with(&format_of("4"), WordFault::Contacts, "1")
+}
 
 /// A new folder of that name.
 pub fn made<R: AllocGlobal + Files>(rt: &R, folder: &str) -> Result<(), Fail> {
     let _ = fs::remove_dir_all(rt, folder);
     fs::create_dir(rt, folder)?;
+    Ok(())
+}
+
+/// Removes a folder, and what is in it.
+pub fn remove<R: AllocGlobal + Files>(rt: &R, folder: &str) -> Result<(), Fail> {
+    fs::remove_dir_all(rt, folder)?;
     Ok(())
 }
 

@@ -1,7 +1,7 @@
 //! Folders that are formatted, and what stands in them.
 
-use crate::folder_calls::{ENTRANT, dumped, formatted, hold, made, put_behind};
-use crate::words::with;
+use crate::folder_calls::{dumped, entrant, formatted, hold, made, put_behind, remove};
+use crate::words::{format_of, with};
 use cc_commands::DumpScope;
 use cc_orders::{FormatWords, WordFault};
 use std::fs;
@@ -40,8 +40,11 @@ fn check_dump<R: Abort + AllocGlobal + Files<File = File>>(
 }
 
 // A folder that keeps entrant 4, its side A, the bytes that are put behind its state there, and the status and what is printed
-// then: of nothing, of the record of one Enter, and of a record with a bad length.
-const ENTRANTS: [(&str, &str, &[u8], u8, &str); 3] = [
+// then.
+type Entrant = (&'static str, &'static str, &'static [u8], u8, &'static str);
+
+// Of nothing, of the record of one Enter, and of a record with a bad length.
+const ENTRANTS: [Entrant; 3] = [
     (
         "formatted_folder",
         "formatted_folder/side-a",
@@ -67,21 +70,20 @@ const ENTRANTS: [(&str, &str, &[u8], u8, &str); 3] = [
 
 fn check_entrant<R: Abort + AllocGlobal + Files<File = File>>(
     rt: &R,
-    folder: &str,
-    path: &str,
-    bytes: &[u8],
+    row: &Entrant,
 ) -> Result<(), Fail> {
+    let &(folder, path, bytes, status, wanted) = row;
     made(rt, folder)?;
-    check_format(rt, folder, &ENTRANT, 0, "formatted 4\n")?;
-    put_behind(rt, path, bytes)
+    check_format(rt, folder, &entrant(), 0, "formatted 4\n")?;
+    put_behind(rt, path, bytes)?;
+    check_dump(rt, folder, status, wanted)?;
+    remove(rt, folder)
 }
 
 #[test]
 fn a_formatted_folder_is_dumped(rt: HostRuntime) -> Result<(), Fail> {
-    for &(folder, path, bytes, status, wanted) in &ENTRANTS {
-        check_entrant(&rt, folder, path, bytes)?;
-        check_dump(&rt, folder, status, wanted)?;
-        fs::remove_dir_all(&rt, folder)?;
+    for row in &ENTRANTS {
+        check_entrant(&rt, row)?;
     }
     Ok(())
 }
@@ -89,15 +91,22 @@ fn a_formatted_folder_is_dumped(rt: HostRuntime) -> Result<(), Fail> {
 // What is printed of sides that aren't there, or have no byte.
 const EMPTY: &str = "A closed\nB closed\nfault NotFormatted\n";
 
+// What is told of a folder without a node, which is removed then.
+fn check_empty<R: Abort + AllocGlobal + Files<File = File>>(
+    rt: &R,
+    folder: &str,
+) -> Result<(), Fail> {
+    check_dump(rt, folder, 1, EMPTY)?;
+    remove(rt, folder)
+}
+
 // The second time the files are there.
 #[test]
 fn an_empty_folder_is_dumped(rt: HostRuntime) -> Result<(), Fail> {
     const FOLDER: &str = "empty_folder";
     made(&rt, FOLDER)?;
     check_dump(&rt, FOLDER, 1, EMPTY)?;
-    check_dump(&rt, FOLDER, 1, EMPTY)?;
-    fs::remove_dir_all(&rt, FOLDER)?;
-    Ok(())
+    check_empty(&rt, FOLDER)
 }
 
 // What is told of a folder of which side A can't be opened.
@@ -106,7 +115,7 @@ fn check_closed<R: Abort + AllocGlobal + Files<File = File>>(
     folder: &str,
 ) -> Result<(), Fail> {
     check_dump(rt, folder, 1, "fault Device A Length\n")?;
-    check_format(rt, folder, &ENTRANT, 1, "Device A Length\n")
+    check_format(rt, folder, &entrant(), 1, "Device A Length\n")
 }
 
 #[test]
@@ -125,63 +134,95 @@ fn check_held<R: Abort + AllocGlobal + Files<File = File>>(
     outcome
 }
 
+// The same, and what is told once it is free.
+fn check_freed<R: Abort + AllocGlobal + Files<File = File>>(
+    rt: &R,
+    folder: &str,
+) -> Result<(), Fail> {
+    made(rt, folder)?;
+    check_held(rt, folder)?;
+    check_empty(rt, folder)
+}
+
 #[test]
 fn a_folder_is_held_by_one(rt: HostRuntime) -> Result<(), Fail> {
-    const FOLDER: &str = "held_folder";
-    made(&rt, FOLDER)?;
-    check_held(&rt, FOLDER)?;
-    check_dump(&rt, FOLDER, 1, EMPTY)?;
-    fs::remove_dir_all(&rt, FOLDER)?;
-    Ok(())
+    check_freed(&rt, "held_folder")
 }
 
-// A folder stands where side B has to be.
+// What is told of a folder where another stands in the place of side B.
+fn check_folders<R: Abort + AllocGlobal + Files<File = File>>(
+    rt: &R,
+    folder: &str,
+    side: &str,
+) -> Result<(), Fail> {
+    made(rt, folder)?;
+    made(rt, side)?;
+    check_dump(rt, folder, 1, "fault Device B Length\n")?;
+    check_format(rt, folder, &entrant(), 1, "Device B Length\n")?;
+    remove(rt, folder)
+}
+
 #[test]
 fn a_side_has_to_be_a_file(rt: HostRuntime) -> Result<(), Fail> {
-    const FOLDER: &str = "folder_of_folders";
-    made(&rt, FOLDER)?;
-    fs::create_dir(&rt, "folder_of_folders/side-b")?;
-    check_dump(&rt, FOLDER, 1, "fault Device B Length\n")?;
-    check_format(&rt, FOLDER, &ENTRANT, 1, "Device B Length\n")?;
-    fs::remove_dir_all(&rt, FOLDER)?;
-    Ok(())
+    check_folders(&rt, "folder_of_folders", "folder_of_folders/side-b")
 }
 
-// Nobody may read or write side B. That doesn't hold off a root user, for whom it is an empty side.
+// Makes an empty file that nobody may read or write, and gives what is told of a folder with it as side B. Nothing holds off a
+// root user, for whom it is an empty side.
+fn told_of_closed_file<R: AllocGlobal + Files<File = File>>(
+    rt: &R,
+    side: &str,
+) -> Result<&'static str, Fail> {
+    fs::write(rt, side, b"")?;
+    fs::set_permissions(rt, side, Permissions::from_mode(0))?;
+    match File::open(rt, side) {
+        Ok(_) => Ok(EMPTY),
+        Err(_) => Ok("fault Device B Length\n"),
+    }
+}
+
+fn check_closed_file<R: Abort + AllocGlobal + Files<File = File>>(
+    rt: &R,
+    folder: &str,
+    side: &str,
+) -> Result<(), Fail> {
+    made(rt, folder)?;
+    let wanted = told_of_closed_file(rt, side)?;
+    check_dump(rt, folder, 1, wanted)?;
+    remove(rt, folder)
+}
+
 #[test]
 fn a_file_without_permission_is_not_opened(rt: HostRuntime) -> Result<(), Fail> {
-    const FOLDER: &str = "folder_without_permission";
     const SIDE: &str = "folder_without_permission/side-b";
-    made(&rt, FOLDER)?;
-    fs::write(&rt, SIDE, b"")?;
-    fs::set_permissions(&rt, SIDE, Permissions::from_mode(0))?;
-    let wanted = match File::open(&rt, SIDE) {
-        Ok(_) => EMPTY,
-        Err(_) => "fault Device B Length\n",
-    };
-    check_dump(&rt, FOLDER, 1, wanted)?;
-    fs::remove_dir_all(&rt, FOLDER)?;
-    Ok(())
+    check_closed_file(&rt, "folder_without_permission", SIDE)
 }
 
-const MEMBER_OF_TWO: FormatWords<'_> = FormatWords {
-    id: "1",
-    initial: Some("1,2"),
-    contacts: Some("3"),
-    beta: Some("1/2"),
-    gamma: Some("2/3"),
-    share: Some("32"),
-};
+fn member_of_two() -> FormatWords<'static> {
+    FormatWords {
+        id: "1",
+        initial: Some("1,2"),
+        contacts: Some("3"),
+        beta: Some("1/2"),
+        gamma: Some("2/3"),
+        share: Some("32"),
+    }
+}
+
+fn check_again<R: Abort + AllocGlobal + Files<File = File>>(
+    rt: &R,
+    folder: &str,
+) -> Result<(), Fail> {
+    made(rt, folder)?;
+    check_format(rt, folder, &member_of_two(), 0, "formatted 1\n")?;
+    check_format(rt, folder, &member_of_two(), 1, "AlreadyFormatted\n")?;
+    check_format(rt, folder, &entrant(), 1, "AlreadyFormatted\n")?;
+    remove(rt, folder)
+}
 
 #[test]
 fn a_folder_is_formatted_once(rt: HostRuntime) -> Result<(), Fail> {
-    const FOLDER: &str = "folder_formatted_twice";
-    made(&rt, FOLDER)?;
-    check_format(&rt, FOLDER, &MEMBER_OF_TWO, 0, "formatted 1\n")?;
-    check_format(&rt, FOLDER, &MEMBER_OF_TWO, 1, "AlreadyFormatted\n")?;
-    check_format(&rt, FOLDER, &ENTRANT, 1, "AlreadyFormatted\n")?;
-    fs::remove_dir_all(&rt, FOLDER)?;
-    Ok(())
+    check_again(&rt, "folder_formatted_twice")
 }
 
 // Words of the right form for nodes that can't begin: one without a name, one of no cluster, a list that doesn't ascend, a
@@ -195,41 +236,36 @@ const NO_NODES: [(WordFault, &str); 6] = [
     (WordFault::Share, "33"),
 ];
 
+fn check_no_nodes<R: Abort + AllocGlobal + Files<File = File>>(
+    rt: &R,
+    folder: &str,
+    rows: &[(WordFault, &str)],
+) -> Result<(), Fail> {
+    for &(place, text) in rows {
+        let words = with(&entrant(), place, text);
+        check_format(rt, folder, &words, 1, "BadOpening\n")?;
+    }
+    Ok(())
+}
+
 #[test]
 fn no_node_begins_so(rt: HostRuntime) -> Result<(), Fail> {
     const FOLDER: &str = "folder_of_no_node";
     made(&rt, FOLDER)?;
-    for &(place, text) in &NO_NODES {
-        check_format(&rt, FOLDER, &with(&ENTRANT, place, text), 1, "BadOpening\n")?;
-    }
-    check_dump(&rt, FOLDER, 1, EMPTY)?;
-    fs::remove_dir_all(&rt, FOLDER)?;
-    Ok(())
+    check_no_nodes(&rt, FOLDER, &NO_NODES)?;
+    check_empty(&rt, FOLDER)
 }
 
-// Member 1 of 1.
-const MEMBER: FormatWords<'_> = FormatWords {
-    id: "1",
-    initial: Some("1"),
-    contacts: None,
-    beta: None,
-    gamma: None,
-    share: None,
-};
-
-// Side A, at that path, of a new folder that is formatted for a node of that share.
-fn side_of_share<R: Abort + AllocGlobal + Files<File = File>>(
+// Makes a folder, and formats it for member 1 of 1 of that share.
+fn format_by_share<R: Abort + AllocGlobal + Files<File = File>>(
     rt: &R,
     folder: &str,
-    path: &str,
     share: Option<&str>,
-) -> Result<Vec<u8>, Fail> {
+) -> Result<(), Fail> {
+    let member = with(&format_of("1"), WordFault::Initial, "1");
+    let words = FormatWords { share, ..member };
     made(rt, folder)?;
-    let words = FormatWords { share, ..MEMBER };
-    check_format(rt, folder, &words, 0, "formatted 1\n")?;
-    let side = fs::read(rt, path);
-    fs::remove_dir_all(rt, folder)?;
-    Ok(side?)
+    check_format(rt, folder, &words, 0, "formatted 1\n")
 }
 
 // Whether a side has the version and the length of the state of a node of share 1: it is kept as nodes were before there were
@@ -239,16 +275,31 @@ fn has_no_share(side: &[u8]) -> bool {
     side.len() == 134 && side.get(9..14) == Some(head.as_slice())
 }
 
+// Whether two files hold the same side, and it has no share.
+fn have_no_share<R: AllocGlobal + Files>(rt: &R, one: &str, other: &str) -> Result<bool, Fail> {
+    let one = fs::read(rt, one)?;
+    let other = fs::read(rt, other)?;
+    Ok(one.as_slice() == other.as_slice() && has_no_share(&one))
+}
+
+fn check_shares<R: Abort + AllocGlobal + Files<File = File>>(rt: &R) -> Result<(), Fail> {
+    format_by_share(rt, "folder_without_share", None)?;
+    format_by_share(rt, "folder_of_share_1", Some("1"))?;
+    assert!(rt;
+        have_no_share(
+            rt,
+            "folder_of_share_1/side-a",
+            "folder_without_share/side-a"
+        )?
+    );
+    remove(rt, "folder_without_share")?;
+    remove(rt, "folder_of_share_1")
+}
+
 // A node without the word has the share 1.
 #[test]
 fn a_folder_of_share_1_is_as_one_without(rt: HostRuntime) -> Result<(), Fail> {
-    const WITHOUT: &str = "folder_without_share";
-    const ONE: &str = "folder_of_share_1";
-    let without = side_of_share(&rt, WITHOUT, "folder_without_share/side-a", None)?;
-    let one = side_of_share(&rt, ONE, "folder_of_share_1/side-a", Some("1"))?;
-    assert!(rt; one.as_slice() == without.as_slice());
-    assert!(rt; has_no_share(&one));
-    Ok(())
+    check_shares(&rt)
 }
 
 // Whether the state of a side has the share 32, no others of a round, and no ask that waits, from place 74 on.
@@ -259,10 +310,22 @@ fn has_share(side: &[u8]) -> bool {
         && side.get(88..91) == Some(share.as_slice())
 }
 
+fn keeps_share<R: AllocGlobal + Files>(rt: &R, path: &str) -> Result<bool, Fail> {
+    let side = fs::read(rt, path)?;
+    Ok(has_share(&side))
+}
+
+fn check_share<R: Abort + AllocGlobal + Files<File = File>>(
+    rt: &R,
+    folder: &str,
+    side: &str,
+) -> Result<(), Fail> {
+    format_by_share(rt, folder, Some("32"))?;
+    assert!(rt; keeps_share(rt, side)?);
+    remove(rt, folder)
+}
+
 #[test]
 fn a_folder_keeps_its_share(rt: HostRuntime) -> Result<(), Fail> {
-    const FOLDER: &str = "folder_of_share_32";
-    let side = side_of_share(&rt, FOLDER, "folder_of_share_32/side-a", Some("32"))?;
-    assert!(rt; has_share(&side));
-    Ok(())
+    check_share(&rt, "folder_of_share_32", "folder_of_share_32/side-a")
 }

@@ -13,25 +13,39 @@ const FAILING: DeviceFault = DeviceFault {
     call: Call::Sync,
 };
 
-fn check_text<R: Abort + AllocGlobal>(rt: &R, fault: NodeFault, wanted: &str) -> Result<(), Fail> {
-    let text = format!(in rt.alloc(); "{fault}")?;
-    assert!(rt; text.as_str() == wanted, "{text}");
+// Faults, and their texts.
+const TEXTS: [(NodeFault, &str); 8] = [
+    (
+        NodeFault::Format(FormatFault::Device(FAILING)),
+        "Device A Sync",
+    ),
+    (
+        NodeFault::Format(FormatFault::AlreadyFormatted),
+        "AlreadyFormatted",
+    ),
+    (
+        NodeFault::Open(OpenFault::Damaged(Side::A, 153)),
+        "Damaged A 153",
+    ),
+    (NodeFault::Open(OpenFault::NotFormatted), "NotFormatted"),
+    (
+        NodeFault::Engine(Failed { fault: FAILING }),
+        "Failed A Sync",
+    ),
+    (NodeFault::Spent, "Spent"),
+    (NodeFault::Outlet, "Outlet"),
+    (NodeFault::NoMemory, "NoMemory"),
+];
+
+fn check_texts<R: Abort + AllocGlobal>(rt: &R, texts: &[(NodeFault, &str)]) -> Result<(), Fail> {
+    for (fault, wanted) in texts {
+        let text = format!(in rt.alloc(); "{fault}")?;
+        assert!(rt; text.as_str() == *wanted, "{text}");
+    }
     Ok(())
 }
 
 #[test]
 fn faults_of_a_node_print_their_texts(rt: HostRuntime) -> Result<(), Fail> {
-    let device = FormatFault::Device(FAILING);
-    let formatted = FormatFault::AlreadyFormatted;
-    let damaged = OpenFault::Damaged(Side::A, 153);
-    let not_formatted = OpenFault::NotFormatted;
-    let failed = Failed { fault: FAILING };
-    check_text(&rt, NodeFault::Format(device), "Device A Sync")?;
-    check_text(&rt, NodeFault::Format(formatted), "AlreadyFormatted")?;
-    check_text(&rt, NodeFault::Open(damaged), "Damaged A 153")?;
-    check_text(&rt, NodeFault::Open(not_formatted), "NotFormatted")?;
-    check_text(&rt, NodeFault::Engine(failed), "Failed A Sync")?;
-    check_text(&rt, NodeFault::Spent, "Spent")?;
-    check_text(&rt, NodeFault::Outlet, "Outlet")?;
-    check_text(&rt, NodeFault::NoMemory, "NoMemory")
+    check_texts(&rt, &TEXTS)
 }

@@ -46,12 +46,13 @@ fn failing(alloc: Global, at: u64) -> Result<MemorySite, Fail> {
     Ok(site)
 }
 
-// Tells what stands on a site: the status, and what is printed.
-fn dumped(alloc: Global, site: MemorySite, output: Written) -> Result<(u8, String), Fail> {
-    let mut output = output;
-    let status = dump_site(alloc, site, DumpScope::Sides, &mut output)?;
-    let Written { bytes, .. } = output;
-    Ok((status, String::from_utf8(bytes)?))
+// Whether just this is told of what stands on a site, and ends with that status.
+fn is_dumped(alloc: Global, site: MemorySite, status: u8, wanted: &str) -> Result<bool, Fail> {
+    let mut output = Written::new(alloc);
+    let ended = dump_site(alloc, site, DumpScope::Sides, &mut output);
+    let is_printed = output.bytes.as_slice() == wanted.as_bytes();
+    drop(output);
+    Ok(ended? == status && is_printed)
 }
 
 fn check_dump<R: Abort + AllocGlobal>(
@@ -60,11 +61,7 @@ fn check_dump<R: Abort + AllocGlobal>(
     status: u8,
     wanted: &str,
 ) -> Result<(), Fail> {
-    let (ended, output) = dumped(rt.alloc(), site, Written::new(rt.alloc()))?;
-    assert!(rt;
-        ended == status && output.as_str() == wanted,
-        "{ended} {output}"
-    );
+    assert!(rt; is_dumped(rt.alloc(), site, status, wanted)?, "{wanted}");
     Ok(())
 }
 
@@ -130,36 +127,23 @@ fn a_site_is_dumped_behind_a_checkpoint(rt: HostRuntime) -> Result<(), Fail> {
     check_dump(&rt, moved(rt.alloc())?, 0, wanted)
 }
 
-// Formats a site: the status, and what is printed.
-fn formatted(
-    alloc: Global,
-    site: MemorySite,
-    order: &FormatOrder,
-    output: Written,
-) -> Result<(u8, String), Fail> {
-    let mut output = output;
-    let status = format_site(alloc, site, order, &mut output)?;
-    let Written { bytes, .. } = output;
-    Ok((status, String::from_utf8(bytes)?))
-}
-
-// The same of a site whose first disk call fails.
-fn formatted_failing(alloc: Global, order: &FormatOrder) -> Result<(u8, String), Fail> {
+// Whether the fault of a site whose first disk call fails is printed where it is formatted.
+fn is_fault_printed(alloc: Global, order: &FormatOrder) -> Result<bool, Fail> {
     let mut site = MemorySite::new(alloc, 0)?;
     site.fuse(0, Failing::Once);
-    formatted(alloc, site, order, Written::new(alloc))
+    let mut output = Written::new(alloc);
+    let ended = format_site(alloc, site, order, &mut output);
+    let is_printed = output.bytes.as_slice() == b"Device A Length\n".as_slice();
+    drop(output);
+    Ok(ended? == 1 && is_printed)
 }
 
 #[test]
 fn a_fault_of_formatting_is_printed(rt: HostRuntime) -> Result<(), Fail> {
     let order = order(rt.alloc())?;
-    let told = formatted_failing(rt.alloc(), &order);
+    let is_printed = is_fault_printed(rt.alloc(), &order);
     drop(order);
-    let (status, output) = told?;
-    assert!(rt;
-        status == 1 && output.as_str() == "Device A Length\n",
-        "{status} {output}"
-    );
+    assert!(rt; is_printed?);
     Ok(())
 }
 
@@ -186,9 +170,9 @@ fn ends_dump(alloc: Global) -> Result<bool, Fail> {
 #[test]
 fn an_output_that_fails_ends_a_command(rt: HostRuntime) -> Result<(), Fail> {
     let order = order(rt.alloc())?;
-    let is_formatting_ended = ends_formatting(rt.alloc(), &order)?;
+    let is_formatting_ended = ends_formatting(rt.alloc(), &order);
     drop(order);
-    assert!(rt; is_formatting_ended);
+    assert!(rt; is_formatting_ended?);
     assert!(rt; ends_dump(rt.alloc())?);
     Ok(())
 }

@@ -1,6 +1,6 @@
 //! What is told of a folder beside what is printed: of its node, why it can't be opened, and of files that were lost.
 
-use crate::folder_calls::{ENTRANT, dumped, formatted, hold, made, put_behind};
+use crate::folder_calls::{dumped, entrant, formatted, hold, made, put_behind, remove};
 use cc_commands::{DumpScope, Lost, Trouble, Wrong, node_in_folder};
 use cc_orders::FormatWords;
 use cc_views::NodeId;
@@ -9,14 +9,16 @@ use std::fs::{File, Files};
 use std::process::Abort;
 use std::test::*;
 
-const MEMBER: FormatWords<'_> = FormatWords {
-    id: "1",
-    initial: Some("1,2"),
-    contacts: Some("3"),
-    beta: Some("2/3"),
-    gamma: Some("4/5"),
-    share: Some("32"),
-};
+fn member() -> FormatWords<'static> {
+    FormatWords {
+        id: "1",
+        initial: Some("1,2"),
+        contacts: Some("3"),
+        beta: Some("2/3"),
+        gamma: Some("4/5"),
+        share: Some("32"),
+    }
+}
 
 // A new folder that keeps the node of these words.
 fn format<R: AllocGlobal + Files<File = File>>(
@@ -49,29 +51,49 @@ fn check_told<R: Abort + AllocGlobal + Files<File = File>>(
     Ok(())
 }
 
+// What is told of a new folder that keeps the node of these words.
+fn check_node<R: Abort + AllocGlobal + Files<File = File>>(
+    rt: &R,
+    folder: &str,
+    words: &FormatWords<'_>,
+    wanted: &str,
+) -> Result<(), Fail> {
+    format(rt, folder, words)?;
+    check_told(rt, folder, wanted)
+}
+
+fn check_nodes<R: Abort + AllocGlobal + Files<File = File>>(
+    rt: &R,
+    folder: &str,
+) -> Result<(), Fail> {
+    check_node(rt, folder, &member(), MEMBER_LINES)?;
+    assert!(rt; node_in_folder(rt, rt.alloc(), folder) == NodeId::new(1));
+    check_node(rt, folder, &entrant(), ENTRANT_LINES)?;
+    remove(rt, folder)
+}
+
 #[test]
 fn a_folder_tells_of_its_node(rt: HostRuntime) -> Result<(), Fail> {
-    const FOLDER: &str = "told_folder";
-    format(&rt, FOLDER, &MEMBER)?;
-    check_told(&rt, FOLDER, MEMBER_LINES)?;
-    assert!(rt; node_in_folder(&rt, rt.alloc(), FOLDER) == NodeId::new(1));
-    format(&rt, FOLDER, &ENTRANT)?;
-    check_told(&rt, FOLDER, ENTRANT_LINES)?;
-    fs::remove_dir_all(&rt, FOLDER)?;
-    Ok(())
+    check_nodes(&rt, "told_folder")
 }
 
 // The record of one Enter.
 const ENTER_RECORD: [u8; 12] = [0xA5, 0, 0, 0, 6, 1, 0, 0, 0, 1, 1, 0];
 
+fn check_entered<R: Abort + AllocGlobal + Files<File = File>>(
+    rt: &R,
+    folder: &str,
+    side: &str,
+) -> Result<(), Fail> {
+    format(rt, folder, &entrant())?;
+    put_behind(rt, side, &ENTER_RECORD)?;
+    check_told(rt, folder, ENTERED_LINES)?;
+    remove(rt, folder)
+}
+
 #[test]
 fn an_entrant_waits_for_echoes(rt: HostRuntime) -> Result<(), Fail> {
-    const FOLDER: &str = "told_entrant";
-    format(&rt, FOLDER, &ENTRANT)?;
-    put_behind(&rt, "told_entrant/side-a", &ENTER_RECORD)?;
-    check_told(&rt, FOLDER, ENTERED_LINES)?;
-    fs::remove_dir_all(&rt, FOLDER)?;
-    Ok(())
+    check_entered(&rt, "told_entrant", "told_entrant/side-a")
 }
 
 // What is wrong with a folder, and where.
@@ -82,44 +104,57 @@ fn check_trouble<R: Abort + AllocGlobal + Files<File = File>>(
     wrong: Wrong,
 ) -> Result<(), Fail> {
     let trouble = Trouble::at(rt, rt.alloc(), folder)?.ok_or("something is wrong")?;
-    assert!(rt;
-        trouble.path.as_str() == path && trouble.wrong == wrong,
-        "{trouble}"
-    );
+    let is_told = trouble.path.as_str() == path && trouble.wrong == wrong;
+    drop(trouble);
+    assert!(rt; is_told, "{path}");
     Ok(())
 }
 
-fn check_held<R: Abort + AllocGlobal + Files<File = File>>(
-    rt: &R,
-    folder: &str,
-    lock: &str,
-) -> Result<(), Fail> {
-    let holder = hold(rt, folder)?;
-    let checked = check_trouble(rt, folder, lock, Wrong::Held);
+const TROUBLED: &str = "troubled_folder";
+
+fn check_absent<R: Abort + AllocGlobal + Files<File = File>>(rt: &R) -> Result<(), Fail> {
+    let _ = fs::remove_dir_all(rt, TROUBLED);
+    check_trouble(rt, TROUBLED, TROUBLED, Wrong::NoFolder)
+}
+
+fn check_held<R: Abort + AllocGlobal + Files<File = File>>(rt: &R) -> Result<(), Fail> {
+    let holder = hold(rt, TROUBLED)?;
+    let checked = check_trouble(rt, TROUBLED, "troubled_folder/lock", Wrong::Held);
     drop(holder);
     checked
 }
 
+fn is_well<R: AllocGlobal + Files<File = File>>(rt: &R) -> Result<bool, Fail> {
+    Ok(Trouble::at(rt, rt.alloc(), TROUBLED)?.is_none())
+}
+
+// What is told of a folder that is free, and of a file in its place.
+fn check_free<R: Abort + AllocGlobal + Files<File = File>>(rt: &R) -> Result<(), Fail> {
+    const LOCK: &str = "troubled_folder/lock";
+    assert!(rt; is_well(rt)?);
+    check_trouble(rt, LOCK, LOCK, Wrong::NotAFolder)
+}
+
+// What is told where a folder takes the place of side B.
+fn check_side<R: Abort + AllocGlobal + Files<File = File>>(rt: &R) -> Result<(), Fail> {
+    const SIDE: &str = "troubled_folder/side-b";
+    fs::remove_file(rt, SIDE)?;
+    made(rt, SIDE)?;
+    check_trouble(rt, TROUBLED, SIDE, Wrong::NotAFile)
+}
+
+fn check_troubles<R: Abort + AllocGlobal + Files<File = File>>(rt: &R) -> Result<(), Fail> {
+    check_absent(rt)?;
+    made(rt, TROUBLED)?;
+    check_held(rt)?;
+    check_free(rt)?;
+    check_side(rt)?;
+    remove(rt, TROUBLED)
+}
+
 #[test]
 fn a_closed_folder_tells_why(rt: HostRuntime) -> Result<(), Fail> {
-    const FOLDER: &str = "troubled_folder";
-    let _ = fs::remove_dir_all(&rt, FOLDER);
-    check_trouble(&rt, FOLDER, FOLDER, Wrong::NoFolder)?;
-    made(&rt, FOLDER)?;
-    check_held(&rt, FOLDER, "troubled_folder/lock")?;
-    let is_well = Trouble::at(&rt, rt.alloc(), FOLDER)?.is_none();
-    assert!(rt; is_well);
-    check_trouble(
-        &rt,
-        "troubled_folder/lock",
-        "troubled_folder/lock",
-        Wrong::NotAFolder,
-    )?;
-    fs::remove_file(&rt, "troubled_folder/side-b")?;
-    fs::create_dir(&rt, "troubled_folder/side-b")?;
-    check_trouble(&rt, FOLDER, "troubled_folder/side-b", Wrong::NotAFile)?;
-    fs::remove_dir_all(&rt, FOLDER)?;
-    Ok(())
+    check_troubles(&rt)
 }
 
 // Files that are removed one after the other, and what is lost then.
@@ -129,15 +164,37 @@ const REMOVED: [(&str, Option<Lost>); 3] = [
     ("lost_folder/lock", None),
 ];
 
+fn check_lost<R: Abort + AllocGlobal + Files<File = File>>(
+    rt: &R,
+    folder: &str,
+    wanted: Option<Lost>,
+) -> Result<(), Fail> {
+    assert!(rt; Lost::at(rt, rt.alloc(), folder)? == wanted);
+    Ok(())
+}
+
+fn check_removed<R: Abort + AllocGlobal + Files<File = File>>(
+    rt: &R,
+    folder: &str,
+) -> Result<(), Fail> {
+    for &(path, wanted) in &REMOVED {
+        fs::remove_file(rt, path)?;
+        check_lost(rt, folder, wanted)?;
+    }
+    Ok(())
+}
+
+fn check_files<R: Abort + AllocGlobal + Files<File = File>>(
+    rt: &R,
+    folder: &str,
+) -> Result<(), Fail> {
+    format(rt, folder, &member())?;
+    check_lost(rt, folder, None)?;
+    check_removed(rt, folder)?;
+    remove(rt, folder)
+}
+
 #[test]
 fn a_lost_file_is_told(rt: HostRuntime) -> Result<(), Fail> {
-    const FOLDER: &str = "lost_folder";
-    format(&rt, FOLDER, &MEMBER)?;
-    assert!(rt; Lost::at(&rt, rt.alloc(), FOLDER)?.is_none());
-    for &(path, wanted) in &REMOVED {
-        fs::remove_file(&rt, path)?;
-        assert!(rt; Lost::at(&rt, rt.alloc(), FOLDER)? == wanted, "{path}");
-    }
-    fs::remove_dir_all(&rt, FOLDER)?;
-    Ok(())
+    check_files(&rt, "lost_folder")
 }

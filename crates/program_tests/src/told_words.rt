@@ -1,6 +1,6 @@
 //! What is told of words that are no command, and of beginnings that no node has.
 
-use crate::words::{are_no_command, with};
+use crate::words::{are_no_command, format_of, with};
 use cc_commands::{BadOpening, FormatOrder};
 use cc_orders::{AnswerForm, AskWords, CommandFault, FormatWords, WordFault};
 use std::alloc::Global;
@@ -9,13 +9,20 @@ use std::test::*;
 
 const LONGER_TEXT: &str = "0123456789abcdef0123456789abcdef0123456789abcdef0123456789abcdef.";
 
-// The words of a command with its value or its text.
-fn words_of(
-    command: &'static str,
-    value: Option<&'static str>,
-    text: Option<&'static str>,
-) -> AskWords<'static> {
-    AskWords {
+fn told(alloc: Global, words: &AskWords<'_>) -> Result<String, WordFault> {
+    let fault = CommandFault::of(alloc, words)?;
+    format!(in alloc; "{fault}").or(Err(WordFault::NoMemory))
+}
+
+// Whether a command with that value and that text is none, and just this is told of it.
+fn is_told<'a>(
+    alloc: Global,
+    command: &'a str,
+    value: Option<&'a str>,
+    text: Option<&'a str>,
+    wanted: &str,
+) -> bool {
+    let words = AskWords {
         address: "127.0.0.1:7001",
         session: "7",
         command,
@@ -25,103 +32,92 @@ fn words_of(
         timeout: None,
         form: AnswerForm::Plain,
         waits: false,
+    };
+    match told(alloc, &words) {
+        Ok(told) => are_no_command(&words) && told.as_str() == wanted,
+        Err(_) => false,
     }
 }
 
-// Whether just this is told of words that are no command.
-fn is_told(alloc: Global, words: &AskWords<'_>, wanted: &str) -> Result<bool, Fail> {
-    let fault = CommandFault::of(alloc, words)?;
-    let told = format!(in alloc; "{fault}")?;
-    Ok(are_no_command(words) && told.as_str() == wanted)
+// The same of one by itself, of one with a value, and of one with a text.
+fn check_alone<R: Abort + AllocGlobal>(rt: &R, command: &str, wanted: &str) {
+    assert!(rt;
+        is_told(rt.alloc(), command, None, None, wanted),
+        "{wanted}"
+    );
 }
 
-fn check_told<R: Abort + AllocGlobal>(
-    rt: &R,
-    words: &AskWords<'_>,
-    wanted: &str,
-) -> Result<(), Fail> {
-    assert!(rt; is_told(rt.alloc(), words, wanted)?, "{wanted}");
-    Ok(())
+fn check_value<'a, R: Abort + AllocGlobal>(rt: &R, command: &'a str, value: &'a str, wanted: &str) {
+    assert!(rt;
+        is_told(rt.alloc(), command, Some(value), None, wanted),
+        "{wanted}"
+    );
 }
 
-fn check_value<R: Abort + AllocGlobal>(
-    rt: &R,
-    command: &'static str,
-    value: &'static str,
-    wanted: &str,
-) -> Result<(), Fail> {
-    check_told(rt, &words_of(command, Some(value), None), wanted)
+fn check_text<'a, R: Abort + AllocGlobal>(rt: &R, command: &'a str, text: &'a str, wanted: &str) {
+    assert!(rt;
+        is_told(rt.alloc(), command, None, Some(text), wanted),
+        "{wanted}"
+    );
 }
 
-fn check_text<R: Abort + AllocGlobal>(
-    rt: &R,
-    command: &'static str,
-    text: &'static str,
-    wanted: &str,
-) -> Result<(), Fail> {
-    check_told(rt, &words_of(command, None, Some(text)), wanted)
-}
+const LONGER: &str = "store takes 1 to 64 bytes; this has 65";
 
-fn check_alone<R: Abort + AllocGlobal>(
-    rt: &R,
-    command: &'static str,
-    wanted: &str,
-) -> Result<(), Fail> {
-    check_told(rt, &words_of(command, None, None), wanted)
-}
+const EMPTY: &str = "store takes 1 to 64 bytes; this has 0";
+
+const UNSEEN: &str = "store takes a word of visible ASCII characters; others go behind --text";
+
+const BOTH: &str = "store takes a word or --text, not both";
 
 #[test]
-fn a_bad_text_is_told_as_what_it_is(rt: HostRuntime) -> Result<(), Fail> {
-    let longer = "store takes 1 to 64 bytes; this has 65";
-    let empty = "store takes 1 to 64 bytes; this has 0";
-    let unseen = "store takes a word of visible ASCII characters; others go behind --text";
-    let both = "store takes a word or --text, not both";
-    check_alone(&rt, "store", "store takes a value")?;
-    check_value(&rt, "store", LONGER_TEXT, longer)?;
-    check_text(&rt, "store", LONGER_TEXT, longer)?;
-    check_text(&rt, "store", "", empty)?;
-    check_value(&rt, "store", "two words", unseen)?;
-    check_told(&rt, &words_of("store", Some("a"), Some("b")), both)
+fn a_bad_text_is_told_as_what_it_is(rt: HostRuntime) {
+    check_alone(&rt, "store", "store takes a value");
+    check_value(&rt, "store", LONGER_TEXT, LONGER);
+    check_text(&rt, "store", LONGER_TEXT, LONGER);
+    check_text(&rt, "store", "", EMPTY);
+    check_value(&rt, "store", "two words", UNSEEN);
+    assert!(rt; is_told(rt.alloc(), "store", Some("a"), Some("b"), BOTH));
 }
+
+const U64S: &str = "max takes a number from 0 to 18446744073709551615";
+
+const U32S: &str = "add takes a number from 0 to 4294967295";
 
 #[test]
-fn a_bad_value_is_told_as_what_it_is(rt: HostRuntime) -> Result<(), Fail> {
-    let u64s = "max takes a number from 0 to 18446744073709551615";
-    let u32s = "add takes a number from 0 to 4294967295";
-    let no_text = "add takes no --text, as store does";
-    check_alone(&rt, "max", "max takes a value")?;
-    check_value(&rt, "max", "-1", u64s)?;
-    check_value(&rt, "add", "4294967296", u32s)?;
-    check_text(&rt, "add", "5", no_text)?;
-    check_value(&rt, "collect", "a", "collect takes no value")?;
-    check_value(&rt, "readmax", "9", "readmax takes no value")
+fn a_bad_value_is_told_as_what_it_is(rt: HostRuntime) {
+    check_alone(&rt, "max", "max takes a value");
+    check_value(&rt, "max", "-1", U64S);
+    check_value(&rt, "add", "4294967296", U32S);
+    check_text(&rt, "add", "5", "add takes no --text, as store does");
+    check_value(&rt, "collect", "a", "collect takes no value");
+    check_value(&rt, "readmax", "9", "readmax takes no value");
 }
+
+// Commands that are none, and what is told of each by itself.
+const NO_COMMANDS: [(&str, &str); 4] = [
+    ("red-max", "red-max is no command; did you mean readmax?"),
+    (
+        "sett",
+        "sett is no command: store WORD, collect, max N, readmax, flag, readflag, add N, readset",
+    ),
+    ("Flag", "Flag is no command; did you mean flag?"),
+    (
+        "",
+        " is no command: store WORD, collect, max N, readmax, flag, readflag, add N, readset",
+    ),
+];
 
 #[test]
-fn a_bad_command_is_told_as_what_it_is(rt: HostRuntime) -> Result<(), Fail> {
-    let sett =
-        "sett is no command: store WORD, collect, max N, readmax, flag, readflag, add N, readset";
-    let empty =
-        " is no command: store WORD, collect, max N, readmax, flag, readflag, add N, readset";
-    check_value(&rt, "stor", "a", "stor is no command; did you mean store?")?;
-    check_alone(
-        &rt,
-        "red-max",
-        "red-max is no command; did you mean readmax?",
-    )?;
-    check_alone(&rt, "sett", sett)?;
-    check_alone(&rt, "Flag", "Flag is no command; did you mean flag?")?;
-    check_alone(&rt, "", empty)
+fn a_bad_command_is_told_as_what_it_is(rt: HostRuntime) {
+    check_value(&rt, "stor", "a", "stor is no command; did you mean store?");
+    for &(command, wanted) in &NO_COMMANDS {
+        check_alone(&rt, command, wanted);
+    }
 }
 
-const MEMBER: FormatWords<'_> = FormatWords {
-    id: "1",
-    initial: Some("1,2,3"),
-    contacts: None,
-    beta: None,
-    gamma: None,
-    share: None,
-};
+fn member() -> FormatWords<'static> {
+    with(&format_of("1"), WordFault::Initial, "1,2,3")
+}
 
 fn rule_of(alloc: Global, words: &FormatWords<'_>) -> Result<Option<BadOpening>, Fail> {
     let order = FormatOrder::parse(alloc, words)?;
@@ -130,27 +126,31 @@ fn rule_of(alloc: Global, words: &FormatWords<'_>) -> Result<Option<BadOpening>,
     Ok(rule)
 }
 
-// A beginning with that text in the place of one word breaks that rule first.
-fn check_rule<R: Abort + AllocGlobal>(
+// A place, a text for it, and the rule that a beginning with that text breaks first.
+const BAD_BEGINNINGS: [(WordFault, &str, BadOpening); 8] = [
+    (WordFault::Beta, "5/4", BadOpening::Beta),
+    (WordFault::Gamma, "0/4", BadOpening::Gamma),
+    (WordFault::Initial, "1,3,2", BadOpening::Initial),
+    (WordFault::Contacts, "4,4", BadOpening::Contacts),
+    (WordFault::Id, "4", BadOpening::NoMember),
+    (WordFault::Contacts, "1", BadOpening::OwnContact),
+    (WordFault::Contacts, "0", BadOpening::Zero),
+    (WordFault::Share, "33", BadOpening::Share),
+];
+
+fn check_rules<R: Abort + AllocGlobal>(
     rt: &R,
-    place: WordFault,
-    text: &str,
-    rule: BadOpening,
+    rows: &[(WordFault, &str, BadOpening)],
 ) -> Result<(), Fail> {
-    let told = rule_of(rt.alloc(), &with(&MEMBER, place, text))?;
-    assert!(rt; told == Some(rule), "{text}");
+    for &(place, text, rule) in rows {
+        let told = rule_of(rt.alloc(), &with(&member(), place, text))?;
+        assert!(rt; told == Some(rule), "{text}");
+    }
     Ok(())
 }
 
 #[test]
 fn a_bad_beginning_is_told_by_its_rule(rt: HostRuntime) -> Result<(), Fail> {
-    assert!(rt; rule_of(rt.alloc(), &MEMBER)?.is_none());
-    check_rule(&rt, WordFault::Beta, "5/4", BadOpening::Beta)?;
-    check_rule(&rt, WordFault::Gamma, "0/4", BadOpening::Gamma)?;
-    check_rule(&rt, WordFault::Initial, "1,3,2", BadOpening::Initial)?;
-    check_rule(&rt, WordFault::Contacts, "4,4", BadOpening::Contacts)?;
-    check_rule(&rt, WordFault::Id, "4", BadOpening::NoMember)?;
-    check_rule(&rt, WordFault::Contacts, "1", BadOpening::OwnContact)?;
-    check_rule(&rt, WordFault::Contacts, "0", BadOpening::Zero)?;
-    check_rule(&rt, WordFault::Share, "33", BadOpening::Share)
+    assert!(rt; rule_of(rt.alloc(), &member())?.is_none());
+    check_rules(&rt, &BAD_BEGINNINGS)
 }

@@ -54,21 +54,21 @@ const NO_LISTS: [&str; 9] = [
 ];
 
 // Whether a word is that list. None is empty, which stands for no list.
-fn is_list(alloc: Global, word: &str, wanted: &[u32]) -> Result<bool, Fail> {
-    Ok(match list(alloc, word)? {
-        Some(ids) => ids.as_slice() == wanted && !wanted.is_empty(),
-        None => wanted.is_empty(),
-    })
+fn is_list(alloc: Global, word: &str, wanted: &[u32]) -> bool {
+    match list(alloc, word) {
+        Ok(Some(ids)) => ids.as_slice() == wanted && !wanted.is_empty(),
+        Ok(None) => wanted.is_empty(),
+        Err(_) => false,
+    }
 }
 
 #[test]
-fn lists_are_numbers_and_commas(rt: HostRuntime) -> Result<(), Fail> {
+fn lists_are_numbers_and_commas(rt: HostRuntime) {
     for &word in &NO_LISTS {
-        assert!(rt; is_list(rt.alloc(), word, &[])?, "{word}");
+        assert!(rt; is_list(rt.alloc(), word, &[]), "{word}");
     }
-    assert!(rt; is_list(rt.alloc(), "3,1,4294967295,1", &[3, 1, u32::MAX, 1])?);
-    assert!(rt; is_list(rt.alloc(), "0", &[0])?);
-    Ok(())
+    assert!(rt; is_list(rt.alloc(), "3,1,4294967295,1", &[3, 1, u32::MAX, 1]));
+    assert!(rt; is_list(rt.alloc(), "0", &[0]));
 }
 
 // Words that are no fraction.
@@ -89,239 +89,291 @@ fn local(port: u16) -> SocketAddr {
     SocketAddr::V4(SocketAddrV4::new(Ipv4Addr::new(127, 0, 0, 1), port))
 }
 
-const ALONE: RunWords<'_> = RunWords {
-    listen: "127.0.0.1:7001",
-    listen_clients: None,
-    operators: None,
-    peers: None,
-    peers_file: None,
-    status: None,
-    log: None,
-};
+// A node that runs by its address alone. Words are made by a call: a constant of them costs more to prove wherever it is named.
+fn alone() -> RunWords<'static> {
+    RunWords {
+        listen: "127.0.0.1:7001",
+        listen_clients: None,
+        operators: None,
+        peers: None,
+        peers_file: None,
+        status: None,
+        log: None,
+    }
+}
 
-// The same beside node 2.
-const BESIDE_TWO: RunWords<'_> = RunWords {
-    peers: Some("2=127.0.0.1:7002"),
-    ..ALONE
-};
+// The same words, but for that text in place of the one that a fault names.
+fn run_with<'a>(words: &RunWords<'a>, place: WordFault, text: &'a str) -> RunWords<'a> {
+    match place {
+        WordFault::Listen => RunWords {
+            listen: text,
+            ..*words
+        },
+        WordFault::ListenClients => RunWords {
+            listen_clients: Some(text),
+            ..*words
+        },
+        WordFault::Operators => RunWords {
+            operators: Some(text),
+            ..*words
+        },
+        WordFault::Peers | WordFault::PeerTwice => RunWords {
+            peers: Some(text),
+            ..*words
+        },
+        WordFault::Status => RunWords {
+            status: Some(text),
+            ..*words
+        },
+        _ => RunWords {
+            log: Some(text),
+            ..*words
+        },
+    }
+}
 
-// The same by the lines of a file.
-const BY_LINES: RunWords<'_> = RunWords {
-    peers_file: Some("peers"),
-    ..ALONE
-};
+// The words alone, but for that one.
+fn alone_with(place: WordFault, text: &str) -> RunWords<'_> {
+    run_with(&alone(), place, text)
+}
+
+// A node beside node 2.
+fn beside_two() -> RunWords<'static> {
+    alone_with(WordFault::Peers, "2=127.0.0.1:7002")
+}
+
+// The same words, with a file of peers.
+fn by_lines(words: RunWords<'static>) -> RunWords<'static> {
+    RunWords {
+        peers_file: Some("peers"),
+        ..words
+    }
+}
 
 const THREE_LINES: &str = "# three\n1=127.0.0.1:7001\n2=127.0.0.1:7002\n3=127.0.0.1:7003\n";
 
-// Whether these words, with the lines of a file or without, name so many peers, node 2 among them.
-fn names_two(
+// Whether these words, with the lines of a file or without, name so many peers, and whether node 2 is among them.
+fn names(
     alloc: Global,
     words: &RunWords<'_>,
     lines: Option<&str>,
     count: usize,
-) -> Result<bool, Fail> {
-    let order = RunOrder::parse(alloc, words, lines)?;
-    let two = NodeId::new(2).ok_or("ids begin at 1")?;
-    Ok(order.listen == local(7001) && order.peers.len() == count && order.names(two))
+    has_two: bool,
+) -> bool {
+    match (RunOrder::parse(alloc, words, lines), NodeId::new(2)) {
+        (Ok(order), Some(two)) => {
+            order.listen == local(7001) && order.peers.len() == count && order.names(two) == has_two
+        }
+        _ => false,
+    }
+}
+
+fn names_one(alloc: Global) -> bool {
+    names(alloc, &beside_two(), None, 1, true)
+}
+
+fn names_three(alloc: Global) -> bool {
+    names(alloc, &by_lines(alone()), Some(THREE_LINES), 3, true)
+}
+
+fn names_none(alloc: Global) -> bool {
+    names(alloc, &alone(), None, 0, false)
 }
 
 #[test]
-fn run_listens_and_knows_its_peers(rt: HostRuntime) -> Result<(), Fail> {
-    assert!(rt; names_two(rt.alloc(), &BESIDE_TWO, None, 1)?);
-    assert!(rt; names_two(rt.alloc(), &BY_LINES, Some(THREE_LINES), 3)?);
-    assert!(rt; !names_two(rt.alloc(), &ALONE, None, 0)?);
-    Ok(())
+fn run_listens_and_knows_its_peers(rt: HostRuntime) {
+    assert!(rt; names_one(rt.alloc()));
+    assert!(rt; names_three(rt.alloc()));
+    assert!(rt; names_none(rt.alloc()));
 }
 
 // Whether node 1 passes its own line over, and no other.
-fn passes_over_itself(alloc: Global) -> Result<bool, Fail> {
-    let mut order = RunOrder::parse(alloc, &BY_LINES, Some(THREE_LINES))?;
-    let one = NodeId::new(1).ok_or("ids begin at 1")?;
-    order.pass_over(one);
-    Ok(order.peers.len() == 2 && !order.names(one))
+fn passes_over_itself(order: &mut RunOrder) -> bool {
+    match NodeId::new(1) {
+        Some(one) => {
+            order.pass_over(one);
+            order.peers.len() == 2 && !order.names(one)
+        }
+        None => false,
+    }
+}
+
+fn is_passed_over(alloc: Global) -> Result<bool, Fail> {
+    let mut order = RunOrder::parse(alloc, &by_lines(alone()), Some(THREE_LINES))?;
+    Ok(passes_over_itself(&mut order))
 }
 
 #[test]
 fn one_file_serves_all_nodes(rt: HostRuntime) -> Result<(), Fail> {
-    assert!(rt; passes_over_itself(rt.alloc())?);
+    assert!(rt; is_passed_over(rt.alloc())?);
     Ok(())
 }
 
-// What a node tells of itself.
-type Telling = (Option<SocketAddr>, LogLevel);
-
-fn telling(alloc: Global, words: &RunWords<'_>) -> Result<Telling, WordFault> {
-    let order = RunOrder::parse(alloc, words, None)?;
-    Ok((order.status, order.log))
+// Whether a node tells just this of itself.
+fn tells(alloc: Global, words: &RunWords<'_>, status: Option<SocketAddr>, log: LogLevel) -> bool {
+    match RunOrder::parse(alloc, words, None) {
+        Ok(order) => order.status == status && order.log == log,
+        Err(_) => false,
+    }
 }
 
-// Levels, and their words.
-const LEVELS: [(Option<&str>, LogLevel); 5] = [
-    (None, LogLevel::Info),
-    (Some("error"), LogLevel::Error),
-    (Some("warn"), LogLevel::Warn),
-    (Some("info"), LogLevel::Info),
-    (Some("debug"), LogLevel::Debug),
+fn tells_by_itself(alloc: Global) -> bool {
+    tells(alloc, &alone(), None, LogLevel::Info)
+}
+
+fn tells_by_level(alloc: Global, word: &str, level: LogLevel) -> bool {
+    tells(alloc, &alone_with(WordFault::Log, word), None, level)
+}
+
+fn tells_where_it_shows(alloc: Global) -> bool {
+    let words = alone_with(WordFault::Status, "127.0.0.1:8001");
+    tells(alloc, &words, Some(local(8001)), LogLevel::Info)
+}
+
+// The words of levels.
+const LEVELS: [(&str, LogLevel); 4] = [
+    ("error", LogLevel::Error),
+    ("warn", LogLevel::Warn),
+    ("info", LogLevel::Info),
+    ("debug", LogLevel::Debug),
 ];
 
 #[test]
 fn run_notes_by_levels(rt: HostRuntime) {
-    for &(log, level) in &LEVELS {
-        let told = telling(rt.alloc(), &RunWords { log, ..ALONE });
-        assert!(rt; told == Ok((None, level)));
+    assert!(rt; tells_by_itself(rt.alloc()));
+    for &(word, level) in &LEVELS {
+        assert!(rt; tells_by_level(rt.alloc(), word, level), "{word}");
     }
-    let shown = RunWords {
-        status: Some("127.0.0.1:8001"),
-        ..ALONE
-    };
-    let told = telling(rt.alloc(), &shown);
-    assert!(rt; told == Ok((Some(local(8001)), LogLevel::Info)));
+    assert!(rt; tells_where_it_shows(rt.alloc()));
 }
 
-// Where clients alone are served, and whether the operator of another machine is heard.
-type Guard = (Option<SocketAddr>, bool);
+// Whether a node serves clients alone just there, and whether it hears the operator of another machine just so.
+fn guards(
+    alloc: Global,
+    words: &RunWords<'_>,
+    listen_clients: Option<SocketAddr>,
+    remote_operators: bool,
+) -> bool {
+    match RunOrder::parse(alloc, words, None) {
+        Ok(order) => {
+            order.listen_clients == listen_clients && order.remote_operators == remote_operators
+        }
+        Err(_) => false,
+    }
+}
 
-fn guard(alloc: Global, words: &RunWords<'_>) -> Result<Guard, WordFault> {
-    let order = RunOrder::parse(alloc, words, None)?;
-    Ok((order.listen_clients, order.remote_operators))
+fn guarded() -> RunWords<'static> {
+    let words = alone_with(WordFault::ListenClients, "127.0.0.1:7501");
+    run_with(&words, WordFault::Operators, "off")
 }
 
 #[test]
 fn run_takes_all_from_all_by_itself(rt: HostRuntime) {
-    assert!(rt; guard(rt.alloc(), &ALONE) == Ok((None, true)));
-    let open = RunWords {
-        operators: Some("on"),
-        ..ALONE
-    };
-    assert!(rt; guard(rt.alloc(), &open) == Ok((None, true)));
-    let guarded = RunWords {
-        listen_clients: Some("127.0.0.1:7501"),
-        operators: Some("off"),
-        ..ALONE
-    };
-    assert!(rt; guard(rt.alloc(), &guarded) == Ok((Some(local(7501)), false)));
+    assert!(rt; guards(rt.alloc(), &alone(), None, true));
+    let open = alone_with(WordFault::Operators, "on");
+    assert!(rt; guards(rt.alloc(), &open, None, true));
+    assert!(rt; guards(rt.alloc(), &guarded(), Some(local(7501)), false));
 }
 
-// What a node can't run by, the lines of its file, and why.
-const NO_RUNS: [(RunWords<'_>, Option<&str>, WordFault); 10] = [
-    (
-        RunWords {
-            listen: "7001",
-            ..ALONE
-        },
-        None,
-        WordFault::Listen,
-    ),
-    (
-        RunWords {
-            listen_clients: Some("7501"),
-            ..ALONE
-        },
-        None,
-        WordFault::ListenClients,
-    ),
-    (
-        RunWords {
-            operators: Some("On"),
-            ..ALONE
-        },
-        None,
-        WordFault::Operators,
-    ),
-    (
-        RunWords {
-            peers: Some(""),
-            ..ALONE
-        },
-        None,
-        WordFault::Peers,
-    ),
-    (
-        RunWords {
-            peers: Some("2=127.0.0.1:7002,2=127.0.0.1:7003"),
-            ..ALONE
-        },
-        None,
-        WordFault::PeerTwice,
-    ),
-    (
-        RunWords {
-            peers_file: Some("peers"),
-            ..BESIDE_TWO
-        },
-        Some(""),
-        WordFault::PeersTwice,
-    ),
-    (BY_LINES, Some("\n2"), WordFault::Line(2)),
-    (
-        BY_LINES,
-        Some("2=127.0.0.1:7002\n2=127.0.0.1:7003"),
-        WordFault::LineTwice,
-    ),
-    (
-        RunWords {
-            status: Some("8001"),
-            ..ALONE
-        },
-        None,
-        WordFault::Status,
-    ),
-    (
-        RunWords {
-            log: Some("Info"),
-            ..ALONE
-        },
-        None,
-        WordFault::Log,
-    ),
+// A word that a node can't run by, and the fault that names its place.
+const NO_RUNS: [(WordFault, &str); 7] = [
+    (WordFault::Listen, "7001"),
+    (WordFault::ListenClients, "7501"),
+    (WordFault::Operators, "On"),
+    (WordFault::Peers, ""),
+    (WordFault::PeerTwice, "2=127.0.0.1:7002,2=127.0.0.1:7003"),
+    (WordFault::Status, "8001"),
+    (WordFault::Log, "Info"),
 ];
+
+const TWO_TWICE: &str = "2=127.0.0.1:7002\n2=127.0.0.1:7003";
+
+// A node can't run by these words, and that is why.
+fn check_no_run<R: Abort + AllocGlobal>(
+    rt: &R,
+    words: &RunWords<'_>,
+    lines: Option<&str>,
+    fault: WordFault,
+) {
+    let refused = RunOrder::parse(rt.alloc(), words, lines).err();
+    assert!(rt; refused == Some(fault), "{fault}");
+}
 
 #[test]
 fn each_word_of_run_is_checked(rt: HostRuntime) {
-    for &(words, lines, fault) in &NO_RUNS {
-        let refused = RunOrder::parse(rt.alloc(), &words, lines).err();
-        assert!(rt; refused == Some(fault), "{fault}");
+    for &(fault, text) in &NO_RUNS {
+        check_no_run(&rt, &alone_with(fault, text), None, fault);
+    }
+    let both = by_lines(beside_two());
+    check_no_run(&rt, &both, Some(""), WordFault::PeersTwice);
+    let words = by_lines(alone());
+    check_no_run(&rt, &words, Some("\n2"), WordFault::Line(2));
+    check_no_run(&rt, &words, Some(TWO_TWICE), WordFault::LineTwice);
+}
+
+fn collect() -> AskWords<'static> {
+    AskWords {
+        address: "127.0.0.1:7001",
+        session: "7",
+        command: "collect",
+        value: None,
+        text: None,
+        request: None,
+        timeout: None,
+        form: AnswerForm::Plain,
+        waits: false,
     }
 }
 
-const COLLECT: AskWords<'_> = AskWords {
-    address: "127.0.0.1:7001",
-    session: "7",
-    command: "collect",
-    value: None,
-    text: None,
-    request: None,
-    timeout: None,
-    form: AnswerForm::Plain,
-    waits: false,
-};
+// The same words, but for that text in place of the one that a fault names.
+fn ask_with<'a>(words: &AskWords<'a>, place: WordFault, text: &'a str) -> AskWords<'a> {
+    match place {
+        WordFault::Address => AskWords {
+            address: text,
+            ..*words
+        },
+        WordFault::Session => AskWords {
+            session: text,
+            ..*words
+        },
+        WordFault::Command => AskWords {
+            command: text,
+            ..*words
+        },
+        WordFault::Request => AskWords {
+            request: Some(text),
+            ..*words
+        },
+        _ => AskWords {
+            timeout: Some(text),
+            ..*words
+        },
+    }
+}
 
-// How long it may take, and how many seconds that are.
-const TIMEOUTS: [(Option<&str>, u64); 2] = [(None, 10), (Some("60"), 60)];
+// The order of these words within so many seconds.
+fn collect_within(seconds: u64) -> AskOrder {
+    AskOrder {
+        address: local(7001),
+        session: 7,
+        command: Command::Collect,
+        request: None,
+        timeout: seconds,
+        form: AnswerForm::Plain,
+        waits: false,
+    }
+}
 
 #[test]
 fn ask_waits_ten_seconds_by_itself(rt: HostRuntime) {
-    for &(timeout, seconds) in &TIMEOUTS {
-        let order = AskOrder::parse(&AskWords { timeout, ..COLLECT });
-        let wanted = AskOrder {
-            address: local(7001),
-            session: 7,
-            command: Command::Collect,
-            request: None,
-            timeout: seconds,
-            form: AnswerForm::Plain,
-            waits: false,
-        };
-        assert!(rt; order == Ok(wanted), "{seconds}");
-    }
+    assert!(rt; AskOrder::parse(&collect()) == Ok(collect_within(10)));
+    let longer = ask_with(&collect(), WordFault::Timeout, "60");
+    assert!(rt; AskOrder::parse(&longer) == Ok(collect_within(60)));
 }
 
 #[test]
 fn a_request_may_have_a_number(rt: HostRuntime) {
-    let order = AskOrder::parse(&AskWords {
-        request: Some("12"),
-        ..COLLECT
-    });
+    let order = AskOrder::parse(&ask_with(&collect(), WordFault::Request, "12"));
     let wanted = AskOrder {
         request: Some(12),
         ..AskOrder::new(local(7001), 7, Command::Collect, 10)
@@ -334,53 +386,57 @@ pub fn are_no_command(words: &AskWords<'_>) -> bool {
     AskOrder::parse(words) == Err(WordFault::Command)
 }
 
-fn check_no_ask<R: Abort>(rt: &R, words: &AskWords<'_>, fault: WordFault) {
-    assert!(rt; AskOrder::parse(words) == Err(fault), "{fault}");
-}
+// A bad text, and the fault that names its place.
+const NO_ASKS: [(WordFault, &str); 6] = [
+    (WordFault::Address, "7001"),
+    (WordFault::Session, "07"),
+    (WordFault::Command, "collects"),
+    (WordFault::Request, "0"),
+    (WordFault::Request, "012"),
+    (WordFault::Timeout, "1.5"),
+];
 
 #[test]
 fn each_word_of_ask_is_checked(rt: HostRuntime) {
-    let mut words = COLLECT;
-    words.address = "7001";
-    check_no_ask(&rt, &words, WordFault::Address);
-    words = COLLECT;
-    words.session = "07";
-    check_no_ask(&rt, &words, WordFault::Session);
-    words = COLLECT;
-    words.command = "collects";
-    check_no_ask(&rt, &words, WordFault::Command);
-    words = COLLECT;
-    words.request = Some("0");
-    check_no_ask(&rt, &words, WordFault::Request);
-    words.request = Some("012");
-    check_no_ask(&rt, &words, WordFault::Request);
-    words = COLLECT;
-    words.timeout = Some("1.5");
-    check_no_ask(&rt, &words, WordFault::Timeout);
+    for &(fault, text) in &NO_ASKS {
+        let order = AskOrder::parse(&ask_with(&collect(), fault, text));
+        assert!(rt; order == Err(fault), "{fault}");
+    }
+}
+
+const ADDRESS: &str = "127.0.0.1:7001";
+
+fn leaves() -> Result<bool, WordFault> {
+    Ok(LeaveOrder::parse(ADDRESS)?.address == local(7001))
+}
+
+// Whether it names node 3.
+fn retires() -> Result<bool, WordFault> {
+    let order = RetireOrder::parse(ADDRESS, "3")?;
+    Ok(order.address == local(7001) && order.node.number() == 3)
 }
 
 #[test]
-fn the_operator_names_a_node(rt: HostRuntime) -> Result<(), Fail> {
-    let order = LeaveOrder::parse("127.0.0.1:7001")?;
-    assert!(rt; order.address == local(7001));
+fn the_operator_names_a_node(rt: HostRuntime) {
+    assert!(rt; leaves() == Ok(true));
     assert!(rt; LeaveOrder::parse("").err() == Some(WordFault::Address));
-    let order = RetireOrder::parse("127.0.0.1:7001", "3")?;
-    assert!(rt; order.address == local(7001) && order.node.number() == 3);
-    let refused = RetireOrder::parse("127.0.0.1:7001", "0").err();
-    assert!(rt; refused == Some(WordFault::Node));
+    assert!(rt; retires() == Ok(true));
+    assert!(rt; RetireOrder::parse(ADDRESS, "0").err() == Some(WordFault::Node));
     let refused = StatusOrder::parse("8001", AnswerForm::Plain, false).err();
     assert!(rt; refused == Some(WordFault::Address));
-    Ok(())
 }
 
-const GOOD: FormatWords<'_> = FormatWords {
-    id: "4",
-    initial: None,
-    contacts: None,
-    beta: None,
-    gamma: None,
-    share: None,
-};
+/// The words of a node of that id alone.
+pub fn format_of(id: &str) -> FormatWords<'_> {
+    FormatWords {
+        id,
+        initial: None,
+        contacts: None,
+        beta: None,
+        gamma: None,
+        share: None,
+    }
+}
 
 // Whether the order has what stands where the options are left out.
 fn has_defaults(order: &FormatOrder) -> bool {
@@ -393,7 +449,7 @@ fn has_defaults(order: &FormatOrder) -> bool {
 
 #[test]
 fn options_have_defaults(rt: HostRuntime) -> Result<(), Fail> {
-    let order = FormatOrder::parse(rt.alloc(), &GOOD)?;
+    let order = FormatOrder::parse(rt.alloc(), &format_of("4"))?;
     assert!(rt; has_defaults(&order));
     Ok(())
 }
@@ -438,7 +494,8 @@ const NO_FORMATS: [(WordFault, &str); 6] = [
 #[test]
 fn each_word_of_format_is_checked(rt: HostRuntime) {
     for &(fault, text) in &NO_FORMATS {
-        let refused = FormatOrder::parse(rt.alloc(), &with(&GOOD, fault, text)).err();
+        let words = with(&format_of("4"), fault, text);
+        let refused = FormatOrder::parse(rt.alloc(), &words).err();
         assert!(rt; refused == Some(fault), "{fault}");
     }
 }
