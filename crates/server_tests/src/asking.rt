@@ -1,6 +1,6 @@
 //! Clients of a node that runs: what they print, and the status that they end with.
 
-use crate::nodes::{Places, check, check_end, end, run, set_up};
+use crate::nodes::{Places, check, free_address, run, set_up, while_two_run};
 use cc_channels::Stop;
 use cc_client::{Silence, Told, ask_node, leave_node, retire_node};
 use cc_intake::NoHooks;
@@ -8,9 +8,9 @@ use cc_orders::{AnswerForm, AskOrder, LeaveOrder, RetireOrder};
 use cc_views::NodeId;
 use cc_words::command;
 use std::alloc::Global;
-use std::net::{Net, SocketAddr, TcpListener, TcpStream};
+use std::io;
+use std::net::{Net, SocketAddr, TcpStream};
 use std::test::*;
-use std::thread;
 use std::time::Clock;
 
 // What is asked of node 1 in turn, and what its client prints.
@@ -27,32 +27,38 @@ const ASKED: [(&[&str], &str); 9] = [
 ];
 
 // The same as JSON, and with the number of a request: what was done under it, and what is no longer.
-const ASKED_AS_JSON: [(&[&str], Option<u64>, u8, &str); 7] = [
+const ASKED_AS_JSON: [(&[&str], Option<u64>, Told, &str); 7] = [
     (
         &["collect"],
         None,
-        0,
+        DONE,
         "{\"answer\":\"Seen\",\"view\":[{\"node\":1,\"number\":5,\"text\":\"a=b\",\"max\":9,\"flag\":true,\"set\":[5]}]}\n",
     ),
-    (&["readmax"], None, 0, "{\"answer\":\"Max\",\"max\":9}\n"),
+    (&["readmax"], None, DONE, "{\"answer\":\"Max\",\"max\":9}\n"),
     (
         &["readflag"],
         None,
-        0,
+        DONE,
         "{\"answer\":\"Flag\",\"flag\":true}\n",
     ),
-    (&["readset"], None, 0, "{\"answer\":\"Set\",\"set\":[5]}\n"),
-    (&["add", "6"], Some(14), 0, "{\"answer\":\"Stored\"}\n"),
-    (&["add", "6"], Some(14), 0, "{\"answer\":\"Stored\"}\n"),
+    (
+        &["readset"],
+        None,
+        DONE,
+        "{\"answer\":\"Set\",\"set\":[5]}\n",
+    ),
+    (&["add", "6"], Some(14), DONE, "{\"answer\":\"Stored\"}\n"),
+    (&["add", "6"], Some(14), DONE, "{\"answer\":\"Stored\"}\n"),
     (
         &["add", "7"],
         Some(16),
-        1,
+        REFUSED,
         "{\"refused\":\"Skip\",\"number\":12,\"carries\":14}\n",
     ),
 ];
 
-const DONE: Told = Told {
+/// What was asked was done.
+pub(crate) const DONE: Told = Told {
     status: 0,
     silence: None,
 };
@@ -62,23 +68,64 @@ const REFUSED: Told = Told {
     silence: None,
 };
 
-// Asks for so many seconds at most. The client prints this, and ends so.
-fn check_asked<R: Net<Stream = TcpStream> + Clock>(
+// Whether a client ended so, and printed this.
+fn is_told(ended: io::Result<Told>, output: &[u8], told: Told, wanted: &str) -> bool {
+    matches!(ended, Ok(it) if it == told) && output == wanted.as_bytes()
+}
+
+/// Whether a client that asks this ends so, and prints this.
+pub(crate) fn is_asked<R: Net<Stream = TcpStream> + Clock>(
     rt: &R,
     alloc: Global,
     order: &AskOrder,
     told: Told,
-    wanted: &'static str,
-) -> Result<(), Fail> {
+    wanted: &str,
+) -> bool {
     let mut output = Vec::new(alloc);
-    let ended = ask_node(rt, alloc, order, &mut output)?;
-    check(output.as_slice() == wanted.as_bytes(), wanted)?;
-    check(ended == told, "how a client ends")
+    let ended = ask_node(rt, alloc, order, &mut output);
+    is_told(ended, &output, told, wanted)
 }
 
-fn order(address: SocketAddr, words: &[&str], timeout: u64) -> Result<AskOrder, Fail> {
+/// Whether the node there can be told that another is dead, and the client prints this.
+pub(crate) fn is_retired<R: Net<Stream = TcpStream> + Clock>(
+    rt: &R,
+    alloc: Global,
+    order: &RetireOrder,
+    wanted: &str,
+) -> bool {
+    let mut output = Vec::new(alloc);
+    let ended = retire_node(rt, alloc, order, &mut output);
+    is_told(ended, &output, DONE, wanted)
+}
+
+fn is_left<R: Net<Stream = TcpStream> + Clock>(
+    rt: &R,
+    alloc: Global,
+    address: SocketAddr,
+    told: Told,
+    wanted: &str,
+) -> bool {
+    let mut output = Vec::new(alloc);
+    let ended = leave_node(rt, alloc, &LeaveOrder { address }, &mut output);
+    is_told(ended, &output, told, wanted)
+}
+
+/// What a client of session 7 asks for, who waits for so many seconds at most.
+pub(crate) fn order(address: SocketAddr, words: &[&str], timeout: u64) -> Result<AskOrder, Fail> {
     let command = command(words).ok_or("a command")?;
     Ok(AskOrder::new(address, 7, command, timeout))
+}
+
+/// A client of session 7 asks, and prints this.
+pub(crate) fn check_asked<R: Net<Stream = TcpStream> + Clock>(
+    rt: &R,
+    alloc: Global,
+    address: SocketAddr,
+    words: &[&str],
+    wanted: &'static str,
+) -> Result<(), Fail> {
+    let order = order(address, words, 20)?;
+    check(is_asked(rt, alloc, &order, DONE, wanted), wanted)
 }
 
 // All commands, one after the other, in one session.
@@ -87,8 +134,8 @@ fn ask_all<R: Net<Stream = TcpStream> + Clock>(
     alloc: Global,
     one: SocketAddr,
 ) -> Result<(), Fail> {
-    for (words, wanted) in ASKED {
-        check_asked(rt, alloc, &order(one, words, 20)?, DONE, wanted)?;
+    for &(words, wanted) in &ASKED {
+        check_asked(rt, alloc, one, words, wanted)?;
     }
     Ok(())
 }
@@ -98,19 +145,19 @@ fn ask_for_json<R: Net<Stream = TcpStream> + Clock>(
     alloc: Global,
     one: SocketAddr,
 ) -> Result<(), Fail> {
-    for (words, request, status, wanted) in ASKED_AS_JSON {
+    for &(words, request, told, wanted) in &ASKED_AS_JSON {
         let order = AskOrder {
             request,
             form: AnswerForm::Json,
             ..order(one, words, 20)?
         };
-        let told = if status == 0 { DONE } else { REFUSED };
-        check_asked(rt, alloc, &order, told, wanted)?;
+        check(is_asked(rt, alloc, &order, told, wanted), wanted)?;
     }
     Ok(())
 }
 
-fn check_retired<R: Net<Stream = TcpStream> + Clock>(
+// The operator at node 1, twice with each order: what was done before is told once more.
+fn operate<R: Net<Stream = TcpStream> + Clock>(
     rt: &R,
     alloc: Global,
     one: SocketAddr,
@@ -119,25 +166,16 @@ fn check_retired<R: Net<Stream = TcpStream> + Clock>(
         address: one,
         node: NodeId::new(2).ok_or("an id")?,
     };
-    let mut output = Vec::new(alloc);
-    let told = retire_node(rt, alloc, &order, &mut output)?;
-    check(output.as_slice() == b"retired 2\n".as_slice(), "retired 2")?;
-    check(told == DONE, "how a retire ends")
+    for _ in 0..2 {
+        check(is_retired(rt, alloc, &order, "retired 2\n"), "retired 2")?;
+    }
+    for _ in 0..2 {
+        check(is_left(rt, alloc, one, DONE, "left\n"), "left")?;
+    }
+    Ok(())
 }
 
-fn check_left<R: Net<Stream = TcpStream> + Clock>(
-    rt: &R,
-    alloc: Global,
-    one: SocketAddr,
-) -> Result<(), Fail> {
-    let order = LeaveOrder { address: one };
-    let mut output = Vec::new(alloc);
-    let told = leave_node(rt, alloc, &order, &mut output)?;
-    check(output.as_slice() == b"left\n".as_slice(), "left")?;
-    check(told == DONE, "how a leave ends")
-}
-
-// Clients and the operator at node 1. What was done before is told once more, and who has left serves no client.
+// Clients and the operator at node 1. Who has left serves no client.
 fn talk<R: Net<Stream = TcpStream> + Clock>(
     rt: &R,
     alloc: Global,
@@ -145,12 +183,12 @@ fn talk<R: Net<Stream = TcpStream> + Clock>(
 ) -> Result<(), Fail> {
     ask_all(rt, alloc, one)?;
     ask_for_json(rt, alloc, one)?;
-    check_retired(rt, alloc, one)?;
-    check_retired(rt, alloc, one)?;
-    check_left(rt, alloc, one)?;
-    check_left(rt, alloc, one)?;
+    operate(rt, alloc, one)?;
     let late = order(one, &["collect"], 20)?;
-    check_asked(rt, alloc, &late, REFUSED, "refused 1 Left\n")
+    check(
+        is_asked(rt, alloc, &late, REFUSED, "refused 1 Left\n"),
+        "who has left",
+    )
 }
 
 #[test]
@@ -163,66 +201,47 @@ fn clients_print_what_a_node_answers(rt: HostRuntime) -> Result<(), Fail> {
     } = set_up(&rt, "asked-1", "asked-2")?;
     let stop = Stop::new();
     let alloc = rt.alloc();
-    let ((ended_1, ended_2), talked) = thread::join(
+    while_two_run(
         &rt,
-        || {
-            thread::join(
-                &rt,
-                || run(&rt, alloc, "asked-1", first, (2, two), &stop, &NoHooks),
-                || run(&rt, alloc, "asked-2", second, (1, one), &stop, &NoHooks),
-            )
-        },
-        || {
-            let talked = talk(&rt, alloc, one);
-            end(&rt, &stop, one, two);
-            talked
-        },
-    );
-    talked?;
-    check_end(ended_1)?;
-    check_end(ended_2)
+        &stop,
+        [one, two],
+        || run(&rt, alloc, "asked-1", first, &[(2, two)], &stop, &NoHooks),
+        || run(&rt, alloc, "asked-2", second, &[(1, one)], &stop, &NoHooks),
+        || talk(&rt, alloc, one),
+    )
 }
 
-// No answer came, since nothing listens there.
-fn closed(nobody: SocketAddr) -> Told {
-    Told {
-        status: 1,
-        silence: Some(Silence::Closed(nobody)),
-    }
-}
-
+// No answer comes to an ask, in either form, nor to an order to leave.
 fn check_no_answer<R: Net<Stream = TcpStream> + Clock>(
     rt: &R,
     alloc: Global,
     nobody: SocketAddr,
 ) -> Result<(), Fail> {
-    let asked = order(nobody, &["collect"], 1)?;
-    check_asked(rt, alloc, &asked, closed(nobody), "no answer\n")?;
-    let asked = AskOrder {
-        form: AnswerForm::Json,
-        ..asked
+    let closed = Told {
+        status: 1,
+        silence: Some(Silence::Closed(nobody)),
     };
-    check_asked(rt, alloc, &asked, closed(nobody), "{\"no_answer\":true}\n")
-}
-
-fn check_not_left<R: Net<Stream = TcpStream> + Clock>(
-    rt: &R,
-    alloc: Global,
-    nobody: SocketAddr,
-) -> Result<(), Fail> {
-    let order = LeaveOrder { address: nobody };
-    let mut output = Vec::new(alloc);
-    let told = leave_node(rt, alloc, &order, &mut output)?;
-    check(output.as_slice() == b"no answer\n".as_slice(), "no answer")?;
-    check(told == closed(nobody), "how a leave ends")
+    let plain = order(nobody, &["collect"], 1)?;
+    let json = AskOrder {
+        form: AnswerForm::Json,
+        ..plain
+    };
+    check(
+        is_asked(rt, alloc, &plain, closed, "no answer\n"),
+        "no answer",
+    )?;
+    check(
+        is_asked(rt, alloc, &json, closed, "{\"no_answer\":true}\n"),
+        "no answer as JSON",
+    )?;
+    check(
+        is_left(rt, alloc, nobody, closed, "no answer\n"),
+        "no answer to a leave",
+    )
 }
 
 // Nothing listens at the port of a listener that is gone.
 #[test]
 fn clients_give_up_where_no_answer_comes(rt: HostRuntime) -> Result<(), Fail> {
-    let listener = TcpListener::bind(&rt, "127.0.0.1:0")?;
-    let nobody = listener.local_addr()?;
-    drop(listener);
-    check_no_answer(&rt, rt.alloc(), nobody)?;
-    check_not_left(&rt, rt.alloc(), nobody)
+    check_no_answer(&rt, rt.alloc(), free_address(&rt)?)
 }

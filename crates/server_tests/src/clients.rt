@@ -49,16 +49,26 @@ pub(crate) fn connected<R: Net<Stream = TcpStream>>(
     Ok(stream)
 }
 
+/// A connection over which these bytes were sent.
+pub(crate) fn sent<R: Net<Stream = TcpStream>>(
+    rt: &R,
+    to: SocketAddr,
+    bytes: &[u8],
+) -> Result<TcpStream, Fail> {
+    let mut stream = connected(rt, to)?;
+    stream.write_all(bytes)?;
+    Ok(stream)
+}
+
 /// Sends bytes, and reads these.
 pub(crate) fn exchange<R: Net<Stream = TcpStream>>(
     rt: &R,
     alloc: Global,
     to: SocketAddr,
-    sent: &[u8],
+    bytes: &[u8],
     wanted: &[u8],
 ) -> Result<(), Fail> {
-    let mut stream = connected(rt, to)?;
-    stream.write_all(sent)?;
+    let mut stream = sent(rt, to, bytes)?;
     reads(alloc, &mut stream, wanted)
 }
 
@@ -69,14 +79,20 @@ pub(crate) fn reads(alloc: Global, stream: &mut TcpStream, wanted: &[u8]) -> Res
     check(read.as_slice() == wanted, "what the node answers")
 }
 
-/// Sends bytes, and reads nothing but the end.
-pub(crate) fn is_closed_after<R: Net<Stream = TcpStream>>(
+/// Reads nothing but the end.
+pub(crate) fn ends(stream: &mut TcpStream) -> bool {
+    let mut piece = [0u8; 16];
+    matches!(stream.read(&mut piece), Ok(0))
+}
+
+/// What each of these rows sends closes its connection. The row says what that is.
+pub(crate) fn check_closed<R: Net<Stream = TcpStream>>(
     rt: &R,
     to: SocketAddr,
-    sent: &[u8],
-) -> Result<bool, Fail> {
-    let mut stream = connected(rt, to)?;
-    stream.write_all(sent)?;
-    let mut piece = [0u8; 16];
-    Ok(matches!(stream.read(&mut piece), Ok(0)))
+    rows: &[(&[u8], &'static str)],
+) -> Result<(), Fail> {
+    for &(bytes, what) in rows {
+        check(ends(&mut sent(rt, to, bytes)?), what)?;
+    }
+    Ok(())
 }

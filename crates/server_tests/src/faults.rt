@@ -1,15 +1,14 @@
 //! Why a node doesn't run: each fault, and its text.
 
-use crate::nodes::{check, format_member};
+use crate::nodes::{Setting, check, config_of, format_member, free_address, free_place};
 use cc_channels::Stop;
 use cc_checkpoint::OpenFault;
 use cc_flush::Failed;
 use cc_intake::NoHooks;
-use cc_server::{Config, ReadText, RunFault, run_node};
+use cc_server::{ReadText, RunFault, run_node};
 use cc_site::{Call, DeviceFault, Side};
-use cc_views::NodeId;
-use cc_words::Peer;
 use log::Log;
+use std::alloc::Global;
 use std::fs;
 use std::fs::{File, Files};
 use std::net::{Net, SocketAddr, TcpListener, TcpStream};
@@ -45,26 +44,35 @@ const NO_FOLDER: RunFault = RunFault::Open(OpenFault::Device(DeviceFault {
     call: Call::Length,
 }));
 
+// Where the address is taken: the folder, and why its node doesn't run.
+const CANNOT_BEGIN: [(&str, RunFault); 3] = [
+    ("no-folder", NO_FOLDER),
+    ("empty-folder", RunFault::Open(OpenFault::NotFormatted)),
+    ("own-folder", RunFault::Listen),
+];
+
+fn is_text_of(alloc: Global, fault: RunFault, wanted: &str) -> Result<bool, Fail> {
+    let text = format!(in alloc; "{fault}")?;
+    Ok(text.as_str() == wanted)
+}
+
 #[test]
 fn faults_of_a_run_print_their_texts(rt: HostRuntime) -> Result<(), Fail> {
-    for (fault, wanted) in TEXTS {
-        let text = format!(in rt.alloc(); "{fault}")?;
-        assert!(rt; text.as_str() == wanted);
+    for &(fault, wanted) in &TEXTS {
+        check(is_text_of(rt.alloc(), fault, wanted)?, wanted)?;
     }
     Ok(())
 }
 
-// Why the node of a folder doesn't run.
+// Why a node doesn't run.
 fn check_fault<R>(
     rt: &R,
-    dir: &str,
-    listen: SocketAddr,
-    peers: Vec<Peer>,
+    alloc: Global,
+    setting: &Setting<'_>,
     wanted: RunFault,
 ) -> Result<(), Fail>
 where
-    R: AllocGlobal
-        + Files<File = File>
+    R: Files<File = File>
         + Net<Listener = TcpListener, Stream = TcpStream>
         + Threads
         + Wait
@@ -73,44 +81,47 @@ where
         + Log
         + Sync,
 {
-    let config = Config {
-        dir,
-        listen,
-        listen_clients: None,
-        remote_operators: true,
-        peers,
-        peers_file: None,
-        status: None,
-        version: "",
-    };
-    let outcome = run_node(rt, rt.alloc(), &config, &Stop::new(), &NoHooks);
+    let config = config_of(alloc, setting)?;
+    let outcome = run_node(rt, alloc, &config, &Stop::new(), &NoHooks);
     check(outcome.err() == Some(wanted), "why a node doesn't run")
+}
+
+fn check_beginnings<R>(rt: &R, alloc: Global, taken: SocketAddr) -> Result<(), Fail>
+where
+    R: Files<File = File>
+        + Net<Listener = TcpListener, Stream = TcpStream>
+        + Threads
+        + Wait
+        + Clock
+        + ReadText
+        + Log
+        + Sync,
+{
+    for &(folder, fault) in &CANNOT_BEGIN {
+        check_fault(rt, alloc, &Setting::of(folder, taken, &[]), fault)?;
+    }
+    Ok(())
 }
 
 #[test]
 fn a_node_that_cannot_begin_says_why(rt: HostRuntime) -> Result<(), Fail> {
-    let taken = TcpListener::bind(&rt, "127.0.0.1:0")?;
-    let listen = taken.local_addr()?;
-    let nobody = || Vec::new(rt.alloc());
-    check_fault(&rt, "no-folder", listen, nobody(), NO_FOLDER)?;
     let _ = fs::remove_dir_all(&rt, "empty-folder");
     fs::create_dir(&rt, "empty-folder")?;
-    let not_formatted = RunFault::Open(OpenFault::NotFormatted);
-    check_fault(&rt, "empty-folder", listen, nobody(), not_formatted)?;
     format_member(&rt, "own-folder", "1")?;
-    check_fault(&rt, "own-folder", listen, nobody(), RunFault::Listen)
+    let taken = free_place(&rt)?;
+    check_beginnings(&rt, rt.alloc(), taken.address)
 }
 
 // The node's own id, and its own address under the id of another.
 #[test]
 fn a_node_is_no_peer_of_itself(rt: HostRuntime) -> Result<(), Fail> {
-    let listen = TcpListener::bind(&rt, "127.0.0.1:0")?.local_addr()?;
-    let elsewhere = TcpListener::bind(&rt, "127.0.0.1:0")?.local_addr()?;
+    let listen = free_address(&rt)?;
+    let elsewhere = free_address(&rt)?;
     format_member(&rt, "folder-of-a-peer", "1")?;
-    for (number, address) in [(1, elsewhere), (2, listen)] {
-        let id = NodeId::new(number).ok_or("an id")?;
-        let peers = vec![in rt.alloc(); Peer { id, address }]?;
-        check_fault(&rt, "folder-of-a-peer", listen, peers, RunFault::OwnPeer)?;
+    for peer in [(1, elsewhere), (2, listen)] {
+        let peers = [peer];
+        let setting = Setting::of("folder-of-a-peer", listen, &peers);
+        check_fault(&rt, rt.alloc(), &setting, RunFault::OwnPeer)?;
     }
     Ok(())
 }

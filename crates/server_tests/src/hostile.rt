@@ -1,7 +1,6 @@
 //! Hostile connections.
 
-use crate::clients::{FIRST_ASK, FIRST_REPLY, THIRD_REFUSED, connected, is_closed_after};
-use crate::nodes::check;
+use crate::clients::{FIRST_ASK, FIRST_REPLY, THIRD_REFUSED, check_closed, connected, sent};
 use std::alloc::Global;
 use std::io::Write;
 use std::net::{Net, SocketAddr, TcpStream};
@@ -15,6 +14,15 @@ pub(crate) const OUT_OF_TURN: [u8; 24] = [
     0, 0, 0, 20, 3, 0, 0, 0, 0, 0, 0, 0, 9, 0, 0, 0, 0, 0, 0, 0, 3, 1, 1, 97,
 ];
 
+// What isn't read as a frame of a client or of another node.
+const STRANGE: [(&[u8], &str); 5] = [
+    (&[0, 1, 0, 1], "a length of 65,537"),
+    (&[0, 0, 0, 1, 0], "kind 0"),
+    (&[0, 0, 0, 1, 8], "kind 8"),
+    (&FIRST_REPLY, "kind 4"),
+    (&THIRD_REFUSED, "kind 5"),
+];
+
 /// What such connections send. Each of them has to be closed by the node, but for those that close themselves.
 pub(crate) fn attack<R: Net<Stream = TcpStream>>(
     rt: &R,
@@ -22,12 +30,7 @@ pub(crate) fn attack<R: Net<Stream = TcpStream>>(
     to: SocketAddr,
 ) -> Result<(), Fail> {
     cuts(rt, to)?;
-    let long = [0, 1, 0, 1];
-    check(is_closed_after(rt, to, &long)?, "a length of 65,537")?;
-    check(is_closed_after(rt, to, &[0, 0, 0, 1, 0])?, "kind 0")?;
-    check(is_closed_after(rt, to, &[0, 0, 0, 1, 8])?, "kind 8")?;
-    check(is_closed_after(rt, to, &FIRST_REPLY)?, "kind 4")?;
-    check(is_closed_after(rt, to, &THIRD_REFUSED)?, "kind 5")?;
+    check_closed(rt, to, &STRANGE)?;
     without_end(rt, to, &[0; 4096])?;
     flood(rt, alloc, to)
 }
@@ -35,8 +38,8 @@ pub(crate) fn attack<R: Net<Stream = TcpStream>>(
 // The beginnings of a request, each on a connection that is closed then.
 fn cuts<R: Net<Stream = TcpStream>>(rt: &R, to: SocketAddr) -> Result<(), Fail> {
     for cut in 0..FIRST_ASK.len() {
-        let mut stream = connected(rt, to)?;
-        stream.write_all(FIRST_ASK.get(..cut).ok_or("a beginning")?)?;
+        let beginning = FIRST_ASK.get(..cut).ok_or("a beginning")?;
+        drop(sent(rt, to, beginning)?);
     }
     Ok(())
 }
@@ -62,7 +65,6 @@ fn flood<R: Net<Stream = TcpStream>>(rt: &R, alloc: Global, to: SocketAddr) -> R
     for _ in 0..REQUESTS {
         requests.extend_from_slice(&OUT_OF_TURN)?;
     }
-    let mut stream = connected(rt, to)?;
-    stream.write_all(requests.as_slice())?;
+    drop(sent(rt, to, requests.as_slice())?);
     Ok(())
 }

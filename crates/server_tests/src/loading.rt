@@ -1,8 +1,8 @@
 //! A load on nodes that run.
 
-use crate::nodes::{Places, check, check_end, end, run, set_up};
+use crate::asking::DONE;
+use crate::nodes::{Places, check, run, set_up, while_two_run};
 use cc_channels::Stop;
-use cc_client::Told;
 use cc_intake::NoHooks;
 use cc_load::load_nodes;
 use cc_orders::{AnswerForm, LoadOrder, LoadWords};
@@ -10,29 +10,16 @@ use std::alloc::Global;
 use std::net::{Net, SocketAddr, TcpListener, TcpStream};
 use std::sync::Wait;
 use std::test::*;
-use std::thread;
 use std::thread::Threads;
 use std::time::Clock;
 
-const DONE: Told = Told {
-    status: 0,
-    silence: None,
-};
-
-// Four clients of both nodes for a second. None of them ends early, so each has a session of its own.
-fn check_load<R>(
-    rt: &R,
-    alloc: Global,
-    one: SocketAddr,
-    two: SocketAddr,
-    collects: bool,
-) -> Result<(), Fail>
+// Four clients of both nodes for a second.
+fn check_load<R>(rt: &R, alloc: Global, addresses: &str, collects: bool) -> Result<(), Fail>
 where
     R: Net<Listener = TcpListener, Stream = TcpStream> + Threads + Wait + Clock + Sync,
 {
-    let addresses = format!(in alloc; "{one},{two}")?;
     let words = LoadWords {
-        addresses: &addresses,
+        addresses,
         clients: Some("4"),
         seconds: Some("1"),
         sessions_from: None,
@@ -40,13 +27,20 @@ where
         form: AnswerForm::Json,
     };
     let order = LoadOrder::parse(alloc, &words)?;
+    check(is_answered(rt, alloc, &order), "a load is answered")
+}
+
+// None of the clients ends early, so each has a session of its own.
+fn is_answered<R>(rt: &R, alloc: Global, order: &LoadOrder) -> bool
+where
+    R: Net<Listener = TcpListener, Stream = TcpStream> + Threads + Wait + Clock + Sync,
+{
     let mut output = Vec::new(alloc);
-    let told = load_nodes(rt, alloc, &order, &mut output)?;
+    let told = load_nodes(rt, alloc, order, &mut output);
     let is_whole = output
         .as_slice()
         .ends_with(b"\"lost\":0,\"ended\":0,\"refused\":null}\n");
-    check(told == DONE, "a load is answered")?;
-    check(is_whole, "no client of a load ends early")
+    is_whole && matches!(told, Ok(it) if it == DONE)
 }
 
 // Two loads in the same sessions: the second one learns where the first one ended.
@@ -54,8 +48,9 @@ fn load_twice<R>(rt: &R, alloc: Global, one: SocketAddr, two: SocketAddr) -> Res
 where
     R: Net<Listener = TcpListener, Stream = TcpStream> + Threads + Wait + Clock + Sync,
 {
-    check_load(rt, alloc, one, two, false)?;
-    check_load(rt, alloc, one, two, true)
+    let addresses = format!(in alloc; "{one},{two}")?;
+    check_load(rt, alloc, &addresses, false)?;
+    check_load(rt, alloc, &addresses, true)
 }
 
 #[test]
@@ -68,22 +63,12 @@ fn a_load_takes_the_same_sessions_again(rt: HostRuntime) -> Result<(), Fail> {
     } = set_up(&rt, "loaded-1", "loaded-2")?;
     let stop = Stop::new();
     let alloc = rt.alloc();
-    let ((ended_1, ended_2), loaded) = thread::join(
+    while_two_run(
         &rt,
-        || {
-            thread::join(
-                &rt,
-                || run(&rt, alloc, "loaded-1", first, (2, two), &stop, &NoHooks),
-                || run(&rt, alloc, "loaded-2", second, (1, one), &stop, &NoHooks),
-            )
-        },
-        || {
-            let loaded = load_twice(&rt, alloc, one, two);
-            end(&rt, &stop, one, two);
-            loaded
-        },
-    );
-    loaded?;
-    check_end(ended_1)?;
-    check_end(ended_2)
+        &stop,
+        [one, two],
+        || run(&rt, alloc, "loaded-1", first, &[(2, two)], &stop, &NoHooks),
+        || run(&rt, alloc, "loaded-2", second, &[(1, one)], &stop, &NoHooks),
+        || load_twice(&rt, alloc, one, two),
+    )
 }

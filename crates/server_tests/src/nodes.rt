@@ -9,17 +9,40 @@ use cc_views::NodeId;
 use cc_words::Peer;
 use log::Log;
 use std::alloc::{AllocError, Global};
-use std::fs;
 use std::fs::{File, Files};
 use std::net::{Net, SocketAddr, TcpListener, TcpStream};
 use std::sync::Wait;
 use std::test::Fail;
 use std::thread::Threads;
 use std::time::Clock;
+use std::{fs, thread};
 
 /// Fails the test where something isn't so.
 pub(crate) fn check(holds: bool, what: &'static str) -> Result<(), Fail> {
     if holds { Ok(()) } else { Err(what)? }
+}
+
+/// A listener at a port that was free, and where that is.
+#[derive(Drop)]
+pub(crate) struct Place {
+    pub listener: TcpListener,
+    pub address: SocketAddr,
+}
+
+/// Listens at a port that is free.
+pub(crate) fn free_place<R: Net<Listener = TcpListener, Stream = TcpStream>>(
+    rt: &R,
+) -> Result<Place, Fail> {
+    let listener = TcpListener::bind(rt, "127.0.0.1:0")?;
+    let address = listener.local_addr()?;
+    Ok(Place { listener, address })
+}
+
+/// Where nothing listens: the listener that was there is gone.
+pub(crate) fn free_address<R: Net<Listener = TcpListener, Stream = TcpStream>>(
+    rt: &R,
+) -> Result<SocketAddr, Fail> {
+    Ok(free_place(rt)?.address)
 }
 
 /// Where the nodes 1 and 2 listen.
@@ -36,37 +59,29 @@ pub(crate) fn set_up<R>(rt: &R, folder: &str, other: &str) -> Result<Places, Fai
 where
     R: AllocGlobal + Files<File = File> + Net<Listener = TcpListener, Stream = TcpStream>,
 {
-    format_member(rt, folder, "1")?;
-    format_member(rt, other, "2")?;
-    free_places(rt)
+    set_up_of(rt, folder, other, "1,2", None)
 }
 
-/// Two of three members in new folders, with listeners at ports that are free.
-pub(crate) fn set_up_of_three<R>(
+/// Two of these members in new folders, with listeners at ports that are free.
+pub(crate) fn set_up_of<R>(
     rt: &R,
     folder: &str,
     other: &str,
+    members: &str,
     beta: Option<&str>,
 ) -> Result<Places, Fail>
 where
     R: AllocGlobal + Files<File = File> + Net<Listener = TcpListener, Stream = TcpStream>,
 {
-    format_member_of(rt, folder, "1", "1,2,3", beta)?;
-    format_member_of(rt, other, "2", "1,2,3", beta)?;
-    free_places(rt)
-}
-
-// Listeners at ports that are free.
-fn free_places<R: Net<Listener = TcpListener, Stream = TcpStream>>(rt: &R) -> Result<Places, Fail> {
-    let first = TcpListener::bind(rt, "127.0.0.1:0")?;
-    let second = TcpListener::bind(rt, "127.0.0.1:0")?;
-    let one = first.local_addr()?;
-    let two = second.local_addr()?;
+    format_member_of(rt, folder, "1", members, beta)?;
+    format_member_of(rt, other, "2", members, beta)?;
+    let first = free_place(rt)?;
+    let second = free_place(rt)?;
     Ok(Places {
-        first,
-        second,
-        one,
-        two,
+        first: first.listener,
+        second: second.listener,
+        one: first.address,
+        two: second.address,
     })
 }
 
@@ -99,8 +114,6 @@ pub(crate) fn format_with_share<'w, R: AllocGlobal + Files<File = File>>(
     beta: Option<&'w str>,
     share: Option<&'w str>,
 ) -> Result<(), Fail> {
-    let _ = fs::remove_dir_all(rt, folder);
-    fs::create_dir(rt, folder)?;
     let words = FormatWords {
         id,
         initial: Some(members),
@@ -109,16 +122,30 @@ pub(crate) fn format_with_share<'w, R: AllocGlobal + Files<File = File>>(
         gamma: None,
         share,
     };
+    let _ = fs::remove_dir_all(rt, folder);
+    fs::create_dir(rt, folder)?;
     let order = FormatOrder::parse(rt.alloc(), &words)?;
-    let mut output = Vec::new(rt.alloc());
-    let status = format_folder(rt, rt.alloc(), folder, &order, &mut output)?;
-    check(status == 0, "the folder is formatted")
+    check(
+        is_formatted(rt, rt.alloc(), folder, &order),
+        "the folder is formatted",
+    )
+}
+
+fn is_formatted<R: Files<File = File>>(
+    rt: &R,
+    alloc: Global,
+    folder: &str,
+    order: &FormatOrder,
+) -> bool {
+    let mut output = Vec::new(alloc);
+    matches!(format_folder(rt, alloc, folder, order, &mut output), Ok(0))
 }
 
 /// What a node of a test is run with, beside its listener.
 #[derive(Clone, Copy)]
 pub(crate) struct Setting<'a> {
     pub folder: &'a str,
+    pub listen: SocketAddr,
     /// The peers, each with where it listens.
     pub peers: &'a [(u32, SocketAddr)],
     pub peers_file: Option<&'a str>,
@@ -128,10 +155,11 @@ pub(crate) struct Setting<'a> {
 }
 
 impl<'a> Setting<'a> {
-    /// A folder and peers, and no more.
-    pub(crate) fn of(folder: &'a str, peers: &'a [(u32, SocketAddr)]) -> Self {
+    /// A folder, where the node listens, and peers, and no more.
+    pub(crate) fn of(folder: &'a str, listen: SocketAddr, peers: &'a [(u32, SocketAddr)]) -> Self {
         Setting {
             folder,
+            listen,
             peers,
             peers_file: None,
             listen_clients: None,
@@ -141,13 +169,40 @@ impl<'a> Setting<'a> {
     }
 }
 
-/// Runs the node of a folder, with a peer that listens there, until the flag is set.
+/// What a node is given to run with such a setting.
+pub(crate) fn config_of<'a>(
+    alloc: Global,
+    setting: &Setting<'a>,
+) -> Result<Config<'a>, AllocError> {
+    Ok(Config {
+        dir: setting.folder,
+        listen: setting.listen,
+        listen_clients: setting.listen_clients,
+        remote_operators: setting.remote_operators,
+        peers: peers_of(alloc, setting.peers)?,
+        peers_file: setting.peers_file,
+        status: setting.status,
+        version: "1",
+    })
+}
+
+fn peers_of(alloc: Global, places: &[(u32, SocketAddr)]) -> Result<Vec<Peer>, AllocError> {
+    let mut peers = Vec::new(alloc);
+    for &(number, address) in places {
+        if let Some(id) = NodeId::new(number) {
+            peers.push(Peer { id, address })?;
+        }
+    }
+    Ok(peers)
+}
+
+/// Runs the node of a folder, with these peers, until the flag is set.
 pub(crate) fn run<R, H: Hooks + Sync>(
     rt: &R,
     alloc: Global,
     folder: &str,
     listener: TcpListener,
-    peer: (u32, SocketAddr),
+    peers: &[(u32, SocketAddr)],
     stop: &Stop,
     hooks: &H,
 ) -> Result<Finished<()>, RunFault>
@@ -161,14 +216,9 @@ where
         + Log
         + Sync,
 {
-    run_with(
-        rt,
-        alloc,
-        &Setting::of(folder, &[peer]),
-        listener,
-        stop,
-        hooks,
-    )
+    let listen = listener.local_addr().or(Err(RunFault::Listen))?;
+    let setting = Setting::of(folder, listen, peers);
+    run_with(rt, alloc, &setting, listener, stop, hooks)
 }
 
 /// Runs a node with such a setting until the flag is set.
@@ -190,52 +240,72 @@ where
         + Log
         + Sync,
 {
-    let listen = listener.local_addr().or(Err(RunFault::Listen))?;
-    let config = Config {
-        dir: setting.folder,
-        listen,
-        listen_clients: setting.listen_clients,
-        remote_operators: setting.remote_operators,
-        peers: peers_of(alloc, setting.peers)?,
-        peers_file: setting.peers_file,
-        status: setting.status,
-        version: "1",
-    };
+    let config = config_of(alloc, setting)?;
     run_on(rt, alloc, &config, Some(listener), stop, hooks)
 }
 
-fn peers_of(alloc: Global, places: &[(u32, SocketAddr)]) -> Result<Vec<Peer>, AllocError> {
-    let mut peers = Vec::new(alloc);
-    for (number, address) in places {
-        if let Some(id) = NodeId::new(*number) {
-            peers.push(Peer {
-                id,
-                address: *address,
-            })?;
-        }
-    }
-    Ok(peers)
-}
-
-/// Ends nodes that listen there.
-pub(crate) fn end<R: Net<Stream = TcpStream>>(
+/// Talks while a node runs, which listens there and is ended by the flag once the talk is over.
+pub(crate) fn while_one_runs<R, F, T>(
     rt: &R,
     stop: &Stop,
-    one: SocketAddr,
-    two: SocketAddr,
-) {
-    end_at(rt, stop, one);
-    end_at(rt, stop, two);
+    address: SocketAddr,
+    node: F,
+    talk: T,
+) -> Result<(), Fail>
+where
+    R: Net<Listener = TcpListener, Stream = TcpStream> + Threads + Sync,
+    F: FnOnce() -> Result<Finished<()>, RunFault> + Send,
+    T: FnOnce() -> Result<(), Fail>,
+    requires node { F.IsAlwaysCallable node }
+    requires talk { T.IsAlwaysCallable talk }
+{
+    let (ended, talked) = thread::join(rt, node, || {
+        let talked = talk();
+        end(rt, stop, address);
+        talked
+    });
+    talked?;
+    check_end(ended)
 }
 
-/// Ends a node that listens there.
-pub(crate) fn end_at<R: Net<Stream = TcpStream>>(rt: &R, stop: &Stop, address: SocketAddr) {
+/// The same of two nodes, which listen at these addresses.
+pub(crate) fn while_two_run<R, F, G, T>(
+    rt: &R,
+    stop: &Stop,
+    addresses: [SocketAddr; 2],
+    first: F,
+    second: G,
+    talk: T,
+) -> Result<(), Fail>
+where
+    R: Net<Listener = TcpListener, Stream = TcpStream> + Threads + Sync,
+    F: FnOnce() -> Result<Finished<()>, RunFault> + Send,
+    G: FnOnce() -> Result<Finished<()>, RunFault> + Send,
+    T: FnOnce() -> Result<(), Fail>,
+    requires first { F.IsAlwaysCallable first }
+    requires second { G.IsAlwaysCallable second }
+    requires talk { T.IsAlwaysCallable talk }
+{
+    let [one, two] = addresses;
+    while_one_runs(
+        rt,
+        stop,
+        two,
+        second,
+        || -> Result<(), Fail>
+            requires { F.IsAlwaysCallable first × T.IsAlwaysCallable talk }
+        { while_one_runs(rt, stop, one, first, talk) },
+    )
+}
+
+// Ends a node that listens there.
+fn end<R: Net<Stream = TcpStream>>(rt: &R, stop: &Stop, address: SocketAddr) {
     stop.set();
     let _ = TcpStream::connect(rt, address);
 }
 
-/// What a node came to: each accepted event was told and flushed.
-pub(crate) fn check_end(ended: Result<Finished<()>, RunFault>) -> Result<(), Fail> {
+// What a node came to: each accepted event was told and flushed.
+fn check_end(ended: Result<Finished<()>, RunFault>) -> Result<(), Fail> {
     let ended = ended?;
     check(ended.accepted == ended.told, "each accepted event is told")?;
     check(

@@ -1,18 +1,18 @@
 //! Those who look at a node over HTTP.
 
-use crate::nodes::{Setting, check, check_end, end_at, format_member_of, run_with};
+use crate::asking::check_asked;
+use crate::nodes::{
+    Place, Setting, check, format_member_of, free_address, free_place, run_with, while_one_runs,
+};
 use cc_channels::Stop;
-use cc_client::ask_node;
 use cc_intake::NoHooks;
-use cc_orders::AskOrder;
-use cc_words::command;
 use serde_json::Value;
 use std::alloc::Global;
 use std::io::{Read, Write};
-use std::net::{Net, SocketAddr, TcpListener, TcpStream};
+use std::net::{Net, SocketAddr, TcpStream};
 use std::test::*;
-use std::thread;
 use std::time::{Clock, Duration};
+use std::{io, str, thread};
 
 // What is answered to whom, in the first line and in the last one. The head of the 404 has no text behind it.
 const ASKED: [(&str, &str, &str); 5] = [
@@ -41,19 +41,26 @@ const ASKED: [(&str, &str, &str); 5] = [
 
 const VIEW: &str = r#"[{"node":1,"number":1,"text":"a","max":0,"flag":false,"set":[]}]"#;
 
+// Where the status counts one: the node's number, its member, its session, its row, and its ask.
+const ONES: [&str; 5] = [
+    "/id",
+    "/members/0",
+    "/sessions/0/request",
+    "/view/0/number",
+    "/counts/asks/store",
+];
+
 // All that a node answers to these bytes.
 fn asked<R: Net<Stream = TcpStream>>(
     rt: &R,
-    alloc: Global,
     place: SocketAddr,
     request: &str,
-) -> Result<String, Fail> {
-    let stream = TcpStream::connect(rt, place)?;
-    let mut stream: &TcpStream = &stream;
+    answer: &mut Vec<u8>,
+) -> io::Result<()> {
+    let mut stream = TcpStream::connect(rt, place)?;
     stream.write_all(request.as_bytes())?;
-    let mut answer = Vec::new(alloc);
-    stream.read_to_end(&mut answer)?;
-    Ok(String::from_utf8(answer)?)
+    stream.read_to_end(answer)?;
+    Ok(())
 }
 
 // Whether the node says that it is ready. It may not listen yet.
@@ -61,12 +68,13 @@ fn is_ready<R: Net<Stream = TcpStream>>(
     rt: &R,
     alloc: Global,
     place: SocketAddr,
-) -> Result<bool, Fail> {
+) -> io::Result<bool> {
     if TcpStream::connect(rt, place).is_err() {
         return Ok(false);
     }
-    let answer = asked(rt, alloc, place, "GET /readyz HTTP/1.1\r\n\r\n")?;
-    Ok(answer.ends_with("\r\n\r\nready\n"))
+    let mut answer = Vec::new(alloc);
+    asked(rt, place, "GET /readyz HTTP/1.1\r\n\r\n", &mut answer)?;
+    Ok(answer.as_slice().ends_with(b"\r\n\r\nready\n"))
 }
 
 // Waits until the node says that it is ready, for ten seconds at most.
@@ -84,41 +92,56 @@ fn wait_until_ready<R: Net<Stream = TcpStream> + Clock>(
     Err("the node isn't ready")?
 }
 
-// A store of session 7.
-fn store<R: Net<Stream = TcpStream> + Clock>(
-    rt: &R,
-    alloc: Global,
-    node: SocketAddr,
-) -> Result<(), Fail> {
-    let command = command(&["store", "a"]).ok_or("a command")?;
-    let order = AskOrder::new(node, 7, command, 20);
-    let mut output = Vec::new(alloc);
-    let told = ask_node(rt, alloc, &order, &mut output)?;
-    check(told.status == 0, "it is stored")
+fn number_at(status: &Value, path: &str) -> Option<u64> {
+    status.pointer(path)?.as_u64()
 }
 
-// What the node shows is JSON, with what it has stored once a second has passed.
-fn check_status<R: Net<Stream = TcpStream> + Clock>(
-    rt: &R,
-    alloc: Global,
-    place: SocketAddr,
-) -> Result<(), Fail> {
-    let answer = asked(rt, alloc, place, "GET /status.json HTTP/1.1\r\n\r\n")?;
-    let (_, text) = answer.split_once("\r\n\r\n").ok_or("a head")?;
-    let status = Value::from_str(alloc, text)?;
-    let told = |path: &str| status.pointer(path).and_then(Value::as_u64);
-    check(told("/id") == Some(1), "its number")?;
-    check(told("/members/0") == Some(1), "its member")?;
-    check(told("/sessions/0/request") == Some(1), "its session")?;
-    check(told("/view/0/number") == Some(1), "its row")?;
-    check(told("/counts/asks/store") == Some(1), "its ask")?;
+fn check_numbers(status: &Value) -> Result<(), Fail> {
+    for path in &ONES {
+        check(number_at(status, path) == Some(1), path)?;
+    }
+    let commits = number_at(status, "/counts/commits");
     check(
-        told("/counts/batches/6/1") == told("/counts/commits"),
+        number_at(status, "/counts/batches/6/1") == commits,
         "its batches",
     )
 }
 
-// Looks at the node, before and after a store.
+fn check_text(alloc: Global, answer: &str) -> Result<(), Fail> {
+    let (_, text) = answer.split_once("\r\n\r\n").ok_or("a head")?;
+    let status = Value::from_str(alloc, text)?;
+    check_numbers(&status)
+}
+
+// What the node shows is JSON, with what it has stored once a second has passed.
+fn check_status<R: Net<Stream = TcpStream>>(
+    rt: &R,
+    alloc: Global,
+    place: SocketAddr,
+) -> Result<(), Fail> {
+    let mut answer = Vec::new(alloc);
+    asked(rt, place, "GET /status.json HTTP/1.1\r\n\r\n", &mut answer)?;
+    check_text(alloc, str::from_utf8(&answer)?)
+}
+
+// Whether what is answered begins and ends so.
+fn is_answered<R: Net<Stream = TcpStream>>(
+    rt: &R,
+    alloc: Global,
+    place: SocketAddr,
+    request: &str,
+    first: &str,
+    last: &str,
+) -> io::Result<bool> {
+    let mut answer = Vec::new(alloc);
+    asked(rt, place, request, &mut answer)?;
+    Ok(
+        answer.as_slice().starts_with(first.as_bytes())
+            && answer.as_slice().ends_with(last.as_bytes()),
+    )
+}
+
+// Looks at the node, before and after a store of session 7.
 fn look<R: Net<Stream = TcpStream> + Clock>(
     rt: &R,
     alloc: Global,
@@ -126,12 +149,14 @@ fn look<R: Net<Stream = TcpStream> + Clock>(
     place: SocketAddr,
 ) -> Result<(), Fail> {
     wait_until_ready(rt, alloc, place)?;
-    store(rt, alloc, node)?;
+    check_asked(rt, alloc, node, &["store", "a"], "Stored\n")?;
     thread::sleep(rt, Duration::from_millis(2500));
     check_status(rt, alloc, place)?;
     for &(request, first, last) in &ASKED {
-        let answer = asked(rt, alloc, place, request)?;
-        check(answer.starts_with(first) && answer.ends_with(last), request)?;
+        check(
+            is_answered(rt, alloc, place, request, first, last)?,
+            request,
+        )?;
     }
     Ok(())
 }
@@ -139,26 +164,22 @@ fn look<R: Net<Stream = TcpStream> + Clock>(
 #[test]
 fn a_node_is_looked_at(rt: HostRuntime) -> Result<(), Fail> {
     format_member_of(&rt, "shown-1", "1", "1", None)?;
-    let listener = TcpListener::bind(&rt, "127.0.0.1:0")?;
-    let node = listener.local_addr()?;
-    let place = TcpListener::bind(&rt, "127.0.0.1:0")?.local_addr()?;
-    let alloc = rt.alloc();
+    let shown = free_address(&rt)?;
+    let Place {
+        listener,
+        address: node,
+    } = free_place(&rt)?;
+    let setting = Setting {
+        status: Some(shown),
+        ..Setting::of("shown-1", node, &[])
+    };
     let stop = Stop::new();
-    let (ended, looked) = thread::join(
+    let alloc = rt.alloc();
+    while_one_runs(
         &rt,
-        || {
-            let setting = Setting {
-                status: Some(place),
-                ..Setting::of("shown-1", &[])
-            };
-            run_with(&rt, alloc, &setting, listener, &stop, &NoHooks)
-        },
-        || {
-            let looked = look(&rt, alloc, node, place);
-            end_at(&rt, &stop, node);
-            looked
-        },
-    );
-    looked?;
-    check_end(ended)
+        &stop,
+        node,
+        || run_with(&rt, alloc, &setting, listener, &stop, &NoHooks),
+        || look(&rt, alloc, node, shown),
+    )
 }

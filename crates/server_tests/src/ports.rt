@@ -1,13 +1,14 @@
 //! A port for clients alone, and a node that hears the operator on its own machine alone.
 
-use crate::clients::{FIRST_ASK, FIRST_REPLY, OTHER_ASK, OTHER_REPLY, exchange, is_closed_after};
-use crate::nodes::{Setting, check, check_end, end_at, format_member_of, run_with};
+use crate::clients::{FIRST_ASK, FIRST_REPLY, OTHER_ASK, OTHER_REPLY, check_closed, exchange};
+use crate::nodes::{
+    Place, Setting, format_member_of, free_address, free_place, run_with, while_one_runs,
+};
 use cc_channels::Stop;
 use cc_intake::NoHooks;
 use std::alloc::Global;
-use std::net::{Net, SocketAddr, TcpListener, TcpStream};
+use std::net::{Net, SocketAddr, TcpStream};
 use std::test::*;
-use std::thread;
 
 // Node 9, which nobody knows, says that it joined. A store would wait for it from then on.
 const JOIN_OF_9: [u8; 22] = [
@@ -39,6 +40,14 @@ const SECOND_REPLY: [u8; 22] = [
     0, 0, 0, 18, 4, 0, 0, 0, 0, 0, 0, 0, 7, 0, 0, 0, 0, 0, 0, 0, 2, 1,
 ];
 
+// What is no ask.
+const MISUSES: [(&[u8], &str); 4] = [
+    (&JOIN_OF_9, "a message"),
+    (&ACK_OF_9, "an ack"),
+    (&RETIRE_1, "a retirement"),
+    (&LEAVE, "a leave"),
+];
+
 // Over the port for clients asks are answered. Whatever else comes there closes the connection, and changes nothing.
 fn misuse<R: Net<Stream = TcpStream>>(
     rt: &R,
@@ -46,10 +55,7 @@ fn misuse<R: Net<Stream = TcpStream>>(
     clients: SocketAddr,
 ) -> Result<(), Fail> {
     exchange(rt, alloc, clients, &FIRST_ASK, &FIRST_REPLY)?;
-    check(is_closed_after(rt, clients, &JOIN_OF_9)?, "a message")?;
-    check(is_closed_after(rt, clients, &ACK_OF_9)?, "an ack")?;
-    check(is_closed_after(rt, clients, &RETIRE_1)?, "a retirement")?;
-    check(is_closed_after(rt, clients, &LEAVE)?, "a leave")?;
+    check_closed(rt, clients, &MISUSES)?;
     exchange(rt, alloc, clients, &SECOND_ASK, &SECOND_REPLY)
 }
 
@@ -68,27 +74,23 @@ fn talk<R: Net<Stream = TcpStream>>(
 #[test]
 fn a_port_for_clients_takes_asks_alone(rt: HostRuntime) -> Result<(), Fail> {
     format_member_of(&rt, "guarded-1", "1", "1", None)?;
-    let listener = TcpListener::bind(&rt, "127.0.0.1:0")?;
-    let node = listener.local_addr()?;
-    let clients = TcpListener::bind(&rt, "127.0.0.1:0")?.local_addr()?;
-    let alloc = rt.alloc();
+    let clients = free_address(&rt)?;
+    let Place {
+        listener,
+        address: node,
+    } = free_place(&rt)?;
+    let setting = Setting {
+        listen_clients: Some(clients),
+        remote_operators: false,
+        ..Setting::of("guarded-1", node, &[])
+    };
     let stop = Stop::new();
-    let (ended, talked) = thread::join(
+    let alloc = rt.alloc();
+    while_one_runs(
         &rt,
-        || {
-            let setting = Setting {
-                listen_clients: Some(clients),
-                remote_operators: false,
-                ..Setting::of("guarded-1", &[])
-            };
-            run_with(&rt, alloc, &setting, listener, &stop, &NoHooks)
-        },
-        || {
-            let talked = talk(&rt, alloc, node, clients);
-            end_at(&rt, &stop, node);
-            talked
-        },
-    );
-    talked?;
-    check_end(ended)
+        &stop,
+        node,
+        || run_with(&rt, alloc, &setting, listener, &stop, &NoHooks),
+        || talk(&rt, alloc, node, clients),
+    )
 }

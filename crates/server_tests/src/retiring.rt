@@ -1,7 +1,7 @@
 //! What the operator is told is durable.
 
 use crate::clients::{THIRD_ASK, connected, exchange, reads};
-use crate::nodes::{Places, check, check_end, end, run, set_up};
+use crate::nodes::{Places, check, run, set_up, while_two_run};
 use cc_channels::Stop;
 use cc_intake::{Hooks, NoHooks};
 use std::alloc::Global;
@@ -9,7 +9,6 @@ use std::io::Write;
 use std::net::{Net, SocketAddr, TcpStream};
 use std::sync::atomic::{AtomicU64, Ordering};
 use std::test::*;
-use std::thread;
 
 // Node 2 is to be retired, twice over one connection.
 const RETIRE_TWICE: [u8; 18] = [0, 0, 0, 5, 7, 0, 0, 0, 2, 0, 0, 0, 5, 7, 0, 0, 0, 2];
@@ -58,9 +57,13 @@ fn retire<R: Net<Stream = TcpStream>>(
 ) -> Result<(), Fail> {
     exchange(rt, alloc, one, &THIRD_ASK, &SKIPPED)?;
     let mut stream = connected(rt, one)?;
+    retire_over(alloc, &mut stream, syncs)
+}
+
+fn retire_over(alloc: Global, stream: &mut TcpStream, syncs: &Syncs) -> Result<(), Fail> {
     let before = syncs.count();
     stream.write_all(&RETIRE_TWICE)?;
-    reads(alloc, &mut stream, &REFUSED)?;
+    reads(alloc, stream, &REFUSED)?;
     let made = syncs.count().saturating_sub(before);
     check(made >= 2, "what is told is durable")
 }
@@ -73,27 +76,25 @@ fn a_retire_is_durable_before_it_is_told(rt: HostRuntime) -> Result<(), Fail> {
         one,
         two,
     } = set_up(&rt, "retiring-1", "retiring-2")?;
-    let stop = Stop::new();
     let syncs = Syncs {
         count: AtomicU64::new(0),
     };
+    let stop = Stop::new();
     let alloc = rt.alloc();
-    let ((ended_1, ended_2), talked) = thread::join(
+    while_two_run(
         &rt,
-        || {
-            thread::join(
-                &rt,
-                || run(&rt, alloc, "retiring-1", first, (2, two), &stop, &syncs),
-                || run(&rt, alloc, "retiring-2", second, (1, one), &stop, &NoHooks),
-            )
-        },
-        || {
-            let talked = retire(&rt, alloc, one, &syncs);
-            end(&rt, &stop, one, two);
-            talked
-        },
-    );
-    talked?;
-    check_end(ended_1)?;
-    check_end(ended_2)
+        &stop,
+        [one, two],
+        || run(&rt, alloc, "retiring-1", first, &[(2, two)], &stop, &syncs),
+        || run(
+            &rt,
+            alloc,
+            "retiring-2",
+            second,
+            &[(1, one)],
+            &stop,
+            &NoHooks,
+        ),
+        || retire(&rt, alloc, one, &syncs),
+    )
 }

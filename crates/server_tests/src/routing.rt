@@ -1,8 +1,8 @@
 //! Which connection a reply goes to, and which connections a node keeps.
 
-use crate::clients::{FIRST_ASK, FIRST_REPLY, connected, reads};
+use crate::clients::{FIRST_ASK, FIRST_REPLY, connected, ends, reads};
 use crate::hostile::OUT_OF_TURN;
-use crate::nodes::{Places, check, check_end, end, run, set_up};
+use crate::nodes::{Places, check, run, set_up, while_two_run};
 use cc_channels::Stop;
 use cc_intake::NoHooks;
 use std::alloc::Global;
@@ -29,30 +29,6 @@ const OUT_OF_TURN_REFUSED: [u8; 30] = [
 // Node 2 acknowledges a post that it was never sent: it is refused, and nobody is told.
 const ACK_OF_2: [u8; 17] = [0, 0, 0, 13, 2, 0, 0, 0, 2, 0, 0, 0, 0, 0, 0, 255, 1];
 
-/// Reads the end.
-pub(crate) fn ends(stream: &mut TcpStream) -> bool {
-    let mut piece = [0u8; 16];
-    matches!(stream.read(&mut piece), Ok(0))
-}
-
-// Node 2 doesn't run yet, so a store waits for it. Another connection asks out of turn in its session, and is refused. The
-// reply goes to the first connection, which has said that nothing more comes, and ends then.
-fn ask_both<R: Net<Stream = TcpStream>>(
-    rt: &R,
-    alloc: Global,
-    one: SocketAddr,
-    begun: &Stop,
-) -> Result<(), Fail> {
-    let mut first = connected(rt, one)?;
-    let mut second = connected(rt, one)?;
-    first.write_all(&FIRST_ASK)?;
-    first.shutdown(Shutdown::Write)?;
-    ask_out_of_turn(&mut second)?;
-    begun.set();
-    reads(alloc, &mut first, &FIRST_REPLY)?;
-    check(ends(&mut first), "a connection ends once it is answered")
-}
-
 // Asks until the refusal shows that the first ask was taken.
 fn ask_out_of_turn(stream: &mut TcpStream) -> Result<(), Fail> {
     let mut read = [0u8; 30];
@@ -73,14 +49,60 @@ fn speak(alloc: Global, stream: &mut TcpStream) -> Result<(), Fail> {
     reads(alloc, stream, &OUT_OF_TURN_REFUSED)
 }
 
+// A connection over which node 2 has spoken.
+fn spoken<R: Net<Stream = TcpStream>>(
+    rt: &R,
+    alloc: Global,
+    one: SocketAddr,
+) -> Result<TcpStream, Fail> {
+    let mut stream = connected(rt, one)?;
+    speak(alloc, &mut stream)?;
+    Ok(stream)
+}
+
 // A node has one connection to another: a newer one ends the older one.
 fn replace<R: Net<Stream = TcpStream>>(rt: &R, alloc: Global, one: SocketAddr) -> Result<(), Fail> {
-    let mut older = connected(rt, one)?;
-    speak(alloc, &mut older)?;
-    let mut newer = connected(rt, one)?;
-    speak(alloc, &mut newer)?;
+    let mut older = spoken(rt, alloc, one)?;
+    let mut newer = spoken(rt, alloc, one)?;
     check(ends(&mut older), "the older connection of a node ends")?;
     speak(alloc, &mut newer)
+}
+
+// A store waits for node 2, which doesn't run yet. Another connection asks out of turn in its session, and is refused.
+fn ask_over_both(first: &mut TcpStream, second: &mut TcpStream) -> Result<(), Fail> {
+    first.write_all(&FIRST_ASK)?;
+    first.shutdown(Shutdown::Write)?;
+    ask_out_of_turn(second)
+}
+
+// The reply goes to the first connection, which has said that nothing more comes, and ends then.
+fn is_answered(alloc: Global, first: &mut TcpStream) -> Result<(), Fail> {
+    reads(alloc, first, &FIRST_REPLY)?;
+    check(ends(first), "a connection ends once it is answered")
+}
+
+// Node 2 begins once both have asked.
+fn ask_both<R: Net<Stream = TcpStream>>(
+    rt: &R,
+    alloc: Global,
+    one: SocketAddr,
+    begun: &Stop,
+) -> Result<(), Fail> {
+    let mut first = connected(rt, one)?;
+    let mut second = connected(rt, one)?;
+    ask_over_both(&mut first, &mut second)?;
+    begun.set();
+    is_answered(alloc, &mut first)
+}
+
+fn talk<R: Net<Stream = TcpStream>>(
+    rt: &R,
+    alloc: Global,
+    one: SocketAddr,
+    begun: &Stop,
+) -> Result<(), Fail> {
+    replace(rt, alloc, one)?;
+    ask_both(rt, alloc, one, begun)
 }
 
 // Waits for a flag, for so many turns of a thread at most.
@@ -101,29 +123,22 @@ fn replies_go_to_who_asked_and_peers_have_one_connection(rt: HostRuntime) -> Res
         one,
         two,
     } = set_up(&rt, "routed-1", "routed-2")?;
-    let stop = Stop::new();
     let begun = Stop::new();
+    let stop = Stop::new();
     let alloc = rt.alloc();
-    let ((ended_1, ended_2), talked) = thread::join(
+    while_two_run(
         &rt,
+        &stop,
+        [one, two],
+        || run(&rt, alloc, "routed-1", first, &[(2, two)], &stop, &NoHooks),
         || {
-            thread::join(
-                &rt,
-                || run(&rt, alloc, "routed-1", first, (2, two), &stop, &NoHooks),
-                || {
-                    await_flag(&begun);
-                    run(&rt, alloc, "routed-2", second, (1, one), &stop, &NoHooks)
-                },
-            )
+            await_flag(&begun);
+            run(&rt, alloc, "routed-2", second, &[(1, one)], &stop, &NoHooks)
         },
         || {
-            let talked = replace(&rt, alloc, one).and_then(|_| ask_both(&rt, alloc, one, &begun));
+            let talked = talk(&rt, alloc, one, &begun);
             begun.set();
-            end(&rt, &stop, one, two);
             talked
         },
-    );
-    talked?;
-    check_end(ended_1)?;
-    check_end(ended_2)
+    )
 }

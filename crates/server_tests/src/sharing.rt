@@ -1,66 +1,76 @@
 //! Asks over one connection that begin together.
 
-use crate::clients::{FIRST_ASK, FIRST_REPLY, connected, reads};
-use crate::nodes::{Setting, check, check_end, end_at, format_with_share, run_with};
-use crate::routing::ends;
+use crate::clients::{FIRST_ASK, FIRST_REPLY, ends, reads, sent};
+use crate::nodes::{
+    Place, Setting, check, format_with_share, free_place, run_with, while_one_runs,
+};
 use cc_channels::Stop;
 use cc_intake::NoHooks;
-use std::alloc::Global;
-use std::io::Write;
-use std::net::{Net, Shutdown, SocketAddr, TcpListener, TcpStream};
+use std::alloc::{AllocError, Global};
+use std::net::{Net, Shutdown, SocketAddr, TcpStream};
 use std::test::*;
-use std::thread;
 
 // Where the last byte of the session stands in an ask and in a reply.
 const SESSION_PLACE: usize = 12;
 
 // These bytes for each of the sessions 7 to 39, one after the other.
 fn of_each_session(alloc: Global, bytes: &[u8]) -> Result<Vec<u8>, Fail> {
+    let head = bytes.get(..SESSION_PLACE).ok_or("a head")?;
+    let rest = bytes.get(SESSION_PLACE + 1..).ok_or("a rest")?;
     let mut all = Vec::new(alloc);
     for session in 7..40u8 {
-        let mut one = Vec::from_slice(alloc, bytes)?;
-        let place = one.get_mut(SESSION_PLACE).ok_or("a session")?;
-        *place = session;
-        all.extend_from_slice(&one)?;
+        push_parts(&mut all, head, session, rest)?;
     }
     Ok(all)
 }
 
-// 33 sessions store in one write, and nothing more comes. Each is answered, in the order of the asks, and then the connection
-// ends.
-fn ask_all<R: Net<Stream = TcpStream>>(rt: &R, alloc: Global, one: SocketAddr) -> Result<(), Fail> {
+fn push_parts(all: &mut Vec<u8>, head: &[u8], session: u8, rest: &[u8]) -> Result<(), AllocError> {
+    all.extend_from_slice(head)?;
+    all.push(session)?;
+    all.extend_from_slice(rest)?;
+    Ok(())
+}
+
+// 33 sessions store in one write.
+fn asked<R: Net<Stream = TcpStream>>(
+    rt: &R,
+    alloc: Global,
+    one: SocketAddr,
+) -> Result<TcpStream, Fail> {
     let asks = of_each_session(alloc, &FIRST_ASK)?;
-    let replies = of_each_session(alloc, &FIRST_REPLY)?;
-    let mut client = connected(rt, one)?;
-    client.write_all(&asks)?;
+    sent(rt, one, &asks)
+}
+
+// Nothing more comes. Each is answered, in the order of the asks, and then the connection ends.
+fn check_answered(alloc: Global, client: &mut TcpStream) -> Result<(), Fail> {
     client.shutdown(Shutdown::Write)?;
-    reads(alloc, &mut client, &replies)?;
-    check(ends(&mut client), "a connection ends once all is answered")
+    let replies = of_each_session(alloc, &FIRST_REPLY)?;
+    let read = reads(alloc, client, &replies);
+    drop(replies);
+    read?;
+    check(ends(client), "a connection ends once all is answered")
+}
+
+fn ask_all<R: Net<Stream = TcpStream>>(rt: &R, alloc: Global, one: SocketAddr) -> Result<(), Fail> {
+    let mut client = asked(rt, alloc, one)?;
+    check_answered(alloc, &mut client)
 }
 
 #[test]
 fn asks_of_one_connection_begin_together(rt: HostRuntime) -> Result<(), Fail> {
     format_with_share(&rt, "sharing-1", "1", "1", None, Some("32"))?;
-    let listener = TcpListener::bind(&rt, "127.0.0.1:0")?;
-    let one = listener.local_addr()?;
+    let Place {
+        listener,
+        address: one,
+    } = free_place(&rt)?;
+    let setting = Setting::of("sharing-1", one, &[]);
     let stop = Stop::new();
     let alloc = rt.alloc();
-    let (ended, talked) = thread::join(
+    while_one_runs(
         &rt,
-        || run_with(
-            &rt,
-            alloc,
-            &Setting::of("sharing-1", &[]),
-            listener,
-            &stop,
-            &NoHooks,
-        ),
-        || {
-            let talked = ask_all(&rt, alloc, one);
-            end_at(&rt, &stop, one);
-            talked
-        },
-    );
-    talked?;
-    check_end(ended)
+        &stop,
+        one,
+        || run_with(&rt, alloc, &setting, listener, &stop, &NoHooks),
+        || ask_all(&rt, alloc, one),
+    )
 }

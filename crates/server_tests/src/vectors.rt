@@ -4,13 +4,12 @@ use crate::clients::{
     FIRST_ASK, FIRST_REPLY, OTHER_ASK, OTHER_REPLY, THIRD_ASK, THIRD_REFUSED, exchange,
 };
 use crate::hostile::attack;
-use crate::nodes::{Places, check_end, end, run, set_up};
+use crate::nodes::{Places, run, set_up, while_two_run};
 use cc_channels::Stop;
 use cc_intake::NoHooks;
 use std::alloc::Global;
 use std::net::{Net, SocketAddr, TcpStream};
 use std::test::*;
-use std::thread;
 
 // A store, the same once more, and a request out of turn.
 fn ask_all<R: Net<Stream = TcpStream>>(rt: &R, alloc: Global, one: SocketAddr) -> Result<(), Fail> {
@@ -37,22 +36,12 @@ fn two_nodes_answer_whatever_others_send(rt: HostRuntime) -> Result<(), Fail> {
     } = set_up(&rt, "answer-1", "answer-2")?;
     let stop = Stop::new();
     let alloc = rt.alloc();
-    let ((ended_1, ended_2), talked) = thread::join(
+    while_two_run(
         &rt,
-        || {
-            thread::join(
-                &rt,
-                || run(&rt, alloc, "answer-1", first, (2, two), &stop, &NoHooks),
-                || run(&rt, alloc, "answer-2", second, (1, one), &stop, &NoHooks),
-            )
-        },
-        || {
-            let talked = talk(&rt, alloc, one);
-            end(&rt, &stop, one, two);
-            talked
-        },
-    );
-    talked?;
-    check_end(ended_1)?;
-    check_end(ended_2)
+        &stop,
+        [one, two],
+        || run(&rt, alloc, "answer-1", first, &[(2, two)], &stop, &NoHooks),
+        || run(&rt, alloc, "answer-2", second, &[(1, one)], &stop, &NoHooks),
+        || talk(&rt, alloc, one),
+    )
 }
