@@ -54,44 +54,22 @@ fn two_members_go_on_and_the_third_comes_late(rt: HostRuntime) -> Result<(), Fai
         two,
     } = set_up_of(&rt, "absent-1", "absent-2", "1,2,3", Some("2/3"))?;
     let (stop, late) = (Stop::new(), Stop::new());
+    let (of_1, of_2) = ([(2, two), (3, three)], [(1, one), (3, three)]);
+    let of_3 = [(1, one), (2, two)];
     let alloc = rt.alloc();
     while_two_run(
         &rt,
         &stop,
         [one, two],
-        || run(
-            &rt,
-            alloc,
-            "absent-1",
-            first,
-            &[(2, two), (3, three)],
-            &stop,
-            &NoHooks,
-        ),
-        || run(
-            &rt,
-            alloc,
-            "absent-2",
-            second,
-            &[(1, one), (3, three)],
-            &stop,
-            &NoHooks,
-        ),
+        || run(&rt, alloc, "absent-1", first, &of_1, &stop, &NoHooks),
+        || run(&rt, alloc, "absent-2", second, &of_2, &stop, &NoHooks),
         || {
             store_all(&rt, alloc, one)?;
             while_one_runs(
                 &rt,
                 &late,
                 three,
-                || run(
-                    &rt,
-                    alloc,
-                    "absent-3",
-                    third,
-                    &[(1, one), (2, two)],
-                    &late,
-                    &NoHooks,
-                ),
+                || run(&rt, alloc, "absent-3", third, &of_3, &late, &NoHooks),
                 || check_asked(&rt, alloc, three, &["collect"], "Seen [1:300=a/0/0/]\n"),
             )
         },
