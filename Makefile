@@ -99,11 +99,11 @@ must-not-compile:
 # Builds the tests, and refuses each growth of each test once: a test may then end with want of memory, never with a fault.
 # CRATES=parts_tests does one crate. The tests over sockets are left out, since a node that is refused memory waits there for
 # seconds. It needs a C compiler.
-TESTS = $(filter-out server_tests, $(shell grep -rl '\[test\]' crates/*/src | cut -d/ -f2 | sort -u)) script_rows
+TESTS = $(filter-out server_tests, $(shell grep -rl '\[test\]' crates/*/src | cut -d/ -f2 | sort -u)) golden_files
 refused-growths: CRATES = $(TESTS)
 refused-growths:
 	@for crate in $(CRATES); do \
-	    case $$crate in script_rows) $(BUILD) $$crate;; *) (cd crates/$$crate && rt test);; esac > growths.log 2>&1 || \
+	    case $$crate in golden_files) $(BUILD) $$crate;; *) (cd crates/$$crate && rt test);; esac > growths.log 2>&1 || \
 	    { cat growths.log; exit 1; }; done
 	@rm -f growths.log
 	@python3 tools/refused_growths.py $(CRATES)

@@ -4,8 +4,8 @@
     make_old_folders.py crates/ccnode/out/ccnode
 
 It is run once for a release, by the program of that release, and what it makes is committed: the folders of
-crates/old_folders/data/VERSION. What each node was asked stands below, and the lines that `old_folders` has to print of
-it are written by that (crates/old_folders/README.md). For each folder it prints what its bytes say by docs/FORMATS.md,
+crates/golden_files/data/VERSION. What each node was asked stands below, and the lines that `golden_files` has to print of
+it are written by that (crates/golden_files/README.md). For each folder it prints what its bytes say by docs/FORMATS.md,
 read here without the program. It needs half a minute, and ends what it started.
 """
 import collections
@@ -20,7 +20,7 @@ import time
 import nodes
 from nodes import HERE, LOOPBACK, Cluster, Session, client, end_on_signals, say
 
-DATA = HERE.parent / "crates" / "old_folders" / "data"
+DATA = HERE.parent / "crates" / "golden_files" / "data"
 FILES = ("side-a", "side-b", "lock")
 EVENTS = {1: "Enter", 2: "Leave", 3: "Deliver", 4: "Acked", 5: "Ask", 6: "Retire", 32: "Lapse", 33: "Snapshot"}
 OPEN_GATE = 0xA5

@@ -8,7 +8,7 @@ other way, finds something changed, or doesn't end within a minute (status 142, 
 test that runs threads is run anew for each growth; which growth has a number then depends on how they fall together. The
 tests are those that `rt test` built; as many are run side by side as there are processors.
 
-Of a crate that is a program over files of cases (`script_rows`) each case is a test, as the program plays it when it is
+Of a crate that is a program over files of cases (`golden_files`) each case is a test, as the program plays it when it is
 named. It passes if it prints what it prints without a refusal, and answers an error by its status, 1."""
 import collections
 import concurrent.futures

@@ -1,5 +1,5 @@
 //! What of programs isn't a script and what it prints: words, folders, faults, and random scripts. Scripts are played by
-//! `script_rows`.
+//! `golden_files`.
 #![tactic(auto)]
 
 #[cfg(test)]

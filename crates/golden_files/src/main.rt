@@ -1,16 +1,18 @@
-//! Plays the scripts of its data folder, and tells which of them don't print what stands there. Its words are a chapter and a
-//! case of it: without them it plays all.
+//! Plays the scripts of its data folder, tells which of them don't print what stands there, and then what it finds in that
+//! folder's nodes of earlier releases. Its words are a chapter and a case of it, which it plays alone, or `folders`.
 #![tactic(auto)]
 
 mod among;
 mod cases;
 mod comparing;
+mod folders;
 mod moving;
 mod playing;
 mod spelling;
 
 use cases::Case;
 use comparing::{Wrong, two_values};
+use folders::print_folders;
 use playing::check;
 use std::fs;
 use std::process::ExitCode;
@@ -52,6 +54,9 @@ fn main(rt: HostRuntime) -> anyhow::Result<ExitCode> {
     }
     let count = play_chapters(&rt, chapter, name)?;
     println!(rt; "{count} scripts as written")?;
+    if is_asked(chapter, "folders") {
+        print_folders(&rt)?;
+    }
     Ok(ExitCode::SUCCESS)
 }
 
