@@ -78,12 +78,15 @@ impl Message {
                 view,
                 is_joined,
                 node,
-            } => Ok(Message::EnterEcho {
-                changes: changes.copy(alloc)?,
-                view: view.copy(alloc)?,
-                is_joined: *is_joined,
-                node: *node,
-            }),
+            } => {
+                let (changes, view) = copy_both(alloc, changes, view)?;
+                Ok(Message::EnterEcho {
+                    changes,
+                    view,
+                    is_joined: *is_joined,
+                    node: *node,
+                })
+            }
             Message::Join { node } => Ok(Message::Join { node: *node }),
             Message::JoinEcho { node } => Ok(Message::JoinEcho { node: *node }),
             Message::Leave { node } => Ok(Message::Leave { node: *node }),
@@ -106,10 +109,10 @@ impl Message {
                 tag: *tag,
                 node: *node,
             }),
-            Message::Snapshot { changes, view } => Ok(Message::Snapshot {
-                changes: changes.copy(alloc)?,
-                view: view.copy(alloc)?,
-            }),
+            Message::Snapshot { changes, view } => {
+                let (changes, view) = copy_both(alloc, changes, view)?;
+                Ok(Message::Snapshot { changes, view })
+            }
         }
     }
 
@@ -119,4 +122,15 @@ impl Message {
     {
         matches!(self, Message::Snapshot { .. })
     }
+}
+
+fn copy_both(alloc: Global, changes: &Changes, view: &View) -> Result<(Changes, View), NoMemory>
+    ensures { IfOk result (λ copies. copies ≡ (changes.now, view.now)) }
+{
+    let changes = changes.copy(alloc)?;
+    let Ok(view) = view.copy(alloc) else {
+        drop(changes);
+        return Err(NoMemory);
+    };
+    Ok((changes, view))
 }
