@@ -15,7 +15,7 @@ impl fmt::Display for PrintedText<'_> {
         for byte in text.as_bytes() {
             let byte = *byte;
             if byte.is_ascii_alphanumeric() || matches!(byte, b'.' | b'_' | b'-') {
-                write!(f, "{}", byte as char)?;
+                f.write_char(byte as char)?;
             } else {
                 write!(f, "%{byte:02x}")?;
             }
@@ -46,17 +46,17 @@ struct PrintedView<'a>(&'a View);
 impl fmt::Display for PrintedView<'_> {
     fn fmt<W: fmt::Write>(&self, f: &mut fmt::Formatter<W>) -> fmt::Result {
         let view = self.0;
-        write!(f, "[")?;
+        f.write_str("[")?;
         for (i, row) in view.rows().iter().enumerate() {
             if i > 0 {
-                write!(f, ",")?;
+                f.write_str(",")?;
             }
             let node = row.node.number();
             let number = row.number;
             let value = PrintedValue(&row.value);
             write!(f, "{node}:{number}={value}")?;
         }
-        write!(f, "]")
+        f.write_str("]")
     }
 }
 
@@ -66,15 +66,15 @@ struct PrintedIds<'a>(&'a [NodeId]);
 
 impl fmt::Display for PrintedIds<'_> {
     fn fmt<W: fmt::Write>(&self, f: &mut fmt::Formatter<W>) -> fmt::Result {
-        write!(f, "[")?;
+        f.write_str("[")?;
         for (i, id) in self.0.iter().enumerate() {
             if i > 0 {
-                write!(f, ",")?;
+                f.write_str(",")?;
             }
             let number = id.number();
             write!(f, "{number}")?;
         }
-        write!(f, "]")
+        f.write_str("]")
     }
 }
 
@@ -85,7 +85,7 @@ fn print_joined<W: fmt::Write>(
 ) -> fmt::Result {
     for (i, number) in numbers.iter().enumerate() {
         if i > 0 {
-            write!(f, "{between}")?;
+            f.write_char(between)?;
         }
         write!(f, "{number}")?;
     }
@@ -176,7 +176,7 @@ pub struct PrintedAnswer<'a>(pub &'a Answer);
 impl fmt::Display for PrintedAnswer<'_> {
     fn fmt<W: fmt::Write>(&self, f: &mut fmt::Formatter<W>) -> fmt::Result {
         match self.0 {
-            Answer::Stored => write!(f, "Stored"),
+            Answer::Stored => f.write_str("Stored"),
             Answer::Seen(view) => {
                 let view = PrintedView(view);
                 write!(f, "Seen {view}")
@@ -187,9 +187,9 @@ impl fmt::Display for PrintedAnswer<'_> {
                 write!(f, "Flag {flag}")
             }
             Answer::Set(members) => {
-                write!(f, "Set [")?;
+                f.write_str("Set [")?;
                 print_joined(f, members.as_slice(), ',')?;
-                write!(f, "]")
+                f.write_str("]")
             }
         }
     }
