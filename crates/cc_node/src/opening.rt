@@ -194,8 +194,8 @@ pub enum Fresh {
 impl fmt::Display for Fresh {
     fn fmt<W: fmt::Write>(&self, f: &mut fmt::Formatter<W>) -> fmt::Result {
         match self {
-            Fresh::BadOpening => write!(f, "BadOpening"),
-            Fresh::NoMemory => write!(f, "NoMemory"),
+            Fresh::BadOpening => f.write_str("BadOpening"),
+            Fresh::NoMemory => f.write_str("NoMemory"),
         }
     }
 }

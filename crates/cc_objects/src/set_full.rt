@@ -7,7 +7,7 @@ pub struct SetFull;
 
 impl fmt::Display for SetFull {
     fn fmt<W: fmt::Write>(&self, f: &mut fmt::Formatter<W>) -> fmt::Result {
-        write!(f, "the set is full")
+        f.write_str("the set is full")
     }
 }
 

@@ -197,10 +197,10 @@ pub(crate) fn answer_of(alloc: Global, command: &Command, seen: &View) -> Result
     ensures { IfOk result (λ a. a ≡ commands.answer_of command.now seen.now) }
 {
     match command {
-        Command::Collect => Ok(Answer::Seen(seen.copy(alloc)?)),
+        Command::Collect => seen.copy(alloc).map(Answer::Seen),
         Command::ReadMax => Ok(Answer::Max(max_of(seen))),
         Command::ReadFlag => Ok(Answer::Flag(flag_of(seen))),
-        Command::ReadSet => Ok(Answer::Set(members_of(alloc, seen)?)),
+        Command::ReadSet => members_of(alloc, seen).map(Answer::Set),
         Command::Store(_) | Command::WriteMax(_) | Command::SetFlag | Command::AddMember(_) => {
             Ok(Answer::Stored)
         }

@@ -1,6 +1,6 @@
 //! The state of a client and server.
 
-ghost use Rattle.std.specs.Prelude.{◌≡◌, ◌≤◌, ◌<◌, ◌↔◌, IfOk, IsTrue, length};
+ghost use Rattle.std.specs.Prelude.{◌≡◌, ◌≤◌, ◌<◌, ◌↔◌, [], IfOk, IsTrue, length};
 ghost use Rattle.std.specs.Option.{option_map};
 ghost use Rattle.cc_views.specs.Limits.{counter_limit};
 ghost use Rattle.cc_ops.specs.Ops as ops;
@@ -62,17 +62,30 @@ impl Ops {
         requires few { share ≤ line_limit }
         ensures { IfOk result (λ o. o ≡ ops.nothing_done share) }
     {
+        let view = View::new(alloc)?;
+        let Ok(seen) = View::new(alloc) else {
+            drop(view);
+            return Err(NoMemory);
+        };
+        let Ok((others, line)) = two_lists(alloc) else {
+            drop((view, seen));
+            return Err(NoMemory);
+        };
+        let Ok(spare) = AskList::new(alloc) else {
+            drop((view, seen, others, line));
+            return Err(NoMemory);
+        };
         Ok(Ops {
-            view: View::new(alloc)?,
+            view,
             number: 0,
             mine: Value::empty(),
             tag: 0,
             share,
             stage: Stage::Idle,
-            seen: View::new(alloc)?,
-            others: AskList::new(alloc)?,
-            line: AskList::new(alloc)?,
-            spare: AskList::new(alloc)?,
+            seen,
+            others,
+            line,
+            spare,
         })
     }
 
@@ -110,6 +123,10 @@ impl Ops {
           line = line;
         }) }
     {
+        let Ok(spare) = AskList::new(alloc) else {
+            drop((view, seen, others, line));
+            return Err(NoMemory);
+        };
         Ok(Ops {
             view,
             number,
@@ -120,7 +137,7 @@ impl Ops {
             seen,
             others,
             line,
-            spare: AskList::new(alloc)?,
+            spare,
         })
     }
 
@@ -128,17 +145,30 @@ impl Ops {
     pub fn copy(&self, alloc: Global) -> Result<Self, NoMemory>
         ensures { IfOk result (λ o. o ≡ self.now) }
     {
+        let view = self.view.copy(alloc)?;
+        let Ok(seen) = self.seen.copy(alloc) else {
+            drop(view);
+            return Err(NoMemory);
+        };
+        let Ok((others, line)) = copy_both(alloc, &self.others, &self.line) else {
+            drop((view, seen));
+            return Err(NoMemory);
+        };
+        let Ok(spare) = AskList::new(alloc) else {
+            drop((view, seen, others, line));
+            return Err(NoMemory);
+        };
         Ok(Ops {
-            view: self.view.copy(alloc)?,
+            view,
             number: self.number,
             mine: self.mine,
             tag: self.tag,
             share: self.share,
             stage: self.stage,
-            seen: self.seen.copy(alloc)?,
-            others: self.others.copy(alloc)?,
-            line: self.line.copy(alloc)?,
-            spare: AskList::new(alloc)?,
+            seen,
+            others,
+            line,
+            spare,
         })
     }
 
@@ -265,4 +295,31 @@ impl Ops {
             }
         }
     }
+}
+
+// Two lists that no ask is in.
+fn two_lists(alloc: Global) -> Result<(AskList, AskList), NoMemory>
+    ensures { IfOk result (λ lists. lists ≡ ([], [])) }
+{
+    let first = AskList::new(alloc)?;
+    let Ok(second) = AskList::new(alloc) else {
+        drop(first);
+        return Err(NoMemory);
+    };
+    Ok((first, second))
+}
+
+fn copy_both(
+    alloc: Global,
+    first: &AskList,
+    second: &AskList,
+) -> Result<(AskList, AskList), NoMemory>
+    ensures { IfOk result (λ copies. copies ≡ (first.now, second.now)) }
+{
+    let first = first.copy(alloc)?;
+    let Ok(second) = second.copy(alloc) else {
+        drop(first);
+        return Err(NoMemory);
+    };
+    Ok((first, second))
 }

@@ -22,7 +22,7 @@ impl fmt::Display for StateFault {
     fn fmt<W: fmt::Write>(&self, f: &mut fmt::Formatter<W>) -> fmt::Result {
         match self {
             StateFault::Wire(fault) => write!(f, "{fault}"),
-            StateFault::Unlawful => write!(f, "no node can be in that state"),
+            StateFault::Unlawful => f.write_str("no node can be in that state"),
         }
     }
 }

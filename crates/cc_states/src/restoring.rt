@@ -213,9 +213,24 @@ fn tables_of(alloc: Global, tables: Tables) -> Result<NodeTables, NoMemory>
         kept,
         answers,
     } = tables;
-    let links = links_of(alloc, links)?;
-    let sessions = sessions_of(alloc, sessions)?;
-    let mut outbox = kept_up_to(alloc, posts, kept)?;
+    let Ok(links) = links_of(alloc, links) else {
+        drop(sessions);
+        drop(kept);
+        drop(answers);
+        return Err(NoMemory);
+    };
+    let Ok(sessions) = sessions_of(alloc, sessions) else {
+        drop(links);
+        drop(kept);
+        drop(answers);
+        return Err(NoMemory);
+    };
+    let Ok(mut outbox) = kept_up_to(alloc, posts, kept) else {
+        drop(links);
+        drop(sessions);
+        drop(answers);
+        return Err(NoMemory);
+    };
     keep_answers(&mut outbox, answers);
     Ok(NodeTables {
         links,
@@ -231,6 +246,7 @@ pub fn restore(alloc: Global, fields: Fields) -> Result<Option<Node>, NoMemory>
     ensures node { IfOk result (λ node. IfSome node (λ n. n ≡ node_of (state_in fields))) }
 {
     if !can_build(&fields) {
+        drop(fields);
         return Ok(None);
     }
     let Fields {
@@ -241,12 +257,21 @@ pub fn restore(alloc: Global, fields: Fields) -> Result<Option<Node>, NoMemory>
     let posts = tables.posts;
     let echoes = work.echoes;
     let need = u64::from(work.need);
-    let ops = ops_of(alloc, work)?;
+    let Ok(ops) = ops_of(alloc, work) else {
+        drop(membership);
+        drop(tables);
+        return Err(NoMemory);
+    };
+    let Ok(tables) = tables_of(alloc, tables) else {
+        drop(membership);
+        drop(ops);
+        return Err(NoMemory);
+    };
     let NodeTables {
         links,
         sessions,
         outbox,
-    } = tables_of(alloc, tables)?;
+    } = tables;
     let Membership {
         me,
         beta,

@@ -22,22 +22,10 @@ impl<'a> Reader<'a> {
     {
         match self.u8()? {
             1 => Ok(Answer::Stored),
-            2 => {
-                let view = self.view(alloc)?;
-                Ok(Answer::Seen(view))
-            }
-            3 => {
-                let number = self.u64()?;
-                Ok(Answer::Max(number))
-            }
-            4 => {
-                let flag = self.flag()?;
-                Ok(Answer::Flag(flag))
-            }
-            5 => {
-                let numbers = self.number_list(alloc)?;
-                Ok(Answer::Set(numbers))
-            }
+            2 => self.view(alloc).map(Answer::Seen),
+            3 => self.u64().map(Answer::Max),
+            4 => self.flag().map(Answer::Flag),
+            5 => self.number_list(alloc).map(Answer::Set),
             kind => Err(WireFault::BadKind(kind)),
         }
     }
@@ -75,7 +63,10 @@ fn decode_all(alloc: Global, bytes: &[u8]) -> Result<Answer, WireFault>
 {
     let mut reader = Reader::new(bytes);
     let answer = reader.answer(alloc)?;
-    reader.end()?;
+    if let Err(fault) = reader.end() {
+        drop(answer);
+        return Err(fault);
+    }
     Ok(answer)
 }
 

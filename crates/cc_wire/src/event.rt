@@ -195,7 +195,10 @@ fn decode_all(alloc: Global, bytes: &[u8]) -> Result<Event, WireFault>
 {
     let mut reader = Reader::new(bytes);
     let event = reader.event(alloc)?;
-    reader.end()?;
+    if let Err(fault) = reader.end() {
+        drop(event);
+        return Err(fault);
+    }
     Ok(event)
 }
 

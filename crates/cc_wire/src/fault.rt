@@ -30,13 +30,13 @@ pub enum WireFault {
 impl fmt::Display for WireFault {
     fn fmt<W: fmt::Write>(&self, f: &mut fmt::Formatter<W>) -> fmt::Result {
         match self {
-            WireFault::Short => write!(f, "the bytes end inside a field"),
+            WireFault::Short => f.write_str("the bytes end inside a field"),
             WireFault::BadKind(byte) => write!(f, "{byte} is no kind or flag"),
-            WireFault::NotAscending => write!(f, "a list isn't ascending, or an id is 0"),
-            WireFault::TooLarge => write!(f, "a length is above its limit"),
-            WireFault::Trailing => write!(f, "bytes are left"),
-            WireFault::NoMemory => write!(f, "out of memory"),
-            WireFault::Broken => write!(f, "the stream was refused before"),
+            WireFault::NotAscending => f.write_str("a list isn't ascending, or an id is 0"),
+            WireFault::TooLarge => f.write_str("a length is above its limit"),
+            WireFault::Trailing => f.write_str("bytes are left"),
+            WireFault::NoMemory => f.write_str("out of memory"),
+            WireFault::Broken => f.write_str("the stream was refused before"),
         }
     }
 }

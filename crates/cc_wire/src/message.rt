@@ -3,7 +3,7 @@
 ghost use Rattle.std.specs.Prelude.{◌≡◌, ◌≤◌, ◌+◌, ℕ, List, [], ◌∷◌, ◌++◌, length, IfOk, OnOk, OnErr, IsOk, Ok, vec_len};
 ghost use Rattle.std.specs.Vec.{vec_capacity};
 ghost use Rattle.cc_wire.specs.Writing.{Writes};
-ghost use Rattle.cc_wire.specs.Reading.{◌⊗◌, Gives, via, view_at, whole};
+ghost use Rattle.cc_wire.specs.Reading.{◌⊗◌, Gives, via, flag_at, number_from, view_at, whole};
 ghost use Rattle.cc_messages.specs.declared.message.Message.TheVariants as variants;
 ghost use Rattle.cc_wire.specs.Messages.{message_at, fields_of, call_at, echo_at, snapshot_at, message_spelling, IsMessage, SpellsMessage};
 ghost use Rattle.cc_wire.specs.Messages.{call_spelling, IsCall, echo_spelling, IsEcho, snapshot_spelling, IsSnapshot};
@@ -33,8 +33,36 @@ impl<'a> Reader<'a> {
         ensures { Gives (λ x. (x, self.new)) result ((view_at ⊗ call_at) self.old) }
     {
         let view = self.view(alloc)?;
-        let call = self.call()?;
-        Ok((view, call))
+        match self.call() {
+            Ok(call) => Ok((view, call)),
+            Err(fault) => {
+                drop(view);
+                Err(fault)
+            }
+        }
+    }
+
+    // Whether the sender of an echo has joined, and the node that enters.
+    fn joined(&mut self) -> Result<(bool, NodeId), WireFault>
+        ensures { Gives (λ x. (x, self.new)) result ((flag_at ⊗ number_from 1) self.old) }
+    {
+        let is_joined = self.flag()?;
+        let node = self.id(1)?;
+        Ok((is_joined, node))
+    }
+
+    // What an echo tells behind the changes.
+    fn echoed(&mut self, alloc: Global) -> Result<(View, (bool, NodeId)), WireFault>
+        ensures { Gives (λ x. (x, self.new)) result ((view_at ⊗ flag_at ⊗ number_from 1) self.old) }
+    {
+        let view = self.view(alloc)?;
+        match self.joined() {
+            Ok(joined) => Ok((view, joined)),
+            Err(fault) => {
+                drop(view);
+                Err(fault)
+            }
+        }
     }
 
     // What an echo tells.
@@ -42,15 +70,18 @@ impl<'a> Reader<'a> {
         ensures { Gives (λ x. (x, self.new)) result (via (λ f. variants.EnterEcho f.0 f.1.0 f.1.1.0 f.1.1.1) echo_at self.old) }
     {
         let changes = self.changes(alloc)?;
-        let view = self.view(alloc)?;
-        let is_joined = self.flag()?;
-        let node = self.id(1)?;
-        Ok(Message::EnterEcho {
-            changes,
-            view,
-            is_joined,
-            node,
-        })
+        match self.echoed(alloc) {
+            Ok((view, (is_joined, node))) => Ok(Message::EnterEcho {
+                changes,
+                view,
+                is_joined,
+                node,
+            }),
+            Err(fault) => {
+                drop(changes);
+                Err(fault)
+            }
+        }
     }
 
     // What a snapshot tells.
@@ -58,8 +89,13 @@ impl<'a> Reader<'a> {
         ensures { Gives (λ x. (x, self.new)) result (via (λ f. variants.Snapshot f.0 f.1) snapshot_at self.old) }
     {
         let changes = self.changes(alloc)?;
-        let view = self.view(alloc)?;
-        Ok(Message::Snapshot { changes, view })
+        match self.view(alloc) {
+            Ok(view) => Ok(Message::Snapshot { changes, view }),
+            Err(fault) => {
+                drop(changes);
+                Err(fault)
+            }
+        }
     }
 
     // The fields of a message of that kind.
@@ -110,7 +146,10 @@ fn decode_all(alloc: Global, bytes: &[u8]) -> Result<Message, WireFault>
 {
     let mut reader = Reader::new(bytes);
     let message = reader.message(alloc)?;
-    reader.end()?;
+    if let Err(fault) = reader.end() {
+        drop(message);
+        return Err(fault);
+    }
     Ok(message)
 }
 

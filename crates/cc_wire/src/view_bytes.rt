@@ -81,7 +81,10 @@ fn decode_all(alloc: Global, bytes: &[u8]) -> Result<View, WireFault>
 {
     let mut reader = Reader::new(bytes);
     let view = reader.view(alloc)?;
-    reader.end()?;
+    if let Err(fault) = reader.end() {
+        drop(view);
+        return Err(fault);
+    }
     Ok(view)
 }
 

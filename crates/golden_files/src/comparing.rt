@@ -27,8 +27,8 @@ impl fmt::Display for Wrong {
             Wrong::Status(status) => write!(f, "it ends with status {status}"),
             Wrong::Line(line) => write!(f, "line {line} isn't as written"),
             Wrong::Other(line) => write!(f, "line {line} among others isn't so"),
-            Wrong::Values => write!(f, "a row has two values under one number"),
-            Wrong::Moves => write!(f, "it prints something else with crashes or checkpoints"),
+            Wrong::Values => f.write_str("a row has two values under one number"),
+            Wrong::Moves => f.write_str("it prints something else with crashes or checkpoints"),
         }
     }
 }

@@ -1,10 +1,11 @@
-use Rattle.std.proofs.Common.{refl, arith}
+use Rattle.std.proofs.Common.{ap, arith, refl}
 use Rattle.cc_views.specs.NatSets as set
 use Rattle.cc_ops.proofs.ops.Ops.new.Goals as goal
 
 pub invariant_of-result : goal.invariant_of-result
 invariant_of-result c =
-    rw (c.in_ok-new-3.ensures, c.in_ok-new-4.ensures, c.empty.ensures)
+    let lists = c.in-Ok-two_lists.ensures in
+    rw (ap (λ both. both.0) lists, ap (λ both. both.1) lists, c.empty.ensures)
     (record {
       number = omega arith;
       tag = omega arith;
