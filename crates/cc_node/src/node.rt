@@ -65,7 +65,10 @@ impl Node {
             return Err(Fresh::BadOpening);
         }
         let core = Core::begun(alloc, opening)?;
-        let outbox = Outbox::new(alloc)?;
+        let Ok(outbox) = Outbox::new(alloc) else {
+            drop(core);
+            return Err(Fresh::NoMemory);
+        };
         Ok(Node { core, outbox })
     }
 
@@ -75,8 +78,12 @@ impl Node {
         ensures lawful { IsTrue (is_some result) ↔ IsLawfulNode (record { core = core_of parts; outbox = outbox }) }
         ensures node { IfSome result (λ n. n ≡ record { core = core_of parts; outbox = outbox }) }
     {
-        let core = Core::restored(parts)?;
+        let Some(core) = Core::restored(parts) else {
+            drop(outbox);
+            return None;
+        };
         if !keeps_all(&outbox, &core) {
+            drop((core, outbox));
             return None;
         }
         Some(Node { core, outbox })

@@ -74,15 +74,29 @@ impl Core {
         requires { IsOpening (told opening.now) }
         ensures { IfOk result (λ c. c ≡ (fresh (told opening.now)).core) }
     {
+        let me = NodeId::new(opening.me).unwrap();
+        let changes = opening.changes(alloc)?;
+        let Ok(ops) = Ops::new(alloc, opening.share) else {
+            drop(changes);
+            return Err(NoMemory);
+        };
+        let Ok(links) = opening.links(alloc) else {
+            drop((changes, ops));
+            return Err(NoMemory);
+        };
+        let Ok(sessions) = Sessions::new(alloc) else {
+            drop((changes, ops, links));
+            return Err(NoMemory);
+        };
         Ok(Core {
-            me: NodeId::new(opening.me).unwrap(),
+            me,
             beta: opening.beta,
             gamma: opening.gamma,
-            churn: Churn::from_parts(opening.changes(alloc)?, 0, 0),
-            ops: Ops::new(alloc, opening.share)?,
+            churn: Churn::from_parts(changes, 0, 0),
+            ops,
             posts: 0,
-            links: opening.links(alloc)?,
-            sessions: Sessions::new(alloc)?,
+            links,
+            sessions,
         })
     }
 
@@ -92,6 +106,7 @@ impl Core {
         ensures core { IfSome result (λ c. c ≡ core_of parts) }
     {
         if !parts.are_lawful() {
+            drop(parts);
             return None;
         }
         Some(Core {
@@ -110,15 +125,28 @@ impl Core {
     pub fn copy(&self, alloc: Global) -> Result<Self, NoMemory>
         ensures { IfOk result (λ c. c ≡ self.now) }
     {
+        let churn = self.churn.copy(alloc)?;
+        let Ok(ops) = self.ops.copy(alloc) else {
+            drop(churn);
+            return Err(NoMemory);
+        };
+        let Ok(links) = self.links.copy(alloc) else {
+            drop((churn, ops));
+            return Err(NoMemory);
+        };
+        let Ok(sessions) = self.sessions.copy(alloc) else {
+            drop((churn, ops, links));
+            return Err(NoMemory);
+        };
         Ok(Core {
             me: self.me,
             beta: self.beta,
             gamma: self.gamma,
-            churn: self.churn.copy(alloc)?,
-            ops: self.ops.copy(alloc)?,
+            churn,
+            ops,
             posts: self.posts,
-            links: self.links.copy(alloc)?,
-            sessions: self.sessions.copy(alloc)?,
+            links,
+            sessions,
         })
     }
 
