@@ -60,7 +60,10 @@ impl Core {
         ensures { IfOk result (λ m. m ≡ machine.made self.now event.Snapshot) }
     {
         let changes = self.churn.changes().copy(alloc)?;
-        let view = self.ops.view().copy(alloc)?;
+        let Ok(view) = self.ops.view().copy(alloc) else {
+            drop(changes);
+            return Err(NoMemory);
+        };
         Ok(Made::posted(Message::Snapshot { changes, view }))
     }
 
@@ -94,10 +97,15 @@ impl Core {
         let churned = self
             .churn
             .post(alloc, self.me, self.gamma, self.ops.view(), message)?;
-        let served = self
-            .ops
-            .post(alloc, self.me, self.quorum(), self.is_joined(), message)?;
-        let answers = self.ops.replies(alloc, self.me, message)?;
+        let (quorum, is_joined) = (self.quorum(), self.is_joined());
+        let Ok(served) = self.ops.post(alloc, self.me, quorum, is_joined, message) else {
+            drop(churned);
+            return Err(NoMemory);
+        };
+        let Ok(answers) = self.ops.replies(alloc, self.me, message) else {
+            drop((churned, served));
+            return Err(NoMemory);
+        };
         Ok(Made {
             ack: Some(LinkAck { to: from, number }),
             post: churned.or(served),

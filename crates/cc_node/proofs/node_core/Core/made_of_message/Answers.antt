@@ -18,7 +18,7 @@ post-requires-clause-fits c = (delivery_room c.args.number c.self.view_is c.requ
 pub post-requires-2 : goal.post-requires-2
 post-requires-2 c =
     let room = delivery_room c.args.number c.self.view_is c.requires.taken c.self.invariant in
-    record { fits = room.view c.quorum.ensures; number = room.number c.quorum.ensures; tag = room.tag c.quorum.ensures }
+    record { fits = room.view c.quorum-quorum.ensures; number = room.number c.quorum-quorum.ensures; tag = room.tag c.quorum-quorum.ensures }
 
 pub returns : goal.returns
 returns c =
@@ -26,8 +26,8 @@ returns c =
     let m = c.args.message.now in
     let e = event.Deliver c.args.from c.args.number m in
     let posted : c.or.result ≡ option_or (echoed a m) (served a m) =
-    rw (c.or.ensures, c.in_ok-churned.ensures, c.view.ensures, c.in_ok-served.ensures, c.quorum.ensures, c.is_joined.ensures, ← c.self.view_is) refl in
-    let answered : c.in_ok-answers.answers ≡ replies_of a.me m a.ops = c.in_ok-answers.ensures in
+    rw (c.or.ensures, c.in_ok-churned.ensures, c.view.ensures, c.in-Ok.ensures, c.quorum-quorum.ensures, c.is_joined-is_joined.ensures, ← c.self.view_is) refl in
+    let answered : c.in-Ok-replies.answers ≡ replies_of a.me m a.ops = c.in-Ok-replies.ensures in
     let post_is : option_or (echoed a m) (served a m) ≡ post a e = sym (post_either a c.args.from c.args.number m c.requires.snapshot) in
     let told = Some (record { to = c.args.from; number = c.args.number }) in
     let all : Option Message → List Reply → Made = λ p rs. record { ack = told; post = p; answers = rs } in
