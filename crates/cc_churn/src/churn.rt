@@ -229,7 +229,10 @@ impl Churn {
                 let mut changes = self.changes.copy(alloc)?;
                 changes.add_enter(*node);
                 let is_joined = changes.has_joined(me);
-                let view = view.copy(alloc)?;
+                let Ok(view) = view.copy(alloc) else {
+                    drop(changes);
+                    return Err(NoMemory);
+                };
                 Ok(Some(Message::EnterEcho {
                     changes,
                     view,

@@ -178,7 +178,10 @@ fn read_enclosed(alloc: Global, reader: &mut Reader<'_>, length: usize) -> Resul
     ensures { Gives (λ x. (x, reader.new)) result (enclosed_at length reader.old) }
 {
     let frame = decode_body(alloc, reader.front(length))?;
-    reader.bytes(length)?;
+    if let Err(fault) = reader.bytes(length) {
+        drop(frame);
+        return Err(fault);
+    }
     Ok(frame)
 }
 
@@ -196,7 +199,10 @@ fn decode_body(alloc: Global, bytes: &[u8]) -> Result<Frame, WireFault>
 {
     let mut reader = Reader::new(bytes);
     let frame = read_body(alloc, &mut reader)?;
-    reader.end()?;
+    if let Err(fault) = reader.end() {
+        drop(frame);
+        return Err(fault);
+    }
     Ok(frame)
 }
 
@@ -335,7 +341,10 @@ fn decode_all(alloc: Global, bytes: &[u8]) -> Result<Frame, WireFault>
 {
     let mut reader = Reader::new(bytes);
     let frame = read_frame(alloc, &mut reader)?;
-    reader.end()?;
+    if let Err(fault) = reader.end() {
+        drop(frame);
+        return Err(fault);
+    }
     Ok(frame)
 }
 
