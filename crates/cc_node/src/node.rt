@@ -158,6 +158,7 @@ impl Node {
         keep_post(&mut self.outbox, post);
         keep_answers(&mut self.outbox, answers);
         self.core.apply(&event);
+        drop(event);
         self.outbox.trim(self.core.lowest());
     }
 }
