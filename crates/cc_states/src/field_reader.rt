@@ -155,18 +155,35 @@ fn read_work<D, P, S: Source<D, P>>(
     ensures run { S.runs device.old source.old device.new source.new (failure_of result) }
 {
     let view = source.view(alloc, device, piece)?;
-    let Own { number, mine, tag } = source.own(alloc, device, piece)?;
-    let Entering { echoes, need } = source.entering(alloc, device, piece)?;
-    let round = source.round(alloc, device, piece, layout)?;
-    Ok(Work {
-        view,
-        number,
-        mine,
-        tag,
-        echoes,
-        need,
-        round,
-    })
+    let Own { number, mine, tag } = match source.own(alloc, device, piece) {
+        Ok(own) => own,
+        Err(fault) => {
+            drop(view);
+            return Err(fault);
+        }
+    };
+    let Entering { echoes, need } = match source.entering(alloc, device, piece) {
+        Ok(entering) => entering,
+        Err(fault) => {
+            drop(view);
+            return Err(fault);
+        }
+    };
+    match source.round(alloc, device, piece, layout) {
+        Ok(round) => Ok(Work {
+            view,
+            number,
+            mine,
+            tag,
+            echoes,
+            need,
+            round,
+        }),
+        Err(fault) => {
+            drop(view);
+            Err(fault)
+        }
+    }
 }
 
 #[tactic(auto, unfolding(cc_sides::specs::States::tables_at))]
@@ -211,13 +228,24 @@ fn read_fields<D, P, S: Source<D, P>>(
     ensures read { IfOk result (λ x. AreRead x.tables) }
 {
     let membership = source.membership(alloc, device, piece)?;
-    let work = read_work(alloc, device, piece, source, layout)?;
-    let tables = read_tables(alloc, device, piece, source)?;
-    Ok(Fields {
-        membership,
-        work,
-        tables,
-    })
+    let work = match read_work(alloc, device, piece, source, layout) {
+        Ok(work) => work,
+        Err(fault) => {
+            drop(membership);
+            return Err(fault);
+        }
+    };
+    match read_tables(alloc, device, piece, source) {
+        Ok(tables) => Ok(Fields {
+            membership,
+            work,
+            tables,
+        }),
+        Err(fault) => {
+            drop((membership, work));
+            Err(fault)
+        }
+    }
 }
 
 /// The fields of the state that lies ahead, all of it.
@@ -236,6 +264,7 @@ pub fn read_whole<D, P, S: Source<D, P>>(
 {
     let fields = read_fields(alloc, device, piece, source, layout)?;
     if !source.is_ended(device, piece) {
+        drop(fields);
         return Err(SourceFault::Wire(WireFault::Trailing));
     }
     Ok(fields)
