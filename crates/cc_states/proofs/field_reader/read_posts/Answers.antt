@@ -26,3 +26,7 @@ loop-preserved g c =
 
 pub returns-clause-exact : goal.returns-clause-exact
 returns-clause-exact g c = λ honest. is_done (λ _. message_at) (λ _. 0) _ _ _ 0 _ _ c.loop-test.false (c.loop.invariant.so_far honest)
+
+pub returns-in_err-post-clause-run : goal.returns-in_err-post-clause-run
+returns-in_err-post-clause-run g c =
+    rw (err_is c.from_residual.result c.from_residual.ensures.1) (g.met.S.Source.goes_on _ _ _ _ _ _ _ c.loop.invariant.run c.in_err-post.ensures.run)

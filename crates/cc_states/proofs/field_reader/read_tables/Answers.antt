@@ -51,3 +51,25 @@ returns-clause-exact g c = λ honest.
       c.in_ok-kept.ensures.exact h3,
       c.in_ok-answers.ensures.exact h4,
     ) refl
+
+pub returns-in_err-links-clause-run : goal.returns-in_err-links-clause-run
+returns-in_err-links-clause-run g c = rw (err_is c.from_residual-in_err-links.result c.from_residual-in_err-links.ensures.1) (
+    g.met.S.Source.goes_on _ _ _ _ _ _ _ c.in_ok-posts.ensures.run c.in_err-links.ensures.run)
+
+pub returns-in_err-sessions-clause-run : goal.returns-in_err-sessions-clause-run
+returns-in_err-sessions-clause-run g c = rw (err_is c.from_residual-in_err-sessions.result c.from_residual-in_err-sessions.ensures.1) (
+    let r1 = g.met.S.Source.goes_on _ _ _ _ _ _ _ c.in_ok-posts.ensures.run c.in_ok-links.ensures.run in
+    g.met.S.Source.goes_on _ _ _ _ _ _ _ r1 c.in_err-sessions.ensures.run)
+
+pub returns-in_err-kept-clause-run : goal.returns-in_err-kept-clause-run
+returns-in_err-kept-clause-run g c = rw (err_is c.from_residual-in_err-kept.result c.from_residual-in_err-kept.ensures.1) (
+    let r1 = g.met.S.Source.goes_on _ _ _ _ _ _ _ c.in_ok-posts.ensures.run c.in_ok-links.ensures.run in
+    let r2 = g.met.S.Source.goes_on _ _ _ _ _ _ _ r1 c.in_ok-sessions.ensures.run in
+    g.met.S.Source.goes_on _ _ _ _ _ _ _ r2 c.in_err-kept.ensures.run)
+
+pub returns-in_err-answers-clause-run : goal.returns-in_err-answers-clause-run
+returns-in_err-answers-clause-run g c = rw (err_is c.from_residual-in_err-answers.result c.from_residual-in_err-answers.ensures.1) (
+    let r1 = g.met.S.Source.goes_on _ _ _ _ _ _ _ c.in_ok-posts.ensures.run c.in_ok-links.ensures.run in
+    let r2 = g.met.S.Source.goes_on _ _ _ _ _ _ _ r1 c.in_ok-sessions.ensures.run in
+    let r3 = g.met.S.Source.goes_on _ _ _ _ _ _ _ r2 c.in_ok-kept.ensures.run in
+    g.met.S.Source.goes_on _ _ _ _ _ _ _ r3 c.in_err-answers.ensures.run)
