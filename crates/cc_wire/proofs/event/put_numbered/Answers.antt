@@ -1,0 +1,6 @@
+use Rattle.cc_wire.proofs.Writes.{writes_then}
+use Rattle.cc_wire.proofs.event.put_numbered.Goals as goal
+
+pub returns-clause-writes : goal.returns-clause-writes
+returns-clause-writes c =
+    writes_then c.args.out.now c.put_id.new.out c.put_u64.new.out _ _ c.put_u64.result c.in_ok-put_id.ensures.writes c.put_u64.ensures
