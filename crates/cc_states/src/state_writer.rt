@@ -219,7 +219,6 @@ fn put_links(out: &mut Vec<u8>, rows: &[LinkRow]) -> Result<(), AllocError>
     Ok(())
 }
 
-#[tactic(auto, using(cc_wire::proofs::Writes::each_more, std::proofs::lemmas::List::get_or_default))]
 fn put_sessions(out: &mut Vec<u8>, rows: &[SessionRow]) -> Result<(), AllocError>
     ensures { Writes out.old out.new (flat_map (λ row. session_spelling (sessions.entry_of row)) rows.now) result }
 {
