@@ -11,7 +11,7 @@ ghost use Rattle.cc_wire.specs.Events.{SpellsEvent};
 use crate::changes_bytes::put_id;
 use crate::command::put_command;
 use crate::fault::WireFault;
-use crate::message::put_message;
+use crate::message::{put_message, put_news};
 use crate::reader::Reader;
 use crate::writer::{put_u8, put_u64, settled};
 use cc_messages::{Command, Event, Message};
@@ -177,14 +177,8 @@ pub(crate) fn put_event(out: &mut Vec<u8>, event: &Event) -> Result<(), AllocErr
             put_u8(out, 5)?;
             put_asked(out, *session, *request, command)
         }
-        Event::Retire { node } => {
-            put_u8(out, 6)?;
-            put_id(out, *node)
-        }
-        Event::Lapse { node } => {
-            put_u8(out, 32)?;
-            put_id(out, *node)
-        }
+        Event::Retire { node } => put_news(out, 6, *node),
+        Event::Lapse { node } => put_news(out, 32, *node),
         Event::Snapshot => put_u8(out, 33),
     }
 }

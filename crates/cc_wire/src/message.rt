@@ -206,8 +206,8 @@ fn put_snapshot(out: &mut Vec<u8>, changes: &Changes, view: &View) -> Result<(),
     put_view(out, view)
 }
 
-// A kind that has a node alone.
-fn put_news(out: &mut Vec<u8>, kind: u8, node: NodeId) -> Result<(), AllocError>
+/// Appends a kind that has a node alone.
+pub(crate) fn put_news(out: &mut Vec<u8>, kind: u8, node: NodeId) -> Result<(), AllocError>
     ensures writes { Writes out.old out.new (kind ∷ number_spelling node) result }
     ensures fits { OnOk result (IsId node) }
 {

@@ -22,14 +22,3 @@ returns-in_ok-put_u8-in-Ask-clause-writes c =
     subst (λ (e : Event). Writes c.args.out.now c.put_asked.new.out (event_spelling e) c.put_asked.result) (sym c.in-Ask.is)
     (writes_then c.args.out.now c.put_u8-in-Ask.new.out c.put_asked.new.out (5 ∷ []) _ c.put_asked.result c.in_ok-put_u8-in-Ask.ensures
     c.put_asked.ensures.writes)
-
-pub returns-in_ok-put_u8-in-Retire-clause-writes : goal.returns-in_ok-put_u8-in-Retire-clause-writes
-returns-in_ok-put_u8-in-Retire-clause-writes c =
-    subst (λ (e : Event). Writes c.args.out.now c.put_id.new.out (event_spelling e) c.put_id.result) (sym c.in-Retire.is)
-    (writes_then c.args.out.now c.put_u8-in-Retire.new.out c.put_id.new.out (6 ∷ []) _ c.put_id.result c.in_ok-put_u8-in-Retire.ensures c.put_id.ensures.writes)
-
-pub returns-in_ok-put_u8-in-Lapse-clause-writes : goal.returns-in_ok-put_u8-in-Lapse-clause-writes
-returns-in_ok-put_u8-in-Lapse-clause-writes c =
-    subst (λ (e : Event). Writes c.args.out.now c.put_id-in-Lapse.new.out (event_spelling e) c.put_id-in-Lapse.result) (sym c.in-Lapse.is)
-    (writes_then c.args.out.now c.put_u8-in-Lapse.new.out c.put_id-in-Lapse.new.out (32 ∷ []) _ c.put_id-in-Lapse.result c.in_ok-put_u8-in-Lapse.ensures
-    c.put_id-in-Lapse.ensures.writes)
