@@ -1,14 +1,15 @@
 -- Runs of calls that put outputs.
---     puts_none, puts_both           a run of no call;  a run after another
+--     puts_none, puts_one, puts_both   a run of no call;  of one;  a run after another
 --     HasPut, put_none, put_more     of some outputs, what isn't left has been put
-use Rattle.std.proofs.Common.{◌≡◌, List, [], ◌++◌, refl, sym, ◌∙◌, ap, subst}
+use Rattle.std.proofs.Common.{◌≡◌, List, [], ◌∷◌, ◌++◌, refl, sym, ◌∙◌, ap, subst}
+use Rattle.std.specs.Prelude.{◌↔◌}
 use Rattle.std.proofs.lemmas.List.{append_assoc, append-nil}
 use Rattle.cc_messages.specs.declared.output.Output.{Output}
 use Rattle.cc_site.specs.declared.site.Side.{Side}
 use Rattle.cc_site.specs.declared.site.Site.{Ghosts}
 use Rattle.cc_site.specs.Sides.{SideState, MayLeave}
 use Rattle.cc_site.specs.Moments.{Contents, Possible}
-use Rattle.cc_site.specs.Runs.{OnlyNow, started, joined, weaker}
+use Rattle.cc_site.specs.Runs.{OnlyNow, Passes, started, goes_on, joined, weaker}
 use Rattle.cc_journal.specs.GoodSides.{MayBeLeft}
 use Rattle.cc_journal.specs.Outlet.{IsPutting, Puts}
 
@@ -51,6 +52,24 @@ module _ {D : Type 0} (s : Ghosts D) where
     contents = λ h. started s site (λ left told. MayBeLeft (s.state site) left) (λ left told since. (only h left told since).each);
     same_failures = refl;
   }
+
+  pub puts_one : (old new : D) (output : Output) → (s.honest old → OnlyNow s old) → (s.honest old ↔ s.honest new)
+      → (s.tells new → s.tells old × (s.sent new ≡ s.sent old ++ output ∷ [])) → (s.honest old → s.state new ≡ s.state old)
+      → (s.honest old → Passes s old new (Possible (s.state old) (s.sent new))) → s.failures new ≡ s.failures old → Puts s (output ∷ []) old new
+  puts_one old new output only honest told same time failures =
+      let putting = IsPutting (s.state old) (s.sent old) (output ∷ []) in
+      let leaves : Contents → List Output → Type 0 = λ left told. MayBeLeft (s.state old) left in
+      record {
+        same_honest = honest;
+        same_state = same;
+        told = told;
+        moments = λ h t. goes_on s old old new putting (Possible (s.state old) (s.sent new))
+            (started s old putting (λ left told since. putting_none (s.state old) (s.sent old) (output ∷ []) left told (only h left told since))) (time h)
+            (λ left now_told now. record { each = now.each; put = output ∷ []; rest = []; parts = refl; outlet = now.outlet ∙ (told t).1 });
+        contents = λ h. goes_on s old old new leaves (Possible (s.state old) (s.sent new))
+            (started s old leaves (λ left told since. (only h left told since).each)) (time h) (λ left told now. now.each);
+        same_failures = failures;
+      }
 
   pub puts_both : (old mid new : D) (xs ys : List Output) → Puts s xs old mid → Puts s ys mid new → Puts s (xs ++ ys) old new
   puts_both old mid new xs ys first then = record {

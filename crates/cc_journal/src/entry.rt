@@ -25,8 +25,13 @@ impl Entry {
         ensures entry { IfOk result (λ e. (decides core.now event ≡ None) × (e ≡ record { event = event; made = made core.now event })) }
         ensures refused { IfErr result (λ r. (decides core.now event ≡ Some r) ⊎ ((decides core.now event ≡ None) × (r ≡ refusal.NoMemory))) }
     {
-        let made = core.made_or_refused(alloc, &event)?;
-        Ok(Entry { event, made })
+        match core.made_or_refused(alloc, &event) {
+            Ok(made) => Ok(Entry { event, made }),
+            Err(refusal) => {
+                drop(event);
+                Err(refusal)
+            }
+        }
     }
 }
 

@@ -84,8 +84,13 @@ fn settle_all(alloc: Global, node: &mut Node, events: Vec<Event>) -> Result<bool
     for event in events {
         match node.core().made_or_refused(alloc, &event) {
             Ok(made) => node.settle(event, made),
-            Err(Refusal::NoMemory) => return Err(NoMemory),
-            Err(_) => return Ok(false),
+            Err(refusal) => {
+                drop(event);
+                return match refusal {
+                    Refusal::NoMemory => Err(NoMemory),
+                    _ => Ok(false),
+                };
+            }
         }
     }
     Ok(true)

@@ -231,7 +231,13 @@ pub fn scan<S: Site>(
         journal,
         records,
         events,
-    } = scan_into(alloc, site, side, place, &mut node)?;
+    } = match scan_into(alloc, site, side, place, &mut node) {
+        Ok(ended) => ended,
+        Err(fault) => {
+            drop(node);
+            return Err(fault);
+        }
+    };
     Ok(Scanned {
         journal,
         node,

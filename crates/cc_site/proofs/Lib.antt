@@ -4,3 +4,4 @@ pub mod Overlay
 pub mod Flags
 pub mod Images
 pub mod Bytes
+pub mod OneCall
