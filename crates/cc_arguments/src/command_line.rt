@@ -389,20 +389,31 @@ fn push_all<'a>(
     subcommands: &[Subcommand],
 ) -> Result<(), AllocError> {
     for subcommand in subcommands {
-        to.push(command_of(alloc, subcommand)?)?;
+        match command_of(alloc, subcommand) {
+            Ok(command) => to.push(command).or(Err(AllocError))?,
+            Err(AllocError) => return Err(AllocError),
+        }
     }
     Ok(())
 }
 
 fn command_of<'a>(alloc: Global, subcommand: &Subcommand) -> Result<Command<'a>, AllocError> {
     let mut args = Vec::new(alloc);
-    for word in subcommand.words {
-        args.push(arg_of(alloc, word))?;
+    if push_args(alloc, &mut args, subcommand.words).is_err() {
+        drop(args);
+        return Err(AllocError);
     }
     Command::new(alloc, subcommand.name)
         .about(subcommand.about)
         .after_help(subcommand.help)
         .args(args)
+}
+
+fn push_args<'a>(alloc: Global, to: &mut Vec<Arg<'a>>, words: &[Word]) -> Result<(), AllocError> {
+    for word in words {
+        to.push(arg_of(alloc, word)).or(Err(AllocError))?;
+    }
+    Ok(())
 }
 
 fn arg_of<'a>(alloc: Global, word: &Word) -> Arg<'a> {

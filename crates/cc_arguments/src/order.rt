@@ -50,18 +50,23 @@ pub enum Order<'a> {
 /// wrong.
 pub fn parse<'a>(alloc: Global, words: &'a [String]) -> Result<Order<'a>, clap::Error> {
     let command = command_line(alloc)?;
-    let matches = command.try_get_matches_from(words)?;
-    Ok(order_of(&matches))
+    match command.try_get_matches_from(words) {
+        Ok(matches) => {
+            let order = order_of(&matches);
+            drop(matches);
+            Ok(order)
+        }
+        Err(error) => Err(error),
+    }
 }
 
 fn order_of<'a>(matches: &ArgMatches<'a>) -> Order<'a> {
     let Some((name, words)) = matches.subcommand() else {
         return Order::Play;
     };
-    match order_at_folder(name, words) {
-        Some(order) => order,
-        None => order_at_node(name, words).unwrap_or(Order::Play),
-    }
+    order_at_folder(name, words)
+        .or(order_at_node(name, words))
+        .unwrap_or(Order::Play)
 }
 
 // What has the folder of a node.

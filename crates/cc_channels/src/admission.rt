@@ -135,13 +135,18 @@ fn pending_ask(stage: Stage) -> Option<Asked> {
 impl<F: Flushed> Admission<F> {
     /// Admission to a node that was opened, of which no event is flushed yet.
     pub fn new(alloc: Global, flushed: Durable<F>) -> Result<Self, AllocError> {
+        let furthest = Vec::with_capacity(alloc, MOST_FURTHEST)?;
+        let Ok(unanswered) = Vec::with_capacity(alloc, MOST_UNANSWERED) else {
+            drop(furthest);
+            return Err(AllocError);
+        };
         Ok(Admission {
             permits: Mutex::new(Permits {
                 taken: 0,
                 flushed,
                 kept: 0,
-                furthest: Vec::with_capacity(alloc, MOST_FURTHEST)?,
-                unanswered: Vec::with_capacity(alloc, MOST_UNANSWERED)?,
+                furthest,
+                unanswered,
                 ticks: 0,
                 is_closed: false,
             }),

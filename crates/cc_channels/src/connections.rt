@@ -59,7 +59,7 @@ impl Connection {
     /// Passes bytes on, and waits for room: only the worker of this very connection calls it.
     pub fn pass_in_turn<R: Wait>(&self, rt: &R, bytes: Vec<u8>) {
         self.waiting.fetch_add(bytes.len() as u64, Ordering::SeqCst);
-        let _ = self.out.send(rt, bytes);
+        drop(self.out.send(rt, bytes));
     }
 
     /// Ends reads and writes that wait.
@@ -86,18 +86,21 @@ impl Table {
         access: Access,
     ) -> Option<Admitted> {
         if self.is_closed {
+            drop(connection);
             return None;
         }
-        let admitted = self.routes.enter(from, access)?;
-        if self
-            .connections
-            .insert(admitted.ticket, connection)
-            .is_err()
-        {
-            self.routes.leave(admitted.ticket);
+        let Some(admitted) = self.routes.enter(from, access) else {
+            drop(connection);
             return None;
+        };
+        let inserted = self.connections.insert(admitted.ticket, connection);
+        let is_in = inserted.is_ok();
+        drop(inserted);
+        if is_in {
+            return Some(admitted);
         }
-        Some(admitted)
+        self.routes.leave(admitted.ticket);
+        None
     }
 
     // What a frame of a node makes of its connection. An older one of the same node is closed.
@@ -117,7 +120,7 @@ impl Table {
     }
 
     fn leave(&mut self, ticket: u64) {
-        let _ = self.connections.remove(&ticket);
+        drop(self.connections.remove(&ticket));
         self.routes.leave(ticket);
         self.speakers.leave(ticket);
     }
@@ -132,7 +135,10 @@ pub struct Connections {
 impl Connections {
     pub fn new(alloc: Global) -> Result<Self, NoMemory> {
         let routes = Routes::new(alloc)?;
-        let speakers = Speakers::new(alloc)?;
+        let Ok(speakers) = Speakers::new(alloc) else {
+            drop(routes);
+            return Err(NoMemory);
+        };
         Ok(Connections {
             table: Mutex::new(Table {
                 connections: BTreeMap::new(alloc),
@@ -191,6 +197,7 @@ impl Connections {
         let connection = self.table.lock(rt).connection_of(session, request);
         if let Some(connection) = connection {
             connection.pass(rt, bytes);
+            drop(connection);
         }
     }
 
@@ -199,6 +206,7 @@ impl Connections {
         let connection = self.table.lock(rt).connection_of(session, request);
         if let Some(connection) = connection {
             connection.close();
+            drop(connection);
         }
     }
 

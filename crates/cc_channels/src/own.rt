@@ -19,14 +19,16 @@ pub struct OwnChannel {
 impl OwnChannel {
     /// Puts an event on the channel. What finds no room is lost: links resend.
     pub fn put<R: Wait>(&self, rt: &R, event: Event) {
-        if !self.is_muted.is_set() {
-            let _ = self.to.try_send(rt, Some(event));
+        if self.is_muted.is_set() {
+            drop(event);
+        } else {
+            drop(self.to.try_send(rt, Some(event)));
         }
     }
 
     /// Ends the worker, once it has taken what waits.
     pub fn end<R: Wait>(&self, rt: &R) {
-        let _ = self.to.send(rt, None);
+        drop(self.to.send(rt, None));
     }
 
     pub fn mute(&self) {

@@ -89,8 +89,10 @@ fn moment(millis: u64) -> Option<u64> {
 impl PeerChannel {
     /// Puts a parcel on the channel. What finds no room is lost: links resend.
     pub fn put<R: Wait>(&self, rt: &R, parcel: Parcel) {
-        if !self.is_muted.is_set() {
-            let _ = self.to.try_send(rt, parcel);
+        if self.is_muted.is_set() {
+            drop(parcel);
+        } else {
+            drop(self.to.try_send(rt, parcel));
         }
     }
 
@@ -169,8 +171,14 @@ pub struct FarEnd {
 /// The channel to a peer, and its far end.
 pub(crate) fn channel_to(alloc: Global, peer: &Peer) -> Result<(PeerChannel, FarEnd), AllocError> {
     let way = Arc::new(alloc, Way::new(peer.address)).or(Err(AllocError))?;
-    let seen = Arc::try_clone(&way).or(Err(AllocError))?;
-    let (to, from) = bounded(alloc, CHANNEL_ROOM)?;
+    let Ok(seen) = Arc::try_clone(&way) else {
+        drop(way);
+        return Err(AllocError);
+    };
+    let Ok((to, from)) = bounded(alloc, CHANNEL_ROOM) else {
+        drop((way, seen));
+        return Err(AllocError);
+    };
     let channel = PeerChannel {
         peer: peer.id,
         to,

@@ -22,7 +22,10 @@ impl PeerChannels {
     fn with_room(alloc: Global, room: usize) -> Result<Self, AllocError> {
         let mut slots = Vec::with_capacity(alloc, room)?;
         for _ in 0..room {
-            slots.push(OnceLock::new())?;
+            if let Err(failed) = slots.push(OnceLock::new()) {
+                drop((failed, slots));
+                return Err(AllocError);
+            }
         }
         Ok(PeerChannels { slots })
     }
@@ -31,12 +34,16 @@ impl PeerChannels {
     /// time may add.
     pub fn add(&self, alloc: Global, peer: &Peer) -> Result<Option<FarEnd>, AllocError> {
         let (channel, end) = channel_to(alloc, peer)?;
-        match self.slots.iter().find(|slot| slot.get().is_none()) {
-            Some(slot) => match slot.try_set(channel) {
-                Ok(_) => Ok(Some(end)),
-                Err(_) => Ok(None),
-            },
-            None => Ok(None),
+        let Some(slot) = self.slots.iter().find(|slot| slot.get().is_none()) else {
+            drop((channel, end));
+            return Ok(None);
+        };
+        match slot.try_set(channel) {
+            Ok(_) => Ok(Some(end)),
+            Err(channel) => {
+                drop((channel, end));
+                Ok(None)
+            }
         }
     }
 
@@ -96,10 +103,25 @@ pub fn channels_to(
     let room = peers.len().saturating_add(MORE_PEERS);
     let channels = PeerChannels::with_room(alloc, room)?;
     let mut ends = Vec::new(alloc);
-    for peer in peers {
-        if let Some(end) = channels.add(alloc, peer)? {
-            ends.push(end)?;
+    match add_all(alloc, peers, &channels, &mut ends) {
+        Ok(()) => Ok((channels, ends)),
+        Err(AllocError) => {
+            drop((channels, ends));
+            Err(AllocError)
         }
     }
-    Ok((channels, ends))
+}
+
+fn add_all(
+    alloc: Global,
+    peers: &[Peer],
+    channels: &PeerChannels,
+    ends: &mut Vec<FarEnd>,
+) -> Result<(), AllocError> {
+    for peer in peers {
+        if let Some(end) = channels.add(alloc, peer)? {
+            ends.push(end).or(Err(AllocError))?;
+        }
+    }
+    Ok(())
 }

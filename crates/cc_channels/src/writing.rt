@@ -173,6 +173,22 @@ fn bundled<R: Wait>(
     first: Parcel,
 ) -> Result<Vec<u8>, NoMemory> {
     let mut bundle = Bundle::new(alloc);
+    match fill(rt, &mut bundle, from, first) {
+        Ok(()) => bundle.close(me),
+        Err(NoMemory) => {
+            drop(bundle);
+            Err(NoMemory)
+        }
+    }
+}
+
+// Adds a parcel, and those that wait behind it.
+fn fill<R: Wait>(
+    rt: &R,
+    bundle: &mut Bundle,
+    from: &Receiver<Parcel>,
+    first: Parcel,
+) -> Result<(), NoMemory> {
     bundle.add(first)?;
     for _ in 0..PLENTY {
         if bundle.len() >= PLENTY {
@@ -183,5 +199,5 @@ fn bundled<R: Wait>(
         };
         bundle.add(parcel)?;
     }
-    bundle.close(me)
+    Ok(())
 }

@@ -76,11 +76,10 @@ impl Asking {
     ) -> Option<Ended> {
         let deadline = Deadline::new(rt, order.timeout);
         for _ in 0..u64::MAX {
-            let ended = self.try_once(rt, alloc, order, &deadline);
-            if ended.is_some() {
-                return ended;
+            if let Some(ended) = self.try_once(rt, alloc, order, &deadline) {
+                return Some(ended);
             }
-            self.client.hear(Heard::Broken);
+            drop(self.client.hear(Heard::Broken));
             deadline.left(rt)?;
             pause(rt);
         }
@@ -116,7 +115,9 @@ impl Asking {
         deadline: &Deadline,
     ) -> Option<Ended> {
         let mut incoming = Incoming::new(alloc, stream).ok()?;
-        self.exchange(rt, alloc, stream, &mut incoming, deadline)
+        let ended = self.exchange(rt, alloc, stream, &mut incoming, deadline);
+        drop(incoming);
+        ended
     }
 
     fn exchange<R: Clock>(
@@ -130,11 +131,15 @@ impl Asking {
         let mut heard = Heard::Ready;
         for _ in 0..u64::MAX {
             match self.act(rt, alloc, stream, heard, deadline)? {
-                Next::Listen => heard = Heard::Came(receive(rt, stream, incoming, deadline)?),
-                Next::Again => heard = Heard::Ready,
                 Next::End(ended) => return Some(ended),
+                next => {
+                    let listens = matches!(next, Next::Listen);
+                    drop(next);
+                    heard = hear_next(rt, stream, incoming, deadline, listens)?;
+                }
             }
         }
+        drop(heard);
         None
     }
 
@@ -148,7 +153,11 @@ impl Asking {
         deadline: &Deadline,
     ) -> Option<Next> {
         match self.client.hear(heard) {
-            Step::Send(frame) => self.send(rt, alloc, stream, &frame, deadline),
+            Step::Send(frame) => {
+                let next = self.send(rt, alloc, stream, &frame, deadline);
+                drop(frame);
+                next
+            }
             Step::Wait => Some(Next::Listen),
             Step::Retry(why) => Some(self.retry(rt, why)),
             Step::Refused(why) if self.waits && is_outside(why) => Some(self.retry(rt, Some(why))),
@@ -189,7 +198,9 @@ impl Asking {
     ) -> io::Result<Told> {
         match ended {
             Some(Ended::Answered(answer)) => {
-                print_answer(alloc, order.form, &answer, output)?;
+                let printed = print_answer(alloc, order.form, &answer, output);
+                drop(answer);
+                printed?;
                 Ok(Told::done())
             }
             Some(Ended::Refused(why)) => self.print_why(alloc, order, Some(why), output),
@@ -215,6 +226,21 @@ impl Asking {
                 Ok(Told::silent(self.silence))
             }
         }
+    }
+}
+
+// What is heard next: a frame where the client listens, and nothing where it asks again. None where none comes in time.
+fn hear_next<R: Clock>(
+    rt: &R,
+    stream: &TcpStream,
+    incoming: &mut Incoming<&TcpStream>,
+    deadline: &Deadline,
+    listens: bool,
+) -> Option<Heard> {
+    if listens {
+        receive(rt, stream, incoming, deadline).map(Heard::Came)
+    } else {
+        Some(Heard::Ready)
     }
 }
 

@@ -57,7 +57,10 @@ pub fn json_of_answer(alloc: Global, answer: &Answer) -> io::Result<String> {
 
 fn json_of_view(alloc: Global, view: &View) -> io::Result<String> {
     let view = json_rows(alloc, view.rows())?;
-    written(alloc, &JsonAnswer::Seen { view })
+    let answer = JsonAnswer::Seen { view };
+    let json = written(alloc, &answer);
+    drop(answer);
+    json
 }
 
 fn json_rows<'a>(alloc: Global, rows: &'a [Row]) -> Result<Vec<JsonRow<'a>>, AllocError> {
@@ -82,8 +85,7 @@ fn push_row<'a>(
         flag: row.value.flag,
         set: row.value.set.as_slice(),
     };
-    json.push(row)?;
-    Ok(())
+    json.push(row).or(Err(AllocError))
 }
 
 // A text as it is where it is UTF-8, else as `play` prints it: letters, digits, `.`, `_` and `-` as they are, every other
@@ -117,7 +119,9 @@ pub fn json_of_refusal(alloc: Global, why: Refusal) -> io::Result<String> {
         number: why.number(),
         carries: why.value(),
     };
-    written(alloc, &refusal)
+    let json = written(alloc, &refusal);
+    drop(printed);
+    json
 }
 
 /// What is printed as JSON where no answer came. The only error is a refused growth.

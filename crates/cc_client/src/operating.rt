@@ -42,7 +42,9 @@ pub fn retire_node<R: Net<Stream = TcpStream> + Clock, W: Write>(
     output: &mut W,
 ) -> io::Result<Told> {
     let RetireOrder { address, node } = *order;
-    let brought = bring(rt, alloc, &address, &Frame::Retire { node });
+    let request = Frame::Retire { node };
+    let brought = bring(rt, alloc, &address, &request);
+    drop(request);
     match brought {
         Ok(()) => {
             writeln!(output, "retired {}", node.number())?;
@@ -84,7 +86,9 @@ fn bring<R: Net<Stream = TcpStream> + Clock>(
         Ok(stream) => stream,
         Err(silence) => return Err(Undone::Silent(silence)),
     };
-    match outcome(rt, alloc, &stream, request) {
+    let outcome = outcome(rt, alloc, &stream, request);
+    drop(stream);
+    match outcome {
         Some(Outcome::Done) => Ok(()),
         Some(Outcome::Refused(why)) => Err(Undone::Refused(why)),
         None => Err(Undone::Silent(Silence::Mute(*address))),
@@ -98,7 +102,9 @@ fn outcome<R: Clock>(
     request: &Frame,
 ) -> Option<Outcome> {
     let mut incoming = Incoming::new(alloc, stream).ok()?;
-    exchange(rt, alloc, stream, &mut incoming, request)
+    let outcome = exchange(rt, alloc, stream, &mut incoming, request);
+    drop(incoming);
+    outcome
 }
 
 fn exchange<R: Clock>(

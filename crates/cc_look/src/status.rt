@@ -123,6 +123,10 @@ fn number(value: &Value, name: &str) -> Option<u64> {
     value.get(name)?.as_u64()
 }
 
+fn flag(value: &Value, name: &str) -> Option<bool> {
+    value.get(name)?.as_bool()
+}
+
 fn list<'a>(value: &'a Value, name: &str) -> Option<&'a [Value]> {
     let items = value.get(name)?.as_array()?;
     Some(items.as_slice())
@@ -136,20 +140,20 @@ impl<'a> Status<'a> {
             version: text(value, "version")?,
             now: number(value, "now")?,
             standing: text(value, "standing")?,
-            is_ready: value.get("is_ready")?.as_bool()?,
+            is_ready: flag(value, "is_ready")?,
             reason: text(value, "reason")?,
-            quorum: QuorumPart::of(value.get("quorum")?)?,
+            quorum: QuorumPart::in_status(value)?,
             members: numbers(value, "members")?,
             view: rows_in(value)?,
-            round: round_in(value.get("round")?)?,
+            round: round_in(value)?,
             waiting: number(value, "waiting")?,
             sessions: list(value, "sessions")?,
             session_limit: number(value, "session_limit")?,
-            posts: PostPart::of(value.get("posts")?)?,
+            posts: PostPart::in_status(value)?,
             peers: peers_in(value)?,
-            disk: DiskPart::of(value.get("disk")?)?,
-            counts: CountPart::of(value.get("counts")?)?,
-            syncs: SyncPart::of(value.get("syncs")?)?,
+            disk: DiskPart::in_status(value)?,
+            counts: CountPart::in_status(value)?,
+            syncs: SyncPart::in_status(value)?,
         })
     }
 }
@@ -180,7 +184,8 @@ fn peers_in(value: &Value) -> Option<&[Value]> {
 }
 
 // The round, which may be none.
-fn round_in(value: &Value) -> Option<Option<RoundPart<'_>>> {
+fn round_in(status: &Value) -> Option<Option<RoundPart<'_>>> {
+    let value = status.get("round")?;
     if value.is_null() {
         return Some(None);
     }
@@ -188,7 +193,8 @@ fn round_in(value: &Value) -> Option<Option<RoundPart<'_>>> {
 }
 
 impl<'a> QuorumPart<'a> {
-    fn of(value: &'a Value) -> Option<Self> {
+    fn in_status(status: &'a Value) -> Option<Self> {
+        let value = status.get("quorum")?;
         Some(QuorumPart {
             beta: text(value, "beta")?,
             gamma: text(value, "gamma")?,
@@ -207,7 +213,7 @@ impl<'a> RowPart<'a> {
             number: number(value, "number")?,
             text: text(value, "text")?,
             max: number(value, "max")?,
-            flag: value.get("flag")?.as_bool()?,
+            flag: flag(value, "flag")?,
             set: numbers(value, "set")?,
         })
     }
@@ -228,7 +234,8 @@ impl<'a> RoundPart<'a> {
 }
 
 impl PostPart {
-    fn of(value: &Value) -> Option<Self> {
+    fn in_status(status: &Value) -> Option<Self> {
+        let value = status.get("posts")?;
         Some(PostPart {
             made: number(value, "made")?,
             kept: number(value, "kept")?,
@@ -253,7 +260,8 @@ impl<'a> PeerPart<'a> {
 }
 
 impl<'a> DiskPart<'a> {
-    fn of(value: &'a Value) -> Option<Self> {
+    fn in_status(status: &'a Value) -> Option<Self> {
+        let value = status.get("disk")?;
         Some(DiskPart {
             side: text(value, "side")?,
             generation: number(value, "generation")?,
@@ -265,7 +273,8 @@ impl<'a> DiskPart<'a> {
 }
 
 impl<'a> CountPart<'a> {
-    fn of(value: &'a Value) -> Option<Self> {
+    fn in_status(status: &'a Value) -> Option<Self> {
+        let value = status.get("counts")?;
         Some(CountPart {
             commits: number(value, "commits")?,
             events: number(value, "events")?,
@@ -277,7 +286,8 @@ impl<'a> CountPart<'a> {
 }
 
 impl SyncPart {
-    fn of(value: &Value) -> Option<Self> {
+    fn in_status(status: &Value) -> Option<Self> {
+        let value = status.get("syncs")?;
         Some(SyncPart {
             count: number(value, "count")?,
             mean_us: number(value, "mean_us")?,

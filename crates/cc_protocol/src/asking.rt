@@ -109,7 +109,10 @@ impl Client {
                 refusal,
                 value,
             } => self.refused(session, request, refusal_of(refusal, value)),
-            _ => Step::Wait,
+            other => {
+                drop(other);
+                Step::Wait
+            }
         }
     }
 
@@ -119,6 +122,7 @@ impl Client {
         if self.is_about(session, request) && self.request.is_some() {
             return Step::Done(answer);
         }
+        drop(answer);
         Step::Wait
     }
 

@@ -81,6 +81,14 @@ impl Bundle {
 fn acknowledged(mut bytes: Vec<u8>, me: NodeId, number: u64) -> Result<Vec<u8>, NoMemory>
     ensures { IfOk result (λ all. all.items ≡ bytes.items ++ frame_spelling (frame.Ack me number)) }
 {
-    encode_frame(&ack_frame(me, number), &mut bytes)?;
-    Ok(bytes)
+    let ack = ack_frame(me, number);
+    let encoded = encode_frame(&ack, &mut bytes);
+    drop(ack);
+    match encoded {
+        Ok(()) => Ok(bytes),
+        Err(NoMemory) => {
+            drop(bytes);
+            Err(NoMemory)
+        }
+    }
 }

@@ -3,5 +3,5 @@ use Rattle.cc_frames.specs.declared.frame.Frame.{Frame}
 use Rattle.cc_frames.specs.Frames.{frame_spelling}
 use Rattle.cc_protocol.proofs.bundle.acknowledged.Goals as goal
 
-pub returns : goal.returns
-returns c = c.in_ok-encode_frame.ensures.ok ∙ ap (λ (f : Frame). c.args.bytes.items ++ frame_spelling f) (c.ack_frame.ensures 0)
+pub returns-in-Ok : goal.returns-in-Ok
+returns-in-Ok c = c.in-Ok.ensures.ok ∙ ap (λ (f : Frame). c.args.bytes.items ++ frame_spelling f) (c.ack_frame-ack.ensures 0)
