@@ -5,7 +5,7 @@
 --     store_fits           after a store of no rows
 --     told_fits            after a view of no rows, while it waits
 --     joins_fit            who joined, after a snapshot that a new node counts as an echo
-use Rattle.std.proofs.Common.{ℕ, ◌+◌, ◌≤◌, List, [], ◌∷◌, Bool, true, false, if◌then◌else◌, arith}
+use Rattle.std.proofs.Common.{ℕ, ◌+◌, ◌≤◌, [], ◌∷◌, Bool, true, false, if◌then◌else◌, arith}
 use Rattle.std.specs.Ordering.{nat_cmp}
 use Rattle.std.specs.FinMap as map
 use Rattle.cc_views.specs.Rows.{Pair, ViewMap}

@@ -11,11 +11,11 @@ use std::test::*;
 const GAMMA: Fraction = Fraction { num: 4, den: 5 };
 
 // Node 4 has entered.
-fn entered(alloc: Global) -> Result<Changes, Fail> {
+fn entered(alloc: Global) -> Result<Changes, NoMemory> {
     changes_of(alloc, 4, 0, 0)
 }
 
-fn join_all(alloc: Global, changes: &mut Changes) -> Result<(), Fail> {
+fn join_all(alloc: Global, changes: &mut Changes) -> Result<(), NoMemory> {
     for number in 1..4 {
         let one = changes_of(alloc, 0, number, 0)?;
         if changes.would_fit(&one) {
@@ -26,11 +26,28 @@ fn join_all(alloc: Global, changes: &mut Changes) -> Result<(), Fail> {
     Ok(())
 }
 
-// The echo of node 4, which tells of the members 1, 2 and 3.
-fn echo(alloc: Global, is_joined: bool) -> Result<Message, Fail> {
-    let view = View::new(alloc)?;
+// The members 1, 2 and 3 too.
+fn four(alloc: Global) -> Result<Changes, NoMemory> {
     let mut changes = entered(alloc)?;
-    join_all(alloc, &mut changes)?;
+    match join_all(alloc, &mut changes) {
+        Ok(()) => Ok(changes),
+        Err(fault) => {
+            drop(changes);
+            Err(fault)
+        }
+    }
+}
+
+// The echo of node 4, which tells of the members 1, 2 and 3.
+fn echo(alloc: Global, is_joined: bool) -> Result<Message, NoMemory> {
+    let changes = four(alloc)?;
+    let view = match View::new(alloc) {
+        Ok(view) => view,
+        Err(fault) => {
+            drop(changes);
+            return Err(fault);
+        }
+    };
     Ok(Message::EnterEcho {
         changes,
         view,
@@ -39,7 +56,7 @@ fn echo(alloc: Global, is_joined: bool) -> Result<Message, Fail> {
     })
 }
 
-fn joins_by(alloc: Global, echoes: u8, need: u64, echo: &Message) -> Result<bool, Fail> {
+fn joins_by(alloc: Global, echoes: u8, need: u64, echo: &Message) -> Result<bool, NoMemory> {
     let churn = Churn::from_parts(entered(alloc)?, u64::from(echoes), need);
     let joins = churn.makes_post(id(4), GAMMA, echo);
     drop(churn);
@@ -47,7 +64,7 @@ fn joins_by(alloc: Global, echoes: u8, need: u64, echo: &Message) -> Result<bool
 }
 
 // Whether node 4 joins with one more echo, after so many echoes and with that need.
-fn joins(alloc: Global, echoes: u8, need: u64, is_joined: bool) -> Result<bool, Fail> {
+fn joins(alloc: Global, echoes: u8, need: u64, is_joined: bool) -> Result<bool, NoMemory> {
     let echo = echo(alloc, is_joined)?;
     let joins = joins_by(alloc, echoes, need, &echo);
     drop(echo);
@@ -64,11 +81,10 @@ const ECHOES: [(u8, u64, bool, bool); 5] = [
 ];
 
 #[test]
-fn four_echoes_are_needed_of_four_nodes(rt: HostRuntime) -> Result<(), Fail> {
+fn four_echoes_are_needed_of_four_nodes(rt: HostRuntime) {
     for &(echoes, need, is_joined, wanted) in &ECHOES {
-        assert!(rt; joins(rt.alloc(), echoes, need, is_joined)? == wanted);
+        assert!(rt; joins(rt.alloc(), echoes, need, is_joined) == Ok(wanted));
     }
-    Ok(())
 }
 
 // What a new node answers to its own Join.
@@ -87,8 +103,7 @@ fn a_node_echoes_its_own_join(rt: HostRuntime) -> Result<(), Fail> {
     let view = View::new(rt.alloc())?;
     let echo = echo_of_join(rt.alloc(), id(1), &view);
     drop(view);
-    let echo = echo?;
-    let is_echo = matches!(&echo, Some(Message::JoinEcho { .. }));
+    let is_echo = matches!(&echo, Ok(Some(Message::JoinEcho { .. })));
     drop(echo);
     assert!(rt; is_echo);
     Ok(())
@@ -130,14 +145,14 @@ fn a_node_joins_and_is_asked(rt: HostRuntime) -> Result<(), Fail> {
     let is_member = is_member(&churn, me);
     let is_copied = is_copied(rt.alloc(), &churn, me);
     drop(churn);
-    assert!(rt; was_outside && is_member && is_copied?);
+    assert!(rt; was_outside && is_member && is_copied == Ok(true));
     Ok(())
 }
 
 type Decided = (Result<(), Refusal>, Result<(), Refusal>, u64);
 
 // Node 4 has entered, and left if that is 4. How a node then leaves and takes a message, and how many echoes it tells.
-fn leaves(alloc: Global, left: u32, me: u32) -> Result<Decided, Fail> {
+fn leaves(alloc: Global, left: u32, me: u32) -> Result<Decided, NoMemory> {
     let churn = Churn::from_parts(changes_of(alloc, 4, 0, left)?, 3, 4);
     let decided = (
         churn.decide_leave(id(me)),
@@ -149,13 +164,12 @@ fn leaves(alloc: Global, left: u32, me: u32) -> Result<Decided, Fail> {
 }
 
 #[test]
-fn only_who_is_inside_leaves_and_hears(rt: HostRuntime) -> Result<(), Fail> {
+fn only_who_is_inside_leaves_and_hears(rt: HostRuntime) {
     for &(left, me, wanted) in &[
         (0, 4, Ok(())),
         (0, 5, Err(Refusal::NotEntered)),
         (4, 4, Err(Refusal::Left)),
     ] {
-        assert!(rt; leaves(rt.alloc(), left, me)? == (wanted, wanted, 3));
+        assert!(rt; leaves(rt.alloc(), left, me) == Ok((wanted, wanted, 3)));
     }
-    Ok(())
 }

@@ -4,17 +4,17 @@ use crate::refusals::unless_failed;
 use crate::sets::id;
 use crate::views::{row, text};
 use cc_messages::{Answer, Command, Event, Message, Refusal};
-use cc_views::View;
+use cc_views::{NoMemory, View};
 use cc_wire::{
     WireFault, decode_answer, decode_command, decode_event, decode_message, decode_view,
     encode_answer, encode_command, encode_event, encode_message, encode_view, event_len,
 };
-use std::alloc::Global;
+use std::alloc::{AllocError, Global};
 use std::process::Abort;
 use std::test::*;
 
 // A view of one row: node 1, number 1, text "a".
-fn one_row(alloc: Global) -> Result<View, Fail> {
+fn one_row(alloc: Global) -> Result<View, NoMemory> {
     let mut view = View::new(alloc)?;
     view.push(row(1, b"a"));
     Ok(view)
@@ -167,8 +167,13 @@ fn put_commands(out: &mut Vec<u8>) -> Result<(), Fail> {
 
 fn bytes_of_commands(alloc: Global) -> Result<Vec<u8>, Fail> {
     let mut out = Vec::new(alloc);
-    put_commands(&mut out)?;
-    Ok(out)
+    match put_commands(&mut out) {
+        Ok(()) => Ok(out),
+        Err(fail) => {
+            drop(out);
+            Err(fail)
+        }
+    }
 }
 
 const COMMANDS: [u8; 19] = [2, 3, 0, 0, 0, 0, 0, 0, 0, 9, 4, 5, 6, 7, 0, 0, 0, 3, 8];
@@ -247,13 +252,13 @@ fn an_event_is_copied_and_read_again(rt: HostRuntime) -> Result<(), Fail> {
     check_bytes(&rt, copied_event(rt.alloc(), &DELIVER), &DELIVER)
 }
 
-fn put_one(event: Event, out: &mut Vec<u8>) -> Result<(), Fail> {
+fn put_one(event: Event, out: &mut Vec<u8>) -> Result<(), NoMemory> {
     let put = encode_event(&event, out);
     drop(event);
-    Ok(put?)
+    put
 }
 
-fn put_small_events(out: &mut Vec<u8>) -> Result<(), Fail> {
+fn put_small_events(out: &mut Vec<u8>) -> Result<(), NoMemory> {
     let peer = id(7);
     put_one(Event::Enter, out)?;
     put_one(Event::Leave, out)?;
@@ -263,8 +268,13 @@ fn put_small_events(out: &mut Vec<u8>) -> Result<(), Fail> {
 
 fn bytes_of_small_events(alloc: Global) -> Result<Vec<u8>, Fail> {
     let mut out = Vec::new(alloc);
-    put_small_events(&mut out)?;
-    Ok(out)
+    match put_small_events(&mut out) {
+        Ok(()) => Ok(out),
+        Err(NoMemory) => {
+            drop(out);
+            Err(NoMemory.into())
+        }
+    }
 }
 
 /// Why these bytes spell no event.
@@ -311,7 +321,12 @@ pub fn len_of(event: Event) -> usize {
 }
 
 /// The length of the message that these bytes spell, as it comes from a node under a number.
-pub fn len_of_delivery(alloc: Global, from: u32, number: u64, bytes: &[u8]) -> Result<usize, Fail> {
+pub fn len_of_delivery(
+    alloc: Global,
+    from: u32,
+    number: u64,
+    bytes: &[u8],
+) -> Result<usize, WireFault> {
     let message = decode_message(alloc, bytes)?;
     Ok(len_of(Event::Deliver {
         from: id(from),
@@ -320,13 +335,13 @@ pub fn len_of_delivery(alloc: Global, from: u32, number: u64, bytes: &[u8]) -> R
     }))
 }
 
-fn len_of_join(alloc: Global) -> Result<usize, Fail> {
+fn len_of_join(alloc: Global) -> Result<usize, WireFault> {
     Ok(len_of(decode_event(alloc, &DELIVER)?))
 }
 
 // A kind, and then ids of four bytes and numbers of eight; a Store of one row has 39 bytes, a text its length before it.
 #[test]
-fn sizes_of_events(rt: HostRuntime) -> Result<(), Fail> {
+fn sizes_of_events(rt: HostRuntime) {
     let ask = Event::Ask {
         session: 7,
         request: 1,
@@ -336,11 +351,10 @@ fn sizes_of_events(rt: HostRuntime) -> Result<(), Fail> {
         len_of(ask),
         len_of(Event::Enter),
         len_of(Event::Retire { node: id(9) }),
-        len_of_delivery(rt.alloc(), 1, 1, &STORE)?,
-        len_of_join(rt.alloc())?,
     ];
-    assert!(rt; found == [20, 1, RETIRE.len(), 52, DELIVER.len()]);
-    Ok(())
+    assert!(rt; found == [20, 1, RETIRE.len()]);
+    assert!(rt; len_of_delivery(rt.alloc(), 1, 1, &STORE) == Ok(52));
+    assert!(rt; len_of_join(rt.alloc()) == Ok(DELIVER.len()));
 }
 
 /// The bytes of a copy of the message that these bytes spell.
@@ -370,15 +384,14 @@ fn a_view_is_written(rt: HostRuntime) -> Result<(), Fail> {
     check_bytes(&rt, view_bytes(rt.alloc()), &STORE[1..27])
 }
 
-fn names(alloc: Global, refusal: Refusal, wanted: &str) -> Result<bool, Fail> {
+fn names(alloc: Global, refusal: Refusal, wanted: &str) -> Result<bool, AllocError> {
     Ok(format!(in alloc; "{refusal}")?.as_str() == wanted)
 }
 
 #[test]
-fn refusals_print_their_number_and_name(rt: HostRuntime) -> Result<(), Fail> {
-    assert!(rt; names(rt.alloc(), Refusal::Gap(1), "6 Gap 1")?);
-    assert!(rt; names(rt.alloc(), Refusal::Busy, "13 Busy")?);
-    Ok(())
+fn refusals_print_their_number_and_name(rt: HostRuntime) {
+    assert!(rt; names(rt.alloc(), Refusal::Gap(1), "6 Gap 1") == Ok(true));
+    assert!(rt; names(rt.alloc(), Refusal::Busy, "13 Busy") == Ok(true));
 }
 
 const FAULTS: [(WireFault, &str); 7] = [
@@ -394,14 +407,13 @@ const FAULTS: [(WireFault, &str); 7] = [
     (WireFault::Broken, "the stream was refused before"),
 ];
 
-fn says(alloc: Global, fault: WireFault, wanted: &str) -> Result<bool, Fail> {
+fn says(alloc: Global, fault: WireFault, wanted: &str) -> Result<bool, AllocError> {
     Ok(format!(in alloc; "{fault}")?.as_str() == wanted)
 }
 
 #[test]
-fn faults_of_the_wire_print_what_is_wrong(rt: HostRuntime) -> Result<(), Fail> {
+fn faults_of_the_wire_print_what_is_wrong(rt: HostRuntime) {
     for &(fault, wanted) in &FAULTS {
-        assert!(rt; says(rt.alloc(), fault, wanted)?);
+        assert!(rt; says(rt.alloc(), fault, wanted) == Ok(true));
     }
-    Ok(())
 }

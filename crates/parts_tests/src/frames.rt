@@ -7,6 +7,7 @@ use crate::refusals::unless_failed;
 use crate::views::text;
 use cc_frames::{Frame, FrameReader, decode_frame, encode_frame};
 use cc_messages::{Answer, Command, Refusal};
+use cc_views::NoMemory;
 use cc_wire::WireFault;
 use std::alloc::Global;
 use std::test::*;
@@ -108,7 +109,7 @@ fn stream_faults(
     alloc: Global,
     first: &[u8],
     second: &[u8],
-) -> Result<(Option<WireFault>, Option<WireFault>), Fail> {
+) -> Result<(Option<WireFault>, Option<WireFault>), NoMemory> {
     let mut reader = FrameReader::new(alloc)?;
     let fault = stream_fault(alloc, &mut reader, first);
     let then = stream_fault(alloc, &mut reader, second);
@@ -117,12 +118,12 @@ fn stream_faults(
 }
 
 #[test]
-fn a_bad_length_breaks_a_stream(rt: HostRuntime) -> Result<(), Fail> {
-    let (long, then) = stream_faults(rt.alloc(), &[0, 1, 0, 1], &ASK)?;
-    assert!(rt; (long, then) == (Some(WireFault::TooLarge), Some(WireFault::Broken)));
-    let (empty, _) = stream_faults(rt.alloc(), &[0, 0, 0, 0], &ASK)?;
-    assert!(rt; empty == Some(WireFault::Short));
-    Ok(())
+fn a_bad_length_breaks_a_stream(rt: HostRuntime) {
+    let broken = Some(WireFault::Broken);
+    let long = stream_faults(rt.alloc(), &[0, 1, 0, 1], &ASK);
+    assert!(rt; long == Ok((Some(WireFault::TooLarge), broken)));
+    let empty = stream_faults(rt.alloc(), &[0, 0, 0, 0], &ASK);
+    assert!(rt; empty == Ok((Some(WireFault::Short), broken)));
 }
 
 // A frame of each kind: Leave, an Ack, a Post of Leave 1, Retire 9, and then those above.

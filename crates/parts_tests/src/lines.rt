@@ -37,7 +37,6 @@ fn a_line_tells_what_waits(rt: HostRuntime) -> Result<(), Fail> {
     let told = told(&line);
     let is_last = line.last_value(&Value::empty()) == Some(value);
     drop(line);
-    assert!(rt; told == (2, true, true, false, false));
-    assert!(rt; is_last);
+    assert!(rt; (told, is_last) == ((2, true, true, false, false), true));
     Ok(())
 }

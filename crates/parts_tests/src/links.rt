@@ -6,7 +6,7 @@ ghost use Rattle.cc_links.specs.Links.{ReachesWithin};
 
 use crate::sets::id;
 use cc_links::{KnownIds, LinkRow, Links};
-use cc_views::{Row, Value};
+use cc_views::{NoMemory, Row, Value};
 use std::alloc::Global;
 use std::test::*;
 
@@ -24,7 +24,7 @@ fn row(peer: u32, acked: u64) -> LinkRow
 
 /// Three posts: peer 1 has acknowledged two of them, peer 2 one.
 #[tactic(auto, using(cc_links::specs::LinkLaws::reaches_empty, cc_links::specs::LinkLaws::reaches_insert, cc_views::specs::MapLaws::len_insert))]
-pub fn two_links(alloc: Global) -> Result<Links, Fail>
+pub fn two_links(alloc: Global) -> Result<Links, NoMemory>
     ensures reached { IfOk result (λ l. ReachesWithin 3 l) }
     ensures len { IfOk result (λ l. len l ≤ 2) }
 {
@@ -77,14 +77,14 @@ fn without_a_live_link_no_post_is_needed(rt: HostRuntime) -> Result<(), Fail> {
 }
 
 // A copy of both links, after peer 1 was heard and peer 2 has acknowledged three posts. Peer 9 has no link.
-fn heard_and_acked(alloc: Global) -> Result<Links, Fail> {
+fn heard_and_acked(alloc: Global) -> Result<Links, NoMemory> {
     let mut links = two_links(alloc)?;
     links.hear(id(1), 7);
     links.ack(id(2), 3);
     links.hear(id(9), 1);
     let copy = links.copy(alloc);
     drop(links);
-    Ok(copy?)
+    copy
 }
 
 fn are_read_again(copy: &Links) -> bool {

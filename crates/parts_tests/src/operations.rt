@@ -33,7 +33,7 @@ pub fn first_request(command: Command) -> Asked
 }
 
 /// A collect has begun.
-pub fn querying(alloc: Global) -> Result<Ops, Fail>
+pub fn querying(alloc: Global) -> Result<Ops, NoMemory>
     ensures { IfOk result (λ o. o ≡ ops.after_ask 1 1 (record { session = 7; request = 1; command = command.Collect }) (ops.nothing_done 1)) }
 {
     let me = me();
@@ -43,7 +43,7 @@ pub fn querying(alloc: Global) -> Result<Ops, Fail>
 }
 
 // The reply of a node that has seen nothing.
-fn empty_reply(alloc: Global) -> Result<Message, Fail>
+fn empty_reply(alloc: Global) -> Result<Message, NoMemory>
     ensures { IfOk result (λ m. m ≡ message.QueryReply map.empty 1 1) }
 {
     let node = me();
@@ -52,7 +52,7 @@ fn empty_reply(alloc: Global) -> Result<Message, Fail>
 }
 
 // What was seen, which is nothing, is stored back.
-fn storing_back(alloc: Global) -> Result<Ops, Fail> {
+fn storing_back(alloc: Global) -> Result<Ops, NoMemory> {
     let me = me();
     let reply = empty_reply(alloc)?;
     match querying(alloc) {
@@ -81,6 +81,14 @@ pub fn said(message: &Message) -> Said {
         Message::Store { view, tag, node } => ("Store", view.rows().len(), *tag, node.number()),
         Message::StoreAck { tag, node } => ("StoreAck", 0, *tag, node.number()),
         _ => ("another", 0, 0, 0),
+    }
+}
+
+/// The same of a message, if there is one.
+pub fn said_of(message: &Option<Message>) -> Option<Said> {
+    match message {
+        Some(message) => Some(said(message)),
+        None => None,
     }
 }
 
@@ -160,19 +168,19 @@ fn a_copy_waits_for_the_same(rt: HostRuntime) -> Result<(), Fail> {
     let ops = querying(rt.alloc())?;
     let copied = copied(rt.alloc(), &ops);
     drop(ops);
-    assert!(rt; copied? == (1, false, true));
+    assert!(rt; copied == Ok((1, false, true)));
     Ok(())
 }
 
 // The first post of an operation of a new node.
-fn first_post(alloc: Global, command: Command) -> Result<Message, Fail>
+fn first_post(alloc: Global, command: Command) -> Result<Message, NoMemory>
     requires { IsFalse (commands.finds_no_room (ops.nothing_done 1).mine command) }
 {
     let me = me();
     let ops = Ops::new(alloc, 1)?;
     let post = ops.first_post(alloc, me, 1, &first_request(command));
     drop(ops);
-    Ok(post?)
+    post
 }
 
 #[test]
@@ -194,21 +202,20 @@ fn a_store_begins_with_its_row(rt: HostRuntime) -> Result<(), Fail> {
     Ok(())
 }
 
-// What a message is answered with.
-fn answered(alloc: Global, server: &Ops, message: &Message) -> Result<Said, Fail>
+// What a message is answered with, if it is.
+fn answered(alloc: Global, server: &Ops, message: &Message) -> Result<Option<Said>, NoMemory>
     requires fits { map.len (ops.after_message 1 1 message.now server.now).view ≤ 256 }
     requires number { (ops.after_message 1 1 message.now server.now).number ≤ 2 ^ 62 }
     requires tag { (ops.after_message 1 1 message.now server.now).tag ≤ 2 ^ 62 }
 {
     let me = me();
-    let post = server.post(alloc, me, 1, true, message)?;
-    let answer = post.ok_or("it is answered")?;
-    let said = said(&answer);
+    let answer = server.post(alloc, me, 1, true, message)?;
+    let said = said_of(&answer);
     drop(answer);
     Ok(said)
 }
 
-fn said_to_a_query(alloc: Global) -> Result<Said, Fail> {
+fn said_to_a_query(alloc: Global) -> Result<Option<Said>, NoMemory> {
     let node = me();
     let server = querying(alloc)?;
     let query = Message::Query { tag: 1, node };
@@ -219,13 +226,12 @@ fn said_to_a_query(alloc: Global) -> Result<Said, Fail> {
 }
 
 #[test]
-fn a_query_is_replied_to(rt: HostRuntime) -> Result<(), Fail> {
-    let said = said_to_a_query(rt.alloc())?;
-    assert!(rt; said == ("QueryReply", 0, 1, 1));
-    Ok(())
+fn a_query_is_replied_to(rt: HostRuntime) {
+    let said = said_to_a_query(rt.alloc());
+    assert!(rt; said == Ok(Some(("QueryReply", 0, 1, 1))));
 }
 
-fn said_to_a_reply(alloc: Global) -> Result<Said, Fail> {
+fn said_to_a_reply(alloc: Global) -> Result<Option<Said>, NoMemory> {
     let reply = empty_reply(alloc)?;
     match querying(alloc) {
         Ok(server) => {
@@ -242,14 +248,13 @@ fn said_to_a_reply(alloc: Global) -> Result<Said, Fail> {
 }
 
 #[test]
-fn what_was_seen_is_stored_back(rt: HostRuntime) -> Result<(), Fail> {
-    let said = said_to_a_reply(rt.alloc())?;
-    assert!(rt; said == ("Store", 0, 2, 1));
-    Ok(())
+fn what_was_seen_is_stored_back(rt: HostRuntime) {
+    let said = said_to_a_reply(rt.alloc());
+    assert!(rt; said == Ok(Some(("Store", 0, 2, 1))));
 }
 
 // A store of nothing.
-fn empty_store(alloc: Global) -> Result<Message, Fail>
+fn empty_store(alloc: Global) -> Result<Message, NoMemory>
     ensures { IfOk result (λ m. m ≡ message.Store map.empty 2 1) }
 {
     let node = me();
@@ -257,7 +262,7 @@ fn empty_store(alloc: Global) -> Result<Message, Fail>
     Ok(Message::Store { view, tag: 2, node })
 }
 
-fn said_to_a_store(alloc: Global) -> Result<Said, Fail> {
+fn said_to_a_store(alloc: Global) -> Result<Option<Said>, NoMemory> {
     let store = empty_store(alloc)?;
     match Ops::new(alloc, 1) {
         Ok(server) => {
@@ -268,27 +273,26 @@ fn said_to_a_store(alloc: Global) -> Result<Said, Fail> {
         }
         Err(fault) => {
             drop(store);
-            Err(fault)?
+            Err(fault)
         }
     }
 }
 
 #[test]
-fn a_store_is_acknowledged(rt: HostRuntime) -> Result<(), Fail> {
-    let said = said_to_a_store(rt.alloc())?;
-    assert!(rt; said == ("StoreAck", 0, 2, 1));
-    Ok(())
+fn a_store_is_acknowledged(rt: HostRuntime) {
+    let said = said_to_a_store(rt.alloc());
+    assert!(rt; said == Ok(Some(("StoreAck", 0, 2, 1))));
 }
 
 // What clients are told by the acknowledgement of what a collect stored back.
-fn last_replies(alloc: Global) -> Result<Replies, Fail> {
+fn last_replies(alloc: Global) -> Result<Replies, NoMemory> {
     let node = me();
     let ops = storing_back(alloc)?;
     let acknowledgement = Message::StoreAck { tag: 2, node };
     let replies = ops.replies(alloc, node, &acknowledgement);
     drop(acknowledgement);
     drop(ops);
-    Ok(replies?)
+    replies
 }
 
 // Whether the first request of session 7 alone is told of no row.

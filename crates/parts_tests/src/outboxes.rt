@@ -3,6 +3,7 @@
 use crate::sets::id;
 use cc_messages::{Answer, Message};
 use cc_outbox::Outbox;
+use cc_views::NoMemory;
 use std::alloc::Global;
 use std::test::*;
 
@@ -16,7 +17,7 @@ fn named(outbox: &Outbox, number: u64) -> u32 {
 
 // Posts 5 and 6.
 #[tactic(auto, using(cc_views::specs::MapLaws::len_insert))]
-fn two_posts(alloc: Global) -> Result<Outbox, Fail> {
+fn two_posts(alloc: Global) -> Result<Outbox, NoMemory> {
     let mut outbox = Outbox::starting_after(alloc, 4)?;
     outbox.add(Message::Join { node: id(50) });
     outbox.add(Message::Join { node: id(60) });

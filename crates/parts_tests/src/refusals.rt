@@ -11,11 +11,12 @@ pub(crate) fn unless_failed<T, E: Drop>(
         Ok(value) => Ok(value),
         Err(fault) => {
             drop(fault);
-            Err(if is_as_before {
+            let told = if is_as_before {
                 "failed, and all is as it was"
             } else {
                 "failed, and something has changed"
-            })?
+            };
+            Err(told.into())
         }
     }
 }

@@ -27,8 +27,7 @@ fn a_request_runs_once_and_in_turn(rt: HostRuntime) -> Result<(), Fail> {
     sessions.begin(7, 1);
     let goes_on = goes_on_with_two(&sessions);
     drop(sessions);
-    assert!(rt; begins_at_one);
-    assert!(rt; goes_on);
+    assert!(rt; begins_at_one && goes_on);
     Ok(())
 }
 
@@ -50,6 +49,6 @@ fn a_copy_has_the_same_rows(rt: HostRuntime) -> Result<(), Fail> {
     let copied = copied(rt.alloc(), &sessions);
     let count = sessions.rows().len();
     drop(sessions);
-    assert!(rt; copied? == (Some(1), None, count));
+    assert!(rt; copied == Ok((Some(1), None, count)));
     Ok(())
 }

@@ -4,7 +4,7 @@ ghost use Rattle.std.specs.Prelude.{◌≡◌, ◌≤◌, IfOk, IsSome, length};
 ghost use Rattle.std.specs.FinMap.{len};
 
 use crate::sets::id;
-use cc_views::{NumberSet, Row, Text, Value, View};
+use cc_views::{NoMemory, NumberSet, Row, Text, Value, View};
 use std::alloc::Global;
 use std::test::*;
 
@@ -28,7 +28,7 @@ pub fn row(node: u32, bytes: &[u8]) -> Row
     }
 }
 
-fn view(alloc: Global, node: u32, text: &[u8]) -> Result<View, Fail>
+fn view(alloc: Global, node: u32, text: &[u8]) -> Result<View, NoMemory>
     requires { length text.now ≤ 64 }
     ensures { IfOk result (λ v. len v ≡ 1) }
 {
@@ -38,11 +38,10 @@ fn view(alloc: Global, node: u32, text: &[u8]) -> Result<View, Fail>
 }
 
 #[test]
-fn a_text_has_at_most_64_bytes(rt: HostRuntime) -> Result<(), Fail> {
-    let text = Text::new(&[7; 64]).ok_or("64 bytes are taken")?;
-    assert!(rt; text.as_bytes() == [7; 64].as_slice());
+fn a_text_has_at_most_64_bytes(rt: HostRuntime) {
+    let longest = Text::new(&[7; 64]);
+    assert!(rt; matches!(longest, Some(text) if text.as_bytes() == [7; 64].as_slice()));
     assert!(rt; Text::new(&[7; 65]).is_none());
-    Ok(())
 }
 
 #[test]
@@ -57,7 +56,7 @@ fn a_number_stands_once_in_a_set(rt: HostRuntime) {
 
 // Merges in the view of a node with text "b".
 #[tactic(auto, using(cc_views::specs::MergeLaws::merge_is_no_larger))]
-fn merge_other(alloc: Global, node: u32, to: &mut View) -> Result<(), Fail>
+fn merge_other(alloc: Global, node: u32, to: &mut View) -> Result<(), NoMemory>
     requires { len to.old ≡ 1 }
 {
     let other = view(alloc, node, b"b")?;
@@ -67,7 +66,7 @@ fn merge_other(alloc: Global, node: u32, to: &mut View) -> Result<(), Fail>
 }
 
 // How many rows the view of node 1 with text "a" has then, and whether its own is the only one.
-fn merged(alloc: Global, node: u32) -> Result<(usize, bool), Fail> {
+fn merged(alloc: Global, node: u32) -> Result<(usize, bool), NoMemory> {
     let mut left = view(alloc, 1, b"a")?;
     let merged = merge_other(alloc, node, &mut left);
     let found = (left.rows().len(), left.rows() == [row(1, b"a")].as_slice());
@@ -77,20 +76,18 @@ fn merged(alloc: Global, node: u32) -> Result<(usize, bool), Fail> {
 }
 
 #[test]
-fn equal_numbers_keep_the_left_row(rt: HostRuntime) -> Result<(), Fail> {
-    assert!(rt; merged(rt.alloc(), 1)? == (1, true));
-    Ok(())
+fn equal_numbers_keep_the_left_row(rt: HostRuntime) {
+    assert!(rt; merged(rt.alloc(), 1) == Ok((1, true)));
 }
 
 #[test]
-fn both_nodes_stand_in_a_merge(rt: HostRuntime) -> Result<(), Fail> {
-    assert!(rt; merged(rt.alloc(), 2)? == (2, false));
-    Ok(())
+fn both_nodes_stand_in_a_merge(rt: HostRuntime) {
+    assert!(rt; merged(rt.alloc(), 2) == Ok((2, false)));
 }
 
 // How many rows a copy has once the view has one more, whether it is at most the view, and the view at most it.
 #[tactic(auto, using(cc_views::specs::MergeLaws::merge_row_is_no_larger))]
-fn copied_before(alloc: Global, view: &mut View) -> Result<(usize, bool, bool), Fail>
+fn copied_before(alloc: Global, view: &mut View) -> Result<(usize, bool, bool), NoMemory>
     requires { len view.old ≡ 1 }
 {
     let copy = view.copy(alloc)?;
@@ -105,11 +102,11 @@ fn a_copy_stays_as_it_was(rt: HostRuntime) -> Result<(), Fail> {
     let mut view = view(rt.alloc(), 1, b"a")?;
     let found = copied_before(rt.alloc(), &mut view);
     drop(view);
-    assert!(rt; found? == (1, true, false));
+    assert!(rt; found == Ok((1, true, false)));
     Ok(())
 }
 
-fn take_over(alloc: Global, to: &mut View) -> Result<(), Fail> {
+fn take_over(alloc: Global, to: &mut View) -> Result<(), NoMemory> {
     let other = view(alloc, 2, b"b")?;
     to.copy_from(&other);
     drop(other);
@@ -122,7 +119,6 @@ fn rows_are_taken_over(rt: HostRuntime) -> Result<(), Fail> {
     let taken = take_over(rt.alloc(), &mut view);
     let is_other = view.rows() == [row(2, b"b")].as_slice();
     drop(view);
-    taken?;
-    assert!(rt; is_other);
+    assert!(rt; taken.is_ok() && is_other);
     Ok(())
 }

@@ -1,11 +1,12 @@
 //! Openings, and what a node answers to events.
 
+use crate::sets::id;
 use cc_changes::Fraction;
 use cc_messages::{Command, Event, Message, Refusal};
 use cc_node::{Core, Fresh, Node, Opening};
 use cc_ops::Stage;
-use cc_views::NodeId;
-use std::alloc::Global;
+use cc_views::{NoMemory, NodeId};
+use std::alloc::{AllocError, Global};
 use std::process::Abort;
 use std::test::*;
 
@@ -77,36 +78,26 @@ fn a_member_is_one_of_the_first_and_no_contact_of_its_own(rt: HostRuntime) -> Re
     Ok(())
 }
 
-fn push_contacts(contacts: &mut Vec<u32>, last: u32) -> Result<(), Fail> {
+fn push_contacts(contacts: &mut Vec<u32>, last: u32) -> Result<(), AllocError> {
     for id in 2..=last {
         contacts.push(id)?;
     }
     Ok(())
 }
 
-// The contacts from node 2 to the last one.
-fn contacts(alloc: Global, last: u32) -> Result<Vec<u32>, Fail> {
+// Whether node 1 can't begin with the contacts from node 2 to the last one.
+fn is_bad_up_to(alloc: Global, last: u32) -> Result<bool, AllocError> {
     let mut contacts = Vec::new(alloc);
-    push_contacts(&mut contacts, last)?;
-    Ok(contacts)
-}
-
-// Whether node 1 can't begin with the contacts up to the last one.
-fn is_bad_up_to(alloc: Global, last: u32) -> Result<bool, Fail> {
-    let contacts = contacts(alloc, last)?;
+    let pushed = push_contacts(&mut contacts, last);
     let is_bad = is_bad(alloc, &opening(1, &[], &contacts));
     drop(contacts);
-    Ok(is_bad)
+    pushed.and(Ok(is_bad))
 }
 
 #[test]
-fn an_opening_names_up_to_256_nodes(rt: HostRuntime) -> Result<(), Fail> {
-    let are_bad = [
-        is_bad_up_to(rt.alloc(), 256)?,
-        is_bad_up_to(rt.alloc(), 257)?,
-    ];
-    assert!(rt; are_bad == [false, true]);
-    Ok(())
+fn an_opening_names_up_to_256_nodes(rt: HostRuntime) {
+    assert!(rt; is_bad_up_to(rt.alloc(), 256) == Ok(false));
+    assert!(rt; is_bad_up_to(rt.alloc(), 257) == Ok(true));
 }
 
 fn check_member<R: Abort>(rt: &R, node: &Node, contact: NodeId) {
@@ -129,24 +120,20 @@ fn check_member<R: Abort>(rt: &R, node: &Node, contact: NodeId) {
 
 #[test]
 fn a_member_begins(rt: HostRuntime) -> Result<(), Fail> {
-    let seventh = NodeId::new(7).ok_or("7 is an id")?;
     let node = Node::fresh(rt.alloc(), &opening(2, &[1, 2], &[7]))?;
-    check_member(&rt, &node, seventh);
+    check_member(&rt, &node, id(7));
     drop(node);
     Ok(())
 }
 
+fn prints(alloc: Global, fault: Fresh, name: &str) -> Result<bool, AllocError> {
+    Ok(format!(in alloc; "{fault}")?.as_str() == name)
+}
+
 #[test]
-fn faults_print_their_names(rt: HostRuntime) -> Result<(), Fail> {
-    for (fault, name) in [
-        (Fresh::BadOpening, "BadOpening"),
-        (Fresh::NoMemory, "NoMemory"),
-    ] {
-        let text = format!(in rt.alloc(); "{fault}")?;
-        assert!(rt; text.as_str() == name);
-        drop(text);
-    }
-    Ok(())
+fn faults_print_their_names(rt: HostRuntime) {
+    assert!(rt; prints(rt.alloc(), Fresh::BadOpening, "BadOpening") == Ok(true));
+    assert!(rt; prints(rt.alloc(), Fresh::NoMemory, "NoMemory") == Ok(true));
 }
 
 /// The request of session 7 with this number.
@@ -167,7 +154,7 @@ pub fn take(alloc: Global, node: &mut Node, event: Event) -> Result<(), Fail> {
         }
         Err(refusal) => {
             drop(event);
-            Err(refusal)?
+            Err(refusal.into())
         }
     }
 }
@@ -179,15 +166,11 @@ pub fn refusal(node: &Node, event: Event) -> Option<Refusal> {
     decided.err()
 }
 
-fn check_same_rows<R: Abort>(rt: &R, copy: &Core, core: &Core) {
-    assert!(rt; copy.view().rows() == core.view().rows());
-}
-
-fn check_copy<R: Abort + AllocGlobal>(rt: &R, core: &Core) -> Result<(), Fail> {
-    let copy = core.copy(rt.alloc())?;
-    check_same_rows(rt, &copy, core);
+fn is_copied(alloc: Global, core: &Core) -> Result<bool, NoMemory> {
+    let copy = core.copy(alloc)?;
+    let is_same = copy.view().rows() == core.view().rows();
     drop(copy);
-    Ok(())
+    Ok(is_same)
 }
 
 fn check_asked<R: Abort>(rt: &R, node: &Node) {
@@ -203,7 +186,8 @@ fn check_asked<R: Abort>(rt: &R, node: &Node) {
 fn check_ask<R: Abort + AllocGlobal>(rt: &R, node: &mut Node) -> Result<(), Fail> {
     take(rt.alloc(), node, ask(1, Command::SetFlag))?;
     check_asked(rt, node);
-    check_copy(rt, node.core())
+    assert!(rt; is_copied(rt.alloc(), node.core()) == Ok(true));
+    Ok(())
 }
 
 #[test]
@@ -235,9 +219,8 @@ fn check_retire<R: Abort + AllocGlobal>(rt: &R, node: &mut Node, dead: NodeId) -
 
 #[test]
 fn a_retire_keeps_the_need_and_drops_posts(rt: HostRuntime) -> Result<(), Fail> {
-    let dead = NodeId::new(2).ok_or("2 is an id")?;
     let mut node = Node::fresh(rt.alloc(), &opening(1, &[1, 2], &[]))?;
-    let checked = check_retire(&rt, &mut node, dead);
+    let checked = check_retire(&rt, &mut node, id(2));
     drop(node);
     checked
 }

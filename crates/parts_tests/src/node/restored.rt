@@ -3,7 +3,8 @@ ghost use Rattle.std.specs.Prelude.{[]};
 ghost use Rattle.cc_ops.specs.Ops.{IsWaiting};
 ghost use Rattle.cc_ops.specs.Stages.{HasWaiting, WaitsBehind};
 
-use cc_changes::{Changes, Fraction, IdSet};
+use crate::sets::{changes_of, id};
+use cc_changes::Fraction;
 use cc_churn::Churn;
 use cc_links::{LinkRow, Links};
 use cc_messages::{Answer, Command, Message};
@@ -11,7 +12,7 @@ use cc_node::{CoreParts, Node};
 use cc_ops::{AskList, Asked, Ops, Pending, Stage};
 use cc_outbox::Outbox;
 use cc_sessions::Sessions;
-use cc_views::{NodeId, Row, Value, View};
+use cc_views::{NoMemory, Row, Value, View};
 use std::alloc::Global;
 use std::process::Abort;
 use std::test::*;
@@ -66,51 +67,38 @@ struct State {
     kept: Kept,
 }
 
-// Node 1 alone, which has posted once and waits for its own acknowledgement.
-const LAWFUL: State = State {
-    me: 1,
-    beta: FOUR_FIFTHS,
-    gamma: FOUR_FIFTHS,
-    entered: 1,
-    joined: 1,
-    left: 0,
-    need: 0,
-    round: Round::Storing(Command::SetFlag),
-    known: 1,
-    seen: 1,
-    posts: 1,
-    start: 0,
-    acked: 0,
-    heard: 0,
-    last: 1,
-    kept: Kept::PostAfter(0),
-};
-
-fn id(number: u32) -> Result<NodeId, Fail> {
-    Ok(NodeId::new(number).ok_or("an id is at least 1")?)
-}
-
-// The set of one id, and of none for 0.
-fn ids(alloc: Global, number: u32) -> Result<IdSet, Fail> {
-    let mut set = IdSet::new(alloc)?;
-    if let Some(id) = NodeId::new(number) {
-        set.push(id);
+// Node 1 alone, which has posted once and waits for its own acknowledgement. States are made by a call: a constant of them costs
+// more to prove wherever it is named.
+fn lawful() -> State {
+    State {
+        me: 1,
+        beta: FOUR_FIFTHS,
+        gamma: FOUR_FIFTHS,
+        entered: 1,
+        joined: 1,
+        left: 0,
+        need: 0,
+        round: Round::Storing(Command::SetFlag),
+        known: 1,
+        seen: 1,
+        posts: 1,
+        start: 0,
+        acked: 0,
+        heard: 0,
+        last: 1,
+        kept: Kept::PostAfter(0),
     }
-    Ok(set)
 }
 
-fn churn(alloc: Global, state: &State) -> Result<Churn, Fail> {
-    let entered = ids(alloc, state.entered)?;
-    let joined = ids(alloc, state.joined)?;
-    let left = ids(alloc, state.left)?;
-    let changes = Changes::from_sets(entered, joined, left);
+fn churn(alloc: Global, state: &State) -> Result<Churn, NoMemory> {
+    let changes = changes_of(alloc, state.entered, state.joined, state.left)?;
     Ok(Churn::from_parts(changes, 0, state.need))
 }
 
 // The view of one node.
-fn view(alloc: Global, node: u32) -> Result<View, Fail> {
+fn view(alloc: Global, node: u32) -> Result<View, NoMemory> {
     let row = Row {
-        node: id(node)?,
+        node: id(node),
         number: 1,
         value: Value::empty(),
     };
@@ -147,21 +135,33 @@ fn stage(round: Round) -> Stage
 }
 
 // With a view of one node, and another of one node to be stored back.
-fn ops(alloc: Global, state: &State) -> Result<Ops, Fail> {
+fn ops(alloc: Global, state: &State) -> Result<Ops, NoMemory> {
     let stage = stage(state.round);
     let mine = Value::empty();
     let line = AskList::new(alloc)?;
-    let others = AskList::new(alloc)?;
-    let known = view(alloc, state.known)?;
-    let seen = view(alloc, state.seen)?;
-    Ok(Ops::from_parts(alloc, known, 1, mine, 1, 1, stage, seen, others, line)?)
+    let Ok(others) = AskList::new(alloc) else {
+        drop(line);
+        return Err(NoMemory);
+    };
+    let Ok(known) = view(alloc, state.known) else {
+        drop(line);
+        drop(others);
+        return Err(NoMemory);
+    };
+    let Ok(seen) = view(alloc, state.seen) else {
+        drop(line);
+        drop(others);
+        drop(known);
+        return Err(NoMemory);
+    };
+    Ops::from_parts(alloc, known, 1, mine, 1, 1, stage, seen, others, line)
 }
 
 // The link of node 1 to itself.
 #[tactic(auto, using(cc_views::specs::MapLaws::len_insert))]
-fn links(alloc: Global, state: &State) -> Result<Links, Fail> {
+fn links(alloc: Global, state: &State) -> Result<Links, NoMemory> {
     let row = LinkRow {
-        peer: id(1)?,
+        peer: id(1),
         start: state.start,
         acked: state.acked,
         heard: state.heard,
@@ -172,50 +172,54 @@ fn links(alloc: Global, state: &State) -> Result<Links, Fail> {
 }
 
 // Session 7 with this last request.
-fn sessions(alloc: Global, last: u64) -> Result<Sessions, Fail> {
+fn sessions(alloc: Global, last: u64) -> Result<Sessions, NoMemory> {
     let mut sessions = Sessions::new(alloc)?;
     sessions.begin(7, last);
     Ok(sessions)
 }
 
 #[tactic(auto, using(cc_views::specs::MapLaws::len_insert))]
-fn post_after(alloc: Global, dropped: u8) -> Result<Outbox, Fail> {
-    let node = id(1)?;
+fn post_after(alloc: Global, dropped: u8) -> Result<Outbox, NoMemory> {
     let mut outbox = Outbox::starting_after(alloc, u64::from(dropped))?;
-    outbox.add(Message::Join { node });
+    outbox.add(Message::Join { node: id(1) });
     Ok(outbox)
 }
 
-fn none_after(alloc: Global, dropped: u64) -> Result<Outbox, Fail> {
-    Ok(Outbox::starting_after(alloc, dropped)?)
-}
-
 #[tactic(auto, using(cc_views::specs::MapLaws::len_insert))]
-fn answered(alloc: Global, session: u64) -> Result<Outbox, Fail> {
-    let node = id(1)?;
+fn answered(alloc: Global, session: u64) -> Result<Outbox, NoMemory> {
     let mut outbox = Outbox::new(alloc)?;
-    outbox.add(Message::Join { node });
+    outbox.add(Message::Join { node: id(1) });
     outbox.keep(session, Answer::Stored);
     Ok(outbox)
 }
 
-fn outbox(alloc: Global, kept: Kept) -> Result<Outbox, Fail> {
+fn outbox(alloc: Global, kept: Kept) -> Result<Outbox, NoMemory> {
     match kept {
         Kept::PostAfter(dropped) => post_after(alloc, dropped),
-        Kept::NoneAfter(dropped) => none_after(alloc, dropped),
+        Kept::NoneAfter(dropped) => Outbox::starting_after(alloc, dropped),
         Kept::AnswerOf(session) => answered(alloc, session),
     }
 }
 
-// The smaller parts come first, since each that fails lets go of those before it.
-fn parts(alloc: Global, state: &State) -> Result<CoreParts, Fail> {
-    let me = id(state.me)?;
+fn parts(alloc: Global, state: &State) -> Result<CoreParts, NoMemory> {
     let sessions = sessions(alloc, state.last)?;
-    let links = links(alloc, state)?;
-    let churn = churn(alloc, state)?;
-    let ops = ops(alloc, state)?;
+    let Ok(links) = links(alloc, state) else {
+        drop(sessions);
+        return Err(NoMemory);
+    };
+    let Ok(churn) = churn(alloc, state) else {
+        drop(sessions);
+        drop(links);
+        return Err(NoMemory);
+    };
+    let Ok(ops) = ops(alloc, state) else {
+        drop(sessions);
+        drop(links);
+        drop(churn);
+        return Err(NoMemory);
+    };
     Ok(CoreParts {
-        me,
+        me: id(state.me),
         beta: state.beta,
         gamma: state.gamma,
         churn,
@@ -227,7 +231,7 @@ fn parts(alloc: Global, state: &State) -> Result<CoreParts, Fail> {
 }
 
 // The node of this state. None where the state is not lawful.
-fn restored(alloc: Global, state: &State) -> Result<Option<Node>, Fail> {
+fn restored(alloc: Global, state: &State) -> Result<Option<Node>, NoMemory> {
     let outbox = outbox(alloc, state.kept)?;
     match parts(alloc, state) {
         Ok(parts) => Ok(Node::restored(parts, outbox)),
@@ -238,7 +242,7 @@ fn restored(alloc: Global, state: &State) -> Result<Option<Node>, Fail> {
     }
 }
 
-fn is_restored(alloc: Global, state: &State) -> Result<bool, Fail> {
+fn is_restored(alloc: Global, state: &State) -> Result<bool, NoMemory> {
     let node = restored(alloc, state)?;
     let is_restored = node.is_some();
     drop(node);
@@ -246,182 +250,181 @@ fn is_restored(alloc: Global, state: &State) -> Result<bool, Fail> {
 }
 
 // Checks whether nodes are restored from these states.
-fn check_states<R: Abort + AllocGlobal>(
-    rt: &R,
-    states: &[State],
-    are_lawful: bool,
-) -> Result<(), Fail> {
+fn check_states<R: Abort + AllocGlobal>(rt: &R, states: &[State], are_lawful: bool) {
     for state in states {
-        let is_restored = is_restored(rt.alloc(), state)?;
-        assert!(rt; is_restored == are_lawful);
+        assert!(rt; is_restored(rt.alloc(), state) == Ok(are_lawful));
     }
-    Ok(())
 }
 
-fn check_restored<R: Abort>(rt: &R, node: &Node) {
+// Whether the node has what stands in the state, where there is one.
+fn has_state(node: &Option<Node>) -> bool {
+    let Some(node) = node else {
+        return false;
+    };
     let core = node.core();
-    assert!(rt; (core.beta(), core.gamma()) == (FOUR_FIFTHS, FOUR_FIFTHS));
-    assert!(rt; core.churn().has_joined(core.me()));
     let numbers = (
         core.ops().number(),
         core.sessions().finish(7),
         node.outbox().last(),
     );
-    assert!(rt; numbers == (1, Some(1), 1));
+    numbers == (1, Some(1), 1)
+        && (core.beta(), core.gamma()) == (FOUR_FIFTHS, FOUR_FIFTHS)
+        && core.churn().has_joined(core.me())
 }
 
 #[test]
 fn a_lawful_state_is_restored(rt: HostRuntime) -> Result<(), Fail> {
-    let node = restored(rt.alloc(), &LAWFUL)?;
-    let node = node.ok_or("the state is lawful")?;
-    check_restored(&rt, &node);
+    let node = restored(rt.alloc(), &lawful())?;
+    let has_state = has_state(&node);
     drop(node);
+    assert!(rt; has_state);
     Ok(())
 }
 
-const IDLE: State = State {
-    round: Round::Idle,
-    ..LAWFUL
-};
+// The same in another round.
+fn in_round(round: Round) -> State {
+    State { round, ..lawful() }
+}
 
-const STORING_BACK: State = State {
-    round: Round::StoringBack(Command::Collect),
-    ..LAWFUL
-};
+fn idle() -> State {
+    in_round(Round::Idle)
+}
 
-#[test]
-fn each_round_is_restored(rt: HostRuntime) -> Result<(), Fail> {
-    let querying = State {
-        round: Round::Querying(Command::Collect),
-        ..LAWFUL
-    };
-    check_states(&rt, &[IDLE, querying, STORING_BACK], true)
+fn storing_back() -> State {
+    in_round(Round::StoringBack(Command::Collect))
 }
 
 #[test]
-fn a_share_is_above_0_and_at_most_1(rt: HostRuntime) -> Result<(), Fail> {
+fn each_round_is_restored(rt: HostRuntime) {
+    let querying = in_round(Round::Querying(Command::Collect));
+    check_states(&rt, &[idle(), querying, storing_back()], true);
+}
+
+#[test]
+fn a_share_is_above_0_and_at_most_1(rt: HostRuntime) {
     let nothing = State {
         beta: Fraction { num: 0, den: 5 },
-        ..LAWFUL
+        ..lawful()
     };
     let beyond = State {
         gamma: Fraction { num: 6, den: 5 },
-        ..LAWFUL
+        ..lawful()
     };
-    check_states(&rt, &[nothing, beyond], false)
+    check_states(&rt, &[nothing, beyond], false);
 }
 
 #[test]
-fn a_node_knows_itself_and_whom_it_has_seen(rt: HostRuntime) -> Result<(), Fail> {
-    let other = State { me: 2, ..LAWFUL };
-    let knowing = State { known: 2, ..IDLE };
+fn a_node_knows_itself_and_whom_it_has_seen(rt: HostRuntime) {
+    let other = State { me: 2, ..lawful() };
+    let knowing = State { known: 2, ..idle() };
     let seeing = State {
         seen: 2,
-        ..STORING_BACK
+        ..storing_back()
     };
-    check_states(&rt, &[other, knowing, seeing], false)
+    check_states(&rt, &[other, knowing, seeing], false);
 }
 
 // Who entered, joined and left.
 const UNKNOWN_OR_OUTSIDE: [(u32, u32, u32); 4] = [(2, 0, 0), (1, 2, 0), (1, 1, 2), (0, 1, 0)];
 
 #[test]
-fn who_comes_and_goes_is_known_and_has_entered(rt: HostRuntime) -> Result<(), Fail> {
-    for (entered, joined, left) in UNKNOWN_OR_OUTSIDE {
+fn who_comes_and_goes_is_known_and_has_entered(rt: HostRuntime) {
+    for &(entered, joined, left) in &UNKNOWN_OR_OUTSIDE {
         let state = State {
             entered,
             joined,
             left,
-            ..LAWFUL
+            ..lawful()
         };
-        check_states(&rt, &[state], false)?;
+        check_states(&rt, &[state], false);
     }
-    Ok(())
 }
 
 // Where a link starts, and what it has acknowledged and heard.
 const BEYOND_BOUNDS: [(u64, u64, u64); 3] = [(2, 0, 0), (0, 2, 0), (0, 0, PAST)];
 
 #[test]
-fn links_are_within_their_bounds(rt: HostRuntime) -> Result<(), Fail> {
-    for (start, acked, heard) in BEYOND_BOUNDS {
+fn links_are_within_their_bounds(rt: HostRuntime) {
+    for &(start, acked, heard) in &BEYOND_BOUNDS {
         let state = State {
             start,
             acked,
             heard,
-            ..LAWFUL
+            ..lawful()
         };
-        check_states(&rt, &[state], false)?;
+        check_states(&rt, &[state], false);
     }
-    Ok(())
 }
 
 #[test]
-fn requests_are_within_their_bounds(rt: HostRuntime) -> Result<(), Fail> {
-    let none = State { last: 0, ..IDLE };
-    let past = State { last: PAST, ..IDLE };
-    check_states(&rt, &[none, past], false)
+fn requests_are_within_their_bounds(rt: HostRuntime) {
+    let none = State { last: 0, ..idle() };
+    let past = State {
+        last: PAST,
+        ..idle()
+    };
+    check_states(&rt, &[none, past], false);
 }
 
 #[test]
-fn counts_are_within_their_limits(rt: HostRuntime) -> Result<(), Fail> {
+fn counts_are_within_their_limits(rt: HostRuntime) {
     let needing = State {
         entered: 0,
         joined: 0,
         need: 257,
-        ..LAWFUL
+        ..lawful()
     };
     let posting = State {
         posts: PAST,
         start: PAST,
         kept: Kept::NoneAfter(PAST),
-        ..LAWFUL
+        ..lawful()
     };
-    check_states(&rt, &[needing, posting], false)
+    check_states(&rt, &[needing, posting], false);
 }
 
 #[test]
-fn the_last_request_pends_in_a_round_of_its_own(rt: HostRuntime) -> Result<(), Fail> {
-    let reading = State {
-        round: Round::Storing(Command::Collect),
-        ..LAWFUL
+fn the_last_request_pends_in_a_round_of_its_own(rt: HostRuntime) {
+    let reading = in_round(Round::Storing(Command::Collect));
+    let writing = in_round(Round::Querying(Command::SetFlag));
+    let earlier = State {
+        last: 2,
+        ..lawful()
     };
-    let writing = State {
-        round: Round::Querying(Command::SetFlag),
-        ..LAWFUL
-    };
-    let earlier = State { last: 2, ..LAWFUL };
-    check_states(&rt, &[reading, writing, earlier], false)
+    check_states(&rt, &[reading, writing, earlier], false);
 }
 
 #[test]
-fn just_the_posts_not_acknowledged_are_kept(rt: HostRuntime) -> Result<(), Fail> {
+fn just_the_posts_not_acknowledged_are_kept(rt: HostRuntime) {
     let later = State {
         kept: Kept::PostAfter(1),
-        ..LAWFUL
+        ..lawful()
     };
     let none = State {
         kept: Kept::NoneAfter(1),
-        ..LAWFUL
+        ..lawful()
     };
-    let acknowledged = State { acked: 1, ..LAWFUL };
-    check_states(&rt, &[later, none, acknowledged], false)
+    let acknowledged = State {
+        acked: 1,
+        ..lawful()
+    };
+    check_states(&rt, &[later, none, acknowledged], false);
 }
 
 #[test]
-fn answers_are_of_requests_that_are_done(rt: HostRuntime) -> Result<(), Fail> {
+fn answers_are_of_requests_that_are_done(rt: HostRuntime) {
     let done = State {
         kept: Kept::AnswerOf(7),
-        ..IDLE
+        ..idle()
     };
-    check_states(&rt, &[done], true)?;
+    check_states(&rt, &[done], true);
     let unknown = State {
         kept: Kept::AnswerOf(8),
-        ..IDLE
+        ..idle()
     };
     let pending = State {
         kept: Kept::AnswerOf(7),
-        ..LAWFUL
+        ..lawful()
     };
-    check_states(&rt, &[unknown, pending], false)
+    check_states(&rt, &[unknown, pending], false);
 }
