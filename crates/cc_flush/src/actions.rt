@@ -81,7 +81,9 @@ impl<S: Site> Flusher<S> {
         match action {
             Action::Turn(batch) => {
                 let mut batch = batch;
-                self.flush(&mut batch)?;
+                let flushed = self.flush(&mut batch);
+                drop(batch);
+                flushed?;
             }
             Action::Resend => {
                 self.resend()?;

@@ -465,15 +465,18 @@ impl<S: Site> Flusher<S> {
     {
         let Flusher {
             site,
-            node: _,
-            journal: _,
+            node,
+            journal,
             generation: _,
             used: _,
             owed: _,
             failed: _,
             opened: _,
-            piece: _,
+            piece,
         } = self;
+        drop(node);
+        drop(journal);
+        drop(piece);
         site
     }
 }

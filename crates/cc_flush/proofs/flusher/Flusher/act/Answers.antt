@@ -4,21 +4,21 @@ use Rattle.cc_flush.specs.Lives.{HasDone, FailsIn, IsTurnLawful}
 use Rattle.cc_flush.proofs.Advancing.{put_advances, turn_advances, turn_given_up}
 use Rattle.cc_flush.proofs.flusher.Flusher.act.Goals as goal
 
-pub returns-in_err-flush-in-Turn-clause-acts : goal.returns-in_err-flush-in-Turn-clause-acts
-returns-in_err-flush-in-Turn-clause-acts g c =
+pub returns-in_err-flushed-in-Turn-clause-acts : goal.returns-in_err-flushed-in-Turn-clause-acts
+returns-in_err-flushed-in-Turn-clause-acts g c =
     let old = c.args.self.now in
-    let new = c.flush.new.self in
-    let fault = c.in_err-flush-in-Turn.field-0.0.fault in
+    let new = c.flush-flushed.new.self in
+    let fault = c.in_err-flushed-in-Turn.field-0.0.fault in
     let p = err_from_is_err_and c.from_residual.result c.from_residual.ensures.1 in
     rw (p.1, p.2) (subst (λ a. FailsIn g.S.Site a old new fault) (sym c.in-Turn.is)
-    (turn_given_up g.S.Site old new c.in-Turn.batch fault (c.in_err-flush-in-Turn.ensures.flushed c.requires.goes_on)))
+    (turn_given_up g.S.Site old new c.in-Turn.batch fault (c.in_err-flushed-in-Turn.ensures.flushed c.requires.goes_on)))
 
-pub returns-in_ok-flush-in-Turn-clause-acts : goal.returns-in_ok-flush-in-Turn-clause-acts
-returns-in_ok-flush-in-Turn-clause-acts g c =
+pub returns-in_ok-flushed-in-Turn-clause-acts : goal.returns-in_ok-flushed-in-Turn-clause-acts
+returns-in_ok-flushed-in-Turn-clause-acts g c =
     let old = c.args.self.now in
     let lawful = subst (IsTurnLawful old.twin) c.in-Turn.is c.requires.lawful in
-    subst (λ a. HasDone g.S.Site a old c.flush.new.self) (sym c.in-Turn.is)
-    (turn_advances g.S.Site old c.flush.new.self c.in-Turn.batch lawful.1 (c.in_ok-flush-in-Turn.ensures.flushed c.requires.goes_on), tt)
+    subst (λ a. HasDone g.S.Site a old c.flush-flushed.new.self) (sym c.in-Turn.is)
+    (turn_advances g.S.Site old c.flush-flushed.new.self c.in-Turn.batch lawful.1 (c.in_ok-flushed-in-Turn.ensures.flushed c.requires.goes_on), tt)
 
 pub returns-in_ok-resend-in-Resend-clause-acts : goal.returns-in_ok-resend-in-Resend-clause-acts
 returns-in_ok-resend-in-Resend-clause-acts g c =
