@@ -17,15 +17,24 @@ use cc_site::Side;
 use cc_views::NoMemory;
 use std::alloc::Global;
 use std::collections::BTreeMap;
+use std::mem;
 
 /// What is shown of a node, and of what is known of it beside its state. The only error is a refused growth.
 pub fn status_of(alloc: Global, shown: &Shown, live: &Live<'_>) -> Result<Status, NoMemory>
     ensures { IfOk result (λ s. Shows shown.now.core shown.now.kept s) }
 {
     let mut status = blank(alloc, shown, live);
-    lay_state(alloc, shown, &mut status)?;
-    lay_rest(alloc, shown, live, &mut status)?;
-    Ok(status)
+    let Ok(()) = lay_state(alloc, shown, &mut status) else {
+        drop(status);
+        return Err(NoMemory);
+    };
+    match lay_rest(alloc, shown, live, &mut status) {
+        Ok(()) => Ok(status),
+        Err(NoMemory) => {
+            drop(status);
+            Err(NoMemory)
+        }
+    }
 }
 
 // What takes no memory.
@@ -136,10 +145,10 @@ fn lay_rest(
     let core = &shown.core;
     status.version.push_str(live.version)?;
     status.standing.push_str(Standing::of(core).name())?;
-    status.reason = reason(alloc, shown, live)?;
+    drop(mem::replace(&mut status.reason, reason(alloc, shown, live)?));
     status.is_ready = status.reason.is_empty();
-    status.quorum = quorum_status(alloc, shown, live)?;
-    status.round = round_status(alloc, core, live)?;
+    drop(mem::replace(&mut status.quorum, quorum_status(alloc, shown, live)?));
+    drop(mem::replace(&mut status.round, round_status(alloc, core, live)?));
     push_peers(alloc, core, live, &mut status.peers)?;
     status.disk.side.push_str(side_name(live))?;
     put_counts(alloc, live.counted, &mut status.counts)?;

@@ -29,11 +29,14 @@ impl Shown {
     {
         let core = node.core();
         let need = core.churn().quorum(core.beta());
-        Ok(Shown {
-            core: core.copy(alloc)?,
-            kept: node.kept() as u64,
-            need,
-        })
+        match core.copy(alloc) {
+            Ok(core) => Ok(Shown {
+                core,
+                kept: node.kept() as u64,
+                need,
+            }),
+            Err(NoMemory) => Err(NoMemory),
+        }
     }
 }
 

@@ -17,7 +17,8 @@ pub(crate) fn push_peers(
 ) -> Result<(), NoMemory> {
     for link in core.links().rows() {
         if link.peer != core.me() && core.is_live(link.peer) {
-            peers.push(peer_status(alloc, core.posts(), link, live.note_of(link.peer))?)?;
+            let status = peer_status(alloc, core.posts(), link, live.note_of(link.peer))?;
+            peers.push(status).or(Err(NoMemory))?;
         }
     }
     Ok(())
@@ -41,14 +42,17 @@ fn peer_status(
         last_heard: None,
     };
     if let Some(note) = note {
-        add_note(alloc, note, &mut status)?;
+        if let Err(NoMemory) = add_note(alloc, note, &mut status) {
+            drop(status);
+            return Err(NoMemory);
+        }
     }
     Ok(status)
 }
 
 fn add_note(alloc: Global, note: &PeerNote, status: &mut PeerStatus) -> Result<(), NoMemory> {
     if let Some(address) = note.address {
-        status.address = Some(address_text(alloc, address)?);
+        drop(status.address.replace(address_text(alloc, address)?));
     }
     status.connected_since = note.connected_since;
     status.absent_since = note.absent_since;

@@ -14,8 +14,13 @@ pub fn rows_of(alloc: Global, view: &View) -> Result<Vec<RowStatus>, NoMemory>
     ensures { IfOk result (λ v. map told_row v.items ≡ map row_told (rows_of view.now)) }
 {
     let mut rows = Vec::new(alloc);
-    push_rows(alloc, view.rows(), &mut rows)?;
-    Ok(rows)
+    match push_rows(alloc, view.rows(), &mut rows) {
+        Ok(()) => Ok(rows),
+        Err(NoMemory) => {
+            drop(rows);
+            Err(NoMemory)
+        }
+    }
 }
 
 pub(crate) fn push_rows(
@@ -34,9 +39,12 @@ pub(crate) fn push_rows(
 fn shown_row(alloc: Global, row: &Row) -> Result<RowStatus, NoMemory>
     ensures { IfOk result (λ r. told_row r ≡ row_told row.now) }
 {
-    let text = shown_text(alloc, &row.value.text)?;
     let mut set = Vec::new(alloc);
     set.extend_from_slice(row.value.set.as_slice())?;
+    let Ok(text) = shown_text(alloc, &row.value.text) else {
+        drop(set);
+        return Err(NoMemory);
+    };
     Ok(RowStatus {
         node: row.node.number(),
         number: row.number,

@@ -110,9 +110,13 @@ pub(crate) fn quorum_status(
 ) -> Result<QuorumStatus, NoMemory> {
     let Quorum { members, need, .. } = Quorum::of(shown, live);
     let beta = fraction(alloc, shown.core.beta())?;
+    let Ok(gamma) = fraction(alloc, shown.core.gamma()) else {
+        drop(beta);
+        return Err(NoMemory);
+    };
     Ok(QuorumStatus {
         beta,
-        gamma: fraction(alloc, shown.core.gamma())?,
+        gamma,
         members,
         need,
         may_be_away: members.saturating_sub(need),

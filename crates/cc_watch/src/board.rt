@@ -38,11 +38,16 @@ impl Board {
 
     /// Lays something out in place of what was there. Where somebody just looks, or memory is refused, what was there stays.
     pub fn lay(&self, alloc: Global, laid: Laid) {
-        let Ok(laid) = Arc::new(alloc, laid) else {
-            return;
-        };
-        if let Some(mut place) = self.laid.try_lock() {
-            *place = Some(laid);
+        match Arc::new(alloc, laid) {
+            Ok(laid) => self.replace(laid),
+            Err(failed) => drop(failed),
+        }
+    }
+
+    fn replace(&self, laid: Arc<Laid>) {
+        match self.laid.try_lock() {
+            Some(mut place) => drop(place.replace(laid)),
+            None => drop(laid),
         }
     }
 

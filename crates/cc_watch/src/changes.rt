@@ -28,12 +28,25 @@ pub fn send_changes<R: Wait + Clock, W: Write>(
 ) {
     let mut sent = BTreeMap::new(alloc);
     let mut out = Vec::new(alloc);
-    if answer_page(&mut out, Page::Changes, Outcome::Served, false, b"").is_err() {
-        return;
+    if answer_page(&mut out, Page::Changes, Outcome::Served, false, b"").is_ok() {
+        send_on(rt, alloc, board, over, &mut sent, &mut out, to);
     }
+    drop((sent, out));
+}
+
+// Sends what is to go out already, and then each row that wasn't sent as it is.
+fn send_on<R: Wait + Clock, W: Write>(
+    rt: &R,
+    alloc: Global,
+    board: &Board,
+    over: &Flag,
+    sent: &mut BTreeMap<u32, u64>,
+    out: &mut Vec<u8>,
+    to: &mut W,
+) {
     let mut looks: u64 = 0;
     for _ in rt.forever() {
-        if over.is_set() || put_changes(rt, alloc, board, &mut sent, &mut out).is_err() {
+        if over.is_set() || put_changes(rt, alloc, board, sent, out).is_err() {
             return;
         }
         looks = looks.saturating_add(1);
@@ -61,18 +74,34 @@ fn put_changes<R: Wait>(
     out: &mut Vec<u8>,
 ) -> Result<(), NoMemory> {
     match board.look(rt) {
-        Some(laid) => put_rows(alloc, laid.shown.core.view(), sent, out),
+        Some(laid) => {
+            let put = put_view(alloc, laid.shown.core.view(), sent, out);
+            drop(laid);
+            put
+        }
         None => Ok(()),
     }
 }
 
-fn put_rows(
+fn put_view(
     alloc: Global,
     view: &View,
     sent: &mut BTreeMap<u32, u64>,
     out: &mut Vec<u8>,
 ) -> Result<(), NoMemory> {
-    for row in &rows_of(alloc, view)? {
+    let rows = rows_of(alloc, view)?;
+    let put = put_rows(alloc, &rows, sent, out);
+    drop(rows);
+    put
+}
+
+fn put_rows(
+    alloc: Global,
+    rows: &[RowStatus],
+    sent: &mut BTreeMap<u32, u64>,
+    out: &mut Vec<u8>,
+) -> Result<(), NoMemory> {
+    for row in rows {
         if sent.insert(row.node, row.number)? != Some(row.number) {
             put_row(alloc, row, out)?;
         }
@@ -82,7 +111,11 @@ fn put_rows(
 
 fn put_row(alloc: Global, row: &RowStatus, out: &mut Vec<u8>) -> Result<(), NoMemory> {
     match serde_json::to_string(alloc, row) {
-        Ok(text) => put_event(out, "row", &text),
+        Ok(text) => {
+            let put = put_event(out, "row", &text);
+            drop(text);
+            put
+        }
         Err(_) => Err(NoMemory),
     }
 }

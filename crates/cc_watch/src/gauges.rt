@@ -31,10 +31,19 @@ pub struct Gauges {
 impl Gauges {
     /// Nothing was counted yet.
     pub fn new(alloc: Global) -> Result<Self, AllocError> {
+        let refusals = zeros(alloc, REFUSALS)?;
+        let Ok(asks) = zeros(alloc, COMMANDS) else {
+            drop(refusals);
+            return Err(AllocError);
+        };
+        let Ok(buckets) = zeros(alloc, BUCKETS) else {
+            drop((refusals, asks));
+            return Err(AllocError);
+        };
         Ok(Gauges {
-            refusals: zeros(alloc, REFUSALS)?,
-            asks: zeros(alloc, COMMANDS)?,
-            buckets: zeros(alloc, BUCKETS)?,
+            refusals,
+            asks,
+            buckets,
             total_us: AtomicU64::new(0),
             worst_us: AtomicU64::new(0),
             slowest_us: AtomicU64::new(0),

@@ -20,7 +20,11 @@ pub fn put_page<R: Wait>(
         Page::Home => answer_page(out, page, Outcome::Served, is_head, home().as_bytes()),
         Page::Health => answer_page(out, page, Outcome::Served, is_head, b"ok\n"),
         _ => match board.look(rt) {
-            Some(laid) => put_shown(alloc, board, &laid, page, is_head, out),
+            Some(laid) => {
+                let put = put_shown(alloc, board, &laid, page, is_head, out);
+                drop(laid);
+                put
+            }
             None => answer_page(
                 out,
                 page,
@@ -42,13 +46,25 @@ fn put_shown(
     out: &mut Vec<u8>,
 ) -> Result<(), NoMemory> {
     let status = status_of(alloc, &laid.shown, &board.live(laid))?;
-    match page {
+    let put = match page {
         Page::Ready => put_readiness(alloc, &status, is_head, out),
-        _ => {
-            let text = text_of(alloc, page, &status)?;
-            answer_page(out, page, Outcome::Served, is_head, text.as_bytes())
-        }
-    }
+        _ => put_status(alloc, page, &status, is_head, out),
+    };
+    drop(status);
+    put
+}
+
+fn put_status(
+    alloc: Global,
+    page: Page,
+    status: &Status,
+    is_head: bool,
+    out: &mut Vec<u8>,
+) -> Result<(), NoMemory> {
+    let text = text_of(alloc, page, status)?;
+    let put = answer_page(out, page, Outcome::Served, is_head, text.as_bytes());
+    drop(text);
+    put
 }
 
 fn put_readiness(
@@ -62,13 +78,15 @@ fn put_readiness(
     }
     let reason = status.reason.as_str();
     let text = format!(in alloc; "{reason}\n")?;
-    answer_page(
+    let put = answer_page(
         out,
         Page::Ready,
         Outcome::NotReady,
         is_head,
         text.as_bytes(),
-    )
+    );
+    drop(text);
+    put
 }
 
 // What stands on a page that shows the node.

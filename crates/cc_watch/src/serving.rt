@@ -93,6 +93,8 @@ where
         {
             visitors.all.leave();
         }
+    } else {
+        drop(stream);
     }
 }
 
@@ -158,6 +160,7 @@ fn serve<R: Wait + Clock>(
             if put_answer(rt, alloc, visitors.board, asked, &mut out).is_ok() {
                 let _ = to.write_all(out.as_slice());
             }
+            drop(out);
         }
     }
 }
@@ -178,13 +181,19 @@ fn put_answer<R: Wait>(
 
 // What is asked for. None where the connection ends before that, or takes too long.
 fn request<R: Clock>(rt: &R, alloc: Global, stream: &TcpStream) -> Option<Asked> {
-    let start = Instant::now(rt).ok()?;
     let mut head = Vec::new(alloc);
+    let asked = read_head(rt, stream, &mut head);
+    drop(head);
+    asked
+}
+
+fn read_head<R: Clock>(rt: &R, stream: &TcpStream, head: &mut Vec<u8>) -> Option<Asked> {
+    let start = Instant::now(rt).ok()?;
     let mut piece = [0; 1024];
     for _ in 0..=MOST_HEAD {
         let count = read_within(rt, stream, &start, PATIENCE_S, &mut piece)?;
         head.extend_from_slice(piece.get(..count)?).ok()?;
-        match read_request(&head) {
+        match read_request(head) {
             Asked::More if count > 0 => {}
             Asked::More => return None,
             asked => return Some(asked),
