@@ -2,6 +2,7 @@
 
 ghost use Rattle.std.specs.Prelude.{◌≡◌, IfOk};
 ghost use Rattle.cc_messages.specs.Messages.{is_snapshot};
+ghost use Rattle.cc_messages.specs.declared.message.Message.TheVariants as variants;
 
 use cc_changes::Changes;
 use cc_views::{NoMemory, NodeId, View};
@@ -78,15 +79,7 @@ impl Message {
                 view,
                 is_joined,
                 node,
-            } => {
-                let (changes, view) = copy_both(alloc, changes, view)?;
-                Ok(Message::EnterEcho {
-                    changes,
-                    view,
-                    is_joined: *is_joined,
-                    node: *node,
-                })
-            }
+            } => copy_echo(alloc, changes, view, *is_joined, *node),
             Message::Join { node } => Ok(Message::Join { node: *node }),
             Message::JoinEcho { node } => Ok(Message::JoinEcho { node: *node }),
             Message::Leave { node } => Ok(Message::Leave { node: *node }),
@@ -122,6 +115,24 @@ impl Message {
     {
         matches!(self, Message::Snapshot { .. })
     }
+}
+
+fn copy_echo(
+    alloc: Global,
+    changes: &Changes,
+    view: &View,
+    is_joined: bool,
+    node: NodeId,
+) -> Result<Message, NoMemory>
+    ensures { IfOk result (λ m. m ≡ variants.EnterEcho changes.now view.now is_joined node) }
+{
+    let (changes, view) = copy_both(alloc, changes, view)?;
+    Ok(Message::EnterEcho {
+        changes,
+        view,
+        is_joined,
+        node,
+    })
 }
 
 fn copy_both(alloc: Global, changes: &Changes, view: &View) -> Result<(Changes, View), NoMemory>

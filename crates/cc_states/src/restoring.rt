@@ -214,21 +214,15 @@ fn tables_of(alloc: Global, tables: Tables) -> Result<NodeTables, NoMemory>
         answers,
     } = tables;
     let Ok(links) = links_of(alloc, links) else {
-        drop(sessions);
-        drop(kept);
-        drop(answers);
+        drop((sessions, kept, answers));
         return Err(NoMemory);
     };
     let Ok(sessions) = sessions_of(alloc, sessions) else {
-        drop(links);
-        drop(kept);
-        drop(answers);
+        drop((links, kept, answers));
         return Err(NoMemory);
     };
     let Ok(mut outbox) = kept_up_to(alloc, posts, kept) else {
-        drop(links);
-        drop(sessions);
-        drop(answers);
+        drop((links, sessions, answers));
         return Err(NoMemory);
     };
     keep_answers(&mut outbox, answers);
@@ -254,17 +248,13 @@ pub fn restore(alloc: Global, fields: Fields) -> Result<Option<Node>, NoMemory>
         work,
         tables,
     } = fields;
-    let posts = tables.posts;
-    let echoes = work.echoes;
-    let need = u64::from(work.need);
+    let (posts, echoes, need) = (tables.posts, work.echoes, u64::from(work.need));
     let Ok(ops) = ops_of(alloc, work) else {
-        drop(membership);
-        drop(tables);
+        drop((membership, tables));
         return Err(NoMemory);
     };
     let Ok(tables) = tables_of(alloc, tables) else {
-        drop(membership);
-        drop(ops);
+        drop((membership, ops));
         return Err(NoMemory);
     };
     let NodeTables {

@@ -1,4 +1,6 @@
-use Rattle.std.proofs.Common.{sym}
+use Rattle.std.proofs.Common.{◌≡◌, sym, subst}
+use Rattle.std.specs.Prelude.{IfOk}
+use Rattle.cc_messages.specs.declared.message.Message.{Message}
 use Rattle.cc_messages.proofs.message.Message.copy.Goals as goal
 
 pub returns-in-Enter : goal.returns-in-Enter
@@ -21,3 +23,7 @@ returns-in-Query c = sym c.in-Query.is
 
 pub returns-in-StoreAck : goal.returns-in-StoreAck
 returns-in-StoreAck c = sym c.in-StoreAck.is
+
+pub returns-in-EnterEcho : goal.returns-in-EnterEcho
+returns-in-EnterEcho c =
+    subst (λ (m : Message). IfOk c.copy_echo.result (λ copy. copy ≡ m)) (sym c.in-EnterEcho.is) c.copy_echo.ensures
