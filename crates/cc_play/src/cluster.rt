@@ -93,7 +93,10 @@ impl Cluster {
     ) -> Result<Played, PlayFault> {
         match self.station_mut(node) {
             Some(station) => conclude(node, station.take(alloc, event, output)?, output),
-            None => Ok(Played::Bad),
+            None => {
+                drop(event);
+                Ok(Played::Bad)
+            }
         }
     }
 
@@ -173,6 +176,7 @@ impl Cluster {
             return Ok(None);
         };
         let Some(receiver) = self.station_mut(delivery.to) else {
+            drop(event);
             return Ok(None);
         };
         receiver.take(alloc, event, output).map(Some)

@@ -140,10 +140,12 @@ fn entrant(alloc: Global, id: &str, ids: &str) -> Result<Option<Line>, AllocErro
 }
 
 fn event_at(node: &str, event: Option<Event>) -> Option<Line> {
-    Some(Line::Event {
-        node: small_number(node)?,
-        event: event?,
-    })
+    let event = event?;
+    let Some(node) = small_number(node) else {
+        drop(event);
+        return None;
+    };
+    Some(Line::Event { node, event })
 }
 
 fn ask(session: &str, request: &str, words: &[&str]) -> Option<Event> {

@@ -17,6 +17,7 @@ use cc_wire::decode_message;
 use std::alloc::Global;
 use std::io::Write;
 use std::marker::Model;
+use std::mem;
 
 // How many outputs of a node its site keeps, from one opening to the next.
 const RESERVE: usize = 16_384;
@@ -79,7 +80,10 @@ impl Station {
                 printed: 0,
                 sent: Vec::new(alloc),
             }),
-            Err(Back { site: _, fault }) => Err(NodeFault::Format(fault)),
+            Err(Back { site, fault }) => {
+                drop(site);
+                Err(NodeFault::Format(fault))
+            }
         }
     }
 
@@ -144,10 +148,13 @@ impl Station {
     {
         // A side that has no room is longer than any memory.
         if !self.engine.room() {
+            drop(entry);
             return Err(PlayFault::NoMemory);
         }
         let mut batch = Batch::of_one(entry);
-        Ok(self.engine.flush(&mut batch))
+        let flushed = self.engine.flush(&mut batch);
+        drop(batch);
+        Ok(flushed)
     }
 
     /// Puts out again what stands in the node, and prints it.
@@ -218,7 +225,8 @@ impl Station {
 
     /// Crashes the node, and opens what the crash left of its site.
     pub fn crash(&mut self, alloc: Global, choice: &Choice) -> Result<(), NodeFault> {
-        self.engine = self.reopened(alloc, choice)?;
+        let engine = self.reopened(alloc, choice)?;
+        drop(mem::replace(&mut self.engine, engine));
         self.printed = 0;
         Ok(())
     }
@@ -279,7 +287,13 @@ fn opened(alloc: Global, site: MemorySite) -> Result<Flusher<MemorySite>, NodeFa
     ensures { IfOk result (λ engine. engine.owes ≡ false) }
 {
     match Flusher::open(alloc, site) {
-        Ok((engine, _core)) => Ok(engine),
-        Err(Back { site: _, fault }) => Err(NodeFault::Open(fault)),
+        Ok((engine, core)) => {
+            drop(core);
+            Ok(engine)
+        }
+        Err(Back { site, fault }) => {
+            drop(site);
+            Err(NodeFault::Open(fault))
+        }
     }
 }
