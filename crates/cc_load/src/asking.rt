@@ -92,7 +92,9 @@ impl Worker {
         alloc: Global,
     ) -> Result<(), Silence> {
         let stream = connect(rt, &self.task.address)?;
-        match self.converse(rt, alloc, &stream) {
+        let conversed = self.converse(rt, alloc, &stream);
+        drop(stream);
+        match conversed {
             Some(()) => Ok(()),
             None => Err(Silence::Mute(self.task.address)),
         }
@@ -100,7 +102,9 @@ impl Worker {
 
     fn converse<R: Clock>(&mut self, rt: &R, alloc: Global, stream: &TcpStream) -> Option<()> {
         let mut incoming = Incoming::new(alloc, stream).ok()?;
-        self.exchange(rt, alloc, stream, &mut incoming)
+        let conversed = self.exchange(rt, alloc, stream, &mut incoming);
+        drop(incoming);
+        conversed
     }
 
     fn exchange<R: Clock>(
@@ -119,6 +123,7 @@ impl Worker {
                 Next::End => return Some(()),
             }
         }
+        drop(heard);
         None
     }
 
@@ -136,11 +141,16 @@ impl Worker {
                 if is_learning {
                     self.since = micros(rt);
                 }
-                self.send(rt, alloc, stream, &frame)
+                let next = self.send(rt, alloc, stream, &frame);
+                drop(frame);
+                next
             }
             Step::Wait => Some(Next::Listen),
             Step::Retry(_) => Some(self.wait(rt)),
-            Step::Done(_) => Some(self.finish(rt)),
+            Step::Done(answer) => {
+                drop(answer);
+                Some(self.finish(rt))
+            }
             Step::Refused(why) => Some(self.give_up(Some(why))),
         }
     }

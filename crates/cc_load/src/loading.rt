@@ -30,7 +30,9 @@ where
     let start = micros(rt);
     let tally = ask_at_once(rt, alloc, order);
     let elapsed_us = micros(rt).saturating_sub(start);
-    print_tally(alloc, order, elapsed_us, &tally, output)
+    let told = print_tally(alloc, order, elapsed_us, &tally, output);
+    drop(tally);
+    told
 }
 
 // Runs each client in a thread of its own: what all of them counted.
@@ -101,6 +103,7 @@ fn ask_and_add<R: Net<Listener = TcpListener, Stream = TcpStream> + Wait + Clock
 ) {
     let tally = ask_for_long(rt, alloc, task);
     total.lock(rt).add(&tally);
+    drop(tally);
 }
 
 fn print_tally<W: Write>(
@@ -111,9 +114,12 @@ fn print_tally<W: Write>(
     output: &mut W,
 ) -> io::Result<Told> {
     let report = Report::of(alloc, order, elapsed_us, tally)?;
-    print_report(alloc, order.form, &report, output)?;
+    let status = u8::from(report.answered == 0);
+    let printed = print_report(alloc, order.form, &report, output);
+    drop(report);
+    printed?;
     Ok(Told {
-        status: u8::from(report.answered == 0),
+        status,
         silence: tally.silence,
     })
 }

@@ -53,8 +53,14 @@ impl Report {
         let latencies = &tally.latencies;
         let answered = latencies.count();
         let operation = String::from_str(alloc, order.operation.name())?;
-        let refused = told(alloc, tally.refusal)?;
-        let buckets = buckets_of(alloc, latencies)?;
+        let Ok(refused) = told(alloc, tally.refusal) else {
+            drop(operation);
+            return Err(AllocError);
+        };
+        let Ok(buckets) = buckets_of(alloc, latencies) else {
+            drop((operation, refused));
+            return Err(AllocError);
+        };
         Ok(Report {
             operation,
             clients: order.clients,
