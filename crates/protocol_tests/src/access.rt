@@ -1,8 +1,8 @@
 //! What connections may bring.
 
+use crate::bytes::node;
 use cc_messages::{Command, Event, Message};
 use cc_protocol::{Access, Origin};
-use cc_views::NodeId;
 use std::test::*;
 
 /// What may bring everything.
@@ -68,27 +68,42 @@ fn heard(event: Event) -> [bool; 3] {
 }
 
 #[test]
-fn a_frame_is_of_a_client_a_node_or_the_operator(rt: HostRuntime) -> Result<(), Fail> {
-    let node = NodeId::new(2).ok_or("ids begin at 1")?;
+fn a_frame_is_of_a_client_a_node_or_the_operator(rt: HostRuntime) {
+    let node = node(2);
     let asked = Event::Ask {
         session: 7,
         request: 1,
         command: Command::SetFlag,
     };
-    assert!(rt; heard(asked) == [true, false, false]);
     let delivered = Event::Deliver {
         from: node,
         number: 1,
         message: Message::Join { node },
     };
-    assert!(rt; heard(delivered) == [false, true, false]);
     let acked = Event::Acked {
         peer: node,
         number: 1,
     };
-    assert!(rt; heard(acked) == [false, true, false]);
-    assert!(rt; heard(Event::Leave) == [false, false, true]);
-    assert!(rt; heard(Event::Retire { node }) == [false, false, true]);
-    assert!(rt; heard(Event::Snapshot) == [false, false, false]);
-    Ok(())
+    let heard = [
+        heard(asked),
+        heard(delivered),
+        heard(acked),
+        heard(Event::Leave),
+        heard(Event::Retire { node }),
+        heard(Event::Snapshot),
+    ];
+    let of_client = [true, false, false];
+    let of_node = [false, true, false];
+    let of_operator = [false, false, true];
+    assert!(rt;
+        heard
+            == [
+                of_client,
+                of_node,
+                of_node,
+                of_operator,
+                of_operator,
+                [false; 3]
+            ]
+    );
 }

@@ -1,7 +1,8 @@
 //! What is handed over, and who is furthest behind.
 
+use crate::bytes::node;
 use cc_changes::Fraction;
-use cc_messages::{Command, Event, Message};
+use cc_messages::{Command, Event, Message, Refusal};
 use cc_node::{Node, Opening};
 use cc_protocol::{is_furthest_behind, is_given_up, may_hand_over};
 use cc_views::NodeId;
@@ -15,10 +16,6 @@ fn asked() -> Event {
         request: 1,
         command: Command::SetFlag,
     }
-}
-
-fn node(id: u32) -> Result<NodeId, Fail> {
-    Ok(NodeId::new(id).ok_or("ids begin at 1")?)
 }
 
 fn delivered(from: NodeId, message: Message) -> Event {
@@ -37,20 +34,17 @@ fn joined(node: NodeId) -> Event {
 // be handed over then.
 type Case = (u64, bool, u64, bool);
 
-fn check_cases<R: Abort>(rt: &R, event: &Event, cases: &[Case]) -> Result<(), Fail> {
-    let me = node(1)?;
-    for (kept, is_furthest, waited, may) in cases {
-        let handed = may_hand_over(me, event, *kept, *is_furthest, *waited);
-        assert!(rt; handed == *may, "with {kept} posts");
+fn check_cases<R: Abort>(rt: &R, event: &Event, cases: &[Case]) {
+    for &(kept, is_furthest, waited, may) in cases {
+        let handed = may_hand_over(node(1), event, kept, is_furthest, waited);
+        assert!(rt; handed == may, "with {kept} posts");
     }
-    Ok(())
 }
 
 // Checks when the event, which is let go, may be handed to node 1.
-fn check_handing<R: Abort>(rt: &R, event: Event, cases: &[Case]) -> Result<(), Fail> {
-    let checked = check_cases(rt, &event, cases);
+fn check_handing<R: Abort>(rt: &R, event: Event, cases: &[Case]) {
+    check_cases(rt, &event, cases);
     drop(event);
-    checked
 }
 
 // Whether the event, which is let go, is given up after four seconds and after five.
@@ -61,11 +55,9 @@ fn given_up(event: Event) -> [bool; 2] {
 }
 
 #[test]
-fn a_message_is_given_up_after_five_seconds(rt: HostRuntime) -> Result<(), Fail> {
-    let other = node(2)?;
-    let given = [given_up(joined(other)), given_up(asked())];
+fn a_message_is_given_up_after_five_seconds(rt: HostRuntime) {
+    let given = [given_up(joined(node(2))), given_up(asked())];
     assert!(rt; given == [[false, true], [false, false]]);
-    Ok(())
 }
 
 const ASKS: [Case; 4] = [
@@ -76,8 +68,8 @@ const ASKS: [Case; 4] = [
 ];
 
 #[test]
-fn an_ask_leaves_room_for_384_posts(rt: HostRuntime) -> Result<(), Fail> {
-    check_handing(&rt, asked(), &ASKS)
+fn an_ask_leaves_room_for_384_posts(rt: HostRuntime) {
+    check_handing(&rt, asked(), &ASKS);
 }
 
 const MESSAGES: [Case; 3] = [
@@ -87,39 +79,38 @@ const MESSAGES: [Case; 3] = [
 ];
 
 #[test]
-fn a_message_leaves_room_for_256_posts(rt: HostRuntime) -> Result<(), Fail> {
-    let node = node(2)?;
-    check_handing(&rt, joined(node), &MESSAGES)
+fn a_message_leaves_room_for_256_posts(rt: HostRuntime) {
+    check_handing(&rt, joined(node(2)), &MESSAGES);
 }
 
 const NEVER_HELD: [Case; 1] = [(512, false, 0, true)];
 
 #[test]
-fn what_posts_nothing_is_never_held_back(rt: HostRuntime) -> Result<(), Fail> {
-    let node = node(2)?;
+fn what_posts_nothing_is_never_held_back(rt: HostRuntime) {
+    let node = node(2);
     let acked = Event::Acked {
         peer: node,
         number: 1,
     };
-    check_handing(&rt, acked, &NEVER_HELD)?;
-    check_handing(&rt, Event::Retire { node }, &NEVER_HELD)?;
+    check_handing(&rt, acked, &NEVER_HELD);
+    check_handing(&rt, Event::Retire { node }, &NEVER_HELD);
     let join_echo = delivered(node, Message::JoinEcho { node });
-    check_handing(&rt, join_echo, &NEVER_HELD)?;
+    check_handing(&rt, join_echo, &NEVER_HELD);
     let leave_echo = delivered(node, Message::LeaveEcho { node });
-    check_handing(&rt, leave_echo, &NEVER_HELD)?;
+    check_handing(&rt, leave_echo, &NEVER_HELD);
     let of_another = delivered(node, Message::StoreAck { tag: 1, node });
-    check_handing(&rt, of_another, &NEVER_HELD)
+    check_handing(&rt, of_another, &NEVER_HELD);
 }
 
 #[test]
-fn what_ends_an_operation_of_the_node_may_be_held_back(rt: HostRuntime) -> Result<(), Fail> {
-    let (me, peer) = (node(1)?, node(2)?);
-    let of_its_own = delivered(peer, Message::StoreAck { tag: 1, node: me });
-    check_handing(&rt, of_its_own, &[(257, false, 0, false)])
+fn what_ends_an_operation_of_the_node_may_be_held_back(rt: HostRuntime) {
+    let me = node(1);
+    let of_its_own = delivered(node(2), Message::StoreAck { tag: 1, node: me });
+    check_handing(&rt, of_its_own, &[(257, false, 0, false)]);
 }
 
 // Takes the event in, which isn't refused.
-fn take(alloc: Global, node: &mut Node, event: Event) -> Result<(), Fail> {
+fn take(alloc: Global, node: &mut Node, event: Event) -> Result<(), Refusal> {
     match node.core().made_or_refused(alloc, &event) {
         Ok(made) => {
             node.settle(event, made);
@@ -127,47 +118,47 @@ fn take(alloc: Global, node: &mut Node, event: Event) -> Result<(), Fail> {
         }
         Err(refusal) => {
             drop(event);
-            Err(refusal)?
+            Err(refusal)
         }
     }
 }
 
 // Which of nodes 1, 2 and 3 are furthest behind.
-fn behind(member: &Node) -> Result<[bool; 3], Fail> {
-    let (one, two, three) = (node(1)?, node(2)?, node(3)?);
+fn behind(member: &Node) -> [bool; 3] {
     let core = member.core();
     let lowest = core.lowest();
-    Ok([
-        is_furthest_behind(core, lowest, one),
-        is_furthest_behind(core, lowest, two),
-        is_furthest_behind(core, lowest, three),
-    ])
+    [
+        is_furthest_behind(core, lowest, node(1)),
+        is_furthest_behind(core, lowest, node(2)),
+        is_furthest_behind(core, lowest, node(3)),
+    ]
 }
 
 // Takes the event in. Which of nodes 1, 2 and 3 are furthest behind then.
-fn behind_after(alloc: Global, member: &mut Node, event: Event) -> Result<[bool; 3], Fail> {
+fn behind_after(alloc: Global, member: &mut Node, event: Event) -> Result<[bool; 3], Refusal> {
     take(alloc, member, event)?;
-    behind(member)
+    Ok(behind(member))
 }
 
-fn check_behind<R: Abort + AllocGlobal>(rt: &R, member: &mut Node) -> Result<(), Fail> {
-    let (one, two) = (node(1)?, node(2)?);
-    let after_ask = behind_after(rt.alloc(), member, asked())?;
+fn check_behind<R: Abort + AllocGlobal>(rt: &R, member: &mut Node) {
     let acked = Event::Acked {
-        peer: one,
+        peer: node(1),
         number: 1,
     };
-    let after_ack = behind_after(rt.alloc(), member, acked)?;
-    let after_retire = behind_after(rt.alloc(), member, Event::Retire { node: two })?;
+    let retire = Event::Retire { node: node(2) };
+    let after = [
+        behind_after(rt.alloc(), member, asked()),
+        behind_after(rt.alloc(), member, acked),
+        behind_after(rt.alloc(), member, retire),
+    ];
     assert!(rt;
-        [after_ask, after_ack, after_retire]
+        after
             == [
-                [true, true, false],
-                [false, true, false],
-                [true, false, false]
+                Ok([true, true, false]),
+                Ok([false, true, false]),
+                Ok([true, false, false])
             ]
     );
-    Ok(())
 }
 
 #[test]
@@ -184,16 +175,16 @@ fn who_acknowledged_least_is_furthest_behind(rt: HostRuntime) -> Result<(), Fail
             share: 1,
         },
     )?;
-    let checked = check_behind(&rt, &mut member);
+    check_behind(&rt, &mut member);
     drop(member);
-    checked
+    Ok(())
 }
 
 const ALWAYS: [Case; 2] = [(0, false, 0, true), (512, false, 0, true)];
 
 // A lapse is there to empty a full outbox.
 #[test]
-fn a_lapse_and_a_snapshot_need_no_room(rt: HostRuntime) -> Result<(), Fail> {
-    check_handing(&rt, Event::Lapse { node: node(2)? }, &ALWAYS)?;
-    check_handing(&rt, Event::Snapshot, &ALWAYS)
+fn a_lapse_and_a_snapshot_need_no_room(rt: HostRuntime) {
+    check_handing(&rt, Event::Lapse { node: node(2) }, &ALWAYS);
+    check_handing(&rt, Event::Snapshot, &ALWAYS);
 }

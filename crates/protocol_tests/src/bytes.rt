@@ -1,8 +1,8 @@
 //! Frames and their bytes.
 
 use cc_frames::{Frame, encode_frame};
+use cc_views::{NoMemory, NodeId};
 use std::alloc::Global;
-use std::test::*;
 
 /// Session 7 asks under number 1: store `a`.
 pub const ASK: [u8; 24] = [
@@ -25,15 +25,25 @@ pub const SKIPPED: [u8; 30] = [
 ];
 
 /// The bytes of a frame.
-pub fn bytes_of(alloc: Global, frame: &Frame) -> Result<Vec<u8>, Fail> {
+pub fn bytes_of(alloc: Global, frame: &Frame) -> Result<Vec<u8>, NoMemory> {
     let mut out = Vec::new(alloc);
-    encode_frame(frame, &mut out)?;
-    Ok(out)
+    match encode_frame(frame, &mut out) {
+        Ok(()) => Ok(out),
+        Err(fault) => {
+            drop(out);
+            Err(fault)
+        }
+    }
 }
 
 /// Whether a frame, which is let go, is spelled so.
-pub fn is_spelled(alloc: Global, frame: Frame, bytes: &[u8]) -> Result<bool, Fail> {
+pub fn is_spelled(alloc: Global, frame: Frame, bytes: &[u8]) -> Result<bool, NoMemory> {
     let spelled = bytes_of(alloc, &frame);
     drop(frame);
     Ok(spelled?.as_slice() == bytes)
+}
+
+/// The id of this number, which is at least 1.
+pub fn node(number: u32) -> NodeId {
+    NodeId::new(number.max(1)).unwrap()
 }

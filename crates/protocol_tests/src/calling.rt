@@ -10,8 +10,7 @@ fn check_calls<R: Abort>(rt: &R, calls: &mut Calls, seconds: u64, look: [bool; 3
     let [is_back, needs_anew, is_held] = look;
     for second in 1..=seconds {
         let is_posted = calls.after_second(is_back, needs_anew, is_held);
-        let wanted = posted.iter().any(|at| *at == second);
-        assert!(rt; is_posted == wanted, "in second {second}");
+        assert!(rt; is_posted == posted.contains(&second), "in second {second}");
     }
 }
 

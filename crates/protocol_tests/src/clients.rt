@@ -4,10 +4,10 @@ use crate::bytes::{ASK, LEARN, SKIPPED, STORED, bytes_of};
 use cc_frames::{Frame, decode_frame};
 use cc_messages::{Answer, Command, Refusal};
 use cc_protocol::{Client, Heard, Step, refusal_of};
-use cc_views::Text;
+use cc_views::{NoMemory, Text};
+use cc_wire::WireFault;
 use std::alloc::Global;
 use std::process::Abort;
-use std::test::*;
 
 // What a client did.
 #[derive(Clone, Copy, PartialEq, Eq)]
@@ -23,21 +23,21 @@ enum Did {
 }
 
 // It stores `a` in session 7, and has this number.
-fn client(request: Option<u64>) -> Result<Client, Fail> {
-    let text = Text::new(b"a").ok_or("the text is short")?;
+fn client(request: Option<u64>) -> Client {
+    let text = Text::new(b"a").unwrap();
     let mut client = Client::new(7, Command::Store(text));
     client.request = request;
-    Ok(client)
+    client
 }
 
-fn done_by(alloc: Global, client: &mut Client, heard: Heard) -> Result<Did, Fail> {
+fn done_by(alloc: Global, client: &mut Client, heard: Heard) -> Result<Did, NoMemory> {
     let step = client.hear(heard);
     let did = did_in(alloc, &step);
     drop(step);
     did
 }
 
-fn did_in(alloc: Global, step: &Step) -> Result<Did, Fail> {
+fn did_in(alloc: Global, step: &Step) -> Result<Did, NoMemory> {
     match step {
         Step::Send(frame) => sent(alloc, frame),
         Step::Wait => Ok(Did::Waited),
@@ -48,17 +48,17 @@ fn did_in(alloc: Global, step: &Step) -> Result<Did, Fail> {
     }
 }
 
-fn sent(alloc: Global, frame: &Frame) -> Result<Did, Fail> {
+fn sent(alloc: Global, frame: &Frame) -> Result<Did, NoMemory> {
     let bytes = bytes_of(alloc, frame)?;
-    let sent = bytes.as_slice();
-    if sent == LEARN.as_slice() {
-        return Ok(Did::Learned);
-    }
-    Ok(if sent == ASK.as_slice() {
+    let did = if bytes.as_slice() == LEARN.as_slice() {
+        Did::Learned
+    } else if bytes.as_slice() == ASK.as_slice() {
         Did::Asked
     } else {
         Did::SentOther
-    })
+    };
+    drop(bytes);
+    Ok(did)
 }
 
 // What a client is told: that its connection is open or broke, a refusal (the session, the request, its number and its
@@ -71,7 +71,7 @@ enum Told {
     Bytes(&'static [u8]),
 }
 
-fn heard(alloc: Global, told: Told) -> Result<Heard, Fail> {
+fn heard(alloc: Global, told: Told) -> Result<Heard, WireFault> {
     match told {
         Told::Ready => Ok(Heard::Ready),
         Told::Broken => Ok(Heard::Broken),
@@ -85,30 +85,29 @@ fn heard(alloc: Global, told: Told) -> Result<Heard, Fail> {
     }
 }
 
+// What a client does that is told so.
+fn done_when(alloc: Global, client: &mut Client, told: Told) -> Result<Did, WireFault> {
+    let heard = heard(alloc, told)?;
+    Ok(done_by(alloc, client, heard)?)
+}
+
 // Checks what the client does each time that it is told something.
-fn check_talk<R: Abort + AllocGlobal>(
-    rt: &R,
-    client: &mut Client,
-    talk: &[(Told, Did)],
-) -> Result<(), Fail> {
-    for (told, wanted) in talk {
-        let heard = heard(rt.alloc(), *told)?;
-        let did = done_by(rt.alloc(), client, heard)?;
-        assert!(rt; did == *wanted);
+fn check_talk<R: Abort + AllocGlobal>(rt: &R, client: &mut Client, talk: &[(Told, Did)]) {
+    for &(told, wanted) in talk {
+        assert!(rt; done_when(rt.alloc(), client, told) == Ok(wanted));
     }
-    Ok(())
 }
 
 #[test]
-fn a_client_learns_its_number_and_is_answered(rt: HostRuntime) -> Result<(), Fail> {
-    let mut client = client(None)?;
+fn a_client_learns_its_number_and_is_answered(rt: HostRuntime) {
+    let mut client = client(None);
     let learning = [
         (Told::Ready, Did::Learned),
         (Told::Refused(7, 0, 11, 0), Did::Asked),
     ];
-    check_talk(&rt, &mut client, &learning)?;
+    check_talk(&rt, &mut client, &learning);
     assert!(rt; client.request == Some(1));
-    check_talk(&rt, &mut client, &[(Told::Bytes(&STORED), Did::WasStored)])
+    check_talk(&rt, &mut client, &[(Told::Bytes(&STORED), Did::WasStored)]);
 }
 
 // It is refused as Busy, OutboxFull and QueueFull, and then its connection breaks.
@@ -133,16 +132,15 @@ const PAUSES: [(Told, Did); 8] = [
 ];
 
 #[test]
-fn it_asks_again_under_the_same_number(rt: HostRuntime) -> Result<(), Fail> {
-    let mut client = client(Some(1))?;
-    check_talk(&rt, &mut client, &PAUSES)?;
+fn it_asks_again_under_the_same_number(rt: HostRuntime) {
+    let mut client = client(Some(1));
+    check_talk(&rt, &mut client, &PAUSES);
     assert!(rt; client.request == Some(1));
-    Ok(())
 }
 
 #[test]
-fn other_refusals_end_it(rt: HostRuntime) -> Result<(), Fail> {
-    let mut client = client(Some(3))?;
+fn other_refusals_end_it(rt: HostRuntime) {
+    let mut client = client(Some(3));
     let refused = [
         (Told::Bytes(&SKIPPED), Did::WasRefused(Refusal::Skip(1))),
         (
@@ -150,13 +148,13 @@ fn other_refusals_end_it(rt: HostRuntime) -> Result<(), Fail> {
             Did::WasRefused(Refusal::Stale(9)),
         ),
     ];
-    check_talk(&rt, &mut client, &refused)?;
+    check_talk(&rt, &mut client, &refused);
     assert!(rt; client.request == Some(3));
     let full = (
         Told::Refused(7, 3, 14, 0),
         Did::WasRefused(Refusal::SetFull),
     );
-    check_talk(&rt, &mut client, &[full])
+    check_talk(&rt, &mut client, &[full]);
 }
 
 // Refusals of another session, of other requests and of no kind, an answer to another request, and no answer.
@@ -171,23 +169,21 @@ const OF_OTHERS: [(Told, Did); 7] = [
 ];
 
 #[test]
-fn frames_of_others_are_passed_over(rt: HostRuntime) -> Result<(), Fail> {
-    let mut client = client(Some(2))?;
-    check_talk(&rt, &mut client, &OF_OTHERS)?;
+fn frames_of_others_are_passed_over(rt: HostRuntime) {
+    let mut client = client(Some(2));
+    check_talk(&rt, &mut client, &OF_OTHERS);
     assert!(rt; client.request == Some(2));
-    Ok(())
 }
 
 #[test]
-fn there_is_no_number_after_the_last_one(rt: HostRuntime) -> Result<(), Fail> {
-    let mut client = client(None)?;
+fn there_is_no_number_after_the_last_one(rt: HostRuntime) {
+    let mut client = client(None);
     let last = (
         Told::Refused(7, 0, 11, u64::MAX),
         Did::WasRefused(Refusal::Stale(u64::MAX)),
     );
-    check_talk(&rt, &mut client, &[last])?;
+    check_talk(&rt, &mut client, &[last]);
     assert!(rt; client.request == None);
-    Ok(())
 }
 
 // Refusals with what they carry, which their numbers and values spell.
@@ -201,11 +197,10 @@ const REFUSALS: [Refusal; 6] = [
 ];
 
 #[test]
-fn a_refusal_is_known_by_its_number(rt: HostRuntime) -> Result<(), Fail> {
-    for refusal in REFUSALS {
+fn a_refusal_is_known_by_its_number(rt: HostRuntime) {
+    for &refusal in &REFUSALS {
         let known = refusal_of(refusal.number(), refusal.value());
         assert!(rt; known == Some(refusal));
     }
     assert!(rt; (refusal_of(0, 1), refusal_of(19, 1)) == (None, None));
-    Ok(())
 }

@@ -1,14 +1,10 @@
 //! What a worker does after an answer.
 
+use crate::bytes::node;
 use cc_frames::Frame;
 use cc_messages::{Command, Event, Message, Refusal};
 use cc_protocol::{Duty, heed};
 use cc_views::NodeId;
-use std::test::*;
-
-fn node(id: u32) -> Result<NodeId, Fail> {
-    Ok(NodeId::new(id).ok_or("ids begin at 1")?)
-}
 
 // A duty, without a frame's bytes.
 #[derive(Clone, Copy, PartialEq, Eq)]
@@ -77,27 +73,25 @@ fn joined(node: NodeId) -> Event {
 }
 
 #[test]
-fn what_stirs_wakes_the_flusher(rt: HostRuntime) -> Result<(), Fail> {
-    let peer = node(2)?;
+fn what_stirs_wakes_the_flusher(rt: HostRuntime) {
+    let peer = node(2);
     let does = [
         does_after(asked(1), Ok(true)),
         does_after(Event::Enter, Ok(true)),
         does_after(joined(peer), Ok(true)),
     ];
     assert!(rt; does == [Does::Wakes; 3]);
-    Ok(())
 }
 
 #[test]
-fn what_makes_nothing_is_deferred(rt: HostRuntime) -> Result<(), Fail> {
-    let peer = node(2)?;
+fn what_makes_nothing_is_deferred(rt: HostRuntime) {
+    let peer = node(2);
     let does = [
         does_after(Event::Acked { peer, number: 1 }, Ok(false)),
         does_after(asked(1), Ok(false)),
         does_after(joined(peer), Ok(false)),
     ];
     assert!(rt; does == [Does::Defers; 3]);
-    Ok(())
 }
 
 // Why a message of node 2 is refused, and what is done then.
@@ -111,16 +105,15 @@ const REFUSED_MESSAGES: [(Refusal, Does); 6] = [
 ];
 
 #[test]
-fn a_message_is_acknowledged_again_or_brought_again(rt: HostRuntime) -> Result<(), Fail> {
-    let peer = node(2)?;
-    for (refusal, does) in REFUSED_MESSAGES {
+fn a_message_is_acknowledged_again_or_brought_again(rt: HostRuntime) {
+    let peer = node(2);
+    for &(refusal, does) in &REFUSED_MESSAGES {
         assert!(rt; does_after(joined(peer), Err(refusal)) == does);
     }
-    Ok(())
 }
 
 #[test]
-fn a_client_is_answered_again_or_told_why_not(rt: HostRuntime) -> Result<(), Fail> {
+fn a_client_is_answered_again_or_told_why_not(rt: HostRuntime) {
     let does = [
         does_after(asked(1), Err(Refusal::Repeat)),
         does_after(asked(3), Err(Refusal::Skip(1))),
@@ -135,5 +128,4 @@ fn a_client_is_answered_again_or_told_why_not(rt: HostRuntime) -> Result<(), Fai
             Does::Refuses(0, 0, 1, 0)
         ]
     );
-    Ok(())
 }

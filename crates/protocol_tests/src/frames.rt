@@ -1,19 +1,16 @@
 //! Which event a frame is, and which frames a node sends.
 
-use crate::bytes::{ASK, SKIPPED, STORED, is_spelled};
+use crate::bytes::{ASK, SKIPPED, STORED, is_spelled, node};
 use cc_frames::{Frame, decode_frame};
 use cc_messages::{Answer, Command, Event, Message, Refusal};
 use cc_protocol::{
     Bundle, Outcome, Parcel, ack_frame, event_of, outcome_of, post_bytes, refused_frame,
     reply_bytes,
 };
-use cc_views::NodeId;
+use cc_views::{NoMemory, NodeId};
+use cc_wire::WireFault;
 use std::alloc::Global;
 use std::test::*;
-
-fn node(id: u32) -> Result<NodeId, Fail> {
-    Ok(NodeId::new(id).ok_or("ids begin at 1")?)
-}
 
 // What an event is about, without its message or command.
 #[derive(Clone, Copy, PartialEq, Eq)]
@@ -56,20 +53,18 @@ fn about_event(event: &Option<Event>) -> About {
     }
 }
 
-fn about_bytes(alloc: Global, bytes: &[u8]) -> Result<About, Fail> {
+fn about_bytes(alloc: Global, bytes: &[u8]) -> Result<About, WireFault> {
     Ok(about_frame(decode_frame(alloc, bytes)?))
 }
 
 #[test]
-fn what_a_client_sends_is_an_event(rt: HostRuntime) -> Result<(), Fail> {
-    let node = node(3)?;
+fn what_a_client_sends_is_an_event(rt: HostRuntime) {
     let about = [
-        about_bytes(rt.alloc(), &ASK)?,
         about_frame(Frame::Leave),
-        about_frame(Frame::Retire { node }),
+        about_frame(Frame::Retire { node: node(3) }),
     ];
-    assert!(rt; about == [About::Ask(7, 1), About::Leave, About::Retirement(3)]);
-    Ok(())
+    assert!(rt; about_bytes(rt.alloc(), &ASK) == Ok(About::Ask(7, 1)));
+    assert!(rt; about == [About::Leave, About::Retirement(3)]);
 }
 
 fn posted_join(from: NodeId) -> Frame {
@@ -81,24 +76,22 @@ fn posted_join(from: NodeId) -> Frame {
 }
 
 #[test]
-fn what_a_peer_sends_is_an_event(rt: HostRuntime) -> Result<(), Fail> {
-    let from = node(2)?;
+fn what_a_peer_sends_is_an_event(rt: HostRuntime) {
+    let from = node(2);
     let about = [
         about_frame(Frame::Ack { from, number: 9 }),
         about_frame(posted_join(from)),
     ];
     assert!(rt; about == [About::Acknowledgement(2, 9), About::Delivery(2, 4)]);
-    Ok(())
 }
 
 #[test]
-fn what_a_node_sends_to_clients_is_none(rt: HostRuntime) -> Result<(), Fail> {
+fn what_a_node_sends_to_clients_is_none(rt: HostRuntime) {
     let about = [
-        about_bytes(rt.alloc(), &STORED)?,
-        about_bytes(rt.alloc(), &SKIPPED)?,
+        about_bytes(rt.alloc(), &STORED),
+        about_bytes(rt.alloc(), &SKIPPED),
     ];
-    assert!(rt; about == [About::Nothing; 2]);
-    Ok(())
+    assert!(rt; about == [Ok(About::Nothing); 2]);
 }
 
 // The acknowledgement of a store with tag 1, as post 2 of node 1.
@@ -110,44 +103,57 @@ const POST: [u8; 30] = [
 const ACK: [u8; 17] = [0, 0, 0, 0x0D, 2, 0, 0, 0, 1, 0, 0, 0, 0, 0, 0, 0, 9];
 
 // Whether a message of a node is spelled so, under number 2.
-fn is_posted(alloc: Global, me: NodeId, bytes: &[u8]) -> Result<bool, Fail> {
+fn is_posted(alloc: Global, me: NodeId, bytes: &[u8]) -> Result<bool, NoMemory> {
     let message = Message::StoreAck { tag: 1, node: me };
     let posted = post_bytes(alloc, me, 2, &message);
     drop(message);
     Ok(posted?.as_slice() == bytes)
 }
 
-fn is_replied(alloc: Global, bytes: &[u8]) -> Result<bool, Fail> {
+fn is_replied(alloc: Global, bytes: &[u8]) -> Result<bool, NoMemory> {
     let replied = reply_bytes(alloc, 7, 1, &Answer::Stored)?;
     Ok(replied.as_slice() == bytes)
 }
 
 #[test]
-fn outputs_are_frames_of_their_sender(rt: HostRuntime) -> Result<(), Fail> {
-    let me = node(1)?;
+fn outputs_are_frames_of_their_sender(rt: HostRuntime) {
+    let me = node(1);
     let are_spelled = [
-        is_posted(rt.alloc(), me, &POST)?,
-        is_spelled(rt.alloc(), ack_frame(me, 9), &ACK)?,
-        is_replied(rt.alloc(), &STORED)?,
+        is_posted(rt.alloc(), me, &POST),
+        is_spelled(rt.alloc(), ack_frame(me, 9), &ACK),
+        is_replied(rt.alloc(), &STORED),
     ];
-    assert!(rt; are_spelled == [true; 3]);
-    Ok(())
+    assert!(rt; are_spelled == [Ok(true); 3]);
 }
 
 // A post and two acknowledgements are put into a bundle, the post last. What it writes, and how many bytes its posts had.
-fn bundled(alloc: Global, me: NodeId) -> Result<(Vec<u8>, usize), Fail> {
+fn bundled(alloc: Global, me: NodeId) -> Result<(Vec<u8>, usize), NoMemory> {
     let post = Vec::from_slice(alloc, &POST)?;
     let mut bundle = Bundle::new(alloc);
-    bundle.add(Parcel::Ack(8))?;
-    bundle.add(Parcel::Ack(9))?;
-    bundle.add(Parcel::Post(post))?;
+    if let Err(fault) = add_three(&mut bundle, post) {
+        drop(bundle);
+        return Err(fault);
+    }
     let len = bundle.len();
     Ok((bundle.close(me)?, len))
 }
 
+fn add_three(bundle: &mut Bundle, post: Vec<u8>) -> Result<(), NoMemory> {
+    if let Err(fault) = add_acks(bundle) {
+        drop(post);
+        return Err(fault);
+    }
+    bundle.add(Parcel::Post(post))
+}
+
+fn add_acks(bundle: &mut Bundle) -> Result<(), NoMemory> {
+    bundle.add(Parcel::Ack(8))?;
+    bundle.add(Parcel::Ack(9))
+}
+
 #[test]
 fn the_last_acknowledgement_goes_behind_the_posts(rt: HostRuntime) -> Result<(), Fail> {
-    let (bytes, len) = bundled(rt.alloc(), node(1)?)?;
+    let (bytes, len) = bundled(rt.alloc(), node(1))?;
     let is_so = len == POST.len()
         && bytes.len() == POST.len() + ACK.len()
         && bytes.as_slice().starts_with(&POST)
@@ -168,7 +174,7 @@ fn is_told(
     event: Event,
     refusal: Refusal,
     bytes: &[u8],
-) -> Result<Option<bool>, Fail> {
+) -> Result<Option<bool>, NoMemory> {
     let told = refused_frame(&event, refusal);
     drop(event);
     match told {
@@ -186,23 +192,22 @@ fn third_request() -> Event {
 }
 
 #[test]
-fn refusals_are_told_to_who_asked(rt: HostRuntime) -> Result<(), Fail> {
-    let node = node(3)?;
+fn refusals_are_told_to_who_asked(rt: HostRuntime) {
+    let node = node(3);
     let told = [
-        is_told(rt.alloc(), third_request(), Refusal::Skip(1), &SKIPPED)?,
-        is_told(rt.alloc(), Event::Leave, Refusal::Left, &LEFT)?,
-        is_told(rt.alloc(), Event::Retire { node }, Refusal::Left, &LEFT)?,
+        is_told(rt.alloc(), third_request(), Refusal::Skip(1), &SKIPPED),
+        is_told(rt.alloc(), Event::Leave, Refusal::Left, &LEFT),
+        is_told(rt.alloc(), Event::Retire { node }, Refusal::Left, &LEFT),
     ];
     let acked = Event::Acked {
         peer: node,
         number: 1,
     };
-    let untold = is_told(rt.alloc(), acked, Refusal::NothingToAck, &LEFT)?;
-    assert!(rt; (told, untold) == ([Some(true); 3], None));
-    Ok(())
+    let untold = is_told(rt.alloc(), acked, Refusal::NothingToAck, &LEFT);
+    assert!(rt; told == [Ok(Some(true)); 3] && untold == Ok(None));
 }
 
-fn outcome(alloc: Global, bytes: &[u8]) -> Result<Option<Outcome>, Fail> {
+fn outcome(alloc: Global, bytes: &[u8]) -> Result<Option<Outcome>, WireFault> {
     let frame = decode_frame(alloc, bytes)?;
     let outcome = outcome_of(&frame);
     drop(frame);
@@ -222,23 +227,13 @@ fn outcome_refused(refusal: u8) -> Option<Outcome> {
 }
 
 #[test]
-fn the_operator_is_told_by_a_refusal(rt: HostRuntime) -> Result<(), Fail> {
+fn the_operator_is_told_by_a_refusal(rt: HostRuntime) {
     let outcomes = [
-        outcome(rt.alloc(), &LEFT)?,
-        outcome(rt.alloc(), &SKIPPED)?,
-        outcome(rt.alloc(), &STORED)?,
-        outcome_refused(15),
-        outcome_refused(19),
+        outcome(rt.alloc(), &LEFT),
+        outcome(rt.alloc(), &SKIPPED),
+        outcome(rt.alloc(), &STORED),
     ];
-    assert!(rt;
-        outcomes
-            == [
-                Some(Outcome::Done),
-                None,
-                None,
-                Some(Outcome::Refused(Refusal::OutboxFull)),
-                None
-            ]
-    );
-    Ok(())
+    let refused = [outcome_refused(15), outcome_refused(19)];
+    assert!(rt; outcomes == [Ok(Some(Outcome::Done)), Ok(None), Ok(None)]);
+    assert!(rt; refused == [Some(Outcome::Refused(Refusal::OutboxFull)), None]);
 }

@@ -1,5 +1,6 @@
 //! Which connection speaks for a node.
 
+use crate::bytes::node;
 use cc_protocol::{Speakers, Spoken};
 use cc_views::NodeId;
 use std::process::Abort;
@@ -31,10 +32,8 @@ fn check_spoken<R: Abort>(rt: &R, speakers: &mut Speakers, two: NodeId, three: N
 
 #[test]
 fn the_newest_connection_speaks_for_a_node(rt: HostRuntime) -> Result<(), Fail> {
-    let two = NodeId::new(2).ok_or("an id")?;
-    let three = NodeId::new(3).ok_or("an id")?;
     let mut speakers = Speakers::new(rt.alloc())?;
-    check_spoken(&rt, &mut speakers, two, three);
+    check_spoken(&rt, &mut speakers, node(2), node(3));
     drop(speakers);
     Ok(())
 }

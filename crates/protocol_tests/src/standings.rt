@@ -1,13 +1,10 @@
 //! How peers stand, second by second, and when what is kept for them lapses.
 
+use crate::bytes::node;
 use cc_protocol::{Passed, Standing, Standings};
 use cc_views::NodeId;
 use std::process::Abort;
 use std::test::*;
-
-fn node(id: u32) -> Result<NodeId, Fail> {
-    Ok(NodeId::new(id).ok_or("ids begin at 1")?)
-}
 
 // What a peer has acknowledged of what was sent to it by the end of a second, and how it stands then.
 type Case = (u64, u64, Standing);
@@ -17,17 +14,16 @@ fn owing(due: u64, seconds: u64) -> Standing {
 }
 
 // Checks how a live peer stands after each second of a list, that was in time before.
-fn check_seconds<R: Abort>(rt: &R, cases: &[Case]) -> Result<(), Fail> {
+fn check_seconds<R: Abort>(rt: &R, cases: &[Case]) {
     let mut standing = Standing::Current;
-    for (acked, sent, wanted) in cases {
-        standing = standing.after_second(*acked, *sent, true);
-        assert!(rt; standing == *wanted, "with {acked} of {sent}");
+    for &(acked, sent, wanted) in cases {
+        standing = standing.after_second(acked, sent, true);
+        assert!(rt; standing == wanted, "with {acked} of {sent}");
     }
-    Ok(())
 }
 
 #[test]
-fn two_seconds_make_a_silent_peer_absent(rt: HostRuntime) -> Result<(), Fail> {
+fn two_seconds_make_a_silent_peer_absent(rt: HostRuntime) {
     let cases = [
         (4, 4, Standing::Current),
         (4, 9, owing(9, 0)),
@@ -35,12 +31,12 @@ fn two_seconds_make_a_silent_peer_absent(rt: HostRuntime) -> Result<(), Fail> {
         (8, 12, Standing::Absent),
         (12, 12, Standing::Absent),
     ];
-    check_seconds(&rt, &cases)
+    check_seconds(&rt, &cases);
 }
 
 // It acknowledges each second what was sent by the one before.
 #[test]
-fn a_busy_peer_is_in_time(rt: HostRuntime) -> Result<(), Fail> {
+fn a_busy_peer_is_in_time(rt: HostRuntime) {
     let cases = [
         (0, 100, owing(100, 0)),
         (100, 200, owing(200, 0)),
@@ -48,21 +44,20 @@ fn a_busy_peer_is_in_time(rt: HostRuntime) -> Result<(), Fail> {
         (200, 400, owing(400, 0)),
         (400, 400, Standing::Current),
     ];
-    check_seconds(&rt, &cases)
+    check_seconds(&rt, &cases);
 }
 
 #[test]
-fn who_has_left_owes_nothing(rt: HostRuntime) -> Result<(), Fail> {
+fn who_has_left_owes_nothing(rt: HostRuntime) {
     let left = [
         owing(9, 1).after_second(0, 9, false),
         Standing::Absent.after_second(0, 9, false),
     ];
     assert!(rt; left == [Standing::Current; 2]);
-    Ok(())
 }
 
 #[test]
-fn who_has_owed_for_a_second_is_late(rt: HostRuntime) -> Result<(), Fail> {
+fn who_has_owed_for_a_second_is_late(rt: HostRuntime) {
     let late = [
         Standing::Current.is_late(),
         owing(9, 0).is_late(),
@@ -70,7 +65,6 @@ fn who_has_owed_for_a_second_is_late(rt: HostRuntime) -> Result<(), Fail> {
         Standing::Absent.is_late(),
     ];
     assert!(rt; late == [false, false, true, true]);
-    Ok(())
 }
 
 fn passed(standing: Standing, is_taken: bool, is_back: bool) -> Passed {
@@ -100,8 +94,7 @@ fn check_absent<R: Abort>(rt: &R, peers: &mut Standings, two: NodeId, three: Nod
                 passed(Standing::Absent, false, false),
             ]
     );
-    assert!(rt; peers.has_absent());
-    assert!(rt; peers.standing(three) == Standing::Current);
+    assert!(rt; peers.has_absent() && peers.standing(three) == Standing::Current);
 }
 
 // More than 64 posts are kept for peer 2: that is handed in once, and again where a second has passed or it was taken.
@@ -140,13 +133,12 @@ fn check_back<R: Abort>(rt: &R, peers: &mut Standings, two: NodeId, three: NodeI
                 passed(Standing::Absent, false, false),
             ]
     );
-    assert!(rt; acked == [false, true, false]);
-    assert!(rt; !peers.has_absent());
+    assert!(rt; acked == [false, true, false] && !peers.has_absent());
 }
 
 #[test]
 fn a_peer_is_absent_until_it_acknowledges(rt: HostRuntime) -> Result<(), Fail> {
-    let (two, three) = (node(2)?, node(3)?);
+    let (two, three) = (node(2), node(3));
     let mut peers = Standings::new(rt.alloc())?;
     check_absent(&rt, &mut peers, two, three);
     check_lapses(&rt, &mut peers, two, three);

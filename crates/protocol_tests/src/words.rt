@@ -1,12 +1,12 @@
 //! The words of commands, addresses and peers.
 
+use crate::bytes::node;
 use cc_messages::Command;
-use cc_views::{NodeId, Text};
+use cc_views::Text;
 use cc_words::{LineFault, Peer, address, command, peers, peers_in_lines, store_of};
-use std::alloc::Global;
+use std::alloc::{AllocError, Global};
 use std::net::{Ipv4Addr, SocketAddr, SocketAddrV4};
 use std::process::Abort;
-use std::test::*;
 
 fn local(port: u16) -> SocketAddr {
     SocketAddr::V4(SocketAddrV4::new(Ipv4Addr::new(127, 0, 0, 1), port))
@@ -30,20 +30,19 @@ const NO_ADDRESSES: [&str; 14] = [
 ];
 
 #[test]
-fn addresses_have_one_spelling(rt: HostRuntime) -> Result<(), Fail> {
+fn addresses_have_one_spelling(rt: HostRuntime) {
     let addresses = [address("127.0.0.1:7001"), address("127.0.0.1:65535")];
     assert!(rt; addresses == [Some(local(7001)), Some(local(65_535))]);
-    for word in NO_ADDRESSES {
+    for &word in &NO_ADDRESSES {
         assert!(rt; address(word).is_none(), "{word}");
     }
-    Ok(())
 }
 
-fn peer(id: u32, port: u16) -> Result<Peer, Fail> {
-    Ok(Peer {
-        id: NodeId::new(id).ok_or("ids begin at 1")?,
+fn peer(id: u32, port: u16) -> Peer {
+    Peer {
+        id: node(id),
         address: local(port),
-    })
+    }
 }
 
 const NO_PEERS: [&str; 12] = [
@@ -62,40 +61,38 @@ const NO_PEERS: [&str; 12] = [
 ];
 
 // Whether the word names peers.
-fn names_peers(alloc: Global, word: &str) -> Result<bool, Fail> {
+fn names_peers(alloc: Global, word: &str) -> Result<bool, AllocError> {
     let named = peers(alloc, word)?;
     let names = named.is_some();
     drop(named);
     Ok(names)
 }
 
-fn check_no_peers<R: Abort + AllocGlobal>(rt: &R) -> Result<(), Fail> {
-    for word in NO_PEERS {
-        let names_peers = names_peers(rt.alloc(), word)?;
-        assert!(rt; !names_peers, "{word}");
+fn check_no_peers<R: Abort + AllocGlobal>(rt: &R) {
+    for &word in &NO_PEERS {
+        assert!(rt; names_peers(rt.alloc(), word) == Ok(false), "{word}");
     }
-    Ok(())
 }
 
 // Whether the word names these peers.
-fn names(alloc: Global, word: &str, wanted: &[Peer]) -> Result<bool, Fail> {
-    let named = peers(alloc, word)?.ok_or("no peers")?;
-    let names = named.as_slice() == wanted;
+fn names(alloc: Global, word: &str, wanted: &[Peer]) -> Result<bool, AllocError> {
+    let named = peers(alloc, word)?;
+    let names = matches!(&named, Some(peers) if peers.as_slice() == wanted);
     drop(named);
     Ok(names)
 }
 
 #[test]
-fn peers_are_ids_with_addresses(rt: HostRuntime) -> Result<(), Fail> {
-    let wanted = [peer(3, 7003)?, peer(2, 7002)?];
-    let are_named = names(rt.alloc(), "3=127.0.0.1:7003,2=127.0.0.1:7002", &wanted)?;
-    assert!(rt; are_named);
-    check_no_peers(&rt)
+fn peers_are_ids_with_addresses(rt: HostRuntime) {
+    let wanted = [peer(3, 7003), peer(2, 7002)];
+    let are_named = names(rt.alloc(), "3=127.0.0.1:7003,2=127.0.0.1:7002", &wanted);
+    assert!(rt; are_named == Ok(true));
+    check_no_peers(&rt);
 }
 
 #[test]
-fn commands_are_those_of_scripts(rt: HostRuntime) -> Result<(), Fail> {
-    let text = Text::new(b"a").ok_or("the text is short")?;
+fn commands_are_those_of_scripts(rt: HostRuntime) {
+    let text = Text::new(b"a").unwrap();
     let commands = [
         command(&["store", "a"]),
         command(&["collect"]),
@@ -117,7 +114,6 @@ fn commands_are_those_of_scripts(rt: HostRuntime) -> Result<(), Fail> {
         Some(Command::ReadSet),
     ];
     assert!(rt; commands == wanted);
-    Ok(())
 }
 
 const NO_COMMANDS: [&[&str]; 9] = [
@@ -133,11 +129,10 @@ const NO_COMMANDS: [&[&str]; 9] = [
 ];
 
 #[test]
-fn other_words_are_no_commands(rt: HostRuntime) -> Result<(), Fail> {
-    for words in NO_COMMANDS {
+fn other_words_are_no_commands(rt: HostRuntime) {
+    for &words in &NO_COMMANDS {
         assert!(rt; command(words) == None);
     }
-    Ok(())
 }
 
 // A text of 64 bytes, and one of 65.
@@ -184,7 +179,7 @@ const BAD_LINES: [(&str, usize); 5] = [
 ];
 
 // Whether the lines name these peers.
-fn name(alloc: Global, lines: &str, wanted: &[Peer]) -> Result<bool, Fail> {
+fn name(alloc: Global, lines: &str, wanted: &[Peer]) -> Result<bool, LineFault> {
     let named = peers_in_lines(alloc, lines)?;
     let are_named = named.as_slice() == wanted;
     drop(named);
@@ -192,13 +187,12 @@ fn name(alloc: Global, lines: &str, wanted: &[Peer]) -> Result<bool, Fail> {
 }
 
 #[test]
-fn lines_name_what_a_list_names(rt: HostRuntime) -> Result<(), Fail> {
-    let wanted = [peer(2, 7002)?, peer(3, 7003)?];
-    for lines in LINES {
-        assert!(rt; name(rt.alloc(), lines, &wanted)?, "{lines}");
+fn lines_name_what_a_list_names(rt: HostRuntime) {
+    let wanted = [peer(2, 7002), peer(3, 7003)];
+    for &lines in &LINES {
+        assert!(rt; name(rt.alloc(), lines, &wanted) == Ok(true), "{lines}");
     }
-    assert!(rt; name(rt.alloc(), "# nobody\n", &[])?);
-    Ok(())
+    assert!(rt; name(rt.alloc(), "# nobody\n", &[]) == Ok(true));
 }
 
 #[test]

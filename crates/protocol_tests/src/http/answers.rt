@@ -1,8 +1,8 @@
 //! The bytes of answers and events.
 
 use cc_http::{HEARTBEAT, Outcome, Page, Wrong, answer_page, answer_wrong, home, put_event};
+use cc_views::NoMemory;
 use std::process::Abort;
-use std::test::*;
 
 const STATUS: &[u8] = b"HTTP/1.1 200 OK\r
 Content-Type: application/json\r
@@ -53,22 +53,32 @@ Content-Length: 15\r
 // A page, its outcome and its body, and the bytes of the answer.
 type Case<'a> = (Page, Outcome, &'a [u8], &'a [u8]);
 
-fn check_cases<R: Abort>(rt: &R, out: &mut Vec<u8>, cases: &[Case<'_>]) -> Result<(), Fail> {
-    for (page, outcome, body, bytes) in cases {
-        out.clear();
-        answer_page(out, *page, *outcome, false, body)?;
-        assert!(rt; out.as_slice() == *bytes);
-        out.clear();
-        answer_page(out, *page, *outcome, true, body)?;
-        assert!(rt; out.as_slice() == &bytes[..bytes.len().saturating_sub(body.len())]);
+// Whether an answer, or its head alone, has just these bytes.
+fn is_answered(
+    out: &mut Vec<u8>,
+    page: Page,
+    outcome: Outcome,
+    is_head: bool,
+    body: &[u8],
+    bytes: &[u8],
+) -> Result<bool, NoMemory> {
+    out.clear();
+    answer_page(out, page, outcome, is_head, body)?;
+    Ok(out.as_slice() == bytes)
+}
+
+fn check_cases<R: Abort>(rt: &R, out: &mut Vec<u8>, cases: &[Case<'_>]) {
+    for &(page, outcome, body, bytes) in cases {
+        let head = &bytes[..bytes.len().saturating_sub(body.len())];
+        assert!(rt; is_answered(out, page, outcome, false, body, bytes) == Ok(true));
+        assert!(rt; is_answered(out, page, outcome, true, body, head) == Ok(true));
     }
-    Ok(())
 }
 
 #[test]
-fn pages_are_given(rt: HostRuntime) -> Result<(), Fail> {
+fn pages_are_given(rt: HostRuntime) {
     let mut out = Vec::new(rt.alloc());
-    let checked = check_cases(
+    check_cases(
         &rt,
         &mut out,
         &[
@@ -79,32 +89,34 @@ fn pages_are_given(rt: HostRuntime) -> Result<(), Fail> {
         ],
     );
     drop(out);
-    checked
 }
 
 #[test]
-fn what_is_wrong_is_told(rt: HostRuntime) -> Result<(), Fail> {
+fn what_is_wrong_is_told(rt: HostRuntime) {
     let mut out = Vec::new(rt.alloc());
-    answer_wrong(&mut out, Wrong::Method, false)?;
+    let told = answer_wrong(&mut out, Wrong::Method, false);
     let is_told = out.as_slice() == METHOD;
     drop(out);
-    assert!(rt; is_told);
-    Ok(())
+    assert!(rt; told.is_ok() && is_told);
 }
 
-// Each line of the text is data of its own.
-#[test]
-fn events_are_written(rt: HostRuntime) -> Result<(), Fail> {
-    let mut out = Vec::new(rt.alloc());
-    put_event(&mut out, "row", "{}")?;
+// Whether an event is written so, and another one behind it: each line of the text is data of its own.
+fn are_written(out: &mut Vec<u8>) -> Result<bool, NoMemory> {
+    put_event(out, "row", "{}")?;
     let is_one = out.as_slice() == b"event: row\ndata: {}\n\n".as_slice();
-    put_event(&mut out, "row", "a\nb")?;
+    put_event(out, "row", "a\nb")?;
     let is_two = out
         .as_slice()
         .ends_with(b"\n\nevent: row\ndata: a\ndata: b\n\n");
+    Ok(is_one && is_two)
+}
+
+#[test]
+fn events_are_written(rt: HostRuntime) {
+    let mut out = Vec::new(rt.alloc());
+    let are_written = are_written(&mut out);
     drop(out);
-    assert!(rt; is_one && is_two);
-    Ok(())
+    assert!(rt; are_written == Ok(true));
 }
 
 #[test]

@@ -1,9 +1,8 @@
 //! What requests ask for, as they come in.
 
 use cc_http::{Asked, MOST_FIELDS, MOST_HEAD, Page, Wrong, read_request};
-use std::alloc::{AllocError, Global};
+use std::alloc::AllocError;
 use std::process::Abort;
-use std::test::*;
 
 fn page(page: Page) -> Asked {
     Asked::Page {
@@ -135,40 +134,51 @@ fn half_heads_are_waited_for(rt: HostRuntime) {
     assert!(rt; read_request(bytes) == page(Page::View));
 }
 
-// A head of one field that never ends.
-#[test]
-fn an_endless_head_is_refused(rt: HostRuntime) -> Result<(), Fail> {
-    let mut bytes = Vec::from_slice(rt.alloc(), b"GET / HTTP/1.1\r\nA: ")?;
+// What a head of one field asks for that is one byte shorter than any may be, and what it asks for with one byte more.
+fn asked_without_end(bytes: &mut Vec<u8>) -> Result<[Asked; 2], AllocError> {
+    bytes.extend_from_slice(b"GET / HTTP/1.1\r\nA: ")?;
     for _ in bytes.len()..MOST_HEAD - 1 {
         bytes.push(b'a')?;
     }
-    let is_waited_for = read_request(&bytes) == Asked::More;
+    let shorter = read_request(bytes);
     bytes.push(b'a')?;
-    let is_refused = read_request(&bytes) == wrong(Wrong::TooLong);
+    Ok([shorter, read_request(bytes)])
+}
+
+// A head of one field that never ends.
+#[test]
+fn an_endless_head_is_refused(rt: HostRuntime) {
+    let mut bytes = Vec::new(rt.alloc());
+    let asked = asked_without_end(&mut bytes);
     drop(bytes);
-    assert!(rt; is_waited_for && is_refused);
-    Ok(())
+    assert!(rt; asked == Ok([Asked::More, wrong(Wrong::TooLong)]));
 }
 
 // So many fields, and no end of the head.
-fn fields(alloc: Global, count: usize) -> Result<Vec<u8>, AllocError> {
-    let mut bytes = Vec::from_slice(alloc, b"GET / HTTP/1.1\r\n")?;
+fn put_fields(bytes: &mut Vec<u8>, count: usize) -> Result<(), AllocError> {
+    bytes.extend_from_slice(b"GET / HTTP/1.1\r\n")?;
     for _ in 0..count {
         bytes.extend_from_slice(b"A: b\r\n")?;
     }
-    Ok(bytes)
+    Ok(())
+}
+
+// What a head of as many fields as it may have asks for, without its end and with it, and with one more field in its place.
+fn asked_with_most(bytes: &mut Vec<u8>) -> Result<[Asked; 3], AllocError> {
+    put_fields(bytes, MOST_FIELDS)?;
+    let open = read_request(bytes);
+    let length = bytes.len();
+    bytes.extend_from_slice(b"\r\n")?;
+    let whole = read_request(bytes);
+    bytes.truncate(length);
+    bytes.extend_from_slice(b"A: b\r\n")?;
+    Ok([open, whole, read_request(bytes)])
 }
 
 #[test]
-fn a_head_of_too_many_fields_is_refused(rt: HostRuntime) -> Result<(), Fail> {
-    let mut most = fields(rt.alloc(), MOST_FIELDS)?;
-    let is_waited_for = read_request(&most) == Asked::More;
-    most.extend_from_slice(b"\r\n")?;
-    let is_served = read_request(&most) == page(Page::Home);
-    most.truncate(most.len() - 2);
-    most.extend_from_slice(b"A: b\r\n")?;
-    let is_refused = read_request(&most) == wrong(Wrong::TooLong);
-    drop(most);
-    assert!(rt; is_waited_for && is_served && is_refused);
-    Ok(())
+fn a_head_of_too_many_fields_is_refused(rt: HostRuntime) {
+    let mut bytes = Vec::new(rt.alloc());
+    let asked = asked_with_most(&mut bytes);
+    drop(bytes);
+    assert!(rt; asked == Ok([Asked::More, page(Page::Home), wrong(Wrong::TooLong)]));
 }
