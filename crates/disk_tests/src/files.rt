@@ -256,9 +256,8 @@ const FAULT_TEXTS: [(SiteFault, &str); 2] = [
 ];
 
 #[test]
-fn faults_of_a_folder_print_their_names(rt: HostRuntime) -> Result<(), Fail> {
+fn faults_of_a_folder_print_their_names(rt: HostRuntime) {
     for (fault, wanted) in &FAULT_TEXTS {
-        assert!(rt; says(rt.alloc(), fault, wanted)?);
+        assert!(rt; says(rt.alloc(), fault, wanted) == Ok(true));
     }
-    Ok(())
 }

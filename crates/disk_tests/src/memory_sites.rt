@@ -338,9 +338,8 @@ const NAMES: [(Side, Call, &str); 10] = [
 ];
 
 #[test]
-fn faults_print_their_side_and_call(rt: HostRuntime) -> Result<(), Fail> {
+fn faults_print_their_side_and_call(rt: HostRuntime) {
     for &(side, call, name) in &NAMES {
-        assert!(rt; says(rt.alloc(), &DeviceFault { side, call }, name)?);
+        assert!(rt; says(rt.alloc(), &DeviceFault { side, call }, name) == Ok(true));
     }
-    Ok(())
 }

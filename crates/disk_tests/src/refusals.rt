@@ -1,6 +1,6 @@
 //! What a call leaves that is refused memory, and what a fault says. `make refused-growths` counts what is told here.
 
-use std::alloc::Global;
+use std::alloc::{AllocError, Global};
 use std::fmt::Display;
 use std::test::Fail;
 
@@ -13,11 +13,12 @@ pub(crate) fn unless_failed<T, E: Drop>(
         Ok(value) => Ok(value),
         Err(fault) => {
             drop(fault);
-            Err(if is_as_before {
+            let told = if is_as_before {
                 "failed, and all is as it was"
             } else {
                 "failed, and something has changed"
-            })?
+            };
+            Err(told.into())
         }
     }
 }
@@ -34,6 +35,6 @@ pub(crate) fn led_to<T: Drop>(value: T, done: Result<(), Fail>) -> Result<T, Fai
 }
 
 /// Whether that is what a fault says.
-pub(crate) fn says<F: Display>(alloc: Global, fault: &F, wanted: &str) -> Result<bool, Fail> {
+pub(crate) fn says<F: Display>(alloc: Global, fault: &F, wanted: &str) -> Result<bool, AllocError> {
     Ok(format!(in alloc; "{fault}")?.as_str() == wanted)
 }

@@ -15,7 +15,7 @@ use cc_site::Side;
 use cc_states::StateFault;
 use cc_views::Text;
 use cc_wire::WireFault;
-use std::alloc::Global;
+use std::alloc::{AllocError, Global};
 use std::test::*;
 
 // Member 1 of 1, of share 32, as it is formatted.
@@ -118,7 +118,10 @@ fn side_of(alloc: Global, node: &Node, generation: u64) -> Result<Vec<u8>, Fail>
 // An image behind an open gate.
 fn gated(alloc: Global, image: &[u8]) -> Result<Vec<u8>, Fail> {
     let mut side = Vec::from_slice(alloc, &[0xA5])?;
-    side.extend_from_slice(image)?;
+    if let Err(AllocError) = side.extend_from_slice(image) {
+        drop(side);
+        return Err(AllocError.into());
+    }
     Ok(side)
 }
 

@@ -10,7 +10,7 @@ use cc_sides::Layout;
 use cc_site::{Call, DeviceFault, Side};
 use cc_states::{StateFault, decode_state, encode_state};
 use cc_wire::WireFault;
-use std::alloc::Global;
+use std::alloc::{AllocError, Global};
 use std::test::*;
 
 // The opening state of member 1 of 1, both shares 4/5.
@@ -282,7 +282,7 @@ fn states_in_which_no_node_can_be(rt: HostRuntime) {
     assert!(rt; fault_of(rt.alloc(), &MEMBER, 112, 1).is_none());
 }
 
-fn put_links(bytes: &mut Vec<u8>, nodes: u16) -> Result<(), Fail> {
+fn put_links(bytes: &mut Vec<u8>, nodes: u16) -> Result<(), AllocError> {
     bytes.extend_from_slice(&nodes.to_be_bytes())?;
     for peer in 0..nodes {
         bytes.extend_from_slice(&(u32::from(peer) + 1).to_be_bytes())?;
@@ -292,32 +292,33 @@ fn put_links(bytes: &mut Vec<u8>, nodes: u16) -> Result<(), Fail> {
 }
 
 // The opening state of member 1 of 1 with links to the nodes up to that one.
-fn linked_to(alloc: Global, nodes: u16) -> Result<Vec<u8>, Fail> {
-    let mut bytes = Vec::from_slice(alloc, &MEMBER[..83])?;
-    put_links(&mut bytes, nodes)?;
-    bytes.extend_from_slice(&[0; 6])?;
-    Ok(bytes)
+fn put_linked(bytes: &mut Vec<u8>, nodes: u16) -> Result<(), AllocError> {
+    bytes.extend_from_slice(&MEMBER[..83])?;
+    put_links(bytes, nodes)?;
+    bytes.extend_from_slice(&[0; 6])
 }
 
-#[test]
-fn more_than_256_links_are_unlawful(rt: HostRuntime) -> Result<(), Fail> {
-    let most = linked_to(rt.alloc(), 256)?;
-    let count = link_count(rt.alloc(), &most);
-    drop(most);
-    assert!(rt; count? == 256);
-    let many = linked_to(rt.alloc(), 257)?;
-    let fault = fault(rt.alloc(), &many);
-    drop(many);
-    assert!(rt; fault == Some(StateFault::Unlawful));
-    Ok(())
-}
-
-// How many links the node of a state has.
-fn link_count(alloc: Global, bytes: &[u8]) -> Result<usize, Fail> {
-    let node = decoded(alloc, bytes)?;
+// How many links the node of a state has, or why there is none.
+fn link_count(alloc: Global, bytes: &[u8]) -> Result<usize, StateFault> {
+    let node = decode_state(alloc, bytes, Layout::Lined)?;
     let count = node.core().links().len();
     drop(node);
     Ok(count)
+}
+
+// The same of the state with links to the nodes up to that one.
+fn links_up_to(alloc: Global, nodes: u16) -> Result<Result<usize, StateFault>, AllocError> {
+    let mut bytes = Vec::new(alloc);
+    let put = put_linked(&mut bytes, nodes);
+    let count = link_count(alloc, &bytes);
+    drop(bytes);
+    put.and(Ok(count))
+}
+
+#[test]
+fn more_than_256_links_are_unlawful(rt: HostRuntime) {
+    assert!(rt; links_up_to(rt.alloc(), 256) == Ok(Ok(256)));
+    assert!(rt; links_up_to(rt.alloc(), 257) == Ok(Err(StateFault::Unlawful)));
 }
 
 // Takes the event in, which isn't refused.
@@ -329,7 +330,7 @@ pub(crate) fn take(alloc: Global, node: &mut Node, event: Event) -> Result<(), F
         }
         Err(refusal) => {
             drop(event);
-            Err(refusal)?
+            Err(refusal.into())
         }
     }
 }
@@ -516,11 +517,10 @@ const FAULT_TEXTS: [(StateFault, &str); 2] = [
 ];
 
 #[test]
-fn faults_of_states_print_what_is_wrong(rt: HostRuntime) -> Result<(), Fail> {
+fn faults_of_states_print_what_is_wrong(rt: HostRuntime) {
     for (fault, wanted) in &FAULT_TEXTS {
-        assert!(rt; says(rt.alloc(), fault, wanted)?);
+        assert!(rt; says(rt.alloc(), fault, wanted) == Ok(true));
     }
-    Ok(())
 }
 
 const READ: DeviceFault = DeviceFault {
@@ -538,9 +538,8 @@ const OPEN_FAULTS: [(OpenFault, &str); 6] = [
 ];
 
 #[test]
-fn faults_of_opening_print_their_names(rt: HostRuntime) -> Result<(), Fail> {
+fn faults_of_opening_print_their_names(rt: HostRuntime) {
     for (fault, wanted) in &OPEN_FAULTS {
-        assert!(rt; says(rt.alloc(), fault, wanted)?);
+        assert!(rt; says(rt.alloc(), fault, wanted) == Ok(true));
     }
-    Ok(())
 }

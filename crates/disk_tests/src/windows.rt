@@ -11,12 +11,13 @@ use cc_messages::{Command, Event, Message};
 use cc_node::{Node, Opening};
 use cc_site::{MemorySite, Side};
 use cc_views::{Text, View};
-use cc_wire::decode_view;
-use std::alloc::Global;
+use cc_wire::{WireFault, decode_view};
+use std::alloc::{AllocError, Global};
 use std::process::Abort;
 use std::test::*;
 
-fn put_rows(bytes: &mut Vec<u8>) -> Result<(), Fail> {
+fn put_rows(bytes: &mut Vec<u8>) -> Result<(), AllocError> {
+    bytes.extend_from_slice(&[1, 0])?;
     for node in 1..257u32 {
         let [a, b, c, d] = node.to_be_bytes();
         bytes.extend_from_slice(&[a, b, c, d, 0, 0, 0, 0, 0, 0, 0, 1, 64])?;
@@ -27,10 +28,14 @@ fn put_rows(bytes: &mut Vec<u8>) -> Result<(), Fail> {
 }
 
 // The view that shows a text of 64 bytes of each of 256 nodes, all under number 1.
-fn long_view(alloc: Global) -> Result<View, Fail> {
-    let mut bytes = Vec::from_slice(alloc, &[1, 0])?;
-    put_rows(&mut bytes)?;
-    Ok(decode_view(alloc, &bytes)?)
+fn long_view(alloc: Global) -> Result<View, WireFault> {
+    let mut bytes = Vec::new(alloc);
+    let view = match put_rows(&mut bytes) {
+        Ok(()) => decode_view(alloc, &bytes),
+        Err(AllocError) => Err(WireFault::NoMemory),
+    };
+    drop(bytes);
+    view
 }
 
 // Member 1 of 256, for which one answer is enough.
@@ -169,7 +174,10 @@ pub(crate) fn front(
     let [a, b, c, d] = told.to_be_bytes();
     let head = [0xA5, 0, 0, 0, 0, 0, 0, 0, 1, version, a, b, c, d];
     let mut bytes = Vec::from_slice(alloc, &head)?;
-    bytes.extend_from_slice(state)?;
+    if let Err(AllocError) = bytes.extend_from_slice(state) {
+        drop(bytes);
+        return Err(AllocError.into());
+    }
     Ok(bytes)
 }
 
