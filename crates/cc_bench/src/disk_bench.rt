@@ -38,6 +38,12 @@ fn mean(spent: Duration, count: u64) -> u128 {
 /// write.
 pub fn plain_sync_nanoseconds<R: Files<File = File> + Clock>(rt: &R) -> Result<u128, BenchFault> {
     let mut file = File::create(rt, "bench-sides/synced")?;
+    let nanoseconds = time_plain_syncs(rt, &mut file);
+    drop(file);
+    nanoseconds
+}
+
+fn time_plain_syncs<R: Clock>(rt: &R, file: &mut File) -> Result<u128, BenchFault> {
     let start = Instant::now(rt)?;
     for before in 0..SYNCS {
         file.write_all(WRITTEN)?;

@@ -155,6 +155,12 @@ fn rounds<S: Site + Drop, C: Clock + CpuClock>(
     Ok(spent.on_one())
 }
 
+// What it is now by the clock, and what the thread has used of the processor.
+fn now<C: Clock + CpuClock>(clock: &C) -> Result<(Instant, Duration), BenchFault> {
+    let now = Instant::now(clock)?;
+    Ok((now, clock.thread_cpu_time()?))
+}
+
 // A round of stores, which is timed, and then the acknowledgements of all posts, which aren't.
 fn round<S: Site + Drop, C: Clock + CpuClock>(
     clock: &C,
@@ -170,8 +176,13 @@ fn round<S: Site + Drop, C: Clock + CpuClock>(
     ensures live { OnOk result (live.new ≡ engine.new.twin.core) }
 {
     let events = copies(alloc, live, store, ROUND)?;
-    let start = Instant::now(clock)?;
-    let used = clock.thread_cpu_time()?;
+    let (start, used) = match now(clock) {
+        Ok(now) => now,
+        Err(fault) => {
+            drop(events);
+            return Err(fault);
+        }
+    };
     run(alloc, engine, live, events, batch)?;
     let spent = Spent {
         stores: ROUND,
@@ -228,14 +239,34 @@ pub fn run<S: Site + Drop>(
     ensures live { OnOk result (live.new ≡ engine.new.twin.core) }
 {
     let mut batch = Batch::new();
+    let outcome = take_all(alloc, engine, live, &mut batch, events, full);
+    drop(batch);
+    outcome
+}
+
+// The same through a batch that is empty.
+fn take_all<S: Site + Drop>(
+    alloc: Global,
+    engine: &mut Flusher<S>,
+    live: &mut Core,
+    batch: &mut Batch,
+    events: Vec<Event>,
+    full: usize,
+) -> Result<(), BenchFault>
+    requires empty { batch.old ≡ [] }
+    requires owes { engine.old.owes ≡ false }
+    requires live { live.old ≡ engine.old.twin.core }
+    ensures owes { OnOk result (engine.new.owes ≡ false) }
+    ensures live { OnOk result (live.new ≡ engine.new.twin.core) }
+{
     for event in events {
-        add(alloc, engine, live, &mut batch, event)?;
+        add(alloc, engine, live, batch, event)?;
         if batch.len() >= full {
-            turn(engine, &mut batch)?;
+            turn(engine, batch)?;
         }
     }
     if batch.len() > 0 {
-        turn(engine, &mut batch)?;
+        turn(engine, batch)?;
     }
     Ok(())
 }

@@ -1,7 +1,7 @@
 use Rattle.std.proofs.Common.{◌≡◌, false}
 use Rattle.cc_node.specs.Node.{after}
 use Rattle.cc_journal.specs.Batches.{AreLawful, events_in}
-use Rattle.cc_bench.proofs.engine_bench.run.Given as goal
+use Rattle.cc_bench.proofs.engine_bench.take_all.Given as goal
 
 abbrev pub invariant-loop-event : goal.invariant-loop-event
 invariant-loop-event g l = record {
