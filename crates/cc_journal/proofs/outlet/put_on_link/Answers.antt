@@ -11,7 +11,7 @@ returns-then-not-has_left g c =
     let old = c.args.site.now in
     let new = c.send.new.self in
     let put = c.send.ensures in
-    subst (λ (l : List Output). Puts s l old new) (grind (arith, c.churn.ensures, c.has_left.ensures, c.if-not-has_left.true, c.posts.ensures))
+    subst (λ (l : List Output). Puts s l old new) (grind arith)
     (puts_one s old new (output.Send c.args.row.now.peer (c.posts.result - c.args.row.now.start) c.args.post.now)
     (g.met.S.Site.only_now old) put.honest put.tells put.same put.time put.failures)
 
@@ -19,5 +19,5 @@ pub returns-else-not-has_left : goal.returns-else-not-has_left
 returns-else-not-has_left g c =
     let s = g.S.Site in
     let old = c.args.site.now in
-    subst (λ (l : List Output). Puts s l old old) (grind (arith, c.churn.ensures, c.has_left.ensures, c.if-not-has_left.false))
+    subst (λ (l : List Output). Puts s l old old) (grind arith)
     (puts_none s old (g.met.S.Site.only_now old))
