@@ -69,6 +69,7 @@ where
             serve_in(context, connection, admitted, from);
         } else {
             context.shared.connections.leave(rt, admitted.ticket);
+            drop(connection);
         }
     });
     context.shared.gauges.close();
@@ -140,10 +141,11 @@ fn write_out<R: Wait>(rt: &R, pen: Pen) {
     let to: &TcpStream = &pen.stream;
     write_frames(rt, &pen.from, to, &pen.waiting);
     let _ = pen.stream.shutdown(Shutdown::Both);
+    drop(pen);
 }
 
 // Serves with a share out of the pool, or a new one. Who says that nothing more comes is answered all the same. The connection is
-// let go at the return, and so the channel to the writer, which then ends.
+// let go at the end, and so the channel to the writer, which then ends.
 fn serve_in<R: Wait + Log, H: Hooks, L: Life, Q: Lane>(
     context: &Context<'_, R, H, L, Q>,
     connection: Arc<Connection>,
@@ -166,6 +168,7 @@ fn serve_in<R: Wait + Log, H: Hooks, L: Life, Q: Lane>(
         .shared
         .connections
         .leave(context.rt, admitted.ticket);
+    drop(connection);
 }
 
 // Why no further event came. None where there is no share.

@@ -195,6 +195,7 @@ impl<R: Wait + Log, I: Input, S: Admitting, D: Replies, F: Flushed> Caller<'_, R
                 if let Err(refused) = answer {
                     self.refuse(&frame, refused);
                 }
+                drop(frame);
             }
             Duty::BringAgain => return true,
         }

@@ -79,6 +79,6 @@ impl<R: Wait, H: Hooks, L: Life, Q: Lane> Context<'_, R, H, L, Q> {
 
     /// Puts a share back into the pool, which has room for one of each worker.
     pub fn give_back(&self, share: Share<L>) {
-        let _ = self.shares.lock(self.rt).push(share);
+        drop(self.shares.lock(self.rt).push(share));
     }
 }

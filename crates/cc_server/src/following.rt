@@ -13,9 +13,9 @@ use log::Log;
 use std::alloc::Global;
 use std::net::SocketAddr;
 use std::sync::Wait;
-use std::thread;
 use std::thread::Scope;
 use std::time::Duration;
+use std::{mem, thread};
 
 // How long it waits before it looks at its flag, in milliseconds.
 const PAUSE_MS: u64 = 100;
@@ -139,7 +139,7 @@ impl Reading {
     // This text stands in the file now. Whether it is to be taken.
     fn see(&mut self, text: String) -> bool {
         if self.text.as_str() != text.as_str() {
-            self.text = text;
+            drop(mem::replace(&mut self.text, text));
             self.is_taken = false;
             return false;
         }

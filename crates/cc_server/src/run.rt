@@ -63,9 +63,13 @@ pub fn run_on<'a, R, H: Hooks + Sync>(
 where
     R: Files<File = File> + Machine,
 {
-    let now = millis(rt);
-    let board = board(alloc, config, now)?;
-    let (shared, inlets) = Shared::new(alloc, &config.peers, board, now)?;
+    let (shared, inlets) = match shared(alloc, config, millis(rt)) {
+        Ok(made) => made,
+        Err(fault) => {
+            drop(listener);
+            return Err(fault);
+        }
+    };
     let run = Run {
         rt,
         alloc,
@@ -74,7 +78,15 @@ where
         hooks,
         shared: &shared,
     };
-    open_and_run(&run, listener, inlets)
+    let outcome = open_and_run(&run, listener, inlets);
+    drop(shared);
+    outcome
+}
+
+// What the threads of a node need that is started at that moment.
+fn shared(alloc: Global, config: &Config<'_>, now: u64) -> Result<(Shared, Inlets), RunFault> {
+    let board = board(alloc, config, now)?;
+    Shared::new(alloc, &config.peers, board, now)
 }
 
 // What those who may look at the node look at.
@@ -120,7 +132,14 @@ where
         alloc: run.alloc,
         shared: run.shared,
     };
-    let site = FileSite::open(run.rt, run.alloc, run.config.dir, outlet)?;
+    let site = match FileSite::open(run.rt, run.alloc, run.config.dir, outlet) {
+        Ok(site) => site,
+        Err(fault) => {
+            drop(listener);
+            drop(inlets);
+            return Err(fault.into());
+        }
+    };
     let measured = Measured::new(run.rt, run.hooks, &run.shared.gauges);
     let hooked = Hooked {
         site,
@@ -128,7 +147,12 @@ where
     };
     match Flusher::open(run.alloc, hooked) {
         Ok((engine, core)) => run_opened(run, listener, inlets, engine, core),
-        Err(Back { site: _, fault }) => Err(RunFault::Open(fault)),
+        Err(Back { site, fault }) => {
+            drop(site);
+            drop(listener);
+            drop(inlets);
+            Err(RunFault::Open(fault))
+        }
     }
 }
 
@@ -166,6 +190,7 @@ where
         Err(fault) => {
             drop(engine);
             drop(core);
+            drop(inlets);
             Err(fault)
         }
     }
@@ -188,6 +213,7 @@ where
         || peer.address == listen
         || Some(peer.address) == listen_clients)
     {
+        drop(listener);
         return Err(RunFault::OwnPeer);
     }
     let _ = run.shared.me.try_set(me);
@@ -287,19 +313,21 @@ where
     requires accepted { (list : List EntryValue) → L.accepted list }
     requires flushed { (count : ℕ) → L.flushed count }
 {
-    match (
-        lane::<L>(run.alloc),
-        Vec::with_capacity(run.alloc, MOST_WORKERS),
-        Admission::new(run.alloc, Durable::<OfLife<L>>::new(0)),
-    ) {
-        (Ok(ends), Ok(shares), Ok(admission)) => {
-            run_at::<L, Brand, S, R, H>(run, ready, blank, ends, shares, &admission)
-        }
-        _ => {
-            drop(ready);
-            Err(RunFault::NoMemory)
-        }
-    }
+    let Ok(ends) = lane::<L>(run.alloc) else {
+        drop(ready);
+        return Err(RunFault::NoMemory);
+    };
+    let Ok(shares) = Vec::with_capacity(run.alloc, MOST_WORKERS) else {
+        drop((ready, ends));
+        return Err(RunFault::NoMemory);
+    };
+    let Ok(admission) = Admission::new(run.alloc, Durable::<OfLife<L>>::new(0)) else {
+        drop((ready, ends, shares));
+        return Err(RunFault::NoMemory);
+    };
+    let outcome = run_at::<L, Brand, S, R, H>(run, ready, blank, ends, shares, &admission);
+    drop(admission);
+    outcome
 }
 
 fn run_at<L: Life + Send + Sync, Q: Lane + Send + Sync, S: Site + Drop, R, H: Hooks + Sync>(
@@ -351,6 +379,7 @@ where
     };
     let (watch, far_ends) = inlets.cut(run.alloc, me, run.shared);
     let outcome = live(&context, &mut turner, watch, far_ends, &listeners, run.stop);
+    drop(listeners);
     let finished = finish(
         run.rt,
         lock.into_inner(),

@@ -10,11 +10,11 @@ use cc_channels::{
 use cc_frames::Peer;
 use cc_messages::Event;
 use cc_protocol::{Standings, Wishes};
-use cc_views::NodeId;
+use cc_views::{NoMemory, NodeId};
 use cc_watch::{Board, Gauges};
 use crossbeam_channel::Receiver;
 use crossbeam_utils::sync::Parker;
-use std::alloc::Global;
+use std::alloc::{AllocError, Global};
 use std::sync::atomic::{AtomicU64, Ordering};
 use std::sync::{Mutex, OnceLock, Wait};
 
@@ -57,6 +57,92 @@ pub struct Inlets {
     pub notes: Receiver<Option<Note>>,
 }
 
+// The tables of what the threads share.
+#[derive(Drop)]
+struct Tables {
+    connections: Connections,
+    wishes: Wishes,
+    standings: Standings,
+    gauges: Gauges,
+}
+
+impl Tables {
+    fn new(alloc: Global) -> Result<Self, NoMemory> {
+        let connections = Connections::new(alloc)?;
+        let Ok(wishes) = Wishes::new(alloc) else {
+            drop(connections);
+            return Err(NoMemory);
+        };
+        let Ok(standings) = Standings::new(alloc) else {
+            drop((connections, wishes));
+            return Err(NoMemory);
+        };
+        let Ok(gauges) = Gauges::new(alloc) else {
+            drop((connections, wishes, standings));
+            return Err(NoMemory);
+        };
+        Ok(Tables {
+            connections,
+            wishes,
+            standings,
+            gauges,
+        })
+    }
+}
+
+// The channels on which the threads pass things on, and what wakes the flusher.
+#[derive(Drop)]
+struct Ways {
+    channels: PeerChannels,
+    own: OwnChannel,
+    notes: NoteChannel,
+    waker: Waker,
+}
+
+impl Ways {
+    fn new(alloc: Global, peers: &[Peer]) -> Result<(Self, Inlets), NoMemory> {
+        let (channels, far) = channels_to(alloc, peers)?;
+        let Ok((own, taken)) = own_channel(alloc) else {
+            drop((channels, far));
+            return Err(NoMemory);
+        };
+        let Ok((notes, noted)) = note_channel(alloc) else {
+            drop((channels, far, own, taken));
+            return Err(NoMemory);
+        };
+        let Ok((waker, parker)) = waking(alloc) else {
+            drop((channels, far, own, taken, notes, noted));
+            return Err(NoMemory);
+        };
+        let ways = Ways {
+            channels,
+            own,
+            notes,
+            waker,
+        };
+        let inlets = Inlets {
+            parker,
+            far,
+            own: taken,
+            notes: noted,
+        };
+        Ok((ways, inlets))
+    }
+}
+
+// What wakes the flusher, and what it sleeps by.
+fn waking(alloc: Global) -> Result<(Waker, Parker), AllocError> {
+    let parker = Parker::new(alloc)?;
+    let unparker: Result<_, _> = parker.unparker().clone();
+    match unparker {
+        Ok(unparker) => Ok((Waker::new(unparker), parker)),
+        Err(_) => {
+            drop(parker);
+            Err(AllocError)
+        }
+    }
+}
+
 impl Shared {
     /// What the threads of a node with these peers need that is started at that moment, and the other ends of it.
     pub fn new(
@@ -65,34 +151,43 @@ impl Shared {
         board: Option<Board>,
         now: u64,
     ) -> Result<(Self, Inlets), RunFault> {
-        let (channels, far) = channels_to(alloc, peers)?;
-        let (own, taken) = own_channel(alloc)?;
-        let (notes, noted) = note_channel(alloc)?;
-        let parker = Parker::new(alloc)?;
-        let waker = Waker::new(parker.unparker().clone()?);
+        let Ok(tables) = Tables::new(alloc) else {
+            drop(board);
+            return Err(RunFault::NoMemory);
+        };
+        let Ok((ways, inlets)) = Ways::new(alloc, peers) else {
+            drop((board, tables));
+            return Err(RunFault::NoMemory);
+        };
+        let Tables {
+            connections,
+            wishes,
+            standings,
+            gauges,
+        } = tables;
+        let Ways {
+            channels,
+            own,
+            notes,
+            waker,
+        } = ways;
         let shared = Shared {
             me: OnceLock::new(),
-            connections: Connections::new(alloc)?,
+            connections,
             channels,
             own,
             waker,
             known: Known::new(alloc),
-            wishes: Mutex::new(Wishes::new(alloc)?),
-            standings: Mutex::new(Standings::new(alloc)?),
+            wishes: Mutex::new(wishes),
+            standings: Mutex::new(standings),
             any_absent: Flag::new(),
             notes,
-            gauges: Gauges::new(alloc)?,
+            gauges,
             board,
             now: AtomicU64::new(now),
             ticked: Flag::new(),
             done: Flag::new(),
             ended: Flag::new(),
-        };
-        let inlets = Inlets {
-            parker,
-            far,
-            own: taken,
-            notes: noted,
         };
         Ok((shared, inlets))
     }
