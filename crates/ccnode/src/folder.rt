@@ -12,7 +12,11 @@ use std::process::ExitCode;
 /// formatted.
 pub fn format(rt: &HostRuntime, folder: &str, words: &FormatWords<'_>) -> anyhow::Result<ExitCode> {
     match FormatOrder::parse(rt.alloc(), words) {
-        Ok(order) => format_as(rt, folder, &order),
+        Ok(order) => {
+            let status = format_as(rt, folder, &order);
+            drop(order);
+            status
+        }
         Err(fault) => print_word_fault(rt, fault),
     }
 }

@@ -112,13 +112,18 @@ where
         + Log
         + Sync,
 {
-    print_lost(rt, folder)?;
+    if let Err(error) = print_lost(rt, folder) {
+        drop(order);
+        return Err(error);
+    }
     let own = match peers_file {
         Some(_) => node_in_folder(rt, rt.alloc(), folder),
         None => None,
     };
     let config = config_of(folder, order, own, peers_file);
-    match run_node(machine, rt.alloc(), &config, &Stop::new(), &NoHooks) {
+    let outcome = run_node(machine, rt.alloc(), &config, &Stop::new(), &NoHooks);
+    drop(config);
+    match outcome {
         Ok(_) => Ok(ExitCode::SUCCESS),
         Err(fault) => print_run_fault(rt, folder, fault),
     }
