@@ -91,32 +91,36 @@ fn a_store_is_sent_first_and_replied_to_last(rt: HostRuntime) -> Result<(), Fail
 // Commits a store. What a crash leaves of it before its release.
 fn unreleased(alloc: Global, flusher: &mut Flusher<MemorySite>) -> Result<MemorySite, Fail> {
     if flusher.owes() || !flusher.room() {
-        return Err("there is no room")?;
+        return Err("there is no room".into());
     }
     let mut batch = batch_of(alloc, flusher.twin(), Part::Store)?;
     match flusher.commit(&batch) {
         Ok(landed) => {
             let image = flusher.site().image(alloc, &Choice::Read);
             flusher.release(landed, &mut batch);
+            drop(batch);
             Ok(image?)
         }
-        Err(failed) => Err(failed)?,
+        Err(failed) => {
+            drop(batch);
+            Err(failed.into())
+        }
     }
 }
 
 // Why the ask isn't taken again.
-fn refusal_of_ask(flusher: &Flusher<MemorySite>) -> Result<Option<Refusal>, Fail> {
-    let asked = ask()?;
+fn refusal_of_ask(flusher: &Flusher<MemorySite>) -> Option<Refusal> {
+    let asked = ask();
     let refusal = flusher.twin().core().decide(&asked).err();
     drop(asked);
-    Ok(refusal)
+    refusal
 }
 
 // The same, whether its answer is put again, and the own number.
 fn repeated(flusher: &mut Flusher<MemorySite>) -> Result<(Option<Refusal>, bool, u64), Fail> {
-    let refusal = refusal_of_ask(flusher)?;
+    let refusal = refusal_of_ask(flusher);
     if flusher.owes() {
-        return Err("outputs are owed")?;
+        return Err("outputs are owed".into());
     }
     let is_put = flusher.again(7)?;
     Ok((refusal, is_put, flusher.twin().core().ops().number()))

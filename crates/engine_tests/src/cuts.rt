@@ -31,7 +31,9 @@ fn is_damaged_at(alloc: Global, a: &[u8], b: &[u8], side: Side, place: u64) -> R
 // Whether the first bytes of a side, so many of them, are damaged at that place, whichever side they are: the other one is
 // closed.
 fn is_damaged(alloc: Global, side: &[u8], len: usize, place: u64) -> Result<bool, Fail> {
-    let cut = side.get(..len).ok_or("the side is that long")?;
+    let Some(cut) = side.get(..len) else {
+        return Err("the side is shorter".into());
+    };
     let is_in_a = is_damaged_at(alloc, cut, &[0], Side::A, place)?;
     Ok(is_in_a && is_damaged_at(alloc, &[0], cut, Side::B, place)?)
 }
@@ -48,5 +50,7 @@ fn check_cuts<R: Abort + AllocGlobal>(rt: &R, side: &[u8]) -> Result<(), Fail> {
 #[test]
 fn each_cut_of_a_side_is_told(rt: HostRuntime) -> Result<(), Fail> {
     let side = laid(rt.alloc(), &[&HEAD, &ENTRANT_STATE, &ENTERED])?;
-    check_cuts(&rt, &side)
+    let checked = check_cuts(&rt, &side);
+    drop(side);
+    checked
 }

@@ -68,7 +68,7 @@ fn an_enter_is_put_on_both_links(rt: HostRuntime) -> Result<(), Fail> {
 // The disk calls of formatting, of opening, and of a batch: the first and the last of each.
 #[test]
 fn each_call_of_a_first_life_may_fail(rt: HostRuntime) -> Result<(), Fail> {
-    for (at, fault) in [
+    for &(at, fault) in &[
         (
             0,
             Stopped::Format(FormatFault::Device(device(Side::A, Call::Length))),

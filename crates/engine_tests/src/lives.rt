@@ -29,12 +29,27 @@ pub fn batch_of(alloc: Global, live: &mut Core, event: Event) -> Result<Batch, F
     Ok(Batch::of_one(entry))
 }
 
+// The batch of the post that a batch's last event makes, as it comes back.
+fn batch_behind(alloc: Global, live: &mut Core, first: &Batch) -> Result<Batch, Fail>
+    ensures lawful { IfOk result (λ b. (node : NodeValue) → node.core ≡ live.old → AreLawful node b) }
+    ensures live { IfOk result (λ b. (node : NodeValue) → node.core ≡ live.old → (after node (events_in b)).core ≡ live.new) }
+    ensures some { IfOk result (λ b. 1 ≤ length b) }
+{
+    let post = delivery(alloc, 1, last_post(first))?;
+    batch_of(alloc, live, post)
+}
+
 fn actions_from(alloc: Global, live: &mut Core) -> Result<Vec<Action>, Fail>
     ensures { IfOk result (λ actions. (node : NodeValue) → node.core ≡ live.old → AreTurnsLawful node actions.items) }
 {
-    let first = batch_of(alloc, live, ask()?)?;
-    let post = delivery(alloc, 1, last_post(&first))?;
-    let second = batch_of(alloc, live, post)?;
+    let first = batch_of(alloc, live, ask())?;
+    let second = match batch_behind(alloc, live, &first) {
+        Ok(second) => second,
+        Err(fault) => {
+            drop(first);
+            return Err(fault);
+        }
+    };
     Ok(vec![in alloc;
         Action::Turn(first),
         Action::Checkpoint,

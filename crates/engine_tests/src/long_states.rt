@@ -1,7 +1,7 @@
 //! A checkpoint of a node whose state is written and read in several pieces.
 
-use crate::parts::delivery;
-use crate::sites::{failing_image, sides, with_sides};
+use crate::parts::{delivery, id};
+use crate::sites::{failing_image, laid, sides, with_sides};
 use crate::steps::{Came, Step, calls_of_opening, run, state_of};
 use crate::whole_life::settle;
 use cc_changes::Fraction;
@@ -9,27 +9,31 @@ use cc_checkpoint::encode_image;
 use cc_messages::{Command, Event, Message};
 use cc_node::{Node, Opening};
 use cc_site::{Choice, Failing, MemorySite, Side, Site};
-use cc_views::{NodeId, Text, View};
-use cc_wire::decode_view;
-use std::alloc::Global;
+use cc_views::{Text, View};
+use cc_wire::{WireFault, decode_view};
+use std::alloc::{AllocError, Global};
 use std::test::*;
 
 // Appends a row for each of 256 nodes, with number 1 and a text of 64 bytes.
-fn put_rows(out: &mut Vec<u8>) -> Result<(), Fail> {
+fn put_rows(out: &mut Vec<u8>) -> Result<(), AllocError> {
     out.extend_from_slice(&[1, 0])?;
     for node in 1_u32..257 {
-        out.extend_from_slice(&node.to_be_bytes())?;
-        out.extend_from_slice(&[0, 0, 0, 0, 0, 0, 0, 1, 64])?;
+        let [a, b, c, d] = node.to_be_bytes();
+        out.extend_from_slice(&[a, b, c, d, 0, 0, 0, 0, 0, 0, 0, 1, 64])?;
         out.extend_from_slice(&[b'x'; 64])?;
         out.extend_from_slice(&[0; 10])?;
     }
     Ok(())
 }
 
-fn long_view(alloc: Global) -> Result<View, Fail> {
+fn long_view(alloc: Global) -> Result<View, WireFault> {
     let mut bytes = Vec::new(alloc);
-    put_rows(&mut bytes)?;
-    Ok(decode_view(alloc, &bytes)?)
+    let view = match put_rows(&mut bytes) {
+        Ok(()) => decode_view(alloc, &bytes),
+        Err(AllocError) => Err(WireFault::NoMemory),
+    };
+    drop(bytes);
+    view
 }
 
 // The numbers from 1 to 256.
@@ -56,7 +60,7 @@ fn member_of_256(alloc: Global) -> Result<Node, Fail> {
 
 // Member 2 has stored a long view.
 fn long_store(alloc: Global) -> Result<Event, Fail> {
-    let from = NodeId::new(2).ok_or("2 is an id")?;
+    let from = id(2);
     let view = long_view(alloc)?;
     Ok(Event::Deliver {
         from,
@@ -77,7 +81,7 @@ fn deliver(alloc: Global, node: &mut Node, number: u64) -> Result<(), Fail> {
 
 // A client stores a text of 64 bytes, whose posts are that one and the next.
 fn store(alloc: Global, node: &mut Node, request: u64, post: u64) -> Result<(), Fail> {
-    let text = Text::new(&[b'y'; 64]).ok_or("64 bytes are a text")?;
+    let text = Text::new(&[b'y'; 64]).unwrap();
     let asked = Event::Ask {
         session: 7,
         request,
@@ -101,10 +105,10 @@ fn store_six_times(alloc: Global, node: &mut Node) -> Result<(), Fail> {
 // Side A of the node under generation 1, once it has stored that.
 fn side_after_stores(alloc: Global, node: &mut Node) -> Result<Vec<u8>, Fail> {
     store_six_times(alloc, node)?;
-    let mut side = Vec::from_slice(alloc, &[0xA5])?;
     let image = encode_image(alloc, 1, node)?;
-    side.extend_from_slice(&image)?;
-    Ok(side)
+    let side = laid(alloc, &[&[0xA5], &image]);
+    drop(image);
+    side
 }
 
 // Side A of the node that keeps six stores.
@@ -147,7 +151,7 @@ fn length_of_b(alloc: Global, site: &MemorySite) -> Result<u64, Fail> {
     let mut image = site.image(alloc, &Choice::Read)?;
     let length = image.length(Side::B);
     drop(image);
-    Ok(length.or(Err("the length can't be read"))?)
+    Ok(length?)
 }
 
 // How long side B is where a checkpoint stops at that disk call, and whether it comes to its end.
@@ -172,7 +176,7 @@ fn growths(alloc: Global, from: &MemorySite) -> Result<(u64, u64), Fail> {
             return Ok((most, last));
         }
     }
-    Err("the checkpoint doesn't end")?
+    Err("the checkpoint doesn't end".into())
 }
 
 // A site in memory doesn't tell how long a write was, but how far each brought the side.

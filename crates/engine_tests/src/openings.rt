@@ -4,7 +4,7 @@ ghost use Rattle.std.specs.Prelude.{IfOk};
 ghost use Rattle.cc_flush.specs.Lives.{AreTurnsLawful};
 
 use crate::checkpoints::BEGUN_MEMBER;
-use crate::parts::{Part, batch_of};
+use crate::parts::{Part, batch_of, id};
 use crate::puts::{Kind, Put};
 use crate::sites::{
     CLOSED, ENTRANT, Laid, are_sides, begun, crashed, entrant, laid, member, with_laid, with_sides,
@@ -18,8 +18,8 @@ use cc_checkpoint::OpenFault;
 use cc_flush::{Action, Back, CheckpointFault, Failed, Flusher, FormatFault, format};
 use cc_node::{Node, Opening};
 use cc_site::{Call, DeviceFault, Failing, MemorySite, Side};
-use cc_views::NodeId;
-use std::alloc::Global;
+use std::alloc::{AllocError, Global};
+use std::fmt::Display;
 use std::process::Abort;
 use std::test::*;
 
@@ -171,7 +171,7 @@ fn half_formatted(alloc: Global, at: u64) -> Result<[Left; 5], Fail> {
     match format(alloc, shut_failing(alloc, at)?, &ENTRANT) {
         Ok(site) => {
             drop(site);
-            Err("it is formatted")?
+            Err("it is formatted".into())
         }
         Err(Back { site, fault: _ }) => {
             let left = crashes(alloc, &site);
@@ -294,15 +294,21 @@ const ARMED_TWICE: [(u8, Left); 3] = [
     (6, Err(OpenFault::Version(0xFF))),
 ];
 
-#[test]
-fn the_side_of_the_greater_generation_is_opened(rt: HostRuntime) -> Result<(), Fail> {
-    let fifth = laid(rt.alloc(), &FIFTH)?;
+fn check_armed_twice<R: Abort + AllocGlobal>(rt: &R, fifth: &[u8]) -> Result<(), Fail> {
     for &(generation, left) in &ARMED_TWICE {
         let garbage = [0xA5, 0, 0, 0, 0, 0, 0, 0, generation, 0xFF, 0xA5];
-        let site = with_sides(rt.alloc(), &garbage, &fifth)?;
+        let site = with_sides(rt.alloc(), &garbage, fifth)?;
         assert!(rt; left_of(rt.alloc(), site) == left);
     }
     Ok(())
+}
+
+#[test]
+fn the_side_of_the_greater_generation_is_opened(rt: HostRuntime) -> Result<(), Fail> {
+    let fifth = laid(rt.alloc(), &FIFTH)?;
+    let checked = check_armed_twice(&rt, &fifth);
+    drop(fifth);
+    checked
 }
 
 // What is left of entrant 4, of which the disk call with that number fails, from its opening on.
@@ -379,13 +385,12 @@ fn each_call_of_an_enter_may_fail(rt: HostRuntime) -> Result<(), Fail> {
 pub fn actions_of_enter(alloc: Global, node: &Node) -> Result<Vec<Action>, Fail>
     ensures { IfOk result (λ actions. AreTurnsLawful node.now actions.items) }
 {
-    let peer = NodeId::new(4).ok_or("4 is an id")?;
     let batch = batch_of(alloc, node, Part::Enter)?;
     Ok(vec![in alloc;
         Action::Turn(batch),
         Action::Resend,
         Action::Again(7),
-        Action::Reack(peer),
+        Action::Reack(id(4)),
     ]?)
 }
 
@@ -468,27 +473,24 @@ const NAMES: [(FormatFault, &str); 4] = [
     (FormatFault::AlreadyFormatted, "AlreadyFormatted"),
 ];
 
-#[test]
-fn faults_print_their_names(rt: HostRuntime) -> Result<(), Fail> {
-    for (fault, name) in &NAMES {
-        let text = format!(in rt.alloc(); "{fault}")?;
-        assert!(rt; text.as_str() == *name);
-    }
+fn says<F: Display>(alloc: Global, fault: &F, wanted: &str) -> Result<bool, AllocError> {
+    Ok(format!(in alloc; "{fault}")?.as_str() == wanted)
+}
+
+fn failed_sync(side: Side) -> Failed {
     let call = Call::Sync;
-    let failed = Failed {
-        fault: DeviceFault {
-            side: Side::A,
-            call,
-        },
-    };
-    let moving = CheckpointFault::Failed(Failed {
-        fault: DeviceFault {
-            side: Side::B,
-            call,
-        },
-    });
-    let spent = CheckpointFault::Spent;
-    let text = format!(in rt.alloc(); "{failed}, {moving}, {spent}")?;
-    assert!(rt; text.as_str() == "Failed A Sync, Failed B Sync, Spent");
-    Ok(())
+    Failed {
+        fault: DeviceFault { side, call },
+    }
+}
+
+#[test]
+fn faults_print_their_names(rt: HostRuntime) {
+    for (fault, name) in &NAMES {
+        assert!(rt; says(rt.alloc(), fault, *name) == Ok(true));
+    }
+    let moving = CheckpointFault::Failed(failed_sync(Side::B));
+    assert!(rt; says(rt.alloc(), &failed_sync(Side::A), "Failed A Sync") == Ok(true));
+    assert!(rt; says(rt.alloc(), &moving, "Failed B Sync") == Ok(true));
+    assert!(rt; says(rt.alloc(), &CheckpointFault::Spent, "Spent") == Ok(true));
 }

@@ -33,7 +33,7 @@ pub enum Part {
 pub fn first_of(alloc: Global, node: &Node, part: Part) -> Result<Event, Fail> {
     match part {
         Part::Enter => Ok(Event::Enter),
-        Part::Ask | Part::Store => ask(),
+        Part::Ask | Part::Store => Ok(ask()),
         Part::Deliveries => delivery(alloc, 1, node.outbox().post(1)),
         Part::Collect => Ok(Event::Ask {
             session: 7,
@@ -46,34 +46,35 @@ pub fn first_of(alloc: Global, node: &Node, part: Part) -> Result<Event, Fail> {
             command: Command::SetFlag,
         }),
         Part::Own(number) => delivery(alloc, number, node.outbox().post(number)),
-        Part::Away => lapse(),
+        Part::Away => Ok(Event::Lapse { node: id(1) }),
         Part::Snapshot => Ok(Event::Snapshot),
         Part::Leave => Ok(Event::Leave),
     }
 }
 
 /// A client stores `a` in session 7, as its first request.
-pub fn ask() -> Result<Event, Fail> {
-    let text = Text::new(b"a").ok_or("a is a text")?;
-    Ok(Event::Ask {
+pub fn ask() -> Event {
+    let text = Text::new(b"a").unwrap();
+    Event::Ask {
         session: 7,
         request: 1,
         command: Command::Store(text),
-    })
+    }
 }
 
-fn lapse() -> Result<Event, Fail> {
-    let node = NodeId::new(1).ok_or("ids begin at 1")?;
-    Ok(Event::Lapse { node })
+/// The id of this number, which is at least 1.
+pub fn id(number: u32) -> NodeId {
+    NodeId::new(number.max(1)).unwrap()
 }
 
 /// What node 1 sent itself comes over its link.
 pub fn delivery(alloc: Global, number: u64, post: Option<&Message>) -> Result<Event, Fail> {
-    let from = NodeId::new(1).ok_or("1 is an id")?;
-    let post = post.ok_or("there is no post")?;
+    let Some(post) = post else {
+        return Err("there is no post".into());
+    };
     let message = post.copy(alloc)?;
     Ok(Event::Deliver {
-        from,
+        from: id(1),
         number,
         message,
     })

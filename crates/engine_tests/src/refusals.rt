@@ -9,7 +9,14 @@ pub(crate) fn unless_failed<T, E: Drop>(
 ) -> Result<T, Fail> {
     match answer {
         Ok(value) => Ok(value),
-        Err(_) if is_as_before => Err("failed, and all is as it was")?,
-        Err(_) => Err("failed, and something has changed")?,
+        Err(fault) => {
+            drop(fault);
+            let told = if is_as_before {
+                "failed, and all is as it was"
+            } else {
+                "failed, and something has changed"
+            };
+            Err(told.into())
+        }
     }
 }

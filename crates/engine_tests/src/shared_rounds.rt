@@ -33,7 +33,7 @@ fn pending(alloc: Global) -> Result<MemorySite, Fail> {
         Came::Put(_) => Ok(site),
         _ => {
             drop(site);
-            Err("a disk call failed")?
+            Err("a disk call failed".into())
         }
     }
 }

@@ -95,7 +95,7 @@ pub fn with_sides(alloc: Global, a: &[u8], b: &[u8]) -> Result<MemorySite, Fail>
         Ok(()) => Ok(site),
         Err(fault) => {
             drop(site);
-            Err(fault)?
+            Err(fault.into())
         }
     }
 }
@@ -113,10 +113,15 @@ fn write_sides(site: &mut MemorySite, a: &[u8], b: &[u8]) -> Result<(), DeviceFa
 }
 
 fn contents<S: Site>(alloc: Global, site: &mut S, side: Side) -> Result<Vec<u8>, Fail> {
-    let length = site.length(side).or(Err("the length can't be read"))?;
+    let length = site.length(side)?;
     let mut bytes = vec![in alloc; 0; length as usize]?;
-    site.read(side, 0, &mut bytes).or(Err("the read failed"))?;
-    Ok(bytes)
+    match site.read(side, 0, &mut bytes) {
+        Ok(()) => Ok(bytes),
+        Err(fault) => {
+            drop(bytes);
+            Err(fault.into())
+        }
+    }
 }
 
 fn both_contents(alloc: Global, site: &mut MemorySite) -> Result<(Vec<u8>, Vec<u8>), Fail> {

@@ -5,7 +5,7 @@ ghost use Rattle.cc_flush.specs.Lives.{AreTurnsLawful};
 
 use crate::lives::actions_of_store;
 use crate::openings::actions_of_enter;
-use crate::parts::{Part, batch_of};
+use crate::parts::{Part, batch_of, id};
 use crate::puts::{Put, are_put};
 use crate::refusals::unless_failed;
 use crate::sites::failing_image;
@@ -15,7 +15,6 @@ use cc_flush::{Action, Back, CheckpointFault, Failed, Flusher};
 use cc_node::Node;
 use cc_site::{Call, Choice, Failing, MemorySite, Side};
 use cc_states::encode_state;
-use cc_views::NodeId;
 use std::alloc::Global;
 use std::process::Abort;
 use std::test::*;
@@ -103,7 +102,7 @@ pub fn carry_out(
     step: Step,
 ) -> Result<Came, Fail> {
     if flusher.owes() || !flusher.room() {
-        return Err("there is no room")?;
+        return Err("there is no room".into());
     }
     Ok(match step {
         Step::Turn(part) => {
@@ -116,10 +115,7 @@ pub fn carry_out(
         }
         Step::Resend => came_of(flusher.resend()),
         Step::Again(session) => came_if(flusher.again(session)),
-        Step::Reack(number) => {
-            let peer = NodeId::new(number).ok_or("a number that is an id")?;
-            came_if(flusher.reack(peer))
-        }
+        Step::Reack(number) => came_if(flusher.reack(id(number))),
         Step::Checkpoint => came_moved(flusher.checkpoint()),
     })
 }
@@ -264,12 +260,17 @@ pub fn check_each<R: Abort + AllocGlobal>(
     Ok(())
 }
 
-/// The state of an engine's node.
-pub fn state_of_twin(alloc: Global, flusher: &Flusher<MemorySite>) -> Result<Vec<u8>, Fail> {
+/// The state of a node.
+pub fn state_of_node(alloc: Global, node: &Node) -> Result<Vec<u8>, Fail> {
     let mut state = Vec::new(alloc);
-    let put = encode_state(flusher.twin(), &mut state);
+    let put = encode_state(node, &mut state);
     unless_failed(put, state.is_empty())?;
     Ok(state)
+}
+
+/// The state of an engine's node.
+pub fn state_of_twin(alloc: Global, flusher: &Flusher<MemorySite>) -> Result<Vec<u8>, Fail> {
+    state_of_node(alloc, flusher.twin())
 }
 
 /// The state of the node of a site.
@@ -290,11 +291,18 @@ fn is_among(states: &[Vec<u8>], left: &[u8]) -> bool {
     false
 }
 
+// Whether the node of a site has one of these states.
+fn is_left(alloc: Global, site: MemorySite, states: &[Vec<u8>]) -> Result<bool, Fail> {
+    let left = state_of(alloc, site)?;
+    let is_among = is_among(states, &left);
+    drop(left);
+    Ok(is_among)
+}
+
 /// Whether each of five crashes leaves a node with one of these states.
 pub fn are_left(alloc: Global, site: &MemorySite, states: &[Vec<u8>]) -> Result<bool, Fail> {
     for choice in CRASHES.iter() {
-        let left = state_of(alloc, site.image(alloc, choice)?)?;
-        if !is_among(states, &left) {
+        if !is_left(alloc, site.image(alloc, choice)?, states)? {
             return Ok(false);
         }
     }

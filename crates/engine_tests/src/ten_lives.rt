@@ -6,7 +6,7 @@ ghost use Rattle.cc_journal.specs.Batches.{AreLawful, events_in};
 ghost use Rattle.cc_flush.specs.Lives.{AreTurnsLawful};
 
 use crate::lives::batch_of;
-use crate::parts::{add, delivery};
+use crate::parts::{add, delivery, id};
 use crate::sites::member;
 use crate::steps::{Came, Life, Step, calls_of_opening, carry_out, opened};
 use cc_flush::{Action, Flusher};
@@ -14,8 +14,9 @@ use cc_journal::Batch;
 use cc_messages::{Answer, Command, Event, Message, Output};
 use cc_node::{Core, Node};
 use cc_site::{Choice, Failing, MemorySite};
-use cc_views::{NodeId, Row, Text, Value, View};
+use cc_views::{NoMemory, NodeId, Row, Text, Value, View};
 use std::alloc::Global;
+use std::process::Abort;
 use std::test::*;
 
 // The disk call that ends each life, counted from its opening on. A round has 8 calls, two batches of 4; between those each
@@ -23,10 +24,10 @@ use std::test::*;
 const ENDS: [u64; 10] = [9, 61, 51, 64, 89, 102, 37, 103, 31, 69];
 
 // What is asked next: what it writes tells the life in which it was asked.
-fn command_of(life: u8, request: u64) -> Result<Command, Fail> {
-    let text = Text::new(&[life]).ok_or("one byte is a text")?;
+fn command_of(life: u8, request: u64) -> Command {
+    let text = Text::new(&[life]).unwrap();
     let number = u64::from(life);
-    Ok(match request % 8 {
+    match request % 8 {
         1 => Command::Store(text),
         2 => Command::WriteMax(number),
         3 => Command::Collect,
@@ -35,24 +36,23 @@ fn command_of(life: u8, request: u64) -> Result<Command, Fail> {
         6 => Command::ReadMax,
         7 => Command::ReadFlag,
         _ => Command::ReadSet,
-    })
+    }
 }
 
 const SESSION: u64 = 7;
 
-fn next_ask(live: &Core, life: u8) -> Result<Event, Fail> {
+fn next_ask(live: &Core, life: u8) -> Event {
     let last = live.sessions().finish(SESSION).unwrap_or(0);
     let request = last.saturating_add(1);
-    let command = command_of(life, request)?;
-    Ok(Event::Ask {
+    Event::Ask {
         session: SESSION,
         request,
-        command,
-    })
+        command: command_of(life, request),
+    }
 }
 
 // The view of node 2's store under that number, which is its maximum too.
-fn view_of_other(alloc: Global, node: NodeId, number: u64) -> Result<View, Fail> {
+fn view_of_other(alloc: Global, node: NodeId, number: u64) -> Result<View, NoMemory> {
     let mut value = Value::empty();
     value.max = number;
     let mut view = View::new(alloc)?;
@@ -66,7 +66,7 @@ fn view_of_other(alloc: Global, node: NodeId, number: u64) -> Result<View, Fail>
 
 // What node 2, which enters and never joins, sends next: its Enter, and then stores.
 fn next_of_other(alloc: Global, live: &Core) -> Result<Event, Fail> {
-    let from = NodeId::new(2).ok_or("2 is an id")?;
+    let from = id(2);
     let number = live.heard(from).saturating_add(1);
     let message = if number == 1 {
         Message::Enter { node: from }
@@ -92,7 +92,7 @@ fn next_event(alloc: Global, node: &Node, live: &Core, life: u8) -> Result<Event
         return delivery(alloc, heard + 1, node.outbox().post(heard + 1));
     }
     if live.ops().is_idle() {
-        return next_ask(live, life);
+        return Ok(next_ask(live, life));
     }
     next_of_other(alloc, live)
 }
@@ -186,7 +186,7 @@ fn live(alloc: Global, flusher: &mut Flusher<MemorySite>, life: u8) -> Result<()
             return Ok(());
         }
     }
-    Err("no disk call fails")?
+    Err("no disk call fails".into())
 }
 
 // A life on a site of which the disk call with that number fails, and all after it.
@@ -268,15 +268,27 @@ fn agrees(row: &Row, view: &View) -> bool {
 
 // Whether one of two views is at most the other, and equal nodes and numbers have equal values.
 fn are_in_line(view: &View, other: &View) -> bool {
-    (view.at_most(other) || other.at_most(view)) && view.rows().iter().all(|row| agrees(row, other))
+    for row in view.rows() {
+        if !agrees(row, other) {
+            return false;
+        }
+    }
+    view.at_most(other) || other.at_most(view)
+}
+
+// Whether the view is in line with all of these, and whether it is one of them.
+fn place_among(views: &[View], view: &View) -> (bool, bool) {
+    let mut is_in_line = true;
+    let mut is_known = false;
+    for other in views {
+        is_in_line = is_in_line && are_in_line(view, other);
+        is_known = is_known || (view.at_most(other) && other.at_most(view));
+    }
+    (is_in_line, is_known)
 }
 
 fn take_in(alloc: Global, shown: &mut Shown, view: &View) -> Result<(), Fail> {
-    let views = &shown.views;
-    let is_in_line = views.iter().all(|other| are_in_line(view, other));
-    let is_known = views
-        .iter()
-        .any(|other| view.at_most(other) && other.at_most(view));
+    let (is_in_line, is_known) = place_among(&shown.views, view);
     shown.count = shown.count.saturating_add(1);
     shown.are_in_line = shown.are_in_line && is_in_line;
     if !is_known {
@@ -288,7 +300,7 @@ fn take_in(alloc: Global, shown: &mut Shown, view: &View) -> Result<(), Fail> {
 // Takes in what a life put.
 fn take_in_life(alloc: Global, shown: &mut Shown, site: &MemorySite) -> Result<(), Fail> {
     if site.lost() > 0 {
-        return Err("an output was lost")?;
+        return Err("an output was lost".into());
     }
     for output in site.outputs() {
         if let Some(view) = view_in(output) {
@@ -327,19 +339,29 @@ fn show_life_on_fresh_disk(alloc: Global, shown: &mut Shown) -> Result<(), Fail>
     taken
 }
 
-// The views have rows of nodes 1 and 2.
-fn has_both(view: &View) -> bool {
-    view.rows().len() == 2
+// Whether one of the views has rows of nodes 1 and 2.
+fn has_both(views: &[View]) -> bool {
+    for view in views {
+        if view.rows().len() == 2 {
+            return true;
+        }
+    }
+    false
+}
+
+fn check_shown<R: Abort + AllocGlobal>(rt: &R, shown: &mut Shown) -> Result<(), Fail> {
+    show_ten_lives(rt.alloc(), shown)?;
+    assert!(rt; shown.are_in_line && has_both(&shown.views));
+    assert!(rt; shown.count >= 500 && shown.views.len() >= 20);
+    show_life_on_fresh_disk(rt.alloc(), shown)?;
+    assert!(rt; !shown.are_in_line);
+    Ok(())
 }
 
 #[test]
 fn views_of_ten_lives_are_in_line(rt: HostRuntime) -> Result<(), Fail> {
     let mut shown = Shown::new(rt.alloc());
-    show_ten_lives(rt.alloc(), &mut shown)?;
-    assert!(rt; shown.are_in_line);
-    assert!(rt; shown.count >= 500 && shown.views.len() >= 20);
-    assert!(rt; shown.views.iter().any(has_both));
-    show_life_on_fresh_disk(rt.alloc(), &mut shown)?;
-    assert!(rt; !shown.are_in_line);
-    Ok(())
+    let checked = check_shown(&rt, &mut shown);
+    drop(shown);
+    checked
 }

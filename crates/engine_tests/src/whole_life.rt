@@ -4,14 +4,14 @@
 use crate::parts::{Part, first_of};
 use crate::puts::{Kind, Put, are_put};
 use crate::sites::MEMBER;
-use crate::steps::{Came, Step, are_left, carry_out};
+use crate::steps::{Came, Step, are_left, carry_out, state_of_node};
 use cc_checkpoint::OpenFault;
 use cc_flush::{Back, Flusher, FormatFault, format};
 use cc_messages::{Event, Output};
 use cc_node::Node;
 use cc_site::{Failing, MemorySite};
-use cc_states::encode_state;
 use std::alloc::Global;
+use std::process::Abort;
 use std::test::*;
 
 // What is done with an engine, and how many events that takes in.
@@ -50,7 +50,7 @@ fn live(alloc: Global, flusher: &mut Flusher<MemorySite>) -> Result<Lived, Fail>
         let came = carry_out(alloc, flusher, step)?;
         if !matches!(came, Came::Put(_)) {
             if !is_over(alloc, flusher, came)? {
-                return Err("a later call tells something else")?;
+                return Err("a later call tells something else".into());
             }
             return Ok(Lived {
                 durable,
@@ -107,7 +107,7 @@ fn ended_first(site: MemorySite, fault: OpenFault) -> Result<(MemorySite, Lived)
         )),
         _ => {
             drop(site);
-            Err(fault)?
+            Err(fault.into())
         }
     }
 }
@@ -120,7 +120,7 @@ fn formatted(alloc: Global, site: MemorySite) -> Result<Option<MemorySite>, Fail
             drop(site);
             match fault {
                 FormatFault::Device(_) => Ok(None),
-                _ => Err(fault)?,
+                _ => Err(fault.into()),
             }
         }
     }
@@ -140,7 +140,7 @@ const EVENTS: [Part; 6] = [
 pub fn settle(alloc: Global, node: &mut Node, event: Event) -> Result<(), Fail> {
     if let Err(refusal) = node.core().decide(&event) {
         drop(event);
-        return Err(refusal)?;
+        return Err(refusal.into());
     }
     match node.core().made(alloc, &event) {
         Ok(made) => {
@@ -149,15 +149,13 @@ pub fn settle(alloc: Global, node: &mut Node, event: Event) -> Result<(), Fail> 
         }
         Err(fault) => {
             drop(event);
-            Err(fault)?
+            Err(fault.into())
         }
     }
 }
 
 fn push_state(alloc: Global, node: &Node, states: &mut Vec<Vec<u8>>) -> Result<(), Fail> {
-    let mut state = Vec::new(alloc);
-    encode_state(node, &mut state)?;
-    states.push(state)?;
+    states.push(state_of_node(alloc, node)?)?;
     Ok(())
 }
 
@@ -173,12 +171,17 @@ fn push_states(alloc: Global, node: &mut Node, states: &mut Vec<Vec<u8>>) -> Res
 }
 
 fn plain_states(alloc: Global) -> Result<Vec<Vec<u8>>, Fail> {
-    let mut states = Vec::new(alloc);
     let mut node = Node::fresh(alloc, &MEMBER)?;
+    let mut states = Vec::new(alloc);
     let pushed = push_states(alloc, &mut node, &mut states);
     drop(node);
-    pushed?;
-    Ok(states)
+    match pushed {
+        Ok(()) => Ok(states),
+        Err(fault) => {
+            drop(states);
+            Err(fault)
+        }
+    }
 }
 
 // All that the life puts: of the four batches, and both posts of the first two again before the third.
@@ -226,7 +229,7 @@ fn ends_at(alloc: Global, at: u64, failing: Failing, states: &[Vec<u8>]) -> Resu
     let is_lawful = is_lawful(alloc, &site, lived, states);
     drop(site);
     if !is_lawful? {
-        return Err("an output or a crash is not of this life")?;
+        return Err("an output or a crash is not of this life".into());
     }
     Ok(lived.is_ended)
 }
@@ -238,15 +241,21 @@ fn count_calls(alloc: Global, failing: Failing, states: &[Vec<u8>]) -> Result<u6
             return Ok(at);
         }
     }
-    Err("the life doesn't end")?
+    Err("the life doesn't end".into())
 }
 
 // 16 calls format the site, 14 open it; each batch has 4 and each checkpoint 13.
+fn check_calls<R: Abort + AllocGlobal>(rt: &R, states: &[Vec<u8>]) -> Result<(), Fail> {
+    for &failing in &[Failing::Once, Failing::Stop] {
+        assert!(rt; count_calls(rt.alloc(), failing, states)? == 72);
+    }
+    Ok(())
+}
+
 #[test]
 fn each_call_of_a_whole_life_may_fail(rt: HostRuntime) -> Result<(), Fail> {
     let states = plain_states(rt.alloc())?;
-    for &failing in &[Failing::Once, Failing::Stop] {
-        assert!(rt; count_calls(rt.alloc(), failing, &states)? == 72);
-    }
-    Ok(())
+    let checked = check_calls(&rt, &states);
+    drop(states);
+    checked
 }

@@ -26,7 +26,7 @@ pub(crate) fn id(number: u32) -> NodeId
 
 /// Fails the test where something isn't so.
 pub(crate) fn check(holds: bool, what: &'static str) -> Result<(), Fail> {
-    if holds { Ok(()) } else { Err(what)? }
+    if holds { Ok(()) } else { Err(what.into()) }
 }
 
 /// Member 1 of 1 on a disk in memory, up to so many of whose asks begin together.
@@ -44,7 +44,10 @@ pub(crate) fn opened<'a>(
 {
     match Flusher::open(alloc, Hooked { site, hooks }) {
         Ok(opened) => Ok(opened),
-        Err(Back { site: _, fault }) => Err(fault)?,
+        Err(Back { site, fault }) => {
+            drop(site);
+            Err(fault.into())
+        }
     }
 }
 
@@ -53,7 +56,10 @@ pub(crate) fn drawn<L: Life, Q: Lane, R: Wait>(
     lock: &Mutex<Intake<L, Q>>,
 ) -> Result<Share<L>, Fail> {
     let share = lock.lock(rt).share();
-    Ok(share.ok_or("a share")?)
+    match share {
+        Some(share) => Ok(share),
+        None => Err("no share is left".into()),
+    }
 }
 
 // The message that node 1 sent itself under that number: it heard that it joined.

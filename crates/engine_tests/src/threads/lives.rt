@@ -27,14 +27,17 @@ pub(crate) fn lives<R: Threads + Wait + Sync>(
     story: Story,
     expected: [u64; 4],
 ) -> Result<MemorySite, Fail> {
-    let hooks = Hold::new(holding);
     let site = member(alloc, 2048)?;
+    let hooks = Hold::new(holding);
     let finished = live(rt, alloc, site, &hooks, story)?;
     let came = counts(&finished) == expected;
     let site = finished.site.site;
     match check(came, "what was accepted is told, and flushed or left") {
         Ok(()) => Ok(site),
-        Err(fail) => Err(fail),
+        Err(fail) => {
+            drop(site);
+            Err(fail)
+        }
     }
 }
 
@@ -83,7 +86,7 @@ fn live_as<'a, L: Life + Send + Sync, R: Threads + Wait + Sync>(
         Err(fault) => {
             drop(engine);
             drop(core);
-            Err(fault)?
+            Err(fault.into())
         }
     }
 }

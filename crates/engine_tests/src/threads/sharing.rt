@@ -1,6 +1,6 @@
 //! Workers whose asks begin together, each of which is answered once.
 
-use crate::threads::fixtures::{Disk, check, drawn, formatted_with_share, opened, shown};
+use crate::threads::fixtures::{Disk, check, drawn, formatted_with_share, id, opened, shown};
 use crate::threads::holding::{Hold, Holding, TURNS, comes};
 use crate::threads::lives::{counts, live};
 use crate::threads::stories::Story;
@@ -167,10 +167,9 @@ fn hire<'a, L: Life, Q: Lane, R: Wait>(
     lock: &Mutex<Intake<L, Q>>,
     workers: &mut Vec<Worker<'a, L>>,
 ) -> Result<(), Fail> {
-    let node = NodeId::new(1).ok_or("a node")?;
     for place in 0..=ASKERS {
         let share = drawn(rt, lock)?;
-        let client = client_at(hooks, place, node);
+        let client = client_at(hooks, place, id(1));
         workers.push(Worker { share, client })?;
     }
     Ok(())
@@ -199,7 +198,10 @@ where
     R: Threads + Wait + Sync,
 {
     let mut workers = Vec::new(alloc);
-    hire(rt, hooks, lock, &mut workers)?;
+    if let Err(fail) = hire(rt, hooks, lock, &mut workers) {
+        drop(workers);
+        return Err(fail);
+    }
     labour_whole(rt, alloc, hooks, lock, turner, queue, shares, workers)
 }
 

@@ -45,7 +45,9 @@ pub(crate) fn play<L: Life + Send + Sync, Q: Lane + Send + Sync, R: Threads + Wa
         _ => {}
     }
     shares.push(drawn(rt, lock)?)?;
-    let share = shares.first_mut().ok_or("a share")?;
+    let Some(share) = shares.first_mut() else {
+        return Err("no share is left".into());
+    };
     play_alone(rt, alloc, hooks, lock, turner, queue, share, story)
 }
 

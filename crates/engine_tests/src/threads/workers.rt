@@ -1,5 +1,6 @@
 //! Workers that bring events side by side, while one thread takes turns.
 
+use crate::parts::id;
 use crate::threads::fixtures::{Disk, check, drawn, opened, shown};
 use crate::threads::holding::{Hold, Holding, TURNS};
 use crate::threads::lives::lives;
@@ -127,7 +128,7 @@ fn hire<'a, L: Life, Q: Lane, R: Wait>(
     for i in 0..count {
         let peer = Peer {
             hooks,
-            node: NodeId::new(i.wrapping_add(2)).ok_or("a node")?,
+            node: id(i.wrapping_add(2)),
             next: 1,
             last,
             full: 0,
@@ -204,6 +205,7 @@ fn labour_all<'a, L: Life + Send + Sync, Q: Lane + Send + Sync, R: Threads + Wai
 fn hand_in<L: Life>(worker: Worker<'_, L>, shares: &mut Vec<Share<L>>) -> Result<(), Fail> {
     let Worker { share, client } = worker;
     let whole = client.is_done(share.count());
+    drop(client);
     shares.push(share)?;
     check(whole, "each event of a worker is accepted")
 }
@@ -254,7 +256,10 @@ pub(crate) fn many<L: Life + Send + Sync, Q: Lane + Send + Sync, R: Threads + Wa
     last: u64,
 ) -> Result<(), Fail> {
     let mut workers = Vec::new(alloc);
-    hire(rt, hooks, lock, count, last, &mut workers)?;
+    if let Err(fail) = hire(rt, hooks, lock, count, last, &mut workers) {
+        drop(workers);
+        return Err(fail);
+    }
     labour_whole(rt, alloc, hooks, lock, turner, queue, shares, workers)
 }
 
@@ -305,9 +310,7 @@ fn acks(outputs: &[Output], node: NodeId) -> Option<u64> {
 // Whether the outputs acknowledge each event of each worker in its order, and the core heard them all.
 fn heard_all(core: &Core, outputs: &[Output], count: u32) -> bool {
     for i in 0..count {
-        let Some(node) = NodeId::new(i.wrapping_add(2)) else {
-            return false;
-        };
+        let node = id(i.wrapping_add(2));
         if acks(outputs, node) != Some(EVENTS) || core.heard(node) != EVENTS {
             return false;
         }
