@@ -1,4 +1,4 @@
-use Rattle.std.proofs.Common.{rules}
+use Rattle.std.proofs.Common.{rules, refl}
 use Rattle.cc_outbox.specs.Rows.{entry_of}
 use Rattle.cc_wire.proofs.Items.{is_done}
 use Rattle.cc_sides.specs.States.{kept_answer_at}
@@ -32,3 +32,26 @@ returns-clause-exact g c = λ honest. is_done kept_answer_at (λ e. e.0) _ _ _ _
 pub returns-in_err-kept-clause-run : goal.returns-in_err-kept-clause-run
 returns-in_err-kept-clause-run g c =
     rw (err_is c.from_residual.result c.from_residual.ensures.1) (g.met.S.Source.goes_on _ _ _ _ _ _ _ c.loop.invariant.run c.in_err-kept.ensures.run)
+
+pub kept_answer-requires : goal.kept_answer-requires
+kept_answer-requires g c = record { lies = g.met.S.Source.lies_on _ _ _ _ c.loop.invariant.run }
+
+pub returns-in_err-kept-clause-rising : goal.returns-in_err-kept-clause-rising
+returns-in_err-kept-clause-rising g c = rw (err_is c.from_residual.result c.from_residual.ensures.1) tt
+
+pub returns-in_err-push-clause-rising : goal.returns-in_err-push-clause-rising
+returns-in_err-push-clause-rising g c = rw (err_is c.from_residual-in_err-push.result c.from_residual-in_err-push.ensures.1) tt
+
+pub returns-in_err-push-clause-exact : goal.returns-in_err-push-clause-exact
+returns-in_err-push-clause-exact g c = rw (err_is c.from_residual-in_err-push.result c.from_residual-in_err-push.ensures.1) (λ honest some. absurd (some refl))
+
+pub returns-in_err-push-clause-run : goal.returns-in_err-push-clause-run
+returns-in_err-push-clause-run g c =
+    rw (err_is c.from_residual-in_err-push.result c.from_residual-in_err-push.ensures.1) (
+    g.met.S.Source.goes_on _ _ _ _ _ _ _ c.loop.invariant.run c.in_ok-kept.ensures.run)
+
+pub returns-clause-run : goal.returns-clause-run
+returns-clause-run g c = c.loop.invariant.run
+
+pub returns-clause-rising : goal.returns-clause-rising
+returns-clause-rising g c = c.loop.invariant.read.rising

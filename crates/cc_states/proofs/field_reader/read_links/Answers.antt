@@ -1,4 +1,4 @@
-use Rattle.std.proofs.Common.{rules, arith}
+use Rattle.std.proofs.Common.{rules, arith, refl}
 use Rattle.cc_links.specs.Rows.{entry_of}
 use Rattle.cc_wire.proofs.Items.{is_done}
 use Rattle.cc_sides.specs.States.{link_at}
@@ -34,3 +34,26 @@ returns-clause-exact g c = λ honest. is_done link_at (λ e. e.0) _ _ _ _ _ _ c.
 pub returns-in_err-row-clause-run : goal.returns-in_err-row-clause-run
 returns-in_err-row-clause-run g c =
     rw (err_is c.from_residual.result c.from_residual.ensures.1) (g.met.S.Source.goes_on _ _ _ _ _ _ _ c.loop.invariant.run c.in_err-row.ensures.run)
+
+pub link-requires-clause-lies : goal.link-requires-clause-lies
+link-requires-clause-lies g c = g.met.S.Source.lies_on _ _ _ _ c.loop.invariant.run
+
+pub returns-in_err-row-clause-rising : goal.returns-in_err-row-clause-rising
+returns-in_err-row-clause-rising g c = rw (err_is c.from_residual.result c.from_residual.ensures.1) tt
+
+pub returns-in_err-push-clause-rising : goal.returns-in_err-push-clause-rising
+returns-in_err-push-clause-rising g c = rw (err_is c.from_residual-in_err-push.result c.from_residual-in_err-push.ensures.1) tt
+
+pub returns-in_err-push-clause-exact : goal.returns-in_err-push-clause-exact
+returns-in_err-push-clause-exact g c = rw (err_is c.from_residual-in_err-push.result c.from_residual-in_err-push.ensures.1) (λ honest some. absurd (some refl))
+
+pub returns-in_err-push-clause-run : goal.returns-in_err-push-clause-run
+returns-in_err-push-clause-run g c =
+    rw (err_is c.from_residual-in_err-push.result c.from_residual-in_err-push.ensures.1) (
+    g.met.S.Source.goes_on _ _ _ _ _ _ _ c.loop.invariant.run c.in_ok-row.ensures.run)
+
+pub returns-clause-run : goal.returns-clause-run
+returns-clause-run g c = c.loop.invariant.run
+
+pub returns-clause-rising : goal.returns-clause-rising
+returns-clause-rising g c = c.loop.invariant.read.rising

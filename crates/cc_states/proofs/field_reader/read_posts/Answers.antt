@@ -1,4 +1,4 @@
-use Rattle.std.proofs.Common.{rules, ◌+◌, ◌∙◌, ap}
+use Rattle.std.proofs.Common.{rules, ◌+◌, ◌∙◌, ap, refl}
 use Rattle.std.proofs.lemmas.List.{length_push}
 use Rattle.cc_wire.specs.Messages.{message_at}
 use Rattle.cc_wire.proofs.Items.{is_done}
@@ -30,3 +30,23 @@ returns-clause-exact g c = λ honest. is_done (λ _. message_at) (λ _. 0) _ _ _
 pub returns-in_err-post-clause-run : goal.returns-in_err-post-clause-run
 returns-in_err-post-clause-run g c =
     rw (err_is c.from_residual.result c.from_residual.ensures.1) (g.met.S.Source.goes_on _ _ _ _ _ _ _ c.loop.invariant.run c.in_err-post.ensures.run)
+
+pub message-requires : goal.message-requires
+message-requires g c = record { lies = g.met.S.Source.lies_on _ _ _ _ c.loop.invariant.run }
+
+pub returns-in_err-post-clause-length : goal.returns-in_err-post-clause-length
+returns-in_err-post-clause-length g c = rw (err_is c.from_residual.result c.from_residual.ensures.1) tt
+
+pub returns-in_err-push-clause-length : goal.returns-in_err-push-clause-length
+returns-in_err-push-clause-length g c = rw (err_is c.from_residual-in_err-push.result c.from_residual-in_err-push.ensures.1) tt
+
+pub returns-in_err-push-clause-exact : goal.returns-in_err-push-clause-exact
+returns-in_err-push-clause-exact g c = rw (err_is c.from_residual-in_err-push.result c.from_residual-in_err-push.ensures.1) (λ honest some. absurd (some refl))
+
+pub returns-in_err-push-clause-run : goal.returns-in_err-push-clause-run
+returns-in_err-push-clause-run g c =
+    rw (err_is c.from_residual-in_err-push.result c.from_residual-in_err-push.ensures.1) (
+    g.met.S.Source.goes_on _ _ _ _ _ _ _ c.loop.invariant.run c.in_ok-post.ensures.run)
+
+pub returns-clause-run : goal.returns-clause-run
+returns-clause-run g c = c.loop.invariant.run
