@@ -1,7 +1,8 @@
 -- Ids of an opening: which of them are 0, and how many are known.
 --     zero_listed, zero_first      a 0 among them
 --     links_room, initial_room     that there is room for their links
-use Rattle.std.proofs.Common.{◌≡◌, ℕ, zero, suc, ◌<◌, arith, Bool, true, false, List, [], ◌∷◌, ◌≤◌, nat_eq, sym, ap, ◌∙◌, inl, inr}
+--     fails, none_so               what a test that fails tells of it
+use Rattle.std.proofs.Common.{◌≡◌, ◌↔◌, ℕ, zero, suc, ◌<◌, arith, Bool, true, false, List, [], ◌∷◌, ◌≤◌, nat_eq, sym, ap, ◌∙◌, inl, inr}
 use Rattle.std.specs.List.{Contains}
 use Rattle.std.specs.FinMap as table
 use Rattle.std.proofs.lemmas.Bool.{or_left, or_right}
@@ -69,3 +70,12 @@ module _ (o : Opening) where
             contains-from_list (ids_of o) q
             ∙ list_any-append (nat_eq q) (o.me ∷ o.initial) o.contacts ∙ or_left _ _ (or_right _ _ (sym (contains-from_list o.initial q) ∙ h))),
       )
+
+-- what is told to hold by an answer that is false doesn't hold
+pub fails : {P : Type 0} (b : Bool) → b ≡ false → (IsTrue b ↔ P) → ¬ P
+fails true is told = absurd cc
+fails false is told = λ holds. let t = told.1 holds in cc
+
+-- so nothing is true that has it
+pub none_so : {P Q : Type 0} → ¬ P → (Q → P) → (IsTrue false ↔ Q)
+none_so never has = (λ t. absurd cc, λ q. absurd (never (has q)))

@@ -54,7 +54,6 @@ fn decode_all(alloc: Global, bytes: &[u8], layout: Layout) -> Result<Node, State
 
 /// The node whose state the bytes spell, all of the bytes. A fault of the wire is that of the first field, from left to
 /// right, that can't be read; Unlawful comes where all can be read, and no node can be in that state.
-#[tactic(auto, using(crate::proofs::Decoded::node_is_told, crate::proofs::Decoded::unlawful_is_told))]
 pub fn decode_state(alloc: Global, bytes: &[u8], layout: Layout) -> Result<Node, StateFault>
     // What each answer tells of the bytes.
     ensures answer { Decodes layout bytes.now result }
