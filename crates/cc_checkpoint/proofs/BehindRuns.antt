@@ -37,7 +37,7 @@ module _ {D : Type 0} (s : Ghosts D) (side : Side) where
   abbrev IsWithin : D → SideState → Contents → List Output → Type 0
   IsWithin old bound = Within side bound (s.state old) (s.sent old)
 
-  started_behind : (site : D) → OnlyNow s site → StaysBehind s side site site
+  pub started_behind : (site : D) → OnlyNow s site → StaysBehind s side site site
   started_behind site only = started s site (IsBehind site) (λ left told since.
       let is = only left told since in
       record { was = left side; possible = is.each side; gate = refl; rest = is.each (other side); outlet = is.outlet })

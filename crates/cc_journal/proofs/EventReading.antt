@@ -1,13 +1,15 @@
 -- Events behind their sizes are read as they are spelled.
 --     size_of, too_short, stand_behind        bytes behind their size
 --     none_short, none_spelled, one_found     an event behind its size
---     IsRead, none_next, none_behind          one event after another
+--     IsRead, one_more, all_read              one event after another;  to the end
+--     none_next, none_behind                  none that goes on, and none that ends there
 --     one_list                                bytes spell one list of events
 use Rattle.std.proofs.Common.{◌≡◌, ◌⊎◌, ⊎_elim, inl, inr, ℕ, suc, ◌+◌, ◌<◌, ◌≤◌, ◌^◌, List, [], ◌∷◌, ◌++◌, length, take, drop, get_or, refl, sym}
 use Rattle.std.proofs.Common.{subst, ◌∙◌, ap, arith, length-append}
 use Rattle.std.specs.Int.{to_be_bytes, from_be_bytes, w32}
 use Rattle.std.specs.List.{flat_map, AllByRecursion}
 use Rattle.std.proofs.lemmas.Nat.{from_be_bytes-to_be_bytes_4, be_bytes_4}
+use Rattle.std.proofs.lemmas.List.Concat.{flat_map-append}
 use Rattle.std.proofs.lemmas.List.{append_assoc, append-nil, take_at, take-append-drop, length-take, length-drop, drop-drop}
 use Rattle.cc_messages.specs.declared.event.Event.{Event}
 use Rattle.cc_wire.specs.Events.{event_spelling, IsEvent, SpellsEvent}
@@ -74,6 +76,32 @@ module _ (bytes : List ℕ) (size : ℕ) (is_size : size ≡ from_be_bytes w32 (
 pub record IsRead (whole rest : List ℕ) (read : List Event) : Type 0 where
   pub parts : whole ≡ flat_map sized_spelling read ++ rest
   pub each : AllByRecursion IsEvent read
+
+each_more : (read : List Event) (e : Event) → AllByRecursion IsEvent read → IsEvent e → AllByRecursion IsEvent (read ++ e ∷ [])
+each_more [] e each is = (is, tt)
+each_more (x ∷ read) e each is = (each.0, each_more read e each.1 is)
+
+pub one_more : (whole rest : List ℕ) (read new : List Event) (e : Event) (size : ℕ)
+    → IsRead whole rest read → BeginsWith rest e size → new ≡ read ++ e ∷ [] → IsRead whole (drop size rest) new
+one_more whole rest read new e size so_far begins is = subst (IsRead whole (drop size rest)) (sym is) (record {
+  parts = so_far.parts ∙ ap (λ (l : List ℕ). flat_map sized_spelling read ++ l) begins.parts
+      ∙ sym (append_assoc (flat_map sized_spelling read) (sized_spelling e) (drop size rest))
+      ∙ ap (λ (l : List ℕ). (flat_map sized_spelling read ++ l) ++ drop size rest) (sym (append-nil (sized_spelling e)))
+      ∙ ap (λ (l : List ℕ). l ++ drop size rest) (sym (flat_map-append sized_spelling read (e ∷ [])));
+  each = each_more read e so_far.each begins.is_event;
+})
+
+pub all_read : (bytes rest : List ℕ) (read : List Event) (count : ℕ)
+    → bytes ≡ count ∷ drop 1 bytes → IsRead (drop 1 bytes) rest read → rest ≡ [] → length read ≡ count → 1 ≤ count → count ≤ 64 → SpellsEvents bytes read
+all_read bytes rest read count split is_read none same some few = record {
+  some = omega (arith, same, some);
+  few = omega (arith, same, few);
+  each = is_read.each;
+  spelled = split
+      ∙ ap (λ (l : List ℕ). count ∷ l)
+      (is_read.parts ∙ ap (λ (l : List ℕ). flat_map sized_spelling read ++ l) none ∙ append-nil (flat_map sized_spelling read))
+      ∙ ap (λ (n : ℕ). n ∷ flat_map sized_spelling read) (sym same);
+}
 
 -- so many of the events were read: all of them, and no byte is left, or fewer, and an event begins what is left
 abbrev Left : ℕ → ℕ → List ℕ → Type 0

@@ -1,12 +1,12 @@
-use Rattle.std.proofs.Common.{◌≡◌, ◌≤◌, ◌++◌, inl, List, ℕ, length, sym, ap, ◌∙◌, append_assoc, arith}
-use Rattle.std.proofs.lemmas.List.{length-append}
+use Rattle.std.proofs.Common.{◌≡◌, ◌≤◌, ◌++◌, inl, List, ℕ, [], length, refl, sym, ap, ◌∙◌, append_assoc, arith}
+use Rattle.std.proofs.lemmas.List.{length-append, append-nil}
 use Rattle.std.proofs.lemmas.Result.{err_from_is_err_and}
 use Rattle.cc_sides.specs.States.{layout_of_node, node_spelling}
 use Rattle.cc_states.specs.Parts.{joined}
 use Rattle.cc_states.proofs.PartLaws.{joined_rest}
 use Rattle.cc_checkpoint.proofs.PastGate.{half_past, front_kept}
 use Rattle.cc_states.proofs.StateLengths.{length-node}
-use Rattle.cc_checkpoint.proofs.BehindRuns.{then_written, grown}
+use Rattle.cc_checkpoint.proofs.BehindRuns.{started_behind, then_written, grown}
 use Rattle.cc_checkpoint.proofs.checkpoint.write_pieces.Goals as goal
 
 pub returns-in_err-write_at-clause-every_moment : goal.returns-in_err-write_at-clause-every_moment
@@ -84,3 +84,35 @@ returns-in_err-write_at-clause-failed g c honest =
           ∙ front_kept (s.state mid side).bytes (joined c.loop-pieces.pieces) (s.state old side).bytes (node_spelling c.args.node.now)
           some there (so_far.value honest),
     )
+
+pub loop-pieces-init : goal.loop-pieces-init
+loop-pieces-init g c =
+    let s = g.S.Site in
+    let site = c.args.site.now in
+    let whole = c.new-pieces.ensures.whole in
+    record {
+      honest = (λ h. h, λ h. h);
+      tells = (λ t. t, λ t. t);
+      sent = refl;
+      other_side = λ honest. refl;
+      value = λ honest. ap (λ (l : List ℕ). (s.state site c.args.side).bytes ++ l) whole;
+      place = omega (arith, ap length whole);
+      within = c.requires.from;
+      from = omega arith;
+      moments = λ honest. started_behind s c.args.side site (g.met.S.Site.only_now site honest);
+      failures = refl;
+    }
+
+pub returns-clause-value : goal.returns-clause-value
+returns-clause-value g c honest =
+    let bytes = (g.S.Site.state c.loop-pieces.site c.args.side).bytes in
+    let none : c.loop-pieces.pieces ≡ [] = c.next.ensures.end (omega (arith, c.loop-pieces-test.false)) in
+    sym (append-nil bytes) ∙ ap (λ (l : List (List ℕ)). bytes ++ joined l) (sym none) ∙ c.loop-pieces.invariant.value honest
+
+pub returns-clause-end : goal.returns-clause-end
+returns-clause-end g c =
+    let none : c.loop-pieces.pieces ≡ [] = c.next.ensures.end (omega (arith, c.loop-pieces-test.false)) in
+    omega (arith, c.loop-pieces.invariant.place, ap (λ (l : List (List ℕ)). length (joined l)) none)
+
+pub returns-clause-at_end : goal.returns-clause-at_end
+returns-clause-at_end g c = c.loop-pieces.invariant.within
