@@ -134,6 +134,7 @@ fn peers_of(
         None => (named_peers(alloc, list)?, WordFault::PeerTwice),
     };
     if names_one_twice(&peers) {
+        drop(peers);
         return Err(twice);
     }
     Ok(peers)
