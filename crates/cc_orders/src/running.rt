@@ -134,7 +134,6 @@ fn peers_of(
         None => (named_peers(alloc, list)?, WordFault::PeerTwice),
     };
     if names_one_twice(&peers) {
-        drop(peers);
         return Err(twice);
     }
     Ok(peers)
