@@ -32,7 +32,7 @@ impl fmt::Display for LookFault {
                 )
             }
             LookFault::TooLong(address) => write!(f, "{address} answers more than 4 MiB"),
-            LookFault::NoMemory => f.write_str("out of memory"),
+            LookFault::NoMemory => write!(f, "out of memory"),
         }
     }
 }

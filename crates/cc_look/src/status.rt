@@ -132,84 +132,28 @@ fn list<'a>(value: &'a Value, name: &str) -> Option<&'a [Value]> {
     Some(items.as_slice())
 }
 
-fn named<'a>(value: &'a Value, name: &str) -> Option<&'a Map<String, Value>> {
-    value.get(name)?.as_object()
-}
-
-// Who a node is, and where it stands.
-#[derive(Clone, Copy)]
-struct NodePart<'a> {
-    id: u64,
-    version: &'a str,
-    now: u64,
-    standing: &'a str,
-    is_ready: bool,
-    reason: &'a str,
-}
-
-// Whom a node knows, what it has seen, and what it does.
-#[derive(Clone, Copy)]
-struct WorkPart<'a> {
-    members: &'a [Value],
-    view: &'a [Value],
-    round: Option<RoundPart<'a>>,
-    waiting: u64,
-    sessions: &'a [Value],
-    session_limit: u64,
-    peers: &'a [Value],
-}
-
 impl<'a> Status<'a> {
     /// What the JSON of a status says. None where a member is missing, or is no such value.
     pub fn of(value: &'a Value) -> Option<Self> {
-        let node = NodePart::in_status(value)?;
-        let work = WorkPart::in_status(value)?;
         Some(Status {
-            id: node.id,
-            version: node.version,
-            now: node.now,
-            standing: node.standing,
-            is_ready: node.is_ready,
-            reason: node.reason,
+            id: number(value, "id")?,
+            version: text(value, "version")?,
+            now: number(value, "now")?,
+            standing: text(value, "standing")?,
+            is_ready: flag(value, "is_ready")?,
+            reason: text(value, "reason")?,
             quorum: QuorumPart::in_status(value)?,
-            members: work.members,
-            view: work.view,
-            round: work.round,
-            waiting: work.waiting,
-            sessions: work.sessions,
-            session_limit: work.session_limit,
+            members: numbers(value, "members")?,
+            view: rows_in(value)?,
+            round: round_in(value)?,
+            waiting: number(value, "waiting")?,
+            sessions: list(value, "sessions")?,
+            session_limit: number(value, "session_limit")?,
             posts: PostPart::in_status(value)?,
-            peers: work.peers,
+            peers: peers_in(value)?,
             disk: DiskPart::in_status(value)?,
             counts: CountPart::in_status(value)?,
             syncs: SyncPart::in_status(value)?,
-        })
-    }
-}
-
-impl<'a> NodePart<'a> {
-    fn in_status(status: &'a Value) -> Option<Self> {
-        Some(NodePart {
-            id: number(status, "id")?,
-            version: text(status, "version")?,
-            now: number(status, "now")?,
-            standing: text(status, "standing")?,
-            is_ready: flag(status, "is_ready")?,
-            reason: text(status, "reason")?,
-        })
-    }
-}
-
-impl<'a> WorkPart<'a> {
-    fn in_status(status: &'a Value) -> Option<Self> {
-        Some(WorkPart {
-            members: numbers(status, "members")?,
-            view: rows_in(status)?,
-            round: round_in(status)?,
-            waiting: number(status, "waiting")?,
-            sessions: list(status, "sessions")?,
-            session_limit: number(status, "session_limit")?,
-            peers: peers_in(status)?,
         })
     }
 }
@@ -335,8 +279,8 @@ impl<'a> CountPart<'a> {
             commits: number(value, "commits")?,
             events: number(value, "events")?,
             connections: number(value, "connections")?,
-            asks: named(value, "asks")?,
-            refusals: named(value, "refusals")?,
+            asks: value.get("asks")?.as_object()?,
+            refusals: value.get("refusals")?.as_object()?,
         })
     }
 }

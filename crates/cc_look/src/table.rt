@@ -13,9 +13,9 @@ impl fmt::Display for Table<'_> {
         let status = &self.0;
         print_node(f, status)?;
         print_quorum(f, &status.quorum)?;
-        f.write_str("members   ")?;
+        write!(f, "members   ")?;
         print_numbers(f, status.members)?;
-        f.write_str("\n")?;
+        writeln!(f, "")?;
         print_round(f, status)?;
         print_use(f, status)?;
         print_counts(f, &status.counts)?;
@@ -31,7 +31,7 @@ fn print_node<W: fmt::Write>(f: &mut fmt::Formatter<W>, status: &Status<'_>) -> 
     writeln!(f, "node      {id}, version {version}")?;
     writeln!(f, "standing  {standing}")?;
     if status.is_ready {
-        f.write_str("ready     yes\n")
+        writeln!(f, "ready     yes")
     } else {
         writeln!(f, "ready     no: {reason}")
     }
@@ -47,13 +47,13 @@ fn print_quorum<W: fmt::Write>(f: &mut fmt::Formatter<W>, quorum: &QuorumPart<'_
 }
 
 fn print_numbers<W: fmt::Write>(f: &mut fmt::Formatter<W>, numbers: &[Value]) -> fmt::Result {
-    let mut between = "";
-    for number in numbers {
-        f.write_str(between)?;
+    for (i, number) in numbers.iter().enumerate() {
+        if i > 0 {
+            write!(f, ",")?;
+        }
         print_number(f, number)?;
-        between = ",";
     }
-    f.write_str(if numbers.is_empty() { "none" } else { "" })
+    write!(f, "{}", if numbers.is_empty() { "none" } else { "" })
 }
 
 fn print_number<W: fmt::Write>(f: &mut fmt::Formatter<W>, value: &Value) -> fmt::Result {
@@ -66,7 +66,7 @@ fn print_number<W: fmt::Write>(f: &mut fmt::Formatter<W>, value: &Value) -> fmt:
 fn print_round<W: fmt::Write>(f: &mut fmt::Formatter<W>, status: &Status<'_>) -> fmt::Result {
     match &status.round {
         Some(round) => print_pending(f, round, status.now)?,
-        None => f.write_str("round     none\n")?,
+        None => writeln!(f, "round     none")?,
     }
     let waiting = status.waiting;
     writeln!(f, "waiting   {waiting} asks")
@@ -100,9 +100,9 @@ fn print_counts<W: fmt::Write>(f: &mut fmt::Formatter<W>, counts: &CountPart<'_>
         f,
         "counts    {events} events in {commits} batches, {connections} connections"
     )?;
-    f.write_str("asked     ")?;
+    write!(f, "asked     ")?;
     print_named(f, counts.asks)?;
-    f.write_str("refused   ")?;
+    write!(f, "refused   ")?;
     print_named(f, counts.refusals)
 }
 
@@ -116,7 +116,7 @@ fn print_named<W: fmt::Write>(
         write!(f, "{between}{name} ")?;
         print_number(f, number)?;
     }
-    f.write_str(if named.is_empty() { "none\n" } else { "\n" })
+    writeln!(f, "{}", if named.is_empty() { "none" } else { "" })
 }
 
 fn print_disk<W: fmt::Write>(f: &mut fmt::Formatter<W>, status: &Status<'_>) -> fmt::Result {
@@ -154,7 +154,7 @@ fn print_peer<W: fmt::Write>(
     write!(f, "peer      {id}")?;
     match peer.address {
         Some(address) => write!(f, " at {address}")?,
-        None => f.write_str(" without an address")?,
+        None => write!(f, " without an address")?,
     }
     print_contact(f, peer, now)?;
     let (behind, acknowledged, heard) = (peer.behind, peer.acknowledged, peer.heard);
@@ -173,7 +173,7 @@ fn print_contact<W: fmt::Write>(
     match (peer.absent_since, peer.connected_since) {
         (Some(since), _) => write!(f, ", absent for {} s", seconds_since(since, now)),
         (None, Some(since)) => write!(f, ", connected for {} s", seconds_since(since, now)),
-        (None, None) => f.write_str(", not connected"),
+        (None, None) => write!(f, ", not connected"),
     }
 }
 
@@ -195,7 +195,7 @@ fn print_row<W: fmt::Write>(f: &mut fmt::Formatter<W>, row: &RowPart<'_>) -> fmt
         "row       {node}, number {number}, text \"{text}\", max {max}, flag {flag}, set "
     )?;
     print_numbers(f, row.set)?;
-    f.write_str("\n")
+    writeln!(f, "")
 }
 
 // How many whole seconds lie between two moments, 0 where the clock went back.
