@@ -40,15 +40,14 @@ impl fmt::Display for CommandFault<'_> {
             CommandFault::NoValue(name) => write!(f, "{name} takes a value"),
             CommandFault::Value(name) => write!(f, "{name} takes no value"),
             CommandFault::Text(name) => write!(f, "{name} takes no --text, as store does"),
-            CommandFault::WordAndText => write!(f, "store takes a word or --text, not both"),
+            CommandFault::WordAndText => f.write_str("store takes a word or --text, not both"),
             CommandFault::Number(name, most) => {
                 write!(f, "{name} takes a number from 0 to {most}")
             }
             CommandFault::Length(len) => write!(f, "store takes 1 to 64 bytes; this has {len}"),
             CommandFault::Unseen => {
-                write!(
-                    f,
-                    "store takes a word of visible ASCII characters; others go behind --text"
+                f.write_str(
+                    "store takes a word of visible ASCII characters; others go behind --text",
                 )
             }
         }
@@ -65,9 +64,8 @@ fn print_unknown<W: fmt::Write>(
     write!(f, "{name} is no command")?;
     match nearest {
         Some(nearest) => write!(f, "; did you mean {nearest}?"),
-        None => write!(
-            f,
-            ": store WORD, collect, max N, readmax, flag, readflag, add N, readset"
+        None => f.write_str(
+            ": store WORD, collect, max N, readmax, flag, readflag, add N, readset",
         ),
     }
 }

@@ -1,6 +1,6 @@
 //! What was counted.
 
-use crate::counts::{BATCH_BOUNDS, SYNC_BOUNDS, SyncCounts};
+use crate::counts::{SYNC_BOUNDS, SyncCounts};
 use crate::status::SyncStatus;
 use cc_views::NoMemory;
 use std::alloc::Global;
@@ -32,10 +32,14 @@ fn put_one(
     Ok(())
 }
 
-/// How many batches had no more than so many events.
-pub(crate) fn put_batches(batches: &[u64; 7], into: &mut Vec<(u64, u64)>) -> Result<(), NoMemory> {
+/// Adds each bound with what is in the buckets up to it.
+pub(crate) fn put_buckets(
+    bounds: &[u64],
+    buckets: &[u64],
+    into: &mut Vec<(u64, u64)>,
+) -> Result<(), NoMemory> {
     let mut seen: u64 = 0;
-    for (bound, bucket) in BATCH_BOUNDS.iter().zip(batches) {
+    for (bound, bucket) in bounds.iter().zip(buckets) {
         seen = seen.saturating_add(*bucket);
         into.push((*bound, seen))?;
     }
@@ -50,10 +54,5 @@ pub(crate) fn put_syncs(syncs: &SyncCounts, status: &mut SyncStatus) -> Result<(
     status.p50_us = syncs.quantile_us(50);
     status.p99_us = syncs.quantile_us(99);
     status.worst_us = syncs.worst_us;
-    let mut seen: u64 = 0;
-    for (bound, bucket) in SYNC_BOUNDS.iter().zip(&syncs.buckets) {
-        seen = seen.saturating_add(*bucket);
-        status.buckets.push((*bound, seen))?;
-    }
-    Ok(())
+    put_buckets(&SYNC_BOUNDS, &syncs.buckets, &mut status.buckets)
 }

@@ -3,13 +3,13 @@
 ghost use Rattle.std.specs.Prelude.{◌≡◌, [], IfOk, OnOk};
 ghost use Rattle.cc_status.specs.Showing.{Shows, Begins};
 
-use crate::counting::{put_batches, put_named, put_syncs};
-use crate::counts::{COMMANDS, Counted, REFUSALS};
+use crate::counting::{put_buckets, put_named, put_syncs};
+use crate::counts::{BATCH_BOUNDS, COMMANDS, Counted, REFUSALS};
 use crate::live::{Live, Shown};
 use crate::members::{push_all, push_live, push_sessions};
 use crate::peers::push_peers;
 use crate::rows::push_rows;
-use crate::standing::{Standing, quorum_status, reason, round_status};
+use crate::standing::{Standing, put_quorum, put_reason, round_status};
 use crate::status::{Counts, DiskStatus, PostStatus, QuorumStatus, Status, SyncStatus};
 use cc_outbox::Outbox;
 use cc_sessions::Sessions;
@@ -142,14 +142,41 @@ fn lay_rest(
     requires { Shows shown.now.core shown.now.kept status.old }
     ensures { OnOk result (Shows shown.now.core shown.now.kept status.new) }
 {
+    lay_standing(alloc, shown, live, status)?;
+    lay_around(alloc, shown, live, status)
+}
+
+// Lays out where the node stands, and its round.
+fn lay_standing(
+    alloc: Global,
+    shown: &Shown,
+    live: &Live<'_>,
+    status: &mut Status,
+) -> Result<(), NoMemory>
+    requires { Shows shown.now.core shown.now.kept status.old }
+    ensures { OnOk result (Shows shown.now.core shown.now.kept status.new) }
+{
     let core = &shown.core;
     status.version.push_str(live.version)?;
     status.standing.push_str(Standing::of(core).name())?;
-    drop(mem::replace(&mut status.reason, reason(alloc, shown, live)?));
+    put_reason(shown, live, &mut status.reason)?;
     status.is_ready = status.reason.is_empty();
-    drop(mem::replace(&mut status.quorum, quorum_status(alloc, shown, live)?));
+    put_quorum(shown, live, &mut status.quorum)?;
     drop(mem::replace(&mut status.round, round_status(alloc, core, live)?));
-    push_peers(alloc, core, live, &mut status.peers)?;
+    Ok(())
+}
+
+// Lays out its peers, its disk, and what was counted.
+fn lay_around(
+    alloc: Global,
+    shown: &Shown,
+    live: &Live<'_>,
+    status: &mut Status,
+) -> Result<(), NoMemory>
+    requires { Shows shown.now.core shown.now.kept status.old }
+    ensures { OnOk result (Shows shown.now.core shown.now.kept status.new) }
+{
+    push_peers(alloc, &shown.core, live, &mut status.peers)?;
     status.disk.side.push_str(side_name(live))?;
     put_counts(alloc, live.counted, &mut status.counts)?;
     put_syncs(&live.counted.syncs, &mut status.syncs)?;
@@ -159,7 +186,7 @@ fn lay_rest(
 fn put_counts(alloc: Global, counted: &Counted, counts: &mut Counts) -> Result<(), NoMemory> {
     put_named(alloc, &REFUSALS, &counted.refusals, &mut counts.refusals)?;
     put_named(alloc, &COMMANDS, &counted.asks, &mut counts.asks)?;
-    put_batches(&counted.batches, &mut counts.batches)
+    put_buckets(&BATCH_BOUNDS, &counted.batches, &mut counts.batches)
 }
 
 fn side_name(live: &Live<'_>) -> &'static str {

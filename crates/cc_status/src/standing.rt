@@ -9,7 +9,7 @@ use cc_views::{NoMemory, NodeId};
 use std::alloc::Global;
 
 /// Where a node stands in its life.
-#[derive(Clone, Copy, Debug, PartialEq, Eq)]
+#[derive(Clone, Copy)]
 pub(crate) enum Standing {
     Apart,
     Entered,
@@ -42,7 +42,7 @@ impl Standing {
 }
 
 /// How many members there are, how many of them answer an operation that begins now, and how many are absent.
-#[derive(Clone, Copy, Debug)]
+#[derive(Clone, Copy)]
 pub(crate) struct Quorum {
     members: u64,
     need: u64,
@@ -78,54 +78,56 @@ fn is_member(core: &Core, node: NodeId) -> bool {
     core.churn().has_joined(node) && !core.churn().has_left(node)
 }
 
-/// Why a node isn't ready. Nothing where it is.
-pub(crate) fn reason(alloc: Global, shown: &Shown, live: &Live<'_>) -> Result<String, NoMemory> {
+/// Adds why a node isn't ready. Nothing where it is.
+pub(crate) fn put_reason(
+    shown: &Shown,
+    live: &Live<'_>,
+    reason: &mut String,
+) -> Result<(), NoMemory> {
     let text = match Standing::of(&shown.core) {
         Standing::Apart => "it hasn't entered yet",
         Standing::Entered => "it hasn't joined yet",
         Standing::Left => "it has left",
-        Standing::Joined => return absence(alloc, Quorum::of(shown, live)),
+        Standing::Joined => return put_absence(Quorum::of(shown, live), reason),
     };
-    Ok(String::from_str(alloc, text)?)
+    reason.push_str(text)?;
+    Ok(())
 }
 
-// That too many members are absent. Nothing where so many aren't.
-fn absence(alloc: Global, quorum: Quorum) -> Result<String, NoMemory> {
+// Adds that too many members are absent. Nothing where so many aren't.
+fn put_absence(quorum: Quorum, reason: &mut String) -> Result<(), NoMemory> {
     let Quorum {
         members,
         need,
         absent,
     } = quorum;
-    if quorum.is_met() {
-        return Ok(String::new(alloc));
+    if !quorum.is_met() {
+        write!(
+            reason,
+            "{absent} of {members} members are absent, and {need} have to answer"
+        )?;
     }
-    Ok(format!(in alloc; "{absent} of {members} members are absent, and {need} have to answer")?)
+    Ok(())
 }
 
-/// How many members answer an operation that begins now.
-pub(crate) fn quorum_status(
-    alloc: Global,
+/// Tells how many members answer an operation that begins now.
+pub(crate) fn put_quorum(
     shown: &Shown,
     live: &Live<'_>,
-) -> Result<QuorumStatus, NoMemory> {
+    quorum: &mut QuorumStatus,
+) -> Result<(), NoMemory> {
     let Quorum { members, need, .. } = Quorum::of(shown, live);
-    let beta = fraction(alloc, shown.core.beta())?;
-    let Ok(gamma) = fraction(alloc, shown.core.gamma()) else {
-        drop(beta);
-        return Err(NoMemory);
-    };
-    Ok(QuorumStatus {
-        beta,
-        gamma,
-        members,
-        need,
-        may_be_away: members.saturating_sub(need),
-    })
+    quorum.members = members;
+    quorum.need = need;
+    quorum.may_be_away = members.saturating_sub(need);
+    put_fraction(shown.core.beta(), &mut quorum.beta)?;
+    put_fraction(shown.core.gamma(), &mut quorum.gamma)
 }
 
-fn fraction(alloc: Global, share: Fraction) -> Result<String, NoMemory> {
+fn put_fraction(share: Fraction, text: &mut String) -> Result<(), NoMemory> {
     let Fraction { num, den } = share;
-    Ok(format!(in alloc; "{num}/{den}")?)
+    write!(text, "{num}/{den}")?;
+    Ok(())
 }
 
 /// The round under way, if one is.
