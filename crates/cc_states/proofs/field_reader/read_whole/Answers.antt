@@ -13,15 +13,6 @@ returns-in_err-fields-clause-run g c = rw (err_is c.from_residual.result c.from_
 pub returns-in_err-fields-clause-read : goal.returns-in_err-fields-clause-read
 returns-in_err-fields-clause-read g c = rw (err_is c.from_residual.result c.from_residual.ensures.1) tt
 
-pub is_ended-requires : goal.is_ended-requires
-is_ended-requires g c = g.met.S.Source.lies_on _ _ _ _ c.in_ok-fields.ensures.run
-
-pub returns-then-not-is_ended-clause-run : goal.returns-then-not-is_ended-clause-run
-returns-then-not-is_ended-clause-run g c = c.in_ok-fields.ensures.run
-
-pub returns-then-not-is_ended-clause-read : goal.returns-then-not-is_ended-clause-read
-returns-then-not-is_ended-clause-read g c = tt
-
 pub returns-clause-run : goal.returns-clause-run
 returns-clause-run g c = c.in_ok-fields.ensures.run
 
