@@ -1,4 +1,5 @@
-//! Tests of the messages, of the parts of a node, and of a whole one, by their public calls alone.
+//! Tests of the messages, of the parts of a node and of a whole one, of what a server and a client of it decide, and of requests
+//! over HTTP, by the public calls alone.
 #![tactic(auto)]
 
 #[cfg(test)]
@@ -12,6 +13,8 @@ mod formats;
 #[cfg(test)]
 mod frames;
 #[cfg(test)]
+mod http;
+#[cfg(test)]
 mod lines;
 #[cfg(test)]
 mod links;
@@ -23,6 +26,8 @@ mod objects;
 mod operations;
 #[cfg(test)]
 mod outboxes;
+#[cfg(test)]
+mod protocol;
 #[cfg(test)]
 mod refusals;
 #[cfg(test)]

@@ -1,6 +1,6 @@
 //! What connections may bring.
 
-use crate::bytes::node;
+use crate::sets::id;
 use cc_messages::{Command, Event, Message};
 use cc_protocol::{Access, Origin};
 use std::test::*;
@@ -69,7 +69,7 @@ fn heard(event: Event) -> [bool; 3] {
 
 #[test]
 fn a_frame_is_of_a_client_a_node_or_the_operator(rt: HostRuntime) {
-    let node = node(2);
+    let node = id(2);
     let asked = Event::Ask {
         session: 7,
         request: 1,

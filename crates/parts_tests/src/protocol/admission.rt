@@ -1,6 +1,6 @@
 //! What is handed over, and who is furthest behind.
 
-use crate::bytes::node;
+use crate::sets::id;
 use cc_changes::Fraction;
 use cc_messages::{Command, Event, Message, Refusal};
 use cc_node::{Node, Opening};
@@ -36,7 +36,7 @@ type Case = (u64, bool, u64, bool);
 
 fn check_cases<R: Abort>(rt: &R, event: &Event, cases: &[Case]) {
     for &(kept, is_furthest, waited, may) in cases {
-        let handed = may_hand_over(node(1), event, kept, is_furthest, waited);
+        let handed = may_hand_over(id(1), event, kept, is_furthest, waited);
         assert!(rt; handed == may, "with {kept} posts");
     }
 }
@@ -56,7 +56,7 @@ fn given_up(event: Event) -> [bool; 2] {
 
 #[test]
 fn a_message_is_given_up_after_five_seconds(rt: HostRuntime) {
-    let given = [given_up(joined(node(2))), given_up(asked())];
+    let given = [given_up(joined(id(2))), given_up(asked())];
     assert!(rt; given == [[false, true], [false, false]]);
 }
 
@@ -80,14 +80,14 @@ const MESSAGES: [Case; 3] = [
 
 #[test]
 fn a_message_leaves_room_for_256_posts(rt: HostRuntime) {
-    check_handing(&rt, joined(node(2)), &MESSAGES);
+    check_handing(&rt, joined(id(2)), &MESSAGES);
 }
 
 const NEVER_HELD: [Case; 1] = [(512, false, 0, true)];
 
 #[test]
 fn what_posts_nothing_is_never_held_back(rt: HostRuntime) {
-    let node = node(2);
+    let node = id(2);
     let acked = Event::Acked {
         peer: node,
         number: 1,
@@ -104,8 +104,8 @@ fn what_posts_nothing_is_never_held_back(rt: HostRuntime) {
 
 #[test]
 fn what_ends_an_operation_of_the_node_may_be_held_back(rt: HostRuntime) {
-    let me = node(1);
-    let of_its_own = delivered(node(2), Message::StoreAck { tag: 1, node: me });
+    let me = id(1);
+    let of_its_own = delivered(id(2), Message::StoreAck { tag: 1, node: me });
     check_handing(&rt, of_its_own, &[(257, false, 0, false)]);
 }
 
@@ -128,9 +128,9 @@ fn behind(member: &Node) -> [bool; 3] {
     let core = member.core();
     let lowest = core.lowest();
     [
-        is_furthest_behind(core, lowest, node(1)),
-        is_furthest_behind(core, lowest, node(2)),
-        is_furthest_behind(core, lowest, node(3)),
+        is_furthest_behind(core, lowest, id(1)),
+        is_furthest_behind(core, lowest, id(2)),
+        is_furthest_behind(core, lowest, id(3)),
     ]
 }
 
@@ -142,10 +142,10 @@ fn behind_after(alloc: Global, member: &mut Node, event: Event) -> Result<[bool;
 
 fn check_behind<R: Abort + AllocGlobal>(rt: &R, member: &mut Node) {
     let acked = Event::Acked {
-        peer: node(1),
+        peer: id(1),
         number: 1,
     };
-    let retire = Event::Retire { node: node(2) };
+    let retire = Event::Retire { node: id(2) };
     let after = [
         behind_after(rt.alloc(), member, asked()),
         behind_after(rt.alloc(), member, acked),
@@ -185,6 +185,6 @@ const ALWAYS: [Case; 2] = [(0, false, 0, true), (512, false, 0, true)];
 // A lapse is there to empty a full outbox.
 #[test]
 fn a_lapse_and_a_snapshot_need_no_room(rt: HostRuntime) {
-    check_handing(&rt, Event::Lapse { node: node(2) }, &ALWAYS);
+    check_handing(&rt, Event::Lapse { node: id(2) }, &ALWAYS);
     check_handing(&rt, Event::Snapshot, &ALWAYS);
 }

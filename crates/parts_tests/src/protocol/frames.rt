@@ -1,6 +1,7 @@
 //! Which event a frame is, and which frames a node sends.
 
-use crate::bytes::{ASK, SKIPPED, STORED, is_spelled, node};
+use crate::protocol::bytes::{ASK, SKIPPED, STORED, is_spelled};
+use crate::sets::id;
 use cc_frames::{Frame, decode_frame};
 use cc_messages::{Answer, Command, Event, Message, Refusal};
 use cc_protocol::{
@@ -61,7 +62,7 @@ fn about_bytes(alloc: Global, bytes: &[u8]) -> Result<About, WireFault> {
 fn what_a_client_sends_is_an_event(rt: HostRuntime) {
     let about = [
         about_frame(Frame::Leave),
-        about_frame(Frame::Retire { node: node(3) }),
+        about_frame(Frame::Retire { node: id(3) }),
     ];
     assert!(rt; about_bytes(rt.alloc(), &ASK) == Ok(About::Ask(7, 1)));
     assert!(rt; about == [About::Leave, About::Retirement(3)]);
@@ -77,7 +78,7 @@ fn posted_join(from: NodeId) -> Frame {
 
 #[test]
 fn what_a_peer_sends_is_an_event(rt: HostRuntime) {
-    let from = node(2);
+    let from = id(2);
     let about = [
         about_frame(Frame::Ack { from, number: 9 }),
         about_frame(posted_join(from)),
@@ -117,7 +118,7 @@ fn is_replied(alloc: Global, bytes: &[u8]) -> Result<bool, NoMemory> {
 
 #[test]
 fn outputs_are_frames_of_their_sender(rt: HostRuntime) {
-    let me = node(1);
+    let me = id(1);
     let are_spelled = [
         is_posted(rt.alloc(), me, &POST),
         is_spelled(rt.alloc(), ack_frame(me, 9), &ACK),
@@ -153,7 +154,7 @@ fn add_acks(bundle: &mut Bundle) -> Result<(), NoMemory> {
 
 #[test]
 fn the_last_acknowledgement_goes_behind_the_posts(rt: HostRuntime) -> Result<(), Fail> {
-    let (bytes, len) = bundled(rt.alloc(), node(1))?;
+    let (bytes, len) = bundled(rt.alloc(), id(1))?;
     let is_so = len == POST.len()
         && bytes.len() == POST.len() + ACK.len()
         && bytes.as_slice().starts_with(&POST)
@@ -193,7 +194,7 @@ fn third_request() -> Event {
 
 #[test]
 fn refusals_are_told_to_who_asked(rt: HostRuntime) {
-    let node = node(3);
+    let node = id(3);
     let told = [
         is_told(rt.alloc(), third_request(), Refusal::Skip(1), &SKIPPED),
         is_told(rt.alloc(), Event::Leave, Refusal::Left, &LEFT),

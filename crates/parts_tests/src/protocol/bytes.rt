@@ -1,7 +1,7 @@
 //! Frames and their bytes.
 
 use cc_frames::{Frame, encode_frame};
-use cc_views::{NoMemory, NodeId};
+use cc_views::NoMemory;
 use std::alloc::Global;
 
 /// Session 7 asks under number 1: store `a`.
@@ -41,9 +41,4 @@ pub fn is_spelled(alloc: Global, frame: Frame, bytes: &[u8]) -> Result<bool, NoM
     let spelled = bytes_of(alloc, &frame);
     drop(frame);
     Ok(spelled?.as_slice() == bytes)
-}
-
-/// The id of this number, which is at least 1.
-pub fn node(number: u32) -> NodeId {
-    NodeId::new(number.max(1)).unwrap()
 }

@@ -1,6 +1,6 @@
 //! How peers stand, second by second, and when what is kept for them lapses.
 
-use crate::bytes::node;
+use crate::sets::id;
 use cc_protocol::{Passed, Standing, Standings};
 use cc_views::NodeId;
 use std::process::Abort;
@@ -138,7 +138,7 @@ fn check_back<R: Abort>(rt: &R, peers: &mut Standings, two: NodeId, three: NodeI
 
 #[test]
 fn a_peer_is_absent_until_it_acknowledges(rt: HostRuntime) -> Result<(), Fail> {
-    let (two, three) = (node(2), node(3));
+    let (two, three) = (id(2), id(3));
     let mut peers = Standings::new(rt.alloc())?;
     check_absent(&rt, &mut peers, two, three);
     check_lapses(&rt, &mut peers, two, three);

@@ -1,6 +1,6 @@
 //! Which connection speaks for a node.
 
-use crate::bytes::node;
+use crate::sets::id;
 use cc_protocol::{Speakers, Spoken};
 use cc_views::NodeId;
 use std::process::Abort;
@@ -33,7 +33,7 @@ fn check_spoken<R: Abort>(rt: &R, speakers: &mut Speakers, two: NodeId, three: N
 #[test]
 fn the_newest_connection_speaks_for_a_node(rt: HostRuntime) -> Result<(), Fail> {
     let mut speakers = Speakers::new(rt.alloc())?;
-    check_spoken(&rt, &mut speakers, node(2), node(3));
+    check_spoken(&rt, &mut speakers, id(2), id(3));
     drop(speakers);
     Ok(())
 }

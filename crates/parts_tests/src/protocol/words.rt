@@ -1,6 +1,6 @@
 //! The words of commands, addresses and peers.
 
-use crate::bytes::node;
+use crate::sets::id;
 use cc_messages::Command;
 use cc_views::Text;
 use cc_words::{LineFault, Peer, address, command, peers, peers_in_lines, store_of};
@@ -38,9 +38,9 @@ fn addresses_have_one_spelling(rt: HostRuntime) {
     }
 }
 
-fn peer(id: u32, port: u16) -> Peer {
+fn peer(number: u32, port: u16) -> Peer {
     Peer {
-        id: node(id),
+        id: id(number),
         address: local(port),
     }
 }

@@ -1,6 +1,6 @@
 //! What a worker does after an answer.
 
-use crate::bytes::node;
+use crate::sets::id;
 use cc_frames::Frame;
 use cc_messages::{Command, Event, Message, Refusal};
 use cc_protocol::{Duty, heed};
@@ -74,7 +74,7 @@ fn joined(node: NodeId) -> Event {
 
 #[test]
 fn what_stirs_wakes_the_flusher(rt: HostRuntime) {
-    let peer = node(2);
+    let peer = id(2);
     let does = [
         does_after(asked(1), Ok(true)),
         does_after(Event::Enter, Ok(true)),
@@ -85,7 +85,7 @@ fn what_stirs_wakes_the_flusher(rt: HostRuntime) {
 
 #[test]
 fn what_makes_nothing_is_deferred(rt: HostRuntime) {
-    let peer = node(2);
+    let peer = id(2);
     let does = [
         does_after(Event::Acked { peer, number: 1 }, Ok(false)),
         does_after(asked(1), Ok(false)),
@@ -106,7 +106,7 @@ const REFUSED_MESSAGES: [(Refusal, Does); 6] = [
 
 #[test]
 fn a_message_is_acknowledged_again_or_brought_again(rt: HostRuntime) {
-    let peer = node(2);
+    let peer = id(2);
     for &(refusal, does) in &REFUSED_MESSAGES {
         assert!(rt; does_after(joined(peer), Err(refusal)) == does);
     }

@@ -1,6 +1,6 @@
 //! A client and what it hears.
 
-use crate::bytes::{ASK, LEARN, SKIPPED, STORED, bytes_of};
+use crate::protocol::bytes::{ASK, LEARN, SKIPPED, STORED, bytes_of};
 use cc_frames::{Frame, decode_frame};
 use cc_messages::{Answer, Command, Refusal};
 use cc_protocol::{Client, Heard, Step, refusal_of};

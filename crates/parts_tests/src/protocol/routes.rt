@@ -1,6 +1,6 @@
 //! Connections, and where answers go.
 
-use crate::access::{ALL, REQUESTS};
+use crate::protocol::access::{ALL, REQUESTS};
 use cc_protocol::{Access, Admitted, Origin, Routes};
 use std::process::Abort;
 use std::test::*;

@@ -1,0 +1,14 @@
+//! What a server and a client of a node decide, and the words of commands and addresses.
+
+mod access;
+mod admission;
+mod bytes;
+mod calling;
+mod clients;
+mod duties;
+mod frames;
+mod incoming;
+mod routes;
+mod speakers;
+mod standings;
+mod words;
