@@ -89,8 +89,12 @@ fn play_round(
     let printed = str::from_utf8(&trial.printed)?;
     trial.asked.push(printed.lines().count())?;
     let mut lines = String::new(alloc);
-    push_round(&mut lines, printed, session, part, chance)?;
-    say_all(alloc, &mut trial.cluster, &lines, &mut trial.printed)
+    let played = match push_round(&mut lines, printed, session, part, chance) {
+        Ok(()) => say_all(alloc, &mut trial.cluster, &lines, &mut trial.printed),
+        Err(fail) => Err(fail),
+    };
+    drop(lines);
+    played
 }
 
 // The lines of a round, by what was printed so far.
@@ -249,7 +253,9 @@ fn tried(alloc: Global, members: &str, seed: u64) -> Result<(u64, u64), Fail> {
         printed: Vec::new(alloc),
         asked,
     };
-    try_out(alloc, &mut trial, members, seed)
+    let counts = try_out(alloc, &mut trial, members, seed);
+    drop(trial);
+    counts
 }
 
 fn try_out(alloc: Global, trial: &mut Trial, members: &str, seed: u64) -> Result<(u64, u64), Fail> {
@@ -334,7 +340,9 @@ fn is_told(output: &str) -> bool {
 
 fn is_stale_told(alloc: Global) -> Result<bool, Fail> {
     let (status, output) = played(alloc, STALE)?;
-    Ok(status == 0 && is_told(&output))
+    let is_told = is_told(&output);
+    drop(output);
+    Ok(status == 0 && is_told)
 }
 
 #[test]

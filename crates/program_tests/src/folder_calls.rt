@@ -4,9 +4,9 @@ use crate::words::{format_of, with};
 use cc_commands::{DumpScope, FormatOrder, dump_folder, format_folder};
 use cc_files::{FileSite, NoOutlet};
 use cc_orders::{FormatWords, WordFault};
-use std::fs;
 use std::fs::{File, Files};
 use std::test::*;
+use std::{fs, io};
 
 /// Entrant 4, whose one contact is node 1.
 pub fn entrant() -> FormatWords<'static> {
@@ -41,7 +41,9 @@ pub fn formatted<R: AllocGlobal + Files<File = File>>(
     words: &FormatWords<'_>,
 ) -> Result<(u8, String), Fail> {
     let order = FormatOrder::parse(rt.alloc(), words)?;
-    told_of_format(rt, folder, &order)
+    let told = told_of_format(rt, folder, &order);
+    drop(order);
+    told
 }
 
 fn told_of_format<R: AllocGlobal + Files<File = File>>(
@@ -50,8 +52,19 @@ fn told_of_format<R: AllocGlobal + Files<File = File>>(
     order: &FormatOrder,
 ) -> Result<(u8, String), Fail> {
     let mut output = Vec::new(rt.alloc());
-    let status = format_folder(rt, rt.alloc(), folder, order, &mut output)?;
-    Ok((status, String::from_utf8(output)?))
+    let status = format_folder(rt, rt.alloc(), folder, order, &mut output);
+    told_of(status, output)
+}
+
+// What was printed, and the status, unless the call failed.
+fn told_of(status: io::Result<u8>, output: Vec<u8>) -> Result<(u8, String), Fail> {
+    match status {
+        Ok(status) => Ok((status, String::from_utf8(output)?)),
+        Err(fault) => {
+            drop(output);
+            Err(fault.into())
+        }
+    }
 }
 
 /// Tells what stands in a folder: the status, and what is printed.
@@ -61,18 +74,16 @@ pub fn dumped<R: AllocGlobal + Files<File = File>>(
     scope: DumpScope,
 ) -> Result<(u8, String), Fail> {
     let mut output = Vec::new(rt.alloc());
-    let status = dump_folder(rt, rt.alloc(), folder, scope, &mut output)?;
-    Ok((status, String::from_utf8(output)?))
+    let status = dump_folder(rt, rt.alloc(), folder, scope, &mut output);
+    told_of(status, output)
 }
 
 /// Puts these bytes in the place of the one byte that ends the state of entrant 4, and with it its side A.
 pub fn put_behind<R: AllocGlobal + Files>(rt: &R, path: &str, bytes: &[u8]) -> Result<(), Fail> {
     let mut side = fs::read(rt, path)?;
-    if side.len() != 154 {
-        return Err("the side has another length")?;
-    }
-    side.truncate(153);
-    push_and_write(rt, path, &mut side, bytes)
+    let put = push_and_write(rt, path, &mut side, bytes);
+    drop(side);
+    put
 }
 
 fn push_and_write<R: AllocGlobal + Files>(
@@ -81,6 +92,10 @@ fn push_and_write<R: AllocGlobal + Files>(
     side: &mut Vec<u8>,
     bytes: &[u8],
 ) -> Result<(), Fail> {
+    if side.len() != 154 {
+        return Err("the side has another length".into());
+    }
+    side.truncate(153);
     side.extend_from_slice(bytes)?;
     fs::write(rt, path, &*side)?;
     Ok(())

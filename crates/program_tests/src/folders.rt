@@ -278,8 +278,18 @@ fn has_no_share(side: &[u8]) -> bool {
 // Whether two files hold the same side, and it has no share.
 fn have_no_share<R: AllocGlobal + Files>(rt: &R, one: &str, other: &str) -> Result<bool, Fail> {
     let one = fs::read(rt, one)?;
-    let other = fs::read(rt, other)?;
-    Ok(one.as_slice() == other.as_slice() && has_no_share(&one))
+    let holds = has_no_share(&one);
+    let is_same = is_held(rt, other, &one);
+    drop(one);
+    Ok(is_same? && holds)
+}
+
+// Whether a file holds just these bytes.
+fn is_held<R: AllocGlobal + Files>(rt: &R, path: &str, bytes: &[u8]) -> Result<bool, Fail> {
+    let held = fs::read(rt, path)?;
+    let is_held = held.as_slice() == bytes;
+    drop(held);
+    Ok(is_held)
 }
 
 fn check_shares<R: Abort + AllocGlobal + Files<File = File>>(rt: &R) -> Result<(), Fail> {
@@ -312,7 +322,9 @@ fn has_share(side: &[u8]) -> bool {
 
 fn keeps_share<R: AllocGlobal + Files>(rt: &R, path: &str) -> Result<bool, Fail> {
     let side = fs::read(rt, path)?;
-    Ok(has_share(&side))
+    let has_share = has_share(&side);
+    drop(side);
+    Ok(has_share)
 }
 
 fn check_share<R: Abort + AllocGlobal + Files<File = File>>(

@@ -3,7 +3,7 @@
 use cc_load::{Latencies, Report, Tally};
 use cc_messages::Refusal;
 use cc_orders::{AnswerForm, LoadOrder, LoadWords, WordFault};
-use std::alloc::Global;
+use std::alloc::{AllocError, Global};
 use std::test::*;
 
 const TEN: &[u64] = &[50, 10, 40, 20, 30, 100, 90, 80, 70, 60];
@@ -20,25 +20,27 @@ const QUANTILES: [(&[u64], u64, u64); 8] = [
     (&[u64::MAX, 0], 51, u64::MAX),
 ];
 
-fn add_all(latencies: &mut Latencies, times: &[u64]) -> Result<(), Fail> {
+fn add_all(latencies: &mut Latencies, times: &[u64]) -> Result<(), AllocError> {
     for micros in times {
         latencies.add(*micros)?;
     }
     Ok(())
 }
 
-fn quantile_of(alloc: Global, times: &[u64], percent: u64) -> Result<u64, Fail> {
+fn quantile_of(alloc: Global, times: &[u64], percent: u64) -> Result<u64, AllocError> {
     let mut latencies = Latencies::new(alloc);
-    add_all(&mut latencies, times)?;
-    Ok(latencies.quantile(percent.min(100)))
+    let added = add_all(&mut latencies, times);
+    let quantile = latencies.quantile(percent.min(100));
+    drop(latencies);
+    added?;
+    Ok(quantile)
 }
 
 #[test]
-fn a_quantile_is_a_time_of_the_list(rt: HostRuntime) -> Result<(), Fail> {
+fn a_quantile_is_a_time_of_the_list(rt: HostRuntime) {
     for &(times, percent, wanted) in &QUANTILES {
-        assert!(rt; quantile_of(rt.alloc(), times, percent)? == wanted);
+        assert!(rt; quantile_of(rt.alloc(), times, percent) == Ok(wanted));
     }
-    Ok(())
 }
 
 // Words are made by a call: a constant of them costs more to prove wherever it is named.
@@ -74,7 +76,7 @@ const NOTHING_AS_JSON: &str =
     r#"{"operation":"collect","clients":4,"answered":0,"elapsed_us":2000000,"per_second":0,"p50_us":0,"p99_us":0,"worst_us":0,"buckets":[],"again":0,"lost":0,"ended":0,"refused":null}"#;
 
 // What two clients counted.
-fn add_both(alloc: Global, tally: &mut Tally) -> Result<(), Fail> {
+fn add_both(alloc: Global, tally: &mut Tally) -> Result<(), AllocError> {
     add_all(&mut tally.latencies, &[900, 520])?;
     tally.again = 12;
     let mut other = Tally::new(alloc);
@@ -88,18 +90,22 @@ fn add_both(alloc: Global, tally: &mut Tally) -> Result<(), Fail> {
 }
 
 // Whether a report is printed just so, as text and as JSON.
-fn is_text(alloc: Global, report: &Report, wanted: &str) -> Result<bool, Fail> {
+fn is_text(alloc: Global, report: &Report, wanted: &str) -> Result<bool, AllocError> {
     let printed = format!(in alloc; "{report}")?;
-    Ok(printed.as_str() == wanted)
+    let is_wanted = printed.as_str() == wanted;
+    drop(printed);
+    Ok(is_wanted)
 }
 
-fn is_json(alloc: Global, report: &Report, wanted: &str) -> Result<bool, Fail> {
+fn is_json(alloc: Global, report: &Report, wanted: &str) -> Result<bool, AllocError> {
     let json = report.json(alloc)?;
-    Ok(json.as_str() == wanted)
+    let is_wanted = json.as_str() == wanted;
+    drop(json);
+    Ok(is_wanted)
 }
 
 // The report of a load of two seconds.
-fn reported(alloc: Global, collects: bool, tally: &Tally) -> Result<Report, Fail> {
+fn reported(alloc: Global, collects: bool, tally: &Tally) -> Result<Report, WordFault> {
     let order = LoadOrder::parse(alloc, &load(collects))?;
     let report = Report::of(alloc, &order, 2_000_000, tally);
     drop(order);
@@ -107,54 +113,42 @@ fn reported(alloc: Global, collects: bool, tally: &Tally) -> Result<Report, Fail
 }
 
 // Whether just this is printed of it.
-fn is_printed(
-    alloc: Global,
-    collects: bool,
-    tally: &Tally,
-    wanted: &str,
-    as_json: &str,
-) -> Result<bool, Fail> {
-    let report = reported(alloc, collects, tally)?;
-    Ok(is_text(alloc, &report, wanted)? && is_json(alloc, &report, as_json)?)
+fn is_printed(alloc: Global, collects: bool, tally: &Tally, wanted: &str, as_json: &str) -> bool {
+    let Ok(report) = reported(alloc, collects, tally) else {
+        return false;
+    };
+    let is_text = is_text(alloc, &report, wanted);
+    let is_json = is_json(alloc, &report, as_json);
+    drop(report);
+    (is_text, is_json) == (Ok(true), Ok(true))
 }
 
 // Whether just this is printed where nothing was answered, and of what two clients counted.
-fn are_printed(alloc: Global, tally: &mut Tally) -> Result<bool, Fail> {
-    let nothing = is_printed(alloc, true, tally, NOTHING_ANSWERED, NOTHING_AS_JSON)?;
-    add_both(alloc, tally)?;
-    Ok(nothing && is_printed(alloc, false, tally, PRINTED, AS_JSON)?)
+fn are_printed(alloc: Global, tally: &mut Tally) -> bool {
+    is_printed(alloc, true, tally, NOTHING_ANSWERED, NOTHING_AS_JSON)
+        && add_both(alloc, tally).is_ok()
+        && is_printed(alloc, false, tally, PRINTED, AS_JSON)
 }
 
 #[test]
-fn a_load_is_printed(rt: HostRuntime) -> Result<(), Fail> {
+fn a_load_is_printed(rt: HostRuntime) {
     let alloc = rt.alloc();
     let mut tally = Tally::new(alloc);
     let are_printed = are_printed(alloc, &mut tally);
     drop(tally);
-    assert!(rt; are_printed?);
-    Ok(())
+    assert!(rt; are_printed);
 }
 
 // The same words, but for that text in place of the one that a fault names.
 fn load_with<'a>(words: &LoadWords<'a>, place: WordFault, text: &'a str) -> LoadWords<'a> {
+    let mut words = *words;
     match place {
-        WordFault::Addresses | WordFault::AddressTwice => LoadWords {
-            addresses: text,
-            ..*words
-        },
-        WordFault::Clients => LoadWords {
-            clients: Some(text),
-            ..*words
-        },
-        WordFault::Seconds => LoadWords {
-            seconds: Some(text),
-            ..*words
-        },
-        _ => LoadWords {
-            sessions_from: Some(text),
-            ..*words
-        },
+        WordFault::Addresses | WordFault::AddressTwice => words.addresses = text,
+        WordFault::Clients => words.clients = Some(text),
+        WordFault::Seconds => words.seconds = Some(text),
+        _ => words.sessions_from = Some(text),
     }
+    words
 }
 
 // A text of another form, and the fault that names its place.
@@ -169,7 +163,7 @@ const BAD_WORDS: [(WordFault, &str); 7] = [
 ];
 
 // The port and the session of a client of four at two nodes.
-fn session_of(alloc: Global, client: u64) -> Result<Option<(u16, u64)>, Fail> {
+fn session_of(alloc: Global, client: u64) -> Result<Option<(u16, u64)>, WordFault> {
     let order = LoadOrder::parse(alloc, &load(false))?;
     let found = order.session_of(client);
     drop(order);
@@ -183,11 +177,10 @@ fn session_of(alloc: Global, client: u64) -> Result<Option<(u16, u64)>, Fail> {
 const CLIENTS: [(u64, u16, u64); 3] = [(0, 7001, 9000), (1, 7002, 9000), (2, 7001, 9001)];
 
 #[test]
-fn clients_go_round_the_nodes(rt: HostRuntime) -> Result<(), Fail> {
+fn clients_go_round_the_nodes(rt: HostRuntime) {
     for &(client, port, session) in &CLIENTS {
-        assert!(rt; session_of(rt.alloc(), client)? == Some((port, session)));
+        assert!(rt; session_of(rt.alloc(), client) == Ok(Some((port, session))));
     }
-    Ok(())
 }
 
 #[test]

@@ -4,7 +4,7 @@ use cc_checkpoint::OpenFault;
 use cc_flush::{Failed, FormatFault};
 use cc_play::NodeFault;
 use cc_site::{Call, DeviceFault, Side};
-use std::process::Abort;
+use std::alloc::{AllocError, Global};
 use std::test::*;
 
 // Where a device fails.
@@ -37,15 +37,16 @@ const TEXTS: [(NodeFault, &str); 8] = [
     (NodeFault::NoMemory, "NoMemory"),
 ];
 
-fn check_texts<R: Abort + AllocGlobal>(rt: &R, texts: &[(NodeFault, &str)]) -> Result<(), Fail> {
-    for (fault, wanted) in texts {
-        let text = format!(in rt.alloc(); "{fault}")?;
-        assert!(rt; text.as_str() == *wanted, "{text}");
-    }
-    Ok(())
+fn says(alloc: Global, fault: &NodeFault, wanted: &str) -> Result<bool, AllocError> {
+    let text = format!(in alloc; "{fault}")?;
+    let is_wanted = text.as_str() == wanted;
+    drop(text);
+    Ok(is_wanted)
 }
 
 #[test]
-fn faults_of_a_node_print_their_texts(rt: HostRuntime) -> Result<(), Fail> {
-    check_texts(&rt, &TEXTS)
+fn faults_of_a_node_print_their_texts(rt: HostRuntime) {
+    for (fault, wanted) in &TEXTS {
+        assert!(rt; says(rt.alloc(), fault, *wanted) == Ok(true), "{wanted}");
+    }
 }

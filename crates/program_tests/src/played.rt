@@ -21,9 +21,15 @@ pub fn played(alloc: Global, script: &str) -> Result<(u8, String), Fail> {
         breaks: false,
     };
     let mut output = Written::new(alloc);
-    let status = play_between(alloc, &mut script, &mut output)?;
+    let ended = play_between(alloc, &mut script, &mut output);
     let Written { bytes, .. } = output;
-    Ok((status, String::from_utf8(bytes)?))
+    match ended {
+        Ok(status) => Ok((status, String::from_utf8(bytes)?)),
+        Err(fault) => {
+            drop(bytes);
+            Err(fault.into())
+        }
+    }
 }
 
 /// Plays lines on a cluster, each of which has to be good, and adds what they print.
@@ -40,9 +46,11 @@ pub fn say_all(
 }
 
 fn say(alloc: Global, cluster: &mut Cluster, line: &str, output: &mut Vec<u8>) -> Result<(), Fail> {
-    let line = parse(alloc, line.as_bytes())?.ok_or("a line has no known form")?;
+    let Some(line) = parse(alloc, line.as_bytes())? else {
+        return Err("a line has no known form".into());
+    };
     match cluster.play(alloc, line, output)? {
         Played::Good => Ok(()),
-        Played::Bad | Played::Ended => Err("a line can't be played")?,
+        Played::Bad | Played::Ended => Err("a line can't be played".into()),
     }
 }

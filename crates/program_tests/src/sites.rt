@@ -26,13 +26,18 @@ fn order(alloc: Global) -> Result<FormatOrder, Fail> {
 // A site that keeps it.
 fn member(alloc: Global) -> Result<MemorySite, Fail> {
     let order = order(alloc)?;
-    keep(alloc, &order)
+    let site = keep(alloc, &order);
+    drop(order);
+    site
 }
 
 fn keep(alloc: Global, order: &FormatOrder) -> Result<MemorySite, Fail> {
     match format(alloc, MemorySite::new(alloc, 0)?, &order.opening()) {
         Ok(site) => Ok(site),
-        Err(Back { site: _, fault }) => Err(fault)?,
+        Err(Back { site, fault }) => {
+            drop(site);
+            Err(fault.into())
+        }
     }
 }
 
@@ -87,8 +92,13 @@ fn a_fault_takes_the_place_of_the_lines_to_come(rt: HostRuntime) -> Result<(), F
 // An open gate, and a generation that is cut off.
 fn short(alloc: Global) -> Result<MemorySite, Fail> {
     let mut site = MemorySite::new(alloc, 0)?;
-    write_durably(&mut site, Side::A, 0, &[0xA5, 0, 0]).or(Err("the write failed"))?;
-    Ok(site)
+    match write_durably(&mut site, Side::A, 0, &[0xA5, 0, 0]) {
+        Ok(()) => Ok(site),
+        Err(fault) => {
+            drop(site);
+            Err(fault.into())
+        }
+    }
 }
 
 #[test]
@@ -99,7 +109,7 @@ fn a_side_that_is_cut_off_is_dumped(rt: HostRuntime) -> Result<(), Fail> {
 
 fn checkpoint(flusher: &mut Flusher<MemorySite>) -> Result<(), Fail> {
     if flusher.owes() {
-        return Err("outputs are owed")?;
+        return Err("outputs are owed".into());
     }
     Ok(flusher.checkpoint()?)
 }
@@ -114,10 +124,16 @@ fn moved(alloc: Global) -> Result<MemorySite, Fail> {
             let site = flusher.close();
             match outcome {
                 Ok(()) => Ok(site),
-                Err(fail) => Err(fail),
+                Err(fail) => {
+                    drop(site);
+                    Err(fail)
+                }
             }
         }
-        Err(Back { site: _, fault }) => Err(fault)?,
+        Err(Back { site, fault }) => {
+            drop(site);
+            Err(fault.into())
+        }
     }
 }
 

@@ -56,7 +56,11 @@ const NO_LISTS: [&str; 9] = [
 // Whether a word is that list. None is empty, which stands for no list.
 fn is_list(alloc: Global, word: &str, wanted: &[u32]) -> bool {
     match list(alloc, word) {
-        Ok(Some(ids)) => ids.as_slice() == wanted && !wanted.is_empty(),
+        Ok(Some(ids)) => {
+            let is_same = ids.as_slice() == wanted;
+            drop(ids);
+            is_same && !wanted.is_empty()
+        }
         Ok(None) => wanted.is_empty(),
         Err(_) => false,
     }
@@ -104,32 +108,16 @@ fn alone() -> RunWords<'static> {
 
 // The same words, but for that text in place of the one that a fault names.
 fn run_with<'a>(words: &RunWords<'a>, place: WordFault, text: &'a str) -> RunWords<'a> {
+    let mut words = *words;
     match place {
-        WordFault::Listen => RunWords {
-            listen: text,
-            ..*words
-        },
-        WordFault::ListenClients => RunWords {
-            listen_clients: Some(text),
-            ..*words
-        },
-        WordFault::Operators => RunWords {
-            operators: Some(text),
-            ..*words
-        },
-        WordFault::Peers | WordFault::PeerTwice => RunWords {
-            peers: Some(text),
-            ..*words
-        },
-        WordFault::Status => RunWords {
-            status: Some(text),
-            ..*words
-        },
-        _ => RunWords {
-            log: Some(text),
-            ..*words
-        },
+        WordFault::Listen => words.listen = text,
+        WordFault::ListenClients => words.listen_clients = Some(text),
+        WordFault::Operators => words.operators = Some(text),
+        WordFault::Peers | WordFault::PeerTwice => words.peers = Some(text),
+        WordFault::Status => words.status = Some(text),
+        _ => words.log = Some(text),
     }
+    words
 }
 
 // The words alone, but for that one.
@@ -152,6 +140,10 @@ fn by_lines(words: RunWords<'static>) -> RunWords<'static> {
 
 const THREE_LINES: &str = "# three\n1=127.0.0.1:7001\n2=127.0.0.1:7002\n3=127.0.0.1:7003\n";
 
+fn id(number: u32) -> NodeId {
+    NodeId::new(number.max(1)).unwrap()
+}
+
 // Whether these words, with the lines of a file or without, name so many peers, and whether node 2 is among them.
 fn names(
     alloc: Global,
@@ -160,11 +152,13 @@ fn names(
     count: usize,
     has_two: bool,
 ) -> bool {
-    match (RunOrder::parse(alloc, words, lines), NodeId::new(2)) {
-        (Ok(order), Some(two)) => {
-            order.listen == local(7001) && order.peers.len() == count && order.names(two) == has_two
+    match RunOrder::parse(alloc, words, lines) {
+        Ok(order) => {
+            let found = (order.listen, order.peers.len(), order.names(id(2)));
+            drop(order);
+            found == (local(7001), count, has_two)
         }
-        _ => false,
+        Err(_) => false,
     }
 }
 
@@ -189,30 +183,30 @@ fn run_listens_and_knows_its_peers(rt: HostRuntime) {
 
 // Whether node 1 passes its own line over, and no other.
 fn passes_over_itself(order: &mut RunOrder) -> bool {
-    match NodeId::new(1) {
-        Some(one) => {
-            order.pass_over(one);
-            order.peers.len() == 2 && !order.names(one)
-        }
-        None => false,
-    }
+    order.pass_over(id(1));
+    order.peers.len() == 2 && !order.names(id(1))
 }
 
-fn is_passed_over(alloc: Global) -> Result<bool, Fail> {
+fn is_passed_over(alloc: Global) -> Result<bool, WordFault> {
     let mut order = RunOrder::parse(alloc, &by_lines(alone()), Some(THREE_LINES))?;
-    Ok(passes_over_itself(&mut order))
+    let is_passed_over = passes_over_itself(&mut order);
+    drop(order);
+    Ok(is_passed_over)
 }
 
 #[test]
-fn one_file_serves_all_nodes(rt: HostRuntime) -> Result<(), Fail> {
-    assert!(rt; is_passed_over(rt.alloc())?);
-    Ok(())
+fn one_file_serves_all_nodes(rt: HostRuntime) {
+    assert!(rt; is_passed_over(rt.alloc()) == Ok(true));
 }
 
 // Whether a node tells just this of itself.
 fn tells(alloc: Global, words: &RunWords<'_>, status: Option<SocketAddr>, log: LogLevel) -> bool {
     match RunOrder::parse(alloc, words, None) {
-        Ok(order) => order.status == status && order.log == log,
+        Ok(order) => {
+            let told = (order.status, order.log);
+            drop(order);
+            told == (status, log)
+        }
         Err(_) => false,
     }
 }
@@ -256,7 +250,9 @@ fn guards(
 ) -> bool {
     match RunOrder::parse(alloc, words, None) {
         Ok(order) => {
-            order.listen_clients == listen_clients && order.remote_operators == remote_operators
+            let told = (order.listen_clients, order.remote_operators);
+            drop(order);
+            told == (listen_clients, remote_operators)
         }
         Err(_) => false,
     }
@@ -327,28 +323,15 @@ fn collect() -> AskWords<'static> {
 
 // The same words, but for that text in place of the one that a fault names.
 fn ask_with<'a>(words: &AskWords<'a>, place: WordFault, text: &'a str) -> AskWords<'a> {
+    let mut words = *words;
     match place {
-        WordFault::Address => AskWords {
-            address: text,
-            ..*words
-        },
-        WordFault::Session => AskWords {
-            session: text,
-            ..*words
-        },
-        WordFault::Command => AskWords {
-            command: text,
-            ..*words
-        },
-        WordFault::Request => AskWords {
-            request: Some(text),
-            ..*words
-        },
-        _ => AskWords {
-            timeout: Some(text),
-            ..*words
-        },
+        WordFault::Address => words.address = text,
+        WordFault::Session => words.session = text,
+        WordFault::Command => words.command = text,
+        WordFault::Request => words.request = Some(text),
+        _ => words.timeout = Some(text),
     }
+    words
 }
 
 // The order of these words within so many seconds.
@@ -439,7 +422,7 @@ pub fn format_of(id: &str) -> FormatWords<'_> {
 }
 
 // Whether the order has what stands where the options are left out.
-fn has_defaults(order: &FormatOrder) -> bool {
+fn is_by_default(order: &FormatOrder) -> bool {
     let most = Fraction { num: 4, den: 5 };
     order.id == 4
         && order.initial.is_empty()
@@ -447,38 +430,30 @@ fn has_defaults(order: &FormatOrder) -> bool {
         && (order.beta, order.gamma, order.share) == (most, most, 1)
 }
 
+fn has_defaults(alloc: Global) -> Result<bool, WordFault> {
+    let order = FormatOrder::parse(alloc, &format_of("4"))?;
+    let is_by_default = is_by_default(&order);
+    drop(order);
+    Ok(is_by_default)
+}
+
 #[test]
-fn options_have_defaults(rt: HostRuntime) -> Result<(), Fail> {
-    let order = FormatOrder::parse(rt.alloc(), &format_of("4"))?;
-    assert!(rt; has_defaults(&order));
-    Ok(())
+fn options_have_defaults(rt: HostRuntime) {
+    assert!(rt; has_defaults(rt.alloc()) == Ok(true));
 }
 
 /// The same words, but for that text in place of the one that a fault names.
 pub fn with<'a>(words: &FormatWords<'a>, place: WordFault, text: &'a str) -> FormatWords<'a> {
+    let mut words = *words;
     match place {
-        WordFault::Id => FormatWords { id: text, ..*words },
-        WordFault::Initial => FormatWords {
-            initial: Some(text),
-            ..*words
-        },
-        WordFault::Contacts => FormatWords {
-            contacts: Some(text),
-            ..*words
-        },
-        WordFault::Beta => FormatWords {
-            beta: Some(text),
-            ..*words
-        },
-        WordFault::Gamma => FormatWords {
-            gamma: Some(text),
-            ..*words
-        },
-        _ => FormatWords {
-            share: Some(text),
-            ..*words
-        },
+        WordFault::Id => words.id = text,
+        WordFault::Initial => words.initial = Some(text),
+        WordFault::Contacts => words.contacts = Some(text),
+        WordFault::Beta => words.beta = Some(text),
+        WordFault::Gamma => words.gamma = Some(text),
+        _ => words.share = Some(text),
     }
+    words
 }
 
 // A bad text, and the fault that names its place.
