@@ -36,7 +36,13 @@ either_fits false s t h k = k
 
 pub first_ask_fits : (me quorum : ℕ) (a : Asked) → map.len (after_ask me quorum a (nothing_done 1)).view ≤ 256
 first_ask_fits me quorum a =
-    either_fits (is_writing a.command) _ _ (omega (arith, none_fit, merge_row_is_no_larger none (record { node = me; number = 0 + writes_by (a ∷ []); value = written a.command (nothing_done 1).mine })))
+    either_fits (is_writing a.command) _ _
+    (omega (
+      arith,
+      none_fit,
+      merge_row_is_no_larger none
+          (record { node = me; number = 0 + writes_by (a ∷ []); value = written a.command (nothing_done 1).mine }),
+    ))
     (omega (arith, none_fit))
 
 -- a collect of a new node waits for one reply
@@ -47,7 +53,9 @@ pub query_fits : (me tag q : ℕ) → map.len (after_message me 1 (message.Query
 query_fits me tag q = omega (arith, none_fit)
 
 pub reply_fits : (me : ℕ) → map.len (after_message me 1 (message.QueryReply map.empty 1 1) querying).view ≤ 256
-reply_fits me = either_fits (is_own me 1 1 querying) (after_reply 1 none querying.phase querying) querying (omega (arith, none_fit, merge_is_no_larger none none)) (omega (arith, none_fit))
+reply_fits me =
+    either_fits (is_own me 1 1 querying) (after_reply 1 none querying.phase querying) querying (omega (arith, none_fit, merge_is_no_larger none none))
+    (omega (arith, none_fit))
 
 pub store_fits : (me quorum tag q : ℕ) → map.len (after_message me quorum (message.Store map.empty tag q) (nothing_done 1)).view ≤ 256
 store_fits me quorum tag q = omega (arith, none_fit, merge_is_no_larger none none)
@@ -58,4 +66,5 @@ told_fits = omega (arith, none_fit, merge_is_no_larger none none)
 pub joins_fit : (me : ℕ) (gamma : Fraction) → FitsRoom (told me gamma nobody).changes
 joins_fit me gamma =
     let w = with_echo (with_need gamma true nobody) in
-    cond_both (is_answered w) (record w { changes = add_join w.changes me }) w (λ s. FitsRoom s.changes) (λ _. first_joins me) (λ _. before_join w.changes me (first_joins me))
+    cond_both (is_answered w) (record w { changes = add_join w.changes me }) w (λ s. FitsRoom s.changes) (λ _. first_joins me)
+    (λ _. before_join w.changes me (first_joins me))

@@ -13,7 +13,8 @@ returns-clause-lawful g c =
     let of = c.in_ok-entry.ensures.entry in
     let taken = subst (λ core. decides core c.args.event ≡ None) c.requires.live of.0 in
     let pushed = c.in_ok-push.ensures.ok ∙ ap (λ (e : Entry). c.args.batch.now ++ e ∷ []) of.1 in
-    subst (AreLawful c.args.engine.now.twin) (sym pushed) (lawful_more c.args.engine.now.twin c.args.batch.now entry c.requires.lawful taken (ap (λ core. made core c.args.event) c.requires.live))
+    subst (AreLawful c.args.engine.now.twin) (sym pushed)
+    (lawful_more c.args.engine.now.twin c.args.batch.now entry c.requires.lawful taken (ap (λ core. made core c.args.event) c.requires.live))
 
 pub returns-clause-live : goal.returns-clause-live
 returns-clause-live g c =
@@ -22,4 +23,5 @@ returns-clause-live g c =
     let of = c.in_ok-entry.ensures.entry in
     let pushed = c.in_ok-push.ensures.ok ∙ ap (λ (e : Entry). c.args.batch.now ++ e ∷ []) of.1 in
     let next_is = subst (λ core. live ≡ next core c.args.event) c.requires.live (c.apply.ensures ∙ ap (λ (e : Entry). next c.args.live.now e.event) of.1) in
-    subst (λ entries. live ≡ (after c.args.engine.now.twin (events_in entries)).core) (sym pushed) (next_is ∙ sym (core_more c.args.engine.now.twin c.args.batch.now entry))
+    subst (λ entries. live ≡ (after c.args.engine.now.twin (events_in entries)).core) (sym pushed)
+    (next_is ∙ sym (core_more c.args.engine.now.twin c.args.batch.now entry))

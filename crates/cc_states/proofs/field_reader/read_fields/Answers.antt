@@ -49,13 +49,17 @@ returns-in-Ok-read_tables-clause-exact g c = λ honest.
     rw (c.in_ok-membership.ensures.exact honest, c.in-Ok.ensures.exact h1, c.in-Ok-read_tables.ensures.exact h2) refl
 
 pub returns-in-Ok-read_tables-clause-run : goal.returns-in-Ok-read_tables-clause-run
-returns-in-Ok-read_tables-clause-run g c = g.met.S.Source.goes_on _ _ _ _ _ _ _ (g.met.S.Source.goes_on _ _ _ _ _ _ _ c.in_ok-membership.ensures.run c.in-Ok.ensures.run) c.in-Ok-read_tables.ensures.run
+returns-in-Ok-read_tables-clause-run g c =
+    g.met.S.Source.goes_on _ _ _ _ _ _ _ (g.met.S.Source.goes_on _ _ _ _ _ _ _ c.in_ok-membership.ensures.run c.in-Ok.ensures.run)
+    c.in-Ok-read_tables.ensures.run
 
 pub returns-in-Ok-read_tables-clause-read : goal.returns-in-Ok-read_tables-clause-read
 returns-in-Ok-read_tables-clause-read g c = c.in-Ok-read_tables.ensures.read
 
 pub returns-in-Err-read_tables-clause-run : goal.returns-in-Err-read_tables-clause-run
-returns-in-Err-read_tables-clause-run g c = g.met.S.Source.goes_on _ _ _ _ _ _ _ (g.met.S.Source.goes_on _ _ _ _ _ _ _ c.in_ok-membership.ensures.run c.in-Ok.ensures.run) c.in-Err-read_tables.ensures.run
+returns-in-Err-read_tables-clause-run g c =
+    g.met.S.Source.goes_on _ _ _ _ _ _ _ (g.met.S.Source.goes_on _ _ _ _ _ _ _ c.in_ok-membership.ensures.run c.in-Ok.ensures.run)
+    c.in-Err-read_tables.ensures.run
 
 pub returns-in-Err-read_tables-clause-read : goal.returns-in-Err-read_tables-clause-read
 returns-in-Err-read_tables-clause-read g c = tt

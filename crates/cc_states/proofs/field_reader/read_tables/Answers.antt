@@ -89,13 +89,21 @@ pub read_link_table-requires : goal.read_link_table-requires
 read_link_table-requires g c = g.met.S.Source.lies_on _ _ _ _ c.in_ok-posts.ensures.run
 
 pub sessions-requires : goal.sessions-requires
-sessions-requires g c = record { lies = g.met.S.Source.lies_on _ _ _ _ (g.met.S.Source.goes_on _ _ _ _ _ _ _ c.in_ok-posts.ensures.run c.in_ok-links.ensures.run) }
+sessions-requires g c =
+    record { lies = g.met.S.Source.lies_on _ _ _ _ (g.met.S.Source.goes_on _ _ _ _ _ _ _ c.in_ok-posts.ensures.run c.in_ok-links.ensures.run) }
 
 pub read_kept-requires : goal.read_kept-requires
-read_kept-requires g c = g.met.S.Source.lies_on _ _ _ _ (g.met.S.Source.goes_on _ _ _ _ _ _ _ (g.met.S.Source.goes_on _ _ _ _ _ _ _ c.in_ok-posts.ensures.run c.in_ok-links.ensures.run) c.in_ok-sessions.ensures.run)
+read_kept-requires g c =
+    g.met.S.Source.lies_on _ _ _ _
+    (g.met.S.Source.goes_on _ _ _ _ _ _ _ (g.met.S.Source.goes_on _ _ _ _ _ _ _ c.in_ok-posts.ensures.run c.in_ok-links.ensures.run)
+    c.in_ok-sessions.ensures.run)
 
 pub read_answer_table-requires : goal.read_answer_table-requires
-read_answer_table-requires g c = g.met.S.Source.lies_on _ _ _ _ (g.met.S.Source.goes_on _ _ _ _ _ _ _ (g.met.S.Source.goes_on _ _ _ _ _ _ _ (g.met.S.Source.goes_on _ _ _ _ _ _ _ c.in_ok-posts.ensures.run c.in_ok-links.ensures.run) c.in_ok-sessions.ensures.run) c.in_ok-kept.ensures.run)
+read_answer_table-requires g c =
+    g.met.S.Source.lies_on _ _ _ _
+    (g.met.S.Source.goes_on _ _ _ _ _ _ _
+    (g.met.S.Source.goes_on _ _ _ _ _ _ _ (g.met.S.Source.goes_on _ _ _ _ _ _ _ c.in_ok-posts.ensures.run c.in_ok-links.ensures.run)
+    c.in_ok-sessions.ensures.run) c.in_ok-kept.ensures.run)
 
 pub returns-in_err-links-clause-read : goal.returns-in_err-links-clause-read
 returns-in_err-links-clause-read g c = rw (err_is c.from_residual-in_err-links.result c.from_residual-in_err-links.ensures.1) tt
@@ -110,7 +118,11 @@ pub returns-in_err-answers-clause-read : goal.returns-in_err-answers-clause-read
 returns-in_err-answers-clause-read g c = rw (err_is c.from_residual-in_err-answers.result c.from_residual-in_err-answers.ensures.1) tt
 
 pub returns-clause-run : goal.returns-clause-run
-returns-clause-run g c = g.met.S.Source.goes_on _ _ _ _ _ _ _ (g.met.S.Source.goes_on _ _ _ _ _ _ _ (g.met.S.Source.goes_on _ _ _ _ _ _ _ (g.met.S.Source.goes_on _ _ _ _ _ _ _ c.in_ok-posts.ensures.run c.in_ok-links.ensures.run) c.in_ok-sessions.ensures.run) c.in_ok-kept.ensures.run) c.in_ok-answers.ensures.run
+returns-clause-run g c =
+    g.met.S.Source.goes_on _ _ _ _ _ _ _
+    (g.met.S.Source.goes_on _ _ _ _ _ _ _
+    (g.met.S.Source.goes_on _ _ _ _ _ _ _ (g.met.S.Source.goes_on _ _ _ _ _ _ _ c.in_ok-posts.ensures.run c.in_ok-links.ensures.run)
+    c.in_ok-sessions.ensures.run) c.in_ok-kept.ensures.run) c.in_ok-answers.ensures.run
 
 pub returns-clause-read : goal.returns-clause-read
 returns-clause-read g c = record {

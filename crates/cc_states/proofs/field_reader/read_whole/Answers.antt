@@ -5,7 +5,8 @@ use Rattle.cc_states.proofs.field_reader.read_whole.Goals as goal
 
 pub returns-in_err-fields-clause-exact : goal.returns-in_err-fields-clause-exact
 unfolding whole
-returns-in_err-fields-clause-exact g c = rw (err_is c.from_residual.result c.from_residual.ensures.1) (λ honest. misses_then _ _ _ _ (c.in_err-fields.ensures.exact honest))
+returns-in_err-fields-clause-exact g c =
+    rw (err_is c.from_residual.result c.from_residual.ensures.1) (λ honest. misses_then _ _ _ _ (c.in_err-fields.ensures.exact honest))
 
 pub returns-in_err-fields-clause-run : goal.returns-in_err-fields-clause-run
 returns-in_err-fields-clause-run g c = rw (err_is c.from_residual.result c.from_residual.ensures.1) c.in_err-fields.ensures.run

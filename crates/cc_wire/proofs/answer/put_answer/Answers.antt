@@ -8,7 +8,8 @@ use Rattle.cc_wire.proofs.answer.put_answer.Goals as goal
 pub returns-in_ok-put_u8-in-Seen-clause-writes : goal.returns-in_ok-put_u8-in-Seen-clause-writes
 returns-in_ok-put_u8-in-Seen-clause-writes c =
     subst (λ (a : Answer). Writes c.args.out.now c.put_view.new.out (answer_spelling a) c.put_view.result) (sym c.in-Seen.is)
-    (writes_then c.args.out.now c.put_u8-in-Seen.new.out c.put_view.new.out (2 ∷ []) _ c.put_view.result c.in_ok-put_u8-in-Seen.ensures c.put_view.ensures.writes)
+    (writes_then c.args.out.now c.put_u8-in-Seen.new.out c.put_view.new.out (2 ∷ []) _ c.put_view.result c.in_ok-put_u8-in-Seen.ensures
+    c.put_view.ensures.writes)
 
 pub returns-in_ok-put_u8-in-Set-clause-writes : goal.returns-in_ok-put_u8-in-Set-clause-writes
 returns-in_ok-put_u8-in-Set-clause-writes c =

@@ -13,7 +13,8 @@ returns-clause-lawful c =
     let of = c.in_ok-entry.ensures.entry in
     let taken = subst (λ core. decides core c.args.event ≡ None) c.requires.live of.0 in
     let pushed = c.in_ok-push.ensures.ok ∙ ap (λ (e : Entry). c.args.batch.now ++ e ∷ []) of.1 in
-    subst (AreLawful c.args.node.now) (sym pushed) (lawful_more c.args.node.now c.args.batch.now entry c.requires.lawful taken (ap (λ core. made core c.args.event) c.requires.live))
+    subst (AreLawful c.args.node.now) (sym pushed)
+    (lawful_more c.args.node.now c.args.batch.now entry c.requires.lawful taken (ap (λ core. made core c.args.event) c.requires.live))
 
 pub returns-clause-live : goal.returns-clause-live
 returns-clause-live c =

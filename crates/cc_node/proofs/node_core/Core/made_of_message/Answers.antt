@@ -26,7 +26,15 @@ returns c =
     let m = c.args.message.now in
     let e = event.Deliver c.args.from c.args.number m in
     let posted : c.or.result ≡ option_or (echoed a m) (served a m) =
-    rw (c.or.ensures, c.in_ok-churned.ensures, c.view.ensures, c.in-Ok.ensures, c.quorum-quorum.ensures, c.is_joined-is_joined.ensures, ← c.self.view_is) refl in
+    rw (
+      c.or.ensures,
+      c.in_ok-churned.ensures,
+      c.view.ensures,
+      c.in-Ok.ensures,
+      c.quorum-quorum.ensures,
+      c.is_joined-is_joined.ensures,
+      ← c.self.view_is,
+    ) refl in
     let answered : c.in-Ok-replies.answers ≡ replies_of a.me m a.ops = c.in-Ok-replies.ensures in
     let post_is : option_or (echoed a m) (served a m) ≡ post a e = sym (post_either a c.args.from c.args.number m c.requires.snapshot) in
     let told = Some (record { to = c.args.from; number = c.args.number }) in

@@ -6,4 +6,5 @@ ghosts-live_as-L-Ledger g a = record { name = a.blank.name; parts = a.blank.part
 
 -- the node that was just opened
 abbrev pub ghosts-live_as-L-Life : goal.ghosts-live_as-L-Life
-ghosts-live_as-L-Life g a = record { opening = a.engine.twin; reached = λ look list. Unit {0}; taken = λ look list. Unit {0}; accepted = λ list. Unit {0}; flushed = λ count. Unit {0} }
+ghosts-live_as-L-Life g a =
+    record { opening = a.engine.twin; reached = λ look list. Unit {0}; taken = λ look list. Unit {0}; accepted = λ list. Unit {0}; flushed = λ count. Unit {0} }
