@@ -83,7 +83,9 @@ pub(crate) fn is_asked<R: Net<Stream = TcpStream> + Clock>(
 ) -> bool {
     let mut output = Vec::new(alloc);
     let ended = ask_node(rt, alloc, order, &mut output);
-    is_told(ended, &output, told, wanted)
+    let is_told = is_told(ended, &output, told, wanted);
+    drop(output);
+    is_told
 }
 
 /// Whether the node there can be told that another is dead, and the client prints this.
@@ -95,7 +97,9 @@ pub(crate) fn is_retired<R: Net<Stream = TcpStream> + Clock>(
 ) -> bool {
     let mut output = Vec::new(alloc);
     let ended = retire_node(rt, alloc, order, &mut output);
-    is_told(ended, &output, DONE, wanted)
+    let is_told = is_told(ended, &output, DONE, wanted);
+    drop(output);
+    is_told
 }
 
 fn is_left<R: Net<Stream = TcpStream> + Clock>(
@@ -107,7 +111,9 @@ fn is_left<R: Net<Stream = TcpStream> + Clock>(
 ) -> bool {
     let mut output = Vec::new(alloc);
     let ended = leave_node(rt, alloc, &LeaveOrder { address }, &mut output);
-    is_told(ended, &output, told, wanted)
+    let is_told = is_told(ended, &output, told, wanted);
+    drop(output);
+    is_told
 }
 
 /// What a client of session 7 asks for, who waits for so many seconds at most.

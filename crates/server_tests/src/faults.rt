@@ -53,7 +53,9 @@ const CANNOT_BEGIN: [(&str, RunFault); 3] = [
 
 fn is_text_of(alloc: Global, fault: RunFault, wanted: &str) -> Result<bool, Fail> {
     let text = format!(in alloc; "{fault}")?;
-    Ok(text.as_str() == wanted)
+    let is_wanted = text.as_str() == wanted;
+    drop(text);
+    Ok(is_wanted)
 }
 
 #[test]
@@ -82,8 +84,9 @@ where
         + Sync,
 {
     let config = config_of(alloc, setting)?;
-    let outcome = run_node(rt, alloc, &config, &Stop::new(), &NoHooks);
-    check(outcome.err() == Some(wanted), "why a node doesn't run")
+    let fault = run_node(rt, alloc, &config, &Stop::new(), &NoHooks).err();
+    drop(config);
+    check(fault == Some(wanted), "why a node doesn't run")
 }
 
 fn check_beginnings<R>(rt: &R, alloc: Global, taken: SocketAddr) -> Result<(), Fail>
@@ -118,7 +121,7 @@ fn a_node_is_no_peer_of_itself(rt: HostRuntime) -> Result<(), Fail> {
     let listen = free_address(&rt)?;
     let elsewhere = free_address(&rt)?;
     format_member(&rt, "folder-of-a-peer", "1")?;
-    for peer in [(1, elsewhere), (2, listen)] {
+    for &peer in &[(1, elsewhere), (2, listen)] {
         let peers = [peer];
         let setting = Setting::of("folder-of-a-peer", listen, &peers);
         check_fault(&rt, rt.alloc(), &setting, RunFault::OwnPeer)?;

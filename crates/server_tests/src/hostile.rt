@@ -56,7 +56,7 @@ fn without_end<R: Net<Stream = TcpStream>>(
             return Ok(());
         }
     }
-    Err("bytes without an end")?
+    Err("bytes without an end".into())
 }
 
 // Many requests out of turn in one write, each of which is refused. Nobody reads why.

@@ -27,7 +27,9 @@ where
         form: AnswerForm::Json,
     };
     let order = LoadOrder::parse(alloc, &words)?;
-    check(is_answered(rt, alloc, &order), "a load is answered")
+    let is_answered = is_answered(rt, alloc, &order);
+    drop(order);
+    check(is_answered, "a load is answered")
 }
 
 // None of the clients ends early, so each has a session of its own.

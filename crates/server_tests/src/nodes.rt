@@ -19,7 +19,7 @@ use std::{fs, thread};
 
 /// Fails the test where something isn't so.
 pub(crate) fn check(holds: bool, what: &'static str) -> Result<(), Fail> {
-    if holds { Ok(()) } else { Err(what)? }
+    if holds { Ok(()) } else { Err(what.into()) }
 }
 
 /// A listener at a port that was free, and where that is.
@@ -125,10 +125,9 @@ pub(crate) fn format_with_share<'w, R: AllocGlobal + Files<File = File>>(
     let _ = fs::remove_dir_all(rt, folder);
     fs::create_dir(rt, folder)?;
     let order = FormatOrder::parse(rt.alloc(), &words)?;
-    check(
-        is_formatted(rt, rt.alloc(), folder, &order),
-        "the folder is formatted",
-    )
+    let is_formatted = is_formatted(rt, rt.alloc(), folder, &order);
+    drop(order);
+    check(is_formatted, "the folder is formatted")
 }
 
 fn is_formatted<R: Files<File = File>>(
@@ -138,7 +137,9 @@ fn is_formatted<R: Files<File = File>>(
     order: &FormatOrder,
 ) -> bool {
     let mut output = Vec::new(alloc);
-    matches!(format_folder(rt, alloc, folder, order, &mut output), Ok(0))
+    let ended = format_folder(rt, alloc, folder, order, &mut output);
+    drop(output);
+    matches!(ended, Ok(0))
 }
 
 /// What a node of a test is run with, beside its listener.
@@ -241,7 +242,9 @@ where
         + Sync,
 {
     let config = config_of(alloc, setting)?;
-    run_on(rt, alloc, &config, Some(listener), stop, hooks)
+    let ended = run_on(rt, alloc, &config, Some(listener), stop, hooks);
+    drop(config);
+    ended
 }
 
 /// Talks while a node runs, which listens there and is ended by the flag once the talk is over.

@@ -73,8 +73,11 @@ fn is_ready<R: Net<Stream = TcpStream>>(
         return Ok(false);
     }
     let mut answer = Vec::new(alloc);
-    asked(rt, place, "GET /readyz HTTP/1.1\r\n\r\n", &mut answer)?;
-    Ok(answer.as_slice().ends_with(b"\r\n\r\nready\n"))
+    let asked = asked(rt, place, "GET /readyz HTTP/1.1\r\n\r\n", &mut answer);
+    let is_ready = answer.as_slice().ends_with(b"\r\n\r\nready\n");
+    drop(answer);
+    asked?;
+    Ok(is_ready)
 }
 
 // Waits until the node says that it is ready, for ten seconds at most.
@@ -89,7 +92,7 @@ fn wait_until_ready<R: Net<Stream = TcpStream> + Clock>(
         }
         thread::sleep(rt, Duration::from_millis(100));
     }
-    Err("the node isn't ready")?
+    Err("the node isn't ready".into())
 }
 
 fn number_at(status: &Value, path: &str) -> Option<u64> {
@@ -110,7 +113,9 @@ fn check_numbers(status: &Value) -> Result<(), Fail> {
 fn check_text(alloc: Global, answer: &str) -> Result<(), Fail> {
     let (_, text) = answer.split_once("\r\n\r\n").ok_or("a head")?;
     let status = Value::from_str(alloc, text)?;
-    check_numbers(&status)
+    let checked = check_numbers(&status);
+    drop(status);
+    checked
 }
 
 // What the node shows is JSON, with what it has stored once a second has passed.
@@ -134,11 +139,12 @@ fn is_answered<R: Net<Stream = TcpStream>>(
     last: &str,
 ) -> io::Result<bool> {
     let mut answer = Vec::new(alloc);
-    asked(rt, place, request, &mut answer)?;
-    Ok(
-        answer.as_slice().starts_with(first.as_bytes())
-            && answer.as_slice().ends_with(last.as_bytes()),
-    )
+    let asked = asked(rt, place, request, &mut answer);
+    let is_answered = answer.as_slice().starts_with(first.as_bytes())
+        && answer.as_slice().ends_with(last.as_bytes());
+    drop(answer);
+    asked?;
+    Ok(is_answered)
 }
 
 // Looks at the node, before and after a store of session 7.

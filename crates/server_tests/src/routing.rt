@@ -39,7 +39,7 @@ fn ask_out_of_turn(stream: &mut TcpStream) -> Result<(), Fail> {
             return Ok(());
         }
     }
-    Err("the ask out of turn is refused")?
+    Err("the ask out of turn is refused".into())
 }
 
 // A frame of node 2, and an ask, whose refusal shows that the frame was read.
