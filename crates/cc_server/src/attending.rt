@@ -30,7 +30,7 @@ const SILENCE_S: u64 = 3600;
 const OPERATOR_SILENCE_S: u64 = 5;
 
 /// Which port of a node somebody connects to.
-#[derive(Clone, Copy, Debug, PartialEq, Eq)]
+#[derive(Clone, Copy)]
 pub enum Port {
     /// The one that nodes, clients and the operator connect to.
     Nodes,
@@ -115,7 +115,7 @@ fn admitted<R: Wait, H: Hooks, L: Life, Q: Lane>(
 
 fn origin_of<R: Wait>(rt: &R, shared: &Shared, from: SocketAddr, port: Port) -> Origin {
     let address = from.ip();
-    if port == Port::Clients {
+    if matches!(port, Port::Clients) {
         Origin::Client
     } else if address.is_loopback() {
         Origin::Loopback
@@ -153,7 +153,8 @@ fn serve_in<R: Wait + Log, H: Hooks, L: Life, Q: Lane>(
     from: SocketAddr,
 ) {
     let inside: &Connection = &connection;
-    if serve_out(context, inside, admitted, from) == Some(Done::Frames(Ending::Input)) {
+    let done = serve_out(context, inside, admitted, from);
+    if matches!(done, Some(Done::Frames(Ending::Input))) {
         let Shared {
             waker,
             connections,
@@ -190,7 +191,7 @@ fn serve_out<R: Wait + Log, H: Hooks, L: Life, Q: Lane>(
         &mut share,
     );
     context.give_back(share);
-    if done == Done::TurnedAway(NotAdmitted::Barred) {
+    if matches!(done, Done::TurnedAway(NotAdmitted::Barred)) {
         note_barred(context.rt, context.me, from, admitted.access);
     }
     Some(done)

@@ -7,7 +7,7 @@ ghost use Rattle.cc_server.specs.Serving.{brings_again, Takes, Stops, Brings};
 use crate::context::Context;
 use crate::duties::duty_of;
 use crate::meeting::Meeting;
-use crate::notes::note_back;
+use crate::notes::{Notice, give_notice};
 use crate::of_life::OfLife;
 use crate::replies::Replies;
 use crate::shared::Shared;
@@ -23,7 +23,7 @@ use std::net::SocketAddr;
 use std::sync::Wait;
 
 /// Why a worker brings no further event.
-#[derive(Clone, Copy, Debug, PartialEq, Eq)]
+#[derive(Clone, Copy)]
 pub enum Done {
     /// No further frame comes.
     Frames(Ending),
@@ -152,7 +152,7 @@ impl<R: Wait + Log, I: Input, S: Admitting, D: Replies, F: Flushed> Caller<'_, R
             Event::Deliver { from, message, .. } => self.meeting().hear(self.rt, *from, message),
             Event::Acked { peer, .. } => {
                 if self.shared.hear_ack(self.rt, *peer) {
-                    note_back(self.rt, self.me, *peer);
+                    give_notice(self.rt, self.me, &Notice::Back(*peer));
                 }
             }
             _ => {}

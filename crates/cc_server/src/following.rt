@@ -2,7 +2,7 @@
 
 use crate::context::Context;
 use crate::machine::{Machine, ReadText};
-use crate::notes::{note_added, note_moved_peer, note_not_taken, note_unlisted};
+use crate::notes::{Notice, give_notice};
 use crate::shared::Shared;
 use cc_channels::{Flag, write_peer};
 use cc_frames::Peer;
@@ -128,7 +128,7 @@ impl Reading {
             }
             Err(_) => {
                 if !self.is_lost {
-                    note_not_taken(rt, follower.me, follower.path, "can't be read");
+                    note_not_taken(rt, follower, "can't be read");
                 }
                 self.is_lost = true;
                 false
@@ -164,21 +164,16 @@ where
     match peers_in_lines(alloc, text) {
         Ok(peers) => {
             if name_one_again(&peers) {
-                note_not_taken(rt, follower.me, follower.path, "names a node twice");
+                note_not_taken(rt, follower, "names a node twice");
             } else {
                 take_all(scope, rt, alloc, follower, &peers);
             }
         }
         Err(LineFault::NoPeer(_)) => {
-            note_not_taken(
-                rt,
-                follower.me,
-                follower.path,
-                "has a line that isn't ID=ADDR",
-            );
+            note_not_taken(rt, follower, "has a line that isn't ID=ADDR");
         }
         Err(LineFault::NoMemory) => {
-            note_not_taken(rt, follower.me, follower.path, "is too long for the memory");
+            note_not_taken(rt, follower, "is too long for the memory");
         }
     }
 }
@@ -213,18 +208,13 @@ where
             continue;
         }
         if follower.listens_at(peer.address) {
-            note_not_taken(
-                rt,
-                follower.me,
-                follower.path,
-                "has its own address for a peer",
-            );
+            note_not_taken(rt, follower, "has its own address for a peer");
             continue;
         }
         match follower.shared.channel_to(peer.id) {
             Some(channel) => {
                 if channel.put_address(rt, peer.address) {
-                    note_moved_peer(rt, follower.me, peer.id, peer.address);
+                    give_notice(rt, follower.me, &Notice::Elsewhere(peer.id, peer.address));
                 }
             }
             None => add(scope, rt, alloc, follower, peer),
@@ -253,8 +243,14 @@ where
         .spawn(move || write_peer(rt, alloc, me, end, over))
         .is_ok()
     {
-        note_added(rt, me, peer.id, peer.address);
+        give_notice(rt, me, &Notice::Added(peer.id, peer.address));
     }
+}
+
+// Notes that the file isn't taken, and why.
+fn note_not_taken<R: Log>(rt: &R, follower: &Follower<'_>, why: &str) {
+    let file = follower.path;
+    give_notice(rt, follower.me, &Notice::NotTaken { file, why });
 }
 
 // Notes which peers have no line any more.
@@ -264,7 +260,7 @@ fn note_missing<R: Log>(rt: &R, follower: &Follower<'_>, peers: &[Peer]) {
             return;
         };
         if !peers.iter().any(|peer| peer.id == channel.peer) {
-            note_unlisted(rt, follower.me, channel.peer);
+            give_notice(rt, follower.me, &Notice::Unlisted(channel.peer));
         }
     }
 }

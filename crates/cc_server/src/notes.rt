@@ -5,17 +5,18 @@ use cc_protocol::{AskName, Lasting};
 use cc_site::Side;
 use cc_views::NodeId;
 use crossbeam_channel::{Receiver, Sender, bounded};
-use log::{Log, error, info, warn};
+use log::{Level, Log, log};
 use std::alloc::{AllocError, Global};
-use std::io;
+use std::fmt::Display;
 use std::net::SocketAddr;
 use std::sync::Wait;
+use std::{fmt, io};
 
 // How many notes of the flusher wait at most.
 const NOTE_ROOM: usize = 256;
 
 /// An operation that pends, and how many of the answers that it needs it has.
-#[derive(Clone, Copy, Debug, PartialEq, Eq)]
+#[derive(Clone, Copy)]
 pub struct Waiting {
     pub asked: AskName,
     pub count: u64,
@@ -23,7 +24,7 @@ pub struct Waiting {
 }
 
 /// A note of the flusher.
-#[derive(Clone, Copy, Debug)]
+#[derive(Clone, Copy)]
 pub enum Note {
     /// A peer is taken for absent.
     Absent(NodeId),
@@ -74,86 +75,138 @@ pub fn write_notes<R: Wait + Log>(rt: &R, me: NodeId, dir: &str, from: &Receiver
         let Some(note) = from.recv(rt).unwrap_or(None) else {
             return;
         };
-        write_note(rt, me, dir, note);
+        say(rt, me, note.level(), &Noted { note: &note, dir });
     }
     unreachable!()
 }
 
-fn write_note<R: Log>(rt: &R, me: NodeId, dir: &str, note: Note) {
-    match note {
-        Note::Absent(peer) => note_absent(rt, me, peer),
-        Note::Pending(waiting) => note_pending(rt, me, waiting),
-        Note::Moved { bytes, millis } => note_moved(rt, me, bytes, millis),
-        Note::SlowSync(micros) => note_slow(rt, me, micros),
-        Note::Joined => info!(rt; "node {} has joined", me.number()),
-        Note::Left => info!(rt; "node {} has left", me.number()),
-        Note::Sessions(count) => note_sessions(rt, me, count),
-        Note::DiskFault(side, why) => note_disk_fault(rt, me, dir, side, why),
+impl Note {
+    fn level(&self) -> Level {
+        match self {
+            Note::DiskFault(..) => Level::Error,
+            Note::Absent(_) | Note::Pending(_) | Note::SlowSync(_) | Note::Sessions(_) =>
+                Level::Warn,
+            Note::Moved { .. } | Note::Joined | Note::Left => Level::Info,
+        }
     }
 }
 
-fn note_absent<R: Log>(rt: &R, me: NodeId, peer: NodeId) {
-    warn!(rt; "node {} takes node {} for absent", me.number(), peer.number());
+// A note of the node of a folder, as it is written.
+#[derive(Clone, Copy)]
+struct Noted<'a> {
+    note: &'a Note,
+    dir: &'a str,
 }
 
-fn note_pending<R: Log>(rt: &R, me: NodeId, waiting: Waiting) {
+impl fmt::Display for Noted<'_> {
+    fn fmt<W: fmt::Write>(&self, f: &mut fmt::Formatter<W>) -> fmt::Result {
+        match *self.note {
+            Note::Absent(peer) => write!(f, "takes node {} for absent", peer.number()),
+            Note::Pending(waiting) => print_pending(f, waiting),
+            Note::Moved { bytes, millis } => write!(
+                f,
+                "has moved to its other side: {bytes} bytes in {millis} ms"
+            ),
+            Note::SlowSync(micros) => write!(
+                f,
+                "waited for a sync of its disk for {} ms",
+                micros / 1000
+            ),
+            Note::Joined => f.write_str("has joined"),
+            Note::Left => f.write_str("has left"),
+            Note::Sessions(count) => write!(f, "serves {count} sessions, of 256 in its life"),
+            Note::DiskFault(side, why) => write!(
+                f,
+                "can't go on: {}/{}: {why}",
+                self.dir,
+                file_name(side)
+            ),
+        }
+    }
+}
+
+fn print_pending<W: fmt::Write>(f: &mut fmt::Formatter<W>, waiting: Waiting) -> fmt::Result {
     let Waiting { asked, count, need } = waiting;
-    warn!(rt; "node {} has {} of {} answers for request {} of session {}, pending for {} seconds", me.number(), count, need, asked.request, asked.session,
-      Lasting::LONG_SECONDS);
+    let (request, session, seconds) = (asked.request, asked.session, Lasting::LONG_SECONDS);
+    write!(
+        f,
+        "has {count} of {need} answers for request {request} of session {session}, pending for {seconds} seconds"
+    )
 }
 
-fn note_moved<R: Log>(rt: &R, me: NodeId, bytes: u64, millis: u64) {
-    info!(rt; "node {} has moved to its other side: {} bytes in {} ms", me.number(), bytes, millis);
+/// What a node notes of its share, its peers and their file, by whoever sees it.
+#[derive(Clone, Copy)]
+pub enum Notice<'a> {
+    /// A peer that was taken for absent acknowledges again.
+    Back(NodeId),
+    /// Several asks begin together: up to so many.
+    Share(usize),
+    /// A node of the folder has no address.
+    Unreachable(NodeId),
+    /// A peer is unknown to the folder.
+    Unknown(NodeId),
+    /// The file of the peers has a peer that wasn't there before.
+    Added(NodeId, SocketAddr),
+    /// The file of the peers has another address for a peer.
+    Elsewhere(NodeId, SocketAddr),
+    /// A peer has no line in the file of the peers any more.
+    Unlisted(NodeId),
+    /// The file of the peers isn't taken, since one line isn't as it should be, or two are of one node, or it can't be read.
+    NotTaken { file: &'a str, why: &'a str },
 }
 
-fn note_slow<R: Log>(rt: &R, me: NodeId, micros: u64) {
-    warn!(rt; "node {} waited for a sync of its disk for {} ms", me.number(), micros / 1000);
+impl Notice<'_> {
+    fn level(&self) -> Level {
+        match self {
+            Notice::Back(_) | Notice::Share(_) | Notice::Added(..) | Notice::Elsewhere(..) =>
+                Level::Info,
+            Notice::Unreachable(_)
+            | Notice::Unknown(_)
+            | Notice::Unlisted(_)
+            | Notice::NotTaken { .. } => Level::Warn,
+        }
+    }
 }
 
-fn note_sessions<R: Log>(rt: &R, me: NodeId, count: usize) {
-    warn!(rt; "node {} serves {} sessions, of 256 in its life", me.number(), count);
+impl fmt::Display for Notice<'_> {
+    fn fmt<W: fmt::Write>(&self, f: &mut fmt::Formatter<W>) -> fmt::Result {
+        match *self {
+            Notice::Back(peer) => write!(f, "hears node {} again", peer.number()),
+            Notice::Share(share) => write!(f, "begins up to {share} asks together"),
+            Notice::Unreachable(node) => write!(
+                f,
+                "knows node {}, which has no address among its peers",
+                node.number()
+            ),
+            Notice::Unknown(peer) => write!(f, "doesn't know its peer {}", peer.number()),
+            Notice::Added(peer, address) => write!(
+                f,
+                "has a new peer: node {} at {address}",
+                peer.number()
+            ),
+            Notice::Elsewhere(peer, address) => write!(
+                f,
+                "finds node {} at {address} from now on",
+                peer.number()
+            ),
+            Notice::Unlisted(peer) => write!(
+                f,
+                "keeps node {} among its peers until it is started again: its line is gone",
+                peer.number()
+            ),
+            Notice::NotTaken { file, why } => write!(
+                f,
+                "keeps its peers as they are: {file} {why}"
+            ),
+        }
+    }
 }
 
-fn note_disk_fault<R: Log>(rt: &R, me: NodeId, dir: &str, side: Side, why: io::Error) {
-    error!(rt; "node {} can't go on: {}/{}: {}", me.number(), dir, file_name(side), why);
+/// Notes that of the node `me`.
+pub fn give_notice<R: Log>(rt: &R, me: NodeId, notice: &Notice<'_>) {
+    say(rt, me, notice.level(), notice);
 }
 
-/// A peer that was taken for absent acknowledges again.
-pub fn note_back<R: Log>(rt: &R, me: NodeId, peer: NodeId) {
-    info!(rt; "node {} hears node {} again", me.number(), peer.number());
-}
-
-/// Several asks begin together: up to so many.
-pub fn note_share<R: Log>(rt: &R, me: NodeId, share: usize) {
-    info!(rt; "node {} begins up to {} asks together", me.number(), share);
-}
-
-/// A node of the folder has no address.
-pub fn note_unreachable<R: Log>(rt: &R, me: NodeId, node: NodeId) {
-    warn!(rt; "node {} knows node {}, which has no address among its peers", me.number(), node.number());
-}
-
-/// A peer is unknown to the folder.
-pub fn note_unknown<R: Log>(rt: &R, me: NodeId, peer: NodeId) {
-    warn!(rt; "node {} doesn't know its peer {}", me.number(), peer.number());
-}
-
-/// The file of the peers has a peer that wasn't there before.
-pub fn note_added<R: Log>(rt: &R, me: NodeId, peer: NodeId, address: SocketAddr) {
-    info!(rt; "node {} has a new peer: node {} at {}", me.number(), peer.number(), address);
-}
-
-/// The file of the peers has another address for a peer.
-pub fn note_moved_peer<R: Log>(rt: &R, me: NodeId, peer: NodeId, address: SocketAddr) {
-    info!(rt; "node {} finds node {} at {} from now on", me.number(), peer.number(), address);
-}
-
-/// A peer has no line in the file of the peers any more.
-pub fn note_unlisted<R: Log>(rt: &R, me: NodeId, peer: NodeId) {
-    warn!(rt; "node {} keeps node {} among its peers until it is started again: its line is gone", me.number(), peer.number());
-}
-
-/// The file of the peers isn't taken, since one line isn't as it should be, or two are of one node, or it can't be read.
-pub fn note_not_taken<R: Log>(rt: &R, me: NodeId, file: &str, why: &str) {
-    warn!(rt; "node {} keeps its peers as they are: {} {}", me.number(), file, why);
+fn say<R: Log, D: Display>(rt: &R, me: NodeId, level: Level, said: &D) {
+    log!(rt; level, "node {} {said}", me.number());
 }

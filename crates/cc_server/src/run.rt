@@ -8,7 +8,7 @@ use crate::config::Config;
 use crate::context::Context;
 use crate::machine::Machine;
 use crate::measured::Measured;
-use crate::notes::{note_share, note_unknown, note_unreachable};
+use crate::notes::{Notice, give_notice};
 use crate::of_life::OfLife;
 use crate::outlet::ServerOutlet;
 use crate::run_fault::RunFault;
@@ -276,7 +276,7 @@ fn note_clients<R: Log, H>(run: &Run<'_, R, H>, me: NodeId, listeners: &Listener
 fn note_opened<R: Log>(rt: &R, core: &Core, peers: &[Peer]) {
     let share = core.ops().share();
     if share > 1 {
-        note_share(rt, core.me(), share);
+        give_notice(rt, core.me(), &Notice::Share(share));
     }
     note_addresses(rt, core, peers);
 }
@@ -287,12 +287,12 @@ fn note_addresses<R: Log>(rt: &R, core: &Core, peers: &[Peer]) {
     for link in core.links().rows() {
         let is_peer = peers.iter().any(|peer| peer.id == link.peer);
         if link.peer != me && !is_peer && core.is_live(link.peer) {
-            note_unreachable(rt, me, link.peer);
+            give_notice(rt, me, &Notice::Unreachable(link.peer));
         }
     }
     for peer in peers {
         if core.links().get(peer.id).is_none() {
-            note_unknown(rt, me, peer.id);
+            give_notice(rt, me, &Notice::Unknown(peer.id));
         }
     }
 }

@@ -29,9 +29,9 @@ impl fmt::Display for RunFault {
         match self {
             RunFault::Open(fault) => write!(f, "{fault}"),
             RunFault::Failed(failed) => write!(f, "{failed}"),
-            RunFault::Listen => write!(f, "Listen"),
-            RunFault::OwnPeer => write!(f, "OwnPeer"),
-            RunFault::NoMemory => write!(f, "NoMemory"),
+            RunFault::Listen => f.write_str("Listen"),
+            RunFault::OwnPeer => f.write_str("OwnPeer"),
+            RunFault::NoMemory => f.write_str("NoMemory"),
         }
     }
 }
