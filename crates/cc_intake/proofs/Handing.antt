@@ -2,9 +2,8 @@
 --     turned_never, turned_full            an engine that had failed;  one without room
 --     turned, turned_failed                a batch that went through the engine;  one that was given up
 --     kept_on, kept_failed                 what the turner keeps then
---     keeps_one, keeps_none, rest_counts   what was accepted is what was handed over, then the kept entry, and then the rest
-use Rattle.std.proofs.Common.{◌≡◌, ℕ, ◌+◌, ◌≤◌, true, false, List, [], ◌++◌, length, take, refl, sym, ap, ◌∙◌, subst, append-nil, length-append, arith}
-use Rattle.std.specs.Prelude.{Option, Some, None, is_some, Result, Ok, Err}
+use Rattle.std.proofs.Common.{◌≡◌, ℕ, ◌+◌, ◌≤◌, true, false, List, [], ◌++◌, length, take, refl, sym, ap, ◌∙◌, subst, append-nil}
+use Rattle.std.specs.Prelude.{Option, Some, None, Result, Ok, Err}
 use Rattle.cc_site.specs.declared.site.Site.{Ghosts}
 use Rattle.cc_site.specs.declared.site.DeviceFault.{DeviceFault}
 use Rattle.cc_site.specs.Runs.{OnlyNow}
@@ -15,7 +14,7 @@ use Rattle.cc_flush.specs.Engine.{Engine}
 use Rattle.cc_flush.specs.declared.flusher.Failed.{Failed}
 use Rattle.cc_intake.specs.declared.turner.Turned.{Turned}
 use Rattle.cc_intake.specs.Histories.{life_limit}
-use Rattle.cc_intake.specs.Turning.{Turning, listed, popped, IsTurner}
+use Rattle.cc_intake.specs.Turning.{Turning, popped, IsTurner}
 use Rattle.cc_flush.specs.Flushing.{Flushes, FlushFails}
 use Rattle.cc_intake.specs.Turns.{IsDone, Gathers, Turns}
 use Rattle.cc_intake.proofs.Batches.{HandedOn, hands_on}
@@ -112,16 +111,3 @@ module _ {D : Type 0} (s : Ghosts D) (reached : ℕ → List Entry → Type 0) w
       owes = run.owes;
       twin = λ none. absurd (let e = sym none ∙ run.failed in cc);
     }
-
-pub keeps_one : (kept : Option Entry) → is_some kept ≡ true → length (listed kept) ≡ 1
-keeps_one (Some e) is = refl
-keeps_one None is = absurd cc
-
-pub keeps_none : (kept : Option Entry) → is_some kept ≡ false → length (listed kept) ≡ 0
-keeps_none (Some e) is = absurd cc
-keeps_none None is = refl
-
-pub rest_counts : (accepted handed items : List Entry) (kept : Option Entry) → accepted ≡ (handed ++ listed kept) ++ items
-    → length accepted ≡ length handed + length (listed kept) + length items
-rest_counts accepted handed items kept is =
-    omega (arith, ap (λ (l : List Entry). length l) is, length-append (handed ++ listed kept) items, length-append handed (listed kept))

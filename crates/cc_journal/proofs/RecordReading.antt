@@ -1,14 +1,9 @@
--- A record is its length and the events behind it; and what a fault of reading one tells.
-use Rattle.std.proofs.Common.{◌≡◌, ℕ, ◌+◌, ◌≤◌, List, [], ◌∷◌, ◌++◌, length, take, refl, sym, ◌∙◌, ap, subst, arith, length-append}
+-- A record is its length and the events behind it.
+use Rattle.std.proofs.Common.{◌≡◌, ℕ, ◌+◌, ◌≤◌, List, [], ◌∷◌, ◌++◌, length, take, refl, sym, ◌∙◌, ap, arith, length-append}
 use Rattle.std.specs.Int.{to_be_bytes, w32}
 use Rattle.std.specs.List.{flat_map}
 use Rattle.std.proofs.lemmas.List.{take_at}
 use Rattle.cc_messages.specs.declared.event.Event.{Event}
-use Rattle.cc_site.specs.declared.site.Side.{Side}
-use Rattle.cc_site.specs.declared.site.Call.{Call}
-use Rattle.cc_site.specs.declared.site.DeviceFault.{DeviceFault}
-use Rattle.cc_site.specs.Moments.{Rose}
-use Rattle.cc_site.specs.Telling.{Looks, LooksAt, Tells}
 use Rattle.cc_node.specs.Node.{Node}
 use Rattle.cc_sides.specs.Sides.{sized_spelling, events_spelling, record_spelling, SpellsRecord}
 use Rattle.cc_journal.specs.Scanning.{NoRecord}
@@ -17,14 +12,6 @@ use Rattle.cc_journal.specs.declared.scanning.ScanFault.{ScanFault}
 use Rattle.cc_journal.specs.declared.scanning.ScanFault.TheVariants.{Damaged}
 use Rattle.cc_journal.proofs.EventReading.{size_of}
 use Rattle.cc_journal.proofs.Records.{length_sized}
-
--- a fault of one call that looks at a side
-pub looked : (side : Side) (call : Call) (before mid now : ℕ) (fault : DeviceFault) → Looks call → mid ≡ before
-    → (fault ≡ record { side = side; call = call }) × Rose mid now → Tells (LooksAt side) before now fault
-looked side call before mid now fault looks same told = (
-  (ap (λ (f : DeviceFault). f.side) told.0, subst Looks (sym (ap (λ (f : DeviceFault). f.call) told.0)) looks),
-  subst (λ (n : ℕ). Rose n now) same told.1,
-)
 
 pub damaged_weaker : (P Q : ℕ → Type 0) (fault : ScanFault) → ((place : ℕ) → P place → Q place) → IfDamaged P fault → IfDamaged Q fault
 damaged_weaker P Q (Damaged place) to is = to place is

@@ -1,13 +1,10 @@
 -- What holds at each moment of a step of a journal.
---     err_is                           what the exit of a `?` returns
---     record_written                   a record that was written stands there
 --     StaysAtRest, behind_gate         the sides rest on while something is written behind the closed gate
 --     still_good                       a call that touches nothing fails
 --     IsSure                           a sync made sure of the batch behind the gate
 --     gate_opens, gate_opened          and then the gate is opened
 use Rattle.std.proofs.Common.{◌≡◌, ℕ, ◌+◌, ◌<◌, ◌≤◌, List, [], ◌∷◌, ◌++◌, length, take, drop, set, sym, ◌∙◌, ap, subst, arith, add-one}
-use Rattle.std.specs.Prelude.{max, Result, Ok, Err, IsErrAnd}
-use Rattle.std.proofs.lemmas.List.{append_assoc, length-append, length-take, length-drop, drop_at, set_split}
+use Rattle.std.proofs.lemmas.List.{append_assoc, set_split}
 use Rattle.cc_messages.specs.declared.event.Event.{Event}
 use Rattle.cc_messages.specs.declared.output.Output.{Output}
 use Rattle.cc_site.specs.declared.site.Side.{Side}
@@ -22,21 +19,6 @@ use Rattle.cc_sides.specs.Good.{RestsAt}
 use Rattle.cc_sides.specs.Fronts.{holds_within}
 use Rattle.cc_journal.specs.Journals.{Position, Rests, RestsNow, RestsFor, KeepsGood, with_open_gate}
 use Rattle.cc_journal.proofs.Rests.{IsReady, behind_rests, rest_of, rests_more_good, gate_good, opened_rests}
-
-pub err_is : {T E : Type 0} {e : E} (r : Result T E) → IsErrAnd r (λ y. y ≡ e) → r ≡ Err e
-err_is (Ok x) is = absurd is
-err_is (Err y) is = cc
-
-pub record_written : (old new : SideState) (place : ℕ) (bytes : List ℕ) → place + 1 ≤ length old.bytes → new ≡ written old (place + 1) bytes
-    → StandsBehind new.bytes place bytes × (length new.bytes ≡ max (length old.bytes) (place + 1 + length bytes))
-record_written old new place bytes fits is =
-    let front = take (place + 1) old.bytes in
-    let rest = drop (place + 1 + length bytes) old.bytes in
-    let is_front = length-take (place + 1) old.bytes in
-    let now = ap (λ (t : SideState). t.bytes) is ∙ append_assoc front bytes rest in (
-      record { rest = rest; parts = ap (λ (l : List ℕ). drop (place + 1) l) now ∙ drop_at front (bytes ++ rest) (place + 1) (omega (arith, is_front, fits)) },
-      omega (arith, ap length now, length-append front (bytes ++ rest), length-append bytes rest, is_front, length-drop (place + 1 + length bytes) old.bytes),
-    )
 
 module _ {D : Type 0} (s : Ghosts D) where
   -- from each history before which the sides rest, each moment is good for more events, and after it the sides rest as before

@@ -1,14 +1,12 @@
-use Rattle.std.proofs.Common.{◌≡◌, ℕ, ◌+◌, Bool, length, drop, inr, refl, sym, ap, subst, subst₂, ◌∙◌, arith}
+use Rattle.std.proofs.Common.{◌≡◌, ℕ, ◌+◌, Bool, drop, sym, ap, subst, subst₂, ◌∙◌, arith}
 use Rattle.std.specs.Prelude.{MatchBool}
 use Rattle.std.proofs.lemmas.Result.{err_from_is_err_and}
 use Rattle.cc_site.specs.declared.site.Side.{Side}
-use Rattle.cc_site.specs.declared.site.Call.TheVariants.{Read}
 use Rattle.cc_site.specs.Sides.{SideState}
 use Rattle.cc_site.specs.Reads.{OnlyReads, reads_then}
 use Rattle.cc_journal.specs.Scanning.{NoRecord}
-use Rattle.cc_journal.specs.Reading.{RecordLeads, BeginsOpen, BeginsClosed, IsStopped, ScanFaultRose}
-use Rattle.cc_journal.proofs.RecordReading.{looked, damaged_weaker}
-use Rattle.cc_journal.proofs.Steps.{err_is}
+use Rattle.cc_journal.specs.Reading.{RecordLeads, BeginsOpen, BeginsClosed, IsStopped}
+use Rattle.cc_journal.proofs.RecordReading.{damaged_weaker}
 use Rattle.cc_journal.proofs.Scans.{goes_on, ends_shut, stops_behind, stops_past}
 use Rattle.cc_journal.proofs.scanning.scan_records.Given.{Over}
 use Rattle.cc_journal.proofs.scanning.scan_records.Goals as goal
@@ -85,62 +83,3 @@ pub returns-clause-damaged : goal.returns-clause-damaged
 returns-clause-damaged g c honest =
     let inv = c.loop-place.invariant in
     stops_past (inv.so_far honest) (omega (arith, inv.size honest, c.loop-place-test.false))
-
-pub returns-in_err-gate_is_open-clause-reads : goal.returns-in_err-gate_is_open-clause-reads
-returns-in_err-gate_is_open-clause-reads g c = reads_then g.S.Site _ _ _ c.loop-place.invariant.reads c.gate_is_open.ensures.reads
-
-pub returns-in_err-gate_is_open-clause-fault : goal.returns-in_err-gate_is_open-clause-fault
-returns-in_err-gate_is_open-clause-fault g c =
-    let s = g.S.Site in
-    rw (err_is c.from_residual.result c.from_residual.ensures.1) (looked c.args.side Read (s.failures c.args.site.now) (s.failures c.loop-place.site)
-    (s.failures c.gate_is_open.new.site) _ (inr refl) c.loop-place.invariant.failures c.in_err-gate_is_open.ensures.fault)
-
-pub returns-in_err-gate_is_open-clause-damaged : goal.returns-in_err-gate_is_open-clause-damaged
-returns-in_err-gate_is_open-clause-damaged g c honest = rw (err_is c.from_residual.result c.from_residual.ensures.1) tt
-
-pub returns-in_err-journal-clause-reads : goal.returns-in_err-journal-clause-reads
-returns-in_err-journal-clause-reads g c = reads_then g.S.Site _ _ _ c.loop-place.invariant.reads c.gate_is_open.ensures.reads
-
-pub returns-in_err-journal-clause-fault : goal.returns-in_err-journal-clause-fault
-returns-in_err-journal-clause-fault g c =
-    rw (err_is c.from_residual-in_err-journal.result c.from_residual-in_err-journal.ensures.1)
-    (c.in_ok-gate_is_open.ensures.fault ∙ c.loop-place.invariant.failures)
-
-pub returns-in_err-journal-clause-damaged : goal.returns-in_err-journal-clause-damaged
-returns-in_err-journal-clause-damaged g c honest = rw (err_is c.from_residual-in_err-journal.result c.from_residual-in_err-journal.ensures.1) tt
-
-pub returns-then-not-branch-clause-reads : goal.returns-then-not-branch-clause-reads
-returns-then-not-branch-clause-reads g c = reads_then g.S.Site _ _ _ c.loop-place.invariant.reads c.gate_is_open.ensures.reads
-
-pub returns-then-not-branch-clause-fault : goal.returns-then-not-branch-clause-fault
-returns-then-not-branch-clause-fault g c = c.in_ok-gate_is_open.ensures.fault ∙ c.loop-place.invariant.failures
-
-pub returns-in_err-taken-clause-reads : goal.returns-in_err-taken-clause-reads
-returns-in_err-taken-clause-reads g c =
-    reads_then g.S.Site _ _ _ (read_gate g (goal.at.returns-in_err-taken-clause-reads g c).After-read_record) c.read_record.ensures.reads
-
-pub returns-in_err-taken-clause-fault : goal.returns-in_err-taken-clause-fault
-returns-in_err-taken-clause-fault g c =
-    let s = g.S.Site in
-    let p = err_from_is_err_and c.from_residual-in_err-taken.result c.from_residual-in_err-taken.ensures.1 in
-    rw (p.1, p.2) (subst (λ (n : ℕ). ScanFaultRose c.args.side n (s.failures c.read_record.new.site) c.in_err-taken.field-0.0)
-    (c.in_ok-gate_is_open.ensures.fault ∙ c.loop-place.invariant.failures) c.in_err-taken.ensures.fault)
-
-pub returns-clause-reads : goal.returns-clause-reads
-returns-clause-reads g c = c.loop-place.invariant.reads
-
-pub returns-clause-fault : goal.returns-clause-fault
-returns-clause-fault g c = c.loop-place.invariant.failures
-
-pub read_record-requires-clause-len : goal.read_record-requires-clause-len
-read_record-requires-clause-len g c still =
-    let reads = reads_then g.S.Site _ _ _ c.loop-place.invariant.reads c.gate_is_open.ensures.reads in
-    let honest = reads.keeps_honesty.1 still in
-    c.loop-place.invariant.size honest ∙ ap (λ (t : Side → SideState). length (t c.args.side).bytes) (sym (reads.keeps_state honest))
-
-pub gate_is_open-requires : goal.gate_is_open-requires
-gate_is_open-requires g c still =
-    let inv = c.loop-place.invariant in
-    let honest = inv.reads.keeps_honesty.1 still in
-    let len = inv.size honest ∙ ap (λ (t : Side → SideState). length (t c.args.side).bytes) (sym (inv.reads.keeps_state honest)) in
-    omega (arith, len, c.loop-place-test.true)

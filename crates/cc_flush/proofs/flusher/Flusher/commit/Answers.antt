@@ -1,11 +1,9 @@
-use Rattle.std.proofs.Common.{◌≡◌, ◌↔◌, ◌≤◌, ◌+◌, ◌++◌, length, refl, sym, ◌∙◌, ap, subst, arith}
-use Rattle.std.proofs.lemmas.Result.{err_from_is_err_and}
+use Rattle.std.proofs.Common.{◌≡◌, ◌≤◌, ◌+◌, ◌++◌, length, refl, sym, ◌∙◌, ap, subst, arith}
 use Rattle.std.specs.Prelude.{false, None}
 use Rattle.cc_site.specs.declared.site.Side.{Side}
 use Rattle.cc_site.specs.Sides.{other}
-use Rattle.cc_journal.specs.Batches.{AreLawful, events_in, batch_bytes}
+use Rattle.cc_journal.specs.Batches.{AreLawful, events_in}
 use Rattle.cc_flush.specs.Engine.{IsSettled}
-use Rattle.cc_flush.specs.Flushing.{CommitStops}
 use Rattle.cc_flush.proofs.Keeping.{good_now, ready, committed_stands, BatchMoments, batch_moments}
 use Rattle.cc_flush.proofs.flusher.Flusher.commit.Goals as goal
 
@@ -72,117 +70,3 @@ invariant_of-self g c =
 
 pub returns-in-Ok-clause-owed : goal.returns-in-Ok-clause-owed
 returns-in-Ok-clause-owed g c = record { owes = refl; these = c.of.ensures }
-
-pub make_durable-requires-clause-some : goal.make_durable-requires-clause-some
-make_durable-requires-clause-some g c = c.requires.some
-
-pub returns-in_err-check-clause-landed : goal.returns-in_err-check-clause-landed
-returns-in_err-check-clause-landed g c =
-    let p = err_from_is_err_and c.from_residual.result c.from_residual.ensures.1 in
-    rw p.1 tt
-
-pub returns-in_err-check-clause-owed : goal.returns-in_err-check-clause-owed
-returns-in_err-check-clause-owed g c =
-    let p = err_from_is_err_and c.from_residual.result c.from_residual.ensures.1 in
-    rw p.1 tt
-
-pub returns-in_err-check-clause-owes : goal.returns-in_err-check-clause-owes
-returns-in_err-check-clause-owes g c =
-    let p = err_from_is_err_and c.from_residual.result c.from_residual.ensures.1 in
-    rw p.1 c.requires.owes
-
-pub returns-in_err-check-clause-moved : goal.returns-in_err-check-clause-moved
-returns-in_err-check-clause-moved g c =
-    let p = err_from_is_err_and c.from_residual.result c.from_residual.ensures.1 in
-    rw p.1 tt
-
-pub returns-in_err-check-clause-used : goal.returns-in_err-check-clause-used
-returns-in_err-check-clause-used g c =
-    let p = err_from_is_err_and c.from_residual.result c.from_residual.ensures.1 in
-    rw p.1 tt
-
-pub returns-in_err-check-clause-kept : goal.returns-in_err-check-clause-kept
-returns-in_err-check-clause-kept g c =
-    let p = err_from_is_err_and c.from_residual.result c.from_residual.ensures.1 in
-    rw p.1 (refl, refl)
-
-pub returns-in_err-check-clause-goes_on : goal.returns-in_err-check-clause-goes_on
-returns-in_err-check-clause-goes_on g c =
-    let p = err_from_is_err_and c.from_residual.result c.from_residual.ensures.1 in
-    rw p.1 tt
-
-pub returns-in_err-check-clause-failed : goal.returns-in_err-check-clause-failed
-returns-in_err-check-clause-failed g c =
-    let p = err_from_is_err_and c.from_residual.result c.from_residual.ensures.1 in
-    rw (p.1, p.2) c.in_err-check.ensures.ended
-
-pub returns-in_err-check-clause-every_moment : goal.returns-in_err-check-clause-every_moment
-returns-in_err-check-clause-every_moment g c = λ h none. absurd (let never = sym none ∙ c.in_err-check.ensures.ended in cc)
-
-pub returns-in_err-check-clause-at_rest : goal.returns-in_err-check-clause-at_rest
-returns-in_err-check-clause-at_rest g c = λ h none. absurd (let never = sym none ∙ c.in_err-check.ensures.ended in cc)
-
-pub returns-in_err-check-clause-stops : goal.returns-in_err-check-clause-stops
-returns-in_err-check-clause-stops g c = λ h none. absurd (let never = sym none ∙ c.in_err-check.ensures.ended in cc)
-
-pub returns-in_err-check-clause-device : goal.returns-in_err-check-clause-device
-returns-in_err-check-clause-device g c = λ none. absurd (let never = sym none ∙ c.in_err-check.ensures.ended in cc)
-
-pub returns-in_err-check-clause-count : goal.returns-in_err-check-clause-count
-returns-in_err-check-clause-count g c = λ none. absurd (let never = sym none ∙ c.in_err-check.ensures.ended in cc)
-
-pub returns-in-Ok-clause-honest : goal.returns-in-Ok-clause-honest
-returns-in-Ok-clause-honest g c =
-    subst (λ e. g.S.Site.honest e.site ↔ g.S.Site.honest c.make_durable.new.site) c.self.view_is c.make_durable.ensures.honest
-
-pub returns-in-Ok-clause-tells : goal.returns-in-Ok-clause-tells
-returns-in-Ok-clause-tells g c =
-    let s = g.S.Site in
-    let new = c.make_durable.new.site in
-    subst (λ e. (s.tells e.site ↔ s.tells new) × (s.sent new ≡ s.sent e.site)) c.self.view_is c.make_durable.ensures.tells
-
-pub returns-in-Ok-clause-other_side : goal.returns-in-Ok-clause-other_side
-returns-in-Ok-clause-other_side g c =
-    let s = g.S.Site in
-    let new = c.make_durable.new.site in
-    subst (λ e. s.honest e.site → s.state new (other e.at.side) ≡ s.state e.site (other e.at.side)) c.self.view_is c.make_durable.ensures.other_side
-
-pub returns-in-Ok-clause-goes_on : goal.returns-in-Ok-clause-goes_on
-returns-in-Ok-clause-goes_on g c = ap (λ e. e.failed) c.self.view_is ∙ c.in_ok-check.ensures.goes_on
-
-pub returns-in-Ok-clause-stops : goal.returns-in-Ok-clause-stops
-returns-in-Ok-clause-stops g c = λ h none. tt
-
-pub returns-in-Ok-clause-device : goal.returns-in-Ok-clause-device
-returns-in-Ok-clause-device g c = λ none. tt
-
-pub returns-in-Ok-clause-moved : goal.returns-in-Ok-clause-moved
-returns-in-Ok-clause-moved g c =
-    let bytes = length (batch_bytes c.args.batch.now) in
-    subst (λ e. c.make_durable.new.journal ≡ record { side = e.at.side; place = e.at.place + bytes }) c.self.view_is c.in-Ok.ensures.ok
-
-pub returns-in-Err-clause-honest : goal.returns-in-Err-clause-honest
-returns-in-Err-clause-honest g c =
-    subst (λ e. g.S.Site.honest e.site ↔ g.S.Site.honest c.make_durable.new.site) c.self.view_is c.make_durable.ensures.honest
-
-pub returns-in-Err-clause-tells : goal.returns-in-Err-clause-tells
-returns-in-Err-clause-tells g c =
-    let s = g.S.Site in
-    let new = c.make_durable.new.site in
-    subst (λ e. (s.tells e.site ↔ s.tells new) × (s.sent new ≡ s.sent e.site)) c.self.view_is c.make_durable.ensures.tells
-
-pub returns-in-Err-clause-other_side : goal.returns-in-Err-clause-other_side
-returns-in-Err-clause-other_side g c =
-    let s = g.S.Site in
-    let new = c.make_durable.new.site in
-    subst (λ e. s.honest e.site → s.state new (other e.at.side) ≡ s.state e.site (other e.at.side)) c.self.view_is c.make_durable.ensures.other_side
-
-pub returns-in-Err-clause-kept : goal.returns-in-Err-clause-kept
-returns-in-Err-clause-kept g c = (c.in-Err.ensures.err ∙ ap (λ e. e.at) c.self.view_is, ap (λ e. e.used) c.self.view_is)
-
-pub returns-in-Err-clause-stops : goal.returns-in-Err-clause-stops
-returns-in-Err-clause-stops g c =
-    let s = g.S.Site in
-    let new = c.make_durable.new.site in
-    subst (λ e. s.honest e.site → e.failed ≡ None → CommitStops (s.state e.site e.at.side) e.at.place c.args.batch.now (s.state new e.at.side))
-    c.self.view_is (λ h none. c.in-Err.ensures.stops h)

@@ -1,7 +1,5 @@
-use Rattle.std.proofs.Common.{◌+◌, take, refl, sym, ◌∙◌, subst, ◌≡◌, true, false, None, Some, Ok}
+use Rattle.std.proofs.Common.{◌+◌, take, refl, sym, ◌∙◌, subst, ◌≡◌, true, false, Some, Ok}
 use Rattle.std.proofs.lemmas.Result.{err_from_is_err_and}
-use Rattle.cc_node.specs.Node.{after}
-use Rattle.cc_journal.specs.Batches.{events_in}
 use Rattle.cc_intake.specs.Turning.{Turning}
 use Rattle.cc_intake.specs.Turns.{Turns}
 use Rattle.cc_intake.proofs.Handing.{turned_never, turned_full, lawful_batch, turned, turned_failed, kept_on, kept_failed}
@@ -92,70 +90,3 @@ returns-clause-twin g c =
     c.gather-kept.ensures.lawful c.gather-kept.ensures.limit
     (sym c.fault.ensures ∙ c.in_default.is) c.in_ok-flush.ensures.flushed in
     kept.twin c.in_ok-flush.ensures.flushed.goes_on
-
-pub flush-requires-clause-owes : goal.flush-requires-clause-owes
-flush-requires-clause-owes g c = c.self.invariant.0.owes
-
-pub flush-requires-clause-goes_on : goal.flush-requires-clause-goes_on
-flush-requires-clause-goes_on g c = sym c.fault.ensures ∙ c.in_default.is
-
-pub returns-in-Some-clause-failed : goal.returns-in-Some-clause-failed
-returns-in-Some-clause-failed g c =
-    (subst (λ t. t.engine.failed ≡ Some c.in-Some.fault) c.self.view_is (sym c.fault.ensures ∙ c.in-Some.is), refl)
-
-pub returns-in-Some-clause-ended : goal.returns-in-Some-clause-ended
-returns-in-Some-clause-ended g c = λ fault is.
-    let known = subst (λ t. t.engine.failed ≡ Some c.in-Some.fault) c.self.view_is (sym c.fault.ensures ∙ c.in-Some.is) in
-    (let same = sym known ∙ is in cc, refl)
-
-pub returns-then-not-room-clause-twin : goal.returns-then-not-room-clause-twin
-returns-then-not-room-clause-twin g c =
-    subst (λ t. t.engine.twin ≡ after g.L.Life.opening (events_in t.handed)) c.self.view_is
-    (c.self.invariant.0.twin (sym c.fault.ensures ∙ c.in_default.is))
-
-pub returns-then-not-room-clause-flushed : goal.returns-then-not-room-clause-flushed
-returns-then-not-room-clause-flushed g c = c.self.invariant.2 _
-
-pub returns-then-not-room-clause-untouched : goal.returns-then-not-room-clause-untouched
-returns-then-not-room-clause-untouched g c = λ full. refl
-
-pub returns-then-not-room-clause-ended : goal.returns-then-not-room-clause-ended
-returns-then-not-room-clause-ended g c = λ fault is.
-    let none = subst (λ t. t.engine.failed ≡ None) c.self.view_is (sym c.fault.ensures ∙ c.in_default.is) in
-    absurd (let never = sym none ∙ is in cc)
-
-pub returns-in_err-flush-clause-twin : goal.returns-in_err-flush-clause-twin
-returns-in_err-flush-clause-twin g c =
-    let p = err_from_is_err_and c.from_residual.result c.from_residual.ensures.1 in
-    rw p.1 tt
-
-pub returns-in_err-flush-clause-flushed : goal.returns-in_err-flush-clause-flushed
-returns-in_err-flush-clause-flushed g c =
-    let p = err_from_is_err_and c.from_residual.result c.from_residual.ensures.1 in
-    rw p.1 tt
-
-pub returns-in_err-flush-clause-full : goal.returns-in_err-flush-clause-full
-returns-in_err-flush-clause-full g c =
-    let p = err_from_is_err_and c.from_residual.result c.from_residual.ensures.1 in
-    rw p.1 tt
-
-pub returns-in_err-flush-clause-untouched : goal.returns-in_err-flush-clause-untouched
-returns-in_err-flush-clause-untouched g c =
-    let p = err_from_is_err_and c.from_residual.result c.from_residual.ensures.1 in
-    rw p.1 tt
-
-pub returns-in_err-flush-clause-ended : goal.returns-in_err-flush-clause-ended
-returns-in_err-flush-clause-ended g c = λ fault is.
-    let none = subst (λ t. t.engine.failed ≡ None) c.self.view_is (sym c.fault.ensures ∙ c.in_default.is) in
-    absurd (let never = sym none ∙ is in cc)
-
-pub returns-clause-flushed : goal.returns-clause-flushed
-returns-clause-flushed g c = c.self.invariant.2 _
-
-pub returns-clause-untouched : goal.returns-clause-untouched
-returns-clause-untouched g c = λ full. absurd cc
-
-pub returns-clause-ended : goal.returns-clause-ended
-returns-clause-ended g c = λ fault is.
-    let none = subst (λ t. t.engine.failed ≡ None) c.self.view_is (sym c.fault.ensures ∙ c.in_default.is) in
-    absurd (let never = sym none ∙ is in cc)

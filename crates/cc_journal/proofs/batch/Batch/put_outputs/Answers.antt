@@ -1,11 +1,11 @@
-use Rattle.std.proofs.Common.{◌≡◌, List, [], ◌∷◌, ◌++◌, ◌∙◌, refl, sym, ap, subst, arith}
+use Rattle.std.proofs.Common.{◌≡◌, List, ◌∷◌, ◌++◌, ◌∙◌, refl, sym, ap, subst, arith}
 use Rattle.std.proofs.lemmas.List.{take_all}
 use Rattle.arrayvec.specs.Iter.{drain_items}
 use Rattle.cc_node.specs.Core.{outputs}
 use Rattle.cc_node.specs.Node.{after, line}
 use Rattle.cc_journal.specs.declared.entry.Entry.{Entry}
 use Rattle.cc_journal.specs.Batches.{AreLawful, events_in}
-use Rattle.cc_journal.proofs.Puts.{HasPut, put_none, put_more, put_all}
+use Rattle.cc_journal.proofs.Puts.{HasPut, put_none, put_more}
 use Rattle.cc_journal.proofs.batch.Batch.put_outputs.Goals as goal
 
 pub loop-entry-init : goal.loop-entry-init
@@ -43,19 +43,3 @@ loop-entry-preserved g c =
       put = put_more g.S.Site _ _ _ _ _ _ _ inv.put
           (ap (λ l. line node (events_in l)) took ∙ ap (λ n. outputs node.core entry.event ++ line n (events_in left)) (sym stepped)) c.put_entry.ensures.puts;
     }
-
-pub returns-clause-node : goal.returns-clause-node
-returns-clause-node g c =
-    let none : drain_items c.loop-entry.entry-iterator ≡ [] = c.in-None.ensures.steps.0 in
-    ap (λ (l : List Entry). after c.loop-entry.node (events_in l)) (sym none) ∙ c.loop-entry.invariant.leads
-
-pub returns-clause-puts : goal.returns-clause-puts
-returns-clause-puts g c =
-    let none : drain_items c.loop-entry.entry-iterator ≡ [] = c.in-None.ensures.steps.0 in
-    put_all g.S.Site _ _ _ _ _ c.loop-entry.invariant.put refl (ap (λ (l : List Entry). line c.loop-entry.node (events_in l)) none)
-
-pub put_entry-requires : goal.put_entry-requires
-put_entry-requires g c =
-    let took : drain_items c.loop-entry.entry-iterator ≡ c.in-Some.entry ∷ drain_items c.next.new.self = c.in-Some.ensures.steps.0 in
-    let lawful = subst (AreLawful c.loop-entry.node) took c.loop-entry.invariant.lawful in
-    (lawful.0, lawful.1, tt)
