@@ -2,8 +2,7 @@
 """Proves crates and what they stand on, and builds those that are programs: prove.py CRATE..
 
 A crate is begun once those that it uses are proved. Those of the longest chain get all processors, and the others one
-at a time of what is left, as many at once as there are processors; on two processors each gets one, as long as there are
-two to prove. What was proved before isn't proved again, nor what
+at a time of what is left, as many at once as there are processors. What was proved before isn't proved again, nor what
 stands below a program that is newer than all of it, as `make test` leaves one. A tree takes one rt at a time, so a crate
 is proved in a copy of the tree by hard links, and its folder `out` is moved back. A line is printed for each crate that
 is proved, and all that was said of one that isn't; the status is 1 then."""
@@ -135,11 +134,8 @@ def prove_all(uses, room):
                 waiting.remove(crate)
                 begun = time.time()
                 copy_tree(crate, room)
-                # (a second job costs a sixth more of the processors, which two crates keep busy without it)
-                is_shared = cores == 2 and len(ready) + len(running) > 1
-                jobs = cores if crate in chain and not is_shared else 1
-                nice = "0" if crate in chain else "10"
-                running[threads.submit(prove, f"{room}/{crate}/crates/{crate}", str(jobs), nice)] = crate, begun
+                share = (str(cores), "0") if crate in chain else ("1", "10")
+                running[threads.submit(prove, f"{room}/{crate}/crates/{crate}", *share)] = crate, begun
             for each in concurrent.futures.wait(running, return_when=concurrent.futures.FIRST_COMPLETED).done:
                 (crate, begun), (status, said) = running.pop(each), each.result()
                 if status:
