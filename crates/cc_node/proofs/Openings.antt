@@ -1,7 +1,7 @@
 -- Ids of an opening: which of them are 0, and how many are known.
 --     zero_listed, zero_first      a 0 among them
 --     links_room, initial_room     that there is room for their links
---     fails, none_so               what a test that fails tells of it
+--     fails, some_so               what a test that fails tells of it
 use Rattle.std.proofs.Common.{◌≡◌, ◌↔◌, ℕ, zero, suc, ◌<◌, arith, Bool, true, false, List, [], ◌∷◌, ◌≤◌, nat_eq, sym, ap, ◌∙◌, inl, inr}
 use Rattle.std.specs.List.{Contains}
 use Rattle.std.specs.FinMap as table
@@ -76,6 +76,6 @@ pub fails : {P : Type 0} (b : Bool) → b ≡ false → (IsTrue b ↔ P) → ¬ 
 fails true is told = absurd cc
 fails false is told = λ holds. let t = told.1 holds in cc
 
--- so nothing is true that has it
-pub none_so : {P Q : Type 0} → ¬ P → (Q → P) → (IsTrue false ↔ Q)
-none_so never has = (λ t. absurd cc, λ q. absurd (never (has q)))
+-- so what has it doesn't hold either, where something is told
+pub some_so : {P Q : Type 0} → ¬ P → (Q → P) → (true ≡ false ↔ Q)
+some_so never has = (λ t. absurd cc, λ q. absurd (never (has q)))

@@ -5,6 +5,7 @@ pub mod OneAtATime
 pub mod Rounds
 pub mod Lawful
 pub mod Opening
+pub mod OpeningRules
 pub mod Codes
 pub mod Writes
 pub mod Known

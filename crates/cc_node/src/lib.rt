@@ -22,4 +22,4 @@ pub use laws::{
 pub use made::{LinkAck, Made};
 pub use node::Node;
 pub use node_core::Core;
-pub use opening::{Fresh, Opening};
+pub use opening::{Fresh, Opening, OpeningRule};

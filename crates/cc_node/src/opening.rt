@@ -1,6 +1,6 @@
 //! How a node begins.
 
-ghost use Rattle.std.specs.Prelude.{◌≡◌, ◌≤◌, ◌↔◌, ◌⊎◌, [], IfOk, IsTrue};
+ghost use Rattle.std.specs.Prelude.{◌≡◌, ◌≤◌, ◌↔◌, ◌⊎◌, [], IfOk, IfSome, IsNone, IsTrue};
 ghost use Rattle.std.specs.List.{Contains};
 ghost use Rattle.std.specs.List.Sorted.{IsStrictlyIncreasing};
 ghost use Rattle.std.specs.FinMap as table;
@@ -8,6 +8,7 @@ ghost use Rattle.cc_views.specs.Limits.{known_limit};
 ghost use Rattle.cc_views.specs.NatSets as set;
 ghost use Rattle.cc_links.specs.Links as links;
 ghost use Rattle.cc_node.specs.Opening.{told, ids_of, IsOpening};
+ghost use Rattle.cc_node.specs.OpeningRules.{Breaks};
 ghost use Rattle.cc_node.specs.declared.opening.Fresh.TheVariants as faults;
 
 use cc_changes::{Changes, Fraction, IdSet};
@@ -42,35 +43,46 @@ impl Opening<'_> {
     /// The greatest share.
     pub const MAX_SHARE: usize = 32;
 
-    // Whether a node can begin so; needs no memory.
+    /// The first rule that it breaks. None where a node can begin so. It takes no memory.
+    pub fn broken_rule(&self) -> Option<OpeningRule>
+        ensures none { IsNone result ↔ IsOpening (told self.now) }
+        ensures broken { IfSome result (Breaks (told self.now)) }
+    {
+        if !self.beta.is_share() {
+            return Some(OpeningRule::Beta);
+        }
+        if !self.gamma.is_share() {
+            return Some(OpeningRule::Gamma);
+        }
+        if !is_ascending(self.initial) {
+            return Some(OpeningRule::Initial);
+        }
+        if !is_ascending(self.contacts) {
+            return Some(OpeningRule::Contacts);
+        }
+        if !self.begins_right() {
+            return Some(OpeningRule::Member);
+        }
+        if self.contacts.contains(&self.me) {
+            return Some(OpeningRule::OwnContact);
+        }
+        if self.names_zero() {
+            return Some(OpeningRule::Zero);
+        }
+        if self.share == 0 || self.share > Self::MAX_SHARE {
+            return Some(OpeningRule::Share);
+        }
+        if !self.names_few() {
+            return Some(OpeningRule::Many);
+        }
+        None
+    }
+
+    // Whether a node can begin so.
     pub(crate) fn is_good(&self) -> bool
         ensures { IsTrue result ↔ IsOpening (told self.now) }
     {
-        if !self.beta.is_share() {
-            return false;
-        }
-        if !self.gamma.is_share() {
-            return false;
-        }
-        if !is_ascending(self.initial) {
-            return false;
-        }
-        if !is_ascending(self.contacts) {
-            return false;
-        }
-        if !self.begins_right() {
-            return false;
-        }
-        if self.contacts.contains(&self.me) {
-            return false;
-        }
-        if self.names_zero() {
-            return false;
-        }
-        if self.share == 0 || self.share > Self::MAX_SHARE {
-            return false;
-        }
-        self.names_few()
+        self.broken_rule().is_none()
     }
 
     // Whether the node is one of the members at the start, if there are any.
@@ -180,6 +192,29 @@ fn insert_numbers(ids: &mut IdSet, numbers: &[u32])
     for number in numbers {
         ids.insert(NodeId::new(*number).unwrap());
     }
+}
+
+/// A rule that the beginning of a node keeps.
+#[derive(Clone, Copy, Debug, PartialEq, Eq)]
+pub enum OpeningRule {
+    /// `beta` is a fraction above 0 and at most 1.
+    Beta,
+    /// `gamma` is a fraction above 0 and at most 1.
+    Gamma,
+    /// `initial` ascends.
+    Initial,
+    /// `contacts` ascends.
+    Contacts,
+    /// The node is in its own `initial`, where that isn't empty.
+    Member,
+    /// The node isn't among its own `contacts`.
+    OwnContact,
+    /// No id is 0.
+    Zero,
+    /// `share` is a number from 1 to [`Opening::MAX_SHARE`].
+    Share,
+    /// At most 256 nodes are named, itself among them.
+    Many,
 }
 
 /// Why no node begins so.

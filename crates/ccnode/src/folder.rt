@@ -44,8 +44,9 @@ fn print_warning<R: Eprint>(rt: &R, warning: Option<Warning>) -> anyhow::Result<
 
 // Prints the first rule that the beginning breaks, if it breaks one.
 fn print_bad_opening<R: Eprint>(rt: &R, order: &FormatOrder) -> anyhow::Result<()> {
-    if let Some(rule) = BadOpening::of(&order.opening()) {
-        eprintln!(rt; "ccnode: {rule}")?;
+    if let Some(rule) = order.opening().broken_rule() {
+        let told = BadOpening(rule);
+        eprintln!(rt; "ccnode: {told}")?;
     }
     Ok(())
 }

@@ -2,6 +2,7 @@
 
 use crate::words::{are_no_command, format_of, with};
 use cc_commands::{BadOpening, FormatOrder};
+use cc_node::OpeningRule;
 use cc_orders::{AnswerForm, AskWords, CommandFault, FormatWords, WordFault};
 use std::alloc::Global;
 use std::process::Abort;
@@ -123,30 +124,84 @@ fn member() -> FormatWords<'static> {
     with(&format_of("1"), WordFault::Initial, "1,2,3")
 }
 
-fn rule_of(alloc: Global, words: &FormatWords<'_>) -> Result<Option<BadOpening>, WordFault> {
+fn rule_of(alloc: Global, words: &FormatWords<'_>) -> Result<Option<OpeningRule>, WordFault> {
     let order = FormatOrder::parse(alloc, words)?;
-    let rule = BadOpening::of(&order.opening());
+    let rule = order.opening().broken_rule();
     drop(order);
     Ok(rule)
 }
 
-// A place, a text for it, and the rule that a beginning with that text breaks first.
-const BAD_BEGINNINGS: [(WordFault, &str, BadOpening); 8] = [
-    (WordFault::Beta, "5/4", BadOpening::Beta),
-    (WordFault::Gamma, "0/4", BadOpening::Gamma),
-    (WordFault::Initial, "1,3,2", BadOpening::Initial),
-    (WordFault::Contacts, "4,4", BadOpening::Contacts),
-    (WordFault::Id, "4", BadOpening::NoMember),
-    (WordFault::Contacts, "1", BadOpening::OwnContact),
-    (WordFault::Contacts, "0", BadOpening::Zero),
-    (WordFault::Share, "33", BadOpening::Share),
+// Whether just this is told of that rule.
+fn is_told_of(alloc: Global, rule: OpeningRule, wanted: &str) -> bool {
+    let rule = BadOpening(rule);
+    match format!(in alloc; "{rule}") {
+        Ok(told) => {
+            let is_wanted = told.as_str() == wanted;
+            drop(told);
+            is_wanted
+        }
+        Err(_) => false,
+    }
+}
+
+// A place, a text for it, the rule that a beginning with that text breaks first, and what is told of it.
+const BAD_BEGINNINGS: [(WordFault, &str, OpeningRule, &str); 8] = [
+    (
+        WordFault::Beta,
+        "5/4",
+        OpeningRule::Beta,
+        "--beta isn't a fraction above 0 and at most 1",
+    ),
+    (
+        WordFault::Gamma,
+        "0/4",
+        OpeningRule::Gamma,
+        "--gamma isn't a fraction above 0 and at most 1",
+    ),
+    (
+        WordFault::Initial,
+        "1,3,2",
+        OpeningRule::Initial,
+        "--initial doesn't ascend: each number is greater than the one before it",
+    ),
+    (
+        WordFault::Contacts,
+        "4,4",
+        OpeningRule::Contacts,
+        "--contacts doesn't ascend: each number is greater than the one before it",
+    ),
+    (
+        WordFault::Id,
+        "4",
+        OpeningRule::Member,
+        "the node isn't in its own --initial: a member at the start is, and one that enters later has none",
+    ),
+    (
+        WordFault::Contacts,
+        "1",
+        OpeningRule::OwnContact,
+        "the node is among its own --contacts: they are others",
+    ),
+    (
+        WordFault::Contacts,
+        "0",
+        OpeningRule::Zero,
+        "an id is 0: they begin at 1",
+    ),
+    (
+        WordFault::Share,
+        "33",
+        OpeningRule::Share,
+        "--share isn't a number from 1 to 32",
+    ),
 ];
 
 #[test]
 fn a_bad_beginning_is_told_by_its_rule(rt: HostRuntime) {
     assert!(rt; rule_of(rt.alloc(), &member()) == Ok(None));
-    for &(place, text, rule) in &BAD_BEGINNINGS {
+    for &(place, text, rule, wanted) in &BAD_BEGINNINGS {
         let told = rule_of(rt.alloc(), &with(&member(), place, text));
         assert!(rt; told == Ok(Some(rule)), "{text}");
+        assert!(rt; is_told_of(rt.alloc(), rule, wanted), "{text}");
     }
 }

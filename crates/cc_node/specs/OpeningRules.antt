@@ -8,15 +8,15 @@ use Rattle.cc_views.specs.NatSets as set
 use Rattle.cc_changes.specs.Need.{IsShare}
 use Rattle.cc_node.specs.Opening.{Opening, ids_of}
 use Rattle.cc_node.specs.Rounds.{share_limit}
-use Rattle.cc_commands.specs.declared.bad_opening.BadOpening.{BadOpening}
-use Rattle.cc_commands.specs.declared.bad_opening.BadOpening.TheVariants as rule
+use Rattle.cc_node.specs.declared.opening.OpeningRule.{OpeningRule}
+use Rattle.cc_node.specs.declared.opening.OpeningRule.TheVariants as rule
 
-abbrev pub Breaks : Opening → BadOpening → Type 0
+abbrev pub Breaks : Opening → OpeningRule → Type 0
 Breaks o rule.Beta = ¬ (IsShare o.beta)
 Breaks o rule.Gamma = ¬ (IsShare o.gamma)
 Breaks o rule.Initial = ¬ (IsStrictlyIncreasing o.initial)
 Breaks o rule.Contacts = ¬ (IsStrictlyIncreasing o.contacts)
-Breaks o rule.NoMember = ¬ ((o.initial ≡ []) ⊎ Contains o.initial o.me)
+Breaks o rule.Member = ¬ ((o.initial ≡ []) ⊎ Contains o.initial o.me)
 Breaks o rule.OwnContact = Contains o.contacts o.me
 Breaks o rule.Zero = Contains (ids_of o) 0
 Breaks o rule.Share = ¬ ((1 ≤ o.share) × (o.share ≤ share_limit))
