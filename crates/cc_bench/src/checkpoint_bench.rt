@@ -22,7 +22,7 @@ const ROUNDS: u64 = 64;
 const LONG_ENOUGH: u64 = 1;
 
 /// The node that is moved.
-#[derive(Clone, Copy, Debug)]
+#[derive(Clone, Copy)]
 pub struct MovedNode {
     /// How many nodes the cluster has. Its view has a row of each of them.
     pub nodes: u32,
@@ -31,7 +31,7 @@ pub struct MovedNode {
 }
 
 /// What each thing takes on the average.
-#[derive(Clone, Copy, Debug)]
+#[derive(Clone, Copy)]
 pub struct CheckpointTimes {
     // How many bytes the side has that holds the node.
     bytes: usize,

@@ -25,7 +25,7 @@ pub const ROUND: u64 = 256;
 const LONG_ENOUGH: u64 = 1;
 
 /// What the engine gets.
-#[derive(Clone, Copy, Debug)]
+#[derive(Clone, Copy)]
 pub struct EngineLoad {
     /// How many nodes the cluster has. Each store brings a row of each of them.
     pub nodes: u32,
@@ -36,7 +36,7 @@ pub struct EngineLoad {
 }
 
 /// What a store takes on the average, in nanoseconds.
-#[derive(Clone, Copy, Debug)]
+#[derive(Clone, Copy)]
 pub struct EngineTimes {
     /// From its beginning to its end.
     pub elapsed: u128,
@@ -58,7 +58,7 @@ impl fmt::Display for EngineTimes {
 }
 
 /// A number of hundredths, written as a decimal fraction.
-#[derive(Clone, Copy, Debug)]
+#[derive(Clone, Copy)]
 pub struct Hundredths(pub u128);
 
 impl fmt::Display for Hundredths {

@@ -11,7 +11,7 @@ use std::alloc::{AllocError, Global};
 const FOUR_FIFTHS: Fraction = Fraction { num: 4, den: 5 };
 
 /// What the member gets again and again.
-#[derive(Clone, Copy, Debug)]
+#[derive(Clone, Copy)]
 pub enum Kind {
     /// A store with a row of each node, which is merged and acknowledged.
     Store,

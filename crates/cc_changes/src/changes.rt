@@ -14,7 +14,7 @@ use std::alloc::Global;
 use std::marker::Model;
 
 /// Who entered, joined and left, as far as a node knows.
-#[derive(Debug, Drop)]
+#[derive(Drop)]
 pub struct Changes {
     entered: IdSet,
     joined: IdSet,

@@ -14,7 +14,7 @@ use std::alloc::Global;
 use std::marker::Model;
 
 /// A set of ids, in room for 256 of them.
-#[derive(Debug, Drop)]
+#[derive(Drop)]
 pub struct IdSet {
     ids: Vec<NodeId>,
 }

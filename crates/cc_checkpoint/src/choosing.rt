@@ -12,14 +12,14 @@ use crate::open_fault::OpenFault;
 use cc_site::{DeviceFault, OPEN_GATE, Side, Site, length_of, read_into};
 
 /// The side in use, and its generation.
-#[derive(Clone, Copy, Debug, PartialEq, Eq)]
+#[derive(Clone, Copy, PartialEq, Eq)]
 pub struct InUse {
     pub side: Side,
     pub generation: u64,
 }
 
 /// What the first bytes of a side tell.
-#[derive(Clone, Copy, Debug, PartialEq, Eq)]
+#[derive(Clone, Copy, PartialEq, Eq)]
 pub enum Peeked {
     /// It isn't armed.
     Closed,

@@ -15,7 +15,7 @@ use std::alloc::Global;
 use std::marker::Model;
 
 /// Who entered, joined and left, as far as a node knows, and the echoes to its own Enter (CCC, churn management).
-#[derive(Debug, Drop)]
+#[derive(Drop)]
 pub struct Churn {
     changes: Changes,
     echoes: u64,

@@ -14,7 +14,7 @@ use std::io;
 use std::io::Write;
 
 /// How much is told of a folder.
-#[derive(Clone, Copy, Debug, PartialEq, Eq)]
+#[derive(Clone, Copy, PartialEq, Eq)]
 pub enum DumpScope {
     /// What its two sides are, and what counts on them.
     Sides,

@@ -21,7 +21,7 @@ pub trait Outlet {
 }
 
 /// Drops what it gets.
-#[derive(Clone, Copy, Debug)]
+#[derive(Clone, Copy)]
 pub struct NoOutlet;
 
 impl Outlet for NoOutlet {

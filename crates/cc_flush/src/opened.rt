@@ -3,7 +3,7 @@
 use cc_site::Side;
 
 /// What two sides held as their node was opened.
-#[derive(Clone, Copy, Debug, PartialEq, Eq)]
+#[derive(Clone, Copy, PartialEq, Eq)]
 pub struct Opened {
     /// The side that was in use.
     pub side: Side,

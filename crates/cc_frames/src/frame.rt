@@ -20,7 +20,7 @@ use cc_wire::{
 use std::alloc::{AllocError, Global};
 
 /// What goes over a connection, between nodes or between a client and a node.
-#[derive(Debug, Drop)]
+#[derive(Drop)]
 pub enum Frame {
     /// A message from a node, the one with this number on its link.
     Post {

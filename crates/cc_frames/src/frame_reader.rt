@@ -15,7 +15,7 @@ use std::alloc::Global;
 use std::marker::Model;
 
 /// Gives the frames of a stream that comes in pieces.
-#[derive(Debug, Drop)]
+#[derive(Drop)]
 pub struct FrameReader {
     // What came since the last frame, in room for the largest one.
     held: Vec<u8>,
@@ -35,7 +35,7 @@ impl Model for FrameReader {
 }
 
 /// What a feed gives.
-#[derive(Debug, Drop)]
+#[derive(Drop)]
 pub struct Fed {
     /// How many bytes of the piece were used.
     pub used: usize,

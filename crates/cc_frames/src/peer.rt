@@ -4,7 +4,7 @@ use cc_views::NodeId;
 use std::net::SocketAddr;
 
 /// Another node, and where it listens.
-#[derive(Clone, Copy, Debug, PartialEq, Eq)]
+#[derive(Clone, Copy, PartialEq, Eq)]
 pub struct Peer {
     pub id: NodeId,
     pub address: SocketAddr,

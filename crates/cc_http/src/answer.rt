@@ -20,7 +20,7 @@ use itoa::Buffer;
 use std::alloc::AllocError;
 
 /// What comes of a request for a page.
-#[derive(Clone, Copy, Debug, PartialEq, Eq)]
+#[derive(Clone, Copy, PartialEq, Eq)]
 pub enum Outcome {
     /// The page is given: 200.
     Served,

@@ -17,7 +17,7 @@ pub const MOST_HEAD: usize = 8_192;
 pub const MOST_FIELDS: usize = 64;
 
 /// What the bytes that came so far ask for.
-#[derive(Clone, Copy, Debug, PartialEq, Eq)]
+#[derive(Clone, Copy, PartialEq, Eq)]
 pub enum Asked {
     /// The head may still become whole.
     More,

@@ -16,7 +16,7 @@ pub trait Hooks {
 }
 
 /// Hooks that do nothing.
-#[derive(Clone, Copy, Debug, Default, PartialEq, Eq)]
+#[derive(Clone, Copy, Default, PartialEq, Eq)]
 pub struct NoHooks;
 
 impl Hooks for NoHooks {

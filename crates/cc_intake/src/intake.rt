@@ -36,7 +36,7 @@ pub struct Refused {
 struct Told;
 
 /// What is told of an accepted event.
-#[derive(Clone, Copy, Debug, PartialEq, Eq)]
+#[derive(Clone, Copy, PartialEq, Eq)]
 pub struct Accepted {
     /// Its place in this life, from 1.
     pub place: u64,

@@ -26,7 +26,7 @@ use std::mem;
 use std::sync::Wait;
 
 /// How many events a turn took, and whether the engine has no room for another record.
-#[derive(Clone, Copy, Debug, PartialEq, Eq)]
+#[derive(Clone, Copy, PartialEq, Eq)]
 pub struct Turned {
     pub events: usize,
     pub full: bool,

@@ -12,7 +12,7 @@ use cc_ops::Replies;
 use std::alloc::Global;
 
 /// An event that was accepted, and what it makes.
-#[derive(Debug, Drop)]
+#[derive(Drop)]
 pub struct Entry {
     pub event: Event,
     pub made: Made,

@@ -80,7 +80,7 @@ impl Landed {
 }
 
 /// A disk call failed, and the batch is given up.
-#[derive(Clone, Copy, Debug, PartialEq, Eq)]
+#[derive(Clone, Copy, PartialEq, Eq)]
 pub struct Forfeit {
     pub fault: DeviceFault,
 }

@@ -22,7 +22,7 @@ use cc_site::{MemorySite, Site};
 use std::alloc::Global;
 
 /// Where a first life stopped.
-#[derive(Clone, Copy, Debug, PartialEq, Eq)]
+#[derive(Clone, Copy, PartialEq, Eq)]
 pub enum Stopped {
     /// The sides weren't formatted.
     Format(FormatFault),

@@ -14,7 +14,7 @@ use std::marker::Model;
 
 /// Up to 256 ids, in the value itself. It tells without memory whether the peers of a node and the ids that a message
 /// names are too many together.
-#[derive(Debug, Drop)]
+#[derive(Drop)]
 pub struct KnownIds {
     numbers: ArrayVec<u32, 256>,
 }

@@ -6,7 +6,7 @@ use cc_views::NodeId;
 
 /// The link to one peer. Post number n of the node goes to the peer under the number n - `start`, so that
 /// the numbers of each link begin at 1.
-#[derive(Clone, Copy, Debug, PartialEq, Eq)]
+#[derive(Clone, Copy, PartialEq, Eq)]
 pub struct LinkRow {
     pub peer: NodeId,
 

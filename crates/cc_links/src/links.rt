@@ -16,7 +16,7 @@ use std::alloc::Global;
 use std::marker::Model;
 
 /// For each known peer one row, in room for 256 of them.
-#[derive(Debug, Drop)]
+#[derive(Drop)]
 pub struct Links {
     rows: Vec<LinkRow>,
 }

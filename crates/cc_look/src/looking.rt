@@ -14,7 +14,7 @@ use std::net::{Net, TcpStream};
 use std::time::Clock;
 
 /// How a look at a node ended.
-#[derive(Clone, Copy, Debug, PartialEq, Eq)]
+#[derive(Clone, Copy, PartialEq, Eq)]
 pub struct Look {
     /// The status to end with: 0 where the node is ready, else 1.
     pub status: u8,

@@ -7,7 +7,7 @@ use cc_views::{NoMemory, View};
 use std::alloc::Global;
 
 /// What a client is told, once its command is done.
-#[derive(Debug, Drop)]
+#[derive(Drop)]
 pub enum Answer {
     /// What was to be written stands.
     Stored,

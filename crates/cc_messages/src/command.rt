@@ -3,7 +3,7 @@
 use cc_views::Text;
 
 /// What a client asks of a node.
-#[derive(Clone, Copy, Debug, PartialEq, Eq)]
+#[derive(Clone, Copy, PartialEq, Eq)]
 pub enum Command {
     /// Store this text as the node's own.
     Store(Text),

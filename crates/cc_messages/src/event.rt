@@ -8,7 +8,7 @@ use cc_views::{NoMemory, NodeId};
 use std::alloc::Global;
 
 /// What happens to a node.
-#[derive(Debug, Drop)]
+#[derive(Drop)]
 pub enum Event {
     /// The node enters the cluster.
     Enter,

@@ -9,7 +9,7 @@ use cc_views::{NoMemory, NodeId, View};
 use std::alloc::Global;
 
 /// What nodes send to one another (CCC's messages). The node is the one that comes or goes, or that began the operation.
-#[derive(Debug, Drop)]
+#[derive(Drop)]
 pub enum Message {
     /// The node enters.
     Enter {

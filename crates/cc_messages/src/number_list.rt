@@ -10,7 +10,7 @@ use std::alloc::Global;
 use std::marker::Model;
 
 /// A set of up to 8,192 numbers: as many as 256 nodes have with 32 each.
-#[derive(Debug, Drop)]
+#[derive(Drop)]
 pub struct NumberList {
     numbers: Vec<u32>,
 }

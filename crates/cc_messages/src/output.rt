@@ -5,7 +5,7 @@ use crate::message::Message;
 use cc_views::NodeId;
 
 /// What leaves a node.
-#[derive(Debug, Drop)]
+#[derive(Drop)]
 pub enum Output {
     /// A message for a node, the one with this number on the link to it.
     Send {

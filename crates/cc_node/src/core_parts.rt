@@ -26,7 +26,7 @@ use cc_views::{COUNTER_LIMIT, NodeId, Row, View};
 
 /// What a core is put together from: the state of a node, up to what it keeps to put out again. Not all
 /// parts make a lawful core.
-#[derive(Debug, Drop)]
+#[derive(Drop)]
 pub struct CoreParts {
     /// Its own name.
     pub me: NodeId,

@@ -7,14 +7,14 @@ use cc_ops::Replies;
 use cc_views::NodeId;
 
 /// The acknowledgement of a delivered message.
-#[derive(Clone, Copy, Debug, PartialEq, Eq)]
+#[derive(Clone, Copy, PartialEq, Eq)]
 pub struct LinkAck {
     pub to: NodeId,
     pub number: u64,
 }
 
 /// What an event makes beside the next state: at most one acknowledgement and one post, and its answers.
-#[derive(Debug, Drop)]
+#[derive(Drop)]
 pub struct Made {
     pub ack: Option<LinkAck>,
     pub post: Option<Message>,

@@ -32,7 +32,7 @@ use std::alloc::Global;
 use std::marker::Model;
 
 /// A core, and the posts and answers that may have to be put out again.
-#[derive(Debug, Drop)]
+#[derive(Drop)]
 pub struct Node {
     core: Core,
     outbox: Outbox,

@@ -23,7 +23,7 @@ use std::alloc::Global;
 use std::marker::Model;
 
 /// The state of a node, up to what it keeps to put out again.
-#[derive(Debug, Drop)]
+#[derive(Drop)]
 pub struct Core {
     pub(crate) me: NodeId,
     pub(crate) beta: Fraction,

@@ -19,7 +19,7 @@ use std::error::Error;
 use std::fmt;
 
 /// What a node is told of itself and of others. Ids are numbers from 1 on.
-#[derive(Clone, Copy, Debug)]
+#[derive(Clone, Copy)]
 pub struct Opening<'a> {
     pub me: u32,
 

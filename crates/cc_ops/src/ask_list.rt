@@ -14,7 +14,7 @@ use std::alloc::Global;
 use std::marker::Model;
 
 /// At most 32 asks, in the order in which they were accepted: those that wait, and those of a round beside its first one.
-#[derive(Debug, Drop)]
+#[derive(Drop)]
 pub struct AskList {
     // Its room is made at the start.
     asks: Vec<Asked>,

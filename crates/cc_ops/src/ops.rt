@@ -15,7 +15,7 @@ use std::marker::Model;
 
 /// The view, the own value under its number, the pending round, and the asks that wait behind it (CCC, client and server).
 /// A round has up to `share` asks of one kind, which write or read.
-#[derive(Debug, Drop)]
+#[derive(Drop)]
 pub struct Ops {
     pub(crate) view: View,
     pub(crate) number: u64,

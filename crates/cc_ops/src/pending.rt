@@ -7,7 +7,7 @@ ghost use Rattle.cc_ops.specs.Ops.{IsWaiting};
 use cc_messages::{Answer, Command};
 
 /// What a client asked for, and under which request of its session.
-#[derive(Clone, Copy, Debug, PartialEq, Eq)]
+#[derive(Clone, Copy, PartialEq, Eq)]
 pub struct Asked {
     pub session: u64,
     pub request: u64,
@@ -15,7 +15,7 @@ pub struct Asked {
 }
 
 /// An operation that needs so many answers to its tag, and has counted so many (CCC, client).
-#[derive(Clone, Copy, Debug, PartialEq, Eq)]
+#[derive(Clone, Copy, PartialEq, Eq)]
 pub struct Pending {
     pub asked: Asked,
     pub need: u64,
@@ -23,7 +23,7 @@ pub struct Pending {
 }
 
 /// What a client is told: the answer to a request of its session.
-#[derive(Debug, Drop)]
+#[derive(Drop)]
 pub struct Reply {
     pub session: u64,
     pub request: u64,

@@ -9,7 +9,7 @@ use std::alloc::Global;
 use std::marker::Model;
 
 /// The answers of one event, in the order in which they are put out: at most 32. Where there are none it holds no memory.
-#[derive(Debug, Drop)]
+#[derive(Drop)]
 pub struct Replies {
     replies: Option<Vec<Reply>>,
 }

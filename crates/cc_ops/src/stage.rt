@@ -4,7 +4,7 @@ use crate::pending::Pending;
 
 /// How far the client's operation has come. A store has one round, a collect two: a query, and a store of what was
 /// seen (CCC, client).
-#[derive(Clone, Copy, Debug, PartialEq, Eq)]
+#[derive(Clone, Copy, PartialEq, Eq)]
 pub enum Stage {
     /// No operation is pending.
     Idle,

@@ -9,7 +9,7 @@ use std::net::SocketAddr;
 const TIMEOUT: u64 = 10;
 
 /// The words of `ask`, as they are given. None for one that isn't.
-#[derive(Clone, Copy, Debug)]
+#[derive(Clone, Copy)]
 pub struct AskWords<'a> {
     pub address: &'a str,
     pub session: &'a str,
@@ -25,7 +25,7 @@ pub struct AskWords<'a> {
 }
 
 /// How an answer is printed.
-#[derive(Clone, Copy, Debug, PartialEq, Eq)]
+#[derive(Clone, Copy, PartialEq, Eq)]
 pub enum AnswerForm {
     /// As `play` prints it.
     Plain,
@@ -33,7 +33,7 @@ pub enum AnswerForm {
 }
 
 /// A command that a client has done in its session.
-#[derive(Clone, Copy, Debug, PartialEq, Eq)]
+#[derive(Clone, Copy, PartialEq, Eq)]
 pub struct AskOrder {
     pub address: SocketAddr,
     pub session: u64,

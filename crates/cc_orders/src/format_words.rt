@@ -1,7 +1,7 @@
 //! The words of `format`.
 
 /// The words of `format` behind its folder, as they are given. None for an option that isn't.
-#[derive(Clone, Copy, Debug)]
+#[derive(Clone, Copy)]
 pub struct FormatWords<'a> {
     pub id: &'a str,
     pub initial: Option<&'a str>,

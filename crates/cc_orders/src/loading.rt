@@ -23,7 +23,7 @@ const MOST_SECONDS: u64 = 3600;
 const TEXT: &str = "load-0123456789";
 
 /// The words of `load`, as they are given. None for an option that isn't.
-#[derive(Clone, Copy, Debug)]
+#[derive(Clone, Copy)]
 pub struct LoadWords<'a> {
     pub addresses: &'a str,
     pub clients: Option<&'a str>,
@@ -35,7 +35,7 @@ pub struct LoadWords<'a> {
 }
 
 /// What the clients of a load ask for.
-#[derive(Clone, Copy, Debug, PartialEq, Eq)]
+#[derive(Clone, Copy, PartialEq, Eq)]
 pub enum Operation {
     Store,
     Collect,
@@ -63,7 +63,7 @@ impl Operation {
 }
 
 /// Clients that ask nodes which run, each as soon as it was answered.
-#[derive(Debug, Drop, PartialEq, Eq)]
+#[derive(Drop, PartialEq, Eq)]
 pub struct LoadOrder {
     /// Where the nodes listen, no address twice.
     pub addresses: Vec<SocketAddr>,

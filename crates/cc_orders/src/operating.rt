@@ -7,7 +7,7 @@ use cc_words::{address, small_number};
 use std::net::SocketAddr;
 
 /// The node at an address is to leave.
-#[derive(Clone, Copy, Debug, PartialEq, Eq)]
+#[derive(Clone, Copy, PartialEq, Eq)]
 pub struct LeaveOrder {
     pub address: SocketAddr,
 }
@@ -21,7 +21,7 @@ impl LeaveOrder {
 }
 
 /// The node at an address is told that another is dead for good.
-#[derive(Clone, Copy, Debug, PartialEq, Eq)]
+#[derive(Clone, Copy, PartialEq, Eq)]
 pub struct RetireOrder {
     pub address: SocketAddr,
     pub node: NodeId,
@@ -37,7 +37,7 @@ impl RetireOrder {
 }
 
 /// A node is asked what it tells of itself.
-#[derive(Clone, Copy, Debug, PartialEq, Eq)]
+#[derive(Clone, Copy, PartialEq, Eq)]
 pub struct StatusOrder {
     /// Where it tells its status.
     pub address: SocketAddr,

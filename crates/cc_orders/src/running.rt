@@ -8,7 +8,7 @@ use std::alloc::Global;
 use std::net::SocketAddr;
 
 /// The words of `run` behind its folder, as they are given. None for an option that isn't.
-#[derive(Clone, Copy, Debug)]
+#[derive(Clone, Copy)]
 pub struct RunWords<'a> {
     pub listen: &'a str,
     pub listen_clients: Option<&'a str>,
@@ -21,7 +21,7 @@ pub struct RunWords<'a> {
 }
 
 /// How much a node notes: what is of a level, and of those before it.
-#[derive(Clone, Copy, Debug, PartialEq, Eq)]
+#[derive(Clone, Copy, PartialEq, Eq)]
 pub enum LogLevel {
     Error,
     Warn,
@@ -43,7 +43,7 @@ impl LogLevel {
 }
 
 /// Where a node that runs listens, where the others do, and what it tells of itself.
-#[derive(Debug, Drop, PartialEq, Eq)]
+#[derive(Drop, PartialEq, Eq)]
 pub struct RunOrder {
     pub listen: SocketAddr,
     /// Where it listens for clients alone. None where it doesn't.

@@ -17,7 +17,7 @@ use std::marker::Model;
 use std::mem;
 
 /// The kept posts and answers of a node, in room for 512 posts and 256 answers.
-#[derive(Debug, Drop)]
+#[derive(Drop)]
 pub struct Outbox {
     last: u64,
     // Those up to number `last`.

@@ -24,7 +24,7 @@ pub const FOUR_FIFTHS: Fraction = Fraction { num: 4, den: 5 };
 const ONE_BY_ONE: u32 = 1;
 
 /// What came of a line.
-#[derive(Clone, Copy, Debug, PartialEq, Eq)]
+#[derive(Clone, Copy, PartialEq, Eq)]
 pub enum Played {
     Good,
     Bad,

@@ -5,7 +5,7 @@ use std::collections::BTreeSet;
 
 /// What one node sent to another under a number. The order is that in which messages are carried where a line doesn't
 /// name them: by receiver, and then by sender.
-#[derive(Clone, Copy, Debug, PartialEq, Eq, PartialOrd, Ord)]
+#[derive(Clone, Copy, PartialEq, Eq, PartialOrd, Ord)]
 pub struct Delivery {
     pub to: u32,
     pub from: u32,

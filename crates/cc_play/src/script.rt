@@ -10,7 +10,7 @@ use cc_words::{command, fraction, list, number, small_number};
 use std::alloc::{AllocError, Global};
 
 /// What one line asks for.
-#[derive(Debug, Drop)]
+#[derive(Drop)]
 pub enum Line {
     /// The fractions of the nodes that are made after it.
     Fractions { beta: Fraction, gamma: Fraction },

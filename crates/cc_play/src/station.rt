@@ -23,7 +23,7 @@ use std::mem;
 const RESERVE: usize = 16_384;
 
 /// What a node makes of an event.
-#[derive(Clone, Copy, Debug, PartialEq, Eq)]
+#[derive(Clone, Copy, PartialEq, Eq)]
 pub enum Outcome {
     Refused,
     /// It is accepted, and nothing is sent.
@@ -35,7 +35,7 @@ pub enum Outcome {
 }
 
 /// What a node may put out again.
-#[derive(Clone, Copy, Debug, PartialEq, Eq)]
+#[derive(Clone, Copy, PartialEq, Eq)]
 pub enum Standing {
     /// Each kept post, on each link that waits for it.
     Posts,

@@ -16,7 +16,7 @@ use cc_frames::Frame;
 use cc_messages::{Answer, Command, Refusal};
 
 /// One command of a client in its session. A session has one client at a time.
-#[derive(Clone, Copy, Debug, PartialEq, Eq)]
+#[derive(Clone, Copy, PartialEq, Eq)]
 pub struct Client {
     pub session: u64,
     pub command: Command,
@@ -25,7 +25,7 @@ pub struct Client {
 }
 
 /// What a client hears.
-#[derive(Debug, Drop)]
+#[derive(Drop)]
 pub enum Heard {
     /// The connection is open, or a pause is over.
     Ready,
@@ -36,7 +36,7 @@ pub enum Heard {
 }
 
 /// What a client does next.
-#[derive(Debug, Drop)]
+#[derive(Drop)]
 pub enum Step {
     /// It sends this.
     Send(Frame),

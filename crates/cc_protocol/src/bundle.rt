@@ -12,7 +12,7 @@ use std::alloc::Global;
 use std::marker::Model;
 
 /// What is to be written to a peer.
-#[derive(Debug, Drop)]
+#[derive(Drop)]
 pub enum Parcel {
     /// The bytes of a Post frame.
     Post(Vec<u8>),
@@ -22,7 +22,7 @@ pub enum Parcel {
 
 /// What a peer is to get in one write: posts in their order, and behind them the last acknowledgement, which says all that
 /// those before it said.
-#[derive(Debug, Drop)]
+#[derive(Drop)]
 pub struct Bundle {
     bytes: Vec<u8>,
     ack: Option<u64>,

@@ -8,7 +8,7 @@ ghost use Rattle.cc_protocol.specs.Calling.{no_calls, ticked, is_called_back, ca
 use crate::absence::PERIOD;
 
 /// What is remembered of the last snapshot, and of the voices of absent peers.
-#[derive(Clone, Copy, Debug, PartialEq, Eq)]
+#[derive(Clone, Copy, PartialEq, Eq)]
 pub struct Calls {
     /// How many seconds have passed since the last snapshot, 8 at most.
     pub since: u64,

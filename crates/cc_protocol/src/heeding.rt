@@ -9,7 +9,7 @@ use cc_messages::{Event, Refusal};
 use cc_views::NodeId;
 
 /// What an answer asks of the worker that brought the event.
-#[derive(Debug, Drop)]
+#[derive(Drop)]
 pub enum Duty {
     /// Nothing: what was refused is sent again by its link.
     Nothing,

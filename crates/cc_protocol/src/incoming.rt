@@ -88,7 +88,7 @@ impl<I: Input> Model for Incoming<I> {
 }
 
 /// Why no further frame comes.
-#[derive(Clone, Copy, Debug, PartialEq, Eq)]
+#[derive(Clone, Copy, PartialEq, Eq)]
 pub enum Ending {
     /// The input has ended.
     Input,

@@ -6,14 +6,14 @@ ghost use Rattle.cc_protocol.specs.Lasting.{nothing_lasts, is_same, lasts_after,
 use crate::absence::LONG;
 
 /// The request of a session, by which an operation is known.
-#[derive(Clone, Copy, Debug, PartialEq, Eq)]
+#[derive(Clone, Copy, PartialEq, Eq)]
 pub struct AskName {
     pub session: u64,
     pub request: u64,
 }
 
 /// The operation that is pending, if one is, and for how many seconds it has been, 8 at most.
-#[derive(Clone, Copy, Debug, PartialEq, Eq)]
+#[derive(Clone, Copy, PartialEq, Eq)]
 pub struct Lasting {
     pub asked: Option<AskName>,
     pub seconds: u64,

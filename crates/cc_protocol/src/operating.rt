@@ -12,7 +12,7 @@ use cc_frames::Frame;
 use cc_messages::Refusal;
 
 /// What the operator's request came to.
-#[derive(Clone, Copy, Debug, PartialEq, Eq)]
+#[derive(Clone, Copy, PartialEq, Eq)]
 pub enum Outcome {
     /// The node counts as one that left, by this request or by an earlier one.
     Done,

@@ -6,7 +6,7 @@ ghost use Rattle.cc_protocol.specs.Access.{access_of, allows};
 use cc_messages::Event;
 
 /// Where a connection comes from.
-#[derive(Clone, Copy, Debug, PartialEq, Eq)]
+#[derive(Clone, Copy, PartialEq, Eq)]
 pub enum Origin {
     /// This machine.
     Loopback,
@@ -19,7 +19,7 @@ pub enum Origin {
 }
 
 /// What a connection may bring.
-#[derive(Clone, Copy, Debug, PartialEq, Eq)]
+#[derive(Clone, Copy, PartialEq, Eq)]
 pub struct Access {
     /// What clients ask.
     pub asks: bool,
@@ -68,7 +68,7 @@ impl Access {
 }
 
 /// A connection that was let in.
-#[derive(Clone, Copy, Debug, PartialEq, Eq)]
+#[derive(Clone, Copy, PartialEq, Eq)]
 pub struct Admitted {
     /// Its ticket, which no other ever has.
     pub ticket: u64,

@@ -1,5 +1,5 @@
 /// Over which connection an ask came, and so where its answer goes.
-#[derive(Clone, Copy, Debug, PartialEq, Eq)]
+#[derive(Clone, Copy, PartialEq, Eq)]
 pub struct Route {
     pub session: u64,
     pub request: u64,

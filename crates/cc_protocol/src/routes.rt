@@ -15,7 +15,7 @@ use std::marker::Model;
 
 /// The open connections by their tickets, and for each session the one over which it asked last. Once made it takes no
 /// memory.
-#[derive(Debug, Drop)]
+#[derive(Drop)]
 pub struct Routes {
     connections: Vec<u64>,
     spare: Vec<u64>,

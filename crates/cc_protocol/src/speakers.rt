@@ -9,14 +9,14 @@ use std::alloc::Global;
 use std::marker::Model;
 
 /// A connection, and the node that it speaks for.
-#[derive(Clone, Copy, Debug, PartialEq, Eq)]
+#[derive(Clone, Copy, PartialEq, Eq)]
 pub struct Speaker {
     pub node: NodeId,
     pub ticket: u64,
 }
 
 /// What a frame of a node makes of the connection that it came over.
-#[derive(Clone, Copy, Debug, PartialEq, Eq)]
+#[derive(Clone, Copy, PartialEq, Eq)]
 pub enum Spoken {
     /// It speaks for the node.
     Alone,
@@ -28,7 +28,7 @@ pub enum Spoken {
 
 /// For each node the newest connection that brought a frame of it: a node has one connection to another, and one that it made
 /// before leads nowhere. Once made it takes no memory.
-#[derive(Debug, Drop)]
+#[derive(Drop)]
 pub struct Speakers {
     rows: Vec<Speaker>,
 }

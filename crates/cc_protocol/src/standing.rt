@@ -8,7 +8,7 @@ ghost use Rattle.cc_protocol.specs.Standing.{of_owing, of_live, after_second, af
 use crate::absence::{PATIENCE, PINNED};
 
 /// How a peer stands to the node, as the node looks at it each second.
-#[derive(Clone, Copy, Debug, PartialEq, Eq)]
+#[derive(Clone, Copy, PartialEq, Eq)]
 pub enum Standing {
     /// It owes nothing, or what it owes was sent within the last second.
     Current,

@@ -13,7 +13,7 @@ use std::alloc::Global;
 use std::marker::Model;
 
 /// How one peer stands.
-#[derive(Clone, Copy, Debug, PartialEq, Eq)]
+#[derive(Clone, Copy, PartialEq, Eq)]
 pub struct PeerStanding {
     pub peer: NodeId,
     pub standing: Standing,
@@ -24,7 +24,7 @@ pub struct PeerStanding {
 }
 
 /// What a second shows of a peer.
-#[derive(Clone, Copy, Debug, PartialEq, Eq)]
+#[derive(Clone, Copy, PartialEq, Eq)]
 pub struct Passed {
     /// How it stands at its end.
     pub standing: Standing,
@@ -35,7 +35,7 @@ pub struct Passed {
 }
 
 /// How each peer stands. Once made it takes no memory.
-#[derive(Debug, Drop)]
+#[derive(Drop)]
 pub struct Standings {
     rows: Vec<PeerStanding>,
 }

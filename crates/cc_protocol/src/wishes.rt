@@ -10,7 +10,7 @@ use std::marker::Model;
 
 /// The peers that wait for what was heard from them, and the sessions that wait for their last answer: each of them once,
 /// however often it was asked for. Once made it takes no memory.
-#[derive(Debug, Drop)]
+#[derive(Drop)]
 pub struct Wishes {
     peers: Vec<NodeId>,
     sessions: Vec<u64>,

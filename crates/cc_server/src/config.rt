@@ -4,7 +4,7 @@ use cc_frames::Peer;
 use std::net::SocketAddr;
 
 /// What a node is run with.
-#[derive(Debug, Drop)]
+#[derive(Drop)]
 pub struct Config<'a> {
     /// The node's folder.
     pub dir: &'a str,

@@ -1,5 +1,5 @@
 /// How a request stands to its session. The requests of a session are numbered from 1 on, without a gap.
-#[derive(Clone, Copy, Debug, PartialEq, Eq)]
+#[derive(Clone, Copy, PartialEq, Eq)]
 pub enum Checked {
     /// The next request of its session.
     Fresh,

@@ -15,7 +15,7 @@ use std::alloc::Global;
 use std::marker::Model;
 
 /// The last request of each session, in room for 256 sessions.
-#[derive(Debug, Drop)]
+#[derive(Drop)]
 pub struct Sessions {
     rows: Vec<SessionRow>,
 }

@@ -4,7 +4,7 @@ ghost use Rattle.std.specs.Prelude.{◌≡◌, MatchOption};
 ghost use Rattle.cc_sides.specs.Layouts.{IsVersion, layout_of, layout_for, version_of};
 
 /// How the bytes of a state are laid out.
-#[derive(Clone, Copy, Debug, PartialEq, Eq)]
+#[derive(Clone, Copy, PartialEq, Eq)]
 pub enum Layout {
     /// Version 1, which has no place for asks that wait.
     Plain,

@@ -4,14 +4,14 @@ ghost use Rattle.std.specs.Prelude.{◌↔◌, IsTrue};
 ghost use Rattle.cc_site.specs.Fuse.{Fails};
 
 /// Whether a fuse fails one disk call, or that one and all after it.
-#[derive(Clone, Copy, Debug, PartialEq, Eq)]
+#[derive(Clone, Copy, PartialEq, Eq)]
 pub enum Failing {
     Once,
     Stop,
 }
 
 /// Fails the disk call with this number.
-#[derive(Clone, Copy, Debug, PartialEq, Eq)]
+#[derive(Clone, Copy, PartialEq, Eq)]
 pub struct Fuse {
     pub at: u64,
     pub failing: Failing,

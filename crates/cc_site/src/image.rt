@@ -10,7 +10,7 @@ use crate::steps::{Change, Step};
 use std::alloc::{AllocError, Global};
 
 /// What a crash makes of the places that it may change.
-#[derive(Debug, Drop)]
+#[derive(Drop)]
 pub enum Choice {
     /// All as a read gives it.
     Read,

@@ -9,7 +9,7 @@ use crate::site::Side;
 use std::alloc::AllocError;
 
 /// What a disk call did to its side.
-#[derive(Debug, Drop)]
+#[derive(Drop)]
 pub enum Change {
     /// So many bytes were written, over the old ones.
     Written {
@@ -35,7 +35,7 @@ pub enum Change {
 }
 
 /// A disk call that changed a side, or that failed to.
-#[derive(Debug, Drop)]
+#[derive(Drop)]
 pub struct Step {
     pub side: Side,
     /// How many outputs there were by then.

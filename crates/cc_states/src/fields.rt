@@ -9,7 +9,7 @@ use cc_sessions::SessionRow;
 use cc_views::{NodeId, Value, View};
 
 /// Who the node is, its shares of members and of those present, and who came and left.
-#[derive(Debug, Drop)]
+#[derive(Drop)]
 pub struct Membership {
     pub me: NodeId,
     pub beta: Fraction,
@@ -18,7 +18,7 @@ pub struct Membership {
 }
 
 /// The own value under its number, and the tag.
-#[derive(Debug, Drop)]
+#[derive(Drop)]
 pub struct Own {
     pub number: u64,
     pub mine: Value,
@@ -26,7 +26,7 @@ pub struct Own {
 }
 
 /// How far the own entering has come.
-#[derive(Debug, Drop)]
+#[derive(Drop)]
 pub struct Entering {
     pub echoes: u64,
     pub need: u16,
@@ -34,7 +34,7 @@ pub struct Entering {
 
 /// How far the pending round has come, what it stores back (where it stores nothing back, a view without rows), how many
 /// asks it has at most, those beside its first one, and the asks that wait behind it.
-#[derive(Debug, Drop)]
+#[derive(Drop)]
 pub struct Round {
     pub stage: Stage,
     pub seen: View,
@@ -44,7 +44,7 @@ pub struct Round {
 }
 
 /// What the node has stored and heard of, how far its entering has come, and its pending round.
-#[derive(Debug, Drop)]
+#[derive(Drop)]
 pub struct Work {
     pub view: View,
     pub number: u64,
@@ -56,7 +56,7 @@ pub struct Work {
 }
 
 /// How many posts were ever made, the links, the sessions, and what is kept: posts, the lowest number first, and answers.
-#[derive(Debug, Drop)]
+#[derive(Drop)]
 pub struct Tables {
     pub posts: u64,
     pub links: Vec<LinkRow>,
@@ -66,7 +66,7 @@ pub struct Tables {
 }
 
 /// All fields of a state, in their order.
-#[derive(Debug, Drop)]
+#[derive(Drop)]
 pub struct Fields {
     pub membership: Membership,
     pub work: Work,

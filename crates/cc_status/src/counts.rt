@@ -37,7 +37,7 @@ pub const COMMANDS: [&str; 8] = [
 pub const BATCH_BOUNDS: [u64; 7] = [1, 2, 4, 8, 16, 32, 64];
 
 /// What a node counted since its start.
-#[derive(Clone, Copy, Debug, Default)]
+#[derive(Clone, Copy, Default)]
 pub struct Counted {
     pub commits: u64,
     pub events: u64,
@@ -54,7 +54,7 @@ pub struct Counted {
 }
 
 /// How long syncs took.
-#[derive(Clone, Copy, Debug, Default)]
+#[derive(Clone, Copy, Default)]
 pub struct SyncCounts {
     /// How many took so long, by their bucket: those of `SYNC_BOUNDS`, and one for longer ones.
     pub buckets: [u64; 17],

@@ -41,7 +41,7 @@ impl Shown {
 }
 
 /// The side in use, how long it is, and what counts on it behind the state.
-#[derive(Clone, Copy, Debug)]
+#[derive(Clone, Copy)]
 pub struct DiskShown {
     pub side: Side,
     pub generation: u64,
@@ -51,7 +51,7 @@ pub struct DiskShown {
 }
 
 /// What is known of a peer beside its link. Moments are milliseconds since 1970.
-#[derive(Clone, Copy, Debug)]
+#[derive(Clone, Copy)]
 pub struct PeerNote {
     pub peer: NodeId,
     pub address: Option<SocketAddr>,
@@ -61,7 +61,7 @@ pub struct PeerNote {
 }
 
 /// What is known of a running node beside its state.
-#[derive(Clone, Copy, Debug)]
+#[derive(Clone, Copy)]
 pub struct Live<'a> {
     pub version: &'a str,
     pub started: u64,

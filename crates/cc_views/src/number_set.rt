@@ -13,7 +13,7 @@ ghost use Rattle.cc_views.specs.Tables.{IsRising, IsPlaceOf};
 use std::marker::Model;
 
 /// A set slot: up to 32 numbers.
-#[derive(Clone, Copy, Debug)]
+#[derive(Clone, Copy)]
 pub struct NumberSet {
     // Ascending, and zero from `len` on.
     numbers: [u32; NumberSet::MAX_LEN],

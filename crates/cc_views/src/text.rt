@@ -4,7 +4,7 @@ ghost use Rattle.cc_views.specs.Limits.{text_limit};
 use std::marker::Model;
 
 /// A text slot: up to 64 bytes of any kind.
-#[derive(Clone, Copy, Debug, PartialEq, Eq)]
+#[derive(Clone, Copy, PartialEq, Eq)]
 pub struct Text {
     // Zero from `len` on.
     bytes: [u8; Text::MAX_LEN],

@@ -5,7 +5,7 @@ use crate::number_set::NumberSet;
 use crate::text::Text;
 
 /// What a node has stored: one value of four slots.
-#[derive(Clone, Copy, Debug, PartialEq, Eq)]
+#[derive(Clone, Copy, PartialEq, Eq)]
 pub struct Value {
     pub text: Text,
     pub max: u64,

@@ -18,7 +18,7 @@ use std::alloc::Global;
 use std::marker::Model;
 
 /// For each node at most one row, in room for 256 of them (CCC, view).
-#[derive(Debug, Drop)]
+#[derive(Drop)]
 pub struct View {
     rows: Vec<Row>,
 }
