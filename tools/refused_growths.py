@@ -1,10 +1,11 @@
 #!/usr/bin/env python3
 """Refuses each growth of each test of these crates once: refused_growths.py CRATE..
 
-A test may then pass, or answer an error: want of memory, or the failed call of a disk in memory, which can't grow. Where it
-compares an answer that is an error with another one, it stops at that line, which is counted. Where it compares what the call
-was to leave as it was with how that was before (`unless_failed` of the tests), that is counted too. A test that ends in any
-other way, finds something changed, or doesn't end within a minute (status 142, or 124), is printed, and the status is 1. A
+A test may then pass, or be answered an error, by which it ends or at whose `expect` it stops: want of memory, or the failed call
+of a disk in memory, which can't grow. Where it compares an answer that is an error with another one, it stops at that line,
+which is counted. Where it compares what the call was to leave as it was with how that was before (`unless_failed` of the
+tests), that is counted too. A test that ends in any other way, as at an `expect` that names no such error, finds something
+changed, or doesn't end within a minute (status 142, or 124), is printed, and the status is 1. A
 test that runs threads is run anew for each growth; which growth has a number then depends on how they fall together. The
 tests are those that `rt test` built; as many are run side by side as there are processors.
 
@@ -23,6 +24,8 @@ SECONDS = 60
 COPIES = 3 * 60 * 60
 # What a test says that has looked at what a refused call left.
 KEPT, CHANGED = "failed, and all is as it was", "failed, and something has changed"
+# What an `expect` says of want of memory, or of a disk in memory that can't grow.
+WANTING = re.compile(rf": .*(?:NoMemory|AllocError|AllocFailed|Device|Failed)|{KEPT}")
 
 
 def run(tests, name, preloaded, **words):
@@ -55,9 +58,13 @@ def kind_of(ended, said, plain):
         return {0: "passed" if is_same else None, 1: "error" if "Error: " in said else None}.get(ended)
     if ended == 0:
         return "passed"
-    if ended == 101 and "its result gives status 1" in said and CHANGED not in said:
-        return "kept" if KEPT in said else "error"
-    return "stop" if ended in (134, -6) and "test stopped at src/" in said else None
+    stops = ended in (134, -6) and "test stopped at src/" in said
+    if stops and "assertion failed" in said:
+        return "stop"
+    is_told = WANTING.search(said) if stops else ended == 101 and "its result gives status 1" in said
+    if not is_told or CHANGED in said:
+        return None
+    return "kept" if KEPT in said else "error"
 
 
 def ends_one_by_one(tests, name, preloaded):

@@ -1,61 +1,52 @@
 //! A state in pieces, and the steps of a checkpoint.
 
 use crate::memory_sites::{contents, has, two_sides};
-use crate::refusals::led_to;
-use crate::states::{answered_node, is_state_of, opened};
+use crate::states::{answered_node, extend, is_state_of, opened};
 use cc_checkpoint::{Piece, Pieces, arm, fill, retire, state_length};
 use cc_node::Node;
 use cc_site::{Failing, MemorySite, Side, Site};
-use std::alloc::Global;
-use std::test::*;
+use std::process::Abort;
 
 // The pieces of a node's state. They end within a hundred.
-fn put_pieces(pieces: &mut Pieces, piece: &mut Piece, all: &mut Vec<u8>) -> Result<(), Fail> {
+fn put_pieces<R: Abort>(rt: &R, pieces: &mut Pieces, piece: &mut Piece, all: &mut Vec<u8>) {
     for _ in 0..100 {
         pieces.next(piece);
-        all.extend_from_slice(piece.as_slice())?;
+        extend(rt, all, piece.as_slice());
     }
-    Ok(())
 }
 
 // What they are together.
-fn joined(alloc: Global, node: &Node) -> Result<Vec<u8>, Fail> {
-    let mut piece = Piece::new(alloc)?;
+fn joined<R: Abort + AllocGlobal>(rt: &R, node: &Node) -> Vec<u8> {
+    let mut piece = Piece::new(rt.alloc()).expect(rt, "a piece");
     let mut pieces = Pieces::new(node);
-    let mut all = Vec::new(alloc);
-    let put = put_pieces(&mut pieces, &mut piece, &mut all);
+    let mut all = Vec::new(rt.alloc());
+    put_pieces(rt, &mut pieces, &mut piece, &mut all);
     drop(pieces);
     drop(piece);
-    led_to(all, put)
+    all
 }
 
 // Whether the pieces of a node's state are its plain spelling, as long as is told.
-fn comes_in_pieces(alloc: Global, node: &Node) -> Result<bool, Fail> {
-    let pieces = joined(alloc, node)?;
+fn comes_in_pieces<R: Abort + AllocGlobal>(rt: &R, node: &Node) -> bool {
+    let pieces = joined(rt, node);
     let is_long = state_length(node) == pieces.len() as u64;
-    let is_plain = is_state_of(alloc, node, &pieces);
-    drop(pieces);
-    Ok(is_plain? && is_long)
+    is_state_of(rt, node, &pieces) && is_long
 }
 
 // It has 119 bytes.
 #[test]
-fn a_state_comes_in_pieces(rt: HostRuntime) -> Result<(), Fail> {
-    let member = opened(rt.alloc(), 1, &[1], &[])?;
-    let comes_in_pieces = comes_in_pieces(rt.alloc(), &member);
-    let length = state_length(&member);
+fn a_state_comes_in_pieces(rt: HostRuntime) {
+    let member = opened(&rt, 1, &[1], &[]);
+    assert!(rt; comes_in_pieces(&rt, &member));
+    assert!(rt; state_length(&member) == 119);
     drop(member);
-    assert!(rt; comes_in_pieces? && length == 119);
-    Ok(())
 }
 
 #[test]
-fn what_a_node_keeps_comes_in_pieces(rt: HostRuntime) -> Result<(), Fail> {
-    let node = answered_node(rt.alloc())?;
-    let comes_in_pieces = comes_in_pieces(rt.alloc(), &node);
+fn what_a_node_keeps_comes_in_pieces(rt: HostRuntime) {
+    let node = answered_node(&rt);
+    assert!(rt; comes_in_pieces(&rt, &node));
     drop(node);
-    assert!(rt; comes_in_pieces?);
-    Ok(())
 }
 
 // Fills a side that has a byte. Whether that was done.
@@ -83,86 +74,68 @@ fn moves_over<S: Site>(site: &mut S, node: &Node, piece: &mut Piece) -> bool {
 }
 
 /// Two sides of one closed byte each.
-pub(crate) fn shut_sides(alloc: Global) -> Result<MemorySite, Fail> {
-    two_sides(alloc, &[0], &[0])
+pub(crate) fn shut_sides<R: Abort + AllocGlobal>(rt: &R) -> MemorySite {
+    two_sides(rt, &[0], &[0])
 }
 
 // Whether a whole checkpoint is done, from the first side on.
-fn is_moved(alloc: Global, site: &mut MemorySite, node: &Node) -> Result<bool, Fail> {
-    let mut piece = Piece::new(alloc)?;
+fn is_moved<R: Abort + AllocGlobal>(rt: &R, site: &mut MemorySite, node: &Node) -> bool {
+    let mut piece = Piece::new(rt.alloc()).expect(rt, "a piece");
     let is_moved = moves_over(site, node, &mut piece);
     drop(piece);
-    Ok(is_moved)
+    is_moved
 }
 
 // What stands before the state of 119 bytes: an open gate, generation 2, version 2, and that length.
 const HEAD: [u8; 14] = [0xA5, 0, 0, 0, 0, 0, 0, 0, 2, 2, 0, 0, 0, 0x77];
 
 // Whether a side has that head, the state of a node, and a closed gate.
-fn has_state(alloc: Global, side: &[u8], node: &Node) -> Result<bool, Fail> {
-    let Some(state) = side.get(14..133) else {
-        return Err("there is no state".into());
-    };
-    let is_state = is_state_of(alloc, node, state)?;
-    Ok(is_state && side.starts_with(&HEAD) && side.ends_with(&[0]) && side.len() == 134)
+fn has_state<R: Abort + AllocGlobal>(rt: &R, side: &[u8], node: &Node) -> bool {
+    let state = side.get(14..133).expect(rt, "a state");
+    let is_state = is_state_of(rt, node, state);
+    is_state && side.starts_with(&HEAD) && side.ends_with(&[0]) && side.len() == 134
 }
 
-fn has_node(alloc: Global, site: &mut MemorySite, node: &Node) -> Result<bool, Fail> {
-    let side = contents(alloc, site, Side::B)?;
-    let has_state = has_state(alloc, &side, node);
-    drop(side);
-    has_state
+fn has_node<R: Abort + AllocGlobal>(rt: &R, site: &mut MemorySite, node: &Node) -> bool {
+    let side = contents(rt, site, Side::B);
+    has_state(rt, &side, node)
 }
 
-// Whether a whole checkpoint leaves one closed byte of side A, and the state on side B.
-fn is_moved_over(alloc: Global, site: &mut MemorySite, node: &Node) -> Result<bool, Fail> {
-    if !is_moved(alloc, site, node)? {
-        return Err("the checkpoint stopped".into());
-    }
-    Ok(has(alloc, site, Side::A, &[0])? && has_node(alloc, site, node)?)
-}
-
-fn moves_sides(alloc: Global, node: &Node) -> Result<bool, Fail> {
-    let mut site = shut_sides(alloc)?;
-    let is_moved_over = is_moved_over(alloc, &mut site, node);
-    drop(site);
-    is_moved_over
-}
-
+// A whole checkpoint leaves one closed byte of side A, and the state on side B.
 #[test]
-fn a_checkpoint_moves_to_the_other_side(rt: HostRuntime) -> Result<(), Fail> {
-    let member = opened(rt.alloc(), 1, &[1], &[])?;
-    let moves_sides = moves_sides(rt.alloc(), &member);
+fn a_checkpoint_moves_to_the_other_side(rt: HostRuntime) {
+    let member = opened(&rt, 1, &[1], &[]);
+    let mut site = shut_sides(&rt);
+    assert!(rt; is_moved(&rt, &mut site, &member), "the checkpoint stopped");
+    assert!(rt; has(&rt, &mut site, Side::A, &[0]));
+    assert!(rt; has_node(&rt, &mut site, &member));
+    drop(site);
     drop(member);
-    assert!(rt; moves_sides?);
-    Ok(())
 }
 
 // Whether a checkpoint is done where that disk call fails, and all after it.
-fn is_done_in_spite_of(alloc: Global, node: &Node, call: u64) -> Result<bool, Fail> {
-    let mut site = shut_sides(alloc)?;
+fn is_done_in_spite_of<R: Abort + AllocGlobal>(rt: &R, node: &Node, call: u64) -> bool {
+    let mut site = shut_sides(rt);
     site.fuse(call, Failing::Stop);
-    let is_done = is_moved(alloc, &mut site, node);
+    let is_done = is_moved(rt, &mut site, node);
     drop(site);
     is_done
 }
 
 // The first disk call that may fail without stopping a checkpoint, from a call on.
-fn first_unneeded(alloc: Global, node: &Node, from: u64) -> Result<u64, Fail> {
+fn first_unneeded<R: Abort + AllocGlobal>(rt: &R, node: &Node, from: u64) -> u64 {
     for call in from..100 {
-        if is_done_in_spite_of(alloc, node, call)? {
-            return Ok(call);
+        if is_done_in_spite_of(rt, node, call) {
+            return call;
         }
     }
-    Err("the checkpoint doesn't end".into())
+    panic!(rt; "the checkpoint doesn't end")
 }
 
 // The calls 0 to 3 made the sides. To fill a side takes 7, to arm it 2, and to retire one 4.
 #[test]
-fn a_checkpoint_tells_each_failed_call(rt: HostRuntime) -> Result<(), Fail> {
-    let member = opened(rt.alloc(), 1, &[1], &[])?;
-    let calls = first_unneeded(rt.alloc(), &member, 4);
+fn a_checkpoint_tells_each_failed_call(rt: HostRuntime) {
+    let member = opened(&rt, 1, &[1], &[]);
+    assert!(rt; first_unneeded(&rt, &member, 4) == 26);
     drop(member);
-    assert!(rt; calls? == 26);
-    Ok(())
 }

@@ -8,9 +8,10 @@ use cc_messages::{Answer, Message};
 use cc_site::{Call, DeviceFault, Side, Site};
 use cc_views::NodeId;
 use std::cell::Cell;
+use std::fs::{File, Files};
 use std::io::ErrorKind;
 use std::os::unix::fs::FileExt;
-use std::test::*;
+use std::process::Abort;
 use std::{fs, io};
 
 // A file of which a call moves so many bytes at most, and the call with that number fails.
@@ -110,19 +111,18 @@ impl Outlet for Told<'_> {
 }
 
 // Whether a read of an empty side fails, and an outlet is told why.
-fn is_told(rt: &HostRuntime, folder: &str) -> Result<bool, Fail> {
+fn is_told<R: Abort + AllocGlobal + Files<File = File>>(rt: &R, folder: &str) -> bool {
     let told = Cell::new(None);
-    let mut site = FileSite::open(rt, rt.alloc(), folder, Told(&told))?;
+    let mut site = FileSite::open(rt, rt.alloc(), folder, Told(&told)).expect(rt, "a site");
     let failed = site.read(Side::B, 0, &mut [0; 8]).is_err();
     drop(site);
-    Ok(failed && told.get() == Some((Side::B, ErrorKind::UnexpectedEof)))
+    failed && told.get() == Some((Side::B, ErrorKind::UnexpectedEof))
 }
 
 #[test]
-fn an_outlet_is_told_why_a_call_failed(rt: HostRuntime) -> Result<(), Fail> {
-    made(&rt, "told-folder")?;
-    assert!(rt; is_told(&rt, "told-folder")?);
-    Ok(())
+fn an_outlet_is_told_why_a_call_failed(rt: HostRuntime) {
+    made(&rt, "told-folder");
+    assert!(rt; is_told(&rt, "told-folder"));
 }
 
 fn kind_of(outcome: io::Result<()>) -> Option<ErrorKind> {
@@ -137,7 +137,11 @@ fn kind_of(outcome: io::Result<()>) -> Option<ErrorKind> {
 }
 
 // Whether the folder can't be opened, for the call Length of that side.
-fn is_refused(rt: &HostRuntime, folder: &str, side: Side) -> bool {
+fn is_refused<R: Abort + AllocGlobal + Files<File = File>>(
+    rt: &R,
+    folder: &str,
+    side: Side,
+) -> bool {
     let call = Call::Length;
     let wanted = SiteFault::Device(DeviceFault { side, call });
     match FileSite::open(rt, rt.alloc(), folder, NoOutlet) {
@@ -150,20 +154,18 @@ fn is_refused(rt: &HostRuntime, folder: &str, side: Side) -> bool {
 }
 
 // The site of a folder.
-fn site(rt: &HostRuntime, folder: &str) -> Result<FileSite<NoOutlet>, Fail> {
-    Ok(FileSite::open(rt, rt.alloc(), folder, NoOutlet)?)
+fn site<R: Abort + AllocGlobal + Files<File = File>>(rt: &R, folder: &str) -> FileSite<NoOutlet> {
+    FileSite::open(rt, rt.alloc(), folder, NoOutlet).expect(rt, "a site")
 }
 
 // A new folder.
-fn made(rt: &HostRuntime, folder: &str) -> Result<(), Fail> {
+fn made<R: Abort + AllocGlobal + Files<File = File>>(rt: &R, folder: &str) {
     let _ = fs::remove_dir_all(rt, folder);
-    fs::create_dir(rt, folder)?;
-    Ok(())
+    fs::create_dir(rt, folder).expect(rt, "a folder");
 }
 
-fn remove(rt: &HostRuntime, folder: &str) -> Result<(), Fail> {
-    fs::remove_dir_all(rt, folder)?;
-    Ok(())
+fn remove<R: Abort + AllocGlobal + Files<File = File>>(rt: &R, folder: &str) {
+    fs::remove_dir_all(rt, folder).expect(rt, "the folder is removed");
 }
 
 #[test]
@@ -172,13 +174,13 @@ fn a_folder_has_to_exist(rt: HostRuntime) {
 }
 
 // Writes six bytes, cuts two off, and reads the other four.
-fn written_and_cut(site: &mut FileSite<NoOutlet>) -> Result<[u8; 4], DeviceFault> {
+fn written_and_cut<R: Abort>(rt: &R, site: &mut FileSite<NoOutlet>) -> [u8; 4] {
     let mut into = [0; 4];
-    site.write_at(Side::B, 0, b"abcdef")?;
-    site.cut(Side::B, 4)?;
-    site.sync(Side::B)?;
-    site.read(Side::B, 0, &mut into)?;
-    Ok(into)
+    site.write_at(Side::B, 0, b"abcdef").expect(rt, "a write");
+    site.cut(Side::B, 4).expect(rt, "a cut");
+    site.sync(Side::B).expect(rt, "a sync");
+    site.read(Side::B, 0, &mut into).expect(rt, "a read");
+    into
 }
 
 // Whether both sides are so long.
@@ -187,62 +189,61 @@ fn has_lengths(site: &mut FileSite<NoOutlet>, a: u64, b: u64) -> bool {
 }
 
 // Whether both sides of a new folder are empty, and take what is written.
-fn is_written(site: &mut FileSite<NoOutlet>) -> bool {
-    has_lengths(site, 0, 0) && written_and_cut(site) == Ok(*b"abcd")
+fn is_written<R: Abort>(rt: &R, site: &mut FileSite<NoOutlet>) -> bool {
+    has_lengths(site, 0, 0) && written_and_cut(rt, site) == *b"abcd"
 }
 
 // The same, and whether no other one opens the folder meanwhile.
-fn is_taken(rt: &HostRuntime, folder: &str) -> Result<bool, Fail> {
-    let mut first = site(rt, folder)?;
-    let is_written = is_written(&mut first);
+fn is_taken<R: Abort + AllocGlobal + Files<File = File>>(rt: &R, folder: &str) -> bool {
+    let mut first = site(rt, folder);
+    let is_written = is_written(rt, &mut first);
     let is_refused = is_refused(rt, folder, Side::A);
     drop(first);
-    Ok(is_written && is_refused)
+    is_written && is_refused
 }
 
 // Whether what was written is there again.
-fn is_kept(rt: &HostRuntime, folder: &str) -> Result<bool, Fail> {
-    let mut second = site(rt, folder)?;
+fn is_kept<R: Abort + AllocGlobal + Files<File = File>>(rt: &R, folder: &str) -> bool {
+    let mut second = site(rt, folder);
     let is_kept = has_lengths(&mut second, 0, 4);
     drop(second);
-    Ok(is_kept)
+    is_kept
 }
 
 #[test]
-fn a_folder_is_a_site(rt: HostRuntime) -> Result<(), Fail> {
+fn a_folder_is_a_site(rt: HostRuntime) {
     const FOLDER: &str = "file_site_test";
-    made(&rt, FOLDER)?;
-    assert!(rt; is_taken(&rt, FOLDER)?);
-    assert!(rt; is_kept(&rt, FOLDER)?);
-    remove(&rt, FOLDER)
+    made(&rt, FOLDER);
+    assert!(rt; is_taken(&rt, FOLDER));
+    assert!(rt; is_kept(&rt, FOLDER));
+    remove(&rt, FOLDER);
 }
 
 // Whether four bytes of an empty side can't be read.
-fn is_short(rt: &HostRuntime, folder: &str) -> Result<bool, Fail> {
+fn is_short<R: Abort + AllocGlobal + Files<File = File>>(rt: &R, folder: &str) -> bool {
     let side = Side::B;
     let call = Call::Read;
-    let mut short = site(rt, folder)?;
+    let mut short = site(rt, folder);
     let read = short.read(side, 0, &mut [0; 4]);
     drop(short);
-    Ok(read == Err(DeviceFault { side, call }))
+    read == Err(DeviceFault { side, call })
 }
 
 // Puts a folder in the place of a file.
-fn replace(rt: &HostRuntime, file: &str) -> Result<(), Fail> {
-    fs::remove_file(rt, file)?;
-    fs::create_dir(rt, file)?;
-    Ok(())
+fn replace<R: Abort + Files<File = File>>(rt: &R, file: &str) {
+    fs::remove_file(rt, file).expect(rt, "the file is removed");
+    fs::create_dir(rt, file).expect(rt, "a folder");
 }
 
 // A read past the end gives nothing too early, and a side is named by its file.
 #[test]
-fn a_site_of_files_names_its_faults(rt: HostRuntime) -> Result<(), Fail> {
+fn a_site_of_files_names_its_faults(rt: HostRuntime) {
     const FOLDER: &str = "file_site_faults";
-    made(&rt, FOLDER)?;
-    assert!(rt; is_short(&rt, FOLDER)?);
-    replace(&rt, "file_site_faults/side-b")?;
+    made(&rt, FOLDER);
+    assert!(rt; is_short(&rt, FOLDER));
+    replace(&rt, "file_site_faults/side-b");
     assert!(rt; is_refused(&rt, FOLDER, Side::B));
-    remove(&rt, FOLDER)
+    remove(&rt, FOLDER);
 }
 
 const LENGTH: DeviceFault = DeviceFault {
@@ -258,6 +259,6 @@ const FAULT_TEXTS: [(SiteFault, &str); 2] = [
 #[test]
 fn faults_of_a_folder_print_their_names(rt: HostRuntime) {
     for (fault, wanted) in &FAULT_TEXTS {
-        assert!(rt; says(rt.alloc(), fault, wanted) == Ok(true));
+        assert!(rt; says(&rt, fault, wanted));
     }
 }

@@ -1,32 +1,32 @@
 //! Batches, records and gates.
 
-ghost use Rattle.std.specs.Prelude.{◌≡◌, ◌≤◌, length, OnOk, IfOk};
+ghost use Rattle.std.specs.Prelude.{◌≡◌, ◌++◌, ◌∷◌, [], None};
+ghost use Rattle.cc_node.specs.Core.{made};
 ghost use Rattle.cc_node.specs.Node.{after};
+ghost use Rattle.cc_node.specs.Refusals.{decides};
 ghost use Rattle.cc_journal.specs.Batches.{AreLawful, events_in};
 
-use crate::memory_sites::{has, is_left, keep};
-use crate::refusals::led_to;
+use crate::memory_sites::{empty_site, has, is_left, keep};
 use crate::states::opened;
 use cc_journal::{Batch, Entry, Journal, ScanFault, Scanned, scan};
 use cc_messages::Event;
 use cc_node::{Core, Node};
 use cc_site::{Call, Choice, DeviceFault, Failing, MemorySite, Side, Site};
-use std::alloc::Global;
-use std::test::*;
+use std::process::Abort;
 
 // The record of one Enter behind its open gate, and the next gate.
 const ENTERED: [u8; 12] = [0xA5, 0, 0, 0, 6, 1, 0, 0, 0, 1, 1, 0];
 
 // A node that hasn't entered.
-fn entrant(alloc: Global) -> Result<Node, Fail> {
-    opened(alloc, 4, &[], &[1])
+fn entrant<R: Abort + AllocGlobal>(rt: &R) -> Node {
+    opened(rt, 4, &[], &[1])
 }
 
 /// A site whose side A has these bytes.
-pub(crate) fn holding(alloc: Global, bytes: &[u8]) -> Result<MemorySite, Fail> {
-    let mut site = MemorySite::new(alloc, 0)?;
-    let kept = keep(&mut site, Side::A, bytes);
-    led_to(site, kept)
+pub(crate) fn holding<R: Abort + AllocGlobal>(rt: &R, bytes: &[u8]) -> MemorySite {
+    let mut site = empty_site(rt, 0);
+    keep(rt, &mut site, Side::A, bytes);
+    site
 }
 
 // Writes a batch, opens its gate, and puts what its events make of the node. Whether it landed.
@@ -50,18 +50,18 @@ fn lands<S: Site>(journal: &mut Journal, site: &mut S, node: &mut Node, batch: &
 }
 
 // The same of a batch of one event.
-fn takes<S: Site>(
-    alloc: Global,
+fn takes<R: Abort + AllocGlobal, S: Site>(
+    rt: &R,
     journal: &mut Journal,
     site: &mut S,
     node: &mut Node,
     event: Event,
-) -> Result<bool, Fail> {
-    let entry = Entry::of(alloc, node.core(), event)?;
+) -> bool {
+    let entry = Entry::of(rt.alloc(), node.core(), event).expect(rt, "an entry");
     let mut batch = Batch::of_one(entry);
     let lands = lands(journal, site, node, &mut batch);
     drop(batch);
-    Ok(lands)
+    lands
 }
 
 // The place of a journal, and how many records and events lead to it.
@@ -76,75 +76,61 @@ fn found_in(scanned: &Scanned) -> Found {
 }
 
 // Whether a scan of a site comes to that.
-fn comes_to(
-    alloc: Global,
+fn comes_to<R: Abort + AllocGlobal>(
+    rt: &R,
     site: &mut MemorySite,
     wanted: Result<Found, ScanFault>,
-) -> Result<bool, Fail> {
-    let node = entrant(alloc)?;
-    match scan(alloc, site, Side::A, 0, node) {
+) -> bool {
+    let node = entrant(rt);
+    match scan(rt.alloc(), site, Side::A, 0, node) {
         Ok(scanned) => {
             let found = found_in(&scanned);
             drop(scanned);
-            Ok(wanted == Ok(found))
+            wanted == Ok(found)
         }
-        Err(fault) => Ok(wanted == Err(fault)),
+        Err(fault) => wanted == Err(fault),
     }
 }
 
 // Whether that is what a scan of these bytes finds, or why it stops.
-fn is_found(alloc: Global, bytes: &[u8], wanted: Result<Found, ScanFault>) -> Result<bool, Fail> {
-    let mut site = holding(alloc, bytes)?;
-    let is_found = comes_to(alloc, &mut site, wanted);
+fn is_found<R: Abort + AllocGlobal>(
+    rt: &R,
+    bytes: &[u8],
+    wanted: Result<Found, ScanFault>,
+) -> bool {
+    let mut site = holding(rt, bytes);
+    let is_found = comes_to(rt, &mut site, wanted);
     drop(site);
     is_found
 }
 
 // Writes an event of the node behind the gate of a journal. The place behind it.
-fn place_after(
-    alloc: Global,
+fn place_after<R: Abort + AllocGlobal>(
+    rt: &R,
     journal: &mut Journal,
     site: &mut MemorySite,
     node: &mut Node,
     event: Event,
-) -> Result<u64, Fail> {
-    if takes(alloc, journal, site, node, event)? {
-        Ok(journal.place())
-    } else {
-        Err("the batch didn't land".into())
-    }
+) -> u64 {
+    assert!(rt;
+        takes(rt, journal, site, node, event),
+        "the batch didn't land"
+    );
+    journal.place()
 }
 
-// Whether two events end at their places, and a side has the record of the first before the second comes.
-fn ends_twice(
-    alloc: Global,
-    journal: &mut Journal,
-    site: &mut MemorySite,
-    node: &mut Node,
-) -> Result<bool, Fail> {
-    Ok(
-        place_after(alloc, journal, site, node, Event::Enter)? == 11
-            && has(alloc, site, Side::A, &ENTERED)?
-            && place_after(alloc, journal, site, node, Event::Leave)? == 22,
-    )
-}
-
-// The same of an Enter behind a closed gate, and then a Leave.
-fn enters_and_leaves(alloc: Global, site: &mut MemorySite) -> Result<bool, Fail> {
-    let mut journal = Journal::new(alloc, Side::A, 0)?;
-    let mut node = entrant(alloc)?;
-    let ends_twice = ends_twice(alloc, &mut journal, site, &mut node);
-    drop(node);
-    ends_twice
-}
-
+// An Enter behind a closed gate and then a Leave end at their places, and a side has the record of the first before the
+// second comes.
 #[test]
-fn a_record_stands_behind_its_open_gate(rt: HostRuntime) -> Result<(), Fail> {
-    let mut site = holding(rt.alloc(), &[0])?;
-    let enters_and_leaves = enters_and_leaves(rt.alloc(), &mut site);
+fn a_record_stands_behind_its_open_gate(rt: HostRuntime) {
+    let mut site = holding(&rt, &[0]);
+    let mut journal = Journal::new(rt.alloc(), Side::A, 0).expect(&rt, "a journal");
+    let mut node = entrant(&rt);
+    assert!(rt; place_after(&rt, &mut journal, &mut site, &mut node, Event::Enter) == 11);
+    assert!(rt; has(&rt, &mut site, Side::A, &ENTERED));
+    assert!(rt; place_after(&rt, &mut journal, &mut site, &mut node, Event::Leave) == 22);
+    drop(node);
     drop(site);
-    assert!(rt; enters_and_leaves?);
-    Ok(())
 }
 
 // Adds the entry of an Enter that makes nothing, where it fits.
@@ -180,103 +166,94 @@ fn a_batch_takes_64_entries(rt: HostRuntime) {
     assert!(rt; is_measured);
 }
 
+// The entry of an event that a core takes.
+fn entry_of<R: Abort + AllocGlobal>(rt: &R, core: &Core, event: Event) -> Entry
+    ensures { (decides core.now event ≡ None) × (result ≡ record { event = event; made = made core.now event }) }
+{
+    Entry::of(rt.alloc(), core, event).expect(rt, "the event is taken")
+}
+
+// Puts an entry into a batch that has room for it.
+fn put<R: Abort>(rt: &R, batch: &mut Batch, entry: Entry)
+    ensures { batch.new ≡ batch.old ++ entry ∷ [] }
+{
+    if batch.push(entry).is_err() {
+        panic!(rt; "the batch has no room");
+    }
+}
+
 // Adds an event to a batch that is lawful from a node on, and to the core that the batch leads to.
-fn add(
-    alloc: Global,
+fn add<R: Abort + AllocGlobal>(
+    rt: &R,
     node: &Node,
     live: &mut Core,
     batch: &mut Batch,
     event: Event,
-) -> Result<(), Fail>
+)
     requires lawful { AreLawful node.now batch.old }
     requires live { live.old ≡ (after node.now (events_in batch.old)).core }
-    ensures lawful { OnOk result (AreLawful node.now batch.new) }
-    ensures live { OnOk result (live.new ≡ (after node.now (events_in batch.new)).core) }
+    ensures lawful { AreLawful node.now batch.new }
+    ensures live { live.new ≡ (after node.now (events_in batch.new)).core }
 {
-    let entry = Entry::of(alloc, live, event)?;
+    let entry = entry_of(rt, live, event);
     live.apply(&entry.event);
-    batch.push(entry)?;
-    Ok(())
-}
-
-// Adds an Enter and a Leave to a batch.
-fn add_both(alloc: Global, node: &Node, live: &mut Core, batch: &mut Batch) -> Result<(), Fail>
-    requires lawful { AreLawful node.now batch.old }
-    requires live { live.old ≡ (after node.now (events_in batch.old)).core }
-    ensures lawful { OnOk result (AreLawful node.now batch.new) }
-{
-    add(alloc, node, live, batch, Event::Enter)?;
-    add(alloc, node, live, batch, Event::Leave)
+    put(rt, batch, entry);
 }
 
 // An Enter and a Leave of a node, in one batch.
-fn enter_and_leave(alloc: Global, node: &Node) -> Result<Batch, Fail>
-    ensures lawful { IfOk result (AreLawful node.now) }
+fn enter_and_leave<R: Abort + AllocGlobal>(rt: &R, node: &Node) -> Batch
+    ensures lawful { AreLawful node.now result }
 {
-    let mut live = node.core().copy(alloc)?;
+    let mut live = node.core().copy(rt.alloc()).expect(rt, "a copy");
     let mut batch = Batch::new();
-    let added = add_both(alloc, node, &mut live, &mut batch);
+    add(rt, node, &mut live, &mut batch, Event::Enter);
+    add(rt, node, &mut live, &mut batch, Event::Leave);
     drop(live);
-    match added {
-        Ok(()) => Ok(batch),
-        Err(fail) => {
-            drop(batch);
-            Err(fail)
-        }
-    }
+    batch
 }
 
 // Two events share a record, a gate and two syncs: the calls 0 and 1 made the side, 2 is its length, 3 the write, 4 the
 // sync of the record, 5 the gate, and 6 its sync.
-fn two_at_once(alloc: Global, site: &mut MemorySite) -> Result<u64, Fail> {
+fn two_at_once<R: Abort + AllocGlobal>(rt: &R, site: &mut MemorySite) -> u64 {
     site.fuse(7, Failing::Stop);
-    let mut journal = Journal::new(alloc, Side::B, 9)?;
+    let mut journal = Journal::new(rt.alloc(), Side::B, 9).expect(rt, "a journal");
     journal.move_to(Side::A, 0);
-    let mut node = entrant(alloc)?;
-    let place = place_of_two(alloc, &mut journal, site, &mut node);
+    let mut node = entrant(rt);
+    let place = place_of_two(rt, &mut journal, site, &mut node);
     drop(node);
     place
 }
 
 // Writes a batch of an Enter and a Leave of a node. The place behind it.
-fn place_of_two(
-    alloc: Global,
+fn place_of_two<R: Abort + AllocGlobal>(
+    rt: &R,
     journal: &mut Journal,
     site: &mut MemorySite,
     node: &mut Node,
-) -> Result<u64, Fail> {
-    let mut batch = enter_and_leave(alloc, node)?;
+) -> u64 {
+    let mut batch = enter_and_leave(rt, node);
     let lands = lands(journal, site, node, &mut batch);
     drop(batch);
-    if lands {
-        Ok(journal.place())
-    } else {
-        Err("the batch didn't land".into())
-    }
+    assert!(rt; lands, "the batch didn't land");
+    journal.place()
 }
 
 // The record of both behind its open gate, and the next gate.
 const BOTH: [u8; 17] = [0xA5, 0, 0, 0, 11, 2, 0, 0, 0, 1, 1, 0, 0, 0, 1, 2, 0];
 
-// Whether two events end at the place of a gate, and their record is sure.
-fn are_sure(alloc: Global, site: &mut MemorySite) -> Result<bool, Fail> {
-    Ok(two_at_once(alloc, site)? == 16 && is_left(alloc, site, Side::A, Choice::Fill(0xA5), &BOTH)?)
-}
-
+// Two events end at the place of a gate, and their record is sure.
 #[test]
-fn a_batch_of_two_has_one_record(rt: HostRuntime) -> Result<(), Fail> {
-    let mut site = holding(rt.alloc(), &[0])?;
-    let are_sure = are_sure(rt.alloc(), &mut site);
+fn a_batch_of_two_has_one_record(rt: HostRuntime) {
+    let mut site = holding(&rt, &[0]);
+    assert!(rt; two_at_once(&rt, &mut site) == 16);
+    assert!(rt; is_left(&rt, &site, Side::A, Choice::Fill(0xA5), &BOTH));
     drop(site);
-    assert!(rt; are_sure?);
-    Ok(())
 }
 
 #[test]
-fn a_record_is_read_again(rt: HostRuntime) -> Result<(), Fail> {
+fn a_record_is_read_again(rt: HostRuntime) {
     let wanted = Ok((Side::A, (11, 1, 1), 1));
-    assert!(rt; is_found(rt.alloc(), &ENTERED, wanted)?);
-    Ok(())
+    assert!(rt; is_found(&rt, &ENTERED, wanted));
 }
 
 // What a scan finds of these bytes, or why it stops.
@@ -334,68 +311,59 @@ const SCANS: [(&[u8], Result<Found, ScanFault>); 13] = [
 ];
 
 #[test]
-fn records_are_read_up_to_a_closed_gate_or_damage(rt: HostRuntime) -> Result<(), Fail> {
+fn records_are_read_up_to_a_closed_gate_or_damage(rt: HostRuntime) {
     for &(bytes, wanted) in &SCANS {
-        assert!(rt; is_found(rt.alloc(), bytes, wanted)?);
+        assert!(rt; is_found(&rt, bytes, wanted));
     }
-    Ok(())
 }
 
 #[test]
-fn a_record_behind_a_closed_gate_is_not_read(rt: HostRuntime) -> Result<(), Fail> {
+fn a_record_behind_a_closed_gate_is_not_read(rt: HostRuntime) {
     for &gate in &[0, 1, 0xA4, 0xFF] {
         let mut bytes = ENTERED;
         bytes[0] = gate;
-        assert!(rt; is_found(rt.alloc(), &bytes, Ok((Side::A, (0, 0, 0), 0)))?);
+        assert!(rt; is_found(&rt, &bytes, Ok((Side::A, (0, 0, 0), 0))));
     }
-    Ok(())
 }
 
 // Whether a scan whose disk call of that number fails tells that call.
-fn is_told(alloc: Global, at: u64, call: Call) -> Result<bool, Fail> {
-    let mut site = holding(alloc, &ENTERED)?;
+fn is_told<R: Abort + AllocGlobal>(rt: &R, at: u64, call: Call) -> bool {
+    let mut site = holding(rt, &ENTERED);
     site.fuse(at, Failing::Once);
     let side = Side::A;
     let fault = ScanFault::Device(DeviceFault { side, call });
-    let is_told = comes_to(alloc, &mut site, Err(fault));
+    let is_told = comes_to(rt, &mut site, Err(fault));
     drop(site);
     is_told
 }
 
 // The calls 0 and 1 made the side, 2 is its length, 3 the gate, and 4 the record's length.
 #[test]
-fn a_scan_tells_a_failed_call(rt: HostRuntime) -> Result<(), Fail> {
+fn a_scan_tells_a_failed_call(rt: HostRuntime) {
     for &(at, call) in &[(2, Call::Length), (3, Call::Read), (4, Call::Read)] {
-        assert!(rt; is_told(rt.alloc(), at, call)?);
+        assert!(rt; is_told(&rt, at, call));
     }
-    Ok(())
 }
 
-// Whether an Enter is given up whose disk call of that number fails, with all after it.
-fn is_forfeited(alloc: Global, at: u64) -> Result<bool, Fail> {
-    let mut site = holding(alloc, &[0])?;
+// Whether an Enter is given up whose disk call of that number fails, with all after it: it doesn't land, and leaves its
+// journal at its place.
+fn is_forfeited<R: Abort + AllocGlobal>(rt: &R, at: u64) -> bool {
+    let mut site = holding(rt, &[0]);
     site.fuse(at, Failing::Stop);
-    let is_forfeited = is_forfeited_on(alloc, &mut site);
-    drop(site);
-    is_forfeited
-}
-
-// Whether an Enter doesn't land on a site, and leaves its journal at its place.
-fn is_forfeited_on(alloc: Global, site: &mut MemorySite) -> Result<bool, Fail> {
-    let mut journal = Journal::new(alloc, Side::A, 0)?;
-    let mut node = entrant(alloc)?;
-    let landed = takes(alloc, &mut journal, site, &mut node, Event::Enter);
+    let mut journal = Journal::new(rt.alloc(), Side::A, 0).expect(rt, "a journal");
+    let mut node = entrant(rt);
+    let landed = takes(rt, &mut journal, &mut site, &mut node, Event::Enter);
     drop(node);
+    drop(site);
     let place = journal.place();
     drop(journal);
-    Ok(!landed? && place == 0)
+    !landed && place == 0
 }
 
 // The calls 0 and 1 made the side, 2 is its length, 3 the write, and 4 the sync of the record.
 #[test]
-fn a_failed_call_forfeits_the_batch(rt: HostRuntime) -> Result<(), Fail> {
+fn a_failed_call_forfeits_the_batch(rt: HostRuntime) {
     for &at in &[3, 4, 5, 6] {
-        assert!(rt; is_forfeited(rt.alloc(), at)?);
+        assert!(rt; is_forfeited(&rt, at));
     }
-    Ok(())
 }

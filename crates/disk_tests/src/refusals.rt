@@ -1,40 +1,24 @@
 //! What a call leaves that is refused memory, and what a fault says. `make refused-growths` counts what is told here.
 
-use std::alloc::{AllocError, Global};
-use std::fmt::Display;
-use std::test::Fail;
+use std::fmt::{Debug, Display};
+use std::process::Abort;
 
-/// A call's answer. Where it failed, what it was to leave as it was is looked at.
-pub(crate) fn unless_failed<T, E: Drop>(
+/// A call's value. Where it failed, what it was to leave as it was is looked at.
+pub(crate) fn unless_failed<R: Abort, T, E: Debug>(
+    rt: &R,
     answer: Result<T, E>,
     is_as_before: bool,
-) -> Result<T, Fail> {
-    match answer {
-        Ok(value) => Ok(value),
-        Err(fault) => {
-            drop(fault);
-            let told = if is_as_before {
-                "failed, and all is as it was"
-            } else {
-                "failed, and something has changed"
-            };
-            Err(told.into())
-        }
-    }
-}
-
-/// The value, where what was done with it came to its end.
-pub(crate) fn led_to<T: Drop>(value: T, done: Result<(), Fail>) -> Result<T, Fail> {
-    match done {
-        Ok(()) => Ok(value),
-        Err(fail) => {
-            drop(value);
-            Err(fail)
-        }
-    }
+) -> T {
+    let told = if is_as_before {
+        "failed, and all is as it was"
+    } else {
+        "failed, and something has changed"
+    };
+    answer.expect(rt, told)
 }
 
 /// Whether that is what a fault says.
-pub(crate) fn says<F: Display>(alloc: Global, fault: &F, wanted: &str) -> Result<bool, AllocError> {
-    Ok(format!(in alloc; "{fault}")?.as_str() == wanted)
+pub(crate) fn says<R: Abort + AllocGlobal, F: Display>(rt: &R, fault: &F, wanted: &str) -> bool {
+    let said = format!(in rt.alloc(); "{fault}").expect(rt, "a text");
+    said.as_str() == wanted
 }

@@ -4,8 +4,7 @@ ghost use Rattle.std.specs.Prelude.{◌≤◌, length};
 
 use crate::memory_sites::id;
 use crate::records::holding;
-use crate::refusals::led_to;
-use crate::states::{decoder_fault, deliver, opened_with_share, take, turned};
+use crate::states::{decoder_fault, deliver, extend, opened_with_share, take, turned};
 use crate::windows::{check_cuts, check_parts, fault, front, is_damaged, read};
 use cc_checkpoint::{OpenFault, encode_image};
 use cc_messages::{Command, Event, Message, Refusal};
@@ -15,8 +14,8 @@ use cc_site::Side;
 use cc_states::StateFault;
 use cc_views::Text;
 use cc_wire::WireFault;
-use std::alloc::{AllocError, Global};
-use std::test::*;
+use std::alloc::Global;
+use std::process::Abort;
 
 // Member 1 of 1, of share 32, as it is formatted.
 const FORMATTED: [u8; 136] = [
@@ -99,114 +98,92 @@ const ALL: [&[u8]; 5] = [
 ];
 
 // The state that stands on a side behind the head, and before a closed gate.
-fn state_of(side: &[u8]) -> Result<&[u8], Fail> {
+fn state_of<'a, R: Abort>(rt: &R, side: &'a [u8]) -> &'a [u8] {
     let end = side.len().saturating_sub(1);
-    match side.get(14..end) {
-        Some(state) => Ok(state),
-        None => Err("there is no state".into()),
-    }
+    side.get(14..end).expect(rt, "a state")
 }
 
-// What the node is on a side, under that generation, which is 1 or more.
-fn side_of(alloc: Global, node: &Node, generation: u64) -> Result<Vec<u8>, Fail> {
-    let image = encode_image(alloc, generation.max(1), node)?;
-    let side = gated(alloc, &image);
-    drop(image);
+// What the node is on a side behind an open gate, under that generation, which is 1 or more.
+fn side_of<R: Abort + AllocGlobal>(rt: &R, node: &Node, generation: u64) -> Vec<u8> {
+    let image = encode_image(rt.alloc(), generation.max(1), node).expect(rt, "an image");
+    let mut side = Vec::from_slice(rt.alloc(), &[0xA5u8]).expect(rt, "a gate");
+    extend(rt, &mut side, &image);
     side
 }
 
-// An image behind an open gate.
-fn gated(alloc: Global, image: &[u8]) -> Result<Vec<u8>, Fail> {
-    let mut side = Vec::from_slice(alloc, &[0xA5])?;
-    if let Err(AllocError) = side.extend_from_slice(image) {
-        drop(side);
-        return Err(AllocError.into());
-    }
-    Ok(side)
-}
-
 // What a node that is given up is on a side, under that generation.
-fn last_side_of(alloc: Global, node: Node, generation: u64) -> Result<Vec<u8>, Fail> {
-    let side = side_of(alloc, &node, generation);
+fn last_side_of<R: Abort + AllocGlobal>(rt: &R, node: Node, generation: u64) -> Vec<u8> {
+    let side = side_of(rt, &node, generation);
     drop(node);
     side
 }
 
 // Whether the bytes are what a node that is given up is on a side, under that generation.
-fn is_on_side(alloc: Global, node: Node, generation: u64, bytes: &[u8]) -> Result<bool, Fail> {
-    Ok(last_side_of(alloc, node, generation)?.as_slice() == bytes)
+fn is_on_side<R: Abort + AllocGlobal>(rt: &R, node: Node, generation: u64, bytes: &[u8]) -> bool {
+    last_side_of(rt, node, generation).as_slice() == bytes
 }
 
 // The node on a side of these bytes, and the place behind its state.
-fn node_on(alloc: Global, side: &[u8]) -> Result<(Node, u64), Fail> {
-    let mut site = holding(alloc, side)?;
-    let found = read(alloc, &mut site);
+fn node_on<R: Abort + AllocGlobal>(rt: &R, side: &[u8]) -> (Node, u64) {
+    let mut site = holding(rt, side);
+    let found = read(rt.alloc(), &mut site).expect(rt, "a node");
     drop(site);
-    Ok(found?)
+    found
 }
 
 // Whether the node that is read off a side is written there again, byte for byte.
-fn is_read_and_written(alloc: Global, side: &[u8]) -> Result<bool, Fail> {
-    let Some(generation) = side.get(8) else {
-        return Err("there is no generation".into());
-    };
-    let (node, place) = node_on(alloc, side)?;
-    let is_same = is_on_side(alloc, node, u64::from(*generation), side)?;
-    Ok(is_same && place as usize == side.len().saturating_sub(1))
+fn is_read_and_written<R: Abort + AllocGlobal>(rt: &R, side: &[u8]) -> bool {
+    let generation = side.get(8).expect(rt, "a generation");
+    let (node, place) = node_on(rt, side);
+    let is_same = is_on_side(rt, node, u64::from(*generation), side);
+    is_same && place as usize == side.len().saturating_sub(1)
 }
 
 #[test]
-fn shared_states_are_read_and_written_again(rt: HostRuntime) -> Result<(), Fail> {
+fn shared_states_are_read_and_written_again(rt: HostRuntime) {
     for side in &ALL {
-        assert!(rt; is_read_and_written(rt.alloc(), side)?);
+        assert!(rt; is_read_and_written(&rt, side));
     }
-    Ok(())
 }
 
 #[test]
-fn each_cut_of_a_shared_state_is_damaged(rt: HostRuntime) -> Result<(), Fail> {
+fn each_cut_of_a_shared_state_is_damaged(rt: HostRuntime) {
     for side in &ALL {
         // Without the gate behind it.
-        check_cuts(&rt, &side[..side.len().saturating_sub(1)])?;
+        check_cuts(&rt, &side[..side.len().saturating_sub(1)]);
     }
-    Ok(())
 }
 
 #[test]
-fn each_part_of_a_shared_state_is_damaged(rt: HostRuntime) -> Result<(), Fail> {
+fn each_part_of_a_shared_state_is_damaged(rt: HostRuntime) {
     for side in &ALL {
-        check_parts(&rt, 32, state_of(side)?)?;
+        check_parts(&rt, 32, state_of(&rt, side));
     }
-    Ok(())
 }
 
 #[test]
-fn a_share_is_formatted(rt: HostRuntime) -> Result<(), Fail> {
-    let member = opened_with_share(rt.alloc(), 1, &[1], &[], 32)?;
-    assert!(rt; is_on_side(rt.alloc(), member, 1, &FORMATTED)?);
-    let entrant = opened_with_share(rt.alloc(), 4, &[], &[1], 2)?;
-    assert!(rt; is_on_side(rt.alloc(), entrant, 1, &ENTRANT)?);
-    Ok(())
+fn a_share_is_formatted(rt: HostRuntime) {
+    let member = opened_with_share(&rt, 1, &[1], &[], 32);
+    assert!(rt; is_on_side(&rt, member, 1, &FORMATTED));
+    let entrant = opened_with_share(&rt, 4, &[], &[1], 2);
+    assert!(rt; is_on_side(&rt, entrant, 1, &ENTRANT));
 }
 
 #[test]
-fn a_share_of_1_is_written_in_version_2(rt: HostRuntime) -> Result<(), Fail> {
-    let member = opened_with_share(rt.alloc(), 1, &[1], &[], 1)?;
-    let side = last_side_of(rt.alloc(), member, 1)?;
-    let is_second = side.len() == 134 && side[9] == 2;
-    drop(side);
-    assert!(rt; is_second);
-    Ok(())
+fn a_share_of_1_is_written_in_version_2(rt: HostRuntime) {
+    let member = opened_with_share(&rt, 1, &[1], &[], 1);
+    let side = last_side_of(&rt, member, 1);
+    assert!(rt; side.len() == 134 && side[9] == 2);
 }
 
 // Takes in the first request of a session.
-fn ask(alloc: Global, node: &mut Node, session: u64, command: Command) -> Result<(), Fail> {
+fn ask<R: Abort + AllocGlobal>(rt: &R, node: &mut Node, session: u64, command: Command) {
     let asked = Event::Ask {
         session,
         request: 1,
         command,
     };
-    take(alloc, node, asked)
+    take(rt, node, asked);
 }
 
 fn store(text: &[u8]) -> Command
@@ -215,50 +192,43 @@ fn store(text: &[u8]) -> Command
     Command::Store(Text::new(text).unwrap())
 }
 
-// A store is answered, two writing asks begin together, and that one waits.
-fn begin_two(alloc: Global, node: &mut Node, last: Command) -> Result<(), Fail> {
-    ask(alloc, node, 7, store(b"a"))?;
-    ask(alloc, node, 8, store(b"b"))?;
-    ask(alloc, node, 9, Command::WriteMax(5))?;
-    ask(alloc, node, 10, last)?;
-    deliver(alloc, node, 1)?;
-    deliver(alloc, node, 2)
+// A member of share 32: a store is answered, two writing asks begin together and are pending, and that one waits or is
+// pending too.
+fn with_two<R: Abort + AllocGlobal>(rt: &R, last: Command) -> Node {
+    let mut node = opened_with_share(rt, 1, &[1], &[], 32);
+    ask(rt, &mut node, 7, store(b"a"));
+    ask(rt, &mut node, 8, store(b"b"));
+    ask(rt, &mut node, 9, Command::WriteMax(5));
+    ask(rt, &mut node, 10, last);
+    deliver(rt, &mut node, 1);
+    deliver(rt, &mut node, 2);
+    node
+}
+
+#[test]
+fn a_round_is_written_with_all_its_asks(rt: HostRuntime) {
+    let node = with_two(&rt, Command::Collect);
+    assert!(rt; is_on_side(&rt, node, 2, &STORING));
 }
 
 // Their acknowledgement comes, and the collect's query and its reply.
-fn end_two(alloc: Global, node: &mut Node) -> Result<(), Fail> {
+fn end_two<R: Abort + AllocGlobal>(rt: &R, node: &mut Node) {
     for number in 3..7 {
-        deliver(alloc, node, number)?;
+        deliver(rt, node, number);
     }
-    Ok(())
-}
-
-// A member of share 32 of which two writing asks are pending, and that one waits or is pending too.
-fn with_two(alloc: Global, last: Command) -> Result<Node, Fail> {
-    let mut node = opened_with_share(alloc, 1, &[1], &[], 32)?;
-    let begun = begin_two(alloc, &mut node, last);
-    led_to(node, begun)
-}
-
-#[test]
-fn a_round_is_written_with_all_its_asks(rt: HostRuntime) -> Result<(), Fail> {
-    let node = with_two(rt.alloc(), Command::Collect)?;
-    assert!(rt; is_on_side(rt.alloc(), node, 2, &STORING)?);
-    Ok(())
 }
 
 // That member once both are answered, which stores back what its collect has seen.
-fn after_two(alloc: Global) -> Result<Node, Fail> {
-    let mut node = with_two(alloc, Command::Collect)?;
-    let ended = end_two(alloc, &mut node);
-    led_to(node, ended)
+fn after_two<R: Abort + AllocGlobal>(rt: &R) -> Node {
+    let mut node = with_two(rt, Command::Collect);
+    end_two(rt, &mut node);
+    node
 }
 
 #[test]
-fn each_answer_of_a_round_is_kept(rt: HostRuntime) -> Result<(), Fail> {
-    let node = after_two(rt.alloc())?;
-    assert!(rt; is_on_side(rt.alloc(), node, 3, &STORING_BACK)?);
-    Ok(())
+fn each_answer_of_a_round_is_kept(rt: HostRuntime) {
+    let node = after_two(&rt);
+    assert!(rt; is_on_side(&rt, node, 3, &STORING_BACK));
 }
 
 // A byte of the side that stores for two sessions, which no node has there.
@@ -277,53 +247,38 @@ const NO_ROUND: [(usize, u8); 6] = [
 ];
 
 // Why a side can't be read with another byte at that place.
-fn fault_turned(
-    alloc: Global,
+fn fault_turned<R: Abort + AllocGlobal>(
+    rt: &R,
     side: &[u8],
     at: usize,
     byte: u8,
-) -> Result<Option<OpenFault>, Fail> {
-    let side = turned(alloc, side, at, byte)?;
-    let fault = fault(alloc, &side);
-    drop(side);
-    fault
+) -> Option<OpenFault> {
+    let side = turned(rt, side, at, byte);
+    fault(rt, &side)
 }
 
 // Whether the state of a side is damaged with another byte at that place.
-fn damages(alloc: Global, side: &[u8], at: usize, byte: u8) -> Result<bool, Fail> {
-    let side = turned(alloc, side, at, byte)?;
-    let is_damaged = is_damaged(alloc, &side, 14);
-    drop(side);
-    is_damaged
+fn damages<R: Abort + AllocGlobal>(rt: &R, side: &[u8], at: usize, byte: u8) -> bool {
+    let side = turned(rt, side, at, byte);
+    is_damaged(rt, &side, 14)
 }
 
 #[test]
-fn rounds_that_no_node_has_pending(rt: HostRuntime) -> Result<(), Fail> {
+fn rounds_that_no_node_has_pending(rt: HostRuntime) {
     for &(at, byte) in &NO_ROUND {
-        assert!(rt; damages(rt.alloc(), &STORING, at, byte)?);
+        assert!(rt; damages(&rt, &STORING, at, byte));
     }
-    assert!(rt; fault_turned(rt.alloc(), &STORING, 9, 3)? == Some(OpenFault::Version(3)));
-    Ok(())
-}
-
-// Whether a side has two others, which a share of three takes, and one of two doesn't.
-fn is_of_three(alloc: Global, side: &[u8]) -> Result<bool, Fail> {
-    Ok(
-        side.get(137) == Some(&2)
-            && fault_turned(alloc, side, 136, 3)?.is_none()
-            && damages(alloc, side, 136, 2)?,
-    )
+    assert!(rt; fault_turned(&rt, &STORING, 9, 3) == Some(OpenFault::Version(3)));
 }
 
 // Three writing asks are pending. A state that has two others has a share of three at least.
 #[test]
-fn a_round_has_no_more_than_the_share(rt: HostRuntime) -> Result<(), Fail> {
-    let node = with_two(rt.alloc(), Command::SetFlag)?;
-    let side = last_side_of(rt.alloc(), node, 2)?;
-    let is_of_three = is_of_three(rt.alloc(), &side);
-    drop(side);
-    assert!(rt; is_of_three?);
-    Ok(())
+fn a_round_has_no_more_than_the_share(rt: HostRuntime) {
+    let node = with_two(&rt, Command::SetFlag);
+    let side = last_side_of(&rt, node, 2);
+    assert!(rt; side.get(137) == Some(&2));
+    assert!(rt; fault_turned(&rt, &side, 136, 3).is_none());
+    assert!(rt; damages(&rt, &side, 136, 2));
 }
 
 // The acknowledgement that ends the store near the limit.
@@ -345,33 +300,32 @@ fn refusal_of(node: &Node) -> Option<Refusal> {
 }
 
 // What the node near the limit says to it, its own number then, and whether it is as on that side.
-fn ended(
-    alloc: Global,
+fn ended<R: Abort + AllocGlobal>(
+    rt: &R,
     node: &mut Node,
     side: &[u8],
-) -> Result<(Option<Refusal>, u64, bool), Fail> {
+) -> (Option<Refusal>, u64, bool) {
     let refusal = refusal_of(node);
     if refusal.is_none() {
-        take(alloc, node, last_ack())?;
+        take(rt, node, last_ack());
     }
-    let is_same = side_of(alloc, node, 1)?.as_slice() == side;
-    Ok((refusal, node.core().ops().number(), is_same))
+    let is_same = side_of(rt, node, 1).as_slice() == side;
+    (refusal, node.core().ops().number(), is_same)
 }
 
 // The same of the node on that side.
-fn ended_on(alloc: Global, side: &[u8]) -> Result<(Option<Refusal>, u64, bool), Fail> {
-    let (mut node, _) = node_on(alloc, side)?;
-    let told = ended(alloc, &mut node, side);
+fn ended_on<R: Abort + AllocGlobal>(rt: &R, side: &[u8]) -> (Option<Refusal>, u64, bool) {
+    let (mut node, _) = node_on(rt, side);
+    let told = ended(rt, &mut node, side);
     drop(node);
     told
 }
 
 // Two that would begin together raise the own number past its limit.
 #[test]
-fn a_round_past_the_limit_is_spent(rt: HostRuntime) -> Result<(), Fail> {
-    let told = ended_on(rt.alloc(), &NEAR_THE_LIMIT)?;
+fn a_round_past_the_limit_is_spent(rt: HostRuntime) {
+    let told = ended_on(&rt, &NEAR_THE_LIMIT);
     assert!(rt; told == (Some(Refusal::Spent), (1 << 62) - 1, true));
-    Ok(())
 }
 
 // The state near the limit without the ask of session 9, the second of two that wait and have 19 bytes each.
@@ -384,14 +338,11 @@ fn with_one_waiting() -> [u8; 288] {
 }
 
 #[test]
-fn a_round_up_to_the_limit_is_taken(rt: HostRuntime) -> Result<(), Fail> {
+fn a_round_up_to_the_limit_is_taken(rt: HostRuntime) {
     let state = with_one_waiting();
-    let side = front(rt.alloc(), 32, &state, state.len())?;
-    let told = ended_on(rt.alloc(), &side);
-    drop(side);
-    let (refusal, number, _) = told?;
+    let side = front(&rt, 32, &state, state.len());
+    let (refusal, number, _) = ended_on(&rt, &side);
     assert!(rt; (refusal, number) == (None, 1 << 62));
-    Ok(())
 }
 
 // A byte of the state that stores for two sessions, and the fault that the decoder then meets.

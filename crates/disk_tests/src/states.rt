@@ -1,7 +1,7 @@
 //! The bytes of states.
 
 use crate::memory_sites::id;
-use crate::refusals::{led_to, says, unless_failed};
+use crate::refusals::{says, unless_failed};
 use cc_changes::Fraction;
 use cc_checkpoint::OpenFault;
 use cc_messages::{Command, Event};
@@ -10,8 +10,8 @@ use cc_sides::Layout;
 use cc_site::{Call, DeviceFault, Side};
 use cc_states::{StateFault, decode_state, encode_state};
 use cc_wire::WireFault;
-use std::alloc::{AllocError, Global};
-use std::test::*;
+use std::alloc::Global;
+use std::process::Abort;
 
 // The opening state of member 1 of 1, both shares 4/5.
 const MEMBER: [u8; 119] = [
@@ -38,23 +38,23 @@ const ENTRANT: [u8; 139] = [
     0, 4, 0, 0, 0, 0, 0, 0, 0, 0, 0, 0, 0, 0, 0, 0, 0, 0, 0, 0, 0, 0, 0, 0, 0, 0, 0, 0, 0, 0, 0, 0,
 ];
 
-pub(crate) fn opened(
-    alloc: Global,
+pub(crate) fn opened<R: Abort + AllocGlobal>(
+    rt: &R,
     me: u32,
     initial: &[u32],
     contacts: &[u32],
-) -> Result<Node, Fail> {
-    opened_with_share(alloc, me, initial, contacts, 1)
+) -> Node {
+    opened_with_share(rt, me, initial, contacts, 1)
 }
 
 /// A node of that share.
-pub(crate) fn opened_with_share(
-    alloc: Global,
+pub(crate) fn opened_with_share<R: Abort + AllocGlobal>(
+    rt: &R,
     me: u32,
     initial: &[u32],
     contacts: &[u32],
     share: usize,
-) -> Result<Node, Fail> {
+) -> Node {
     let most = Fraction { num: 4, den: 5 };
     let opening = Opening {
         me,
@@ -64,36 +64,35 @@ pub(crate) fn opened_with_share(
         gamma: most,
         share,
     };
-    Ok(Node::fresh(alloc, &opening)?)
+    Node::fresh(rt.alloc(), &opening).expect(rt, "a node")
 }
 
-pub(crate) fn encoded(alloc: Global, node: &Node) -> Result<Vec<u8>, Fail> {
-    let mut bytes = Vec::new(alloc);
+pub(crate) fn encoded<R: Abort + AllocGlobal>(rt: &R, node: &Node) -> Vec<u8> {
+    let mut bytes = Vec::new(rt.alloc());
     let put = encode_state(node, &mut bytes);
-    unless_failed(put, bytes.is_empty())?;
-    Ok(bytes)
+    unless_failed(rt, put, bytes.is_empty());
+    bytes
 }
 
 /// Whether these bytes are the state of a node.
-pub(crate) fn is_state_of(alloc: Global, node: &Node, bytes: &[u8]) -> Result<bool, Fail> {
-    Ok(encoded(alloc, node)?.as_slice() == bytes)
+pub(crate) fn is_state_of<R: Abort + AllocGlobal>(rt: &R, node: &Node, bytes: &[u8]) -> bool {
+    encoded(rt, node).as_slice() == bytes
 }
 
 /// The state of a node that is given up.
-pub(crate) fn state_of(alloc: Global, node: Node) -> Result<Vec<u8>, Fail> {
-    let state = encoded(alloc, &node);
+pub(crate) fn state_of<R: Abort + AllocGlobal>(rt: &R, node: Node) -> Vec<u8> {
+    let state = encoded(rt, &node);
     drop(node);
     state
 }
 
-fn decoded(alloc: Global, bytes: &[u8]) -> Result<Node, Fail> {
-    Ok(decode_state(alloc, bytes, Layout::Lined)?)
+fn decoded<R: Abort + AllocGlobal>(rt: &R, bytes: &[u8]) -> Node {
+    decode_state(rt.alloc(), bytes, Layout::Lined).expect(rt, "a node")
 }
 
 // Whether the state that is read and written again is these bytes.
-fn is_stored_again(alloc: Global, bytes: &[u8]) -> Result<bool, Fail> {
-    let state = state_of(alloc, decoded(alloc, bytes)?)?;
-    Ok(state.as_slice() == bytes)
+fn is_stored_again<R: Abort + AllocGlobal>(rt: &R, bytes: &[u8]) -> bool {
+    state_of(rt, decoded(rt, bytes)).as_slice() == bytes
 }
 
 /// Why the bytes of a state aren't decoded, if they aren't.
@@ -113,73 +112,67 @@ fn fault(alloc: Global, bytes: &[u8]) -> Option<StateFault> {
 }
 
 /// The bytes, with another one at that place.
-pub(crate) fn turned(alloc: Global, bytes: &[u8], at: usize, byte: u8) -> Result<Vec<u8>, Fail> {
-    let mut turned = Vec::from_slice(alloc, bytes)?;
+pub(crate) fn turned<R: Abort + AllocGlobal>(rt: &R, bytes: &[u8], at: usize, byte: u8) -> Vec<u8> {
+    let mut turned = Vec::from_slice(rt.alloc(), bytes).expect(rt, "a copy");
     if let Some(place) = turned.get_mut(at) {
         *place = byte;
     }
-    Ok(turned)
+    turned
 }
 
 // Whether the state of the node that begins so is these bytes, also where it is read and written again.
-fn begins_as(
-    alloc: Global,
+fn begins_as<R: Abort + AllocGlobal>(
+    rt: &R,
     me: u32,
     initial: &[u32],
     contacts: &[u32],
     bytes: &[u8],
-) -> Result<bool, Fail> {
-    let state = state_of(alloc, opened(alloc, me, initial, contacts)?)?;
-    let is_state = state.as_slice() == bytes;
-    drop(state);
-    Ok(is_state && is_stored_again(alloc, bytes)?)
+) -> bool {
+    let state = state_of(rt, opened(rt, me, initial, contacts));
+    state.as_slice() == bytes && is_stored_again(rt, bytes)
 }
 
 #[test]
-fn a_member_begins_with_119_bytes(rt: HostRuntime) -> Result<(), Fail> {
-    assert!(rt; begins_as(rt.alloc(), 1, &[1], &[], &MEMBER)?);
-    Ok(())
+fn a_member_begins_with_119_bytes(rt: HostRuntime) {
+    assert!(rt; begins_as(&rt, 1, &[1], &[], &MEMBER));
 }
 
 #[test]
-fn an_entrant_begins_with_139_bytes(rt: HostRuntime) -> Result<(), Fail> {
-    assert!(rt; begins_as(rt.alloc(), 4, &[], &[1], &ENTRANT)?);
-    Ok(())
+fn an_entrant_begins_with_139_bytes(rt: HostRuntime) {
+    assert!(rt; begins_as(&rt, 4, &[], &[1], &ENTRANT));
 }
 
 // An opening state as version 1 has it, without the count of asks that wait: one of the zeros around place 74.
-fn without_line(alloc: Global, bytes: &[u8]) -> Result<Vec<u8>, Fail> {
-    let mut first = Vec::from_slice(alloc, bytes)?;
+fn without_line<R: Abort + AllocGlobal>(rt: &R, bytes: &[u8]) -> Vec<u8> {
+    let mut first = Vec::from_slice(rt.alloc(), bytes).expect(rt, "a copy");
     if first.len() > 74 {
         first.remove(74);
     }
-    Ok(first)
+    first
 }
 
 // The state of the node whose state these bytes of version 1 are.
-fn from_version_1(alloc: Global, bytes: &[u8]) -> Result<Vec<u8>, Fail> {
-    state_of(alloc, decode_state(alloc, bytes, Layout::Plain)?)
+fn from_version_1<R: Abort + AllocGlobal>(rt: &R, bytes: &[u8]) -> Vec<u8> {
+    let node = decode_state(rt.alloc(), bytes, Layout::Plain).expect(rt, "a node");
+    state_of(rt, node)
 }
 
 // Whether an opening state that has so many bytes in version 1 is read as that, and stored as it is in version 2.
-fn is_stored_anew(alloc: Global, length: usize, second: &[u8]) -> Result<bool, Fail> {
-    let first = without_line(alloc, second)?;
-    let is_first = first.len() == length;
-    let again = from_version_1(alloc, &first);
-    drop(first);
-    Ok(again?.as_slice() == second && is_first)
+fn is_stored_anew<R: Abort + AllocGlobal>(rt: &R, length: usize, second: &[u8]) -> bool {
+    let first = without_line(rt, second);
+    let again = from_version_1(rt, &first);
+    again.as_slice() == second && first.len() == length
 }
 
 #[test]
-fn a_state_of_version_1_has_no_line(rt: HostRuntime) -> Result<(), Fail> {
-    assert!(rt; is_stored_anew(rt.alloc(), 118, &MEMBER)?);
-    assert!(rt; is_stored_anew(rt.alloc(), 138, &ENTRANT)?);
-    Ok(())
+fn a_state_of_version_1_has_no_line(rt: HostRuntime) {
+    assert!(rt; is_stored_anew(&rt, 118, &MEMBER));
+    assert!(rt; is_stored_anew(&rt, 138, &ENTRANT));
 }
 
 #[test]
-fn an_entrant_is_read(rt: HostRuntime) -> Result<(), Fail> {
-    let node = decoded(rt.alloc(), &ENTRANT)?;
+fn an_entrant_is_read(rt: HostRuntime) {
+    let node = decoded(&rt, &ENTRANT);
     let read = (
         node.me().number(),
         node.is_joined(),
@@ -187,7 +180,6 @@ fn an_entrant_is_read(rt: HostRuntime) -> Result<(), Fail> {
     );
     drop(node);
     assert!(rt; read == (4, false, 2));
-    Ok(())
 }
 
 #[test]
@@ -282,20 +274,24 @@ fn states_in_which_no_node_can_be(rt: HostRuntime) {
     assert!(rt; fault_of(rt.alloc(), &MEMBER, 112, 1).is_none());
 }
 
-fn put_links(bytes: &mut Vec<u8>, nodes: u16) -> Result<(), AllocError> {
-    bytes.extend_from_slice(&nodes.to_be_bytes())?;
+/// Puts bytes behind others.
+pub(crate) fn extend<R: Abort>(rt: &R, bytes: &mut Vec<u8>, more: &[u8]) {
+    bytes.extend_from_slice(more).expect(rt, "room");
+}
+
+fn put_links<R: Abort>(rt: &R, bytes: &mut Vec<u8>, nodes: u16) {
+    extend(rt, bytes, &nodes.to_be_bytes());
     for peer in 0..nodes {
-        bytes.extend_from_slice(&(u32::from(peer) + 1).to_be_bytes())?;
-        bytes.extend_from_slice(&[0; 24])?;
+        extend(rt, bytes, &(u32::from(peer) + 1).to_be_bytes());
+        extend(rt, bytes, &[0; 24]);
     }
-    Ok(())
 }
 
 // The opening state of member 1 of 1 with links to the nodes up to that one.
-fn put_linked(bytes: &mut Vec<u8>, nodes: u16) -> Result<(), AllocError> {
-    bytes.extend_from_slice(&MEMBER[..83])?;
-    put_links(bytes, nodes)?;
-    bytes.extend_from_slice(&[0; 6])
+fn put_linked<R: Abort>(rt: &R, bytes: &mut Vec<u8>, nodes: u16) {
+    extend(rt, bytes, &MEMBER[..83]);
+    put_links(rt, bytes, nodes);
+    extend(rt, bytes, &[0; 6]);
 }
 
 // How many links the node of a state has, or why there is none.
@@ -307,84 +303,71 @@ fn link_count(alloc: Global, bytes: &[u8]) -> Result<usize, StateFault> {
 }
 
 // The same of the state with links to the nodes up to that one.
-fn links_up_to(alloc: Global, nodes: u16) -> Result<Result<usize, StateFault>, AllocError> {
-    let mut bytes = Vec::new(alloc);
-    let put = put_linked(&mut bytes, nodes);
-    let count = link_count(alloc, &bytes);
-    drop(bytes);
-    put.and(Ok(count))
+fn links_up_to<R: Abort + AllocGlobal>(rt: &R, nodes: u16) -> Result<usize, StateFault> {
+    let mut bytes = Vec::new(rt.alloc());
+    put_linked(rt, &mut bytes, nodes);
+    link_count(rt.alloc(), &bytes)
 }
 
 #[test]
 fn more_than_256_links_are_unlawful(rt: HostRuntime) {
-    assert!(rt; links_up_to(rt.alloc(), 256) == Ok(Ok(256)));
-    assert!(rt; links_up_to(rt.alloc(), 257) == Ok(Err(StateFault::Unlawful)));
+    assert!(rt; links_up_to(&rt, 256) == Ok(256));
+    assert!(rt; links_up_to(&rt, 257) == Err(StateFault::Unlawful));
 }
 
 // Takes the event in, which isn't refused.
-pub(crate) fn take(alloc: Global, node: &mut Node, event: Event) -> Result<(), Fail> {
-    match node.core().made_or_refused(alloc, &event) {
-        Ok(made) => {
-            node.settle(event, made);
-            Ok(())
-        }
-        Err(refusal) => {
-            drop(event);
-            Err(refusal.into())
-        }
-    }
+pub(crate) fn take<R: Abort + AllocGlobal>(rt: &R, node: &mut Node, event: Event) {
+    let made = node
+        .core()
+        .made_or_refused(rt.alloc(), &event)
+        .expect(rt, "the event is taken");
+    node.settle(event, made);
 }
 
 // The node's own post of that number comes back to it.
-pub(crate) fn deliver(alloc: Global, node: &mut Node, number: u64) -> Result<(), Fail> {
+pub(crate) fn deliver<R: Abort + AllocGlobal>(rt: &R, node: &mut Node, number: u64) {
     let from = id(1);
-    let Some(post) = node.outbox().post(number) else {
-        return Err("there is no such post".into());
-    };
-    let message = post.copy(alloc)?;
+    let post = node.outbox().post(number).expect(rt, "a post");
+    let message = post.copy(rt.alloc()).expect(rt, "a copy");
     let event = Event::Deliver {
         from,
         number,
         message,
     };
-    take(alloc, node, event)
+    take(rt, node, event);
 }
 
 // A collect up to the store of what it has seen, which is post 3.
-fn collect(alloc: Global, node: &mut Node) -> Result<(), Fail> {
+fn collect<R: Abort + AllocGlobal>(rt: &R, node: &mut Node) {
     let asked = Event::Ask {
         session: 7,
         request: 1,
         command: Command::Collect,
     };
-    take(alloc, node, asked)?;
-    deliver(alloc, node, 1)?;
-    deliver(alloc, node, 2)
-}
-
-fn collect_whole(alloc: Global, node: &mut Node) -> Result<(), Fail> {
-    collect(alloc, node)?;
-    deliver(alloc, node, 3)?;
-    deliver(alloc, node, 4)
+    take(rt, node, asked);
+    deliver(rt, node, 1);
+    deliver(rt, node, 2);
 }
 
 // The state of member 1 of 1 that stores back what its collect has seen.
-fn storing_back(alloc: Global) -> Result<Vec<u8>, Fail> {
-    let mut node = opened(alloc, 1, &[1], &[])?;
-    let collected = collect(alloc, &mut node);
-    state_of(alloc, led_to(node, collected)?)
+fn storing_back<R: Abort + AllocGlobal>(rt: &R) -> Vec<u8> {
+    let mut node = opened(rt, 1, &[1], &[]);
+    collect(rt, &mut node);
+    state_of(rt, node)
 }
 
 // Member 1 of 1, whose collect is answered.
-pub(crate) fn answered_node(alloc: Global) -> Result<Node, Fail> {
-    let mut node = opened(alloc, 1, &[1], &[])?;
-    let collected = collect_whole(alloc, &mut node);
-    led_to(node, collected)
+pub(crate) fn answered_node<R: Abort + AllocGlobal>(rt: &R) -> Node {
+    let mut node = opened(rt, 1, &[1], &[]);
+    collect(rt, &mut node);
+    deliver(rt, &mut node, 3);
+    deliver(rt, &mut node, 4);
+    node
 }
 
 /// Its state, which keeps an answer and posts.
-pub(crate) fn answered(alloc: Global) -> Result<Vec<u8>, Fail> {
-    state_of(alloc, answered_node(alloc)?)
+pub(crate) fn answered<R: Abort + AllocGlobal>(rt: &R) -> Vec<u8> {
+    state_of(rt, answered_node(rt))
 }
 
 // The first request of session 7, a collect that needs one answer, and an empty view.
@@ -393,59 +376,46 @@ const PHASE: [u8; 24] = [
 ];
 
 // Whether a state that has that part at a place is stored again.
-fn is_stored_with(alloc: Global, bytes: &[u8], at: usize, part: &[u8]) -> Result<bool, Fail> {
-    let Some(rest) = bytes.get(at..) else {
-        return Err("the state ends before".into());
-    };
-    Ok(rest.starts_with(part) && is_stored_again(alloc, bytes)?)
+fn is_stored_with<R: Abort + AllocGlobal>(rt: &R, bytes: &[u8], at: usize, part: &[u8]) -> bool {
+    let rest = bytes.get(at..).expect(rt, "a longer state");
+    rest.starts_with(part) && is_stored_again(rt, bytes)
 }
 
 #[test]
-fn a_pending_collect_is_stored(rt: HostRuntime) -> Result<(), Fail> {
-    let bytes = storing_back(rt.alloc())?;
-    let is_stored = is_stored_with(rt.alloc(), &bytes, 73, &PHASE);
-    drop(bytes);
-    assert!(rt; is_stored?);
-    Ok(())
+fn a_pending_collect_is_stored(rt: HostRuntime) {
+    let bytes = storing_back(&rt);
+    assert!(rt; is_stored_with(&rt, &bytes, 73, &PHASE));
 }
 
 // The state of the same node, with the first request of session 8 waiting behind it, a flag to set.
-fn waiting(alloc: Global) -> Result<Vec<u8>, Fail> {
-    let mut node = opened(alloc, 1, &[1], &[])?;
-    let waits = collect_and_ask(alloc, &mut node);
-    state_of(alloc, led_to(node, waits)?)
-}
-
-fn collect_and_ask(alloc: Global, node: &mut Node) -> Result<(), Fail> {
-    collect(alloc, node)?;
+fn waiting<R: Abort + AllocGlobal>(rt: &R) -> Vec<u8> {
+    let mut node = opened(rt, 1, &[1], &[]);
+    collect(rt, &mut node);
     let asked = Event::Ask {
         session: 8,
         request: 1,
         command: Command::SetFlag,
     };
-    take(alloc, node, asked)
+    take(rt, &mut node, asked);
+    state_of(rt, node)
 }
 
 const LINE: [u8; 18] = [1, 0, 0, 0, 0, 0, 0, 0, 8, 0, 0, 0, 0, 0, 0, 0, 1, 5];
 
 #[test]
-fn an_ask_that_waits_is_stored(rt: HostRuntime) -> Result<(), Fail> {
-    let bytes = waiting(rt.alloc())?;
-    let is_stored = is_stored_with(rt.alloc(), &bytes, 97, &LINE);
-    drop(bytes);
-    assert!(rt; is_stored?);
-    Ok(())
+fn an_ask_that_waits_is_stored(rt: HostRuntime) {
+    let bytes = waiting(&rt);
+    assert!(rt; is_stored_with(&rt, &bytes, 97, &LINE));
 }
 
 // Whether the state is unlawful with each of these bytes at its place.
-fn are_unlawful(alloc: Global, state: &[u8], turns: &[(usize, u8)]) -> Result<bool, Fail> {
+fn are_unlawful<R: Abort + AllocGlobal>(rt: &R, state: &[u8], turns: &[(usize, u8)]) -> bool {
     let mut are_unlawful = true;
     for &(at, byte) in turns {
-        let bytes = turned(alloc, state, at, byte)?;
-        are_unlawful = are_unlawful && fault(alloc, &bytes) == Some(StateFault::Unlawful);
-        drop(bytes);
+        let bytes = turned(rt, state, at, byte);
+        are_unlawful = are_unlawful && fault(rt.alloc(), &bytes) == Some(StateFault::Unlawful);
     }
-    Ok(are_unlawful)
+    are_unlawful
 }
 
 // A byte of that state which no node can have there.
@@ -457,12 +427,9 @@ const NOT_WAITING: [(usize, u8); 3] = [
 ];
 
 #[test]
-fn asks_that_wait_in_no_node(rt: HostRuntime) -> Result<(), Fail> {
-    let state = waiting(rt.alloc())?;
-    let are_unlawful = are_unlawful(rt.alloc(), &state, &NOT_WAITING);
-    drop(state);
-    assert!(rt; are_unlawful?);
-    Ok(())
+fn asks_that_wait_in_no_node(rt: HostRuntime) {
+    let state = waiting(&rt);
+    assert!(rt; are_unlawful(&rt, &state, &NOT_WAITING));
 }
 
 // A byte of the state that stores back which no node can have there.
@@ -477,12 +444,9 @@ const NOT_PENDING: [(usize, u8); 4] = [
 ];
 
 #[test]
-fn operations_that_no_node_has_pending(rt: HostRuntime) -> Result<(), Fail> {
-    let state = storing_back(rt.alloc())?;
-    let are_unlawful = are_unlawful(rt.alloc(), &state, &NOT_PENDING);
-    drop(state);
-    assert!(rt; are_unlawful?);
-    Ok(())
+fn operations_that_no_node_has_pending(rt: HostRuntime) {
+    let state = storing_back(&rt);
+    assert!(rt; are_unlawful(&rt, &state, &NOT_PENDING));
 }
 
 // Whether the node keeps four posts and the answer to the first request of session 7.
@@ -492,20 +456,17 @@ fn keeps_an_answer(node: &Node) -> bool {
 }
 
 // Whether such a state is read and written again, and the node that is read keeps them.
-fn is_kept(alloc: Global, bytes: &[u8]) -> Result<bool, Fail> {
-    let node = decoded(alloc, bytes)?;
+fn is_kept<R: Abort + AllocGlobal>(rt: &R, bytes: &[u8]) -> bool {
+    let node = decoded(rt, bytes);
     let keeps = keeps_an_answer(&node);
     drop(node);
-    Ok(keeps && is_stored_again(alloc, bytes)?)
+    keeps && is_stored_again(rt, bytes)
 }
 
 #[test]
-fn what_a_node_keeps_is_stored_and_read(rt: HostRuntime) -> Result<(), Fail> {
-    let bytes = answered(rt.alloc())?;
-    let is_kept = is_kept(rt.alloc(), &bytes);
-    drop(bytes);
-    assert!(rt; is_kept?);
-    Ok(())
+fn what_a_node_keeps_is_stored_and_read(rt: HostRuntime) {
+    let bytes = answered(&rt);
+    assert!(rt; is_kept(&rt, &bytes));
 }
 
 const FAULT_TEXTS: [(StateFault, &str); 2] = [
@@ -519,7 +480,7 @@ const FAULT_TEXTS: [(StateFault, &str); 2] = [
 #[test]
 fn faults_of_states_print_what_is_wrong(rt: HostRuntime) {
     for (fault, wanted) in &FAULT_TEXTS {
-        assert!(rt; says(rt.alloc(), fault, wanted) == Ok(true));
+        assert!(rt; says(&rt, fault, wanted));
     }
 }
 
@@ -540,6 +501,6 @@ const OPEN_FAULTS: [(OpenFault, &str); 6] = [
 #[test]
 fn faults_of_opening_print_their_names(rt: HostRuntime) {
     for (fault, wanted) in &OPEN_FAULTS {
-        assert!(rt; says(rt.alloc(), fault, wanted) == Ok(true));
+        assert!(rt; says(&rt, fault, wanted));
     }
 }

@@ -4,13 +4,12 @@ use crate::openings::{BEGUN, FIFTH};
 use crate::parts::Part;
 use crate::sites::{CLOSED, Laid, are_sides, crashed, entrant, failing_image, member, with_laid};
 use crate::steps::{
-    Came, Left, Step, are_left, calls_of_opening, carry_out, check_each, check_outcomes, left_of,
-    opened, run, state_of, state_of_twin,
+    Came, Left, Step, are_left, calls_of_opening, carry_out, check_each, check_outcomes, engine,
+    left_of, run, state_of, state_of_twin,
 };
 use crate::versions::{ENTRANT_STATE, FIRST_MEMBER_SIDE, FIRST_SIDE, MEMBER_STATE, SECOND_SIDE};
 use cc_flush::Flusher;
 use cc_site::{Call, Choice, Failing, MemorySite, Side};
-use std::alloc::Global;
 use std::process::Abort;
 use std::test::*;
 
@@ -59,55 +58,53 @@ fn check_moved<R: Abort + AllocGlobal>(
     from: (&Laid, &Laid),
     came: Came,
     to: (&Laid, &Laid),
-) -> Result<(), Fail> {
-    let site = with_laid(rt.alloc(), from.0, from.1)?;
-    let (site, found) = run(rt.alloc(), site, &[Step::Checkpoint])?;
-    let are_sides = are_sides(rt.alloc(), site, to.0, to.1)?;
+) {
+    let site = with_laid(rt, from.0, from.1);
+    let (site, found) = run(rt, site, &[Step::Checkpoint]);
+    let are_sides = are_sides(rt, site, to.0, to.1);
     assert!(rt; (found, are_sides) == (came, true));
-    Ok(())
 }
 
 // What version 1 laid out is moved to version 2.
 #[test]
-fn a_checkpoint_changes_sides(rt: HostRuntime) -> Result<(), Fail> {
+fn a_checkpoint_changes_sides(rt: HostRuntime) {
     let came = Came::Put(0);
     check_moved(
         &rt,
         (&BEGUN_MEMBER, &CLOSED),
         came,
         (&CLOSED, &SECOND_MEMBER),
-    )?;
+    );
     check_moved(
         &rt,
         (&FIRST_MEMBER_SIDE, &CLOSED),
         came,
         (&CLOSED, &SECOND_MEMBER),
-    )?;
-    check_moved(&rt, (&FIRST_SIDE, &CLOSED), came, (&CLOSED, &SECOND_SIDE))
+    );
+    check_moved(&rt, (&FIRST_SIDE, &CLOSED), came, (&CLOSED, &SECOND_SIDE));
 }
 
 #[test]
-fn a_checkpoint_goes_over_an_armed_side(rt: HostRuntime) -> Result<(), Fail> {
-    check_moved(&rt, (&FOURTH, &FIFTH), Came::Put(0), (&SIXTH, &CLOSED))
+fn a_checkpoint_goes_over_an_armed_side(rt: HostRuntime) {
+    check_moved(&rt, (&FOURTH, &FIFTH), Came::Put(0), (&SIXTH, &CLOSED));
 }
 
 // The last generation is reached, and under it nothing is changed.
 #[test]
-fn a_spent_checkpoint_changes_nothing(rt: HostRuntime) -> Result<(), Fail> {
+fn a_spent_checkpoint_changes_nothing(rt: HostRuntime) {
     let last = (&LAST_MEMBER, &CLOSED);
     let but_one = (&LAST_MEMBER_BUT_ONE, &CLOSED);
-    check_moved(&rt, but_one, Came::Put(0), (&CLOSED, &LAST_MEMBER))?;
-    check_moved(&rt, last, Came::Spent, last)
+    check_moved(&rt, but_one, Came::Put(0), (&CLOSED, &LAST_MEMBER));
+    check_moved(&rt, last, Came::Spent, last);
 }
 
 // A checkpoint, an Enter, and another checkpoint.
 #[test]
-fn a_node_goes_on_behind_a_checkpoint(rt: HostRuntime) -> Result<(), Fail> {
-    let (site, _) = run(rt.alloc(), entrant(rt.alloc())?, &[Step::Checkpoint])?;
-    let (site, _) = run(rt.alloc(), site, &[Step::Turn(Part::Enter)])?;
-    let (site, _) = run(rt.alloc(), site, &[Step::Checkpoint])?;
+fn a_node_goes_on_behind_a_checkpoint(rt: HostRuntime) {
+    let (site, _) = run(&rt, entrant(&rt), &[Step::Checkpoint]);
+    let (site, _) = run(&rt, site, &[Step::Turn(Part::Enter)]);
+    let (site, _) = run(&rt, site, &[Step::Checkpoint]);
     assert!(rt; left_of(rt.alloc(), site) == Ok((1, 0, 0)));
-    Ok(())
 }
 
 // The disk calls of a checkpoint, and whether each goes to the other side than the one in use.
@@ -138,84 +135,59 @@ pub fn check_calls<R: Abort + AllocGlobal>(
     first: u64,
     used: Side,
     before: (usize, Left),
-) -> Result<(), Fail> {
+) {
     let (from, steps) = steps;
-    let checked = check_each_call(rt, &from, steps, first, used, before);
-    drop(from);
-    checked
-}
-
-fn check_each_call<R: Abort + AllocGlobal>(
-    rt: &R,
-    from: &MemorySite,
-    steps: &[Step],
-    first: u64,
-    used: Side,
-    before: (usize, Left),
-) -> Result<(), Fail> {
     let (put, left) = before;
     let mut at = first;
     for &(is_other, call) in &CALLS {
         let side = if is_other { used.other() } else { used };
         let outcome = (Came::Failed(side, call), put, [left; 5]);
-        check_each(rt, from, steps, &[(at, outcome)])?;
+        check_each(rt, &from, steps, &[(at, outcome)]);
         at = at.saturating_add(1);
     }
-    Ok(())
+    drop(from);
 }
 
 // Whatever a crash leaves, the node is found again.
 #[test]
-fn each_call_of_a_checkpoint_may_fail(rt: HostRuntime) -> Result<(), Fail> {
+fn each_call_of_a_checkpoint_may_fail(rt: HostRuntime) {
     let steps = [Step::Checkpoint];
-    check_calls(&rt, (entrant(rt.alloc())?, &steps), 0, Side::A, (0, BEGUN))?;
+    check_calls(&rt, (entrant(&rt), &steps), 0, Side::A, (0, BEGUN));
     // There are no more calls.
     let done = [(13, (Came::Put(0), 0, [BEGUN; 5]))];
-    check_outcomes(&rt, entrant(rt.alloc())?, &steps, &done)
+    check_outcomes(&rt, entrant(&rt), &steps, &done);
 }
 
 // What a checkpoint comes to, and whether the node's state is the same behind it.
-fn keeps_state(alloc: Global, flusher: &mut Flusher<MemorySite>) -> Result<(Came, bool), Fail> {
-    let before = state_of_twin(alloc, flusher)?;
-    let moved = moves_on(alloc, flusher, &before);
-    drop(before);
-    moved
-}
-
-// The same of a node with that state.
-fn moves_on(
-    alloc: Global,
-    flusher: &mut Flusher<MemorySite>,
-    before: &[u8],
-) -> Result<(Came, bool), Fail> {
-    let came = carry_out(alloc, flusher, Step::Checkpoint)?;
-    let after = state_of_twin(alloc, flusher)?;
-    Ok((came, after.as_slice() == before))
+fn keeps_state<R: Abort + AllocGlobal>(rt: &R, flusher: &mut Flusher<MemorySite>) -> (Came, bool) {
+    let before = state_of_twin(rt, flusher);
+    let came = carry_out(rt, flusher, Step::Checkpoint);
+    let after = state_of_twin(rt, flusher);
+    (came, after.as_slice() == before.as_slice())
 }
 
 // Member 1 of 1 after a store, with posts and an answer that are kept, where nothing was put yet.
-fn stored_image(alloc: Global) -> Result<MemorySite, Fail> {
-    let (site, _) = run(alloc, member(alloc, 16)?, &[Step::Turn(Part::Store)])?;
-    crashed(alloc, site)
+fn stored_image<R: Abort + AllocGlobal>(rt: &R) -> MemorySite {
+    let (site, _) = run(rt, member(rt, 16), &[Step::Turn(Part::Store)]);
+    crashed(rt, site)
 }
 
 // A checkpoint puts nothing.
 #[test]
-fn a_checkpoint_keeps_the_node(rt: HostRuntime) -> Result<(), Fail> {
-    let mut flusher = opened(rt.alloc(), stored_image(rt.alloc())?)?;
-    let kept = keeps_state(rt.alloc(), &mut flusher);
+fn a_checkpoint_keeps_the_node(rt: HostRuntime) {
+    let mut flusher = engine(&rt, stored_image(&rt));
+    let kept = keeps_state(&rt, &mut flusher);
     let put = flusher.site().outputs().len();
     drop(flusher.close());
-    assert!(rt; (kept?, put) == ((Came::Put(0), true), 0));
-    Ok(())
+    assert!(rt; (kept, put) == ((Came::Put(0), true), 0));
 }
 
 // Whether a checkpoint fails, and whether the node has one of those states after each crash.
-fn stop(alloc: Global, site: MemorySite, states: &[Vec<u8>]) -> Result<(bool, bool), Fail> {
-    let (site, came) = run(alloc, site, &[Step::Checkpoint])?;
-    let are_left = are_left(alloc, &site, states);
+fn stop<R: Abort + AllocGlobal>(rt: &R, site: MemorySite, states: &[Vec<u8>]) -> (bool, bool) {
+    let (site, came) = run(rt, site, &[Step::Checkpoint]);
+    let are_left = are_left(rt, &site, states);
     drop(site);
-    Ok((matches!(came, Came::Failed(..)), are_left?))
+    (matches!(came, Came::Failed(..)), are_left)
 }
 
 fn check_each_stop<R: Abort + AllocGlobal>(
@@ -223,41 +195,35 @@ fn check_each_stop<R: Abort + AllocGlobal>(
     from: &MemorySite,
     calls: u64,
     states: &[Vec<u8>],
-) -> Result<(), Fail> {
-    let first = calls_of_opening(rt.alloc(), from)?;
+) {
+    let first = calls_of_opening(rt, from);
     for &failing in &[Failing::Once, Failing::Stop] {
         for at in 0..=calls {
-            let site = failing_image(rt.alloc(), from, first.saturating_add(at), failing)?;
-            let stopped = stop(rt.alloc(), site, states)?;
+            let site = failing_image(rt, from, first.saturating_add(at), failing);
+            let stopped = stop(rt, site, states);
             assert!(rt; stopped == (at < calls, true));
         }
     }
-    Ok(())
-}
-
-fn check_from<R: Abort + AllocGlobal>(rt: &R, from: &MemorySite, calls: u64) -> Result<(), Fail> {
-    let image = from.image(rt.alloc(), &Choice::Read)?;
-    let states = [state_of(rt.alloc(), image)?];
-    check_each_stop(rt, from, calls, &states)
 }
 
 // The node is found again, whatever a crash leaves of a checkpoint that fails at any of its disk calls, of which there are
 // so many.
-fn check_stops<R: Abort + AllocGlobal>(rt: &R, from: MemorySite, calls: u64) -> Result<(), Fail> {
-    let checked = check_from(rt, &from, calls);
+fn check_stops<R: Abort + AllocGlobal>(rt: &R, from: MemorySite, calls: u64) {
+    let image = from.image(rt.alloc(), &Choice::Read).expect(rt, "an image");
+    let states = [state_of(rt, image)];
+    check_each_stop(rt, &from, calls, &states);
     drop(from);
-    checked
 }
 
 // From side A to side B, back to side A, and after a store.
 const BEFORE: [&[Step]; 3] = [&[], &[Step::Checkpoint], &[Step::Turn(Part::Store)]];
 
 #[test]
-fn a_checkpoint_may_stop_at_each_call(rt: HostRuntime) -> Result<(), Fail> {
+fn a_checkpoint_may_stop_at_each_call(rt: HostRuntime) {
     for steps in &BEFORE {
-        let (site, _) = run(rt.alloc(), member(rt.alloc(), 16)?, steps)?;
-        check_stops(&rt, site, 13)?;
+        let (site, _) = run(&rt, member(&rt, 16), steps);
+        check_stops(&rt, site, 13);
     }
     // Side A is armed too, under the lower generation 4: its gate is closed, and made sure of, before anything else.
-    check_stops(&rt, with_laid(rt.alloc(), &FOURTH, &FIFTH)?, 15)
+    check_stops(&rt, with_laid(&rt, &FOURTH, &FIFTH), 15);
 }

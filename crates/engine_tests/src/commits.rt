@@ -5,11 +5,11 @@ ghost use Rattle.std.specs.Prelude.{◌≤◌, length};
 use crate::parts::{Part, ask, batch_of};
 use crate::puts::{Kind, Put, are_put};
 use crate::sites::{crashed, member};
-use crate::steps::{Came, Left, Outcome, Step, check_outcomes, opened, outcome_of, put_by, run};
+use crate::steps::{Came, Left, Outcome, Step, check_outcomes, engine, outcome_of, put_by, run};
 use cc_flush::Flusher;
 use cc_messages::Refusal;
 use cc_site::{Call, Choice, Failing, MemorySite, Side};
-use std::alloc::Global;
+use std::process::Abort;
 use std::test::*;
 
 // The node before a store, after its ask, and after the deliveries too, with the answer that it keeps.
@@ -46,9 +46,9 @@ const STORES: [(u64, Outcome); 5] = [
 ];
 
 #[test]
-fn each_call_of_a_commit_may_fail(rt: HostRuntime) -> Result<(), Fail> {
-    let site = member(rt.alloc(), 16)?;
-    check_outcomes(&rt, site, &[Step::Turn(Part::Store)], &STORES)
+fn each_call_of_a_commit_may_fail(rt: HostRuntime) {
+    let site = member(&rt, 16);
+    check_outcomes(&rt, site, &[Step::Turn(Part::Store)], &STORES);
 }
 
 // The gate of the deliveries' record is written by call 6. Only the ask was released.
@@ -62,10 +62,10 @@ const DELIVERIES: [(u64, Outcome); 1] = [(
 )];
 
 #[test]
-fn both_deliveries_stand_or_neither(rt: HostRuntime) -> Result<(), Fail> {
-    let site = member(rt.alloc(), 16)?;
+fn both_deliveries_stand_or_neither(rt: HostRuntime) {
+    let site = member(&rt, 16);
     let steps = [Step::Turn(Part::Ask), Step::Turn(Part::Deliveries)];
-    check_outcomes(&rt, site, &steps, &DELIVERIES)
+    check_outcomes(&rt, site, &steps, &DELIVERIES);
 }
 
 /// The reply to a store.
@@ -81,31 +81,26 @@ const PUTS: [Put; 5] = [
 ];
 
 #[test]
-fn a_store_is_sent_first_and_replied_to_last(rt: HostRuntime) -> Result<(), Fail> {
-    let site = member(rt.alloc(), 16)?;
-    let put = put_by(rt.alloc(), site, &[Step::Turn(Part::Store)], &PUTS)?;
+fn a_store_is_sent_first_and_replied_to_last(rt: HostRuntime) {
+    let site = member(&rt, 16);
+    let put = put_by(&rt, site, &[Step::Turn(Part::Store)], &PUTS);
     assert!(rt; put == (Came::Put(0), true));
-    Ok(())
 }
 
 // Commits a store. What a crash leaves of it before its release.
-fn unreleased(alloc: Global, flusher: &mut Flusher<MemorySite>) -> Result<MemorySite, Fail> {
+fn unreleased<R: Abort + AllocGlobal>(rt: &R, flusher: &mut Flusher<MemorySite>) -> MemorySite {
     if flusher.owes() || !flusher.room() {
-        return Err("there is no room".into());
+        panic!(rt; "there is no room");
     }
-    let mut batch = batch_of(alloc, flusher.twin(), Part::Store)?;
-    match flusher.commit(&batch) {
-        Ok(landed) => {
-            let image = flusher.site().image(alloc, &Choice::Read);
-            flusher.release(landed, &mut batch);
-            drop(batch);
-            Ok(image?)
-        }
-        Err(failed) => {
-            drop(batch);
-            Err(failed.into())
-        }
-    }
+    let mut batch = batch_of(rt, flusher.twin(), Part::Store);
+    let landed = flusher.commit(&batch).expect(rt, "the store is committed");
+    let image = flusher
+        .site()
+        .image(rt.alloc(), &Choice::Read)
+        .expect(rt, "an image");
+    flusher.release(landed, &mut batch);
+    drop(batch);
+    image
 }
 
 // Why the ask isn't taken again.
@@ -117,57 +112,55 @@ fn refusal_of_ask(flusher: &Flusher<MemorySite>) -> Option<Refusal> {
 }
 
 // The same, whether its answer is put again, and the own number.
-fn repeated(flusher: &mut Flusher<MemorySite>) -> Result<(Option<Refusal>, bool, u64), Fail> {
+fn repeated<R: Abort>(rt: &R, flusher: &mut Flusher<MemorySite>) -> (Option<Refusal>, bool, u64) {
     let refusal = refusal_of_ask(flusher);
     if flusher.owes() {
-        return Err("outputs are owed".into());
+        panic!(rt; "outputs are owed");
     }
-    let is_put = flusher.again(7)?;
-    Ok((refusal, is_put, flusher.twin().core().ops().number()))
+    let is_put = flusher.again(7).expect(rt, "the engine goes on");
+    (refusal, is_put, flusher.twin().core().ops().number())
 }
 
 /// Member 1 of 1 that crashed between the commit of a store and its release.
-pub fn unreleased_member(alloc: Global) -> Result<MemorySite, Fail> {
-    let mut flusher = opened(alloc, member(alloc, 16)?)?;
-    let image = unreleased(alloc, &mut flusher);
+pub fn unreleased_member<R: Abort + AllocGlobal>(rt: &R) -> MemorySite {
+    let mut flusher = engine(rt, member(rt, 16));
+    let image = unreleased(rt, &mut flusher);
     drop(flusher.close());
     image
 }
 
 #[test]
-fn a_commit_that_was_not_released_stands(rt: HostRuntime) -> Result<(), Fail> {
-    let mut flusher = opened(rt.alloc(), unreleased_member(rt.alloc())?)?;
-    let outcome = repeated(&mut flusher);
+fn a_commit_that_was_not_released_stands(rt: HostRuntime) {
+    let mut flusher = engine(&rt, unreleased_member(&rt));
+    let outcome = repeated(&rt, &mut flusher);
     let is_put = are_put(flusher.site().outputs(), &[REPLY]);
     drop(flusher.close());
-    assert!(rt; (outcome?, is_put) == ((Some(Refusal::Repeat), true, 1), true));
-    Ok(())
+    assert!(rt; (outcome, is_put) == ((Some(Refusal::Repeat), true, 1), true));
 }
 
 // What putting kept posts again comes to where a crash left this of a site, and how many outputs those are.
-fn resent(alloc: Global, site: &MemorySite, choice: &Choice) -> Result<(Came, usize), Fail> {
-    let image = site.image(alloc, choice)?;
-    let (came, put, _) = outcome_of(alloc, image, &[Step::Resend])?;
-    Ok((came, put))
+fn resent<R: Abort + AllocGlobal>(rt: &R, site: &MemorySite, choice: &Choice) -> (Came, usize) {
+    let image = site.image(rt.alloc(), choice).expect(rt, "an image");
+    let (came, put, _) = outcome_of(rt, image, &[Step::Resend]);
+    (came, put)
 }
 
 // The touched places are full of A5, and of 00.
-fn resent_of_crashes(alloc: Global, site: &MemorySite) -> Result<[(Came, usize); 2], Fail> {
-    Ok([
-        resent(alloc, site, &Choice::Fill(0xA5))?,
-        resent(alloc, site, &Choice::Fill(0))?,
-    ])
+fn resent_of_crashes<R: Abort + AllocGlobal>(rt: &R, site: &MemorySite) -> [(Came, usize); 2] {
+    [
+        resent(rt, site, &Choice::Fill(0xA5)),
+        resent(rt, site, &Choice::Fill(0)),
+    ]
 }
 
 // The calls of opening are 0 to 13. Where the second sync failed, a crash leaves the whole batch or nothing of it.
 #[test]
-fn what_stands_is_put_again(rt: HostRuntime) -> Result<(), Fail> {
-    let mut site = crashed(rt.alloc(), member(rt.alloc(), 16)?)?;
+fn what_stands_is_put_again(rt: HostRuntime) {
+    let mut site = crashed(&rt, member(&rt, 16));
     site.fuse(17, Failing::Once);
-    let (site, came) = run(rt.alloc(), site, &[Step::Turn(Part::Store)])?;
-    let resent = resent_of_crashes(rt.alloc(), &site);
+    let (site, came) = run(&rt, site, &[Step::Turn(Part::Store)]);
+    let resent = resent_of_crashes(&rt, &site);
     drop(site);
     assert!(rt; came == Came::Failed(Side::A, Call::Sync));
-    assert!(rt; resent? == [(Came::Put(2), 2), (Came::Put(0), 0)]);
-    Ok(())
+    assert!(rt; resent == [(Came::Put(2), 2), (Came::Put(0), 0)]);
 }

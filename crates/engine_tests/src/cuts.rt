@@ -6,7 +6,6 @@ use crate::steps::left_of;
 use crate::versions::ENTRANT_STATE;
 use cc_checkpoint::OpenFault;
 use cc_site::Side;
-use std::alloc::Global;
 use std::process::Abort;
 use std::test::*;
 
@@ -24,33 +23,30 @@ const CUTS: [(usize, usize, u64); 6] = [
 ];
 
 // Whether a site of these sides is damaged at that place of that side.
-fn is_damaged_at(alloc: Global, a: &[u8], b: &[u8], side: Side, place: u64) -> Result<bool, Fail> {
-    Ok(left_of(alloc, with_sides(alloc, a, b)?) == Err(OpenFault::Damaged(side, place)))
+fn is_damaged_at<R: Abort + AllocGlobal>(
+    rt: &R,
+    a: &[u8],
+    b: &[u8],
+    side: Side,
+    place: u64,
+) -> bool {
+    left_of(rt.alloc(), with_sides(rt, a, b)) == Err(OpenFault::Damaged(side, place))
 }
 
 // Whether the first bytes of a side, so many of them, are damaged at that place, whichever side they are: the other one is
 // closed.
-fn is_damaged(alloc: Global, side: &[u8], len: usize, place: u64) -> Result<bool, Fail> {
-    let Some(cut) = side.get(..len) else {
-        return Err("the side is shorter".into());
-    };
-    let is_in_a = is_damaged_at(alloc, cut, &[0], Side::A, place)?;
-    Ok(is_in_a && is_damaged_at(alloc, &[0], cut, Side::B, place)?)
-}
-
-fn check_cuts<R: Abort + AllocGlobal>(rt: &R, side: &[u8]) -> Result<(), Fail> {
-    for &(from, to, place) in &CUTS {
-        for len in from..to {
-            assert!(rt; is_damaged(rt.alloc(), side, len, place)?);
-        }
-    }
-    Ok(())
+fn is_damaged<R: Abort + AllocGlobal>(rt: &R, side: &[u8], len: usize, place: u64) -> bool {
+    let cut = side.get(..len).expect(rt, "so many bytes");
+    let is_in_a = is_damaged_at(rt, cut, &[0], Side::A, place);
+    is_in_a && is_damaged_at(rt, &[0], cut, Side::B, place)
 }
 
 #[test]
-fn each_cut_of_a_side_is_told(rt: HostRuntime) -> Result<(), Fail> {
-    let side = laid(rt.alloc(), &[&HEAD, &ENTRANT_STATE, &ENTERED])?;
-    let checked = check_cuts(&rt, &side);
-    drop(side);
-    checked
+fn each_cut_of_a_side_is_told(rt: HostRuntime) {
+    let side = laid(&rt, &[&HEAD, &ENTRANT_STATE, &ENTERED]);
+    for &(from, to, place) in &CUTS {
+        for len in from..to {
+            assert!(rt; is_damaged(&rt, &side, len, place));
+        }
+    }
 }

@@ -10,30 +10,26 @@ use cc_messages::{Command, Event, Message};
 use cc_node::{Node, Opening};
 use cc_site::{Choice, Failing, MemorySite, Side, Site};
 use cc_views::{Text, View};
-use cc_wire::{WireFault, decode_view};
-use std::alloc::{AllocError, Global};
+use cc_wire::decode_view;
+use std::process::Abort;
 use std::test::*;
 
 // Appends a row for each of 256 nodes, with number 1 and a text of 64 bytes.
-fn put_rows(out: &mut Vec<u8>) -> Result<(), AllocError> {
-    out.extend_from_slice(&[1, 0])?;
+fn put_rows<R: Abort>(rt: &R, out: &mut Vec<u8>) {
+    out.extend_from_slice(&[1, 0]).expect(rt, "room");
     for node in 1_u32..257 {
         let [a, b, c, d] = node.to_be_bytes();
-        out.extend_from_slice(&[a, b, c, d, 0, 0, 0, 0, 0, 0, 0, 1, 64])?;
-        out.extend_from_slice(&[b'x'; 64])?;
-        out.extend_from_slice(&[0; 10])?;
+        let row = [a, b, c, d, 0, 0, 0, 0, 0, 0, 0, 1, 64];
+        out.extend_from_slice(&row).expect(rt, "room");
+        out.extend_from_slice(&[b'x'; 64]).expect(rt, "room");
+        out.extend_from_slice(&[0; 10]).expect(rt, "room");
     }
-    Ok(())
 }
 
-fn long_view(alloc: Global) -> Result<View, WireFault> {
-    let mut bytes = Vec::new(alloc);
-    let view = match put_rows(&mut bytes) {
-        Ok(()) => decode_view(alloc, &bytes),
-        Err(AllocError) => Err(WireFault::NoMemory),
-    };
-    drop(bytes);
-    view
+fn long_view<R: Abort + AllocGlobal>(rt: &R) -> View {
+    let mut bytes = Vec::new(rt.alloc());
+    put_rows(rt, &mut bytes);
+    decode_view(rt.alloc(), &bytes).expect(rt, "a view")
 }
 
 // The numbers from 1 to 256.
@@ -46,7 +42,7 @@ fn ids() -> [u32; 256] {
 }
 
 // Member 1 of 256, for which one answer is enough.
-fn member_of_256(alloc: Global) -> Result<Node, Fail> {
+fn member_of_256<R: Abort + AllocGlobal>(rt: &R) -> Node {
     let opening = Opening {
         me: 1,
         initial: &ids(),
@@ -55,14 +51,14 @@ fn member_of_256(alloc: Global) -> Result<Node, Fail> {
         gamma: Fraction { num: 4, den: 5 },
         share: 1,
     };
-    Ok(Node::fresh(alloc, &opening)?)
+    Node::fresh(rt.alloc(), &opening).expect(rt, "a node")
 }
 
 // Member 2 has stored a long view.
-fn long_store(alloc: Global) -> Result<Event, Fail> {
+fn long_store<R: Abort + AllocGlobal>(rt: &R) -> Event {
     let from = id(2);
-    let view = long_view(alloc)?;
-    Ok(Event::Deliver {
+    let view = long_view(rt);
+    Event::Deliver {
         from,
         number: 1,
         message: Message::Store {
@@ -70,65 +66,56 @@ fn long_store(alloc: Global) -> Result<Event, Fail> {
             tag: 1,
             node: from,
         },
-    })
+    }
 }
 
 // The node's own post of that number comes back to it.
-fn deliver(alloc: Global, node: &mut Node, number: u64) -> Result<(), Fail> {
-    let event = delivery(alloc, number, node.outbox().post(number))?;
-    settle(alloc, node, event)
+fn deliver<R: Abort + AllocGlobal>(rt: &R, node: &mut Node, number: u64) {
+    let event = delivery(rt, number, node.outbox().post(number));
+    settle(rt, node, event);
 }
 
 // A client stores a text of 64 bytes, whose posts are that one and the next.
-fn store(alloc: Global, node: &mut Node, request: u64, post: u64) -> Result<(), Fail> {
+fn store<R: Abort + AllocGlobal>(rt: &R, node: &mut Node, request: u64, post: u64) {
     let text = Text::new(&[b'y'; 64]).unwrap();
     let asked = Event::Ask {
         session: 7,
         request,
         command: Command::Store(text),
     };
-    settle(alloc, node, asked)?;
-    deliver(alloc, node, post)?;
-    deliver(alloc, node, post.saturating_add(1))
+    settle(rt, node, asked);
+    deliver(rt, node, post);
+    deliver(rt, node, post.saturating_add(1));
 }
 
 // Member 2's view is acknowledged in post 1. Then six stores are kept, each with a view of 256 rows.
-fn store_six_times(alloc: Global, node: &mut Node) -> Result<(), Fail> {
-    settle(alloc, node, long_store(alloc)?)?;
-    deliver(alloc, node, 1)?;
+fn store_six_times<R: Abort + AllocGlobal>(rt: &R, node: &mut Node) {
+    settle(rt, node, long_store(rt));
+    deliver(rt, node, 1);
     for request in 1..7 {
-        store(alloc, node, request, 2 * request)?;
+        store(rt, node, request, 2 * request);
     }
-    Ok(())
 }
 
-// Side A of the node under generation 1, once it has stored that.
-fn side_after_stores(alloc: Global, node: &mut Node) -> Result<Vec<u8>, Fail> {
-    store_six_times(alloc, node)?;
-    let image = encode_image(alloc, 1, node)?;
-    let side = laid(alloc, &[&[0xA5], &image]);
-    drop(image);
-    side
-}
-
-// Side A of the node that keeps six stores.
-fn long_side(alloc: Global) -> Result<Vec<u8>, Fail> {
-    let mut node = member_of_256(alloc)?;
-    let side = side_after_stores(alloc, &mut node);
+// Side A of the node that keeps six stores, under generation 1.
+fn long_side<R: Abort + AllocGlobal>(rt: &R) -> Vec<u8> {
+    let mut node = member_of_256(rt);
+    store_six_times(rt, &mut node);
+    let image = encode_image(rt.alloc(), 1, &node).expect(rt, "an image");
     drop(node);
-    side
+    laid(rt, &[&[0xA5], &image])
 }
 
-fn state_on(alloc: Global, a: &[u8], b: &[u8]) -> Result<Vec<u8>, Fail> {
-    state_of(alloc, with_sides(alloc, a, b)?)
+fn state_on<R: Abort + AllocGlobal>(rt: &R, a: &[u8], b: &[u8]) -> Vec<u8> {
+    state_of(rt, with_sides(rt, a, b))
 }
 
 // Whether a checkpoint leaves the node of side A on side B, under generation 2, and one closed byte on side A; and whether
 // the node that is opened then has the state of side A, before its closed gate.
-fn is_moved(alloc: Global, side: &[u8]) -> Result<(Came, [bool; 5]), Fail> {
-    let (site, came) = run(alloc, with_sides(alloc, side, &[0])?, &[Step::Checkpoint])?;
-    let (a, b) = sides(alloc, site)?;
-    let state = state_on(alloc, &a, &b)?;
+fn is_moved<R: Abort + AllocGlobal>(rt: &R, side: &[u8]) -> (Came, [bool; 5]) {
+    let (site, came) = run(rt, with_sides(rt, side, &[0]), &[Step::Checkpoint]);
+    let (a, b) = sides(rt, site);
+    let state = state_on(rt, &a, &b);
     let is_moved = [
         a.as_slice() == [0].as_slice(),
         b.get(..9) == Some([0xA5, 0, 0, 0, 0, 0, 0, 0, 2].as_slice()),
@@ -136,57 +123,54 @@ fn is_moved(alloc: Global, side: &[u8]) -> Result<(Came, [bool; 5]), Fail> {
         side.get(14..14 + state.len()) == Some(state.as_slice()),
         side.len() == 15 + state.len(),
     ];
-    Ok((came, is_moved))
+    (came, is_moved)
 }
 
 #[test]
-fn a_state_longer_than_two_pieces_is_moved(rt: HostRuntime) -> Result<(), Fail> {
-    let side = long_side(rt.alloc())?;
-    let moved = is_moved(rt.alloc(), &side)?;
+fn a_state_longer_than_two_pieces_is_moved(rt: HostRuntime) {
+    let side = long_side(&rt);
+    let moved = is_moved(&rt, &side);
     assert!(rt; (moved, side.len() > 131_072 + 15) == ((Came::Put(0), [true; 5]), true));
-    Ok(())
 }
 
-fn length_of_b(alloc: Global, site: &MemorySite) -> Result<u64, Fail> {
-    let mut image = site.image(alloc, &Choice::Read)?;
-    let length = image.length(Side::B);
+fn length_of_b<R: Abort + AllocGlobal>(rt: &R, site: &MemorySite) -> u64 {
+    let mut image = site.image(rt.alloc(), &Choice::Read).expect(rt, "an image");
+    let length = image.length(Side::B).expect(rt, "a length");
     drop(image);
-    Ok(length?)
+    length
 }
 
 // How long side B is where a checkpoint stops at that disk call, and whether it comes to its end.
-fn length_at(alloc: Global, from: &MemorySite, at: u64) -> Result<(u64, bool), Fail> {
-    let site = failing_image(alloc, from, at, Failing::Stop)?;
-    let (site, came) = run(alloc, site, &[Step::Checkpoint])?;
-    let length = length_of_b(alloc, &site);
+fn length_at<R: Abort + AllocGlobal>(rt: &R, from: &MemorySite, at: u64) -> (u64, bool) {
+    let site = failing_image(rt, from, at, Failing::Stop);
+    let (site, came) = run(rt, site, &[Step::Checkpoint]);
+    let length = length_of_b(rt, &site);
     drop(site);
-    Ok((length?, matches!(came, Came::Put(_))))
+    (length, matches!(came, Came::Put(_)))
 }
 
 // By how many bytes one disk call of a checkpoint makes side B longer at most, and how long it is in the end.
-fn growths(alloc: Global, from: &MemorySite) -> Result<(u64, u64), Fail> {
-    let first = calls_of_opening(alloc, from)?;
+fn growths<R: Abort + AllocGlobal>(rt: &R, from: &MemorySite) -> (u64, u64) {
+    let first = calls_of_opening(rt, from);
     let mut most = 0;
     let mut last = 1;
     for call in 0..100 {
-        let (length, is_done) = length_at(alloc, from, first.saturating_add(call))?;
+        let (length, is_done) = length_at(rt, from, first.saturating_add(call));
         most = length.saturating_sub(last).max(most);
         last = length;
         if is_done {
-            return Ok((most, last));
+            return (most, last);
         }
     }
-    Err("the checkpoint doesn't end".into())
+    panic!(rt; "the checkpoint doesn't end")
 }
 
 // A site in memory doesn't tell how long a write was, but how far each brought the side.
 #[test]
-fn a_long_state_is_written_in_pieces(rt: HostRuntime) -> Result<(), Fail> {
-    let side = long_side(rt.alloc())?;
-    let site = with_sides(rt.alloc(), &side, &[0])?;
-    let growths = growths(rt.alloc(), &site);
+fn a_long_state_is_written_in_pieces(rt: HostRuntime) {
+    let side = long_side(&rt);
+    let site = with_sides(&rt, &side, &[0]);
+    let (most, last) = growths(&rt, &site);
     drop(site);
-    let (most, last) = growths?;
     assert!(rt; (last, most <= 65_536) == (side.len() as u64, true));
-    Ok(())
 }

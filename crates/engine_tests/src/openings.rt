@@ -1,24 +1,24 @@
 //! Formatting, opening and entering, and what a crash leaves of them.
 
-ghost use Rattle.std.specs.Prelude.{IfOk};
 ghost use Rattle.cc_flush.specs.Lives.{AreTurnsLawful};
 
 use crate::checkpoints::BEGUN_MEMBER;
 use crate::parts::{Part, batch_of, id};
 use crate::puts::{Kind, Put};
 use crate::sites::{
-    CLOSED, ENTRANT, Laid, are_sides, begun, crashed, entrant, laid, member, with_laid, with_sides,
+    CLOSED, ENTRANT, Laid, are_sides, begun, crashed, empty, entrant, laid, member, with_laid,
+    with_sides,
 };
 use crate::steps::{
-    Came, Left, Life, Outcome, Step, carry_out, check_outcomes, crashes, left_of, opened, put_by,
+    Came, Left, Life, Outcome, Step, carry_out, check_outcomes, crashes, engine, left_of, put_by,
     run,
 };
 use crate::versions::ENTRANT_STATE;
 use cc_checkpoint::OpenFault;
-use cc_flush::{Action, Back, CheckpointFault, Failed, Flusher, FormatFault, format};
+use cc_flush::{Action, Back, CheckpointFault, Failed, FormatFault, format};
 use cc_node::{Node, Opening};
 use cc_site::{Call, DeviceFault, Failing, MemorySite, Side};
-use std::alloc::{AllocError, Global};
+use std::alloc::Global;
 use std::fmt::Display;
 use std::process::Abort;
 use std::test::*;
@@ -43,18 +43,16 @@ const BEGUN_ENTRANT: Laid = [&HEAD, &ENTRANT_STATE, &[0]];
 const ENTERED_ENTRANT: Laid = [&HEAD, &ENTRANT_STATE, &ENTERED];
 
 #[test]
-fn an_entrant_and_a_member_are_formatted(rt: HostRuntime) -> Result<(), Fail> {
-    let of_entrant = are_sides(rt.alloc(), entrant(rt.alloc())?, &BEGUN_ENTRANT, &CLOSED)?;
-    let of_member = are_sides(rt.alloc(), member(rt.alloc(), 0)?, &BEGUN_MEMBER, &CLOSED)?;
+fn an_entrant_and_a_member_are_formatted(rt: HostRuntime) {
+    let of_entrant = are_sides(&rt, entrant(&rt), &BEGUN_ENTRANT, &CLOSED);
+    let of_member = are_sides(&rt, member(&rt, 0), &BEGUN_MEMBER, &CLOSED);
     assert!(rt; (of_entrant, of_member) == (true, true));
-    Ok(())
 }
 
 #[test]
-fn an_enter_stands_behind_its_open_gate(rt: HostRuntime) -> Result<(), Fail> {
-    let (site, _) = run(rt.alloc(), entrant(rt.alloc())?, &[Step::Turn(Part::Enter)])?;
-    assert!(rt; are_sides(rt.alloc(), site, &ENTERED_ENTRANT, &CLOSED)?);
-    Ok(())
+fn an_enter_stands_behind_its_open_gate(rt: HostRuntime) {
+    let (site, _) = run(&rt, entrant(&rt), &[Step::Turn(Part::Enter)]);
+    assert!(rt; are_sides(&rt, site, &ENTERED_ENTRANT, &CLOSED));
 }
 
 // Why a node isn't formatted on a site, if it isn't.
@@ -72,28 +70,27 @@ fn fault_of_format(alloc: Global, site: MemorySite, opening: &Opening<'_>) -> Op
 const ARMED: [&[u8]; 4] = [&[0, 0xA5], &[0xFF, 0xA5], &[0xA5, 0xA5], &ENTERED];
 
 // Entrant 4, with these bytes behind its state.
-fn kept(alloc: Global, tail: &[u8]) -> Result<MemorySite, Fail> {
-    let side = laid(alloc, &[&HEAD, &ENTRANT_STATE, tail])?;
-    with_sides(alloc, &side, &[0])
+fn kept<R: Abort + AllocGlobal>(rt: &R, tail: &[u8]) -> MemorySite {
+    let side = laid(rt, &[&HEAD, &ENTRANT_STATE, tail]);
+    with_sides(rt, &side, &[0])
 }
 
 #[test]
-fn no_armed_side_and_no_node_without_a_name_is_formatted(rt: HostRuntime) -> Result<(), Fail> {
+fn no_armed_side_and_no_node_without_a_name_is_formatted(rt: HostRuntime) {
     for &tail in &ARMED {
-        let fault = fault_of_format(rt.alloc(), kept(rt.alloc(), tail)?, &ENTRANT);
+        let fault = fault_of_format(rt.alloc(), kept(&rt, tail), &ENTRANT);
         assert!(rt; fault == Some(FormatFault::AlreadyFormatted));
     }
     let nameless = Opening { me: 0, ..ENTRANT };
-    let fault = fault_of_format(rt.alloc(), MemorySite::new(rt.alloc(), 0)?, &nameless);
+    let fault = fault_of_format(rt.alloc(), empty(&rt, 0), &nameless);
     assert!(rt; fault == Some(FormatFault::BadOpening));
-    Ok(())
 }
 
 // An empty site, of which the disk call with that number fails.
-fn failing(alloc: Global, at: u64) -> Result<MemorySite, Fail> {
-    let mut site = MemorySite::new(alloc, 0)?;
+fn failing<R: Abort + AllocGlobal>(rt: &R, at: u64) -> MemorySite {
+    let mut site = empty(rt, 0);
     site.fuse(at, Failing::Once);
-    Ok(site)
+    site
 }
 
 // The disk calls of formatting.
@@ -120,15 +117,14 @@ const FORMATTING: [(u64, Side, Call); 16] = [
 ];
 
 #[test]
-fn each_call_of_formatting_may_fail(rt: HostRuntime) -> Result<(), Fail> {
+fn each_call_of_formatting_may_fail(rt: HostRuntime) {
     for &(at, side, call) in &FORMATTING {
-        let fault = fault_of_format(rt.alloc(), failing(rt.alloc(), at)?, &ENTRANT);
+        let fault = fault_of_format(rt.alloc(), failing(&rt, at), &ENTRANT);
         let device = DeviceFault { side, call };
         assert!(rt; fault == Some(FormatFault::Device(device)));
     }
-    let fault = fault_of_format(rt.alloc(), failing(rt.alloc(), 16)?, &ENTRANT);
+    let fault = fault_of_format(rt.alloc(), failing(&rt, 16), &ENTRANT);
     assert!(rt; fault == None);
-    Ok(())
 }
 
 // Formats an entrant twice, whether or not that fails at first.
@@ -140,41 +136,37 @@ fn begun_again(alloc: Global, site: MemorySite) -> Result<MemorySite, FormatFaul
 }
 
 // What that leaves where the disk call with that number fails.
-fn left_again(alloc: Global, at: u64) -> Result<Result<Left, FormatFault>, Fail> {
-    match begun_again(alloc, failing(alloc, at)?) {
-        Ok(site) => Ok(Ok(left_of(alloc, site))),
-        Err(fault) => Ok(Err(fault)),
+fn left_again<R: Abort + AllocGlobal>(rt: &R, at: u64) -> Result<Left, FormatFault> {
+    match begun_again(rt.alloc(), failing(rt, at)) {
+        Ok(site) => Ok(left_of(rt.alloc(), site)),
+        Err(fault) => Err(fault),
     }
 }
 
 // Only the last sync comes after the gate is open.
 #[test]
-fn formatting_may_be_tried_again(rt: HostRuntime) -> Result<(), Fail> {
+fn formatting_may_be_tried_again(rt: HostRuntime) {
     for at in 0..15 {
-        assert!(rt; left_again(rt.alloc(), at)? == Ok(BEGUN));
+        assert!(rt; left_again(&rt, at) == Ok(BEGUN));
     }
     let twice = Err(FormatFault::AlreadyFormatted);
-    assert!(rt; left_again(rt.alloc(), 15)? == twice);
-    Ok(())
+    assert!(rt; left_again(&rt, 15) == twice);
 }
 
 // A site each side of which begins with a closed gate. Its disk calls fail from that number on.
-fn shut_failing(alloc: Global, at: u64) -> Result<MemorySite, Fail> {
-    let shut = with_sides(alloc, &[0, 0xA5, 0xFF], &[0, 0xA5, 0xFF])?;
-    let mut site = crashed(alloc, shut)?;
+fn shut_failing<R: Abort + AllocGlobal>(rt: &R, at: u64) -> MemorySite {
+    let shut = with_sides(rt, &[0, 0xA5, 0xFF], &[0, 0xA5, 0xFF]);
+    let mut site = crashed(rt, shut);
     site.fuse(at, Failing::Stop);
-    Ok(site)
+    site
 }
 
 // What a crash leaves after formatting such a site failed at that call.
-fn half_formatted(alloc: Global, at: u64) -> Result<[Left; 5], Fail> {
-    match format(alloc, shut_failing(alloc, at)?, &ENTRANT) {
-        Ok(site) => {
-            drop(site);
-            Err("it is formatted".into())
-        }
+fn half_formatted<R: Abort + AllocGlobal>(rt: &R, at: u64) -> [Left; 5] {
+    match format(rt.alloc(), shut_failing(rt, at), &ENTRANT) {
+        Ok(_site) => panic!(rt; "it is formatted"),
         Err(Back { site, fault: _ }) => {
-            let left = crashes(alloc, &site);
+            let left = crashes(rt, &site);
             drop(site);
             left
         }
@@ -182,27 +174,22 @@ fn half_formatted(alloc: Global, at: u64) -> Result<[Left; 5], Fail> {
 }
 
 #[test]
-fn a_crash_leaves_shut_sides_or_an_entrant(rt: HostRuntime) -> Result<(), Fail> {
+fn a_crash_leaves_shut_sides_or_an_entrant(rt: HostRuntime) {
     for at in 0..14 {
-        assert!(rt; half_formatted(rt.alloc(), at)? == [NOTHING; 5]);
+        assert!(rt; half_formatted(&rt, at) == [NOTHING; 5]);
     }
     // The last write opens the gate, and the last sync makes sure of it.
-    let left = [
-        half_formatted(rt.alloc(), 14)?,
-        half_formatted(rt.alloc(), 15)?,
-    ];
+    let left = [half_formatted(&rt, 14), half_formatted(&rt, 15)];
     let written = [NOTHING, NOTHING, BEGUN, NOTHING, NOTHING];
     let synced = [BEGUN, NOTHING, BEGUN, NOTHING, BEGUN];
     assert!(rt; left == [written, synced]);
-    Ok(())
 }
 
 const EMPTY: Laid = [&[], &[], &[]];
 
-fn check_sides<R: Abort + AllocGlobal>(rt: &R, a: &Laid, b: &Laid, left: Left) -> Result<(), Fail> {
-    let site = with_laid(rt.alloc(), a, b)?;
+fn check_sides<R: Abort + AllocGlobal>(rt: &R, a: &Laid, b: &Laid, left: Left) {
+    let site = with_laid(rt, a, b);
     assert!(rt; left_of(rt.alloc(), site) == left);
-    Ok(())
 }
 
 const CLOSED_ENTRANT: Laid = [
@@ -213,12 +200,12 @@ const CLOSED_ENTRANT: Laid = [
 
 // No side is armed, or one is whole.
 #[test]
-fn sides_that_are_not_armed_are_not_opened(rt: HostRuntime) -> Result<(), Fail> {
-    check_sides(&rt, &EMPTY, &EMPTY, NOTHING)?;
-    check_sides(&rt, &EMPTY, &CLOSED, NOTHING)?;
-    check_sides(&rt, &CLOSED, &EMPTY, NOTHING)?;
-    check_sides(&rt, &CLOSED_ENTRANT, &CLOSED, NOTHING)?;
-    check_sides(&rt, &CLOSED, &ENTERED_ENTRANT, HAS_ENTERED)
+fn sides_that_are_not_armed_are_not_opened(rt: HostRuntime) {
+    check_sides(&rt, &EMPTY, &EMPTY, NOTHING);
+    check_sides(&rt, &EMPTY, &CLOSED, NOTHING);
+    check_sides(&rt, &CLOSED, &EMPTY, NOTHING);
+    check_sides(&rt, &CLOSED_ENTRANT, &CLOSED, NOTHING);
+    check_sides(&rt, &CLOSED, &ENTERED_ENTRANT, HAS_ENTERED);
 }
 
 // What stands behind the state of entrant 4 on side A, and what is opened.
@@ -233,12 +220,11 @@ const TAILS: [(&[u8], Left); 5] = [
 ];
 
 #[test]
-fn a_record_behind_a_closed_gate_is_not_kept(rt: HostRuntime) -> Result<(), Fail> {
+fn a_record_behind_a_closed_gate_is_not_kept(rt: HostRuntime) {
     for &(tail, left) in &TAILS {
-        let site = kept(rt.alloc(), tail)?;
+        let site = kept(&rt, tail);
         assert!(rt; left_of(rt.alloc(), site) == left);
     }
-    Ok(())
 }
 
 // What stands on side A, where side B is empty, and why it isn't opened: the generation, the version, the length of the
@@ -272,12 +258,11 @@ const FAULTS: [(&[u8], OpenFault); 7] = [
 ];
 
 #[test]
-fn a_side_that_cannot_be_read_is_damaged(rt: HostRuntime) -> Result<(), Fail> {
+fn a_side_that_cannot_be_read_is_damaged(rt: HostRuntime) {
     for &(a, fault) in &FAULTS {
-        let site = with_sides(rt.alloc(), a, &[])?;
+        let site = with_sides(&rt, a, &[]);
         assert!(rt; left_of(rt.alloc(), site) == Err(fault));
     }
-    Ok(())
 }
 
 /// Entrant 4 under generation 5.
@@ -294,28 +279,21 @@ const ARMED_TWICE: [(u8, Left); 3] = [
     (6, Err(OpenFault::Version(0xFF))),
 ];
 
-fn check_armed_twice<R: Abort + AllocGlobal>(rt: &R, fifth: &[u8]) -> Result<(), Fail> {
+#[test]
+fn the_side_of_the_greater_generation_is_opened(rt: HostRuntime) {
+    let fifth = laid(&rt, &FIFTH);
     for &(generation, left) in &ARMED_TWICE {
         let garbage = [0xA5, 0, 0, 0, 0, 0, 0, 0, generation, 0xFF, 0xA5];
-        let site = with_sides(rt.alloc(), &garbage, fifth)?;
+        let site = with_sides(&rt, &garbage, &fifth);
         assert!(rt; left_of(rt.alloc(), site) == left);
     }
-    Ok(())
-}
-
-#[test]
-fn the_side_of_the_greater_generation_is_opened(rt: HostRuntime) -> Result<(), Fail> {
-    let fifth = laid(rt.alloc(), &FIFTH)?;
-    let checked = check_armed_twice(&rt, &fifth);
-    drop(fifth);
-    checked
 }
 
 // What is left of entrant 4, of which the disk call with that number fails, from its opening on.
-fn left_failing(alloc: Global, at: u64) -> Result<Left, Fail> {
-    let mut site = crashed(alloc, entrant(alloc)?)?;
+fn left_failing<R: Abort + AllocGlobal>(rt: &R, at: u64) -> Left {
+    let mut site = crashed(rt, entrant(rt));
     site.fuse(at, Failing::Once);
-    Ok(left_of(alloc, site))
+    left_of(rt.alloc(), site)
 }
 
 // The disk calls of opening.
@@ -340,13 +318,12 @@ const OPENING: [(u64, Side, Call); 14] = [
 ];
 
 #[test]
-fn each_call_of_opening_may_fail(rt: HostRuntime) -> Result<(), Fail> {
+fn each_call_of_opening_may_fail(rt: HostRuntime) {
     for &(at, side, call) in &OPENING {
         let device = DeviceFault { side, call };
-        assert!(rt; left_failing(rt.alloc(), at)? == Err(OpenFault::Device(device)));
+        assert!(rt; left_failing(&rt, at) == Err(OpenFault::Device(device)));
     }
-    assert!(rt; left_failing(rt.alloc(), 14)? == BEGUN);
-    Ok(())
+    assert!(rt; left_failing(&rt, 14) == BEGUN);
 }
 
 // What an Enter comes to where such a call behind the opening fails.
@@ -376,22 +353,22 @@ const ENTERS: [(u64, Outcome); 5] = [
 ];
 
 #[test]
-fn each_call_of_an_enter_may_fail(rt: HostRuntime) -> Result<(), Fail> {
-    let site = entrant(rt.alloc())?;
-    check_outcomes(&rt, site, &[Step::Turn(Part::Enter)], &ENTERS)
+fn each_call_of_an_enter_may_fail(rt: HostRuntime) {
+    check_outcomes(&rt, entrant(&rt), &[Step::Turn(Part::Enter)], &ENTERS);
 }
 
 /// An Enter, and what may be put again.
-pub fn actions_of_enter(alloc: Global, node: &Node) -> Result<Vec<Action>, Fail>
-    ensures { IfOk result (λ actions. AreTurnsLawful node.now actions.items) }
+pub fn actions_of_enter<R: Abort + AllocGlobal>(rt: &R, node: &Node) -> Vec<Action>
+    ensures { AreTurnsLawful node.now result.items }
 {
-    let batch = batch_of(alloc, node, Part::Enter)?;
-    Ok(vec![in alloc;
+    let batch = batch_of(rt, node, Part::Enter);
+    let actions = vec![in rt.alloc();
         Action::Turn(batch),
         Action::Resend,
         Action::Again(7),
         Action::Reack(id(4)),
-    ]?)
+    ];
+    actions.expect(rt, "room")
 }
 
 // The Enter to contact 1 and over the own link.
@@ -409,56 +386,50 @@ const SENT_AGAIN: [Put; 4] = [
 
 // No peer has acknowledged the Enter, no session has an answer, and peer 4 has sent nothing.
 #[test]
-fn an_enter_is_sent_and_sent_again(rt: HostRuntime) -> Result<(), Fail> {
+fn an_enter_is_sent_and_sent_again(rt: HostRuntime) {
     let enter = [Step::Turn(Part::Enter)];
-    let sent = put_by(rt.alloc(), entrant(rt.alloc())?, &enter, &SENT)?;
+    let sent = put_by(&rt, entrant(&rt), &enter, &SENT);
     let life = [Step::Life(Life::Enter)];
-    let again = put_by(rt.alloc(), entrant(rt.alloc())?, &life, &SENT_AGAIN)?;
+    let again = put_by(&rt, entrant(&rt), &life, &SENT_AGAIN);
     assert!(rt; [sent, again] == [(Came::Put(0), true); 2]);
-    Ok(())
 }
 
 // What two steps come to, and the fault that ended the engine.
 type Both = (Came, Came, Option<DeviceFault>);
 
-fn both(alloc: Global, flusher: &mut Flusher<MemorySite>, steps: [Step; 2]) -> Result<Both, Fail> {
-    let [first, second] = steps;
-    let first = carry_out(alloc, flusher, first)?;
-    let second = carry_out(alloc, flusher, second)?;
-    Ok((first, second, flusher.fault()))
-}
-
 // The same where the disk call with that number fails, from the opening on, and how many outputs are put.
-fn both_failing(
-    alloc: Global,
+fn both_failing<R: Abort + AllocGlobal>(
+    rt: &R,
     from: MemorySite,
     at: u64,
     steps: [Step; 2],
-) -> Result<(Both, usize), Fail> {
-    let mut site = crashed(alloc, from)?;
+) -> (Both, usize) {
+    let [first, second] = steps;
+    let mut site = crashed(rt, from);
     site.fuse(at, Failing::Once);
-    let mut flusher = opened(alloc, site)?;
-    let outcome = both(alloc, &mut flusher, steps);
+    let mut flusher = engine(rt, site);
+    let first = carry_out(rt, &mut flusher, first);
+    let second = carry_out(rt, &mut flusher, second);
+    let fault = flusher.fault();
     let put = flusher.site().outputs().len();
     drop(flusher.close());
-    Ok((outcome?, put))
+    ((first, second, fault), put)
 }
 
 // The calls of opening are 0 to 13. A gate isn't written, and a record isn't made sure of.
 #[test]
-fn a_failed_disk_call_ends_the_engine(rt: HostRuntime) -> Result<(), Fail> {
+fn a_failed_disk_call_ends_the_engine(rt: HostRuntime) {
     let side = Side::A;
     let twice = [Step::Turn(Part::Enter); 2];
     let call = Call::Write;
     let came = Came::Failed(side, call);
-    let outcome = both_failing(rt.alloc(), entrant(rt.alloc())?, 16, twice)?;
+    let outcome = both_failing(&rt, entrant(&rt), 16, twice);
     assert!(rt; outcome == ((came, came, Some(DeviceFault { side, call })), 0));
     let resent = [Step::Turn(Part::Store), Step::Resend];
     let call = Call::Sync;
     let came = Came::Failed(side, call);
-    let outcome = both_failing(rt.alloc(), member(rt.alloc(), 16)?, 15, resent)?;
+    let outcome = both_failing(&rt, member(&rt, 16), 15, resent);
     assert!(rt; outcome == ((came, came, Some(DeviceFault { side, call })), 0));
-    Ok(())
 }
 
 const WRITE: DeviceFault = DeviceFault {
@@ -473,8 +444,9 @@ const NAMES: [(FormatFault, &str); 4] = [
     (FormatFault::AlreadyFormatted, "AlreadyFormatted"),
 ];
 
-fn says<F: Display>(alloc: Global, fault: &F, wanted: &str) -> Result<bool, AllocError> {
-    Ok(format!(in alloc; "{fault}")?.as_str() == wanted)
+fn says<R: Abort + AllocGlobal, F: Display>(rt: &R, fault: &F, wanted: &str) -> bool {
+    let said = format!(in rt.alloc(); "{fault}").expect(rt, "a text");
+    said.as_str() == wanted
 }
 
 fn failed_sync(side: Side) -> Failed {
@@ -487,10 +459,10 @@ fn failed_sync(side: Side) -> Failed {
 #[test]
 fn faults_print_their_names(rt: HostRuntime) {
     for (fault, name) in &NAMES {
-        assert!(rt; says(rt.alloc(), fault, *name) == Ok(true));
+        assert!(rt; says(&rt, fault, *name));
     }
     let moving = CheckpointFault::Failed(failed_sync(Side::B));
-    assert!(rt; says(rt.alloc(), &failed_sync(Side::A), "Failed A Sync") == Ok(true));
-    assert!(rt; says(rt.alloc(), &moving, "Failed B Sync") == Ok(true));
-    assert!(rt; says(rt.alloc(), &CheckpointFault::Spent, "Spent") == Ok(true));
+    assert!(rt; says(&rt, &failed_sync(Side::A), "Failed A Sync"));
+    assert!(rt; says(&rt, &moving, "Failed B Sync"));
+    assert!(rt; says(&rt, &CheckpointFault::Spent, "Spent"));
 }

@@ -1,15 +1,16 @@
 //! Batches of events that a node takes.
 
-ghost use Rattle.std.specs.Prelude.{◌≡◌, ◌≤◌, length, OnOk, IfOk};
+ghost use Rattle.std.specs.Prelude.{◌≡◌, ◌≤◌, ◌++◌, ◌∷◌, [], length, None};
+ghost use Rattle.cc_node.specs.Core.{made};
 ghost use Rattle.cc_node.specs.Node.{after};
+ghost use Rattle.cc_node.specs.Refusals.{decides};
 ghost use Rattle.cc_journal.specs.Batches.{AreLawful, events_in};
 
 use cc_journal::{Batch, Entry};
 use cc_messages::{Command, Event, Message};
 use cc_node::{Core, Node};
 use cc_views::{NodeId, Text};
-use std::alloc::Global;
-use std::test::*;
+use std::process::Abort;
 
 /// Which batch is committed: the node's Enter; the ask of a store in session 7, as its first request; that ask, its post as
 /// it comes back and the acknowledgement of that; the two deliveries that follow the ask; the ask of a collect after them;
@@ -30,25 +31,25 @@ pub enum Part {
 }
 
 /// The first event of a part.
-pub fn first_of(alloc: Global, node: &Node, part: Part) -> Result<Event, Fail> {
+pub fn first_of<R: Abort + AllocGlobal>(rt: &R, node: &Node, part: Part) -> Event {
     match part {
-        Part::Enter => Ok(Event::Enter),
-        Part::Ask | Part::Store => Ok(ask()),
-        Part::Deliveries => delivery(alloc, 1, node.outbox().post(1)),
-        Part::Collect => Ok(Event::Ask {
+        Part::Enter => Event::Enter,
+        Part::Ask | Part::Store => ask(),
+        Part::Deliveries => delivery(rt, 1, node.outbox().post(1)),
+        Part::Collect => Event::Ask {
             session: 7,
             request: 2,
             command: Command::Collect,
-        }),
-        Part::Flag(session) => Ok(Event::Ask {
+        },
+        Part::Flag(session) => Event::Ask {
             session,
             request: 1,
             command: Command::SetFlag,
-        }),
-        Part::Own(number) => delivery(alloc, number, node.outbox().post(number)),
-        Part::Away => Ok(Event::Lapse { node: id(1) }),
-        Part::Snapshot => Ok(Event::Snapshot),
-        Part::Leave => Ok(Event::Leave),
+        },
+        Part::Own(number) => delivery(rt, number, node.outbox().post(number)),
+        Part::Away => Event::Lapse { node: id(1) },
+        Part::Snapshot => Event::Snapshot,
+        Part::Leave => Event::Leave,
     }
 }
 
@@ -68,16 +69,14 @@ pub fn id(number: u32) -> NodeId {
 }
 
 /// What node 1 sent itself comes over its link.
-pub fn delivery(alloc: Global, number: u64, post: Option<&Message>) -> Result<Event, Fail> {
-    let Some(post) = post else {
-        return Err("there is no post".into());
-    };
-    let message = post.copy(alloc)?;
-    Ok(Event::Deliver {
+pub fn delivery<R: Abort + AllocGlobal>(rt: &R, number: u64, post: Option<&Message>) -> Event {
+    let post = post.expect(rt, "a post");
+    let message = post.copy(rt.alloc()).expect(rt, "a copy");
+    Event::Deliver {
         from: id(1),
         number,
         message,
-    })
+    }
 }
 
 /// The post that the last event of a batch makes.
@@ -85,85 +84,88 @@ pub fn last_post(batch: &Batch) -> Option<&Message> {
     batch.entries().last()?.made.post.as_ref()
 }
 
+/// The entry of an event that a core takes.
+pub fn entry_of<R: Abort + AllocGlobal>(rt: &R, core: &Core, event: Event) -> Entry
+    ensures { (decides core.now event ≡ None) × (result ≡ record { event = event; made = made core.now event }) }
+{
+    Entry::of(rt.alloc(), core, event).expect(rt, "the event is taken")
+}
+
+// Puts an entry into a batch that has room for it.
+fn put<R: Abort>(rt: &R, batch: &mut Batch, entry: Entry)
+    ensures { batch.new ≡ batch.old ++ entry ∷ [] }
+{
+    if batch.push(entry).is_err() {
+        panic!(rt; "the batch has no room");
+    }
+}
+
 /// Adds an event to a batch that is lawful from a node on, and to the core that the batch leads to.
-pub fn add(
-    alloc: Global,
+pub fn add<R: Abort + AllocGlobal>(
+    rt: &R,
     node: &Node,
     live: &mut Core,
     batch: &mut Batch,
     event: Event,
-) -> Result<(), Fail>
+)
     requires lawful { AreLawful node.now batch.old }
     requires live { live.old ≡ (after node.now (events_in batch.old)).core }
-    ensures lawful { OnOk result (AreLawful node.now batch.new) }
-    ensures live { OnOk result (live.new ≡ (after node.now (events_in batch.new)).core) }
-    ensures some { OnOk result (1 ≤ length batch.new) }
+    ensures lawful { AreLawful node.now batch.new }
+    ensures live { live.new ≡ (after node.now (events_in batch.new)).core }
+    ensures some { 1 ≤ length batch.new }
 {
-    let entry = Entry::of(alloc, live, event)?;
+    let entry = entry_of(rt, live, event);
     live.apply(&entry.event);
-    batch.push(entry)?;
-    Ok(())
+    put(rt, batch, entry);
 }
 
 // Adds the delivery under that number of the post that the batch's last event makes.
-fn add_delivery(
-    alloc: Global,
+fn add_delivery<R: Abort + AllocGlobal>(
+    rt: &R,
     node: &Node,
     live: &mut Core,
     batch: &mut Batch,
     number: u64,
-) -> Result<(), Fail>
+)
     requires lawful { AreLawful node.now batch.old }
     requires live { live.old ≡ (after node.now (events_in batch.old)).core }
-    ensures lawful { OnOk result (AreLawful node.now batch.new) }
-    ensures live { OnOk result (live.new ≡ (after node.now (events_in batch.new)).core) }
-    ensures some { OnOk result (1 ≤ length batch.new) }
+    ensures lawful { AreLawful node.now batch.new }
+    ensures live { live.new ≡ (after node.now (events_in batch.new)).core }
+    ensures some { 1 ≤ length batch.new }
 {
-    let event = delivery(alloc, number, last_post(batch))?;
-    add(alloc, node, live, batch, event)
+    let event = delivery(rt, number, last_post(batch));
+    add(rt, node, live, batch, event);
 }
 
 // Adds the events of a part to a batch that begins with the node.
-fn fill(
-    alloc: Global,
-    node: &Node,
-    live: &mut Core,
-    batch: &mut Batch,
-    part: Part,
-) -> Result<(), Fail>
+fn fill<R: Abort + AllocGlobal>(rt: &R, node: &Node, live: &mut Core, batch: &mut Batch, part: Part)
     requires lawful { AreLawful node.now batch.old }
     requires live { live.old ≡ (after node.now (events_in batch.old)).core }
-    ensures lawful { OnOk result (AreLawful node.now batch.new) }
-    ensures live { OnOk result (live.new ≡ (after node.now (events_in batch.new)).core) }
-    ensures some { OnOk result (1 ≤ length batch.new) }
+    ensures lawful { AreLawful node.now batch.new }
+    ensures live { live.new ≡ (after node.now (events_in batch.new)).core }
+    ensures some { 1 ≤ length batch.new }
 {
-    let event = first_of(alloc, node, part)?;
-    add(alloc, node, live, batch, event)?;
+    let event = first_of(rt, node, part);
+    add(rt, node, live, batch, event);
     match part {
         Part::Store => {
-            add_delivery(alloc, node, live, batch, 1)?;
-            add_delivery(alloc, node, live, batch, 2)
+            add_delivery(rt, node, live, batch, 1);
+            add_delivery(rt, node, live, batch, 2);
         }
-        Part::Deliveries => add_delivery(alloc, node, live, batch, 2),
-        Part::Away => add(alloc, node, live, batch, Event::Snapshot),
-        _ => Ok(()),
+        Part::Deliveries => add_delivery(rt, node, live, batch, 2),
+        Part::Away => add(rt, node, live, batch, Event::Snapshot),
+        _ => {}
     }
 }
 
 /// The batch of a part, which the node takes.
-pub fn batch_of(alloc: Global, node: &Node, part: Part) -> Result<Batch, Fail>
-    ensures lawful { IfOk result (AreLawful node.now) }
-    ensures some { IfOk result (λ b. 1 ≤ length b) }
+pub fn batch_of<R: Abort + AllocGlobal>(rt: &R, node: &Node, part: Part) -> Batch
+    ensures lawful { AreLawful node.now result }
+    ensures some { 1 ≤ length result }
 {
-    let mut live = node.core().copy(alloc)?;
+    let mut live = node.core().copy(rt.alloc()).expect(rt, "a copy");
     let mut batch = Batch::new();
-    let filled = fill(alloc, node, &mut live, &mut batch, part);
+    fill(rt, node, &mut live, &mut batch, part);
     drop(live);
-    match filled {
-        Ok(()) => Ok(batch),
-        Err(fault) => {
-            drop(batch);
-            Err(fault)
-        }
-    }
+    batch
 }

@@ -1,14 +1,15 @@
 //! What a call leaves that is refused memory. `make refused-growths` counts what is told here.
 
-use std::test::Fail;
+use std::process::Abort;
 
-/// A call's answer. Where it failed, what it was to leave as it was is looked at.
-pub(crate) fn unless_failed<T, E: Drop>(
+/// What a call gave. Where it failed, the test ends, and tells whether what it was to leave as it was is so.
+pub(crate) fn unless_failed<R: Abort, T, E: Drop>(
+    rt: &R,
     answer: Result<T, E>,
     is_as_before: bool,
-) -> Result<T, Fail> {
+) -> T {
     match answer {
-        Ok(value) => Ok(value),
+        Ok(value) => value,
         Err(fault) => {
             drop(fault);
             let told = if is_as_before {
@@ -16,7 +17,7 @@ pub(crate) fn unless_failed<T, E: Drop>(
             } else {
                 "failed, and something has changed"
             };
-            Err(told.into())
+            panic!(rt; "{told}")
         }
     }
 }

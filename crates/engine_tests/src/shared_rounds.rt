@@ -2,11 +2,11 @@
 
 use crate::parts::Part;
 use crate::puts::{Kind, Put};
-use crate::sites::{MEMBER, begun, crashed};
+use crate::sites::{MEMBER, begun, crashed, empty};
 use crate::steps::{Came, Left, Outcome, Step, check_outcomes, put_by, run};
 use cc_node::Opening;
 use cc_site::{Call, MemorySite, Side};
-use std::alloc::Global;
+use std::process::Abort;
 use std::test::*;
 
 // The ask of session 7 is answered, those of sessions 8 to 39 begin together, and that of session 40 waits.
@@ -22,20 +22,15 @@ fn steps_of_round() -> [Step; 37] {
 }
 
 // Member 1 of 1, up to 32 of whose asks begin together, with that round pending, whose acknowledgement is its post 4.
-fn pending(alloc: Global) -> Result<MemorySite, Fail> {
+fn pending<R: Abort + AllocGlobal>(rt: &R) -> MemorySite {
     let opening = Opening {
         share: 32,
         ..MEMBER
     };
-    let site = begun(alloc, MemorySite::new(alloc, 64)?, &opening)?;
-    let (site, came) = run(alloc, site, &steps_of_round())?;
-    match came {
-        Came::Put(_) => Ok(site),
-        _ => {
-            drop(site);
-            Err("a disk call failed".into())
-        }
-    }
+    let site = begun(rt.alloc(), empty(rt, 64), &opening).expect(rt, "the site is formatted");
+    let (site, came) = run(rt, site, &steps_of_round());
+    assert!(rt; matches!(came, Came::Put(_)), "a disk call failed");
+    site
 }
 
 const ACKNOWLEDGED: [Step; 1] = [Step::Turn(Part::Own(4))];
@@ -74,9 +69,8 @@ const ROUNDS: [(u64, Outcome); 5] = [
 ];
 
 #[test]
-fn a_round_is_answered_whole_or_not_at_all(rt: HostRuntime) -> Result<(), Fail> {
-    let site = pending(rt.alloc())?;
-    check_outcomes(&rt, site, &ACKNOWLEDGED, &ROUNDS)
+fn a_round_is_answered_whole_or_not_at_all(rt: HostRuntime) {
+    check_outcomes(&rt, pending(&rt), &ACKNOWLEDGED, &ROUNDS);
 }
 
 // What it puts: the acknowledgement of post 4, the store of session 40, and the replies to sessions 8 to 39, in that order.
@@ -90,11 +84,10 @@ fn puts_of_round() -> [Put; 34] {
 }
 
 #[test]
-fn a_round_is_replied_to_in_its_order(rt: HostRuntime) -> Result<(), Fail> {
-    let site = crashed(rt.alloc(), pending(rt.alloc())?)?;
-    let put = put_by(rt.alloc(), site, &ACKNOWLEDGED, &puts_of_round())?;
+fn a_round_is_replied_to_in_its_order(rt: HostRuntime) {
+    let site = crashed(&rt, pending(&rt));
+    let put = put_by(&rt, site, &ACKNOWLEDGED, &puts_of_round());
     assert!(rt; put == (Came::Put(0), true));
-    Ok(())
 }
 
 // The answers of sessions 8 to 40 are asked for again.
@@ -108,11 +101,10 @@ fn steps_of_again() -> [Step; 33] {
 
 // Each answer stands after a crash, under its own session, and there is none of session 40.
 #[test]
-fn each_answer_of_a_round_is_put_again(rt: HostRuntime) -> Result<(), Fail> {
-    let site = crashed(rt.alloc(), pending(rt.alloc())?)?;
-    let (site, _) = run(rt.alloc(), site, &ACKNOWLEDGED)?;
-    let site = crashed(rt.alloc(), site)?;
-    let put = put_by(rt.alloc(), site, &steps_of_again(), &puts_of_round()[2..])?;
+fn each_answer_of_a_round_is_put_again(rt: HostRuntime) {
+    let site = crashed(&rt, pending(&rt));
+    let (site, _) = run(&rt, site, &ACKNOWLEDGED);
+    let site = crashed(&rt, site);
+    let put = put_by(&rt, site, &steps_of_again(), &puts_of_round()[2..]);
     assert!(rt; put == (Came::Put(32), true));
-    Ok(())
 }

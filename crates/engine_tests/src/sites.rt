@@ -3,9 +3,9 @@
 use cc_changes::Fraction;
 use cc_flush::{Back, FormatFault, format};
 use cc_node::Opening;
-use cc_site::{Choice, DeviceFault, Failing, MemorySite, Side, Site, write_durably};
+use cc_site::{Choice, Failing, MemorySite, Side, Site, write_durably};
 use std::alloc::Global;
-use std::test::*;
+use std::process::Abort;
 
 const MOST: Fraction = Fraction { num: 4, den: 5 };
 
@@ -29,6 +29,11 @@ pub const MEMBER: Opening<'static> = Opening {
     share: 1,
 };
 
+/// Two empty sides, and room for so many outputs.
+pub fn empty<R: Abort + AllocGlobal>(rt: &R, room: usize) -> MemorySite {
+    MemorySite::new(rt.alloc(), room).expect(rt, "a site")
+}
+
 /// Formats a site for a node that begins so.
 pub fn begun(
     alloc: Global,
@@ -45,32 +50,32 @@ pub fn begun(
 }
 
 /// Entrant 4, which has never been opened.
-pub fn entrant(alloc: Global) -> Result<MemorySite, Fail> {
-    Ok(begun(alloc, MemorySite::new(alloc, 8)?, &ENTRANT)?)
+pub fn entrant<R: Abort + AllocGlobal>(rt: &R) -> MemorySite {
+    begun(rt.alloc(), empty(rt, 8), &ENTRANT).expect(rt, "the site is formatted")
 }
 
 /// Member 1 of 1, which has never been opened, with room for so many outputs.
-pub fn member(alloc: Global, room: usize) -> Result<MemorySite, Fail> {
-    Ok(begun(alloc, MemorySite::new(alloc, room)?, &MEMBER)?)
+pub fn member<R: Abort + AllocGlobal>(rt: &R, room: usize) -> MemorySite {
+    begun(rt.alloc(), empty(rt, room), &MEMBER).expect(rt, "the site is formatted")
 }
 
 /// The site as a crash leaves it, of which the disk call with that number fails.
-pub fn failing_image(
-    alloc: Global,
+pub fn failing_image<R: Abort + AllocGlobal>(
+    rt: &R,
     from: &MemorySite,
     at: u64,
     failing: Failing,
-) -> Result<MemorySite, Fail> {
-    let mut image = from.image(alloc, &Choice::Read)?;
+) -> MemorySite {
+    let mut image = from.image(rt.alloc(), &Choice::Read).expect(rt, "an image");
     image.fuse(at, failing);
-    Ok(image)
+    image
 }
 
 /// The site as a crash leaves it.
-pub fn crashed(alloc: Global, from: MemorySite) -> Result<MemorySite, Fail> {
-    let image = from.image(alloc, &Choice::Read);
+pub fn crashed<R: Abort + AllocGlobal>(rt: &R, from: MemorySite) -> MemorySite {
+    let image = from.image(rt.alloc(), &Choice::Read).expect(rt, "an image");
     drop(from);
-    Ok(image?)
+    image
 }
 
 /// What stands on a side, in three parts.
@@ -80,62 +85,43 @@ pub type Laid = [&'static [u8]; 3];
 pub const CLOSED: Laid = [&[0], &[], &[]];
 
 /// The bytes of parts, in turn.
-pub fn laid(alloc: Global, parts: &[&[u8]]) -> Result<Vec<u8>, Fail> {
-    let mut side = Vec::new(alloc);
+pub fn laid<R: Abort + AllocGlobal>(rt: &R, parts: &[&[u8]]) -> Vec<u8> {
+    let mut side = Vec::new(rt.alloc());
     for part in parts {
-        side.extend_from_slice(part)?;
+        side.extend_from_slice(part).expect(rt, "room");
     }
-    Ok(side)
+    side
 }
 
 /// A site whose sides have these bytes.
-pub fn with_sides(alloc: Global, a: &[u8], b: &[u8]) -> Result<MemorySite, Fail> {
-    let mut site = MemorySite::new(alloc, 8)?;
-    match write_sides(&mut site, a, b) {
-        Ok(()) => Ok(site),
-        Err(fault) => {
-            drop(site);
-            Err(fault.into())
-        }
-    }
+pub fn with_sides<R: Abort + AllocGlobal>(rt: &R, a: &[u8], b: &[u8]) -> MemorySite {
+    let mut site = empty(rt, 8);
+    write_durably(&mut site, Side::B, 0, b).expect(rt, "side B is written");
+    write_durably(&mut site, Side::A, 0, a).expect(rt, "side A is written");
+    site
 }
 
 /// A site on whose sides this stands.
-pub fn with_laid(alloc: Global, a: &Laid, b: &Laid) -> Result<MemorySite, Fail> {
-    let a = laid(alloc, a)?;
-    let b = laid(alloc, b)?;
-    with_sides(alloc, &a, &b)
+pub fn with_laid<R: Abort + AllocGlobal>(rt: &R, a: &Laid, b: &Laid) -> MemorySite {
+    let a = laid(rt, a);
+    let b = laid(rt, b);
+    with_sides(rt, &a, &b)
 }
 
-fn write_sides(site: &mut MemorySite, a: &[u8], b: &[u8]) -> Result<(), DeviceFault> {
-    write_durably(site, Side::B, 0, b)?;
-    write_durably(site, Side::A, 0, a)
-}
-
-fn contents<S: Site>(alloc: Global, site: &mut S, side: Side) -> Result<Vec<u8>, Fail> {
-    let length = site.length(side)?;
-    let mut bytes = vec![in alloc; 0; length as usize]?;
-    match site.read(side, 0, &mut bytes) {
-        Ok(()) => Ok(bytes),
-        Err(fault) => {
-            drop(bytes);
-            Err(fault.into())
-        }
-    }
-}
-
-fn both_contents(alloc: Global, site: &mut MemorySite) -> Result<(Vec<u8>, Vec<u8>), Fail> {
-    let a = contents(alloc, site, Side::A)?;
-    let b = contents(alloc, site, Side::B)?;
-    Ok((a, b))
+fn contents<R: Abort + AllocGlobal, S: Site>(rt: &R, site: &mut S, side: Side) -> Vec<u8> {
+    let length = site.length(side).expect(rt, "a length");
+    let mut bytes = vec![in rt.alloc(); 0; length as usize].expect(rt, "room");
+    site.read(side, 0, &mut bytes).expect(rt, "its bytes");
+    bytes
 }
 
 /// What stands on the sides of a site.
-pub fn sides(alloc: Global, site: MemorySite) -> Result<(Vec<u8>, Vec<u8>), Fail> {
+pub fn sides<R: Abort + AllocGlobal>(rt: &R, site: MemorySite) -> (Vec<u8>, Vec<u8>) {
     let mut site = site;
-    let sides = both_contents(alloc, &mut site);
+    let a = contents(rt, &mut site, Side::A);
+    let b = contents(rt, &mut site, Side::B);
     drop(site);
-    sides
+    (a, b)
 }
 
 // Whether these bytes are those parts, in turn.
@@ -151,7 +137,7 @@ fn is_laid(bytes: &[u8], parts: &Laid) -> bool {
 }
 
 /// Whether this stands on side A and on side B of a site.
-pub fn are_sides(alloc: Global, site: MemorySite, a: &Laid, b: &Laid) -> Result<bool, Fail> {
-    let (of_a, of_b) = sides(alloc, site)?;
-    Ok(is_laid(&of_a, a) && is_laid(&of_b, b))
+pub fn are_sides<R: Abort + AllocGlobal>(rt: &R, site: MemorySite, a: &Laid, b: &Laid) -> bool {
+    let (of_a, of_b) = sides(rt, site);
+    is_laid(&of_a, a) && is_laid(&of_b, b)
 }

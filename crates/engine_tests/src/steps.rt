@@ -1,6 +1,5 @@
 //! What is done with an engine, what that comes to, and what crashes leave.
 
-ghost use Rattle.std.specs.Prelude.{IfOk};
 ghost use Rattle.cc_flush.specs.Lives.{AreTurnsLawful};
 
 use crate::lives::actions_of_store;
@@ -17,7 +16,6 @@ use cc_site::{Call, Choice, Failing, MemorySite, Side};
 use cc_states::encode_state;
 use std::alloc::Global;
 use std::process::Abort;
-use std::test::*;
 
 /// What is done with an engine: a batch is committed and released by one call, a whole life is lived, or the call of that
 /// name.
@@ -48,8 +46,8 @@ pub enum Came {
     Spent,
 }
 
-/// Opens a site.
-pub fn opened(alloc: Global, site: MemorySite) -> Result<Flusher<MemorySite>, OpenFault> {
+// Opens a site.
+fn opened(alloc: Global, site: MemorySite) -> Result<Flusher<MemorySite>, OpenFault> {
     match Flusher::open(alloc, site) {
         Ok((flusher, core)) => {
             drop(core);
@@ -62,14 +60,19 @@ pub fn opened(alloc: Global, site: MemorySite) -> Result<Flusher<MemorySite>, Op
     }
 }
 
+/// The engine of a site, which can be opened.
+pub fn engine<R: Abort + AllocGlobal>(rt: &R, site: MemorySite) -> Flusher<MemorySite> {
+    opened(rt.alloc(), site).expect(rt, "the site is opened")
+}
+
 // What a life asks an engine for.
-fn actions_of(alloc: Global, node: &Node, life: Life) -> Result<Vec<Action>, Fail>
-    ensures { IfOk result (λ actions. AreTurnsLawful node.now actions.items) }
+fn actions_of<R: Abort + AllocGlobal>(rt: &R, node: &Node, life: Life) -> Vec<Action>
+    ensures { AreTurnsLawful node.now result.items }
 {
     match life {
-        Life::Enter => actions_of_enter(alloc, node),
-        Life::Store => actions_of_store(alloc, node),
-        Life::Round(life, round) => actions_of_round(alloc, node, life, round),
+        Life::Enter => actions_of_enter(rt, node),
+        Life::Store => actions_of_store(rt, node),
+        Life::Round(life, round) => actions_of_round(rt, node, life, round),
     }
 }
 
@@ -96,71 +99,66 @@ fn came_moved(answer: Result<(), CheckpointFault>) -> Came {
 }
 
 /// Carries out a step.
-pub fn carry_out(
-    alloc: Global,
+pub fn carry_out<R: Abort + AllocGlobal>(
+    rt: &R,
     flusher: &mut Flusher<MemorySite>,
     step: Step,
-) -> Result<Came, Fail> {
+) -> Came {
     if flusher.owes() || !flusher.room() {
-        return Err("there is no room".into());
+        panic!(rt; "there is no room");
     }
-    Ok(match step {
+    match step {
         Step::Turn(part) => {
-            let mut batch = batch_of(alloc, flusher.twin(), part)?;
-            came_of(flusher.flush(&mut batch).and(Ok(0)))
+            let mut batch = batch_of(rt, flusher.twin(), part);
+            let came = came_of(flusher.flush(&mut batch).and(Ok(0)));
+            drop(batch);
+            came
         }
         Step::Life(life) => {
-            let actions = actions_of(alloc, flusher.twin(), life)?;
+            let actions = actions_of(rt, flusher.twin(), life);
             came_of(flusher.run_life(actions).and(Ok(0)))
         }
         Step::Resend => came_of(flusher.resend()),
         Step::Again(session) => came_if(flusher.again(session)),
         Step::Reack(number) => came_if(flusher.reack(id(number))),
         Step::Checkpoint => came_moved(flusher.checkpoint()),
-    })
+    }
 }
 
 /// Carries out steps up to the first that fails.
-pub fn live(
-    alloc: Global,
+pub fn live<R: Abort + AllocGlobal>(
+    rt: &R,
     flusher: &mut Flusher<MemorySite>,
     steps: &[Step],
-) -> Result<Came, Fail> {
+) -> Came {
     let mut put: u64 = 0;
     for step in steps {
-        match carry_out(alloc, flusher, *step)? {
+        match carry_out(rt, flusher, *step) {
             Came::Put(count) => put = put.saturating_add(count),
-            fault => return Ok(fault),
+            fault => return fault,
         }
     }
-    Ok(Came::Put(put))
+    Came::Put(put)
 }
 
 /// Opens a site and carries out steps. Beside the site it gives what they come to.
-pub fn run(alloc: Global, site: MemorySite, steps: &[Step]) -> Result<(MemorySite, Came), Fail> {
-    let mut flusher = opened(alloc, site)?;
-    let came = live(alloc, &mut flusher, steps);
-    let site = flusher.close();
-    match came {
-        Ok(came) => Ok((site, came)),
-        Err(fault) => {
-            drop(site);
-            Err(fault)
-        }
-    }
+pub fn run<R: Abort + AllocGlobal>(rt: &R, site: MemorySite, steps: &[Step]) -> (MemorySite, Came) {
+    let mut flusher = engine(rt, site);
+    let came = live(rt, &mut flusher, steps);
+    (flusher.close(), came)
 }
 
 /// What steps on a site come to, and whether they put this and nothing else.
-pub fn put_by(
-    alloc: Global,
+pub fn put_by<R: Abort + AllocGlobal>(
+    rt: &R,
     site: MemorySite,
     steps: &[Step],
     puts: &[Put],
-) -> Result<(Came, bool), Fail> {
-    let (site, came) = run(alloc, site, steps)?;
+) -> (Came, bool) {
+    let (site, came) = run(rt, site, steps);
     let are_put = are_put(site.outputs(), puts);
     drop(site);
-    Ok((came, are_put))
+    (came, are_put)
 }
 
 /// What a node has made and keeps: how many posts it has made, its own number, and how many answers it keeps. Or why no
@@ -188,45 +186,46 @@ const CRASHES: [Choice; 5] = [
 ];
 
 /// What five crashes leave of a site: touched places as they are read, full of 00, of A5 and of FF, and cut away.
-pub fn crashes(alloc: Global, site: &MemorySite) -> Result<[Left; 5], Fail> {
+pub fn crashes<R: Abort + AllocGlobal>(rt: &R, site: &MemorySite) -> [Left; 5] {
     let mut left = [Err(OpenFault::NotFormatted); 5];
     for (place, choice) in left.iter_mut().zip(CRASHES.iter()) {
-        *place = left_of(alloc, site.image(alloc, choice)?);
+        let image = site.image(rt.alloc(), choice).expect(rt, "an image");
+        *place = left_of(rt.alloc(), image);
     }
-    Ok(left)
+    left
 }
 
 /// What steps come to, how many outputs are put, and what five crashes leave then.
 pub type Outcome = (Came, usize, [Left; 5]);
 
 /// Opens a site and carries out steps.
-pub fn outcome_of(alloc: Global, site: MemorySite, steps: &[Step]) -> Result<Outcome, Fail> {
-    let (site, came) = run(alloc, site, steps)?;
+pub fn outcome_of<R: Abort + AllocGlobal>(rt: &R, site: MemorySite, steps: &[Step]) -> Outcome {
+    let (site, came) = run(rt, site, steps);
     let put = site.outputs().len();
-    let left = crashes(alloc, &site);
+    let left = crashes(rt, &site);
     drop(site);
-    Ok((came, put, left?))
+    (came, put, left)
 }
 
 // The halves of 1,024, down to 1.
 const HALVES: [u64; 10] = [512, 256, 128, 64, 32, 16, 8, 4, 2, 1];
 
 // Whether a site is opened where that disk call fails, and all after it.
-fn opens_before(alloc: Global, site: &MemorySite, at: u64) -> Result<bool, Fail> {
-    let image = failing_image(alloc, site, at, Failing::Stop)?;
-    Ok(left_of(alloc, image).is_ok())
+fn opens_before<R: Abort + AllocGlobal>(rt: &R, site: &MemorySite, at: u64) -> bool {
+    let image = failing_image(rt, site, at, Failing::Stop);
+    left_of(rt.alloc(), image).is_ok()
 }
 
 /// How many disk calls it takes to open a site, of which there are fewer than 1,024.
-pub fn calls_of_opening(alloc: Global, site: &MemorySite) -> Result<u64, Fail> {
+pub fn calls_of_opening<R: Abort + AllocGlobal>(rt: &R, site: &MemorySite) -> u64 {
     let mut calls: u64 = 0;
     for half in &HALVES {
         let next = calls.saturating_add(*half);
-        if !opens_before(alloc, site, next.saturating_sub(1))? {
+        if !opens_before(rt, site, next.saturating_sub(1)) {
             calls = next;
         }
     }
-    Ok(calls)
+    calls
 }
 
 /// Checks what steps on a site come to where the disk call with such a number behind the opening fails: it alone, and it
@@ -236,10 +235,9 @@ pub fn check_outcomes<R: Abort + AllocGlobal>(
     from: MemorySite,
     steps: &[Step],
     cases: &[(u64, Outcome)],
-) -> Result<(), Fail> {
-    let checked = check_each(rt, &from, steps, cases);
+) {
+    check_each(rt, &from, steps, cases);
     drop(from);
-    checked
 }
 
 /// The same for a site that is looked at again.
@@ -248,35 +246,34 @@ pub fn check_each<R: Abort + AllocGlobal>(
     from: &MemorySite,
     steps: &[Step],
     cases: &[(u64, Outcome)],
-) -> Result<(), Fail> {
-    let first = calls_of_opening(rt.alloc(), from)?;
+) {
+    let first = calls_of_opening(rt, from);
     for &failing in &[Failing::Once, Failing::Stop] {
         for &(at, outcome) in cases {
-            let site = failing_image(rt.alloc(), from, first.saturating_add(at), failing)?;
-            let found = outcome_of(rt.alloc(), site, steps)?;
+            let site = failing_image(rt, from, first.saturating_add(at), failing);
+            let found = outcome_of(rt, site, steps);
             assert!(rt; (at, found) == (at, outcome));
         }
     }
-    Ok(())
 }
 
 /// The state of a node.
-pub fn state_of_node(alloc: Global, node: &Node) -> Result<Vec<u8>, Fail> {
-    let mut state = Vec::new(alloc);
+pub fn state_of_node<R: Abort + AllocGlobal>(rt: &R, node: &Node) -> Vec<u8> {
+    let mut state = Vec::new(rt.alloc());
     let put = encode_state(node, &mut state);
-    unless_failed(put, state.is_empty())?;
-    Ok(state)
+    unless_failed(rt, put, state.is_empty());
+    state
 }
 
 /// The state of an engine's node.
-pub fn state_of_twin(alloc: Global, flusher: &Flusher<MemorySite>) -> Result<Vec<u8>, Fail> {
-    state_of_node(alloc, flusher.twin())
+pub fn state_of_twin<R: Abort + AllocGlobal>(rt: &R, flusher: &Flusher<MemorySite>) -> Vec<u8> {
+    state_of_node(rt, flusher.twin())
 }
 
 /// The state of the node of a site.
-pub fn state_of(alloc: Global, site: MemorySite) -> Result<Vec<u8>, Fail> {
-    let flusher = opened(alloc, site)?;
-    let state = state_of_twin(alloc, &flusher);
+pub fn state_of<R: Abort + AllocGlobal>(rt: &R, site: MemorySite) -> Vec<u8> {
+    let flusher = engine(rt, site);
+    let state = state_of_twin(rt, &flusher);
     drop(flusher.close());
     state
 }
@@ -292,19 +289,18 @@ fn is_among(states: &[Vec<u8>], left: &[u8]) -> bool {
 }
 
 // Whether the node of a site has one of these states.
-fn is_left(alloc: Global, site: MemorySite, states: &[Vec<u8>]) -> Result<bool, Fail> {
-    let left = state_of(alloc, site)?;
-    let is_among = is_among(states, &left);
-    drop(left);
-    Ok(is_among)
+fn is_left<R: Abort + AllocGlobal>(rt: &R, site: MemorySite, states: &[Vec<u8>]) -> bool {
+    let left = state_of(rt, site);
+    is_among(states, &left)
 }
 
 /// Whether each of five crashes leaves a node with one of these states.
-pub fn are_left(alloc: Global, site: &MemorySite, states: &[Vec<u8>]) -> Result<bool, Fail> {
+pub fn are_left<R: Abort + AllocGlobal>(rt: &R, site: &MemorySite, states: &[Vec<u8>]) -> bool {
     for choice in CRASHES.iter() {
-        if !is_left(alloc, site.image(alloc, choice)?, states)? {
-            return Ok(false);
+        let image = site.image(rt.alloc(), choice).expect(rt, "an image");
+        if !is_left(rt, image, states) {
+            return false;
         }
     }
-    Ok(true)
+    true
 }

@@ -1,6 +1,6 @@
 //! Ten lives of one node, each of which ends at another disk call, and what all of them put.
 
-ghost use Rattle.std.specs.Prelude.{◌≡◌, ◌≤◌, length, IfOk, OnOk};
+ghost use Rattle.std.specs.Prelude.{◌≡◌, ◌≤◌, length};
 ghost use Rattle.cc_node.specs.Node.{after};
 ghost use Rattle.cc_journal.specs.Batches.{AreLawful, events_in};
 ghost use Rattle.cc_flush.specs.Lives.{AreTurnsLawful};
@@ -8,13 +8,13 @@ ghost use Rattle.cc_flush.specs.Lives.{AreTurnsLawful};
 use crate::lives::batch_of;
 use crate::parts::{add, delivery, id};
 use crate::sites::member;
-use crate::steps::{Came, Life, Step, calls_of_opening, carry_out, opened};
+use crate::steps::{Came, Life, Step, calls_of_opening, carry_out, engine};
 use cc_flush::{Action, Flusher};
 use cc_journal::Batch;
 use cc_messages::{Answer, Command, Event, Message, Output};
 use cc_node::{Core, Node};
 use cc_site::{Choice, Failing, MemorySite};
-use cc_views::{NoMemory, NodeId, Row, Text, Value, View};
+use cc_views::{NodeId, Row, Text, Value, View};
 use std::alloc::Global;
 use std::process::Abort;
 use std::test::*;
@@ -52,171 +52,137 @@ fn next_ask(live: &Core, life: u8) -> Event {
 }
 
 // The view of node 2's store under that number, which is its maximum too.
-fn view_of_other(alloc: Global, node: NodeId, number: u64) -> Result<View, NoMemory> {
+fn view_of_other<R: Abort + AllocGlobal>(rt: &R, node: NodeId, number: u64) -> View {
     let mut value = Value::empty();
     value.max = number;
-    let mut view = View::new(alloc)?;
+    let mut view = View::new(rt.alloc()).expect(rt, "a view");
     view.push(Row {
         node,
         number,
         value,
     });
-    Ok(view)
+    view
 }
 
 // What node 2, which enters and never joins, sends next: its Enter, and then stores.
-fn next_of_other(alloc: Global, live: &Core) -> Result<Event, Fail> {
+fn next_of_other<R: Abort + AllocGlobal>(rt: &R, live: &Core) -> Event {
     let from = id(2);
     let number = live.heard(from).saturating_add(1);
     let message = if number == 1 {
         Message::Enter { node: from }
     } else {
         Message::Store {
-            view: view_of_other(alloc, from, number)?,
+            view: view_of_other(rt, from, number),
             tag: number,
             node: from,
         }
     };
-    Ok(Event::Deliver {
+    Event::Deliver {
         from,
         number,
         message,
-    })
+    }
 }
 
 // What goes on where the node has come to: a kept post that it hasn't heard yet comes back to it; else, where nothing is
 // pending, a client asks; else node 2 sends something.
-fn next_event(alloc: Global, node: &Node, live: &Core, life: u8) -> Result<Event, Fail> {
+fn next_event<R: Abort + AllocGlobal>(rt: &R, node: &Node, live: &Core, life: u8) -> Event {
     let heard = live.heard(live.me());
     if heard < node.outbox().last() {
-        return delivery(alloc, heard + 1, node.outbox().post(heard + 1));
+        return delivery(rt, heard + 1, node.outbox().post(heard + 1));
     }
     if live.ops().is_idle() {
-        return Ok(next_ask(live, life));
+        return next_ask(live, life);
     }
-    next_of_other(alloc, live)
-}
-
-// Adds two events.
-fn fill(
-    alloc: Global,
-    node: &Node,
-    live: &mut Core,
-    batch: &mut Batch,
-    life: u8,
-) -> Result<(), Fail>
-    requires lawful { AreLawful node.now batch.old }
-    requires live { live.old ≡ (after node.now (events_in batch.old)).core }
-    ensures lawful { OnOk result (AreLawful node.now batch.new) }
-    ensures live { OnOk result (live.new ≡ (after node.now (events_in batch.new)).core) }
-    ensures some { OnOk result (1 ≤ length batch.new) }
-{
-    let event = next_event(alloc, node, live, life)?;
-    add(alloc, node, live, batch, event)?;
-    let event = next_event(alloc, node, live, life)?;
-    add(alloc, node, live, batch, event)
+    next_of_other(rt, live)
 }
 
 // The batch of two events.
-fn batch_of_two(alloc: Global, node: &Node, live: &mut Core, life: u8) -> Result<Batch, Fail>
+fn batch_of_two<R: Abort + AllocGlobal>(rt: &R, node: &Node, live: &mut Core, life: u8) -> Batch
     requires { live.old ≡ node.now.core }
-    ensures lawful { IfOk result (AreLawful node.now) }
-    ensures live { IfOk result (λ b. live.new ≡ (after node.now (events_in b)).core) }
-    ensures some { IfOk result (λ b. 1 ≤ length b) }
+    ensures lawful { AreLawful node.now result }
+    ensures live { live.new ≡ (after node.now (events_in result)).core }
+    ensures some { 1 ≤ length result }
 {
     let mut batch = Batch::new();
-    let filled = fill(alloc, node, live, &mut batch, life);
-    match filled {
-        Ok(()) => Ok(batch),
-        Err(fault) => {
-            drop(batch);
-            Err(fault)
-        }
-    }
+    let event = next_event(rt, node, live, life);
+    add(rt, node, live, &mut batch, event);
+    let event = next_event(rt, node, live, life);
+    add(rt, node, live, &mut batch, event);
+    batch
 }
 
 // A batch of two events and one of one, and what else an engine is asked for between them and behind them.
-fn actions_from(
-    alloc: Global,
+fn actions_from<R: Abort + AllocGlobal>(
+    rt: &R,
     node: &Node,
     live: &mut Core,
     life: u8,
     moves: bool,
-) -> Result<Vec<Action>, Fail>
+) -> Vec<Action>
     requires { live.old ≡ node.now.core }
-    ensures { IfOk result (λ actions. AreTurnsLawful node.now actions.items) }
+    ensures { AreTurnsLawful node.now result.items }
 {
-    let first = batch_of_two(alloc, node, live, life)?;
-    let event = next_event(alloc, node, live, life)?;
-    let second = batch_of(alloc, live, event)?;
+    let first = batch_of_two(rt, node, live, life);
+    let event = next_event(rt, node, live, life);
+    let second = batch_of(rt, live, event);
     let between = if moves {
         Action::Checkpoint
     } else {
         Action::Resend
     };
-    Ok(vec![in alloc;
+    let actions = vec![in rt.alloc();
         Action::Turn(first),
         between,
         Action::Turn(second),
         Action::Again(SESSION),
         Action::Reack(node.me()),
-    ]?)
+    ];
+    actions.expect(rt, "room")
 }
 
 /// The actions of a round. Each third round moves the node to the other side.
-pub fn actions_of_round(
-    alloc: Global,
+pub fn actions_of_round<R: Abort + AllocGlobal>(
+    rt: &R,
     node: &Node,
     life: u8,
     round: u32,
-) -> Result<Vec<Action>, Fail>
-    ensures { IfOk result (λ actions. AreTurnsLawful node.now actions.items) }
+) -> Vec<Action>
+    ensures { AreTurnsLawful node.now result.items }
 {
-    let mut live = node.core().copy(alloc)?;
-    let actions = actions_from(alloc, node, &mut live, life, round % 3 == 2);
+    let mut live = node.core().copy(rt.alloc()).expect(rt, "a copy");
+    let actions = actions_from(rt, node, &mut live, life, round % 3 == 2);
     drop(live);
     actions
 }
 
 // Lives on an engine until a disk call fails.
-fn live(alloc: Global, flusher: &mut Flusher<MemorySite>, life: u8) -> Result<(), Fail> {
+fn live<R: Abort + AllocGlobal>(rt: &R, flusher: &mut Flusher<MemorySite>, life: u8) {
     for round in 0..100 {
-        let came = carry_out(alloc, flusher, Step::Life(Life::Round(life, round)))?;
+        let came = carry_out(rt, flusher, Step::Life(Life::Round(life, round)));
         if !matches!(came, Came::Put(_)) {
-            return Ok(());
+            return;
         }
     }
-    Err("no disk call fails".into())
+    panic!(rt; "no disk call fails");
 }
 
 // A life on a site of which the disk call with that number fails, and all after it.
-fn lived(alloc: Global, site: MemorySite, life: u8) -> Result<MemorySite, Fail> {
-    let mut flusher = opened(alloc, site)?;
-    let lived = live(alloc, &mut flusher, life);
-    let site = flusher.close();
-    match lived {
-        Ok(()) => Ok(site),
-        Err(fault) => {
-            drop(site);
-            Err(fault)
-        }
-    }
+fn lived<R: Abort + AllocGlobal>(rt: &R, site: MemorySite, life: u8) -> MemorySite {
+    let mut flusher = engine(rt, site);
+    live(rt, &mut flusher, life);
+    flusher.close()
 }
 
 // The site after one more life. Of the life before a crash leaves the touched places full of A5, or of 00.
-fn next_life(alloc: Global, site: &MemorySite, life: u8, end: u64) -> Result<MemorySite, Fail> {
+fn next_life<R: Abort + AllocGlobal>(rt: &R, site: &MemorySite, life: u8, end: u64) -> MemorySite {
     let byte = if life % 2 == 0 { 0 } else { 0xA5 };
-    let mut left = site.image(alloc, &Choice::Fill(byte))?;
-    match calls_of_opening(alloc, &left) {
-        Ok(calls) => {
-            left.fuse(calls.saturating_add(end), Failing::Stop);
-            lived(alloc, left, life)
-        }
-        Err(fault) => {
-            drop(left);
-            Err(fault)
-        }
-    }
+    let mut left = site
+        .image(rt.alloc(), &Choice::Fill(byte))
+        .expect(rt, "an image");
+    let calls = calls_of_opening(rt, &left);
+    left.fuse(calls.saturating_add(end), Failing::Stop);
+    lived(rt, left, life)
 }
 
 // The views that were put: how many, whether each is in line with all before it, and each different one once.
@@ -287,56 +253,44 @@ fn place_among(views: &[View], view: &View) -> (bool, bool) {
     (is_in_line, is_known)
 }
 
-fn take_in(alloc: Global, shown: &mut Shown, view: &View) -> Result<(), Fail> {
+fn take_in<R: Abort + AllocGlobal>(rt: &R, shown: &mut Shown, view: &View) {
     let (is_in_line, is_known) = place_among(&shown.views, view);
     shown.count = shown.count.saturating_add(1);
     shown.are_in_line = shown.are_in_line && is_in_line;
     if !is_known {
-        shown.views.push(view.copy(alloc)?)?;
+        let copy = view.copy(rt.alloc()).expect(rt, "a copy");
+        shown.views.push(copy).expect(rt, "room");
     }
-    Ok(())
 }
 
 // Takes in what a life put.
-fn take_in_life(alloc: Global, shown: &mut Shown, site: &MemorySite) -> Result<(), Fail> {
-    if site.lost() > 0 {
-        return Err("an output was lost".into());
-    }
+fn take_in_life<R: Abort + AllocGlobal>(rt: &R, shown: &mut Shown, site: &MemorySite) {
+    assert!(rt; site.lost() == 0, "an output was lost");
     for output in site.outputs() {
         if let Some(view) = view_in(output) {
-            take_in(alloc, shown, view)?;
+            take_in(rt, shown, view);
         }
     }
-    Ok(())
 }
 
-// The site after ten lives.
-fn live_ten_times(alloc: Global, site: &mut MemorySite, shown: &mut Shown) -> Result<(), Fail> {
+fn show_ten_lives<R: Abort + AllocGlobal>(rt: &R, shown: &mut Shown) {
+    let mut site = member(rt, 4_096);
     let mut life: u8 = 0;
     for &end in &ENDS {
-        *site = next_life(alloc, site, life, end)?;
-        take_in_life(alloc, shown, site)?;
+        site = next_life(rt, &site, life, end);
+        take_in_life(rt, shown, &site);
         life = life.saturating_add(1);
     }
-    Ok(())
-}
-
-fn show_ten_lives(alloc: Global, shown: &mut Shown) -> Result<(), Fail> {
-    let mut site = member(alloc, 4_096)?;
-    let lived = live_ten_times(alloc, &mut site, shown);
     drop(site);
-    lived
 }
 
 // One more life, on a disk that knows nothing of the others.
-fn show_life_on_fresh_disk(alloc: Global, shown: &mut Shown) -> Result<(), Fail> {
-    let fresh = member(alloc, 4_096)?;
-    let site = next_life(alloc, &fresh, 10, 9);
+fn show_life_on_fresh_disk<R: Abort + AllocGlobal>(rt: &R, shown: &mut Shown) {
+    let fresh = member(rt, 4_096);
+    let site = next_life(rt, &fresh, 10, 9);
     drop(fresh);
-    let site = site?;
-    let taken = take_in_life(alloc, shown, &site);
+    take_in_life(rt, shown, &site);
     drop(site);
-    taken
 }
 
 // Whether one of the views has rows of nodes 1 and 2.
@@ -349,19 +303,13 @@ fn has_both(views: &[View]) -> bool {
     false
 }
 
-fn check_shown<R: Abort + AllocGlobal>(rt: &R, shown: &mut Shown) -> Result<(), Fail> {
-    show_ten_lives(rt.alloc(), shown)?;
+#[test]
+fn views_of_ten_lives_are_in_line(rt: HostRuntime) {
+    let mut shown = Shown::new(rt.alloc());
+    show_ten_lives(&rt, &mut shown);
     assert!(rt; shown.are_in_line && has_both(&shown.views));
     assert!(rt; shown.count >= 500 && shown.views.len() >= 20);
-    show_life_on_fresh_disk(rt.alloc(), shown)?;
+    show_life_on_fresh_disk(&rt, &mut shown);
     assert!(rt; !shown.are_in_line);
-    Ok(())
-}
-
-#[test]
-fn views_of_ten_lives_are_in_line(rt: HostRuntime) -> Result<(), Fail> {
-    let mut shown = Shown::new(rt.alloc());
-    let checked = check_shown(&rt, &mut shown);
     drop(shown);
-    checked
 }

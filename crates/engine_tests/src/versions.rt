@@ -178,28 +178,22 @@ pub const FIRST_SIDE: Laid = [&FIRST, &[], &[]];
 pub const FIRST_MEMBER_SIDE: Laid = [&FIRST_MEMBER, &[0], &[]];
 
 // Checks the state in version 2 of the node that is opened where this stands on side A and on side B.
-fn check_state<R: Abort + AllocGlobal>(
-    rt: &R,
-    a: &Laid,
-    b: &Laid,
-    state: &[u8],
-) -> Result<(), Fail> {
-    let left = state_of(rt.alloc(), with_laid(rt.alloc(), a, b)?)?;
+fn check_state<R: Abort + AllocGlobal>(rt: &R, a: &Laid, b: &Laid, state: &[u8]) {
+    let left = state_of(rt, with_laid(rt, a, b));
     assert!(rt; left.as_slice() == state);
-    Ok(())
 }
 
 // The last one has a record behind its state.
 #[test]
-fn states_of_version_1_are_opened(rt: HostRuntime) -> Result<(), Fail> {
-    check_state(&rt, &FIRST_SIDE, &CLOSED, &SECOND)?;
-    check_state(&rt, &CLOSED, &SECOND_SIDE, &SECOND)?;
-    check_state(&rt, &[&FIRST_ENTRANT, &[0], &[]], &CLOSED, &ENTRANT_STATE)?;
-    check_state(&rt, &FIRST_MEMBER_SIDE, &CLOSED, &MEMBER_STATE)?;
+fn states_of_version_1_are_opened(rt: HostRuntime) {
+    check_state(&rt, &FIRST_SIDE, &CLOSED, &SECOND);
+    check_state(&rt, &CLOSED, &SECOND_SIDE, &SECOND);
+    check_state(&rt, &[&FIRST_ENTRANT, &[0], &[]], &CLOSED, &ENTRANT_STATE);
+    check_state(&rt, &FIRST_MEMBER_SIDE, &CLOSED, &MEMBER_STATE);
     check_state(
         &rt,
         &[&FIRST_ENTRANT, &ENTERED, &[]],
         &CLOSED,
         &ENTERED_STATE,
-    )
+    );
 }

@@ -3,14 +3,13 @@
 
 use crate::parts::{Part, first_of};
 use crate::puts::{Kind, Put, are_put};
-use crate::sites::MEMBER;
+use crate::sites::{MEMBER, empty};
 use crate::steps::{Came, Step, are_left, carry_out, state_of_node};
 use cc_checkpoint::OpenFault;
 use cc_flush::{Back, Flusher, FormatFault, format};
 use cc_messages::{Event, Output};
 use cc_node::Node;
 use cc_site::{Failing, MemorySite};
-use std::alloc::Global;
 use std::process::Abort;
 use std::test::*;
 
@@ -34,94 +33,76 @@ struct Lived {
 }
 
 // Whether each later step comes to the same.
-fn is_over(alloc: Global, flusher: &mut Flusher<MemorySite>, came: Came) -> Result<bool, Fail> {
+fn is_over<R: Abort + AllocGlobal>(rt: &R, flusher: &mut Flusher<MemorySite>, came: Came) -> bool {
     for &step in &[Step::Turn(Part::Leave), Step::Resend, Step::Checkpoint] {
-        if carry_out(alloc, flusher, step)? != came {
-            return Ok(false);
+        if carry_out(rt, flusher, step) != came {
+            return false;
         }
     }
-    Ok(true)
+    true
 }
 
-fn live(alloc: Global, flusher: &mut Flusher<MemorySite>) -> Result<Lived, Fail> {
+fn live<R: Abort + AllocGlobal>(rt: &R, flusher: &mut Flusher<MemorySite>) -> Lived {
     let mut durable: usize = 0;
     for &(step, events) in &STEPS {
         let taken = durable.saturating_add(events);
-        let came = carry_out(alloc, flusher, step)?;
+        let came = carry_out(rt, flusher, step);
         if !matches!(came, Came::Put(_)) {
-            if !is_over(alloc, flusher, came)? {
-                return Err("a later call tells something else".into());
-            }
-            return Ok(Lived {
+            assert!(rt;
+                is_over(rt, flusher, came),
+                "a later call tells something else"
+            );
+            return Lived {
                 durable,
                 taken,
                 is_ended: true,
-            });
+            };
         }
         durable = taken;
     }
-    Ok(Lived {
+    Lived {
         durable,
         taken: durable,
         is_ended: false,
-    })
-}
-
-// Opens a site and lives on it.
-fn open_and_live(alloc: Global, site: MemorySite) -> Result<(MemorySite, Lived), Fail> {
-    match Flusher::open(alloc, site) {
-        Ok((flusher, core)) => {
-            drop(core);
-            live_and_close(alloc, flusher)
-        }
-        Err(Back { site, fault }) => ended_first(site, fault),
-    }
-}
-
-fn live_and_close(
-    alloc: Global,
-    flusher: Flusher<MemorySite>,
-) -> Result<(MemorySite, Lived), Fail> {
-    let mut flusher = flusher;
-    let lived = live(alloc, &mut flusher);
-    let site = flusher.close();
-    match lived {
-        Ok(lived) => Ok((site, lived)),
-        Err(fault) => {
-            drop(site);
-            Err(fault)
-        }
     }
 }
 
 // A disk call ended the life before its first event.
-fn ended_first(site: MemorySite, fault: OpenFault) -> Result<(MemorySite, Lived), Fail> {
-    match fault {
-        OpenFault::Device(_) => Ok((
-            site,
-            Lived {
-                durable: 0,
-                taken: 0,
-                is_ended: true,
-            },
-        )),
-        _ => {
-            drop(site);
-            Err(fault.into())
+const ENDED_FIRST: Lived = Lived {
+    durable: 0,
+    taken: 0,
+    is_ended: true,
+};
+
+// Opens a site and lives on it.
+fn open_and_live<R: Abort + AllocGlobal>(rt: &R, site: MemorySite) -> (MemorySite, Lived) {
+    match Flusher::open(rt.alloc(), site) {
+        Ok((mut flusher, core)) => {
+            drop(core);
+            let lived = live(rt, &mut flusher);
+            (flusher.close(), lived)
+        }
+        Err(Back { site, fault }) => {
+            assert!(rt;
+                matches!(fault, OpenFault::Device(_)),
+                "it isn't opened: {fault}"
+            );
+            (site, ENDED_FIRST)
         }
     }
 }
 
 // Formats a site for member 1 of 1, unless a disk call of that fails.
-fn formatted(alloc: Global, site: MemorySite) -> Result<Option<MemorySite>, Fail> {
-    match format(alloc, site, &MEMBER) {
-        Ok(site) => Ok(Some(site)),
+fn formatted<R: Abort + AllocGlobal>(rt: &R, site: MemorySite) -> Option<MemorySite> {
+    match format(rt.alloc(), site, &MEMBER) {
+        Ok(site) => Some(site),
         Err(Back { site, fault }) => {
             drop(site);
-            match fault {
-                FormatFault::Device(_) => Ok(None),
-                _ => Err(fault.into()),
-            }
+            assert!(rt;
+                matches!(fault, FormatFault::Device(_)),
+                "it isn't formatted: {fault}"
+            );
+            None
         }
     }
 }
@@ -137,51 +118,30 @@ const EVENTS: [Part; 6] = [
 ];
 
 /// A node takes an event in, which it doesn't refuse.
-pub fn settle(alloc: Global, node: &mut Node, event: Event) -> Result<(), Fail> {
-    if let Err(refusal) = node.core().decide(&event) {
-        drop(event);
-        return Err(refusal.into());
-    }
-    match node.core().made(alloc, &event) {
-        Ok(made) => {
-            node.settle(event, made);
-            Ok(())
-        }
-        Err(fault) => {
-            drop(event);
-            Err(fault.into())
-        }
-    }
+pub fn settle<R: Abort + AllocGlobal>(rt: &R, node: &mut Node, event: Event) {
+    let made = node
+        .core()
+        .made_or_refused(rt.alloc(), &event)
+        .expect(rt, "the event is taken");
+    node.settle(event, made);
 }
 
-fn push_state(alloc: Global, node: &Node, states: &mut Vec<Vec<u8>>) -> Result<(), Fail> {
-    states.push(state_of_node(alloc, node)?)?;
-    Ok(())
+fn push_state<R: Abort + AllocGlobal>(rt: &R, node: &Node, states: &mut Vec<Vec<u8>>) {
+    states.push(state_of_node(rt, node)).expect(rt, "room");
 }
 
 // The states of the node before the first event and after each.
-fn push_states(alloc: Global, node: &mut Node, states: &mut Vec<Vec<u8>>) -> Result<(), Fail> {
-    push_state(alloc, node, states)?;
+fn plain_states<R: Abort + AllocGlobal>(rt: &R) -> Vec<Vec<u8>> {
+    let mut node = Node::fresh(rt.alloc(), &MEMBER).expect(rt, "a node");
+    let mut states = Vec::new(rt.alloc());
+    push_state(rt, &node, &mut states);
     for &part in &EVENTS {
-        let event = first_of(alloc, node, part)?;
-        settle(alloc, node, event)?;
-        push_state(alloc, node, states)?;
+        let event = first_of(rt, &node, part);
+        settle(rt, &mut node, event);
+        push_state(rt, &node, &mut states);
     }
-    Ok(())
-}
-
-fn plain_states(alloc: Global) -> Result<Vec<Vec<u8>>, Fail> {
-    let mut node = Node::fresh(alloc, &MEMBER)?;
-    let mut states = Vec::new(alloc);
-    let pushed = push_states(alloc, &mut node, &mut states);
     drop(node);
-    match pushed {
-        Ok(()) => Ok(states),
-        Err(fault) => {
-            drop(states);
-            Err(fault)
-        }
-    }
+    states
 }
 
 // All that the life puts: of the four batches, and both posts of the first two again before the third.
@@ -206,56 +166,47 @@ fn are_first(outputs: &[Output]) -> bool {
 }
 
 // Whether a crash leaves the node after so many events that the released ones are among them, and none that wasn't begun.
-fn is_lawful(
-    alloc: Global,
+fn is_lawful<R: Abort + AllocGlobal>(
+    rt: &R,
     site: &MemorySite,
     lived: Lived,
     states: &[Vec<u8>],
-) -> Result<bool, Fail> {
+) -> bool {
     match states.get(lived.durable..=lived.taken) {
-        Some(lawful) => Ok(are_first(site.outputs()) && are_left(alloc, site, lawful)?),
-        None => Ok(false),
+        Some(lawful) => are_first(site.outputs()) && are_left(rt, site, lawful),
+        None => false,
     }
 }
 
 // Whether a disk call of the life failed where that one was to fail.
-fn ends_at(alloc: Global, at: u64, failing: Failing, states: &[Vec<u8>]) -> Result<bool, Fail> {
-    let mut site = MemorySite::new(alloc, 16)?;
+fn ends_at<R: Abort + AllocGlobal>(rt: &R, at: u64, failing: Failing, states: &[Vec<u8>]) -> bool {
+    let mut site = empty(rt, 16);
     site.fuse(at, failing);
-    let Some(site) = formatted(alloc, site)? else {
-        return Ok(true);
+    let Some(site) = formatted(rt, site) else {
+        return true;
     };
-    let (site, lived) = open_and_live(alloc, site)?;
-    let is_lawful = is_lawful(alloc, &site, lived, states);
+    let (site, lived) = open_and_live(rt, site);
+    let is_lawful = is_lawful(rt, &site, lived, states);
     drop(site);
-    if !is_lawful? {
-        return Err("an output or a crash is not of this life".into());
-    }
-    Ok(lived.is_ended)
+    assert!(rt; is_lawful, "an output or a crash is not of this life");
+    lived.is_ended
 }
 
 // How many disk calls the life has.
-fn count_calls(alloc: Global, failing: Failing, states: &[Vec<u8>]) -> Result<u64, Fail> {
+fn count_calls<R: Abort + AllocGlobal>(rt: &R, failing: Failing, states: &[Vec<u8>]) -> u64 {
     for at in 0..1_000 {
-        if !ends_at(alloc, at, failing, states)? {
-            return Ok(at);
+        if !ends_at(rt, at, failing, states) {
+            return at;
         }
     }
-    Err("the life doesn't end".into())
+    panic!(rt; "the life doesn't end")
 }
 
 // 16 calls format the site, 14 open it; each batch has 4 and each checkpoint 13.
-fn check_calls<R: Abort + AllocGlobal>(rt: &R, states: &[Vec<u8>]) -> Result<(), Fail> {
-    for &failing in &[Failing::Once, Failing::Stop] {
-        assert!(rt; count_calls(rt.alloc(), failing, states)? == 72);
-    }
-    Ok(())
-}
-
 #[test]
-fn each_call_of_a_whole_life_may_fail(rt: HostRuntime) -> Result<(), Fail> {
-    let states = plain_states(rt.alloc())?;
-    let checked = check_calls(&rt, &states);
-    drop(states);
-    checked
+fn each_call_of_a_whole_life_may_fail(rt: HostRuntime) {
+    let states = plain_states(&rt);
+    for &failing in &[Failing::Once, Failing::Stop] {
+        assert!(rt; count_calls(&rt, failing, &states) == 72);
+    }
 }

@@ -4,21 +4,23 @@ ghost use Rattle.std.specs.Prelude.{◌+◌, ◌≤◌, ◌^◌};
 ghost use Rattle.std.specs.FinMap as map;
 ghost use Rattle.cc_views.specs.Merge.{merge};
 
+use crate::churn::nobody;
 use crate::formats::{
     check_bytes, copied_event, copied_message, event_fault, len_of, len_of_delivery,
 };
 use crate::links::two_links;
 use crate::operations::{Said, first_request, me, querying, said_of};
 use crate::sets::{changes_of, id};
-use cc_changes::{Changes, Fraction};
+use crate::views::no_rows;
+use cc_changes::Fraction;
 use cc_churn::Churn;
 use cc_links::Links;
-use cc_messages::{Command, Event, Message};
+use cc_messages::{Command, Event};
 use cc_ops::{Ops, Pending, Stage};
-use cc_views::{NoMemory, View};
+use cc_views::View;
 use cc_wire::{WireFault, decode_message};
 use std::alloc::Global;
-use std::test::*;
+use std::process::Abort;
 
 // The message Snapshot: 1 and 2 entered and joined, nobody left, and the view of one row, of node 1, number 1, text "a".
 const SNAPSHOT: [u8; 49] = [
@@ -32,18 +34,14 @@ const LAPSE: [u8; 5] = [0x20, 0, 0, 0, 3];
 const SNAPSHOT_EVENT: [u8; 1] = [0x21];
 
 #[test]
-fn a_snapshot_is_copied_and_read_again(rt: HostRuntime) -> Result<(), Fail> {
-    check_bytes(&rt, copied_message(rt.alloc(), &SNAPSHOT), &SNAPSHOT)
+fn a_snapshot_is_copied_and_read_again(rt: HostRuntime) {
+    check_bytes(&rt, copied_message(&rt, &SNAPSHOT), &SNAPSHOT);
 }
 
 #[test]
-fn events_of_absent_members_are_copied_and_read_again(rt: HostRuntime) -> Result<(), Fail> {
-    check_bytes(&rt, copied_event(rt.alloc(), &LAPSE), &LAPSE)?;
-    check_bytes(
-        &rt,
-        copied_event(rt.alloc(), &SNAPSHOT_EVENT),
-        &SNAPSHOT_EVENT,
-    )
+fn events_of_absent_members_are_copied_and_read_again(rt: HostRuntime) {
+    check_bytes(&rt, copied_event(&rt, &LAPSE), &LAPSE);
+    check_bytes(&rt, copied_event(&rt, &SNAPSHOT_EVENT), &SNAPSHOT_EVENT);
 }
 
 fn message_fault(alloc: Global, bytes: &[u8]) -> Option<WireFault> {
@@ -83,17 +81,17 @@ fn faults_of_a_lapse(rt: HostRuntime) {
     }
 }
 
-fn is_told(alloc: Global, bytes: &[u8]) -> Result<bool, WireFault> {
-    let message = decode_message(alloc, bytes)?;
+fn is_told<R: Abort + AllocGlobal>(rt: &R, bytes: &[u8]) -> bool {
+    let message = decode_message(rt.alloc(), bytes).expect(rt, "a message");
     let is_snapshot = message.is_snapshot();
     drop(message);
-    Ok(is_snapshot)
+    is_snapshot
 }
 
 #[test]
 fn a_snapshot_is_told_from_a_join(rt: HostRuntime) {
-    assert!(rt; is_told(rt.alloc(), &SNAPSHOT) == Ok(true));
-    assert!(rt; is_told(rt.alloc(), &[3, 0, 0, 0, 3]) == Ok(false));
+    assert!(rt; is_told(&rt, &SNAPSHOT));
+    assert!(rt; !is_told(&rt, &[3, 0, 0, 0, 3]));
 }
 
 #[test]
@@ -102,7 +100,7 @@ fn sizes_of_absent_members(rt: HostRuntime) {
         len_of(Event::Lapse { node: id(3) }),
         len_of(Event::Snapshot),
     ];
-    assert!(rt; found == [5, 1] && len_of_delivery(rt.alloc(), 3, 7, &SNAPSHOT) == Ok(62));
+    assert!(rt; found == [5, 1] && len_of_delivery(&rt, 3, 7, &SNAPSHOT) == 62);
 }
 
 // Which peers wait for which post, what peer 2 has acknowledged, and how many were heard.
@@ -118,32 +116,23 @@ fn is_lapsed(links: &Links) -> bool {
 
 // Of three posts peer 1 has acknowledged two and peer 2 one. What was sent to peer 2 lapses, and peer 1 is heard.
 #[test]
-fn what_is_kept_for_a_peer_lapses(rt: HostRuntime) -> Result<(), Fail> {
-    let mut links = two_links(rt.alloc())?;
+fn what_is_kept_for_a_peer_lapses(rt: HostRuntime) {
+    let mut links = two_links(&rt);
     links.lapse(id(2), 3);
     links.lapse(id(9), 3);
     links.hear(id(1), 7);
-    let is_lapsed = is_lapsed(&links);
-    drop(links);
-    assert!(rt; is_lapsed);
-    Ok(())
+    assert!(rt; is_lapsed(&links));
 }
 
 const GAMMA: Fraction = Fraction { num: 4, den: 5 };
 
-// Whether node 4, which has entered, joins with what it is told, after so many echoes, with that need.
-fn joins_with(alloc: Global, echoes: u8, need: u64, told: &Changes) -> Result<bool, NoMemory> {
-    let entered = changes_of(alloc, 4, 0, 0)?;
+// Whether node 4, which has entered, joins with a snapshot that tells of itself alone, after so many echoes, with that need.
+fn joins_told<R: Abort + AllocGlobal>(rt: &R, echoes: u8, need: u64) -> bool {
+    let told = changes_of(rt, 4, 0, 0);
+    let entered = changes_of(rt, 4, 0, 0);
     let churn = Churn::from_parts(entered, u64::from(echoes), need);
-    let joins = churn.joins_told(GAMMA, told);
+    let joins = churn.joins_told(GAMMA, &told);
     drop(churn);
-    Ok(joins)
-}
-
-// The same with a snapshot that tells of itself alone.
-fn joins_told(alloc: Global, echoes: u8, need: u64) -> Result<bool, NoMemory> {
-    let told = changes_of(alloc, 4, 0, 0)?;
-    let joins = joins_with(alloc, echoes, need, &told);
     drop(told);
     joins
 }
@@ -152,69 +141,56 @@ fn joins_told(alloc: Global, echoes: u8, need: u64) -> Result<bool, NoMemory> {
 fn a_snapshot_counts_as_the_echo_of_a_joined_node(rt: HostRuntime) {
     // Of one node that is present one echo is needed; where the need is known, it stays.
     let found = [
-        joins_told(rt.alloc(), 0, 0),
-        joins_told(rt.alloc(), 0, 2),
-        joins_told(rt.alloc(), 1, 2),
+        joins_told(&rt, 0, 0),
+        joins_told(&rt, 0, 2),
+        joins_told(&rt, 1, 2),
     ];
-    assert!(rt; found == [Ok(true), Ok(false), Ok(true)]);
+    assert!(rt; found == [true, false, true]);
 }
 
 #[test]
-fn a_node_joins_with_what_it_was_told(rt: HostRuntime) -> Result<(), Fail> {
+fn a_node_joins_with_what_it_was_told(rt: HostRuntime) {
     let me = id(1);
-    let mut churn = Churn::new(rt.alloc())?;
+    let mut churn = nobody(&rt);
     churn.count_told(me, GAMMA);
     let found = (churn.has_joined(me), churn.echoes(), churn.need());
     drop(churn);
     assert!(rt; found == (true, 1, 1));
-    Ok(())
 }
 
 // What a pending operation asks as it begins anew. None where none is pending.
-fn said_anew(alloc: Global, ops: &Ops, told: &View) -> Result<Option<Said>, NoMemory>
+fn said_anew<R: Abort + AllocGlobal>(rt: &R, ops: &Ops, told: &View) -> Option<Said>
     requires fits { map.len (merge ops.now.view told.now) ≤ 256 }
     requires tag { ops.now.tag + 1 ≤ 2 ^ 62 }
 {
-    let question = ops.question(alloc, me(), told)?;
+    let question = ops
+        .question(rt.alloc(), me(), told)
+        .expect(rt, "a question");
     let said = said_of(&question);
     drop(question);
-    Ok(said)
+    said
 }
 
-// What a pending collect asks as it begins anew, told of nothing.
-fn said_of_a_collect(alloc: Global) -> Result<Option<Said>, NoMemory> {
-    let told = View::new(alloc)?;
-    match querying(alloc) {
-        Ok(ops) => {
-            let said = said_anew(alloc, &ops, &told);
-            drop(ops);
-            drop(told);
-            said
-        }
-        Err(fault) => {
-            drop(told);
-            Err(fault)
-        }
-    }
-}
-
+// It is told of nothing.
 #[test]
 fn a_collect_asks_anew_under_the_next_tag(rt: HostRuntime) {
-    let said = said_of_a_collect(rt.alloc());
-    assert!(rt; said == Ok(Some(("Query", 0, 2, 1))));
+    let told = no_rows(&rt);
+    let ops = querying(&rt);
+    let said = said_anew(&rt, &ops, &told);
+    drop(ops);
+    assert!(rt; said == Some(("Query", 0, 2, 1)));
 }
 
 #[test]
-fn a_collect_begins_anew_with_the_need_of_now(rt: HostRuntime) -> Result<(), Fail> {
+fn a_collect_begins_anew_with_the_need_of_now(rt: HostRuntime) {
     let stage = Stage::Querying(Pending {
         asked: first_request(Command::Collect),
         need: 2,
         count: 0,
     });
-    let mut ops = querying(rt.alloc())?;
+    let mut ops = querying(&rt);
     ops.ask_anew(2);
     let found = (ops.tag(), ops.anew_is_spent(), ops.stage() == stage);
     drop(ops);
     assert!(rt; found == (2, false, true));
-    Ok(())
 }

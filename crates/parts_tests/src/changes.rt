@@ -1,10 +1,11 @@
 //! Who entered, joined and left.
 
+ghost use Rattle.std.specs.Prelude.{◌≡◌};
+ghost use Rattle.cc_changes.specs.ChangeSets as changes;
+
 use crate::sets::{changes_of, id};
 use cc_changes::{Changes, Fraction, need};
-use cc_views::NoMemory;
-use std::alloc::Global;
-use std::test::*;
+use std::process::Abort;
 
 // How many nodes there are, and four fifths of them.
 const NEEDS: [(u64, u64); 6] = [(0, 1), (1, 1), (2, 2), (3, 3), (4, 4), (10, 8)];
@@ -15,6 +16,13 @@ fn a_need_is_rounded_up_and_at_least_one(rt: HostRuntime) {
         let share = Fraction { num: 4, den: 5 };
         assert!(rt; need(share, count) == needed);
     }
+}
+
+// Nobody is known.
+fn nothing_known<R: Abort + AllocGlobal>(rt: &R) -> Changes
+    ensures { result ≡ changes.nothing_known }
+{
+    Changes::new(rt.alloc()).expect(rt, "changes")
 }
 
 // Takes in what is told, where it fits. Whether it did.
@@ -28,8 +36,8 @@ fn takes(changes: &mut Changes, other: &Changes) -> bool {
 
 // How many are present and how many are members after that, and whether node 1 has entered and node 2 has joined. Before it
 // nobody is known.
-fn known_of(alloc: Global, other: &Changes) -> Result<(bool, u64, u64, bool, bool), NoMemory> {
-    let mut changes = Changes::new(alloc)?;
+fn known_of<R: Abort + AllocGlobal>(rt: &R, other: &Changes) -> (bool, u64, u64, bool, bool) {
+    let mut changes = nothing_known(rt);
     let known = (
         takes(&mut changes, other),
         changes.present_count(),
@@ -38,39 +46,28 @@ fn known_of(alloc: Global, other: &Changes) -> Result<(bool, u64, u64, bool, boo
         changes.has_joined(id(2)),
     );
     drop(changes);
-    Ok(known)
+    known
 }
 
 #[test]
-fn who_joined_has_entered(rt: HostRuntime) -> Result<(), Fail> {
-    let other = changes_of(rt.alloc(), 2, 1, 0)?;
-    let known = known_of(rt.alloc(), &other);
+fn who_joined_has_entered(rt: HostRuntime) {
+    let other = changes_of(&rt, 2, 1, 0);
+    let known = known_of(&rt, &other);
     drop(other);
-    assert!(rt; known == Ok((true, 2, 1, true, false)));
-    Ok(())
+    assert!(rt; known == (true, 2, 1, true, false));
 }
 
 #[test]
-fn who_left_is_not_present(rt: HostRuntime) -> Result<(), Fail> {
-    let mut changes = Changes::new(rt.alloc())?;
+fn who_left_is_not_present(rt: HostRuntime) {
+    let mut changes = nothing_known(&rt);
     changes.add_join(id(7));
-    let copy = changes.copy(rt.alloc());
+    let copy = changes.copy(rt.alloc()).expect(&rt, "a copy");
     changes.add_leave(id(7));
     let counts = (changes.present_count(), changes.entered().len());
-    drop(changes);
-    let copy = copy?;
     let before = copy.present_count();
+    drop(changes);
     drop(copy);
     assert!(rt; (counts, before) == ((0, 1), 1));
-    Ok(())
-}
-
-// How many are present beside those that are told of, and without them.
-fn present(alloc: Global, mine: &Changes) -> Result<(u64, u64), NoMemory> {
-    let other = changes_of(alloc, 2, 1, 0)?;
-    let counts = (mine.present_count_with(&other), mine.present_count());
-    drop(other);
-    Ok(counts)
 }
 
 fn are_known(changes: &Changes) -> bool {
@@ -78,13 +75,15 @@ fn are_known(changes: &Changes) -> bool {
 }
 
 #[test]
-fn what_is_told_would_make_more_present(rt: HostRuntime) -> Result<(), Fail> {
+fn what_is_told_would_make_more_present(rt: HostRuntime) {
     // Node 4 has entered, node 6 has joined, and node 7 has left.
-    let mine = changes_of(rt.alloc(), 4, 6, 7)?;
-    let present = present(rt.alloc(), &mine);
+    let mine = changes_of(&rt, 4, 6, 7);
+    let other = changes_of(&rt, 2, 1, 0);
+    // How many are present beside those that are told of, and without them.
+    let present = (mine.present_count_with(&other), mine.present_count());
     let are_known = are_known(&mine);
     drop(mine);
+    drop(other);
     // Nodes 4, 2 and 1, of which none has left.
-    assert!(rt; are_known && present == Ok((3, 1)));
-    Ok(())
+    assert!(rt; are_known && present == (3, 1));
 }

@@ -1,72 +1,59 @@
 //! How a node joins.
 
+ghost use Rattle.std.specs.Prelude.{◌≡◌};
+ghost use Rattle.cc_churn.specs.Churn as churn;
+
 use crate::sets::{changes_of, id};
+use crate::views::no_rows;
 use cc_changes::{Changes, Fraction};
 use cc_churn::Churn;
 use cc_messages::{Message, Refusal};
-use cc_views::{NoMemory, NodeId, View};
-use std::alloc::Global;
-use std::test::*;
+use cc_views::{NodeId, View};
+use std::process::Abort;
 
 const GAMMA: Fraction = Fraction { num: 4, den: 5 };
 
-// Node 4 has entered.
-fn entered(alloc: Global) -> Result<Changes, NoMemory> {
-    changes_of(alloc, 4, 0, 0)
+/// What a new node knows: nobody.
+pub fn nobody<R: Abort + AllocGlobal>(rt: &R) -> Churn
+    ensures { result ≡ churn.nobody }
+{
+    Churn::new(rt.alloc()).expect(rt, "a churn")
 }
 
-fn join_all(alloc: Global, changes: &mut Changes) -> Result<(), NoMemory> {
+// Node 4 has entered.
+fn entered<R: Abort + AllocGlobal>(rt: &R) -> Changes {
+    changes_of(rt, 4, 0, 0)
+}
+
+// The members 1, 2 and 3 too.
+fn four<R: Abort + AllocGlobal>(rt: &R) -> Changes {
+    let mut changes = entered(rt);
     for number in 1..4 {
-        let one = changes_of(alloc, 0, number, 0)?;
+        let one = changes_of(rt, 0, number, 0);
         if changes.would_fit(&one) {
             changes.union(&one);
         }
         drop(one);
     }
-    Ok(())
-}
-
-// The members 1, 2 and 3 too.
-fn four(alloc: Global) -> Result<Changes, NoMemory> {
-    let mut changes = entered(alloc)?;
-    match join_all(alloc, &mut changes) {
-        Ok(()) => Ok(changes),
-        Err(fault) => {
-            drop(changes);
-            Err(fault)
-        }
-    }
+    changes
 }
 
 // The echo of node 4, which tells of the members 1, 2 and 3.
-fn echo(alloc: Global, is_joined: bool) -> Result<Message, NoMemory> {
-    let changes = four(alloc)?;
-    let view = match View::new(alloc) {
-        Ok(view) => view,
-        Err(fault) => {
-            drop(changes);
-            return Err(fault);
-        }
-    };
-    Ok(Message::EnterEcho {
-        changes,
-        view,
+fn echo<R: Abort + AllocGlobal>(rt: &R, is_joined: bool) -> Message {
+    Message::EnterEcho {
+        changes: four(rt),
+        view: no_rows(rt),
         is_joined,
         node: id(4),
-    })
-}
-
-fn joins_by(alloc: Global, echoes: u8, need: u64, echo: &Message) -> Result<bool, NoMemory> {
-    let churn = Churn::from_parts(entered(alloc)?, u64::from(echoes), need);
-    let joins = churn.makes_post(id(4), GAMMA, echo);
-    drop(churn);
-    Ok(joins)
+    }
 }
 
 // Whether node 4 joins with one more echo, after so many echoes and with that need.
-fn joins(alloc: Global, echoes: u8, need: u64, is_joined: bool) -> Result<bool, NoMemory> {
-    let echo = echo(alloc, is_joined)?;
-    let joins = joins_by(alloc, echoes, need, &echo);
+fn joins<R: Abort + AllocGlobal>(rt: &R, echoes: u8, need: u64, is_joined: bool) -> bool {
+    let echo = echo(rt, is_joined);
+    let churn = Churn::from_parts(entered(rt), u64::from(echoes), need);
+    let joins = churn.makes_post(id(4), GAMMA, &echo);
+    drop(churn);
     drop(echo);
     joins
 }
@@ -83,15 +70,17 @@ const ECHOES: [(u8, u64, bool, bool); 5] = [
 #[test]
 fn four_echoes_are_needed_of_four_nodes(rt: HostRuntime) {
     for &(echoes, need, is_joined, wanted) in &ECHOES {
-        assert!(rt; joins(rt.alloc(), echoes, need, is_joined) == Ok(wanted));
+        assert!(rt; joins(&rt, echoes, need, is_joined) == wanted);
     }
 }
 
 // What a new node answers to its own Join.
-fn echo_of_join(alloc: Global, me: NodeId, view: &View) -> Result<Option<Message>, NoMemory> {
-    let churn = Churn::new(alloc)?;
+fn echo_of_join<R: Abort + AllocGlobal>(rt: &R, me: NodeId, view: &View) -> Option<Message> {
+    let churn = nobody(rt);
     let join = Message::Join { node: me };
-    let echo = churn.post(alloc, me, GAMMA, view, &join);
+    let echo = churn
+        .post(rt.alloc(), me, GAMMA, view, &join)
+        .expect(rt, "an answer");
     drop(join);
     drop(churn);
     echo
@@ -99,25 +88,23 @@ fn echo_of_join(alloc: Global, me: NodeId, view: &View) -> Result<Option<Message
 
 // It answers that it heard who joined.
 #[test]
-fn a_node_echoes_its_own_join(rt: HostRuntime) -> Result<(), Fail> {
-    let view = View::new(rt.alloc())?;
-    let echo = echo_of_join(rt.alloc(), id(1), &view);
-    drop(view);
-    let is_echo = matches!(&echo, Ok(Some(Message::JoinEcho { .. })));
+fn a_node_echoes_its_own_join(rt: HostRuntime) {
+    let view = no_rows(&rt);
+    let echo = echo_of_join(&rt, id(1), &view);
+    let is_echo = matches!(&echo, Some(Message::JoinEcho { .. }));
     drop(echo);
     assert!(rt; is_echo);
-    Ok(())
 }
 
 fn has_joined(churn: &Churn, me: NodeId) -> bool {
     churn.has_joined(me) && churn.has_entered(me) && !churn.has_left(me)
 }
 
-fn is_copied(alloc: Global, churn: &Churn, me: NodeId) -> Result<bool, NoMemory> {
-    let copy = churn.copy(alloc)?;
+fn is_copied<R: Abort + AllocGlobal>(rt: &R, churn: &Churn, me: NodeId) -> bool {
+    let copy = churn.copy(rt.alloc()).expect(rt, "a copy");
     let is_copied = has_joined(&copy, me);
     drop(copy);
-    Ok(is_copied)
+    is_copied
 }
 
 // Whether it hasn't entered, and is neither asked nor retires node 2.
@@ -135,32 +122,31 @@ fn is_member(churn: &Churn, me: NodeId) -> bool {
 }
 
 #[test]
-fn a_node_joins_and_is_asked(rt: HostRuntime) -> Result<(), Fail> {
+fn a_node_joins_and_is_asked(rt: HostRuntime) {
     let me = id(1);
-    let mut churn = Churn::new(rt.alloc())?;
+    let mut churn = nobody(&rt);
     let was_outside = is_outside(&churn, me);
     let join = Message::Join { node: me };
     churn.apply(me, GAMMA, &join);
     drop(join);
     let is_member = is_member(&churn, me);
-    let is_copied = is_copied(rt.alloc(), &churn, me);
+    let is_copied = is_copied(&rt, &churn, me);
     drop(churn);
-    assert!(rt; was_outside && is_member && is_copied == Ok(true));
-    Ok(())
+    assert!(rt; was_outside && is_member && is_copied);
 }
 
 type Decided = (Result<(), Refusal>, Result<(), Refusal>, u64);
 
 // Node 4 has entered, and left if that is 4. How a node then leaves and takes a message, and how many echoes it tells.
-fn leaves(alloc: Global, left: u32, me: u32) -> Result<Decided, NoMemory> {
-    let churn = Churn::from_parts(changes_of(alloc, 4, 0, left)?, 3, 4);
+fn leaves<R: Abort + AllocGlobal>(rt: &R, left: u32, me: u32) -> Decided {
+    let churn = Churn::from_parts(changes_of(rt, 4, 0, left), 3, 4);
     let decided = (
         churn.decide_leave(id(me)),
         churn.decide_delivery(id(me)),
         churn.echoes(),
     );
     drop(churn);
-    Ok(decided)
+    decided
 }
 
 #[test]
@@ -170,6 +156,6 @@ fn only_who_is_inside_leaves_and_hears(rt: HostRuntime) {
         (0, 5, Err(Refusal::NotEntered)),
         (4, 4, Err(Refusal::Left)),
     ] {
-        assert!(rt; leaves(rt.alloc(), left, me) == Ok((wanted, wanted, 3)));
+        assert!(rt; leaves(&rt, left, me) == (wanted, wanted, 3));
     }
 }

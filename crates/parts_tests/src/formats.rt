@@ -1,23 +1,22 @@
 //! Bytes of messages, events and answers, and their faults.
 
-use crate::refusals::unless_failed;
+use crate::refusals::{says, unless_failed};
 use crate::sets::id;
 use crate::views::{row, text};
 use cc_messages::{Answer, Command, Event, Message, Refusal};
-use cc_views::{NoMemory, View};
+use cc_views::View;
 use cc_wire::{
     WireFault, decode_answer, decode_command, decode_event, decode_message, decode_view,
     encode_answer, encode_command, encode_event, encode_message, encode_view, event_len,
 };
-use std::alloc::{AllocError, Global};
+use std::alloc::Global;
 use std::process::Abort;
-use std::test::*;
 
 // A view of one row: node 1, number 1, text "a".
-fn one_row(alloc: Global) -> Result<View, NoMemory> {
-    let mut view = View::new(alloc)?;
+fn one_row<R: Abort + AllocGlobal>(rt: &R) -> View {
+    let mut view = View::new(rt.alloc()).expect(rt, "a view");
     view.push(row(1, b"a"));
-    Ok(view)
+    view
 }
 
 // The message Store with that view, tag 1 and node 1.
@@ -27,42 +26,35 @@ const STORE: [u8; 39] = [
 ];
 
 /// Checks what was written, which is let go.
-pub fn check_bytes<R: Abort>(
-    rt: &R,
-    written: Result<Vec<u8>, Fail>,
-    wanted: &[u8],
-) -> Result<(), Fail> {
-    let written = written?;
-    let is_wanted = written.as_slice() == wanted;
-    drop(written);
-    assert!(rt; is_wanted);
-    Ok(())
+pub fn check_bytes<R: Abort>(rt: &R, written: Vec<u8>, wanted: &[u8]) {
+    assert!(rt; written.as_slice() == wanted);
 }
 
 // The bytes of a message, which is let go.
-fn message_bytes(alloc: Global, message: Message) -> Result<Vec<u8>, Fail> {
-    let mut out = Vec::new(alloc);
+fn message_bytes<R: Abort + AllocGlobal>(rt: &R, message: Message) -> Vec<u8> {
+    let mut out = Vec::new(rt.alloc());
     let put = encode_message(&message, &mut out);
     drop(message);
-    unless_failed(put, out.is_empty())?;
-    Ok(out)
+    unless_failed(rt, put, out.is_empty());
+    out
 }
 
-fn store_bytes(alloc: Global) -> Result<Vec<u8>, Fail> {
-    let view = one_row(alloc)?;
+fn store_bytes<R: Abort + AllocGlobal>(rt: &R) -> Vec<u8> {
+    let view = one_row(rt);
     let node = id(1);
-    message_bytes(alloc, Message::Store { view, tag: 1, node })
+    message_bytes(rt, Message::Store { view, tag: 1, node })
 }
 
 // The bytes of the message that these bytes spell.
-fn read_and_written(alloc: Global, bytes: &[u8]) -> Result<Vec<u8>, Fail> {
-    message_bytes(alloc, decode_message(alloc, bytes)?)
+fn read_and_written<R: Abort + AllocGlobal>(rt: &R, bytes: &[u8]) -> Vec<u8> {
+    let message = decode_message(rt.alloc(), bytes).expect(rt, "a message");
+    message_bytes(rt, message)
 }
 
 #[test]
-fn a_store_is_written_and_read(rt: HostRuntime) -> Result<(), Fail> {
-    check_bytes(&rt, store_bytes(rt.alloc()), &STORE)?;
-    check_bytes(&rt, read_and_written(rt.alloc(), &STORE), &STORE)
+fn a_store_is_written_and_read(rt: HostRuntime) {
+    check_bytes(&rt, store_bytes(&rt), &STORE);
+    check_bytes(&rt, read_and_written(&rt, &STORE), &STORE);
 }
 
 fn view_fault(alloc: Global, bytes: &[u8]) -> Option<WireFault> {
@@ -116,8 +108,8 @@ const ECHO: [u8; 22] = [
 ];
 
 #[test]
-fn an_echo_is_read_as_it_is_spelled(rt: HostRuntime) -> Result<(), Fail> {
-    check_bytes(&rt, read_and_written(rt.alloc(), &ECHO), &ECHO)
+fn an_echo_is_read_as_it_is_spelled(rt: HostRuntime) {
+    check_bytes(&rt, read_and_written(&rt, &ECHO), &ECHO);
 }
 
 fn message_fault(alloc: Global, bytes: &[u8]) -> Option<WireFault> {
@@ -148,7 +140,8 @@ fn a_text_has_at_most_64_bytes(rt: HostRuntime) {
     assert!(rt; decode_command(&longer).err() == Some(WireFault::TooLarge));
 }
 
-fn put_commands(out: &mut Vec<u8>) -> Result<(), Fail> {
+fn bytes_of_commands<R: Abort + AllocGlobal>(rt: &R) -> Vec<u8> {
+    let mut out = Vec::new(rt.alloc());
     for command in &[
         Command::Collect,
         Command::WriteMax(9),
@@ -159,55 +152,43 @@ fn put_commands(out: &mut Vec<u8>) -> Result<(), Fail> {
         Command::ReadSet,
     ] {
         let before = out.len();
-        let put = encode_command(command, out);
-        unless_failed(put, out.len() == before)?;
+        let put = encode_command(command, &mut out);
+        unless_failed(rt, put, out.len() == before);
     }
-    Ok(())
-}
-
-fn bytes_of_commands(alloc: Global) -> Result<Vec<u8>, Fail> {
-    let mut out = Vec::new(alloc);
-    match put_commands(&mut out) {
-        Ok(()) => Ok(out),
-        Err(fail) => {
-            drop(out);
-            Err(fail)
-        }
-    }
+    out
 }
 
 const COMMANDS: [u8; 19] = [2, 3, 0, 0, 0, 0, 0, 0, 0, 9, 4, 5, 6, 7, 0, 0, 0, 3, 8];
 
 #[test]
-fn commands_are_written_by_kind(rt: HostRuntime) -> Result<(), Fail> {
-    check_bytes(&rt, bytes_of_commands(rt.alloc()), &COMMANDS)?;
+fn commands_are_written_by_kind(rt: HostRuntime) {
+    check_bytes(&rt, bytes_of_commands(&rt), &COMMANDS);
     assert!(rt; decode_command(&[9]).err() == Some(WireFault::BadKind(9)));
-    Ok(())
 }
 
 // The answer Set of 2, 5 and 9.
 const SET: [u8; 15] = [5, 0, 3, 0, 0, 0, 2, 0, 0, 0, 5, 0, 0, 0, 9];
 
 // The bytes of an answer, which is let go.
-fn answer_bytes(alloc: Global, answer: Answer) -> Result<Vec<u8>, Fail> {
-    let mut out = Vec::new(alloc);
+fn answer_bytes<R: Abort + AllocGlobal>(rt: &R, answer: Answer) -> Vec<u8> {
+    let mut out = Vec::new(rt.alloc());
     let put = encode_answer(&answer, &mut out);
     drop(answer);
-    unless_failed(put, out.is_empty())?;
-    Ok(out)
+    unless_failed(rt, put, out.is_empty());
+    out
 }
 
 // The bytes of a copy of the answer that these bytes spell.
-fn copied_answer(alloc: Global, bytes: &[u8]) -> Result<Vec<u8>, Fail> {
-    let read = decode_answer(alloc, bytes)?;
-    let copy = read.copy(alloc);
+fn copied_answer<R: Abort + AllocGlobal>(rt: &R, bytes: &[u8]) -> Vec<u8> {
+    let read = decode_answer(rt.alloc(), bytes).expect(rt, "an answer");
+    let copy = read.copy(rt.alloc()).expect(rt, "a copy");
     drop(read);
-    answer_bytes(alloc, copy?)
+    answer_bytes(rt, copy)
 }
 
 #[test]
-fn an_answer_is_copied_and_read_again(rt: HostRuntime) -> Result<(), Fail> {
-    check_bytes(&rt, copied_answer(rt.alloc(), &SET), &SET)
+fn an_answer_is_copied_and_read_again(rt: HostRuntime) {
+    check_bytes(&rt, copied_answer(&rt, &SET), &SET);
 }
 
 fn answer_fault(alloc: Global, bytes: &[u8]) -> Option<WireFault> {
@@ -231,50 +212,40 @@ fn faults_of_an_answer(rt: HostRuntime) {
 const DELIVER: [u8; 18] = [3, 0, 0, 0, 1, 0, 0, 0, 0, 0, 0, 0, 2, 3, 0, 0, 0, 3];
 
 // The bytes of an event, which is let go.
-fn event_bytes(alloc: Global, event: Event) -> Result<Vec<u8>, Fail> {
-    let mut out = Vec::new(alloc);
+fn event_bytes<R: Abort + AllocGlobal>(rt: &R, event: Event) -> Vec<u8> {
+    let mut out = Vec::new(rt.alloc());
     let put = encode_event(&event, &mut out);
     drop(event);
-    unless_failed(put, out.is_empty())?;
-    Ok(out)
+    unless_failed(rt, put, out.is_empty());
+    out
 }
 
 /// The bytes of a copy of the event that these bytes spell.
-pub fn copied_event(alloc: Global, bytes: &[u8]) -> Result<Vec<u8>, Fail> {
-    let read = decode_event(alloc, bytes)?;
-    let copy = read.copy(alloc);
+pub fn copied_event<R: Abort + AllocGlobal>(rt: &R, bytes: &[u8]) -> Vec<u8> {
+    let read = decode_event(rt.alloc(), bytes).expect(rt, "an event");
+    let copy = read.copy(rt.alloc()).expect(rt, "a copy");
     drop(read);
-    event_bytes(alloc, copy?)
+    event_bytes(rt, copy)
 }
 
 #[test]
-fn an_event_is_copied_and_read_again(rt: HostRuntime) -> Result<(), Fail> {
-    check_bytes(&rt, copied_event(rt.alloc(), &DELIVER), &DELIVER)
+fn an_event_is_copied_and_read_again(rt: HostRuntime) {
+    check_bytes(&rt, copied_event(&rt, &DELIVER), &DELIVER);
 }
 
-fn put_one(event: Event, out: &mut Vec<u8>) -> Result<(), NoMemory> {
-    let put = encode_event(&event, out);
+fn put_one<R: Abort>(rt: &R, event: Event, out: &mut Vec<u8>) {
+    encode_event(&event, out).expect(rt, "room");
     drop(event);
-    put
 }
 
-fn put_small_events(out: &mut Vec<u8>) -> Result<(), NoMemory> {
+fn bytes_of_small_events<R: Abort + AllocGlobal>(rt: &R) -> Vec<u8> {
     let peer = id(7);
-    put_one(Event::Enter, out)?;
-    put_one(Event::Leave, out)?;
-    put_one(Event::Acked { peer, number: 8 }, out)?;
-    put_one(Event::Retire { node: peer }, out)
-}
-
-fn bytes_of_small_events(alloc: Global) -> Result<Vec<u8>, Fail> {
-    let mut out = Vec::new(alloc);
-    match put_small_events(&mut out) {
-        Ok(()) => Ok(out),
-        Err(NoMemory) => {
-            drop(out);
-            Err(NoMemory.into())
-        }
-    }
+    let mut out = Vec::new(rt.alloc());
+    put_one(rt, Event::Enter, &mut out);
+    put_one(rt, Event::Leave, &mut out);
+    put_one(rt, Event::Acked { peer, number: 8 }, &mut out);
+    put_one(rt, Event::Retire { node: peer }, &mut out);
+    out
 }
 
 /// Why these bytes spell no event.
@@ -286,16 +257,16 @@ pub fn event_fault(alloc: Global, bytes: &[u8]) -> Option<WireFault> {
 const SMALL_EVENTS: [u8; 20] = [1, 2, 4, 0, 0, 0, 7, 0, 0, 0, 0, 0, 0, 0, 8, 6, 0, 0, 0, 7];
 
 #[test]
-fn small_events(rt: HostRuntime) -> Result<(), Fail> {
-    check_bytes(&rt, bytes_of_small_events(rt.alloc()), &SMALL_EVENTS)
+fn small_events(rt: HostRuntime) {
+    check_bytes(&rt, bytes_of_small_events(&rt), &SMALL_EVENTS);
 }
 
 // The event Retire of node 9.
 const RETIRE: [u8; 5] = [6, 0, 0, 0, 9];
 
 #[test]
-fn a_retire_is_copied_and_read_again(rt: HostRuntime) -> Result<(), Fail> {
-    check_bytes(&rt, copied_event(rt.alloc(), &RETIRE), &RETIRE)
+fn a_retire_is_copied_and_read_again(rt: HostRuntime) {
+    check_bytes(&rt, copied_event(&rt, &RETIRE), &RETIRE);
 }
 
 #[test]
@@ -321,22 +292,22 @@ pub fn len_of(event: Event) -> usize {
 }
 
 /// The length of the message that these bytes spell, as it comes from a node under a number.
-pub fn len_of_delivery(
-    alloc: Global,
+pub fn len_of_delivery<R: Abort + AllocGlobal>(
+    rt: &R,
     from: u32,
     number: u64,
     bytes: &[u8],
-) -> Result<usize, WireFault> {
-    let message = decode_message(alloc, bytes)?;
-    Ok(len_of(Event::Deliver {
+) -> usize {
+    let message = decode_message(rt.alloc(), bytes).expect(rt, "a message");
+    len_of(Event::Deliver {
         from: id(from),
         number,
         message,
-    }))
+    })
 }
 
-fn len_of_join(alloc: Global) -> Result<usize, WireFault> {
-    Ok(len_of(decode_event(alloc, &DELIVER)?))
+fn len_of_join<R: Abort + AllocGlobal>(rt: &R) -> usize {
+    len_of(decode_event(rt.alloc(), &DELIVER).expect(rt, "an event"))
 }
 
 // A kind, and then ids of four bytes and numbers of eight; a Store of one row has 39 bytes, a text its length before it.
@@ -353,45 +324,40 @@ fn sizes_of_events(rt: HostRuntime) {
         len_of(Event::Retire { node: id(9) }),
     ];
     assert!(rt; found == [20, 1, RETIRE.len()]);
-    assert!(rt; len_of_delivery(rt.alloc(), 1, 1, &STORE) == Ok(52));
-    assert!(rt; len_of_join(rt.alloc()) == Ok(DELIVER.len()));
+    assert!(rt; len_of_delivery(&rt, 1, 1, &STORE) == 52);
+    assert!(rt; len_of_join(&rt) == DELIVER.len());
 }
 
 /// The bytes of a copy of the message that these bytes spell.
-pub fn copied_message(alloc: Global, bytes: &[u8]) -> Result<Vec<u8>, Fail> {
-    let read = decode_message(alloc, bytes)?;
-    let copy = read.copy(alloc);
+pub fn copied_message<R: Abort + AllocGlobal>(rt: &R, bytes: &[u8]) -> Vec<u8> {
+    let read = decode_message(rt.alloc(), bytes).expect(rt, "a message");
+    let copy = read.copy(rt.alloc()).expect(rt, "a copy");
     drop(read);
-    message_bytes(alloc, copy?)
+    message_bytes(rt, copy)
 }
 
 #[test]
-fn a_message_is_copied(rt: HostRuntime) -> Result<(), Fail> {
-    check_bytes(&rt, copied_message(rt.alloc(), &STORE), &STORE)
+fn a_message_is_copied(rt: HostRuntime) {
+    check_bytes(&rt, copied_message(&rt, &STORE), &STORE);
 }
 
-fn view_bytes(alloc: Global) -> Result<Vec<u8>, Fail> {
-    let view = one_row(alloc)?;
-    let mut out = Vec::new(alloc);
+fn view_bytes<R: Abort + AllocGlobal>(rt: &R) -> Vec<u8> {
+    let view = one_row(rt);
+    let mut out = Vec::new(rt.alloc());
     let put = encode_view(&view, &mut out);
-    drop(view);
-    unless_failed(put, out.is_empty())?;
-    Ok(out)
+    unless_failed(rt, put, out.is_empty());
+    out
 }
 
 #[test]
-fn a_view_is_written(rt: HostRuntime) -> Result<(), Fail> {
-    check_bytes(&rt, view_bytes(rt.alloc()), &STORE[1..27])
-}
-
-fn names(alloc: Global, refusal: Refusal, wanted: &str) -> Result<bool, AllocError> {
-    Ok(format!(in alloc; "{refusal}")?.as_str() == wanted)
+fn a_view_is_written(rt: HostRuntime) {
+    check_bytes(&rt, view_bytes(&rt), &STORE[1..27]);
 }
 
 #[test]
 fn refusals_print_their_number_and_name(rt: HostRuntime) {
-    assert!(rt; names(rt.alloc(), Refusal::Gap(1), "6 Gap 1") == Ok(true));
-    assert!(rt; names(rt.alloc(), Refusal::Busy, "13 Busy") == Ok(true));
+    assert!(rt; says(&rt, &Refusal::Gap(1), "6 Gap 1"));
+    assert!(rt; says(&rt, &Refusal::Busy, "13 Busy"));
 }
 
 const FAULTS: [(WireFault, &str); 7] = [
@@ -407,13 +373,9 @@ const FAULTS: [(WireFault, &str); 7] = [
     (WireFault::Broken, "the stream was refused before"),
 ];
 
-fn says(alloc: Global, fault: WireFault, wanted: &str) -> Result<bool, AllocError> {
-    Ok(format!(in alloc; "{fault}")?.as_str() == wanted)
-}
-
 #[test]
 fn faults_of_the_wire_print_what_is_wrong(rt: HostRuntime) {
     for &(fault, wanted) in &FAULTS {
-        assert!(rt; says(rt.alloc(), fault, wanted) == Ok(true));
+        assert!(rt; says(&rt, &fault, wanted));
     }
 }

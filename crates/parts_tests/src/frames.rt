@@ -1,16 +1,15 @@
 //! Bytes of frames, and the frames of a stream.
 
-ghost use Rattle.std.specs.Prelude.{◌≤◌, IfOk, length};
+ghost use Rattle.std.specs.Prelude.{◌≤◌, length};
 
 use crate::formats::check_bytes;
 use crate::refusals::unless_failed;
 use crate::views::text;
 use cc_frames::{Frame, FrameReader, decode_frame, encode_frame};
 use cc_messages::{Answer, Command, Refusal};
-use cc_views::NoMemory;
 use cc_wire::WireFault;
 use std::alloc::Global;
-use std::test::*;
+use std::process::Abort;
 
 // Ask 7 1 Store a.
 const ASK: [u8; 24] = [
@@ -28,32 +27,32 @@ const REFUSED: [u8; 30] = [
 ];
 
 // The bytes of a frame, which is let go.
-fn frame_bytes(alloc: Global, frame: Frame) -> Result<Vec<u8>, Fail> {
-    let mut out = Vec::new(alloc);
+fn frame_bytes<R: Abort + AllocGlobal>(rt: &R, frame: Frame) -> Vec<u8> {
+    let mut out = Vec::new(rt.alloc());
     let put = encode_frame(&frame, &mut out);
     drop(frame);
-    unless_failed(put, out.is_empty())?;
-    Ok(out)
+    unless_failed(rt, put, out.is_empty());
+    out
 }
 
 #[test]
-fn an_ask_is_written(rt: HostRuntime) -> Result<(), Fail> {
+fn an_ask_is_written(rt: HostRuntime) {
     let ask = Frame::Ask {
         session: 7,
         request: 1,
         command: Command::Store(text(b"a")),
     };
-    check_bytes(&rt, frame_bytes(rt.alloc(), ask), &ASK)
+    check_bytes(&rt, frame_bytes(&rt, ask), &ASK);
 }
 
 #[test]
-fn what_a_client_is_told_is_written(rt: HostRuntime) -> Result<(), Fail> {
+fn what_a_client_is_told_is_written(rt: HostRuntime) {
     let reply = Frame::Reply {
         session: 7,
         request: 1,
         answer: Answer::Stored,
     };
-    check_bytes(&rt, frame_bytes(rt.alloc(), reply), &REPLY)?;
+    check_bytes(&rt, frame_bytes(&rt, reply), &REPLY);
     let skip = Refusal::Skip(1);
     let refused = Frame::Refused {
         session: 7,
@@ -61,13 +60,13 @@ fn what_a_client_is_told_is_written(rt: HostRuntime) -> Result<(), Fail> {
         refusal: skip.number(),
         value: skip.value(),
     };
-    check_bytes(&rt, frame_bytes(rt.alloc(), refused), &REFUSED)
+    check_bytes(&rt, frame_bytes(&rt, refused), &REFUSED);
 }
 
 // The bytes of the frame that these bytes spell.
-fn frame_again(alloc: Global, bytes: &[u8]) -> Result<Vec<u8>, Fail> {
-    let frame = decode_frame(alloc, bytes)?;
-    frame_bytes(alloc, frame)
+fn frame_again<R: Abort + AllocGlobal>(rt: &R, bytes: &[u8]) -> Vec<u8> {
+    let frame = decode_frame(rt.alloc(), bytes).expect(rt, "a frame");
+    frame_bytes(rt, frame)
 }
 
 fn frame_fault(alloc: Global, bytes: &[u8]) -> Option<WireFault> {
@@ -75,8 +74,8 @@ fn frame_fault(alloc: Global, bytes: &[u8]) -> Option<WireFault> {
 }
 
 #[test]
-fn frames_are_read_whole(rt: HostRuntime) -> Result<(), Fail> {
-    check_bytes(&rt, frame_again(rt.alloc(), &ASK), &ASK)
+fn frames_are_read_whole(rt: HostRuntime) {
+    check_bytes(&rt, frame_again(&rt, &ASK), &ASK);
 }
 
 // An unknown kind, a body that is longer than its fields, and an id of 0. A body that is cut off is Short only where all
@@ -105,25 +104,24 @@ fn stream_fault(alloc: Global, reader: &mut FrameReader, bytes: &[u8]) -> Option
 }
 
 // The faults of two pieces of one stream.
-fn stream_faults(
-    alloc: Global,
+fn stream_faults<R: Abort + AllocGlobal>(
+    rt: &R,
     first: &[u8],
     second: &[u8],
-) -> Result<(Option<WireFault>, Option<WireFault>), NoMemory> {
-    let mut reader = FrameReader::new(alloc)?;
-    let fault = stream_fault(alloc, &mut reader, first);
-    let then = stream_fault(alloc, &mut reader, second);
-    drop(reader);
-    Ok((fault, then))
+) -> (Option<WireFault>, Option<WireFault>) {
+    let mut reader = FrameReader::new(rt.alloc()).expect(rt, "a reader");
+    let fault = stream_fault(rt.alloc(), &mut reader, first);
+    let then = stream_fault(rt.alloc(), &mut reader, second);
+    (fault, then)
 }
 
 #[test]
 fn a_bad_length_breaks_a_stream(rt: HostRuntime) {
     let broken = Some(WireFault::Broken);
-    let long = stream_faults(rt.alloc(), &[0, 1, 0, 1], &ASK);
-    assert!(rt; long == Ok((Some(WireFault::TooLarge), broken)));
-    let empty = stream_faults(rt.alloc(), &[0, 0, 0, 0], &ASK);
-    assert!(rt; empty == Ok((Some(WireFault::Short), broken)));
+    let long = stream_faults(&rt, &[0, 1, 0, 1], &ASK);
+    assert!(rt; long == (Some(WireFault::TooLarge), broken));
+    let empty = stream_faults(&rt, &[0, 0, 0, 0], &ASK);
+    assert!(rt; empty == (Some(WireFault::Short), broken));
 }
 
 // A frame of each kind: Leave, an Ack, a Post of Leave 1, Retire 9, and then those above.
@@ -136,93 +134,65 @@ const STREAM: [u8; 129] = [
 ];
 
 // Writes the frame that the reader gives for the piece, if it gives one. How much of the piece was used.
-fn write_frame(
+fn write_frame<R: Abort + AllocGlobal>(
+    rt: &R,
     reader: &mut FrameReader,
-    alloc: Global,
     piece: &[u8],
     out: &mut Vec<u8>,
-) -> Result<usize, Fail>
-    ensures { IfOk result (λ used. used ≤ length piece.now) }
+) -> usize
+    ensures { result ≤ length piece.now }
 {
-    let fed = reader.feed(alloc, piece)?;
+    let fed = reader.feed(rt.alloc(), piece).expect(rt, "good bytes");
     let used = fed.used;
-    let put = match &fed.frame {
-        Some(frame) => encode_frame(frame, out),
-        None => Ok(()),
-    };
+    if let Some(frame) = &fed.frame {
+        encode_frame(frame, out).expect(rt, "room");
+    }
     drop(fed);
-    put?;
-    Ok(used)
+    used
 }
 
 // Writes the frames that the reader gives for the piece.
-fn write_frames(
+fn write_frames<R: Abort + AllocGlobal>(
+    rt: &R,
     reader: &mut FrameReader,
-    alloc: Global,
     piece: &[u8],
     out: &mut Vec<u8>,
-) -> Result<(), Fail> {
+) {
     let mut rest = piece;
     for _ in 0..8 {
-        let used = write_frame(reader, alloc, rest, out)?;
+        let used = write_frame(rt, reader, rest, out);
         rest = &rest[used..];
     }
-    Ok(())
-}
-
-fn write_pieces(
-    reader: &mut FrameReader,
-    alloc: Global,
-    front: &[u8],
-    back: &[u8],
-    out: &mut Vec<u8>,
-) -> Result<(), Fail> {
-    write_frames(reader, alloc, front, out)?;
-    write_frames(reader, alloc, back, out)
 }
 
 // The frames of a stream that comes in two pieces, as they are written.
-fn read_in_two(alloc: Global, front: &[u8], back: &[u8]) -> Result<Vec<u8>, Fail> {
-    let mut reader = FrameReader::new(alloc)?;
-    let mut out = Vec::new(alloc);
-    let written = write_pieces(&mut reader, alloc, front, back, &mut out);
-    drop(reader);
-    written?;
-    Ok(out)
+fn read_in_two<R: Abort + AllocGlobal>(rt: &R, front: &[u8], back: &[u8]) -> Vec<u8> {
+    let mut reader = FrameReader::new(rt.alloc()).expect(rt, "a reader");
+    let mut out = Vec::new(rt.alloc());
+    write_frames(rt, &mut reader, front, &mut out);
+    write_frames(rt, &mut reader, back, &mut out);
+    out
 }
 
 #[test]
-fn a_stream_is_cut_anywhere(rt: HostRuntime) -> Result<(), Fail> {
+fn a_stream_is_cut_anywhere(rt: HostRuntime) {
     for cut in 0..STREAM.len() {
         let (front, back) = STREAM.split_at(cut);
-        check_bytes(&rt, read_in_two(rt.alloc(), front, back), &STREAM)?;
+        check_bytes(&rt, read_in_two(&rt, front, back), &STREAM);
     }
-    Ok(())
-}
-
-fn write_bytes(
-    reader: &mut FrameReader,
-    alloc: Global,
-    bytes: &[u8],
-    out: &mut Vec<u8>,
-) -> Result<(), Fail> {
-    for byte in bytes {
-        write_frames(reader, alloc, &[*byte], out)?;
-    }
-    Ok(())
 }
 
 // The frames of a stream that comes byte by byte, as they are written.
-fn read_each(alloc: Global, bytes: &[u8]) -> Result<Vec<u8>, Fail> {
-    let mut reader = FrameReader::new(alloc)?;
-    let mut out = Vec::new(alloc);
-    let written = write_bytes(&mut reader, alloc, bytes, &mut out);
-    drop(reader);
-    written?;
-    Ok(out)
+fn read_each<R: Abort + AllocGlobal>(rt: &R, bytes: &[u8]) -> Vec<u8> {
+    let mut reader = FrameReader::new(rt.alloc()).expect(rt, "a reader");
+    let mut out = Vec::new(rt.alloc());
+    for byte in bytes {
+        write_frames(rt, &mut reader, &[*byte], &mut out);
+    }
+    out
 }
 
 #[test]
-fn a_stream_comes_byte_by_byte(rt: HostRuntime) -> Result<(), Fail> {
-    check_bytes(&rt, read_each(rt.alloc(), &STREAM), &STREAM)
+fn a_stream_comes_byte_by_byte(rt: HostRuntime) {
+    check_bytes(&rt, read_each(&rt, &STREAM), &STREAM);
 }

@@ -1,11 +1,11 @@
 //! Asks that wait.
 
+use crate::operations::no_asks;
 use crate::views::text;
 use cc_messages::Command;
 use cc_objects::{add_member, write_text};
 use cc_ops::{AskList, Asked};
 use cc_views::Value;
-use std::test::*;
 
 fn first_request(session: u64, command: Command) -> Asked {
     Asked {
@@ -28,15 +28,13 @@ fn told(line: &AskList) -> (usize, bool, bool, bool, bool) {
 
 // The asks of two sessions wait: a store of `a`, and member 5 to be added.
 #[test]
-fn a_line_tells_what_waits(rt: HostRuntime) -> Result<(), Fail> {
+fn a_line_tells_what_waits(rt: HostRuntime) {
     let text = text(b"a");
-    let value = add_member(&write_text(&Value::empty(), text), 5)?;
-    let mut line = AskList::new(rt.alloc())?;
+    let value = add_member(&write_text(&Value::empty(), text), 5).expect(&rt, "room");
+    let mut line = no_asks(&rt);
     line.push(&first_request(7, Command::Store(text)));
     line.push(&first_request(8, Command::AddMember(5)));
     let told = told(&line);
     let is_last = line.last_value(&Value::empty()) == Some(value);
-    drop(line);
     assert!(rt; (told, is_last) == ((2, true, true, false, false), true));
-    Ok(())
 }

@@ -1,14 +1,21 @@
 //! Numbered links.
 
-ghost use Rattle.std.specs.Prelude.{◌≡◌, ◌≤◌, IfOk};
-ghost use Rattle.std.specs.FinMap.{len};
+ghost use Rattle.std.specs.Prelude.{◌≡◌, ◌≤◌};
+ghost use Rattle.std.specs.FinMap.{empty, len};
 ghost use Rattle.cc_links.specs.Links.{ReachesWithin};
 
 use crate::sets::id;
 use cc_links::{KnownIds, LinkRow, Links};
-use cc_views::{NoMemory, Row, Value};
-use std::alloc::Global;
-use std::test::*;
+use cc_views::{Row, Value};
+use std::process::Abort;
+
+/// No peer has a link.
+pub fn no_links<R: Abort + AllocGlobal>(rt: &R) -> Links
+    ensures empty { result ≡ empty }
+    ensures len { len result ≡ 0 }
+{
+    Links::new(rt.alloc()).expect(rt, "links")
+}
 
 fn row(peer: u32, acked: u64) -> LinkRow
     ensures start { result.start ≡ 0 }
@@ -24,14 +31,14 @@ fn row(peer: u32, acked: u64) -> LinkRow
 
 /// Three posts: peer 1 has acknowledged two of them, peer 2 one.
 #[tactic(auto, using(cc_links::specs::LinkLaws::reaches_empty, cc_links::specs::LinkLaws::reaches_insert, cc_views::specs::MapLaws::len_insert))]
-pub fn two_links(alloc: Global) -> Result<Links, NoMemory>
-    ensures reached { IfOk result (λ l. ReachesWithin 3 l) }
-    ensures len { IfOk result (λ l. len l ≤ 2) }
+pub fn two_links<R: Abort + AllocGlobal>(rt: &R) -> Links
+    ensures reached { ReachesWithin 3 result }
+    ensures len { len result ≤ 2 }
 {
-    let mut links = Links::new(alloc)?;
+    let mut links = no_links(rt);
     links.insert(row(1, 2));
     links.insert(row(2, 1));
-    Ok(links)
+    links
 }
 
 fn are_numbered(links: &Links) -> bool {
@@ -44,47 +51,37 @@ fn are_numbered(links: &Links) -> bool {
 // The link to peer 1 begins with the first post, that to peer 4 after two.
 #[test]
 #[tactic(auto, using(cc_links::specs::LinkLaws::len_add))]
-fn numbers_begin_at_one_on_each_link(rt: HostRuntime) -> Result<(), Fail> {
-    let mut links = Links::new(rt.alloc())?;
+fn numbers_begin_at_one_on_each_link(rt: HostRuntime) {
+    let mut links = no_links(&rt);
     links.add(id(1), 0);
     links.add(id(4), 2);
-    let are_numbered = are_numbered(&links);
-    drop(links);
-    assert!(rt; are_numbered);
-    Ok(())
+    assert!(rt; are_numbered(&links));
 }
 
 #[test]
-fn only_live_links_hold_posts_back(rt: HostRuntime) -> Result<(), Fail> {
-    let links = two_links(rt.alloc())?;
+fn only_live_links_hold_posts_back(rt: HostRuntime) {
+    let links = two_links(&rt);
     let needed = [
         links.lowest_needed(&[], 3),
         links.lowest_needed(&[id(2)], 3),
     ];
-    drop(links);
     assert!(rt; needed == [1, 2]);
-    Ok(())
 }
 
 #[test]
 #[tactic(auto, using(cc_links::specs::LinkLaws::reaches_empty))]
-fn without_a_live_link_no_post_is_needed(rt: HostRuntime) -> Result<(), Fail> {
-    let links = Links::new(rt.alloc())?;
-    let needed = links.lowest_needed(&[], 3);
-    drop(links);
-    assert!(rt; needed == 3);
-    Ok(())
+fn without_a_live_link_no_post_is_needed(rt: HostRuntime) {
+    let links = no_links(&rt);
+    assert!(rt; links.lowest_needed(&[], 3) == 3);
 }
 
 // A copy of both links, after peer 1 was heard and peer 2 has acknowledged three posts. Peer 9 has no link.
-fn heard_and_acked(alloc: Global) -> Result<Links, NoMemory> {
-    let mut links = two_links(alloc)?;
+fn heard_and_acked<R: Abort + AllocGlobal>(rt: &R) -> Links {
+    let mut links = two_links(rt);
     links.hear(id(1), 7);
     links.ack(id(2), 3);
     links.hear(id(9), 1);
-    let copy = links.copy(alloc);
-    drop(links);
-    copy
+    links.copy(rt.alloc()).expect(rt, "a copy")
 }
 
 fn are_read_again(copy: &Links) -> bool {
@@ -95,12 +92,9 @@ fn are_read_again(copy: &Links) -> bool {
 }
 
 #[test]
-fn hears_and_acks_are_read_again(rt: HostRuntime) -> Result<(), Fail> {
-    let copy = heard_and_acked(rt.alloc())?;
-    let are_read_again = are_read_again(&copy);
-    drop(copy);
-    assert!(rt; are_read_again);
-    Ok(())
+fn hears_and_acks_are_read_again(rt: HostRuntime) {
+    let copy = heard_and_acked(&rt);
+    assert!(rt; are_read_again(&copy));
 }
 
 // Whether these are links to the peers 3 and 5 alone, in that order.
@@ -110,13 +104,10 @@ fn are_to_3_and_5(rows: &[LinkRow]) -> bool {
 
 #[test]
 #[tactic(auto, using(cc_links::specs::LinkLaws::len_add))]
-fn rows_stand_by_ascending_peer(rt: HostRuntime) -> Result<(), Fail> {
-    let mut links = Links::new(rt.alloc())?;
+fn rows_stand_by_ascending_peer(rt: HostRuntime) {
+    let mut links = no_links(&rt);
     links.add_all(&[id(5), id(3), id(5)], 0);
-    let are_ascending = are_to_3_and_5(links.rows());
-    drop(links);
-    assert!(rt; are_ascending);
-    Ok(())
+    assert!(rt; are_to_3_and_5(links.rows()));
 }
 
 // A row of a view, with nothing in it.
@@ -136,13 +127,10 @@ fn are_linked(links: &Links) -> bool {
 
 #[test]
 #[tactic(auto, using(cc_links::specs::LinkLaws::len_add))]
-fn the_nodes_of_a_view_get_links(rt: HostRuntime) -> Result<(), Fail> {
-    let mut links = Links::new(rt.alloc())?;
+fn the_nodes_of_a_view_get_links(rt: HostRuntime) {
+    let mut links = no_links(&rt);
     links.add_nodes(&[row_of_view(3), row_of_view(5)], 2);
-    let are_linked = are_linked(&links);
-    drop(links);
-    assert!(rt; are_linked);
-    Ok(())
+    assert!(rt; are_linked(&links));
 }
 
 // Whether all fit of the peers of the links, of nodes 2 and 3, and of node 1, and how many they are.
@@ -159,10 +147,7 @@ fn known_of(links: &Links) -> ([bool; 3], usize) {
 }
 
 #[test]
-fn ids_are_counted_once(rt: HostRuntime) -> Result<(), Fail> {
-    let links = two_links(rt.alloc())?;
-    let known = known_of(&links);
-    drop(links);
-    assert!(rt; known == ([true; 3], 3));
-    Ok(())
+fn ids_are_counted_once(rt: HostRuntime) {
+    let links = two_links(&rt);
+    assert!(rt; known_of(&links) == ([true; 3], 3));
 }

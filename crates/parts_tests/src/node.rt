@@ -1,5 +1,5 @@
 //! A whole node in memory.
 
 mod absent;
-mod machine;
+pub mod machine;
 mod restored;

@@ -1,14 +1,13 @@
 //! What a command writes, and what is read of a view.
 
-ghost use Rattle.std.specs.Prelude.{◌≡◌, ◌+◌, ◌≤◌, IfOk};
+ghost use Rattle.std.specs.Prelude.{◌≡◌, ◌+◌, ◌≤◌};
 ghost use Rattle.std.specs.FinMap.{len};
 
 use crate::sets::id;
-use crate::views::text;
+use crate::views::{no_rows, text};
 use cc_objects::{SetFull, add_member, flag_of, max_of, set_flag, set_of, write_max, write_text};
-use cc_views::{NoMemory, Row, Text, Value, View};
-use std::alloc::Global;
-use std::test::*;
+use cc_views::{Row, Text, Value, View};
+use std::process::Abort;
 
 // A row with number 0.
 fn row(node: u32, value: Value) -> Row {
@@ -19,47 +18,44 @@ fn row(node: u32, value: Value) -> Row {
     }
 }
 
-fn with_members(members: [u32; 2]) -> Result<Value, SetFull> {
-    let one = add_member(&Value::empty(), members[0])?;
-    add_member(&one, members[1])
+fn with_members<R: Abort>(rt: &R, members: [u32; 2]) -> Value {
+    let one = add_member(&Value::empty(), members[0]).expect(rt, "room");
+    add_member(&one, members[1]).expect(rt, "room")
 }
 
 // The members of two rows.
 #[tactic(auto, using(cc_views::specs::MergeLaws::merge_row_is_no_larger))]
-fn view(alloc: Global) -> Result<View, Fail>
-    ensures { IfOk result (λ v. len v ≤ 2) }
+fn view<R: Abort + AllocGlobal>(rt: &R) -> View
+    ensures { len result ≤ 2 }
 {
-    let first = row(1, with_members([5, 2])?);
-    let second = row(2, with_members([9, 5])?);
-    let mut view = View::new(alloc)?;
+    let first = row(1, with_members(rt, [5, 2]));
+    let second = row(2, with_members(rt, [9, 5]));
+    let mut view = no_rows(rt);
     view.merge_row(first);
     view.merge_row(second);
-    Ok(view)
+    view
 }
 
 // Whether these are the members of a view, which is let go.
-fn has_members(alloc: Global, view: View, wanted: &[u32]) -> Result<bool, NoMemory> {
-    let members = set_of(alloc, &view);
-    drop(view);
-    Ok(members?.as_slice() == wanted)
+fn has_members<R: Abort + AllocGlobal>(rt: &R, view: View, wanted: &[u32]) -> bool {
+    let members = set_of(rt.alloc(), &view).expect(rt, "members");
+    members.as_slice() == wanted
 }
 
 #[test]
-fn a_set_is_the_union_of_the_rows(rt: HostRuntime) -> Result<(), Fail> {
-    let none = has_members(rt.alloc(), View::new(rt.alloc())?, &[]);
-    let three = has_members(rt.alloc(), view(rt.alloc())?, &[2, 5, 9]);
-    assert!(rt; (none, three) == (Ok(true), Ok(true)));
-    Ok(())
+fn a_set_is_the_union_of_the_rows(rt: HostRuntime) {
+    let none = has_members(&rt, no_rows(&rt), &[]);
+    let three = has_members(&rt, view(&rt), &[2, 5, 9]);
+    assert!(rt; none && three);
 }
 
 #[test]
-fn a_full_set_takes_only_its_members(rt: HostRuntime) -> Result<(), Fail> {
+fn a_full_set_takes_only_its_members(rt: HostRuntime) {
     let mut value = Value::empty();
     for number in 0..32 {
-        value = add_member(&value, number)?;
+        value = add_member(&value, number).expect(&rt, "room");
     }
     assert!(rt; add_member(&value, 32) == Err(SetFull) && add_member(&value, 7) == Ok(value));
-    Ok(())
 }
 
 #[test]
@@ -91,10 +87,8 @@ fn reads(view: &mut View) -> [(u64, bool); 3]
 }
 
 #[test]
-fn a_read_goes_over_all_rows(rt: HostRuntime) -> Result<(), Fail> {
-    let mut view = View::new(rt.alloc())?;
+fn a_read_goes_over_all_rows(rt: HostRuntime) {
+    let mut view = no_rows(&rt);
     let reads = reads(&mut view);
-    drop(view);
     assert!(rt; reads == [(0, false), (9, false), (9, true)]);
-    Ok(())
 }

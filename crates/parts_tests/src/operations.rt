@@ -1,18 +1,17 @@
 //! Stores and collects.
 
-ghost use Rattle.std.specs.Prelude.{◌≡◌, ◌≤◌, ◌^◌, IfOk, IsFalse};
+ghost use Rattle.std.specs.Prelude.{◌≡◌, ◌≤◌, ◌^◌, [], IsFalse};
 ghost use Rattle.std.specs.FinMap as map;
 ghost use Rattle.cc_ops.specs.Commands as commands;
 ghost use Rattle.cc_ops.specs.Ops as ops;
 ghost use Rattle.cc_messages.specs.declared.command.Command.TheVariants as command;
 ghost use Rattle.cc_messages.specs.declared.message.Message.TheVariants as message;
 
-use crate::views::{row, text};
+use crate::views::{no_rows, row, text};
 use cc_messages::{Answer, Command, Message};
 use cc_ops::{AskList, Asked, Ops, Pending, Replies, Reply, Stage, is_writing};
-use cc_views::{NoMemory, NodeId, Row, Text, Value, View};
-use std::alloc::Global;
-use std::test::*;
+use cc_views::{NodeId, Row, Text, Value};
+use std::process::Abort;
 
 /// The one member of its cluster, so that each round needs one answer.
 pub fn me() -> NodeId
@@ -32,40 +31,47 @@ pub fn first_request(command: Command) -> Asked
     }
 }
 
+/// A list of no asks.
+pub fn no_asks<R: Abort + AllocGlobal>(rt: &R) -> AskList
+    ensures { result ≡ [] }
+{
+    AskList::new(rt.alloc()).expect(rt, "a list of asks")
+}
+
+// Nothing was stored or asked.
+fn nothing_done<R: Abort + AllocGlobal>(rt: &R) -> Ops
+    ensures { result ≡ ops.nothing_done 1 }
+{
+    Ops::new(rt.alloc(), 1).expect(rt, "operations")
+}
+
 /// A collect has begun.
-pub fn querying(alloc: Global) -> Result<Ops, NoMemory>
-    ensures { IfOk result (λ o. o ≡ ops.after_ask 1 1 (record { session = 7; request = 1; command = command.Collect }) (ops.nothing_done 1)) }
+pub fn querying<R: Abort + AllocGlobal>(rt: &R) -> Ops
+    ensures { result ≡ ops.after_ask 1 1 (record { session = 7; request = 1; command = command.Collect }) (ops.nothing_done 1) }
 {
     let me = me();
-    let mut ops = Ops::new(alloc, 1)?;
+    let mut ops = nothing_done(rt);
     ops.ask(me, 1, &first_request(Command::Collect));
-    Ok(ops)
+    ops
 }
 
 // The reply of a node that has seen nothing.
-fn empty_reply(alloc: Global) -> Result<Message, NoMemory>
-    ensures { IfOk result (λ m. m ≡ message.QueryReply map.empty 1 1) }
+fn empty_reply<R: Abort + AllocGlobal>(rt: &R) -> Message
+    ensures { result ≡ message.QueryReply map.empty 1 1 }
 {
     let node = me();
-    let view = View::new(alloc)?;
-    Ok(Message::QueryReply { view, tag: 1, node })
+    let view = no_rows(rt);
+    Message::QueryReply { view, tag: 1, node }
 }
 
 // What was seen, which is nothing, is stored back.
-fn storing_back(alloc: Global) -> Result<Ops, NoMemory> {
+fn storing_back<R: Abort + AllocGlobal>(rt: &R) -> Ops {
     let me = me();
-    let reply = empty_reply(alloc)?;
-    match querying(alloc) {
-        Ok(mut ops) => {
-            ops.apply(me, 1, &reply);
-            drop(reply);
-            Ok(ops)
-        }
-        Err(fault) => {
-            drop(reply);
-            Err(fault)
-        }
-    }
+    let reply = empty_reply(rt);
+    let mut ops = querying(rt);
+    ops.apply(me, 1, &reply);
+    drop(reply);
+    ops
 }
 
 /// The name of a message of an operation, how many rows its view has, its tag and its node.
@@ -100,26 +106,25 @@ fn rows(message: &Message) -> &[Row] {
 }
 
 #[test]
-fn a_new_node_has_stored_nothing(rt: HostRuntime) -> Result<(), Fail> {
-    let ops = Ops::new(rt.alloc(), 1)?;
+fn a_new_node_has_stored_nothing(rt: HostRuntime) {
+    let ops = nothing_done(&rt);
     let is_empty = ops.is_idle() && ops.view().rows().is_empty();
     let numbers = (ops.number(), ops.tag());
     drop(ops);
     assert!(rt; (is_empty, numbers) == (true, (0, 0)));
-    Ok(())
 }
 
 #[test]
-fn parts_are_put_together(rt: HostRuntime) -> Result<(), Fail> {
+fn parts_are_put_together(rt: HostRuntime) {
     let stage = Stage::StoringBack(Pending {
         asked: first_request(Command::Collect),
         need: 2,
         count: 1,
     });
-    let view = View::new(rt.alloc())?;
-    let seen = View::new(rt.alloc())?;
-    let line = AskList::new(rt.alloc())?;
-    let others = AskList::new(rt.alloc())?;
+    let view = no_rows(&rt);
+    let seen = no_rows(&rt);
+    let line = no_asks(&rt);
+    let others = no_asks(&rt);
     let ops = Ops::from_parts(
         rt.alloc(),
         view,
@@ -131,12 +136,12 @@ fn parts_are_put_together(rt: HostRuntime) -> Result<(), Fail> {
         seen,
         others,
         line,
-    )?;
+    )
+    .expect(&rt, "operations");
     let found = (ops.number(), ops.tag(), ops.seen().is_some());
     let is_staged = ops.stage() == stage;
     drop(ops);
     assert!(rt; (found, is_staged) == ((3, 5, true), true));
-    Ok(())
 }
 
 #[test]
@@ -155,141 +160,110 @@ fn a_command_writes_or_reads(rt: HostRuntime) {
     }
 }
 
-// The tag of a copy, whether it is idle, and whether it waits for the same.
-fn copied(alloc: Global, ops: &Ops) -> Result<(u64, bool, bool), NoMemory> {
-    let copy = ops.copy(alloc)?;
-    let found = (copy.tag(), copy.is_idle(), copy.stage() == ops.stage());
-    drop(copy);
-    Ok(found)
-}
-
+// It has the same tag, and isn't idle.
 #[test]
-fn a_copy_waits_for_the_same(rt: HostRuntime) -> Result<(), Fail> {
-    let ops = querying(rt.alloc())?;
-    let copied = copied(rt.alloc(), &ops);
+fn a_copy_waits_for_the_same(rt: HostRuntime) {
+    let ops = querying(&rt);
+    let copy = ops.copy(rt.alloc()).expect(&rt, "a copy");
+    let copied = (copy.tag(), copy.is_idle(), copy.stage() == ops.stage());
+    drop(copy);
     drop(ops);
-    assert!(rt; copied == Ok((1, false, true)));
-    Ok(())
+    assert!(rt; copied == (1, false, true));
 }
 
 // The first post of an operation of a new node.
-fn first_post(alloc: Global, command: Command) -> Result<Message, NoMemory>
+fn first_post<R: Abort + AllocGlobal>(rt: &R, command: Command) -> Message
     requires { IsFalse (commands.finds_no_room (ops.nothing_done 1).mine command) }
 {
     let me = me();
-    let ops = Ops::new(alloc, 1)?;
-    let post = ops.first_post(alloc, me, 1, &first_request(command));
+    let ops = nothing_done(rt);
+    let post = ops
+        .first_post(rt.alloc(), me, 1, &first_request(command))
+        .expect(rt, "a post");
     drop(ops);
     post
 }
 
 #[test]
-fn a_collect_begins_with_a_query(rt: HostRuntime) -> Result<(), Fail> {
-    let post = first_post(rt.alloc(), Command::Collect)?;
+fn a_collect_begins_with_a_query(rt: HostRuntime) {
+    let post = first_post(&rt, Command::Collect);
     let said = said(&post);
     drop(post);
     assert!(rt; said == ("Query", 0, 1, 1));
-    Ok(())
 }
 
 #[test]
-fn a_store_begins_with_its_row(rt: HostRuntime) -> Result<(), Fail> {
-    let post = first_post(rt.alloc(), Command::Store(text(b"a")))?;
+fn a_store_begins_with_its_row(rt: HostRuntime) {
+    let post = first_post(&rt, Command::Store(text(b"a")));
     // It stores that row alone, with tag 1 and node 1.
     let is_stored = said(&post) == ("Store", 1, 1, 1) && rows(&post) == [row(1, b"a")].as_slice();
     drop(post);
     assert!(rt; is_stored);
-    Ok(())
 }
 
 // What a message is answered with, if it is.
-fn answered(alloc: Global, server: &Ops, message: &Message) -> Result<Option<Said>, NoMemory>
+fn answered<R: Abort + AllocGlobal>(rt: &R, server: &Ops, message: &Message) -> Option<Said>
     requires fits { map.len (ops.after_message 1 1 message.now server.now).view ≤ 256 }
     requires number { (ops.after_message 1 1 message.now server.now).number ≤ 2 ^ 62 }
     requires tag { (ops.after_message 1 1 message.now server.now).tag ≤ 2 ^ 62 }
 {
     let me = me();
-    let answer = server.post(alloc, me, 1, true, message)?;
+    let answer = server
+        .post(rt.alloc(), me, 1, true, message)
+        .expect(rt, "an answer");
     let said = said_of(&answer);
     drop(answer);
-    Ok(said)
-}
-
-fn said_to_a_query(alloc: Global) -> Result<Option<Said>, NoMemory> {
-    let node = me();
-    let server = querying(alloc)?;
-    let query = Message::Query { tag: 1, node };
-    let said = answered(alloc, &server, &query);
-    drop(query);
-    drop(server);
     said
 }
 
 #[test]
 fn a_query_is_replied_to(rt: HostRuntime) {
-    let said = said_to_a_query(rt.alloc());
-    assert!(rt; said == Ok(Some(("QueryReply", 0, 1, 1))));
-}
-
-fn said_to_a_reply(alloc: Global) -> Result<Option<Said>, NoMemory> {
-    let reply = empty_reply(alloc)?;
-    match querying(alloc) {
-        Ok(server) => {
-            let said = answered(alloc, &server, &reply);
-            drop(server);
-            drop(reply);
-            said
-        }
-        Err(fault) => {
-            drop(reply);
-            Err(fault)
-        }
-    }
+    let node = me();
+    let server = querying(&rt);
+    let query = Message::Query { tag: 1, node };
+    let said = answered(&rt, &server, &query);
+    drop(query);
+    drop(server);
+    assert!(rt; said == Some(("QueryReply", 0, 1, 1)));
 }
 
 #[test]
 fn what_was_seen_is_stored_back(rt: HostRuntime) {
-    let said = said_to_a_reply(rt.alloc());
-    assert!(rt; said == Ok(Some(("Store", 0, 2, 1))));
+    let reply = empty_reply(&rt);
+    let server = querying(&rt);
+    let said = answered(&rt, &server, &reply);
+    drop(server);
+    drop(reply);
+    assert!(rt; said == Some(("Store", 0, 2, 1)));
 }
 
 // A store of nothing.
-fn empty_store(alloc: Global) -> Result<Message, NoMemory>
-    ensures { IfOk result (λ m. m ≡ message.Store map.empty 2 1) }
+fn empty_store<R: Abort + AllocGlobal>(rt: &R) -> Message
+    ensures { result ≡ message.Store map.empty 2 1 }
 {
     let node = me();
-    let view = View::new(alloc)?;
-    Ok(Message::Store { view, tag: 2, node })
-}
-
-fn said_to_a_store(alloc: Global) -> Result<Option<Said>, NoMemory> {
-    let store = empty_store(alloc)?;
-    match Ops::new(alloc, 1) {
-        Ok(server) => {
-            let said = answered(alloc, &server, &store);
-            drop(server);
-            drop(store);
-            said
-        }
-        Err(fault) => {
-            drop(store);
-            Err(fault)
-        }
-    }
+    let view = no_rows(rt);
+    Message::Store { view, tag: 2, node }
 }
 
 #[test]
 fn a_store_is_acknowledged(rt: HostRuntime) {
-    let said = said_to_a_store(rt.alloc());
-    assert!(rt; said == Ok(Some(("StoreAck", 0, 2, 1))));
+    let store = empty_store(&rt);
+    let server = nothing_done(&rt);
+    let said = answered(&rt, &server, &store);
+    drop(server);
+    drop(store);
+    assert!(rt; said == Some(("StoreAck", 0, 2, 1)));
 }
 
 // What clients are told by the acknowledgement of what a collect stored back.
-fn last_replies(alloc: Global) -> Result<Replies, NoMemory> {
+fn last_replies<R: Abort + AllocGlobal>(rt: &R) -> Replies {
     let node = me();
-    let ops = storing_back(alloc)?;
+    let ops = storing_back(rt);
     let acknowledgement = Message::StoreAck { tag: 2, node };
-    let replies = ops.replies(alloc, node, &acknowledgement);
+    let replies = ops
+        .replies(rt.alloc(), node, &acknowledgement)
+        .expect(rt, "replies");
     drop(acknowledgement);
     drop(ops);
     replies
@@ -305,12 +279,11 @@ fn are_told_nothing(told: &[Reply]) -> bool {
 }
 
 #[test]
-fn a_collect_is_told_what_it_stored_back(rt: HostRuntime) -> Result<(), Fail> {
-    let told = last_replies(rt.alloc())?;
+fn a_collect_is_told_what_it_stored_back(rt: HostRuntime) {
+    let told = last_replies(&rt);
     let are_told = are_told_nothing(told.as_slice());
     drop(told);
     assert!(rt; are_told);
-    Ok(())
 }
 
 // The session of the first reply, which is taken.
@@ -322,8 +295,8 @@ fn take_first(told: &mut Replies) -> Option<u64> {
 }
 
 #[test]
-fn the_only_reply_is_taken_once(rt: HostRuntime) -> Result<(), Fail> {
-    let mut told = last_replies(rt.alloc())?;
+fn the_only_reply_is_taken_once(rt: HostRuntime) {
+    let mut told = last_replies(&rt);
     let was_empty = told.is_empty();
     let taken = (
         take_first(&mut told),
@@ -333,5 +306,4 @@ fn the_only_reply_is_taken_once(rt: HostRuntime) -> Result<(), Fail> {
     drop(told);
     assert!(rt; (was_empty, taken) == (false, (Some(7), true, None)));
     assert!(rt; Replies::none().is_empty());
-    Ok(())
 }

@@ -3,9 +3,7 @@
 use crate::sets::id;
 use cc_messages::{Answer, Message};
 use cc_outbox::Outbox;
-use cc_views::NoMemory;
-use std::alloc::Global;
-use std::test::*;
+use std::process::Abort;
 
 // The node that a post of that number names, to tell posts apart.
 fn named(outbox: &Outbox, number: u64) -> u32 {
@@ -17,11 +15,11 @@ fn named(outbox: &Outbox, number: u64) -> u32 {
 
 // Posts 5 and 6.
 #[tactic(auto, using(cc_views::specs::MapLaws::len_insert))]
-fn two_posts(alloc: Global) -> Result<Outbox, NoMemory> {
-    let mut outbox = Outbox::starting_after(alloc, 4)?;
+fn two_posts<R: Abort + AllocGlobal>(rt: &R) -> Outbox {
+    let mut outbox = Outbox::starting_after(rt.alloc(), 4).expect(rt, "an outbox");
     outbox.add(Message::Join { node: id(50) });
     outbox.add(Message::Join { node: id(60) });
-    Ok(outbox)
+    outbox
 }
 
 fn has_both(outbox: &Outbox) -> bool {
@@ -35,12 +33,11 @@ fn has_both(outbox: &Outbox) -> bool {
 }
 
 #[test]
-fn posts_are_found_by_number(rt: HostRuntime) -> Result<(), Fail> {
-    let outbox = two_posts(rt.alloc())?;
+fn posts_are_found_by_number(rt: HostRuntime) {
+    let outbox = two_posts(&rt);
     let has_both = has_both(&outbox);
     drop(outbox);
     assert!(rt; has_both);
-    Ok(())
 }
 
 // How many posts are left of those after 4, and what is left of those after 5.
@@ -52,12 +49,11 @@ fn trimmed(outbox: &mut Outbox) -> (usize, u32, u32) {
 }
 
 #[test]
-fn posts_up_to_a_number_are_dropped(rt: HostRuntime) -> Result<(), Fail> {
-    let mut outbox = two_posts(rt.alloc())?;
+fn posts_up_to_a_number_are_dropped(rt: HostRuntime) {
+    let mut outbox = two_posts(&rt);
     let trimmed = trimmed(&mut outbox);
     drop(outbox);
     assert!(rt; trimmed == (2, 0, 60));
-    Ok(())
 }
 
 // Whether the answer to session 7 is the only one, and is gone once it is forgotten.
@@ -70,11 +66,10 @@ fn keeps_one(outbox: &mut Outbox) -> bool {
 
 #[test]
 #[tactic(auto, using(cc_views::specs::MapLaws::len_insert))]
-fn the_last_answer_of_a_session_is_kept(rt: HostRuntime) -> Result<(), Fail> {
-    let mut outbox = Outbox::new(rt.alloc())?;
+fn the_last_answer_of_a_session_is_kept(rt: HostRuntime) {
+    let mut outbox = Outbox::new(rt.alloc()).expect(&rt, "an outbox");
     outbox.keep(7, Answer::Stored);
     let keeps_one = keeps_one(&mut outbox);
     drop(outbox);
     assert!(rt; keeps_one);
-    Ok(())
 }

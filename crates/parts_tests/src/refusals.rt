@@ -1,14 +1,16 @@
-//! What a call leaves that is refused memory. `make refused-growths` counts what is told here.
+//! What a call leaves that is refused memory, and what a fault says. `make refused-growths` counts what is told here.
 
-use std::test::Fail;
+use std::fmt::Display;
+use std::process::Abort;
 
-/// A call's answer. Where it failed, what it was to leave as it was is looked at.
-pub(crate) fn unless_failed<T, E: Drop>(
+/// What a call answered. Where it failed, what it was to leave as it was is looked at, and the test ends.
+pub(crate) fn unless_failed<R: Abort, T, E: Drop>(
+    rt: &R,
     answer: Result<T, E>,
     is_as_before: bool,
-) -> Result<T, Fail> {
+) -> T {
     match answer {
-        Ok(value) => Ok(value),
+        Ok(value) => value,
         Err(fault) => {
             drop(fault);
             let told = if is_as_before {
@@ -16,7 +18,13 @@ pub(crate) fn unless_failed<T, E: Drop>(
             } else {
                 "failed, and something has changed"
             };
-            Err(told.into())
+            panic!(rt; "{told}")
         }
     }
+}
+
+/// Whether that is what a fault says.
+pub(crate) fn says<R: Abort + AllocGlobal, F: Display>(rt: &R, fault: &F, wanted: &str) -> bool {
+    let text = format!(in rt.alloc(); "{fault}").expect(rt, "a text");
+    text.as_str() == wanted
 }

@@ -1,12 +1,11 @@
 //! Views, texts and sets of numbers.
 
-ghost use Rattle.std.specs.Prelude.{◌≡◌, ◌≤◌, IfOk, IsSome, length};
-ghost use Rattle.std.specs.FinMap.{len};
+ghost use Rattle.std.specs.Prelude.{◌≡◌, ◌≤◌, IsSome, length};
+ghost use Rattle.std.specs.FinMap.{empty, len};
 
 use crate::sets::id;
-use cc_views::{NoMemory, NumberSet, Row, Text, Value, View};
-use std::alloc::Global;
-use std::test::*;
+use cc_views::{NumberSet, Row, Text, Value, View};
+use std::process::Abort;
 
 /// A text of at most 64 bytes.
 pub fn text(bytes: &[u8]) -> Text
@@ -28,13 +27,21 @@ pub fn row(node: u32, bytes: &[u8]) -> Row
     }
 }
 
-fn view(alloc: Global, node: u32, text: &[u8]) -> Result<View, NoMemory>
-    requires { length text.now ≤ 64 }
-    ensures { IfOk result (λ v. len v ≡ 1) }
+/// A view of no rows.
+pub fn no_rows<R: Abort + AllocGlobal>(rt: &R) -> View
+    ensures empty { result ≡ empty }
+    ensures len { len result ≡ 0 }
 {
-    let mut view = View::new(alloc)?;
+    View::new(rt.alloc()).expect(rt, "a view")
+}
+
+fn view<R: Abort + AllocGlobal>(rt: &R, node: u32, text: &[u8]) -> View
+    requires { length text.now ≤ 64 }
+    ensures { len result ≡ 1 }
+{
+    let mut view = View::new(rt.alloc()).expect(rt, "a view");
     view.push(row(node, text));
-    Ok(view)
+    view
 }
 
 #[test]
@@ -54,71 +61,41 @@ fn a_number_stands_once_in_a_set(rt: HostRuntime) {
     assert!(rt; set.as_slice() == [5, 9].as_slice());
 }
 
-// Merges in the view of a node with text "b".
+// Into the view of node 1 with text "a" that of a node with text "b" is merged. How many rows it has then, and whether its own
+// is the only one.
 #[tactic(auto, using(cc_views::specs::MergeLaws::merge_is_no_larger))]
-fn merge_other(alloc: Global, node: u32, to: &mut View) -> Result<(), NoMemory>
-    requires { len to.old ≡ 1 }
-{
-    let other = view(alloc, node, b"b")?;
-    to.merge(&other);
-    drop(other);
-    Ok(())
-}
-
-// How many rows the view of node 1 with text "a" has then, and whether its own is the only one.
-fn merged(alloc: Global, node: u32) -> Result<(usize, bool), NoMemory> {
-    let mut left = view(alloc, 1, b"a")?;
-    let merged = merge_other(alloc, node, &mut left);
-    let found = (left.rows().len(), left.rows() == [row(1, b"a")].as_slice());
-    drop(left);
-    merged?;
-    Ok(found)
+fn merged<R: Abort + AllocGlobal>(rt: &R, node: u32) -> (usize, bool) {
+    let mut left = view(rt, 1, b"a");
+    let other = view(rt, node, b"b");
+    left.merge(&other);
+    (left.rows().len(), left.rows() == [row(1, b"a")].as_slice())
 }
 
 #[test]
 fn equal_numbers_keep_the_left_row(rt: HostRuntime) {
-    assert!(rt; merged(rt.alloc(), 1) == Ok((1, true)));
+    assert!(rt; merged(&rt, 1) == (1, true));
 }
 
 #[test]
 fn both_nodes_stand_in_a_merge(rt: HostRuntime) {
-    assert!(rt; merged(rt.alloc(), 2) == Ok((2, false)));
+    assert!(rt; merged(&rt, 2) == (2, false));
 }
 
-// How many rows a copy has once the view has one more, whether it is at most the view, and the view at most it.
+// The view has one row more than its copy, which is at most the view, and the view isn't at most it.
+#[test]
 #[tactic(auto, using(cc_views::specs::MergeLaws::merge_row_is_no_larger))]
-fn copied_before(alloc: Global, view: &mut View) -> Result<(usize, bool, bool), NoMemory>
-    requires { len view.old ≡ 1 }
-{
-    let copy = view.copy(alloc)?;
+fn a_copy_stays_as_it_was(rt: HostRuntime) {
+    let mut view = view(&rt, 1, b"a");
+    let copy = view.copy(rt.alloc()).expect(&rt, "a copy");
     view.merge_row(row(2, b"b"));
-    let found = (copy.rows().len(), copy.at_most(view), view.at_most(&copy));
-    drop(copy);
-    Ok(found)
+    let found = (copy.rows().len(), copy.at_most(&view), view.at_most(&copy));
+    assert!(rt; found == (1, true, false));
 }
 
 #[test]
-fn a_copy_stays_as_it_was(rt: HostRuntime) -> Result<(), Fail> {
-    let mut view = view(rt.alloc(), 1, b"a")?;
-    let found = copied_before(rt.alloc(), &mut view);
-    drop(view);
-    assert!(rt; found == Ok((1, true, false)));
-    Ok(())
-}
-
-fn take_over(alloc: Global, to: &mut View) -> Result<(), NoMemory> {
-    let other = view(alloc, 2, b"b")?;
-    to.copy_from(&other);
-    drop(other);
-    Ok(())
-}
-
-#[test]
-fn rows_are_taken_over(rt: HostRuntime) -> Result<(), Fail> {
-    let mut view = view(rt.alloc(), 1, b"a")?;
-    let taken = take_over(rt.alloc(), &mut view);
-    let is_other = view.rows() == [row(2, b"b")].as_slice();
-    drop(view);
-    assert!(rt; taken.is_ok() && is_other);
-    Ok(())
+fn rows_are_taken_over(rt: HostRuntime) {
+    let other = view(&rt, 2, b"b");
+    let mut view = view(&rt, 1, b"a");
+    view.copy_from(&other);
+    assert!(rt; view.rows() == [row(2, b"b")].as_slice());
 }

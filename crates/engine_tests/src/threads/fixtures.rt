@@ -1,8 +1,8 @@
 //! What the tests share: the disk and the engine of a node, events, and accepts.
 
-ghost use Rattle.std.specs.Prelude.{◌≡◌, ◌<◌, None, false, IfOk};
+ghost use Rattle.std.specs.Prelude.{◌≡◌, ◌<◌, None, false};
 
-use crate::sites::{MEMBER, begun};
+use crate::sites::{MEMBER, begun, empty};
 use crate::threads::holding::Hold;
 use cc_flush::{Back, Flusher};
 use cc_intake::{Accepted, Hooked, Intake, Lane, Life, Queue, Refused, Share};
@@ -11,8 +11,8 @@ use cc_node::{Core, Opening};
 use cc_site::MemorySite;
 use cc_views::{NodeId, Text};
 use std::alloc::Global;
+use std::process::Abort;
 use std::sync::{Mutex, Wait};
-use std::test::*;
 
 /// A disk in memory, with hooks round each sync.
 pub(crate) type Disk<'a> = Hooked<'a, MemorySite, Hold>;
@@ -24,42 +24,31 @@ pub(crate) fn id(number: u32) -> NodeId
     NodeId::new(number).unwrap()
 }
 
-/// Fails the test where something isn't so.
-pub(crate) fn check(holds: bool, what: &'static str) -> Result<(), Fail> {
-    if holds { Ok(()) } else { Err(what.into()) }
-}
-
 /// Member 1 of 1 on a disk in memory, up to so many of whose asks begin together.
-pub(crate) fn formatted_with_share(alloc: Global, share: usize) -> Result<MemorySite, Fail> {
-    let site = MemorySite::new(alloc, 2048)?;
-    Ok(begun(alloc, site, &Opening { share, ..MEMBER })?)
+pub(crate) fn formatted_with_share<R: Abort + AllocGlobal>(rt: &R, share: usize) -> MemorySite {
+    let opening = Opening { share, ..MEMBER };
+    begun(rt.alloc(), empty(rt, 2048), &opening).expect(rt, "the site is formatted")
 }
 
-pub(crate) fn opened<'a>(
-    alloc: Global,
+pub(crate) fn opened<'a, R: Abort + AllocGlobal>(
+    rt: &R,
     site: MemorySite,
     hooks: &'a Hold,
-) -> Result<(Flusher<Disk<'a>>, Core), Fail>
-    ensures { IfOk result (λ o. (o.0.failed ≡ None) × (o.0.owes ≡ false) × (o.1 ≡ o.0.twin.core)) }
+) -> (Flusher<Disk<'a>>, Core)
+    ensures { (result.0.failed ≡ None) × (result.0.owes ≡ false) × (result.1 ≡ result.0.twin.core) }
 {
-    match Flusher::open(alloc, Hooked { site, hooks }) {
-        Ok(opened) => Ok(opened),
-        Err(Back { site, fault }) => {
-            drop(site);
-            Err(fault.into())
-        }
+    match Flusher::open(rt.alloc(), Hooked { site, hooks }) {
+        Ok(opened) => opened,
+        Err(Back { site: _site, fault }) => panic!(rt; "the site isn't opened: {fault}"),
     }
 }
 
-pub(crate) fn drawn<L: Life, Q: Lane, R: Wait>(
+pub(crate) fn drawn<L: Life, Q: Lane, R: Abort + Wait>(
     rt: &R,
     lock: &Mutex<Intake<L, Q>>,
-) -> Result<Share<L>, Fail> {
+) -> Share<L> {
     let share = lock.lock(rt).share();
-    match share {
-        Some(share) => Ok(share),
-        None => Err("no share is left".into()),
-    }
+    share.expect(rt, "a share")
 }
 
 // The message that node 1 sent itself under that number: it heard that it joined.

@@ -5,40 +5,33 @@ ghost use Rattle.cc_journal.specs.declared.entry.Entry.{Entry as EntryValue};
 ghost use Rattle.cc_intake.specs.Accepting.{share_limit};
 
 use crate::sites::member;
-use crate::threads::fixtures::{Disk, check, opened};
+use crate::threads::fixtures::{Disk, opened};
 use crate::threads::holding::{Hold, Holding};
 use crate::threads::stories::{Story, play};
 use cc_flush::Flusher;
 use cc_intake::{Ends, Finished, Lane, Life, finish, lane, start};
 use cc_node::Core;
 use cc_site::MemorySite;
-use std::alloc::Global;
 use std::marker::Brand;
+use std::process::Abort;
 use std::sync::ledger::Blank;
 use std::sync::{Mutex, Wait};
-use std::test::*;
 use std::thread::Threads;
 
 /// Member 1 of 1 lives such a life, which comes to these counts.
-pub(crate) fn lives<R: Threads + Wait + Sync>(
+pub(crate) fn lives<R: Abort + AllocGlobal + Threads + Wait + Sync>(
     rt: &R,
-    alloc: Global,
     holding: Holding,
     story: Story,
     expected: [u64; 4],
-) -> Result<MemorySite, Fail> {
-    let site = member(alloc, 2048)?;
+) -> MemorySite {
+    let site = member(rt, 2048);
     let hooks = Hold::new(holding);
-    let finished = live(rt, alloc, site, &hooks, story)?;
+    let finished = live(rt, site, &hooks, story);
     let came = counts(&finished) == expected;
     let site = finished.site.site;
-    match check(came, "what was accepted is told, and flushed or left") {
-        Ok(()) => Ok(site),
-        Err(fail) => {
-            drop(site);
-            Err(fail)
-        }
-    }
+    assert!(rt; came, "what was accepted is told, and flushed or left");
+    site
 }
 
 /// How many events were accepted, told, flushed and not flushed.
@@ -52,26 +45,24 @@ pub(crate) fn counts<S>(finished: &Finished<S>) -> [u64; 4] {
 }
 
 /// Opens the site, and lives a life with it.
-pub(crate) fn live<'a, R: Threads + Wait + Sync>(
+pub(crate) fn live<'a, R: Abort + AllocGlobal + Threads + Wait + Sync>(
     rt: &R,
-    alloc: Global,
     site: MemorySite,
     hooks: &'a Hold,
     story: Story,
-) -> Result<Finished<Disk<'a>>, Fail> {
-    let (engine, core) = opened(alloc, site, hooks)?;
-    live_as::<Brand, R>(rt, alloc, engine, core, Blank::new(1 << 20), hooks, story)
+) -> Finished<Disk<'a>> {
+    let (engine, core) = opened(rt, site, hooks);
+    live_as::<Brand, R>(rt, engine, core, Blank::new(1 << 20), hooks, story)
 }
 
-fn live_as<'a, L: Life + Send + Sync, R: Threads + Wait + Sync>(
+fn live_as<'a, L: Life + Send + Sync, R: Abort + AllocGlobal + Threads + Wait + Sync>(
     rt: &R,
-    alloc: Global,
     engine: Flusher<Disk<'a>>,
     core: Core,
     blank: Blank,
     hooks: &'a Hold,
     story: Story,
-) -> Result<Finished<Disk<'a>>, Fail>
+) -> Finished<Disk<'a>>
     requires core { core ≡ L.opening.core }
     requires owes { engine.owes ≡ false }
     requires twin { engine.failed ≡ None → engine.twin ≡ L.opening }
@@ -81,26 +72,21 @@ fn live_as<'a, L: Life + Send + Sync, R: Threads + Wait + Sync>(
     requires accepted { (list : List EntryValue) → L.accepted list }
     requires flushed { (count : ℕ) → L.flushed count }
 {
-    match lane::<L>(alloc) {
-        Ok(ends) => live_at::<L, Brand, R>(rt, alloc, engine, core, blank, ends, hooks, story),
-        Err(fault) => {
-            drop(engine);
-            drop(core);
-            Err(fault.into())
-        }
-    }
+    let ends = lane::<L>(rt.alloc()).expect(rt, "a lane");
+    live_at::<L, Brand, R>(rt, engine, core, blank, ends, hooks, story)
 }
 
-fn live_at<'a, L: Life + Send + Sync, Q: Lane + Send + Sync, R: Threads + Wait + Sync>(
+fn live_at<'a, L: Life + Send + Sync, Q: Lane + Send + Sync, R>(
     rt: &R,
-    alloc: Global,
     engine: Flusher<Disk<'a>>,
     core: Core,
     blank: Blank,
     ends: Ends<L>,
     hooks: &'a Hold,
     story: Story,
-) -> Result<Finished<Disk<'a>>, Fail>
+) -> Finished<Disk<'a>>
+where
+    R: Abort + AllocGlobal + Threads + Wait + Sync,
     requires core { core ≡ L.opening.core }
     requires owes { engine.owes ≡ false }
     requires twin { engine.failed ≡ None → engine.twin ≡ L.opening }
@@ -113,10 +99,10 @@ fn live_at<'a, L: Life + Send + Sync, Q: Lane + Send + Sync, R: Threads + Wait +
 {
     let (intake, mut turner, queue) = start::<_, L, Q>(engine, core, blank, ends);
     let lock = Mutex::new(intake);
-    let mut shares = Vec::new(alloc);
-    let outcome = play(
+    let mut shares = Vec::new(rt.alloc());
+    play(
         rt,
-        alloc,
+        rt.alloc(),
         hooks,
         &lock,
         &mut turner,
@@ -124,12 +110,5 @@ fn live_at<'a, L: Life + Send + Sync, Q: Lane + Send + Sync, R: Threads + Wait +
         &mut shares,
         story,
     );
-    let finished = finish(rt, lock.into_inner(), shares, turner, queue);
-    match outcome {
-        Ok(()) => Ok(finished),
-        Err(fail) => {
-            drop(finished);
-            Err(fail)
-        }
-    }
+    finish(rt, lock.into_inner(), shares, turner, queue)
 }

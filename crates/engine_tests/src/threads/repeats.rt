@@ -1,12 +1,13 @@
 //! A worker that asks the same twice.
 
-use crate::threads::fixtures::{Told, check, shown, store_a};
+use crate::threads::fixtures::{Told, shown, store_a};
 use crate::threads::holding::{Hold, Holding};
 use crate::threads::lives::lives;
 use crate::threads::stories::Story;
 use cc_intake::{Accepted, Intake, Lane, Life, Queue, Refused, Share, Source, work};
 use cc_messages::{Event, Refusal};
 use std::alloc::Global;
+use std::process::Abort;
 use std::sync::{Mutex, Wait};
 use std::test::*;
 
@@ -42,14 +43,14 @@ impl Source for Twice {
 }
 
 /// A worker asks the same twice.
-pub(crate) fn repeat<L: Life, Q: Lane, R: Wait>(
+pub(crate) fn repeat<L: Life, Q: Lane, R: Abort + Wait>(
     rt: &R,
     alloc: Global,
     hooks: &Hold,
     lock: &Mutex<Intake<L, Q>>,
     queue: &Queue<L, Q>,
     share: &mut Share<L>,
-) -> Result<(), Fail> {
+) {
     let mut source = Twice {
         asked: 0,
         first: None,
@@ -60,14 +61,14 @@ pub(crate) fn repeat<L: Life, Q: Lane, R: Wait>(
         place: 1,
         stirs: true,
     }));
-    check(source.first == stored, "an ask is accepted, and posted")?;
+    assert!(rt; source.first == stored, "an ask is accepted, and posted");
     let is_repeat = source.second == Some(Err((Refusal::Repeat, 1)));
-    check(is_repeat && share.count() == 1, "the same ask is a repeat")
+    assert!(rt; is_repeat && share.count() == 1, "the same ask is a repeat");
 }
 
 #[test]
-fn a_worker_is_told_of_a_repeat(rt: HostRuntime) -> Result<(), Fail> {
-    let expected = [1, 1, 0, 1];
-    let site = lives(&rt, rt.alloc(), Holding::Nothing, Story::Repeat, expected)?;
-    check(site.outputs().len() == 0, "nothing is put")
+fn a_worker_is_told_of_a_repeat(rt: HostRuntime) {
+    let site = lives(&rt, Holding::Nothing, Story::Repeat, [1, 1, 0, 1]);
+    assert!(rt; site.outputs().len() == 0, "nothing is put");
+    drop(site);
 }

@@ -1,6 +1,6 @@
 //! Workers whose asks begin together, each of which is answered once.
 
-use crate::threads::fixtures::{Disk, check, drawn, formatted_with_share, id, opened, shown};
+use crate::threads::fixtures::{Disk, drawn, formatted_with_share, id, opened, shown};
 use crate::threads::holding::{Hold, Holding, TURNS, comes};
 use crate::threads::lives::{counts, live};
 use crate::threads::stories::Story;
@@ -10,6 +10,7 @@ use cc_messages::{Answer, Command, Event, Message, Output, Refusal};
 use cc_site::{Choice, MemorySite};
 use cc_views::NodeId;
 use std::alloc::Global;
+use std::process::Abort;
 use std::sync::atomic::Ordering;
 use std::sync::{Mutex, Wait};
 use std::test::*;
@@ -161,18 +162,17 @@ impl<'a> Acker<'a> {
 }
 
 // Hires the workers that ask, and the one that ends what they begin.
-fn hire<'a, L: Life, Q: Lane, R: Wait>(
+fn hire<'a, L: Life, Q: Lane, R: Abort + Wait>(
     rt: &R,
     hooks: &'a Hold,
     lock: &Mutex<Intake<L, Q>>,
     workers: &mut Vec<Worker<'a, L>>,
-) -> Result<(), Fail> {
+) {
     for place in 0..=ASKERS {
-        let share = drawn(rt, lock)?;
+        let share = drawn(rt, lock);
         let client = client_at(hooks, place, id(1));
-        workers.push(Worker { share, client })?;
+        workers.push(Worker { share, client }).expect(rt, "room");
     }
-    Ok(())
 }
 
 // Those at the first places ask, and the one behind them acknowledges.
@@ -193,16 +193,13 @@ pub(crate) fn share_rounds<L: Life + Send + Sync, Q: Lane + Send + Sync, R>(
     turner: &mut Turner<Disk<'_>, L, Q>,
     queue: &Queue<L, Q>,
     shares: &mut Vec<Share<L>>,
-) -> Result<(), Fail>
+)
 where
-    R: Threads + Wait + Sync,
+    R: Abort + Threads + Wait + Sync,
 {
     let mut workers = Vec::new(alloc);
-    if let Err(fail) = hire(rt, hooks, lock, &mut workers) {
-        drop(workers);
-        return Err(fail);
-    }
-    labour_whole(rt, alloc, hooks, lock, turner, queue, shares, workers)
+    hire(rt, hooks, lock, &mut workers);
+    labour_whole(rt, alloc, hooks, lock, turner, queue, shares, workers);
 }
 
 // How many replies these are to the first request of that session.
@@ -235,36 +232,36 @@ fn each_is_answered_once(outputs: &[Output]) -> bool {
 }
 
 // How many posts the node has made that is opened again, and its own number.
-fn progress(alloc: Global, site: &MemorySite) -> Result<(u64, u64), Fail> {
+fn progress<R: Abort + AllocGlobal>(rt: &R, site: &MemorySite) -> (u64, u64) {
     let hooks = Hold::new(Holding::Nothing);
-    let image = site.image(alloc, &Choice::Read)?;
-    let (engine, core) = opened(alloc, image, &hooks)?;
+    let image = site.image(rt.alloc(), &Choice::Read).expect(rt, "an image");
+    let (engine, core) = opened(rt, image, &hooks);
     drop(engine);
     let progress = (core.posts(), core.ops().number());
     drop(core);
-    Ok(progress)
+    progress
 }
 
 // The second round has 32 asks, so there are 225 rounds at most, with a post each.
-fn is_shared(alloc: Global, site: &MemorySite, is_whole: bool) -> Result<(), Fail> {
-    check(is_whole, "what was accepted is told, and flushed")?;
-    check(
+fn check_shared<R: Abort + AllocGlobal>(rt: &R, site: &MemorySite) {
+    assert!(rt;
         each_is_answered_once(site.outputs()),
-        "each ask is answered once",
-    )?;
-    let (posts, number) = progress(alloc, site)?;
-    check(number == ALL, "each ask has a number")?;
-    check(posts <= ALL.saturating_sub(31), "asks begin together")
+        "each ask is answered once"
+    );
+    let (posts, number) = progress(rt, site);
+    assert!(rt; number == ALL, "each ask has a number");
+    assert!(rt; posts <= ALL.saturating_sub(31), "asks begin together");
 }
 
 #[test]
-fn asks_of_many_workers_begin_together(rt: HostRuntime) -> Result<(), Fail> {
-    let alloc = rt.alloc();
+fn asks_of_many_workers_begin_together(rt: HostRuntime) {
     let hooks = Hold::new(Holding::EachSync);
-    let site = formatted_with_share(alloc, 32)?;
-    let finished = live(&rt, alloc, site, &hooks, Story::Sharing)?;
+    let site = formatted_with_share(&rt, 32);
+    let finished = live(&rt, site, &hooks, Story::Sharing);
     let [accepted, told, flushed, rest] = counts(&finished);
     let is_whole = told == accepted && flushed == accepted && rest == 0;
     let site = finished.site.site;
-    is_shared(alloc, &site, is_whole)
+    assert!(rt; is_whole, "what was accepted is told, and flushed");
+    check_shared(&rt, &site);
+    drop(site);
 }

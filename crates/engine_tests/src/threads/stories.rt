@@ -9,8 +9,8 @@ use crate::threads::turns::{batches, full_queue, moves};
 use crate::threads::workers::many;
 use cc_intake::{Intake, Lane, Life, Queue, Share, Turner};
 use std::alloc::Global;
+use std::process::Abort;
 use std::sync::{Mutex, Wait};
-use std::test::*;
 use std::thread::Threads;
 
 /// What a life is to come to.
@@ -27,7 +27,7 @@ pub(crate) enum Story {
     Sharing,
 }
 
-pub(crate) fn play<L: Life + Send + Sync, Q: Lane + Send + Sync, R: Threads + Wait + Sync>(
+pub(crate) fn play<L: Life + Send + Sync, Q: Lane + Send + Sync, R: Abort + Threads + Wait + Sync>(
     rt: &R,
     alloc: Global,
     hooks: &Hold,
@@ -36,7 +36,7 @@ pub(crate) fn play<L: Life + Send + Sync, Q: Lane + Send + Sync, R: Threads + Wa
     queue: &Queue<L, Q>,
     shares: &mut Vec<Share<L>>,
     story: Story,
-) -> Result<(), Fail> {
+) {
     match story {
         Story::Workers(count, last) => {
             return many(rt, alloc, hooks, lock, turner, queue, shares, count, last);
@@ -44,14 +44,14 @@ pub(crate) fn play<L: Life + Send + Sync, Q: Lane + Send + Sync, R: Threads + Wa
         Story::Sharing => return share_rounds(rt, alloc, hooks, lock, turner, queue, shares),
         _ => {}
     }
-    shares.push(drawn(rt, lock)?)?;
+    shares.push(drawn(rt, lock)).expect(rt, "room");
     let Some(share) = shares.first_mut() else {
-        return Err("no share is left".into());
+        panic!(rt; "no share is left");
     };
-    play_alone(rt, alloc, hooks, lock, turner, queue, share, story)
+    play_alone(rt, alloc, hooks, lock, turner, queue, share, story);
 }
 
-fn play_alone<L: Life, Q: Lane, R: Wait>(
+fn play_alone<L: Life, Q: Lane, R: Abort + Wait>(
     rt: &R,
     alloc: Global,
     hooks: &Hold,
@@ -60,13 +60,13 @@ fn play_alone<L: Life, Q: Lane, R: Wait>(
     queue: &Queue<L, Q>,
     share: &mut Share<L>,
     story: Story,
-) -> Result<(), Fail> {
+) {
     match story {
         Story::Batches => batches(rt, alloc, hooks, lock, turner, queue, share),
         Story::Moves => moves(rt, alloc, lock, turner, queue, share),
         Story::FullQueue => full_queue(rt, alloc, lock, turner, queue, share),
         Story::Repeat => repeat(rt, alloc, hooks, lock, queue, share),
         Story::AfterCrash => after_crash(rt, alloc, lock, turner, queue, share),
-        Story::Workers(_, _) | Story::Sharing => Ok(()),
+        Story::Workers(_, _) | Story::Sharing => {}
     }
 }

@@ -1,13 +1,14 @@
 //! Whole turns, and a queue that is full.
 
-use crate::threads::fixtures::{Disk, at, check, hear, hears_all};
+use crate::threads::fixtures::{Disk, at, hear, hears_all};
 use crate::threads::holding::{Hold, Holding};
 use crate::threads::lives::lives;
 use crate::threads::stories::Story;
 use cc_intake::{Intake, Lane, Life, Queue, Share, Turned, Turner};
 use cc_messages::Refusal;
-use cc_site::{MemorySite, Side, Site};
+use cc_site::{Side, Site};
 use std::alloc::Global;
+use std::process::Abort;
 use std::sync::atomic::Ordering;
 use std::sync::{Mutex, Wait};
 use std::test::*;
@@ -30,7 +31,7 @@ fn taken<L: Life, Q: Lane, R: Wait>(
 }
 
 /// 65 events are accepted, and taken by turns.
-pub(crate) fn batches<L: Life, Q: Lane, R: Wait>(
+pub(crate) fn batches<L: Life, Q: Lane, R: Abort + Wait>(
     rt: &R,
     alloc: Global,
     hooks: &Hold,
@@ -38,23 +39,23 @@ pub(crate) fn batches<L: Life, Q: Lane, R: Wait>(
     turner: &mut Turner<Disk<'_>, L, Q>,
     queue: &Queue<L, Q>,
     share: &mut Share<L>,
-) -> Result<(), Fail> {
+) {
     let all = hears_all(rt, alloc, lock, queue, share, 65);
-    check(all, "65 events are accepted")?;
+    assert!(rt; all, "65 events are accepted");
     let before = hooks.syncs.load(Ordering::SeqCst);
     for events in [64, 1, 0] {
         let turned = taken(rt, turner, queue);
-        check(turned == Some(events), "a turn takes a whole batch")?;
+        assert!(rt; turned == Some(events), "a turn takes a whole batch");
     }
     let syncs = hooks.syncs.load(Ordering::SeqCst).wrapping_sub(before);
-    check(syncs == 4, "two batches take four syncs")
+    assert!(rt; syncs == 4, "two batches take four syncs");
 }
 
 #[test]
-fn turns_take_64_then_1_then_none(rt: HostRuntime) -> Result<(), Fail> {
-    let expected = [65, 65, 65, 0];
-    let site = lives(&rt, rt.alloc(), Holding::Nothing, Story::Batches, expected)?;
-    check(site.outputs().len() == 65, "each event is acknowledged")
+fn turns_take_64_then_1_then_none(rt: HostRuntime) {
+    let site = lives(&rt, Holding::Nothing, Story::Batches, [65, 65, 65, 0]);
+    assert!(rt; site.outputs().len() == 65, "each event is acknowledged");
+    drop(site);
 }
 
 // Whether a turn takes so many events, and a checkpoint is made behind it.
@@ -68,67 +69,58 @@ fn turns_and_moves<L: Life, Q: Lane, R: Wait>(
 }
 
 /// 65 events are accepted, and taken by turns, with a checkpoint behind each.
-pub(crate) fn moves<L: Life, Q: Lane, R: Wait>(
+pub(crate) fn moves<L: Life, Q: Lane, R: Abort + Wait>(
     rt: &R,
     alloc: Global,
     lock: &Mutex<Intake<L, Q>>,
     turner: &mut Turner<Disk<'_>, L, Q>,
     queue: &Queue<L, Q>,
     share: &mut Share<L>,
-) -> Result<(), Fail> {
+) {
     let all = hears_all(rt, alloc, lock, queue, share, 65);
-    check(all, "65 events are accepted")?;
+    assert!(rt; all, "65 events are accepted");
     let is_moved = turns_and_moves(rt, turner, queue, 64) && turns_and_moves(rt, turner, queue, 1);
-    check(
+    assert!(rt;
         is_moved,
-        "each turn takes a whole batch, with a checkpoint behind it",
-    )
+        "each turn takes a whole batch, with a checkpoint behind it"
+    );
 }
 
 // Side A is in use again, and side B is one closed byte.
-fn is_moved(site: &mut MemorySite) -> Result<(), Fail> {
-    check(site.outputs().len() == 65, "each event is acknowledged")?;
-    check(site.length(Side::B) == Ok(1), "side B is closed")
-}
-
 #[test]
-fn a_checkpoint_goes_between_two_turns(rt: HostRuntime) -> Result<(), Fail> {
-    let expected = [65, 65, 65, 0];
-    let mut site = lives(&rt, rt.alloc(), Holding::Nothing, Story::Moves, expected)?;
-    is_moved(&mut site)
+fn a_checkpoint_goes_between_two_turns(rt: HostRuntime) {
+    let mut site = lives(&rt, Holding::Nothing, Story::Moves, [65, 65, 65, 0]);
+    assert!(rt; site.outputs().len() == 65, "each event is acknowledged");
+    assert!(rt; site.length(Side::B) == Ok(1), "side B is closed");
+    drop(site);
 }
 
 /// The queue takes 256 events, and another one after a turn. The core's reason comes before that of the queue.
-pub(crate) fn full_queue<L: Life, Q: Lane, R: Wait>(
+pub(crate) fn full_queue<L: Life, Q: Lane, R: Abort + Wait>(
     rt: &R,
     alloc: Global,
     lock: &Mutex<Intake<L, Q>>,
     turner: &mut Turner<Disk<'_>, L, Q>,
     queue: &Queue<L, Q>,
     share: &mut Share<L>,
-) -> Result<(), Fail> {
+) {
     let all = hears_all(rt, alloc, lock, queue, share, 256);
     let old = hear(rt, alloc, lock, queue, share, 256);
     let full = hear(rt, alloc, lock, queue, share, 257);
     let is_full = all
         && old == Err((Refusal::Old(256), 256))
         && full == Err((Refusal::QueueFull, 256));
-    check(is_full, "256 events are accepted, and the next one isn't")?;
+    assert!(rt; is_full, "256 events are accepted, and the next one isn't");
     let turned = taken(rt, turner, queue);
     let answer = hear(rt, alloc, lock, queue, share, 257);
     let has_room = turned == Some(64) && answer == Ok(at(257)) && share.count() == 257;
-    check(has_room, "a turn makes room for event 257")
+    assert!(rt; has_room, "a turn makes room for event 257");
 }
 
 #[test]
-fn a_full_queue_refuses_until_a_turn(rt: HostRuntime) -> Result<(), Fail> {
+fn a_full_queue_refuses_until_a_turn(rt: HostRuntime) {
     let expected = [257, 257, 64, 193];
-    let site = lives(
-        &rt,
-        rt.alloc(),
-        Holding::Nothing,
-        Story::FullQueue,
-        expected,
-    )?;
-    check(site.outputs().len() == 64, "64 events are acknowledged")
+    let site = lives(&rt, Holding::Nothing, Story::FullQueue, expected);
+    assert!(rt; site.outputs().len() == 64, "64 events are acknowledged");
+    drop(site);
 }

@@ -1,7 +1,7 @@
 //! Workers that bring events side by side, while one thread takes turns.
 
 use crate::parts::id;
-use crate::threads::fixtures::{Disk, check, drawn, opened, shown};
+use crate::threads::fixtures::{Disk, drawn, opened, shown};
 use crate::threads::holding::{Hold, Holding, TURNS};
 use crate::threads::lives::lives;
 use crate::threads::sharing::{Acker, Asker};
@@ -12,6 +12,7 @@ use cc_node::Core;
 use cc_site::{Choice, MemorySite};
 use cc_views::NodeId;
 use std::alloc::{AllocError, Global};
+use std::process::Abort;
 use std::sync::atomic::{AtomicU64, Ordering};
 use std::sync::{Mutex, Wait};
 use std::test::*;
@@ -117,14 +118,14 @@ pub(crate) struct Worker<'a, L: Life> {
 }
 
 // Hires so many workers, each of a node of its own.
-fn hire<'a, L: Life, Q: Lane, R: Wait>(
+fn hire<'a, L: Life, Q: Lane, R: Abort + Wait>(
     rt: &R,
     hooks: &'a Hold,
     lock: &Mutex<Intake<L, Q>>,
     count: u32,
     last: u64,
     workers: &mut Vec<Worker<'a, L>>,
-) -> Result<(), Fail> {
+) {
     for i in 0..count {
         let peer = Peer {
             hooks,
@@ -134,11 +135,10 @@ fn hire<'a, L: Life, Q: Lane, R: Wait>(
             full: 0,
             refused: 0,
         };
-        let share = drawn(rt, lock)?;
+        let share = drawn(rt, lock);
         let client = Client::Peer(peer);
-        workers.push(Worker { share, client })?;
+        workers.push(Worker { share, client }).expect(rt, "room");
     }
-    Ok(())
 }
 
 // Takes turns until nothing is left after the workers have stopped, or the engine has ended; or until nothing came for too
@@ -202,22 +202,18 @@ fn labour_all<'a, L: Life + Send + Sync, Q: Lane + Send + Sync, R: Threads + Wai
 }
 
 // Takes the share of a worker, each of whose events was accepted.
-fn hand_in<L: Life>(worker: Worker<'_, L>, shares: &mut Vec<Share<L>>) -> Result<(), Fail> {
+fn hand_in<L: Life, R: Abort>(rt: &R, worker: Worker<'_, L>, shares: &mut Vec<Share<L>>) {
     let Worker { share, client } = worker;
     let whole = client.is_done(share.count());
     drop(client);
-    shares.push(share)?;
-    check(whole, "each event of a worker is accepted")
+    shares.push(share).expect(rt, "room");
+    assert!(rt; whole, "each event of a worker is accepted");
 }
 
-fn hand_in_all<L: Life>(
-    workers: Vec<Worker<'_, L>>,
-    shares: &mut Vec<Share<L>>,
-) -> Result<(), Fail> {
+fn hand_in_all<L: Life, R: Abort>(rt: &R, workers: Vec<Worker<'_, L>>, shares: &mut Vec<Share<L>>) {
     for worker in workers {
-        hand_in(worker, shares)?;
+        hand_in(rt, worker, shares);
     }
-    Ok(())
 }
 
 // The workers bring their events, while one thread takes turns.
@@ -244,7 +240,7 @@ fn labour_with_turns<'a, L: Life + Send + Sync, Q: Lane + Send + Sync, R: Thread
 }
 
 /// So many workers bring so many events each, while one thread takes turns.
-pub(crate) fn many<L: Life + Send + Sync, Q: Lane + Send + Sync, R: Threads + Wait + Sync>(
+pub(crate) fn many<L: Life + Send + Sync, Q: Lane + Send + Sync, R: Abort + Threads + Wait + Sync>(
     rt: &R,
     alloc: Global,
     hooks: &Hold,
@@ -254,13 +250,10 @@ pub(crate) fn many<L: Life + Send + Sync, Q: Lane + Send + Sync, R: Threads + Wa
     shares: &mut Vec<Share<L>>,
     count: u32,
     last: u64,
-) -> Result<(), Fail> {
+) {
     let mut workers = Vec::new(alloc);
-    if let Err(fail) = hire(rt, hooks, lock, count, last, &mut workers) {
-        drop(workers);
-        return Err(fail);
-    }
-    labour_whole(rt, alloc, hooks, lock, turner, queue, shares, workers)
+    hire(rt, hooks, lock, count, last, &mut workers);
+    labour_whole(rt, alloc, hooks, lock, turner, queue, shares, workers);
 }
 
 /// The workers bring all that they are to bring, while one thread takes turns.
@@ -273,21 +266,23 @@ pub(crate) fn labour_whole<'a, L: Life + Send + Sync, Q: Lane + Send + Sync, R>(
     queue: &Queue<L, Q>,
     shares: &mut Vec<Share<L>>,
     workers: Vec<Worker<'a, L>>,
-) -> Result<(), Fail>
+)
 where
-    R: Threads + Wait + Sync,
+    R: Abort + Threads + Wait + Sync,
 {
-    let workers = labour_with_turns(rt, alloc, hooks, lock, turner, queue, workers)?;
-    hand_in_all(workers, shares)?;
+    let laboured = labour_with_turns(rt, alloc, hooks, lock, turner, queue, workers);
+    let workers = laboured.expect(rt, "room");
+    hand_in_all(rt, workers, shares);
     let late = hooks.late.load(Ordering::SeqCst);
-    check(late == 0, "no hold gives up")
+    assert!(rt; late == 0, "no hold gives up");
 }
 
 #[test]
-fn accepts_are_answered_while_a_sync_is_held(rt: HostRuntime) -> Result<(), Fail> {
+fn accepts_are_answered_while_a_sync_is_held(rt: HostRuntime) {
     let story = Story::Workers(2, 1);
-    let site = lives(&rt, rt.alloc(), Holding::FirstSync, story, [2, 2, 2, 0])?;
-    check(site.outputs().len() == 2, "both events are acknowledged")
+    let site = lives(&rt, Holding::FirstSync, story, [2, 2, 2, 0]);
+    assert!(rt; site.outputs().len() == 2, "both events are acknowledged");
+    drop(site);
 }
 
 // How many acknowledgements went to the node. None where their numbers don't go up by one.
@@ -319,37 +314,33 @@ fn heard_all(core: &Core, outputs: &[Output], count: u32) -> bool {
 }
 
 // Whether the outputs acknowledge each event of each worker in its order, and the node that is opened again heard them all.
-fn has_all(alloc: Global, site: &MemorySite, count: u32) -> Result<bool, Fail> {
+fn has_all<R: Abort + AllocGlobal>(rt: &R, site: &MemorySite, count: u32) -> bool {
     let hooks = Hold::new(Holding::Nothing);
-    let image = site.image(alloc, &Choice::Read)?;
-    let (engine, core) = opened(alloc, image, &hooks)?;
+    let image = site.image(rt.alloc(), &Choice::Read).expect(rt, "an image");
+    let (engine, core) = opened(rt, image, &hooks);
     drop(engine);
     let all = heard_all(&core, site.outputs(), count);
     drop(core);
-    Ok(all)
+    all
 }
 
-// The site has so many events, each of each worker once.
-fn is_whole(alloc: Global, site: &MemorySite, count: u32, all: u64) -> Result<(), Fail> {
-    check(
-        site.outputs().len() as u64 == all,
-        "each event is acknowledged once",
-    )?;
-    let whole = has_all(alloc, site, count)?;
-    check(whole, "the disk and the outlet have all events")
-}
-
-fn one_history<R: Threads + Wait + Sync>(rt: &R, alloc: Global, count: u32) -> Result<(), Fail> {
+// So many workers live a life, whose site has each event of each of them once.
+fn one_history<R: Abort + AllocGlobal + Threads + Wait + Sync>(rt: &R, count: u32) {
     let all = u64::from(count).wrapping_mul(EVENTS);
     let story = Story::Workers(count, EVENTS);
-    let site = lives(rt, alloc, Holding::EachSync, story, [all, all, all, 0])?;
-    is_whole(alloc, &site, count, all)
+    let site = lives(rt, Holding::EachSync, story, [all, all, all, 0]);
+    assert!(rt;
+        site.outputs().len() as u64 == all,
+        "each event is acknowledged once"
+    );
+    let whole = has_all(rt, &site, count);
+    assert!(rt; whole, "the disk and the outlet have all events");
+    drop(site);
 }
 
 #[test]
-fn many_workers_have_one_history(rt: HostRuntime) -> Result<(), Fail> {
+fn many_workers_have_one_history(rt: HostRuntime) {
     for count in [2, 4, 8] {
-        one_history(&rt, rt.alloc(), count)?;
+        one_history(&rt, count);
     }
-    Ok(())
 }

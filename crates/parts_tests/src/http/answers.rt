@@ -1,7 +1,6 @@
 //! The bytes of answers and events.
 
 use cc_http::{HEARTBEAT, Outcome, Page, Wrong, answer_page, answer_wrong, home, put_event};
-use cc_views::NoMemory;
 use std::process::Abort;
 
 const STATUS: &[u8] = b"HTTP/1.1 200 OK\r
@@ -54,24 +53,25 @@ Content-Length: 15\r
 type Case<'a> = (Page, Outcome, &'a [u8], &'a [u8]);
 
 // Whether an answer, or its head alone, has just these bytes.
-fn is_answered(
+fn is_answered<R: Abort>(
+    rt: &R,
     out: &mut Vec<u8>,
     page: Page,
     outcome: Outcome,
     is_head: bool,
     body: &[u8],
     bytes: &[u8],
-) -> Result<bool, NoMemory> {
+) -> bool {
     out.clear();
-    answer_page(out, page, outcome, is_head, body)?;
-    Ok(out.as_slice() == bytes)
+    answer_page(out, page, outcome, is_head, body).expect(rt, "room");
+    out.as_slice() == bytes
 }
 
 fn check_cases<R: Abort>(rt: &R, out: &mut Vec<u8>, cases: &[Case<'_>]) {
     for &(page, outcome, body, bytes) in cases {
         let head = &bytes[..bytes.len().saturating_sub(body.len())];
-        assert!(rt; is_answered(out, page, outcome, false, body, bytes) == Ok(true));
-        assert!(rt; is_answered(out, page, outcome, true, body, head) == Ok(true));
+        assert!(rt; is_answered(rt, out, page, outcome, false, body, bytes));
+        assert!(rt; is_answered(rt, out, page, outcome, true, body, head));
     }
 }
 
@@ -88,35 +88,26 @@ fn pages_are_given(rt: HostRuntime) {
             (Page::Home, Outcome::Served, b"<!doctype html>", HOME),
         ],
     );
-    drop(out);
 }
 
 #[test]
 fn what_is_wrong_is_told(rt: HostRuntime) {
     let mut out = Vec::new(rt.alloc());
-    let told = answer_wrong(&mut out, Wrong::Method, false);
-    let is_told = out.as_slice() == METHOD;
-    drop(out);
-    assert!(rt; told.is_ok() && is_told);
+    answer_wrong(&mut out, Wrong::Method, false).expect(&rt, "room");
+    assert!(rt; out.as_slice() == METHOD);
 }
 
-// Whether an event is written so, and another one behind it: each line of the text is data of its own.
-fn are_written(out: &mut Vec<u8>) -> Result<bool, NoMemory> {
-    put_event(out, "row", "{}")?;
-    let is_one = out.as_slice() == b"event: row\ndata: {}\n\n".as_slice();
-    put_event(out, "row", "a\nb")?;
-    let is_two = out
-        .as_slice()
-        .ends_with(b"\n\nevent: row\ndata: a\ndata: b\n\n");
-    Ok(is_one && is_two)
-}
-
+// An event is written so, and another one behind it: each line of the text is data of its own.
 #[test]
 fn events_are_written(rt: HostRuntime) {
     let mut out = Vec::new(rt.alloc());
-    let are_written = are_written(&mut out);
-    drop(out);
-    assert!(rt; are_written == Ok(true));
+    put_event(&mut out, "row", "{}").expect(&rt, "room");
+    let is_one = out.as_slice() == b"event: row\ndata: {}\n\n".as_slice();
+    put_event(&mut out, "row", "a\nb").expect(&rt, "room");
+    let is_two = out
+        .as_slice()
+        .ends_with(b"\n\nevent: row\ndata: a\ndata: b\n\n");
+    assert!(rt; is_one && is_two);
 }
 
 #[test]

@@ -1,7 +1,6 @@
 //! What requests ask for, as they come in.
 
 use cc_http::{Asked, MOST_FIELDS, MOST_HEAD, Page, Wrong, read_request};
-use std::alloc::AllocError;
 use std::process::Abort;
 
 fn page(page: Page) -> Asked {
@@ -134,51 +133,43 @@ fn half_heads_are_waited_for(rt: HostRuntime) {
     assert!(rt; read_request(bytes) == page(Page::View));
 }
 
-// What a head of one field asks for that is one byte shorter than any may be, and what it asks for with one byte more.
-fn asked_without_end(bytes: &mut Vec<u8>) -> Result<[Asked; 2], AllocError> {
-    bytes.extend_from_slice(b"GET / HTTP/1.1\r\nA: ")?;
-    for _ in bytes.len()..MOST_HEAD - 1 {
-        bytes.push(b'a')?;
-    }
-    let shorter = read_request(bytes);
-    bytes.push(b'a')?;
-    Ok([shorter, read_request(bytes)])
+fn put<R: Abort>(rt: &R, bytes: &[u8], out: &mut Vec<u8>) {
+    out.extend_from_slice(bytes).expect(rt, "room");
 }
 
-// A head of one field that never ends.
+// A head of one field that never ends: one byte shorter than any may be, and with one byte more.
 #[test]
 fn an_endless_head_is_refused(rt: HostRuntime) {
     let mut bytes = Vec::new(rt.alloc());
-    let asked = asked_without_end(&mut bytes);
-    drop(bytes);
-    assert!(rt; asked == Ok([Asked::More, wrong(Wrong::TooLong)]));
+    put(&rt, b"GET / HTTP/1.1\r\nA: ", &mut bytes);
+    for _ in bytes.len()..MOST_HEAD - 1 {
+        put(&rt, b"a", &mut bytes);
+    }
+    let shorter = read_request(&bytes);
+    put(&rt, b"a", &mut bytes);
+    let asked = [shorter, read_request(&bytes)];
+    assert!(rt; asked == [Asked::More, wrong(Wrong::TooLong)]);
 }
 
 // So many fields, and no end of the head.
-fn put_fields(bytes: &mut Vec<u8>, count: usize) -> Result<(), AllocError> {
-    bytes.extend_from_slice(b"GET / HTTP/1.1\r\n")?;
+fn put_fields<R: Abort>(rt: &R, count: usize, out: &mut Vec<u8>) {
+    put(rt, b"GET / HTTP/1.1\r\n", out);
     for _ in 0..count {
-        bytes.extend_from_slice(b"A: b\r\n")?;
+        put(rt, b"A: b\r\n", out);
     }
-    Ok(())
 }
 
-// What a head of as many fields as it may have asks for, without its end and with it, and with one more field in its place.
-fn asked_with_most(bytes: &mut Vec<u8>) -> Result<[Asked; 3], AllocError> {
-    put_fields(bytes, MOST_FIELDS)?;
-    let open = read_request(bytes);
-    let length = bytes.len();
-    bytes.extend_from_slice(b"\r\n")?;
-    let whole = read_request(bytes);
-    bytes.truncate(length);
-    bytes.extend_from_slice(b"A: b\r\n")?;
-    Ok([open, whole, read_request(bytes)])
-}
-
+// A head of as many fields as it may have, without its end and with it, and with one more field in its place.
 #[test]
 fn a_head_of_too_many_fields_is_refused(rt: HostRuntime) {
     let mut bytes = Vec::new(rt.alloc());
-    let asked = asked_with_most(&mut bytes);
-    drop(bytes);
-    assert!(rt; asked == Ok([Asked::More, page(Page::Home), wrong(Wrong::TooLong)]));
+    put_fields(&rt, MOST_FIELDS, &mut bytes);
+    let open = read_request(&bytes);
+    let length = bytes.len();
+    put(&rt, b"\r\n", &mut bytes);
+    let whole = read_request(&bytes);
+    bytes.truncate(length);
+    put(&rt, b"A: b\r\n", &mut bytes);
+    let asked = [open, whole, read_request(&bytes)];
+    assert!(rt; asked == [Asked::More, page(Page::Home), wrong(Wrong::TooLong)]);
 }

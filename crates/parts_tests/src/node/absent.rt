@@ -1,50 +1,42 @@
 //! Members that stay away: what lapses, what a snapshot takes over, and what begins anew.
 
-use crate::node::machine::{ask, opening, refusal, take};
+use crate::node::machine::{ask, fresh, opening, refusal, take};
 use crate::sets::id;
 use cc_messages::{Command, Event, Message, Refusal};
 use cc_node::Node;
 use cc_ops::Stage;
 use cc_views::NodeId;
-use cc_wire::{WireFault, decode_message};
-use std::alloc::{AllocError, Global};
+use cc_wire::decode_message;
 use std::process::Abort;
-use std::test::*;
 
 // The last number of a link.
 const LIMIT: u64 = 1 << 62;
 
 // The message of these bytes, as it comes from a node under a number.
-fn delivery(alloc: Global, from: u32, number: u64, bytes: &[u8]) -> Result<Event, WireFault> {
+fn delivery<R: Abort + AllocGlobal>(rt: &R, from: u32, number: u64, bytes: &[u8]) -> Event {
     let from = id(from);
-    let message = decode_message(alloc, bytes)?;
-    Ok(Event::Deliver {
+    let message = decode_message(rt.alloc(), bytes).expect(rt, "a message");
+    Event::Deliver {
         from,
         number,
         message,
-    })
+    }
 }
 
 // The node takes that message.
-fn deliver(
-    alloc: Global,
-    node: &mut Node,
-    from: u32,
-    number: u64,
-    bytes: &[u8],
-) -> Result<(), Fail> {
-    take(alloc, node, delivery(alloc, from, number, bytes)?)
+fn deliver<R: Abort + AllocGlobal>(rt: &R, node: &mut Node, from: u32, number: u64, bytes: &[u8]) {
+    take(rt, node, delivery(rt, from, number, bytes));
 }
 
 // Why the node refuses that message, if it does.
-fn refusal_of(
-    alloc: Global,
+fn refusal_of<R: Abort + AllocGlobal>(
+    rt: &R,
     node: &Node,
     from: u32,
     number: u64,
     bytes: &[u8],
-) -> Result<Option<Refusal>, WireFault> {
-    Ok(refusal(node, delivery(alloc, from, number, bytes)?))
+) -> Option<Refusal> {
+    refusal(node, delivery(rt, from, number, bytes))
 }
 
 // The message Snapshot [1,2] [1,2] [] [].
@@ -75,22 +67,16 @@ fn check_lapsed<R: Abort>(rt: &R, node: &Node, second: NodeId, third: NodeId) {
 }
 
 // Node 2 never acknowledges the Store, which is kept for it until it lapses.
-fn check_lapse<R: Abort + AllocGlobal>(rt: &R, node: &mut Node) -> Result<(), Fail> {
-    let (peer, second, third) = (node.me(), id(2), id(3));
-    take(rt.alloc(), node, ask(1, Command::SetFlag))?;
-    take(rt.alloc(), node, Event::Acked { peer, number: 1 })?;
-    assert!(rt; node.kept() == 1);
-    take(rt.alloc(), node, Event::Lapse { node: second })?;
-    check_lapsed(rt, node, second, third);
-    Ok(())
-}
-
 #[test]
-fn what_is_kept_for_an_absent_member_lapses(rt: HostRuntime) -> Result<(), Fail> {
-    let mut node = Node::fresh(rt.alloc(), &opening(1, &[1, 2], &[]))?;
-    let checked = check_lapse(&rt, &mut node);
+fn what_is_kept_for_an_absent_member_lapses(rt: HostRuntime) {
+    let mut node = fresh(&rt, &opening(1, &[1, 2], &[]));
+    let (peer, second, third) = (node.me(), id(2), id(3));
+    take(&rt, &mut node, ask(1, Command::SetFlag));
+    take(&rt, &mut node, Event::Acked { peer, number: 1 });
+    assert!(rt; node.kept() == 1);
+    take(&rt, &mut node, Event::Lapse { node: second });
+    check_lapsed(&rt, &node, second, third);
     drop(node);
-    checked
 }
 
 fn check_begun_anew<R: Abort>(rt: &R, node: &Node) {
@@ -102,24 +88,22 @@ fn check_begun_anew<R: Abort>(rt: &R, node: &Node) {
 }
 
 // The own snapshot skips the Store, and lets it begin anew.
-fn check_anew<R: Abort + AllocGlobal>(rt: &R, node: &mut Node) -> Result<(), Fail> {
-    take(rt.alloc(), node, ask(1, Command::SetFlag))?;
-    take(rt.alloc(), node, Event::Snapshot)?;
-    deliver(rt.alloc(), node, 1, 2, &OF_TWO)?;
+fn check_anew<R: Abort + AllocGlobal>(rt: &R, node: &mut Node) {
+    take(rt, node, ask(1, Command::SetFlag));
+    take(rt, node, Event::Snapshot);
+    deliver(rt, node, 1, 2, &OF_TWO);
     check_begun_anew(rt, node);
-    Ok(())
 }
 
 #[test]
-fn a_store_begins_anew(rt: HostRuntime) -> Result<(), Fail> {
-    let mut node = Node::fresh(rt.alloc(), &opening(1, &[1, 2], &[]))?;
-    let checked = check_anew(&rt, &mut node);
+fn a_store_begins_anew(rt: HostRuntime) {
+    let mut node = fresh(&rt, &opening(1, &[1, 2], &[]));
+    check_anew(&rt, &mut node);
     drop(node);
-    checked
 }
 
 // How many answers the store has once node 2 has acknowledged this tag.
-fn count_after(alloc: Global, node: &mut Node, number: u64, tag: u64) -> Result<u64, Fail> {
+fn count_after<R: Abort + AllocGlobal>(rt: &R, node: &mut Node, number: u64, tag: u64) -> u64 {
     let (from, me) = (id(2), node.me());
     let message = Message::StoreAck { tag, node: me };
     let acknowledged = Event::Deliver {
@@ -127,140 +111,113 @@ fn count_after(alloc: Global, node: &mut Node, number: u64, tag: u64) -> Result<
         number,
         message,
     };
-    take(alloc, node, acknowledged)?;
+    take(rt, node, acknowledged);
     match node.phase() {
-        Stage::Storing(pending) => Ok(pending.count),
-        _ => Err("no store is pending".into()),
+        Stage::Storing(pending) => pending.count,
+        _ => panic!(rt; "no store is pending"),
     }
 }
 
 // The store was begun under tag 1, and anew under tag 2.
-fn check_tags<R: Abort + AllocGlobal>(rt: &R, node: &mut Node) -> Result<(), Fail> {
-    check_anew(rt, node)?;
-    let older = count_after(rt.alloc(), node, 1, 1)?;
-    let own = count_after(rt.alloc(), node, 2, 2)?;
-    assert!(rt; (older, own) == (0, 1));
-    Ok(())
-}
-
 #[test]
-fn an_older_tag_counts_nothing(rt: HostRuntime) -> Result<(), Fail> {
-    let mut node = Node::fresh(rt.alloc(), &opening(1, &[1, 2], &[]))?;
-    let checked = check_tags(&rt, &mut node);
+fn an_older_tag_counts_nothing(rt: HostRuntime) {
+    let mut node = fresh(&rt, &opening(1, &[1, 2], &[]));
+    check_anew(&rt, &mut node);
+    let older = count_after(&rt, &mut node, 1, 1);
+    let own = count_after(&rt, &mut node, 2, 2);
     drop(node);
-    checked
+    assert!(rt; (older, own) == (0, 1));
 }
 
 // Of three members all are needed, and once node 3 is retired two are: so the store needs too many until it begins anew.
-fn check_need<R: Abort + AllocGlobal>(rt: &R, node: &mut Node) -> Result<(), Fail> {
+fn check_need<R: Abort + AllocGlobal>(rt: &R, node: &mut Node) {
     let third = id(3);
     let before = node.core().needs_anew();
-    take(rt.alloc(), node, ask(1, Command::SetFlag))?;
+    take(rt, node, ask(1, Command::SetFlag));
     let asked = node.core().needs_anew();
-    take(rt.alloc(), node, Event::Retire { node: third })?;
+    take(rt, node, Event::Retire { node: third });
     let retired = node.core().needs_anew();
-    take(rt.alloc(), node, Event::Snapshot)?;
-    deliver(rt.alloc(), node, 1, 2, &OF_TWO)?;
+    take(rt, node, Event::Snapshot);
+    deliver(rt, node, 1, 2, &OF_TWO);
     assert!(rt; [before, asked, retired, node.core().needs_anew()] == [false, false, true, false]);
-    Ok(())
 }
 
 #[test]
-fn a_need_is_out_of_date_once_a_member_is_retired(rt: HostRuntime) -> Result<(), Fail> {
-    let mut node = Node::fresh(rt.alloc(), &opening(1, &[1, 2, 3], &[]))?;
-    let checked = check_need(&rt, &mut node);
+fn a_need_is_out_of_date_once_a_member_is_retired(rt: HostRuntime) {
+    let mut node = fresh(&rt, &opening(1, &[1, 2, 3], &[]));
+    check_need(&rt, &mut node);
     drop(node);
-    checked
 }
 
 fn check_numbers<R: Abort + AllocGlobal>(rt: &R, node: &Node) {
     let refusals = [
-        refusal_of(rt.alloc(), node, 2, LIMIT, &OF_TWO),
-        refusal_of(rt.alloc(), node, 2, LIMIT + 1, &OF_TWO),
-        refusal_of(rt.alloc(), node, 2, 2, &JOIN),
-        refusal_of(rt.alloc(), node, 2, 0, &OF_TWO),
+        refusal_of(rt, node, 2, LIMIT, &OF_TWO),
+        refusal_of(rt, node, 2, LIMIT + 1, &OF_TWO),
+        refusal_of(rt, node, 2, 2, &JOIN),
+        refusal_of(rt, node, 2, 0, &OF_TWO),
     ];
     assert!(rt;
         refusals
             == [
-                Ok(None),
-                Ok(Some(Refusal::Spent)),
-                Ok(Some(Refusal::Gap(0))),
-                Ok(Some(Refusal::Old(0)))
+                None,
+                Some(Refusal::Spent),
+                Some(Refusal::Gap(0)),
+                Some(Refusal::Old(0))
             ]
     );
 }
 
 #[test]
-fn a_snapshot_comes_under_any_number_up_to_the_limit(rt: HostRuntime) -> Result<(), Fail> {
-    let node = Node::fresh(rt.alloc(), &opening(1, &[1, 2], &[]))?;
+fn a_snapshot_comes_under_any_number_up_to_the_limit(rt: HostRuntime) {
+    let node = fresh(&rt, &opening(1, &[1, 2], &[]));
     check_numbers(&rt, &node);
     drop(node);
-    Ok(())
 }
 
-fn push_ids(bytes: &mut Vec<u8>, last: u16) -> Result<(), AllocError> {
+// The bytes of a snapshot by which the nodes from 2 up to the last one have entered.
+fn snapshot_up_to<R: Abort + AllocGlobal>(rt: &R, last: u16) -> Vec<u8> {
+    let mut out = Vec::new(rt.alloc());
+    let [high, low] = last.saturating_sub(1).to_be_bytes();
+    out.extend_from_slice(&[0x20, high, low]).expect(rt, "room");
     for number in 2..=last {
         let [high, low] = number.to_be_bytes();
-        bytes.extend_from_slice(&[0, 0, high, low])?;
+        out.extend_from_slice(&[0, 0, high, low]).expect(rt, "room");
     }
-    Ok(())
+    out.extend_from_slice(&[0; 6]).expect(rt, "room");
+    out
 }
 
-fn push_snapshot(bytes: &mut Vec<u8>, last: u16) -> Result<(), AllocError> {
-    let [high, low] = last.saturating_sub(1).to_be_bytes();
-    bytes.extend_from_slice(&[0x20, high, low])?;
-    push_ids(bytes, last)?;
-    bytes.extend_from_slice(&[0; 6])
-}
-
-// Why node 1 refuses a snapshot of node 2 by which the nodes from 2 up to the last one have entered.
-fn refusal_up_to(alloc: Global, node: &Node, last: u16) -> Result<Option<Refusal>, WireFault> {
-    let mut bytes = Vec::new(alloc);
-    if let Err(AllocError) = push_snapshot(&mut bytes, last) {
-        drop(bytes);
-        return Err(WireFault::NoMemory);
-    }
-    let refused = refusal_of(alloc, node, 2, 1, &bytes);
-    drop(bytes);
-    refused
+// Why node 1 refuses that snapshot of node 2, if it does.
+fn refusal_up_to<R: Abort + AllocGlobal>(rt: &R, node: &Node, last: u16) -> Option<Refusal> {
+    let bytes = snapshot_up_to(rt, last);
+    refusal_of(rt, node, 2, 1, &bytes)
 }
 
 fn check_named<R: Abort + AllocGlobal>(rt: &R, node: &Node) {
-    let refusals = [
-        refusal_up_to(rt.alloc(), node, 256),
-        refusal_up_to(rt.alloc(), node, 257),
-    ];
-    assert!(rt; refusals == [Ok(None), Ok(Some(Refusal::TooManyNodes))]);
+    let refusals = [refusal_up_to(rt, node, 256), refusal_up_to(rt, node, 257)];
+    assert!(rt; refusals == [None, Some(Refusal::TooManyNodes)]);
 }
 
 #[test]
-fn a_snapshot_names_up_to_256_nodes(rt: HostRuntime) -> Result<(), Fail> {
-    let node = Node::fresh(rt.alloc(), &opening(1, &[1, 2], &[]))?;
+fn a_snapshot_names_up_to_256_nodes(rt: HostRuntime) {
+    let node = fresh(&rt, &opening(1, &[1, 2], &[]));
     check_named(&rt, &node);
     drop(node);
-    Ok(())
-}
-
-fn check_enter<R: Abort + AllocGlobal>(rt: &R, node: &mut Node) -> Result<(), Fail> {
-    let first = id(1);
-    let lapse = refusal(node, Event::Lapse { node: first });
-    assert!(rt; lapse == Some(Refusal::NotEntered));
-    take(rt.alloc(), node, Event::Enter)?;
-    let refusals = [
-        refusal(node, Event::Lapse { node: first }),
-        refusal(node, Event::Snapshot),
-    ];
-    assert!(rt; refusals == [Some(Refusal::NotJoined); 2]);
-    Ok(())
 }
 
 #[test]
-fn an_entrant_lets_nothing_lapse(rt: HostRuntime) -> Result<(), Fail> {
-    let mut node = Node::fresh(rt.alloc(), &opening(4, &[], &[1, 2]))?;
-    let checked = check_enter(&rt, &mut node);
+fn an_entrant_lets_nothing_lapse(rt: HostRuntime) {
+    let mut node = fresh(&rt, &opening(4, &[], &[1, 2]));
+    let first = id(1);
+    let lapse = refusal(&node, Event::Lapse { node: first });
+    assert!(rt; lapse == Some(Refusal::NotEntered));
+    take(&rt, &mut node, Event::Enter);
+    let refusals = [
+        refusal(&node, Event::Lapse { node: first }),
+        refusal(&node, Event::Snapshot),
+    ];
+    assert!(rt; refusals == [Some(Refusal::NotJoined); 2]);
     drop(node);
-    checked
 }
 
 // How many echoes were counted, and whether the node has joined.
@@ -269,27 +226,20 @@ fn echoes(node: &Node) -> (u64, bool) {
 }
 
 // Of nodes 1 and 4, which are present, both echoes are needed. One snapshot of node 1 counts, and one of node 2.
-fn check_echoes<R: Abort + AllocGlobal>(rt: &R, node: &mut Node) -> Result<(), Fail> {
-    deliver(rt.alloc(), node, 1, 2, &OF_AN_ENTRANT)?;
+fn check_echoes<R: Abort + AllocGlobal>(rt: &R, node: &mut Node) {
+    deliver(rt, node, 1, 2, &OF_AN_ENTRANT);
     let first = echoes(node);
-    deliver(rt.alloc(), node, 1, 4, &OF_AN_ENTRANT)?;
+    deliver(rt, node, 1, 4, &OF_AN_ENTRANT);
     let second = echoes(node);
-    deliver(rt.alloc(), node, 2, 2, &OF_AN_ENTRANT)?;
+    deliver(rt, node, 2, 2, &OF_AN_ENTRANT);
     assert!(rt; [first, second, echoes(node)] == [(1, false), (1, false), (2, true)]);
-    Ok(())
-}
-
-fn check_entrant<R: Abort + AllocGlobal>(rt: &R, node: &mut Node) -> Result<(), Fail> {
-    take(rt.alloc(), node, Event::Enter)?;
-    check_echoes(rt, node)?;
-    assert!(rt; matches!(node.outbox().post(2), Some(Message::Join { .. })));
-    Ok(())
 }
 
 #[test]
-fn a_snapshot_stands_for_an_echo_that_lapsed(rt: HostRuntime) -> Result<(), Fail> {
-    let mut node = Node::fresh(rt.alloc(), &opening(4, &[], &[1, 2]))?;
-    let checked = check_entrant(&rt, &mut node);
+fn a_snapshot_stands_for_an_echo_that_lapsed(rt: HostRuntime) {
+    let mut node = fresh(&rt, &opening(4, &[], &[1, 2]));
+    take(&rt, &mut node, Event::Enter);
+    check_echoes(&rt, &mut node);
+    assert!(rt; matches!(node.outbox().post(2), Some(Message::Join { .. })));
     drop(node);
-    checked
 }

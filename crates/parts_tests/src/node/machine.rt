@@ -1,14 +1,14 @@
 //! Openings, and what a node answers to events.
 
+use crate::refusals::says;
 use crate::sets::id;
 use cc_changes::Fraction;
 use cc_messages::{Command, Event, Message, Refusal};
 use cc_node::{Core, Fresh, Node, Opening};
 use cc_ops::Stage;
-use cc_views::{NoMemory, NodeId};
-use std::alloc::{AllocError, Global};
+use cc_views::NodeId;
+use std::alloc::Global;
 use std::process::Abort;
-use std::test::*;
 
 const FOUR_FIFTHS: Fraction = Fraction { num: 4, den: 5 };
 
@@ -35,7 +35,7 @@ fn check_bad<R: Abort + AllocGlobal>(rt: &R, openings: &[Opening<'_>]) {
 }
 
 #[test]
-fn lists_of_an_opening_ascend_from_one(rt: HostRuntime) -> Result<(), Fail> {
+fn lists_of_an_opening_ascend_from_one(rt: HostRuntime) {
     let falling = [
         opening(0, &[0], &[]),
         opening(1, &[0, 1], &[]),
@@ -45,11 +45,10 @@ fn lists_of_an_opening_ascend_from_one(rt: HostRuntime) -> Result<(), Fail> {
         opening(3, &[], &[0]),
     ];
     check_bad(&rt, &falling);
-    Ok(())
 }
 
 #[test]
-fn a_member_is_one_of_the_first_and_no_contact_of_its_own(rt: HostRuntime) -> Result<(), Fail> {
+fn a_member_is_one_of_the_first_and_no_contact_of_its_own(rt: HostRuntime) {
     let nothing = Opening {
         beta: Fraction { num: 0, den: 5 },
         ..opening(1, &[1], &[])
@@ -75,29 +74,23 @@ fn a_member_is_one_of_the_first_and_no_contact_of_its_own(rt: HostRuntime) -> Re
         shared,
     ];
     check_bad(&rt, &bad);
-    Ok(())
-}
-
-fn push_contacts(contacts: &mut Vec<u32>, last: u32) -> Result<(), AllocError> {
-    for id in 2..=last {
-        contacts.push(id)?;
-    }
-    Ok(())
 }
 
 // Whether node 1 can't begin with the contacts from node 2 to the last one.
-fn is_bad_up_to(alloc: Global, last: u32) -> Result<bool, AllocError> {
-    let mut contacts = Vec::new(alloc);
-    let pushed = push_contacts(&mut contacts, last);
-    let is_bad = is_bad(alloc, &opening(1, &[], &contacts));
-    drop(contacts);
-    pushed.and(Ok(is_bad))
+fn is_bad_up_to<R: Abort + AllocGlobal>(rt: &R, last: u32) -> bool {
+    let contacts: Vec<u32> = (2..=last).collect(rt.alloc()).expect(rt, "contacts");
+    is_bad(rt.alloc(), &opening(1, &[], &contacts))
 }
 
 #[test]
 fn an_opening_names_up_to_256_nodes(rt: HostRuntime) {
-    assert!(rt; is_bad_up_to(rt.alloc(), 256) == Ok(false));
-    assert!(rt; is_bad_up_to(rt.alloc(), 257) == Ok(true));
+    assert!(rt; !is_bad_up_to(&rt, 256));
+    assert!(rt; is_bad_up_to(&rt, 257));
+}
+
+/// The node that begins so.
+pub fn fresh<R: Abort + AllocGlobal>(rt: &R, opening: &Opening<'_>) -> Node {
+    Node::fresh(rt.alloc(), opening).expect(rt, "a node")
 }
 
 fn check_member<R: Abort>(rt: &R, node: &Node, contact: NodeId) {
@@ -119,21 +112,16 @@ fn check_member<R: Abort>(rt: &R, node: &Node, contact: NodeId) {
 }
 
 #[test]
-fn a_member_begins(rt: HostRuntime) -> Result<(), Fail> {
-    let node = Node::fresh(rt.alloc(), &opening(2, &[1, 2], &[7]))?;
+fn a_member_begins(rt: HostRuntime) {
+    let node = fresh(&rt, &opening(2, &[1, 2], &[7]));
     check_member(&rt, &node, id(7));
     drop(node);
-    Ok(())
-}
-
-fn prints(alloc: Global, fault: Fresh, name: &str) -> Result<bool, AllocError> {
-    Ok(format!(in alloc; "{fault}")?.as_str() == name)
 }
 
 #[test]
 fn faults_print_their_names(rt: HostRuntime) {
-    assert!(rt; prints(rt.alloc(), Fresh::BadOpening, "BadOpening") == Ok(true));
-    assert!(rt; prints(rt.alloc(), Fresh::NoMemory, "NoMemory") == Ok(true));
+    assert!(rt; says(&rt, &Fresh::BadOpening, "BadOpening"));
+    assert!(rt; says(&rt, &Fresh::NoMemory, "NoMemory"));
 }
 
 /// The request of session 7 with this number.
@@ -146,17 +134,12 @@ pub fn ask(request: u64, command: Command) -> Event {
 }
 
 /// Takes the event in, which isn't refused.
-pub fn take(alloc: Global, node: &mut Node, event: Event) -> Result<(), Fail> {
-    match node.core().made_or_refused(alloc, &event) {
-        Ok(made) => {
-            node.settle(event, made);
-            Ok(())
-        }
-        Err(refusal) => {
-            drop(event);
-            Err(refusal.into())
-        }
-    }
+pub fn take<R: Abort + AllocGlobal>(rt: &R, node: &mut Node, event: Event) {
+    let made = node
+        .core()
+        .made_or_refused(rt.alloc(), &event)
+        .expect(rt, "the event is taken");
+    node.settle(event, made);
 }
 
 /// Why the node refuses the event, which is let go.
@@ -166,11 +149,11 @@ pub fn refusal(node: &Node, event: Event) -> Option<Refusal> {
     decided.err()
 }
 
-fn is_copied(alloc: Global, core: &Core) -> Result<bool, NoMemory> {
-    let copy = core.copy(alloc)?;
+fn is_copied<R: Abort + AllocGlobal>(rt: &R, core: &Core) -> bool {
+    let copy = core.copy(rt.alloc()).expect(rt, "a copy");
     let is_same = copy.view().rows() == core.view().rows();
     drop(copy);
-    Ok(is_same)
+    is_same
 }
 
 fn check_asked<R: Abort>(rt: &R, node: &Node) {
@@ -183,19 +166,13 @@ fn check_asked<R: Abort>(rt: &R, node: &Node) {
     assert!(rt; refusals == [Some(Refusal::Repeat), Some(Refusal::Busy)]);
 }
 
-fn check_ask<R: Abort + AllocGlobal>(rt: &R, node: &mut Node) -> Result<(), Fail> {
-    take(rt.alloc(), node, ask(1, Command::SetFlag))?;
-    check_asked(rt, node);
-    assert!(rt; is_copied(rt.alloc(), node.core()) == Ok(true));
-    Ok(())
-}
-
 #[test]
-fn an_ask_is_taken_in(rt: HostRuntime) -> Result<(), Fail> {
-    let mut node = Node::fresh(rt.alloc(), &opening(1, &[1], &[]))?;
-    let checked = check_ask(&rt, &mut node);
+fn an_ask_is_taken_in(rt: HostRuntime) {
+    let mut node = fresh(&rt, &opening(1, &[1], &[]));
+    take(&rt, &mut node, ask(1, Command::SetFlag));
+    check_asked(&rt, &node);
+    assert!(rt; is_copied(&rt, node.core()));
     drop(node);
-    checked
 }
 
 // Node 2 never acknowledges the Store. Once node 1 itself has, retiring node 2 drops it.
@@ -207,57 +184,39 @@ fn check_retired<R: Abort>(rt: &R, node: &Node, dead: NodeId) {
     assert!(rt; again == Some(Refusal::Left));
 }
 
-fn check_retire<R: Abort + AllocGlobal>(rt: &R, node: &mut Node, dead: NodeId) -> Result<(), Fail> {
-    let peer = node.me();
-    take(rt.alloc(), node, ask(1, Command::SetFlag))?;
-    take(rt.alloc(), node, Event::Acked { peer, number: 1 })?;
-    assert!(rt; node.kept() == 1);
-    take(rt.alloc(), node, Event::Retire { node: dead })?;
-    check_retired(rt, node, dead);
-    Ok(())
-}
-
 #[test]
-fn a_retire_keeps_the_need_and_drops_posts(rt: HostRuntime) -> Result<(), Fail> {
-    let mut node = Node::fresh(rt.alloc(), &opening(1, &[1, 2], &[]))?;
-    let checked = check_retire(&rt, &mut node, id(2));
+fn a_retire_keeps_the_need_and_drops_posts(rt: HostRuntime) {
+    let mut node = fresh(&rt, &opening(1, &[1, 2], &[]));
+    let (peer, dead) = (node.me(), id(2));
+    take(&rt, &mut node, ask(1, Command::SetFlag));
+    take(&rt, &mut node, Event::Acked { peer, number: 1 });
+    assert!(rt; node.kept() == 1);
+    take(&rt, &mut node, Event::Retire { node: dead });
+    check_retired(&rt, &node, dead);
     drop(node);
-    checked
 }
 
 // With no live link nothing is kept, and nothing is asked any more.
-fn check_itself<R: Abort + AllocGlobal>(rt: &R, node: &mut Node) -> Result<(), Fail> {
+#[test]
+fn a_node_retires_itself(rt: HostRuntime) {
+    let mut node = fresh(&rt, &opening(1, &[1], &[]));
     let me = node.me();
-    take(rt.alloc(), node, ask(1, Command::SetFlag))?;
-    take(rt.alloc(), node, Event::Retire { node: me })?;
+    take(&rt, &mut node, ask(1, Command::SetFlag));
+    take(&rt, &mut node, Event::Retire { node: me });
     let (kept, is_live) = (node.kept(), node.core().is_live(me));
-    let refused = refusal(node, Event::Leave);
+    let refused = refusal(&node, Event::Leave);
     assert!(rt; (kept, is_live, refused) == (0, false, Some(Refusal::Left)));
-    Ok(())
+    drop(node);
 }
 
 #[test]
-fn a_node_retires_itself(rt: HostRuntime) -> Result<(), Fail> {
-    let mut node = Node::fresh(rt.alloc(), &opening(1, &[1], &[]))?;
-    let checked = check_itself(&rt, &mut node);
-    drop(node);
-    checked
-}
-
-fn check_enter<R: Abort + AllocGlobal>(rt: &R, node: &mut Node) -> Result<(), Fail> {
+fn an_entrant_enters(rt: HostRuntime) {
+    let mut node = fresh(&rt, &opening(4, &[], &[1, 2]));
     let is_joined = node.is_joined();
-    let refused = refusal(node, ask(1, Command::Collect));
+    let refused = refusal(&node, ask(1, Command::Collect));
     assert!(rt; (is_joined, refused) == (false, Some(Refusal::NotEntered)));
-    take(rt.alloc(), node, Event::Enter)?;
+    take(&rt, &mut node, Event::Enter);
     assert!(rt; matches!(node.outbox().post(1), Some(Message::Enter { .. })));
-    assert!(rt; refusal(node, Event::Enter) == Some(Refusal::AlreadyEntered));
-    Ok(())
-}
-
-#[test]
-fn an_entrant_enters(rt: HostRuntime) -> Result<(), Fail> {
-    let mut node = Node::fresh(rt.alloc(), &opening(4, &[], &[1, 2]))?;
-    let checked = check_enter(&rt, &mut node);
+    assert!(rt; refusal(&node, Event::Enter) == Some(Refusal::AlreadyEntered));
     drop(node);
-    checked
 }

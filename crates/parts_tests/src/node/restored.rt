@@ -3,19 +3,19 @@ ghost use Rattle.std.specs.Prelude.{[]};
 ghost use Rattle.cc_ops.specs.Ops.{IsWaiting};
 ghost use Rattle.cc_ops.specs.Stages.{HasWaiting, WaitsBehind};
 
+use crate::links::no_links;
+use crate::operations::no_asks;
 use crate::sets::{changes_of, id};
 use cc_changes::Fraction;
 use cc_churn::Churn;
 use cc_links::{LinkRow, Links};
 use cc_messages::{Answer, Command, Message};
 use cc_node::{CoreParts, Node};
-use cc_ops::{AskList, Asked, Ops, Pending, Stage};
+use cc_ops::{Asked, Ops, Pending, Stage};
 use cc_outbox::Outbox;
 use cc_sessions::Sessions;
-use cc_views::{NoMemory, Row, Value, View};
-use std::alloc::Global;
+use cc_views::{Row, Value, View};
 use std::process::Abort;
-use std::test::*;
 
 const FOUR_FIFTHS: Fraction = Fraction { num: 4, den: 5 };
 
@@ -90,21 +90,21 @@ fn lawful() -> State {
     }
 }
 
-fn churn(alloc: Global, state: &State) -> Result<Churn, NoMemory> {
-    let changes = changes_of(alloc, state.entered, state.joined, state.left)?;
-    Ok(Churn::from_parts(changes, 0, state.need))
+fn churn<R: Abort + AllocGlobal>(rt: &R, state: &State) -> Churn {
+    let changes = changes_of(rt, state.entered, state.joined, state.left);
+    Churn::from_parts(changes, 0, state.need)
 }
 
 // The view of one node.
-fn view(alloc: Global, node: u32) -> Result<View, NoMemory> {
+fn view<R: Abort + AllocGlobal>(rt: &R, node: u32) -> View {
     let row = Row {
         node: id(node),
         number: 1,
         value: Value::empty(),
     };
-    let mut view = View::new(alloc)?;
+    let mut view = View::new(rt.alloc()).expect(rt, "a view");
     view.push(row);
-    Ok(view)
+    view
 }
 
 // The first request of session 7.
@@ -135,124 +135,96 @@ fn stage(round: Round) -> Stage
 }
 
 // With a view of one node, and another of one node to be stored back.
-fn ops(alloc: Global, state: &State) -> Result<Ops, NoMemory> {
+fn ops<R: Abort + AllocGlobal>(rt: &R, state: &State) -> Ops {
     let stage = stage(state.round);
     let mine = Value::empty();
-    let line = AskList::new(alloc)?;
-    let Ok(others) = AskList::new(alloc) else {
-        drop(line);
-        return Err(NoMemory);
-    };
-    let Ok(known) = view(alloc, state.known) else {
-        drop(line);
-        drop(others);
-        return Err(NoMemory);
-    };
-    let Ok(seen) = view(alloc, state.seen) else {
-        drop(line);
-        drop(others);
-        drop(known);
-        return Err(NoMemory);
-    };
-    Ops::from_parts(alloc, known, 1, mine, 1, 1, stage, seen, others, line)
+    let line = no_asks(rt);
+    let others = no_asks(rt);
+    let known = view(rt, state.known);
+    let seen = view(rt, state.seen);
+    Ops::from_parts(rt.alloc(), known, 1, mine, 1, 1, stage, seen, others, line).expect(
+        rt,
+        "operations",
+    )
 }
 
 // The link of node 1 to itself.
 #[tactic(auto, using(cc_views::specs::MapLaws::len_insert))]
-fn links(alloc: Global, state: &State) -> Result<Links, NoMemory> {
+fn links<R: Abort + AllocGlobal>(rt: &R, state: &State) -> Links {
     let row = LinkRow {
         peer: id(1),
         start: state.start,
         acked: state.acked,
         heard: state.heard,
     };
-    let mut links = Links::new(alloc)?;
+    let mut links = no_links(rt);
     links.insert(row);
-    Ok(links)
+    links
 }
 
 // Session 7 with this last request.
-fn sessions(alloc: Global, last: u64) -> Result<Sessions, NoMemory> {
-    let mut sessions = Sessions::new(alloc)?;
+fn sessions<R: Abort + AllocGlobal>(rt: &R, last: u64) -> Sessions {
+    let mut sessions = Sessions::new(rt.alloc()).expect(rt, "sessions");
     sessions.begin(7, last);
-    Ok(sessions)
+    sessions
 }
 
 #[tactic(auto, using(cc_views::specs::MapLaws::len_insert))]
-fn post_after(alloc: Global, dropped: u8) -> Result<Outbox, NoMemory> {
-    let mut outbox = Outbox::starting_after(alloc, u64::from(dropped))?;
+fn post_after<R: Abort + AllocGlobal>(rt: &R, dropped: u8) -> Outbox {
+    let last = u64::from(dropped);
+    let mut outbox = Outbox::starting_after(rt.alloc(), last).expect(rt, "an outbox");
     outbox.add(Message::Join { node: id(1) });
-    Ok(outbox)
+    outbox
 }
 
 #[tactic(auto, using(cc_views::specs::MapLaws::len_insert))]
-fn answered(alloc: Global, session: u64) -> Result<Outbox, NoMemory> {
-    let mut outbox = Outbox::new(alloc)?;
+fn answered<R: Abort + AllocGlobal>(rt: &R, session: u64) -> Outbox {
+    let mut outbox = Outbox::new(rt.alloc()).expect(rt, "an outbox");
     outbox.add(Message::Join { node: id(1) });
     outbox.keep(session, Answer::Stored);
-    Ok(outbox)
+    outbox
 }
 
-fn outbox(alloc: Global, kept: Kept) -> Result<Outbox, NoMemory> {
+fn outbox<R: Abort + AllocGlobal>(rt: &R, kept: Kept) -> Outbox {
     match kept {
-        Kept::PostAfter(dropped) => post_after(alloc, dropped),
-        Kept::NoneAfter(dropped) => Outbox::starting_after(alloc, dropped),
-        Kept::AnswerOf(session) => answered(alloc, session),
+        Kept::PostAfter(dropped) => post_after(rt, dropped),
+        Kept::NoneAfter(dropped) => {
+            Outbox::starting_after(rt.alloc(), dropped).expect(rt, "an outbox")
+        }
+        Kept::AnswerOf(session) => answered(rt, session),
     }
 }
 
-fn parts(alloc: Global, state: &State) -> Result<CoreParts, NoMemory> {
-    let sessions = sessions(alloc, state.last)?;
-    let Ok(links) = links(alloc, state) else {
-        drop(sessions);
-        return Err(NoMemory);
-    };
-    let Ok(churn) = churn(alloc, state) else {
-        drop(sessions);
-        drop(links);
-        return Err(NoMemory);
-    };
-    let Ok(ops) = ops(alloc, state) else {
-        drop(sessions);
-        drop(links);
-        drop(churn);
-        return Err(NoMemory);
-    };
-    Ok(CoreParts {
+fn parts<R: Abort + AllocGlobal>(rt: &R, state: &State) -> CoreParts {
+    CoreParts {
         me: id(state.me),
         beta: state.beta,
         gamma: state.gamma,
-        churn,
-        ops,
+        churn: churn(rt, state),
+        ops: ops(rt, state),
         posts: state.posts,
-        links,
-        sessions,
-    })
-}
-
-// The node of this state. None where the state is not lawful.
-fn restored(alloc: Global, state: &State) -> Result<Option<Node>, NoMemory> {
-    let outbox = outbox(alloc, state.kept)?;
-    match parts(alloc, state) {
-        Ok(parts) => Ok(Node::restored(parts, outbox)),
-        Err(fault) => {
-            drop(outbox);
-            Err(fault)
-        }
+        links: links(rt, state),
+        sessions: sessions(rt, state.last),
     }
 }
 
-fn is_restored(alloc: Global, state: &State) -> Result<bool, NoMemory> {
-    let node = restored(alloc, state)?;
+// The node of this state. None where the state is not lawful.
+fn restored<R: Abort + AllocGlobal>(rt: &R, state: &State) -> Option<Node> {
+    let outbox = outbox(rt, state.kept);
+    Node::restored(parts(rt, state), outbox)
+}
+
+fn is_restored<R: Abort + AllocGlobal>(rt: &R, state: &State) -> bool {
+    let node = restored(rt, state);
     let is_restored = node.is_some();
     drop(node);
-    Ok(is_restored)
+    is_restored
 }
 
 // Checks whether nodes are restored from these states.
 fn check_states<R: Abort + AllocGlobal>(rt: &R, states: &[State], are_lawful: bool) {
     for state in states {
-        assert!(rt; is_restored(rt.alloc(), state) == Ok(are_lawful));
+        assert!(rt; is_restored(rt, state) == are_lawful);
     }
 }
 
@@ -273,12 +245,11 @@ fn has_state(node: &Option<Node>) -> bool {
 }
 
 #[test]
-fn a_lawful_state_is_restored(rt: HostRuntime) -> Result<(), Fail> {
-    let node = restored(rt.alloc(), &lawful())?;
+fn a_lawful_state_is_restored(rt: HostRuntime) {
+    let node = restored(&rt, &lawful());
     let has_state = has_state(&node);
     drop(node);
     assert!(rt; has_state);
-    Ok(())
 }
 
 // The same in another round.

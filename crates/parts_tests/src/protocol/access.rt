@@ -3,7 +3,6 @@
 use crate::sets::id;
 use cc_messages::{Command, Event, Message};
 use cc_protocol::{Access, Origin};
-use std::test::*;
 
 /// What may bring everything.
 pub const ALL: Access = Access {

@@ -1,14 +1,12 @@
 //! What is handed over, and who is furthest behind.
 
+use crate::node::machine::{fresh, opening, take};
 use crate::sets::id;
-use cc_changes::Fraction;
-use cc_messages::{Command, Event, Message, Refusal};
-use cc_node::{Node, Opening};
+use cc_messages::{Command, Event, Message};
+use cc_node::Node;
 use cc_protocol::{is_furthest_behind, is_given_up, may_hand_over};
 use cc_views::NodeId;
-use std::alloc::Global;
 use std::process::Abort;
-use std::test::*;
 
 fn asked() -> Event {
     Event::Ask {
@@ -109,20 +107,6 @@ fn what_ends_an_operation_of_the_node_may_be_held_back(rt: HostRuntime) {
     check_handing(&rt, of_its_own, &[(257, false, 0, false)]);
 }
 
-// Takes the event in, which isn't refused.
-fn take(alloc: Global, node: &mut Node, event: Event) -> Result<(), Refusal> {
-    match node.core().made_or_refused(alloc, &event) {
-        Ok(made) => {
-            node.settle(event, made);
-            Ok(())
-        }
-        Err(refusal) => {
-            drop(event);
-            Err(refusal)
-        }
-    }
-}
-
 // Which of nodes 1, 2 and 3 are furthest behind.
 fn behind(member: &Node) -> [bool; 3] {
     let core = member.core();
@@ -135,9 +119,9 @@ fn behind(member: &Node) -> [bool; 3] {
 }
 
 // Takes the event in. Which of nodes 1, 2 and 3 are furthest behind then.
-fn behind_after(alloc: Global, member: &mut Node, event: Event) -> Result<[bool; 3], Refusal> {
-    take(alloc, member, event)?;
-    Ok(behind(member))
+fn behind_after<R: Abort + AllocGlobal>(rt: &R, member: &mut Node, event: Event) -> [bool; 3] {
+    take(rt, member, event);
+    behind(member)
 }
 
 fn check_behind<R: Abort + AllocGlobal>(rt: &R, member: &mut Node) {
@@ -147,37 +131,25 @@ fn check_behind<R: Abort + AllocGlobal>(rt: &R, member: &mut Node) {
     };
     let retire = Event::Retire { node: id(2) };
     let after = [
-        behind_after(rt.alloc(), member, asked()),
-        behind_after(rt.alloc(), member, acked),
-        behind_after(rt.alloc(), member, retire),
+        behind_after(rt, member, asked()),
+        behind_after(rt, member, acked),
+        behind_after(rt, member, retire),
     ];
     assert!(rt;
         after
             == [
-                Ok([true, true, false]),
-                Ok([false, true, false]),
-                Ok([true, false, false])
+                [true, true, false],
+                [false, true, false],
+                [true, false, false]
             ]
     );
 }
 
 #[test]
-fn who_acknowledged_least_is_furthest_behind(rt: HostRuntime) -> Result<(), Fail> {
-    let fraction = Fraction { num: 4, den: 5 };
-    let mut member = Node::fresh(
-        rt.alloc(),
-        &Opening {
-            me: 1,
-            initial: &[1, 2],
-            contacts: &[],
-            beta: fraction,
-            gamma: fraction,
-            share: 1,
-        },
-    )?;
+fn who_acknowledged_least_is_furthest_behind(rt: HostRuntime) {
+    let mut member = fresh(&rt, &opening(1, &[1, 2], &[]));
     check_behind(&rt, &mut member);
     drop(member);
-    Ok(())
 }
 
 const ALWAYS: [Case; 2] = [(0, false, 0, true), (512, false, 0, true)];

@@ -1,8 +1,7 @@
 //! Frames and their bytes.
 
 use cc_frames::{Frame, encode_frame};
-use cc_views::NoMemory;
-use std::alloc::Global;
+use std::process::Abort;
 
 /// Session 7 asks under number 1: store `a`.
 pub const ASK: [u8; 24] = [
@@ -25,20 +24,15 @@ pub const SKIPPED: [u8; 30] = [
 ];
 
 /// The bytes of a frame.
-pub fn bytes_of(alloc: Global, frame: &Frame) -> Result<Vec<u8>, NoMemory> {
-    let mut out = Vec::new(alloc);
-    match encode_frame(frame, &mut out) {
-        Ok(()) => Ok(out),
-        Err(fault) => {
-            drop(out);
-            Err(fault)
-        }
-    }
+pub fn bytes_of<R: Abort + AllocGlobal>(rt: &R, frame: &Frame) -> Vec<u8> {
+    let mut out = Vec::new(rt.alloc());
+    encode_frame(frame, &mut out).expect(rt, "room");
+    out
 }
 
 /// Whether a frame, which is let go, is spelled so.
-pub fn is_spelled(alloc: Global, frame: Frame, bytes: &[u8]) -> Result<bool, NoMemory> {
-    let spelled = bytes_of(alloc, &frame);
+pub fn is_spelled<R: Abort + AllocGlobal>(rt: &R, frame: Frame, bytes: &[u8]) -> bool {
+    let spelled = bytes_of(rt, &frame);
     drop(frame);
-    Ok(spelled?.as_slice() == bytes)
+    spelled.as_slice() == bytes
 }

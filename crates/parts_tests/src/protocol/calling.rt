@@ -2,7 +2,6 @@
 
 use cc_protocol::{AskName, Calls, Lasting};
 use std::process::Abort;
-use std::test::*;
 
 // In each of so many seconds: whether an absent peer was heard, whether a need is out of date, whether something is held
 // up; and in which of them a snapshot is posted.
@@ -16,7 +15,7 @@ fn check_calls<R: Abort>(rt: &R, calls: &mut Calls, seconds: u64, look: [bool; 3
 
 // 1, 2, 4 and then 8 seconds apart while voices go on, and anew after 8 seconds of silence.
 #[test]
-fn voices_are_answered_ever_more_rarely(rt: HostRuntime) -> Result<(), Fail> {
+fn voices_are_answered_ever_more_rarely(rt: HostRuntime) {
     let mut calls = Calls::new();
     check_calls(
         &rt,
@@ -27,16 +26,14 @@ fn voices_are_answered_ever_more_rarely(rt: HostRuntime) -> Result<(), Fail> {
     );
     check_calls(&rt, &mut calls, 8, [false, false, false], &[]);
     check_calls(&rt, &mut calls, 3, [true, false, false], &[1, 3]);
-    Ok(())
 }
 
 #[test]
-fn what_is_held_up_calls_each_eight_seconds(rt: HostRuntime) -> Result<(), Fail> {
+fn what_is_held_up_calls_each_eight_seconds(rt: HostRuntime) {
     let mut calls = Calls::new();
     check_calls(&rt, &mut calls, 20, [false, false, true], &[1, 9, 17]);
     check_calls(&rt, &mut calls, 2, [false, true, false], &[1, 2]);
     check_calls(&rt, &mut calls, 9, [false, false, false], &[]);
-    Ok(())
 }
 
 const FIRST: AskName = AskName {
@@ -63,7 +60,7 @@ fn after_seconds(lasting: Lasting, asked: Option<AskName>, seconds: u64) -> Last
 }
 
 #[test]
-fn an_operation_has_lasted_for_eight_seconds(rt: HostRuntime) -> Result<(), Fail> {
+fn an_operation_has_lasted_for_eight_seconds(rt: HostRuntime) {
     let seen = after_seconds(Lasting::new(), Some(FIRST), 8);
     let long = seen.after_second(Some(FIRST));
     let lasted = [
@@ -75,5 +72,4 @@ fn an_operation_has_lasted_for_eight_seconds(rt: HostRuntime) -> Result<(), Fail
         long.after_second(None).is_long(),
     ];
     assert!(rt; lasted == [false, true, true, false, false, false]);
-    Ok(())
 }

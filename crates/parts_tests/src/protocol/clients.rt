@@ -4,9 +4,7 @@ use crate::protocol::bytes::{ASK, LEARN, SKIPPED, STORED, bytes_of};
 use cc_frames::{Frame, decode_frame};
 use cc_messages::{Answer, Command, Refusal};
 use cc_protocol::{Client, Heard, Step, refusal_of};
-use cc_views::{NoMemory, Text};
-use cc_wire::WireFault;
-use std::alloc::Global;
+use cc_views::Text;
 use std::process::Abort;
 
 // What a client did.
@@ -30,35 +28,26 @@ fn client(request: Option<u64>) -> Client {
     client
 }
 
-fn done_by(alloc: Global, client: &mut Client, heard: Heard) -> Result<Did, NoMemory> {
-    let step = client.hear(heard);
-    let did = did_in(alloc, &step);
-    drop(step);
-    did
-}
-
-fn did_in(alloc: Global, step: &Step) -> Result<Did, NoMemory> {
+fn did_in<R: Abort + AllocGlobal>(rt: &R, step: &Step) -> Did {
     match step {
-        Step::Send(frame) => sent(alloc, frame),
-        Step::Wait => Ok(Did::Waited),
-        Step::Retry(refusal) => Ok(Did::Retried(*refusal)),
-        Step::Done(Answer::Stored) => Ok(Did::WasStored),
-        Step::Done(_) => Ok(Did::WasAnswered),
-        Step::Refused(refusal) => Ok(Did::WasRefused(*refusal)),
+        Step::Send(frame) => sent(rt, frame),
+        Step::Wait => Did::Waited,
+        Step::Retry(refusal) => Did::Retried(*refusal),
+        Step::Done(Answer::Stored) => Did::WasStored,
+        Step::Done(_) => Did::WasAnswered,
+        Step::Refused(refusal) => Did::WasRefused(*refusal),
     }
 }
 
-fn sent(alloc: Global, frame: &Frame) -> Result<Did, NoMemory> {
-    let bytes = bytes_of(alloc, frame)?;
-    let did = if bytes.as_slice() == LEARN.as_slice() {
+fn sent<R: Abort + AllocGlobal>(rt: &R, frame: &Frame) -> Did {
+    let bytes = bytes_of(rt, frame);
+    if bytes.as_slice() == LEARN.as_slice() {
         Did::Learned
     } else if bytes.as_slice() == ASK.as_slice() {
         Did::Asked
     } else {
         Did::SentOther
-    };
-    drop(bytes);
-    Ok(did)
+    }
 }
 
 // What a client is told: that its connection is open or broke, a refusal (the session, the request, its number and its
@@ -71,30 +60,32 @@ enum Told {
     Bytes(&'static [u8]),
 }
 
-fn heard(alloc: Global, told: Told) -> Result<Heard, WireFault> {
+fn heard<R: Abort + AllocGlobal>(rt: &R, told: Told) -> Heard {
     match told {
-        Told::Ready => Ok(Heard::Ready),
-        Told::Broken => Ok(Heard::Broken),
-        Told::Refused(session, request, refusal, value) => Ok(Heard::Came(Frame::Refused {
+        Told::Ready => Heard::Ready,
+        Told::Broken => Heard::Broken,
+        Told::Refused(session, request, refusal, value) => Heard::Came(Frame::Refused {
             session,
             request,
             refusal,
             value,
-        })),
-        Told::Bytes(bytes) => Ok(Heard::Came(decode_frame(alloc, bytes)?)),
+        }),
+        Told::Bytes(bytes) => Heard::Came(decode_frame(rt.alloc(), bytes).expect(rt, "a frame")),
     }
 }
 
 // What a client does that is told so.
-fn done_when(alloc: Global, client: &mut Client, told: Told) -> Result<Did, WireFault> {
-    let heard = heard(alloc, told)?;
-    Ok(done_by(alloc, client, heard)?)
+fn done_when<R: Abort + AllocGlobal>(rt: &R, client: &mut Client, told: Told) -> Did {
+    let step = client.hear(heard(rt, told));
+    let did = did_in(rt, &step);
+    drop(step);
+    did
 }
 
 // Checks what the client does each time that it is told something.
 fn check_talk<R: Abort + AllocGlobal>(rt: &R, client: &mut Client, talk: &[(Told, Did)]) {
     for &(told, wanted) in talk {
-        assert!(rt; done_when(rt.alloc(), client, told) == Ok(wanted));
+        assert!(rt; done_when(rt, client, told) == wanted);
     }
 }
 

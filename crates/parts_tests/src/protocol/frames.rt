@@ -8,10 +8,8 @@ use cc_protocol::{
     Bundle, Outcome, Parcel, ack_frame, event_of, outcome_of, post_bytes, refused_frame,
     reply_bytes,
 };
-use cc_views::{NoMemory, NodeId};
-use cc_wire::WireFault;
-use std::alloc::Global;
-use std::test::*;
+use cc_views::NodeId;
+use std::process::Abort;
 
 // What an event is about, without its message or command.
 #[derive(Clone, Copy, PartialEq, Eq)]
@@ -54,8 +52,8 @@ fn about_event(event: &Option<Event>) -> About {
     }
 }
 
-fn about_bytes(alloc: Global, bytes: &[u8]) -> Result<About, WireFault> {
-    Ok(about_frame(decode_frame(alloc, bytes)?))
+fn about_bytes<R: Abort + AllocGlobal>(rt: &R, bytes: &[u8]) -> About {
+    about_frame(decode_frame(rt.alloc(), bytes).expect(rt, "a frame"))
 }
 
 #[test]
@@ -64,7 +62,7 @@ fn what_a_client_sends_is_an_event(rt: HostRuntime) {
         about_frame(Frame::Leave),
         about_frame(Frame::Retire { node: id(3) }),
     ];
-    assert!(rt; about_bytes(rt.alloc(), &ASK) == Ok(About::Ask(7, 1)));
+    assert!(rt; about_bytes(&rt, &ASK) == About::Ask(7, 1));
     assert!(rt; about == [About::Leave, About::Retirement(3)]);
 }
 
@@ -88,11 +86,8 @@ fn what_a_peer_sends_is_an_event(rt: HostRuntime) {
 
 #[test]
 fn what_a_node_sends_to_clients_is_none(rt: HostRuntime) {
-    let about = [
-        about_bytes(rt.alloc(), &STORED),
-        about_bytes(rt.alloc(), &SKIPPED),
-    ];
-    assert!(rt; about == [Ok(About::Nothing); 2]);
+    let about = [about_bytes(&rt, &STORED), about_bytes(&rt, &SKIPPED)];
+    assert!(rt; about == [About::Nothing; 2]);
 }
 
 // The acknowledgement of a store with tag 1, as post 2 of node 1.
@@ -104,64 +99,48 @@ const POST: [u8; 30] = [
 const ACK: [u8; 17] = [0, 0, 0, 0x0D, 2, 0, 0, 0, 1, 0, 0, 0, 0, 0, 0, 0, 9];
 
 // Whether a message of a node is spelled so, under number 2.
-fn is_posted(alloc: Global, me: NodeId, bytes: &[u8]) -> Result<bool, NoMemory> {
+fn is_posted<R: Abort + AllocGlobal>(rt: &R, me: NodeId, bytes: &[u8]) -> bool {
     let message = Message::StoreAck { tag: 1, node: me };
-    let posted = post_bytes(alloc, me, 2, &message);
+    let posted = post_bytes(rt.alloc(), me, 2, &message).expect(rt, "bytes");
     drop(message);
-    Ok(posted?.as_slice() == bytes)
+    posted.as_slice() == bytes
 }
 
-fn is_replied(alloc: Global, bytes: &[u8]) -> Result<bool, NoMemory> {
-    let replied = reply_bytes(alloc, 7, 1, &Answer::Stored)?;
-    Ok(replied.as_slice() == bytes)
+fn is_replied<R: Abort + AllocGlobal>(rt: &R, bytes: &[u8]) -> bool {
+    let replied = reply_bytes(rt.alloc(), 7, 1, &Answer::Stored).expect(rt, "bytes");
+    replied.as_slice() == bytes
 }
 
 #[test]
 fn outputs_are_frames_of_their_sender(rt: HostRuntime) {
     let me = id(1);
     let are_spelled = [
-        is_posted(rt.alloc(), me, &POST),
-        is_spelled(rt.alloc(), ack_frame(me, 9), &ACK),
-        is_replied(rt.alloc(), &STORED),
+        is_posted(&rt, me, &POST),
+        is_spelled(&rt, ack_frame(me, 9), &ACK),
+        is_replied(&rt, &STORED),
     ];
-    assert!(rt; are_spelled == [Ok(true); 3]);
+    assert!(rt; are_spelled == [true; 3]);
 }
 
 // A post and two acknowledgements are put into a bundle, the post last. What it writes, and how many bytes its posts had.
-fn bundled(alloc: Global, me: NodeId) -> Result<(Vec<u8>, usize), NoMemory> {
-    let post = Vec::from_slice(alloc, &POST)?;
-    let mut bundle = Bundle::new(alloc);
-    if let Err(fault) = add_three(&mut bundle, post) {
-        drop(bundle);
-        return Err(fault);
-    }
+fn bundled<R: Abort + AllocGlobal>(rt: &R, me: NodeId) -> (Vec<u8>, usize) {
+    let post = Vec::from_slice(rt.alloc(), &POST).expect(rt, "a post");
+    let mut bundle = Bundle::new(rt.alloc());
+    bundle.add(Parcel::Ack(8)).expect(rt, "room");
+    bundle.add(Parcel::Ack(9)).expect(rt, "room");
+    bundle.add(Parcel::Post(post)).expect(rt, "room");
     let len = bundle.len();
-    Ok((bundle.close(me)?, len))
-}
-
-fn add_three(bundle: &mut Bundle, post: Vec<u8>) -> Result<(), NoMemory> {
-    if let Err(fault) = add_acks(bundle) {
-        drop(post);
-        return Err(fault);
-    }
-    bundle.add(Parcel::Post(post))
-}
-
-fn add_acks(bundle: &mut Bundle) -> Result<(), NoMemory> {
-    bundle.add(Parcel::Ack(8))?;
-    bundle.add(Parcel::Ack(9))
+    (bundle.close(me).expect(rt, "bytes"), len)
 }
 
 #[test]
-fn the_last_acknowledgement_goes_behind_the_posts(rt: HostRuntime) -> Result<(), Fail> {
-    let (bytes, len) = bundled(rt.alloc(), id(1))?;
+fn the_last_acknowledgement_goes_behind_the_posts(rt: HostRuntime) {
+    let (bytes, len) = bundled(&rt, id(1));
     let is_so = len == POST.len()
         && bytes.len() == POST.len() + ACK.len()
         && bytes.as_slice().starts_with(&POST)
         && bytes.as_slice().ends_with(&ACK);
-    drop(bytes);
     assert!(rt; is_so);
-    Ok(())
 }
 
 // The operator's request is refused, since the node has left.
@@ -170,17 +149,17 @@ const LEFT: [u8; 30] = [
 ];
 
 // Whether what is told of a refused event, which is let go, is spelled so. None where nothing is told.
-fn is_told(
-    alloc: Global,
+fn is_told<R: Abort + AllocGlobal>(
+    rt: &R,
     event: Event,
     refusal: Refusal,
     bytes: &[u8],
-) -> Result<Option<bool>, NoMemory> {
+) -> Option<bool> {
     let told = refused_frame(&event, refusal);
     drop(event);
     match told {
-        Some(frame) => Ok(Some(is_spelled(alloc, frame, bytes)?)),
-        None => Ok(None),
+        Some(frame) => Some(is_spelled(rt, frame, bytes)),
+        None => None,
     }
 }
 
@@ -196,23 +175,23 @@ fn third_request() -> Event {
 fn refusals_are_told_to_who_asked(rt: HostRuntime) {
     let node = id(3);
     let told = [
-        is_told(rt.alloc(), third_request(), Refusal::Skip(1), &SKIPPED),
-        is_told(rt.alloc(), Event::Leave, Refusal::Left, &LEFT),
-        is_told(rt.alloc(), Event::Retire { node }, Refusal::Left, &LEFT),
+        is_told(&rt, third_request(), Refusal::Skip(1), &SKIPPED),
+        is_told(&rt, Event::Leave, Refusal::Left, &LEFT),
+        is_told(&rt, Event::Retire { node }, Refusal::Left, &LEFT),
     ];
     let acked = Event::Acked {
         peer: node,
         number: 1,
     };
-    let untold = is_told(rt.alloc(), acked, Refusal::NothingToAck, &LEFT);
-    assert!(rt; told == [Ok(Some(true)); 3] && untold == Ok(None));
+    let untold = is_told(&rt, acked, Refusal::NothingToAck, &LEFT);
+    assert!(rt; told == [Some(true); 3] && untold == None);
 }
 
-fn outcome(alloc: Global, bytes: &[u8]) -> Result<Option<Outcome>, WireFault> {
-    let frame = decode_frame(alloc, bytes)?;
+fn outcome<R: Abort + AllocGlobal>(rt: &R, bytes: &[u8]) -> Option<Outcome> {
+    let frame = decode_frame(rt.alloc(), bytes).expect(rt, "a frame");
     let outcome = outcome_of(&frame);
     drop(frame);
-    Ok(outcome)
+    outcome
 }
 
 fn outcome_refused(refusal: u8) -> Option<Outcome> {
@@ -230,11 +209,11 @@ fn outcome_refused(refusal: u8) -> Option<Outcome> {
 #[test]
 fn the_operator_is_told_by_a_refusal(rt: HostRuntime) {
     let outcomes = [
-        outcome(rt.alloc(), &LEFT),
-        outcome(rt.alloc(), &SKIPPED),
-        outcome(rt.alloc(), &STORED),
+        outcome(&rt, &LEFT),
+        outcome(&rt, &SKIPPED),
+        outcome(&rt, &STORED),
     ];
     let refused = [outcome_refused(15), outcome_refused(19)];
-    assert!(rt; outcomes == [Ok(Some(Outcome::Done)), Ok(None), Ok(None)]);
+    assert!(rt; outcomes == [Some(Outcome::Done), None, None]);
     assert!(rt; refused == [Some(Outcome::Refused(Refusal::OutboxFull)), None]);
 }

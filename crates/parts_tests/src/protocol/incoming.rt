@@ -3,8 +3,7 @@
 use cc_frames::Frame;
 use cc_protocol::{Ending, Incoming};
 use cc_wire::WireFault;
-use std::alloc::Global;
-use std::test::*;
+use std::process::Abort;
 
 // Leave, and then Retire of node 3.
 const TWO: [u8; 14] = [0, 0, 0, 1, 6, 0, 0, 0, 5, 7, 0, 0, 0, 3];
@@ -44,34 +43,30 @@ fn told(read: Result<Frame, Ending>) -> Came {
 }
 
 // What the first three reads of these bytes give.
-fn first_three(alloc: Global, bytes: &[u8]) -> Result<[Came; 3], Fail> {
-    let mut incoming = Incoming::new(alloc, bytes)?;
+fn first_three<R: Abort + AllocGlobal>(rt: &R, bytes: &[u8]) -> [Came; 3] {
+    let mut incoming = Incoming::new(rt.alloc(), bytes).expect(rt, "a reader");
     let first = told(incoming.read_frame());
     let second = told(incoming.read_frame());
     let third = told(incoming.read_frame());
     drop(incoming);
-    Ok([first, second, third])
+    [first, second, third]
 }
 
 #[test]
-fn frames_come_until_the_input_ends(rt: HostRuntime) -> Result<(), Fail> {
-    let alloc = rt.alloc();
+fn frames_come_until_the_input_ends(rt: HostRuntime) {
     let end = Came::Nothing(Ending::Input);
-    let whole = first_three(alloc, &TWO)?;
-    let cut = first_three(alloc, &TWO[..13])?;
-    let empty = first_three(alloc, &[])?;
+    let whole = first_three(&rt, &TWO);
+    let cut = first_three(&rt, &TWO[..13]);
+    let empty = first_three(&rt, &[]);
     assert!(rt; whole == [Came::Leave, Came::Retire(3), end]);
     assert!(rt; (cut, empty) == ([Came::Leave, end, end], [end; 3]));
-    Ok(())
 }
 
 #[test]
-fn bytes_that_spell_no_frame_end_a_stream(rt: HostRuntime) -> Result<(), Fail> {
-    let alloc = rt.alloc();
+fn bytes_that_spell_no_frame_end_a_stream(rt: HostRuntime) {
     let unknown = Came::Nothing(Ending::Bytes(WireFault::BadKind(8)));
     let long = Came::Nothing(Ending::Bytes(WireFault::TooLarge));
-    let broken = first_three(alloc, &UNKNOWN)?;
-    let overlong = first_three(alloc, &LONG)?;
+    let broken = first_three(&rt, &UNKNOWN);
+    let overlong = first_three(&rt, &LONG);
     assert!(rt; [broken[0], broken[1], overlong[0]] == [Came::Leave, unknown, long]);
-    Ok(())
 }

@@ -3,7 +3,6 @@
 use crate::protocol::access::{ALL, REQUESTS};
 use cc_protocol::{Access, Admitted, Origin, Routes};
 use std::process::Abort;
-use std::test::*;
 
 // Where the answers to requests 1 of the sessions 7, 8 and 9 go.
 fn connections(routes: &Routes) -> [Option<u64>; 3] {
@@ -62,12 +61,11 @@ fn check_leaves<R: Abort>(rt: &R, routes: &mut Routes) {
 }
 
 #[test]
-fn answers_go_to_who_asked_last(rt: HostRuntime) -> Result<(), Fail> {
-    let mut routes = Routes::new(rt.alloc())?;
+fn answers_go_to_who_asked_last(rt: HostRuntime) {
+    let mut routes = Routes::new(rt.alloc()).expect(&rt, "routes");
     check_asks(&rt, &mut routes);
     check_leaves(&rt, &mut routes);
     drop(routes);
-    Ok(())
 }
 
 // Where the answers to requests 5, 6 and 9 of session 7 go.
@@ -115,13 +113,12 @@ fn check_late<R: Abort>(rt: &R, routes: &mut Routes) {
 }
 
 #[test]
-fn a_refused_ask_leaves_the_routes_as_they_were(rt: HostRuntime) -> Result<(), Fail> {
-    let mut routes = Routes::new(rt.alloc())?;
+fn a_refused_ask_leaves_the_routes_as_they_were(rt: HostRuntime) {
+    let mut routes = Routes::new(rt.alloc()).expect(&rt, "routes");
     check_judged(&rt, &mut routes);
     check_refused(&rt, &mut routes);
     check_late(&rt, &mut routes);
     drop(routes);
-    Ok(())
 }
 
 // So many connections enter, and one more is one for the operator.
@@ -169,12 +166,11 @@ fn check_left<R: Abort>(rt: &R, routes: &mut Routes) {
 }
 
 #[test]
-fn parts_of_the_connections_are_kept(rt: HostRuntime) -> Result<(), Fail> {
-    let mut routes = Routes::new(rt.alloc())?;
+fn parts_of_the_connections_are_kept(rt: HostRuntime) {
+    let mut routes = Routes::new(rt.alloc()).expect(&rt, "routes");
     check_connections(&rt, &mut routes);
     check_left(&rt, &mut routes);
     drop(routes);
-    Ok(())
 }
 
 // A session more than there are routes has none, and one that is refused makes room.
@@ -192,9 +188,8 @@ fn check_sessions<R: Abort>(rt: &R, routes: &mut Routes) {
 }
 
 #[test]
-fn routes_have_a_bound(rt: HostRuntime) -> Result<(), Fail> {
-    let mut routes = Routes::new(rt.alloc())?;
+fn routes_have_a_bound(rt: HostRuntime) {
+    let mut routes = Routes::new(rt.alloc()).expect(&rt, "routes");
     check_sessions(&rt, &mut routes);
     drop(routes);
-    Ok(())
 }

@@ -4,7 +4,6 @@ use crate::sets::id;
 use cc_protocol::{Speakers, Spoken};
 use cc_views::NodeId;
 use std::process::Abort;
-use std::test::*;
 
 // Node 2 is heard over connections 5 and 7, and over 5 again; node 3 over 7, so node 2 over none; then 7 is closed.
 fn check_spoken<R: Abort>(rt: &R, speakers: &mut Speakers, two: NodeId, three: NodeId) {
@@ -31,9 +30,7 @@ fn check_spoken<R: Abort>(rt: &R, speakers: &mut Speakers, two: NodeId, three: N
 }
 
 #[test]
-fn the_newest_connection_speaks_for_a_node(rt: HostRuntime) -> Result<(), Fail> {
-    let mut speakers = Speakers::new(rt.alloc())?;
+fn the_newest_connection_speaks_for_a_node(rt: HostRuntime) {
+    let mut speakers = Speakers::new(rt.alloc()).expect(&rt, "speakers");
     check_spoken(&rt, &mut speakers, id(2), id(3));
-    drop(speakers);
-    Ok(())
 }

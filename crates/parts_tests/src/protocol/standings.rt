@@ -4,7 +4,6 @@ use crate::sets::id;
 use cc_protocol::{Passed, Standing, Standings};
 use cc_views::NodeId;
 use std::process::Abort;
-use std::test::*;
 
 // What a peer has acknowledged of what was sent to it by the end of a second, and how it stands then.
 type Case = (u64, u64, Standing);
@@ -137,12 +136,10 @@ fn check_back<R: Abort>(rt: &R, peers: &mut Standings, two: NodeId, three: NodeI
 }
 
 #[test]
-fn a_peer_is_absent_until_it_acknowledges(rt: HostRuntime) -> Result<(), Fail> {
+fn a_peer_is_absent_until_it_acknowledges(rt: HostRuntime) {
     let (two, three) = (id(2), id(3));
-    let mut peers = Standings::new(rt.alloc())?;
+    let mut peers = Standings::new(rt.alloc()).expect(&rt, "standings");
     check_absent(&rt, &mut peers, two, three);
     check_lapses(&rt, &mut peers, two, three);
     check_back(&rt, &mut peers, two, three);
-    drop(peers);
-    Ok(())
 }

@@ -4,7 +4,6 @@ use crate::sets::id;
 use cc_messages::Command;
 use cc_views::Text;
 use cc_words::{LineFault, Peer, address, command, peers, peers_in_lines, store_of};
-use std::alloc::{AllocError, Global};
 use std::net::{Ipv4Addr, SocketAddr, SocketAddrV4};
 use std::process::Abort;
 
@@ -61,32 +60,28 @@ const NO_PEERS: [&str; 12] = [
 ];
 
 // Whether the word names peers.
-fn names_peers(alloc: Global, word: &str) -> Result<bool, AllocError> {
-    let named = peers(alloc, word)?;
-    let names = named.is_some();
-    drop(named);
-    Ok(names)
+fn names_peers<R: Abort + AllocGlobal>(rt: &R, word: &str) -> bool {
+    let named = peers(rt.alloc(), word).expect(rt, "an answer");
+    named.is_some()
 }
 
 fn check_no_peers<R: Abort + AllocGlobal>(rt: &R) {
     for &word in &NO_PEERS {
-        assert!(rt; names_peers(rt.alloc(), word) == Ok(false), "{word}");
+        assert!(rt; !names_peers(rt, word), "{word}");
     }
 }
 
 // Whether the word names these peers.
-fn names(alloc: Global, word: &str, wanted: &[Peer]) -> Result<bool, AllocError> {
-    let named = peers(alloc, word)?;
-    let names = matches!(&named, Some(peers) if peers.as_slice() == wanted);
-    drop(named);
-    Ok(names)
+fn names<R: Abort + AllocGlobal>(rt: &R, word: &str, wanted: &[Peer]) -> bool {
+    let named = peers(rt.alloc(), word).expect(rt, "an answer");
+    matches!(&named, Some(peers) if peers.as_slice() == wanted)
 }
 
 #[test]
 fn peers_are_ids_with_addresses(rt: HostRuntime) {
     let wanted = [peer(3, 7003), peer(2, 7002)];
-    let are_named = names(rt.alloc(), "3=127.0.0.1:7003,2=127.0.0.1:7002", &wanted);
-    assert!(rt; are_named == Ok(true));
+    let are_named = names(&rt, "3=127.0.0.1:7003,2=127.0.0.1:7002", &wanted);
+    assert!(rt; are_named);
     check_no_peers(&rt);
 }
 
@@ -179,20 +174,18 @@ const BAD_LINES: [(&str, usize); 5] = [
 ];
 
 // Whether the lines name these peers.
-fn name(alloc: Global, lines: &str, wanted: &[Peer]) -> Result<bool, LineFault> {
-    let named = peers_in_lines(alloc, lines)?;
-    let are_named = named.as_slice() == wanted;
-    drop(named);
-    Ok(are_named)
+fn name<R: Abort + AllocGlobal>(rt: &R, lines: &str, wanted: &[Peer]) -> bool {
+    let named = peers_in_lines(rt.alloc(), lines).expect(rt, "peers");
+    named.as_slice() == wanted
 }
 
 #[test]
 fn lines_name_what_a_list_names(rt: HostRuntime) {
     let wanted = [peer(2, 7002), peer(3, 7003)];
     for &lines in &LINES {
-        assert!(rt; name(rt.alloc(), lines, &wanted) == Ok(true), "{lines}");
+        assert!(rt; name(&rt, lines, &wanted), "{lines}");
     }
-    assert!(rt; name(rt.alloc(), "# nobody\n", &[]) == Ok(true));
+    assert!(rt; name(&rt, "# nobody\n", &[]));
 }
 
 #[test]

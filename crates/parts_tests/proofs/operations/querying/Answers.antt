@@ -2,4 +2,4 @@ use Rattle.parts_tests.proofs.Fits.{first_ask_fits}
 use Rattle.parts_tests.proofs.operations.querying.Goals as goal
 
 pub ask-requires-clause-fits : goal.ask-requires-clause-fits
-ask-requires-clause-fits c = rw c.in_ok-ops.ensures (first_ask_fits _ _ _)
+ask-requires-clause-fits g c = rw c.nothing_done-ops.ensures (first_ask_fits _ _ _)
