@@ -3,8 +3,7 @@
 use crate::played::{played, say_all};
 use cc_play::Cluster;
 use cc_words::number;
-use std::alloc::Global;
-use std::test::*;
+use std::process::Abort;
 
 const NODES: [&str; 4] = ["1", "2", "3", "4"];
 
@@ -67,81 +66,66 @@ struct Trial {
 }
 
 // Each part of the cluster goes on by itself for some rounds.
-fn play_rounds(alloc: Global, trial: &mut Trial, seed: u64) -> Result<(), Fail> {
+fn play_rounds<R: Abort + AllocGlobal>(rt: &R, trial: &mut Trial, seed: u64) {
     let mut chance = Chance { state: seed };
     for _ in 0..CUTS {
         let part = chance.pick(&PARTS);
         for _ in 0..ROUNDS {
-            play_round(alloc, trial, part, &mut chance)?;
+            play_round(rt, trial, part, &mut chance);
         }
     }
-    Ok(())
 }
 
 // In a round some node is asked.
-fn play_round(
-    alloc: Global,
-    trial: &mut Trial,
-    part: &str,
-    chance: &mut Chance,
-) -> Result<(), Fail> {
+fn play_round<R: Abort + AllocGlobal>(rt: &R, trial: &mut Trial, part: &str, chance: &mut Chance) {
     let session = trial.asked.len();
-    let printed = str::from_utf8(&trial.printed)?;
-    trial.asked.push(printed.lines().count())?;
-    let mut lines = String::new(alloc);
-    let played = match push_round(&mut lines, printed, session, part, chance) {
-        Ok(()) => say_all(alloc, &mut trial.cluster, &lines, &mut trial.printed),
-        Err(fail) => Err(fail),
-    };
-    drop(lines);
-    played
+    let printed = str::from_utf8(&trial.printed).expect(rt, "a text");
+    let count = printed.lines().count();
+    trial.asked.push(count).expect(rt, "room");
+    let mut lines = String::new(rt.alloc());
+    push_round(rt, &mut lines, printed, session, part, chance);
+    say_all(rt, &mut trial.cluster, &lines, &mut trial.printed);
 }
 
 // The lines of a round, by what was printed so far.
-fn push_round(
+fn push_round<R: Abort>(
+    rt: &R,
     lines: &mut String,
     printed: &str,
     session: usize,
     part: &str,
     chance: &mut Chance,
-) -> Result<(), Fail> {
+) {
     let node = chance.pick(&NODES);
     let command = chance.pick(&COMMANDS);
-    write!(lines, "ask {node} {session} 1 {command}\n")?;
-    push_carries(lines, printed, part, chance)
+    write!(lines, "ask {node} {session} 1 {command}\n").expect(rt, "room");
+    push_carries(rt, lines, printed, part, chance);
 }
 
-fn push_carries(
+fn push_carries<R: Abort>(
+    rt: &R,
     lines: &mut String,
     printed: &str,
     part: &str,
     chance: &mut Chance,
-) -> Result<(), Fail> {
+) {
     for &from in &NODES {
         for &to in &NODES {
             if part.contains(from) == part.contains(to) {
-                push_link(lines, printed, from, to, chance.below(8))?;
+                push_link(rt, lines, printed, from, to, chance.below(8));
             }
         }
     }
-    Ok(())
 }
 
 // Up to so many of the messages that were sent on a link and aren't heard yet.
-fn push_link(
-    lines: &mut String,
-    printed: &str,
-    from: &str,
-    to: &str,
-    most: u64,
-) -> Result<(), Fail> {
+fn push_link<R: Abort>(rt: &R, lines: &mut String, printed: &str, from: &str, to: &str, most: u64) {
     let first = last_told(printed, to, "ack", from);
     let last = last_told(printed, from, "send", to);
     let end = first.saturating_add(most).min(last);
     for number in first..end {
-        write!(lines, "carry {from} {to} {}\n", number.saturating_add(1))?;
+        write!(lines, "carry {from} {to} {}\n", number.saturating_add(1)).expect(rt, "room");
     }
-    Ok(())
 }
 
 // The number behind these words in the last line that begins with them, or 0.
@@ -246,49 +230,43 @@ fn answered_and_stale(printed: &str, asked: &[usize]) -> (u64, u64) {
 }
 
 // The same of a trial.
-fn tried(alloc: Global, members: &str, seed: u64) -> Result<(u64, u64), Fail> {
-    let asked = vec![in alloc; 0]?;
+fn tried<R: Abort + AllocGlobal>(rt: &R, members: &str, seed: u64) -> (u64, u64) {
+    let asked = vec![in rt.alloc(); 0usize].expect(rt, "room");
     let mut trial = Trial {
-        cluster: Cluster::new(alloc),
-        printed: Vec::new(alloc),
+        cluster: Cluster::new(rt.alloc()),
+        printed: Vec::new(rt.alloc()),
         asked,
     };
-    let counts = try_out(alloc, &mut trial, members, seed);
+    say_all(rt, &mut trial.cluster, members, &mut trial.printed);
+    play_rounds(rt, &mut trial, seed);
+    let printed = str::from_utf8(&trial.printed).expect(rt, "a text");
+    let counts = answered_and_stale(printed, &trial.asked);
     drop(trial);
     counts
 }
 
-fn try_out(alloc: Global, trial: &mut Trial, members: &str, seed: u64) -> Result<(u64, u64), Fail> {
-    say_all(alloc, &mut trial.cluster, members, &mut trial.printed)?;
-    play_rounds(alloc, trial, seed)?;
-    let printed = str::from_utf8(&trial.printed)?;
-    Ok(answered_and_stale(printed, &trial.asked))
-}
-
 // The same of four trials.
-fn tried_all(alloc: Global, members: &str) -> Result<(u64, u64), Fail> {
+fn tried_all<R: Abort + AllocGlobal>(rt: &R, members: &str) -> (u64, u64) {
     let mut answered: u64 = 0;
     let mut stale: u64 = 0;
     for seed in 0..4 {
-        let counts = tried(alloc, members, seed)?;
+        let counts = tried(rt, members, seed);
         answered = answered.saturating_add(counts.0);
         stale = stale.saturating_add(counts.1);
     }
-    Ok((answered, stale))
+    (answered, stale)
 }
 
 #[test]
-fn no_collect_is_stale_above_half(rt: HostRuntime) -> Result<(), Fail> {
-    let (answered, stale) = tried_all(rt.alloc(), ABOVE_HALF)?;
+fn no_collect_is_stale_above_half(rt: HostRuntime) {
+    let (answered, stale) = tried_all(&rt, ABOVE_HALF);
     assert!(rt; answered >= 25 && stale == 0, "{answered} {stale}");
-    Ok(())
 }
 
 #[test]
-fn stale_collects_are_found_at_half(rt: HostRuntime) -> Result<(), Fail> {
-    let (answered, stale) = tried_all(rt.alloc(), AT_HALF)?;
+fn stale_collects_are_found_at_half(rt: HostRuntime) {
+    let (answered, stale) = tried_all(&rt, AT_HALF);
     assert!(rt; answered >= 50 && stale >= 5, "{answered} {stale}");
-    Ok(())
 }
 
 // Nodes 1 and 2 are enough for the store, and nodes 3 and 4 for the collect.
@@ -338,15 +316,8 @@ fn is_told(output: &str) -> bool {
         && answered_and_stale(output, &[0, 0, before]) == (1, 0)
 }
 
-fn is_stale_told(alloc: Global) -> Result<bool, Fail> {
-    let (status, output) = played(alloc, STALE)?;
-    let is_told = is_told(&output);
-    drop(output);
-    Ok(status == 0 && is_told)
-}
-
 #[test]
-fn a_stale_collect_is_told(rt: HostRuntime) -> Result<(), Fail> {
-    assert!(rt; is_stale_told(rt.alloc())?);
-    Ok(())
+fn a_stale_collect_is_told(rt: HostRuntime) {
+    let (status, output) = played(&rt, STALE);
+    assert!(rt; status == 0 && is_told(&output));
 }

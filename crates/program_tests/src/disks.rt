@@ -3,9 +3,7 @@
 use crate::played::say_all;
 use cc_play::Cluster;
 use cc_site::{Choice, MemorySite, Side, Site};
-use std::alloc::Global;
 use std::process::Abort;
-use std::test::*;
 
 // Lines, what they print, and whether they change what the sides of node 2 hold. Node 2 has a store of node 1, and is then
 // given what overtook another message, and what it has already.
@@ -50,19 +48,13 @@ const STEPS: [(&str, &str, bool); 6] = [
 ];
 
 #[test]
-fn refused_events_are_not_journalled(rt: HostRuntime) -> Result<(), Fail> {
+fn refused_events_are_not_journalled(rt: HostRuntime) {
     let mut cluster = Cluster::new(rt.alloc());
-    let checked = check_steps(&rt, &mut cluster);
-    drop(cluster);
-    checked
-}
-
-fn check_steps<R: Abort + AllocGlobal>(rt: &R, cluster: &mut Cluster) -> Result<(), Fail> {
     for &(lines, wanted, is_journalled) in &STEPS {
-        let is_changed = check_step(rt, cluster, lines, wanted)?;
+        let is_changed = check_step(&rt, &mut cluster, lines, wanted);
         assert!(rt; is_changed == is_journalled, "{lines}");
     }
-    Ok(())
+    drop(cluster);
 }
 
 // These lines have to print that text. Whether they change what the sides of node 2 hold.
@@ -71,76 +63,34 @@ fn check_step<R: Abort + AllocGlobal>(
     cluster: &mut Cluster,
     lines: &str,
     wanted: &str,
-) -> Result<bool, Fail> {
-    let before = sides(rt.alloc(), cluster)?;
-    let is_changed = match check_lines(rt, cluster, lines, wanted) {
-        Ok(()) => is_other(rt.alloc(), cluster, &before),
-        Err(fail) => Err(fail),
-    };
-    drop(before);
-    is_changed
-}
-
-fn check_lines<R: Abort + AllocGlobal>(
-    rt: &R,
-    cluster: &mut Cluster,
-    lines: &str,
-    wanted: &str,
-) -> Result<(), Fail> {
+) -> bool {
+    let before = sides(rt, cluster);
     let mut output = Vec::new(rt.alloc());
-    let played = say_all(rt.alloc(), cluster, lines, &mut output);
-    let is_printed = output.as_slice() == wanted.as_bytes();
-    drop(output);
-    assert!(rt; played.is_err() || is_printed, "{lines}");
-    played
-}
-
-// Whether the sides of node 2 hold something else.
-fn is_other(alloc: Global, cluster: &Cluster, before: &[Vec<u8>]) -> Result<bool, Fail> {
-    let now = sides(alloc, cluster)?;
-    let is_other = now.as_slice() != before;
-    drop(now);
-    Ok(is_other)
+    say_all(rt, cluster, lines, &mut output);
+    assert!(rt; output.as_slice() == wanted.as_bytes(), "{lines}");
+    let now = sides(rt, cluster);
+    now.as_slice() != before.as_slice()
 }
 
 // What both sides of node 2 hold: nothing before it is made.
-fn sides(alloc: Global, cluster: &Cluster) -> Result<Vec<Vec<u8>>, Fail> {
+fn sides<R: Abort + AllocGlobal>(rt: &R, cluster: &Cluster) -> Vec<Vec<u8>> {
     match cluster.station(2) {
-        Some(station) => contents(alloc, station.site()),
-        None => Ok(Vec::new(alloc)),
+        Some(station) => contents(rt, station.site()),
+        None => Vec::new(rt.alloc()),
     }
 }
 
-fn contents(alloc: Global, site: &MemorySite) -> Result<Vec<Vec<u8>>, Fail> {
-    let mut image = site.image(alloc, &Choice::Read)?;
-    let mut sides = Vec::new(alloc);
-    let added = add_sides(alloc, &mut image, &mut sides);
+fn contents<R: Abort + AllocGlobal>(rt: &R, site: &MemorySite) -> Vec<Vec<u8>> {
+    let mut image = site.image(rt.alloc(), &Choice::Read).expect(rt, "an image");
+    let a = held(rt, &mut image, Side::A);
+    let b = held(rt, &mut image, Side::B);
     drop(image);
-    match added {
-        Ok(()) => Ok(sides),
-        Err(fail) => {
-            drop(sides);
-            Err(fail)
-        }
-    }
+    vec![in rt.alloc(); a, b].expect(rt, "room")
 }
 
-// Adds what each side holds.
-fn add_sides<S: Site>(alloc: Global, site: &mut S, sides: &mut Vec<Vec<u8>>) -> Result<(), Fail> {
-    for &side in &[Side::A, Side::B] {
-        sides.push(held(alloc, site, side)?)?;
-    }
-    Ok(())
-}
-
-fn held<S: Site>(alloc: Global, site: &mut S, side: Side) -> Result<Vec<u8>, Fail> {
-    let length = site.length(side)?;
-    let mut bytes = vec![in alloc; 0; length as usize]?;
-    match site.read(side, 0, &mut bytes) {
-        Ok(()) => Ok(bytes),
-        Err(fault) => {
-            drop(bytes);
-            Err(fault.into())
-        }
-    }
+fn held<R: Abort + AllocGlobal, S: Site>(rt: &R, site: &mut S, side: Side) -> Vec<u8> {
+    let length = site.length(side).expect(rt, "a length");
+    let mut bytes = vec![in rt.alloc(); 0u8; length as usize].expect(rt, "room");
+    site.read(side, 0, &mut bytes).expect(rt, "a read");
+    bytes
 }

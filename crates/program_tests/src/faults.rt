@@ -4,7 +4,6 @@ use crate::played::play_between;
 use crate::streams::{Script, Written};
 use cc_play::PlayFault;
 use std::alloc::Global;
-use std::test::*;
 
 // A member by itself stores.
 const STORE: &str = "\

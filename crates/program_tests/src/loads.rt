@@ -3,8 +3,7 @@
 use cc_load::{Latencies, Report, Tally};
 use cc_messages::Refusal;
 use cc_orders::{AnswerForm, LoadOrder, LoadWords, WordFault};
-use std::alloc::{AllocError, Global};
-use std::test::*;
+use std::process::Abort;
 
 const TEN: &[u64] = &[50, 10, 40, 20, 30, 100, 90, 80, 70, 60];
 
@@ -20,26 +19,24 @@ const QUANTILES: [(&[u64], u64, u64); 8] = [
     (&[u64::MAX, 0], 51, u64::MAX),
 ];
 
-fn add_all(latencies: &mut Latencies, times: &[u64]) -> Result<(), AllocError> {
+fn add_all<R: Abort>(rt: &R, latencies: &mut Latencies, times: &[u64]) {
     for micros in times {
-        latencies.add(*micros)?;
+        latencies.add(*micros).expect(rt, "room");
     }
-    Ok(())
 }
 
-fn quantile_of(alloc: Global, times: &[u64], percent: u64) -> Result<u64, AllocError> {
-    let mut latencies = Latencies::new(alloc);
-    let added = add_all(&mut latencies, times);
+fn quantile_of<R: Abort + AllocGlobal>(rt: &R, times: &[u64], percent: u64) -> u64 {
+    let mut latencies = Latencies::new(rt.alloc());
+    add_all(rt, &mut latencies, times);
     let quantile = latencies.quantile(percent.min(100));
     drop(latencies);
-    added?;
-    Ok(quantile)
+    quantile
 }
 
 #[test]
 fn a_quantile_is_a_time_of_the_list(rt: HostRuntime) {
     for &(times, percent, wanted) in &QUANTILES {
-        assert!(rt; quantile_of(rt.alloc(), times, percent) == Ok(wanted));
+        assert!(rt; quantile_of(&rt, times, percent) == wanted);
     }
 }
 
@@ -76,67 +73,60 @@ const NOTHING_AS_JSON: &str =
     r#"{"operation":"collect","clients":4,"answered":0,"elapsed_us":2000000,"per_second":0,"p50_us":0,"p99_us":0,"worst_us":0,"buckets":[],"again":0,"lost":0,"ended":0,"refused":null}"#;
 
 // What two clients counted.
-fn add_both(alloc: Global, tally: &mut Tally) -> Result<(), AllocError> {
-    add_all(&mut tally.latencies, &[900, 520])?;
+fn add_both<R: Abort + AllocGlobal>(rt: &R, tally: &mut Tally) {
+    add_all(rt, &mut tally.latencies, &[900, 520]);
     tally.again = 12;
-    let mut other = Tally::new(alloc);
+    let mut other = Tally::new(rt.alloc());
     other.again = 5;
     other.lost = 2;
     other.end(Some(Refusal::TooManySessions));
-    let added = add_all(&mut other.latencies, &[1500, 1000, 5250, 800]);
+    add_all(rt, &mut other.latencies, &[1500, 1000, 5250, 800]);
     tally.add(&other);
     drop(other);
-    added
 }
 
 // Whether a report is printed just so, as text and as JSON.
-fn is_text(alloc: Global, report: &Report, wanted: &str) -> Result<bool, AllocError> {
-    let printed = format!(in alloc; "{report}")?;
-    let is_wanted = printed.as_str() == wanted;
-    drop(printed);
-    Ok(is_wanted)
+fn is_text<R: Abort + AllocGlobal>(rt: &R, report: &Report, wanted: &str) -> bool {
+    let printed = format!(in rt.alloc(); "{report}").expect(rt, "a text");
+    printed.as_str() == wanted
 }
 
-fn is_json(alloc: Global, report: &Report, wanted: &str) -> Result<bool, AllocError> {
-    let json = report.json(alloc)?;
-    let is_wanted = json.as_str() == wanted;
-    drop(json);
-    Ok(is_wanted)
+fn is_json<R: Abort + AllocGlobal>(rt: &R, report: &Report, wanted: &str) -> bool {
+    let json = report.json(rt.alloc()).expect(rt, "a text");
+    json.as_str() == wanted
 }
 
 // The report of a load of two seconds.
-fn reported(alloc: Global, collects: bool, tally: &Tally) -> Result<Report, WordFault> {
-    let order = LoadOrder::parse(alloc, &load(collects))?;
-    let report = Report::of(alloc, &order, 2_000_000, tally);
+fn reported<R: Abort + AllocGlobal>(rt: &R, collects: bool, tally: &Tally) -> Report {
+    let order = LoadOrder::parse(rt.alloc(), &load(collects)).expect(rt, "an order");
+    let report = Report::of(rt.alloc(), &order, 2_000_000, tally).expect(rt, "a report");
     drop(order);
-    Ok(report?)
+    report
 }
 
 // Whether just this is printed of it.
-fn is_printed(alloc: Global, collects: bool, tally: &Tally, wanted: &str, as_json: &str) -> bool {
-    let Ok(report) = reported(alloc, collects, tally) else {
-        return false;
-    };
-    let is_text = is_text(alloc, &report, wanted);
-    let is_json = is_json(alloc, &report, as_json);
+fn is_printed<R: Abort + AllocGlobal>(
+    rt: &R,
+    collects: bool,
+    tally: &Tally,
+    wanted: &str,
+    as_json: &str,
+) -> bool {
+    let report = reported(rt, collects, tally);
+    let is_text = is_text(rt, &report, wanted);
+    let is_json = is_json(rt, &report, as_json);
     drop(report);
-    (is_text, is_json) == (Ok(true), Ok(true))
+    is_text && is_json
 }
 
-// Whether just this is printed where nothing was answered, and of what two clients counted.
-fn are_printed(alloc: Global, tally: &mut Tally) -> bool {
-    is_printed(alloc, true, tally, NOTHING_ANSWERED, NOTHING_AS_JSON)
-        && add_both(alloc, tally).is_ok()
-        && is_printed(alloc, false, tally, PRINTED, AS_JSON)
-}
-
+// Where nothing was answered, and of what two clients counted.
 #[test]
 fn a_load_is_printed(rt: HostRuntime) {
-    let alloc = rt.alloc();
-    let mut tally = Tally::new(alloc);
-    let are_printed = are_printed(alloc, &mut tally);
+    let mut tally = Tally::new(rt.alloc());
+    assert!(rt; is_printed(&rt, true, &tally, NOTHING_ANSWERED, NOTHING_AS_JSON));
+    add_both(&rt, &mut tally);
+    assert!(rt; is_printed(&rt, false, &tally, PRINTED, AS_JSON));
     drop(tally);
-    assert!(rt; are_printed);
 }
 
 // The same words, but for that text in place of the one that a fault names.
@@ -163,14 +153,14 @@ const BAD_WORDS: [(WordFault, &str); 7] = [
 ];
 
 // The port and the session of a client of four at two nodes.
-fn session_of(alloc: Global, client: u64) -> Result<Option<(u16, u64)>, WordFault> {
-    let order = LoadOrder::parse(alloc, &load(false))?;
+fn session_of<R: Abort + AllocGlobal>(rt: &R, client: u64) -> Option<(u16, u64)> {
+    let order = LoadOrder::parse(rt.alloc(), &load(false)).expect(rt, "an order");
     let found = order.session_of(client);
     drop(order);
-    Ok(match found {
+    match found {
         Some((address, session)) => Some((address.port(), session)),
         None => None,
-    })
+    }
 }
 
 // Clients, and the port and the session of each.
@@ -179,7 +169,7 @@ const CLIENTS: [(u64, u16, u64); 3] = [(0, 7001, 9000), (1, 7002, 9000), (2, 700
 #[test]
 fn clients_go_round_the_nodes(rt: HostRuntime) {
     for &(client, port, session) in &CLIENTS {
-        assert!(rt; session_of(rt.alloc(), client) == Ok(Some((port, session))));
+        assert!(rt; session_of(&rt, client) == Some((port, session)));
     }
 }
 

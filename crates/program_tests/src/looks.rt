@@ -2,8 +2,7 @@
 
 use cc_look::{Status, Table, body_of};
 use serde_json::Value;
-use std::alloc::{AllocError, Global};
-use std::test::*;
+use std::process::Abort;
 
 // A node that is ready, and one that isn't.
 const READY: &str =
@@ -54,29 +53,23 @@ peer      1 at 127.0.0.1:7001, not connected, behind by 0, acknowledged 0, heard
 const TABLES: [(&str, &str); 2] = [(READY, READY_TABLE), (APART, APART_TABLE)];
 
 // Whether just this table is made of a status.
-fn is_table(alloc: Global, json: &str, wanted: &str) -> bool {
-    let Ok(value) = Value::from_str(alloc, json) else {
-        return false;
-    };
-    let is_table = match Status::of(&value) {
-        Some(status) => is_shown(alloc, Table(status), wanted) == Ok(true),
-        None => false,
-    };
+fn is_table<R: Abort + AllocGlobal>(rt: &R, json: &str, wanted: &str) -> bool {
+    let value = Value::from_str(rt.alloc(), json).expect(rt, "a value");
+    let status = Status::of(&value).expect(rt, "a status");
+    let is_shown = is_shown(rt, Table(status), wanted);
     drop(value);
-    is_table
+    is_shown
 }
 
-fn is_shown(alloc: Global, table: Table<'_>, wanted: &str) -> Result<bool, AllocError> {
-    let shown = format!(in alloc; "{table}")?;
-    let is_wanted = shown.as_str() == wanted;
-    drop(shown);
-    Ok(is_wanted)
+fn is_shown<R: Abort + AllocGlobal>(rt: &R, table: Table<'_>, wanted: &str) -> bool {
+    let shown = format!(in rt.alloc(); "{table}").expect(rt, "a text");
+    shown.as_str() == wanted
 }
 
 #[test]
 fn a_status_is_a_table(rt: HostRuntime) {
     for &(json, wanted) in &TABLES {
-        assert!(rt; is_table(rt.alloc(), json, wanted), "{wanted}");
+        assert!(rt; is_table(&rt, json, wanted), "{wanted}");
     }
 }
 

@@ -4,8 +4,7 @@ use cc_checkpoint::OpenFault;
 use cc_flush::{Failed, FormatFault};
 use cc_play::NodeFault;
 use cc_site::{Call, DeviceFault, Side};
-use std::alloc::{AllocError, Global};
-use std::test::*;
+use std::process::Abort;
 
 // Where a device fails.
 const FAILING: DeviceFault = DeviceFault {
@@ -37,16 +36,14 @@ const TEXTS: [(NodeFault, &str); 8] = [
     (NodeFault::NoMemory, "NoMemory"),
 ];
 
-fn says(alloc: Global, fault: &NodeFault, wanted: &str) -> Result<bool, AllocError> {
-    let text = format!(in alloc; "{fault}")?;
-    let is_wanted = text.as_str() == wanted;
-    drop(text);
-    Ok(is_wanted)
+fn says<R: Abort + AllocGlobal>(rt: &R, fault: &NodeFault, wanted: &str) -> bool {
+    let text = format!(in rt.alloc(); "{fault}").expect(rt, "a text");
+    text.as_str() == wanted
 }
 
 #[test]
 fn faults_of_a_node_print_their_texts(rt: HostRuntime) {
     for (fault, wanted) in &TEXTS {
-        assert!(rt; says(rt.alloc(), fault, *wanted) == Ok(true), "{wanted}");
+        assert!(rt; says(&rt, fault, *wanted), "{wanted}");
     }
 }

@@ -3,7 +3,7 @@
 use crate::streams::{Script, Written};
 use cc_play::{Cluster, PlayFault, Played, parse, play};
 use std::alloc::Global;
-use std::test::*;
+use std::process::Abort;
 
 /// Plays what one stream gives, and prints into the other: the status that it ends with.
 pub fn play_between(
@@ -15,42 +15,36 @@ pub fn play_between(
 }
 
 /// Plays a script: the status that it ends with, and what it prints.
-pub fn played(alloc: Global, script: &str) -> Result<(u8, String), Fail> {
+pub fn played<R: Abort + AllocGlobal>(rt: &R, script: &str) -> (u8, String) {
     let mut script = Script {
         bytes: script.as_bytes(),
         breaks: false,
     };
-    let mut output = Written::new(alloc);
-    let ended = play_between(alloc, &mut script, &mut output);
+    let mut output = Written::new(rt.alloc());
+    let ended = play_between(rt.alloc(), &mut script, &mut output);
+    let status = ended.expect(rt, "the script is played");
     let Written { bytes, .. } = output;
-    match ended {
-        Ok(status) => Ok((status, String::from_utf8(bytes)?)),
-        Err(fault) => {
-            drop(bytes);
-            Err(fault.into())
-        }
-    }
+    let printed = String::from_utf8(bytes).expect(rt, "a text");
+    (status, printed)
 }
 
 /// Plays lines on a cluster, each of which has to be good, and adds what they print.
-pub fn say_all(
-    alloc: Global,
+pub fn say_all<R: Abort + AllocGlobal>(
+    rt: &R,
     cluster: &mut Cluster,
     lines: &str,
     output: &mut Vec<u8>,
-) -> Result<(), Fail> {
+) {
     for line in lines.lines() {
-        say(alloc, cluster, line, output)?;
+        say(rt, cluster, line, output);
     }
-    Ok(())
 }
 
-fn say(alloc: Global, cluster: &mut Cluster, line: &str, output: &mut Vec<u8>) -> Result<(), Fail> {
-    let Some(line) = parse(alloc, line.as_bytes())? else {
-        return Err("a line has no known form".into());
-    };
-    match cluster.play(alloc, line, output)? {
-        Played::Good => Ok(()),
-        Played::Bad | Played::Ended => Err("a line can't be played".into()),
-    }
+fn say<R: Abort + AllocGlobal>(rt: &R, cluster: &mut Cluster, line: &str, output: &mut Vec<u8>) {
+    let parsed = parse(rt.alloc(), line.as_bytes()).expect(rt, "room");
+    let line = parsed.expect(rt, "a line of a known form");
+    let played = cluster
+        .play(rt.alloc(), line, output)
+        .expect(rt, "the output is written");
+    assert!(rt; played == Played::Good, "a line can't be played");
 }

@@ -7,7 +7,11 @@ use cc_orders::FormatWords;
 use cc_site::{Choice, Failing, MemorySite, Side, write_durably};
 use std::alloc::Global;
 use std::process::Abort;
-use std::test::*;
+
+// Two empty sides.
+fn empty<R: Abort + AllocGlobal>(rt: &R) -> MemorySite {
+    MemorySite::new(rt.alloc(), 0).expect(rt, "a site")
+}
 
 // Member 1 of 1.
 const MEMBER: FormatWords<'_> = FormatWords {
@@ -19,55 +23,37 @@ const MEMBER: FormatWords<'_> = FormatWords {
     share: None,
 };
 
-fn order(alloc: Global) -> Result<FormatOrder, Fail> {
-    Ok(FormatOrder::parse(alloc, &MEMBER)?)
+fn order<R: Abort + AllocGlobal>(rt: &R) -> FormatOrder {
+    FormatOrder::parse(rt.alloc(), &MEMBER).expect(rt, "an order")
 }
 
 // A site that keeps it.
-fn member(alloc: Global) -> Result<MemorySite, Fail> {
-    let order = order(alloc)?;
-    let site = keep(alloc, &order);
+fn member<R: Abort + AllocGlobal>(rt: &R) -> MemorySite {
+    let order = order(rt);
+    let formatted = format(rt.alloc(), empty(rt), &order.opening());
     drop(order);
-    site
-}
-
-fn keep(alloc: Global, order: &FormatOrder) -> Result<MemorySite, Fail> {
-    match format(alloc, MemorySite::new(alloc, 0)?, &order.opening()) {
-        Ok(site) => Ok(site),
-        Err(Back { site, fault }) => {
-            drop(site);
-            Err(fault.into())
-        }
+    match formatted {
+        Ok(site) => site,
+        Err(Back { site: _site, fault }) => panic!(rt; "the site isn't formatted: {fault}"),
     }
 }
 
 // The same site, of whose disk calls the one with that number fails, and all after it.
-fn failing(alloc: Global, at: u64) -> Result<MemorySite, Fail> {
-    let site = member(alloc)?;
-    let image = site.image(alloc, &Choice::Read);
+fn failing<R: Abort + AllocGlobal>(rt: &R, at: u64) -> MemorySite {
+    let site = member(rt);
+    let mut image = site.image(rt.alloc(), &Choice::Read).expect(rt, "an image");
     drop(site);
-    let mut site = image?;
-    site.fuse(at, Failing::Stop);
-    Ok(site)
+    image.fuse(at, Failing::Stop);
+    image
 }
 
-// Whether just this is told of what stands on a site, and ends with that status.
-fn is_dumped(alloc: Global, site: MemorySite, status: u8, wanted: &str) -> Result<bool, Fail> {
-    let mut output = Written::new(alloc);
-    let ended = dump_site(alloc, site, DumpScope::Sides, &mut output);
+// Of what stands on a site just this is told, and that is the status.
+fn check_dump<R: Abort + AllocGlobal>(rt: &R, site: MemorySite, status: u8, wanted: &str) {
+    let mut output = Written::new(rt.alloc());
+    let dumped = dump_site(rt.alloc(), site, DumpScope::Sides, &mut output);
+    let ended = dumped.expect(rt, "a status");
     let is_printed = output.bytes.as_slice() == wanted.as_bytes();
-    drop(output);
-    Ok(ended? == status && is_printed)
-}
-
-fn check_dump<R: Abort + AllocGlobal>(
-    rt: &R,
-    site: MemorySite,
-    status: u8,
-    wanted: &str,
-) -> Result<(), Fail> {
-    assert!(rt; is_dumped(rt.alloc(), site, status, wanted)?, "{wanted}");
-    Ok(())
+    assert!(rt; ended == status && is_printed, "{wanted}");
 }
 
 // The disk call that fails, and what is printed then: length, gate and generation of side A, length and gate of side B, and the
@@ -82,85 +68,63 @@ const FAULTS: [(u64, &str); 6] = [
 ];
 
 #[test]
-fn a_fault_takes_the_place_of_the_lines_to_come(rt: HostRuntime) -> Result<(), Fail> {
+fn a_fault_takes_the_place_of_the_lines_to_come(rt: HostRuntime) {
     for &(at, wanted) in &FAULTS {
-        check_dump(&rt, failing(rt.alloc(), at)?, 1, wanted)?;
+        check_dump(&rt, failing(&rt, at), 1, wanted);
     }
-    Ok(())
 }
 
 // An open gate, and a generation that is cut off.
-fn short(alloc: Global) -> Result<MemorySite, Fail> {
-    let mut site = MemorySite::new(alloc, 0)?;
-    match write_durably(&mut site, Side::A, 0, &[0xA5, 0, 0]) {
-        Ok(()) => Ok(site),
-        Err(fault) => {
-            drop(site);
-            Err(fault.into())
-        }
-    }
+fn short<R: Abort + AllocGlobal>(rt: &R) -> MemorySite {
+    let mut site = empty(rt);
+    write_durably(&mut site, Side::A, 0, &[0xA5, 0, 0]).expect(rt, "side A is written");
+    site
 }
 
 #[test]
-fn a_side_that_is_cut_off_is_dumped(rt: HostRuntime) -> Result<(), Fail> {
+fn a_side_that_is_cut_off_is_dumped(rt: HostRuntime) {
     let wanted = "A armed short\nB closed\nfault Damaged A 1\n";
-    check_dump(&rt, short(rt.alloc())?, 1, wanted)
+    check_dump(&rt, short(&rt), 1, wanted);
 }
 
-fn checkpoint(flusher: &mut Flusher<MemorySite>) -> Result<(), Fail> {
-    if flusher.owes() {
-        return Err("outputs are owed".into());
-    }
-    Ok(flusher.checkpoint()?)
+fn checkpoint<R: Abort>(rt: &R, flusher: &mut Flusher<MemorySite>) {
+    assert!(rt; !flusher.owes(), "outputs are owed");
+    flusher.checkpoint().expect(rt, "a checkpoint");
 }
 
 // Member 1 of 1 behind a checkpoint.
-fn moved(alloc: Global) -> Result<MemorySite, Fail> {
-    let site = member(alloc)?;
-    match Flusher::open(alloc, site) {
+fn moved<R: Abort + AllocGlobal>(rt: &R) -> MemorySite {
+    match Flusher::open(rt.alloc(), member(rt)) {
         Ok((mut flusher, core)) => {
             drop(core);
-            let outcome = checkpoint(&mut flusher);
-            let site = flusher.close();
-            match outcome {
-                Ok(()) => Ok(site),
-                Err(fail) => {
-                    drop(site);
-                    Err(fail)
-                }
-            }
+            checkpoint(rt, &mut flusher);
+            flusher.close()
         }
-        Err(Back { site, fault }) => {
-            drop(site);
-            Err(fault.into())
-        }
+        Err(Back { site: _site, fault }) => panic!(rt; "the site isn't opened: {fault}"),
     }
 }
 
 #[test]
-fn a_site_is_dumped_behind_a_checkpoint(rt: HostRuntime) -> Result<(), Fail> {
+fn a_site_is_dumped_behind_a_checkpoint(rt: HostRuntime) {
     let wanted = "A closed\nB armed 2\nopened B records 0 events 0\n";
-    check_dump(&rt, moved(rt.alloc())?, 0, wanted)
+    check_dump(&rt, moved(&rt), 0, wanted);
 }
 
 // Whether the fault of a site whose first disk call fails is printed where it is formatted.
-fn is_fault_printed(alloc: Global, order: &FormatOrder) -> Result<bool, Fail> {
-    let mut site = MemorySite::new(alloc, 0)?;
+fn is_fault_printed<R: Abort + AllocGlobal>(rt: &R, order: &FormatOrder) -> bool {
+    let mut site = empty(rt);
     site.fuse(0, Failing::Once);
-    let mut output = Written::new(alloc);
-    let ended = format_site(alloc, site, order, &mut output);
-    let is_printed = output.bytes.as_slice() == b"Device A Length\n".as_slice();
-    drop(output);
-    Ok(ended? == 1 && is_printed)
+    let mut output = Written::new(rt.alloc());
+    let formatted = format_site(rt.alloc(), site, order, &mut output);
+    let ended = formatted.expect(rt, "a status");
+    ended == 1 && output.bytes.as_slice() == b"Device A Length\n".as_slice()
 }
 
 #[test]
-fn a_fault_of_formatting_is_printed(rt: HostRuntime) -> Result<(), Fail> {
-    let order = order(rt.alloc())?;
-    let is_printed = is_fault_printed(rt.alloc(), &order);
+fn a_fault_of_formatting_is_printed(rt: HostRuntime) {
+    let order = order(&rt);
+    assert!(rt; is_fault_printed(&rt, &order));
     drop(order);
-    assert!(rt; is_printed?);
-    Ok(())
 }
 
 // An output that takes nothing.
@@ -172,23 +136,21 @@ fn full(alloc: Global) -> Written {
 }
 
 // Whether an output that fails ends the formatting of a site.
-fn ends_formatting(alloc: Global, order: &FormatOrder) -> Result<bool, Fail> {
-    let site = MemorySite::new(alloc, 0)?;
-    Ok(format_site(alloc, site, order, &mut full(alloc)).is_err())
+fn ends_formatting<R: Abort + AllocGlobal>(rt: &R, order: &FormatOrder) -> bool {
+    let mut output = full(rt.alloc());
+    format_site(rt.alloc(), empty(rt), order, &mut output).is_err()
 }
 
 // Whether it ends what is told of a site.
-fn ends_dump(alloc: Global) -> Result<bool, Fail> {
-    let site = member(alloc)?;
-    Ok(dump_site(alloc, site, DumpScope::Sides, &mut full(alloc)).is_err())
+fn ends_dump<R: Abort + AllocGlobal>(rt: &R) -> bool {
+    let mut output = full(rt.alloc());
+    dump_site(rt.alloc(), member(rt), DumpScope::Sides, &mut output).is_err()
 }
 
 #[test]
-fn an_output_that_fails_ends_a_command(rt: HostRuntime) -> Result<(), Fail> {
-    let order = order(rt.alloc())?;
-    let is_formatting_ended = ends_formatting(rt.alloc(), &order);
+fn an_output_that_fails_ends_a_command(rt: HostRuntime) {
+    let order = order(&rt);
+    assert!(rt; ends_formatting(&rt, &order));
     drop(order);
-    assert!(rt; is_formatting_ended?);
-    assert!(rt; ends_dump(rt.alloc())?);
-    Ok(())
+    assert!(rt; ends_dump(&rt));
 }

@@ -7,7 +7,6 @@ use cc_views::NodeId;
 use std::fs;
 use std::fs::{File, Files};
 use std::process::Abort;
-use std::test::*;
 
 fn member() -> FormatWords<'static> {
     FormatWords {
@@ -21,14 +20,13 @@ fn member() -> FormatWords<'static> {
 }
 
 // A new folder that keeps the node of these words.
-fn format<R: AllocGlobal + Files<File = File>>(
+fn format<R: Abort + AllocGlobal + Files<File = File>>(
     rt: &R,
     folder: &str,
     words: &FormatWords<'_>,
-) -> Result<(), Fail> {
-    made(rt, folder)?;
-    formatted(rt, folder, words)?;
-    Ok(())
+) {
+    made(rt, folder);
+    formatted(rt, folder, words);
 }
 
 const MEMBER_LINES: &str =
@@ -41,14 +39,9 @@ const ENTRANT_LINES: &str =
 const ENTERED_LINES: &str =
     "A armed 1\nB closed\nopened A records 1 events 1\nnode 4\nbeta 4/5\ngamma 4/5\nshare 1\nstanding entered, echoes 0, needs one of a member\nmembers none\npresent 4\nleft none\nview []\nround none\nlink 1 owes 1 of 1 acknowledged 0 heard 0\nlink 4 owes 1 of 1 acknowledged 0 heard 0\nsessions 0 of 256\nposts made 1 kept 1 of 512\nanswers kept 0 of 256\n";
 
-fn check_told<R: Abort + AllocGlobal + Files<File = File>>(
-    rt: &R,
-    folder: &str,
-    wanted: &str,
-) -> Result<(), Fail> {
-    let (_, told) = dumped(rt, folder, DumpScope::Node)?;
+fn check_told<R: Abort + AllocGlobal + Files<File = File>>(rt: &R, folder: &str, wanted: &str) {
+    let (_, told) = dumped(rt, folder, DumpScope::Node);
     assert!(rt; told.as_str() == wanted, "{told}");
-    Ok(())
 }
 
 // What is told of a new folder that keeps the node of these words.
@@ -57,43 +50,36 @@ fn check_node<R: Abort + AllocGlobal + Files<File = File>>(
     folder: &str,
     words: &FormatWords<'_>,
     wanted: &str,
-) -> Result<(), Fail> {
-    format(rt, folder, words)?;
-    check_told(rt, folder, wanted)
+) {
+    format(rt, folder, words);
+    check_told(rt, folder, wanted);
 }
 
-fn check_nodes<R: Abort + AllocGlobal + Files<File = File>>(
-    rt: &R,
-    folder: &str,
-) -> Result<(), Fail> {
-    check_node(rt, folder, &member(), MEMBER_LINES)?;
+fn check_nodes<R: Abort + AllocGlobal + Files<File = File>>(rt: &R, folder: &str) {
+    check_node(rt, folder, &member(), MEMBER_LINES);
     assert!(rt; node_in_folder(rt, rt.alloc(), folder) == NodeId::new(1));
-    check_node(rt, folder, &entrant(), ENTRANT_LINES)?;
-    remove(rt, folder)
+    check_node(rt, folder, &entrant(), ENTRANT_LINES);
+    remove(rt, folder);
 }
 
 #[test]
-fn a_folder_tells_of_its_node(rt: HostRuntime) -> Result<(), Fail> {
-    check_nodes(&rt, "told_folder")
+fn a_folder_tells_of_its_node(rt: HostRuntime) {
+    check_nodes(&rt, "told_folder");
 }
 
 // The record of one Enter.
 const ENTER_RECORD: [u8; 12] = [0xA5, 0, 0, 0, 6, 1, 0, 0, 0, 1, 1, 0];
 
-fn check_entered<R: Abort + AllocGlobal + Files<File = File>>(
-    rt: &R,
-    folder: &str,
-    side: &str,
-) -> Result<(), Fail> {
-    format(rt, folder, &entrant())?;
-    put_behind(rt, side, &ENTER_RECORD)?;
-    check_told(rt, folder, ENTERED_LINES)?;
-    remove(rt, folder)
+fn check_entered<R: Abort + AllocGlobal + Files<File = File>>(rt: &R, folder: &str, side: &str) {
+    format(rt, folder, &entrant());
+    put_behind(rt, side, &ENTER_RECORD);
+    check_told(rt, folder, ENTERED_LINES);
+    remove(rt, folder);
 }
 
 #[test]
-fn an_entrant_waits_for_echoes(rt: HostRuntime) -> Result<(), Fail> {
-    check_entered(&rt, "told_entrant", "told_entrant/side-a")
+fn an_entrant_waits_for_echoes(rt: HostRuntime) {
+    check_entered(&rt, "told_entrant", "told_entrant/side-a");
 }
 
 // What is wrong with a folder, and where.
@@ -102,59 +88,59 @@ fn check_trouble<R: Abort + AllocGlobal + Files<File = File>>(
     folder: &str,
     path: &str,
     wrong: Wrong,
-) -> Result<(), Fail> {
-    let trouble = Trouble::at(rt, rt.alloc(), folder)?.ok_or("something is wrong")?;
+) {
+    let found = Trouble::at(rt, rt.alloc(), folder).expect(rt, "room");
+    let trouble = found.expect(rt, "something is wrong");
     let is_told = trouble.path.as_str() == path && trouble.wrong == wrong;
     drop(trouble);
     assert!(rt; is_told, "{path}");
-    Ok(())
 }
 
 const TROUBLED: &str = "troubled_folder";
 
-fn check_absent<R: Abort + AllocGlobal + Files<File = File>>(rt: &R) -> Result<(), Fail> {
+fn check_absent<R: Abort + AllocGlobal + Files<File = File>>(rt: &R) {
     let _ = fs::remove_dir_all(rt, TROUBLED);
-    check_trouble(rt, TROUBLED, TROUBLED, Wrong::NoFolder)
+    check_trouble(rt, TROUBLED, TROUBLED, Wrong::NoFolder);
 }
 
-fn check_held<R: Abort + AllocGlobal + Files<File = File>>(rt: &R) -> Result<(), Fail> {
-    let holder = hold(rt, TROUBLED)?;
-    let checked = check_trouble(rt, TROUBLED, "troubled_folder/lock", Wrong::Held);
+fn check_held<R: Abort + AllocGlobal + Files<File = File>>(rt: &R) {
+    let holder = hold(rt, TROUBLED);
+    check_trouble(rt, TROUBLED, "troubled_folder/lock", Wrong::Held);
     drop(holder);
-    checked
 }
 
-fn is_well<R: AllocGlobal + Files<File = File>>(rt: &R) -> Result<bool, Fail> {
-    Ok(Trouble::at(rt, rt.alloc(), TROUBLED)?.is_none())
+fn is_well<R: Abort + AllocGlobal + Files<File = File>>(rt: &R) -> bool {
+    let found = Trouble::at(rt, rt.alloc(), TROUBLED).expect(rt, "room");
+    found.is_none()
 }
 
 // What is told of a folder that is free, and of a file in its place.
-fn check_free<R: Abort + AllocGlobal + Files<File = File>>(rt: &R) -> Result<(), Fail> {
+fn check_free<R: Abort + AllocGlobal + Files<File = File>>(rt: &R) {
     const LOCK: &str = "troubled_folder/lock";
-    assert!(rt; is_well(rt)?);
-    check_trouble(rt, LOCK, LOCK, Wrong::NotAFolder)
+    assert!(rt; is_well(rt));
+    check_trouble(rt, LOCK, LOCK, Wrong::NotAFolder);
 }
 
 // What is told where a folder takes the place of side B.
-fn check_side<R: Abort + AllocGlobal + Files<File = File>>(rt: &R) -> Result<(), Fail> {
+fn check_side<R: Abort + AllocGlobal + Files<File = File>>(rt: &R) {
     const SIDE: &str = "troubled_folder/side-b";
-    fs::remove_file(rt, SIDE)?;
-    made(rt, SIDE)?;
-    check_trouble(rt, TROUBLED, SIDE, Wrong::NotAFile)
+    fs::remove_file(rt, SIDE).expect(rt, "the file is removed");
+    made(rt, SIDE);
+    check_trouble(rt, TROUBLED, SIDE, Wrong::NotAFile);
 }
 
-fn check_troubles<R: Abort + AllocGlobal + Files<File = File>>(rt: &R) -> Result<(), Fail> {
-    check_absent(rt)?;
-    made(rt, TROUBLED)?;
-    check_held(rt)?;
-    check_free(rt)?;
-    check_side(rt)?;
-    remove(rt, TROUBLED)
+fn check_troubles<R: Abort + AllocGlobal + Files<File = File>>(rt: &R) {
+    check_absent(rt);
+    made(rt, TROUBLED);
+    check_held(rt);
+    check_free(rt);
+    check_side(rt);
+    remove(rt, TROUBLED);
 }
 
 #[test]
-fn a_closed_folder_tells_why(rt: HostRuntime) -> Result<(), Fail> {
-    check_troubles(&rt)
+fn a_closed_folder_tells_why(rt: HostRuntime) {
+    check_troubles(&rt);
 }
 
 // Files that are removed one after the other, and what is lost then.
@@ -168,33 +154,26 @@ fn check_lost<R: Abort + AllocGlobal + Files<File = File>>(
     rt: &R,
     folder: &str,
     wanted: Option<Lost>,
-) -> Result<(), Fail> {
-    assert!(rt; Lost::at(rt, rt.alloc(), folder)? == wanted);
-    Ok(())
+) {
+    let lost = Lost::at(rt, rt.alloc(), folder).expect(rt, "room");
+    assert!(rt; lost == wanted);
 }
 
-fn check_removed<R: Abort + AllocGlobal + Files<File = File>>(
-    rt: &R,
-    folder: &str,
-) -> Result<(), Fail> {
+fn check_removed<R: Abort + AllocGlobal + Files<File = File>>(rt: &R, folder: &str) {
     for &(path, wanted) in &REMOVED {
-        fs::remove_file(rt, path)?;
-        check_lost(rt, folder, wanted)?;
+        fs::remove_file(rt, path).expect(rt, "the file is removed");
+        check_lost(rt, folder, wanted);
     }
-    Ok(())
 }
 
-fn check_files<R: Abort + AllocGlobal + Files<File = File>>(
-    rt: &R,
-    folder: &str,
-) -> Result<(), Fail> {
-    format(rt, folder, &member())?;
-    check_lost(rt, folder, None)?;
-    check_removed(rt, folder)?;
-    remove(rt, folder)
+fn check_files<R: Abort + AllocGlobal + Files<File = File>>(rt: &R, folder: &str) {
+    format(rt, folder, &member());
+    check_lost(rt, folder, None);
+    check_removed(rt, folder);
+    remove(rt, folder);
 }
 
 #[test]
-fn a_lost_file_is_told(rt: HostRuntime) -> Result<(), Fail> {
-    check_files(&rt, "lost_folder")
+fn a_lost_file_is_told(rt: HostRuntime) {
+    check_files(&rt, "lost_folder");
 }

@@ -4,20 +4,18 @@ use crate::words::{are_no_command, format_of, with};
 use cc_commands::{BadOpening, FormatOrder};
 use cc_node::OpeningRule;
 use cc_orders::{AnswerForm, AskWords, CommandFault, FormatWords, WordFault};
-use std::alloc::Global;
 use std::process::Abort;
-use std::test::*;
 
 const LONGER_TEXT: &str = "0123456789abcdef0123456789abcdef0123456789abcdef0123456789abcdef.";
 
-fn told(alloc: Global, words: &AskWords<'_>) -> Result<String, WordFault> {
-    let fault = CommandFault::of(alloc, words)?;
-    format!(in alloc; "{fault}").or(Err(WordFault::NoMemory))
+fn told<R: Abort + AllocGlobal>(rt: &R, words: &AskWords<'_>) -> String {
+    let fault = CommandFault::of(rt.alloc(), words).expect(rt, "a fault");
+    format!(in rt.alloc(); "{fault}").expect(rt, "a text")
 }
 
 // Whether a command with that value and that text is none, and just this is told of it.
-fn is_told<'a>(
-    alloc: Global,
+fn is_told<'a, R: Abort + AllocGlobal>(
+    rt: &R,
     command: &'a str,
     value: Option<&'a str>,
     text: Option<&'a str>,
@@ -34,36 +32,21 @@ fn is_told<'a>(
         form: AnswerForm::Plain,
         waits: false,
     };
-    match told(alloc, &words) {
-        Ok(told) => {
-            let is_wanted = told.as_str() == wanted;
-            drop(told);
-            is_wanted && are_no_command(&words)
-        }
-        Err(_) => false,
-    }
+    let told = told(rt, &words);
+    told.as_str() == wanted && are_no_command(&words)
 }
 
 // The same of one by itself, of one with a value, and of one with a text.
 fn check_alone<R: Abort + AllocGlobal>(rt: &R, command: &str, wanted: &str) {
-    assert!(rt;
-        is_told(rt.alloc(), command, None, None, wanted),
-        "{wanted}"
-    );
+    assert!(rt; is_told(rt, command, None, None, wanted), "{wanted}");
 }
 
 fn check_value<'a, R: Abort + AllocGlobal>(rt: &R, command: &'a str, value: &'a str, wanted: &str) {
-    assert!(rt;
-        is_told(rt.alloc(), command, Some(value), None, wanted),
-        "{wanted}"
-    );
+    assert!(rt; is_told(rt, command, Some(value), None, wanted), "{wanted}");
 }
 
 fn check_text<'a, R: Abort + AllocGlobal>(rt: &R, command: &'a str, text: &'a str, wanted: &str) {
-    assert!(rt;
-        is_told(rt.alloc(), command, None, Some(text), wanted),
-        "{wanted}"
-    );
+    assert!(rt; is_told(rt, command, None, Some(text), wanted), "{wanted}");
 }
 
 const LONGER: &str = "store takes 1 to 64 bytes; this has 65";
@@ -81,7 +64,7 @@ fn a_bad_text_is_told_as_what_it_is(rt: HostRuntime) {
     check_text(&rt, "store", LONGER_TEXT, LONGER);
     check_text(&rt, "store", "", EMPTY);
     check_value(&rt, "store", "two words", UNSEEN);
-    assert!(rt; is_told(rt.alloc(), "store", Some("a"), Some("b"), BOTH));
+    assert!(rt; is_told(&rt, "store", Some("a"), Some("b"), BOTH));
 }
 
 const U64S: &str = "max takes a number from 0 to 18446744073709551615";
@@ -124,24 +107,18 @@ fn member() -> FormatWords<'static> {
     with(&format_of("1"), WordFault::Initial, "1,2,3")
 }
 
-fn rule_of(alloc: Global, words: &FormatWords<'_>) -> Result<Option<OpeningRule>, WordFault> {
-    let order = FormatOrder::parse(alloc, words)?;
+fn rule_of<R: Abort + AllocGlobal>(rt: &R, words: &FormatWords<'_>) -> Option<OpeningRule> {
+    let order = FormatOrder::parse(rt.alloc(), words).expect(rt, "an order");
     let rule = order.opening().broken_rule();
     drop(order);
-    Ok(rule)
+    rule
 }
 
 // Whether just this is told of that rule.
-fn is_told_of(alloc: Global, rule: OpeningRule, wanted: &str) -> bool {
+fn is_told_of<R: Abort + AllocGlobal>(rt: &R, rule: OpeningRule, wanted: &str) -> bool {
     let rule = BadOpening(rule);
-    match format!(in alloc; "{rule}") {
-        Ok(told) => {
-            let is_wanted = told.as_str() == wanted;
-            drop(told);
-            is_wanted
-        }
-        Err(_) => false,
-    }
+    let told = format!(in rt.alloc(); "{rule}").expect(rt, "a text");
+    told.as_str() == wanted
 }
 
 // A place, a text for it, the rule that a beginning with that text breaks first, and what is told of it.
@@ -198,10 +175,10 @@ const BAD_BEGINNINGS: [(WordFault, &str, OpeningRule, &str); 8] = [
 
 #[test]
 fn a_bad_beginning_is_told_by_its_rule(rt: HostRuntime) {
-    assert!(rt; rule_of(rt.alloc(), &member()) == Ok(None));
+    assert!(rt; rule_of(&rt, &member()) == None);
     for &(place, text, rule, wanted) in &BAD_BEGINNINGS {
-        let told = rule_of(rt.alloc(), &with(&member(), place, text));
-        assert!(rt; told == Ok(Some(rule)), "{text}");
-        assert!(rt; is_told_of(rt.alloc(), rule, wanted), "{text}");
+        let told = rule_of(&rt, &with(&member(), place, text));
+        assert!(rt; told == Some(rule), "{text}");
+        assert!(rt; is_told_of(&rt, rule, wanted), "{text}");
     }
 }

@@ -9,10 +9,8 @@ use cc_orders::{
 };
 use cc_views::NodeId;
 use cc_words::{Peer, fraction, list, number, small_number};
-use std::alloc::Global;
 use std::net::{Ipv4Addr, SocketAddr, SocketAddrV4};
 use std::process::Abort;
-use std::test::*;
 
 // Words that are no number.
 const NO_NUMBERS: [&str; 11] = [
@@ -54,25 +52,20 @@ const NO_LISTS: [&str; 9] = [
 ];
 
 // Whether a word is that list. None is empty, which stands for no list.
-fn is_list(alloc: Global, word: &str, wanted: &[u32]) -> bool {
-    match list(alloc, word) {
-        Ok(Some(ids)) => {
-            let is_same = ids.as_slice() == wanted;
-            drop(ids);
-            is_same && !wanted.is_empty()
-        }
-        Ok(None) => wanted.is_empty(),
-        Err(_) => false,
+fn is_list<R: Abort + AllocGlobal>(rt: &R, word: &str, wanted: &[u32]) -> bool {
+    match list(rt.alloc(), word).expect(rt, "room") {
+        Some(ids) => ids.as_slice() == wanted && !wanted.is_empty(),
+        None => wanted.is_empty(),
     }
 }
 
 #[test]
 fn lists_are_numbers_and_commas(rt: HostRuntime) {
     for &word in &NO_LISTS {
-        assert!(rt; is_list(rt.alloc(), word, &[]), "{word}");
+        assert!(rt; is_list(&rt, word, &[]), "{word}");
     }
-    assert!(rt; is_list(rt.alloc(), "3,1,4294967295,1", &[3, 1, u32::MAX, 1]));
-    assert!(rt; is_list(rt.alloc(), "0", &[0]));
+    assert!(rt; is_list(&rt, "3,1,4294967295,1", &[3, 1, u32::MAX, 1]));
+    assert!(rt; is_list(&rt, "0", &[0]));
 }
 
 // Words that are no fraction.
@@ -145,40 +138,36 @@ fn id(number: u32) -> NodeId {
 }
 
 // Whether these words, with the lines of a file or without, name so many peers, and whether node 2 is among them.
-fn names(
-    alloc: Global,
+fn names<R: Abort + AllocGlobal>(
+    rt: &R,
     words: &RunWords<'_>,
     lines: Option<&str>,
     count: usize,
     has_two: bool,
 ) -> bool {
-    match RunOrder::parse(alloc, words, lines) {
-        Ok(order) => {
-            let found = (order.listen, order.peers.len(), order.names(id(2)));
-            drop(order);
-            found == (local(7001), count, has_two)
-        }
-        Err(_) => false,
-    }
+    let order = RunOrder::parse(rt.alloc(), words, lines).expect(rt, "an order");
+    let found = (order.listen, order.peers.len(), order.names(id(2)));
+    drop(order);
+    found == (local(7001), count, has_two)
 }
 
-fn names_one(alloc: Global) -> bool {
-    names(alloc, &beside_two(), None, 1, true)
+fn names_one<R: Abort + AllocGlobal>(rt: &R) -> bool {
+    names(rt, &beside_two(), None, 1, true)
 }
 
-fn names_three(alloc: Global) -> bool {
-    names(alloc, &by_lines(alone()), Some(THREE_LINES), 3, true)
+fn names_three<R: Abort + AllocGlobal>(rt: &R) -> bool {
+    names(rt, &by_lines(alone()), Some(THREE_LINES), 3, true)
 }
 
-fn names_none(alloc: Global) -> bool {
-    names(alloc, &alone(), None, 0, false)
+fn names_none<R: Abort + AllocGlobal>(rt: &R) -> bool {
+    names(rt, &alone(), None, 0, false)
 }
 
 #[test]
 fn run_listens_and_knows_its_peers(rt: HostRuntime) {
-    assert!(rt; names_one(rt.alloc()));
-    assert!(rt; names_three(rt.alloc()));
-    assert!(rt; names_none(rt.alloc()));
+    assert!(rt; names_one(&rt));
+    assert!(rt; names_three(&rt));
+    assert!(rt; names_none(&rt));
 }
 
 // Whether node 1 passes its own line over, and no other.
@@ -187,41 +176,40 @@ fn passes_over_itself(order: &mut RunOrder) -> bool {
     order.peers.len() == 2 && !order.names(id(1))
 }
 
-fn is_passed_over(alloc: Global) -> Result<bool, WordFault> {
-    let mut order = RunOrder::parse(alloc, &by_lines(alone()), Some(THREE_LINES))?;
-    let is_passed_over = passes_over_itself(&mut order);
-    drop(order);
-    Ok(is_passed_over)
-}
-
 #[test]
 fn one_file_serves_all_nodes(rt: HostRuntime) {
-    assert!(rt; is_passed_over(rt.alloc()) == Ok(true));
+    let words = by_lines(alone());
+    let parsed = RunOrder::parse(rt.alloc(), &words, Some(THREE_LINES));
+    let mut order = parsed.expect(&rt, "an order");
+    let is_passed_over = passes_over_itself(&mut order);
+    drop(order);
+    assert!(rt; is_passed_over);
 }
 
 // Whether a node tells just this of itself.
-fn tells(alloc: Global, words: &RunWords<'_>, status: Option<SocketAddr>, log: LogLevel) -> bool {
-    match RunOrder::parse(alloc, words, None) {
-        Ok(order) => {
-            let told = (order.status, order.log);
-            drop(order);
-            told == (status, log)
-        }
-        Err(_) => false,
-    }
+fn tells<R: Abort + AllocGlobal>(
+    rt: &R,
+    words: &RunWords<'_>,
+    status: Option<SocketAddr>,
+    log: LogLevel,
+) -> bool {
+    let order = RunOrder::parse(rt.alloc(), words, None).expect(rt, "an order");
+    let told = (order.status, order.log);
+    drop(order);
+    told == (status, log)
 }
 
-fn tells_by_itself(alloc: Global) -> bool {
-    tells(alloc, &alone(), None, LogLevel::Info)
+fn tells_by_itself<R: Abort + AllocGlobal>(rt: &R) -> bool {
+    tells(rt, &alone(), None, LogLevel::Info)
 }
 
-fn tells_by_level(alloc: Global, word: &str, level: LogLevel) -> bool {
-    tells(alloc, &alone_with(WordFault::Log, word), None, level)
+fn tells_by_level<R: Abort + AllocGlobal>(rt: &R, word: &str, level: LogLevel) -> bool {
+    tells(rt, &alone_with(WordFault::Log, word), None, level)
 }
 
-fn tells_where_it_shows(alloc: Global) -> bool {
+fn tells_where_it_shows<R: Abort + AllocGlobal>(rt: &R) -> bool {
     let words = alone_with(WordFault::Status, "127.0.0.1:8001");
-    tells(alloc, &words, Some(local(8001)), LogLevel::Info)
+    tells(rt, &words, Some(local(8001)), LogLevel::Info)
 }
 
 // The words of levels.
@@ -234,28 +222,24 @@ const LEVELS: [(&str, LogLevel); 4] = [
 
 #[test]
 fn run_notes_by_levels(rt: HostRuntime) {
-    assert!(rt; tells_by_itself(rt.alloc()));
+    assert!(rt; tells_by_itself(&rt));
     for &(word, level) in &LEVELS {
-        assert!(rt; tells_by_level(rt.alloc(), word, level), "{word}");
+        assert!(rt; tells_by_level(&rt, word, level), "{word}");
     }
-    assert!(rt; tells_where_it_shows(rt.alloc()));
+    assert!(rt; tells_where_it_shows(&rt));
 }
 
 // Whether a node serves clients alone just there, and whether it hears the operator of another machine just so.
-fn guards(
-    alloc: Global,
+fn guards<R: Abort + AllocGlobal>(
+    rt: &R,
     words: &RunWords<'_>,
     listen_clients: Option<SocketAddr>,
     remote_operators: bool,
 ) -> bool {
-    match RunOrder::parse(alloc, words, None) {
-        Ok(order) => {
-            let told = (order.listen_clients, order.remote_operators);
-            drop(order);
-            told == (listen_clients, remote_operators)
-        }
-        Err(_) => false,
-    }
+    let order = RunOrder::parse(rt.alloc(), words, None).expect(rt, "an order");
+    let told = (order.listen_clients, order.remote_operators);
+    drop(order);
+    told == (listen_clients, remote_operators)
 }
 
 fn guarded() -> RunWords<'static> {
@@ -265,10 +249,10 @@ fn guarded() -> RunWords<'static> {
 
 #[test]
 fn run_takes_all_from_all_by_itself(rt: HostRuntime) {
-    assert!(rt; guards(rt.alloc(), &alone(), None, true));
+    assert!(rt; guards(&rt, &alone(), None, true));
     let open = alone_with(WordFault::Operators, "on");
-    assert!(rt; guards(rt.alloc(), &open, None, true));
-    assert!(rt; guards(rt.alloc(), &guarded(), Some(local(7501)), false));
+    assert!(rt; guards(&rt, &open, None, true));
+    assert!(rt; guards(&rt, &guarded(), Some(local(7501)), false));
 }
 
 // A word that a node can't run by, and the fault that names its place.
@@ -389,21 +373,22 @@ fn each_word_of_ask_is_checked(rt: HostRuntime) {
 
 const ADDRESS: &str = "127.0.0.1:7001";
 
-fn leaves() -> Result<bool, WordFault> {
-    Ok(LeaveOrder::parse(ADDRESS)?.address == local(7001))
+fn leaves<R: Abort>(rt: &R) -> bool {
+    let order = LeaveOrder::parse(ADDRESS).expect(rt, "an order");
+    order.address == local(7001)
 }
 
 // Whether it names node 3.
-fn retires() -> Result<bool, WordFault> {
-    let order = RetireOrder::parse(ADDRESS, "3")?;
-    Ok(order.address == local(7001) && order.node.number() == 3)
+fn retires<R: Abort>(rt: &R) -> bool {
+    let order = RetireOrder::parse(ADDRESS, "3").expect(rt, "an order");
+    order.address == local(7001) && order.node.number() == 3
 }
 
 #[test]
 fn the_operator_names_a_node(rt: HostRuntime) {
-    assert!(rt; leaves() == Ok(true));
+    assert!(rt; leaves(&rt));
     assert!(rt; LeaveOrder::parse("").err() == Some(WordFault::Address));
-    assert!(rt; retires() == Ok(true));
+    assert!(rt; retires(&rt));
     assert!(rt; RetireOrder::parse(ADDRESS, "0").err() == Some(WordFault::Node));
     let refused = StatusOrder::parse("8001", AnswerForm::Plain, false).err();
     assert!(rt; refused == Some(WordFault::Address));
@@ -430,16 +415,12 @@ fn is_by_default(order: &FormatOrder) -> bool {
         && (order.beta, order.gamma, order.share) == (most, most, 1)
 }
 
-fn has_defaults(alloc: Global) -> Result<bool, WordFault> {
-    let order = FormatOrder::parse(alloc, &format_of("4"))?;
-    let is_by_default = is_by_default(&order);
-    drop(order);
-    Ok(is_by_default)
-}
-
 #[test]
 fn options_have_defaults(rt: HostRuntime) {
-    assert!(rt; has_defaults(rt.alloc()) == Ok(true));
+    let order = FormatOrder::parse(rt.alloc(), &format_of("4")).expect(&rt, "an order");
+    let is_by_default = is_by_default(&order);
+    drop(order);
+    assert!(rt; is_by_default);
 }
 
 /// The same words, but for that text in place of the one that a fault names.

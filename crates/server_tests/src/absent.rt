@@ -2,8 +2,7 @@
 
 use crate::asking::{DONE, check_asked, is_asked, is_retired, order};
 use crate::nodes::{
-    Place, Places, check, format_member_of, free_place, run, set_up_of, while_one_runs,
-    while_two_run,
+    Place, Places, format_member_of, free_place, run, set_up_of, while_one_runs, while_two_run,
 };
 use cc_channels::Stop;
 use cc_intake::NoHooks;
@@ -11,6 +10,7 @@ use cc_orders::RetireOrder;
 use cc_views::NodeId;
 use std::alloc::Global;
 use std::net::{Net, SocketAddr, TcpListener, TcpStream};
+use std::process::Abort;
 use std::sync::Wait;
 use std::test::*;
 use std::thread;
@@ -23,36 +23,30 @@ const STORES: u64 = 300;
 // They are answered in so many seconds, also where the machine is busy. If nothing lapsed they would take minutes.
 const MOST_SECONDS: u64 = 40;
 
-fn store_all<R: Net<Stream = TcpStream> + Clock>(
-    rt: &R,
-    alloc: Global,
-    one: SocketAddr,
-) -> Result<(), Fail> {
-    let start = Instant::now(rt).or(Err("a clock"))?;
+fn store_all<R: Abort + AllocGlobal + Net<Stream = TcpStream> + Clock>(rt: &R, one: SocketAddr) {
+    let start = Instant::now(rt).expect(rt, "a clock");
     for _ in 0..STORES {
-        check_asked(rt, alloc, one, &["store", "a"], "Stored\n")?;
+        check_asked(rt, one, &["store", "a"], "Stored\n");
     }
-    let elapsed = start.elapsed(rt).or(Err("a clock"))?;
-    check(
-        elapsed < Duration::from_secs(MOST_SECONDS),
-        "what is kept for an absent member lapses",
-    )
+    let elapsed = start.elapsed(rt).expect(rt, "a clock");
+    let is_soon = elapsed < Duration::from_secs(MOST_SECONDS);
+    assert!(rt; is_soon, "what is kept for an absent member lapses");
 }
 
 // What was stored without it is in what the third member collects.
 #[test]
-fn two_members_go_on_and_the_third_comes_late(rt: HostRuntime) -> Result<(), Fail> {
-    format_member_of(&rt, "absent-3", "3", "1,2,3", Some("2/3"))?;
+fn two_members_go_on_and_the_third_comes_late(rt: HostRuntime) {
+    format_member_of(&rt, "absent-3", "3", "1,2,3", Some("2/3"));
     let Place {
         listener: third,
         address: three,
-    } = free_place(&rt)?;
+    } = free_place(&rt);
     let Places {
         first,
         second,
         one,
         two,
-    } = set_up_of(&rt, "absent-1", "absent-2", "1,2,3", Some("2/3"))?;
+    } = set_up_of(&rt, "absent-1", "absent-2", "1,2,3", Some("2/3"));
     let (stop, late) = (Stop::new(), Stop::new());
     let (of_1, of_2) = ([(2, two), (3, three)], [(1, one), (3, three)]);
     let of_3 = [(1, one), (2, two)];
@@ -64,27 +58,27 @@ fn two_members_go_on_and_the_third_comes_late(rt: HostRuntime) -> Result<(), Fai
         || run(&rt, alloc, "absent-1", first, &of_1, &stop, &NoHooks),
         || run(&rt, alloc, "absent-2", second, &of_2, &stop, &NoHooks),
         || {
-            store_all(&rt, alloc, one)?;
+            store_all(&rt, one);
             while_one_runs(
                 &rt,
                 &late,
                 three,
                 || run(&rt, alloc, "absent-3", third, &of_3, &late, &NoHooks),
-                || check_asked(&rt, alloc, three, &["collect"], "Seen [1:300=a/0/0/]\n"),
-            )
+                || check_asked(&rt, three, &["collect"], "Seen [1:300=a/0/0/]\n"),
+            );
         },
-    )
+    );
 }
 
 // After a second node 1 is told that node 3 is dead. The store needs all three members as it begins.
-fn store_and_retire_late<R>(rt: &R, alloc: Global, one: SocketAddr) -> Result<(), Fail>
+fn store_and_retire_late<R>(rt: &R, alloc: Global, one: SocketAddr)
 where
-    R: Net<Listener = TcpListener, Stream = TcpStream> + Threads + Wait + Clock + Sync,
+    R: Abort + Net<Listener = TcpListener, Stream = TcpStream> + Threads + Wait + Clock + Sync,
 {
-    let store = order(one, &["store", "a"], 20)?;
+    let store = order(rt, one, &["store", "a"], 20);
     let retire = RetireOrder {
         address: one,
-        node: NodeId::new(3).ok_or("an id")?,
+        node: NodeId::new(3).expect(rt, "an id"),
     };
     let (is_stored, is_done) = thread::join(
         rt,
@@ -94,18 +88,18 @@ where
             is_retired(rt, alloc, &retire, "retired 3\n")
         },
     );
-    check(is_stored, "Stored\n")?;
-    check(is_done, "retired 3\n")
+    assert!(rt; is_stored, "Stored");
+    assert!(rt; is_done, "retired 3");
 }
 
 #[test]
-fn a_store_begins_anew_once_the_dead_member_is_retired(rt: HostRuntime) -> Result<(), Fail> {
+fn a_store_begins_anew_once_the_dead_member_is_retired(rt: HostRuntime) {
     let Places {
         first,
         second,
         one,
         two,
-    } = set_up_of(&rt, "retired-1", "retired-2", "1,2,3", None)?;
+    } = set_up_of(&rt, "retired-1", "retired-2", "1,2,3", None);
     let stop = Stop::new();
     let alloc = rt.alloc();
     while_two_run(
@@ -123,5 +117,5 @@ fn a_store_begins_anew_once_the_dead_member_is_retired(rt: HostRuntime) -> Resul
             &NoHooks,
         ),
         || store_and_retire_late(&rt, alloc, one),
-    )
+    );
 }

@@ -1,6 +1,6 @@
 //! Clients of a node that runs: what they print, and the status that they end with.
 
-use crate::nodes::{Places, check, free_address, run, set_up, while_two_run};
+use crate::nodes::{Places, free_address, run, set_up, while_two_run};
 use cc_channels::Stop;
 use cc_client::{Silence, Told, ask_node, leave_node, retire_node};
 use cc_intake::NoHooks;
@@ -10,6 +10,7 @@ use cc_words::command;
 use std::alloc::Global;
 use std::io;
 use std::net::{Net, SocketAddr, TcpStream};
+use std::process::Abort;
 use std::test::*;
 use std::time::Clock;
 
@@ -83,9 +84,7 @@ pub(crate) fn is_asked<R: Net<Stream = TcpStream> + Clock>(
 ) -> bool {
     let mut output = Vec::new(alloc);
     let ended = ask_node(rt, alloc, order, &mut output);
-    let is_told = is_told(ended, &output, told, wanted);
-    drop(output);
-    is_told
+    is_told(ended, &output, told, wanted)
 }
 
 /// Whether the node there can be told that another is dead, and the client prints this.
@@ -97,9 +96,7 @@ pub(crate) fn is_retired<R: Net<Stream = TcpStream> + Clock>(
 ) -> bool {
     let mut output = Vec::new(alloc);
     let ended = retire_node(rt, alloc, order, &mut output);
-    let is_told = is_told(ended, &output, DONE, wanted);
-    drop(output);
-    is_told
+    is_told(ended, &output, DONE, wanted)
 }
 
 fn is_left<R: Net<Stream = TcpStream> + Clock>(
@@ -111,100 +108,86 @@ fn is_left<R: Net<Stream = TcpStream> + Clock>(
 ) -> bool {
     let mut output = Vec::new(alloc);
     let ended = leave_node(rt, alloc, &LeaveOrder { address }, &mut output);
-    let is_told = is_told(ended, &output, told, wanted);
-    drop(output);
-    is_told
+    is_told(ended, &output, told, wanted)
 }
 
 /// What a client of session 7 asks for, who waits for so many seconds at most.
-pub(crate) fn order(address: SocketAddr, words: &[&str], timeout: u64) -> Result<AskOrder, Fail> {
-    let command = command(words).ok_or("a command")?;
-    Ok(AskOrder::new(address, 7, command, timeout))
+pub(crate) fn order<R: Abort>(
+    rt: &R,
+    address: SocketAddr,
+    words: &[&str],
+    timeout: u64,
+) -> AskOrder {
+    let command = command(words).expect(rt, "a command");
+    AskOrder::new(address, 7, command, timeout)
 }
 
 /// A client of session 7 asks, and prints this.
-pub(crate) fn check_asked<R: Net<Stream = TcpStream> + Clock>(
+pub(crate) fn check_asked<R: Abort + AllocGlobal + Net<Stream = TcpStream> + Clock>(
     rt: &R,
-    alloc: Global,
     address: SocketAddr,
     words: &[&str],
-    wanted: &'static str,
-) -> Result<(), Fail> {
-    let order = order(address, words, 20)?;
-    check(is_asked(rt, alloc, &order, DONE, wanted), wanted)
+    wanted: &str,
+) {
+    let order = order(rt, address, words, 20);
+    assert!(rt; is_asked(rt, rt.alloc(), &order, DONE, wanted), "{wanted}");
 }
 
 // All commands, one after the other, in one session.
-fn ask_all<R: Net<Stream = TcpStream> + Clock>(
-    rt: &R,
-    alloc: Global,
-    one: SocketAddr,
-) -> Result<(), Fail> {
+fn ask_all<R: Abort + AllocGlobal + Net<Stream = TcpStream> + Clock>(rt: &R, one: SocketAddr) {
     for &(words, wanted) in &ASKED {
-        check_asked(rt, alloc, one, words, wanted)?;
+        check_asked(rt, one, words, wanted);
     }
-    Ok(())
 }
 
-fn ask_for_json<R: Net<Stream = TcpStream> + Clock>(
-    rt: &R,
-    alloc: Global,
-    one: SocketAddr,
-) -> Result<(), Fail> {
+fn ask_for_json<R: Abort + AllocGlobal + Net<Stream = TcpStream> + Clock>(rt: &R, one: SocketAddr) {
     for &(words, request, told, wanted) in &ASKED_AS_JSON {
         let order = AskOrder {
             request,
             form: AnswerForm::Json,
-            ..order(one, words, 20)?
+            ..order(rt, one, words, 20)
         };
-        check(is_asked(rt, alloc, &order, told, wanted), wanted)?;
+        assert!(rt; is_asked(rt, rt.alloc(), &order, told, wanted), "{wanted}");
     }
-    Ok(())
 }
 
 // The operator at node 1, twice with each order: what was done before is told once more.
-fn operate<R: Net<Stream = TcpStream> + Clock>(
-    rt: &R,
-    alloc: Global,
-    one: SocketAddr,
-) -> Result<(), Fail> {
+fn operate<R: Abort + AllocGlobal + Net<Stream = TcpStream> + Clock>(rt: &R, one: SocketAddr) {
     let order = RetireOrder {
         address: one,
-        node: NodeId::new(2).ok_or("an id")?,
+        node: NodeId::new(2).expect(rt, "an id"),
     };
     for _ in 0..2 {
-        check(is_retired(rt, alloc, &order, "retired 2\n"), "retired 2")?;
+        assert!(rt;
+            is_retired(rt, rt.alloc(), &order, "retired 2\n"),
+            "retired 2"
+        );
     }
     for _ in 0..2 {
-        check(is_left(rt, alloc, one, DONE, "left\n"), "left")?;
+        assert!(rt; is_left(rt, rt.alloc(), one, DONE, "left\n"), "left");
     }
-    Ok(())
 }
 
 // Clients and the operator at node 1. Who has left serves no client.
-fn talk<R: Net<Stream = TcpStream> + Clock>(
-    rt: &R,
-    alloc: Global,
-    one: SocketAddr,
-) -> Result<(), Fail> {
-    ask_all(rt, alloc, one)?;
-    ask_for_json(rt, alloc, one)?;
-    operate(rt, alloc, one)?;
-    let late = order(one, &["collect"], 20)?;
-    check(
-        is_asked(rt, alloc, &late, REFUSED, "refused 1 Left\n"),
-        "who has left",
-    )
+fn talk<R: Abort + AllocGlobal + Net<Stream = TcpStream> + Clock>(rt: &R, one: SocketAddr) {
+    ask_all(rt, one);
+    ask_for_json(rt, one);
+    operate(rt, one);
+    let late = order(rt, one, &["collect"], 20);
+    assert!(rt;
+        is_asked(rt, rt.alloc(), &late, REFUSED, "refused 1 Left\n"),
+        "who has left"
+    );
 }
 
 #[test]
-fn clients_print_what_a_node_answers(rt: HostRuntime) -> Result<(), Fail> {
+fn clients_print_what_a_node_answers(rt: HostRuntime) {
     let Places {
         first,
         second,
         one,
         two,
-    } = set_up(&rt, "asked-1", "asked-2")?;
+    } = set_up(&rt, "asked-1", "asked-2");
     let stop = Stop::new();
     let alloc = rt.alloc();
     while_two_run(
@@ -213,41 +196,41 @@ fn clients_print_what_a_node_answers(rt: HostRuntime) -> Result<(), Fail> {
         [one, two],
         || run(&rt, alloc, "asked-1", first, &[(2, two)], &stop, &NoHooks),
         || run(&rt, alloc, "asked-2", second, &[(1, one)], &stop, &NoHooks),
-        || talk(&rt, alloc, one),
-    )
+        || talk(&rt, one),
+    );
 }
 
 // No answer comes to an ask, in either form, nor to an order to leave.
-fn check_no_answer<R: Net<Stream = TcpStream> + Clock>(
+fn check_no_answer<R: Abort + AllocGlobal + Net<Stream = TcpStream> + Clock>(
     rt: &R,
-    alloc: Global,
     nobody: SocketAddr,
-) -> Result<(), Fail> {
+) {
     let closed = Told {
         status: 1,
         silence: Some(Silence::Closed(nobody)),
     };
-    let plain = order(nobody, &["collect"], 1)?;
+    let plain = order(rt, nobody, &["collect"], 1);
     let json = AskOrder {
         form: AnswerForm::Json,
         ..plain
     };
-    check(
+    let alloc = rt.alloc();
+    assert!(rt;
         is_asked(rt, alloc, &plain, closed, "no answer\n"),
-        "no answer",
-    )?;
-    check(
+        "no answer"
+    );
+    assert!(rt;
         is_asked(rt, alloc, &json, closed, "{\"no_answer\":true}\n"),
-        "no answer as JSON",
-    )?;
-    check(
+        "no answer as JSON"
+    );
+    assert!(rt;
         is_left(rt, alloc, nobody, closed, "no answer\n"),
-        "no answer to a leave",
-    )
+        "no answer to a leave"
+    );
 }
 
 // Nothing listens at the port of a listener that is gone.
 #[test]
-fn clients_give_up_where_no_answer_comes(rt: HostRuntime) -> Result<(), Fail> {
-    check_no_answer(&rt, rt.alloc(), free_address(&rt)?)
+fn clients_give_up_where_no_answer_comes(rt: HostRuntime) {
+    check_no_answer(&rt, free_address(&rt));
 }

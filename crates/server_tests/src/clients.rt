@@ -1,10 +1,8 @@
 //! Clients: what they send, and what they read.
 
-use crate::nodes::check;
-use std::alloc::Global;
 use std::io::{Read, Write};
 use std::net::{Net, SocketAddr, TcpStream};
-use std::test::Fail;
+use std::process::Abort;
 use std::time::Duration;
 
 /// Session 7 asks under number 1: store `a`.
@@ -38,45 +36,47 @@ pub(crate) const OTHER_REPLY: [u8; 22] = [
 ];
 
 /// A connection on which a read or a write takes ten seconds at most.
-pub(crate) fn connected<R: Net<Stream = TcpStream>>(
-    rt: &R,
-    to: SocketAddr,
-) -> Result<TcpStream, Fail> {
-    let stream = TcpStream::connect(rt, to)?;
-    stream.set_nodelay(true)?;
-    stream.set_read_timeout(Some(Duration::from_secs(10)))?;
-    stream.set_write_timeout(Some(Duration::from_secs(10)))?;
-    Ok(stream)
+pub(crate) fn connected<R: Abort + Net<Stream = TcpStream>>(rt: &R, to: SocketAddr) -> TcpStream {
+    let stream = TcpStream::connect(rt, to).expect(rt, "a connection");
+    stream.set_nodelay(true).expect(rt, "no delay");
+    stream
+        .set_read_timeout(Some(Duration::from_secs(10)))
+        .expect(rt, "a limit of reads");
+    stream
+        .set_write_timeout(Some(Duration::from_secs(10)))
+        .expect(rt, "a limit of writes");
+    stream
 }
 
 /// A connection over which these bytes were sent.
-pub(crate) fn sent<R: Net<Stream = TcpStream>>(
+pub(crate) fn sent<R: Abort + Net<Stream = TcpStream>>(
     rt: &R,
     to: SocketAddr,
     bytes: &[u8],
-) -> Result<TcpStream, Fail> {
-    let mut stream = connected(rt, to)?;
-    stream.write_all(bytes)?;
-    Ok(stream)
+) -> TcpStream {
+    let mut stream = connected(rt, to);
+    stream.write_all(bytes).expect(rt, "the bytes are sent");
+    stream
 }
 
 /// Sends bytes, and reads these.
-pub(crate) fn exchange<R: Net<Stream = TcpStream>>(
+pub(crate) fn exchange<R: Abort + AllocGlobal + Net<Stream = TcpStream>>(
     rt: &R,
-    alloc: Global,
     to: SocketAddr,
     bytes: &[u8],
     wanted: &[u8],
-) -> Result<(), Fail> {
-    let mut stream = sent(rt, to, bytes)?;
-    reads(alloc, &mut stream, wanted)
+) {
+    let mut stream = sent(rt, to, bytes);
+    reads(rt, &mut stream, wanted);
 }
 
 /// Reads these bytes.
-pub(crate) fn reads(alloc: Global, stream: &mut TcpStream, wanted: &[u8]) -> Result<(), Fail> {
-    let mut read = vec![in alloc; 0u8; wanted.len()]?;
-    stream.read_exact(read.as_mut_slice())?;
-    check(read.as_slice() == wanted, "what the node answers")
+pub(crate) fn reads<R: Abort + AllocGlobal>(rt: &R, stream: &mut TcpStream, wanted: &[u8]) {
+    let mut read = vec![in rt.alloc(); 0u8; wanted.len()].expect(rt, "room");
+    stream
+        .read_exact(read.as_mut_slice())
+        .expect(rt, "so many bytes");
+    assert!(rt; read.as_slice() == wanted, "what the node answers");
 }
 
 /// Reads nothing but the end.
@@ -86,13 +86,13 @@ pub(crate) fn ends(stream: &mut TcpStream) -> bool {
 }
 
 /// What each of these rows sends closes its connection. The row says what that is.
-pub(crate) fn check_closed<R: Net<Stream = TcpStream>>(
+pub(crate) fn check_closed<R: Abort + Net<Stream = TcpStream>>(
     rt: &R,
     to: SocketAddr,
-    rows: &[(&[u8], &'static str)],
-) -> Result<(), Fail> {
+    rows: &[(&[u8], &str)],
+) {
     for &(bytes, what) in rows {
-        check(ends(&mut sent(rt, to, bytes)?), what)?;
+        let mut stream = sent(rt, to, bytes);
+        assert!(rt; ends(&mut stream), "{what}");
     }
-    Ok(())
 }

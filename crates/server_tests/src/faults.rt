@@ -1,6 +1,6 @@
 //! Why a node doesn't run: each fault, and its text.
 
-use crate::nodes::{Setting, check, config_of, format_member, free_address, free_place};
+use crate::nodes::{Setting, config_of, format_member, free_address, free_place};
 use cc_channels::Stop;
 use cc_checkpoint::OpenFault;
 use cc_flush::Failed;
@@ -8,10 +8,10 @@ use cc_intake::NoHooks;
 use cc_server::{ReadText, RunFault, run_node};
 use cc_site::{Call, DeviceFault, Side};
 use log::Log;
-use std::alloc::Global;
 use std::fs;
 use std::fs::{File, Files};
-use std::net::{Net, SocketAddr, TcpListener, TcpStream};
+use std::net::{Net, TcpListener, TcpStream};
+use std::process::Abort;
 use std::sync::Wait;
 use std::test::*;
 use std::thread::Threads;
@@ -51,30 +51,26 @@ const CANNOT_BEGIN: [(&str, RunFault); 3] = [
     ("own-folder", RunFault::Listen),
 ];
 
-fn is_text_of(alloc: Global, fault: RunFault, wanted: &str) -> Result<bool, Fail> {
-    let text = format!(in alloc; "{fault}")?;
-    let is_wanted = text.as_str() == wanted;
-    drop(text);
-    Ok(is_wanted)
+fn is_text_of<R: Abort + AllocGlobal>(rt: &R, fault: RunFault, wanted: &str) -> bool {
+    format!(in rt.alloc(); "{fault}")
+        .expect(rt, "a text")
+        .as_str()
+        == wanted
 }
 
 #[test]
-fn faults_of_a_run_print_their_texts(rt: HostRuntime) -> Result<(), Fail> {
+fn faults_of_a_run_print_their_texts(rt: HostRuntime) {
     for &(fault, wanted) in &TEXTS {
-        check(is_text_of(rt.alloc(), fault, wanted)?, wanted)?;
+        assert!(rt; is_text_of(&rt, fault, wanted), "{wanted}");
     }
-    Ok(())
 }
 
 // Why a node doesn't run.
-fn check_fault<R>(
-    rt: &R,
-    alloc: Global,
-    setting: &Setting<'_>,
-    wanted: RunFault,
-) -> Result<(), Fail>
+fn check_fault<R>(rt: &R, setting: &Setting<'_>, wanted: RunFault)
 where
-    R: Files<File = File>
+    R: Abort
+        + AllocGlobal
+        + Files<File = File>
         + Net<Listener = TcpListener, Stream = TcpStream>
         + Threads
         + Wait
@@ -83,48 +79,32 @@ where
         + Log
         + Sync,
 {
-    let config = config_of(alloc, setting)?;
-    let fault = run_node(rt, alloc, &config, &Stop::new(), &NoHooks).err();
+    let config = config_of(rt.alloc(), setting).expect(rt, "a config");
+    let fault = run_node(rt, rt.alloc(), &config, &Stop::new(), &NoHooks).err();
     drop(config);
-    check(fault == Some(wanted), "why a node doesn't run")
-}
-
-fn check_beginnings<R>(rt: &R, alloc: Global, taken: SocketAddr) -> Result<(), Fail>
-where
-    R: Files<File = File>
-        + Net<Listener = TcpListener, Stream = TcpStream>
-        + Threads
-        + Wait
-        + Clock
-        + ReadText
-        + Log
-        + Sync,
-{
-    for &(folder, fault) in &CANNOT_BEGIN {
-        check_fault(rt, alloc, &Setting::of(folder, taken, &[]), fault)?;
-    }
-    Ok(())
+    assert!(rt; fault == Some(wanted), "why a node doesn't run");
 }
 
 #[test]
-fn a_node_that_cannot_begin_says_why(rt: HostRuntime) -> Result<(), Fail> {
+fn a_node_that_cannot_begin_says_why(rt: HostRuntime) {
     let _ = fs::remove_dir_all(&rt, "empty-folder");
-    fs::create_dir(&rt, "empty-folder")?;
-    format_member(&rt, "own-folder", "1")?;
-    let taken = free_place(&rt)?;
-    check_beginnings(&rt, rt.alloc(), taken.address)
+    fs::create_dir(&rt, "empty-folder").expect(&rt, "a folder");
+    format_member(&rt, "own-folder", "1");
+    let taken = free_place(&rt);
+    for &(folder, fault) in &CANNOT_BEGIN {
+        check_fault(&rt, &Setting::of(folder, taken.address, &[]), fault);
+    }
 }
 
 // The node's own id, and its own address under the id of another.
 #[test]
-fn a_node_is_no_peer_of_itself(rt: HostRuntime) -> Result<(), Fail> {
-    let listen = free_address(&rt)?;
-    let elsewhere = free_address(&rt)?;
-    format_member(&rt, "folder-of-a-peer", "1")?;
+fn a_node_is_no_peer_of_itself(rt: HostRuntime) {
+    let listen = free_address(&rt);
+    let elsewhere = free_address(&rt);
+    format_member(&rt, "folder-of-a-peer", "1");
     for &peer in &[(1, elsewhere), (2, listen)] {
         let peers = [peer];
         let setting = Setting::of("folder-of-a-peer", listen, &peers);
-        check_fault(&rt, rt.alloc(), &setting, RunFault::OwnPeer)?;
+        check_fault(&rt, &setting, RunFault::OwnPeer);
     }
-    Ok(())
 }

@@ -1,10 +1,9 @@
 //! Hostile connections.
 
 use crate::clients::{FIRST_ASK, FIRST_REPLY, THIRD_REFUSED, check_closed, connected, sent};
-use std::alloc::Global;
 use std::io::Write;
 use std::net::{Net, SocketAddr, TcpStream};
-use std::test::Fail;
+use std::process::Abort;
 
 // How many requests come in one write.
 const REQUESTS: usize = 10_000;
@@ -24,47 +23,39 @@ const STRANGE: [(&[u8], &str); 5] = [
 ];
 
 /// What such connections send. Each of them has to be closed by the node, but for those that close themselves.
-pub(crate) fn attack<R: Net<Stream = TcpStream>>(
-    rt: &R,
-    alloc: Global,
-    to: SocketAddr,
-) -> Result<(), Fail> {
-    cuts(rt, to)?;
-    check_closed(rt, to, &STRANGE)?;
-    without_end(rt, to, &[0; 4096])?;
-    flood(rt, alloc, to)
+pub(crate) fn attack<R: Abort + AllocGlobal + Net<Stream = TcpStream>>(rt: &R, to: SocketAddr) {
+    cuts(rt, to);
+    check_closed(rt, to, &STRANGE);
+    without_end(rt, to, &[0; 4096]);
+    flood(rt, to);
 }
 
 // The beginnings of a request, each on a connection that is closed then.
-fn cuts<R: Net<Stream = TcpStream>>(rt: &R, to: SocketAddr) -> Result<(), Fail> {
+fn cuts<R: Abort + Net<Stream = TcpStream>>(rt: &R, to: SocketAddr) {
     for cut in 0..FIRST_ASK.len() {
-        let beginning = FIRST_ASK.get(..cut).ok_or("a beginning")?;
-        drop(sent(rt, to, beginning)?);
+        let beginning = FIRST_ASK.get(..cut).expect(rt, "a beginning");
+        drop(sent(rt, to, beginning));
     }
-    Ok(())
 }
 
 // The same bytes again and again, whose answers nobody reads, until the node has closed the connection.
-fn without_end<R: Net<Stream = TcpStream>>(
-    rt: &R,
-    to: SocketAddr,
-    bytes: &[u8],
-) -> Result<(), Fail> {
-    let mut stream = connected(rt, to)?;
+fn without_end<R: Abort + Net<Stream = TcpStream>>(rt: &R, to: SocketAddr, bytes: &[u8]) {
+    let mut stream = connected(rt, to);
     for _ in 0..100_000u32 {
         if stream.write_all(bytes).is_err() {
-            return Ok(());
+            return;
         }
     }
-    Err("bytes without an end".into())
+    panic!(rt; "bytes without an end")
 }
 
 // Many requests out of turn in one write, each of which is refused. Nobody reads why.
-fn flood<R: Net<Stream = TcpStream>>(rt: &R, alloc: Global, to: SocketAddr) -> Result<(), Fail> {
-    let mut requests = Vec::with_capacity(alloc, REQUESTS * OUT_OF_TURN.len())?;
+fn flood<R: Abort + AllocGlobal + Net<Stream = TcpStream>>(rt: &R, to: SocketAddr) {
+    let mut requests = Vec::with_capacity(rt.alloc(), REQUESTS * OUT_OF_TURN.len()).expect(
+        rt, "room",
+    );
     for _ in 0..REQUESTS {
-        requests.extend_from_slice(&OUT_OF_TURN)?;
+        requests.extend_from_slice(&OUT_OF_TURN).expect(rt, "room");
     }
-    drop(sent(rt, to, requests.as_slice())?);
-    Ok(())
+    drop(sent(rt, to, requests.as_slice()));
 }

@@ -1,22 +1,23 @@
 //! A load on nodes that run.
 
 use crate::asking::DONE;
-use crate::nodes::{Places, check, run, set_up, while_two_run};
+use crate::nodes::{Places, run, set_up, while_two_run};
 use cc_channels::Stop;
 use cc_intake::NoHooks;
 use cc_load::load_nodes;
 use cc_orders::{AnswerForm, LoadOrder, LoadWords};
 use std::alloc::Global;
 use std::net::{Net, SocketAddr, TcpListener, TcpStream};
+use std::process::Abort;
 use std::sync::Wait;
 use std::test::*;
 use std::thread::Threads;
 use std::time::Clock;
 
 // Four clients of both nodes for a second.
-fn check_load<R>(rt: &R, alloc: Global, addresses: &str, collects: bool) -> Result<(), Fail>
+fn check_load<R>(rt: &R, alloc: Global, addresses: &str, collects: bool)
 where
-    R: Net<Listener = TcpListener, Stream = TcpStream> + Threads + Wait + Clock + Sync,
+    R: Abort + Net<Listener = TcpListener, Stream = TcpStream> + Threads + Wait + Clock + Sync,
 {
     let words = LoadWords {
         addresses,
@@ -26,10 +27,9 @@ where
         collects,
         form: AnswerForm::Json,
     };
-    let order = LoadOrder::parse(alloc, &words)?;
-    let is_answered = is_answered(rt, alloc, &order);
+    let order = LoadOrder::parse(alloc, &words).expect(rt, "an order");
+    assert!(rt; is_answered(rt, alloc, &order), "a load is answered");
     drop(order);
-    check(is_answered, "a load is answered")
 }
 
 // None of the clients ends early, so each has a session of its own.
@@ -46,23 +46,23 @@ where
 }
 
 // Two loads in the same sessions: the second one learns where the first one ended.
-fn load_twice<R>(rt: &R, alloc: Global, one: SocketAddr, two: SocketAddr) -> Result<(), Fail>
+fn load_twice<R>(rt: &R, alloc: Global, one: SocketAddr, two: SocketAddr)
 where
-    R: Net<Listener = TcpListener, Stream = TcpStream> + Threads + Wait + Clock + Sync,
+    R: Abort + Net<Listener = TcpListener, Stream = TcpStream> + Threads + Wait + Clock + Sync,
 {
-    let addresses = format!(in alloc; "{one},{two}")?;
-    check_load(rt, alloc, &addresses, false)?;
-    check_load(rt, alloc, &addresses, true)
+    let addresses = format!(in alloc; "{one},{two}").expect(rt, "a text");
+    check_load(rt, alloc, &addresses, false);
+    check_load(rt, alloc, &addresses, true);
 }
 
 #[test]
-fn a_load_takes_the_same_sessions_again(rt: HostRuntime) -> Result<(), Fail> {
+fn a_load_takes_the_same_sessions_again(rt: HostRuntime) {
     let Places {
         first,
         second,
         one,
         two,
-    } = set_up(&rt, "loaded-1", "loaded-2")?;
+    } = set_up(&rt, "loaded-1", "loaded-2");
     let stop = Stop::new();
     let alloc = rt.alloc();
     while_two_run(
@@ -72,5 +72,5 @@ fn a_load_takes_the_same_sessions_again(rt: HostRuntime) -> Result<(), Fail> {
         || run(&rt, alloc, "loaded-1", first, &[(2, two)], &stop, &NoHooks),
         || run(&rt, alloc, "loaded-2", second, &[(1, one)], &stop, &NoHooks),
         || load_twice(&rt, alloc, one, two),
-    )
+    );
 }

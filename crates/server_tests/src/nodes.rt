@@ -11,16 +11,11 @@ use log::Log;
 use std::alloc::{AllocError, Global};
 use std::fs::{File, Files};
 use std::net::{Net, SocketAddr, TcpListener, TcpStream};
+use std::process::Abort;
 use std::sync::Wait;
-use std::test::Fail;
 use std::thread::Threads;
 use std::time::Clock;
 use std::{fs, thread};
-
-/// Fails the test where something isn't so.
-pub(crate) fn check(holds: bool, what: &'static str) -> Result<(), Fail> {
-    if holds { Ok(()) } else { Err(what.into()) }
-}
 
 /// A listener at a port that was free, and where that is.
 #[derive(Drop)]
@@ -30,19 +25,19 @@ pub(crate) struct Place {
 }
 
 /// Listens at a port that is free.
-pub(crate) fn free_place<R: Net<Listener = TcpListener, Stream = TcpStream>>(
+pub(crate) fn free_place<R: Abort + Net<Listener = TcpListener, Stream = TcpStream>>(
     rt: &R,
-) -> Result<Place, Fail> {
-    let listener = TcpListener::bind(rt, "127.0.0.1:0")?;
-    let address = listener.local_addr()?;
-    Ok(Place { listener, address })
+) -> Place {
+    let listener = TcpListener::bind(rt, "127.0.0.1:0").expect(rt, "a port that is free");
+    let address = listener.local_addr().expect(rt, "an address");
+    Place { listener, address }
 }
 
 /// Where nothing listens: the listener that was there is gone.
-pub(crate) fn free_address<R: Net<Listener = TcpListener, Stream = TcpStream>>(
+pub(crate) fn free_address<R: Abort + Net<Listener = TcpListener, Stream = TcpStream>>(
     rt: &R,
-) -> Result<SocketAddr, Fail> {
-    Ok(free_place(rt)?.address)
+) -> SocketAddr {
+    free_place(rt).address
 }
 
 /// Where the nodes 1 and 2 listen.
@@ -55,9 +50,9 @@ pub(crate) struct Places {
 }
 
 /// Two members in new folders, with listeners at ports that are free.
-pub(crate) fn set_up<R>(rt: &R, folder: &str, other: &str) -> Result<Places, Fail>
+pub(crate) fn set_up<R>(rt: &R, folder: &str, other: &str) -> Places
 where
-    R: AllocGlobal + Files<File = File> + Net<Listener = TcpListener, Stream = TcpStream>,
+    R: Abort + AllocGlobal + Files<File = File> + Net<Listener = TcpListener, Stream = TcpStream>,
 {
     set_up_of(rt, folder, other, "1,2", None)
 }
@@ -69,51 +64,51 @@ pub(crate) fn set_up_of<R>(
     other: &str,
     members: &str,
     beta: Option<&str>,
-) -> Result<Places, Fail>
+) -> Places
 where
-    R: AllocGlobal + Files<File = File> + Net<Listener = TcpListener, Stream = TcpStream>,
+    R: Abort + AllocGlobal + Files<File = File> + Net<Listener = TcpListener, Stream = TcpStream>,
 {
-    format_member_of(rt, folder, "1", members, beta)?;
-    format_member_of(rt, other, "2", members, beta)?;
-    let first = free_place(rt)?;
-    let second = free_place(rt)?;
-    Ok(Places {
+    format_member_of(rt, folder, "1", members, beta);
+    format_member_of(rt, other, "2", members, beta);
+    let first = free_place(rt);
+    let second = free_place(rt);
+    Places {
         first: first.listener,
         second: second.listener,
         one: first.address,
         two: second.address,
-    })
+    }
 }
 
 /// A new folder that keeps a member of {1,2}.
-pub(crate) fn format_member<R: AllocGlobal + Files<File = File>>(
+pub(crate) fn format_member<R: Abort + AllocGlobal + Files<File = File>>(
     rt: &R,
     folder: &str,
     id: &str,
-) -> Result<(), Fail> {
-    format_member_of(rt, folder, id, "1,2", None)
+) {
+    format_member_of(rt, folder, id, "1,2", None);
 }
 
 /// A new folder that keeps one of these members, of which a fraction β answers each operation.
-pub(crate) fn format_member_of<'w, R: AllocGlobal + Files<File = File>>(
+pub(crate) fn format_member_of<'w, R: Abort + AllocGlobal + Files<File = File>>(
     rt: &R,
     folder: &str,
     id: &'w str,
     members: &'w str,
     beta: Option<&'w str>,
-) -> Result<(), Fail> {
-    format_with_share(rt, folder, id, members, beta, None)
+) {
+    format_with_share(rt, folder, id, members, beta, None);
 }
 
 /// The same, up to so many of whose asks begin together.
-pub(crate) fn format_with_share<'w, R: AllocGlobal + Files<File = File>>(
+pub(crate) fn format_with_share<'w, R: Abort + AllocGlobal + Files<File = File>>(
     rt: &R,
     folder: &str,
     id: &'w str,
     members: &'w str,
     beta: Option<&'w str>,
     share: Option<&'w str>,
-) -> Result<(), Fail> {
+) {
     let words = FormatWords {
         id,
         initial: Some(members),
@@ -123,11 +118,13 @@ pub(crate) fn format_with_share<'w, R: AllocGlobal + Files<File = File>>(
         share,
     };
     let _ = fs::remove_dir_all(rt, folder);
-    fs::create_dir(rt, folder)?;
-    let order = FormatOrder::parse(rt.alloc(), &words)?;
-    let is_formatted = is_formatted(rt, rt.alloc(), folder, &order);
+    fs::create_dir(rt, folder).expect(rt, "a folder");
+    let order = FormatOrder::parse(rt.alloc(), &words).expect(rt, "an order");
+    assert!(rt;
+        is_formatted(rt, rt.alloc(), folder, &order),
+        "the folder is formatted"
+    );
     drop(order);
-    check(is_formatted, "the folder is formatted")
 }
 
 fn is_formatted<R: Files<File = File>>(
@@ -138,7 +135,6 @@ fn is_formatted<R: Files<File = File>>(
 ) -> bool {
     let mut output = Vec::new(alloc);
     let ended = format_folder(rt, alloc, folder, order, &mut output);
-    drop(output);
     matches!(ended, Ok(0))
 }
 
@@ -248,27 +244,19 @@ where
 }
 
 /// Talks while a node runs, which listens there and is ended by the flag once the talk is over.
-pub(crate) fn while_one_runs<R, F, T>(
-    rt: &R,
-    stop: &Stop,
-    address: SocketAddr,
-    node: F,
-    talk: T,
-) -> Result<(), Fail>
+pub(crate) fn while_one_runs<R, F, T>(rt: &R, stop: &Stop, address: SocketAddr, node: F, talk: T)
 where
-    R: Net<Listener = TcpListener, Stream = TcpStream> + Threads + Sync,
+    R: Abort + Net<Listener = TcpListener, Stream = TcpStream> + Threads + Sync,
     F: FnOnce() -> Result<Finished<()>, RunFault> + Send,
-    T: FnOnce() -> Result<(), Fail>,
+    T: FnOnce(),
     requires node { F.IsAlwaysCallable node }
     requires talk { T.IsAlwaysCallable talk }
 {
-    let (ended, talked) = thread::join(rt, node, || {
-        let talked = talk();
+    let (ended, ()) = thread::join(rt, node, || {
+        talk();
         end(rt, stop, address);
-        talked
     });
-    talked?;
-    check_end(ended)
+    check_end(rt, ended);
 }
 
 /// The same of two nodes, which listen at these addresses.
@@ -279,12 +267,12 @@ pub(crate) fn while_two_run<R, F, G, T>(
     first: F,
     second: G,
     talk: T,
-) -> Result<(), Fail>
+)
 where
-    R: Net<Listener = TcpListener, Stream = TcpStream> + Threads + Sync,
+    R: Abort + Net<Listener = TcpListener, Stream = TcpStream> + Threads + Sync,
     F: FnOnce() -> Result<Finished<()>, RunFault> + Send,
     G: FnOnce() -> Result<Finished<()>, RunFault> + Send,
-    T: FnOnce() -> Result<(), Fail>,
+    T: FnOnce(),
     requires first { F.IsAlwaysCallable first }
     requires second { G.IsAlwaysCallable second }
     requires talk { T.IsAlwaysCallable talk }
@@ -295,10 +283,10 @@ where
         stop,
         two,
         second,
-        || -> Result<(), Fail>
+        ||
             requires { F.IsAlwaysCallable first × T.IsAlwaysCallable talk }
         { while_one_runs(rt, stop, one, first, talk) },
-    )
+    );
 }
 
 // Ends a node that listens there.
@@ -308,12 +296,12 @@ fn end<R: Net<Stream = TcpStream>>(rt: &R, stop: &Stop, address: SocketAddr) {
 }
 
 // What a node came to: each accepted event was told and flushed.
-fn check_end(ended: Result<Finished<()>, RunFault>) -> Result<(), Fail> {
-    let ended = ended?;
-    check(ended.accepted == ended.told, "each accepted event is told")?;
-    check(
+fn check_end<R: Abort>(rt: &R, ended: Result<Finished<()>, RunFault>) {
+    let ended = ended.expect(rt, "the node runs");
+    assert!(rt; ended.accepted == ended.told, "each accepted event is told");
+    assert!(rt;
         ended.accepted == ended.flushed,
-        "each accepted event is flushed",
-    )?;
-    check(ended.rest == 0, "nothing is left")
+        "each accepted event is flushed"
+    );
+    assert!(rt; ended.rest == 0, "nothing is left");
 }

@@ -6,8 +6,8 @@ use crate::nodes::{
 };
 use cc_channels::Stop;
 use cc_intake::NoHooks;
-use std::alloc::Global;
 use std::net::{Net, SocketAddr, TcpStream};
+use std::process::Abort;
 use std::test::*;
 
 // Node 9, which nobody knows, says that it joined. A store would wait for it from then on.
@@ -49,36 +49,31 @@ const MISUSES: [(&[u8], &str); 4] = [
 ];
 
 // Over the port for clients asks are answered. Whatever else comes there closes the connection, and changes nothing.
-fn misuse<R: Net<Stream = TcpStream>>(
-    rt: &R,
-    alloc: Global,
-    clients: SocketAddr,
-) -> Result<(), Fail> {
-    exchange(rt, alloc, clients, &FIRST_ASK, &FIRST_REPLY)?;
-    check_closed(rt, clients, &MISUSES)?;
-    exchange(rt, alloc, clients, &SECOND_ASK, &SECOND_REPLY)
+fn misuse<R: Abort + AllocGlobal + Net<Stream = TcpStream>>(rt: &R, clients: SocketAddr) {
+    exchange(rt, clients, &FIRST_ASK, &FIRST_REPLY);
+    check_closed(rt, clients, &MISUSES);
+    exchange(rt, clients, &SECOND_ASK, &SECOND_REPLY);
 }
 
 // Once the node is answered it listens at both ports. On its own machine it hears the operator.
-fn talk<R: Net<Stream = TcpStream>>(
+fn talk<R: Abort + AllocGlobal + Net<Stream = TcpStream>>(
     rt: &R,
-    alloc: Global,
     node: SocketAddr,
     clients: SocketAddr,
-) -> Result<(), Fail> {
-    exchange(rt, alloc, node, &OTHER_ASK, &OTHER_REPLY)?;
-    misuse(rt, alloc, clients)?;
-    exchange(rt, alloc, node, &LEAVE_TWICE, &REFUSED)
+) {
+    exchange(rt, node, &OTHER_ASK, &OTHER_REPLY);
+    misuse(rt, clients);
+    exchange(rt, node, &LEAVE_TWICE, &REFUSED);
 }
 
 #[test]
-fn a_port_for_clients_takes_asks_alone(rt: HostRuntime) -> Result<(), Fail> {
-    format_member_of(&rt, "guarded-1", "1", "1", None)?;
-    let clients = free_address(&rt)?;
+fn a_port_for_clients_takes_asks_alone(rt: HostRuntime) {
+    format_member_of(&rt, "guarded-1", "1", "1", None);
+    let clients = free_address(&rt);
     let Place {
         listener,
         address: node,
-    } = free_place(&rt)?;
+    } = free_place(&rt);
     let setting = Setting {
         listen_clients: Some(clients),
         remote_operators: false,
@@ -91,6 +86,6 @@ fn a_port_for_clients_takes_asks_alone(rt: HostRuntime) -> Result<(), Fail> {
         &stop,
         node,
         || run_with(&rt, alloc, &setting, listener, &stop, &NoHooks),
-        || talk(&rt, alloc, node, clients),
-    )
+        || talk(&rt, node, clients),
+    );
 }

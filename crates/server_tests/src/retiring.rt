@@ -1,12 +1,12 @@
 //! What the operator is told is durable.
 
 use crate::clients::{THIRD_ASK, connected, exchange, reads};
-use crate::nodes::{Places, check, run, set_up, while_two_run};
+use crate::nodes::{Places, run, set_up, while_two_run};
 use cc_channels::Stop;
 use cc_intake::{Hooks, NoHooks};
-use std::alloc::Global;
 use std::io::Write;
 use std::net::{Net, SocketAddr, TcpStream};
+use std::process::Abort;
 use std::sync::atomic::{AtomicU64, Ordering};
 use std::test::*;
 
@@ -49,33 +49,28 @@ impl Hooks for Syncs {
 
 // Once the node serves: the first request makes nothing that anyone waits for, and yet its two syncs are made before the
 // second is answered.
-fn retire<R: Net<Stream = TcpStream>>(
+fn retire<R: Abort + AllocGlobal + Net<Stream = TcpStream>>(
     rt: &R,
-    alloc: Global,
     one: SocketAddr,
     syncs: &Syncs,
-) -> Result<(), Fail> {
-    exchange(rt, alloc, one, &THIRD_ASK, &SKIPPED)?;
-    let mut stream = connected(rt, one)?;
-    retire_over(alloc, &mut stream, syncs)
-}
-
-fn retire_over(alloc: Global, stream: &mut TcpStream, syncs: &Syncs) -> Result<(), Fail> {
+) {
+    exchange(rt, one, &THIRD_ASK, &SKIPPED);
+    let mut stream = connected(rt, one);
     let before = syncs.count();
-    stream.write_all(&RETIRE_TWICE)?;
-    reads(alloc, stream, &REFUSED)?;
+    stream.write_all(&RETIRE_TWICE).expect(rt, "both are sent");
+    reads(rt, &mut stream, &REFUSED);
     let made = syncs.count().saturating_sub(before);
-    check(made >= 2, "what is told is durable")
+    assert!(rt; made >= 2, "what is told is durable");
 }
 
 #[test]
-fn a_retire_is_durable_before_it_is_told(rt: HostRuntime) -> Result<(), Fail> {
+fn a_retire_is_durable_before_it_is_told(rt: HostRuntime) {
     let Places {
         first,
         second,
         one,
         two,
-    } = set_up(&rt, "retiring-1", "retiring-2")?;
+    } = set_up(&rt, "retiring-1", "retiring-2");
     let syncs = Syncs {
         count: AtomicU64::new(0),
     };
@@ -95,6 +90,6 @@ fn a_retire_is_durable_before_it_is_told(rt: HostRuntime) -> Result<(), Fail> {
             &stop,
             &NoHooks,
         ),
-        || retire(&rt, alloc, one, &syncs),
-    )
+        || retire(&rt, one, &syncs),
+    );
 }

@@ -2,12 +2,12 @@
 
 use crate::clients::{FIRST_ASK, FIRST_REPLY, connected, ends, reads};
 use crate::hostile::OUT_OF_TURN;
-use crate::nodes::{Places, check, run, set_up, while_two_run};
+use crate::nodes::{Places, run, set_up, while_two_run};
 use cc_channels::Stop;
 use cc_intake::NoHooks;
-use std::alloc::Global;
 use std::io::{Read, Write};
 use std::net::{Net, Shutdown, SocketAddr, TcpStream};
+use std::process::Abort;
 use std::test::*;
 use std::thread;
 
@@ -30,79 +30,69 @@ const OUT_OF_TURN_REFUSED: [u8; 30] = [
 const ACK_OF_2: [u8; 17] = [0, 0, 0, 13, 2, 0, 0, 0, 2, 0, 0, 0, 0, 0, 0, 255, 1];
 
 // Asks until the refusal shows that the first ask was taken.
-fn ask_out_of_turn(stream: &mut TcpStream) -> Result<(), Fail> {
+fn ask_out_of_turn<R: Abort>(rt: &R, stream: &mut TcpStream) {
     let mut read = [0u8; 30];
     for _ in 0..1000 {
-        stream.write_all(&NINTH_ASK)?;
-        stream.read_exact(&mut read)?;
+        stream.write_all(&NINTH_ASK).expect(rt, "the ask is sent");
+        stream.read_exact(&mut read).expect(rt, "a reply");
         if read == NINTH_REFUSED {
-            return Ok(());
+            return;
         }
     }
-    Err("the ask out of turn is refused".into())
+    panic!(rt; "the ask out of turn is refused")
 }
 
 // A frame of node 2, and an ask, whose refusal shows that the frame was read.
-fn speak(alloc: Global, stream: &mut TcpStream) -> Result<(), Fail> {
-    stream.write_all(&ACK_OF_2)?;
-    stream.write_all(&OUT_OF_TURN)?;
-    reads(alloc, stream, &OUT_OF_TURN_REFUSED)
+fn speak<R: Abort + AllocGlobal>(rt: &R, stream: &mut TcpStream) {
+    stream.write_all(&ACK_OF_2).expect(rt, "an ack");
+    stream.write_all(&OUT_OF_TURN).expect(rt, "an ask");
+    reads(rt, stream, &OUT_OF_TURN_REFUSED);
 }
 
 // A connection over which node 2 has spoken.
-fn spoken<R: Net<Stream = TcpStream>>(
-    rt: &R,
-    alloc: Global,
-    one: SocketAddr,
-) -> Result<TcpStream, Fail> {
-    let mut stream = connected(rt, one)?;
-    speak(alloc, &mut stream)?;
-    Ok(stream)
+fn spoken<R: Abort + AllocGlobal + Net<Stream = TcpStream>>(rt: &R, one: SocketAddr) -> TcpStream {
+    let mut stream = connected(rt, one);
+    speak(rt, &mut stream);
+    stream
 }
 
 // A node has one connection to another: a newer one ends the older one.
-fn replace<R: Net<Stream = TcpStream>>(rt: &R, alloc: Global, one: SocketAddr) -> Result<(), Fail> {
-    let mut older = spoken(rt, alloc, one)?;
-    let mut newer = spoken(rt, alloc, one)?;
-    check(ends(&mut older), "the older connection of a node ends")?;
-    speak(alloc, &mut newer)
+fn replace<R: Abort + AllocGlobal + Net<Stream = TcpStream>>(rt: &R, one: SocketAddr) {
+    let mut older = spoken(rt, one);
+    let mut newer = spoken(rt, one);
+    assert!(rt; ends(&mut older), "the older connection of a node ends");
+    speak(rt, &mut newer);
 }
 
 // A store waits for node 2, which doesn't run yet. Another connection asks out of turn in its session, and is refused.
-fn ask_over_both(first: &mut TcpStream, second: &mut TcpStream) -> Result<(), Fail> {
-    first.write_all(&FIRST_ASK)?;
-    first.shutdown(Shutdown::Write)?;
-    ask_out_of_turn(second)
+fn ask_over_both<R: Abort>(rt: &R, first: &mut TcpStream, second: &mut TcpStream) {
+    first.write_all(&FIRST_ASK).expect(rt, "the ask is sent");
+    first.shutdown(Shutdown::Write).expect(rt, "a shutdown");
+    ask_out_of_turn(rt, second);
 }
 
 // The reply goes to the first connection, which has said that nothing more comes, and ends then.
-fn is_answered(alloc: Global, first: &mut TcpStream) -> Result<(), Fail> {
-    reads(alloc, first, &FIRST_REPLY)?;
-    check(ends(first), "a connection ends once it is answered")
+fn check_answered<R: Abort + AllocGlobal>(rt: &R, first: &mut TcpStream) {
+    reads(rt, first, &FIRST_REPLY);
+    assert!(rt; ends(first), "a connection ends once it is answered");
 }
 
 // Node 2 begins once both have asked.
-fn ask_both<R: Net<Stream = TcpStream>>(
+fn ask_both<R: Abort + AllocGlobal + Net<Stream = TcpStream>>(
     rt: &R,
-    alloc: Global,
     one: SocketAddr,
     begun: &Stop,
-) -> Result<(), Fail> {
-    let mut first = connected(rt, one)?;
-    let mut second = connected(rt, one)?;
-    ask_over_both(&mut first, &mut second)?;
+) {
+    let mut first = connected(rt, one);
+    let mut second = connected(rt, one);
+    ask_over_both(rt, &mut first, &mut second);
     begun.set();
-    is_answered(alloc, &mut first)
+    check_answered(rt, &mut first);
 }
 
-fn talk<R: Net<Stream = TcpStream>>(
-    rt: &R,
-    alloc: Global,
-    one: SocketAddr,
-    begun: &Stop,
-) -> Result<(), Fail> {
-    replace(rt, alloc, one)?;
-    ask_both(rt, alloc, one, begun)
+fn talk<R: Abort + AllocGlobal + Net<Stream = TcpStream>>(rt: &R, one: SocketAddr, begun: &Stop) {
+    replace(rt, one);
+    ask_both(rt, one, begun);
 }
 
 // Waits for a flag, for so many turns of a thread at most.
@@ -116,13 +106,13 @@ fn await_flag(flag: &Stop) {
 }
 
 #[test]
-fn replies_go_to_who_asked_and_peers_have_one_connection(rt: HostRuntime) -> Result<(), Fail> {
+fn replies_go_to_who_asked_and_peers_have_one_connection(rt: HostRuntime) {
     let Places {
         first,
         second,
         one,
         two,
-    } = set_up(&rt, "routed-1", "routed-2")?;
+    } = set_up(&rt, "routed-1", "routed-2");
     let begun = Stop::new();
     let stop = Stop::new();
     let alloc = rt.alloc();
@@ -135,10 +125,6 @@ fn replies_go_to_who_asked_and_peers_have_one_connection(rt: HostRuntime) -> Res
             await_flag(&begun);
             run(&rt, alloc, "routed-2", second, &[(1, one)], &stop, &NoHooks)
         },
-        || {
-            let talked = talk(&rt, alloc, one, &begun);
-            begun.set();
-            talked
-        },
-    )
+        || talk(&rt, one, &begun),
+    );
 }

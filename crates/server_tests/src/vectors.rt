@@ -7,33 +7,33 @@ use crate::hostile::attack;
 use crate::nodes::{Places, run, set_up, while_two_run};
 use cc_channels::Stop;
 use cc_intake::NoHooks;
-use std::alloc::Global;
 use std::net::{Net, SocketAddr, TcpStream};
+use std::process::Abort;
 use std::test::*;
 
 // A store, the same once more, and a request out of turn.
-fn ask_all<R: Net<Stream = TcpStream>>(rt: &R, alloc: Global, one: SocketAddr) -> Result<(), Fail> {
-    exchange(rt, alloc, one, &FIRST_ASK, &FIRST_REPLY)?;
-    exchange(rt, alloc, one, &FIRST_ASK, &FIRST_REPLY)?;
-    exchange(rt, alloc, one, &THIRD_ASK, &THIRD_REFUSED)
+fn ask_all<R: Abort + AllocGlobal + Net<Stream = TcpStream>>(rt: &R, one: SocketAddr) {
+    exchange(rt, one, &FIRST_ASK, &FIRST_REPLY);
+    exchange(rt, one, &FIRST_ASK, &FIRST_REPLY);
+    exchange(rt, one, &THIRD_ASK, &THIRD_REFUSED);
 }
 
 // What clients do.
-fn talk<R: Net<Stream = TcpStream>>(rt: &R, alloc: Global, one: SocketAddr) -> Result<(), Fail> {
-    ask_all(rt, alloc, one)?;
-    attack(rt, alloc, one)?;
-    ask_all(rt, alloc, one)?;
-    exchange(rt, alloc, one, &OTHER_ASK, &OTHER_REPLY)
+fn talk<R: Abort + AllocGlobal + Net<Stream = TcpStream>>(rt: &R, one: SocketAddr) {
+    ask_all(rt, one);
+    attack(rt, one);
+    ask_all(rt, one);
+    exchange(rt, one, &OTHER_ASK, &OTHER_REPLY);
 }
 
 #[test]
-fn two_nodes_answer_whatever_others_send(rt: HostRuntime) -> Result<(), Fail> {
+fn two_nodes_answer_whatever_others_send(rt: HostRuntime) {
     let Places {
         first,
         second,
         one,
         two,
-    } = set_up(&rt, "answer-1", "answer-2")?;
+    } = set_up(&rt, "answer-1", "answer-2");
     let stop = Stop::new();
     let alloc = rt.alloc();
     while_two_run(
@@ -42,6 +42,6 @@ fn two_nodes_answer_whatever_others_send(rt: HostRuntime) -> Result<(), Fail> {
         [one, two],
         || run(&rt, alloc, "answer-1", first, &[(2, two)], &stop, &NoHooks),
         || run(&rt, alloc, "answer-2", second, &[(1, one)], &stop, &NoHooks),
-        || talk(&rt, alloc, one),
-    )
+        || talk(&rt, one),
+    );
 }
