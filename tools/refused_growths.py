@@ -25,7 +25,9 @@ COPIES = 3 * 60 * 60
 # What a test says that has looked at what a refused call left.
 KEPT, CHANGED = "failed, and all is as it was", "failed, and something has changed"
 # What an `expect` says of want of memory, or of a disk in memory that can't grow.
-WANTING = re.compile(rf": .*(?:NoMemory|AllocError|AllocFailed|Device|Failed)|{KEPT}")
+WANTING = re.compile(rf": .*(?:NoMemory|OutOfMemory|AllocError|AllocFailed|Device|Failed)|{KEPT}")
+# Where a test stopped.
+PLACE = re.compile(r"test stopped at (src/\S+?):(\d+):(\d+)")
 
 
 def run(tests, name, preloaded, **words):
@@ -49,8 +51,15 @@ def run(tests, name, preloaded, **words):
             return ended, said, it.read().rstrip("\n").split("\n")
 
 
-def kind_of(ended, said, plain):
-    """What a refused growth came to: the test passed, answered an error, after a look at what was kept or without one, or
+def is_comparison(crate, place):
+    """Whether an `assert!` stands where a test stopped."""
+    file, line, column = place.groups()
+    with open(f"crates/{crate}/{file}", encoding="utf-8") as it:
+        return it.read().split("\n")[int(line) - 1][int(column) - 1 :].startswith("assert!")
+
+
+def kind_of(crate, ended, said, plain):
+    """What a refused growth came to: the test passed, was answered an error, after a look at what was kept or without one, or
     stopped at a comparison, else None. `plain` is what a program writes without a refusal, and None of tests."""
     if plain is not None:
         # (a copy writes what stands behind the growth alone)
@@ -58,10 +67,10 @@ def kind_of(ended, said, plain):
         return {0: "passed" if is_same else None, 1: "error" if "Error: " in said else None}.get(ended)
     if ended == 0:
         return "passed"
-    stops = ended in (134, -6) and "test stopped at src/" in said
-    if stops and "assertion failed" in said:
+    place = PLACE.search(said) if ended in (134, -6) else None
+    if CHANGED not in said and place and is_comparison(crate, place):
         return "stop"
-    is_told = WANTING.search(said) if stops else ended == 101 and "its result gives status 1" in said
+    is_told = WANTING.search(said) if place else ended == 101 and "its result gives status 1" in said
     if not is_told or CHANGED in said:
         return None
     return "kept" if KEPT in said else "error"
@@ -118,7 +127,7 @@ def try_crate(crate, preloaded, pool):
     for name, ends in zip(names, pool.map(lambda it: ends_of(tests, it, preloaded), names)):
         plain = run_plain(tests, name) if is_program else None
         for growth, ended, said in ends:
-            kind = kind_of(ended, said, plain)
+            kind = kind_of(crate, ended, said, plain)
             kinds[kind] += 1
             if kind is None:
                 is_well = False
