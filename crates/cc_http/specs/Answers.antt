@@ -55,8 +55,9 @@ common_fields =
 -- a page that a browser runs loads nothing but itself, and asks this node alone
 abbrev pub policy_fields : Page → List Field
 policy_fields Home =
-    field (codes "Content-Security-Policy") (codes
-    "default-src 'none'; style-src 'unsafe-inline'; script-src 'unsafe-inline'; connect-src 'self'; img-src data:; base-uri 'none'; form-action 'none'; frame-ancestors 'none'") ∷ []
+    field (codes "Content-Security-Policy") (
+    codes "default-src 'none'; style-src 'unsafe-inline'; script-src 'unsafe-inline'; connect-src 'self'; "
+    ++ codes "img-src data:; base-uri 'none'; form-action 'none'; frame-ancestors 'none'") ∷ []
 policy_fields Status = []
 policy_fields View = []
 policy_fields Changes = []
