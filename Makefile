@@ -9,8 +9,8 @@ try:
 	@echo 'unproved: compiling and playing crates/ccnode/stdin ...'
 	@cd crates/ccnode && rt try -- play < stdin
 
-# Proves and builds programs and what they stand on.
-BUILD = python3 tools/prove.py
+# Proves programs and what they stand on, as the gate does, and builds them.
+BUILD = python3 tools/build.py
 
 # Builds the program, proves it on the way, and plays the script that ships with it.
 run:
@@ -65,9 +65,9 @@ tls-cluster:
 test:
 	rt ci
 
-# Proves one crate and what it stands on: make check CRATE=cc_wire
+# Proves one crate and what it stands on, over what was checked before: make check CRATE=cc_wire
 check:
-	@$(BUILD) $(CRATE)
+	@cd crates/$(CRATE) && rt check
 
 # Times single events, the engine and its checkpoints in memory and on the disk, and a script of 10,000 lines over 16
 # nodes, and counts the bytes that a commit copies, for which it needs a C compiler. It prints figures and fails nothing.
