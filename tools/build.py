@@ -64,7 +64,7 @@ def prove_all(crates, copy):
     said, done = [], 0
     with subprocess.Popen(["rt", "ci"], cwd=copy, text=True, errors="replace", **how) as ran:
         for line in ran.stdout:
-            said.append(line)
+            said.append(line.replace(f"{copy}/", ""))
             if told := re.match(r"rt: (\w+) (?:proved$|is (kept)\b)", line):
                 done += 1
                 how_proved = "proved earlier on this machine" if told[2] else "proved"
