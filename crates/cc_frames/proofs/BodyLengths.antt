@@ -22,6 +22,7 @@ length-body (frames.Reply session request a) is = omega (arith, length-replied s
 length-body (frames.Refused session request refusal value) is = omega arith
 length-body frames.Leave is = omega arith
 length-body (frames.Retire node) is = omega arith
+length-body (frames.RetireIfSilent node) is = omega arith
 
 -- and at least its kind
 pub length-body-positive : (f : Frame) → 1 ≤ length (body_spelling f)
@@ -32,3 +33,4 @@ length-body-positive (frames.Reply session request a) = omega arith
 length-body-positive (frames.Refused session request refusal value) = omega arith
 length-body-positive frames.Leave = omega arith
 length-body-positive (frames.Retire node) = omega arith
+length-body-positive (frames.RetireIfSilent node) = omega arith

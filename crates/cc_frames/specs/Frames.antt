@@ -4,7 +4,7 @@ use Rattle.std.specs.Int.{w32, w64, to_be_bytes}
 use Rattle.cc_wire.specs.declared.fault.WireFault.TheVariants.{Short, BadKind}
 use Rattle.cc_messages.specs.declared.answer.Answer.{Answer}
 use Rattle.cc_frames.specs.declared.frame.Frame.{Frame}
-use Rattle.cc_frames.specs.declared.frame.Frame.TheVariants.{Post, Ack, Ask, Reply, Refused, Leave, Retire}
+use Rattle.cc_frames.specs.declared.frame.Frame.TheVariants.{Post, Ack, Ask, Reply, Refused, Leave, Retire, RetireIfSilent}
 use Rattle.cc_wire.specs.Reading.{◌>>=◌, Reading, ◌⊗◌, via, nothing_at, byte_at, kinded, bytes_at, number_at, number_from, limited, whole}
 use Rattle.cc_frames.specs.Limits.{body_limit}
 use Rattle.cc_wire.specs.Spelling.{Spells, IsId}
@@ -43,6 +43,7 @@ body_spelling (Reply session request answer) = 4 ∷ replied_spelling session re
 body_spelling (Refused session request refusal value) = 5 ∷ refused_spelling session request refusal value
 body_spelling Leave = 6 ∷ []
 body_spelling (Retire node) = 7 ∷ to_be_bytes w32 node
+body_spelling (RetireIfSilent node) = 36 ∷ to_be_bytes w32 node
 
 abbrev pub frame_spelling : Frame → List ℕ
 frame_spelling frame = to_be_bytes w32 (length (body_spelling frame)) ++ body_spelling frame
@@ -55,6 +56,7 @@ IsFrame (Reply session request answer) = IsReplied session request answer
 IsFrame (Refused session request refusal value) = IsRefused session request refusal value
 IsFrame Leave = Unit {0}
 IsFrame (Retire node) = IsId node
+IsFrame (RetireIfSilent node) = IsId node
 
 abbrev pub SpellsFrame : List ℕ → Frame → Type 0
 SpellsFrame = Spells IsFrame frame_spelling
@@ -70,7 +72,8 @@ body_fields kind =
     else (if kind == 5 then via (λ f. Refused f.0.0 f.0.1 f.1.0 f.1.1) refused_at
     else (if kind == 6 then via (λ _. Leave) nothing_at
     else (if kind == 7 then via (λ node. Retire node) (number_from 1)
-    else (λ bytes. Err (BadKind kind))))))))
+    else (if kind == 36 then via (λ node. RetireIfSilent node) (number_from 1)
+    else (λ bytes. Err (BadKind kind)))))))))
 
 unfoldable pub body_at : Reading Frame
 body_at = kinded body_fields

@@ -58,6 +58,10 @@ pub enum Frame {
     Retire {
         node: NodeId,
     },
+    /// The same, unless the node was heard of so recently that it can't be dead.
+    RetireIfSilent {
+        node: NodeId,
+    },
 }
 
 impl Frame {
@@ -143,6 +147,10 @@ fn read_body_fields(alloc: Global, reader: &mut Reader<'_>, kind: u8) -> Result<
         7 => {
             let node = reader.id(1)?;
             Ok(Frame::Retire { node })
+        }
+        36 => {
+            let node = reader.id(1)?;
+            Ok(Frame::RetireIfSilent { node })
         }
         kind => Err(WireFault::BadKind(kind)),
     }
@@ -307,6 +315,10 @@ fn put_body(out: &mut Vec<u8>, frame: &Frame) -> Result<(), AllocError>
         Frame::Leave => put_u8(out, 6),
         Frame::Retire { node } => {
             put_u8(out, 7)?;
+            put_id(out, *node)
+        }
+        Frame::RetireIfSilent { node } => {
+            put_u8(out, 36)?;
             put_id(out, *node)
         }
     }

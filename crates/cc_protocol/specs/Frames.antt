@@ -21,6 +21,7 @@ event_in (frame.Reply session request answer) = None
 event_in (frame.Refused session request refusal value) = None
 event_in frame.Leave = Some event.Leave
 event_in (frame.Retire node) = Some (event.Retire node)
+event_in (frame.RetireIfSilent node) = Some (event.Retire node)
 
 -- where it goes is told by the connection alone
 abbrev pub output_frame : ℕ → Output → Frame

@@ -36,7 +36,7 @@ pub fn event_of(frame: Frame) -> Option<Event>
         }),
         Frame::Reply { .. } | Frame::Refused { .. } => None,
         Frame::Leave => Some(Event::Leave),
-        Frame::Retire { node } => Some(Event::Retire { node }),
+        Frame::Retire { node } | Frame::RetireIfSilent { node } => Some(Event::Retire { node }),
     }
 }
 

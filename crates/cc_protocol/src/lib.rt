@@ -32,7 +32,9 @@ pub use frames::{ack_frame, event_of, post_bytes, refused_frame, reply_bytes};
 pub use heeding::{Duty, heed};
 pub use incoming::{Ending, Incoming, Input};
 pub use lasting::{AskName, Lasting};
-pub use operating::{Outcome, outcome_of, second_request_is_left};
+pub use operating::{
+    Objection, Outcome, objection_frame, objections_are_told, outcome_of, second_request_is_left,
+};
 pub use origin::{Access, Admitted, Origin};
 pub use route::Route;
 pub use routes::{Routes, answers_follow_asks};

@@ -5,8 +5,8 @@ use crate::sets::id;
 use cc_frames::{Frame, decode_frame};
 use cc_messages::{Answer, Command, Event, Message, Refusal};
 use cc_protocol::{
-    Bundle, Outcome, Parcel, ack_frame, event_of, outcome_of, post_bytes, refused_frame,
-    reply_bytes,
+    Bundle, Objection, Outcome, Parcel, ack_frame, event_of, objection_frame, outcome_of,
+    post_bytes, refused_frame, reply_bytes,
 };
 use cc_views::NodeId;
 use std::process::Abort;
@@ -61,9 +61,10 @@ fn what_a_client_sends_is_an_event(rt: HostRuntime) {
     let about = [
         about_frame(Frame::Leave),
         about_frame(Frame::Retire { node: id(3) }),
+        about_frame(Frame::RetireIfSilent { node: id(4) }),
     ];
     assert!(rt; about_bytes(&rt, &ASK) == About::Ask(7, 1));
-    assert!(rt; about == [About::Leave, About::Retirement(3)]);
+    assert!(rt; about == [About::Leave, About::Retirement(3), About::Retirement(4)]);
 }
 
 fn posted_join(from: NodeId) -> Frame {
@@ -216,4 +217,30 @@ fn the_operator_is_told_by_a_refusal(rt: HostRuntime) {
     let refused = [outcome_refused(15), outcome_refused(19)];
     assert!(rt; outcomes == [Some(Outcome::Done), None, None]);
     assert!(rt; refused == [Some(Outcome::Refused(Refusal::OutboxFull)), None]);
+}
+
+// The node to be retired is the one that was asked, and was heard a moment ago.
+const ITSELF: [u8; 30] = [
+    0, 0, 0, 0x1A, 5, 0, 0, 0, 0, 0, 0, 0, 0, 0, 0, 0, 0, 0, 0, 0, 0, 0x20, 0, 0, 0, 0, 0, 0, 0, 0,
+];
+
+const ALIVE: [u8; 30] = [
+    0, 0, 0, 0x1A, 5, 0, 0, 0, 0, 0, 0, 0, 0, 0, 0, 0, 0, 0, 0, 0, 0, 0x21, 0, 0, 0, 0, 0, 0, 0, 0,
+];
+
+#[test]
+fn the_operator_is_told_what_the_server_objects_to(rt: HostRuntime) {
+    let told = [
+        is_spelled(&rt, objection_frame(Objection::Itself), &ITSELF),
+        is_spelled(&rt, objection_frame(Objection::Alive), &ALIVE),
+    ];
+    let outcomes = [outcome(&rt, &ITSELF), outcome(&rt, &ALIVE)];
+    assert!(rt; told == [true; 2]);
+    assert!(rt;
+        outcomes
+            == [
+                Some(Outcome::Objected(Objection::Itself)),
+                Some(Outcome::Objected(Objection::Alive))
+            ]
+    );
 }

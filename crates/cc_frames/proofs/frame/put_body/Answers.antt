@@ -27,3 +27,9 @@ pub returns-in_ok-put_u8-in-Retire-clause-writes : goal.returns-in_ok-put_u8-in-
 returns-in_ok-put_u8-in-Retire-clause-writes c =
     subst (λ (f : Frame). Writes c.args.out.now c.put_id.new.out (body_spelling f) c.put_id.result) (sym c.in-Retire.is)
     (writes_then c.args.out.now c.put_u8-in-Retire.new.out c.put_id.new.out (7 ∷ []) _ c.put_id.result c.in_ok-put_u8-in-Retire.ensures c.put_id.ensures.writes)
+
+pub returns-in_ok-put_u8-in-RetireIfSilent-clause-writes : goal.returns-in_ok-put_u8-in-RetireIfSilent-clause-writes
+returns-in_ok-put_u8-in-RetireIfSilent-clause-writes c =
+    subst (λ (f : Frame). Writes c.args.out.now c.put_id-in-RetireIfSilent.new.out (body_spelling f) c.put_id-in-RetireIfSilent.result) (sym c.in-RetireIfSilent.is)
+    (writes_then c.args.out.now c.put_u8-in-RetireIfSilent.new.out c.put_id-in-RetireIfSilent.new.out (36 ∷ []) _ c.put_id-in-RetireIfSilent.result
+    c.in_ok-put_u8-in-RetireIfSilent.ensures c.put_id-in-RetireIfSilent.ensures.writes)
